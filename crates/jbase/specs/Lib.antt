@@ -1,0 +1,4 @@
+pub mod Causes
+pub mod Each
+pub mod First
+pub mod Stops

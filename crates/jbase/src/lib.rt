@@ -1,0 +1,13 @@
+//! What all crates share: lists, the stop of a call that may run out of memory, loops over items, and the words of their
+//! contracts.
+#![tactic(auto)]
+
+mod each;
+mod laws;
+mod seq;
+mod stop;
+
+pub use each::{Each, EachSome, Step, each_of, each_some_of, steps_of};
+pub use laws::first_along_laws;
+pub use seq::Seq;
+pub use stop::Stop;
