@@ -1,0 +1,6 @@
+pub mod Bodies
+pub mod Format
+pub mod Passes
+pub mod States
+pub mod Tags
+pub mod Whole
