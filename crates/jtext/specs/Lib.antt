@@ -1,0 +1,2 @@
+pub mod Modified
+pub mod Texts
