@@ -1,0 +1,5 @@
+pub mod Held
+pub mod LineOf
+pub mod Memory
+pub mod Puts
+pub mod Text

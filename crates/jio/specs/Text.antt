@@ -1,0 +1,36 @@
+-- How a text is written in a line, and how a line goes out in pieces.
+use Rattle.std.specs.Prelude.{◌≡◌, ℕ, ◌*◌, ◌/◌, ◌%◌, List, [], ◌∷◌, ◌++◌, length, take, drop, Option, nat_le, ◌==◌, ◌&&◌, if◌then◌else◌, false}
+use Rattle.std.specs.Fmt.{digit_glyph}
+use Rattle.jbase.specs.Causes.{appended}
+use Rattle.jio.specs.declared.TheConstants.{PIECE}
+
+-- One UTF-16 unit: a printable one of ASCII stands for itself, but a backslash is written twice; any other is `\u` and
+-- four lower-case hexadecimal digits.
+abbrev pub written_unit : ℕ → List ℕ
+written_unit unit = if unit == 92 then 92 ∷ 92 ∷ [] else (if nat_le 32 unit && nat_le unit 126 then unit ∷ [] else
+    92 ∷ 117 ∷ digit_glyph false (unit / 4096) ∷ digit_glyph false (unit / 256 % 16) ∷ digit_glyph false (unit / 16 % 16) ∷ digit_glyph false (unit % 16) ∷ [])
+
+-- A text, unit by unit.
+unfoldable pub written : List ℕ → List ℕ
+written [] = []
+written (unit ∷ units) = written_unit unit ++ written units
+
+-- ---- a line in pieces
+
+-- How many bytes of a line have gone out, of so many that it has so far: whole pieces.
+abbrev pub whole : ℕ → ℕ
+whole count = count / PIECE * PIECE
+
+-- A line that isn't ended: how many of its bytes have gone out, and the bytes behind these.
+pub record LineState : Type 0 where
+  pub written : ℕ
+  pub pending : List ℕ
+
+-- A line of these bytes so far.
+abbrev pub under_way : List ℕ → LineState
+under_way bytes = record { written = whole (length bytes); pending = drop (whole (length bytes)) bytes }
+
+-- Of a line that has these bytes so far, what isn't pending went out behind `start`.
+pub record IsUnderWay (start now : Option (List ℕ)) (state : LineState) (bytes : List ℕ) : Type 0 where
+  pub line : state ≡ under_way bytes
+  pub out : now ≡ appended start (take (whole (length bytes)) bytes)
