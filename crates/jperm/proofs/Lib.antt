@@ -1,0 +1,7 @@
+pub mod Bits
+pub mod Blanks
+pub mod Cover
+pub mod Parts
+pub mod Same
+pub mod Starts
+pub mod Walks

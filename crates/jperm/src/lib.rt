@@ -1,0 +1,20 @@
+//! Permissions: what one implies, what a list of them covers, and how they are made from a name and actions.
+#![tactic(auto)]
+
+mod action;
+mod laws;
+mod making;
+mod name;
+mod path;
+mod permission;
+mod pieces;
+mod text;
+mod words;
+mod written;
+
+pub use action::Action;
+pub use laws::{covers_laws, permission_laws, text_laws};
+pub use making::{PermClass, PermError, make};
+pub use path::FilePath;
+pub use permission::{BasicClass, Permission, covers};
+pub use text::PARTS;
