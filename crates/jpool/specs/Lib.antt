@@ -1,0 +1,5 @@
+pub mod Descriptors
+pub mod Entries
+pub mod Names
+pub mod Pieces
+pub mod Pools

@@ -1,0 +1,157 @@
+ghost use Rattle.std.specs.Prelude.{◌≡◌, ◌∷◌, ◌++◌, IsTrue, OnOk};
+ghost use Rattle.jbase.specs.Stops.{Gives};
+ghost use Rattle.jpool.specs.Entries.{entry, i8, two};
+
+use crate::entry::Entry;
+use crate::kind::PoolKind;
+use crate::kind::PoolKind::{BadTag, Truncated};
+use jbase::Seq;
+use jformat::{
+    ReadError, fault, i32_of, put_i32, put_sized16, put_u8, put_u16, put_u32, put_u64, sized_of,
+    u8_of, u16_of, u32_of, u64_of,
+};
+use std::alloc::{AllocError, Global};
+
+fn i64_of(bytes: &[u8]) -> Result<(i64, &[u8]), ReadError<PoolKind>>
+    ensures { Gives (λ x. (x.0, x.1.now)) result (i8.read bytes.now) }
+{
+    let (n, rest) = u64_of(Truncated, bytes)?;
+    Ok((n.cast_signed(), rest))
+}
+
+fn two_of(bytes: &[u8]) -> Result<((u16, u16), &[u8]), ReadError<PoolKind>>
+    ensures { Gives (λ x. (x.0, x.1.now)) result (two.read bytes.now) }
+{
+    let (one, rest) = u16_of(Truncated, bytes)?;
+    let (other, rest) = u16_of(Truncated, rest)?;
+    Ok(((one, other), rest))
+}
+
+/// An entry that has a spelling of its own, and the bytes behind it.
+#[tactic(auto, unfolding(crate::specs::Entries::entry))]
+pub fn entry_of(alloc: Global, bytes: &[u8]) -> Result<(Entry, &[u8]), ReadError<PoolKind>>
+    ensures { Gives (λ x. (x.0, x.1.now)) result (entry.read bytes.now) }
+{
+    match bytes {
+        [] => Err(fault(Truncated, bytes)),
+        [1, rest @ ..] => {
+            let (text, rest) = sized_of(alloc, Truncated, rest)?;
+            Ok((Entry::Utf8(text), rest))
+        }
+        [3, rest @ ..] => {
+            let (n, rest) = i32_of(Truncated, rest)?;
+            Ok((Entry::Integer(n), rest))
+        }
+        [4, rest @ ..] => {
+            let (n, rest) = u32_of(Truncated, rest)?;
+            Ok((Entry::Float(n), rest))
+        }
+        [5, rest @ ..] => {
+            let (n, rest) = i64_of(rest)?;
+            Ok((Entry::Long(n), rest))
+        }
+        [6, rest @ ..] => {
+            let (n, rest) = u64_of(Truncated, rest)?;
+            Ok((Entry::Double(n), rest))
+        }
+        [7, rest @ ..] => {
+            let (name, rest) = u16_of(Truncated, rest)?;
+            Ok((Entry::Class(name), rest))
+        }
+        [8, rest @ ..] => {
+            let (text, rest) = u16_of(Truncated, rest)?;
+            Ok((Entry::Str(text), rest))
+        }
+        [9, rest @ ..] => {
+            let ((class, both), rest) = two_of(rest)?;
+            Ok((Entry::Field(class, both), rest))
+        }
+        [10, rest @ ..] => {
+            let ((class, both), rest) = two_of(rest)?;
+            Ok((Entry::Method(class, both), rest))
+        }
+        [11, rest @ ..] => {
+            let ((class, both), rest) = two_of(rest)?;
+            Ok((Entry::InterfaceMethod(class, both), rest))
+        }
+        [12, rest @ ..] => {
+            let ((name, descriptor), rest) = two_of(rest)?;
+            Ok((Entry::NameAndType(name, descriptor), rest))
+        }
+        [15, rest @ ..] => {
+            let (kind, rest) = u8_of(Truncated, rest)?;
+            let (member, rest) = u16_of(Truncated, rest)?;
+            Ok((Entry::MethodHandle(kind, member), rest))
+        }
+        [16, rest @ ..] => {
+            let (descriptor, rest) = u16_of(Truncated, rest)?;
+            Ok((Entry::MethodType(descriptor), rest))
+        }
+        [18, rest @ ..] => {
+            let ((bootstrap, both), rest) = two_of(rest)?;
+            Ok((Entry::InvokeDynamic(bootstrap, both), rest))
+        }
+        [_, ..] => Err(fault(BadTag, bytes)),
+    }
+}
+
+fn put_two(tag: u8, one: u16, other: u16, out: &mut Seq<u8>) -> Result<(), AllocError>
+    ensures { OnOk result (out.new ≡ out.old ++ tag ∷ two.spell (one, other)) }
+{
+    put_u8(tag, out)?;
+    put_u16(one, out)?;
+    put_u16(other, out)
+}
+
+/// Writes an entry that has a spelling of its own.
+#[tactic(auto, unfolding(crate::specs::Entries::entry))]
+pub fn put_entry(one: &Entry, out: &mut Seq<u8>) -> Result<(), AllocError>
+    requires { IsTrue (entry.fits one.now) }
+    ensures { OnOk result (out.new ≡ out.old ++ entry.spell one.now) }
+{
+    match one {
+        Entry::Unused => Ok(()),
+        Entry::Utf8(text) => {
+            put_u8(1, out)?;
+            put_sized16(text.as_slice(), out)
+        }
+        Entry::Integer(n) => {
+            put_u8(3, out)?;
+            put_i32(*n, out)
+        }
+        Entry::Float(n) => {
+            put_u8(4, out)?;
+            put_u32(*n, out)
+        }
+        Entry::Long(n) => {
+            put_u8(5, out)?;
+            put_u64(n.cast_unsigned(), out)
+        }
+        Entry::Double(n) => {
+            put_u8(6, out)?;
+            put_u64(*n, out)
+        }
+        Entry::Class(name) => {
+            put_u8(7, out)?;
+            put_u16(*name, out)
+        }
+        Entry::Str(text) => {
+            put_u8(8, out)?;
+            put_u16(*text, out)
+        }
+        Entry::Field(class, both) => put_two(9, *class, *both, out),
+        Entry::Method(class, both) => put_two(10, *class, *both, out),
+        Entry::InterfaceMethod(class, both) => put_two(11, *class, *both, out),
+        Entry::NameAndType(name, descriptor) => put_two(12, *name, *descriptor, out),
+        Entry::MethodHandle(kind, member) => {
+            put_u8(15, out)?;
+            put_u8(*kind, out)?;
+            put_u16(*member, out)
+        }
+        Entry::MethodType(descriptor) => {
+            put_u8(16, out)?;
+            put_u16(*descriptor, out)
+        }
+        Entry::InvokeDynamic(bootstrap, both) => put_two(18, *bootstrap, *both, out),
+    }
+}

@@ -1,0 +1,88 @@
+ghost use Rattle.std.specs.Prelude.{◌≡◌, ◌++◌, ◌+◌, ℕ, List, IfOk, IsTrue, Ok, drop, length};
+ghost use Rattle.jbase.specs.Stops.{Gives};
+ghost use Rattle.jpool.specs.declared.entry.Entry.{Entry};
+ghost use Rattle.jpool.specs.Pools;
+ghost use Rattle.jpool.specs.Pools.{OrMemory, placed};
+
+use crate::judge::{Naming, first_fault_of};
+use crate::kind::{PoolError, PoolKind};
+use crate::pool::Pool;
+use crate::slots::{entries_of, put_entries};
+use jbase::{Seq, Stop};
+use jformat::ReadError;
+use std::alloc::{AllocError, Global};
+
+/// A pool at the front of bytes, and the bytes behind it.
+#[tactic(auto, unfolding(crate::specs::Pools::pool))]
+pub fn pool_of(alloc: Global, bytes: &[u8]) -> Result<(Pool, &[u8]), ReadError<PoolKind>>
+    ensures { Gives (λ x. (x.0, x.1.now)) result (Pools.pool.read bytes.now) }
+{
+    let (entries, rest) = entries_of(alloc, bytes)?;
+    let naming = Naming {
+        entries: entries.as_slice(),
+    };
+    if let Some(fault) = first_fault_of(
+        &naming,
+        bytes.len().saturating_sub(2),
+        entries.as_slice(),
+    ) {
+        return Err(Stop::Fault(fault));
+    }
+    Ok((Pool::from_entries(entries), rest))
+}
+
+/// The bytes from a place on.
+fn behind(bytes: &[u8], at: u32) -> &[u8]
+    ensures { result.now ≡ drop at bytes.now }
+{
+    let at = at as usize;
+    if at > bytes.len() {
+        return &[];
+    }
+    let (_, rest) = bytes.split_at(at);
+    rest
+}
+
+fn pool_at(alloc: Global, bytes: &[u8], at: u32) -> Result<(Pool, u32), PoolError>
+    ensures { OrMemory result (placed at (drop at bytes.now) (Pools.pool.read (drop at bytes.now))) }
+{
+    if bytes.len() > u32::MAX as usize {
+        return Err(PoolError::Memory);
+    }
+    let text = behind(bytes, at);
+    match pool_of(alloc, text) {
+        Ok((pool, rest)) => Ok((pool, at + (text.len() - rest.len()) as u32)),
+        Err(Stop::Memory) => Err(PoolError::Memory),
+        Err(Stop::Fault(found)) => Err(PoolError::At {
+            at: at + (text.len() - found.left) as u32,
+            kind: found.kind,
+        }),
+    }
+}
+
+/// The pool that is spelled at an offset, and the offset behind it (JVMS 4.4).
+///
+/// The count and the entries are read front to back: `Truncated` stands at the first byte of a number or a text that isn't
+/// wholly there, `BadTag` at a tag that no entry has, or at that of a long or a double at the last index. Where no such
+/// fault is, each entry is looked at in turn: `BadIndex`, `BadName` or `BadDescriptor` stands at its tag. A count of 0 is read
+/// as a pool without entries. `Memory` comes where memory runs out, and where the bytes are 4 GiB or more.
+pub fn read_pool(alloc: Global, bytes: &[u8], at: u32) -> Result<(Pool, u32), PoolError>
+    // What is read is spelled so.
+    ensures found { IfOk result (λ r. IsTrue (Pools.pool.fits r.0) × (drop at bytes.now ≡ Pools.pool.spell r.0 ++ drop r.1 bytes.now) × (r.1 ≡ at + length (Pools.pool.spell r.0))) }
+    // What is spelled so is read, unless memory runs out.
+    ensures only { (entries : List Entry) (rest : List ℕ) → IsTrue (Pools.pool.fits entries) → drop at bytes.now ≡ Pools.pool.spell entries ++ rest → OrMemory result (Ok (entries, at + length (Pools.pool.spell entries))) }
+    // Which fault it is, and where.
+    ensures exact { OrMemory result (placed at (drop at bytes.now) (Pools.pool.read (drop at bytes.now))) }
+{
+    pool_at(alloc, bytes, at)
+}
+
+/// The bytes that spell a pool.
+#[tactic(auto, unfolding(crate::specs::Pools::pool))]
+pub fn write_pool(alloc: Global, pool: &Pool) -> Result<Vec<u8>, AllocError>
+    ensures { IfOk result (λ text. text.items ≡ Pools.pool.spell pool.now) }
+{
+    let mut out = Seq::new(alloc);
+    put_entries(alloc, pool.entries(), &mut out)?;
+    Ok(out.into_vec())
+}
