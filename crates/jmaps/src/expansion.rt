@@ -1,0 +1,95 @@
+ghost use Rattle.std.specs.Prelude.{◌≡◌, ◌+◌, ◌<◌, ◌≤◌, ◌^◌, IfOk, IfSome, IsTrue, None, length};
+ghost use Rattle.std.specs.List.{list_all};
+ghost use Rattle.std.specs.Option.{option_copied};
+ghost use Rattle.jmaps.specs.Frames.{maps, own_type};
+ghost use Rattle.jmaps.specs.Full.{GivesFull, all_stand, chopped, expand_from, locals_before, locals_of, place_behind};
+
+use crate::fault::ExpandError;
+use crate::types::{FullFrame, MapType, RawFrame};
+use jbase::Seq;
+use std::alloc::{AllocError, Global};
+
+fn locals_before<'a>(first: &'a [MapType], earlier: Option<&'a FullFrame>) -> &'a [MapType]
+    ensures { result.now ≡ locals_before first.now (option_copied earlier.entry) }
+{
+    match earlier {
+        None => first,
+        Some(frame) => frame.locals.as_slice(),
+    }
+}
+
+fn chopped(
+    alloc: Global,
+    count: usize,
+    locals: &[MapType],
+) -> Result<Option<Seq<MapType>>, AllocError>
+    ensures { IfOk result (λ r. r ≡ chopped count locals.now) }
+{
+    if locals.len() < count {
+        return Ok(None);
+    }
+    let (left, _) = locals.split_at(locals.len() - count);
+    Ok(Some(Seq::from_slice(alloc, left)?))
+}
+
+/// The locals that a frame has, by those before it.
+#[tactic(auto, unfolding(crate::specs::Full::locals_of))]
+fn locals_of(
+    alloc: Global,
+    before: &[MapType],
+    frame: &RawFrame,
+) -> Result<Option<Seq<MapType>>, AllocError>
+    ensures { IfOk result (λ r. r ≡ locals_of before.now frame.now) }
+{
+    if frame.form < 248 {
+        return Ok(Some(Seq::from_slice(alloc, before)?));
+    }
+    if frame.form < 251 {
+        return chopped(alloc, usize::from(251 - frame.form), before);
+    }
+    if frame.form < 252 {
+        return Ok(Some(Seq::from_slice(alloc, before)?));
+    }
+    if frame.form < 255 {
+        let mut locals = Seq::from_slice(alloc, before)?;
+        locals.extend(frame.locals.as_slice())?;
+        return Ok(Some(locals));
+    }
+    Ok(Some(frame.locals.copy(alloc)?))
+}
+
+fn place_behind(earlier: Option<&FullFrame>, delta: u16) -> u32
+    requires { IfSome (option_copied earlier) (λ f. f.at + 65536 < 2 ^ 32) }
+    ensures place { result ≡ place_behind (option_copied earlier.entry) delta }
+    ensures near { result ≤ place_behind (option_copied earlier.entry) 65535 }
+{
+    match earlier {
+        None => u32::from(delta),
+        Some(frame) => frame.at + u32::from(delta) + 1,
+    }
+}
+
+/// The frames in full, by the locals that the method begins with (JVMS 4.7.4). The error is `Chop` exactly at the first frame
+/// that takes away more locals than there are.
+pub fn expand(
+    alloc: Global,
+    first: &[MapType],
+    frames: &[RawFrame],
+) -> Result<Vec<FullFrame>, ExpandError>
+    requires { IsTrue (maps.fits frames.now) }
+    ensures exact { GivesFull result (expand_from first.now 0 None frames.now) }
+    // The frames stand in order, and their items have a spelling, if the first locals have one.
+    ensures stand { IsTrue (list_all own_type.fits first.now) → IfOk result (λ v. IsTrue (all_stand v.items)) }
+{
+    let mut full: Vec<FullFrame> = Vec::new(alloc);
+    for (i, frame) in frames.iter().enumerate() {
+        let at = place_behind(full.last(), frame.delta);
+        let before = locals_before(first, full.last());
+        let Some(locals) = locals_of(alloc, before, frame)? else {
+            return Err(ExpandError::Chop { frame: i as u32 });
+        };
+        let stack = frame.stack.copy(alloc)?;
+        full.push(FullFrame { at, locals, stack })?;
+    }
+    Ok(full)
+}

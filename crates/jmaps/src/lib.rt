@@ -1,0 +1,19 @@
+//! Stack maps: the frames of a StackMapTable, as they are written and in full.
+#![tactic(auto)]
+
+mod expansion;
+mod fault;
+mod full;
+mod read;
+mod rows;
+#[cfg(test)]
+mod tests;
+mod types;
+mod write;
+
+pub use expansion::expand;
+pub use fault::{ExpandError, Kinds, MapError, MapKind};
+pub use full::write_maps;
+pub use read::{TypeReader, frames_of, read_maps, type_of};
+pub use types::{FullFrame, MapType, RawFrame};
+pub use write::put_frames;
