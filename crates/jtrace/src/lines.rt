@@ -1,0 +1,178 @@
+ghost use Rattle.std.specs.Prelude.{◌≡◌, ◌<◌, ◌≤◌, ◌^◌, IfErr, OnOk, nat_le, length, codes};
+ghost use Rattle.jbase.specs.Causes.{HasCause, appended};
+ghost use Rattle.jio.specs.Puts.{IsCutAt};
+ghost use Rattle.jperm.specs.Texts.{text_of};
+ghost use Rattle.jtrace.specs.Lines.{line, end_line, line_feed, told, behind_denial, units_of};
+
+use crate::event::{End, Event};
+use jio::{Part, PutFault, Sink, put_all, write_line};
+use jperm::{PARTS, Permission, text_laws};
+
+/// The most units of an event's text that `write_event` writes.
+pub const MOST_UNITS: usize = 4_294_967_295;
+
+/// Whether a permission's text has at most `MOST_UNITS` units.
+fn is_short_permission(asked: &Permission) -> bool
+    ensures { result ≡ nat_le (length (text_of asked.now)) MOST_UNITS }
+{
+    text_laws();
+    let mut units = 0;
+    for at in 0..PARTS {
+        let more = asked.part(at).len();
+        if more > MOST_UNITS - units {
+            return false;
+        }
+        units += more;
+    }
+    true
+}
+
+/// A line of a word, a thread's number and a text.
+fn write_told<'a, K: Sink>(
+    out: &mut K,
+    word: &'a str,
+    thread: u32,
+    text: &'a [u16],
+) -> Result<(), PutFault>
+    requires short_word { length word.now < 100 }
+    requires short_text { length text.now < 2 ^ 32 }
+    ensures ok { OnOk result (K.out out.new ≡ appended (K.out out.old) (told word.now thread text.now line_feed)) }
+    ensures err { IfErr result (λ e. IsCutAt (K.out out.old) (K.out out.new) (told word.now thread text.now line_feed) e.written) }
+    ensures cause { HasCause (K.faults out.old) (K.faults out.new) result }
+{
+    let thread = u64::from(thread);
+    write_line(
+        out,
+        &[
+            Part::Plain(word),
+            Part::Number(thread),
+            Part::Plain(" "),
+            Part::Text(text),
+        ],
+    )
+}
+
+/// The line of a granted check.
+fn write_grant<K: Sink>(out: &mut K, thread: u32, asked: &Permission) -> Result<(), PutFault>
+    requires { length (text_of asked.now) < 2 ^ 32 }
+    ensures ok { OnOk result (K.out out.new ≡ appended (K.out out.old) (told (codes "grant ") thread (text_of asked.now) line_feed)) }
+    ensures err { IfErr result (λ e. IsCutAt (K.out out.old) (K.out out.new) (told (codes "grant ") thread (text_of asked.now) line_feed) e.written) }
+    ensures cause { HasCause (K.faults out.old) (K.faults out.new) result }
+{
+    text_laws();
+    let thread = u64::from(thread);
+    write_line(
+        out,
+        &[
+            Part::Plain("grant "),
+            Part::Number(thread),
+            Part::Plain(" "),
+            Part::Text(asked.part(0)),
+            Part::Text(asked.part(1)),
+            Part::Text(asked.part(2)),
+            Part::Text(asked.part(3)),
+            Part::Text(asked.part(4)),
+            Part::Text(asked.part(5)),
+            Part::Text(asked.part(6)),
+            Part::Text(asked.part(7)),
+            Part::Text(asked.part(8)),
+            Part::Text(asked.part(9)),
+            Part::Text(asked.part(10)),
+        ],
+    )
+}
+
+/// The line of a denied check.
+fn write_deny<K: Sink>(
+    out: &mut K,
+    thread: u32,
+    asked: &Permission,
+    domain: u32,
+) -> Result<(), PutFault>
+    requires { length (text_of asked.now) < 2 ^ 32 }
+    ensures ok { OnOk result (K.out out.new ≡ appended (K.out out.old) (told (codes "deny ") thread (text_of asked.now) (behind_denial domain))) }
+    ensures err { IfErr result (λ e. IsCutAt (K.out out.old) (K.out out.new) (told (codes "deny ") thread (text_of asked.now) (behind_denial domain)) e.written) }
+    ensures cause { HasCause (K.faults out.old) (K.faults out.new) result }
+{
+    text_laws();
+    let thread = u64::from(thread);
+    let domain = u64::from(domain);
+    write_line(
+        out,
+        &[
+            Part::Plain("deny "),
+            Part::Number(thread),
+            Part::Plain(" "),
+            Part::Text(asked.part(0)),
+            Part::Text(asked.part(1)),
+            Part::Text(asked.part(2)),
+            Part::Text(asked.part(3)),
+            Part::Text(asked.part(4)),
+            Part::Text(asked.part(5)),
+            Part::Text(asked.part(6)),
+            Part::Text(asked.part(7)),
+            Part::Text(asked.part(8)),
+            Part::Text(asked.part(9)),
+            Part::Text(asked.part(10)),
+            Part::Plain(" domain "),
+            Part::Number(domain),
+        ],
+    )
+}
+
+impl Event {
+    /// Whether the event's text has at most `MOST_UNITS` units, so that its line can be written.
+    #[tactic(auto, unfolding(crate::specs::Lines::units_of))]
+    pub fn is_short(&self) -> bool
+        ensures { result ≡ nat_le (units_of self.now) MOST_UNITS }
+    {
+        match self {
+            Event::Out { text, .. } => text.as_slice().len() <= MOST_UNITS,
+            Event::Grant { asked, .. } => is_short_permission(asked),
+            Event::Deny { asked, .. } => is_short_permission(asked),
+            Event::Throw { class, .. } => class.as_slice().len() <= MOST_UNITS,
+            Event::Uncaught { class, .. } => class.as_slice().len() <= MOST_UNITS,
+        }
+    }
+}
+
+/// Writes the line of an event, without memory. A line of at most 256 bytes is one piece; a longer one goes out in pieces of
+/// 256 bytes, the last of which may be shorter. At a fault exactly the line's first `written` bytes went out.
+#[tactic(auto, unfolding(crate::specs::Lines::line, crate::specs::Lines::units_of))]
+pub fn write_event<K: Sink>(out: &mut K, event: &Event) -> Result<(), PutFault>
+    requires { units_of event.now ≤ MOST_UNITS }
+    ensures ok { OnOk result (K.out out.new ≡ appended (K.out out.old) (line event.now)) }
+    ensures err { IfErr result (λ e. IsCutAt (K.out out.old) (K.out out.new) (line event.now) e.written) }
+    ensures cause { HasCause (K.faults out.old) (K.faults out.new) result }
+{
+    match event {
+        Event::Out { thread, text } => write_told(out, "out ", *thread, text.as_slice()),
+        Event::Grant { thread, asked } => write_grant(out, *thread, asked),
+        Event::Deny {
+            thread,
+            asked,
+            domain,
+        } => write_deny(out, *thread, asked, *domain),
+        Event::Throw { thread, class } => write_told(out, "throw ", *thread, class.as_slice()),
+        Event::Uncaught { thread, class } => {
+            write_told(out, "uncaught ", *thread, class.as_slice())
+        }
+    }
+}
+
+/// Writes the line of an end as one piece, without memory. At a fault exactly the line's first `written` bytes went out.
+#[tactic(auto, unfolding(crate::specs::Lines::end_line))]
+pub fn write_end<K: Sink>(out: &mut K, end: End) -> Result<(), PutFault>
+    ensures ok { OnOk result (K.out out.new ≡ appended (K.out out.old) (end_line end)) }
+    ensures err { IfErr result (λ e. IsCutAt (K.out out.old) (K.out out.new) (end_line end) e.written) }
+    ensures cause { HasCause (K.faults out.old) (K.faults out.new) result }
+{
+    match end {
+        End::Finished => put_all(out, b"end finished\n"),
+        End::Uncaught => put_all(out, b"end uncaught\n"),
+        End::Deadlock => put_all(out, b"end deadlock\n"),
+        End::HeapFull => put_all(out, b"end heap\n"),
+        End::Bound => put_all(out, b"end bound\n"),
+        End::Stuck => put_all(out, b"end stuck\n"),
+    }
+}
