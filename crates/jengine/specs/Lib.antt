@@ -1,0 +1,11 @@
+pub mod Programs
+pub mod Granting
+pub mod Stacks
+pub mod Turns
+pub mod Straight
+pub mod Raising
+pub mod Making
+pub mod Checking
+pub mod Calling
+pub mod Steps
+pub mod Runs
