@@ -1,0 +1,24 @@
+-- The URLs of code sources.
+use Rattle.std.specs.Prelude.{ℕ, Bool, ◌&&◌, ◌||◌, not, ◌==◌, List, length, take, drop, ◌-◌, nat_le, codes}
+use Rattle.std.specs.Char.{is_ascii_digit, is_ascii_lowercase}
+use Rattle.std.specs.List.{list_all, slice_split}
+use Rattle.std.specs.Str.{bytes_eq}
+use Rattle.jload.specs.declared.url.TheConstants.{MOST_URL}
+
+-- whether a byte may stand in a part of a URL
+unfoldable pub is_part_byte : ℕ → Bool
+is_part_byte b = is_ascii_lowercase b || is_ascii_digit b
+
+-- one or more lower-case letters and digits
+unfoldable pub is_part : List ℕ → Bool
+is_part text = not (length text == 0) && list_all is_part_byte text
+
+-- one or more parts, each ended by a slash
+unfoldable pub are_parts : List ℕ → Bool
+are_parts text =
+    bytes_eq (drop (length text - 1) text) (codes "/")
+    && list_all is_part (slice_split (λ b. b == 47) (take (length text - 1) text))
+
+-- `file:/` and one or more parts, each ended by a slash
+unfoldable pub is_url : List ℕ → Bool
+is_url text = nat_le (length text) MOST_URL && (bytes_eq (take 6 text) (codes "file:/") && are_parts (drop 6 text))
