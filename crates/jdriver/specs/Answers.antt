@@ -1,0 +1,88 @@
+-- What the program answers to its words, over the files that are held.
+use Rattle.std.specs.Prelude.{◌≡◌, ℕ, List, [], ◌∷◌, ◌++◌, Option, Some, None, Result, Ok, Err, codes}
+use Rattle.jbase.specs.Causes.{appended, IsCut}
+use Rattle.jio.specs.Held.{File}
+use Rattle.jio.specs.Text.{written}
+use Rattle.jtext.specs.Texts.{units_of_text}
+use Rattle.jtrace.specs.declared.event.End.{End}
+use Rattle.jtrace.specs.declared.event.End.TheVariants as ends
+use Rattle.jengine.specs.declared.plan.Plan.{Plan}
+use Rattle.jengine.specs.declared.plan.TheConstants.{DEFAULT_HEAP, DEFAULT_DEPTH, DEFAULT_STEPS}
+use Rattle.jengine.specs.Runs.{Run, run, run_text, ending}
+use Rattle.jdriver.specs.declared.task.Refusal.{Refusal}
+use Rattle.jdriver.specs.declared.task.Refusal.TheVariants.{Unbuilt, NoMain}
+use Rattle.jdriver.specs.declared.task.Task.{Task}
+use Rattle.jdriver.specs.declared.status.Status.{Status}
+use Rattle.jdriver.specs.declared.status.Status.TheVariants as statuses
+use Rattle.jdriver.specs.Plans.{Stopped, Missing, Refused, task_at}
+use Rattle.jdriver.specs.Words.{command}
+
+-- a text, and a status where there is one
+pub record Answer : Type 0 where
+  pub text : List ℕ
+  pub status : Option Status
+
+abbrev pub status_of : End → Status
+status_of ends.Finished = statuses.Finished
+status_of ends.Uncaught = statuses.Uncaught
+status_of ends.Deadlock = statuses.Deadlock
+status_of ends.HeapFull = statuses.HeapFull
+status_of ends.Bound = statuses.Bound
+status_of ends.Stuck = statuses.Stuck
+
+-- some words and a name, which is written as texts are
+abbrev pub name_line : List ℕ → List ℕ → List ℕ
+name_line words name = words ++ (written (units_of_text name) ++ codes "\n")
+
+-- a refusal's line
+abbrev pub refusal_line : Refusal → List ℕ
+refusal_line (Unbuilt path) = name_line (codes "refused unbuilt ") path
+refusal_line (NoMain name) = name_line (codes "refused main ") name
+
+abbrev pub usage_line : List ℕ
+usage_line = codes "usage: javasec VERB ARGUMENTS\n"
+
+abbrev pub default_plan : Plan
+default_plan = record { heap = DEFAULT_HEAP; depth = DEFAULT_DEPTH; steps = DEFAULT_STEPS }
+
+-- the run of a task, to its end or to its bound
+unfoldable pub run_of : Task → Run
+run_of task = run task.program task.domains default_plan DEFAULT_STEPS
+
+abbrev pub ran : Run → Answer
+ran r = record { text = run_text r; status = Some (status_of (ending r)) }
+
+abbrev pub refused_answer : List ℕ → Answer
+refused_answer line = record { text = line; status = Some statuses.Refused }
+
+abbrev pub usage_answer : Answer
+usage_answer = record { text = usage_line; status = Some statuses.Usage }
+
+abbrev pub shown : Result Task Stopped → Answer
+shown (Ok task) = ran (run_of task)
+shown (Err (Refused refusal)) = refused_answer (refusal_line refusal)
+shown (Err Missing) = record { text = []; status = None }
+
+abbrev pub answer_to : List File → Option (List ℕ) → Answer
+answer_to files None = usage_answer
+answer_to files (Some path) = shown (task_at files path)
+
+-- the text and the status; there is none where a file that is to be read is missing or too long
+unfoldable pub answer : List (List ℕ) → List File → Answer
+answer words files = answer_to files (command words)
+
+-- What the call answered and wrote is this answer. After a fault of reading nothing was written; after a fault of writing,
+-- and where memory ran out, a front of its text.
+abbrev pub Answers : Answer → Status → Option (List ℕ) → Option (List ℕ) → Type 0
+Answers a statuses.ReadFault old new = new ≡ old
+Answers a statuses.WriteFault old new = IsCut old new a.text
+Answers a statuses.OutOfMemory old new = IsCut old new a.text
+Answers a status old new = (a.status ≡ Some status) × (new ≡ appended old a.text)
+
+-- Usage comes exactly where the words are no command; it yields to a fault of writing.
+abbrev pub UsageExactly : Option (List ℕ) → Status → Type 0
+UsageExactly None statuses.Usage = Unit {0}
+UsageExactly None statuses.WriteFault = Unit {0}
+UsageExactly None _ = ⊥
+UsageExactly (Some path) statuses.Usage = ⊥
+UsageExactly (Some path) _ = Unit {0}

@@ -1,0 +1,91 @@
+-- What is to be done with the files that are held: they are read in the order job, policy, class files, and each is judged
+-- before the next is read; then the classes join, and then `main` is looked for.
+use Rattle.std.specs.Prelude.{◌≡◌, ℕ, List, [], ◌∷◌, Option, Some, None, Result, Ok, Err, map}
+use Rattle.jbase.specs.Each.{each}
+use Rattle.jbase.specs.Stops.{◌>>=◌}
+use Rattle.jio.specs.Held.{File, readable}
+use Rattle.jclass.specs.declared.form.ClassForm.{ClassForm}
+use Rattle.jclass.specs.Forms.{class_form}
+use Rattle.jload.specs.declared.job.Job.{Job}
+use Rattle.jload.specs.declared.job.Source.{Source}
+use Rattle.jload.specs.declared.grant.Grant.{Grant}
+use Rattle.jload.specs.Jobs.{job_form}
+use Rattle.jload.specs.Policies.{policy_form, granted}
+use Rattle.jload.specs.Joins.{joined, main_of}
+use Rattle.jengine.specs.declared.program.Program.{Program}
+use Rattle.jengine.specs.declared.domains.Domains.{Domains}
+use Rattle.jdriver.specs.declared.task.Refusal.{Refusal}
+use Rattle.jdriver.specs.declared.task.Refusal.TheVariants.{Unbuilt, NoMain}
+use Rattle.jdriver.specs.declared.task.Task.{Task}
+use Rattle.jdriver.specs.declared.task.Halt.{Halt}
+use Rattle.jdriver.specs.declared.task.Halt.TheVariants as halts
+
+-- Why nothing is to be run: a file that is to be read isn't there or is too long, or something is refused.
+pub data Stopped : Type 0 where
+  Missing : Stopped
+  Refused : Refusal → Stopped
+
+abbrev pub found : {A : Type 0} → Option A → Result A Stopped
+found (Some a) = Ok a
+found None = Err Missing
+
+abbrev pub judged : {A : Type 0} → Refusal → Option A → Result A Stopped
+judged refusal (Some a) = Ok a
+judged refusal None = Err (Refused refusal)
+
+-- the bytes at a path
+abbrev pub bytes_at : List File → List ℕ → Result (List ℕ) Stopped
+bytes_at files path = found (readable files path)
+
+-- the class of a code source
+unfoldable pub class_at : List File → Source → Result ClassForm Stopped
+class_at files source = bytes_at files source.path >>= λ bytes. judged (Unbuilt source.path) (class_form bytes)
+
+-- what is granted to each code source
+abbrev pub domains_of : List Grant → List Source → Domains
+domains_of grants sources = record { granted = map (λ s. granted grants s.url) sources }
+
+abbrev pub program_task : List ℕ → Job → List Grant → List ClassForm → Result Task Stopped
+program_task path job grants classes =
+    judged (Unbuilt path) (joined classes) >>= λ methods.
+    judged (NoMain job.main) (main_of classes methods job.main) >>= λ program.
+    Ok (record { program = program; domains = domains_of grants job.sources })
+
+unfoldable pub classes_task : List File → List ℕ → Job → List Grant → Result Task Stopped
+classes_task files path job grants = each (class_at files) job.sources >>= λ classes. program_task path job grants classes
+
+-- the grants of the policy; a job without one has none
+unfoldable pub grants_at : List File → Option (List ℕ) → Result (List Grant) Stopped
+grants_at files None = Ok []
+grants_at files (Some policy) = bytes_at files policy >>= λ bytes. judged (Unbuilt policy) (policy_form bytes)
+
+unfoldable pub policy_task : List File → List ℕ → Job → Result Task Stopped
+policy_task files path job = grants_at files job.policy >>= λ grants. classes_task files path job grants
+
+unfoldable pub job_at : List File → List ℕ → Result Job Stopped
+job_at files path = bytes_at files path >>= λ bytes. judged (Unbuilt path) (job_form bytes)
+
+-- what the job at a path asks to be run
+unfoldable pub task_at : List File → List ℕ → Result Task Stopped
+task_at files path = job_at files path >>= λ job. policy_task files path job
+
+-- ---- what a call that reads files answers
+
+-- The call's value or refusal is this one; a fault of reading, and want of memory, say nothing of it.
+abbrev pub Halts : {Y : Type 0} → Halt → Result Y Stopped → Type 0
+Halts halts.Read value = Unit {0}
+Halts halts.Memory value = Unit {0}
+Halts (halts.Refused refusal) value = value ≡ Err (Refused refusal)
+
+abbrev pub Follows : {X Y : Type 0} → (X → Y) → Result X Halt → Result Y Stopped → Type 0
+Follows view (Ok x) value = value ≡ Ok (view x)
+Follows view (Err halt) value = Halts halt value
+
+-- The files are told, and one that is to be read is missing or too long.
+abbrev pub Misses : {Y : Type 0} → Option (List File) → (List File → Result Y Stopped) → Type 0
+Misses held value = (files : List File) × (held ≡ Some files) × (value files ≡ Err Missing)
+
+-- The words are a command, and a file that is to be read is missing or too long.
+abbrev pub MissesAny : Option (List File) → Option (List ℕ) → Type 0
+MissesAny held None = ⊥
+MissesAny held (Some path) = Misses held (λ files. task_at files path)
