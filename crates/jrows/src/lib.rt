@@ -1,0 +1,9 @@
+//! The worked rows: jobs over a shelf and a sink in memory, and what the program answers.
+#![tactic(auto)]
+
+#[cfg(test)]
+mod classes;
+#[cfg(test)]
+mod job;
+#[cfg(test)]
+mod rows;

@@ -1,0 +1,282 @@
+use crate::classes::{AGAIN, CALLER, LIB, LOOPS, NO_NAME, POPS, ROW_ONE, SHUFFLES, UNSET};
+use crate::job::Content::{Bytes, Hex, Text};
+use crate::job::{Content, Faults, NONE, answered};
+use jdriver::Status;
+use std::alloc::AllocError;
+
+const RUN: [&str; 3] = ["run", "--form=inspect", "job"];
+
+const ONE: &str = "policy app.policy\ncode file:/a/\nclass Main.class\nmain Main\n";
+
+const TWO: &str =
+    "policy app.policy\ncode file:/lib/\nclass Lib.class\ncode file:/main/\nclass Main.class\nmain Main\n";
+
+const TO_A: &str =
+    "grant codeBase \"file:/a/\" { permission java.util.PropertyPermission \"x\", \"read\"; };\n";
+
+const TO_LIB: &str =
+    "grant codeBase \"file:/lib/\" { permission java.util.PropertyPermission \"x\", \"read\"; };\n";
+
+const TO_MAIN: &str =
+    "grant codeBase \"file:/main/\" { permission java.util.PropertyPermission \"x\", \"read\"; };\n";
+
+const TO_BOTH: &str =
+    "grant codeBase \"file:/main/\" { permission java.util.PropertyPermission \"x\", \"read\"; };\n\
+    grant codeBase \"file:/lib/\" { permission java.util.PropertyPermission \"x\", \"read,write\"; };\n";
+
+const GRANTED: &str = "grant 0 (\"java.util.PropertyPermission\" \"x\" \"read\")\nend finished\n";
+
+const DENIED_BY_0: &str = "deny 0 (\"java.util.PropertyPermission\" \"x\" \"read\") domain 0\n\
+    throw 0 java.security.AccessControlException\n\
+    uncaught 0 java.security.AccessControlException\n\
+    end uncaught\n";
+
+const DENIED_BY_1: &str = "deny 0 (\"java.util.PropertyPermission\" \"x\" \"read\") domain 1\n\
+    throw 0 java.security.AccessControlException\n\
+    uncaught 0 java.security.AccessControlException\n\
+    end uncaught\n";
+
+const OVERFLOW: &str =
+    "throw 0 java.lang.StackOverflowError\nuncaught 0 java.lang.StackOverflowError\nend uncaught\n";
+
+const ILLEGAL: &str = "throw 0 java.lang.IllegalArgumentException\n\
+    uncaught 0 java.lang.IllegalArgumentException\n\
+    end uncaught\n";
+
+const AGAIN_TEXT: &str =
+    "deny 0 (\"java.util.PropertyPermission\" \"a\\\\b\" \"read,write\") domain 0\n\
+    throw 0 java.security.AccessControlException\n\
+    uncaught 0 java.security.AccessControlException\n\
+    end uncaught\n";
+
+/// One code source.
+#[test]
+fn one_class(rt: HostRuntime) -> Result<(), AllocError> {
+    let alloc = rt.alloc();
+    let rows: [(&str, &str, &str, Status); 8] = [
+        (TO_A, ROW_ONE, GRANTED, Status::Finished),
+        ("", ROW_ONE, DENIED_BY_0, Status::Uncaught),
+        (TO_LIB, ROW_ONE, DENIED_BY_0, Status::Uncaught),
+        (TO_A, POPS, "end stuck\n", Status::Stuck),
+        (TO_A, LOOPS, OVERFLOW, Status::Uncaught),
+        (TO_A, SHUFFLES, "end finished\n", Status::Finished),
+        (TO_A, NO_NAME, ILLEGAL, Status::Uncaught),
+        (TO_A, AGAIN, AGAIN_TEXT, Status::Uncaught),
+    ];
+    for (policy, class, text, status) in rows {
+        let files = [
+            ("job", Text(ONE)),
+            ("app.policy", Text(policy)),
+            ("Main.class", Hex(class)),
+        ];
+        let got = answered(alloc, &RUN, &files, NONE)?;
+        assert!(rt; got.text.as_slice() == text.as_bytes(), "{text}");
+        assert!(rt; got.status == status, "{text}");
+    }
+    let files = [
+        ("job", Text(ONE)),
+        ("app.policy", Text(TO_A)),
+        ("Main.class", Hex(UNSET)),
+    ];
+    let got = answered(alloc, &RUN, &files, NONE)?;
+    assert!(rt; got.status == Status::Stuck);
+    Ok(())
+}
+
+/// Two code sources: which of the two domains has the permission decides.
+#[test]
+fn two_classes(rt: HostRuntime) -> Result<(), AllocError> {
+    let alloc = rt.alloc();
+    let rows: [(&str, &str, Status); 4] = [
+        (TO_LIB, DENIED_BY_1, Status::Uncaught),
+        (TO_MAIN, DENIED_BY_0, Status::Uncaught),
+        (TO_BOTH, GRANTED, Status::Finished),
+        ("", DENIED_BY_0, Status::Uncaught),
+    ];
+    for (policy, text, status) in rows {
+        let files = [
+            ("job", Text(TWO)),
+            ("app.policy", Text(policy)),
+            ("Lib.class", Hex(LIB)),
+            ("Main.class", Hex(CALLER)),
+        ];
+        let got = answered(alloc, &RUN, &files, NONE)?;
+        assert!(rt; got.text.as_slice() == text.as_bytes(), "{text}");
+        assert!(rt; got.status == status, "{text}");
+    }
+    Ok(())
+}
+
+/// A job, its policy and its class file, and in which words they are refused.
+const REFUSED: [(Content<'static>, Content<'static>, Content<'static>, &str); 9] = [
+    (
+        Text("policy app.policy\ncode file:/a/\nclass Main.class\nmain Mein\n"),
+        Text(TO_A),
+        Hex(ROW_ONE),
+        "refused main Mein\n",
+    ),
+    (
+        Text("policy app.policy\ncode file:/a/\nclass Main.class\nmain M\u{e9}\u{1f600}\\\n"),
+        Text(TO_A),
+        Hex(ROW_ONE),
+        "refused main M\\u00e9\\ud83d\\ude00\\\\\n",
+    ),
+    (
+        Text("code file:/a/\n"),
+        Text(TO_A),
+        Hex(ROW_ONE),
+        "refused unbuilt job\n",
+    ),
+    (
+        Bytes(b"main \xff\n"),
+        Text(TO_A),
+        Hex(ROW_ONE),
+        "refused unbuilt job\n",
+    ),
+    (
+        Text(ONE),
+        Text("grant { };\n"),
+        Hex(ROW_ONE),
+        "refused unbuilt app.policy\n",
+    ),
+    (
+        Text(ONE),
+        Text(TO_A),
+        Text(""),
+        "refused unbuilt Main.class\n",
+    ),
+    (Text(ONE), Text(TO_A), Hex(CALLER), "refused unbuilt job\n"),
+    (
+        Text(
+            "policy app.policy\ncode file:/a/\nclass Main.class\ncode file:/b/\nclass Main.class\nmain Main\n",
+        ),
+        Text(TO_A),
+        Hex(ROW_ONE),
+        "refused unbuilt job\n",
+    ),
+    (
+        Text("policy app.policy\ncode file:/a/\nclass Main.class\nmain Main\nsteps 5\n"),
+        Text(TO_A),
+        Hex(ROW_ONE),
+        "refused unbuilt job\n",
+    ),
+];
+
+/// What is refused, and in which words.
+#[test]
+fn refusals(rt: HostRuntime) -> Result<(), AllocError> {
+    let alloc = rt.alloc();
+    for (job, policy, class, text) in REFUSED {
+        let files = [("job", job), ("app.policy", policy), ("Main.class", class)];
+        let got = answered(alloc, &RUN, &files, NONE)?;
+        assert!(rt; got.text.as_slice() == text.as_bytes(), "{text}");
+        assert!(rt; got.status == Status::Refused, "{text}");
+    }
+    Ok(())
+}
+
+/// A class file that is cut anywhere is refused.
+#[test]
+fn cut_class_files(rt: HostRuntime) -> Result<(), AllocError> {
+    let alloc = rt.alloc();
+    let digits = ROW_ONE.as_bytes();
+    for bytes in 0..344_usize {
+        let Some(front) = digits.get(..2 * bytes) else {
+            assert!(rt; false);
+            return Ok(());
+        };
+        let Ok(front) = str::from_utf8(front) else {
+            assert!(rt; false);
+            return Ok(());
+        };
+        let files = [
+            ("job", Text(ONE)),
+            ("app.policy", Text(TO_A)),
+            ("Main.class", Hex(front)),
+        ];
+        let got = answered(alloc, &RUN, &files, NONE)?;
+        assert!(rt;
+            got.text.as_slice() == b"refused unbuilt Main.class\n".as_slice(),
+            "{bytes}"
+        );
+        assert!(rt; got.status == Status::Refused, "{bytes}");
+    }
+    Ok(())
+}
+
+/// Words that are no command.
+#[test]
+fn wrong_words(rt: HostRuntime) -> Result<(), AllocError> {
+    let alloc = rt.alloc();
+    let rows: [&[&str]; 7] = [
+        &[],
+        &["run"],
+        &["run", "job"],
+        &["run", "--form=fast", "job"],
+        &["run", "--form=inspect", "-job"],
+        &["run", "--form=inspect", "job", "job"],
+        &["--help"],
+    ];
+    for words in rows {
+        let got = answered(alloc, words, &[("job", Text(ONE))], NONE)?;
+        assert!(rt; got.text.as_slice() == b"usage: javasec VERB ARGUMENTS\n".as_slice());
+        assert!(rt; got.status == Status::Usage);
+    }
+    Ok(())
+}
+
+/// The stored job, whose class file is denied.
+const DENIED: [(&str, Content<'static>); 3] = [
+    ("job", Text(ONE)),
+    ("app.policy", Text("")),
+    ("Main.class", Hex(ROW_ONE)),
+];
+
+/// Reads that fail, each in turn, and a file that is missing: nothing is written.
+#[test]
+fn failing_reads(rt: HostRuntime) -> Result<(), AllocError> {
+    let alloc = rt.alloc();
+    for number in 1..4_u64 {
+        let faults = Faults {
+            reads: &[number],
+            puts: &[],
+            room: 4_096,
+        };
+        let got = answered(alloc, &RUN, &DENIED, faults)?;
+        assert!(rt; got.text.is_empty(), "{number}");
+        assert!(rt; got.status == Status::ReadFault, "{number}");
+    }
+    let missing = [("job", Text(ONE)), ("app.policy", Text(""))];
+    let got = answered(alloc, &RUN, &missing, NONE)?;
+    assert!(rt; got.text.is_empty());
+    assert!(rt; got.status == Status::ReadFault);
+    Ok(())
+}
+
+/// Puts that fail, each in turn, and too little room: exactly the bytes before the fault stand.
+#[test]
+fn failing_puts(rt: HostRuntime) -> Result<(), AllocError> {
+    let alloc = rt.alloc();
+    let before: [usize; 4] = [0, 60, 105, 153];
+    for (i, length) in before.iter().enumerate() {
+        let number = i as u64 + 1;
+        let faults = Faults {
+            reads: &[],
+            puts: &[number],
+            room: 4_096,
+        };
+        let got = answered(alloc, &RUN, &DENIED, faults)?;
+        let want = DENIED_BY_0.as_bytes().get(..*length);
+        assert!(rt; want == Some(got.text.as_slice()), "{number}");
+        assert!(rt; got.status == Status::WriteFault, "{number}");
+    }
+    let faults = Faults {
+        reads: &[],
+        puts: &[],
+        room: 70,
+    };
+    let got = answered(alloc, &RUN, &DENIED, faults)?;
+    assert!(rt; DENIED_BY_0.as_bytes().get(..70) == Some(got.text.as_slice()));
+    assert!(rt; got.status == Status::WriteFault);
+    Ok(())
+}
