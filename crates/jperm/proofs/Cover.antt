@@ -17,15 +17,15 @@ use Rattle.jperm.specs.Permissions.{implies, covers, united, gives, stands_alone
 use Rattle.jperm.proofs.Bits.{has_all-trans, has_all-left, has_all-right, has_all-both, has_all-none, has_all-itself, or_assoc, or-zero, zero-or, zero-and}
 use Rattle.jperm.proofs.Same.{and_left, and_right, and_both, text_itself, class_itself}
 
-or_left : (a b : Bool) → a ≡ true → (a || b) ≡ true
+pub or_left : (a b : Bool) → a ≡ true → (a || b) ≡ true
 or_left true b h = refl
 or_left false b h = cc
 
-or_right : (a b : Bool) → b ≡ true → (a || b) ≡ true
+pub or_right : (a b : Bool) → b ≡ true → (a || b) ≡ true
 or_right true b h = refl
 or_right false b h = h
 
-either : {Q : Type 0} (a b : Bool) → (a || b) ≡ true → (a ≡ true → Q) → (b ≡ true → Q) → Q
+pub either : {Q : Type 0} (a b : Bool) → (a || b) ≡ true → (a ≡ true → Q) → (b ≡ true → Q) → Q
 either true b h left right = left refl
 either false b h left right = right h
 
@@ -41,14 +41,14 @@ fold_keeps asked start (q ∷ list) =
     has_all-trans (fold (add asked) (bit_or start (gives q asked)) list) (bit_or start (gives q asked)) start
     (fold_keeps asked (bit_or start (gives q asked)) list) (has_all-left start (gives q asked))
 
-fold_has : (asked : Permission) (start : ℕ) (list : List Permission) (q : Permission) (k : ℕ) → k < length list → get_or list k q ≡ q → has_all (fold (add asked) start list) (gives q asked) ≡ true
+pub fold_has : (asked : Permission) (start : ℕ) (list : List Permission) (q : Permission) (k : ℕ) → k < length list → get_or list k q ≡ q → has_all (fold (add asked) start list) (gives q asked) ≡ true
 fold_has asked start [] q k lt at = absurd (omega arith)
 fold_has asked start (r ∷ list) q zero lt at =
     subst (λ (p : Permission). has_all (fold (add asked) (bit_or start (gives r asked)) list) (gives p asked) ≡ true) at
     (has_all-trans (fold (add asked) (bit_or start (gives r asked)) list) (bit_or start (gives r asked)) (gives r asked) (fold_keeps asked (bit_or start (gives r asked)) list) (has_all-right start (gives r asked)))
 fold_has asked start (r ∷ list) q (suc k) lt at = fold_has asked (bit_or start (gives r asked)) list q k (omega arith) at
 
-fold_within : (asked : Permission) (n start : ℕ) (list : List Permission) → ((q : Permission) → Contains list q → has_all n (gives q asked) ≡ true) → has_all n start ≡ true → has_all n (fold (add asked) start list) ≡ true
+pub fold_within : (asked : Permission) (n start : ℕ) (list : List Permission) → ((q : Permission) → Contains list q → has_all n (gives q asked) ≡ true) → has_all n start ≡ true → has_all n (fold (add asked) start list) ≡ true
 fold_within asked n start [] h s = s
 fold_within asked n start (r ∷ list) h s =
     fold_within asked n (bit_or start (gives r asked)) list (λ q c. h q (suc c.0, omega (arith, c.1), c.2))

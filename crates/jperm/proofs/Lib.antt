@@ -1,5 +1,6 @@
 pub mod Bits
 pub mod Blanks
+pub mod Chain
 pub mod Cover
 pub mod Parts
 pub mod Same

@@ -23,13 +23,13 @@ pub and_both : (a b : Bool) → a ≡ true → b ≡ true → (a && b) ≡ true
 and_both true b h k = k
 and_both false b h k = h
 
-same_texts : (a b : List ℕ) → bytes_eq a b ≡ true → a ≡ b
+pub same_texts : (a b : List ℕ) → bytes_eq a b ≡ true → a ≡ b
 same_texts a b h = (bytes_eq-Decides a b).0 h
 
 pub text_itself : (a : List ℕ) → bytes_eq a a ≡ true
 text_itself a = (bytes_eq-Decides a a).1 refl
 
-same_class-true : (a b : BasicClass) → same_class a b ≡ true → a ≡ b
+pub same_class-true : (a b : BasicClass) → same_class a b ≡ true → a ≡ b
 same_class-true Runtime Runtime h = refl
 same_class-true Security Security h = refl
 same_class-true _ _ h = cc

@@ -6,18 +6,21 @@ ghost use Rattle.jperm.specs.Texts.{parts, text_of};
 
 use crate::text::PARTS;
 
-/// The laws of permissions: equal ones are the same, and each but an unresolved one implies itself.
+/// The laws of permissions: equal ones are the same, each but an unresolved one implies itself, and one implies all that an
+/// implied one implies.
 pub fn permission_laws()
     ensures same { (p q : Permission) → (equal p q ≡ true) ↔ (p ≡ q) }
     ensures itself { (p : Permission) → is_unresolved p ≡ false → implies p p ≡ true }
+    ensures chain { (p q r : Permission) → implies p q ≡ true → implies q r ≡ true → implies p r ≡ true }
 {}
 
-/// The laws of lists of permissions. A list covers what one member implies, and a list of one covers nothing else. More
-/// members never take a permission away. The actions that two lists give are those of both, and a member that gives none and
-/// doesn't imply what is asked for changes nothing.
+/// The laws of lists of permissions. A list covers what one member implies, and a list of one covers nothing else. What a list
+/// covers, it covers with all that this implies. More members never take a permission away. The actions that two lists give are
+/// those of both, and a member that gives none and doesn't imply what is asked for changes nothing.
 pub fn covers_laws()
     ensures one { (list : List Permission) (q asked : Permission) → Contains list q → implies q asked ≡ true → covers list asked ≡ true }
     ensures alone { (q asked : Permission) → asks_nothing asked ≡ false → covers (q ∷ []) asked ≡ implies q asked }
+    ensures implied { (list : List Permission) (p q : Permission) → covers list p ≡ true → implies p q ≡ true → covers list q ≡ true }
     ensures more { (list more : List Permission) (asked : Permission) → ((q : Permission) → Contains list q → Contains more q) → covers list asked ≡ true → covers more asked ≡ true }
     ensures behind { (list more : List Permission) (asked : Permission) → covers list asked ≡ true → covers (list ++ more) asked ≡ true }
     ensures united { (list more : List Permission) (asked : Permission) → united (list ++ more) asked ≡ bit_or (united list asked) (united more asked) }

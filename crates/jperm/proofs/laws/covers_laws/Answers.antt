@@ -1,3 +1,4 @@
+use Rattle.jperm.proofs.Chain as chain
 use Rattle.jperm.proofs.Cover as cover
 use Rattle.jperm.proofs.laws.covers_laws.Goals as goal
 
@@ -6,6 +7,9 @@ returns-clause-one c = cover.one_covers
 
 pub returns-clause-alone : goal.returns-clause-alone
 returns-clause-alone c = cover.alone_covers
+
+pub returns-clause-implied : goal.returns-clause-implied
+returns-clause-implied c = chain.implied_covered
 
 pub returns-clause-more : goal.returns-clause-more
 returns-clause-more c = cover.more_covers
