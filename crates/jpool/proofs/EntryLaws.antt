@@ -195,7 +195,7 @@ unused_forth (MethodHandle a b) u h = absurd cc
 unused_forth (MethodType a) u h = absurd cc
 unused_forth (InvokeDynamic a b) u h = absurd cc
 
-unused_law : IsFormat unused
+pub unused_law : IsFormat unused
 unfolding unused
 unused_law = as_case_law (λ _. Unused) unused_parts void (λ u. refl) unused_forth void_law
 

@@ -38,6 +38,9 @@ text = sized u2 Truncated
 abbrev pub two : Format PoolKind (ℕ × ℕ)
 two = u2 · u2
 
+abbrev pub handle : Format PoolKind (ℕ × ℕ)
+handle = u1 · u2
+
 -- ---- an entry
 
 abbrev pub Parts : Type 0
@@ -45,7 +48,7 @@ Parts = List ℕ ⊎ (ℤ ⊎ (ℕ ⊎ (ℤ ⊎ (ℕ ⊎ (ℕ ⊎ (ℕ ⊎ ((ℕ
 
 abbrev pub cases : Tagged PoolKind Parts
 cases = tag 1 text ∣ tag 3 i4 ∣ tag 4 u4 ∣ tag 5 i8 ∣ tag 6 u8 ∣ tag 7 u2 ∣ tag 8 u2
-    ∣ tag 9 two ∣ tag 10 two ∣ tag 11 two ∣ tag 12 two ∣ tag 15 (u1 · u2) ∣ tag 16 u2 ∣ tag 18 two
+    ∣ tag 9 two ∣ tag 10 two ∣ tag 11 two ∣ tag 12 two ∣ tag 15 handle ∣ tag 16 u2 ∣ tag 18 two
 
 abbrev pub entry_from : Parts → Entry
 entry_from (inl a) = Utf8 a

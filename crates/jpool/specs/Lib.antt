@@ -1,3 +1,4 @@
+pub mod Adding
 pub mod Descriptors
 pub mod Entries
 pub mod Names

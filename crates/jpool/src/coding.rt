@@ -1,14 +1,15 @@
-ghost use Rattle.std.specs.Prelude.{◌≡◌, ◌∷◌, ◌++◌, IsTrue, OnOk};
+ghost use Rattle.std.specs.Prelude.{◌≡◌, ◌≤◌, ◌∷◌, ◌++◌, IsTrue, OnOk, length};
 ghost use Rattle.jbase.specs.Stops.{Gives};
-ghost use Rattle.jpool.specs.Entries.{entry, i8, two};
+ghost use Rattle.jpool.specs.Adding.{has_spelling};
+ghost use Rattle.jpool.specs.Entries.{entry, handle, i8, text as text_format, two, u2, u4, u8 as u8_format};
 
 use crate::entry::Entry;
 use crate::kind::PoolKind;
 use crate::kind::PoolKind::{BadTag, Truncated};
 use jbase::Seq;
 use jformat::{
-    ReadError, fault, i32_of, put_i32, put_sized16, put_u8, put_u16, put_u32, put_u64, sized_of,
-    u8_of, u16_of, u32_of, u64_of,
+    ReadError, fault, i32_of, put_sized16, put_u8, put_u16, put_u32, put_u64, sized_of, u8_of,
+    u16_of, u32_of, u64_of,
 };
 use std::alloc::{AllocError, Global};
 
@@ -95,6 +96,22 @@ pub fn entry_of(alloc: Global, bytes: &[u8]) -> Result<(Entry, &[u8]), ReadError
     }
 }
 
+fn put_text(text: &[u8], out: &mut Seq<u8>) -> Result<(), AllocError>
+    requires { length text.now ≤ 65535 }
+    ensures fits { IsTrue (text_format.fits text.now) }
+    ensures spelled { OnOk result (out.new ≡ out.old ++ 1 ∷ text_format.spell text.now) }
+{
+    put_u8(1, out)?;
+    put_sized16(text, out)
+}
+
+fn put_one(tag: u8, index: u16, out: &mut Seq<u8>) -> Result<(), AllocError>
+    ensures { OnOk result (out.new ≡ out.old ++ tag ∷ u2.spell index) }
+{
+    put_u8(tag, out)?;
+    put_u16(index, out)
+}
+
 fn put_two(tag: u8, one: u16, other: u16, out: &mut Seq<u8>) -> Result<(), AllocError>
     ensures { OnOk result (out.new ≡ out.old ++ tag ∷ two.spell (one, other)) }
 {
@@ -103,55 +120,50 @@ fn put_two(tag: u8, one: u16, other: u16, out: &mut Seq<u8>) -> Result<(), Alloc
     put_u16(other, out)
 }
 
-/// Writes an entry that has a spelling of its own.
+fn put_word(tag: u8, n: u32, out: &mut Seq<u8>) -> Result<(), AllocError>
+    ensures { OnOk result (out.new ≡ out.old ++ tag ∷ u4.spell n) }
+{
+    put_u8(tag, out)?;
+    put_u32(n, out)
+}
+
+fn put_long(tag: u8, n: u64, out: &mut Seq<u8>) -> Result<(), AllocError>
+    ensures { OnOk result (out.new ≡ out.old ++ tag ∷ u8_format.spell n) }
+{
+    put_u8(tag, out)?;
+    put_u64(n, out)
+}
+
+fn put_handle(kind: u8, member: u16, out: &mut Seq<u8>) -> Result<(), AllocError>
+    ensures { OnOk result (out.new ≡ out.old ++ 15 ∷ handle.spell (kind, member)) }
+{
+    put_u8(15, out)?;
+    put_u8(kind, out)?;
+    put_u16(member, out)
+}
+
+/// Writes an entry that has a spelling of its own: one that isn't `Unused`, and whose text has at most 65,535 bytes.
 #[tactic(auto, unfolding(crate::specs::Entries::entry))]
 pub fn put_entry(one: &Entry, out: &mut Seq<u8>) -> Result<(), AllocError>
-    requires { IsTrue (entry.fits one.now) }
-    ensures { OnOk result (out.new ≡ out.old ++ entry.spell one.now) }
+    requires { IsTrue (has_spelling one.now) }
+    ensures fits { IsTrue (entry.fits one.now) }
+    ensures spelled { OnOk result (out.new ≡ out.old ++ entry.spell one.now) }
 {
     match one {
         Entry::Unused => Ok(()),
-        Entry::Utf8(text) => {
-            put_u8(1, out)?;
-            put_sized16(text.as_slice(), out)
-        }
-        Entry::Integer(n) => {
-            put_u8(3, out)?;
-            put_i32(*n, out)
-        }
-        Entry::Float(n) => {
-            put_u8(4, out)?;
-            put_u32(*n, out)
-        }
-        Entry::Long(n) => {
-            put_u8(5, out)?;
-            put_u64(n.cast_unsigned(), out)
-        }
-        Entry::Double(n) => {
-            put_u8(6, out)?;
-            put_u64(*n, out)
-        }
-        Entry::Class(name) => {
-            put_u8(7, out)?;
-            put_u16(*name, out)
-        }
-        Entry::Str(text) => {
-            put_u8(8, out)?;
-            put_u16(*text, out)
-        }
+        Entry::Utf8(text) => put_text(text.as_slice(), out),
+        Entry::Integer(n) => put_word(3, n.cast_unsigned(), out),
+        Entry::Float(n) => put_word(4, *n, out),
+        Entry::Long(n) => put_long(5, n.cast_unsigned(), out),
+        Entry::Double(n) => put_long(6, *n, out),
+        Entry::Class(name) => put_one(7, *name, out),
+        Entry::Str(text) => put_one(8, *text, out),
         Entry::Field(class, both) => put_two(9, *class, *both, out),
         Entry::Method(class, both) => put_two(10, *class, *both, out),
         Entry::InterfaceMethod(class, both) => put_two(11, *class, *both, out),
         Entry::NameAndType(name, descriptor) => put_two(12, *name, *descriptor, out),
-        Entry::MethodHandle(kind, member) => {
-            put_u8(15, out)?;
-            put_u8(*kind, out)?;
-            put_u16(*member, out)
-        }
-        Entry::MethodType(descriptor) => {
-            put_u8(16, out)?;
-            put_u16(*descriptor, out)
-        }
+        Entry::MethodHandle(kind, member) => put_handle(*kind, *member, out),
+        Entry::MethodType(descriptor) => put_one(16, *descriptor, out),
         Entry::InvokeDynamic(bootstrap, both) => put_two(18, *bootstrap, *both, out),
     }
 }

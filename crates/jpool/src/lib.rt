@@ -1,6 +1,7 @@
 //! The constant pool of a class file, class names and descriptors.
 #![tactic(auto)]
 
+mod adder;
 mod coding;
 mod descriptor;
 mod entry;
@@ -14,6 +15,7 @@ mod slots;
 #[cfg(test)]
 mod tests;
 
+pub use adder::{AddError, Adder};
 pub use coding::{entry_of, put_entry};
 pub use descriptor::{DescError, Descriptor, FieldType, read_descriptor, slots_of};
 pub use entry::Entry;

@@ -1,17 +1,20 @@
-ghost use Rattle.std.specs.Prelude.{◌≡◌, ◌++◌, ◌+◌, ℕ, List, IfOk, IsSome, IsTrue, Ok, drop, length, option_map, slice_get};
+ghost use Rattle.std.specs.Prelude.{◌≡◌, ◌++◌, ◌+◌, ℕ, List, IfOk, IsSome, IsTrue, Ok, OnErr, OnOk, drop, length, option_map, slice_get};
 ghost use Rattle.jpool.specs.declared.entry.Entry.{Entry};
+ghost use Rattle.jpool.specs.Adding.{laid};
 ghost use Rattle.jpool.specs.Pools;
 ghost use Rattle.jpool.specs.Pools.{IsPool, class_name_at, is_class, is_name_and_type, is_utf8, name_and_type_at, name_in, utf8_at};
 
 use crate::entry::Entry;
+use crate::slots::is_wide;
 use jbase::Seq;
+use std::alloc::AllocError;
 use std::marker::Model;
 
 /// A constant pool (JVMS 4.4). Contracts see it as the list of its entries by their indices: `Unused` stands at index 0 and
 /// behind each entry that takes two indices. Each class in it names a text.
 #[derive(Debug, Drop)]
 pub struct Pool {
-    entries: Seq<Entry>,
+    entries: Vec<Entry>,
 }
 
 impl Model for Pool {
@@ -21,9 +24,9 @@ impl Model for Pool {
 
     ghost Value = { List Entry };
 
-    ghost view = { λ p. p.entries };
+    ghost view = { λ p. p.entries.items };
 
-    ghost invariant = { λ p. IsPool p.entries };
+    ghost invariant = { λ p. IsPool p.entries.items };
 }
 
 /// The text at an index.
@@ -58,13 +61,30 @@ fn both_of(entries: &[Entry], i: u16) -> Option<(u16, u16)>
     }
 }
 
+/// Puts an entry behind others, and `Unused` behind one of two indices. After an error nothing has changed.
+fn lay(entries: &mut Vec<Entry>, one: Entry) -> Result<(), AllocError>
+    ensures ok { OnOk result (entries.new.items ≡ entries.old.items ++ laid one) }
+    ensures err { OnErr result (entries.new.items ≡ entries.old.items) }
+{
+    entries.reserve(2)?;
+    if is_wide(&one) {
+        entries.push_reserved(one);
+        entries.push_reserved(Entry::Unused);
+        return Ok(());
+    }
+    entries.push_reserved(one);
+    Ok(())
+}
+
 impl Pool {
     /// The pool of entries by their indices.
     pub fn from_entries(entries: Seq<Entry>) -> Pool
         requires { IsPool entries }
         ensures { result ≡ entries }
     {
-        Pool { entries }
+        Pool {
+            entries: entries.into_vec(),
+        }
     }
 
     /// The entries by their indices, lent.
@@ -80,7 +100,7 @@ impl Pool {
         ensures same { result ≡ self }
         ensures kept { IsPool self }
     {
-        self.entries
+        Seq::from_vec(self.entries)
     }
 
     /// The entry at an index. None exactly where the index isn't below the count.
@@ -113,5 +133,14 @@ impl Pool {
         ensures { result ≡ name_and_type_at self.now i }
     {
         both_of(self.entries.as_slice(), i)
+    }
+
+    /// Puts an entry behind the others, and `Unused` behind one of two indices. After an error the pool is unchanged.
+    pub(crate) fn push(&mut self, one: Entry) -> Result<(), AllocError>
+        requires { IsPool (self.old ++ laid one) }
+        ensures ok { OnOk result (self.new ≡ self.old ++ laid one) }
+        ensures err { OnErr result (self.new ≡ self.old) }
+    {
+        lay(&mut self.entries, one)
     }
 }

@@ -19,7 +19,8 @@ pub struct Slot {
     pub taken: bool,
 }
 
-fn is_wide(one: &Entry) -> bool
+/// Whether an entry takes two indices.
+pub fn is_wide(one: &Entry) -> bool
     ensures { result ≡ Entries.is_wide one.now }
 {
     matches!(one, Entry::Long(_) | Entry::Double(_))
@@ -54,7 +55,7 @@ fn slot_of(alloc: Global, place: Slot, bytes: &[u8]) -> Result<(Entry, &[u8]), R
     entry_of(alloc, bytes)
 }
 
-#[tactic(auto, unfolding(crate::specs::Entries::unused, crate::specs::Entries::narrow))]
+#[tactic(auto, unfolding(crate::specs::Entries::unused, crate::specs::Entries::narrow), using(crate::proofs::Spelling::fits_spelling))]
 fn put_slot(place: Slot, one: &Entry, out: &mut Seq<u8>) -> Result<(), AllocError>
     requires { IsTrue ((slot place).fits one.now) }
     ensures { OnOk result (out.new ≡ out.old ++ (slot place).spell one.now) }

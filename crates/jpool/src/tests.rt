@@ -1,9 +1,10 @@
 use crate::PoolKind::{BadDescriptor, BadIndex, BadName, BadTag, Truncated};
 use crate::{
-    DescError, Descriptor, Entry, PoolError, PoolKind, is_array_descriptor, is_class_name,
-    is_field_descriptor, is_method_descriptor, method_slots, read_descriptor, read_pool, slots_of,
-    write_pool,
+    AddError, Adder, DescError, Descriptor, Entry, PoolError, PoolKind, is_array_descriptor,
+    is_class_name, is_field_descriptor, is_method_descriptor, method_slots, read_descriptor,
+    read_pool, slots_of, write_pool,
 };
+use jbase::Seq;
 use std::alloc::{AllocFailed, Global};
 
 /// A method's descriptor with so many parameters of type `long`, then so many of type `int`.
@@ -147,6 +148,17 @@ fn faults_of_pools(rt: HostRuntime) {
             "{length}"
         );
     }
+    // The tag of the first entry made one that no entry has.
+    let (front, rest) = small.split_at(10);
+    let (_, rest) = rest.split_at(1);
+    let mut text = Vec::from_slice(rt.alloc(), front).expect(&rt, "memory");
+    text.push(2).expect(&rt, "memory");
+    text.extend_from_slice(rest).expect(&rt, "memory");
+    let error = PoolError::At {
+        at: 10,
+        kind: BadTag,
+    };
+    assert!(rt; read_pool(rt.alloc(), text.as_slice(), 8).err() == Some(error));
     let texts: [(&str, u32, PoolKind); 19] = [
         ("", 0, Truncated),
         ("000202", 2, BadTag),
@@ -248,4 +260,116 @@ fn looks_up(rt: HostRuntime) {
     let bytes = hex::decode(rt.alloc(), "00040c000200030100014101000149").expect(&rt, "hex");
     let (pool, _) = read_pool(rt.alloc(), bytes.as_slice(), 0).expect(&rt, "a pool");
     assert!(rt; pool.name_and_type(1) == Some((2, 3)));
+}
+
+/// A pool of so many indices: numbers, and at the last index but one an entry of this tag, with 8 bytes behind it.
+fn full(alloc: Global, count: u16, tag: u8) -> Result<Vec<u8>, AllocFailed<u8>> {
+    let mut text = Vec::new(alloc);
+    let [high, low] = count.to_be_bytes();
+    text.push(high)?;
+    text.push(low)?;
+    for _ in 3..count {
+        for b in [3, 0, 0, 0, 7] {
+            text.push(b)?;
+        }
+    }
+    for b in [tag, 0, 0, 0, 7, 3, 0, 0, 9] {
+        text.push(b)?;
+    }
+    Ok(text)
+}
+
+#[test]
+fn full_pools(rt: HostRuntime) {
+    // The count, the last two indices, the number of bytes, and the offset of the three bytes at the end.
+    let pools: [(u16, u16, u16, u32, u32); 2] = [
+        (65_534, 65_532, 65_533, 327_666, 327_663),
+        (65_535, 65_533, 65_534, 327_671, 327_668),
+    ];
+    for (count, last, behind_last, length, cut) in pools {
+        // An entry of two indices at the last two.
+        let bytes = full(rt.alloc(), count, 5).expect(&rt, "memory");
+        let (pool, behind) = read_pool(rt.alloc(), bytes.as_slice(), 0).expect(&rt, "a pool");
+        assert!(rt; behind == length && bytes.len() == length as usize);
+        assert!(rt; pool.entries().len() == usize::from(count));
+        assert!(rt; matches!(pool.entry(last), Some(Entry::Long(0x7_0300_0009))));
+        assert!(rt; matches!(pool.entry(behind_last), Some(Entry::Unused)));
+        assert!(rt; pool.entry(count).is_none());
+        let written = write_pool(rt.alloc(), &pool).expect(&rt, "memory");
+        assert!(rt; written.as_slice() == bytes.as_slice());
+        // An entry of one index, and one behind it that is cut.
+        let bytes = full(rt.alloc(), count, 3).expect(&rt, "memory");
+        let error = PoolError::At {
+            at: cut,
+            kind: Truncated,
+        };
+        assert!(rt; read_pool(rt.alloc(), bytes.as_slice(), 0).err() == Some(error));
+    }
+}
+
+#[test]
+fn adds(rt: HostRuntime) {
+    // 1: 1, 2 and 3: a long, 4: `a`, 5: its class, 6: 1, 7: `b`, 8: 7, 9: `a`.
+    let bytes = hex::decode(
+        rt.alloc(),
+        "000a03000000010500000000000000020100016107000403000000010100016203000000070100\
+         0161",
+    )
+    .expect(&rt, "hex");
+    let (pool, _) = read_pool(rt.alloc(), bytes.as_slice(), 0).expect(&rt, "a pool");
+    assert!(rt; pool.entries().len() == 10);
+    let mut adder = Adder::over(rt.alloc(), pool).expect(&rt, "memory");
+    let text = Seq::from_slice(rt.alloc(), b"a").expect(&rt, "memory");
+    let text = adder.add(Entry::Utf8(text));
+    assert!(rt; text == Ok(4));
+    let seven = adder.add(Entry::Integer(7));
+    let one = adder.add(Entry::Integer(1));
+    let two = adder.add(Entry::Long(2));
+    assert!(rt; seven == Ok(8) && one == Ok(1) && two == Ok(2));
+    let member = adder.add(Entry::NameAndType(4, 7));
+    let wide = adder.add(Entry::Double(2));
+    let last = adder.add(Entry::Float(7));
+    assert!(rt; member == Ok(10) && wide == Ok(11) && last == Ok(13));
+    let again = adder.add(Entry::Double(2));
+    assert!(rt; again == Ok(11));
+    let pool = adder.into_pool();
+    assert!(rt; pool.entries().len() == 14 && matches!(pool.entry(12), Some(Entry::Unused)));
+    assert!(rt; matches!(pool.entry(13), Some(Entry::Float(7))));
+}
+
+/// An adder over a pool of so many indices.
+fn full_adder(alloc: Global, count: u16) -> Option<Adder> {
+    let bytes = full(alloc, count, 5).ok()?;
+    let (pool, _) = read_pool(alloc, bytes.as_slice(), 0).ok()?;
+    if pool.entries().is_empty() {
+        return None;
+    }
+    Adder::over(alloc, pool).ok()
+}
+
+#[test]
+fn adds_to_full_pools(rt: HostRuntime) {
+    // The count, the answers for an entry of one index and for one of two, and the count then.
+    let pools: [(u16, Result<u16, AddError>, Result<u16, AddError>, usize); 3] = [
+        (65_533, Ok(65_533), Ok(65_533), 65_535),
+        (65_534, Ok(65_534), Err(AddError::PoolFull), 65_534),
+        (
+            65_535,
+            Err(AddError::PoolFull),
+            Err(AddError::PoolFull),
+            65_535,
+        ),
+    ];
+    for (count, narrow, wide, length) in pools {
+        let mut adder = full_adder(rt.alloc(), count).expect(&rt, "an adder");
+        let added = adder.add(Entry::Integer(8));
+        assert!(rt; added == narrow, "{count}");
+        let mut adder = full_adder(rt.alloc(), count).expect(&rt, "an adder");
+        let added = adder.add(Entry::Long(8));
+        assert!(rt; added == wide, "{count}");
+        assert!(rt; adder.pool().entries().len() == length, "{count}");
+        // The first of all these numbers.
+        let added = adder.add(Entry::Integer(7));
+        assert!(rt; added == Ok(1), "{count}");
+    }
 }
