@@ -1,0 +1,313 @@
+-- An instruction is a format, and code is one of all bytes.
+use Rattle.std.proofs.Common.{◌≡◌, ℕ, ◌+◌, ◌-◌, ◌<◌, ◌≤◌, ℤ, Bool, true, false, cond, eqb, List, [], ◌∷◌, ◌++◌, length, Option, Some, None, Result, Ok, Err, refl, sym, ap, subst, ◌∙◌, arith, inl, inr}
+use Rattle.std.specs.Prelude.{IsTrue, ◌&&◌}
+use Rattle.std.specs.List.{list_all}
+use Rattle.std.proofs.lemmas.Bool.{cases_Bool, eqb-true}
+use Rattle.jbase.specs.Stops.{◌>>=◌}
+use Rattle.jbase.specs.First.{first_some}
+use Rattle.jformat.specs.declared.error.Fault.{Fault}
+use Rattle.jformat.specs.Format.{IsBytes, Answer, Format, fault, fault_at}
+use Rattle.jformat.proofs.Steps.{IsBytes-rest, bind_ok, bind_err, ok_is, both, first_true, second_true, fault_within}
+use Rattle.jformat.proofs.Laws.{Takes, IsFormat, HasBytes, as_case_law}
+use Rattle.jformat.proofs.Blocks.{IsBody}
+use Rattle.jformat.proofs.Stateful.{many_by_law}
+use Rattle.jcode.specs.declared.kind.CodeKind.{CodeKind}
+use Rattle.jcode.specs.declared.kind.CodeKind.TheVariants.{Truncated, BadTarget}
+use Rattle.jcode.specs.declared.names.NumberKind.TheVariants as numbers
+use Rattle.jcode.specs.declared.names.LocalKind.{LocalKind}
+use Rattle.jcode.specs.declared.names.LocalKind.TheVariants as kinds
+use Rattle.jcode.specs.declared.op.Op.{Op}
+use Rattle.jcode.specs.declared.op.Op.TheVariants as ops
+use Rattle.jcode.specs.declared.op.IntConst.TheVariants as consts
+use Rattle.jcode.specs.declared.op.Ldc.TheVariants as ldcs
+use Rattle.jcode.specs.declared.op.LocalOp.{LocalOp}
+use Rattle.jcode.specs.declared.op.LocalOp.TheVariants as locals
+use Rattle.jcode.specs.declared.op.Goto.TheVariants as gotos
+use Rattle.jcode.specs.declared.op.NewOp.TheVariants as news
+use Rattle.jcode.specs.declared.op.Switch.TheVariants as switches
+use Rattle.jcode.specs.declared.op.Placed.{Placed}
+use Rattle.jcode.specs.declared.head.Head.{Head}
+use Rattle.jcode.specs.declared.head.Head.TheVariants as heads
+use Rattle.jcode.specs.declared.head.Plain.{Plain}
+use Rattle.jcode.specs.declared.head.Plain.TheVariants as plain
+use Rattle.jcode.specs.declared.head.ByteHead.TheVariants as byte
+use Rattle.jcode.specs.declared.head.IndexHead.{IndexHead}
+use Rattle.jcode.specs.declared.head.IndexHead.TheVariants as index
+use Rattle.jcode.specs.declared.head.BranchHead.{BranchHead}
+use Rattle.jcode.specs.declared.head.BranchHead.TheVariants as branch
+use Rattle.jcode.specs.declared.head.OtherHead.{OtherHead}
+use Rattle.jcode.specs.declared.head.OtherHead.TheVariants as other
+use Rattle.jcode.specs.Opcodes.{head_number, head_at}
+use Rattle.jcode.specs.Operands.{OtherOperand, Operand, other_operands, operands}
+use Rattle.jcode.specs.Instructions.{other_op, op_from, op_head, op_operand, at_front, read_as, read_other, read_behind, behind_head, instruction_at, instruction, size, placed_at, op_at, placed, place_behind, instructions, leads, lost, first_lost, none_lost, code}
+use Rattle.jcode.proofs.OpcodeLaws.{number_of_head, head_of_number}
+use Rattle.jcode.proofs.OperandLaws.{operands_law}
+
+-- ---- an opcode with its operands, and an instruction
+
+abbrev Pair : Type 0
+Pair = (h : Head) × Operand h
+
+abbrev Returns : (h : Head) → Operand h → Type 0
+Returns h x = ◌≡◌ {A = Pair} (op_head (op_from h x), op_operand (op_from h x)) (h, x)
+
+plain_back : (p : Plain) (x : Unit {0}) → Returns (heads.Plain p) x
+plain_back plain.Nop x = refl
+plain_back plain.AconstNull x = refl
+plain_back (plain.IntConst n) x = refl
+plain_back (plain.LongConst n) x = refl
+plain_back (plain.Local kinds.Int access slot) x = refl
+plain_back (plain.Local kinds.Long access slot) x = refl
+plain_back (plain.Local kinds.Ref access slot) x = refl
+plain_back (plain.ArrayLoad element) x = refl
+plain_back (plain.ArrayStore element) x = refl
+plain_back (plain.Stack op) x = refl
+plain_back (plain.Math numbers.Int op) x = refl
+plain_back (plain.Math numbers.Long op) x = refl
+plain_back (plain.Neg kind) x = refl
+plain_back (plain.Shift kind op) x = refl
+plain_back (plain.Logic kind op) x = refl
+plain_back (plain.Convert op) x = refl
+plain_back plain.Lcmp x = refl
+plain_back (plain.Return kind) x = refl
+plain_back (plain.Object op) x = refl
+
+index_back : (h : IndexHead) (n : ℕ) → Returns (heads.Index h) n
+index_back index.LdcWide n = refl
+index_back index.Ldc2 n = refl
+index_back (index.Field op) n = refl
+index_back (index.Call op) n = refl
+index_back index.New n = refl
+index_back index.NewRefArray n = refl
+index_back (index.Cast op) n = refl
+
+branch_back : (h : BranchHead) (by : ℤ) → Returns (heads.Branch h) by
+branch_back (branch.If test) by = refl
+branch_back (branch.IfInt test) by = refl
+branch_back (branch.IfRef test) by = refl
+branch_back branch.Goto by = refl
+
+other_back : (h : OtherHead) (x : OtherOperand h) → Returns (heads.Other h) x
+other_back other.Bipush x = refl
+other_back other.Sipush x = refl
+other_back other.Iinc x = refl
+other_back other.TableSwitch x = refl
+other_back other.LookupSwitch x = refl
+other_back other.CallInterface x = refl
+other_back other.NewArray x = refl
+other_back other.Wide x = refl
+other_back other.GotoWide x = refl
+
+op_back : (h : Head) (x : Operand h) → Returns h x
+op_back (heads.Plain h) x = plain_back h x
+op_back (heads.Byte byte.Ldc) x = refl
+op_back (heads.Byte (byte.Local kinds.Int access)) x = refl
+op_back (heads.Byte (byte.Local kinds.Long access)) x = refl
+op_back (heads.Byte (byte.Local kinds.Ref access)) x = refl
+op_back (heads.Index h) x = index_back h x
+op_back (heads.Branch h) x = branch_back h x
+op_back (heads.Other h) x = other_back h x
+
+op_forth : (op : Op) → op_from (op_head op) (op_operand op) ≡ op
+op_forth ops.Nop = refl
+op_forth ops.AconstNull = refl
+op_forth (ops.IntConst (consts.Small n)) = refl
+op_forth (ops.IntConst (consts.Byte n)) = refl
+op_forth (ops.IntConst (consts.Short n)) = refl
+op_forth (ops.LongConst n) = refl
+op_forth (ops.Ldc (ldcs.Narrow n)) = refl
+op_forth (ops.Ldc (ldcs.Wide n)) = refl
+op_forth (ops.Ldc2 n) = refl
+op_forth (ops.IntLocal (locals.At access n)) = refl
+op_forth (ops.IntLocal (locals.Slot access slot)) = refl
+op_forth (ops.LongLocal (locals.At access n)) = refl
+op_forth (ops.LongLocal (locals.Slot access slot)) = refl
+op_forth (ops.RefLocal (locals.At access n)) = refl
+op_forth (ops.RefLocal (locals.Slot access slot)) = refl
+op_forth (ops.ArrayLoad element) = refl
+op_forth (ops.ArrayStore element) = refl
+op_forth (ops.Stack op) = refl
+op_forth (ops.IntMath op) = refl
+op_forth (ops.LongMath op) = refl
+op_forth (ops.Neg kind) = refl
+op_forth (ops.Shift kind op) = refl
+op_forth (ops.Logic kind op) = refl
+op_forth (ops.Iinc n by) = refl
+op_forth (ops.Convert op) = refl
+op_forth ops.Lcmp = refl
+op_forth (ops.If test by) = refl
+op_forth (ops.IfInt test by) = refl
+op_forth (ops.IfRef test by) = refl
+op_forth (ops.Goto (gotos.Narrow by)) = refl
+op_forth (ops.Goto (gotos.Wide by)) = refl
+op_forth (ops.Switch (switches.Table s)) = refl
+op_forth (ops.Switch (switches.Lookup s)) = refl
+op_forth (ops.Return kind) = refl
+op_forth (ops.Field op n) = refl
+op_forth (ops.Call op n) = refl
+op_forth (ops.CallInterface n slots) = refl
+op_forth (ops.New (news.Object n)) = refl
+op_forth (ops.New (news.Array element)) = refl
+op_forth (ops.New (news.RefArray n)) = refl
+op_forth (ops.Object op) = refl
+op_forth (ops.Cast op n) = refl
+op_forth (ops.Wide w) = refl
+
+-- ---- an instruction
+
+reads_other : (at : ℕ) (h : OtherHead) (rest : List ℕ) → read_other at h rest ≡ read_as (other_operands at h) (other_op h) rest
+reads_other at other.Bipush rest = refl
+reads_other at other.Sipush rest = refl
+reads_other at other.Iinc rest = refl
+reads_other at other.TableSwitch rest = refl
+reads_other at other.LookupSwitch rest = refl
+reads_other at other.CallInterface rest = refl
+reads_other at other.NewArray rest = refl
+reads_other at other.Wide rest = refl
+reads_other at other.GotoWide rest = refl
+
+reads : (at : ℕ) (h : Head) (rest : List ℕ) → read_behind at h rest ≡ read_as (operands at h) (op_from h) rest
+reads at (heads.Plain h) rest = refl
+reads at (heads.Byte h) rest = refl
+reads at (heads.Index h) rest = refl
+reads at (heads.Branch h) rest = refl
+reads at (heads.Other h) rest = reads_other at h rest
+
+front_ok : {A : Type 0} (bytes : List ℕ) (r : Answer CodeKind A) (x : A × List ℕ) → at_front bytes r ≡ Ok x → r ≡ Ok x
+front_ok bytes (Ok y) x e = e
+front_ok bytes (Err d) x e = absurd cc
+
+front_within : {A : Type 0} (bytes : List ℕ) (r : Answer CodeKind A) (d : Fault CodeKind) → at_front bytes r ≡ Err d → d.left ≤ length bytes
+front_within bytes (Ok y) d e = absurd cc
+front_within bytes (Err c) d e = fault_within c.kind bytes bytes d (omega arith) cc
+
+head_takes : (at t : ℕ) (rest : List ℕ) (x : Op × List ℕ) (o : Result Head CodeKind) → head_at t ≡ o → IsBytes rest → at_front (t ∷ rest) (behind_head at rest o) ≡ Ok x → Takes (instruction at).spell (instruction at).fits (t ∷ rest) x
+unfolding instruction
+head_takes at t rest x (Err kind) is fits e = absurd cc
+head_takes at t rest x (Ok h) is fits e =
+    let a = bind_ok ((operands at h).read rest) (λ y. Ok (op_from h y.0, y.1)) x (sym (reads at h rest) ∙ front_ok (t ∷ rest) (behind_head at rest (Ok h)) x e) in
+    let s = (operands_law at h).takes rest a.0 fits a.1 in
+    let made : Op × List ℕ = (op_from h a.0.0, a.0.1) in
+    let spelled : (instruction at).spell made.0 ≡ t ∷ (operands at h).spell a.0.0 =
+    ap (λ (p : Pair). head_number p.0 ∷ (operands at p.0).spell p.1) (op_back h a.0.0) ∙ ap (λ (n : ℕ). n ∷ (operands at h).spell a.0.0) (number_of_head t h is) in
+    let fitting : (instruction at).fits made.0 ≡ (operands at h).fits a.0.0 = ap (λ (p : Pair). (operands at p.0).fits p.1) (op_back h a.0.0) in
+    let all : Takes (instruction at).spell (instruction at).fits (t ∷ rest) made = record {
+      parts = ap (λ (r : List ℕ). t ∷ r) s.parts ∙ ap (λ (r : List ℕ). r ++ made.1) (sym spelled);
+      rest_fits = s.rest_fits;
+      fit = fitting ∙ s.fit;
+    } in
+    subst (λ (y : Op × List ℕ). Takes (instruction at).spell (instruction at).fits (t ∷ rest) y) (ok_is (Fault CodeKind) made x a.2) all
+
+instruction_takes : (at : ℕ) (bytes : List ℕ) (x : Op × List ℕ) → IsBytes bytes → instruction_at at bytes ≡ Ok x → Takes (instruction at).spell (instruction at).fits bytes x
+instruction_takes at [] x fits e = absurd cc
+instruction_takes at (t ∷ rest) x fits e = head_takes at t rest x (head_at t) refl (IsBytes-rest t rest fits) e
+
+instruction_again : (at : ℕ) (op : Op) (rest : List ℕ) → IsTrue ((instruction at).fits op) → instruction_at at ((instruction at).spell op ++ rest) ≡ Ok (op, rest)
+unfolding instruction
+instruction_again at op rest fit =
+    let one = (operands_law at (op_head op)).again (op_operand op) rest fit in
+    let named = head_of_number (op_head op) in
+    rw (named, reads at (op_head op) ((operands at (op_head op)).spell (op_operand op) ++ rest), one) (ap (λ (o : Op). Ok (o, rest)) (op_forth op))
+
+instruction_within : (at : ℕ) (bytes : List ℕ) (d : Fault CodeKind) → instruction_at at bytes ≡ Err d → d.left ≤ length bytes
+instruction_within at [] d e = fault_within Truncated [] [] d (omega arith) cc
+instruction_within at (t ∷ rest) d e = front_within (t ∷ rest) (behind_head at rest (head_at t)) d e
+
+head_shorter : (at t : ℕ) (rest : List ℕ) (x : Op × List ℕ) (o : Result Head CodeKind) → at_front (t ∷ rest) (behind_head at rest o) ≡ Ok x → length x.1 ≤ length (t ∷ rest)
+head_shorter at t rest x (Err kind) e = absurd cc
+head_shorter at t rest x (Ok h) e =
+    let a = bind_ok ((operands at h).read rest) (λ y. Ok (op_from h y.0, y.1)) x (sym (reads at h rest) ∙ front_ok (t ∷ rest) (behind_head at rest (Ok h)) x e) in
+    let le = (operands_law at h).reading.shorter rest a.0 a.1 in
+    let made : Op × List ℕ = (op_from h a.0.0, a.0.1) in
+    rw (sym (ok_is (Fault CodeKind) made x a.2)) (omega arith)
+
+instruction_shorter : (at : ℕ) (bytes : List ℕ) (x : Op × List ℕ) → instruction_at at bytes ≡ Ok x → length x.1 ≤ length bytes
+instruction_shorter at [] x e = absurd cc
+instruction_shorter at (t ∷ rest) x e = head_shorter at t rest x (head_at t) e
+
+pub instruction_law : (at : ℕ) → IsFormat (instruction at)
+unfolding instruction
+instruction_law at = record {
+  takes = instruction_takes at;
+  again = λ op rest fit. instruction_again at op rest fit;
+  reading = record { within = instruction_within at; shorter = instruction_shorter at };
+}
+
+-- ---- instructions one behind the other
+
+op_at_back : (at : ℕ) (op : Op) → op_at at (placed_at at op) ≡ Some op
+op_at_back at op = let same : eqb at at ≡ true = grind arith in rw same refl
+
+op_at_forth : (at : ℕ) (p : Placed) (op : Op) → op_at at p ≡ Some op → p ≡ placed_at at op
+op_at_forth at p op e = elim (cases_Bool (eqb p.at at)) [
+  | inl hit ↦
+      let e' : Some p.op ≡ Some op = rw hit at e in
+      let same : p.op ≡ op = cc in
+      ap (λ (n : ℕ). placed_at n p.op) (eqb-true _ _ hit) ∙ ap (placed_at at) same
+  | inr miss ↦ let no : None ≡ Some op = rw miss at e in absurd cc
+]
+
+pub placed_law : (at : ℕ) → IsFormat (placed at)
+placed_law at = as_case_law (placed_at at) (op_at at) (instruction at) (op_at_back at) (op_at_forth at) (instruction_law at)
+
+-- what stands at a place has that place
+pub fits_at : (at : ℕ) (p : Placed) → IsTrue ((placed at).fits p) → (p.at ≡ at) × (IsTrue ((instruction at).fits p.op)) × ((placed at).spell p ≡ (instruction at).spell p.op)
+fits_at at p fit = elim (cases_Bool (eqb p.at at)) [
+  | inl hit ↦ (eqb-true _ _ hit, rw hit at fit, rw hit refl)
+  | inr miss ↦ let no : false ≡ true = rw miss at fit in absurd cc
+]
+
+placed_some : (at : ℕ) → HasBytes (placed at)
+unfolding instruction
+placed_some at p fit = let f = fits_at at p fit in rw f.2 (omega arith)
+
+pub instructions_law : IsBody instructions
+unfolding instructions
+instructions_law = many_by_law Truncated placed place_behind placed_law placed_some 0
+
+-- ---- code
+
+all_lead : (ps qs : List Placed) → first_some (lost ps) qs ≡ None → IsTrue (list_all (leads ps) qs)
+unfolding first_some
+all_lead ps [] e = refl
+all_lead ps (q ∷ qs) e = elim (cases_Bool (leads ps q)) [
+  | inl good ↦ both _ _ good (all_lead ps qs (rw good at e))
+  | inr bad ↦ let no : Some q.at ≡ None = rw bad at e in absurd cc
+]
+
+none_is_lost : (ps qs : List Placed) → IsTrue (list_all (leads ps) qs) → first_some (lost ps) qs ≡ None
+unfolding first_some
+none_is_lost ps [] fit = refl
+none_is_lost ps (q ∷ qs) fit =
+    let good : leads ps q ≡ true = first_true (leads ps q) (list_all (leads ps) qs) fit in
+    rw good (none_is_lost ps qs (second_true (leads ps q) (list_all (leads ps) qs) fit))
+
+good_code : (bytes : List ℕ) (qs ps : List Placed) (o : Option ℕ) → none_lost bytes qs o ≡ Ok ps → (o ≡ None) × (qs ≡ ps)
+good_code bytes qs ps None e = (refl, ok_is (Fault CodeKind) qs ps e)
+good_code bytes qs ps (Some at) e = absurd cc
+
+bad_code : (bytes : List ℕ) (ps : List Placed) (o : Option ℕ) (d : Fault CodeKind) → none_lost bytes ps o ≡ Err d → d.left ≤ length bytes
+bad_code bytes ps None d e = absurd cc
+bad_code bytes ps (Some at) d e =
+    let made : Fault CodeKind = record { left = length bytes - at; kind = BadTarget } in
+    let same : made ≡ d = cc in
+    rw (sym same) (omega arith)
+
+pub code_law : IsBody code
+unfolding code first_lost
+code_law = record {
+  takes = λ bytes ps fits e.
+      let a = bind_ok (instructions.read bytes) (λ qs. none_lost bytes qs (first_lost qs)) ps e in
+      let g = good_code bytes a.0 ps (first_lost a.0) a.2 in
+      let t = instructions_law.takes bytes a.0 fits a.1 in
+      let lead : IsTrue (list_all (leads a.0) a.0) = all_lead a.0 a.0 g.0 in
+      subst (λ (qs : List Placed). IsTrue (code.fits qs) × (bytes ≡ code.spell qs)) g.1 (both _ _ t.0 lead, t.1);
+  again = λ ps fit.
+      let one = instructions_law.again ps (first_true (instructions.fits ps) (list_all (leads ps) ps) fit) in
+      let none = none_is_lost ps ps (second_true (instructions.fits ps) (list_all (leads ps) ps) fit) in
+      rw (one, none) refl;
+  within = λ bytes d e. elim (bind_err (instructions.read bytes) (λ qs. none_lost bytes qs (first_lost qs)) d e) [
+    | inl h ↦ instructions_law.within bytes d h
+    | inr h ↦ bad_code bytes h.0 (first_lost h.0) d h.2
+  ];
+}

@@ -1,0 +1,5 @@
+pub mod CodeLaws
+pub mod OpcodeLaws
+pub mod OperandLaws
+pub mod Stopping
+pub mod Tabled

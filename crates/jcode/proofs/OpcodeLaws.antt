@@ -1,0 +1,220 @@
+-- Each opcode has its own number.
+use Rattle.std.proofs.Common.{◌≡◌, ℕ, Bool, true, false, cond, eqb, ltb, List, [], ◌∷◌, Option, Some, None, Result, Ok, Err, refl, sym, ap, ◌∙◌, inl, inr}
+use Rattle.std.proofs.lemmas.Bool.{cases_Bool, eqb-true}
+use Rattle.jcode.specs.declared.names.NumberKind.{NumberKind}
+use Rattle.jcode.specs.declared.names.NumberKind.TheVariants as numbers
+use Rattle.jcode.specs.declared.names.LocalKind.{LocalKind}
+use Rattle.jcode.specs.declared.names.LocalKind.TheVariants as kinds
+use Rattle.jcode.specs.declared.names.Access.TheVariants.{Load, Store}
+use Rattle.jcode.specs.declared.names.Slot.{Slot}
+use Rattle.jcode.specs.declared.names.Slot.TheVariants as slots
+use Rattle.jcode.specs.declared.names.SmallInt.TheVariants as ints
+use Rattle.jcode.specs.declared.names.SmallLong.TheVariants as longs
+use Rattle.jcode.specs.declared.names.Element.{Element}
+use Rattle.jcode.specs.declared.names.Element.TheVariants as elements
+use Rattle.jcode.specs.declared.names.StackOp.TheVariants.{Pop, Pop2, Dup, DupX1, DupX2, Dup2, Dup2X1, Dup2X2, Swap}
+use Rattle.jcode.specs.declared.names.MathOp.{MathOp}
+use Rattle.jcode.specs.declared.names.MathOp.TheVariants.{Add, Sub, Mul, Div, Rem}
+use Rattle.jcode.specs.declared.names.ShiftOp.{ShiftOp}
+use Rattle.jcode.specs.declared.names.ShiftOp.TheVariants.{Left, Right, RightUnsigned}
+use Rattle.jcode.specs.declared.names.LogicOp.{LogicOp}
+use Rattle.jcode.specs.declared.names.LogicOp.TheVariants.{And, Or, Xor}
+use Rattle.jcode.specs.declared.names.ConvertOp.TheVariants.{IntToLong, LongToInt, IntToByte, IntToChar, IntToShort}
+use Rattle.jcode.specs.declared.names.Condition.{Condition}
+use Rattle.jcode.specs.declared.names.Condition.TheVariants.{Equal, NotEqual, Less, GreaterOrEqual, Greater, LessOrEqual}
+use Rattle.jcode.specs.declared.names.RefTest.TheVariants.{Same, Other, Null, NonNull}
+use Rattle.jcode.specs.declared.names.Returned.TheVariants as results
+use Rattle.jcode.specs.declared.names.FieldOp.TheVariants.{GetStatic, PutStatic, GetField, PutField}
+use Rattle.jcode.specs.declared.names.CallOp.TheVariants.{Virtual, Special, Static}
+use Rattle.jcode.specs.declared.names.ObjectOp.TheVariants.{ArrayLength, Throw}
+use Rattle.jcode.specs.declared.names.CastOp.TheVariants.{CheckCast, InstanceOf}
+use Rattle.jcode.specs.declared.kind.CodeKind.{CodeKind}
+use Rattle.jcode.specs.declared.kind.CodeKind.TheVariants.{LeftOut, UnknownOpcode}
+use Rattle.jcode.specs.declared.head.Head.{Head}
+use Rattle.jcode.specs.declared.head.Head.TheVariants as heads
+use Rattle.jcode.specs.declared.head.Plain.{Plain}
+use Rattle.jcode.specs.declared.head.Plain.TheVariants as plain
+use Rattle.jcode.specs.declared.head.ByteHead.{ByteHead}
+use Rattle.jcode.specs.declared.head.ByteHead.TheVariants as byte
+use Rattle.jcode.specs.declared.head.IndexHead.{IndexHead}
+use Rattle.jcode.specs.declared.head.IndexHead.TheVariants as index
+use Rattle.jcode.specs.declared.head.BranchHead.{BranchHead}
+use Rattle.jcode.specs.declared.head.BranchHead.TheVariants as branch
+use Rattle.jcode.specs.declared.head.OtherHead.{OtherHead}
+use Rattle.jcode.specs.declared.head.OtherHead.TheVariants as other
+use Rattle.jcode.specs.Opcodes.{head_number, plain_number, byte_number, index_number, branch_number, other_number, with_number, all_heads, or_fault, head_at}
+
+-- ---- what is found has the number
+
+found_has : {H : Type 0} (number : H → ℕ) (n : ℕ) (hs : List H) (h : H) → with_number number n hs ≡ Some h → number h ≡ n
+found_has number n [] h e = absurd cc
+found_has {H} number n (x ∷ xs) h e = elim (cases_Bool (eqb (number x) n)) [
+  | inl hit ↦ let e' : Some x ≡ Some h = rw hit at e in let same : x ≡ h = cc in ap number (sym same) ∙ eqb-true _ _ hit
+  | inr miss ↦ let e' : with_number number n xs ≡ Some h = rw miss at e in found_has number n xs h e'
+]
+
+abbrev refused : CodeKind → Result Head CodeKind
+refused kind = Err kind
+
+unless_fault : (n : ℕ) (o : Option Head) (h : Head) → or_fault n o ≡ Ok h → o ≡ Some h
+unless_fault n (Some x) h e = let same : x ≡ h = cc in ap Some same
+unless_fault n None h e = elim (cases_Bool (ltb n 202)) [
+  | inl low ↦ let no : refused (LeftOut n) ≡ Ok h = rw low at e in absurd cc
+  | inr high ↦ let no : refused (UnknownOpcode n) ≡ Ok h = rw high at e in absurd cc
+]
+
+-- A byte that names an opcode is its number.
+pub number_of_head : (n : ℕ) (h : Head) → head_at n ≡ Ok h → head_number h ≡ n
+unfolding head_at
+number_of_head n h e = found_has head_number n all_heads h (unless_fault n (with_number head_number n all_heads) h e)
+
+-- ---- a number names its opcode
+
+each_slot : (P : Slot → Type 0) → P slots.Zero → P slots.One → P slots.Two → P slots.Three → (s : Slot) → P s
+each_slot P a b c d slots.Zero = a
+each_slot P a b c d slots.One = b
+each_slot P a b c d slots.Two = c
+each_slot P a b c d slots.Three = d
+
+each_element : (P : Element → Type 0) → P elements.Int → P elements.Long → P elements.Ref → P elements.Byte → P elements.Char → P elements.Short → (e : Element) → P e
+each_element P a b c d e f elements.Int = a
+each_element P a b c d e f elements.Long = b
+each_element P a b c d e f elements.Ref = c
+each_element P a b c d e f elements.Byte = d
+each_element P a b c d e f elements.Char = e
+each_element P a b c d e f elements.Short = f
+
+each_condition : (P : Condition → Type 0) → P Equal → P NotEqual → P Less → P GreaterOrEqual → P Greater → P LessOrEqual → (t : Condition) → P t
+each_condition P a b c d e f Equal = a
+each_condition P a b c d e f NotEqual = b
+each_condition P a b c d e f Less = c
+each_condition P a b c d e f GreaterOrEqual = d
+each_condition P a b c d e f Greater = e
+each_condition P a b c d e f LessOrEqual = f
+
+each_math : (P : MathOp → Type 0) → P Add → P Sub → P Mul → P Div → P Rem → (m : MathOp) → P m
+each_math P a b c d e Add = a
+each_math P a b c d e Sub = b
+each_math P a b c d e Mul = c
+each_math P a b c d e Div = d
+each_math P a b c d e Rem = e
+
+each_shift : (P : ShiftOp → Type 0) → P Left → P Right → P RightUnsigned → (s : ShiftOp) → P s
+each_shift P a b c Left = a
+each_shift P a b c Right = b
+each_shift P a b c RightUnsigned = c
+
+each_logic : (P : LogicOp → Type 0) → P And → P Or → P Xor → (l : LogicOp) → P l
+each_logic P a b c And = a
+each_logic P a b c Or = b
+each_logic P a b c Xor = c
+
+local_named : (kind : LocalKind) (access : _) (s : Slot) → head_at (plain_number (plain.Local kind access s)) ≡ Ok (heads.Plain (plain.Local kind access s))
+unfolding head_at
+local_named kinds.Int Load s = each_slot (λ s. head_at (plain_number (plain.Local kinds.Int Load s)) ≡ Ok (heads.Plain (plain.Local kinds.Int Load s))) refl refl refl refl s
+local_named kinds.Long Load s = each_slot (λ s. head_at (plain_number (plain.Local kinds.Long Load s)) ≡ Ok (heads.Plain (plain.Local kinds.Long Load s))) refl refl refl refl s
+local_named kinds.Ref Load s = each_slot (λ s. head_at (plain_number (plain.Local kinds.Ref Load s)) ≡ Ok (heads.Plain (plain.Local kinds.Ref Load s))) refl refl refl refl s
+local_named kinds.Int Store s = each_slot (λ s. head_at (plain_number (plain.Local kinds.Int Store s)) ≡ Ok (heads.Plain (plain.Local kinds.Int Store s))) refl refl refl refl s
+local_named kinds.Long Store s = each_slot (λ s. head_at (plain_number (plain.Local kinds.Long Store s)) ≡ Ok (heads.Plain (plain.Local kinds.Long Store s))) refl refl refl refl s
+local_named kinds.Ref Store s = each_slot (λ s. head_at (plain_number (plain.Local kinds.Ref Store s)) ≡ Ok (heads.Plain (plain.Local kinds.Ref Store s))) refl refl refl refl s
+
+plain_named : (p : Plain) → head_at (plain_number p) ≡ Ok (heads.Plain p)
+unfolding head_at
+plain_named plain.Nop = refl
+plain_named plain.AconstNull = refl
+plain_named (plain.IntConst ints.MinusOne) = refl
+plain_named (plain.IntConst ints.Zero) = refl
+plain_named (plain.IntConst ints.One) = refl
+plain_named (plain.IntConst ints.Two) = refl
+plain_named (plain.IntConst ints.Three) = refl
+plain_named (plain.IntConst ints.Four) = refl
+plain_named (plain.IntConst ints.Five) = refl
+plain_named (plain.LongConst longs.Zero) = refl
+plain_named (plain.LongConst longs.One) = refl
+plain_named (plain.Local kind access slot) = local_named kind access slot
+plain_named (plain.ArrayLoad e) = each_element (λ e. head_at (plain_number (plain.ArrayLoad e)) ≡ Ok (heads.Plain (plain.ArrayLoad e))) refl refl refl refl refl refl e
+plain_named (plain.ArrayStore e) = each_element (λ e. head_at (plain_number (plain.ArrayStore e)) ≡ Ok (heads.Plain (plain.ArrayStore e))) refl refl refl refl refl refl e
+plain_named (plain.Stack Pop) = refl
+plain_named (plain.Stack Pop2) = refl
+plain_named (plain.Stack Dup) = refl
+plain_named (plain.Stack DupX1) = refl
+plain_named (plain.Stack DupX2) = refl
+plain_named (plain.Stack Dup2) = refl
+plain_named (plain.Stack Dup2X1) = refl
+plain_named (plain.Stack Dup2X2) = refl
+plain_named (plain.Stack Swap) = refl
+plain_named (plain.Math numbers.Int m) = each_math (λ m. head_at (plain_number (plain.Math numbers.Int m)) ≡ Ok (heads.Plain (plain.Math numbers.Int m))) refl refl refl refl refl m
+plain_named (plain.Math numbers.Long m) = each_math (λ m. head_at (plain_number (plain.Math numbers.Long m)) ≡ Ok (heads.Plain (plain.Math numbers.Long m))) refl refl refl refl refl m
+plain_named (plain.Neg numbers.Int) = refl
+plain_named (plain.Neg numbers.Long) = refl
+plain_named (plain.Shift numbers.Int s) = each_shift (λ s. head_at (plain_number (plain.Shift numbers.Int s)) ≡ Ok (heads.Plain (plain.Shift numbers.Int s))) refl refl refl s
+plain_named (plain.Shift numbers.Long s) = each_shift (λ s. head_at (plain_number (plain.Shift numbers.Long s)) ≡ Ok (heads.Plain (plain.Shift numbers.Long s))) refl refl refl s
+plain_named (plain.Logic numbers.Int l) = each_logic (λ l. head_at (plain_number (plain.Logic numbers.Int l)) ≡ Ok (heads.Plain (plain.Logic numbers.Int l))) refl refl refl l
+plain_named (plain.Logic numbers.Long l) = each_logic (λ l. head_at (plain_number (plain.Logic numbers.Long l)) ≡ Ok (heads.Plain (plain.Logic numbers.Long l))) refl refl refl l
+plain_named (plain.Convert IntToLong) = refl
+plain_named (plain.Convert LongToInt) = refl
+plain_named (plain.Convert IntToByte) = refl
+plain_named (plain.Convert IntToChar) = refl
+plain_named (plain.Convert IntToShort) = refl
+plain_named plain.Lcmp = refl
+plain_named (plain.Return results.Int) = refl
+plain_named (plain.Return results.Long) = refl
+plain_named (plain.Return results.Ref) = refl
+plain_named (plain.Return results.Nothing) = refl
+plain_named (plain.Object ArrayLength) = refl
+plain_named (plain.Object Throw) = refl
+
+byte_named : (h : ByteHead) → head_at (byte_number h) ≡ Ok (heads.Byte h)
+unfolding head_at
+byte_named byte.Ldc = refl
+byte_named (byte.Local kinds.Int Load) = refl
+byte_named (byte.Local kinds.Long Load) = refl
+byte_named (byte.Local kinds.Ref Load) = refl
+byte_named (byte.Local kinds.Int Store) = refl
+byte_named (byte.Local kinds.Long Store) = refl
+byte_named (byte.Local kinds.Ref Store) = refl
+
+index_named : (h : IndexHead) → head_at (index_number h) ≡ Ok (heads.Index h)
+unfolding head_at
+index_named index.LdcWide = refl
+index_named index.Ldc2 = refl
+index_named (index.Field GetStatic) = refl
+index_named (index.Field PutStatic) = refl
+index_named (index.Field GetField) = refl
+index_named (index.Field PutField) = refl
+index_named (index.Call Virtual) = refl
+index_named (index.Call Special) = refl
+index_named (index.Call Static) = refl
+index_named index.New = refl
+index_named index.NewRefArray = refl
+index_named (index.Cast CheckCast) = refl
+index_named (index.Cast InstanceOf) = refl
+
+branch_named : (h : BranchHead) → head_at (branch_number h) ≡ Ok (heads.Branch h)
+unfolding head_at
+branch_named (branch.If t) = each_condition (λ t. head_at (branch_number (branch.If t)) ≡ Ok (heads.Branch (branch.If t))) refl refl refl refl refl refl t
+branch_named (branch.IfInt t) = each_condition (λ t. head_at (branch_number (branch.IfInt t)) ≡ Ok (heads.Branch (branch.IfInt t))) refl refl refl refl refl refl t
+branch_named (branch.IfRef Same) = refl
+branch_named (branch.IfRef Other) = refl
+branch_named (branch.IfRef Null) = refl
+branch_named (branch.IfRef NonNull) = refl
+branch_named branch.Goto = refl
+
+other_named : (h : OtherHead) → head_at (other_number h) ≡ Ok (heads.Other h)
+unfolding head_at
+other_named other.Bipush = refl
+other_named other.Sipush = refl
+other_named other.Iinc = refl
+other_named other.TableSwitch = refl
+other_named other.LookupSwitch = refl
+other_named other.CallInterface = refl
+other_named other.NewArray = refl
+other_named other.Wide = refl
+other_named other.GotoWide = refl
+
+pub head_of_number : (h : Head) → head_at (head_number h) ≡ Ok h
+head_of_number (heads.Plain h) = plain_named h
+head_of_number (heads.Byte h) = byte_named h
+head_of_number (heads.Index h) = index_named h
+head_of_number (heads.Branch h) = branch_named h
+head_of_number (heads.Other h) = other_named h

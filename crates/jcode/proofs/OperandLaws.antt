@@ -1,0 +1,176 @@
+-- The operands of each opcode are a format.
+use Rattle.std.proofs.Common.{◌≡◌, ℕ, zero, suc, ◌+◌, ◌%◌, ◌-◌, ℤ, Bool, true, false, eqb, List, [], ◌∷◌, length, Option, Some, None, refl, sym, ap, ◌∙◌, arith, inl, inr}
+use Rattle.std.specs.Prelude.{IsTrue}
+use Rattle.std.proofs.lemmas.Bool.{cases_Bool, eqb-true}
+use Rattle.std.specs.Int.{w8, w16, w32, to_be_bytes, from_be_bytes}
+use Rattle.jformat.specs.Format.{IsBytes, Format, void, ◌·◌, ◌▹◌, such}
+use Rattle.jformat.specs.Bodies.{counted}
+use Rattle.jformat.specs.States.{counted_from}
+use Rattle.jformat.specs.Tags.{tagged}
+use Rattle.jformat.proofs.Steps.{second_true}
+use Rattle.jformat.proofs.Laws.{IsWide, IsFormat, wide16, wide32, void_law, byte_law, number_law, signed_law, pair_law, then_law, via_law, as_case_law, such_law, literal_law}
+use Rattle.jformat.proofs.Blocks.{counted_law}
+use Rattle.jformat.proofs.Unions.{tag_law, either_law, tagged_law}
+use Rattle.jformat.proofs.Stateful.{counted_from_law}
+use Rattle.jbase.specs.First.{fault_if}
+use Rattle.jcode.specs.declared.kind.CodeKind.TheVariants.{Truncated, BadOperand}
+use Rattle.jcode.specs.declared.names.ArrayType.{ArrayType}
+use Rattle.jcode.specs.declared.names.ArrayType.TheVariants as arrays
+use Rattle.jcode.specs.declared.names.LocalKind.TheVariants as kinds
+use Rattle.jcode.specs.declared.names.Access.TheVariants.{Load, Store}
+use Rattle.jcode.specs.declared.op.Wide.{Wide}
+use Rattle.jcode.specs.declared.op.Wide.TheVariants as wides
+use Rattle.jcode.specs.declared.op.Case.{Case}
+use Rattle.jcode.specs.declared.head.Head.{Head}
+use Rattle.jcode.specs.declared.head.Head.TheVariants as heads
+use Rattle.jcode.specs.declared.head.OtherHead.{OtherHead}
+use Rattle.jcode.specs.declared.head.OtherHead.TheVariants as other
+use Rattle.jcode.specs.Operands.{u1, u2, u4, i1, i2, i4, is_number, known, nil, nils, padding, bounds, bounded, span, table_from, table_parts, table_switch, case_count, falls, case_from, case_parts, case_behind, key_of, lookup_from, lookup_parts, lookup_switch, call_from, call_parts, interface_call, ArrayParts, array_from, array_parts, array_tags, array_type, WideParts, wide_from, wide_parts, wide_tags, not_wide, wide, other_operands, operands}
+
+-- ---- numbers
+
+one_byte : (bytes : List ℕ) → length bytes ≡ 1 → IsBytes bytes → to_be_bytes w8 (from_be_bytes w8 bytes) ≡ bytes
+one_byte [] len fits = absurd (omega arith)
+one_byte (b ∷ []) len fits = ap (λ (n : ℕ). n ∷ []) (omega (arith, fits 0))
+one_byte (b ∷ c ∷ bs) len fits = absurd (omega arith)
+
+wide8 : IsWide w8
+wide8 = record {
+  len = λ n. refl;
+  back = λ bytes len fits. one_byte bytes len fits;
+  again = λ n lt. omega arith;
+  below = λ bytes fits. omega (arith, fits 0);
+  bound = refl;
+}
+
+u1_law : IsFormat u1
+u1_law = byte_law Truncated
+
+u2_law : IsFormat u2
+u2_law = number_law w16 Truncated wide16
+
+u4_law : IsFormat u4
+u4_law = number_law w32 Truncated wide32
+
+i1_law : IsFormat i1
+i1_law = signed_law w8 Truncated wide8
+
+i2_law : IsFormat i2
+i2_law = signed_law w16 Truncated wide16
+
+i4_law : IsFormat i4
+i4_law = signed_law w32 Truncated wide32
+
+known_forth : (n k : ℕ) (u : Unit {0}) → is_number n k ≡ Some u → k ≡ n
+known_forth n k u h = elim (cases_Bool (eqb k n)) [ inl hit ↦ eqb-true _ _ hit | inr miss ↦ let no : None ≡ Some u = rw miss at h in absurd cc ]
+
+known_back : (n : ℕ) (u : Unit {0}) → is_number n n ≡ Some u
+known_back n u = let same : eqb n n ≡ true = grind arith in rw same refl
+
+known_law : (n : ℕ) → IsFormat (known n)
+known_law n = as_case_law (λ _. n) (is_number n) void (known_back n) (λ k u h. known_forth n k u h) void_law
+
+-- ---- switches
+
+nil_law : IsFormat nil
+nil_law = literal_law u1 BadOperand 0 u1_law
+
+nils_law : (n : ℕ) → IsFormat (nils n)
+unfolding nils
+nils_law zero = void_law
+nils_law (suc n) = via_law (λ _. tt) (λ _. (tt, tt)) (nil · nils n) (λ p fit. refl) (λ u fit. refl) (pair_law nil (nils n) nil_law (nils_law n))
+
+bounded_law : IsFormat bounded
+bounded_law = then_law bounds (λ b. counted (known (span b.0 b.1)) i4) (such_law (λ b. fault_if _ BadOperand) (i4 · i4) (pair_law i4 i4 i4_law i4_law)) (λ b. counted_law (known (span b.0 b.1)) i4 (known_law (span b.0 b.1)) i4_law)
+
+table_law : (at : ℕ) → IsFormat (table_switch at)
+unfolding table_switch
+table_law at = via_law table_from table_parts (padding at · i4 · bounded) (λ p fit. refl) (λ s fit. refl) (pair_law (padding at) (i4 · bounded) (nils_law (3 - at % 4)) (pair_law i4 bounded i4_law bounded_law))
+
+case_law : (before : Option ℤ) → IsFormat (case_behind before)
+case_law before = via_law case_from case_parts (such (falls before) i4 · i4) (λ p fit. refl) (λ c fit. refl) (pair_law (such (falls before) i4) i4 (such_law (falls before) i4 i4_law) i4_law)
+
+lookup_law : (at : ℕ) → IsFormat (lookup_switch at)
+unfolding lookup_switch
+lookup_law at =
+    let cases = counted_from_law case_count case_behind key_of (such_law (λ n. fault_if _ BadOperand) u4 u4_law) case_law None in
+    via_law lookup_from lookup_parts (padding at · i4 · counted_from case_count case_behind key_of None) (λ p fit. refl) (λ s fit. refl)
+    (pair_law (padding at) (i4 · counted_from case_count case_behind key_of None) (nils_law (3 - at % 4)) (pair_law i4 (counted_from case_count case_behind key_of None) i4_law cases))
+
+-- ---- calls by an interface, arrays, wide instructions
+
+call_law : IsFormat interface_call
+unfolding interface_call
+call_law =
+    let slots = such_law (λ n. fault_if (eqb n 0) BadOperand) u1 u1_law in
+    via_law call_from call_parts (u2 · such (λ n. fault_if (eqb n 0) BadOperand) u1 · nil) (λ p fit. refl) (λ s fit. refl)
+    (pair_law u2 (such (λ n. fault_if (eqb n 0) BadOperand) u1 · nil) u2_law (pair_law (such (λ n. fault_if (eqb n 0) BadOperand) u1) nil slots nil_law))
+
+array_back : (p : ArrayParts) → array_parts (array_from p) ≡ p
+array_back (inl _) = refl
+array_back (inr (inl _)) = refl
+array_back (inr (inr (inl _))) = refl
+array_back (inr (inr (inr (inl _)))) = refl
+array_back (inr (inr (inr (inr (inl _))))) = refl
+array_back (inr (inr (inr (inr (inr _))))) = refl
+
+array_forth : (a : ArrayType) → array_from (array_parts a) ≡ a
+array_forth arrays.Boolean = refl
+array_forth arrays.Char = refl
+array_forth arrays.Byte = refl
+array_forth arrays.Short = refl
+array_forth arrays.Int = refl
+array_forth arrays.Long = refl
+
+array_law : IsFormat array_type
+unfolding array_type
+array_law =
+    let cases = either_law _ _ refl (tag_law 4 void void_law) (either_law _ _ refl (tag_law 5 void void_law) (either_law _ _ refl (tag_law 8 void void_law)
+    (either_law _ _ refl (tag_law 9 void void_law) (either_law _ _ refl (tag_law 10 void void_law) (tag_law 11 void void_law))))) in
+    via_law array_from array_parts (tagged Truncated (λ _. BadOperand) array_tags) (λ p fit. array_back p) (λ a fit. array_forth a) (tagged_law Truncated (λ _. BadOperand) array_tags cases)
+
+wide_back : (p : WideParts) → wide_parts (wide_from p) ≡ p
+wide_back (inl n) = refl
+wide_back (inr (inl n)) = refl
+wide_back (inr (inr (inl n))) = refl
+wide_back (inr (inr (inr (inl n)))) = refl
+wide_back (inr (inr (inr (inr (inl n))))) = refl
+wide_back (inr (inr (inr (inr (inr (inl n)))))) = refl
+wide_back (inr (inr (inr (inr (inr (inr p)))))) = refl
+
+wide_forth : (w : Wide) → wide_from (wide_parts w) ≡ w
+wide_forth (wides.Local kinds.Int Load n) = refl
+wide_forth (wides.Local kinds.Long Load n) = refl
+wide_forth (wides.Local kinds.Ref Load n) = refl
+wide_forth (wides.Local kinds.Int Store n) = refl
+wide_forth (wides.Local kinds.Long Store n) = refl
+wide_forth (wides.Local kinds.Ref Store n) = refl
+wide_forth (wides.Iinc n by) = refl
+
+wide_law : IsFormat wide
+unfolding wide
+wide_law =
+    let cases = either_law _ _ refl (tag_law 0x15 u2 u2_law) (either_law _ _ refl (tag_law 0x16 u2 u2_law) (either_law _ _ refl (tag_law 0x19 u2 u2_law)
+    (either_law _ _ refl (tag_law 0x36 u2 u2_law) (either_law _ _ refl (tag_law 0x37 u2 u2_law) (either_law _ _ refl (tag_law 0x3a u2 u2_law)
+    (tag_law 0x84 (u2 · i2) (pair_law u2 i2 u2_law i2_law))))))) in
+    via_law wide_from wide_parts (tagged Truncated not_wide wide_tags) (λ p fit. wide_back p) (λ w fit. wide_forth w) (tagged_law Truncated not_wide wide_tags cases)
+
+-- ---- by the opcode
+
+other_law : (at : ℕ) (h : OtherHead) → IsFormat (other_operands at h)
+other_law at other.Bipush = i1_law
+other_law at other.Sipush = i2_law
+other_law at other.Iinc = pair_law u1 i1 u1_law i1_law
+other_law at other.TableSwitch = table_law at
+other_law at other.LookupSwitch = lookup_law at
+other_law at other.CallInterface = call_law
+other_law at other.NewArray = array_law
+other_law at other.Wide = wide_law
+other_law at other.GotoWide = i4_law
+
+pub operands_law : (at : ℕ) (h : Head) → IsFormat (operands at h)
+operands_law at (heads.Plain h) = void_law
+operands_law at (heads.Byte h) = u1_law
+operands_law at (heads.Index h) = u2_law
+operands_law at (heads.Branch h) = i2_law
+operands_law at (heads.Other h) = other_law at h

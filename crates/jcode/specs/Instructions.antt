@@ -1,0 +1,311 @@
+-- Instructions, and code: instructions one behind the other (JVMS 4.7.3, 6.5).
+use Rattle.std.specs.Prelude.{◌≡◌, ℕ, ◌+◌, ◌-◌, ◌<◌, ◌≤◌, ◌==◌, ℤ, pos, ◌+ℤ◌, Bool, true, false, ◌&&◌, if◌then◌else◌, map, List, [], ◌∷◌, ◌++◌, length, get_or, Option, Some, None, Result, Ok, Err}
+use Rattle.std.specs.List.{list_all, list_any}
+use Rattle.std.specs.Ordering.{int_eq}
+use Rattle.jbase.specs.Stops.{◌>>=◌}
+use Rattle.jbase.specs.First.{first_some}
+use Rattle.jformat.specs.declared.error.Fault.{Fault}
+use Rattle.jformat.specs.Format.{Answer, Format, fault, void, ◌·◌, as_case}
+use Rattle.jformat.specs.Bodies.{Body}
+use Rattle.jformat.specs.States.{many_by}
+use Rattle.jcode.specs.declared.kind.CodeKind.{CodeKind}
+use Rattle.jcode.specs.declared.kind.CodeKind.TheVariants.{Truncated, BadTarget}
+use Rattle.jcode.specs.declared.kind.CodeError.{CodeError}
+use Rattle.jcode.specs.declared.kind.CodeError.TheVariants as errors
+use Rattle.jcode.specs.declared.names.NumberKind.TheVariants as numbers
+use Rattle.jcode.specs.declared.names.LocalKind.{LocalKind}
+use Rattle.jcode.specs.declared.names.LocalKind.TheVariants as kinds
+use Rattle.jcode.specs.declared.op.Op.{Op}
+use Rattle.jcode.specs.declared.op.Op.TheVariants as ops
+use Rattle.jcode.specs.declared.op.IntConst.TheVariants as consts
+use Rattle.jcode.specs.declared.op.Ldc.TheVariants as ldcs
+use Rattle.jcode.specs.declared.op.LocalOp.{LocalOp}
+use Rattle.jcode.specs.declared.op.LocalOp.TheVariants as locals
+use Rattle.jcode.specs.declared.op.Goto.TheVariants as gotos
+use Rattle.jcode.specs.declared.op.NewOp.TheVariants as news
+use Rattle.jcode.specs.declared.op.Switch.{Switch}
+use Rattle.jcode.specs.declared.op.Switch.TheVariants as switches
+use Rattle.jcode.specs.declared.op.Case.{Case}
+use Rattle.jcode.specs.declared.op.Placed.{Placed}
+use Rattle.jcode.specs.declared.head.Head.{Head}
+use Rattle.jcode.specs.declared.head.Head.TheVariants as heads
+use Rattle.jcode.specs.declared.head.Plain.{Plain}
+use Rattle.jcode.specs.declared.head.Plain.TheVariants as plain
+use Rattle.jcode.specs.declared.head.ByteHead.{ByteHead}
+use Rattle.jcode.specs.declared.head.ByteHead.TheVariants as byte
+use Rattle.jcode.specs.declared.head.IndexHead.{IndexHead}
+use Rattle.jcode.specs.declared.head.IndexHead.TheVariants as index
+use Rattle.jcode.specs.declared.head.BranchHead.{BranchHead}
+use Rattle.jcode.specs.declared.head.BranchHead.TheVariants as branch
+use Rattle.jcode.specs.declared.head.OtherHead.{OtherHead}
+use Rattle.jcode.specs.declared.head.OtherHead.TheVariants as other
+use Rattle.jcode.specs.Opcodes.{head_number, head_at}
+use Rattle.jcode.specs.Operands.{u1, u2, i1, i2, i4, table_switch, lookup_switch, interface_call, array_type, wide, OtherOperand, Operand, operands}
+
+-- ---- an instruction as an opcode and its operands
+
+abbrev pub local_op : LocalKind → LocalOp → Op
+local_op kinds.Int = ops.IntLocal
+local_op kinds.Long = ops.LongLocal
+local_op kinds.Ref = ops.RefLocal
+
+abbrev pub plain_op : Plain → Op
+plain_op plain.Nop = ops.Nop
+plain_op plain.AconstNull = ops.AconstNull
+plain_op (plain.IntConst n) = ops.IntConst (consts.Small n)
+plain_op (plain.LongConst n) = ops.LongConst n
+plain_op (plain.Local kind access slot) = local_op kind (locals.Slot access slot)
+plain_op (plain.ArrayLoad element) = ops.ArrayLoad element
+plain_op (plain.ArrayStore element) = ops.ArrayStore element
+plain_op (plain.Stack op) = ops.Stack op
+plain_op (plain.Math numbers.Int op) = ops.IntMath op
+plain_op (plain.Math numbers.Long op) = ops.LongMath op
+plain_op (plain.Neg kind) = ops.Neg kind
+plain_op (plain.Shift kind op) = ops.Shift kind op
+plain_op (plain.Logic kind op) = ops.Logic kind op
+plain_op (plain.Convert op) = ops.Convert op
+plain_op plain.Lcmp = ops.Lcmp
+plain_op (plain.Return kind) = ops.Return kind
+plain_op (plain.Object op) = ops.Object op
+
+abbrev pub byte_op : ByteHead → ℕ → Op
+byte_op byte.Ldc n = ops.Ldc (ldcs.Narrow n)
+byte_op (byte.Local kind access) n = local_op kind (locals.At access n)
+
+abbrev pub index_op : IndexHead → ℕ → Op
+index_op index.LdcWide n = ops.Ldc (ldcs.Wide n)
+index_op index.Ldc2 n = ops.Ldc2 n
+index_op (index.Field op) n = ops.Field op n
+index_op (index.Call op) n = ops.Call op n
+index_op index.New n = ops.New (news.Object n)
+index_op index.NewRefArray n = ops.New (news.RefArray n)
+index_op (index.Cast op) n = ops.Cast op n
+
+abbrev pub branch_op : BranchHead → ℤ → Op
+branch_op (branch.If test) by = ops.If test by
+branch_op (branch.IfInt test) by = ops.IfInt test by
+branch_op (branch.IfRef test) by = ops.IfRef test by
+branch_op branch.Goto by = ops.Goto (gotos.Narrow by)
+
+abbrev pub other_op : (h : OtherHead) → OtherOperand h → Op
+other_op other.Bipush n = ops.IntConst (consts.Byte n)
+other_op other.Sipush n = ops.IntConst (consts.Short n)
+other_op other.Iinc p = ops.Iinc p.0 p.1
+other_op other.TableSwitch s = ops.Switch (switches.Table s)
+other_op other.LookupSwitch s = ops.Switch (switches.Lookup s)
+other_op other.CallInterface p = ops.CallInterface p.0 p.1
+other_op other.NewArray element = ops.New (news.Array element)
+other_op other.Wide w = ops.Wide w
+other_op other.GotoWide by = ops.Goto (gotos.Wide by)
+
+abbrev pub op_from : (h : Head) → Operand h → Op
+op_from (heads.Plain h) x = plain_op h
+op_from (heads.Byte h) x = byte_op h x
+op_from (heads.Index h) x = index_op h x
+op_from (heads.Branch h) x = branch_op h x
+op_from (heads.Other h) x = other_op h x
+
+abbrev pub local_head : LocalKind → LocalOp → Head
+local_head kind (locals.At access n) = heads.Byte (byte.Local kind access)
+local_head kind (locals.Slot access slot) = heads.Plain (plain.Local kind access slot)
+
+-- the opcode of an instruction
+abbrev pub op_head : Op → Head
+op_head ops.Nop = heads.Plain plain.Nop
+op_head ops.AconstNull = heads.Plain plain.AconstNull
+op_head (ops.IntConst (consts.Small n)) = heads.Plain (plain.IntConst n)
+op_head (ops.IntConst (consts.Byte n)) = heads.Other other.Bipush
+op_head (ops.IntConst (consts.Short n)) = heads.Other other.Sipush
+op_head (ops.LongConst n) = heads.Plain (plain.LongConst n)
+op_head (ops.Ldc (ldcs.Narrow n)) = heads.Byte byte.Ldc
+op_head (ops.Ldc (ldcs.Wide n)) = heads.Index index.LdcWide
+op_head (ops.Ldc2 n) = heads.Index index.Ldc2
+op_head (ops.IntLocal op) = local_head kinds.Int op
+op_head (ops.LongLocal op) = local_head kinds.Long op
+op_head (ops.RefLocal op) = local_head kinds.Ref op
+op_head (ops.ArrayLoad element) = heads.Plain (plain.ArrayLoad element)
+op_head (ops.ArrayStore element) = heads.Plain (plain.ArrayStore element)
+op_head (ops.Stack op) = heads.Plain (plain.Stack op)
+op_head (ops.IntMath op) = heads.Plain (plain.Math numbers.Int op)
+op_head (ops.LongMath op) = heads.Plain (plain.Math numbers.Long op)
+op_head (ops.Neg kind) = heads.Plain (plain.Neg kind)
+op_head (ops.Shift kind op) = heads.Plain (plain.Shift kind op)
+op_head (ops.Logic kind op) = heads.Plain (plain.Logic kind op)
+op_head (ops.Iinc n by) = heads.Other other.Iinc
+op_head (ops.Convert op) = heads.Plain (plain.Convert op)
+op_head ops.Lcmp = heads.Plain plain.Lcmp
+op_head (ops.If test by) = heads.Branch (branch.If test)
+op_head (ops.IfInt test by) = heads.Branch (branch.IfInt test)
+op_head (ops.IfRef test by) = heads.Branch (branch.IfRef test)
+op_head (ops.Goto (gotos.Narrow by)) = heads.Branch branch.Goto
+op_head (ops.Goto (gotos.Wide by)) = heads.Other other.GotoWide
+op_head (ops.Switch (switches.Table s)) = heads.Other other.TableSwitch
+op_head (ops.Switch (switches.Lookup s)) = heads.Other other.LookupSwitch
+op_head (ops.Return kind) = heads.Plain (plain.Return kind)
+op_head (ops.Field op n) = heads.Index (index.Field op)
+op_head (ops.Call op n) = heads.Index (index.Call op)
+op_head (ops.CallInterface n slots) = heads.Other other.CallInterface
+op_head (ops.New (news.Object n)) = heads.Index index.New
+op_head (ops.New (news.Array element)) = heads.Other other.NewArray
+op_head (ops.New (news.RefArray n)) = heads.Index index.NewRefArray
+op_head (ops.Object op) = heads.Plain (plain.Object op)
+op_head (ops.Cast op n) = heads.Index (index.Cast op)
+op_head (ops.Wide w) = heads.Other other.Wide
+
+abbrev pub local_operand : (kind : LocalKind) (op : LocalOp) → Operand (local_head kind op)
+local_operand kind (locals.At access n) = n
+local_operand kind (locals.Slot access slot) = tt
+
+-- the operands of an instruction
+abbrev pub op_operand : (op : Op) → Operand (op_head op)
+op_operand (ops.IntConst (consts.Byte n)) = n
+op_operand (ops.IntConst (consts.Short n)) = n
+op_operand (ops.Ldc (ldcs.Narrow n)) = n
+op_operand (ops.Ldc (ldcs.Wide n)) = n
+op_operand (ops.Ldc2 n) = n
+op_operand (ops.IntLocal op) = local_operand kinds.Int op
+op_operand (ops.LongLocal op) = local_operand kinds.Long op
+op_operand (ops.RefLocal op) = local_operand kinds.Ref op
+op_operand (ops.Iinc n by) = (n, by)
+op_operand (ops.If test by) = by
+op_operand (ops.IfInt test by) = by
+op_operand (ops.IfRef test by) = by
+op_operand (ops.Goto (gotos.Narrow by)) = by
+op_operand (ops.Goto (gotos.Wide by)) = by
+op_operand (ops.Switch (switches.Table s)) = s
+op_operand (ops.Switch (switches.Lookup s)) = s
+op_operand (ops.Field op n) = n
+op_operand (ops.Call op n) = n
+op_operand (ops.CallInterface n slots) = (n, slots)
+op_operand (ops.New (news.Object n)) = n
+op_operand (ops.New (news.Array element)) = element
+op_operand (ops.New (news.RefArray n)) = n
+op_operand (ops.Cast op n) = n
+op_operand (ops.Wide w) = w
+op_operand _ = tt
+
+-- ---- an instruction at a place
+
+-- a fault is named at the instruction's first byte
+abbrev pub at_front : {A : Type 0} → List ℕ → Answer CodeKind A → Answer CodeKind A
+at_front bytes (Ok x) = Ok x
+at_front bytes (Err d) = fault d.kind bytes
+
+abbrev pub read_as : {A : Type 0} → Format CodeKind A → (A → Op) → List ℕ → Answer CodeKind Op
+read_as f make bytes = f.read bytes >>= λ x. Ok (make x.0, x.1)
+
+abbrev pub read_other : ℕ → OtherHead → List ℕ → Answer CodeKind Op
+read_other at other.Bipush = read_as i1 (other_op other.Bipush)
+read_other at other.Sipush = read_as i2 (other_op other.Sipush)
+read_other at other.Iinc = read_as (u1 · i1) (other_op other.Iinc)
+read_other at other.TableSwitch = read_as (table_switch at) (other_op other.TableSwitch)
+read_other at other.LookupSwitch = read_as (lookup_switch at) (other_op other.LookupSwitch)
+read_other at other.CallInterface = read_as interface_call (other_op other.CallInterface)
+read_other at other.NewArray = read_as array_type (other_op other.NewArray)
+read_other at other.Wide = read_as wide (other_op other.Wide)
+read_other at other.GotoWide = read_as i4 (other_op other.GotoWide)
+
+-- an instruction behind its opcode
+abbrev pub read_behind : ℕ → Head → List ℕ → Answer CodeKind Op
+read_behind at (heads.Plain h) = read_as void (λ _. plain_op h)
+read_behind at (heads.Byte h) = read_as u1 (byte_op h)
+read_behind at (heads.Index h) = read_as u2 (index_op h)
+read_behind at (heads.Branch h) = read_as i2 (branch_op h)
+read_behind at (heads.Other h) = read_other at h
+
+abbrev pub behind_head : ℕ → List ℕ → Result Head CodeKind → Answer CodeKind Op
+behind_head at rest (Ok h) = read_behind at h rest
+behind_head at rest (Err kind) = fault kind rest
+
+abbrev pub instruction_at : ℕ → List ℕ → Answer CodeKind Op
+instruction_at at [] = fault Truncated []
+instruction_at at (t ∷ rest) = at_front (t ∷ rest) (behind_head at rest (head_at t))
+
+-- the opcode's byte, and behind it the operands
+unfoldable pub instruction : ℕ → Format CodeKind Op
+instruction at = record {
+  spell = λ op. head_number (op_head op) ∷ (operands at (op_head op)).spell (op_operand op);
+  fits = λ op. (operands at (op_head op)).fits (op_operand op);
+  read = instruction_at at;
+}
+
+-- the number of bytes of an instruction at a place
+unfoldable pub size : ℕ → Op → ℕ
+size at op = length ((instruction at).spell op)
+
+-- ---- instructions one behind the other
+
+abbrev pub placed_at : ℕ → Op → Placed
+placed_at at op = record { at = at; op = op }
+
+abbrev pub op_at : ℕ → Placed → Option Op
+op_at at p = if p.at == at then Some p.op else None
+
+-- an instruction with its place
+abbrev pub placed : ℕ → Format CodeKind Placed
+placed at = as_case (placed_at at) (op_at at) (instruction at)
+
+abbrev pub place_behind : ℕ → Placed → ℕ
+place_behind at p = at + size at p.op
+
+-- instructions from place 0 on, each at the sum of the sizes before it
+unfoldable pub instructions : Body CodeKind (List Placed)
+instructions = many_by Truncated placed place_behind 0
+
+-- ---- branches
+
+abbrev pub switch_branches : Switch → List ℤ
+switch_branches (switches.Table s) = s.default ∷ s.branches
+switch_branches (switches.Lookup s) = s.default ∷ map (λ c. c.branch) s.cases
+
+-- how far the branches of an instruction lead from its place
+abbrev pub branches : Op → List ℤ
+branches (ops.If test by) = by ∷ []
+branches (ops.IfInt test by) = by ∷ []
+branches (ops.IfRef test by) = by ∷ []
+branches (ops.Goto (gotos.Narrow by)) = by ∷ []
+branches (ops.Goto (gotos.Wide by)) = by ∷ []
+branches (ops.Switch s) = switch_branches s
+branches _ = []
+
+-- an instruction stands at this place
+abbrev pub is_place : List Placed → ℤ → Bool
+is_place ps target = list_any (λ p. int_eq (pos p.at) target) ps
+
+-- each branch of an instruction leads to an instruction
+abbrev pub leads : List Placed → Placed → Bool
+leads ps p = list_all (λ by. is_place ps (pos p.at +ℤ by)) (branches p.op)
+
+abbrev pub lost : List Placed → Placed → Option ℕ
+lost ps p = if leads ps p then None else Some p.at
+
+-- the first instruction with a branch that leads to none
+unfoldable pub first_lost : List Placed → Option ℕ
+first_lost ps = first_some (lost ps) ps
+
+abbrev pub none_lost : List ℕ → List Placed → Option ℕ → Result (List Placed) (Fault CodeKind)
+none_lost bytes ps None = Ok ps
+none_lost bytes ps (Some at) = Err (record { left = length bytes - at; kind = BadTarget })
+
+-- code: instructions one behind the other, whose branches lead to instructions
+unfoldable pub code : Body CodeKind (List Placed)
+code = record {
+  spell = instructions.spell;
+  fits = λ ps. instructions.fits ps && list_all (leads ps) ps;
+  read = λ bytes. instructions.read bytes >>= λ ps. none_lost bytes ps (first_lost ps);
+}
+
+-- ---- places
+
+-- Each instruction stands behind the one before it.
+abbrev pub Rises : List Placed → Type 0
+Rises ps = (i j : ℕ) (d : Placed) → i < j → j < length ps → (get_or ps i d).at < (get_or ps j d).at
+
+abbrev pub FailsAt : {A : Type 0} → List ℕ → CodeError → Result A (Fault CodeKind) → Type 0
+FailsAt bytes errors.Memory read = Unit {0}
+FailsAt bytes (errors.At at kind) read = (at ≤ length bytes) × (read ≡ Err (record { left = length bytes - at; kind = kind }))
+
+-- The call answers what a reading gives, with a fault's place as an offset, unless memory runs out.
+abbrev pub GivesAt : {X A : Type 0} → (X → A) → List ℕ → Result X CodeError → Result A (Fault CodeKind) → Type 0
+GivesAt view bytes (Ok x) read = read ≡ Ok (view x)
+GivesAt view bytes (Err e) read = FailsAt bytes e read

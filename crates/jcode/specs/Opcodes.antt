@@ -1,0 +1,308 @@
+-- The opcodes (JVMS 6.5): the number of each, and which stands for a number.
+use Rattle.std.specs.Prelude.{ℕ, ◌+◌, ◌==◌, nat_lt, if◌then◌else◌, map, List, [], ◌∷◌, ◌++◌, Option, Some, None, Result, Ok, Err}
+use Rattle.jcode.specs.declared.names.NumberKind.{NumberKind}
+use Rattle.jcode.specs.declared.names.NumberKind.TheVariants as numbers
+use Rattle.jcode.specs.declared.names.LocalKind.{LocalKind}
+use Rattle.jcode.specs.declared.names.LocalKind.TheVariants as kinds
+use Rattle.jcode.specs.declared.names.Access.{Access}
+use Rattle.jcode.specs.declared.names.Access.TheVariants.{Load, Store}
+use Rattle.jcode.specs.declared.names.Slot.{Slot}
+use Rattle.jcode.specs.declared.names.Slot.TheVariants as slots
+use Rattle.jcode.specs.declared.names.SmallInt.{SmallInt}
+use Rattle.jcode.specs.declared.names.SmallInt.TheVariants as ints
+use Rattle.jcode.specs.declared.names.SmallLong.{SmallLong}
+use Rattle.jcode.specs.declared.names.SmallLong.TheVariants as longs
+use Rattle.jcode.specs.declared.names.Element.{Element}
+use Rattle.jcode.specs.declared.names.Element.TheVariants as elements
+use Rattle.jcode.specs.declared.names.StackOp.{StackOp}
+use Rattle.jcode.specs.declared.names.StackOp.TheVariants.{Pop, Pop2, Dup, DupX1, DupX2, Dup2, Dup2X1, Dup2X2, Swap}
+use Rattle.jcode.specs.declared.names.MathOp.{MathOp}
+use Rattle.jcode.specs.declared.names.MathOp.TheVariants.{Add, Sub, Mul, Div, Rem}
+use Rattle.jcode.specs.declared.names.ShiftOp.{ShiftOp}
+use Rattle.jcode.specs.declared.names.ShiftOp.TheVariants.{Left, Right, RightUnsigned}
+use Rattle.jcode.specs.declared.names.LogicOp.{LogicOp}
+use Rattle.jcode.specs.declared.names.LogicOp.TheVariants.{And, Or, Xor}
+use Rattle.jcode.specs.declared.names.ConvertOp.{ConvertOp}
+use Rattle.jcode.specs.declared.names.ConvertOp.TheVariants.{IntToLong, LongToInt, IntToByte, IntToChar, IntToShort}
+use Rattle.jcode.specs.declared.names.Condition.{Condition}
+use Rattle.jcode.specs.declared.names.Condition.TheVariants.{Equal, NotEqual, Less, GreaterOrEqual, Greater, LessOrEqual}
+use Rattle.jcode.specs.declared.names.RefTest.{RefTest}
+use Rattle.jcode.specs.declared.names.RefTest.TheVariants.{Same, Other, Null, NonNull}
+use Rattle.jcode.specs.declared.names.Returned.{Returned}
+use Rattle.jcode.specs.declared.names.Returned.TheVariants as results
+use Rattle.jcode.specs.declared.names.FieldOp.{FieldOp}
+use Rattle.jcode.specs.declared.names.FieldOp.TheVariants.{GetStatic, PutStatic, GetField, PutField}
+use Rattle.jcode.specs.declared.names.CallOp.{CallOp}
+use Rattle.jcode.specs.declared.names.CallOp.TheVariants.{Virtual, Special, Static}
+use Rattle.jcode.specs.declared.names.ObjectOp.{ObjectOp}
+use Rattle.jcode.specs.declared.names.ObjectOp.TheVariants.{ArrayLength, Throw}
+use Rattle.jcode.specs.declared.names.CastOp.{CastOp}
+use Rattle.jcode.specs.declared.names.CastOp.TheVariants.{CheckCast, InstanceOf}
+use Rattle.jcode.specs.declared.kind.CodeKind.{CodeKind}
+use Rattle.jcode.specs.declared.kind.CodeKind.TheVariants.{LeftOut, UnknownOpcode}
+use Rattle.jcode.specs.declared.head.Head.{Head}
+use Rattle.jcode.specs.declared.head.Head.TheVariants as heads
+use Rattle.jcode.specs.declared.head.Plain.{Plain}
+use Rattle.jcode.specs.declared.head.Plain.TheVariants as plain
+use Rattle.jcode.specs.declared.head.ByteHead.{ByteHead}
+use Rattle.jcode.specs.declared.head.ByteHead.TheVariants as byte
+use Rattle.jcode.specs.declared.head.IndexHead.{IndexHead}
+use Rattle.jcode.specs.declared.head.IndexHead.TheVariants as index
+use Rattle.jcode.specs.declared.head.BranchHead.{BranchHead}
+use Rattle.jcode.specs.declared.head.BranchHead.TheVariants as branch
+use Rattle.jcode.specs.declared.head.OtherHead.{OtherHead}
+use Rattle.jcode.specs.declared.head.OtherHead.TheVariants as other
+
+-- ---- places in a row of opcodes
+
+abbrev pub number_step : NumberKind → ℕ
+number_step numbers.Int = 0
+number_step numbers.Long = 1
+
+abbrev pub slot_step : Slot → ℕ
+slot_step slots.Zero = 0
+slot_step slots.One = 1
+slot_step slots.Two = 2
+slot_step slots.Three = 3
+
+abbrev pub int_step : SmallInt → ℕ
+int_step ints.MinusOne = 0
+int_step ints.Zero = 1
+int_step ints.One = 2
+int_step ints.Two = 3
+int_step ints.Three = 4
+int_step ints.Four = 5
+int_step ints.Five = 6
+
+abbrev pub long_step : SmallLong → ℕ
+long_step longs.Zero = 0
+long_step longs.One = 1
+
+abbrev pub element_step : Element → ℕ
+element_step elements.Int = 0
+element_step elements.Long = 1
+element_step elements.Ref = 4
+element_step elements.Byte = 5
+element_step elements.Char = 6
+element_step elements.Short = 7
+
+abbrev pub stack_step : StackOp → ℕ
+stack_step Pop = 0
+stack_step Pop2 = 1
+stack_step Dup = 2
+stack_step DupX1 = 3
+stack_step DupX2 = 4
+stack_step Dup2 = 5
+stack_step Dup2X1 = 6
+stack_step Dup2X2 = 7
+stack_step Swap = 8
+
+abbrev pub math_step : MathOp → ℕ
+math_step Add = 0
+math_step Sub = 4
+math_step Mul = 8
+math_step Div = 12
+math_step Rem = 16
+
+abbrev pub shift_step : ShiftOp → ℕ
+shift_step Left = 0
+shift_step Right = 2
+shift_step RightUnsigned = 4
+
+abbrev pub logic_step : LogicOp → ℕ
+logic_step And = 0
+logic_step Or = 2
+logic_step Xor = 4
+
+abbrev pub condition_step : Condition → ℕ
+condition_step Equal = 0
+condition_step NotEqual = 1
+condition_step Less = 2
+condition_step GreaterOrEqual = 3
+condition_step Greater = 4
+condition_step LessOrEqual = 5
+
+abbrev pub field_step : FieldOp → ℕ
+field_step GetStatic = 0
+field_step PutStatic = 1
+field_step GetField = 2
+field_step PutField = 3
+
+abbrev pub call_step : CallOp → ℕ
+call_step Virtual = 0
+call_step Special = 1
+call_step Static = 2
+
+-- ---- the number of each opcode
+
+abbrev pub slot_base : LocalKind → Access → ℕ
+slot_base kinds.Int Load = 0x1a
+slot_base kinds.Long Load = 0x1e
+slot_base kinds.Ref Load = 0x2a
+slot_base kinds.Int Store = 0x3b
+slot_base kinds.Long Store = 0x3f
+slot_base kinds.Ref Store = 0x4b
+
+abbrev pub convert_number : ConvertOp → ℕ
+convert_number IntToLong = 0x85
+convert_number LongToInt = 0x88
+convert_number IntToByte = 0x91
+convert_number IntToChar = 0x92
+convert_number IntToShort = 0x93
+
+abbrev pub return_number : Returned → ℕ
+return_number results.Int = 0xac
+return_number results.Long = 0xad
+return_number results.Ref = 0xb0
+return_number results.Nothing = 0xb1
+
+abbrev pub object_number : ObjectOp → ℕ
+object_number ArrayLength = 0xbe
+object_number Throw = 0xbf
+
+abbrev pub plain_number : Plain → ℕ
+plain_number plain.Nop = 0x00
+plain_number plain.AconstNull = 0x01
+plain_number (plain.IntConst n) = 0x02 + int_step n
+plain_number (plain.LongConst n) = 0x09 + long_step n
+plain_number (plain.Local kind access slot) = slot_base kind access + slot_step slot
+plain_number (plain.ArrayLoad element) = 0x2e + element_step element
+plain_number (plain.ArrayStore element) = 0x4f + element_step element
+plain_number (plain.Stack op) = 0x57 + stack_step op
+plain_number (plain.Math kind op) = 0x60 + math_step op + number_step kind
+plain_number (plain.Neg kind) = 0x74 + number_step kind
+plain_number (plain.Shift kind op) = 0x78 + shift_step op + number_step kind
+plain_number (plain.Logic kind op) = 0x7e + logic_step op + number_step kind
+plain_number (plain.Convert op) = convert_number op
+plain_number plain.Lcmp = 0x94
+plain_number (plain.Return kind) = return_number kind
+plain_number (plain.Object op) = object_number op
+
+abbrev pub byte_number : ByteHead → ℕ
+byte_number byte.Ldc = 0x12
+byte_number (byte.Local kinds.Int Load) = 0x15
+byte_number (byte.Local kinds.Long Load) = 0x16
+byte_number (byte.Local kinds.Ref Load) = 0x19
+byte_number (byte.Local kinds.Int Store) = 0x36
+byte_number (byte.Local kinds.Long Store) = 0x37
+byte_number (byte.Local kinds.Ref Store) = 0x3a
+
+abbrev pub cast_number : CastOp → ℕ
+cast_number CheckCast = 0xc0
+cast_number InstanceOf = 0xc1
+
+abbrev pub index_number : IndexHead → ℕ
+index_number index.LdcWide = 0x13
+index_number index.Ldc2 = 0x14
+index_number (index.Field op) = 0xb2 + field_step op
+index_number (index.Call op) = 0xb6 + call_step op
+index_number index.New = 0xbb
+index_number index.NewRefArray = 0xbd
+index_number (index.Cast op) = cast_number op
+
+abbrev pub ref_test_number : RefTest → ℕ
+ref_test_number Same = 0xa5
+ref_test_number Other = 0xa6
+ref_test_number Null = 0xc6
+ref_test_number NonNull = 0xc7
+
+abbrev pub branch_number : BranchHead → ℕ
+branch_number (branch.If test) = 0x99 + condition_step test
+branch_number (branch.IfInt test) = 0x9f + condition_step test
+branch_number (branch.IfRef test) = ref_test_number test
+branch_number branch.Goto = 0xa7
+
+abbrev pub other_number : OtherHead → ℕ
+other_number other.Bipush = 0x10
+other_number other.Sipush = 0x11
+other_number other.Iinc = 0x84
+other_number other.TableSwitch = 0xaa
+other_number other.LookupSwitch = 0xab
+other_number other.CallInterface = 0xb9
+other_number other.NewArray = 0xbc
+other_number other.Wide = 0xc4
+other_number other.GotoWide = 0xc8
+
+abbrev pub head_number : Head → ℕ
+head_number (heads.Plain h) = plain_number h
+head_number (heads.Byte h) = byte_number h
+head_number (heads.Index h) = index_number h
+head_number (heads.Branch h) = branch_number h
+head_number (heads.Other h) = other_number h
+
+-- ---- the opcode of a number
+
+abbrev pub all_kinds : List LocalKind
+all_kinds = kinds.Int ∷ kinds.Long ∷ kinds.Ref ∷ []
+
+abbrev pub all_slots : List Slot
+all_slots = slots.Zero ∷ slots.One ∷ slots.Two ∷ slots.Three ∷ []
+
+abbrev pub all_ints : List SmallInt
+all_ints = ints.MinusOne ∷ ints.Zero ∷ ints.One ∷ ints.Two ∷ ints.Three ∷ ints.Four ∷ ints.Five ∷ []
+
+abbrev pub all_elements : List Element
+all_elements = elements.Int ∷ elements.Long ∷ elements.Ref ∷ elements.Byte ∷ elements.Char ∷ elements.Short ∷ []
+
+abbrev pub all_stack : List StackOp
+all_stack = Pop ∷ Pop2 ∷ Dup ∷ DupX1 ∷ DupX2 ∷ Dup2 ∷ Dup2X1 ∷ Dup2X2 ∷ Swap ∷ []
+
+abbrev pub all_math : List MathOp
+all_math = Add ∷ Sub ∷ Mul ∷ Div ∷ Rem ∷ []
+
+abbrev pub all_shifts : List ShiftOp
+all_shifts = Left ∷ Right ∷ RightUnsigned ∷ []
+
+abbrev pub all_logic : List LogicOp
+all_logic = And ∷ Or ∷ Xor ∷ []
+
+abbrev pub all_conversions : List ConvertOp
+all_conversions = IntToLong ∷ LongToInt ∷ IntToByte ∷ IntToChar ∷ IntToShort ∷ []
+
+abbrev pub all_conditions : List Condition
+all_conditions = Equal ∷ NotEqual ∷ Less ∷ GreaterOrEqual ∷ Greater ∷ LessOrEqual ∷ []
+
+abbrev pub of_kind : LocalKind → List Plain
+of_kind kind = map (plain.Local kind Load) all_slots ++ map (plain.Local kind Store) all_slots
+
+abbrev pub computing : NumberKind → List Plain
+computing kind = map (plain.Math kind) all_math ++ plain.Neg kind ∷ map (plain.Shift kind) all_shifts ++ map (plain.Logic kind) all_logic
+
+abbrev pub all_plain : List Plain
+all_plain = plain.Nop ∷ plain.AconstNull ∷ map plain.IntConst all_ints ++ plain.LongConst longs.Zero ∷ plain.LongConst longs.One
+    ∷ of_kind kinds.Int ++ of_kind kinds.Long ++ of_kind kinds.Ref
+    ++ map plain.ArrayLoad all_elements ++ map plain.ArrayStore all_elements ++ map plain.Stack all_stack
+    ++ computing numbers.Int ++ computing numbers.Long ++ map plain.Convert all_conversions ++ plain.Lcmp
+    ∷ plain.Return results.Int ∷ plain.Return results.Long ∷ plain.Return results.Ref ∷ plain.Return results.Nothing
+    ∷ plain.Object ArrayLength ∷ plain.Object Throw ∷ []
+
+abbrev pub all_bytes : List ByteHead
+all_bytes = byte.Ldc ∷ map (λ kind. byte.Local kind Load) all_kinds ++ map (λ kind. byte.Local kind Store) all_kinds
+
+abbrev pub all_indices : List IndexHead
+all_indices = index.LdcWide ∷ index.Ldc2 ∷ index.Field GetStatic ∷ index.Field PutStatic ∷ index.Field GetField ∷ index.Field PutField
+    ∷ index.Call Virtual ∷ index.Call Special ∷ index.Call Static ∷ index.New ∷ index.NewRefArray ∷ index.Cast CheckCast ∷ index.Cast InstanceOf ∷ []
+
+abbrev pub all_branches : List BranchHead
+all_branches = map branch.If all_conditions ++ map branch.IfInt all_conditions ++ branch.IfRef Same ∷ branch.IfRef Other ∷ branch.IfRef Null ∷ branch.IfRef NonNull ∷ branch.Goto ∷ []
+
+abbrev pub all_others : List OtherHead
+all_others = other.Bipush ∷ other.Sipush ∷ other.Iinc ∷ other.TableSwitch ∷ other.LookupSwitch ∷ other.CallInterface ∷ other.NewArray ∷ other.Wide ∷ other.GotoWide ∷ []
+
+-- all opcodes that aren't left out
+abbrev pub all_heads : List Head
+all_heads = map heads.Plain all_plain ++ map heads.Byte all_bytes ++ map heads.Index all_indices ++ map heads.Branch all_branches ++ map heads.Other all_others
+
+-- the first of these with a number
+abbrev pub with_number : {H : Type 0} → (H → ℕ) → ℕ → List H → Option H
+with_number number n [] = None
+with_number number n (h ∷ hs) = if number h == n then Some h else with_number number n hs
+
+-- Other numbers below 0xca are of opcodes that are left out; there are no opcodes from 0xca on.
+abbrev pub or_fault : ℕ → Option Head → Result Head CodeKind
+or_fault n (Some h) = Ok h
+or_fault n None = if nat_lt n 0xca then Err (LeftOut n) else Err (UnknownOpcode n)
+
+-- what a first byte says
+unfoldable pub head_at : ℕ → Result Head CodeKind
+head_at n = or_fault n (with_number head_number n all_heads)

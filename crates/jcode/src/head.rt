@@ -1,0 +1,82 @@
+use crate::names::{
+    Access, CallOp, CastOp, Condition, ConvertOp, Element, FieldOp, LocalKind, LogicOp, MathOp,
+    NumberKind, ObjectOp, RefTest, Returned, ShiftOp, Slot, SmallInt, SmallLong, StackOp,
+};
+
+/// An opcode, by what stands behind it.
+#[derive(Clone, Copy)]
+pub enum Head {
+    /// Nothing.
+    Plain(Plain),
+    /// A number of one byte.
+    Byte(ByteHead),
+    /// An index into the pool.
+    Index(IndexHead),
+    /// A branch of two bytes.
+    Branch(BranchHead),
+    /// Operands like no other's.
+    Other(OtherHead),
+}
+
+/// An opcode that is the whole instruction.
+#[derive(Clone, Copy)]
+pub enum Plain {
+    Nop,
+    AconstNull,
+    IntConst(SmallInt),
+    LongConst(SmallLong),
+    Local(LocalKind, Access, Slot),
+    ArrayLoad(Element),
+    ArrayStore(Element),
+    Stack(StackOp),
+    Math(NumberKind, MathOp),
+    Neg(NumberKind),
+    Shift(NumberKind, ShiftOp),
+    Logic(NumberKind, LogicOp),
+    Convert(ConvertOp),
+    Lcmp,
+    Return(Returned),
+    Object(ObjectOp),
+}
+
+/// An opcode with a number of one byte.
+#[derive(Clone, Copy)]
+pub enum ByteHead {
+    Ldc,
+    Local(LocalKind, Access),
+}
+
+/// An opcode with an index into the pool.
+#[derive(Clone, Copy)]
+pub enum IndexHead {
+    LdcWide,
+    Ldc2,
+    Field(FieldOp),
+    Call(CallOp),
+    New,
+    NewRefArray,
+    Cast(CastOp),
+}
+
+/// An opcode with a branch of two bytes.
+#[derive(Clone, Copy)]
+pub enum BranchHead {
+    If(Condition),
+    IfInt(Condition),
+    IfRef(RefTest),
+    Goto,
+}
+
+/// An opcode whose operands are like no other's.
+#[derive(Clone, Copy)]
+pub enum OtherHead {
+    Bipush,
+    Sipush,
+    Iinc,
+    TableSwitch,
+    LookupSwitch,
+    CallInterface,
+    NewArray,
+    Wide,
+    GotoWide,
+}

@@ -1,0 +1,181 @@
+/// The two kinds of numbers that are computed with.
+#[derive(Clone, Copy, Debug, PartialEq, Eq)]
+pub enum NumberKind {
+    Int,
+    Long,
+}
+
+/// What a local holds.
+#[derive(Clone, Copy, Debug, PartialEq, Eq)]
+pub enum LocalKind {
+    Int,
+    Long,
+    Ref,
+}
+
+/// Whether a local is read or written.
+#[derive(Clone, Copy, Debug, PartialEq, Eq)]
+pub enum Access {
+    Load,
+    Store,
+}
+
+/// One of the four locals that an opcode names without an operand.
+#[derive(Clone, Copy, Debug, PartialEq, Eq)]
+pub enum Slot {
+    Zero,
+    One,
+    Two,
+    Three,
+}
+
+/// The ints that have an opcode of their own: iconst_m1 to iconst_5.
+#[derive(Clone, Copy, Debug, PartialEq, Eq)]
+pub enum SmallInt {
+    MinusOne,
+    Zero,
+    One,
+    Two,
+    Three,
+    Four,
+    Five,
+}
+
+/// The longs that have an opcode of their own: lconst_0 and lconst_1.
+#[derive(Clone, Copy, Debug, PartialEq, Eq)]
+pub enum SmallLong {
+    Zero,
+    One,
+}
+
+/// What an array holds, as its loads and stores tell it apart. Booleans are held as bytes.
+#[derive(Clone, Copy, Debug, PartialEq, Eq)]
+pub enum Element {
+    Int,
+    Long,
+    Ref,
+    Byte,
+    Char,
+    Short,
+}
+
+/// What moves the newest items of the stack: pop to swap.
+#[derive(Clone, Copy, Debug, PartialEq, Eq)]
+pub enum StackOp {
+    Pop,
+    Pop2,
+    Dup,
+    DupX1,
+    DupX2,
+    Dup2,
+    Dup2X1,
+    Dup2X2,
+    Swap,
+}
+
+/// Computing with two numbers of a kind.
+#[derive(Clone, Copy, Debug, PartialEq, Eq)]
+pub enum MathOp {
+    Add,
+    Sub,
+    Mul,
+    Div,
+    Rem,
+}
+
+/// Shifting a number by an int.
+#[derive(Clone, Copy, Debug, PartialEq, Eq)]
+pub enum ShiftOp {
+    Left,
+    Right,
+    RightUnsigned,
+}
+
+/// Joining the bits of two numbers of a kind.
+#[derive(Clone, Copy, Debug, PartialEq, Eq)]
+pub enum LogicOp {
+    And,
+    Or,
+    Xor,
+}
+
+/// Making one kind of number of another.
+#[derive(Clone, Copy, Debug, PartialEq, Eq)]
+pub enum ConvertOp {
+    IntToLong,
+    LongToInt,
+    IntToByte,
+    IntToChar,
+    IntToShort,
+}
+
+/// How an int is compared with zero or with another.
+#[derive(Clone, Copy, Debug, PartialEq, Eq)]
+pub enum Condition {
+    Equal,
+    NotEqual,
+    Less,
+    GreaterOrEqual,
+    Greater,
+    LessOrEqual,
+}
+
+/// How a reference is compared: if_acmpeq, if_acmpne, ifnull, ifnonnull.
+#[derive(Clone, Copy, Debug, PartialEq, Eq)]
+pub enum RefTest {
+    Same,
+    Other,
+    Null,
+    NonNull,
+}
+
+/// What is returned.
+#[derive(Clone, Copy, Debug, PartialEq, Eq)]
+pub enum Returned {
+    Int,
+    Long,
+    Ref,
+    Nothing,
+}
+
+/// How a field is used.
+#[derive(Clone, Copy, Debug, PartialEq, Eq)]
+pub enum FieldOp {
+    GetStatic,
+    PutStatic,
+    GetField,
+    PutField,
+}
+
+/// How a method is called, but by its interface.
+#[derive(Clone, Copy, Debug, PartialEq, Eq)]
+pub enum CallOp {
+    Virtual,
+    Special,
+    Static,
+}
+
+/// What is asked of an array or an object as it is: arraylength and athrow.
+#[derive(Clone, Copy, Debug, PartialEq, Eq)]
+pub enum ObjectOp {
+    ArrayLength,
+    Throw,
+}
+
+/// How an object's class is looked at: checkcast and instanceof.
+#[derive(Clone, Copy, Debug, PartialEq, Eq)]
+pub enum CastOp {
+    CheckCast,
+    InstanceOf,
+}
+
+/// What an array of newarray holds.
+#[derive(Clone, Copy, Debug, PartialEq, Eq)]
+pub enum ArrayType {
+    Boolean,
+    Char,
+    Byte,
+    Short,
+    Int,
+    Long,
+}
