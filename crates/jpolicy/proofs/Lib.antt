@@ -1,0 +1,3 @@
+pub mod FirstTest
+pub mod Places
+pub mod Walking

@@ -1,0 +1,7 @@
+pub mod Characters
+pub mod Expansion
+pub mod Policies
+pub mod Productions
+pub mod Strings
+pub mod Tokens
+pub mod Walks

@@ -1,0 +1,8 @@
+-- Going along a list, some items at a time, from one state to the next.
+use Rattle.std.specs.Prelude.{ℕ, zero, suc, Bool, List, Result, Ok, if◌then◌else◌}
+use Rattle.jbase.specs.Stops.{◌>>=◌}
+
+-- at most so many steps from a state, until the walk ends; the state there and the items that are left
+unfoldable pub walk : {S A F : Type 0} → (List A → Bool) → (S → List A → Result (S × List A) F) → ℕ → S → List A → Result (S × List A) F
+walk ends goes zero s xs = Ok (s, xs)
+walk ends goes (suc n) s xs = if ends xs then Ok (s, xs) else (goes s xs >>= λ x. walk ends goes n x.0 x.1)

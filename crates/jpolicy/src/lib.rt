@@ -1,0 +1,29 @@
+//! Policy files: their tokens, the expansion of properties, and the grants that they state.
+#![tactic(auto)]
+
+mod character;
+mod clauses;
+mod entry;
+mod expanding;
+mod fault;
+mod grant;
+mod items;
+mod keyword;
+mod lexing;
+mod parts;
+mod quoted;
+mod read;
+mod stated;
+mod token;
+mod walk;
+
+pub use expanding::{expanded, expands_itself};
+pub use fault::{PolicyError, PolicyKind};
+pub use grant::{Grant, GrantEntry, Policy};
+pub use items::grants_of;
+pub use lexing::tokens_of;
+pub use read::read_policy;
+pub use token::{Placed, Token};
+
+#[cfg(test)]
+mod tests;

@@ -1,0 +1,152 @@
+ghost use Rattle.std.specs.Prelude.{◌≡◌};
+ghost use Rattle.jbase.specs.Stops.{Gives};
+ghost use Rattle.jpolicy.specs.Productions.{behind, is_keyword, is_mark, is_text, is_word, keyword_at, mark_at, names_principal, next, text_at, word_at};
+
+use crate::expanding::{expanded, expands_itself};
+use crate::fault::{PolicyKind, fault};
+use crate::keyword::{Keyword, is_spelled};
+use crate::token::{Placed, Token};
+use jformat::ReadError;
+use jtext::Units;
+use std::alloc::Global;
+
+/// The tokens behind the next one.
+pub fn behind(tokens: &[Placed]) -> &[Placed]
+    ensures { result.now ≡ behind tokens.now }
+{
+    match tokens {
+        [] => tokens,
+        [_, rest @ ..] => rest,
+    }
+}
+
+fn is_mark(mark: char, token: &Token) -> bool
+    ensures { result ≡ is_mark mark token.now }
+{
+    match token {
+        Token::Mark(c) => *c == mark,
+        _ => false,
+    }
+}
+
+/// Whether the next token is a mark.
+pub fn next_is(mark: char, tokens: &[Placed]) -> bool
+    ensures { result ≡ next (is_mark mark) tokens.now }
+{
+    match tokens {
+        [] => false,
+        [t, ..] => is_mark(mark, &t.token),
+    }
+}
+
+fn is_keyword(keyword: Keyword, token: &Token) -> bool
+    ensures { result ≡ is_keyword keyword token.now }
+{
+    match token {
+        Token::Word(units) => is_spelled(units.as_slice(), keyword.spelling()),
+        _ => false,
+    }
+}
+
+/// Whether the next token is a keyword.
+pub fn next_says(keyword: Keyword, tokens: &[Placed]) -> bool
+    ensures { result ≡ next (is_keyword keyword) tokens.now }
+{
+    match tokens {
+        [] => false,
+        [t, ..] => is_keyword(keyword, &t.token),
+    }
+}
+
+/// Whether the next token is a string.
+pub fn next_is_text(tokens: &[Placed]) -> bool
+    ensures { result ≡ next is_text tokens.now }
+{
+    match tokens {
+        [] => false,
+        [t, ..] => matches!(&t.token, Token::Text(_)),
+    }
+}
+
+/// Whether the next token is a word.
+pub fn next_is_word(tokens: &[Placed]) -> bool
+    ensures { result ≡ next is_word tokens.now }
+{
+    match tokens {
+        [] => false,
+        [t, ..] => matches!(&t.token, Token::Word(_)),
+    }
+}
+
+/// Whether the next token is a string or `*`.
+pub fn next_names_principal(tokens: &[Placed]) -> bool
+    ensures { result ≡ next names_principal tokens.now }
+{
+    match tokens {
+        [] => false,
+        [t, ..] => match &t.token {
+            Token::Text(_) => true,
+            Token::Mark(c) => *c == '*',
+            _ => false,
+        },
+    }
+}
+
+/// What is behind a mark.
+pub fn mark_of(mark: char, tokens: &[Placed]) -> Result<&[Placed], ReadError<PolicyKind>>
+    ensures { Gives (λ x. (tt, x.now)) result (mark_at mark tokens.now) }
+{
+    if next_is(mark, tokens) {
+        return Ok(behind(tokens));
+    }
+    Err(fault(PolicyKind::Syntax, tokens))
+}
+
+/// What is behind a keyword.
+pub fn keyword_of(keyword: Keyword, tokens: &[Placed]) -> Result<&[Placed], ReadError<PolicyKind>>
+    ensures { Gives (λ x. (tt, x.now)) result (keyword_at keyword tokens.now) }
+{
+    if next_says(keyword, tokens) {
+        return Ok(behind(tokens));
+    }
+    Err(fault(PolicyKind::Syntax, tokens))
+}
+
+/// A word.
+pub fn word_of(
+    alloc: Global,
+    tokens: &[Placed],
+) -> Result<(Units, &[Placed]), ReadError<PolicyKind>>
+    ensures { Gives (λ x. (x.0, x.1.now)) result (word_at tokens.now) }
+{
+    match tokens {
+        [] => Err(fault(PolicyKind::Syntax, tokens)),
+        [t, rest @ ..] => match &t.token {
+            Token::Word(units) => Ok((units.copy(alloc)?, rest)),
+            _ => Err(fault(PolicyKind::Syntax, tokens)),
+        },
+    }
+}
+
+/// A string with its properties expanded, or none where one is missing.
+#[tactic(auto, unfolding(crate::specs::Productions::text_at))]
+pub fn text_of<'a>(
+    alloc: Global,
+    properties: &[(Units, Units)],
+    tokens: &'a [Placed],
+) -> Result<(Option<Units>, &'a [Placed]), ReadError<PolicyKind>>
+    ensures { Gives (λ x. (x.0, x.1.now)) result (text_at properties.now tokens.now) }
+{
+    match tokens {
+        [] => Err(fault(PolicyKind::Syntax, tokens)),
+        [t, rest @ ..] => match &t.token {
+            Token::Text(units) => {
+                if expands_itself(units.as_slice()) {
+                    return Err(fault(PolicyKind::SelfExpansion, tokens));
+                }
+                Ok((expanded(alloc, properties, units.as_slice())?, rest))
+            }
+            _ => Err(fault(PolicyKind::Syntax, tokens)),
+        },
+    }
+}

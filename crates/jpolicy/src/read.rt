@@ -1,0 +1,70 @@
+ghost use Rattle.std.specs.Prelude.{◌≡◌, ◌≤◌, IfOk, length};
+ghost use Rattle.std.specs.Str.{chars, encode_utf8_all};
+ghost use Rattle.jpolicy.specs.Policies.{PolicyGives, place_of, policy, policy_in};
+
+use crate::fault::{PolicyError, PolicyKind};
+use crate::grant::Policy;
+use crate::items::grants_of;
+use crate::lexing::tokens_of;
+use jbase::Stop;
+use jtext::Units;
+use std::alloc::{AllocError, Global};
+
+/// The characters of a text.
+fn characters_of(alloc: Global, text: &str) -> Result<Vec<char>, AllocError>
+    ensures { IfOk result (λ cs. cs.items ≡ chars text.now) }
+{
+    text.chars().collect(alloc)
+}
+
+/// How many bytes stand in front of the last so many characters.
+fn place_of(text: &[char], left: usize) -> usize
+    requires { length (encode_utf8_all text.now) ≤ 2147483647 }
+    ensures place { result ≡ place_of text.now left }
+    ensures within { result ≤ 2147483647 }
+{
+    let (front, _) = text.split_at(text.len().saturating_sub(left));
+    let mut bytes = 0;
+    for c in front {
+        bytes += c.len_utf8();
+    }
+    bytes
+}
+
+fn policy_in(
+    alloc: Global,
+    text: &str,
+    properties: &[(Units, Units)],
+) -> Result<Policy, PolicyError>
+    requires { length text.now ≤ 2147483647 }
+    ensures { PolicyGives result (policy_in properties.now (chars text.now)) }
+{
+    let characters = characters_of(alloc, text)?;
+    let tokens = tokens_of(alloc, characters.as_slice())?;
+    match grants_of(alloc, properties, tokens.as_slice()) {
+        Ok(grants) => Ok(grants),
+        Err(Stop::Memory) => Err(PolicyError::Memory),
+        Err(Stop::Fault(found)) => Err(PolicyError::At {
+            at: place_of(characters.as_slice(), found.left) as u32,
+            kind: found.kind,
+        }),
+    }
+}
+
+/// The grants of a policy file, of at most 2,147,483,647 bytes, with the strings expanded by the properties (policy file documentation).
+pub fn read_policy(
+    alloc: Global,
+    bytes: &[u8],
+    props: &[(Units, Units)],
+) -> Result<Policy, PolicyError>
+    requires { length bytes.now ≤ 2147483647 }
+    ensures { PolicyGives result (policy props.now bytes.now) }
+{
+    match str::from_utf8(bytes) {
+        Ok(text) => policy_in(alloc, text, props),
+        Err(found) => Err(PolicyError::At {
+            at: found.valid_up_to() as u32,
+            kind: PolicyKind::NotUtf8,
+        }),
+    }
+}
