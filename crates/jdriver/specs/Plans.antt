@@ -4,8 +4,8 @@ use Rattle.std.specs.Prelude.{◌≡◌, ℕ, List, [], ◌∷◌, Option, Some,
 use Rattle.jbase.specs.Each.{each}
 use Rattle.jbase.specs.Stops.{◌>>=◌}
 use Rattle.jio.specs.Held.{File, readable}
-use Rattle.jclass.specs.declared.form.ClassForm.{ClassForm}
-use Rattle.jclass.specs.Forms.{class_form}
+use Rattle.jform.specs.declared.form.ClassForm.{ClassForm}
+use Rattle.jform.specs.Forms.{class_form}
 use Rattle.jload.specs.declared.job.Job.{Job}
 use Rattle.jload.specs.declared.job.Source.{Source}
 use Rattle.jload.specs.declared.grant.Grant.{Grant}

@@ -7,8 +7,8 @@ ghost use Rattle.jdriver.specs.Plans.{Follows, domains_of, judged, program_task}
 use crate::reading::unbuilt;
 use crate::task::{Halt, Refusal, Task};
 use jbase::Seq;
-use jclass::ClassForm;
 use jengine::{Domains, Method, Program};
+use jform::ClassForm;
 use jload::{Grant, Job, Source, Text, granted, joined, main_of};
 use jperm::Permission;
 use std::alloc::{AllocError, Global};

@@ -3,7 +3,7 @@ ghost use Rattle.std.specs.Option.{option_copied};
 ghost use Rattle.jbase.specs.Causes.{Rose};
 ghost use Rattle.jbase.specs.Each.{each};
 ghost use Rattle.jio.specs.Held.{File};
-ghost use Rattle.jclass.specs.Forms.{class_form};
+ghost use Rattle.jform.specs.Forms.{class_form};
 ghost use Rattle.jload.specs.Jobs.{job_form};
 ghost use Rattle.jload.specs.Policies.{policy_form};
 ghost use Rattle.jdriver.specs.declared.task.Halt.TheVariants.{Read};
@@ -12,7 +12,7 @@ ghost use Rattle.jdriver.specs.Plans.{Follows, Misses, bytes_at, class_at, class
 use crate::joining::program_task;
 use crate::task::{Halt, Refusal, Task};
 use jbase::Seq;
-use jclass::{ClassForm, read_form};
+use jform::{ClassForm, read_form};
 use jio::{Shelf, ShelfError};
 use jload::{Grant, Job, Source, Text, read_job, read_policy};
 use std::alloc::Global;

@@ -3,7 +3,7 @@ use Rattle.std.proofs.Common.{◌≡◌, ℕ, suc, ◌+◌, ◌≤◌, ◌<◌, 
 use Rattle.std.proofs.Math.ListN.{drop_of_length-le}
 use Rattle.std.proofs.lemmas.List.{append-nil}
 use Rattle.jbase.specs.Each.{each_some}
-use Rattle.jclass.specs.declared.form.ClassForm.{ClassForm}
+use Rattle.jform.specs.declared.form.ClassForm.{ClassForm}
 use Rattle.jengine.specs.declared.program.Method.{Method}
 use Rattle.jload.specs.Joins.{both, method_in, methods_from}
 

@@ -12,8 +12,8 @@ use Rattle.std.proofs.Math.ListN.{drop_of_length-le}
 use Rattle.std.proofs.lemmas.Map.Text.{btree_map_updates_str}
 use Rattle.std.proofs.Math.Path.{fun_ext}
 use denote.Ref.{Bor}
-use Rattle.jclass.specs.declared.form.MethodForm.{MethodForm}
-use Rattle.jclass.specs.declared.form.ClassForm.{ClassForm}
+use Rattle.jform.specs.declared.form.MethodForm.{MethodForm}
+use Rattle.jform.specs.declared.form.ClassForm.{ClassForm}
 use Rattle.jload.specs.declared.index.ClassIndex.{ClassIndex}
 use Rattle.jload.specs.Joins.{same_kind, is_it, alone, differ, place_in, place_from, called_place}
 use Rattle.jload.specs.Indices.{place_at, IsPlaces, find_then, find_in}

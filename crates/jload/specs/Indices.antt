@@ -6,7 +6,7 @@ use Rattle.std.specs.Cmp.Lexicographic.{slice_cmp}
 use Rattle.std.specs.BTreeMap as tree
 use Rattle.std.specs.BTreeMap.{BTreeMap}
 use denote.Ref.{Bor}
-use Rattle.jclass.specs.declared.form.MethodForm.{MethodForm}
+use Rattle.jform.specs.declared.form.MethodForm.{MethodForm}
 use Rattle.jload.specs.declared.index.ClassIndex.{ClassIndex}
 use Rattle.jload.specs.Joins.{place_in}
 

@@ -3,10 +3,10 @@ use Rattle.std.specs.Prelude.{ℕ, ◌+◌, Bool, true, false, ◌&&◌, ◌||�
 use Rattle.std.specs.List.{list_all, list_any}
 use Rattle.std.specs.Str.{bytes_eq}
 use Rattle.jbase.specs.Each.{each_some}
-use Rattle.jclass.specs.declared.form.Op.{Op}
-use Rattle.jclass.specs.declared.form.Op.TheVariants as ops
-use Rattle.jclass.specs.declared.form.MethodForm.{MethodForm}
-use Rattle.jclass.specs.declared.form.ClassForm.{ClassForm}
+use Rattle.jform.specs.declared.form.Op.{Op}
+use Rattle.jform.specs.declared.form.Op.TheVariants as ops
+use Rattle.jform.specs.declared.form.MethodForm.{MethodForm}
+use Rattle.jform.specs.declared.form.ClassForm.{ClassForm}
 use Rattle.jengine.specs.declared.program.Form.{Form}
 use Rattle.jengine.specs.declared.program.Form.TheVariants as forms
 use Rattle.jengine.specs.declared.program.Method.{Method}

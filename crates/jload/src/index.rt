@@ -1,10 +1,10 @@
 ghost use Rattle.std.specs.Prelude.{◌≡◌, ◌+◌, ◌<◌, ◌^◌, List, ℕ, Bool, true, false, IfOk, MatchOption, length};
 ghost use Rattle.std.specs.List.{list_all};
-ghost use Rattle.jclass.specs.declared.form.ClassForm.{ClassForm};
+ghost use Rattle.jform.specs.declared.form.ClassForm.{ClassForm};
 ghost use Rattle.jload.specs.Joins.{alone, called_place, differ, is_it, place_in, same_kind};
 ghost use Rattle.jload.specs.Indices.{IsPlaces, find_in};
 
-use jclass::{ClassForm, MethodForm};
+use jform::{ClassForm, MethodForm};
 use std::alloc::{AllocError, Global};
 use std::collections::BTreeMap;
 

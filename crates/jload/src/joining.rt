@@ -8,8 +8,8 @@ ghost use Rattle.jload.specs.Indices.{find_in};
 use crate::index::{ClassIndex, find_in, index_of, same_kind};
 use crate::text::widened;
 use jbase::{EachSome, Seq, each_some_of};
-use jclass::{ClassForm, MethodForm, Op};
 use jengine::{Form, Method, Program};
+use jform::{ClassForm, MethodForm, Op};
 use std::alloc::{AllocError, Global};
 
 /// All methods of the classes, class by class, where the classes join: their names differ and begin with neither `java/` nor `sps/`,

@@ -1,7 +1,7 @@
 use super::*;
 use jbase::Seq;
-use jclass::{ClassForm, MethodForm, Op};
 use jengine::Form;
+use jform::{ClassForm, MethodForm, Op};
 use jperm::Permission;
 use std::alloc::{AllocError, Global};
 

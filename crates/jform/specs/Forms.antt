@@ -7,19 +7,19 @@ use Rattle.jpool.specs.Names.{is_class_name}
 use Rattle.jpool.specs.Descriptors.{is_array_descriptor, is_field_descriptor, is_method_descriptor}
 use Rattle.jformat.specs.declared.error.Fault.{Fault}
 use Rattle.jformat.specs.Bodies.{whole}
-use Rattle.jclass.specs.declared.kind.Kind.{Kind}
-use Rattle.jclass.specs.declared.kind.Kind.TheVariants.{Trailing}
-use Rattle.jclass.specs.declared.class.Entry.{Entry}
-use Rattle.jclass.specs.declared.class.Entry.TheVariants.{Utf8, Class, Str, Method, NameAndType}
-use Rattle.jclass.specs.declared.class.RawOp.{RawOp}
-use Rattle.jclass.specs.declared.class.RawOp.TheVariants as raw
-use Rattle.jclass.specs.declared.class.MethodFile.{MethodFile}
-use Rattle.jclass.specs.declared.class.ClassFile.{ClassFile}
-use Rattle.jclass.specs.declared.form.Op.{Op}
-use Rattle.jclass.specs.declared.form.Op.TheVariants as ops
-use Rattle.jclass.specs.declared.form.MethodForm.{MethodForm}
-use Rattle.jclass.specs.declared.form.ClassForm.{ClassForm}
-use Rattle.jclass.specs.Class.{class_file}
+use Rattle.jform.specs.declared.kind.Kind.{Kind}
+use Rattle.jform.specs.declared.kind.Kind.TheVariants.{Trailing}
+use Rattle.jform.specs.declared.class.Entry.{Entry}
+use Rattle.jform.specs.declared.class.Entry.TheVariants.{Utf8, Class, Str, Method, NameAndType}
+use Rattle.jform.specs.declared.class.RawOp.{RawOp}
+use Rattle.jform.specs.declared.class.RawOp.TheVariants as raw
+use Rattle.jform.specs.declared.class.MethodFile.{MethodFile}
+use Rattle.jform.specs.declared.class.ClassFile.{ClassFile}
+use Rattle.jform.specs.declared.form.Op.{Op}
+use Rattle.jform.specs.declared.form.Op.TheVariants as ops
+use Rattle.jform.specs.declared.form.MethodForm.{MethodForm}
+use Rattle.jform.specs.declared.form.ClassForm.{ClassForm}
+use Rattle.jform.specs.Class.{class_file}
 
 -- ---- looking into the pool
 

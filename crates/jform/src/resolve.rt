@@ -2,7 +2,7 @@ ghost use Rattle.std.specs.Prelude.{◌≡◌, ◌&&◌, IfOk, Some, map, nat_le
 ghost use Rattle.std.specs.List.{list_all};
 ghost use Rattle.std.specs.Option.{option_copied};
 ghost use Rattle.jbase.specs.Each.{each_some};
-ghost use Rattle.jclass.specs.Forms.{called, class_form, class_named, ends_with_return, form_of, has_descriptor, has_name, holds_at, is_class, is_good, is_name_and_type, is_plain, main_or_plain, method_form, op_form, special_op, static_op, text_in};
+ghost use Rattle.jform.specs.Forms.{called, class_form, class_named, ends_with_return, form_of, has_descriptor, has_name, holds_at, is_class, is_good, is_name_and_type, is_plain, main_or_plain, method_form, op_form, special_op, static_op, text_in};
 
 use crate::class::{ClassFile, Entry, MethodFile, RawOp};
 use crate::form::{ClassForm, MethodForm, Op};

@@ -2,8 +2,8 @@
 use Rattle.std.proofs.Common.{◌≡◌, ℕ, ◌-◌, ◌==◌, Bool, true, false, cond, List, Option, Some, None, map, refl, ap, ◌∙◌}
 use Rattle.std.specs.Prelude.{slice_get, option_map}
 use Rattle.std.proofs.lemmas.Option.{slice_get-map}
-use Rattle.jclass.specs.declared.class.Entry.{Entry}
-use Rattle.jclass.specs.Forms.{text_in, text_at, has_name, has_descriptor, held, holds_at}
+use Rattle.jform.specs.declared.class.Entry.{Entry}
+use Rattle.jform.specs.Forms.{text_in, text_at, has_name, has_descriptor, held, holds_at}
 
 -- what a table of a test on entries has in a place
 held_is : (test : Entry → Bool) (pool : List Entry) (i : ℕ) → held (slice_get (map test pool) i) ≡ held (option_map test (slice_get pool i))

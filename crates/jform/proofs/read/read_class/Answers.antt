@@ -1,10 +1,10 @@
 use Rattle.std.proofs.Common.{ap, subst, ◌∙◌, arith}
 use Rattle.jbase.specs.Stops.{Gives}
 use Rattle.jformat.specs.Bodies.{whole}
-use Rattle.jclass.specs.declared.kind.Kind.TheVariants.{Trailing}
-use Rattle.jclass.specs.Class.{class_file}
-use Rattle.jclass.specs.ClassLaws.{class_body_law, is_found}
-use Rattle.jclass.proofs.read.read_class.Goals as goal
+use Rattle.jform.specs.declared.kind.Kind.TheVariants.{Trailing}
+use Rattle.jform.specs.Class.{class_file}
+use Rattle.jform.specs.ClassLaws.{class_body_law, is_found}
+use Rattle.jform.proofs.read.read_class.Goals as goal
 
 pub returns-clause-found : goal.returns-clause-found
 returns-clause-found c = is_found c.args.bytes.now c.whole_of.result (λ i. omega (arith, c.type_inv.bytes i)) c.whole_of.ensures

@@ -2,13 +2,13 @@
 use Rattle.std.specs.Prelude.{◌≡◌, ℕ, zero, suc, ◌+◌, ◌-◌, ◌≤◌, List, length, Some, None, Result, Ok, Err, refl, IsTrue, IfOk, nat_lt, ◌==◌, if◌then◌else◌, ◌||◌}
 use Rattle.std.proofs.Common.{inl, inr, arith}
 use Rattle.std.specs.Int.{w16, w32}
-use Rattle.jclass.specs.declared.kind.Kind.{Kind}
-use Rattle.jclass.specs.declared.kind.Kind.TheVariants.{Truncated, Form, Tag, Trailing}
-use Rattle.jclass.specs.declared.class.Entry.{Entry}
-use Rattle.jclass.specs.declared.class.Entry.TheVariants.{Utf8, Class, Str, Method, NameAndType}
-use Rattle.jclass.specs.declared.class.RawOp.{RawOp}
-use Rattle.jclass.specs.declared.class.RawOp.TheVariants as ops
-use Rattle.jclass.specs.declared.class.ClassFile.{ClassFile}
+use Rattle.jform.specs.declared.kind.Kind.{Kind}
+use Rattle.jform.specs.declared.kind.Kind.TheVariants.{Truncated, Form, Tag, Trailing}
+use Rattle.jform.specs.declared.class.Entry.{Entry}
+use Rattle.jform.specs.declared.class.Entry.TheVariants.{Utf8, Class, Str, Method, NameAndType}
+use Rattle.jform.specs.declared.class.RawOp.{RawOp}
+use Rattle.jform.specs.declared.class.RawOp.TheVariants as ops
+use Rattle.jform.specs.declared.class.ClassFile.{ClassFile}
 use Rattle.jbase.specs.declared.stop.Stop.{Stop}
 use Rattle.jbase.specs.Stops.{Gives}
 use Rattle.jformat.specs.declared.error.Fault.{Fault}
@@ -19,7 +19,7 @@ use Rattle.jformat.proofs.Steps.{second_true}
 use Rattle.jformat.proofs.Laws.{IsFormat, HasBytes, wide16, wide32, void_law, byte_law, number_law, pair_law, via_law, after_law, ended_law, such_law}
 use Rattle.jformat.proofs.Blocks.{IsBody, sized_law, block_law, counted_law, whole_law, many_law}
 use Rattle.jformat.proofs.Unions.{IsTagged, tag_law, either_law, tagged_law, tagged_some}
-use Rattle.jclass.specs.Class.{u1, u2, u4, EntryParts, entry_cases, entry_of, entry_parts, entry, pool_count, OpParts, op_cases, op_of, op_parts, op, code_length, no_handlers, code_of, code_parts, ops_body, code, code_body, method_flags, one_attribute, method_of, method_parts, method, magic, major, no_interfaces, no_attributes, class_of, class_parts, class_file}
+use Rattle.jform.specs.Class.{u1, u2, u4, EntryParts, entry_cases, entry_of, entry_parts, entry, pool_count, OpParts, op_cases, op_of, op_parts, op, code_length, no_handlers, code_of, code_parts, ops_body, code, code_body, method_flags, one_attribute, method_of, method_parts, method, magic, major, no_interfaces, no_attributes, class_of, class_parts, class_file}
 
 u1_law : IsFormat u1
 u1_law = byte_law Truncated

@@ -2,15 +2,15 @@
 use Rattle.std.specs.Prelude.{ℕ, ◌+◌, ◌-◌, ◌||◌, ◌⊎◌, List, [], ◌∷◌, Some, None, nat_lt, ◌==◌, if◌then◌else◌}
 use Rattle.std.proofs.Common.{inl, inr}
 use Rattle.std.specs.Int.{w16, w32}
-use Rattle.jclass.specs.declared.kind.Kind.{Kind}
-use Rattle.jclass.specs.declared.kind.Kind.TheVariants.{Truncated, Form, Tag, Trailing}
-use Rattle.jclass.specs.declared.class.Entry.{Entry}
-use Rattle.jclass.specs.declared.class.Entry.TheVariants.{Utf8, Class, Str, Method, NameAndType}
-use Rattle.jclass.specs.declared.class.RawOp.{RawOp}
-use Rattle.jclass.specs.declared.class.RawOp.TheVariants as ops
-use Rattle.jclass.specs.declared.class.Code.{Code}
-use Rattle.jclass.specs.declared.class.MethodFile.{MethodFile}
-use Rattle.jclass.specs.declared.class.ClassFile.{ClassFile}
+use Rattle.jform.specs.declared.kind.Kind.{Kind}
+use Rattle.jform.specs.declared.kind.Kind.TheVariants.{Truncated, Form, Tag, Trailing}
+use Rattle.jform.specs.declared.class.Entry.{Entry}
+use Rattle.jform.specs.declared.class.Entry.TheVariants.{Utf8, Class, Str, Method, NameAndType}
+use Rattle.jform.specs.declared.class.RawOp.{RawOp}
+use Rattle.jform.specs.declared.class.RawOp.TheVariants as ops
+use Rattle.jform.specs.declared.class.Code.{Code}
+use Rattle.jform.specs.declared.class.MethodFile.{MethodFile}
+use Rattle.jform.specs.declared.class.ClassFile.{ClassFile}
 use Rattle.jformat.specs.Format.{Format, void, byte, number, ◌·◌, via, after, ended, such}
 use Rattle.jformat.specs.Bodies.{Body, whole, block, sized, counted, many}
 use Rattle.jformat.specs.Tags.{Tagged, tag, ◌∣◌, tagged}

@@ -1,10 +1,10 @@
 ghost use Rattle.std.specs.Prelude.{◌≡◌, IfOk, IsTrue, Ok};
 ghost use Rattle.jbase.specs.Stops.{Gives};
 ghost use Rattle.jformat.specs.Bodies.{whole};
-ghost use Rattle.jclass.specs.declared.class.ClassFile.{ClassFile};
-ghost use Rattle.jclass.specs.declared.kind.Kind.TheVariants.{Trailing};
-ghost use Rattle.jclass.specs.Class.{class_file, code, code_body, code_length, entry, major, method, op, ops_body, pool_count};
-ghost use Rattle.jclass.specs.ClassLaws.{ops_within, code_within};
+ghost use Rattle.jform.specs.declared.class.ClassFile.{ClassFile};
+ghost use Rattle.jform.specs.declared.kind.Kind.TheVariants.{Trailing};
+ghost use Rattle.jform.specs.Class.{class_file, code, code_body, code_length, entry, major, method, op, ops_body, pool_count};
+ghost use Rattle.jform.specs.ClassLaws.{ops_within, code_within};
 
 use crate::class::{ClassFile, Code, Entry, MethodFile, RawOp};
 use crate::kind::Kind;

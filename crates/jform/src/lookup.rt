@@ -1,6 +1,6 @@
 ghost use Rattle.std.specs.Prelude.{◌≡◌, Some};
 ghost use Rattle.std.specs.Option.{option_copied};
-ghost use Rattle.jclass.specs.Forms.{class_at, desc_at, desc_in, entry_at, is_method, is_text, name_at, name_in, owner_at, string_at, text_at, text_in, type_in};
+ghost use Rattle.jform.specs.Forms.{class_at, desc_at, desc_in, entry_at, is_method, is_text, name_at, name_in, owner_at, string_at, text_at, text_in, type_in};
 
 use crate::class::Entry;
 
