@@ -1,5 +1,5 @@
 -- The entries of a constant pool, as they are spelled (JVMS 4.4).
-use Rattle.std.specs.Prelude.{ℕ, ℤ, Bool, true, false, ◌||◌, ◌&&◌, ◌⊎◌, not, ◌-◌, List, [], ◌∷◌, length, Option, Some, None, ◌==◌, if◌then◌else◌}
+use Rattle.std.specs.Prelude.{ℕ, ℤ, Bool, true, false, ◌||◌, ◌&&◌, ◌⊎◌, not, ◌-◌, List, [], ◌∷◌, length, Option, Some, None, nat_lt, ◌==◌, if◌then◌else◌}
 use Rattle.std.proofs.Common.{inl, inr}
 use Rattle.std.specs.Int.{w16, w32, w64}
 use Rattle.jformat.specs.Format.{Answer, Format, fault, byte, number, signed, void, ◌·◌, ◌▹◌, via, as_case}
@@ -86,6 +86,11 @@ entry_parts (InvokeDynamic a b) = Some (inr (inr (inr (inr (inr (inr (inr (inr (
 -- an entry that has a spelling of its own
 unfoldable pub entry : Format PoolKind Entry
 entry = as_case entry_from entry_parts (tagged Truncated (λ _. BadTag) cases)
+
+-- the first byte is above this one
+abbrev pub is_above : ℕ → List ℕ → Bool
+is_above tag [] = false
+is_above tag (b ∷ rest) = nat_lt tag b
 
 -- ---- the entries by their indices
 

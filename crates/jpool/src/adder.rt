@@ -1,4 +1,4 @@
-ghost use Rattle.std.specs.Prelude.{◌≡◌, ◌⊎◌, ◌≤◌, ◌<◌, ◌+◌, ◌++◌, ◌∷◌, [], List, Some, None, IfOk, IsTrue, MatchResult, OnErr, OnOk, length};
+ghost use Rattle.std.specs.Prelude.{◌≡◌, ◌⊎◌, ◌≤◌, ◌<◌, ◌+◌, ◌++◌, ◌∷◌, [], List, Some, None, IfOk, IsTrue, MatchResult, OnErr, OnOk, length, take};
 ghost use Rattle.std.specs.List.{position};
 ghost use Rattle.jpool.specs.declared.adder.AddError.TheVariants.{Memory};
 ghost use Rattle.jpool.specs.declared.entry.Entry.{Entry};
@@ -154,6 +154,8 @@ impl Adder {
         ensures value { MatchResult result (λ i. added e self.old ≡ Some (i, self.new)) (λ x. (x ≡ Memory) ⊎ (added e self.old ≡ None)) }
         // The answer is the first place at which the entry then stands.
         ensures least { IfOk result (λ i. IsLeast e self.new i) }
+        // The entries that were there keep their indices.
+        ensures kept { OnOk result (take (length self.old) self.new ≡ self.old) }
         ensures err { OnErr result (self.new ≡ self.old) }
     {
         let text = spelled(self.alloc, &e)?;
@@ -171,6 +173,7 @@ impl Adder {
         requires absent { position (same e) self.old ≡ None }
         ensures value { MatchResult result (λ i. put_behind e self.old ≡ Some (i, self.new)) (λ x. (x ≡ Memory) ⊎ (put_behind e self.old ≡ None)) }
         ensures least { IfOk result (λ i. IsLeast e self.new i) }
+        ensures kept { OnOk result (take (length self.old) self.new ≡ self.old) }
         ensures err { OnErr result (self.new ≡ self.old) }
     {
         let i = self.pool.entries().len();

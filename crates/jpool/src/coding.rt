@@ -1,7 +1,7 @@
 ghost use Rattle.std.specs.Prelude.{◌≡◌, ◌≤◌, ◌∷◌, ◌++◌, IsTrue, OnOk, length};
 ghost use Rattle.jbase.specs.Stops.{Gives};
 ghost use Rattle.jpool.specs.Adding.{has_spelling};
-ghost use Rattle.jpool.specs.Entries.{entry, handle, i8, text as text_format, two, u2, u4, u8 as u8_format};
+ghost use Rattle.jpool.specs.Entries.{entry, handle, i8, is_above, text as text_format, two, u2, u4, u8 as u8_format};
 
 use crate::entry::Entry;
 use crate::kind::PoolKind;
@@ -26,6 +26,61 @@ fn two_of(bytes: &[u8]) -> Result<((u16, u16), &[u8]), ReadError<PoolKind>>
     let (one, rest) = u16_of(Truncated, bytes)?;
     let (other, rest) = u16_of(Truncated, rest)?;
     Ok(((one, other), rest))
+}
+
+fn handle_of(bytes: &[u8]) -> Result<((u8, u16), &[u8]), ReadError<PoolKind>>
+    ensures { Gives (λ x. (x.0, x.1.now)) result (handle.read bytes.now) }
+{
+    let (kind, rest) = u8_of(Truncated, bytes)?;
+    let (member, rest) = u16_of(Truncated, rest)?;
+    Ok(((kind, member), rest))
+}
+
+/// An entry that names others, and the bytes behind it.
+#[tactic(auto, unfolding(crate::specs::Entries::entry))]
+fn reference_of(bytes: &[u8]) -> Result<(Entry, &[u8]), ReadError<PoolKind>>
+    requires { IsTrue (is_above 6 bytes.now) }
+    ensures { Gives (λ x. (x.0, x.1.now)) result (entry.read bytes.now) }
+{
+    match bytes {
+        [7, rest @ ..] => {
+            let (name, rest) = u16_of(Truncated, rest)?;
+            Ok((Entry::Class(name), rest))
+        }
+        [8, rest @ ..] => {
+            let (text, rest) = u16_of(Truncated, rest)?;
+            Ok((Entry::Str(text), rest))
+        }
+        [9, rest @ ..] => {
+            let ((class, both), rest) = two_of(rest)?;
+            Ok((Entry::Field(class, both), rest))
+        }
+        [10, rest @ ..] => {
+            let ((class, both), rest) = two_of(rest)?;
+            Ok((Entry::Method(class, both), rest))
+        }
+        [11, rest @ ..] => {
+            let ((class, both), rest) = two_of(rest)?;
+            Ok((Entry::InterfaceMethod(class, both), rest))
+        }
+        [12, rest @ ..] => {
+            let ((name, descriptor), rest) = two_of(rest)?;
+            Ok((Entry::NameAndType(name, descriptor), rest))
+        }
+        [15, rest @ ..] => {
+            let ((kind, member), rest) = handle_of(rest)?;
+            Ok((Entry::MethodHandle(kind, member), rest))
+        }
+        [16, rest @ ..] => {
+            let (descriptor, rest) = u16_of(Truncated, rest)?;
+            Ok((Entry::MethodType(descriptor), rest))
+        }
+        [18, rest @ ..] => {
+            let ((bootstrap, both), rest) = two_of(rest)?;
+            Ok((Entry::InvokeDynamic(bootstrap, both), rest))
+        }
+        _ => Err(fault(BadTag, bytes)),
+    }
 }
 
 /// An entry that has a spelling of its own, and the bytes behind it.
@@ -55,44 +110,8 @@ pub fn entry_of(alloc: Global, bytes: &[u8]) -> Result<(Entry, &[u8]), ReadError
             let (n, rest) = u64_of(Truncated, rest)?;
             Ok((Entry::Double(n), rest))
         }
-        [7, rest @ ..] => {
-            let (name, rest) = u16_of(Truncated, rest)?;
-            Ok((Entry::Class(name), rest))
-        }
-        [8, rest @ ..] => {
-            let (text, rest) = u16_of(Truncated, rest)?;
-            Ok((Entry::Str(text), rest))
-        }
-        [9, rest @ ..] => {
-            let ((class, both), rest) = two_of(rest)?;
-            Ok((Entry::Field(class, both), rest))
-        }
-        [10, rest @ ..] => {
-            let ((class, both), rest) = two_of(rest)?;
-            Ok((Entry::Method(class, both), rest))
-        }
-        [11, rest @ ..] => {
-            let ((class, both), rest) = two_of(rest)?;
-            Ok((Entry::InterfaceMethod(class, both), rest))
-        }
-        [12, rest @ ..] => {
-            let ((name, descriptor), rest) = two_of(rest)?;
-            Ok((Entry::NameAndType(name, descriptor), rest))
-        }
-        [15, rest @ ..] => {
-            let (kind, rest) = u8_of(Truncated, rest)?;
-            let (member, rest) = u16_of(Truncated, rest)?;
-            Ok((Entry::MethodHandle(kind, member), rest))
-        }
-        [16, rest @ ..] => {
-            let (descriptor, rest) = u16_of(Truncated, rest)?;
-            Ok((Entry::MethodType(descriptor), rest))
-        }
-        [18, rest @ ..] => {
-            let ((bootstrap, both), rest) = two_of(rest)?;
-            Ok((Entry::InvokeDynamic(bootstrap, both), rest))
-        }
-        [_, ..] => Err(fault(BadTag, bytes)),
+        [7..=255, ..] => reference_of(bytes),
+        [0 | 2, ..] => Err(fault(BadTag, bytes)),
     }
 }
 
