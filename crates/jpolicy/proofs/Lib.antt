@@ -1,3 +1,8 @@
+pub mod Constructs
 pub mod FirstTest
+pub mod Fronts
+pub mod Grounds
+pub mod Laws
 pub mod Places
+pub mod Sound
 pub mod Walking

@@ -1,5 +1,6 @@
 pub mod Characters
 pub mod Expansion
+pub mod Grammar
 pub mod Policies
 pub mod Productions
 pub mod Strings

@@ -239,10 +239,15 @@ grant_at properties ts =
 abbrev pub another_at : Properties → List Placed → Answer (Unit {0})
 another_at properties ts = if next (is_mark (byte ",")) ts then (text_at properties (behind ts) >>= λ t. Ok (tt, t.1)) else Ok (tt, ts)
 
+-- optionally a comma and a string, and another one behind it
+abbrev pub others_at : Properties → List Placed → Answer (Unit {0})
+others_at properties ts =
+    if next (is_mark (byte ",")) ts then (text_at properties (behind ts) >>= λ t. another_at properties t.1) else Ok (tt, ts)
+
 -- `keystore` string, up to two more strings, `;`
 unfoldable pub keystore_at : Properties → List Placed → Answer (Unit {0})
 keystore_at properties ts =
-    keyword_at keywords.Keystore ts >>= λ k. text_at properties k.1 >>= λ t. another_at properties t.1 >>= λ u. another_at properties u.1 >>= λ v. mark_at (byte ";") v.1
+    keyword_at keywords.Keystore ts >>= λ k. text_at properties k.1 >>= λ t. others_at properties t.1 >>= λ u. mark_at (byte ";") u.1
 
 -- `keystorePasswordURL` string `;`
 unfoldable pub password_at : Properties → List Placed → Answer (Unit {0})

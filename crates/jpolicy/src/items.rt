@@ -1,6 +1,6 @@
 ghost use Rattle.std.specs.Prelude.{◌≡◌};
 ghost use Rattle.jbase.specs.Stops.{Gives};
-ghost use Rattle.jpolicy.specs.Productions.{another_at, grant_at, grant_of, keystore_at, no_tokens, one_item, one_more_grant, password_at, policy_at};
+ghost use Rattle.jpolicy.specs.Productions.{another_at, grant_at, grant_of, keystore_at, no_tokens, one_item, one_more_grant, others_at, password_at, policy_at};
 
 use crate::clauses::{Clauses, clauses_of};
 use crate::entry::entries_of;
@@ -66,6 +66,21 @@ fn another_of<'a>(
     Ok(tokens)
 }
 
+/// What is behind a comma and a string, and another one behind it, if they stand there.
+fn others_of<'a>(
+    alloc: Global,
+    properties: &[(Units, Units)],
+    tokens: &'a [Placed],
+) -> Result<&'a [Placed], ReadError<PolicyKind>>
+    ensures { Gives (λ x. (tt, x.now)) result (others_at properties.now tokens.now) }
+{
+    if next_is(',', tokens) {
+        let (_, rest) = text_of(alloc, properties, behind(tokens))?;
+        return another_of(alloc, properties, rest);
+    }
+    Ok(tokens)
+}
+
 /// What is behind a keystore.
 #[tactic(auto, unfolding(crate::specs::Productions::keystore_at))]
 fn behind_keystore<'a>(
@@ -77,8 +92,7 @@ fn behind_keystore<'a>(
 {
     let rest = keyword_of(Keyword::Keystore, tokens)?;
     let (_, rest) = text_of(alloc, properties, rest)?;
-    let rest = another_of(alloc, properties, rest)?;
-    let rest = another_of(alloc, properties, rest)?;
+    let rest = others_of(alloc, properties, rest)?;
     let rest = mark_of(';', rest)?;
     Ok(rest)
 }

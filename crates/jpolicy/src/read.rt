@@ -1,6 +1,7 @@
-ghost use Rattle.std.specs.Prelude.{◌≡◌, ◌≤◌, IfOk, length};
+ghost use Rattle.std.specs.Prelude.{◌≡◌, ◌≤◌, List, IfOk, Ok, length};
 ghost use Rattle.std.specs.Str.{chars, encode_utf8_all};
-ghost use Rattle.jpolicy.specs.Policies.{PolicyGives, place_of, policy, policy_in};
+ghost use Rattle.jpolicy.specs.declared.grant.Grant.{Grant};
+ghost use Rattle.jpolicy.specs.Policies.{IsPolicy, PolicyGives, place_of, policy, policy_in};
 
 use crate::fault::{PolicyError, PolicyKind};
 use crate::grant::Policy;
@@ -51,6 +52,23 @@ fn policy_in(
     }
 }
 
+fn policy_of(
+    alloc: Global,
+    bytes: &[u8],
+    properties: &[(Units, Units)],
+) -> Result<Policy, PolicyError>
+    requires { length bytes.now ≤ 2147483647 }
+    ensures { PolicyGives result (policy properties.now bytes.now) }
+{
+    match str::from_utf8(bytes) {
+        Ok(text) => policy_in(alloc, text, properties),
+        Err(found) => Err(PolicyError::At {
+            at: found.valid_up_to() as u32,
+            kind: PolicyKind::NotUtf8,
+        }),
+    }
+}
+
 /// The grants of a policy file, of at most 2,147,483,647 bytes, with the strings expanded by the properties (policy file documentation).
 pub fn read_policy(
     alloc: Global,
@@ -58,13 +76,12 @@ pub fn read_policy(
     props: &[(Units, Units)],
 ) -> Result<Policy, PolicyError>
     requires { length bytes.now ≤ 2147483647 }
-    ensures { PolicyGives result (policy props.now bytes.now) }
+    // What is read is derived by the grammar.
+    ensures found { IfOk result (λ grants. IsPolicy props.now bytes.now grants) }
+    // What the grammar derives is read, unless memory runs out.
+    ensures only { (grants : List Grant) → IsPolicy props.now bytes.now grants → PolicyGives result (Ok grants) }
+    // Which fault it is: the first ill-formed group of bytes, else the first token that isn't allowed.
+    ensures exact { PolicyGives result (policy props.now bytes.now) }
 {
-    match str::from_utf8(bytes) {
-        Ok(text) => policy_in(alloc, text, props),
-        Err(found) => Err(PolicyError::At {
-            at: found.valid_up_to() as u32,
-            kind: PolicyKind::NotUtf8,
-        }),
-    }
+    policy_of(alloc, bytes, props)
 }

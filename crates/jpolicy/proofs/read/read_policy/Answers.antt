@@ -1,9 +1,9 @@
-use Rattle.std.proofs.Common.{◌∙◌}
-use Rattle.jpolicy.proofs.FirstTest.{policy_of_text, policy_of_none}
+use Rattle.jpolicy.proofs.Grounds.{found_so, only_so}
 use Rattle.jpolicy.proofs.read.read_policy.Goals as goal
 
-pub returns-in-Ok : goal.returns-in-Ok
-returns-in-Ok c = policy_of_text c.args.props.now c.args.bytes.now c.in-Ok.text.now c.policy_in.result c.in-Ok.ensures.cases.0 c.in-Ok.ensures.cases.1 c.policy_in.ensures
-
-pub returns-in-Err : goal.returns-in-Err
-returns-in-Err c = policy_of_none c.args.props.now c.args.bytes.now c.valid_up_to.result c.in-Err.ensures.cases.0 (c.valid_up_to.ensures ∙ c.in-Err.ensures.valid_len)
+pub returns : goal.returns
+returns c = record {
+  found = found_so c.args.props.now c.args.bytes.now c.policy_of.result c.policy_of.ensures;
+  only = only_so c.args.props.now c.args.bytes.now c.policy_of.result c.policy_of.ensures;
+  exact = c.policy_of.ensures;
+}
