@@ -39,7 +39,7 @@ use Rattle.jcode.specs.declared.head.OtherHead.{OtherHead}
 use Rattle.jcode.specs.declared.head.OtherHead.TheVariants as other
 use Rattle.jcode.specs.Opcodes.{head_number, head_at}
 use Rattle.jcode.specs.Operands.{OtherOperand, Operand, other_operands, operands}
-use Rattle.jcode.specs.Instructions.{other_op, op_from, op_head, op_operand, at_front, read_as, read_other, read_behind, behind_head, instruction_at, instruction, size, placed_at, op_at, placed, place_behind, instructions, leads, lost, first_lost, none_lost, code}
+use Rattle.jcode.specs.Instructions.{other_op, op_from, op_head, op_operand, behind, behind_fits, at_front, read_as, read_other, read_behind, behind_head, instruction_at, instruction, size, placed_at, op_at, placed, place_behind, instructions, leads, lost, first_lost, none_lost, code}
 use Rattle.jcode.proofs.OpcodeLaws.{number_of_head, head_of_number}
 use Rattle.jcode.proofs.OperandLaws.{operands_law}
 
@@ -153,6 +153,52 @@ op_forth (ops.Object op) = refl
 op_forth (ops.Cast op n) = refl
 op_forth (ops.Wide w) = refl
 
+-- what stands behind an opcode is the spelling of its operands
+spells : (at : ℕ) (op : Op) → ◌≡◌ {A = List ℕ × Bool} (behind at op, behind_fits at op) ((operands at (op_head op)).spell (op_operand op), (operands at (op_head op)).fits (op_operand op))
+spells at ops.Nop = refl
+spells at ops.AconstNull = refl
+spells at (ops.IntConst (consts.Small n)) = refl
+spells at (ops.IntConst (consts.Byte n)) = refl
+spells at (ops.IntConst (consts.Short n)) = refl
+spells at (ops.LongConst n) = refl
+spells at (ops.Ldc (ldcs.Narrow n)) = refl
+spells at (ops.Ldc (ldcs.Wide n)) = refl
+spells at (ops.Ldc2 n) = refl
+spells at (ops.IntLocal (locals.At access n)) = refl
+spells at (ops.IntLocal (locals.Slot access slot)) = refl
+spells at (ops.LongLocal (locals.At access n)) = refl
+spells at (ops.LongLocal (locals.Slot access slot)) = refl
+spells at (ops.RefLocal (locals.At access n)) = refl
+spells at (ops.RefLocal (locals.Slot access slot)) = refl
+spells at (ops.ArrayLoad element) = refl
+spells at (ops.ArrayStore element) = refl
+spells at (ops.Stack op) = refl
+spells at (ops.IntMath op) = refl
+spells at (ops.LongMath op) = refl
+spells at (ops.Neg kind) = refl
+spells at (ops.Shift kind op) = refl
+spells at (ops.Logic kind op) = refl
+spells at (ops.Iinc n by) = refl
+spells at (ops.Convert op) = refl
+spells at ops.Lcmp = refl
+spells at (ops.If test by) = refl
+spells at (ops.IfInt test by) = refl
+spells at (ops.IfRef test by) = refl
+spells at (ops.Goto (gotos.Narrow by)) = refl
+spells at (ops.Goto (gotos.Wide by)) = refl
+spells at (ops.Switch (switches.Table s)) = refl
+spells at (ops.Switch (switches.Lookup s)) = refl
+spells at (ops.Return kind) = refl
+spells at (ops.Field op n) = refl
+spells at (ops.Call op n) = refl
+spells at (ops.CallInterface n slots) = refl
+spells at (ops.New (news.Object n)) = refl
+spells at (ops.New (news.Array element)) = refl
+spells at (ops.New (news.RefArray n)) = refl
+spells at (ops.Object op) = refl
+spells at (ops.Cast op n) = refl
+spells at (ops.Wide w) = refl
+
 -- ---- an instruction
 
 reads_other : (at : ℕ) (h : OtherHead) (rest : List ℕ) → read_other at h rest ≡ read_as (other_operands at h) (other_op h) rest
@@ -189,8 +235,10 @@ head_takes at t rest x (Ok h) is fits e =
     let s = (operands_law at h).takes rest a.0 fits a.1 in
     let made : Op × List ℕ = (op_from h a.0.0, a.0.1) in
     let spelled : (instruction at).spell made.0 ≡ t ∷ (operands at h).spell a.0.0 =
-    ap (λ (p : Pair). head_number p.0 ∷ (operands at p.0).spell p.1) (op_back h a.0.0) ∙ ap (λ (n : ℕ). n ∷ (operands at h).spell a.0.0) (number_of_head t h is) in
-    let fitting : (instruction at).fits made.0 ≡ (operands at h).fits a.0.0 = ap (λ (p : Pair). (operands at p.0).fits p.1) (op_back h a.0.0) in
+    ap (λ (y : List ℕ × Bool). head_number (op_head made.0) ∷ y.0) (spells at made.0)
+    ∙ ap (λ (p : Pair). head_number p.0 ∷ (operands at p.0).spell p.1) (op_back h a.0.0) ∙ ap (λ (n : ℕ). n ∷ (operands at h).spell a.0.0) (number_of_head t h is) in
+    let fitting : (instruction at).fits made.0 ≡ (operands at h).fits a.0.0 =
+    ap (λ (y : List ℕ × Bool). y.1) (spells at made.0) ∙ ap (λ (p : Pair). (operands at p.0).fits p.1) (op_back h a.0.0) in
     let all : Takes (instruction at).spell (instruction at).fits (t ∷ rest) made = record {
       parts = ap (λ (r : List ℕ). t ∷ r) s.parts ∙ ap (λ (r : List ℕ). r ++ made.1) (sym spelled);
       rest_fits = s.rest_fits;
@@ -205,9 +253,11 @@ instruction_takes at (t ∷ rest) x fits e = head_takes at t rest x (head_at t) 
 instruction_again : (at : ℕ) (op : Op) (rest : List ℕ) → IsTrue ((instruction at).fits op) → instruction_at at ((instruction at).spell op ++ rest) ≡ Ok (op, rest)
 unfolding instruction
 instruction_again at op rest fit =
-    let one = (operands_law at (op_head op)).again (op_operand op) rest fit in
+    let fit' : IsTrue ((operands at (op_head op)).fits (op_operand op)) = sym (ap (λ (y : List ℕ × Bool). y.1) (spells at op)) ∙ fit in
+    let spelled : behind at op ≡ (operands at (op_head op)).spell (op_operand op) = ap (λ (y : List ℕ × Bool). y.0) (spells at op) in
+    let one = (operands_law at (op_head op)).again (op_operand op) rest fit' in
     let named = head_of_number (op_head op) in
-    rw (named, reads at (op_head op) ((operands at (op_head op)).spell (op_operand op) ++ rest), one) (ap (λ (o : Op). Ok (o, rest)) (op_forth op))
+    rw (named, spelled, reads at (op_head op) ((operands at (op_head op)).spell (op_operand op) ++ rest), one) (ap (λ (o : Op). Ok (o, rest)) (op_forth op))
 
 instruction_within : (at : ℕ) (bytes : List ℕ) (d : Fault CodeKind) → instruction_at at bytes ≡ Err d → d.left ≤ length bytes
 instruction_within at [] d e = fault_within Truncated [] [] d (omega arith) cc

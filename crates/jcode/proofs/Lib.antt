@@ -1,5 +1,6 @@
 pub mod CodeLaws
 pub mod OpcodeLaws
 pub mod OperandLaws
+pub mod Places
 pub mod Stopping
 pub mod Tabled

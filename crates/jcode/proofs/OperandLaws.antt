@@ -81,6 +81,7 @@ nils_law zero = void_law
 nils_law (suc n) = via_law (λ _. tt) (λ _. (tt, tt)) (nil · nils n) (λ p fit. refl) (λ u fit. refl) (pair_law nil (nils n) nil_law (nils_law n))
 
 bounded_law : IsFormat bounded
+unfolding bounded
 bounded_law = then_law bounds (λ b. counted (known (span b.0 b.1)) i4) (such_law (λ b. fault_if _ BadOperand) (i4 · i4) (pair_law i4 i4 i4_law i4_law)) (λ b. counted_law (known (span b.0 b.1)) i4 (known_law (span b.0 b.1)) i4_law)
 
 table_law : (at : ℕ) → IsFormat (table_switch at)

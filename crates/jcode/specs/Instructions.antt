@@ -1,5 +1,5 @@
 -- Instructions, and code: instructions one behind the other (JVMS 4.7.3, 6.5).
-use Rattle.std.specs.Prelude.{◌≡◌, ℕ, ◌+◌, ◌-◌, ◌<◌, ◌≤◌, ◌==◌, ℤ, pos, ◌+ℤ◌, Bool, true, false, ◌&&◌, if◌then◌else◌, map, List, [], ◌∷◌, ◌++◌, length, get_or, Option, Some, None, Result, Ok, Err}
+use Rattle.std.specs.Prelude.{◌≡◌, ℕ, ◌+◌, ◌-◌, ◌<◌, ◌≤◌, ◌==◌, ℤ, pos, ◌+ℤ◌, Bool, true, false, ◌&&◌, if◌then◌else◌, List, [], ◌∷◌, ◌++◌, length, get_or, Option, Some, None, Result, Ok, Err}
 use Rattle.std.specs.List.{list_all, list_any}
 use Rattle.std.specs.Ordering.{int_eq}
 use Rattle.jbase.specs.Stops.{◌>>=◌}
@@ -25,7 +25,6 @@ use Rattle.jcode.specs.declared.op.Goto.TheVariants as gotos
 use Rattle.jcode.specs.declared.op.NewOp.TheVariants as news
 use Rattle.jcode.specs.declared.op.Switch.{Switch}
 use Rattle.jcode.specs.declared.op.Switch.TheVariants as switches
-use Rattle.jcode.specs.declared.op.Case.{Case}
 use Rattle.jcode.specs.declared.op.Placed.{Placed}
 use Rattle.jcode.specs.declared.head.Head.{Head}
 use Rattle.jcode.specs.declared.head.Head.TheVariants as heads
@@ -40,7 +39,7 @@ use Rattle.jcode.specs.declared.head.BranchHead.TheVariants as branch
 use Rattle.jcode.specs.declared.head.OtherHead.{OtherHead}
 use Rattle.jcode.specs.declared.head.OtherHead.TheVariants as other
 use Rattle.jcode.specs.Opcodes.{head_number, head_at}
-use Rattle.jcode.specs.Operands.{u1, u2, i1, i2, i4, table_switch, lookup_switch, interface_call, array_type, wide, OtherOperand, Operand, operands}
+use Rattle.jcode.specs.Operands.{u1, u2, i1, i2, i4, table_switch, lookup_switch, interface_call, array_type, wide, OtherOperand, Operand}
 
 -- ---- an instruction as an opcode and its operands
 
@@ -184,6 +183,62 @@ op_operand (ops.Cast op n) = n
 op_operand (ops.Wide w) = w
 op_operand _ = tt
 
+-- what stands behind the opcode of an instruction at a place
+abbrev pub behind : ℕ → Op → List ℕ
+behind at (ops.IntConst (consts.Byte n)) = i1.spell n
+behind at (ops.IntConst (consts.Short n)) = i2.spell n
+behind at (ops.Ldc (ldcs.Narrow n)) = u1.spell n
+behind at (ops.Ldc (ldcs.Wide n)) = u2.spell n
+behind at (ops.Ldc2 n) = u2.spell n
+behind at (ops.IntLocal (locals.At access n)) = u1.spell n
+behind at (ops.LongLocal (locals.At access n)) = u1.spell n
+behind at (ops.RefLocal (locals.At access n)) = u1.spell n
+behind at (ops.Iinc n by) = (u1 · i1).spell (n, by)
+behind at (ops.If test by) = i2.spell by
+behind at (ops.IfInt test by) = i2.spell by
+behind at (ops.IfRef test by) = i2.spell by
+behind at (ops.Goto (gotos.Narrow by)) = i2.spell by
+behind at (ops.Goto (gotos.Wide by)) = i4.spell by
+behind at (ops.Switch (switches.Table s)) = (table_switch at).spell s
+behind at (ops.Switch (switches.Lookup s)) = (lookup_switch at).spell s
+behind at (ops.Field op n) = u2.spell n
+behind at (ops.Call op n) = u2.spell n
+behind at (ops.CallInterface n slots) = interface_call.spell (n, slots)
+behind at (ops.New (news.Object n)) = u2.spell n
+behind at (ops.New (news.Array element)) = array_type.spell element
+behind at (ops.New (news.RefArray n)) = u2.spell n
+behind at (ops.Cast op n) = u2.spell n
+behind at (ops.Wide w) = wide.spell w
+behind at _ = []
+
+-- the operands have a spelling
+abbrev pub behind_fits : ℕ → Op → Bool
+behind_fits at (ops.IntConst (consts.Byte n)) = i1.fits n
+behind_fits at (ops.IntConst (consts.Short n)) = i2.fits n
+behind_fits at (ops.Ldc (ldcs.Narrow n)) = u1.fits n
+behind_fits at (ops.Ldc (ldcs.Wide n)) = u2.fits n
+behind_fits at (ops.Ldc2 n) = u2.fits n
+behind_fits at (ops.IntLocal (locals.At access n)) = u1.fits n
+behind_fits at (ops.LongLocal (locals.At access n)) = u1.fits n
+behind_fits at (ops.RefLocal (locals.At access n)) = u1.fits n
+behind_fits at (ops.Iinc n by) = (u1 · i1).fits (n, by)
+behind_fits at (ops.If test by) = i2.fits by
+behind_fits at (ops.IfInt test by) = i2.fits by
+behind_fits at (ops.IfRef test by) = i2.fits by
+behind_fits at (ops.Goto (gotos.Narrow by)) = i2.fits by
+behind_fits at (ops.Goto (gotos.Wide by)) = i4.fits by
+behind_fits at (ops.Switch (switches.Table s)) = (table_switch at).fits s
+behind_fits at (ops.Switch (switches.Lookup s)) = (lookup_switch at).fits s
+behind_fits at (ops.Field op n) = u2.fits n
+behind_fits at (ops.Call op n) = u2.fits n
+behind_fits at (ops.CallInterface n slots) = interface_call.fits (n, slots)
+behind_fits at (ops.New (news.Object n)) = u2.fits n
+behind_fits at (ops.New (news.Array element)) = array_type.fits element
+behind_fits at (ops.New (news.RefArray n)) = u2.fits n
+behind_fits at (ops.Cast op n) = u2.fits n
+behind_fits at (ops.Wide w) = wide.fits w
+behind_fits at _ = true
+
 -- ---- an instruction at a place
 
 -- a fault is named at the instruction's first byte
@@ -224,8 +279,8 @@ instruction_at at (t ∷ rest) = at_front (t ∷ rest) (behind_head at rest (hea
 -- the opcode's byte, and behind it the operands
 unfoldable pub instruction : ℕ → Format CodeKind Op
 instruction at = record {
-  spell = λ op. head_number (op_head op) ∷ (operands at (op_head op)).spell (op_operand op);
-  fits = λ op. (operands at (op_head op)).fits (op_operand op);
+  spell = λ op. head_number (op_head op) ∷ behind at op;
+  fits = behind_fits at;
   read = instruction_at at;
 }
 
@@ -254,27 +309,30 @@ instructions = many_by Truncated placed place_behind 0
 
 -- ---- branches
 
-abbrev pub switch_branches : Switch → List ℤ
-switch_branches (switches.Table s) = s.default ∷ s.branches
-switch_branches (switches.Lookup s) = s.default ∷ map (λ c. c.branch) s.cases
-
--- how far the branches of an instruction lead from its place
-abbrev pub branches : Op → List ℤ
-branches (ops.If test by) = by ∷ []
-branches (ops.IfInt test by) = by ∷ []
-branches (ops.IfRef test by) = by ∷ []
-branches (ops.Goto (gotos.Narrow by)) = by ∷ []
-branches (ops.Goto (gotos.Wide by)) = by ∷ []
-branches (ops.Switch s) = switch_branches s
-branches _ = []
-
 -- an instruction stands at this place
 abbrev pub is_place : List Placed → ℤ → Bool
 is_place ps target = list_any (λ p. int_eq (pos p.at) target) ps
 
+-- a branch from a place leads to an instruction
+abbrev pub lands : List Placed → ℕ → ℤ → Bool
+lands ps at by = is_place ps (pos at +ℤ by)
+
+abbrev pub switch_leads : List Placed → ℕ → Switch → Bool
+switch_leads ps at (switches.Table s) = lands ps at s.default && list_all (lands ps at) s.branches
+switch_leads ps at (switches.Lookup s) = lands ps at s.default && list_all (λ c. lands ps at c.branch) s.cases
+
+abbrev pub op_leads : List Placed → ℕ → Op → Bool
+op_leads ps at (ops.If test by) = lands ps at by
+op_leads ps at (ops.IfInt test by) = lands ps at by
+op_leads ps at (ops.IfRef test by) = lands ps at by
+op_leads ps at (ops.Goto (gotos.Narrow by)) = lands ps at by
+op_leads ps at (ops.Goto (gotos.Wide by)) = lands ps at by
+op_leads ps at (ops.Switch s) = switch_leads ps at s
+op_leads ps at _ = true
+
 -- each branch of an instruction leads to an instruction
 abbrev pub leads : List Placed → Placed → Bool
-leads ps p = list_all (λ by. is_place ps (pos p.at +ℤ by)) (branches p.op)
+leads ps p = op_leads ps p.at p.op
 
 abbrev pub lost : List Placed → Placed → Option ℕ
 lost ps p = if leads ps p then None else Some p.at

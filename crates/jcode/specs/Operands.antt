@@ -75,7 +75,7 @@ abbrev pub span : ℤ → ℤ → ℕ
 span low high = unsigned_abs (high -ℤ low) + 1
 
 -- the bounds, and a branch for each int from the least to the greatest
-abbrev pub bounded : Format CodeKind ((ℤ × ℤ) × List ℤ)
+unfoldable pub bounded : Format CodeKind ((ℤ × ℤ) × List ℤ)
 bounded = bounds ▹ λ b. counted (known (span b.0 b.1)) i4
 
 abbrev pub table_from : Unit {0} × (ℤ × ((ℤ × ℤ) × List ℤ)) → TableSwitch

@@ -1,16 +1,21 @@
 //! Instructions of methods: how code is read into them, and how they are written.
 #![tactic(auto)]
 
+mod branches;
+mod coding;
 mod head;
 mod kind;
 mod names;
 mod op;
+mod opcode;
 mod operands;
 mod read;
 mod table;
 #[cfg(test)]
 mod tests;
+mod write;
 
+pub use coding::{decode, encode};
 pub use kind::{CodeError, CodeKind};
 pub use names::{
     Access, ArrayType, CallOp, CastOp, Condition, ConvertOp, Element, FieldOp, LocalKind, LogicOp,
@@ -20,4 +25,3 @@ pub use op::{
     Case, Goto, Handler, IntConst, Ldc, LocalOp, LookupSwitch, NewOp, Op, Placed, Switch,
     TableSwitch, Wide,
 };
-pub use read::op_of;

@@ -80,6 +80,7 @@ impl Reader for Branches {
 }
 
 /// The least and the greatest int of a table, and its branches.
+#[tactic(auto, unfolding(crate::specs::Operands::bounded))]
 fn bounded_of(
     alloc: Global,
     bytes: &[u8],

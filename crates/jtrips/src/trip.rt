@@ -1,5 +1,5 @@
-use hex::decode;
 use jbase::Seq;
+use jcode::{decode, encode};
 use jmaps::{put_frames, read_maps};
 use jpool::{read_pool, write_pool};
 use std::alloc::{AllocError, Global};
@@ -11,6 +11,8 @@ pub enum Part {
     Pool,
     /// The content of a StackMapTable attribute (JVMS 4.7.4).
     Maps,
+    /// The instructions of a Code attribute (JVMS 4.7.3).
+    Code,
 }
 
 /// The part that a line has, and its bytes as hexadecimal text.
@@ -19,6 +21,7 @@ pub fn part_of(line: &str) -> Option<(Part, &str)> {
     match kind {
         "pool" => Some((Part::Pool, digits)),
         "maps" => Some((Part::Maps, digits)),
+        "code" => Some((Part::Code, digits)),
         _ => None,
     }
 }
@@ -45,13 +48,23 @@ fn maps_come_back(alloc: Global, bytes: &[u8]) -> Result<bool, AllocError> {
     Ok(written.as_slice() == bytes)
 }
 
+/// Whether the bytes are instructions that are written as they were read.
+fn code_comes_back(alloc: Global, bytes: &[u8]) -> Result<bool, AllocError> {
+    let Ok(ops) = decode(alloc, bytes) else {
+        return Ok(false);
+    };
+    let written = encode(alloc, &ops)?;
+    Ok(written.as_slice() == bytes)
+}
+
 /// Whether a part is written byte for byte as it was read. What can't be read doesn't come back.
 pub fn comes_back(alloc: Global, part: Part, digits: &str) -> Result<bool, AllocError> {
-    let Ok(bytes) = decode(alloc, digits) else {
+    let Ok(bytes) = hex::decode(alloc, digits) else {
         return Ok(false);
     };
     match part {
         Part::Pool => pool_comes_back(alloc, &bytes),
         Part::Maps => maps_come_back(alloc, &bytes),
+        Part::Code => code_comes_back(alloc, &bytes),
     }
 }

@@ -2,10 +2,12 @@ use Rattle.std.proofs.Common.{rules, w32, Ok}
 use Rattle.std.proofs.lemmas.Int.{to_z-of_z}
 use Rattle.std.proofs.lemmas.Result.{err_from_is_err_and}
 use mir.Val.{SFits}
+use Rattle.jcode.specs.Operands.{bounded}
 use Rattle.jcode.proofs.Stopping.{fails_on}
 use Rattle.jcode.proofs.operands.bounded_of.Goals as goal
 
 pub returns-in_err-branches : goal.returns-in_err-branches
+unfolding bounded
 returns-in_err-branches c =
     let p = err_from_is_err_and c.from_residual-in_err-branches.result c.from_residual-in_err-branches.ensures.1 in
     let low : SFits w32 c.in_ok-low.low = search rules in

@@ -1,0 +1,102 @@
+ghost use Rattle.std.specs.Prelude.{◌≡◌, ◌<◌, ◌^◌, IfOk, IsTrue, List, Ok, length};
+ghost use Rattle.jbase.specs.Stops.{Gives};
+ghost use Rattle.jcode.specs.declared.op.Placed.{Placed};
+ghost use Rattle.jcode.specs.Instructions.{GivesAt, code, instruction, instructions};
+
+use crate::branches::first_lost;
+use crate::kind::{CodeError, CodeKind};
+use crate::op::Placed;
+use crate::read::op_of;
+use crate::write::put_op;
+use jbase::{Seq, Stop};
+use jformat::{ReadError, Writer, fault, put_each};
+use std::alloc::{AllocError, Global};
+
+/// Instructions one behind the other, up to the end of the bytes.
+fn ops_of(alloc: Global, bytes: &[u8]) -> Result<Seq<Placed>, ReadError<CodeKind>>
+    requires { length bytes.now < 2 ^ 32 }
+    ensures { Gives (λ ops. ops) result (instructions.read bytes.now) }
+{
+    let mut ops = Seq::new(alloc);
+    let mut rest = bytes;
+    for _ in 0..bytes.len() {
+        if rest.is_empty() {
+            return Ok(ops);
+        }
+        let at = (bytes.len() - rest.len()) as u32;
+        let (op, after) = op_of(alloc, at, rest)?;
+        ops.push(Placed { at, op })?;
+        rest = after;
+    }
+    if rest.is_empty() {
+        return Ok(ops);
+    }
+    Err(fault(CodeKind::Truncated, rest))
+}
+
+fn code_of(alloc: Global, bytes: &[u8]) -> Result<Seq<Placed>, CodeError>
+    ensures { GivesAt (λ ops. ops) bytes.now result (code.read bytes.now) }
+{
+    if bytes.len() > u32::MAX as usize {
+        return Err(CodeError::Memory);
+    }
+    match ops_of(alloc, bytes) {
+        Ok(ops) => match first_lost(ops.as_slice()) {
+            None => Ok(ops),
+            Some(at) => Err(CodeError::At {
+                at,
+                kind: CodeKind::BadTarget,
+            }),
+        },
+        Err(Stop::Memory) => Err(CodeError::Memory),
+        Err(Stop::Fault(found)) => Err(CodeError::At {
+            at: (bytes.len() - found.left) as u32,
+            kind: found.kind,
+        }),
+    }
+}
+
+/// The instructions that code spells (JVMS 4.7.3), or its first fault.
+///
+/// The instructions are read front to back, and each fault stands at the first byte of its instruction: `Truncated`,
+/// `UnknownOpcode`, `LeftOut` and `BadOperand`. Where all are good, `BadTarget` stands at the first instruction with a branch
+/// that leads to no instruction. `Memory` comes where memory runs out, and where the code has 4 GiB or more.
+pub fn decode(alloc: Global, bytes: &[u8]) -> Result<Vec<Placed>, CodeError>
+    // What is read is spelled so.
+    ensures found { IfOk result (λ v. IsTrue (code.fits v.items) × (bytes.now ≡ code.spell v.items)) }
+    // What is spelled so is read, unless memory runs out.
+    ensures only { (ps : List Placed) → IsTrue (code.fits ps) → bytes.now ≡ code.spell ps → GivesAt (λ v. v.items) bytes.now result (Ok ps) }
+    // Which fault it is, and where.
+    ensures exact { GivesAt (λ v. v.items) bytes.now result (code.read bytes.now) }
+{
+    match code_of(alloc, bytes) {
+        Ok(ops) => Ok(ops.into_vec()),
+        Err(error) => Err(error),
+    }
+}
+
+struct Ops;
+
+impl Writer for Ops {
+    type Item = Placed;
+
+    ghost spells = { λ _ p. (instruction p.at).spell p.op };
+
+    ghost fits = { λ _ p. (instruction p.at).fits p.op };
+
+    fn write(&self, alloc: Global, one: &Placed, out: &mut Seq<u8>) -> Result<(), AllocError> {
+        put_op(alloc, one.at, &one.op, out)
+    }
+}
+
+/// The bytes that spell these instructions.
+pub fn encode(alloc: Global, ops: &[Placed]) -> Result<Vec<u8>, AllocError>
+    requires { IsTrue (code.fits ops.now) }
+    ensures spelled { IfOk result (λ v. v.items ≡ code.spell ops.now) }
+    // What is written is read back as those instructions.
+    ensures again { IfOk result (λ v. code.read v.items ≡ Ok ops.now) }
+{
+    let mut out = Seq::new(alloc);
+    put_each(alloc, &Ops, ops, &mut out)?;
+    Ok(out.into_vec())
+}
