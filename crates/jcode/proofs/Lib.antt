@@ -2,5 +2,6 @@ pub mod CodeLaws
 pub mod OpcodeLaws
 pub mod OperandLaws
 pub mod Places
+pub mod Sizes
 pub mod Stopping
 pub mod Tabled

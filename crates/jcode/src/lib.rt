@@ -10,6 +10,7 @@ mod op;
 mod opcode;
 mod operands;
 mod read;
+mod sizing;
 mod table;
 #[cfg(test)]
 mod tests;
@@ -25,3 +26,4 @@ pub use op::{
     Case, Goto, Handler, IntConst, Ldc, LocalOp, LookupSwitch, NewOp, Op, Placed, Switch,
     TableSwitch, Wide,
 };
+pub use sizing::size_at;
