@@ -6,3 +6,4 @@ pub mod Parts
 pub mod PoolLaws
 pub mod Spelled
 pub mod Spelling
+pub mod Tables

@@ -4,3 +4,4 @@ pub mod Entries
 pub mod Names
 pub mod Pieces
 pub mod Pools
+pub mod Uses

@@ -14,15 +14,17 @@ mod scan;
 mod slots;
 #[cfg(test)]
 mod tests;
+mod uses;
 
 pub use adder::{AddError, Adder};
 pub use coding::{entry_of, put_entry};
 pub use descriptor::{DescError, Descriptor, FieldType, read_descriptor, slots_of};
 pub use entry::Entry;
-pub use judge::{EntryTest, Naming, entry_fault, first_fault_of};
+pub use judge::{EntryTest, Naming, first_fault_of};
 pub use kind::{PoolError, PoolKind};
 pub use names::is_class_name;
 pub use pool::Pool;
 pub use read::{pool_of, read_pool, write_pool};
 pub use scan::{is_array_descriptor, is_field_descriptor, is_method_descriptor, method_slots};
 pub use slots::{entries_of, put_entries};
+pub use uses::{TextUse, TextUses};

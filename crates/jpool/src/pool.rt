@@ -41,7 +41,7 @@ pub fn text_of(entries: &[Entry], i: u16) -> Option<&[u8]>
 }
 
 /// The index that the class at an index names.
-fn name_of(entries: &[Entry], i: u16) -> Option<u16>
+pub fn name_of(entries: &[Entry], i: u16) -> Option<u16>
     ensures { result ≡ name_in (slice_get entries.now i) }
 {
     match entries.get(usize::from(i)) {

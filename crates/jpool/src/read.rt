@@ -2,15 +2,31 @@ ghost use Rattle.std.specs.Prelude.{◌≡◌, ◌++◌, ◌+◌, ℕ, List, IfO
 ghost use Rattle.jbase.specs.Stops.{Gives};
 ghost use Rattle.jpool.specs.declared.entry.Entry.{Entry};
 ghost use Rattle.jpool.specs.Pools;
-ghost use Rattle.jpool.specs.Pools.{OrMemory, placed};
+ghost use Rattle.jpool.specs.Pools.{OrMemory, entry_fault, first_fault, placed};
 
+use crate::entry::Entry;
 use crate::judge::{Naming, first_fault_of};
 use crate::kind::{PoolError, PoolKind};
 use crate::pool::Pool;
 use crate::slots::{entries_of, put_entries};
+use crate::uses::TextUses;
 use jbase::{Seq, Stop};
-use jformat::ReadError;
+use jformat::{Fault, ReadError};
 use std::alloc::{AllocError, Global};
+
+/// The first fault of what the entries of a pool name, where so many bytes are left at the first entry.
+fn fault_in(
+    alloc: Global,
+    entries: &[Entry],
+    left: usize,
+) -> Result<Option<Fault<PoolKind>>, AllocError>
+    ensures { IfOk result (λ found. found ≡ first_fault (entry_fault entries.now) left entries.now) }
+{
+    let uses = TextUses::of(alloc, entries)?;
+    let naming = Naming { uses: &uses };
+    let found = first_fault_of(&naming, left, entries);
+    Ok(found)
+}
 
 /// A pool at the front of bytes, and the bytes behind it.
 #[tactic(auto, unfolding(crate::specs::Pools::pool))]
@@ -18,14 +34,8 @@ pub fn pool_of(alloc: Global, bytes: &[u8]) -> Result<(Pool, &[u8]), ReadError<P
     ensures { Gives (λ x. (x.0, x.1.now)) result (Pools.pool.read bytes.now) }
 {
     let (entries, rest) = entries_of(alloc, bytes)?;
-    let naming = Naming {
-        entries: entries.as_slice(),
-    };
-    if let Some(fault) = first_fault_of(
-        &naming,
-        bytes.len().saturating_sub(2),
-        entries.as_slice(),
-    ) {
+    let left = bytes.len().saturating_sub(2);
+    if let Some(fault) = fault_in(alloc, entries.as_slice(), left)? {
         return Err(Stop::Fault(fault));
     }
     Ok((Pool::from_entries(entries), rest))
