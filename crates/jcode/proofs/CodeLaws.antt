@@ -1,12 +1,11 @@
 -- An instruction is a format, and code is one of all bytes.
-use Rattle.std.proofs.Common.{◌≡◌, ℕ, ◌+◌, ◌-◌, ◌<◌, ◌≤◌, ℤ, Bool, true, false, cond, eqb, List, [], ◌∷◌, ◌++◌, length, Option, Some, None, Result, Ok, Err, refl, sym, ap, subst, ◌∙◌, arith, inl, inr}
-use Rattle.std.specs.Prelude.{IsTrue, ◌&&◌}
+use Rattle.std.proofs.Common.{◌≡◌, ℕ, ◌-◌, ◌≤◌, ℤ, Bool, true, false, eqb, List, [], ◌∷◌, ◌++◌, length, Option, Some, None, Result, Ok, Err, refl, sym, ap, subst, ◌∙◌, arith, inl, inr}
+use Rattle.std.specs.Prelude.{IsTrue}
 use Rattle.std.specs.List.{list_all}
 use Rattle.std.proofs.lemmas.Bool.{cases_Bool, eqb-true}
-use Rattle.jbase.specs.Stops.{◌>>=◌}
 use Rattle.jbase.specs.First.{first_some}
 use Rattle.jformat.specs.declared.error.Fault.{Fault}
-use Rattle.jformat.specs.Format.{IsBytes, Answer, Format, fault, fault_at}
+use Rattle.jformat.specs.Format.{IsBytes, Answer}
 use Rattle.jformat.proofs.Steps.{IsBytes-rest, bind_ok, bind_err, ok_is, both, first_true, second_true, fault_within}
 use Rattle.jformat.proofs.Laws.{Takes, IsFormat, HasBytes, as_case_law}
 use Rattle.jformat.proofs.Blocks.{IsBody}
@@ -14,13 +13,11 @@ use Rattle.jformat.proofs.Stateful.{many_by_law}
 use Rattle.jcode.specs.declared.kind.CodeKind.{CodeKind}
 use Rattle.jcode.specs.declared.kind.CodeKind.TheVariants.{Truncated, BadTarget}
 use Rattle.jcode.specs.declared.names.NumberKind.TheVariants as numbers
-use Rattle.jcode.specs.declared.names.LocalKind.{LocalKind}
 use Rattle.jcode.specs.declared.names.LocalKind.TheVariants as kinds
 use Rattle.jcode.specs.declared.op.Op.{Op}
 use Rattle.jcode.specs.declared.op.Op.TheVariants as ops
 use Rattle.jcode.specs.declared.op.IntConst.TheVariants as consts
 use Rattle.jcode.specs.declared.op.Ldc.TheVariants as ldcs
-use Rattle.jcode.specs.declared.op.LocalOp.{LocalOp}
 use Rattle.jcode.specs.declared.op.LocalOp.TheVariants as locals
 use Rattle.jcode.specs.declared.op.Goto.TheVariants as gotos
 use Rattle.jcode.specs.declared.op.NewOp.TheVariants as news
@@ -39,7 +36,7 @@ use Rattle.jcode.specs.declared.head.OtherHead.{OtherHead}
 use Rattle.jcode.specs.declared.head.OtherHead.TheVariants as other
 use Rattle.jcode.specs.Opcodes.{head_number, head_at}
 use Rattle.jcode.specs.Operands.{OtherOperand, Operand, other_operands, operands}
-use Rattle.jcode.specs.Instructions.{other_op, op_from, op_head, op_operand, behind, behind_fits, at_front, read_as, read_other, read_behind, behind_head, instruction_at, instruction, size, placed_at, op_at, placed, place_behind, instructions, leads, lost, first_lost, none_lost, code}
+use Rattle.jcode.specs.Instructions.{other_op, op_from, op_head, op_operand, behind, behind_fits, at_front, read_as, read_other, read_behind, behind_head, instruction_at, instruction, placed_at, op_at, placed, place_behind, instructions, leads, lost, first_lost, none_lost, code}
 use Rattle.jcode.proofs.OpcodeLaws.{number_of_head, head_of_number}
 use Rattle.jcode.proofs.OperandLaws.{operands_law}
 

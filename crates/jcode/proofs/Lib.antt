@@ -1,4 +1,5 @@
 pub mod CodeLaws
+pub mod FormExamples
 pub mod OpcodeLaws
 pub mod OperandLaws
 pub mod Places

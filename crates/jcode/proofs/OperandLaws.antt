@@ -1,13 +1,11 @@
 -- The operands of each opcode are a format.
-use Rattle.std.proofs.Common.{◌≡◌, ℕ, zero, suc, ◌+◌, ◌%◌, ◌-◌, ℤ, Bool, true, false, eqb, List, [], ◌∷◌, length, Option, Some, None, refl, sym, ap, ◌∙◌, arith, inl, inr}
-use Rattle.std.specs.Prelude.{IsTrue}
+use Rattle.std.proofs.Common.{◌≡◌, ℕ, zero, suc, ◌%◌, ◌-◌, ℤ, true, eqb, List, [], ◌∷◌, length, Option, Some, None, refl, ap, arith, inl, inr}
 use Rattle.std.proofs.lemmas.Bool.{cases_Bool, eqb-true}
 use Rattle.std.specs.Int.{w8, w16, w32, to_be_bytes, from_be_bytes}
-use Rattle.jformat.specs.Format.{IsBytes, Format, void, ◌·◌, ◌▹◌, such}
+use Rattle.jformat.specs.Format.{IsBytes, void, ◌·◌, such}
 use Rattle.jformat.specs.Bodies.{counted}
 use Rattle.jformat.specs.States.{counted_from}
 use Rattle.jformat.specs.Tags.{tagged}
-use Rattle.jformat.proofs.Steps.{second_true}
 use Rattle.jformat.proofs.Laws.{IsWide, IsFormat, wide16, wide32, void_law, byte_law, number_law, signed_law, pair_law, then_law, via_law, as_case_law, such_law, literal_law}
 use Rattle.jformat.proofs.Blocks.{counted_law}
 use Rattle.jformat.proofs.Unions.{tag_law, either_law, tagged_law}
@@ -20,7 +18,6 @@ use Rattle.jcode.specs.declared.names.LocalKind.TheVariants as kinds
 use Rattle.jcode.specs.declared.names.Access.TheVariants.{Load, Store}
 use Rattle.jcode.specs.declared.op.Wide.{Wide}
 use Rattle.jcode.specs.declared.op.Wide.TheVariants as wides
-use Rattle.jcode.specs.declared.op.Case.{Case}
 use Rattle.jcode.specs.declared.head.Head.{Head}
 use Rattle.jcode.specs.declared.head.Head.TheVariants as heads
 use Rattle.jcode.specs.declared.head.OtherHead.{OtherHead}

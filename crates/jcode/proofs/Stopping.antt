@@ -1,5 +1,5 @@
 -- A stop is handed on.
-use Rattle.std.proofs.Common.{◌≡◌, Result, Ok, Err, refl}
+use Rattle.std.proofs.Common.{Result, refl}
 use Rattle.jbase.specs.declared.stop.Stop.{Stop}
 use Rattle.jbase.specs.declared.stop.Stop.TheVariants as stops
 use Rattle.jbase.specs.Stops.{◌>>=◌, Fails}

@@ -1,5 +1,5 @@
 -- Instructions, and code: instructions one behind the other (JVMS 4.7.3, 6.5).
-use Rattle.std.specs.Prelude.{◌≡◌, ℕ, ◌+◌, ◌-◌, ◌<◌, ◌≤◌, ◌==◌, ℤ, pos, ◌+ℤ◌, Bool, true, false, ◌&&◌, if◌then◌else◌, List, [], ◌∷◌, ◌++◌, length, get_or, Option, Some, None, Result, Ok, Err}
+use Rattle.std.specs.Prelude.{◌≡◌, ℕ, ◌+◌, ◌-◌, ◌<◌, ◌≤◌, ◌==◌, ℤ, pos, ◌+ℤ◌, Bool, true, IsTrue, ◌&&◌, if◌then◌else◌, List, [], ◌∷◌, length, get_or, Option, Some, None, Result, Ok, Err}
 use Rattle.std.specs.List.{list_all, list_any}
 use Rattle.std.specs.Ordering.{int_eq}
 use Rattle.jbase.specs.Stops.{◌>>=◌}
@@ -352,6 +352,10 @@ code = record {
   fits = λ ps. instructions.fits ps && list_all (leads ps) ps;
   read = λ bytes. instructions.read bytes >>= λ ps. none_lost bytes ps (first_lost ps);
 }
+
+-- these bytes spell these instructions
+abbrev pub Spells : List ℕ → List Placed → Type 0
+Spells bytes ps = IsTrue (code.fits ps) × (bytes ≡ code.spell ps)
 
 -- ---- places
 

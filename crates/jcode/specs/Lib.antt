@@ -1,3 +1,4 @@
+pub mod Forms
 pub mod Instructions
 pub mod Opcodes
 pub mod Operands

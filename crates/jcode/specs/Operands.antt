@@ -1,10 +1,9 @@
 -- What stands behind an opcode (JVMS 6.5).
-use Rattle.std.specs.Prelude.{◌≡◌, ℕ, zero, suc, ◌+◌, ◌-◌, ◌%◌, ◌==◌, nat_lt, nat_le, ℤ, pos, ◌+ℤ◌, ◌-ℤ◌, int_lt, unsigned_abs, Bool, true, false, if◌then◌else◌, List, [], ◌∷◌, ◌⊎◌, Option, Some, None, Result, Ok, Err}
+use Rattle.std.specs.Prelude.{ℕ, zero, suc, ◌+◌, ◌-◌, ◌%◌, ◌==◌, nat_le, ℤ, ◌-ℤ◌, int_lt, unsigned_abs, if◌then◌else◌, List, [], ◌∷◌, ◌⊎◌, Option, Some, None}
 use Rattle.std.proofs.Common.{inl, inr}
 use Rattle.std.specs.Int.{w8, w16, w32}
 use Rattle.jbase.specs.First.{fault_if}
-use Rattle.jformat.specs.declared.error.Fault.{Fault}
-use Rattle.jformat.specs.Format.{Answer, Format, fault, void, byte, number, signed, ◌·◌, ◌▹◌, via, as_case, such, literal}
+use Rattle.jformat.specs.Format.{Format, void, byte, number, signed, ◌·◌, ◌▹◌, via, as_case, such, literal}
 use Rattle.jformat.specs.Bodies.{counted}
 use Rattle.jformat.specs.States.{counted_from}
 use Rattle.jformat.specs.Tags.{Tagged, tag, ◌∣◌, tagged, is_in}

@@ -3,8 +3,14 @@
 
 mod branches;
 mod coding;
+mod effect;
+mod form;
+#[cfg(test)]
+mod form_tests;
+mod forming;
 mod head;
 mod kind;
+mod laws;
 mod names;
 mod op;
 mod opcode;
@@ -17,7 +23,11 @@ mod tests;
 mod write;
 
 pub use coding::{decode, encode};
+pub use effect::effect_of;
+pub use form::{ArrayForm, Effect, Flow, Form, Kind, Kinds, LocalForm, PoolForm, Simple};
+pub use forming::form_of;
 pub use kind::{CodeError, CodeKind};
+pub use laws::code_laws;
 pub use names::{
     Access, ArrayType, CallOp, CastOp, Condition, ConvertOp, Element, FieldOp, LocalKind, LogicOp,
     MathOp, NumberKind, ObjectOp, RefTest, Returned, ShiftOp, Slot, SmallInt, SmallLong, StackOp,

@@ -1,4 +1,4 @@
-use Rattle.std.proofs.Common.{rules, pos, ◌∙◌}
+use Rattle.std.proofs.Common.{rules, pos}
 use Rattle.std.proofs.lemmas.List.Sorted.{answers_always}
 use Rattle.jcode.proofs.Places.{searched}
 use Rattle.jcode.proofs.branches.is_place.Goals as goal

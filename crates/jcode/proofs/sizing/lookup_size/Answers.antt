@@ -1,4 +1,4 @@
-use Rattle.std.proofs.Common.{◌≡◌, ◌<◌, ◌^◌, List, length, ap, arith}
+use Rattle.std.proofs.Common.{◌<◌, ◌^◌, List, length, ap, arith}
 use Rattle.jcode.specs.declared.op.Case.{Case}
 use Rattle.jcode.specs.Operands.{lookup_switch}
 use Rattle.jcode.proofs.Sizes.{lookup_length}

@@ -1,4 +1,4 @@
-use Rattle.std.proofs.Common.{◌≡◌, ℤ, ◌<◌, ◌^◌, List, length, ap, arith}
+use Rattle.std.proofs.Common.{ℤ, ◌<◌, ◌^◌, List, length, ap, arith}
 use Rattle.jcode.specs.Operands.{table_switch}
 use Rattle.jcode.proofs.Sizes.{table_length}
 use Rattle.jcode.proofs.sizing.table_size.Goals as goal

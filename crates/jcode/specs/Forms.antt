@@ -1,0 +1,290 @@
+-- What instructions do, whichever of their spellings they have, and the kinds of their operands (JVMS 6.5).
+use Rattle.std.specs.Prelude.{ℕ, ℤ, pos, negsuc, List, [], ◌∷◌, Option, Some, None}
+use Rattle.std.specs.Borrow.{Bor}
+use Rattle.jcode.specs.declared.names.NumberKind.{NumberKind}
+use Rattle.jcode.specs.declared.names.NumberKind.TheVariants as numbers
+use Rattle.jcode.specs.declared.names.LocalKind.{LocalKind}
+use Rattle.jcode.specs.declared.names.LocalKind.TheVariants as locals
+use Rattle.jcode.specs.declared.names.Access.TheVariants.{Load, Store}
+use Rattle.jcode.specs.declared.names.Slot.{Slot}
+use Rattle.jcode.specs.declared.names.Slot.TheVariants as slots
+use Rattle.jcode.specs.declared.names.SmallInt.{SmallInt}
+use Rattle.jcode.specs.declared.names.SmallInt.TheVariants as ints
+use Rattle.jcode.specs.declared.names.SmallLong.{SmallLong}
+use Rattle.jcode.specs.declared.names.SmallLong.TheVariants as longs
+use Rattle.jcode.specs.declared.names.Element.{Element}
+use Rattle.jcode.specs.declared.names.Element.TheVariants as elements
+use Rattle.jcode.specs.declared.names.ConvertOp.{ConvertOp}
+use Rattle.jcode.specs.declared.names.ConvertOp.TheVariants.{IntToLong, LongToInt, IntToByte, IntToChar, IntToShort}
+use Rattle.jcode.specs.declared.names.RefTest.{RefTest}
+use Rattle.jcode.specs.declared.names.RefTest.TheVariants.{Same, Other, Null, NonNull}
+use Rattle.jcode.specs.declared.names.Returned.{Returned}
+use Rattle.jcode.specs.declared.names.Returned.TheVariants as results
+use Rattle.jcode.specs.declared.names.FieldOp.{FieldOp}
+use Rattle.jcode.specs.declared.names.FieldOp.TheVariants.{GetStatic, PutStatic, GetField, PutField}
+use Rattle.jcode.specs.declared.names.CallOp.{CallOp}
+use Rattle.jcode.specs.declared.names.CallOp.TheVariants.{Virtual, Special, Static}
+use Rattle.jcode.specs.declared.names.CastOp.TheVariants.{CheckCast, InstanceOf}
+use Rattle.jcode.specs.declared.names.ObjectOp.{ObjectOp}
+use Rattle.jcode.specs.declared.names.ObjectOp.TheVariants.{ArrayLength, Throw}
+use Rattle.jcode.specs.declared.op.Op.{Op}
+use Rattle.jcode.specs.declared.op.Op.TheVariants as ops
+use Rattle.jcode.specs.declared.op.IntConst.{IntConst}
+use Rattle.jcode.specs.declared.op.IntConst.TheVariants as consts
+use Rattle.jcode.specs.declared.op.Ldc.{Ldc}
+use Rattle.jcode.specs.declared.op.Ldc.TheVariants as ldcs
+use Rattle.jcode.specs.declared.op.LocalOp.{LocalOp}
+use Rattle.jcode.specs.declared.op.LocalOp.TheVariants as moves
+use Rattle.jcode.specs.declared.op.Goto.{Goto}
+use Rattle.jcode.specs.declared.op.Goto.TheVariants as gotos
+use Rattle.jcode.specs.declared.op.NewOp.{NewOp}
+use Rattle.jcode.specs.declared.op.NewOp.TheVariants as news
+use Rattle.jcode.specs.declared.op.Switch.{Switch}
+use Rattle.jcode.specs.declared.op.Wide.{Wide}
+use Rattle.jcode.specs.declared.op.Wide.TheVariants as wides
+use Rattle.jcode.specs.declared.form.Form.{Form}
+use Rattle.jcode.specs.declared.form.Form.TheVariants as forms
+use Rattle.jcode.specs.declared.form.Simple.{Simple}
+use Rattle.jcode.specs.declared.form.Simple.TheVariants as simple
+use Rattle.jcode.specs.declared.form.LocalForm.{LocalForm}
+use Rattle.jcode.specs.declared.form.LocalForm.TheVariants.{Move, Increment}
+use Rattle.jcode.specs.declared.form.Flow.{Flow}
+use Rattle.jcode.specs.declared.form.Flow.TheVariants as flows
+use Rattle.jcode.specs.declared.form.ArrayForm.{ArrayForm}
+use Rattle.jcode.specs.declared.form.ArrayForm.TheVariants as arrays
+use Rattle.jcode.specs.declared.form.PoolForm.{PoolForm}
+use Rattle.jcode.specs.declared.form.PoolForm.TheVariants as pool
+use Rattle.jcode.specs.declared.form.Kind.{Kind}
+use Rattle.jcode.specs.declared.form.Kind.TheVariants as kinds
+use Rattle.jcode.specs.declared.form.Kinds.{Kinds}
+use Rattle.jcode.specs.declared.form.Kinds.TheVariants as taken
+use Rattle.jcode.specs.declared.form.Effect.{Effect}
+
+-- ---- values that opcodes name
+
+abbrev pub int_value : SmallInt → ℤ
+int_value ints.MinusOne = negsuc 0
+int_value ints.Zero = pos 0
+int_value ints.One = pos 1
+int_value ints.Two = pos 2
+int_value ints.Three = pos 3
+int_value ints.Four = pos 4
+int_value ints.Five = pos 5
+
+abbrev pub long_value : SmallLong → ℤ
+long_value longs.Zero = pos 0
+long_value longs.One = pos 1
+
+abbrev pub slot_value : Slot → ℕ
+slot_value slots.Zero = 0
+slot_value slots.One = 1
+slot_value slots.Two = 2
+slot_value slots.Three = 3
+
+abbrev pub const_value : IntConst → ℤ
+const_value (consts.Small n) = int_value n
+const_value (consts.Byte n) = n
+const_value (consts.Short n) = n
+
+abbrev pub ldc_index : Ldc → ℕ
+ldc_index (ldcs.Narrow n) = n
+ldc_index (ldcs.Wide n) = n
+
+abbrev pub distance : Goto → ℤ
+distance (gotos.Narrow by) = by
+distance (gotos.Wide by) = by
+
+-- ---- forms
+
+abbrev pub local_form : LocalKind → LocalOp → LocalForm
+local_form kind (moves.At access n) = Move access kind n
+local_form kind (moves.Slot access slot) = Move access kind (slot_value slot)
+
+abbrev pub wide_form : Wide → LocalForm
+wide_form (wides.Local kind access n) = Move access kind n
+wide_form (wides.Iinc n by) = Increment n by
+
+abbrev pub new_form : NewOp → Form Switch
+new_form (news.Object n) = forms.Pool (pool.New n)
+new_form (news.Array element) = forms.Array (arrays.New element)
+new_form (news.RefArray n) = forms.Array (arrays.NewRef n)
+
+abbrev pub object_form : ObjectOp → Form Switch
+object_form ArrayLength = forms.Array arrays.Length
+object_form Throw = forms.Flow flows.Throw
+
+-- The form of an instruction. Its spellings are one form: iload_1, iload 1 and wide iload 1; iconst_3, bipush 3 and sipush 3; goto
+-- and goto_w; ldc and ldc_w.
+unfoldable pub form : Op → Form Switch
+form ops.Nop = forms.Simple simple.Nothing
+form ops.AconstNull = forms.Simple simple.Null
+form (ops.IntConst n) = forms.Simple (simple.Int (const_value n))
+form (ops.LongConst n) = forms.Simple (simple.Long (long_value n))
+form (ops.Ldc op) = forms.Pool (pool.Constant (ldc_index op))
+form (ops.Ldc2 n) = forms.Pool (pool.LongConstant n)
+form (ops.IntLocal op) = forms.Local (local_form locals.Int op)
+form (ops.LongLocal op) = forms.Local (local_form locals.Long op)
+form (ops.RefLocal op) = forms.Local (local_form locals.Ref op)
+form (ops.ArrayLoad element) = forms.Array (arrays.Load element)
+form (ops.ArrayStore element) = forms.Array (arrays.Store element)
+form (ops.Stack op) = forms.Stack op
+form (ops.IntMath op) = forms.Simple (simple.Math numbers.Int op)
+form (ops.LongMath op) = forms.Simple (simple.Math numbers.Long op)
+form (ops.Neg kind) = forms.Simple (simple.Neg kind)
+form (ops.Shift kind op) = forms.Simple (simple.Shift kind op)
+form (ops.Logic kind op) = forms.Simple (simple.Logic kind op)
+form (ops.Iinc n by) = forms.Local (Increment n by)
+form (ops.Convert op) = forms.Simple (simple.Convert op)
+form ops.Lcmp = forms.Simple simple.Compare
+form (ops.If test by) = forms.Flow (flows.If test by)
+form (ops.IfInt test by) = forms.Flow (flows.IfInt test by)
+form (ops.IfRef test by) = forms.Flow (flows.IfRef test by)
+form (ops.Goto op) = forms.Flow (flows.Goto (distance op))
+form (ops.Switch switch) = forms.Flow (flows.Switch switch)
+form (ops.Return kind) = forms.Flow (flows.Return kind)
+form (ops.Field op n) = forms.Pool (pool.Field op n)
+form (ops.Call op n) = forms.Pool (pool.Call op n)
+form (ops.CallInterface n slots) = forms.Pool (pool.CallInterface n slots)
+form (ops.New op) = new_form op
+form (ops.Object op) = object_form op
+form (ops.Cast op n) = forms.Pool (pool.Cast op n)
+form (ops.Wide op) = forms.Local (wide_form op)
+
+abbrev pub seen_flow : Flow (Bor Switch) → Flow Switch
+seen_flow (flows.If test by) = flows.If test by
+seen_flow (flows.IfInt test by) = flows.IfInt test by
+seen_flow (flows.IfRef test by) = flows.IfRef test by
+seen_flow (flows.Goto by) = flows.Goto by
+seen_flow (flows.Switch switch) = flows.Switch switch.now
+seen_flow (flows.Return kind) = flows.Return kind
+seen_flow flows.Throw = flows.Throw
+
+-- a form with the switch that it points to
+abbrev pub seen : Form (Bor Switch) → Form Switch
+seen (forms.Simple f) = forms.Simple f
+seen (forms.Local f) = forms.Local f
+seen (forms.Stack f) = forms.Stack f
+seen (forms.Flow f) = forms.Flow (seen_flow f)
+seen (forms.Array f) = forms.Array f
+seen (forms.Pool f) = forms.Pool f
+
+-- ---- the kinds of operands
+
+-- kinds as a list, the newest first
+abbrev pub listed : Kinds → List Kind
+listed taken.None = []
+listed (taken.One a) = a ∷ []
+listed (taken.Two a b) = a ∷ b ∷ []
+listed (taken.Three a b c) = a ∷ b ∷ c ∷ []
+
+abbrev pub gives : Kinds → Kind → Effect
+gives ks k = record { takes = ks; gives = Some k }
+
+abbrev pub takes : Kinds → Effect
+takes ks = record { takes = ks; gives = None }
+
+abbrev pub number : NumberKind → Kind
+number numbers.Int = kinds.Int
+number numbers.Long = kinds.Long
+
+abbrev pub conversion : ConvertOp → Effect
+conversion IntToLong = gives (taken.One kinds.Int) kinds.Long
+conversion LongToInt = gives (taken.One kinds.Long) kinds.Int
+conversion IntToByte = gives (taken.One kinds.Int) kinds.Int
+conversion IntToChar = gives (taken.One kinds.Int) kinds.Int
+conversion IntToShort = gives (taken.One kinds.Int) kinds.Int
+
+abbrev pub simple_effect : Simple → Effect
+simple_effect simple.Nothing = takes taken.None
+simple_effect simple.Null = gives taken.None kinds.Null
+simple_effect (simple.Int n) = gives taken.None kinds.Int
+simple_effect (simple.Long n) = gives taken.None kinds.Long
+simple_effect (simple.Math kind op) = gives (taken.Two (number kind) (number kind)) (number kind)
+simple_effect (simple.Neg kind) = gives (taken.One (number kind)) (number kind)
+simple_effect (simple.Shift kind op) = gives (taken.Two kinds.Int (number kind)) (number kind)
+simple_effect (simple.Logic kind op) = gives (taken.Two (number kind) (number kind)) (number kind)
+simple_effect (simple.Convert op) = conversion op
+simple_effect simple.Compare = gives (taken.Two kinds.Long kinds.Long) kinds.Int
+
+-- what a local holds
+abbrev pub local : LocalKind → Kind
+local locals.Int = kinds.Int
+local locals.Long = kinds.Long
+local locals.Ref = kinds.Held
+
+abbrev pub local_effect : LocalForm → Effect
+local_effect (Move Load kind n) = gives taken.None (local kind)
+local_effect (Move Store kind n) = takes (taken.One (local kind))
+local_effect (Increment n by) = takes taken.None
+
+abbrev pub compared : RefTest → Kinds
+compared Same = taken.Two kinds.Ref kinds.Ref
+compared Other = taken.Two kinds.Ref kinds.Ref
+compared Null = taken.One kinds.Ref
+compared NonNull = taken.One kinds.Ref
+
+abbrev pub returned : Returned → Kinds
+returned results.Int = taken.One kinds.Int
+returned results.Long = taken.One kinds.Long
+returned results.Ref = taken.One kinds.Ref
+returned results.Nothing = taken.None
+
+abbrev pub flow_effect : {S : Type 0} → Flow S → Effect
+flow_effect (flows.If test by) = takes (taken.One kinds.Int)
+flow_effect (flows.IfInt test by) = takes (taken.Two kinds.Int kinds.Int)
+flow_effect (flows.IfRef test by) = takes (compared test)
+flow_effect (flows.Goto by) = takes taken.None
+flow_effect (flows.Switch switch) = takes (taken.One kinds.Int)
+flow_effect (flows.Return kind) = takes (returned kind)
+flow_effect flows.Throw = takes (taken.One kinds.Ref)
+
+-- what is loaded from an array and stored into it
+abbrev pub element : Element → Kind
+element elements.Int = kinds.Int
+element elements.Long = kinds.Long
+element elements.Ref = kinds.Ref
+element elements.Byte = kinds.Int
+element elements.Char = kinds.Int
+element elements.Short = kinds.Int
+
+abbrev pub array_effect : ArrayForm → Effect
+array_effect (arrays.New kind) = gives (taken.One kinds.Int) kinds.Array
+array_effect (arrays.NewRef n) = gives (taken.One kinds.Int) kinds.Array
+array_effect (arrays.Load kind) = gives (taken.Two kinds.Int kinds.Array) (element kind)
+array_effect (arrays.Store kind) = takes (taken.Three (element kind) kinds.Int kinds.Array)
+array_effect arrays.Length = gives (taken.One kinds.Array) kinds.Int
+
+-- the object of a field
+abbrev pub owner : FieldOp → Kinds
+owner GetStatic = taken.None
+owner PutStatic = taken.None
+owner GetField = taken.One kinds.Ref
+owner PutField = taken.One kinds.Ref
+
+-- the object that a method is called on
+abbrev pub receiver : CallOp → Kinds
+receiver Virtual = taken.One kinds.Ref
+receiver Special = taken.One kinds.Ref
+receiver Static = taken.None
+
+-- What the pool's entry doesn't settle. A constant's own kind is given besides, and so are a read field and a call's result; a
+-- value that is put in a field and the arguments of a call are taken before what stands here, since they are newer. A call of
+-- `<init>` takes an object that isn't initialised yet in place of the reference, and so may a put in its own class.
+abbrev pub pool_effect : PoolForm → Effect
+pool_effect (pool.Constant n) = takes taken.None
+pool_effect (pool.LongConstant n) = gives taken.None kinds.Long
+pool_effect (pool.Field op n) = takes (owner op)
+pool_effect (pool.Call op n) = takes (receiver op)
+pool_effect (pool.CallInterface n slots) = takes (taken.One kinds.Ref)
+pool_effect (pool.New n) = gives taken.None kinds.Ref
+pool_effect (pool.Cast CheckCast n) = gives (taken.One kinds.Ref) kinds.Ref
+pool_effect (pool.Cast InstanceOf n) = gives (taken.One kinds.Ref) kinds.Int
+
+-- The kinds that a form takes and gives; a move of the stack takes and gives items of any kinds, and has none here.
+unfoldable pub effect : {S : Type 0} → Form S → Option Effect
+effect (forms.Simple f) = Some (simple_effect f)
+effect (forms.Local f) = Some (local_effect f)
+effect (forms.Stack f) = None
+effect (forms.Flow f) = Some (flow_effect f)
+effect (forms.Array f) = Some (array_effect f)
+effect (forms.Pool f) = Some (pool_effect f)
