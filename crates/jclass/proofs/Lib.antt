@@ -1,0 +1,5 @@
+pub mod ClassLaws
+pub mod Passing
+pub mod Shaped
+pub mod Texts
+pub mod Unseen

@@ -1,0 +1,7 @@
+use Rattle.std.proofs.Common.{◌≡◌, drop}
+use Rattle.jbase.specs.First.{first_some}
+use Rattle.jclass.specs.Operands.{misnamed}
+use Rattle.jclass.proofs.operand.first_misnamed.Given as goal
+
+abbrev pub invariant-loop-one : goal.invariant-loop-one
+invariant-loop-one l = first_some (misnamed l.known) (drop l.one-index l.ops) ≡ first_some (misnamed l.known) l.ops

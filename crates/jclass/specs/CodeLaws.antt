@@ -1,0 +1,220 @@
+-- The laws of frames, handlers and code as formats.
+use Rattle.std.proofs.Common.{◌≡◌, ℕ, ◌≤◌, Bool, false, ◌&&◌, ◌⊎◌, List, [], ◌∷◌, ◌++◌, length, Option, Some, None, Result, Ok, Err, refl, sym, ap, subst, ◌∙◌, arith, inl, inr}
+use Rattle.std.specs.Prelude.{IsTrue, ◌-◌}
+use Rattle.std.specs.List.{list_all}
+use Rattle.std.proofs.lemmas.Bool.{cases_Bool}
+use Rattle.std.proofs.lemmas.List.{take_at}
+use Rattle.jformat.specs.declared.error.Fault.{Fault}
+use Rattle.jbase.specs.Stops.{◌>>=◌}
+use Rattle.jbase.specs.First.{or_else, first_some}
+use Rattle.jformat.specs.Format.{IsBytes, run_at, ◌·◌, ◌▹◌, via, is_good}
+use Rattle.jformat.specs.Bodies.{Body, block, outward, inner_at, counted}
+use Rattle.jformat.specs.States.{counted_from}
+use Rattle.jformat.proofs.Steps.{IsBytes-take, bind_ok, bind_err, ok_is, both, first_true, second_true}
+use Rattle.jformat.proofs.Laws.{IsFormat, pair_law, then_law, via_law, such_law}
+use Rattle.jformat.proofs.Blocks.{IsBody, run_is, block_law, whole_law, counted_law}
+use Rattle.jformat.proofs.Skims.{passes_law, ahead_law}
+use Rattle.jformat.proofs.Stateful.{counted_from_law}
+use Rattle.jmaps.specs.declared.types.MapType.{MapType}
+use Rattle.jmaps.specs.declared.types.RawFrame.{RawFrame}
+use Rattle.jmaps.specs.Frames
+use Rattle.jmaps.specs.Frames.{frames, map_kinds, map_type, own_type}
+use Rattle.jmaps.proofs.MapLaws.{type_law, frames_law, frames_spelling, frames_fitting}
+use Rattle.jpool.specs.declared.entry.Entry.{Entry}
+use Rattle.jcode.specs.declared.op.Placed.{Placed}
+use Rattle.jcode.specs.Instructions
+use Rattle.jcode.proofs.CodeLaws as coded
+use Rattle.jcode.proofs.Places as standing
+use Rattle.jclass.specs.Operands.{names_well, misnamed}
+use Rattle.jclass.specs.declared.class.CodeAttribute.{CodeAttribute}
+use Rattle.jclass.specs.declared.class.CodeAttribute.TheVariants as code
+use Rattle.jclass.specs.declared.kind.ClassKind.{ClassKind}
+use Rattle.jclass.specs.declared.kind.ClassKind.TheVariants as kinds
+use Rattle.jclass.specs.declared.kind.ClassKind.TheVariants.{Truncated, Trailing, Index}
+use Rattle.jclass.specs.Basics.{u2, u4, unless, index, told}
+use Rattle.jclass.specs.Rules.{names_caught, is_maps}
+use Rattle.jclass.specs.Attributes.{name_once, content}
+use Rattle.jclass.specs.Codes.{frame_kinds, plain_type, type_fault, named_type, maps, attribute_from, attribute_parts, attribute, saw_maps, code_kind, none_misnamed, ops, HandlerParts, handler_from, handler_parts, target_fault, handler, length_fault, code_length, behind_ops, body_from, body_parts, code_content, code_body}
+use Rattle.jclass.specs.AttributeLaws.{u2_law, u4_law, index_law, content_law, name_once_law}
+
+-- ---- frames
+
+plain_law : IsBody (frames frame_kinds plain_type)
+plain_law = frames_law frame_kinds plain_type (type_law frame_kinds)
+
+named_law : (pool : List Entry) → IsBody (frames frame_kinds (named_type pool))
+named_law pool = frames_law frame_kinds (named_type pool) (such_law (type_fault pool) plain_type (type_law frame_kinds))
+
+pub named_spelling : (pool : List Entry) (fs : List RawFrame) → (frames frame_kinds (named_type pool)).spell fs ≡ (frames frame_kinds plain_type).spell fs
+named_spelling pool fs = frames_spelling frame_kinds frame_kinds (named_type pool) plain_type refl fs
+
+pub named_fitting : (pool : List Entry) (fs : List RawFrame) → IsTrue ((frames frame_kinds (named_type pool)).fits fs) → IsTrue ((frames frame_kinds plain_type).fits fs)
+named_fitting pool fs fit = frames_fitting frame_kinds frame_kinds (named_type pool) plain_type (λ t f. first_true (plain_type.fits t) (is_good (type_fault pool t)) f) fs fit
+
+pub maps_law : (pool : List Entry) → IsBody (maps pool)
+unfolding maps
+maps_law pool = passes_law (frames frame_kinds plain_type).read (λ fs. fs) (λ _. frames frame_kinds (named_type pool)) (λ _. named_law pool)
+    (λ _ fs fit. ap (frames frame_kinds plain_type).read (named_spelling pool fs) ∙ plain_law.again fs (named_fitting pool fs fit)) plain_law.within
+
+-- as jmaps writes them
+named_as_own : (pool : List Entry) → (named_type pool).spell ≡ own_type.spell
+unfolding map_type
+named_as_own pool = refl
+
+named_fits_own : (pool : List Entry) (t : MapType) → IsTrue ((named_type pool).fits t) → IsTrue (own_type.fits t)
+unfolding map_type
+named_fits_own pool t f = first_true (plain_type.fits t) (is_good (type_fault pool t)) f
+
+pub maps_spelling : (pool : List Entry) (fs : List RawFrame) → (maps pool).spell fs ≡ Frames.maps.spell fs
+unfolding maps Frames.maps
+maps_spelling pool fs = frames_spelling frame_kinds map_kinds (named_type pool) own_type (named_as_own pool) fs
+
+pub maps_fitting : (pool : List Entry) (fs : List RawFrame) → IsTrue ((maps pool).fits fs) → IsTrue (Frames.maps.fits fs)
+unfolding maps Frames.maps
+maps_fitting pool fs fit = frames_fitting frame_kinds map_kinds (named_type pool) own_type (named_fits_own pool) fs fit
+
+attribute_back : (a : ℕ × (List RawFrame ⊎ List ℕ)) → attribute_parts (attribute_from a) ≡ a
+attribute_back (name, inl fs) = refl
+attribute_back (name, inr bytes) = refl
+
+attribute_forth : (a : CodeAttribute) → attribute_from (attribute_parts a) ≡ a
+attribute_forth (code.Maps name fs) = refl
+attribute_forth (code.Raw name bytes) = refl
+
+pub attribute_law : (pool : List Entry) (seen : Bool) → IsFormat (attribute pool seen)
+unfolding attribute
+attribute_law pool seen = via_law attribute_from attribute_parts (name_once pool (is_maps pool) kinds.Maps seen ▹ λ i. content (is_maps pool i) (maps pool)) (λ a fit. attribute_back a) (λ a fit. attribute_forth a)
+    (then_law (name_once pool (is_maps pool) kinds.Maps seen) (λ i. content (is_maps pool i) (maps pool)) (name_once_law pool (is_maps pool) kinds.Maps seen) (λ i. content_law (is_maps pool i) (maps pool) (maps_law pool)))
+
+-- ---- handlers
+
+four_law : IsFormat (u2 · u2 · u2 · u2)
+four_law = pair_law u2 _ u2_law (pair_law u2 _ u2_law (pair_law u2 u2 u2_law u2_law))
+
+three_law : (pool : List Entry) → IsFormat (u2 · u2 · u2 · index (names_caught pool))
+three_law pool = pair_law u2 _ u2_law (pair_law u2 _ u2_law (pair_law u2 _ u2_law (index_law (names_caught pool))))
+
+looser : (pool : List Entry) (p : HandlerParts) → IsTrue ((u2 · u2 · u2 · index (names_caught pool)).fits p) → IsTrue ((u2 · u2 · u2 · u2).fits p)
+looser pool p fit =
+    let a = first_true (u2.fits p.0) ((u2 · u2 · index (names_caught pool)).fits p.1) fit in
+    let bs = second_true (u2.fits p.0) ((u2 · u2 · index (names_caught pool)).fits p.1) fit in
+    let b = first_true (u2.fits p.1.0) ((u2 · index (names_caught pool)).fits p.1.1) bs in
+    let cs = second_true (u2.fits p.1.0) ((u2 · index (names_caught pool)).fits p.1.1) bs in
+    let c = first_true (u2.fits p.1.1.0) ((index (names_caught pool)).fits p.1.1.1) cs in
+    let d = first_true (u2.fits p.1.1.1) (is_good (unless (names_caught pool p.1.1.1) Index)) (second_true (u2.fits p.1.1.0) ((index (names_caught pool)).fits p.1.1.1) cs) in
+    both _ _ a (both _ _ b (both _ _ c d))
+
+handler_law : (pool : List Entry) (ps : List Placed) → IsFormat (handler pool ps)
+unfolding handler
+handler_law pool ps = ahead_law (u2 · u2 · u2 · u2).read handler_parts (target_fault ps) (via handler_from handler_parts (u2 · u2 · u2 · index (names_caught pool)))
+    (via_law handler_from handler_parts (u2 · u2 · u2 · index (names_caught pool)) (λ p fit. refl) (λ h fit. refl) (three_law pool))
+    (λ h rest fit. four_law.again (handler_parts h) rest (looser pool (handler_parts h) fit)) four_law.reading.within
+
+-- ---- code
+
+code_length_law : IsFormat code_length
+code_length_law = such_law length_fault u4 u4_law
+
+-- a reading under other names of faults
+pub told_ok : {K L A : Type 0} (name : K → L) (r : Result A (Fault K)) (x : A) → told name r ≡ Ok x → r ≡ Ok x
+told_ok name (Ok y) x e = cc
+told_ok name (Err d) x e = absurd cc
+
+pub told_err : {K L A : Type 0} (name : K → L) (r : Result A (Fault K)) (d : Fault L) → told name r ≡ Err d → (c : Fault K) × (r ≡ Err c) × (d.left ≡ c.left)
+told_err name (Ok y) d e = absurd cc
+told_err {K} {L} name (Err c) d e =
+    let made : Fault L = record { left = c.left; kind = name c.kind } in
+    let same : made ≡ d = cc in (c, refl, ap (λ (y : Fault L). y.left) (sym same))
+
+none_is : (bytes : List ℕ) (ps qs : List Placed) (o : Option ℕ) → none_misnamed bytes ps o ≡ Ok qs → (o ≡ None) × (ps ≡ qs)
+none_is bytes ps qs None e = (refl, cc)
+none_is bytes ps qs (Some at) e = absurd cc
+
+misnamed_within : (bytes : List ℕ) (ps : List Placed) (o : Option ℕ) (d : Fault ClassKind) → none_misnamed bytes ps o ≡ Err d → d.left ≤ length bytes
+misnamed_within bytes ps None d e = absurd cc
+misnamed_within bytes ps (Some at) d e =
+    let made : Fault ClassKind = record { left = length bytes - at; kind = Index } in
+    let same : made ≡ d = cc in
+    subst (λ (y : Fault ClassKind). y.left ≤ length bytes) same (omega arith)
+
+well_or : (pool : List Entry) (p : Placed) (later : Option ℕ) → or_else (misnamed pool p) later ≡ None → (IsTrue (names_well pool p.op)) × (later ≡ None)
+well_or pool p later e = elim (cases_Bool (names_well pool p.op)) [
+  | inl well ↦ (well, rw well at e)
+  | inr other ↦ let no : Some p.at ≡ None = rw other at e in absurd cc
+]
+
+all_well : (pool : List Entry) (ps : List Placed) → first_some (misnamed pool) ps ≡ None → IsTrue (list_all (λ p. names_well pool p.op) ps)
+unfolding first_some
+all_well pool [] e = refl
+all_well pool (p ∷ ps) e =
+    let w = well_or pool p (first_some (misnamed pool) ps) e in
+    both _ _ w.0 (all_well pool ps w.1)
+
+none_misnamed_in : (pool : List Entry) (ps : List Placed) → IsTrue (list_all (λ p. names_well pool p.op) ps) → first_some (misnamed pool) ps ≡ None
+unfolding first_some
+none_misnamed_in pool [] fit = refl
+none_misnamed_in pool (p ∷ ps) fit =
+    let here = first_true (names_well pool p.op) (list_all (λ q. names_well pool q.op) ps) fit in
+    let others = none_misnamed_in pool ps (second_true (names_well pool p.op) (list_all (λ q. names_well pool q.op) ps) fit) in
+    rw (here, others) refl
+
+pub ops_law : (pool : List Entry) → IsBody (ops pool)
+unfolding ops
+ops_law pool = record {
+  takes = λ bytes ps fits e.
+      let a = bind_ok (told code_kind (Instructions.code.read bytes)) (λ qs. none_misnamed bytes qs (first_some (misnamed pool) qs)) ps e in
+      let n = none_is bytes a.0 ps (first_some (misnamed pool) a.0) a.2 in
+      let s = coded.code_law.takes bytes a.0 fits (told_ok code_kind (Instructions.code.read bytes) a.0 a.1) in
+      subst (λ (qs : List Placed). IsTrue (Instructions.code.fits qs && list_all (λ p. names_well pool p.op) qs) × (bytes ≡ Instructions.code.spell qs)) n.1 (both _ _ s.0 (all_well pool a.0 n.0), s.1);
+  again = λ ps fit.
+      let one = coded.code_law.again ps (first_true (Instructions.code.fits ps) (list_all (λ p. names_well pool p.op) ps) fit) in
+      let none = none_misnamed_in pool ps (second_true (Instructions.code.fits ps) (list_all (λ p. names_well pool p.op) ps) fit) in
+      rw (one, none) refl;
+  within = λ bytes d e.
+      elim (bind_err (told code_kind (Instructions.code.read bytes)) (λ qs. none_misnamed bytes qs (first_some (misnamed pool) qs)) d e) [
+        | inl h ↦ let c = told_err code_kind (Instructions.code.read bytes) d h in let le : c.0.left ≤ length bytes = coded.code_law.within bytes c.0 c.1 in rw c.2 le
+        | inr h ↦ misnamed_within bytes h.0 (first_some (misnamed pool) h.0) d h.2
+      ];
+}
+
+-- what instructions that were read are
+front_bytes : (front rest : List ℕ) → IsBytes (front ++ rest) → IsBytes front
+front_bytes front rest fits = subst IsBytes (take_at front rest (length front) refl) (IsBytes-take (length front) (front ++ rest) fits)
+
+outward_ok : {K A : Type 0} (behind : ℕ) (r : Result A (Fault K)) (a : A) → outward behind r ≡ Ok a → r ≡ Ok a
+outward_ok behind (Ok x) a e = e
+outward_ok behind (Err d) a e = absurd cc
+
+inner_is : {A : Type 0} (f : Body ClassKind A) → IsBody f → (n : ℕ) (bytes : List ℕ) (x : A × List ℕ) → IsBytes bytes → inner_at Truncated f.read n bytes ≡ Ok x → (IsTrue (f.fits x.0)) × (n ≡ length (f.spell x.0))
+inner_is {A} f F n bytes x fits e =
+    let b = bind_ok (run_at Truncated n bytes) (λ r. outward (length r.1) (f.read r.0) >>= λ y. Ok (y, r.1)) x e in
+    let r = run_is Truncated n bytes b.0 b.1 in
+    let c = bind_ok (outward (length b.0.1) (f.read b.0.0)) (λ y. Ok (y, b.0.1)) x b.2 in
+    let text : IsBytes b.0.0 = front_bytes b.0.0 b.0.1 (subst IsBytes r.parts fits) in
+    let t = F.takes b.0.0 c.0 text (outward_ok (length b.0.1) (f.read b.0.0) c.0 c.1) in
+    let made : A × List ℕ = (c.0, b.0.1) in
+    let same : made ≡ x = ok_is (Fault ClassKind) made x c.2 in
+    subst (λ (y : A × List ℕ). IsTrue (f.fits y.0) × (n ≡ length (f.spell y.0))) same (t.0, sym r.len ∙ ap length t.1)
+
+pub places_rise : (ps : List Placed) → IsTrue (Instructions.code.fits ps) → Instructions.Rises ps
+unfolding Instructions.code
+places_rise ps fit = standing.rises ps (first_true (Instructions.instructions.fits ps) (list_all (Instructions.leads ps) ps) fit)
+
+pub length_bytes : (bytes : List ℕ) (x : ℕ × List ℕ) → IsBytes bytes → code_length.read bytes ≡ Ok x → IsBytes x.1
+length_bytes bytes x fits e = (code_length_law.takes bytes x fits e).rest_fits
+
+pub ops_are : (pool : List Entry) (n : ℕ) (bytes : List ℕ) (x : List Placed × List ℕ) → IsBytes bytes → inner_at Truncated (ops pool).read n bytes ≡ Ok x → (IsTrue (Instructions.code.fits x.0)) × (n ≡ length (Instructions.code.spell x.0))
+unfolding ops
+ops_are pool n bytes x fits e =
+    let i = inner_is (ops pool) (ops_law pool) n bytes x fits e in
+    (first_true (Instructions.code.fits x.0) (list_all (λ p. names_well pool p.op) x.0) i.0, i.1)
+
+pub code_content_law : (pool : List Entry) → IsFormat (code_content pool)
+unfolding code_content
+code_content_law pool = via_law body_from body_parts (u2 · u2 · (block code_length Truncated (ops pool) ▹ behind_ops pool)) (λ p fit. refl) (λ c fit. refl)
+    (pair_law u2 _ u2_law (pair_law u2 _ u2_law (then_law (block code_length Truncated (ops pool)) (behind_ops pool) (block_law code_length Truncated (ops pool) code_length_law (ops_law pool))
+    (λ ps. pair_law (counted u2 (handler pool ps)) (counted_from u2 (attribute pool) saw_maps false) (counted_law u2 (handler pool ps) u2_law (handler_law pool ps))
+    (counted_from_law u2 (attribute pool) saw_maps u2_law (attribute_law pool) false)))))
+
+pub code_body_law : (pool : List Entry) → IsBody (code_body pool)
+code_body_law pool = whole_law Trailing (code_content pool) (code_content_law pool)

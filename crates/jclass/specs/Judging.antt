@@ -1,0 +1,53 @@
+-- The second pass: what the entries of the pool hold and name (JVMS 4.4), entry by entry.
+use Rattle.std.specs.Prelude.{ℕ, ◌-◌, ◌&&◌, Bool, List, length, Option, Some, None, Result, Ok, Err, option_map}
+use Rattle.std.specs.List.{list_all}
+use Rattle.std.specs.Result.{is_ok}
+use Rattle.jbase.specs.Stops.{◌>>=◌}
+use Rattle.jbase.specs.First.{or_else}
+use Rattle.jformat.specs.declared.error.Fault.{Fault}
+use Rattle.jformat.specs.Format.{Answer, Format, is_good}
+use Rattle.jtext.specs.Modified
+use Rattle.jpool.specs.declared.entry.Entry.{Entry}
+use Rattle.jpool.specs.declared.entry.Entry.TheVariants.{Utf8}
+use Rattle.jpool.specs.Pools
+use Rattle.jpool.specs.Pools.{first_fault}
+use Rattle.jclass.specs.declared.kind.ClassKind.{ClassKind}
+use Rattle.jclass.specs.declared.kind.ClassKind.TheVariants.{Text}
+use Rattle.jclass.specs.Basics.{unless, pool_kind}
+use Rattle.jclass.specs.Shapes
+use Rattle.jclass.specs.Shapes.{HeadParts}
+
+-- whether bytes are modified UTF-8
+unfoldable pub is_text : List ℕ → Bool
+is_text bytes = is_ok (Modified.text.read bytes)
+
+-- what is behind a value that was read
+abbrev pub behind : {K A : Type 0} → Answer K A → Option (List ℕ)
+behind (Ok x) = Some x.1
+behind (Err d) = None
+
+abbrev pub text_fault : Entry → Option ClassKind
+text_fault (Utf8 bytes) = unless (is_text bytes) Text
+text_fault _ = None
+
+-- the first fault of an entry among all
+unfoldable pub entry_fault : List Entry → Entry → Option ClassKind
+entry_fault pool one = or_else (text_fault one) (option_map pool_kind (Pools.entry_fault pool one))
+
+unfoldable pub no_fault : List Entry → Bool
+no_fault pool = list_all (λ one. is_good (entry_fault pool one)) pool
+
+abbrev pub unless_fault : {A : Type 0} → A → Option (Fault ClassKind) → Result A (Fault ClassKind)
+unless_fault x None = Ok x
+unless_fault x (Some d) = Err d
+
+abbrev pub judged : ℕ → HeadParts × List ℕ → Answer ClassKind HeadParts
+judged left x = unless_fault x (first_fault (entry_fault x.0.1.1.1) left x.0.1.1.1)
+
+-- The head, whose first entry stands behind ten bytes, and then the faults of its entries, each at its tag.
+unfoldable pub head : Format ClassKind HeadParts
+head = record {
+  spell = Shapes.head.spell;
+  fits = λ h. Shapes.head.fits h && no_fault h.1.1.1;
+  read = λ bytes. Shapes.head.read bytes >>= judged (length bytes - 10);
+}

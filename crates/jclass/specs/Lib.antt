@@ -1,0 +1,11 @@
+pub mod AttributeLaws
+pub mod Attributes
+pub mod Basics
+pub mod Class
+pub mod CodeLaws
+pub mod Codes
+pub mod Judging
+pub mod Members
+pub mod Operands
+pub mod Rules
+pub mod Shapes

@@ -1,0 +1,62 @@
+-- What the instructions name in the pool (JVMS 6.5).
+use Rattle.std.specs.Prelude.{ℕ, Bool, true, false, ◌||◌, List, Option, Some, None, slice_get, if◌then◌else◌}
+use Rattle.jcode.specs.declared.names.CallOp.{CallOp}
+use Rattle.jcode.specs.declared.names.CallOp.TheVariants.{Virtual, Special, Static}
+use Rattle.jcode.specs.declared.op.Op.{Op}
+use Rattle.jcode.specs.declared.op.Op.TheVariants as ops
+use Rattle.jcode.specs.declared.op.Ldc.TheVariants as ldcs
+use Rattle.jcode.specs.declared.op.NewOp.TheVariants as news
+use Rattle.jcode.specs.declared.op.Placed.{Placed}
+use Rattle.jpool.specs.declared.entry.Entry.{Entry}
+use Rattle.jpool.specs.declared.entry.Entry.TheVariants.{Integer, Float, Long, Double, Class, Str, Field, Method, InterfaceMethod, MethodHandle, MethodType}
+use Rattle.jpool.specs.Pools.{is_class}
+
+-- what ldc and ldc_w push
+abbrev pub is_constant : Option Entry → Bool
+is_constant (Some (Integer n)) = true
+is_constant (Some (Float n)) = true
+is_constant (Some (Class name)) = true
+is_constant (Some (Str text)) = true
+is_constant (Some (MethodHandle kind member)) = true
+is_constant (Some (MethodType descriptor)) = true
+is_constant _ = false
+
+-- what ldc2_w pushes
+abbrev pub is_wide_constant : Option Entry → Bool
+is_wide_constant (Some (Long n)) = true
+is_wide_constant (Some (Double n)) = true
+is_wide_constant _ = false
+
+abbrev pub is_field : Option Entry → Bool
+is_field (Some (Field class both)) = true
+is_field _ = false
+
+abbrev pub is_method : Option Entry → Bool
+is_method (Some (Method class both)) = true
+is_method _ = false
+
+abbrev pub is_interface_method : Option Entry → Bool
+is_interface_method (Some (InterfaceMethod class both)) = true
+is_interface_method _ = false
+
+-- invokevirtual names a method of a class; invokespecial and invokestatic name one of a class or of an interface
+abbrev pub is_called : CallOp → Option Entry → Bool
+is_called Virtual one = is_method one
+is_called Special one = is_method one || is_interface_method one
+is_called Static one = is_method one || is_interface_method one
+
+-- whether an instruction names an entry of the kind that it must name
+unfoldable pub names_well : List Entry → Op → Bool
+names_well pool (ops.Ldc (ldcs.Narrow n)) = is_constant (slice_get pool n)
+names_well pool (ops.Ldc (ldcs.Wide n)) = is_constant (slice_get pool n)
+names_well pool (ops.Ldc2 n) = is_wide_constant (slice_get pool n)
+names_well pool (ops.Field op n) = is_field (slice_get pool n)
+names_well pool (ops.Call op n) = is_called op (slice_get pool n)
+names_well pool (ops.CallInterface n slots) = is_interface_method (slice_get pool n)
+names_well pool (ops.New (news.Object n)) = is_class pool n
+names_well pool (ops.New (news.RefArray n)) = is_class pool n
+names_well pool (ops.Cast op n) = is_class pool n
+names_well pool _ = true
+
+abbrev pub misnamed : List Entry → Placed → Option ℕ
+misnamed pool p = if names_well pool p.op then None else Some p.at

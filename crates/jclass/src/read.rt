@@ -1,0 +1,220 @@
+ghost use Rattle.std.specs.Prelude.{◌≡◌, ◌<◌, ◌^◌, IfOk, IsTrue, List, ℕ, Ok, length};
+ghost use Rattle.jbase.specs.Stops.{Gives};
+ghost use Rattle.jclass.specs.declared.class.ClassParts.{ClassParts};
+ghost use Rattle.jclass.specs.Class;
+ghost use Rattle.jclass.specs.Class.{GivesAt, Spells, class_file, ends};
+ghost use Rattle.jclass.specs.Rules.{names_class, names_super};
+ghost use Rattle.jformat.specs.Bodies.{whole};
+ghost use Rattle.jclass.specs.Basics.{index, unseen};
+ghost use Rattle.jclass.specs.Shapes;
+ghost use Rattle.jclass.specs.Shapes.{has_shape};
+ghost use Rattle.jclass.specs.declared.kind.ClassKind.TheVariants as kinds;
+
+use crate::access::Access;
+use crate::attribute::{ClassAttributes, access_of};
+use crate::class::{Attribute, ClassParts, MemberInfo};
+use crate::class_file::ClassFile;
+use crate::judge::judge;
+use crate::kind::ClassKind::{Index, Trailing, Truncated};
+use crate::kind::{ClassError, ClassKind};
+use crate::known::Known;
+use crate::member::{Fields, Methods};
+use crate::shape::{Head, head_of, skip_tail};
+use jbase::{Seq, Stop};
+use jformat::{ReadError, Reader, counted_of, fault, u16_of};
+use jpool::Pool;
+use std::alloc::Global;
+
+// ---- the third pass
+
+fn class_index_of<'a>(
+    known: &Known<'_>,
+    bytes: &'a [u8],
+) -> Result<(u16, &'a [u8]), ReadError<ClassKind>>
+    ensures { Gives (λ x. (x.0, x.1.now)) result ((index (names_class known.now)).read bytes.now) }
+{
+    let (i, rest) = u16_of(Truncated, bytes)?;
+    if known.names_class(i) {
+        return Ok((i, rest));
+    }
+    Err(fault(Index, bytes))
+}
+
+fn super_index_of<'a>(
+    known: &Known<'_>,
+    bytes: &'a [u8],
+) -> Result<(u16, &'a [u8]), ReadError<ClassKind>>
+    ensures { Gives (λ x. (x.0, x.1.now)) result ((index (names_super known.now)).read bytes.now) }
+{
+    let (i, rest) = u16_of(Truncated, bytes)?;
+    if known.names_super(i) {
+        return Ok((i, rest));
+    }
+    Err(fault(Index, bytes))
+}
+
+#[derive(Clone, Copy)]
+struct Interfaces<'r, 'p> {
+    known: &'r Known<'p>,
+}
+
+impl<'r, 'p> Reader for Interfaces<'r, 'p> {
+    type Kind = ClassKind;
+
+    type Item = u16;
+
+    ghost reads = { λ r. (index (names_class r.known.now)).read };
+
+    fn read<'a>(
+        &self,
+        _alloc: Global,
+        bytes: &'a [u8],
+    ) -> Result<(u16, &'a [u8]), ReadError<ClassKind>> {
+        class_index_of(self.known, bytes)
+    }
+}
+
+/// What stands behind the pool.
+#[derive(Debug, Drop)]
+struct Tail {
+    flags: Access,
+    this_class: u16,
+    super_class: u16,
+    interfaces: Seq<u16>,
+    fields: Seq<MemberInfo>,
+    methods: Seq<MemberInfo>,
+    attributes: Seq<Attribute>,
+}
+
+#[tactic(auto, unfolding(crate::specs::Class::tail))]
+fn tail_of<'a>(
+    alloc: Global,
+    known: &Known<'_>,
+    bytes: &'a [u8],
+) -> Result<(Tail, &'a [u8]), ReadError<ClassKind>>
+    ensures { Gives (λ x. ((x.0.flags, (x.0.this_class, (x.0.super_class, (x.0.interfaces, (x.0.fields, (x.0.methods, x.0.attributes)))))), x.1.now)) result ((Class.tail known.now).read bytes.now) }
+{
+    let (flags, rest) = access_of(bytes)?;
+    let (this_class, rest) = class_index_of(known, rest)?;
+    let (super_class, rest) = super_index_of(known, rest)?;
+    let (interfaces, rest) = counted_of(alloc, &Interfaces { known }, Truncated, rest)?;
+    let (fields, rest) = counted_of(alloc, &Fields { known }, Truncated, rest)?;
+    let (methods, rest) = counted_of(alloc, &Methods { known }, Truncated, rest)?;
+    let (attributes, rest) = counted_of(alloc, &ClassAttributes { known }, Truncated, rest)?;
+    Ok((
+        Tail {
+            flags,
+            this_class,
+            super_class,
+            interfaces,
+            fields,
+            methods,
+            attributes,
+        },
+        rest,
+    ))
+}
+
+/// What stands behind a pool, by that pool.
+fn tail_in<'a>(
+    alloc: Global,
+    pool: &Pool,
+    bytes: &'a [u8],
+) -> Result<(Tail, &'a [u8]), ReadError<ClassKind>>
+    ensures { Gives (λ x. ((x.0.flags, (x.0.this_class, (x.0.super_class, (x.0.interfaces, (x.0.fields, (x.0.methods, x.0.attributes)))))), x.1.now)) result ((Class.tail pool.now).read bytes.now) }
+{
+    let known = Known::of(alloc, pool)?;
+    let (tail, rest) = tail_of(alloc, &known, bytes)?;
+    Ok((tail, rest))
+}
+
+// ---- the passes
+
+/// Goes over the rest of a class file, behind which nothing may stand.
+fn skip_to_the_end(alloc: Global, bytes: &[u8]) -> Result<(), ReadError<ClassKind>>
+    ensures { Gives (λ x. x) result (ends (unseen (Shapes.tail.read bytes.now))) }
+{
+    let rest = skip_tail(alloc, bytes)?;
+    if !rest.is_empty() {
+        return Err(fault(Trailing, rest));
+    }
+    Ok(())
+}
+
+/// The first pass: the front of a class file, and the bytes behind it, which have the shape of the rest of one.
+fn shape_of(alloc: Global, bytes: &[u8]) -> Result<(Head, &[u8]), ReadError<ClassKind>>
+    ensures front { IfOk result (λ x. Shapes.head.read bytes.now ≡ Ok ((tt, (x.0.minor, (x.0.major, x.0.entries))), x.1.now)) }
+    ensures shape { Gives (λ _. tt) result (has_shape bytes.now) }
+{
+    let (head, rest) = head_of(alloc, bytes)?;
+    skip_to_the_end(alloc, rest)?;
+    Ok((head, rest))
+}
+
+/// The second and third pass, over bytes whose front is known.
+#[tactic(auto, unfolding(crate::specs::Class::strict, crate::specs::Judging::head))]
+fn parts_of(
+    alloc: Global,
+    bytes: &[u8],
+    head: Head,
+    rest: &[u8],
+) -> Result<ClassParts, ReadError<ClassKind>>
+    requires { Shapes.head.read bytes.now ≡ Ok ((tt, (head.minor, (head.major, head.entries))), rest.now) }
+    ensures { Gives (λ c. c) result ((whole kinds.Trailing Class.strict).read bytes.now) }
+{
+    let left = bytes.len().saturating_sub(10);
+    if let Some(found) = judge(alloc, head.entries.as_slice(), left)? {
+        return Err(Stop::Fault(found));
+    }
+    let pool = Pool::from_entries(head.entries);
+    let (tail, rest) = tail_in(alloc, &pool, rest)?;
+    if !rest.is_empty() {
+        return Err(fault(Trailing, rest));
+    }
+    Ok(ClassParts {
+        minor: head.minor,
+        major: head.major,
+        pool,
+        flags: tail.flags,
+        this_class: tail.this_class,
+        super_class: tail.super_class,
+        interfaces: tail.interfaces,
+        fields: tail.fields,
+        methods: tail.methods,
+        attributes: tail.attributes,
+    })
+}
+
+/// The class file that all of the bytes are.
+#[tactic(auto, unfolding(crate::specs::Class::class_file))]
+fn class_of(alloc: Global, bytes: &[u8]) -> Result<ClassFile, ReadError<ClassKind>>
+    ensures { Gives (λ c. c) result (class_file.read bytes.now) }
+{
+    let (head, rest) = shape_of(alloc, bytes)?;
+    let parts = parts_of(alloc, bytes, head, rest)?;
+    Ok(ClassFile::from_parts(parts))
+}
+
+/// The class file that the bytes spell (JVMS 4.1), or the first fault.
+///
+/// There are three passes, and the first that finds a fault ends the reading: the shape of all of the file, front to back, its
+/// attributes as runs of bytes; the pool's entries, one after the other, each fault at its tag; and the rest by the pool, front
+/// to back.
+pub fn read_class(alloc: Global, bytes: &[u8]) -> Result<ClassFile, ClassError>
+    requires { length bytes.now < 2 ^ 31 }
+    // What is read is spelled so.
+    ensures found { IfOk result (λ c. Spells bytes.now c) }
+    // What is spelled so is read, unless memory runs out.
+    ensures only { (c : ClassParts) → Spells bytes.now c → GivesAt bytes.now result (Ok c) }
+    // Which fault it is, and where.
+    ensures exact { GivesAt bytes.now result (class_file.read bytes.now) }
+{
+    match class_of(alloc, bytes) {
+        Ok(class) => Ok(class),
+        Err(Stop::Memory) => Err(ClassError::Memory),
+        Err(Stop::Fault(found)) => Err(ClassError::At {
+            at: (bytes.len() - found.left) as u32,
+            kind: found.kind,
+        }),
+    }
+}

@@ -1,0 +1,215 @@
+ghost use Rattle.std.specs.Prelude.{◌≡◌};
+ghost use Rattle.std.specs.Int.{w16};
+ghost use Rattle.jbase.specs.Stops.{Gives};
+ghost use Rattle.jformat.specs.Format.{number_at};
+ghost use Rattle.jformat.specs.Bodies.{counted, counted_at};
+ghost use Rattle.jclass.specs.Basics.{pool_kind, run, u2, unseen};
+ghost use Rattle.jclass.specs.Shapes;
+ghost use Rattle.jclass.specs.Shapes.{magic, major, tail};
+ghost use Rattle.jclass.specs.declared.kind.ClassKind.TheVariants as kinds;
+
+use crate::kind::ClassKind;
+use crate::kind::ClassKind::{Magic, Truncated, Version};
+use jbase::{Seq, Stop};
+use jformat::{Fault, ReadError, Reader, counted_of, fault, run_of, u16_of, u32_of};
+use jpool::{Entry, PoolKind, entries_of};
+use std::alloc::Global;
+
+/// What stands in a class file up to the end of its pool.
+#[derive(Debug, Drop)]
+pub struct Head {
+    pub minor: u16,
+    pub major: u16,
+    pub entries: Seq<Entry>,
+}
+
+fn magic_of(bytes: &[u8]) -> Result<&[u8], ReadError<ClassKind>>
+    ensures { Gives (λ x. (tt, x.now)) result (magic.read bytes.now) }
+{
+    let (word, rest) = u32_of(Truncated, bytes)?;
+    if word == 0xcafe_babe {
+        return Ok(rest);
+    }
+    Err(fault(Magic, bytes))
+}
+
+fn major_of(bytes: &[u8]) -> Result<(u16, &[u8]), ReadError<ClassKind>>
+    ensures { Gives (λ x. (x.0, x.1.now)) result (major.read bytes.now) }
+{
+    let (version, rest) = u16_of(Truncated, bytes)?;
+    if version < 50 || 52 < version {
+        return Err(fault(Version, bytes));
+    }
+    Ok((version, rest))
+}
+
+/// A fault of the pool under the name that class files have for it.
+pub fn class_kind(kind: PoolKind) -> ClassKind
+    ensures { result ≡ pool_kind kind }
+{
+    match kind {
+        PoolKind::Truncated => ClassKind::Truncated,
+        PoolKind::BadTag => ClassKind::Tag,
+        PoolKind::BadIndex => ClassKind::Index,
+        PoolKind::BadName => ClassKind::Name,
+        PoolKind::BadDescriptor => ClassKind::Descriptor,
+    }
+}
+
+#[tactic(auto, unfolding(crate::specs::Shapes::entries))]
+fn pool_of(alloc: Global, bytes: &[u8]) -> Result<(Seq<Entry>, &[u8]), ReadError<ClassKind>>
+    ensures { Gives (λ x. (x.0, x.1.now)) result (Shapes.entries.read bytes.now) }
+{
+    match entries_of(alloc, bytes) {
+        Ok((entries, rest)) => Ok((entries, rest)),
+        Err(Stop::Memory) => Err(Stop::Memory),
+        Err(Stop::Fault(found)) => Err(Stop::Fault(Fault {
+            left: found.left,
+            kind: class_kind(found.kind),
+        })),
+    }
+}
+
+/// The front of a class file up to the end of its pool, as far as its shape goes, and the bytes behind it.
+#[tactic(auto, unfolding(crate::specs::Shapes::head))]
+pub fn head_of(alloc: Global, bytes: &[u8]) -> Result<(Head, &[u8]), ReadError<ClassKind>>
+    ensures { Gives (λ x. ((tt, (x.0.minor, (x.0.major, x.0.entries))), x.1.now)) result (Shapes.head.read bytes.now) }
+{
+    let rest = magic_of(bytes)?;
+    let (minor, rest) = u16_of(Truncated, rest)?;
+    let (major, rest) = major_of(rest)?;
+    let (entries, rest) = pool_of(alloc, rest)?;
+    Ok((
+        Head {
+            minor,
+            major,
+            entries,
+        },
+        rest,
+    ))
+}
+
+// ---- going over what isn't looked at
+
+/// What lies behind bytes that stand behind their number.
+pub fn skip_run(bytes: &[u8]) -> Result<&[u8], ReadError<ClassKind>>
+    ensures { Gives (λ x. (tt, x.now)) result (unseen (run.read bytes.now)) }
+{
+    let (count, rest) = u32_of(Truncated, bytes)?;
+    let (_, rest) = run_of(Truncated, count as usize, rest)?;
+    Ok(rest)
+}
+
+#[derive(Clone, Copy)]
+struct Indices;
+
+impl Reader for Indices {
+    type Kind = ClassKind;
+
+    type Item = ();
+
+    ghost reads = { λ _ bytes. unseen (u2.read bytes) };
+
+    fn read<'a>(
+        &self,
+        _alloc: Global,
+        bytes: &'a [u8],
+    ) -> Result<((), &'a [u8]), ReadError<ClassKind>> {
+        let (_, rest) = u16_of(Truncated, bytes)?;
+        Ok(((), rest))
+    }
+}
+
+#[derive(Clone, Copy)]
+struct Attributes;
+
+impl Reader for Attributes {
+    type Kind = ClassKind;
+
+    type Item = ();
+
+    ghost reads = { λ _ bytes. unseen (Shapes.attribute.read bytes) };
+
+    fn read<'a>(
+        &self,
+        _alloc: Global,
+        bytes: &'a [u8],
+    ) -> Result<((), &'a [u8]), ReadError<ClassKind>> {
+        let (_, rest) = u16_of(Truncated, bytes)?;
+        let rest = skip_run(rest)?;
+        Ok(((), rest))
+    }
+}
+
+/// What lies behind values that stand behind their number.
+fn skip_counted<'a, R: Reader<Kind = ClassKind, Item = ()>>(
+    alloc: Global,
+    reader: &R,
+    bytes: &'a [u8],
+) -> Result<&'a [u8], ReadError<ClassKind>>
+    ensures { Gives (λ x. (tt, x.now)) result (unseen (counted_at (number_at w16 kinds.Truncated) (R.reads reader.now) bytes.now)) }
+{
+    let (_, rest) = counted_of(alloc, reader, Truncated, bytes)?;
+    Ok(rest)
+}
+
+fn skip_attributes(alloc: Global, bytes: &[u8]) -> Result<&[u8], ReadError<ClassKind>>
+    ensures { Gives (λ x. (tt, x.now)) result (unseen ((counted u2 Shapes.attribute).read bytes.now)) }
+{
+    skip_counted(alloc, &Attributes, bytes)
+}
+
+fn skip_indices(alloc: Global, bytes: &[u8]) -> Result<&[u8], ReadError<ClassKind>>
+    ensures { Gives (λ x. (tt, x.now)) result (unseen ((counted u2 u2).read bytes.now)) }
+{
+    skip_counted(alloc, &Indices, bytes)
+}
+
+fn skip_member(alloc: Global, bytes: &[u8]) -> Result<&[u8], ReadError<ClassKind>>
+    ensures { Gives (λ x. (tt, x.now)) result (unseen (Shapes.member.read bytes.now)) }
+{
+    let (_, rest) = u16_of(Truncated, bytes)?;
+    let (_, rest) = u16_of(Truncated, rest)?;
+    let (_, rest) = u16_of(Truncated, rest)?;
+    skip_attributes(alloc, rest)
+}
+
+#[derive(Clone, Copy)]
+struct Members;
+
+impl Reader for Members {
+    type Kind = ClassKind;
+
+    type Item = ();
+
+    ghost reads = { λ _ bytes. unseen (Shapes.member.read bytes) };
+
+    fn read<'a>(
+        &self,
+        alloc: Global,
+        bytes: &'a [u8],
+    ) -> Result<((), &'a [u8]), ReadError<ClassKind>> {
+        let rest = skip_member(alloc, bytes)?;
+        Ok(((), rest))
+    }
+}
+
+fn skip_members(alloc: Global, bytes: &[u8]) -> Result<&[u8], ReadError<ClassKind>>
+    ensures { Gives (λ x. (tt, x.now)) result (unseen ((counted u2 Shapes.member).read bytes.now)) }
+{
+    skip_counted(alloc, &Members, bytes)
+}
+
+/// What lies behind the rest of a class file, as far as its shape goes. Nothing is kept of what is gone over.
+#[tactic(auto, unfolding(crate::specs::Shapes::tail))]
+pub fn skip_tail(alloc: Global, bytes: &[u8]) -> Result<&[u8], ReadError<ClassKind>>
+    ensures { Gives (λ x. (tt, x.now)) result (unseen (tail.read bytes.now)) }
+{
+    let (_, rest) = u16_of(Truncated, bytes)?;
+    let (_, rest) = u16_of(Truncated, rest)?;
+    let (_, rest) = u16_of(Truncated, rest)?;
+    let rest = skip_indices(alloc, rest)?;
+    let rest = skip_members(alloc, rest)?;
+    let rest = skip_members(alloc, rest)?;
+    skip_attributes(alloc, rest)
+}

@@ -1,0 +1,604 @@
+ghost use Rattle.std.specs.Prelude.{◌≡◌, ◌++◌, IfOk, IsTrue, OnOk, false};
+ghost use Rattle.jformat.specs.Bodies.{block, whole};
+ghost use Rattle.jformat.specs.States.{counted_from};
+ghost use Rattle.jmaps.specs.Frames.{maps};
+ghost use Rattle.jclass.specs.Basics.{access, index, u2, u4};
+ghost use Rattle.jclass.specs.declared.kind.ClassKind.TheVariants.{Trailing, Truncated};
+ghost use Rattle.jclass.specs.Rules.{names_class};
+ghost use Rattle.jclass.specs.Attributes;
+ghost use Rattle.jclass.specs.Attributes.{class_attribute, constant, field_attribute, saw_constant};
+ghost use Rattle.jclass.specs.Codes;
+ghost use Rattle.jclass.specs.Codes.{attribute, code_body, handler, ops, saw_maps};
+ghost use Rattle.jclass.specs.CodeLaws.{maps_fitting, maps_spelling};
+ghost use Rattle.jclass.specs.Members.{code_fits, code_spell, field, method, method_attribute};
+ghost use Rattle.jclass.specs.Class;
+ghost use Rattle.jclass.specs.Class.{Spells, class_parts};
+ghost use Rattle.jclass.specs.Judging;
+
+use crate::access::Access;
+use crate::attribute::is_constant;
+use crate::class::{Attribute, ClassParts, CodeAttribute, MemberInfo};
+use crate::class_file::ClassFile;
+use crate::known::Known;
+use bitflags::Flags;
+use jbase::Seq;
+use jcode::{Handler, Placed, encode};
+use jformat::{
+    StateWriter, Writer, put_block, put_by, put_bytes, put_counted, put_sized32, put_u16, put_u32,
+};
+use jmaps::{RawFrame, put_frames};
+use jpool::put_entries;
+use std::alloc::{AllocError, Global};
+
+fn put_access(flags: Access, out: &mut Seq<u8>) -> Result<(), AllocError>
+    ensures { OnOk result (out.new ≡ out.old ++ access.spell flags) }
+{
+    put_u16(flags.bits(), out)
+}
+
+// ---- attributes of classes and fields
+
+#[tactic(auto, unfolding(crate::specs::Attributes::class_attribute))]
+fn put_class_attribute(
+    known: &Known<'_>,
+    one: &Attribute,
+    out: &mut Seq<u8>,
+) -> Result<(), AllocError>
+    requires { IsTrue ((class_attribute known.now).fits one.now) }
+    ensures { OnOk result (out.new ≡ out.old ++ (class_attribute known.now).spell one.now) }
+{
+    let _known = known;
+    match one {
+        Attribute::Raw { name, bytes } => {
+            put_u16(*name, out)?;
+            put_sized32(bytes.as_slice(), out)
+        }
+        _ => Ok(()),
+    }
+}
+
+#[derive(Clone, Copy)]
+struct ClassAttributeWriter<'r, 'p> {
+    known: &'r Known<'p>,
+}
+
+impl<'r, 'p> Writer for ClassAttributeWriter<'r, 'p> {
+    type Item = Attribute;
+
+    ghost spells = { λ w. (class_attribute w.known.now).spell };
+
+    ghost fits = { λ w. (class_attribute w.known.now).fits };
+
+    fn write(&self, _alloc: Global, one: &Attribute, out: &mut Seq<u8>) -> Result<(), AllocError> {
+        put_class_attribute(self.known, one, out)
+    }
+}
+
+#[derive(Clone, Copy)]
+struct FieldAttributeWriter<'r, 'p> {
+    known: &'r Known<'p>,
+    flags: Access,
+    desc: u16,
+}
+
+fn put_constant(value: u16, out: &mut Seq<u8>) -> Result<(), AllocError>
+    ensures { OnOk result (out.new ≡ out.old ++ (block u4 Truncated (whole Trailing u2)).spell value) }
+{
+    put_u32(2, out)?;
+    put_u16(value, out)
+}
+
+#[tactic(auto, unfolding(crate::specs::Attributes::field_attribute))]
+fn put_field_attribute(
+    field: FieldAttributeWriter<'_, '_>,
+    seen: bool,
+    one: &Attribute,
+    out: &mut Seq<u8>,
+) -> Result<(), AllocError>
+    requires { IsTrue ((field_attribute field.known.now field.flags field.desc seen).fits one.now) }
+    ensures { OnOk result (out.new ≡ out.old ++ (field_attribute field.entry.known.now field.entry.flags field.entry.desc seen).spell one.now) }
+{
+    match one {
+        Attribute::ConstantValue { name, value } => {
+            put_u16(*name, out)?;
+            if is_constant(field.known, field.flags, *name) {
+                return put_constant(*value, out);
+            }
+            Ok(())
+        }
+        Attribute::Raw { name, bytes } => {
+            put_u16(*name, out)?;
+            if is_constant(field.known, field.flags, *name) {
+                return Ok(());
+            }
+            put_sized32(bytes.as_slice(), out)
+        }
+        Attribute::Code { .. } => Ok(()),
+    }
+}
+
+impl<'r, 'p> StateWriter for FieldAttributeWriter<'r, 'p> {
+    type State = bool;
+
+    type Item = Attribute;
+
+    ghost spells = { λ w seen. (field_attribute w.known.now w.flags w.desc seen).spell };
+
+    ghost fits = { λ w seen. (field_attribute w.known.now w.flags w.desc seen).fits };
+
+    ghost goes_to = { λ _. saw_constant };
+
+    fn write(
+        &self,
+        _alloc: Global,
+        seen: bool,
+        one: &Attribute,
+        out: &mut Seq<u8>,
+    ) -> Result<(), AllocError> {
+        put_field_attribute(*self, seen, one, out)
+    }
+
+    fn next(&self, seen: bool, one: &Attribute) -> bool {
+        match one {
+            Attribute::ConstantValue { .. } => true,
+            _ => seen,
+        }
+    }
+}
+
+// ---- code
+
+#[derive(Clone, Copy)]
+struct MapsWriter<'r, 'p> {
+    known: &'r Known<'p>,
+}
+
+#[tactic(auto, using(crate::specs::CodeLaws::maps_fitting, crate::specs::CodeLaws::maps_spelling))]
+fn put_maps(
+    alloc: Global,
+    known: &Known<'_>,
+    frames: &[RawFrame],
+    out: &mut Seq<u8>,
+) -> Result<(), AllocError>
+    requires { IsTrue ((Codes.maps known.now).fits frames.now) }
+    ensures { OnOk result (out.new ≡ out.old ++ (Codes.maps known.now).spell frames.now) }
+{
+    let _known = known;
+    put_frames(alloc, frames, out)
+}
+
+impl<'r, 'p> Writer for MapsWriter<'r, 'p> {
+    type Item = Seq<RawFrame>;
+
+    ghost spells = { λ w. (Codes.maps w.known.now).spell };
+
+    ghost fits = { λ w. (Codes.maps w.known.now).fits };
+
+    fn write(
+        &self,
+        alloc: Global,
+        frames: &Seq<RawFrame>,
+        out: &mut Seq<u8>,
+    ) -> Result<(), AllocError> {
+        put_maps(alloc, self.known, frames.as_slice(), out)
+    }
+}
+
+#[tactic(auto, unfolding(crate::specs::Codes::attribute))]
+fn put_attribute(
+    alloc: Global,
+    known: &Known<'_>,
+    seen: bool,
+    one: &CodeAttribute,
+    out: &mut Seq<u8>,
+) -> Result<(), AllocError>
+    requires { IsTrue ((attribute known.now seen).fits one.now) }
+    ensures { OnOk result (out.new ≡ out.old ++ (attribute known.now seen).spell one.now) }
+{
+    let _seen = seen;
+    match one {
+        CodeAttribute::Maps { name, frames } => {
+            put_u16(*name, out)?;
+            if known.is_maps(*name) {
+                return put_block(alloc, &MapsWriter { known }, frames, out);
+            }
+            Ok(())
+        }
+        CodeAttribute::Raw { name, bytes } => {
+            put_u16(*name, out)?;
+            if known.is_maps(*name) {
+                return Ok(());
+            }
+            put_sized32(bytes.as_slice(), out)
+        }
+    }
+}
+
+#[derive(Clone, Copy)]
+struct CodeAttributeWriter<'r, 'p> {
+    known: &'r Known<'p>,
+}
+
+impl<'r, 'p> StateWriter for CodeAttributeWriter<'r, 'p> {
+    type State = bool;
+
+    type Item = CodeAttribute;
+
+    ghost spells = { λ w seen. (attribute w.known.now seen).spell };
+
+    ghost fits = { λ w seen. (attribute w.known.now seen).fits };
+
+    ghost goes_to = { λ _. saw_maps };
+
+    fn write(
+        &self,
+        alloc: Global,
+        seen: bool,
+        one: &CodeAttribute,
+        out: &mut Seq<u8>,
+    ) -> Result<(), AllocError> {
+        put_attribute(alloc, self.known, seen, one, out)
+    }
+
+    fn next(&self, seen: bool, one: &CodeAttribute) -> bool {
+        match one {
+            CodeAttribute::Maps { .. } => true,
+            CodeAttribute::Raw { .. } => seen,
+        }
+    }
+}
+
+#[tactic(auto, unfolding(crate::specs::Codes::handler))]
+fn put_handler(
+    known: &Known<'_>,
+    ops: &[Placed],
+    one: &Handler,
+    out: &mut Seq<u8>,
+) -> Result<(), AllocError>
+    requires { IsTrue ((handler known.now ops.now).fits one.now) }
+    ensures { OnOk result (out.new ≡ out.old ++ (handler known.now ops.now).spell one.now) }
+{
+    let (_known, _ops) = (known, ops);
+    put_u16(one.start as u16, out)?;
+    put_u16(one.end as u16, out)?;
+    put_u16(one.at as u16, out)?;
+    put_u16(one.class, out)
+}
+
+#[derive(Clone, Copy)]
+struct HandlerWriter<'r, 'p> {
+    known: &'r Known<'p>,
+    ops: &'r [Placed],
+}
+
+impl<'r, 'p> Writer for HandlerWriter<'r, 'p> {
+    type Item = Handler;
+
+    ghost spells = { λ w. (handler w.known.now w.ops.now).spell };
+
+    ghost fits = { λ w. (handler w.known.now w.ops.now).fits };
+
+    fn write(&self, _alloc: Global, one: &Handler, out: &mut Seq<u8>) -> Result<(), AllocError> {
+        put_handler(self.known, self.ops, one, out)
+    }
+}
+
+#[tactic(auto, unfolding(crate::specs::Codes::ops))]
+fn put_ops(
+    alloc: Global,
+    known: &Known<'_>,
+    items: &[Placed],
+    out: &mut Seq<u8>,
+) -> Result<(), AllocError>
+    requires { IsTrue ((ops known.now).fits items.now) }
+    ensures { OnOk result (out.new ≡ out.old ++ (ops known.now).spell items.now) }
+{
+    let _known = known;
+    let text = encode(alloc, items)?;
+    put_bytes(text.as_slice(), out)
+}
+
+/// Writes the instructions of a method.
+#[derive(Clone, Copy)]
+struct OpsWriter<'r, 'p> {
+    known: &'r Known<'p>,
+}
+
+impl<'r, 'p> Writer for OpsWriter<'r, 'p> {
+    type Item = Seq<Placed>;
+
+    ghost spells = { λ w. (ops w.known.now).spell };
+
+    ghost fits = { λ w. (ops w.known.now).fits };
+
+    fn write(&self, alloc: Global, one: &Seq<Placed>, out: &mut Seq<u8>) -> Result<(), AllocError> {
+        put_ops(alloc, self.known, one.as_slice(), out)
+    }
+}
+
+fn put_code_attributes(
+    alloc: Global,
+    known: &Known<'_>,
+    attributes: &[CodeAttribute],
+    out: &mut Seq<u8>,
+) -> Result<(), AllocError>
+    requires { IsTrue ((counted_from u2 (attribute known.now) saw_maps false).fits attributes.now) }
+    ensures { OnOk result (out.new ≡ out.old ++ (counted_from u2 (attribute known.now) saw_maps false).spell attributes.now) }
+{
+    put_u16(attributes.len() as u16, out)?;
+    put_by(
+        alloc,
+        &CodeAttributeWriter { known },
+        false,
+        attributes,
+        out,
+    )
+}
+
+/// Writes what stands in a Code attribute behind its length. The item is the attribute.
+#[derive(Clone, Copy)]
+struct CodeWriter<'r, 'p> {
+    known: &'r Known<'p>,
+}
+
+#[tactic(auto, unfolding(crate::specs::Codes::code_content))]
+fn put_code(
+    alloc: Global,
+    known: &Known<'_>,
+    one: &Attribute,
+    out: &mut Seq<u8>,
+) -> Result<(), AllocError>
+    requires { IsTrue (code_fits known.now one.now) }
+    ensures { OnOk result (out.new ≡ out.old ++ code_spell known.now one.now) }
+{
+    let Attribute::Code {
+        max_stack,
+        max_locals,
+        ops,
+        handlers,
+        attributes,
+        ..
+    } = one
+    else {
+        return Ok(());
+    };
+    put_u16(*max_stack, out)?;
+    put_u16(*max_locals, out)?;
+    put_block(alloc, &OpsWriter { known }, ops, out)?;
+    let writer = HandlerWriter {
+        known,
+        ops: ops.as_slice(),
+    };
+    put_counted(alloc, &writer, handlers.as_slice(), out)?;
+    put_code_attributes(alloc, known, attributes.as_slice(), out)
+}
+
+impl<'r, 'p> Writer for CodeWriter<'r, 'p> {
+    type Item = Attribute;
+
+    ghost spells = { λ w. code_spell w.known.now };
+
+    ghost fits = { λ w. code_fits w.known.now };
+
+    fn write(&self, alloc: Global, one: &Attribute, out: &mut Seq<u8>) -> Result<(), AllocError> {
+        put_code(alloc, self.known, one, out)
+    }
+}
+
+// ---- members
+
+#[tactic(auto, unfolding(crate::specs::Members::method_attribute))]
+fn put_method_attribute(
+    alloc: Global,
+    known: &Known<'_>,
+    one: &Attribute,
+    out: &mut Seq<u8>,
+) -> Result<(), AllocError>
+    requires { IsTrue ((method_attribute known.now).fits one.now) }
+    ensures { OnOk result (out.new ≡ out.old ++ (method_attribute known.now).spell one.now) }
+{
+    match one {
+        Attribute::Code { name, .. } => {
+            put_u16(*name, out)?;
+            if known.is_code(*name) {
+                return put_block(alloc, &CodeWriter { known }, one, out);
+            }
+            Ok(())
+        }
+        Attribute::Raw { name, bytes } => {
+            put_u16(*name, out)?;
+            if known.is_code(*name) {
+                return Ok(());
+            }
+            put_sized32(bytes.as_slice(), out)
+        }
+        Attribute::ConstantValue { .. } => Ok(()),
+    }
+}
+
+#[derive(Clone, Copy)]
+struct MethodAttributeWriter<'r, 'p> {
+    known: &'r Known<'p>,
+}
+
+impl<'r, 'p> Writer for MethodAttributeWriter<'r, 'p> {
+    type Item = Attribute;
+
+    ghost spells = { λ w. (method_attribute w.known.now).spell };
+
+    ghost fits = { λ w. (method_attribute w.known.now).fits };
+
+    fn write(&self, alloc: Global, one: &Attribute, out: &mut Seq<u8>) -> Result<(), AllocError> {
+        put_method_attribute(alloc, self.known, one, out)
+    }
+}
+
+fn put_field_attributes(
+    alloc: Global,
+    known: &Known<'_>,
+    one: &MemberInfo,
+    out: &mut Seq<u8>,
+) -> Result<(), AllocError>
+    requires { IsTrue ((counted_from u2 (field_attribute known.now one.now.flags one.now.desc) saw_constant false).fits one.now.attributes) }
+    ensures { OnOk result (out.new ≡ out.old ++ (counted_from u2 (field_attribute known.now one.now.flags one.now.desc) saw_constant false).spell one.now.attributes) }
+{
+    let attributes = one.attributes.as_slice();
+    let writer = FieldAttributeWriter {
+        known,
+        flags: one.flags,
+        desc: one.desc,
+    };
+    put_u16(attributes.len() as u16, out)?;
+    put_by(alloc, &writer, false, attributes, out)
+}
+
+#[tactic(auto, unfolding(crate::specs::Members::field, crate::specs::Rules::field_descriptor))]
+fn put_field(
+    alloc: Global,
+    known: &Known<'_>,
+    one: &MemberInfo,
+    out: &mut Seq<u8>,
+) -> Result<(), AllocError>
+    requires { IsTrue ((field known.now).fits one.now) }
+    ensures { OnOk result (out.new ≡ out.old ++ (field known.now).spell one.now) }
+{
+    put_access(one.flags, out)?;
+    put_u16(one.name, out)?;
+    put_u16(one.desc, out)?;
+    put_field_attributes(alloc, known, one, out)
+}
+
+#[derive(Clone, Copy)]
+struct FieldWriter<'r, 'p> {
+    known: &'r Known<'p>,
+}
+
+impl<'r, 'p> Writer for FieldWriter<'r, 'p> {
+    type Item = MemberInfo;
+
+    ghost spells = { λ w. (field w.known.now).spell };
+
+    ghost fits = { λ w. (field w.known.now).fits };
+
+    fn write(&self, alloc: Global, one: &MemberInfo, out: &mut Seq<u8>) -> Result<(), AllocError> {
+        put_field(alloc, self.known, one, out)
+    }
+}
+
+#[tactic(auto, unfolding(crate::specs::Members::method, crate::specs::Members::method_parts, crate::specs::Rules::method_descriptor))]
+fn put_method(
+    alloc: Global,
+    known: &Known<'_>,
+    one: &MemberInfo,
+    out: &mut Seq<u8>,
+) -> Result<(), AllocError>
+    requires { IsTrue ((method known.now).fits one.now) }
+    ensures { OnOk result (out.new ≡ out.old ++ (method known.now).spell one.now) }
+{
+    put_access(one.flags, out)?;
+    put_u16(one.name, out)?;
+    put_u16(one.desc, out)?;
+    put_counted(
+        alloc,
+        &MethodAttributeWriter { known },
+        one.attributes.as_slice(),
+        out,
+    )
+}
+
+#[derive(Clone, Copy)]
+struct MethodWriter<'r, 'p> {
+    known: &'r Known<'p>,
+}
+
+impl<'r, 'p> Writer for MethodWriter<'r, 'p> {
+    type Item = MemberInfo;
+
+    ghost spells = { λ w. (method w.known.now).spell };
+
+    ghost fits = { λ w. (method w.known.now).fits };
+
+    fn write(&self, alloc: Global, one: &MemberInfo, out: &mut Seq<u8>) -> Result<(), AllocError> {
+        put_method(alloc, self.known, one, out)
+    }
+}
+
+// ---- the class file
+
+#[derive(Clone, Copy)]
+struct InterfaceWriter<'r, 'p> {
+    known: &'r Known<'p>,
+}
+
+impl<'r, 'p> Writer for InterfaceWriter<'r, 'p> {
+    type Item = u16;
+
+    ghost spells = { λ w. (index (names_class w.known.now)).spell };
+
+    ghost fits = { λ w. (index (names_class w.known.now)).fits };
+
+    fn write(&self, _alloc: Global, one: &u16, out: &mut Seq<u8>) -> Result<(), AllocError> {
+        put_u16(*one, out)
+    }
+}
+
+#[tactic(auto, unfolding(crate::specs::Judging::head, crate::specs::Shapes::head, crate::specs::Shapes::entries))]
+fn put_head(alloc: Global, one: &ClassParts, out: &mut Seq<u8>) -> Result<(), AllocError>
+    requires { IsTrue (Judging.head.fits (class_parts one.now).0) }
+    ensures { OnOk result (out.new ≡ out.old ++ Judging.head.spell (class_parts one.now).0) }
+{
+    put_u32(0xcafe_babe, out)?;
+    put_u16(one.minor, out)?;
+    put_u16(one.major, out)?;
+    put_entries(alloc, one.pool.entries(), out)
+}
+
+/// Writes what stands behind the pool that is known.
+#[tactic(auto, unfolding(crate::specs::Class::tail))]
+fn put_tail_by(
+    alloc: Global,
+    known: &Known<'_>,
+    one: &ClassParts,
+    out: &mut Seq<u8>,
+) -> Result<(), AllocError>
+    requires { IsTrue ((Class.tail known.now).fits (class_parts one.now).1) }
+    ensures { OnOk result (out.new ≡ out.old ++ (Class.tail known.now).spell (class_parts one.now).1) }
+{
+    put_access(one.flags, out)?;
+    put_u16(one.this_class, out)?;
+    put_u16(one.super_class, out)?;
+    put_counted(
+        alloc,
+        &InterfaceWriter { known },
+        one.interfaces.as_slice(),
+        out,
+    )?;
+    put_counted(alloc, &FieldWriter { known }, one.fields.as_slice(), out)?;
+    put_counted(alloc, &MethodWriter { known }, one.methods.as_slice(), out)?;
+    put_counted(
+        alloc,
+        &ClassAttributeWriter { known },
+        one.attributes.as_slice(),
+        out,
+    )
+}
+
+fn put_tail(alloc: Global, one: &ClassParts, out: &mut Seq<u8>) -> Result<(), AllocError>
+    requires { IsTrue ((Class.tail one.now.pool).fits (class_parts one.now).1) }
+    ensures { OnOk result (out.new ≡ out.old ++ (Class.tail one.now.pool).spell (class_parts one.now).1) }
+{
+    let known = Known::of(alloc, &one.pool)?;
+    put_tail_by(alloc, &known, one, out)
+}
+
+/// The bytes that spell a class file: where it was read from bytes, those very bytes.
+#[tactic(auto, unfolding(crate::specs::Class::class_file, crate::specs::Class::strict))]
+pub fn write_class(alloc: Global, c: &ClassFile) -> Result<Vec<u8>, AllocError>
+    ensures { IfOk result (λ text. Spells text.items c.now) }
+{
+    let parts = c.parts();
+    let mut out = Seq::new(alloc);
+    put_head(alloc, parts, &mut out)?;
+    put_tail(alloc, parts, &mut out)?;
+    Ok(out.into_vec())
+}
