@@ -1,14 +1,13 @@
 -- The answer to the words, case by case, and why it is the status where no fault was counted.
-use Rattle.std.proofs.Common.{◌≡◌, ◌⊎◌, ℕ, List, Option, Some, None, Result, Ok, Err, refl, sym, ap, subst, ◌∙◌, inl, inr}
+use Rattle.std.proofs.Common.{◌≡◌, ◌⊎◌, ℕ, List, Option, Some, None, Result, Err, refl, sym, ap, ◌∙◌, inl, inr}
 use Rattle.jbase.specs.Causes.{Rose}
 use Rattle.jio.specs.Held.{File}
-use Rattle.jdriver.specs.declared.task.Refusal.{Refusal}
 use Rattle.jdriver.specs.declared.task.Task.{Task}
 use Rattle.jdriver.specs.declared.status.Status.{Status}
 use Rattle.jdriver.specs.declared.status.Status.TheVariants as statuses
 use Rattle.jdriver.specs.Words.{command}
-use Rattle.jdriver.specs.Plans.{Stopped, Missing, Refused, Misses, task_at}
-use Rattle.jdriver.specs.Answers.{Answer, Answers, answer, answer_to, shown, usage_answer, refused_answer, refusal_line, ran, run_of}
+use Rattle.jdriver.specs.Plans.{Stopped, Missing, Misses, task_at}
+use Rattle.jdriver.specs.Answers.{Answer, Answers, answer, answer_to, shown, usage_answer}
 
 pub usage_is : (words : List (List ℕ)) (files : List File) → None ≡ command words → answer words files ≡ usage_answer
 unfolding answer

@@ -1,21 +1,27 @@
 -- What is to be done with the files that are held: they are read in the order job, policy, class files, and each is judged
 -- before the next is read; then the classes join, and then `main` is looked for.
-use Rattle.std.specs.Prelude.{◌≡◌, ℕ, List, [], ◌∷◌, Option, Some, None, Result, Ok, Err, map}
+use Rattle.std.specs.Prelude.{◌≡◌, ℕ, ◌-◌, List, [], length, Option, Some, None, Result, Ok, Err, map, if◌then◌else◌}
 use Rattle.jbase.specs.Each.{each}
 use Rattle.jbase.specs.Stops.{◌>>=◌}
 use Rattle.jio.specs.Held.{File, readable}
 use Rattle.jform.specs.declared.form.ClassForm.{ClassForm}
-use Rattle.jform.specs.Forms.{class_form}
+use Rattle.jform.specs.Forms.{form_of}
+use Rattle.jformat.specs.declared.error.Fault.{Fault}
+use Rattle.jclass.specs.declared.class.ClassParts.{ClassParts}
+use Rattle.jclass.specs.declared.kind.ClassKind.{ClassKind}
+use Rattle.jclass.specs.Class.{class_file}
+use Rattle.jpolicy.specs.declared.fault.PolicyError.{PolicyError}
+use Rattle.jpolicy.specs.declared.fault.PolicyError.TheVariants as errors
+use Rattle.jpolicy.specs.declared.grant.Grant.{Grant}
+use Rattle.jpolicy.specs.Policies.{policy}
 use Rattle.jload.specs.declared.job.Job.{Job}
 use Rattle.jload.specs.declared.job.Source.{Source}
-use Rattle.jload.specs.declared.grant.Grant.{Grant}
 use Rattle.jload.specs.Jobs.{job_form}
-use Rattle.jload.specs.Policies.{policy_form, granted}
+use Rattle.jload.specs.Grants.{built, granted}
 use Rattle.jload.specs.Joins.{joined, main_of}
-use Rattle.jengine.specs.declared.program.Program.{Program}
 use Rattle.jengine.specs.declared.domains.Domains.{Domains}
 use Rattle.jdriver.specs.declared.task.Refusal.{Refusal}
-use Rattle.jdriver.specs.declared.task.Refusal.TheVariants.{Unbuilt, NoMain}
+use Rattle.jdriver.specs.declared.task.Refusal.TheVariants.{BadPolicy, BadClass, Unbuilt, NoMain}
 use Rattle.jdriver.specs.declared.task.Task.{Task}
 use Rattle.jdriver.specs.declared.task.Halt.{Halt}
 use Rattle.jdriver.specs.declared.task.Halt.TheVariants as halts
@@ -37,9 +43,20 @@ judged refusal None = Err (Refused refusal)
 abbrev pub bytes_at : List File → List ℕ → Result (List ℕ) Stopped
 bytes_at files path = found (readable files path)
 
+-- ---- class files
+
+-- the class file that is read, or its refusal at the first fault
+abbrev pub class_read : List ℕ → List ℕ → Result ClassParts (Fault ClassKind) → Result ClassParts Stopped
+class_read path bytes (Ok class) = Ok class
+class_read path bytes (Err fault) = Err (Refused (BadClass path (length bytes - fault.left) fault.kind))
+
+-- what the class file says that bytes spell
+abbrev pub class_in : List ℕ → List ℕ → Result ClassForm Stopped
+class_in path bytes = class_read path bytes (class_file.read bytes) >>= λ class. judged (Unbuilt path) (form_of class)
+
 -- the class of a code source
 unfoldable pub class_at : List File → Source → Result ClassForm Stopped
-class_at files source = bytes_at files source.path >>= λ bytes. judged (Unbuilt source.path) (class_form bytes)
+class_at files source = bytes_at files source.path >>= λ bytes. class_in source.path bytes
 
 -- what is granted to each code source
 abbrev pub domains_of : List Grant → List Source → Domains
@@ -54,10 +71,25 @@ program_task path job grants classes =
 unfoldable pub classes_task : List File → List ℕ → Job → List Grant → Result Task Stopped
 classes_task files path job grants = each (class_at files) job.sources >>= λ classes. program_task path job grants classes
 
+-- ---- the policy
+
+-- the grants that are read, or their refusal at the first fault; the definition of policies has no want of memory
+abbrev pub grants_read : Result (List Grant) PolicyError → Result (List Grant) Stopped
+grants_read (Ok grants) = Ok grants
+grants_read (Err (errors.At at kind)) = Err (Refused (BadPolicy at kind))
+grants_read (Err errors.Memory) = Err Missing
+
+abbrev pub built_grants : List ℕ → List Grant → Result (List Grant) Stopped
+built_grants path grants = if built grants then Ok grants else Err (Refused (Unbuilt path))
+
+-- the grants that bytes spell; a job of this form has no properties
+abbrev pub grants_in : List ℕ → List ℕ → Result (List Grant) Stopped
+grants_in path bytes = grants_read (policy [] bytes) >>= λ grants. built_grants path grants
+
 -- the grants of the policy; a job without one has none
 unfoldable pub grants_at : List File → Option (List ℕ) → Result (List Grant) Stopped
 grants_at files None = Ok []
-grants_at files (Some policy) = bytes_at files policy >>= λ bytes. judged (Unbuilt policy) (policy_form bytes)
+grants_at files (Some path) = bytes_at files path >>= λ bytes. grants_in path bytes
 
 unfoldable pub policy_task : List File → List ℕ → Job → Result Task Stopped
 policy_task files path job = grants_at files job.policy >>= λ grants. classes_task files path job grants

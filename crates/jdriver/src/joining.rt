@@ -1,6 +1,6 @@
 ghost use Rattle.std.specs.Prelude.{◌≡◌, Err, IfOk, None, map};
 ghost use Rattle.jload.specs.Joins.{joined, main_of};
-ghost use Rattle.jload.specs.Policies.{granted};
+ghost use Rattle.jload.specs.Grants.{granted};
 ghost use Rattle.jdriver.specs.declared.task.Halt.TheVariants.{Read};
 ghost use Rattle.jdriver.specs.Plans.{Follows, domains_of, judged, program_task};
 
@@ -9,8 +9,9 @@ use crate::task::{Halt, Refusal, Task};
 use jbase::Seq;
 use jengine::{Domains, Method, Program};
 use jform::ClassForm;
-use jload::{Grant, Job, Source, Text, granted, joined, main_of};
+use jload::{Job, Source, Text, granted_to, joined, main_of};
 use jperm::Permission;
+use jpolicy::Grant;
 use std::alloc::{AllocError, Global};
 
 fn all_granted(
@@ -22,7 +23,7 @@ fn all_granted(
 {
     let mut all = Seq::new(alloc);
     for source in sources {
-        all.push(granted(alloc, grants, source.url.as_bytes())?)?;
+        all.push(granted_to(alloc, grants, source.url.as_bytes())?)?;
     }
     Ok(all)
 }

@@ -3,6 +3,7 @@
 
 mod joining;
 mod reading;
+mod refusing;
 mod showing;
 mod status;
 mod task;

@@ -1,24 +1,28 @@
-ghost use Rattle.std.specs.Prelude.{◌≡◌, ◌≤◌, ◌⊎◌, List, Err, None, Some};
+ghost use Rattle.std.specs.Prelude.{◌≡◌, ◌≤◌, ◌<◌, ◌^◌, ◌⊎◌, IfOk, List, [], Err, None, Some, length};
 ghost use Rattle.std.specs.Option.{option_copied};
 ghost use Rattle.jbase.specs.Causes.{Rose};
 ghost use Rattle.jbase.specs.Each.{each};
 ghost use Rattle.jio.specs.Held.{File};
-ghost use Rattle.jform.specs.Forms.{class_form};
+ghost use Rattle.jclass.specs.Class.{class_file};
+ghost use Rattle.jform.specs.Forms.{form_of};
 ghost use Rattle.jload.specs.Jobs.{job_form};
-ghost use Rattle.jload.specs.Policies.{policy_form};
+ghost use Rattle.jpolicy.specs.Policies.{policy};
 ghost use Rattle.jdriver.specs.declared.task.Halt.TheVariants.{Read};
-ghost use Rattle.jdriver.specs.Plans.{Follows, Misses, bytes_at, class_at, classes_task, grants_at, job_at, judged, policy_task, task_at};
+ghost use Rattle.jdriver.specs.Plans.{Follows, Misses, Refused, built_grants, bytes_at, class_at, class_in, class_read, classes_task, grants_at, grants_in, grants_read, job_at, judged, policy_task, task_at};
 
 use crate::joining::program_task;
 use crate::task::{Halt, Refusal, Task};
 use jbase::Seq;
-use jform::{ClassForm, read_form};
+use jclass::{ClassError, ClassFile, ClassKind, read_class};
+use jform::{ClassForm, form_of};
 use jio::{Shelf, ShelfError};
-use jload::{Grant, Job, Source, Text, read_job, read_policy};
+use jload::{Job, Source, Text, is_built, read_job};
+use jpolicy::{Grant, PolicyError, read_policy};
 use std::alloc::Global;
 
 fn read_at<S: Shelf>(alloc: Global, path: &str, shelf: &mut S) -> Result<Vec<u8>, Halt>
     ensures value { (files : List File) → S.held shelf.old ≡ Some files → Follows (λ b. b.items) result (bytes_at files path.now) }
+    ensures few { IfOk result (λ b. length b.items < 2 ^ 31) }
     ensures held { S.held shelf.new ≡ S.held shelf.old }
     ensures stored { S.write_faults shelf.new ≡ S.write_faults shelf.old }
     ensures later { S.read_faults shelf.old ≤ S.read_faults shelf.new }
@@ -31,7 +35,7 @@ fn read_at<S: Shelf>(alloc: Global, path: &str, shelf: &mut S) -> Result<Vec<u8>
     }
 }
 
-/// The refusal of a file that isn't of its form.
+/// The refusal of a file that says what isn't built.
 pub fn unbuilt<T>(alloc: Global, path: &str) -> Result<T, Halt>
     ensures value { Follows (λ x. x) result (judged (Refusal.Unbuilt path.now) None) }
     ensures unread { result ≡ Err Read → ⊥ }
@@ -42,15 +46,45 @@ pub fn unbuilt<T>(alloc: Global, path: &str) -> Result<T, Halt>
 
 // ---- class files
 
-fn class_of(alloc: Global, path: &str, bytes: &[u8]) -> Result<ClassForm, Halt>
-    ensures value { Follows (λ x. x) result (judged (Refusal.Unbuilt path.now) (class_form bytes.now)) }
+/// The refusal of a class file by its first fault.
+fn bad_class<T>(alloc: Global, path: &str, at: u32, kind: ClassKind) -> Result<T, Halt>
+    ensures value { Follows (λ x. x) result (Err (Refused (Refusal.BadClass path.now at kind))) }
     ensures unread { result ≡ Err Read → ⊥ }
 {
-    match read_form(alloc, bytes) {
-        Ok(Some(class)) => Ok(class),
+    let path = Text::from_str(alloc, path)?;
+    Err(Halt::Refused(Refusal::BadClass { path, at, kind }))
+}
+
+fn class_read(alloc: Global, path: &str, bytes: &[u8]) -> Result<ClassFile, Halt>
+    requires { length bytes.now < 2 ^ 31 }
+    ensures value { Follows (λ x. x) result (class_read path.now bytes.now (class_file.read bytes.now)) }
+    ensures unread { result ≡ Err Read → ⊥ }
+{
+    match read_class(alloc, bytes) {
+        Ok(class) => Ok(class),
+        Err(ClassError::Memory) => Err(Halt::Memory),
+        Err(ClassError::At { at, kind }) => bad_class(alloc, path, at, kind),
+    }
+}
+
+fn class_form(alloc: Global, path: &str, class: &ClassFile) -> Result<ClassForm, Halt>
+    ensures value { Follows (λ x. x) result (judged (Refusal.Unbuilt path.now) (form_of class.now)) }
+    ensures unread { result ≡ Err Read → ⊥ }
+{
+    match form_of(alloc, class) {
+        Ok(Some(form)) => Ok(form),
         Ok(None) => unbuilt(alloc, path),
         Err(_) => Err(Halt::Memory),
     }
+}
+
+fn class_in(alloc: Global, path: &str, bytes: &[u8]) -> Result<ClassForm, Halt>
+    requires { length bytes.now < 2 ^ 31 }
+    ensures value { Follows (λ x. x) result (class_in path.now bytes.now) }
+    ensures unread { result ≡ Err Read → ⊥ }
+{
+    let class = class_read(alloc, path, bytes)?;
+    class_form(alloc, path, &class)
 }
 
 #[tactic(auto, unfolding(crate::specs::Plans::class_at))]
@@ -62,7 +96,7 @@ fn class_at<S: Shelf>(alloc: Global, source: &Source, shelf: &mut S) -> Result<C
     ensures cause { result ≡ Err Read → Rose (S.read_faults shelf.old) (S.read_faults shelf.new) ⊎ Misses (S.held shelf.old) (λ files. class_at files source.now) }
 {
     let bytes = read_at(alloc, source.path.as_str(), shelf)?;
-    class_of(alloc, source.path.as_str(), &bytes)
+    class_in(alloc, source.path.as_str(), &bytes)
 }
 
 fn classes_at<S: Shelf>(
@@ -103,15 +137,35 @@ fn classes_task<S: Shelf>(
 
 // ---- the policy
 
-fn grants_of(alloc: Global, path: &str, bytes: &[u8]) -> Result<Seq<Grant>, Halt>
-    ensures value { Follows (λ x. x) result (judged (Refusal.Unbuilt path.now) (policy_form bytes.now)) }
+fn grants_read(alloc: Global, bytes: &[u8]) -> Result<Seq<Grant>, Halt>
+    requires { length bytes.now < 2 ^ 31 }
+    ensures value { Follows (λ x. x) result (grants_read (policy [] bytes.now)) }
     ensures unread { result ≡ Err Read → ⊥ }
 {
-    match read_policy(alloc, bytes) {
-        Ok(Some(grants)) => Ok(grants),
-        Ok(None) => unbuilt(alloc, path),
-        Err(_) => Err(Halt::Memory),
+    match read_policy(alloc, bytes, &[]) {
+        Ok(grants) => Ok(grants),
+        Err(PolicyError::Memory) => Err(Halt::Memory),
+        Err(PolicyError::At { at, kind }) => Err(Halt::Refused(Refusal::BadPolicy { at, kind })),
     }
+}
+
+fn built_grants(alloc: Global, path: &str, grants: Seq<Grant>) -> Result<Seq<Grant>, Halt>
+    ensures value { Follows (λ x. x) result (built_grants path.now grants) }
+    ensures unread { result ≡ Err Read → ⊥ }
+{
+    if is_built(grants.as_slice()) {
+        return Ok(grants);
+    }
+    unbuilt(alloc, path)
+}
+
+fn grants_in(alloc: Global, path: &str, bytes: &[u8]) -> Result<Seq<Grant>, Halt>
+    requires { length bytes.now < 2 ^ 31 }
+    ensures value { Follows (λ x. x) result (grants_in path.now bytes.now) }
+    ensures unread { result ≡ Err Read → ⊥ }
+{
+    let grants = grants_read(alloc, bytes)?;
+    built_grants(alloc, path, grants)
 }
 
 #[tactic(auto, unfolding(crate::specs::Plans::grants_at))]
@@ -123,7 +177,7 @@ fn policy_at<S: Shelf>(alloc: Global, path: &Text, shelf: &mut S) -> Result<Seq<
     ensures cause { result ≡ Err Read → Rose (S.read_faults shelf.old) (S.read_faults shelf.new) ⊎ Misses (S.held shelf.old) (λ files. grants_at files (Some path.now)) }
 {
     let bytes = read_at(alloc, path.as_str(), shelf)?;
-    grants_of(alloc, path.as_str(), &bytes)
+    grants_in(alloc, path.as_str(), &bytes)
 }
 
 #[tactic(auto, unfolding(crate::specs::Plans::grants_at))]

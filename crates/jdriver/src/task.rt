@@ -1,8 +1,10 @@
 ghost use Rattle.std.specs.Prelude.{◌≡◌};
 ghost use Rattle.jdriver.specs.declared.task.Halt.TheVariants.{Memory};
 
+use jclass::ClassKind;
 use jengine::{Domains, Program};
 use jload::Text;
+use jpolicy::PolicyKind;
 use std::alloc::AllocError;
 
 /// What is to be run.
@@ -15,7 +17,18 @@ pub struct Task {
 /// What is refused.
 #[derive(Debug, Drop)]
 pub enum Refusal {
-    /// This file isn't of its form; or this job's classes don't join.
+    /// The policy's text has a fault at this byte.
+    BadPolicy {
+        at: u32,
+        kind: PolicyKind,
+    },
+    /// The class file at a path has a fault at this byte.
+    BadClass {
+        path: Text,
+        at: u32,
+        kind: ClassKind,
+    },
+    /// What this file says isn't built; or this job's classes don't join.
     Unbuilt(Text),
     /// There is no class of this name with a `main`.
     NoMain(Text),

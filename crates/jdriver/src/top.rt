@@ -8,7 +8,8 @@ ghost use Rattle.jdriver.specs.Plans.{MissesAny, task_at};
 ghost use Rattle.jdriver.specs.Words.{command, words_of};
 
 use crate::reading::task_at;
-use crate::showing::{show_refusal, show_run, show_usage};
+use crate::refusing::show_refusal;
+use crate::showing::{show_run, show_usage};
 use crate::status::Status;
 use crate::task::Halt;
 use crate::words::command;

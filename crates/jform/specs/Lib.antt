@@ -1,3 +1,1 @@
-pub mod Class
-pub mod ClassLaws
 pub mod Forms

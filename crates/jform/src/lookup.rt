@@ -1,62 +1,11 @@
-ghost use Rattle.std.specs.Prelude.{◌≡◌, Some};
-ghost use Rattle.std.specs.Option.{option_copied};
-ghost use Rattle.jform.specs.Forms.{class_at, desc_at, desc_in, entry_at, is_method, is_text, name_at, name_in, owner_at, string_at, text_at, text_in, type_in};
+ghost use Rattle.std.specs.Prelude.{◌≡◌, option_map};
+ghost use Rattle.jform.specs.Forms.{both_at, both_in, class_in, desc_at, is_method, is_text, name_at, owner_at, string_at, text_in};
 
-use crate::class::Entry;
-
-/// The entry with an index; the first has index 1.
-pub fn entry_at(pool: &[Entry], index: u16) -> Option<&Entry>
-    ensures { option_copied result ≡ entry_at pool.now index }
-{
-    if index == 0 {
-        return None;
-    }
-    pool.get(usize::from(index) - 1)
-}
-
-/// The text of an entry, if it is one.
-pub fn text_in(entry: &Entry) -> Option<&[u8]>
-    ensures { option_copied result ≡ text_in (Some entry.now) }
-{
-    match entry {
-        Entry::Utf8(text) => Some(text.as_slice()),
-        _ => None,
-    }
-}
-
-/// The text of a Utf8 entry.
-pub fn text_at(pool: &[Entry], index: u16) -> Option<&[u8]>
-    ensures { option_copied result ≡ text_at pool.now index }
-{
-    match entry_at(pool, index) {
-        Some(Entry::Utf8(text)) => Some(text.as_slice()),
-        _ => None,
-    }
-}
-
-/// The name that a Class entry names.
-pub fn class_at(pool: &[Entry], index: u16) -> Option<&[u8]>
-    ensures { option_copied result ≡ class_at pool.now index }
-{
-    match entry_at(pool, index) {
-        Some(Entry::Class(name)) => text_at(pool, *name),
-        _ => None,
-    }
-}
-
-/// The text of a String entry.
-pub fn string_at(pool: &[Entry], index: u16) -> Option<&[u8]>
-    ensures { option_copied result ≡ string_at pool.now index }
-{
-    match entry_at(pool, index) {
-        Some(Entry::Str(text)) => text_at(pool, *text),
-        _ => None,
-    }
-}
+use jpool::{Entry, Pool};
 
 /// Whether the text is there and is the other one.
 pub fn is_text(text: Option<&[u8]>, other: &[u8]) -> bool
-    ensures { result ≡ is_text (option_copied text.entry) other.now }
+    ensures { result ≡ is_text (option_map (λ t. t.now) text.entry) other.now }
 {
     match text {
         Some(text) => text == other,
@@ -64,67 +13,85 @@ pub fn is_text(text: Option<&[u8]>, other: &[u8]) -> bool
     }
 }
 
-/// The class of a Methodref entry.
-pub fn owner_at(pool: &[Entry], index: u16) -> Option<&[u8]>
-    ensures { option_copied result ≡ owner_at pool.now index }
+/// The index of a String's text.
+fn text_in(one: Option<&Entry>) -> Option<u16>
+    ensures { result ≡ text_in (option_map (λ e. e.now) one.entry) }
 {
-    match entry_at(pool, index) {
-        Some(Entry::Method(class, _)) => class_at(pool, *class),
+    match one {
+        Some(Entry::Str(text)) => Some(*text),
         _ => None,
     }
 }
 
-fn type_of(pool: &[Entry], index: u16) -> Option<u16>
-    ensures { result ≡ type_in (entry_at pool.now index) }
+/// The index of a Methodref's class.
+fn class_in(one: Option<&Entry>) -> Option<u16>
+    ensures { result ≡ class_in (option_map (λ e. e.now) one.entry) }
 {
-    match entry_at(pool, index) {
-        Some(Entry::Method(_, name)) => Some(*name),
+    match one {
+        Some(Entry::Method(class, _)) => Some(*class),
         _ => None,
     }
 }
 
-fn name_of(pool: &[Entry], index: u16) -> Option<&[u8]>
-    ensures { option_copied result ≡ name_in pool.now (entry_at pool.now index) }
+/// The index of a Methodref's name and type.
+fn both_in(one: Option<&Entry>) -> Option<u16>
+    ensures { result ≡ both_in (option_map (λ e. e.now) one.entry) }
 {
-    match entry_at(pool, index) {
-        Some(Entry::NameAndType(name, _)) => text_at(pool, *name),
+    match one {
+        Some(Entry::Method(_, both)) => Some(*both),
         _ => None,
     }
 }
 
-fn desc_of(pool: &[Entry], index: u16) -> Option<&[u8]>
-    ensures { option_copied result ≡ desc_in pool.now (entry_at pool.now index) }
+/// The text of the String at an index.
+#[tactic(auto, unfolding(crate::specs::Forms::string_at))]
+pub fn string_at(pool: &Pool, i: u16) -> Option<&[u8]>
+    ensures { option_map (λ t. t.now) result ≡ string_at pool.now i }
 {
-    match entry_at(pool, index) {
-        Some(Entry::NameAndType(_, desc)) => text_at(pool, *desc),
-        _ => None,
-    }
+    let text = text_in(pool.entry(i))?;
+    pool.utf8(text)
 }
 
-/// The name of a Methodref entry's method.
-pub fn name_at(pool: &[Entry], index: u16) -> Option<&[u8]>
-    ensures { option_copied result ≡ name_at pool.now index }
+/// The class of the Methodref at an index.
+#[tactic(auto, unfolding(crate::specs::Forms::owner_at))]
+pub fn owner_at(pool: &Pool, i: u16) -> Option<&[u8]>
+    ensures { option_map (λ t. t.now) result ≡ owner_at pool.now i }
 {
-    match type_of(pool, index) {
-        Some(n) => name_of(pool, n),
-        None => None,
-    }
+    let class = class_in(pool.entry(i))?;
+    pool.class_name(class)
 }
 
-/// The descriptor of a Methodref entry's method.
-pub fn desc_at(pool: &[Entry], index: u16) -> Option<&[u8]>
-    ensures { option_copied result ≡ desc_at pool.now index }
+/// The indices of the name and of the descriptor of the Methodref at an index.
+#[tactic(auto, unfolding(crate::specs::Forms::both_at))]
+fn both_at(pool: &Pool, i: u16) -> Option<(u16, u16)>
+    ensures { result ≡ both_at pool.now i }
 {
-    match type_of(pool, index) {
-        Some(n) => desc_of(pool, n),
-        None => None,
-    }
+    let both = both_in(pool.entry(i))?;
+    pool.name_and_type(both)
 }
 
-/// Whether a Methodref entry's method is this one.
-pub fn is_method(pool: &[Entry], index: u16, class: &[u8], name: &[u8], desc: &[u8]) -> bool
-    ensures { result ≡ is_method pool.now index class.now name.now desc.now }
+/// The name of the Methodref at an index.
+#[tactic(auto, unfolding(crate::specs::Forms::name_at))]
+pub fn name_at(pool: &Pool, i: u16) -> Option<&[u8]>
+    ensures { option_map (λ t. t.now) result ≡ name_at pool.now i }
 {
-    is_text(owner_at(pool, index), class)
-        && (is_text(name_at(pool, index), name) && is_text(desc_at(pool, index), desc))
+    let (name, _) = both_at(pool, i)?;
+    pool.utf8(name)
+}
+
+/// The descriptor of the Methodref at an index.
+#[tactic(auto, unfolding(crate::specs::Forms::desc_at))]
+pub fn desc_at(pool: &Pool, i: u16) -> Option<&[u8]>
+    ensures { option_map (λ t. t.now) result ≡ desc_at pool.now i }
+{
+    let (_, desc) = both_at(pool, i)?;
+    pool.utf8(desc)
+}
+
+/// Whether the Methodref at an index is this method.
+pub fn is_method(pool: &Pool, i: u16, class: &[u8], name: &[u8], desc: &[u8]) -> bool
+    ensures { result ≡ is_method pool.now i class.now name.now desc.now }
+{
+    is_text(owner_at(pool, i), class)
+        && (is_text(name_at(pool, i), name) && is_text(desc_at(pool, i), desc))
 }

@@ -1,5 +1,6 @@
 use super::*;
 use hex::decode;
+use jclass::{ClassError, ClassFile, read_class};
 use std::alloc::{AllocError, Global};
 
 /// The class of the first worked run: `main` makes a permission and checks it.
@@ -17,6 +18,19 @@ const CALLS: &str =
 /// A class whose `main` takes an operand that isn't there.
 const POPS: &str =
     "cafebabe0000003400080100044d61696e0700010100106a6176612f6c616e672f4f626a6563740700030100046d61696e010016285b4c6a6176612f6c616e672f537472696e673b2956010004436f6465002100020004000000000001000900050006000100070000000e000600040000000257b1000000000000";
+
+/// A class `A` with an integer in its pool.
+const INTEGER: &str =
+    "cafebabe000000340006010001410700010100106a6176612f6c616e672f4f626a6563740700030300000007\
+    00210002000400000000\
+    00000000";
+
+/// The front of a class Main under Object, up to its number of interfaces. Its pool has Main at 1, the class of it at 2, that of
+/// Object at 4, main at 5, the descriptor of main at 6, Code at 7, I at 8 and (I)V at 9.
+const FRONT: &str =
+    "cafebabe00000034000a0100044d61696e0700010100106a6176612f6c616e672f4f626a65637407000301\
+    00046d61696e010016285b4c6a6176612f6c616e672f537472696e673b2956010004436f6465010001490100\
+    0428492956002100020004";
 
 fn push_bytes(text: &mut String, bytes: &[u8]) -> Result<(), AllocError> {
     for b in bytes {
@@ -49,10 +63,21 @@ fn push_op(text: &mut String, op: &Op) -> Result<(), AllocError> {
     }
 }
 
+fn read(alloc: Global, bytes: &[u8]) -> Result<ClassFile, ClassError> {
+    if bytes.len() > 0x7fff_ffff {
+        return Err(ClassError::Memory);
+    }
+    read_class(alloc, bytes)
+}
+
 /// The name of a class, and behind each method's name, which has a star where it is main's descriptor, its instructions.
 fn shown(alloc: Global, bytes: &[u8]) -> Result<String, AllocError> {
     let mut text = String::new(alloc);
-    let Some(class) = read_form(alloc, bytes)? else {
+    let Ok(class) = read(alloc, bytes) else {
+        text.push_str("no class file")?;
+        return Ok(text);
+    };
+    let Some(class) = form_of(alloc, &class)? else {
         text.push_str("none")?;
         return Ok(text);
     };
@@ -85,18 +110,12 @@ fn classes(rt: HostRuntime) -> Result<(), AllocError> {
         (LIBRARY, "Lib: read new dup =x =read init check return"),
         (CALLS, "Main: main* Lib.read return"),
         (POPS, "Main: main* pop return"),
+        (INTEGER, "none"),
     ];
     for (text, want) in rows {
         let bytes = bytes_of(alloc, text);
         let got = shown(alloc, bytes.as_slice())?;
         assert!(rt; got.as_str() == want, "{want}");
-        for end in 0..bytes.len() {
-            let (front, _) = bytes.as_slice().split_at(end);
-            assert!(rt; read_form(alloc, front)?.is_none(), "{end}");
-        }
-        let mut longer = bytes;
-        longer.push(0)?;
-        assert!(rt; read_form(alloc, longer.as_slice())?.is_none());
     }
     Ok(())
 }
@@ -105,41 +124,30 @@ fn classes(rt: HostRuntime) -> Result<(), AllocError> {
 fn changed_classes(rt: HostRuntime) -> Result<(), AllocError> {
     let alloc = rt.alloc();
     let none = "none";
-    let rows: [(usize, u8, &str); 34] = [
-        (0, 0xcb, none),
+    let rows: [(usize, u8, &str); 23] = [
         (5, 7, "Main: main* new dup =x =read init check return"),
         (7, 0x32, "Main: main* new dup =x =read init check return"),
-        (7, 0x31, none),
-        (7, 0x35, none),
-        (9, 0x19, none),
-        (10, 9, none),
         (17, b'/', "M/in: main* new dup =x =read init check return"),
         (17, b'~', "M~in: main* new dup =x =read init check return"),
+        (17, b' ', "M in: main* new dup =x =read init check return"),
         (17, 0x7f, none),
         (17, 0x1f, none),
-        (17, b'.', none),
         (26, b'k', none),
-        (95, 6, none),
-        (102, 0x0d, none),
         (253, b'n', none),
-        (285, b'D', none),
         (290, 0, "Main: main* new dup =x =read init check return"),
-        (292, 2, none),
         (294, 5, none),
-        (296, 1, none),
+        (302, 1, none),
         (302, 8, none),
-        (308, 2, none),
-        (314, 0x1c, none),
-        (322, 0x0e, none),
-        (323, 0x62, none),
+        (302, 0x19, none),
         (325, 3, none),
+        (326, 0, "Main: main* new nop =x =read init check return"),
+        (326, 1, none),
+        (326, 0x57, "Main: main* new pop =x =read init check return"),
         (328, 1, none),
         (333, 0x0f, none),
         (336, 0x0b, none),
         (337, 0, none),
-        (339, 1, none),
-        (341, 1, none),
-        (343, 1, none),
+        (337, 0xb0, none),
     ];
     for (at, byte, want) in rows {
         let mut bytes = bytes_of(alloc, CHECKS);
@@ -148,6 +156,60 @@ fn changed_classes(rt: HostRuntime) -> Result<(), AllocError> {
         }
         let got = shown(alloc, bytes.as_slice())?;
         assert!(rt; got.as_str() == want, "{at}");
+    }
+    Ok(())
+}
+
+#[test]
+fn other_classes(rt: HostRuntime) -> Result<(), AllocError> {
+    let alloc = rt.alloc();
+    let none = "none";
+    let rows = [
+        ("0000000000000000", "Main"),
+        (
+            "000000000001000900050006000100070000000e000600000000000257b1000000000000",
+            "Main: main* pop return",
+        ),
+        // An interface, a field, an attribute of the class.
+        ("00010004000000000000", none),
+        ("00000001000000050008000000000000", none),
+        ("0000000000000001000100000000", none),
+        // A method without code, and one with a second attribute.
+        ("00000000000101090005000600000000", none),
+        (
+            "000000000001000900050006000200070000000e000600000000000257b1000000000001000000000000",
+            none,
+        ),
+        // A handler, and an attribute of a code.
+        (
+            "0000000000010009000500060001000700000016000600000000000257b1000100000001000100000000\
+            0000",
+            none,
+        ),
+        (
+            "0000000000010009000500060001000700000014000600000000000257b1000000010001000000000000",
+            none,
+        ),
+        // A `main` of an int, and a method of another name with the descriptor of `main`.
+        (
+            "000000000001000900050009000100070000000e000600000000000257b1000000000000",
+            none,
+        ),
+        (
+            "000000000001000900010006000100070000000e000600000000000257b1000000000000",
+            none,
+        ),
+        // The wide load of a constant.
+        (
+            "00000000000100090005000600010007000000100006000000000004130002b1000000000000",
+            none,
+        ),
+    ];
+    for (i, (tail, want)) in rows.iter().enumerate() {
+        let mut bytes = bytes_of(alloc, FRONT);
+        bytes.extend_from_slice(bytes_of(alloc, tail).as_slice())?;
+        let got = shown(alloc, bytes.as_slice())?;
+        assert!(rt; got.as_str() == *want, "{i}");
     }
     Ok(())
 }

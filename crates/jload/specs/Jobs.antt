@@ -1,5 +1,5 @@
 -- The form of a job file: lines of a key, a space and a value.
-use Rattle.std.specs.Prelude.{ℕ, Bool, ◌&&◌, ◌||◌, not, ◌==◌, List, [], ◌∷◌, length, filter, slice_index, Option, Some, None, option_and_then, if◌then◌else◌, codes}
+use Rattle.std.specs.Prelude.{ℕ, Bool, ◌&&◌, not, ◌==◌, List, [], ◌∷◌, length, filter, slice_index, Option, Some, None, option_and_then, if◌then◌else◌, codes}
 use Rattle.std.specs.List.{slice_split, before_first, after_first, filter_map}
 use Rattle.std.specs.Str.{bytes_eq, byte, is_utf8}
 use Rattle.jbase.specs.Each.{each_some, put_front}

@@ -1,5 +1,5 @@
+pub mod Grants
 pub mod Indices
 pub mod Jobs
 pub mod Joins
-pub mod Policies
 pub mod Urls

@@ -4,7 +4,7 @@ ghost use Rattle.std.specs.Str.{is_utf8};
 ghost use Rattle.jload.specs.Jobs.{source_of, sources_of, one_or_two, job_of, job_form};
 
 use crate::line::{Line, Once, lines_of, value_of};
-use crate::text::Text;
+use crate::text::{Text, widened};
 use crate::url::is_url;
 use jbase::Seq;
 use std::alloc::{AllocError, Global};
@@ -127,7 +127,8 @@ fn sources_of(alloc: Global, lines: &[Line]) -> Result<Option<Seq<Source>>, Allo
 fn source_of(alloc: Global, url: &Text, path: &Text) -> Result<Option<Source>, AllocError>
     ensures { IfOk result (λ s. s ≡ source_of url.now path.now) }
 {
-    if !is_url(url.as_bytes()) {
+    let units = widened(alloc, url.as_bytes())?;
+    if !is_url(units.as_slice()) {
         return Ok(None);
     }
     Ok(Some(Source {

@@ -2,7 +2,9 @@ use super::*;
 use jbase::Seq;
 use jengine::Form;
 use jform::{ClassForm, MethodForm, Op};
-use jperm::Permission;
+use jperm::{FilePath, Permission};
+use jpolicy::read_policy;
+use jtext::Units;
 use std::alloc::{AllocError, Global};
 
 /// A job as one text: the path of the policy, each URL and path, and the name of the main class, each ended by a bar.
@@ -83,88 +85,137 @@ fn jobs(rt: HostRuntime) -> Result<(), AllocError> {
     Ok(())
 }
 
-/// How many permissions the bytes of a policy grant to the code of a URL, the last one's name and its actions.
-fn last_granted(
-    alloc: Global,
-    bytes: &[u8],
-    url: &[u8],
-) -> Result<Option<(usize, usize, u8)>, AllocError> {
-    let Some(grants) = read_policy(alloc, bytes)? else {
+/// What a policy grants to the code of `file:/a/`: each permission's text, and behind a file's the path that its name gives. Nothing
+/// where the policy isn't built, or has a fault.
+fn granted_by(alloc: Global, policy: &str) -> Result<Option<Vec<u16>>, AllocError> {
+    let bytes = policy.as_bytes();
+    if 2_147_483_647 < bytes.len() {
+        return Ok(None);
+    }
+    let home = (
+        Units::from_text(alloc, "user.home")?,
+        Units::from_text(alloc, "/home/u")?,
+    );
+    let Ok(grants) = read_policy(alloc, bytes, &[home]) else {
         return Ok(None);
     };
-    let permissions = granted(alloc, grants.as_slice(), url)?;
-    let count = permissions.as_slice().len();
-    match permissions.as_slice().last() {
-        Some(Permission::Property { name, actions }) => {
-            Ok(Some((count, name.as_slice().len(), *actions)))
-        }
-        _ => Ok(Some((count, 0, 0))),
+    if !is_built(grants.as_slice()) {
+        return Ok(None);
     }
+    let mut shown = Vec::new(alloc);
+    for permission in granted_to(alloc, grants.as_slice(), b"file:/a/")?.as_slice() {
+        shown.extend_from_slice(permission.text(alloc)?.as_slice())?;
+        if let Permission::File {
+            path: FilePath::Below(directory),
+            ..
+        } = permission
+        {
+            shown.extend_from_slice(directory.as_slice())?;
+        }
+    }
+    Ok(Some(shown))
 }
 
+const GRANTED: [(&str, &str); 19] = [
+    ("", ""),
+    (
+        "grant { permission java.lang.RuntimePermission \"x\"; };",
+        "(\"java.lang.RuntimePermission\" \"x\")",
+    ),
+    (
+        "grant codeBase \"file:/a/\" { permission java.util.PropertyPermission \"x.Y9\", \"write, READ\"; };",
+        "(\"java.util.PropertyPermission\" \"x.Y9\" \"read,write\")",
+    ),
+    (
+        "grant codeBase \"file:/b/\" { permission java.security.AllPermission; };",
+        "",
+    ),
+    (
+        "grant codeBase \"file:/a/b/\" { permission java.security.AllPermission; };",
+        "",
+    ),
+    (
+        "grant { permission java.security.AllPermission; };",
+        "(\"java.security.AllPermission\" \"<all permissions>\" \"<all actions>\")",
+    ),
+    (
+        "grant { permission java.security.AllPermission, signedBy \"duke\"; };",
+        "(\"java.security.AllPermission\")",
+    ),
+    (
+        "grant { permission com.example.Own \"x\", \"read\"; };",
+        "(\"com.example.Own\")",
+    ),
+    (
+        "grant { permission java.util.PropertyPermission \"x\", \"execute\"; };",
+        "(\"java.util.PropertyPermission\")",
+    ),
+    (
+        "grant { permission java.util.PropertyPermission \"x\"; };",
+        "(\"java.util.PropertyPermission\")",
+    ),
+    (
+        "grant { permission java.lang.RuntimePermission; permission java.lang.RuntimePermission \"\"; };",
+        "(\"java.lang.RuntimePermission\")(\"java.lang.RuntimePermission\")",
+    ),
+    (
+        "grant { permission java.security.SecurityPermission \"x\", \"y\"; };",
+        "(\"java.security.SecurityPermission\" \"x\")",
+    ),
+    (
+        "grant { permission java.io.FilePermission \"${user.home}/../-\", \"delete,read\"; };",
+        "(\"java.io.FilePermission\" \"/home/u/../-\" \"read,delete\")/home",
+    ),
+    (
+        "grant { permission java.io.FilePermission \"tmp/-\", \"read\"; };",
+        "(\"java.io.FilePermission\" \"tmp/-\" \"read\")/tmp",
+    ),
+    (
+        "grant { permission java.lang.RuntimePermission \"${none}\"; permission a.B; };",
+        "(\"a.B\")",
+    ),
+    (
+        "grant signedBy \"duke\" { permission java.security.AllPermission; };",
+        "",
+    ),
+    (
+        "grant codeBase \"file:/a/\", principal \"duke\" { permission java.security.AllPermission; };",
+        "",
+    ),
+    (
+        "grant codeBase \"http://x/-\", signedBy \"duke\" { permission java.security.AllPermission; };",
+        "",
+    ),
+    (
+        "grant { permission a.B; permission a.C; }; grant codeBase \"file:/b/\" { permission a.D; }; grant codeBase \"file:/a/\" { permission a.B; };",
+        "(\"a.B\")(\"a.C\")(\"a.B\")",
+    ),
+];
+
+const NOT_BUILT: [&str; 8] = [
+    "grant codeBase \"file:/a/-\" { };",
+    "grant codeBase \"file:/a/*\" { };",
+    "grant codeBase \"file:/a\" { };",
+    "grant codeBase \"file:///a/\" { };",
+    "grant codeBase \"file:/A/\" { };",
+    "grant codeBase \"file:/\u{e9}/\" { };",
+    "grant codeBase \"\" { };",
+    "grant { permission a.B; }; grant codeBase \"http://a/\" { };",
+];
+
 #[test]
-fn policies(rt: HostRuntime) -> Result<(), AllocError> {
+fn grants(rt: HostRuntime) -> Result<(), AllocError> {
     let alloc = rt.alloc();
-    let rows: [(&[u8], Option<(usize, usize, u8)>); 15] = [
-        (
-            b"grant codeBase \"file:/a/\" { permission java.util.PropertyPermission \"x\", \"read\"; };\n",
-            Some((1, 1, 1)),
-        ),
-        (
-            b"grant codeBase \"file:/a/\" { permission java.util.PropertyPermission \"x.Y9\", \"read,write\"; };",
-            Some((1, 4, 3)),
-        ),
-        (
-            b"grant codeBase \"file:/a/\" { permission java.util.PropertyPermission \"x\", \"read\"; };\ngrant codeBase \"file:/b/\" { permission java.util.PropertyPermission \"x\", \"read\"; };\ngrant codeBase \"file:/a/\" { permission java.util.PropertyPermission \"xy\", \"write\"; };\n",
-            Some((2, 2, 2)),
-        ),
-        (
-            b"grant codeBase \"file:/b/\" { permission java.util.PropertyPermission \"x\", \"read\"; };\n",
-            Some((0, 0, 0)),
-        ),
-        (b"", Some((0, 0, 0))),
-        (b"\n", None),
-        (
-            b"grant codeBase \"file:/a/\" { permission java.util.PropertyPermission \"x\", \"read\"; };\n\n",
-            None,
-        ),
-        (
-            b"grant codeBase \"file:/a/\" { permission java.util.PropertyPermission \"x\", \"read\"; }; \n",
-            None,
-        ),
-        (
-            b"grant codeBase \"file:/a/\" { permission java.util.PropertyPermission \"x\", \"read\"; };\r\n",
-            None,
-        ),
-        (
-            b"grant codeBase \"file:/a\" { permission java.util.PropertyPermission \"x\", \"read\"; };\n",
-            None,
-        ),
-        (
-            b"grant codeBase \"file:/a/\" { permission java.util.PropertyPermission \"\", \"read\"; };\n",
-            None,
-        ),
-        (
-            b"grant codeBase \"file:/a/\" { permission java.util.PropertyPermission \"x*\", \"read\"; };\n",
-            None,
-        ),
-        (
-            b"grant codeBase \"file:/a/\" { permission java.util.PropertyPermission \"x\", \"write,read\"; };\n",
-            None,
-        ),
-        (
-            b"grant  codeBase \"file:/a/\" { permission java.util.PropertyPermission \"x\", \"read\"; };\n",
-            None,
-        ),
-        (
-            b"grant codeBase \"file:/a/\" { permission java.io.FilePermission \"x\", \"read\"; };\n",
-            None,
-        ),
-    ];
-    for (bytes, want) in rows {
-        assert!(rt; last_granted(alloc, bytes, b"file:/a/")? == want);
+    for (policy, wanted) in GRANTED {
+        let wanted = Units::from_text(alloc, wanted)?;
+        match granted_by(alloc, policy)? {
+            Some(shown) => assert!(rt; shown.as_slice() == wanted.as_slice()),
+            None => assert!(rt; false),
+        }
     }
-    policy_laws();
+    for policy in NOT_BUILT {
+        assert!(rt; granted_by(alloc, policy)?.is_none());
+    }
     Ok(())
 }
 

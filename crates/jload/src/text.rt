@@ -50,7 +50,7 @@ impl Text {
     }
 }
 
-/// The units of a text of ASCII bytes.
+/// A unit for each byte of a text, with its number: the units of a text of ASCII.
 pub fn widened(alloc: Global, text: &[u8]) -> Result<Units, AllocError>
     ensures { IfOk result (λ units. units ≡ text.now) }
 {

@@ -1,19 +1,31 @@
 ghost use Rattle.std.specs.Prelude.{◌≡◌, ◌==◌};
 ghost use Rattle.std.specs.List.{list_all, slice_split};
-ghost use Rattle.jload.specs.Urls.{is_part_byte, is_part, are_parts, is_url};
+ghost use Rattle.jload.specs.Urls.{is_part_unit, is_part, are_parts, is_url};
 
-/// The most bytes that a URL may have.
+/// The most units that a URL may have.
 pub const MOST_URL: usize = 65536;
+
+/// `file:/`
+const START: [u16; 6] = [
+    b'f' as u16,
+    b'i' as u16,
+    b'l' as u16,
+    b'e' as u16,
+    b':' as u16,
+    b'/' as u16,
+];
+
+const SLASH: u16 = b'/' as u16;
 
 /// Whether a text is `file:/` and one or more parts, each of lower-case letters and digits and ended by a slash.
 #[tactic(auto, unfolding(crate::specs::Urls::is_url))]
-pub fn is_url(text: &[u8]) -> bool
+pub fn is_url(text: &[u16]) -> bool
     ensures { result ≡ is_url text.now }
 {
     if text.len() > MOST_URL {
         return false;
     }
-    match text.strip_prefix(b"file:/") {
+    match text.strip_prefix(&START) {
         Some(path) => are_parts(path),
         None => false,
     }
@@ -21,44 +33,44 @@ pub fn is_url(text: &[u8]) -> bool
 
 /// Whether a text is one or more parts, each ended by a slash.
 #[tactic(auto, unfolding(crate::specs::Urls::are_parts))]
-fn are_parts(text: &[u8]) -> bool
+fn are_parts(text: &[u16]) -> bool
     ensures { result ≡ are_parts text.now }
 {
-    match text.strip_suffix(b"/") {
+    match text.strip_suffix(&[SLASH]) {
         Some(parts) => all_parts(parts),
         None => false,
     }
 }
 
 /// Whether what stands between the slashes of a text is one or more lower-case letters and digits each.
-fn all_parts(text: &[u8]) -> bool
-    ensures { result ≡ list_all is_part (slice_split (λ b. b == 47) text.now) }
+fn all_parts(text: &[u16]) -> bool
+    ensures { result ≡ list_all is_part (slice_split (λ u. u == 47) text.now) }
 {
-    text.split(|b| *b == b'/').all(is_part)
+    text.split(|u| *u == SLASH).all(is_part)
 }
 
 /// Whether a text is one or more lower-case letters and digits.
 #[tactic(auto, unfolding(crate::specs::Urls::is_part))]
-fn is_part(text: &[u8]) -> bool
+fn is_part(text: &[u16]) -> bool
     ensures { result ≡ is_part text.now }
 {
     if text.is_empty() {
         return false;
     }
-    all_part_bytes(text)
+    all_part_units(text)
 }
 
-/// Whether each byte of a text may stand in a part of a URL.
-fn all_part_bytes(text: &[u8]) -> bool
-    ensures { result ≡ list_all is_part_byte text.now }
+/// Whether each unit of a text may stand in a part of a URL.
+fn all_part_units(text: &[u16]) -> bool
+    ensures { result ≡ list_all is_part_unit text.now }
 {
-    text.iter().all(|b| is_part_byte(*b))
+    text.iter().all(|u| is_part_unit(*u))
 }
 
-/// Whether a byte may stand in a part of a URL.
-#[tactic(auto, unfolding(crate::specs::Urls::is_part_byte))]
-fn is_part_byte(b: u8) -> bool
-    ensures { result ≡ is_part_byte b }
+/// Whether a unit may stand in a part of a URL.
+#[tactic(auto, unfolding(crate::specs::Urls::is_part_unit))]
+fn is_part_unit(u: u16) -> bool
+    ensures { result ≡ is_part_unit u }
 {
-    b.is_ascii_lowercase() || b.is_ascii_digit()
+    matches!(u, 0x30..=0x39 | 0x61..=0x7a)
 }

@@ -1,8 +1,11 @@
-use crate::classes::{AGAIN, CALLER, LIB, LOOPS, NO_NAME, POPS, ROW_ONE, SHUFFLES, UNSET};
+use crate::classes::{
+    ADDS_FLOATS, AGAIN, BAD_TAG, CALLER, EMPTY, LIB, LOOPS, NO_NAME, OVER_ITSELF, POPS, ROW_ONE,
+    SHUFFLES, UNSET,
+};
 use crate::job::Content::{Bytes, Hex, Text};
-use crate::job::{Content, Faults, NONE, answered};
+use crate::job::{Content, Faults, NONE, Outcome, answered};
 use jdriver::Status;
-use std::alloc::AllocError;
+use std::alloc::{AllocError, Global};
 
 const RUN: [&str; 3] = ["run", "--form=inspect", "job"];
 
@@ -23,6 +26,11 @@ const TO_MAIN: &str =
 const TO_BOTH: &str =
     "grant codeBase \"file:/main/\" { permission java.util.PropertyPermission \"x\", \"read\"; };\n\
     grant codeBase \"file:/lib/\" { permission java.util.PropertyPermission \"x\", \"read,write\"; };\n";
+
+const TO_ALL: &str = "grant { permission java.security.AllPermission; };";
+
+const TO_SIGNED: &str =
+    "/* none */ grant signedBy \"s\" { permission java.security.AllPermission; };";
 
 const GRANTED: &str = "grant 0 (\"java.util.PropertyPermission\" \"x\" \"read\")\nend finished\n";
 
@@ -53,8 +61,10 @@ const AGAIN_TEXT: &str =
 #[test]
 fn one_class(rt: HostRuntime) -> Result<(), AllocError> {
     let alloc = rt.alloc();
-    let rows: [(&str, &str, &str, Status); 8] = [
+    let rows: [(&str, &str, &str, Status); 10] = [
         (TO_A, ROW_ONE, GRANTED, Status::Finished),
+        (TO_ALL, ROW_ONE, GRANTED, Status::Finished),
+        (TO_SIGNED, ROW_ONE, DENIED_BY_0, Status::Uncaught),
         ("", ROW_ONE, DENIED_BY_0, Status::Uncaught),
         (TO_LIB, ROW_ONE, DENIED_BY_0, Status::Uncaught),
         (TO_A, POPS, "end stuck\n", Status::Stuck),
@@ -108,7 +118,7 @@ fn two_classes(rt: HostRuntime) -> Result<(), AllocError> {
 }
 
 /// A job, its policy and its class file, and in which words they are refused.
-const REFUSED: [(Content<'static>, Content<'static>, Content<'static>, &str); 9] = [
+const REFUSED: [(Content<'static>, Content<'static>, Content<'static>, &str); 16] = [
     (
         Text("policy app.policy\ncode file:/a/\nclass Main.class\nmain Mein\n"),
         Text(TO_A),
@@ -135,15 +145,52 @@ const REFUSED: [(Content<'static>, Content<'static>, Content<'static>, &str); 9]
     ),
     (
         Text(ONE),
-        Text("grant { };\n"),
+        Text("grant codeBase \"file:/a/-\" { };\n"),
         Hex(ROW_ONE),
         "refused unbuilt app.policy\n",
     ),
     (
         Text(ONE),
+        Text("grant { permission java.security.AllPermission }"),
+        Hex(ROW_ONE),
+        "refused policy 47 syntax\n",
+    ),
+    (
+        Text(ONE),
+        Bytes(b"\xff"),
+        Hex(ROW_ONE),
+        "refused policy 0 not-utf8\n",
+    ),
+    (
+        Text(ONE),
+        Text("grant { permission a.B \"${{a}}\"; };"),
+        Hex(ROW_ONE),
+        "refused policy 23 self-expansion\n",
+    ),
+    (
+        Text(ONE),
         Text(TO_A),
         Text(""),
+        "refused class Main.class at 0 truncated\n",
+    ),
+    (Text(ONE), Text(TO_A), Hex(EMPTY), "refused main Main\n"),
+    (
+        Text(ONE),
+        Text(TO_A),
+        Hex(OVER_ITSELF),
         "refused unbuilt Main.class\n",
+    ),
+    (
+        Text("code file:/a/\nclass m.class\nmain A\n"),
+        Text(TO_A),
+        Hex(BAD_TAG),
+        "refused class m.class at 10 tag\n",
+    ),
+    (
+        Text("code file:/a/\nclass m.class\nmain A\n"),
+        Text(TO_A),
+        Hex(ADDS_FLOATS),
+        "refused class m.class at 90 leftout 98\n",
     ),
     (Text(ONE), Text(TO_A), Hex(CALLER), "refused unbuilt job\n"),
     (
@@ -167,7 +214,12 @@ const REFUSED: [(Content<'static>, Content<'static>, Content<'static>, &str); 9]
 fn refusals(rt: HostRuntime) -> Result<(), AllocError> {
     let alloc = rt.alloc();
     for (job, policy, class, text) in REFUSED {
-        let files = [("job", job), ("app.policy", policy), ("Main.class", class)];
+        let files = [
+            ("job", job),
+            ("app.policy", policy),
+            ("Main.class", class),
+            ("m.class", class),
+        ];
         let got = answered(alloc, &RUN, &files, NONE)?;
         assert!(rt; got.text.as_slice() == text.as_bytes(), "{text}");
         assert!(rt; got.status == Status::Refused, "{text}");
@@ -175,31 +227,48 @@ fn refusals(rt: HostRuntime) -> Result<(), AllocError> {
     Ok(())
 }
 
-/// A class file that is cut anywhere is refused.
+/// What a class file answers that is cut behind some bytes.
+fn cut_answer(alloc: Global, class: &str, bytes: usize) -> Result<Outcome, AllocError> {
+    let Some(front) = class.as_bytes().get(..bytes.saturating_mul(2)) else {
+        return Err(AllocError);
+    };
+    let Ok(front) = str::from_utf8(front) else {
+        return Err(AllocError);
+    };
+    let files = [
+        ("job", Text(ONE)),
+        ("app.policy", Text(TO_A)),
+        ("Main.class", Hex(front)),
+    ];
+    answered(alloc, &RUN, &files, NONE)
+}
+
+/// A class file that is cut anywhere is refused, at the first number or run of bytes that isn't wholly there.
 #[test]
 fn cut_class_files(rt: HostRuntime) -> Result<(), AllocError> {
     let alloc = rt.alloc();
-    let digits = ROW_ONE.as_bytes();
     for bytes in 0..344_usize {
-        let Some(front) = digits.get(..2 * bytes) else {
-            assert!(rt; false);
-            return Ok(());
-        };
-        let Ok(front) = str::from_utf8(front) else {
-            assert!(rt; false);
-            return Ok(());
-        };
-        let files = [
-            ("job", Text(ONE)),
-            ("app.policy", Text(TO_A)),
-            ("Main.class", Hex(front)),
-        ];
-        let got = answered(alloc, &RUN, &files, NONE)?;
+        let got = cut_answer(alloc, ROW_ONE, bytes)?;
+        let text = got.text.as_slice();
         assert!(rt;
-            got.text.as_slice() == b"refused unbuilt Main.class\n".as_slice(),
+            text.starts_with(b"refused class Main.class at "),
             "{bytes}"
         );
+        assert!(rt; text.ends_with(b" truncated\n"), "{bytes}");
         assert!(rt; got.status == Status::Refused, "{bytes}");
+    }
+    let rows: [(usize, &str); 7] = [
+        (0, "refused class Main.class at 0 truncated\n"),
+        (3, "refused class Main.class at 0 truncated\n"),
+        (4, "refused class Main.class at 4 truncated\n"),
+        (9, "refused class Main.class at 8 truncated\n"),
+        (12, "refused class Main.class at 11 truncated\n"),
+        (30, "refused class Main.class at 23 truncated\n"),
+        (52, "refused class Main.class at 51 truncated\n"),
+    ];
+    for (bytes, text) in rows {
+        let got = cut_answer(alloc, EMPTY, bytes)?;
+        assert!(rt; got.text.as_slice() == text.as_bytes(), "{text}");
     }
     Ok(())
 }

@@ -1,5 +1,5 @@
 use Rattle.std.proofs.Common.{◌≡◌, map, take}
-use Rattle.jload.specs.Policies.{granted}
+use Rattle.jload.specs.Grants.{granted}
 use Rattle.jdriver.proofs.joining.all_granted.Given as goal
 
 abbrev pub invariant-loop-source : goal.invariant-loop-source

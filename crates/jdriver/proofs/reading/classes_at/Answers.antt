@@ -1,13 +1,11 @@
-use Rattle.std.proofs.Common.{◌≡◌, ◌⊎◌, List, Some, Err, sym, ap, ◌∙◌, arith, inl, inr}
+use Rattle.std.proofs.Common.{Err, sym, ap, ◌∙◌, arith}
 use Rattle.std.proofs.lemmas.Result.{err_from_is_err_and}
-use Rattle.jbase.specs.Causes.{Rose}
 use Rattle.jbase.specs.Each.{each}
 use Rattle.jbase.proofs.Loops.{each_more, each_ends}
-use Rattle.jio.specs.Held.{File}
 use Rattle.jdriver.specs.declared.task.Halt.{Halt}
 use Rattle.jdriver.specs.declared.task.Halt.TheVariants.{Read}
-use Rattle.jdriver.specs.Plans.{class_at, Misses, Missing}
-use Rattle.jdriver.proofs.Halting.{each_halts, each_misses, rose_or_misses, err_is}
+use Rattle.jdriver.specs.Plans.{class_at}
+use Rattle.jdriver.proofs.Halting.{each_halts, rose_or_misses, err_is}
 use Rattle.jdriver.proofs.reading.classes_at.Goals as goal
 
 pub returns-in_err-class_at-clause-value : goal.returns-in_err-class_at-clause-value

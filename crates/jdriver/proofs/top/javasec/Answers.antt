@@ -1,6 +1,6 @@
-use Rattle.std.proofs.Common.{◌≡◌, sym, ap, subst, Option, Ok, Err}
+use Rattle.std.proofs.Common.{sym, ap, subst, Ok, Err}
 use Rattle.jdriver.specs.declared.task.Halt.{Halt}
-use Rattle.jdriver.specs.Plans.{Refused, task_at}
+use Rattle.jdriver.specs.Plans.{Refused}
 use Rattle.jdriver.specs.Words.{words_of}
 use Rattle.jdriver.specs.Answers.{Answer, Answers, answer}
 use Rattle.jdriver.proofs.Tops.{usage_is, shown_is, own_status, no_fault}

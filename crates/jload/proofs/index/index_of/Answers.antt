@@ -1,5 +1,5 @@
-use Rattle.std.proofs.Common.{◌≡◌, false, arith, sym}
-use Rattle.jload.proofs.Places.{indexed_none, indexed_next, indexed_bad, indexed_all, from_some, from_none}
+use Rattle.std.proofs.Common.{arith}
+use Rattle.jload.proofs.Places.{indexed_none, indexed_next, indexed_all, from_some}
 use Rattle.jload.proofs.index.index_of.Goals as goal
 
 pub loop-class-init : goal.loop-class-init

@@ -1,4 +1,4 @@
-use Rattle.std.proofs.Common.{◌-◌, sym, ◌∙◌, arith}
+use Rattle.std.proofs.Common.{◌-◌, arith}
 use Rattle.jload.proofs.Places.{found_none, found_skipped, found_more, found_again, found_all}
 use Rattle.jload.proofs.index.places_of.Goals as goal
 

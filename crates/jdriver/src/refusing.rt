@@ -1,0 +1,197 @@
+ghost use Rattle.std.specs.Prelude.{◌≡◌, ◌≤◌, ◌<◌, ◌^◌, ◌⊎◌, length};
+ghost use Rattle.jbase.specs.Causes.{Rose};
+ghost use Rattle.jio.specs.LineOf.{line_of, room_of};
+ghost use Rattle.jdriver.specs.declared.status.Status.TheVariants.{ReadFault, Usage, WriteFault};
+ghost use Rattle.jdriver.specs.Answers;
+ghost use Rattle.jdriver.specs.Answers.{Answers, class_line, class_opcode, class_text, class_word, name_line, policy_line, policy_word, refusal_line, refused_answer};
+
+use crate::status::Status;
+use crate::task::Refusal;
+use jclass::ClassKind;
+use jio::{Part, Sink, write_line};
+use jload::Text;
+use jpolicy::PolicyKind;
+use jtext::Units;
+use std::alloc::Global;
+
+/// The most units of a name in a refusal.
+const MOST_UNITS: usize = 2_147_483_647;
+
+/// Writes a refusal's line of these parts.
+fn refuse<K: Sink>(parts: &[Part<'_>], out: &mut K) -> Status
+    requires { room_of parts.now < 2 ^ 64 }
+    ensures answer { Answers (refused_answer (line_of parts.now)) result (K.out out.old) (K.out out.new) }
+    ensures later { K.faults out.old ≤ K.faults out.new }
+    ensures cause { result ≡ WriteFault → Rose (K.faults out.old) (K.faults out.new) }
+    ensures read { result ≡ ReadFault → ⊥ }
+    ensures usage { result ≡ Usage → ⊥ }
+{
+    match write_line(out, parts) {
+        Ok(()) => Status::Refused,
+        Err(_) => Status::WriteFault,
+    }
+}
+
+/// Writes a line of a few words and a name.
+fn show_name<K: Sink>(alloc: Global, words: &str, name: &Text, out: &mut K) -> Status
+    requires { length words.now < 2 ^ 32 }
+    ensures answer { Answers (refused_answer (name_line words.now name.now)) result (K.out out.old) (K.out out.new) }
+    ensures later { K.faults out.old ≤ K.faults out.new }
+    ensures cause { result ≡ WriteFault → Rose (K.faults out.old) (K.faults out.new) }
+    ensures read { result ≡ ReadFault → ⊥ }
+    ensures usage { result ≡ Usage → ⊥ }
+{
+    let Ok(units) = Units::from_text(alloc, name.as_str()) else {
+        return Status::OutOfMemory;
+    };
+    let units = units.as_slice();
+    if MOST_UNITS < units.len() {
+        return Status::OutOfMemory;
+    }
+    refuse(&[Part::Plain(words), Part::Text(units)], out)
+}
+
+// ---- policies
+
+#[tactic(auto, unfolding(crate::specs::Answers::policy_word))]
+fn policy_word(kind: PolicyKind) -> &'static str
+    ensures word { result.now ≡ policy_word kind }
+    ensures few { length result.now < 32 }
+{
+    match kind {
+        PolicyKind::NotUtf8 => "not-utf8",
+        PolicyKind::Syntax => "syntax",
+        PolicyKind::SelfExpansion => "self-expansion",
+    }
+}
+
+fn show_policy<K: Sink>(at: u32, kind: PolicyKind, out: &mut K) -> Status
+    ensures answer { Answers (refused_answer (policy_line at kind)) result (K.out out.old) (K.out out.new) }
+    ensures later { K.faults out.old ≤ K.faults out.new }
+    ensures cause { result ≡ WriteFault → Rose (K.faults out.old) (K.faults out.new) }
+    ensures read { result ≡ ReadFault → ⊥ }
+    ensures usage { result ≡ Usage → ⊥ }
+{
+    let parts = [
+        Part::Plain("refused policy "),
+        Part::Number(u64::from(at)),
+        Part::Plain(" "),
+        Part::Plain(policy_word(kind)),
+    ];
+    refuse(&parts, out)
+}
+
+// ---- class files
+
+#[tactic(auto, unfolding(crate::specs::Answers::class_word))]
+fn class_word(kind: ClassKind) -> &'static str
+    ensures word { result.now ≡ class_word kind }
+    ensures few { length result.now < 32 }
+{
+    match kind {
+        ClassKind::Truncated => "truncated",
+        ClassKind::Magic => "magic",
+        ClassKind::Version => "version",
+        ClassKind::Tag => "tag",
+        ClassKind::Trailing => "trailing",
+        ClassKind::Text => "text",
+        ClassKind::Index => "index",
+        ClassKind::Name => "name",
+        ClassKind::Descriptor => "descriptor",
+        ClassKind::Code => "code",
+        ClassKind::Opcode(_) => "opcode",
+        ClassKind::LeftOut(_) | ClassKind::MapLeftOut => "leftout",
+        ClassKind::Operand => "operand",
+        ClassKind::Target => "target",
+        ClassKind::Reserved => "reserved",
+        ClassKind::MapTag => "maptag",
+        ClassKind::Maps => "maps",
+    }
+}
+
+#[tactic(auto, unfolding(crate::specs::Answers::class_opcode))]
+fn class_opcode(kind: ClassKind) -> Option<u8>
+    ensures { result ≡ class_opcode kind }
+{
+    match kind {
+        ClassKind::Opcode(opcode) | ClassKind::LeftOut(opcode) => Some(opcode),
+        _ => None,
+    }
+}
+
+fn put_class<'a, K: Sink>(
+    path: &'a [u16],
+    at: u32,
+    word: &'a str,
+    opcode: Option<u8>,
+    out: &mut K,
+) -> Status
+    requires path { length path.now ≤ 2147483647 }
+    requires word { length word.now < 32 }
+    ensures answer { Answers (refused_answer (class_text path.now at word.now opcode)) result (K.out out.old) (K.out out.new) }
+    ensures later { K.faults out.old ≤ K.faults out.new }
+    ensures cause { result ≡ WriteFault → Rose (K.faults out.old) (K.faults out.new) }
+    ensures read { result ≡ ReadFault → ⊥ }
+    ensures usage { result ≡ Usage → ⊥ }
+{
+    let at = u64::from(at);
+    match opcode {
+        None => refuse(
+            &[
+                Part::Plain("refused class "),
+                Part::Text(path),
+                Part::Plain(" at "),
+                Part::Number(at),
+                Part::Plain(" "),
+                Part::Plain(word),
+            ],
+            out,
+        ),
+        Some(opcode) => refuse(
+            &[
+                Part::Plain("refused class "),
+                Part::Text(path),
+                Part::Plain(" at "),
+                Part::Number(at),
+                Part::Plain(" "),
+                Part::Plain(word),
+                Part::Plain(" "),
+                Part::Number(u64::from(opcode)),
+            ],
+            out,
+        ),
+    }
+}
+
+fn show_class<K: Sink>(alloc: Global, path: &Text, at: u32, kind: ClassKind, out: &mut K) -> Status
+    ensures answer { Answers (refused_answer (class_line path.now at kind)) result (K.out out.old) (K.out out.new) }
+    ensures later { K.faults out.old ≤ K.faults out.new }
+    ensures cause { result ≡ WriteFault → Rose (K.faults out.old) (K.faults out.new) }
+    ensures read { result ≡ ReadFault → ⊥ }
+    ensures usage { result ≡ Usage → ⊥ }
+{
+    let Ok(units) = Units::from_text(alloc, path.as_str()) else {
+        return Status::OutOfMemory;
+    };
+    let units = units.as_slice();
+    if MOST_UNITS < units.len() {
+        return Status::OutOfMemory;
+    }
+    put_class(units, at, class_word(kind), class_opcode(kind), out)
+}
+
+/// Writes a refusal's line.
+pub fn show_refusal<K: Sink>(alloc: Global, refusal: &Refusal, out: &mut K) -> Status
+    ensures answer { Answers (refused_answer (refusal_line refusal.now)) result (K.out out.old) (K.out out.new) }
+    ensures later { K.faults out.old ≤ K.faults out.new }
+    ensures cause { result ≡ WriteFault → Rose (K.faults out.old) (K.faults out.new) }
+    ensures read { result ≡ ReadFault → ⊥ }
+    ensures usage { result ≡ Usage → ⊥ }
+{
+    match refusal {
+        Refusal::BadPolicy { at, kind } => show_policy(*at, *kind, out),
+        Refusal::BadClass { path, at, kind } => show_class(alloc, path, *at, *kind, out),
+        Refusal::Unbuilt(path) => show_name(alloc, "refused unbuilt ", path, out),
+        Refusal::NoMain(name) => show_name(alloc, "refused main ", name, out),
+    }
+}
