@@ -1,8 +1,9 @@
 //! Reads parts of class files from the input, writes each back, and tells how many come back byte for byte.
 //!
 //! A line is the kind of a part and its bytes as hexadecimal text: `pool` and the constant pool with its count, `maps` and
-//! the content of a StackMapTable, `code` and the instructions of a method. The stored input has the distinct parts of class
-//! files that were made outside this repository.
+//! the content of a StackMapTable, `code` and the instructions of a method, `class` and a whole class file. The stored input has
+//! the distinct parts of class files that were made outside this repository, these class files, and some that a Java compiler
+//! made: with inner classes, synthetic members, signatures, annotations, line numbers and constants of each kind.
 #![tactic(auto)]
 
 mod trip;
@@ -35,6 +36,7 @@ fn main(rt: HostRuntime) -> io::Result<()> {
     let mut pools = Count::NONE;
     let mut maps = Count::NONE;
     let mut code = Count::NONE;
+    let mut classes = Count::NONE;
     for (i, line) in rt.lines(alloc).enumerate() {
         let line = line?;
         let Some((part, digits)) = part_of(line.as_str()) else {
@@ -49,9 +51,11 @@ fn main(rt: HostRuntime) -> io::Result<()> {
             Part::Pool => pools = pools.with(back),
             Part::Maps => maps = maps.with(back),
             Part::Code => code = code.with(back),
+            Part::Class => classes = classes.with(back),
         }
     }
     println!(rt; "pool: {} of {} come back", pools.back, pools.seen)?;
     println!(rt; "maps: {} of {} come back", maps.back, maps.seen)?;
-    println!(rt; "code: {} of {} come back", code.back, code.seen)
+    println!(rt; "code: {} of {} come back", code.back, code.seen)?;
+    println!(rt; "class: {} of {} come back", classes.back, classes.seen)
 }

@@ -1,4 +1,5 @@
 use jbase::Seq;
+use jclass::{read_class, write_class};
 use jcode::{decode, encode};
 use jmaps::{put_frames, read_maps};
 use jpool::{read_pool, write_pool};
@@ -13,6 +14,8 @@ pub enum Part {
     Maps,
     /// The instructions of a Code attribute (JVMS 4.7.3).
     Code,
+    /// A class file (JVMS 4.1).
+    Class,
 }
 
 /// The part that a line has, and its bytes as hexadecimal text.
@@ -22,6 +25,7 @@ pub fn part_of(line: &str) -> Option<(Part, &str)> {
         "pool" => Some((Part::Pool, digits)),
         "maps" => Some((Part::Maps, digits)),
         "code" => Some((Part::Code, digits)),
+        "class" => Some((Part::Class, digits)),
         _ => None,
     }
 }
@@ -57,6 +61,18 @@ fn code_comes_back(alloc: Global, bytes: &[u8]) -> Result<bool, AllocError> {
     Ok(written.as_slice() == bytes)
 }
 
+/// Whether the bytes are a class file that is written as it was read.
+fn class_comes_back(alloc: Global, bytes: &[u8]) -> Result<bool, AllocError> {
+    if bytes.len() > i32::MAX as usize {
+        return Ok(false);
+    }
+    let Ok(class) = read_class(alloc, bytes) else {
+        return Ok(false);
+    };
+    let written = write_class(alloc, &class)?;
+    Ok(written.as_slice() == bytes)
+}
+
 /// Whether a part is written byte for byte as it was read. What can't be read doesn't come back.
 pub fn comes_back(alloc: Global, part: Part, digits: &str) -> Result<bool, AllocError> {
     let Ok(bytes) = hex::decode(alloc, digits) else {
@@ -66,5 +82,6 @@ pub fn comes_back(alloc: Global, part: Part, digits: &str) -> Result<bool, Alloc
         Part::Pool => pool_comes_back(alloc, &bytes),
         Part::Maps => maps_come_back(alloc, &bytes),
         Part::Code => code_comes_back(alloc, &bytes),
+        Part::Class => class_comes_back(alloc, &bytes),
     }
 }
