@@ -1,0 +1,105 @@
+-- What the instructions that move the newest items of the stack do (JVMS 6.5). Stacks stand newest first here.
+use Rattle.std.specs.Prelude.{◌≡◌, ℕ, ◌≤◌, ◌++◌, Bool, true, false, if◌then◌else◌, List, [], ◌∷◌, length, map, take, reverse, Option, Some, None}
+use Rattle.jops.specs.declared.value.Value.{Value}
+use Rattle.jops.specs.declared.value.Value.TheVariants.{Long}
+use Rattle.jops.specs.declared.names.Shuffle.{Shuffle}
+use Rattle.jops.specs.declared.names.Shuffle.TheVariants.{Pop, Pop2, Dup, DupX1, DupX2, Dup2, Dup2X1, Dup2X2, Swap}
+use Rattle.jops.specs.declared.shuffling.Shuffled.{Shuffled}
+
+-- an item of the stack by its category (JVMS 2.11.1): one slot, or two slots as a long fills
+pub data Item (V : Type 0) : Type 0 where
+  One : V → Item V
+  Two : V → Item V
+
+-- how many of the newest items go, and what comes in their place, newest first
+pub record Move (V : Type 0) : Type 0 where
+  pub taken : ℕ
+  pub put : List V
+
+abbrev pub moves : {V : Type 0} → ℕ → List V → Move V
+moves n comes = record { taken = n; put = comes }
+
+abbrev pub move : {V : Type 0} → ℕ → List V → Option (Move V)
+move n comes = Some (moves n comes)
+
+-- ---- the forms of each instruction; None where no form fits the newest items
+
+abbrev pub pop : {V : Type 0} → List (Item V) → Option (Move V)
+pop (One a ∷ _) = move 1 []
+pop _ = None
+
+abbrev pub pop2 : {V : Type 0} → List (Item V) → Option (Move V)
+pop2 (One a ∷ One b ∷ _) = move 2 []
+pop2 (Two a ∷ _) = move 1 []
+pop2 _ = None
+
+abbrev pub dup : {V : Type 0} → List (Item V) → Option (Move V)
+dup (One a ∷ _) = move 1 (a ∷ a ∷ [])
+dup _ = None
+
+abbrev pub dup_x1 : {V : Type 0} → List (Item V) → Option (Move V)
+dup_x1 (One a ∷ One b ∷ _) = move 2 (a ∷ b ∷ a ∷ [])
+dup_x1 _ = None
+
+abbrev pub dup_x2 : {V : Type 0} → List (Item V) → Option (Move V)
+dup_x2 (One a ∷ One b ∷ One c ∷ _) = move 3 (a ∷ b ∷ c ∷ a ∷ [])
+dup_x2 (One a ∷ Two b ∷ _) = move 2 (a ∷ b ∷ a ∷ [])
+dup_x2 _ = None
+
+abbrev pub dup2 : {V : Type 0} → List (Item V) → Option (Move V)
+dup2 (One a ∷ One b ∷ _) = move 2 (a ∷ b ∷ a ∷ b ∷ [])
+dup2 (Two a ∷ _) = move 1 (a ∷ a ∷ [])
+dup2 _ = None
+
+abbrev pub dup2_x1 : {V : Type 0} → List (Item V) → Option (Move V)
+dup2_x1 (One a ∷ One b ∷ One c ∷ _) = move 3 (a ∷ b ∷ c ∷ a ∷ b ∷ [])
+dup2_x1 (Two a ∷ One b ∷ _) = move 2 (a ∷ b ∷ a ∷ [])
+dup2_x1 _ = None
+
+abbrev pub dup2_x2 : {V : Type 0} → List (Item V) → Option (Move V)
+dup2_x2 (One a ∷ One b ∷ One c ∷ One d ∷ _) = move 4 (a ∷ b ∷ c ∷ d ∷ a ∷ b ∷ [])
+dup2_x2 (Two a ∷ One b ∷ One c ∷ _) = move 3 (a ∷ b ∷ c ∷ a ∷ [])
+dup2_x2 (One a ∷ One b ∷ Two c ∷ _) = move 3 (a ∷ b ∷ c ∷ a ∷ b ∷ [])
+dup2_x2 (Two a ∷ Two b ∷ _) = move 2 (a ∷ b ∷ a ∷ [])
+dup2_x2 _ = None
+
+abbrev pub swap : {V : Type 0} → List (Item V) → Option (Move V)
+swap (One a ∷ One b ∷ _) = move 2 (b ∷ a ∷ [])
+swap _ = None
+
+unfoldable pub shuffle : {V : Type 0} → Shuffle → List (Item V) → Option (Move V)
+shuffle Pop = pop
+shuffle Pop2 = pop2
+shuffle Dup = dup
+shuffle DupX1 = dup_x1
+shuffle DupX2 = dup_x2
+shuffle Dup2 = dup2
+shuffle Dup2X1 = dup2_x1
+shuffle Dup2X2 = dup2_x2
+shuffle Swap = swap
+
+-- ---- values as items
+
+abbrev pub is_long : Value → Bool
+is_long (Long x) = true
+is_long _ = false
+
+abbrev pub item : Value → Item Value
+item v = if is_long v then Two v else One v
+
+-- the items of values that stand newest last
+abbrev pub items : List Value → List (Item Value)
+items top = map item (reverse top)
+
+-- what an answer says; its values stand newest last
+abbrev pub moved : Shuffled → Move Value
+moved s = moves s.taken (reverse (take s.put s.values))
+
+-- What goes and comes depends on the items that go alone: where a form fits a stack, the same goes and comes with any others
+-- below, and no more go than are there.
+abbrev pub LooksNoDeeper : Type 0
+LooksNoDeeper = (s : Shuffle) (stack below : List (Item Value)) (m : Move Value) → shuffle s stack ≡ Some m → (shuffle s (stack ++ below) ≡ Some m) × (m.taken ≤ length stack)
+
+-- no form looks at more than the newest four items
+abbrev pub LooksAtFour : Type 0
+LooksAtFour = (s : Shuffle) (stack : List (Item Value)) → shuffle s (take 4 stack) ≡ shuffle s stack

@@ -1,0 +1,26 @@
+//! What the instructions that compute, compare and move values of the stack do with them.
+#![tactic(auto)]
+
+mod binary;
+mod comparing;
+mod division;
+mod ints;
+mod laws;
+mod longs;
+mod names;
+mod operands;
+mod shuffling;
+mod unary;
+mod value;
+
+pub use binary::two;
+pub use comparing::test;
+pub use division::divide;
+pub use laws::shuffle_laws;
+pub use names::{Compare, Division, OpOne, OpTwo, Shuffle};
+pub use shuffling::{Shuffled, shuffle};
+pub use unary::one;
+pub use value::{DivideByZero, Value};
+
+#[cfg(test)]
+mod tests;

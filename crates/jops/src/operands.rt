@@ -1,0 +1,26 @@
+ghost use Rattle.std.specs.Prelude.{◌≡◌};
+ghost use Rattle.jops.specs.Operations.{IsInt, IsLong};
+
+use crate::value::Value;
+
+/// The number that an int is.
+pub(crate) fn int_of(value: Value) -> i32
+    requires { IsInt value }
+    ensures { value ≡ Value.Int result }
+{
+    match value {
+        Value::Int(x) => x,
+        _ => unreachable!(),
+    }
+}
+
+/// The number that a long is.
+pub(crate) fn long_of(value: Value) -> i64
+    requires { IsLong value }
+    ensures { value ≡ Value.Long result }
+{
+    match value {
+        Value::Long(x) => x,
+        _ => unreachable!(),
+    }
+}
