@@ -1,0 +1,52 @@
+-- What a policy grants to the code of each source, and which permissions a domain has (policy file documentation, "Policy File Syntax").
+use Rattle.std.specs.Prelude.{ℕ, Bool, false, List, Option, Some, None, Result, Ok, Err, filter, flat_map, map, slice_get, if◌then◌else◌}
+use Rattle.url.specs.Parts.{Parts}
+use Rattle.jperm.specs.declared.making.PermClass.{PermClass}
+use Rattle.jperm.specs.declared.making.PermError.{PermError}
+use Rattle.jperm.specs.declared.permission.Permission.{Permission}
+use Rattle.jperm.specs.declared.permission.Permission.TheVariants.{Unresolved}
+use Rattle.jperm.specs.Made.{made}
+use Rattle.jperm.specs.Permissions.{covers}
+use Rattle.jperm.specs.Texts.{class_named}
+use Rattle.jpolicy.specs.declared.grant.Grant.{Grant}
+use Rattle.jpolicy.specs.declared.grant.GrantEntry.{GrantEntry}
+use Rattle.jdomain.specs.Sources.{matches}
+
+-- ---- the permission of an entry
+
+-- what a constructor made, or what stands for a class whose constructor made nothing
+abbrev pub resolved : List ℕ → Result Permission PermError → Permission
+resolved class (Ok permission) = permission
+resolved class (Err error) = Unresolved class
+
+-- the permission that a class makes of an entry in a directory, where there is a class
+abbrev pub made_by : List ℕ → Option PermClass → GrantEntry → Permission
+made_by directory None entry = Unresolved entry.class
+made_by directory (Some class) entry = resolved entry.class (made class entry.name entry.actions directory)
+
+-- the permission of an entry; it is unresolved where the entry asks for a signer, its class is unknown, or its name or actions make none
+unfoldable pub permission_of : List ℕ → GrantEntry → Permission
+permission_of directory entry =
+    if entry.signed then Unresolved entry.class else made_by directory (class_named entry.class) entry
+
+-- ---- what is granted
+
+-- the permissions of a grant's entries, in order
+abbrev pub permissions_of : List ℕ → Grant → List Permission
+permissions_of directory grant = map (permission_of directory) grant.entries
+
+-- the permissions of all grants that are for the code of a source, in the order of the policy
+unfoldable pub granted : List ℕ → List Grant → Parts → List Permission
+granted directory policy source =
+    flat_map (permissions_of directory) (filter (λ grant. matches grant source) policy)
+
+-- ---- what a domain has
+
+-- whether a list, where there is one, covers a permission
+abbrev pub covered_by : Option (List Permission) → Permission → Bool
+covered_by None asked = false
+covered_by (Some list) asked = covers list asked
+
+-- whether a domain has a permission: the list of that number covers it; a number without a list has none
+abbrev pub has : List (List Permission) → ℕ → Permission → Bool
+has lists domain asked = covered_by (slice_get lists domain) asked

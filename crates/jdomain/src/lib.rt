@@ -1,0 +1,17 @@
+//! Code sources, the code bases that stand for them, and what a policy grants to each: the domains of a job.
+#![tactic(auto)]
+
+mod code;
+mod domain;
+mod entry;
+mod fault;
+mod share;
+mod source;
+
+pub use code::MOST_URL;
+pub use domain::Domains;
+pub use fault::SourceError;
+pub use source::CodeSource;
+
+#[cfg(test)]
+mod tests;
