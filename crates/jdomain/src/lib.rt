@@ -10,6 +10,7 @@ mod source;
 
 pub use code::MOST_URL;
 pub use domain::Domains;
+pub use entry::permission_of;
 pub use fault::SourceError;
 pub use source::CodeSource;
 

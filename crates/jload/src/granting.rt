@@ -1,11 +1,12 @@
 ghost use Rattle.std.specs.Prelude.{◌≡◌, ◌++◌, ◌||◌, IfOk, OnOk, map};
-ghost use Rattle.jperm.specs.declared.permission.Permission.TheVariants.{Unresolved};
-ghost use Rattle.jload.specs.Grants.{built, granted, is_for, is_url_if_any, made_by, permission_of, root};
+ghost use Rattle.jdomain.specs.Domains.{permission_of};
+ghost use Rattle.jload.specs.Grants.{built, granted, is_for, is_url_if_any, root};
 
 use crate::text::widened;
 use crate::url::is_url;
 use jbase::Seq;
-use jperm::{PermClass, PermError, Permission, make};
+use jdomain::permission_of;
+use jperm::Permission;
 use jpolicy::{Grant, GrantEntry};
 use jtext::Units;
 use std::alloc::{AllocError, Global};
@@ -82,57 +83,10 @@ fn add_entries(
     permissions: &mut Seq<Permission>,
 ) -> Result<(), AllocError>
     requires { directory.now ≡ root }
-    ensures { OnOk result (permissions.new ≡ permissions.old ++ map permission_of entries.now) }
+    ensures { OnOk result (permissions.new ≡ permissions.old ++ map (permission_of root) entries.now) }
 {
     for entry in entries {
         permissions.push(permission_of(alloc, entry, directory)?)?;
     }
     Ok(())
-}
-
-/// The permission of an entry, with names of files read in the root directory.
-#[tactic(auto, unfolding(crate::specs::Grants::permission_of))]
-fn permission_of(
-    alloc: Global,
-    entry: &GrantEntry,
-    directory: &Units,
-) -> Result<Permission, AllocError>
-    requires { directory.now ≡ root }
-    ensures { IfOk result (λ p. p ≡ permission_of entry.now) }
-{
-    if entry.signed {
-        return unresolved(alloc, &entry.class);
-    }
-    match PermClass::named(entry.class.as_slice()) {
-        Some(class) => made_by(alloc, class, entry, directory),
-        None => unresolved(alloc, &entry.class),
-    }
-}
-
-/// The permission that a class makes of an entry, or what stands for it where it makes none.
-fn made_by(
-    alloc: Global,
-    class: PermClass,
-    entry: &GrantEntry,
-    directory: &Units,
-) -> Result<Permission, AllocError>
-    requires { directory.now ≡ root }
-    ensures { IfOk result (λ p. p ≡ made_by (Some class) entry.now) }
-{
-    let name = entry.name.as_ref();
-    let actions = entry.actions.as_ref();
-    match make(alloc, class, name, actions, directory) {
-        Ok(permission) => Ok(permission),
-        Err(PermError::Memory) => Err(AllocError),
-        Err(_) => unresolved(alloc, &entry.class),
-    }
-}
-
-/// What stands for a class that makes no permission.
-fn unresolved(alloc: Global, class: &Units) -> Result<Permission, AllocError>
-    ensures { IfOk result (λ p. p ≡ Unresolved class.now) }
-{
-    Ok(Permission::Unresolved {
-        class: class.copy(alloc)?,
-    })
 }
