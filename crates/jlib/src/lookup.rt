@@ -1,0 +1,65 @@
+ghost use Rattle.std.specs.Prelude.{◌≡◌};
+ghost use Rattle.jlib.specs.Classes.{class_named};
+
+use crate::classes::{LibClass, PermissionClass, Side, Thrown};
+
+/// All classes of both sides.
+const CLASSES: [LibClass; 46] = [
+    LibClass::Object,
+    LibClass::String,
+    LibClass::StringBuilder,
+    LibClass::System,
+    LibClass::PrintStream,
+    LibClass::Void,
+    LibClass::Cloneable,
+    LibClass::Serializable,
+    LibClass::Runnable,
+    LibClass::Thread,
+    LibClass::PrivilegedAction,
+    LibClass::AccessController,
+    LibClass::AccessControlContext,
+    LibClass::Thrown(Thrown::Throwable),
+    LibClass::Thrown(Thrown::Exception),
+    LibClass::Thrown(Thrown::RuntimeException),
+    LibClass::Thrown(Thrown::Error),
+    LibClass::Thrown(Thrown::ArithmeticException),
+    LibClass::Thrown(Thrown::NullPointerException),
+    LibClass::Thrown(Thrown::ClassCastException),
+    LibClass::Thrown(Thrown::NegativeArraySizeException),
+    LibClass::Thrown(Thrown::ArrayStoreException),
+    LibClass::Thrown(Thrown::IllegalArgumentException),
+    LibClass::Thrown(Thrown::IllegalStateException),
+    LibClass::Thrown(Thrown::IndexOutOfBoundsException),
+    LibClass::Thrown(Thrown::SecurityException),
+    LibClass::Thrown(Thrown::ArrayIndexOutOfBoundsException),
+    LibClass::Thrown(Thrown::StringIndexOutOfBoundsException),
+    LibClass::Thrown(Thrown::IllegalThreadStateException),
+    LibClass::Thrown(Thrown::AccessControlException),
+    LibClass::Thrown(Thrown::InterruptedException),
+    LibClass::Thrown(Thrown::LinkageError),
+    LibClass::Thrown(Thrown::VirtualMachineError),
+    LibClass::Thrown(Thrown::IncompatibleClassChangeError),
+    LibClass::Thrown(Thrown::AbstractMethodError),
+    LibClass::Thrown(Thrown::IllegalAccessError),
+    LibClass::Thrown(Thrown::StackOverflowError),
+    LibClass::Permission(PermissionClass::Permission),
+    LibClass::Permission(PermissionClass::BasicPermission),
+    LibClass::Permission(PermissionClass::AllPermission),
+    LibClass::Permission(PermissionClass::RuntimePermission),
+    LibClass::Permission(PermissionClass::SecurityPermission),
+    LibClass::Permission(PermissionClass::PropertyPermission),
+    LibClass::Permission(PermissionClass::FilePermission),
+    LibClass::Rt,
+    LibClass::Ctx,
+];
+
+/// The class of a side's library that has this name, with `/` between packages (JVMS 4.2.1); None exactly where the side has
+/// none.
+pub fn class(side: Side, name: &[u8]) -> Option<LibClass>
+    ensures { result ≡ class_named side name.now }
+{
+    CLASSES
+        .iter()
+        .copied()
+        .find(|class| class.stands_on(side) && name == class.name())
+}
