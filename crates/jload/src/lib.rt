@@ -13,7 +13,6 @@ pub use granting::{granted_to, is_built};
 pub use job::{Job, Source, read_job};
 pub use joining::{joined, main_of};
 pub use text::Text;
-pub use url::MOST_URL;
 
 #[cfg(test)]
 mod tests;

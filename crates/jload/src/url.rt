@@ -2,8 +2,7 @@ ghost use Rattle.std.specs.Prelude.{◌≡◌, ◌==◌};
 ghost use Rattle.std.specs.List.{list_all, slice_split};
 ghost use Rattle.jload.specs.Urls.{is_part_unit, is_part, are_parts, is_url};
 
-/// The most units that a URL may have.
-pub const MOST_URL: usize = 65536;
+use jdomain::MOST_URL;
 
 /// `file:/`
 const START: [u16; 6] = [
