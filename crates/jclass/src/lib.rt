@@ -25,6 +25,3 @@ pub use kind::{ClassError, ClassKind};
 pub use laws::spelling_laws;
 pub use read::read_class;
 pub use write::write_class;
-
-#[cfg(test)]
-mod tests;

@@ -5,8 +5,6 @@ mod branches;
 mod coding;
 mod effect;
 mod form;
-#[cfg(test)]
-mod form_tests;
 mod forming;
 mod head;
 mod kind;
@@ -18,8 +16,6 @@ mod operands;
 mod read;
 mod sizing;
 mod table;
-#[cfg(test)]
-mod tests;
 mod write;
 
 pub use coding::{decode, encode};

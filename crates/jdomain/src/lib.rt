@@ -13,6 +13,3 @@ pub use domain::Domains;
 pub use entry::permission_of;
 pub use fault::SourceError;
 pub use source::CodeSource;
-
-#[cfg(test)]
-mod tests;

@@ -25,6 +25,3 @@ pub use plan::{DEFAULT_DEPTH, DEFAULT_HEAP, DEFAULT_STEPS, Plan};
 pub use program::{Form, Method, Program};
 pub use running::run_inspect;
 pub use state::{Constant, Object, State};
-
-#[cfg(test)]
-mod tests;

@@ -7,6 +7,3 @@ mod resolve;
 
 pub use form::{ClassForm, MethodForm, Op};
 pub use resolve::form_of;
-
-#[cfg(test)]
-mod tests;

@@ -19,6 +19,3 @@ pub use write::{
     StateWriter, Writer, put_block, put_by, put_bytes, put_counted, put_each, put_i8, put_i16,
     put_i32, put_sized16, put_sized32, put_u8, put_u16, put_u32, put_u64,
 };
-
-#[cfg(test)]
-mod tests;

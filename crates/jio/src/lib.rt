@@ -8,8 +8,6 @@ mod parts;
 mod real;
 mod shelf;
 mod sink;
-#[cfg(test)]
-mod tests;
 
 pub use lines::{Line, write_line_text};
 pub use memory_shelf::MemoryShelf;

@@ -15,6 +15,3 @@ pub use classes::{LibClass, PermissionClass, Side, Thrown};
 pub use laws::{call_laws, class_laws};
 pub use lookup::class;
 pub use members::member;
-
-#[cfg(test)]
-mod tests;

@@ -13,6 +13,3 @@ pub use granting::{granted_to, is_built};
 pub use job::{Job, Source, read_job};
 pub use joining::{joined, main_of};
 pub use text::Text;
-
-#[cfg(test)]
-mod tests;

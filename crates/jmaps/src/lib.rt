@@ -6,8 +6,6 @@ mod fault;
 mod full;
 mod read;
 mod rows;
-#[cfg(test)]
-mod tests;
 mod types;
 mod write;
 

@@ -21,6 +21,3 @@ pub use names::{Compare, Division, OpOne, OpTwo, Shuffle};
 pub use shuffling::{Shuffled, shuffle};
 pub use unary::one;
 pub use value::{DivideByZero, Value};
-
-#[cfg(test)]
-mod tests;

@@ -18,6 +18,3 @@ pub use making::{PermClass, PermError, make};
 pub use path::FilePath;
 pub use permission::{BasicClass, Permission, covers};
 pub use text::PARTS;
-
-#[cfg(test)]
-mod tests;

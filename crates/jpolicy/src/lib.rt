@@ -24,6 +24,3 @@ pub use items::grants_of;
 pub use lexing::tokens_of;
 pub use read::read_policy;
 pub use token::{Placed, Token};
-
-#[cfg(test)]
-mod tests;

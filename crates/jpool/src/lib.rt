@@ -12,8 +12,6 @@ mod pool;
 mod read;
 mod scan;
 mod slots;
-#[cfg(test)]
-mod tests;
 mod uses;
 
 pub use adder::{AddError, Adder};

@@ -6,6 +6,3 @@ mod units;
 
 pub use modified::{TextError, bytes_of, spelling_law, units_of};
 pub use units::Units;
-
-#[cfg(test)]
-mod tests;

@@ -10,6 +10,3 @@ pub use laws::thread_laws;
 pub use schedule::pick;
 pub use table::{Joined, Threads};
 pub use thread::Thread;
-
-#[cfg(test)]
-mod tests;

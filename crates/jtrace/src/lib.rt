@@ -8,6 +8,3 @@ mod lines;
 pub use event::{End, Event};
 pub use fault::RunFault;
 pub use lines::{MOST_UNITS, write_end, write_event};
-
-#[cfg(test)]
-mod tests;

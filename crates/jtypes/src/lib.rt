@@ -4,8 +4,6 @@
 mod ancestry;
 mod fitting;
 mod laws;
-#[cfg(test)]
-mod tests;
 mod vtype;
 
 pub use ancestry::Ancestry;

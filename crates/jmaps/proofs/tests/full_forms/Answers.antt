@@ -1,8 +1,0 @@
-use Rattle.std.proofs.Common.{refl}
-use Rattle.jformat.specs.States.{fits_from}
-use Rattle.jmaps.specs.Frames.{map_type}
-use Rattle.jmaps.proofs.tests.full_forms.Goals as goal
-
-pub write_maps-requires : goal.write_maps-requires
-unfolding fits_from map_type
-write_maps-requires g c = rw (c.in_ok-from_slice.ensures, c.new.ensures, c.new-2.ensures, c.in_ok-from_slice-2.ensures) refl
