@@ -1,3 +1,4 @@
 pub mod Domains
 pub mod Shares
 pub mod Sources
+pub mod Stacks

@@ -1,4 +1,5 @@
-//! Code sources, the code bases that stand for them, and what a policy grants to each: the domains of a job.
+//! Code sources, the code bases that stand for them, and what a policy grants to each: the domains of a job, stacks of them, and the walk
+//! of a stack.
 #![tactic(auto)]
 
 mod code;
@@ -7,9 +8,11 @@ mod entry;
 mod fault;
 mod share;
 mod source;
+mod verdict;
 
 pub use code::MOST_URL;
 pub use domain::Domains;
 pub use entry::permission_of;
 pub use fault::SourceError;
 pub use source::CodeSource;
+pub use verdict::Verdict;
