@@ -2,7 +2,7 @@
 use Rattle.std.proofs.Common.{◌≡◌, ℕ, zero, suc, ◌+◌, List, [], ◌∷◌, drop, Some, None, refl, ap, add-one}
 use Rattle.std.specs.List.{slice_get}
 use Rattle.jengine.specs.declared.frames.Frame.{Frame}
-use Rattle.jengine.specs.Stacks.{Bottom, Entry, Unmarked}
+use Rattle.jdomain.specs.Stacks.{Bottom, Entry, Unmarked}
 use Rattle.jengine.specs.Checking.{entries}
 
 drop_at : {A : Type 0} (xs : List A) (i : ℕ) (x : A) → slice_get xs i ≡ Some x → drop i xs ≡ x ∷ drop (suc i) xs

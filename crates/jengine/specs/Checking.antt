@@ -4,14 +4,14 @@ use Rattle.jperm.specs.declared.permission.Permission.{Permission}
 use Rattle.jperm.specs.Texts.{text_of}
 use Rattle.jtrace.specs.declared.event.Event.TheVariants.{Grant, Deny}
 use Rattle.jengine.specs.declared.domains.Domains.{Domains}
-use Rattle.jengine.specs.declared.domains.Verdict.{Verdict}
-use Rattle.jengine.specs.declared.domains.Verdict.TheVariants.{Granted, Denied}
+use Rattle.jdomain.specs.declared.verdict.Verdict.{Verdict}
+use Rattle.jdomain.specs.declared.verdict.Verdict.TheVariants.{Granted, Denied}
 use Rattle.jengine.specs.declared.frames.Frame.{Frame}
 use Rattle.jengine.specs.declared.state.Object.{Object}
 use Rattle.jengine.specs.declared.state.Object.TheVariants as objects
 use Rattle.jengine.specs.declared.state.State.{State}
 use Rattle.jengine.specs.Granting.{has}
-use Rattle.jengine.specs.Stacks.{Stack, Bottom, Entry, Unmarked, walk}
+use Rattle.jdomain.specs.Stacks.{Stack, Bottom, Entry, Unmarked, walk}
 use Rattle.jengine.specs.Turns.{Turn, onward}
 use Rattle.jengine.specs.declared.raising.Exception.TheVariants.{AccessControl}
 use Rattle.jengine.specs.Raising.{exception_cells, text_cells, raised}

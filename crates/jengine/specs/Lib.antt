@@ -1,6 +1,5 @@
 pub mod Programs
 pub mod Granting
-pub mod Stacks
 pub mod Turns
 pub mod Straight
 pub mod Raising

@@ -1,17 +1,18 @@
 ghost use Rattle.std.specs.Prelude.{◌≡◌, ◌<◌, ◌^◌, ℕ, List, IfOk, slice_get};
 ghost use Rattle.std.specs.Option.{option_copied};
-ghost use Rattle.jengine.specs.declared.domains.Verdict.TheVariants.{Denied};
+ghost use Rattle.jdomain.specs.declared.verdict.Verdict.TheVariants.{Denied};
 ghost use Rattle.jengine.specs.declared.state.State.{State as Before};
 ghost use Rattle.jengine.specs.Granting.{has};
-ghost use Rattle.jengine.specs.Stacks.{walk};
+ghost use Rattle.jdomain.specs.Stacks.{walk};
 ghost use Rattle.jengine.specs.Turns.{outcome_of, charged, Matches};
 ghost use Rattle.jengine.specs.Checking.{check_row, entries, stack_of, value_of, denial_cells, judged};
 
-use crate::domains::{Domains, Verdict};
+use crate::domains::Domains;
 use crate::frames::Frames;
 use crate::raising::{EXCEPTION_CELLS, Exception, raise};
 use crate::state::{Object, State};
 use crate::stepped::{Stepped, one};
+use jdomain::Verdict;
 use jperm::Permission;
 use jtrace::Event;
 use std::alloc::{AllocError, Global};

@@ -4,14 +4,6 @@ ghost use Rattle.jengine.specs.Granting.{has};
 use jbase::Seq;
 use jperm::{Permission, covers};
 
-/// What a walk of a stack answers.
-#[derive(Clone, Copy, Debug, PartialEq, Eq)]
-pub enum Verdict {
-    Granted,
-    /// Denied by this domain.
-    Denied(u32),
-}
-
 /// The permissions that are granted to each code source, by its domain's number.
 #[derive(Debug, Drop)]
 pub struct Domains {

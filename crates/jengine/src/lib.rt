@@ -17,7 +17,7 @@ mod stepped;
 mod stepping;
 mod straight;
 
-pub use domains::{Domains, Verdict};
+pub use domains::Domains;
 pub use frames::{Frame, Frames};
 pub use laws::run_laws;
 pub use newest::Newest;

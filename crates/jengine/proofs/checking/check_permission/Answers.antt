@@ -1,8 +1,8 @@
 use Rattle.std.proofs.Common.{rules, refl, ◌≡◌, Some}
 use Rattle.std.specs.List.{slice_get}
-use Rattle.jengine.specs.declared.domains.Verdict.TheVariants.{Denied}
+use Rattle.jdomain.specs.declared.verdict.Verdict.TheVariants.{Denied}
 use Rattle.jengine.specs.Granting.{has}
-use Rattle.jengine.specs.Stacks.{walk}
+use Rattle.jdomain.specs.Stacks.{walk}
 use Rattle.jengine.specs.Checking.{value_of, stack_of}
 use Rattle.jengine.proofs.Checks.{check_denied}
 use Rattle.jengine.proofs.checking.check_permission.Goals as goal
