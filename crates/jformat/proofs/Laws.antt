@@ -15,7 +15,7 @@ use Rattle.std.proofs.lemmas.Bool.Decides.{Decides-int_eq}
 use Rattle.std.proofs.lemmas.Nat.{be_bytes_2, be_bytes_4, from_be_bytes-to_be_bytes_2, from_be_bytes-to_be_bytes_4, be_bytes_8, from_be_bytes-to_be_bytes_8}
 use Rattle.jbase.specs.Stops.{◌>>=◌}
 use Rattle.jformat.specs.declared.error.Fault.{Fault}
-use Rattle.jformat.specs.Format.{IsBytes, Answer, Format, fault_at, void, byte, byte_at, number, number_at, signed, words, words_at, until, until_at, lacks, ◌·◌, ◌▹◌, via, as_case, part_spell, part_fits, after, ended, such, passed, is_good, literal}
+use Rattle.jformat.specs.Format.{IsBytes, Answer, Format, fault_at, void, byte, byte_at, number, number_at, signed, words, words_at, until, until_at, lacks, ◌·◌, ◌▹◌, via, as_case, part_spell, part_fits, is_number, known, after, ended, such, passed, is_good, literal}
 use Rattle.jformat.proofs.Steps.{IsBytes-drop, IsBytes-take, IsBytes-rest, bind_ok, bind_err, guard_ok, guard_err, guard_ended, guard_cut, done, ok_is, both, first_true, second_true, fault_within, passed_ok, passed_none, passed_err}
 
 -- ---- the laws
@@ -314,6 +314,15 @@ as_case_law {K} {A} {B} make parts f made only F = record {
   again = λ b rest fit. part_again make parts f only F b rest (parts b) refl fit;
   reading = ok_reading f.read make F.reading;
 }
+
+known_forth : (n k : ℕ) (u : Unit {0}) → is_number n k ≡ Some u → k ≡ n
+known_forth n k u h = elim (cases_Bool (eqb k n)) [ inl hit ↦ eqb-true _ _ hit | inr miss ↦ let no : None ≡ Some u = rw miss at h in absurd cc ]
+
+known_back : (n : ℕ) (u : Unit {0}) → is_number n n ≡ Some u
+known_back n u = let same : eqb n n ≡ true = grind arith in rw same refl
+
+pub known_law : {K : Type 0} (n : ℕ) → IsFormat (known {K = K} n)
+known_law n = as_case_law (λ _. n) (is_number n) void (known_back n) (λ k u h. known_forth n k u h) void_law
 
 pub after_law : {K A : Type 0} (wrong : K) (text : List ℕ) (f : Format K A) → IsFormat f → IsFormat (after wrong text f)
 after_law {K} {A} wrong text f F = record {

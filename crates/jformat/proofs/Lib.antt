@@ -1,6 +1,7 @@
 pub mod Blocks
 pub mod Examples
 pub mod Laws
+pub mod Placing
 pub mod Skims
 pub mod Stateful
 pub mod Steps

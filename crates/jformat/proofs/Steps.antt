@@ -5,7 +5,7 @@ use Rattle.std.proofs.lemmas.Bool.{cases_lt}
 use Rattle.std.proofs.lemmas.List.{get_or-drop, get_or-take, get_or_past, length-take}
 use Rattle.jbase.specs.Stops.{◌>>=◌}
 use Rattle.jformat.specs.declared.error.Fault.{Fault}
-use Rattle.jformat.specs.Format.{IsBytes, fault_at, passed, is_good}
+use Rattle.jformat.specs.Format.{IsBytes, fault_at, passed, is_good, unless_fault}
 
 pub IsBytes-drop : (n : ℕ) (bytes : List ℕ) → IsBytes bytes → IsBytes (drop n bytes)
 IsBytes-drop n bytes h i = rw get_or-drop (h (n + i))
@@ -76,3 +76,11 @@ passed_none (Some k) bytes x e = absurd cc
 pub passed_err : {K A : Type 0} (o : Option K) (bytes : List ℕ) (x : A × List ℕ) (d : Fault K) → passed o bytes x ≡ Err d → d.left ≤ length bytes
 passed_err None bytes x d e = absurd cc
 passed_err (Some k) bytes x d e = fault_within k bytes bytes d (omega arith) cc
+
+pub unless_ok : {K A : Type 0} (x y : A) (o : Option (Fault K)) → unless_fault x o ≡ Ok y → (o ≡ None) × (x ≡ y)
+unless_ok x y None e = (refl, cc)
+unless_ok x y (Some d) e = absurd cc
+
+pub unless_err : {K A : Type 0} (x : A) (d : Fault K) (o : Option (Fault K)) → unless_fault x o ≡ Err d → o ≡ Some d
+unless_err x d None e = absurd cc
+unless_err x d (Some c) e = cc

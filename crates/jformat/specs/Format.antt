@@ -120,6 +120,13 @@ as_case make parts f = record {
   read = λ bytes. f.read bytes >>= λ x. Ok (make x.0, x.1);
 }
 
+abbrev pub is_number : ℕ → ℕ → Option (Unit {0})
+is_number n k = if k == n then Some tt else None
+
+-- a number that is known before, of which the bytes tell nothing
+abbrev pub known : {K : Type 0} → ℕ → Format K ℕ
+known n = as_case (λ _. n) (is_number n) void
+
 -- these very bytes in front of a value
 abbrev pub after : {K A : Type 0} → K → List ℕ → Format K A → Format K A
 after wrong text f = record {
@@ -145,6 +152,15 @@ passed (Some kind) bytes x = fault kind bytes
 abbrev pub is_good : {K : Type 0} → Option K → Bool
 is_good None = true
 is_good (Some kind) = false
+
+-- a kind of fault where a test fails
+abbrev pub unless : {K : Type 0} → Bool → K → Option K
+unless good kind = if good then None else Some kind
+
+-- a value, where no fault was found
+abbrev pub unless_fault : {K A : Type 0} → A → Option (Fault K) → Result A (Fault K)
+unless_fault x None = Ok x
+unless_fault x (Some d) = Err d
 
 -- only the values that pass a test; the fault stands at the value's first byte
 abbrev pub such : {K A : Type 0} → (A → Option K) → Format K A → Format K A

@@ -1,6 +1,7 @@
 pub mod Bodies
 pub mod Format
 pub mod Passes
+pub mod Places
 pub mod States
 pub mod Tags
 pub mod Whole

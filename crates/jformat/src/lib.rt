@@ -9,7 +9,7 @@ mod parts;
 mod places;
 mod write;
 
-pub use error::{Fault, ReadError};
+pub use error::{At, Fault, ReadError, stop_at};
 pub use loops::{Reader, counted_of, many_of, times_of};
 pub use nested::{BodyReader, block_of, inner_of, whole_of};
 pub use numbers::{i8_of, i16_of, i32_of, u8_of, u16_of, u32_of, u64_of};
