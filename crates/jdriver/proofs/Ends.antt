@@ -7,7 +7,8 @@ use Rattle.jtrace.specs.declared.event.End.{End}
 use Rattle.jtrace.specs.declared.event.End.TheVariants as ends
 use Rattle.jengine.specs.Runs.{Run, run_text, ending}
 use Rattle.jdriver.specs.declared.status.Status.{Status}
-use Rattle.jdriver.specs.Answers.{Answers, status_of, ran}
+use Rattle.jdriver.specs.Answers.{Answers, ran}
+use Rattle.jdriver.specs.Statuses.{status_of}
 
 of_end : (r : Run) (e : End) (old new : Option (List ℕ)) → e ≡ ending r → new ≡ appended old (run_text r) → Answers (ran r) (status_of e) old new
 of_end r ends.Finished old new is h = (ap (λ (x : End). Some (status_of x)) (sym is), h)

@@ -1,6 +1,6 @@
 -- What the program answers to its words, over the files that are held.
-use Rattle.std.specs.Prelude.{◌≡◌, ℕ, List, [], ◌++◌, Option, Some, None, Result, Ok, Err, codes, decimal}
-use Rattle.jbase.specs.Causes.{appended, IsCut}
+use Rattle.std.specs.Prelude.{◌≡◌, ◌⊎◌, ℕ, List, [], ◌++◌, Option, Some, None, Result, Ok, Err, codes, decimal}
+use Rattle.jbase.specs.Causes.{Rose, appended, IsCut}
 use Rattle.jio.specs.Held.{File}
 use Rattle.jio.specs.Text.{written}
 use Rattle.jtext.specs.Texts.{units_of_text}
@@ -8,8 +8,6 @@ use Rattle.jclass.specs.declared.kind.ClassKind.{ClassKind}
 use Rattle.jclass.specs.declared.kind.ClassKind.TheVariants as kinds
 use Rattle.jpolicy.specs.declared.fault.PolicyKind.{PolicyKind}
 use Rattle.jpolicy.specs.declared.fault.PolicyKind.TheVariants as policies
-use Rattle.jtrace.specs.declared.event.End.{End}
-use Rattle.jtrace.specs.declared.event.End.TheVariants as ends
 use Rattle.jengine.specs.declared.plan.Plan.{Plan}
 use Rattle.jengine.specs.declared.plan.TheConstants.{DEFAULT_HEAP, DEFAULT_DEPTH, DEFAULT_STEPS}
 use Rattle.jengine.specs.Runs.{Run, run, run_text, ending}
@@ -19,20 +17,13 @@ use Rattle.jdriver.specs.declared.task.Task.{Task}
 use Rattle.jdriver.specs.declared.status.Status.{Status}
 use Rattle.jdriver.specs.declared.status.Status.TheVariants as statuses
 use Rattle.jdriver.specs.Plans.{Stopped, Missing, Refused, task_at}
+use Rattle.jdriver.specs.Statuses.{status_of}
 use Rattle.jdriver.specs.Words.{command}
 
 -- a text, and a status where there is one
 pub record Answer : Type 0 where
   pub text : List ℕ
   pub status : Option Status
-
-abbrev pub status_of : End → Status
-status_of ends.Finished = statuses.Finished
-status_of ends.Uncaught = statuses.Uncaught
-status_of ends.Deadlock = statuses.Deadlock
-status_of ends.HeapFull = statuses.HeapFull
-status_of ends.Bound = statuses.Bound
-status_of ends.Stuck = statuses.Stuck
 
 -- some words and a name, which is written as texts are
 abbrev pub name_line : List ℕ → List ℕ → List ℕ
@@ -142,3 +133,11 @@ UsageExactly None statuses.WriteFault = Unit {0}
 UsageExactly None _ = ⊥
 UsageExactly (Some path) statuses.Usage = ⊥
 UsageExactly (Some path) _ = Unit {0}
+
+-- The count of faults has not risen.
+abbrev pub Calm : ℕ → ℕ → Type 0
+Calm before now = Rose before now → ⊥
+
+-- The status is the answer's own over the files that are held, or memory ran out.
+abbrev pub Complete : (List File → Answer) → Option (List File) → Status → Type 0
+Complete told held s = (files : List File) (own : Status) → held ≡ Some files → (told files).status ≡ Some own → (s ≡ own) ⊎ (s ≡ statuses.OutOfMemory)

@@ -1,6 +1,7 @@
 -- What is to be done with the files that are held: they are read in the order job, policy, class files, and each is judged
 -- before the next is read; then the classes join, and then `main` is looked for.
-use Rattle.std.specs.Prelude.{◌≡◌, ℕ, ◌-◌, List, [], length, Option, Some, None, Result, Ok, Err, map, if◌then◌else◌}
+use Rattle.std.specs.Prelude.{◌≡◌, ◌⊎◌, ℕ, ◌-◌, List, [], length, Option, Some, None, Result, Ok, Err, map, if◌then◌else◌}
+use Rattle.jbase.specs.Causes.{Rose}
 use Rattle.jbase.specs.Each.{each}
 use Rattle.jbase.specs.Stops.{◌>>=◌}
 use Rattle.jio.specs.Held.{File, readable}
@@ -116,6 +117,10 @@ Follows view (Err halt) value = Halts halt value
 -- The files are told, and one that is to be read is missing or too long.
 abbrev pub Misses : {Y : Type 0} → Option (List File) → (List File → Result Y Stopped) → Type 0
 Misses held value = (files : List File) × (held ≡ Some files) × (value files ≡ Err Missing)
+
+-- A fault of reading is answered only where one was counted, or where a file that is to be read is missing or too long.
+abbrev pub Excused : {X Y : Type 0} → Result X Halt → ℕ → ℕ → Option (List File) → (List File → Result Y Stopped) → Type 0
+Excused result before now held value = result ≡ Err halts.Read → Rose before now ⊎ Misses held value
 
 -- The words are a command, and a file that is to be read is missing or too long.
 abbrev pub MissesAny : Option (List File) → Option (List ℕ) → Type 0

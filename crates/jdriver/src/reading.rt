@@ -8,7 +8,8 @@ ghost use Rattle.jform.specs.Forms.{form_of};
 ghost use Rattle.jload.specs.Jobs.{job_form};
 ghost use Rattle.jpolicy.specs.Policies.{policy};
 ghost use Rattle.jdriver.specs.declared.task.Halt.TheVariants.{Read};
-ghost use Rattle.jdriver.specs.Plans.{Follows, Misses, Refused, built_grants, bytes_at, class_at, class_in, class_read, classes_task, grants_at, grants_in, grants_read, job_at, judged, policy_task, task_at};
+ghost use Rattle.jdriver.specs.Plans.{Excused, Follows, Refused, built_grants, bytes_at, class_at, class_in, class_read};
+ghost use Rattle.jdriver.specs.Plans.{classes_task, grants_at, grants_in, grants_read, job_at, judged, policy_task, task_at};
 
 use crate::joining::program_task;
 use crate::task::{Halt, Refusal, Task};
@@ -26,7 +27,7 @@ fn read_at<S: Shelf>(alloc: Global, path: &str, shelf: &mut S) -> Result<Vec<u8>
     ensures held { S.held shelf.new ≡ S.held shelf.old }
     ensures stored { S.write_faults shelf.new ≡ S.write_faults shelf.old }
     ensures later { S.read_faults shelf.old ≤ S.read_faults shelf.new }
-    ensures cause { result ≡ Err Read → Rose (S.read_faults shelf.old) (S.read_faults shelf.new) ⊎ Misses (S.held shelf.old) (λ files. bytes_at files path.now) }
+    ensures cause { Excused result (S.read_faults shelf.old) (S.read_faults shelf.new) (S.held shelf.old) (λ files. bytes_at files path.now) }
 {
     match shelf.read(alloc, path) {
         Ok(bytes) => Ok(bytes),
@@ -93,7 +94,7 @@ fn class_at<S: Shelf>(alloc: Global, source: &Source, shelf: &mut S) -> Result<C
     ensures held { S.held shelf.new ≡ S.held shelf.old }
     ensures stored { S.write_faults shelf.new ≡ S.write_faults shelf.old }
     ensures later { S.read_faults shelf.old ≤ S.read_faults shelf.new }
-    ensures cause { result ≡ Err Read → Rose (S.read_faults shelf.old) (S.read_faults shelf.new) ⊎ Misses (S.held shelf.old) (λ files. class_at files source.now) }
+    ensures cause { Excused result (S.read_faults shelf.old) (S.read_faults shelf.new) (S.held shelf.old) (λ files. class_at files source.now) }
 {
     let bytes = read_at(alloc, source.path.as_str(), shelf)?;
     class_in(alloc, source.path.as_str(), &bytes)
@@ -108,7 +109,7 @@ fn classes_at<S: Shelf>(
     ensures held { S.held shelf.new ≡ S.held shelf.old }
     ensures stored { S.write_faults shelf.new ≡ S.write_faults shelf.old }
     ensures later { S.read_faults shelf.old ≤ S.read_faults shelf.new }
-    ensures cause { result ≡ Err Read → Rose (S.read_faults shelf.old) (S.read_faults shelf.new) ⊎ Misses (S.held shelf.old) (λ files. each (class_at files) sources.now) }
+    ensures cause { Excused result (S.read_faults shelf.old) (S.read_faults shelf.new) (S.held shelf.old) (λ files. each (class_at files) sources.now) }
 {
     let mut classes = Seq::new(alloc);
     for source in sources {
@@ -129,7 +130,7 @@ fn classes_task<S: Shelf>(
     ensures held { S.held shelf.new ≡ S.held shelf.old }
     ensures stored { S.write_faults shelf.new ≡ S.write_faults shelf.old }
     ensures later { S.read_faults shelf.old ≤ S.read_faults shelf.new }
-    ensures cause { result ≡ Err Read → Rose (S.read_faults shelf.old) (S.read_faults shelf.new) ⊎ Misses (S.held shelf.old) (λ files. classes_task files path.now job.now grants.now) }
+    ensures cause { Excused result (S.read_faults shelf.old) (S.read_faults shelf.new) (S.held shelf.old) (λ files. classes_task files path.now job.now grants.now) }
 {
     let classes = classes_at(alloc, job.sources.as_slice(), shelf)?;
     program_task(alloc, path, job, grants, classes.as_slice())
@@ -174,7 +175,7 @@ fn policy_at<S: Shelf>(alloc: Global, path: &Text, shelf: &mut S) -> Result<Seq<
     ensures held { S.held shelf.new ≡ S.held shelf.old }
     ensures stored { S.write_faults shelf.new ≡ S.write_faults shelf.old }
     ensures later { S.read_faults shelf.old ≤ S.read_faults shelf.new }
-    ensures cause { result ≡ Err Read → Rose (S.read_faults shelf.old) (S.read_faults shelf.new) ⊎ Misses (S.held shelf.old) (λ files. grants_at files (Some path.now)) }
+    ensures cause { Excused result (S.read_faults shelf.old) (S.read_faults shelf.new) (S.held shelf.old) (λ files. grants_at files (Some path.now)) }
 {
     let bytes = read_at(alloc, path.as_str(), shelf)?;
     grants_in(alloc, path.as_str(), &bytes)
@@ -186,7 +187,7 @@ fn grants_at<S: Shelf>(alloc: Global, job: &Job, shelf: &mut S) -> Result<Seq<Gr
     ensures held { S.held shelf.new ≡ S.held shelf.old }
     ensures stored { S.write_faults shelf.new ≡ S.write_faults shelf.old }
     ensures later { S.read_faults shelf.old ≤ S.read_faults shelf.new }
-    ensures cause { result ≡ Err Read → Rose (S.read_faults shelf.old) (S.read_faults shelf.new) ⊎ Misses (S.held shelf.old) (λ files. grants_at files job.now.policy) }
+    ensures cause { Excused result (S.read_faults shelf.old) (S.read_faults shelf.new) (S.held shelf.old) (λ files. grants_at files job.now.policy) }
 {
     match &job.policy {
         Some(path) => policy_at(alloc, path, shelf),
@@ -200,7 +201,7 @@ fn policy_task<S: Shelf>(alloc: Global, path: &str, job: &Job, shelf: &mut S) ->
     ensures held { S.held shelf.new ≡ S.held shelf.old }
     ensures stored { S.write_faults shelf.new ≡ S.write_faults shelf.old }
     ensures later { S.read_faults shelf.old ≤ S.read_faults shelf.new }
-    ensures cause { result ≡ Err Read → Rose (S.read_faults shelf.old) (S.read_faults shelf.new) ⊎ Misses (S.held shelf.old) (λ files. policy_task files path.now job.now) }
+    ensures cause { Excused result (S.read_faults shelf.old) (S.read_faults shelf.new) (S.held shelf.old) (λ files. policy_task files path.now job.now) }
 {
     let grants = grants_at(alloc, job, shelf)?;
     classes_task(alloc, path, job, grants.as_slice(), shelf)
@@ -225,7 +226,7 @@ fn job_at<S: Shelf>(alloc: Global, path: &str, shelf: &mut S) -> Result<Job, Hal
     ensures held { S.held shelf.new ≡ S.held shelf.old }
     ensures stored { S.write_faults shelf.new ≡ S.write_faults shelf.old }
     ensures later { S.read_faults shelf.old ≤ S.read_faults shelf.new }
-    ensures cause { result ≡ Err Read → Rose (S.read_faults shelf.old) (S.read_faults shelf.new) ⊎ Misses (S.held shelf.old) (λ files. job_at files path.now) }
+    ensures cause { Excused result (S.read_faults shelf.old) (S.read_faults shelf.new) (S.held shelf.old) (λ files. job_at files path.now) }
 {
     let bytes = read_at(alloc, path, shelf)?;
     job_of(alloc, path, &bytes)
@@ -238,7 +239,7 @@ pub fn task_at<S: Shelf>(alloc: Global, path: &str, shelf: &mut S) -> Result<Tas
     ensures held { S.held shelf.new ≡ S.held shelf.old }
     ensures stored { S.write_faults shelf.new ≡ S.write_faults shelf.old }
     ensures later { S.read_faults shelf.old ≤ S.read_faults shelf.new }
-    ensures cause { result ≡ Err Read → Rose (S.read_faults shelf.old) (S.read_faults shelf.new) ⊎ Misses (S.held shelf.old) (λ files. task_at files path.now) }
+    ensures cause { Excused result (S.read_faults shelf.old) (S.read_faults shelf.new) (S.held shelf.old) (λ files. task_at files path.now) }
 {
     let job = job_at(alloc, path, shelf)?;
     policy_task(alloc, path, &job, shelf)

@@ -1,5 +1,5 @@
 ghost use Rattle.std.specs.Prelude.{◌≡◌};
-ghost use Rattle.jdriver.specs.Answers.{status_of};
+ghost use Rattle.jdriver.specs.Statuses.{number, status_of};
 
 use jtrace::End;
 
@@ -32,7 +32,9 @@ pub enum Status {
 
 impl Status {
     /// The status with which the process ends.
-    pub fn number(self) -> u8 {
+    pub fn number(self) -> u8
+        ensures { result ≡ number self }
+    {
         match self {
             Status::Finished => 0,
             Status::Uncaught => 1,

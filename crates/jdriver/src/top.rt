@@ -3,7 +3,7 @@ ghost use Rattle.jbase.specs.Causes.{Rose};
 ghost use Rattle.jio.specs.Held.{File};
 ghost use Rattle.jdriver.specs.declared.status.Status.{Status};
 ghost use Rattle.jdriver.specs.declared.status.Status.TheVariants.{OutOfMemory, ReadFault, WriteFault};
-ghost use Rattle.jdriver.specs.Answers.{Answers, UsageExactly, answer, shown};
+ghost use Rattle.jdriver.specs.Answers.{Answers, Calm, Complete, UsageExactly, answer, shown};
 ghost use Rattle.jdriver.specs.Plans.{MissesAny, task_at};
 ghost use Rattle.jdriver.specs.Words.{command, words_of};
 
@@ -36,7 +36,7 @@ pub fn javasec<S: Shelf, K: Sink>(
     // A fault of writing is told only where one was counted in this call.
     ensures write { result ≡ WriteFault → Rose (K.faults out.old) (K.faults out.new) }
     // Where no fault is counted and each file that is to be read is there, the status is the answer's, or memory ran out.
-    ensures complete { (files : List File) (status : Status) → S.held shelf.old ≡ Some files → (answer (words_of words.now) files).status ≡ Some status → (Rose (S.read_faults shelf.old) (S.read_faults shelf.new) → ⊥) → (Rose (K.faults out.old) (K.faults out.new) → ⊥) → result ≡ status ⊎ result ≡ OutOfMemory }
+    ensures complete { Calm (S.read_faults shelf.old) (S.read_faults shelf.new) → Calm (K.faults out.old) (K.faults out.new) → Complete (answer (words_of words.now)) (S.held shelf.old) result }
     ensures reads_later { S.read_faults shelf.old ≤ S.read_faults shelf.new }
     ensures puts_later { K.faults out.old ≤ K.faults out.new }
 {

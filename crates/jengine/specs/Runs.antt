@@ -1,5 +1,5 @@
 -- A run: its state, all its events, and its end, if there is one, after a number of steps.
-use Rattle.std.specs.Prelude.{ℕ, zero, suc, ◌+◌, ◌-◌, List, [], ◌++◌, Option, Some, None, nat_le, if◌then◌else◌, unwrap_or}
+use Rattle.std.specs.Prelude.{◌≡◌, ◌≤◌, ℕ, zero, suc, ◌+◌, ◌-◌, List, [], ◌++◌, Option, Some, None, nat_le, if◌then◌else◌, unwrap_or}
 use Rattle.jtrace.specs.declared.event.Event.{Event}
 use Rattle.jtrace.specs.declared.event.End.{End}
 use Rattle.jtrace.specs.declared.event.End.TheVariants as ends
@@ -54,3 +54,15 @@ ending r = unwrap_or r.end ends.Bound
 -- all lines of the run
 abbrev pub run_text : Run → List ℕ
 run_text r = text r.events (ending r)
+
+-- ---- laws
+
+-- A run that has ended stays as it is.
+abbrev pub Stays : Type 0
+Stays = (program : Program) (domains : Domains) (plan : Plan) (k n : ℕ) (end : End)
+    → k ≤ n → (run program domains plan k).end ≡ Some end → run program domains plan n ≡ run program domains plan k
+
+-- Events only grow.
+abbrev pub Grows : Type 0
+Grows = (program : Program) (domains : Domains) (plan : Plan) (k n : ℕ)
+    → k ≤ n → (more : List Event) × ((run program domains plan n).events ≡ (run program domains plan k).events ++ more)

@@ -7,7 +7,8 @@ use Rattle.jengine.specs.declared.state.State.{State}
 use Rattle.jengine.specs.declared.stepped.Stepped.{Stepped}
 use Rattle.jengine.specs.declared.stepped.Stepped.TheVariants.{Went as WentOn, Ended, Stuck}
 
--- What an instruction does where the heap has the cells for it: the cells that it takes, the state behind it (its cells not taken yet), the events, and the end where it ends the run.
+-- What an instruction does where the heap has the cells for it: the cells that it takes, the state behind it (its cells not
+-- taken yet), the events, and the end where it ends the run.
 pub record Turn : Type 0 where
   pub charge : ℕ
   pub after : State

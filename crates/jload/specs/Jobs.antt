@@ -32,8 +32,8 @@ keyed key value =
 -- what a line says: its key ends at the first space, and the value behind it isn't empty
 unfoldable pub line_of : List ℕ → Option Line
 line_of line =
-    if length (after_first (λ b. b == 32) line) == 0 then None
-    else keyed (before_first (λ b. b == 32) line) (after_first (λ b. b == 32) line)
+    if length (after_first (λ b. b == byte " ") line) == 0 then None
+    else keyed (before_first (λ b. b == byte " ") line) (after_first (λ b. b == byte " ") line)
 
 -- ---- what the lines say together
 

@@ -91,10 +91,14 @@ unfoldable pub methods_from : (List ℕ → List ℕ → Option ℕ) → ℕ →
 methods_from place domain [] = Some []
 methods_from place domain (c ∷ cs) = both (each_some (method_in place domain) c.methods) (methods_from place (domain + 1) cs)
 
+-- the methods of each class differ in name or descriptor
+abbrev pub all_differ : List ClassForm → Bool
+all_differ all = list_all (λ c. differ c.methods) all
+
 -- All methods of the classes, class by class, where these join: their names differ and are free, the methods of each differ, and each
 -- method that is called is there. A class's domain is its place.
 unfoldable pub joined : List ClassForm → Option (List Method)
-joined all = if good_names all && list_all (λ c. differ c.methods) all then methods_from (called_place all) 0 all else None
+joined all = if good_names all && all_differ all then methods_from (called_place all) 0 all else None
 
 -- ---- where a program begins
 

@@ -17,7 +17,7 @@ is_part text = not (length text == 0) && list_all is_part_unit text
 unfoldable pub are_parts : List ℕ → Bool
 are_parts text =
     bytes_eq (drop (length text - 1) text) (codes "/")
-    && list_all is_part (slice_split (λ b. b == 47) (take (length text - 1) text))
+    && list_all is_part (slice_split (λ b. b == byte "/") (take (length text - 1) text))
 
 -- `file:/` and one or more parts, each ended by a slash
 unfoldable pub is_url : List ℕ → Bool

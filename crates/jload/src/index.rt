@@ -1,7 +1,7 @@
 ghost use Rattle.std.specs.Prelude.{◌≡◌, ◌+◌, ◌<◌, ◌^◌, List, ℕ, Bool, true, false, IfOk, MatchOption, length};
 ghost use Rattle.std.specs.List.{list_all};
 ghost use Rattle.jform.specs.declared.form.ClassForm.{ClassForm};
-ghost use Rattle.jload.specs.Joins.{alone, called_place, differ, is_it, place_in, same_kind};
+ghost use Rattle.jload.specs.Joins.{all_differ, alone, called_place, differ, is_it, place_in, same_kind};
 ghost use Rattle.jload.specs.Indices.{IsPlaces, find_in};
 
 use jform::{ClassForm, MethodForm};
@@ -33,7 +33,7 @@ pub fn index_of(
     alloc: Global,
     classes: &[ClassForm],
 ) -> Result<Option<Vec<ClassIndex<'_>>>, AllocError>
-    ensures { IfOk result (λ o. MatchOption o (list_all (λ c. differ c.methods) classes.now ≡ false) (λ index. (list_all (λ c. differ c.methods) classes.now ≡ true) × (find_in index.items ≡ called_place classes.now))) }
+    ensures { IfOk result (λ o. MatchOption o (all_differ classes.now ≡ false) (λ index. (all_differ classes.now ≡ true) × (find_in index.items ≡ called_place classes.now))) }
 {
     let mut index = Vec::new(alloc);
     let mut from: usize = 0;

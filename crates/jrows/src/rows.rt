@@ -1,6 +1,6 @@
 use crate::classes::{
-    ADDS_FLOATS, AGAIN, BAD_TAG, CALLER, EMPTY, LIB, LOOPS, NO_NAME, OVER_ITSELF, POPS, ROW_ONE,
-    SHUFFLES, UNSET,
+    ADDS_FLOATS, AGAIN, BAD_TAG, CALLER, EMPTY, FILLS, LIB, LOOPS, NO_NAME, OVER_ITSELF, POPS,
+    ROW_ONE, RUNS_ON, SHUFFLES, UNSET,
 };
 use crate::job::Content::{Bytes, Hex, Text};
 use crate::job::{Content, Faults, NONE, Outcome, answered};
@@ -61,7 +61,7 @@ const AGAIN_TEXT: &str =
 #[test]
 fn one_class(rt: HostRuntime) -> Result<(), AllocError> {
     let alloc = rt.alloc();
-    let rows: [(&str, &str, &str, Status); 10] = [
+    let rows: [(&str, &str, &str, Status); 13] = [
         (TO_A, ROW_ONE, GRANTED, Status::Finished),
         (TO_ALL, ROW_ONE, GRANTED, Status::Finished),
         (TO_SIGNED, ROW_ONE, DENIED_BY_0, Status::Uncaught),
@@ -72,6 +72,9 @@ fn one_class(rt: HostRuntime) -> Result<(), AllocError> {
         (TO_A, SHUFFLES, "end finished\n", Status::Finished),
         (TO_A, NO_NAME, ILLEGAL, Status::Uncaught),
         (TO_A, AGAIN, AGAIN_TEXT, Status::Uncaught),
+        (TO_A, UNSET, "end stuck\n", Status::Stuck),
+        (TO_A, RUNS_ON, "end bound\n", Status::Bound),
+        (TO_A, FILLS, "end heap\n", Status::HeapFull),
     ];
     for (policy, class, text, status) in rows {
         let files = [
@@ -83,13 +86,6 @@ fn one_class(rt: HostRuntime) -> Result<(), AllocError> {
         assert!(rt; got.text.as_slice() == text.as_bytes(), "{text}");
         assert!(rt; got.status == status, "{text}");
     }
-    let files = [
-        ("job", Text(ONE)),
-        ("app.policy", Text(TO_A)),
-        ("Main.class", Hex(UNSET)),
-    ];
-    let got = answered(alloc, &RUN, &files, NONE)?;
-    assert!(rt; got.status == Status::Stuck);
     Ok(())
 }
 
