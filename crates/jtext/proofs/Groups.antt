@@ -1,13 +1,12 @@
 -- The laws of a unit's group, and of a text.
-use Rattle.std.proofs.Common.{◌≡◌, ◌≢◌, ℕ, zero, suc, ◌+◌, ◌-◌, ◌*◌, ◌/◌, ◌%◌, ◌<◌, ◌≤◌, Bool, true, false, ◌&&◌, ◌||◌, ◌⊎◌, cond, ltb, leb, eqb, List, [], ◌∷◌, ◌++◌, length, Result, Ok, Err, refl, sym, ap, subst, ◌∙◌, arith, inl, inr}
+use Rattle.std.proofs.Common.{◌≡◌, ℕ, zero, suc, ◌+◌, ◌-◌, ◌*◌, ◌/◌, ◌%◌, ◌<◌, ◌≤◌, Bool, true, false, ◌&&◌, ◌||◌, ◌⊎◌, cond, ltb, leb, eqb, List, [], ◌∷◌, ◌++◌, length, Ok, Err, refl, sym, ap, subst, ◌∙◌, arith, inl, inr}
 use Rattle.std.specs.Prelude.{IsTrue}
 use Rattle.std.specs.List.{flat_map, list_all}
 use Rattle.std.proofs.lemmas.Bool.{cases_Bool, ltb-true, ltb-false, leb-true, le-leb, lt-ltb, le-ltb, eqb-true}
 use Rattle.jformat.specs.declared.error.Fault.{Fault}
-use Rattle.jformat.specs.Format.{IsBytes, Answer, Format, fault, fault_at}
-use Rattle.jformat.specs.Bodies.{Body}
-use Rattle.jformat.proofs.Steps.{IsBytes-rest, done, ok_is, first_true, second_true, both, fault_within}
-use Rattle.jformat.proofs.Laws.{Takes, IsReading, IsFormat, HasBytes}
+use Rattle.jformat.specs.Format.{IsBytes, fault, fault_at}
+use Rattle.jformat.proofs.Steps.{IsBytes-rest, ok_is, first_true, second_true, both, fault_within}
+use Rattle.jformat.proofs.Laws.{IsFormat}
 use Rattle.jformat.proofs.Blocks.{IsBody, many_law}
 use Rattle.jtext.specs.Modified.{group, goes_on, two, three, two_at, three_at, unit_at, unit, text}
 
@@ -228,12 +227,6 @@ read_is bytes u fit is = ap text.read is ∙ text_law.again u fit
 
 pub read_spelled : (bytes : List ℕ) (u : List ℕ) → IsBytes bytes → text.read bytes ≡ Ok u → bytes ≡ flat_map group u
 read_spelled bytes u fits e = (text_law.takes bytes u fits e).1
-
-pub read_one_way : (bytes : List ℕ) (u v : List ℕ) → text.read bytes ≡ Ok v → IsTrue (list_all (λ n. ltb n 65536) u) → bytes ≡ flat_map group u → done (Fault (Unit {0})) u ≡ Ok v
-read_one_way bytes u v e fit is = sym (read_is bytes u fit is) ∙ e
-
-pub read_no_fault : (bytes : List ℕ) (u : List ℕ) (d : Fault (Unit {0})) → text.read bytes ≡ Err d → IsTrue (list_all (λ n. ltb n 65536) u) → bytes ≡ flat_map group u → ⊥
-read_no_fault bytes u d e fit is = let h : done (Fault (Unit {0})) u ≡ Err d = sym (read_is bytes u fit is) ∙ e in absurd cc
 
 pub any_fits : (u : List ℕ) → IsTrue (list_all (λ (n : ℕ). true) u)
 any_fits [] = refl

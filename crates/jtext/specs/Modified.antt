@@ -1,9 +1,5 @@
 -- Modified UTF-8 (JVMS 4.4.7): a text of UTF-16 units, one group of bytes for each unit.
-use Rattle.std.specs.Prelude.{◌≡◌, ℕ, ◌+◌, ◌-◌, ◌*◌, ◌/◌, ◌%◌, Bool, ◌&&◌, ◌||◌, List, [], ◌∷◌, Result, nat_lt, nat_le, ◌==◌, if◌then◌else◌, Ok, Err, length}
-use Rattle.std.specs.List.{flat_map, list_all}
-use Rattle.jformat.specs.declared.error.Fault.{Fault}
-use Rattle.jtext.specs.declared.modified.TextError.{TextError}
-use Rattle.jtext.specs.declared.modified.TextError.TheVariants as errors
+use Rattle.std.specs.Prelude.{ℕ, ◌+◌, ◌-◌, ◌*◌, ◌/◌, ◌%◌, Bool, ◌&&◌, ◌||◌, List, [], ◌∷◌, nat_lt, nat_le, ◌==◌, if◌then◌else◌, Ok}
 use Rattle.jformat.specs.Format.{Answer, Format, fault}
 use Rattle.jformat.specs.Bodies.{Body, many}
 
@@ -47,12 +43,3 @@ unit = record { spell = group; fits = λ u. nat_lt u 65536; read = unit_at }
 -- a text: its units' groups, one behind the other
 abbrev pub text : Body (Unit {0}) (List ℕ)
 text = many tt unit
-
--- What a call answered is what reading the bytes gives, with the place of a fault from the front; want of memory is free.
-abbrev pub TextFails : List ℕ → TextError → Result (List ℕ) (Fault (Unit {0})) → Type 0
-TextFails bytes errors.Memory value = Unit {0}
-TextFails bytes (errors.BadText at) value = (left : ℕ) × (value ≡ Err (record { left = left; kind = tt })) × (left + at ≡ length bytes)
-
-abbrev pub TextGives : List ℕ → Result (List ℕ) TextError → Result (List ℕ) (Fault (Unit {0})) → Type 0
-TextGives bytes (Ok u) value = value ≡ Ok u
-TextGives bytes (Err e) value = TextFails bytes e value

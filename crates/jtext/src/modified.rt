@@ -1,30 +1,17 @@
 ghost use Rattle.std.specs.Prelude.{◌≡◌, ◌≤◌, ◌<◌, ◌+◌, ◌/◌, ◌%◌, ◌++◌, ◌∷◌, [], ◌&&◌, true, IfOk, OnOk, IsTrue, List, ℕ, Ok, Err, length, nat_le, nat_lt};
 ghost use Rattle.std.specs.List.{flat_map, list_all};
 ghost use Rattle.jbase.specs.Stops.{Gives};
-ghost use Rattle.jtext.specs.Modified.{group, goes_on, text, three, three_at, two, two_at, unit, unit_at, TextGives};
-ghost use Rattle.jtext.specs.declared.modified.TextError.TheVariants.{Memory};
+ghost use Rattle.jformat.specs.Places.{GivesAt};
+ghost use Rattle.jtext.specs.Modified.{group, goes_on, text, three, three_at, two, two_at, unit, unit_at};
 
 use crate::units::Units;
 use jbase::{Seq, Stop};
-use jformat::{ReadError, Reader, Writer, fault, many_of, put_each, put_u8};
+use jformat::{At, ReadError, Reader, Writer, fault, many_of, put_each, put_u8, stop_at};
 use std::alloc::{AllocError, Global};
 
-/// Why bytes gave no text.
-#[derive(Clone, Copy, Debug, PartialEq, Eq)]
-pub enum TextError {
-    /// No unit's group stands at the byte `at`, where the groups before it end.
-    BadText { at: u32 },
-    /// No memory was left. It may come at any time.
-    Memory,
-}
-
-impl From<AllocError> for TextError {
-    ghost from_gives = { λ _ e. e ≡ Memory };
-
-    fn from(_: AllocError) -> Self {
-        TextError::Memory
-    }
-}
+/// Why bytes gave no text: no unit's group stands at the offset `at`, where the groups before it end, or no memory was left,
+/// which may come at any time, and comes where the offset has more than 32 bits.
+pub type TextError = Stop<At<()>>;
 
 fn goes_on(b: u8) -> bool
     ensures { result ≡ goes_on b }
@@ -142,23 +129,18 @@ impl Reader for UnitReader {
     }
 }
 
-/// The text that bytes spell in modified UTF-8 (JVMS 4.4.7), of which there are at most 2,147,483,647. A surrogate stands as
-/// a group of its own.
+/// The text that bytes spell in modified UTF-8 (JVMS 4.4.7). A surrogate stands as a group of its own.
 pub fn units_of(alloc: Global, bytes: &[u8]) -> Result<Units, TextError>
-    requires { length bytes.now ≤ 2147483647 }
     // What is read is spelled so.
     ensures found { IfOk result (λ u. bytes.now ≡ flat_map group u) }
     // What is spelled so is read, unless memory runs out.
-    ensures only { (u : List ℕ) → IsTrue (list_all (λ n. nat_lt n 65536) u) → bytes.now ≡ flat_map group u → TextGives bytes.now result (Ok u) }
+    ensures only { (u : List ℕ) → IsTrue (list_all (λ n. nat_lt n 65536) u) → bytes.now ≡ flat_map group u → GivesAt (λ v. v) bytes.now result (Ok u) }
     // Which fault it is: the first byte of the first bad group.
-    ensures exact { TextGives bytes.now result (text.read bytes.now) }
+    ensures exact { GivesAt (λ u. u) bytes.now result (text.read bytes.now) }
 {
     match many_of(alloc, &UnitReader, (), bytes) {
         Ok(units) => Ok(Units::from_vec(units.into_vec())),
-        Err(Stop::Memory) => Err(TextError::Memory),
-        Err(Stop::Fault(found)) => Err(TextError::BadText {
-            at: (bytes.len() - found.left) as u32,
-        }),
+        Err(stop) => Err(stop_at(bytes, stop)),
     }
 }
 

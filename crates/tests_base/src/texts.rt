@@ -1,4 +1,6 @@
-use jtext::{TextError, Units, bytes_of, units_of};
+use jbase::Stop;
+use jformat::At;
+use jtext::{Units, bytes_of, same_ignoring_case, units_of};
 use std::alloc::{AllocError, Global};
 
 /// Behind `groups` groups of one, two and three bytes each, and before one more.
@@ -9,13 +11,6 @@ fn around(alloc: Global, groups: usize, bad: &[u8]) -> Result<Vec<u8>, AllocErro
     }
     bytes.extend_from_slice(bad)?;
     Ok(bytes)
-}
-
-fn fault_of(alloc: Global, bytes: &[u8]) -> Option<TextError> {
-    if 2_147_483_647 < bytes.len() {
-        return None;
-    }
-    units_of(alloc, bytes).err()
 }
 
 #[test]
@@ -66,7 +61,7 @@ fn names_the_first_bad_group(rt: HostRuntime) -> Result<(), AllocError> {
             let bytes = around(alloc, groups, bad)?;
             let at = 6 * groups as u32;
             assert!(rt;
-                fault_of(alloc, &bytes) == Some(TextError::BadText { at }),
+                units_of(alloc, &bytes).err() == Some(Stop::Fault(At { at, kind: () })),
                 "at {at}"
             );
         }
@@ -80,4 +75,27 @@ fn takes_the_units_of_a_text(rt: HostRuntime) -> Result<(), AllocError> {
     let text = Units::from_text(alloc, "a\u{e9}\u{1f600}")?;
     assert!(rt; text.copy(alloc)?.as_slice() == [0x61, 0xe9, 0xd83d, 0xde00].as_slice());
     Ok(())
+}
+
+#[test]
+fn compares_without_letter_case(rt: HostRuntime) {
+    let rows: [(&str, &[u8], bool); 8] = [
+        ("", b"", true),
+        ("read", b"read", true),
+        ("ReAD", b"rEad", true),
+        ("reads", b"read", false),
+        ("rea", b"read", false),
+        ("reaf", b"read", false),
+        ("@[`{", b"`{@[", false),
+        ("\u{130}\u{212a}", b"ik", false),
+    ];
+    for (text, word, same) in rows {
+        match Units::from_text(rt.alloc(), text) {
+            Ok(units) => assert!(rt;
+                same_ignoring_case(units.as_slice(), word) == same,
+                "{text}"
+            ),
+            Err(_) => assert!(rt; false),
+        }
+    }
 }
