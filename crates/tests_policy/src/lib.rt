@@ -1,8 +1,10 @@
-//! The tests of permissions, policy files, and what a policy grants to code sources.
+//! The tests of permissions, policy files, what a policy grants to code sources, and security contexts.
 #![tactic(auto)]
 
 #[cfg(test)]
 mod code_sources;
+#[cfg(test)]
+mod contexts;
 #[cfg(test)]
 mod permissions;
 #[cfg(test)]

@@ -1,0 +1,5 @@
+pub mod Along
+pub mod Bools
+pub mod Growth
+pub mod Kept
+pub mod Verdicts

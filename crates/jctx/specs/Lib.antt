@@ -1,0 +1,5 @@
+pub mod Contexts
+pub mod Growing
+pub mod Items
+pub mod Laws
+pub mod Limits

@@ -1,0 +1,18 @@
+ghost use Rattle.jctx.specs.Laws.{AlongIsKept, DecidesAsTheWalk, DomainsDiffer, EnterSame, EnteredIsKept, IsSmall, PrivilegedIsKept};
+
+use jperm::permission_laws;
+
+/// The laws of security contexts. The context of a stack decides as the walk of the stack does. In a context that `enter` or
+/// `privileged` makes, or that is of a stack, no item is covered by an earlier one; where such a context has no limits, its domains
+/// differ, so that it has no more items than there are domains; and a call within its newest domain changes nothing.
+pub fn context_laws()
+    ensures decides { DecidesAsTheWalk }
+    ensures entered { EnteredIsKept }
+    ensures privileged { PrivilegedIsKept }
+    ensures along { AlongIsKept }
+    ensures differ { DomainsDiffer }
+    ensures small { IsSmall }
+    ensures same { EnterSame }
+{
+    permission_laws();
+}

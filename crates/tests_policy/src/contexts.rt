@@ -1,0 +1,132 @@
+use jctx::{Context, enter, privileged, top};
+use jdomain::{CodeSource, Domains, Verdict};
+use jperm::{PermClass, Permission, make};
+use jpolicy::read_policy;
+use jtext::Units;
+use std::alloc::{AllocError, Global};
+use std::test::Fail;
+
+/// The permission to read a property.
+fn reads(alloc: Global, name: &str) -> Result<Permission, AllocError> {
+    let name = Units::from_text(alloc, name)?;
+    let actions = Units::from_text(alloc, "read")?;
+    let cwd = Units::from_text(alloc, "/")?;
+    match make(
+        alloc,
+        PermClass::Property,
+        Some(&name),
+        Some(&actions),
+        &cwd,
+    ) {
+        Ok(permission) => Ok(permission),
+        Err(_) => Err(AllocError),
+    }
+}
+
+/// Two domains, of which the second alone may read the property x.
+fn domains(alloc: Global) -> Result<Domains, AllocError> {
+    let text =
+        b"grant codeBase \"file:/b/\" { permission java.util.PropertyPermission \"x\", \"read\"; };".as_slice();
+    let Ok(policy) = read_policy(alloc, text, &[]) else {
+        return Err(AllocError);
+    };
+    let mut sources = Vec::new(alloc);
+    for url in ["file:/a/", "file:/b/"] {
+        let Ok(source) = CodeSource::read(alloc, url) else {
+            return Err(AllocError);
+        };
+        sources.push(source)?;
+    }
+    let cwd = Units::from_text(alloc, "/")?;
+    Domains::open(alloc, &policy, &sources, &cwd)
+}
+
+/// A context as a text: each item's domain, with a stroke for each of its limits in front.
+fn shown(alloc: Global, context: &Context) -> Result<String, AllocError> {
+    let mut text = String::new(alloc);
+    for item in context.as_slice() {
+        for _ in item.limits.as_slice() {
+            text.push('\'')?;
+        }
+        text.push(char::from_digit(item.domain % 10, 10).unwrap_or('?'))?;
+    }
+    Ok(text)
+}
+
+/// The context of these domains, called one by the other, the last one innermost.
+fn called(alloc: Global, domains: &[u32]) -> Result<Context, AllocError> {
+    let mut context = top(alloc)?;
+    for d in domains {
+        context = enter(alloc, &context, *d)?;
+    }
+    Ok(context)
+}
+
+#[test]
+fn calls(rt: HostRuntime) -> Result<(), Fail> {
+    let alloc = rt.alloc();
+    let rows: [(&[u32], &str); 6] = [
+        (&[], ""),
+        (&[0], "0"),
+        (&[0, 0], "0"),
+        (&[0, 1], "10"),
+        (&[0, 1, 0], "01"),
+        (&[2, 1, 0, 1, 2], "210"),
+    ];
+    for (domains, want) in rows {
+        let context = called(alloc, domains)?;
+        let got = shown(alloc, &context)?;
+        assert!(rt; got.as_str() == want, "{want}");
+        let again = context.copy(alloc)?;
+        assert!(rt; shown(alloc, &again)?.as_str() == want, "{want}");
+    }
+    Ok(())
+}
+
+#[test]
+fn privileges(rt: HostRuntime) -> Result<(), Fail> {
+    let alloc = rt.alloc();
+    let limit = [reads(alloc, "y")?];
+    let behind = called(alloc, &[0])?;
+    let limited = privileged(alloc, 2, None, Some(&limit), &behind)?;
+    assert!(rt; shown(alloc, &limited)?.as_str() == "2'0");
+    let unlimited = privileged(alloc, 2, None, Some(&[]), &behind)?;
+    assert!(rt; shown(alloc, &unlimited)?.as_str() == "20");
+    let alone = privileged(alloc, 2, None, None, &behind)?;
+    assert!(rt; shown(alloc, &alone)?.as_str() == "2");
+    let given = called(alloc, &[2])?;
+    let behind = called(alloc, &[1, 0])?;
+    let within = privileged(alloc, 1, Some(&given), Some(&limit), &behind)?;
+    assert!(rt; shown(alloc, &within)?.as_str() == "12'0");
+    let twice = privileged(alloc, 2, None, Some(&limit), &limited)?;
+    assert!(rt; shown(alloc, &twice)?.as_str() == "2'0");
+    Ok(())
+}
+
+#[test]
+fn verdicts(rt: HostRuntime) -> Result<(), Fail> {
+    let alloc = rt.alloc();
+    let domains = domains(alloc)?;
+    let x = reads(alloc, "x")?;
+    let y = reads(alloc, "y")?;
+    let limit = [reads(alloc, "x")?];
+    let calls: [(&[u32], Verdict); 5] = [
+        (&[], Verdict::Granted),
+        (&[1], Verdict::Granted),
+        (&[0, 1], Verdict::Denied(0)),
+        (&[1, 0], Verdict::Denied(0)),
+        (&[1, 7], Verdict::Denied(7)),
+    ];
+    for (entered, want) in calls {
+        let context = called(alloc, entered)?;
+        assert!(rt; context.verdict(&domains, &x) == want, "{entered:?}");
+    }
+    let behind = called(alloc, &[0])?;
+    let limited = privileged(alloc, 1, None, Some(&limit), &behind)?;
+    assert!(rt; limited.verdict(&domains, &x) == Verdict::Granted);
+    assert!(rt; limited.verdict(&domains, &y) == Verdict::Denied(1));
+    let other = [reads(alloc, "z")?];
+    let missed = privileged(alloc, 1, None, Some(&other), &behind)?;
+    assert!(rt; missed.verdict(&domains, &x) == Verdict::Denied(0));
+    Ok(())
+}
