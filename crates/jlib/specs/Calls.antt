@@ -1,10 +1,12 @@
 -- The members of the library's classes, on either side.
-use Rattle.std.specs.Prelude.{ℕ, Bool, true, false, ◌&&◌, List, [], ◌∷◌, Option, option_and_then, codes}
-use Rattle.std.specs.List.{find}
+use Rattle.std.specs.Prelude.{◌≡◌, ℕ, Bool, true, false, ◌&&◌, List, [], ◌∷◌, Option, option_and_then, codes}
+use Rattle.std.specs.List.{find, list_any}
 use Rattle.std.specs.Str.{bytes_eq}
-use Rattle.jlib.specs.Classes.{class_named, is_passing}
-use Rattle.jlib.specs.declared.classes.Side.{Side}
-use Rattle.jlib.specs.declared.classes.Side.TheVariants.{Source, Passing}
+use Rattle.jlib.specs.Classes.{above, among, class_named, is_open, name_of}
+use Rattle.jlib.specs.declared.side.Side.{Side}
+use Rattle.jlib.specs.declared.side.Side.TheVariants.{Source, Passing}
+use Rattle.jlib.specs.declared.side.Sides.{Sides}
+use Rattle.jlib.specs.declared.side.Sides.TheVariants.{Both, Alone}
 use Rattle.jlib.specs.declared.classes.Thrown.{Thrown}
 use Rattle.jlib.specs.declared.classes.Thrown.TheVariants as thrown
 use Rattle.jlib.specs.declared.classes.PermissionClass.{PermissionClass}
@@ -28,198 +30,173 @@ use Rattle.jlib.specs.declared.calls.RtCall.{RtCall}
 use Rattle.jlib.specs.declared.calls.RtCall.TheVariants as rt
 use Rattle.jlib.specs.declared.calls.LibCall.{LibCall}
 use Rattle.jlib.specs.declared.calls.LibCall.TheVariants as call
+use Rattle.jlib.specs.declared.calls.MemberKind.{MemberKind}
+use Rattle.jlib.specs.declared.calls.MemberKind.TheVariants as kind
 
--- ---- members by class: name and descriptor
+-- ---- what a row of the table of members says
 
--- println of a piece
-abbrev pub printed : Piece → List ℕ
-printed piece.Int = codes "(I)V"
-printed piece.Long = codes "(J)V"
-printed piece.Char = codes "(C)V"
-printed piece.Bool = codes "(Z)V"
-printed piece.Text = codes "(Ljava/lang/String;)V"
+pub record Member : Type 0 where
+  -- the class that declares it
+  pub owner : LibClass
+  pub name : List ℕ
+  pub desc : List ℕ
+  pub kind : MemberKind
+  -- the libraries that have it
+  pub sides : Sides
 
--- append of a piece, which gives the builder
-abbrev pub appended : Piece → List ℕ
-appended piece.Int = codes "(I)Ljava/lang/StringBuilder;"
-appended piece.Long = codes "(J)Ljava/lang/StringBuilder;"
-appended piece.Char = codes "(C)Ljava/lang/StringBuilder;"
-appended piece.Bool = codes "(Z)Ljava/lang/StringBuilder;"
-appended piece.Text = codes "(Ljava/lang/String;)Ljava/lang/StringBuilder;"
+abbrev pub a_member : Sides → MemberKind → LibClass → List ℕ → List ℕ → Member
+a_member sides kind owner name desc = record { owner = owner; name = name; desc = desc; kind = kind; sides = sides }
 
-abbrev pub string_name : StringCall → List ℕ
-string_name string.Length = codes "length"
-string_name string.CharAt = codes "charAt"
-string_name string.Equals = codes "equals"
-string_name string.Concat = codes "concat"
+abbrev pub static_field : LibClass → List ℕ → List ℕ → Member
+static_field = a_member Both kind.StaticField
 
-abbrev pub string_desc : StringCall → List ℕ
-string_desc string.Length = codes "()I"
-string_desc string.CharAt = codes "(I)C"
-string_desc string.Equals = codes "(Ljava/lang/Object;)Z"
-string_desc string.Concat = codes "(Ljava/lang/String;)Ljava/lang/String;"
+abbrev pub constructor_of : Sides → LibClass → List ℕ → Member
+constructor_of sides owner = a_member sides kind.Constructor owner (codes "<init>")
 
-abbrev pub builder_name : BuilderCall → List ℕ
-builder_name builder.Init = codes "<init>"
-builder_name builder.InitText = codes "<init>"
-builder_name (builder.Append one) = codes "append"
-builder_name builder.ToString = codes "toString"
+abbrev pub constructor : LibClass → List ℕ → Member
+constructor = constructor_of Both
 
-abbrev pub builder_desc : BuilderCall → List ℕ
-builder_desc builder.Init = codes "()V"
-builder_desc builder.InitText = codes "(Ljava/lang/String;)V"
-builder_desc (builder.Append one) = appended one
-builder_desc builder.ToString = codes "()Ljava/lang/String;"
+abbrev pub constructor_on : Side → LibClass → List ℕ → Member
+constructor_on side = constructor_of (Alone side)
 
-abbrev pub thread_name : ThreadCall → List ℕ
-thread_name (thread.Init side) = codes "<init>"
-thread_name thread.Start = codes "start"
-thread_name thread.Join = codes "join"
-thread_name thread.Yield = codes "yield"
+abbrev pub method : LibClass → List ℕ → List ℕ → Member
+method = a_member Both kind.Method
 
-abbrev pub thread_desc : ThreadCall → List ℕ
-thread_desc (thread.Init Source) = codes "(Ljava/lang/Runnable;)V"
-thread_desc (thread.Init Passing) = codes "(Ljava/lang/Runnable;Lsps/Ctx;)V"
-thread_desc thread.Start = codes "()V"
-thread_desc thread.Join = codes "()V"
-thread_desc thread.Yield = codes "()V"
+abbrev pub static_method : LibClass → List ℕ → List ℕ → Member
+static_method = a_member Both kind.StaticMethod
 
-abbrev pub controller_name : ControllerCall → List ℕ
-controller_name controller.Check = codes "checkPermission"
-controller_name controller.Snapshot = codes "getContext"
-controller_name controller.Privileged = codes "doPrivileged"
-controller_name controller.PrivilegedWith = codes "doPrivileged"
-controller_name controller.PrivilegedLimited = codes "doPrivileged"
+abbrev pub static_on : Side → LibClass → List ℕ → List ℕ → Member
+static_on side = a_member (Alone side) kind.StaticMethod
 
-abbrev pub controller_desc : ControllerCall → List ℕ
-controller_desc controller.Check = codes "(Ljava/security/Permission;)V"
-controller_desc controller.Snapshot = codes "()Ljava/security/AccessControlContext;"
-controller_desc controller.Privileged = codes "(Ljava/security/PrivilegedAction;)Ljava/lang/Object;"
-controller_desc controller.PrivilegedWith = codes "(Ljava/security/PrivilegedAction;Ljava/security/AccessControlContext;)Ljava/lang/Object;"
-controller_desc controller.PrivilegedLimited = codes "(Ljava/security/PrivilegedAction;Ljava/security/AccessControlContext;[Ljava/security/Permission;)Ljava/lang/Object;"
+abbrev pub abstract_on : Side → LibClass → List ℕ → List ℕ → Member
+abstract_on side = a_member (Alone side) kind.AbstractMethod
 
-abbrev pub permission_owner : PermissionInit → PermissionClass
-permission_owner init.All = permission.AllPermission
-permission_owner init.Runtime = permission.RuntimePermission
-permission_owner init.RuntimeActions = permission.RuntimePermission
-permission_owner init.Security = permission.SecurityPermission
-permission_owner init.SecurityActions = permission.SecurityPermission
-permission_owner init.Property = permission.PropertyPermission
-permission_owner init.File = permission.FilePermission
+-- ---- the table: side where it is one's alone, class, name and descriptor
 
-abbrev pub permission_desc : PermissionInit → List ℕ
-permission_desc init.All = codes "()V"
-permission_desc init.Runtime = codes "(Ljava/lang/String;)V"
-permission_desc init.RuntimeActions = codes "(Ljava/lang/String;Ljava/lang/String;)V"
-permission_desc init.Security = codes "(Ljava/lang/String;)V"
-permission_desc init.SecurityActions = codes "(Ljava/lang/String;Ljava/lang/String;)V"
-permission_desc init.Property = codes "(Ljava/lang/String;Ljava/lang/String;)V"
-permission_desc init.File = codes "(Ljava/lang/String;Ljava/lang/String;)V"
+abbrev pub print_row : Piece → Member
+print_row piece.Int = method lib.PrintStream (codes "println") (codes "(I)V")
+print_row piece.Long = method lib.PrintStream (codes "println") (codes "(J)V")
+print_row piece.Char = method lib.PrintStream (codes "println") (codes "(C)V")
+print_row piece.Bool = method lib.PrintStream (codes "println") (codes "(Z)V")
+print_row piece.Text = method lib.PrintStream (codes "println") (codes "(Ljava/lang/String;)V")
 
-abbrev pub rt_name : RtCall → List ℕ
-rt_name rt.Enter = codes "enter"
-rt_name rt.Check = codes "check"
-rt_name rt.Snapshot = codes "snapshot"
-rt_name rt.Privileged = codes "priv"
-rt_name rt.PrivilegedWith = codes "privWith"
-rt_name rt.PrivilegedLimited = codes "privLimited"
+abbrev pub string_row : StringCall → Member
+string_row string.Length = method lib.String (codes "length") (codes "()I")
+string_row string.CharAt = method lib.String (codes "charAt") (codes "(I)C")
+string_row string.Equals = method lib.String (codes "equals") (codes "(Ljava/lang/Object;)Z")
+string_row string.Concat = method lib.String (codes "concat") (codes "(Ljava/lang/String;)Ljava/lang/String;")
 
-abbrev pub rt_desc : RtCall → List ℕ
-rt_desc rt.Enter = codes "(Lsps/Ctx;I)Lsps/Ctx;"
-rt_desc rt.Check = codes "(Ljava/security/Permission;Lsps/Ctx;)V"
-rt_desc rt.Snapshot = codes "(Lsps/Ctx;)Ljava/security/AccessControlContext;"
-rt_desc rt.Privileged = codes "(Ljava/security/PrivilegedAction;I)Ljava/lang/Object;"
-rt_desc rt.PrivilegedWith = codes "(Ljava/security/PrivilegedAction;Ljava/security/AccessControlContext;I)Ljava/lang/Object;"
-rt_desc rt.PrivilegedLimited = codes "(Ljava/security/PrivilegedAction;Ljava/security/AccessControlContext;[Ljava/security/Permission;Lsps/Ctx;I)Ljava/lang/Object;"
+abbrev pub builder_row : BuilderCall → Member
+builder_row builder.Init = constructor lib.StringBuilder (codes "()V")
+builder_row builder.InitText = constructor lib.StringBuilder (codes "(Ljava/lang/String;)V")
+builder_row (builder.Append piece.Int) = method lib.StringBuilder (codes "append") (codes "(I)Ljava/lang/StringBuilder;")
+builder_row (builder.Append piece.Long) = method lib.StringBuilder (codes "append") (codes "(J)Ljava/lang/StringBuilder;")
+builder_row (builder.Append piece.Char) = method lib.StringBuilder (codes "append") (codes "(C)Ljava/lang/StringBuilder;")
+builder_row (builder.Append piece.Bool) = method lib.StringBuilder (codes "append") (codes "(Z)Ljava/lang/StringBuilder;")
+builder_row (builder.Append piece.Text) = method lib.StringBuilder (codes "append") (codes "(Ljava/lang/String;)Ljava/lang/StringBuilder;")
+builder_row builder.ToString = method lib.StringBuilder (codes "toString") (codes "()Ljava/lang/String;")
 
--- ---- all members
+abbrev pub thread_row : ThreadCall → Member
+thread_row (thread.Init Source) = constructor_on Source lib.Thread (codes "(Ljava/lang/Runnable;)V")
+thread_row (thread.Init Passing) = constructor_on Passing lib.Thread (codes "(Ljava/lang/Runnable;Lsps/Ctx;)V")
+thread_row thread.Start = method lib.Thread (codes "start") (codes "()V")
+thread_row thread.Join = method lib.Thread (codes "join") (codes "()V")
+thread_row thread.Yield = static_method lib.Thread (codes "yield") (codes "()V")
 
--- the class that declares it
+abbrev pub controller_row : ControllerCall → Member
+controller_row controller.Check = static_on Source lib.AccessController (codes "checkPermission") (codes "(Ljava/security/Permission;)V")
+controller_row controller.Snapshot = static_on Source lib.AccessController (codes "getContext") (codes "()Ljava/security/AccessControlContext;")
+controller_row controller.Privileged = static_on Source lib.AccessController (codes "doPrivileged") (codes "(Ljava/security/PrivilegedAction;)Ljava/lang/Object;")
+controller_row controller.PrivilegedWith =
+    static_on Source lib.AccessController (codes "doPrivileged") (codes "(Ljava/security/PrivilegedAction;Ljava/security/AccessControlContext;)Ljava/lang/Object;")
+controller_row controller.PrivilegedLimited =
+    static_on Source lib.AccessController (codes "doPrivileged")
+    (codes "(Ljava/security/PrivilegedAction;Ljava/security/AccessControlContext;[Ljava/security/Permission;)Ljava/lang/Object;")
+
+abbrev pub permission_row : PermissionInit → Member
+permission_row init.All = constructor (lib.Permission permission.AllPermission) (codes "()V")
+permission_row init.Runtime = constructor (lib.Permission permission.RuntimePermission) (codes "(Ljava/lang/String;)V")
+permission_row init.RuntimeActions = constructor (lib.Permission permission.RuntimePermission) (codes "(Ljava/lang/String;Ljava/lang/String;)V")
+permission_row init.Security = constructor (lib.Permission permission.SecurityPermission) (codes "(Ljava/lang/String;)V")
+permission_row init.SecurityActions = constructor (lib.Permission permission.SecurityPermission) (codes "(Ljava/lang/String;Ljava/lang/String;)V")
+permission_row init.Property = constructor (lib.Permission permission.PropertyPermission) (codes "(Ljava/lang/String;Ljava/lang/String;)V")
+permission_row init.File = constructor (lib.Permission permission.FilePermission) (codes "(Ljava/lang/String;Ljava/lang/String;)V")
+
+abbrev pub rt_row : RtCall → Member
+rt_row rt.Enter = static_on Passing lib.Rt (codes "enter") (codes "(Lsps/Ctx;I)Lsps/Ctx;")
+rt_row rt.Check = static_on Passing lib.Rt (codes "check") (codes "(Ljava/security/Permission;Lsps/Ctx;)V")
+rt_row rt.Snapshot = static_on Passing lib.Rt (codes "snapshot") (codes "(Lsps/Ctx;)Ljava/security/AccessControlContext;")
+rt_row rt.Privileged = static_on Passing lib.Rt (codes "priv") (codes "(Ljava/security/PrivilegedAction;I)Ljava/lang/Object;")
+rt_row rt.PrivilegedWith = static_on Passing lib.Rt (codes "privWith") (codes "(Ljava/security/PrivilegedAction;Ljava/security/AccessControlContext;I)Ljava/lang/Object;")
+rt_row rt.PrivilegedLimited =
+    static_on Passing lib.Rt (codes "privLimited")
+    (codes "(Ljava/security/PrivilegedAction;Ljava/security/AccessControlContext;[Ljava/security/Permission;Lsps/Ctx;I)Ljava/lang/Object;")
+
+abbrev pub row_of : LibCall → Member
+row_of call.ObjectInit = constructor lib.Object (codes "()V")
+row_of (call.ThrownInit one given.Message) = constructor (lib.Thrown one) (codes "(Ljava/lang/String;)V")
+row_of (call.ThrownInit one given.Nothing) = constructor (lib.Thrown one) (codes "()V")
+row_of call.AccessControlInit = constructor lib.AccessControlException (codes "(Ljava/lang/String;)V")
+row_of call.GetMessage = method (lib.Thrown thrown.Throwable) (codes "getMessage") (codes "()Ljava/lang/String;")
+row_of (call.String one) = string_row one
+row_of (call.Builder one) = builder_row one
+row_of call.Out = static_field lib.System (codes "out") (codes "Ljava/io/PrintStream;")
+row_of call.PrintEnd = method lib.PrintStream (codes "println") (codes "()V")
+row_of (call.Print one) = print_row one
+row_of (call.Run Source) = abstract_on Source lib.Runnable (codes "run") (codes "()V")
+row_of (call.Run Passing) = abstract_on Passing lib.Runnable (codes "run") (codes "(Lsps/Ctx;)V")
+row_of (call.Thread one) = thread_row one
+row_of (call.RunAction Source) = abstract_on Source lib.PrivilegedAction (codes "run") (codes "()Ljava/lang/Object;")
+row_of (call.RunAction Passing) = abstract_on Passing lib.PrivilegedAction (codes "run") (codes "(Lsps/Ctx;)Ljava/lang/Object;")
+row_of (call.Controller one) = controller_row one
+row_of call.ContextCheck = method lib.AccessControlContext (codes "checkPermission") (codes "(Ljava/security/Permission;)V")
+row_of (call.PermissionInit one) = permission_row one
+row_of (call.Rt one) = rt_row one
+
+-- ---- its columns
+
 abbrev pub owner : LibCall → LibClass
-owner call.ObjectInit = lib.Object
-owner (call.ThrownInit one given) = lib.Thrown one
-owner call.GetMessage = lib.Thrown thrown.Throwable
-owner (call.String one) = lib.String
-owner (call.Builder one) = lib.StringBuilder
-owner call.Out = lib.System
-owner call.PrintEnd = lib.PrintStream
-owner (call.Print one) = lib.PrintStream
-owner (call.Run side) = lib.Runnable
-owner (call.Thread one) = lib.Thread
-owner (call.RunAction side) = lib.PrivilegedAction
-owner (call.Controller one) = lib.AccessController
-owner call.ContextCheck = lib.AccessControlContext
-owner (call.PermissionInit one) = lib.Permission (permission_owner one)
-owner (call.Rt one) = lib.Rt
+owner m = (row_of m).owner
 
 abbrev pub name_of_call : LibCall → List ℕ
-name_of_call call.ObjectInit = codes "<init>"
-name_of_call (call.ThrownInit one given) = codes "<init>"
-name_of_call call.GetMessage = codes "getMessage"
-name_of_call (call.String one) = string_name one
-name_of_call (call.Builder one) = builder_name one
-name_of_call call.Out = codes "out"
-name_of_call call.PrintEnd = codes "println"
-name_of_call (call.Print one) = codes "println"
-name_of_call (call.Run side) = codes "run"
-name_of_call (call.Thread one) = thread_name one
-name_of_call (call.RunAction side) = codes "run"
-name_of_call (call.Controller one) = controller_name one
-name_of_call call.ContextCheck = codes "checkPermission"
-name_of_call (call.PermissionInit one) = codes "<init>"
-name_of_call (call.Rt one) = rt_name one
+name_of_call m = (row_of m).name
 
 abbrev pub desc_of : LibCall → List ℕ
-desc_of call.ObjectInit = codes "()V"
-desc_of (call.ThrownInit one given.Message) = codes "(Ljava/lang/String;)V"
-desc_of (call.ThrownInit one given.Nothing) = codes "()V"
-desc_of call.GetMessage = codes "()Ljava/lang/String;"
-desc_of (call.String one) = string_desc one
-desc_of (call.Builder one) = builder_desc one
-desc_of call.Out = codes "Ljava/io/PrintStream;"
-desc_of call.PrintEnd = codes "()V"
-desc_of (call.Print one) = printed one
-desc_of (call.Run Source) = codes "()V"
-desc_of (call.Run Passing) = codes "(Lsps/Ctx;)V"
-desc_of (call.Thread one) = thread_desc one
-desc_of (call.RunAction Source) = codes "()Ljava/lang/Object;"
-desc_of (call.RunAction Passing) = codes "(Lsps/Ctx;)Ljava/lang/Object;"
-desc_of (call.Controller one) = controller_desc one
-desc_of call.ContextCheck = codes "(Ljava/security/Permission;)V"
-desc_of (call.PermissionInit one) = permission_desc one
-desc_of (call.Rt one) = rt_desc one
+desc_of m = (row_of m).desc
+
+abbrev pub field_kind : MemberKind → Bool
+field_kind kind.StaticField = true
+field_kind _ = false
 
 abbrev pub is_field : LibCall → Bool
-is_field call.Out = true
-is_field _ = false
+is_field m = field_kind (row_of m).kind
+
+abbrev pub static_kind : MemberKind → Bool
+static_kind kind.StaticField = true
+static_kind kind.StaticMethod = true
+static_kind _ = false
 
 abbrev pub is_static : LibCall → Bool
-is_static call.Out = true
-is_static (call.Thread thread.Yield) = true
-is_static (call.Controller one) = true
-is_static (call.Rt one) = true
-is_static _ = false
+is_static m = static_kind (row_of m).kind
 
--- ---- the two libraries
+abbrev pub concrete_kind : MemberKind → Bool
+concrete_kind kind.Method = true
+concrete_kind _ = false
 
-abbrev pub same_side : Side → Side → Bool
-same_side Source Source = true
-same_side Passing Passing = true
-same_side _ _ = false
+-- a method of an instance that isn't abstract, constructors aside
+abbrev pub is_concrete : LibCall → Bool
+is_concrete m = concrete_kind (row_of m).kind
 
 -- a side's library has it
 abbrev pub call_stands_on : Side → LibCall → Bool
-call_stands_on side (call.ThrownInit thrown.AccessControlException given.Nothing) = false
-call_stands_on side (call.Run of) = same_side side of
-call_stands_on side (call.Thread (thread.Init of)) = same_side side of
-call_stands_on side (call.RunAction of) = same_side side of
-call_stands_on side (call.Controller one) = same_side side Source
-call_stands_on side (call.Rt one) = is_passing side
-call_stands_on side _ = true
+call_stands_on side m = among (row_of m).sides side
 
-abbrev pub thrown_members : Thrown → List LibCall
-thrown_members thrown.Throwable = call.ThrownInit thrown.Throwable given.Message ∷ call.ThrownInit thrown.Throwable given.Nothing ∷ call.GetMessage ∷ []
-thrown_members one = call.ThrownInit one given.Message ∷ call.ThrownInit one given.Nothing ∷ []
+-- ---- the members of a class, on both sides
+
+-- besides constructors
+abbrev pub thrown_methods : Thrown → List LibCall
+thrown_methods thrown.Throwable = call.GetMessage ∷ []
+thrown_methods _ = []
 
 abbrev pub permission_members : PermissionClass → List LibCall
 permission_members permission.Permission = []
@@ -230,30 +207,55 @@ permission_members permission.SecurityPermission = call.PermissionInit init.Secu
 permission_members permission.PropertyPermission = call.PermissionInit init.Property ∷ []
 permission_members permission.FilePermission = call.PermissionInit init.File ∷ []
 
--- the members of a class on both sides
 abbrev pub members : LibClass → List LibCall
 members lib.Object = call.ObjectInit ∷ []
-members (lib.Thrown one) = thrown_members one
+members (lib.Thrown one) = call.ThrownInit one given.Message ∷ call.ThrownInit one given.Nothing ∷ thrown_methods one
+members lib.AccessControlException = call.AccessControlInit ∷ []
 members lib.String = call.String string.Length ∷ call.String string.CharAt ∷ call.String string.Equals ∷ call.String string.Concat ∷ []
-members lib.StringBuilder = call.Builder builder.Init ∷ call.Builder builder.InitText ∷ call.Builder (builder.Append piece.Int) ∷ call.Builder (builder.Append piece.Long) ∷ call.Builder (builder.Append piece.Char) ∷ call.Builder (builder.Append piece.Bool) ∷ call.Builder (builder.Append piece.Text) ∷ call.Builder builder.ToString ∷ []
+members lib.StringBuilder =
+    call.Builder builder.Init ∷ call.Builder builder.InitText
+    ∷ call.Builder (builder.Append piece.Int) ∷ call.Builder (builder.Append piece.Long) ∷ call.Builder (builder.Append piece.Char)
+    ∷ call.Builder (builder.Append piece.Bool) ∷ call.Builder (builder.Append piece.Text) ∷ call.Builder builder.ToString ∷ []
 members lib.System = call.Out ∷ []
 members lib.PrintStream = call.PrintEnd ∷ call.Print piece.Int ∷ call.Print piece.Long ∷ call.Print piece.Char ∷ call.Print piece.Bool ∷ call.Print piece.Text ∷ []
 members lib.Void = []
 members lib.Cloneable = []
 members lib.Serializable = []
 members lib.Runnable = call.Run Source ∷ call.Run Passing ∷ []
-members lib.Thread = call.Thread (thread.Init Source) ∷ call.Thread (thread.Init Passing) ∷ call.Thread thread.Start ∷ call.Thread thread.Join ∷ call.Thread thread.Yield ∷ []
+members lib.Thread =
+    call.Thread (thread.Init Source) ∷ call.Thread (thread.Init Passing) ∷ call.Thread thread.Start ∷ call.Thread thread.Join ∷ call.Thread thread.Yield ∷ []
 members lib.PrivilegedAction = call.RunAction Source ∷ call.RunAction Passing ∷ []
-members lib.AccessController = call.Controller controller.Check ∷ call.Controller controller.Snapshot ∷ call.Controller controller.Privileged ∷ call.Controller controller.PrivilegedWith ∷ call.Controller controller.PrivilegedLimited ∷ []
+members lib.AccessController =
+    call.Controller controller.Check ∷ call.Controller controller.Snapshot
+    ∷ call.Controller controller.Privileged ∷ call.Controller controller.PrivilegedWith ∷ call.Controller controller.PrivilegedLimited ∷ []
 members lib.AccessControlContext = call.ContextCheck ∷ []
 members (lib.Permission one) = permission_members one
-members lib.Rt = call.Rt rt.Enter ∷ call.Rt rt.Check ∷ call.Rt rt.Snapshot ∷ call.Rt rt.Privileged ∷ call.Rt rt.PrivilegedWith ∷ call.Rt rt.PrivilegedLimited ∷ []
+members lib.Rt =
+    call.Rt rt.Enter ∷ call.Rt rt.Check ∷ call.Rt rt.Snapshot ∷ call.Rt rt.Privileged ∷ call.Rt rt.PrivilegedWith ∷ call.Rt rt.PrivilegedLimited ∷ []
 members lib.Ctx = []
+
+-- it has this name and descriptor
+abbrev pub is_called : List ℕ → List ℕ → LibCall → Bool
+is_called name desc m = bytes_eq name (name_of_call m) && bytes_eq desc (desc_of m)
+
+-- it stands in the class of this name, is called so, and a side has it
+abbrev pub IsMember : Side → List ℕ → List ℕ → List ℕ → LibCall → Type 0
+IsMember side class name desc m = (name_of (owner m) ≡ class) × (name_of_call m ≡ name) × (desc_of m ≡ desc) × (call_stands_on side m ≡ true)
 
 -- the member of this name and descriptor that a side has among these
 abbrev pub member_among : Side → List ℕ → List ℕ → List LibCall → Option LibCall
-member_among side name desc calls = find (λ m. call_stands_on side m && (bytes_eq name (name_of_call m) && bytes_eq desc (desc_of m))) calls
+member_among side name desc calls = find (λ m. call_stands_on side m && is_called name desc m) calls
 
 -- the member that a class of a side declares itself
 abbrev pub member_named : Side → List ℕ → List ℕ → List ℕ → Option LibCall
 member_named side class name desc = option_and_then (λ c. member_among side name desc (members c)) (class_named side class)
+
+-- ---- what users may not override
+
+-- The class is open and declares a concrete method of this name and descriptor: users' classes below it may not.
+abbrev pub fixes : List ℕ → List ℕ → LibClass → Bool
+fixes name desc c = is_open c && list_any (λ m. is_concrete m && is_called name desc m) (members c)
+
+-- The class or one above it does.
+abbrev pub has_fixed : List ℕ → List ℕ → LibClass → Bool
+has_fixed name desc c = list_any (fixes name desc) (c ∷ above c)

@@ -1,161 +1,177 @@
 -- The classes of the library, on either side: names, superclasses, and what users may do with them.
-use Rattle.std.specs.Prelude.{ℕ, Bool, true, false, ◌&&◌, List, [], ◌∷◌, Option, Some, None, codes}
-use Rattle.std.specs.List.{find}
+use Rattle.std.specs.Prelude.{ℕ, zero, suc, Bool, true, false, ◌&&◌, List, [], ◌∷◌, length, Option, Some, None, codes}
+use Rattle.std.specs.List.{filter, find}
 use Rattle.std.specs.Str.{bytes_eq}
-use Rattle.jlib.specs.declared.classes.Side.{Side}
-use Rattle.jlib.specs.declared.classes.Side.TheVariants.{Source, Passing}
+use Rattle.jlib.specs.declared.side.Side.{Side}
+use Rattle.jlib.specs.declared.side.Side.TheVariants.{Source, Passing}
+use Rattle.jlib.specs.declared.side.Sides.{Sides}
+use Rattle.jlib.specs.declared.side.Sides.TheVariants.{Both, Alone}
 use Rattle.jlib.specs.declared.classes.Thrown.{Thrown}
 use Rattle.jlib.specs.declared.classes.Thrown.TheVariants as thrown
 use Rattle.jlib.specs.declared.classes.PermissionClass.{PermissionClass}
 use Rattle.jlib.specs.declared.classes.PermissionClass.TheVariants as permission
 use Rattle.jlib.specs.declared.classes.LibClass.{LibClass}
 use Rattle.jlib.specs.declared.classes.LibClass.TheVariants as lib
+use Rattle.jlib.specs.declared.classes.ClassKind.{ClassKind}
+use Rattle.jlib.specs.declared.classes.ClassKind.TheVariants as kind
 
--- ---- names
+-- ---- the sides
 
-abbrev pub thrown_name : Thrown → List ℕ
-thrown_name thrown.Throwable = codes "java/lang/Throwable"
-thrown_name thrown.Exception = codes "java/lang/Exception"
-thrown_name thrown.RuntimeException = codes "java/lang/RuntimeException"
-thrown_name thrown.Error = codes "java/lang/Error"
-thrown_name thrown.ArithmeticException = codes "java/lang/ArithmeticException"
-thrown_name thrown.NullPointerException = codes "java/lang/NullPointerException"
-thrown_name thrown.ClassCastException = codes "java/lang/ClassCastException"
-thrown_name thrown.NegativeArraySizeException = codes "java/lang/NegativeArraySizeException"
-thrown_name thrown.ArrayStoreException = codes "java/lang/ArrayStoreException"
-thrown_name thrown.IllegalArgumentException = codes "java/lang/IllegalArgumentException"
-thrown_name thrown.IllegalStateException = codes "java/lang/IllegalStateException"
-thrown_name thrown.IndexOutOfBoundsException = codes "java/lang/IndexOutOfBoundsException"
-thrown_name thrown.SecurityException = codes "java/lang/SecurityException"
-thrown_name thrown.ArrayIndexOutOfBoundsException = codes "java/lang/ArrayIndexOutOfBoundsException"
-thrown_name thrown.StringIndexOutOfBoundsException = codes "java/lang/StringIndexOutOfBoundsException"
-thrown_name thrown.IllegalThreadStateException = codes "java/lang/IllegalThreadStateException"
-thrown_name thrown.AccessControlException = codes "java/security/AccessControlException"
-thrown_name thrown.InterruptedException = codes "java/lang/InterruptedException"
-thrown_name thrown.LinkageError = codes "java/lang/LinkageError"
-thrown_name thrown.VirtualMachineError = codes "java/lang/VirtualMachineError"
-thrown_name thrown.IncompatibleClassChangeError = codes "java/lang/IncompatibleClassChangeError"
-thrown_name thrown.AbstractMethodError = codes "java/lang/AbstractMethodError"
-thrown_name thrown.IllegalAccessError = codes "java/lang/IllegalAccessError"
-thrown_name thrown.StackOverflowError = codes "java/lang/StackOverflowError"
+abbrev pub same_side : Side → Side → Bool
+same_side Source Source = true
+same_side Passing Passing = true
+same_side _ _ = false
 
-abbrev pub permission_name : PermissionClass → List ℕ
-permission_name permission.Permission = codes "java/security/Permission"
-permission_name permission.BasicPermission = codes "java/security/BasicPermission"
-permission_name permission.AllPermission = codes "java/security/AllPermission"
-permission_name permission.RuntimePermission = codes "java/lang/RuntimePermission"
-permission_name permission.SecurityPermission = codes "java/security/SecurityPermission"
-permission_name permission.PropertyPermission = codes "java/util/PropertyPermission"
-permission_name permission.FilePermission = codes "java/io/FilePermission"
+-- a side is among these
+abbrev pub among : Sides → Side → Bool
+among Both side = true
+among (Alone of) side = same_side side of
+
+-- ---- the kinds
+
+abbrev pub interface_kind : ClassKind → Bool
+interface_kind kind.Interface = true
+interface_kind _ = false
+
+abbrev pub open_kind : ClassKind → Bool
+open_kind kind.Open = true
+open_kind kind.OpenAbstract = true
+open_kind _ = false
+
+abbrev pub abstract_kind : ClassKind → Bool
+abstract_kind kind.OpenAbstract = true
+abstract_kind kind.ClosedAbstract = true
+abstract_kind _ = false
+
+-- ---- what a row of the table of classes says
+
+pub record Class : Type 0 where
+  pub name : List ℕ
+  -- the class that it extends: Object where nothing else is said, of interfaces too
+  pub superclass : Option LibClass
+  pub kind : ClassKind
+  -- the interface that it implements, by name alone
+  pub implemented : Option LibClass
+  -- the libraries that have it
+  pub sides : Sides
+
+abbrev pub plain : ClassKind → List ℕ → LibClass → Class
+plain kind name superclass = record { name = name; superclass = Some superclass; kind = kind; implemented = None; sides = Both }
+
+abbrev pub open_class : List ℕ → LibClass → Class
+open_class = plain kind.Open
+
+abbrev pub closed_class : List ℕ → LibClass → Class
+closed_class = plain kind.Closed
+
+-- Object, which extends nothing
+abbrev pub the_top : List ℕ → Class
+the_top name = record { name = name; superclass = None; kind = kind.Open; implemented = None; sides = Both }
+
+abbrev pub implementing : LibClass → Class → Class
+implementing i c = record { name = c.name; superclass = c.superclass; kind = c.kind; implemented = Some i; sides = c.sides }
+
+-- it stands on one side alone
+abbrev pub alone : Side → Class → Class
+alone side c = record { name = c.name; superclass = c.superclass; kind = c.kind; implemented = c.implemented; sides = Alone side }
+
+-- an interface's class file names Object as its superclass
+abbrev pub an_interface : List ℕ → Class
+an_interface name = plain kind.Interface name lib.Object
+
+-- ---- the table: name, superclass and kind, and where there is more to say what is implemented and the side
+
+abbrev pub thrown_row : Thrown → Class
+thrown_row thrown.Throwable = open_class (codes "java/lang/Throwable") lib.Object
+thrown_row thrown.Exception = open_class (codes "java/lang/Exception") (lib.Thrown thrown.Throwable)
+thrown_row thrown.Error = open_class (codes "java/lang/Error") (lib.Thrown thrown.Throwable)
+thrown_row thrown.RuntimeException = open_class (codes "java/lang/RuntimeException") (lib.Thrown thrown.Exception)
+thrown_row thrown.InterruptedException = open_class (codes "java/lang/InterruptedException") (lib.Thrown thrown.Exception)
+thrown_row thrown.ArithmeticException = open_class (codes "java/lang/ArithmeticException") (lib.Thrown thrown.RuntimeException)
+thrown_row thrown.NullPointerException = open_class (codes "java/lang/NullPointerException") (lib.Thrown thrown.RuntimeException)
+thrown_row thrown.ClassCastException = open_class (codes "java/lang/ClassCastException") (lib.Thrown thrown.RuntimeException)
+thrown_row thrown.NegativeArraySizeException = open_class (codes "java/lang/NegativeArraySizeException") (lib.Thrown thrown.RuntimeException)
+thrown_row thrown.ArrayStoreException = open_class (codes "java/lang/ArrayStoreException") (lib.Thrown thrown.RuntimeException)
+thrown_row thrown.IllegalArgumentException = open_class (codes "java/lang/IllegalArgumentException") (lib.Thrown thrown.RuntimeException)
+thrown_row thrown.IllegalStateException = open_class (codes "java/lang/IllegalStateException") (lib.Thrown thrown.RuntimeException)
+thrown_row thrown.IndexOutOfBoundsException = open_class (codes "java/lang/IndexOutOfBoundsException") (lib.Thrown thrown.RuntimeException)
+thrown_row thrown.SecurityException = open_class (codes "java/lang/SecurityException") (lib.Thrown thrown.RuntimeException)
+thrown_row thrown.IllegalThreadStateException = open_class (codes "java/lang/IllegalThreadStateException") (lib.Thrown thrown.IllegalArgumentException)
+thrown_row thrown.ArrayIndexOutOfBoundsException = open_class (codes "java/lang/ArrayIndexOutOfBoundsException") (lib.Thrown thrown.IndexOutOfBoundsException)
+thrown_row thrown.StringIndexOutOfBoundsException = open_class (codes "java/lang/StringIndexOutOfBoundsException") (lib.Thrown thrown.IndexOutOfBoundsException)
+thrown_row thrown.LinkageError = open_class (codes "java/lang/LinkageError") (lib.Thrown thrown.Error)
+thrown_row thrown.VirtualMachineError = plain kind.OpenAbstract (codes "java/lang/VirtualMachineError") (lib.Thrown thrown.Error)
+thrown_row thrown.IncompatibleClassChangeError = open_class (codes "java/lang/IncompatibleClassChangeError") (lib.Thrown thrown.LinkageError)
+thrown_row thrown.AbstractMethodError = open_class (codes "java/lang/AbstractMethodError") (lib.Thrown thrown.IncompatibleClassChangeError)
+thrown_row thrown.IllegalAccessError = open_class (codes "java/lang/IllegalAccessError") (lib.Thrown thrown.IncompatibleClassChangeError)
+thrown_row thrown.StackOverflowError = open_class (codes "java/lang/StackOverflowError") (lib.Thrown thrown.VirtualMachineError)
+
+abbrev pub permission_row : PermissionClass → Class
+permission_row permission.Permission = plain kind.ClosedAbstract (codes "java/security/Permission") lib.Object
+permission_row permission.BasicPermission = plain kind.ClosedAbstract (codes "java/security/BasicPermission") (lib.Permission permission.Permission)
+permission_row permission.AllPermission = closed_class (codes "java/security/AllPermission") (lib.Permission permission.Permission)
+permission_row permission.RuntimePermission = closed_class (codes "java/lang/RuntimePermission") (lib.Permission permission.BasicPermission)
+permission_row permission.SecurityPermission = closed_class (codes "java/security/SecurityPermission") (lib.Permission permission.BasicPermission)
+permission_row permission.PropertyPermission = closed_class (codes "java/util/PropertyPermission") (lib.Permission permission.BasicPermission)
+permission_row permission.FilePermission = closed_class (codes "java/io/FilePermission") (lib.Permission permission.Permission)
+
+abbrev pub class_row : LibClass → Class
+class_row lib.Object = the_top (codes "java/lang/Object")
+class_row (lib.Thrown one) = thrown_row one
+class_row lib.AccessControlException = open_class (codes "java/security/AccessControlException") (lib.Thrown thrown.SecurityException)
+class_row lib.String = closed_class (codes "java/lang/String") lib.Object
+class_row lib.StringBuilder = closed_class (codes "java/lang/StringBuilder") lib.Object
+class_row lib.System = closed_class (codes "java/lang/System") lib.Object
+class_row lib.PrintStream = closed_class (codes "java/io/PrintStream") lib.Object
+class_row lib.Void = closed_class (codes "java/lang/Void") lib.Object
+class_row lib.Cloneable = an_interface (codes "java/lang/Cloneable")
+class_row lib.Serializable = an_interface (codes "java/io/Serializable")
+class_row lib.Runnable = an_interface (codes "java/lang/Runnable")
+class_row lib.Thread = implementing lib.Runnable (closed_class (codes "java/lang/Thread") lib.Object)
+class_row lib.PrivilegedAction = an_interface (codes "java/security/PrivilegedAction")
+class_row lib.AccessController = closed_class (codes "java/security/AccessController") lib.Object
+class_row lib.AccessControlContext = closed_class (codes "java/security/AccessControlContext") lib.Object
+class_row (lib.Permission one) = permission_row one
+class_row lib.Rt = alone Passing (closed_class (codes "sps/Rt") lib.Object)
+class_row lib.Ctx = alone Passing (closed_class (codes "sps/Ctx") lib.Object)
+
+-- ---- its columns
 
 abbrev pub name_of : LibClass → List ℕ
-name_of lib.Object = codes "java/lang/Object"
-name_of (lib.Thrown one) = thrown_name one
-name_of lib.String = codes "java/lang/String"
-name_of lib.StringBuilder = codes "java/lang/StringBuilder"
-name_of lib.System = codes "java/lang/System"
-name_of lib.PrintStream = codes "java/io/PrintStream"
-name_of lib.Void = codes "java/lang/Void"
-name_of lib.Cloneable = codes "java/lang/Cloneable"
-name_of lib.Serializable = codes "java/io/Serializable"
-name_of lib.Runnable = codes "java/lang/Runnable"
-name_of lib.Thread = codes "java/lang/Thread"
-name_of lib.PrivilegedAction = codes "java/security/PrivilegedAction"
-name_of lib.AccessController = codes "java/security/AccessController"
-name_of lib.AccessControlContext = codes "java/security/AccessControlContext"
-name_of (lib.Permission one) = permission_name one
-name_of lib.Rt = codes "sps/Rt"
-name_of lib.Ctx = codes "sps/Ctx"
+name_of c = (class_row c).name
 
--- ---- superclasses and interfaces
-
-abbrev pub thrown_superclass : Thrown → LibClass
-thrown_superclass thrown.Throwable = lib.Object
-thrown_superclass thrown.Exception = lib.Thrown thrown.Throwable
-thrown_superclass thrown.RuntimeException = lib.Thrown thrown.Exception
-thrown_superclass thrown.Error = lib.Thrown thrown.Throwable
-thrown_superclass thrown.ArithmeticException = lib.Thrown thrown.RuntimeException
-thrown_superclass thrown.NullPointerException = lib.Thrown thrown.RuntimeException
-thrown_superclass thrown.ClassCastException = lib.Thrown thrown.RuntimeException
-thrown_superclass thrown.NegativeArraySizeException = lib.Thrown thrown.RuntimeException
-thrown_superclass thrown.ArrayStoreException = lib.Thrown thrown.RuntimeException
-thrown_superclass thrown.IllegalArgumentException = lib.Thrown thrown.RuntimeException
-thrown_superclass thrown.IllegalStateException = lib.Thrown thrown.RuntimeException
-thrown_superclass thrown.IndexOutOfBoundsException = lib.Thrown thrown.RuntimeException
-thrown_superclass thrown.SecurityException = lib.Thrown thrown.RuntimeException
-thrown_superclass thrown.ArrayIndexOutOfBoundsException = lib.Thrown thrown.IndexOutOfBoundsException
-thrown_superclass thrown.StringIndexOutOfBoundsException = lib.Thrown thrown.IndexOutOfBoundsException
-thrown_superclass thrown.IllegalThreadStateException = lib.Thrown thrown.IllegalArgumentException
-thrown_superclass thrown.AccessControlException = lib.Thrown thrown.SecurityException
-thrown_superclass thrown.InterruptedException = lib.Thrown thrown.Exception
-thrown_superclass thrown.LinkageError = lib.Thrown thrown.Error
-thrown_superclass thrown.VirtualMachineError = lib.Thrown thrown.Error
-thrown_superclass thrown.IncompatibleClassChangeError = lib.Thrown thrown.LinkageError
-thrown_superclass thrown.AbstractMethodError = lib.Thrown thrown.IncompatibleClassChangeError
-thrown_superclass thrown.IllegalAccessError = lib.Thrown thrown.IncompatibleClassChangeError
-thrown_superclass thrown.StackOverflowError = lib.Thrown thrown.VirtualMachineError
-
-abbrev pub permission_superclass : PermissionClass → LibClass
-permission_superclass permission.Permission = lib.Object
-permission_superclass permission.BasicPermission = lib.Permission permission.Permission
-permission_superclass permission.AllPermission = lib.Permission permission.Permission
-permission_superclass permission.RuntimePermission = lib.Permission permission.BasicPermission
-permission_superclass permission.SecurityPermission = lib.Permission permission.BasicPermission
-permission_superclass permission.PropertyPermission = lib.Permission permission.BasicPermission
-permission_superclass permission.FilePermission = lib.Permission permission.Permission
-
--- the class that it extends: Object where nothing else is said, of interfaces too
 abbrev pub superclass : LibClass → Option LibClass
-superclass lib.Object = None
-superclass (lib.Thrown one) = Some (thrown_superclass one)
-superclass (lib.Permission one) = Some (permission_superclass one)
-superclass _ = Some lib.Object
+superclass c = (class_row c).superclass
 
--- the interface that it implements, by name alone
 abbrev pub implemented : LibClass → Option LibClass
-implemented lib.Thread = Some lib.Runnable
-implemented _ = None
+implemented c = (class_row c).implemented
+
+-- a side's library has it
+abbrev pub stands_on : Side → LibClass → Bool
+stands_on side c = among (class_row c).sides side
 
 abbrev pub is_interface : LibClass → Bool
-is_interface lib.Cloneable = true
-is_interface lib.Serializable = true
-is_interface lib.Runnable = true
-is_interface lib.PrivilegedAction = true
-is_interface _ = false
+is_interface c = interface_kind (class_row c).kind
 
 -- users may extend it
 abbrev pub is_open : LibClass → Bool
-is_open lib.Object = true
-is_open (lib.Thrown one) = true
-is_open _ = false
+is_open c = open_kind (class_row c).kind
 
 -- an abstract class, interfaces aside
 abbrev pub is_abstract : LibClass → Bool
-is_abstract (lib.Thrown thrown.VirtualMachineError) = true
-is_abstract (lib.Permission permission.Permission) = true
-is_abstract (lib.Permission permission.BasicPermission) = true
-is_abstract _ = false
+is_abstract c = abstract_kind (class_row c).kind
 
--- ---- the two libraries
+-- ---- all classes
 
-abbrev pub is_passing : Side → Bool
-is_passing Source = false
-is_passing Passing = true
-
--- a side's library has it: the classes of contexts are of the passing side alone
-abbrev pub stands_on : Side → LibClass → Bool
-stands_on side lib.Rt = is_passing side
-stands_on side lib.Ctx = is_passing side
-stands_on side _ = true
-
--- all classes of both
+-- all of both sides, the open ones first
 abbrev pub classes : List LibClass
 classes =
-    lib.Object ∷ lib.String ∷ lib.StringBuilder ∷ lib.System ∷ lib.PrintStream ∷ lib.Void ∷ lib.Cloneable ∷ lib.Serializable ∷ lib.Runnable ∷ lib.Thread ∷ lib.PrivilegedAction ∷ lib.AccessController ∷ lib.AccessControlContext
+    lib.Object
     ∷ lib.Thrown thrown.Throwable
     ∷ lib.Thrown thrown.Exception
-    ∷ lib.Thrown thrown.RuntimeException
     ∷ lib.Thrown thrown.Error
+    ∷ lib.Thrown thrown.RuntimeException
+    ∷ lib.Thrown thrown.InterruptedException
     ∷ lib.Thrown thrown.ArithmeticException
     ∷ lib.Thrown thrown.NullPointerException
     ∷ lib.Thrown thrown.ClassCastException
@@ -165,17 +181,18 @@ classes =
     ∷ lib.Thrown thrown.IllegalStateException
     ∷ lib.Thrown thrown.IndexOutOfBoundsException
     ∷ lib.Thrown thrown.SecurityException
+    ∷ lib.Thrown thrown.IllegalThreadStateException
     ∷ lib.Thrown thrown.ArrayIndexOutOfBoundsException
     ∷ lib.Thrown thrown.StringIndexOutOfBoundsException
-    ∷ lib.Thrown thrown.IllegalThreadStateException
-    ∷ lib.Thrown thrown.AccessControlException
-    ∷ lib.Thrown thrown.InterruptedException
     ∷ lib.Thrown thrown.LinkageError
     ∷ lib.Thrown thrown.VirtualMachineError
     ∷ lib.Thrown thrown.IncompatibleClassChangeError
     ∷ lib.Thrown thrown.AbstractMethodError
     ∷ lib.Thrown thrown.IllegalAccessError
     ∷ lib.Thrown thrown.StackOverflowError
+    ∷ lib.AccessControlException
+    ∷ lib.String ∷ lib.StringBuilder ∷ lib.System ∷ lib.PrintStream ∷ lib.Void ∷ lib.Cloneable ∷ lib.Serializable ∷ lib.Runnable
+    ∷ lib.Thread ∷ lib.PrivilegedAction ∷ lib.AccessController ∷ lib.AccessControlContext
     ∷ lib.Permission permission.Permission
     ∷ lib.Permission permission.BasicPermission
     ∷ lib.Permission permission.AllPermission
@@ -188,3 +205,22 @@ classes =
 -- the class of a side that has a name
 abbrev pub class_named : Side → List ℕ → Option LibClass
 class_named side name = find (λ c. stands_on side c && bytes_eq name (name_of c)) classes
+
+-- those that users may extend
+abbrev pub open_classes : List LibClass
+open_classes = filter is_open classes
+
+-- ---- the classes above a class
+
+-- a class and those above it, nearest first, at most so many
+abbrev pub upward : ℕ → Option LibClass → List LibClass
+upward zero o = []
+upward (suc n) None = []
+upward (suc n) (Some c) = c ∷ upward n (superclass c)
+
+abbrev pub above : LibClass → List LibClass
+above c = upward (length classes) (superclass c)
+
+-- how many stand above it
+abbrev pub height : LibClass → ℕ
+height c = length (above c)

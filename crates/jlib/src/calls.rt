@@ -1,13 +1,31 @@
 ghost use Rattle.std.specs.Prelude.{◌≡◌};
 ghost use Rattle.jlib.specs.Calls;
 
-use crate::classes::{LibClass, PermissionClass, Side, Thrown};
+use crate::classes::{LibClass, PermissionClass, Thrown};
+use crate::member_row::{
+    MemberRow, abstract_on, constructor, constructor_on, method, static_field, static_method,
+    static_on,
+};
+use crate::side::Side;
+use crate::table::table;
 
 /// What a constructor of a throwable is given.
 #[derive(Clone, Copy, Debug, PartialEq, Eq)]
 pub enum ThrownInit {
     Message,
     Nothing,
+}
+
+/// What a member is.
+#[derive(Clone, Copy, Debug, PartialEq, Eq)]
+pub(crate) enum MemberKind {
+    StaticField,
+    StaticMethod,
+    Constructor,
+    /// A method of an instance.
+    Method,
+    /// A method of an instance, which the classes that implement the interface have to declare.
+    AbstractMethod,
 }
 
 /// What is printed or appended.
@@ -96,6 +114,8 @@ pub enum RtCall {
 pub enum LibCall {
     ObjectInit,
     ThrownInit(Thrown, ThrownInit),
+    /// The constructor of AccessControlException, which is given a message.
+    AccessControlInit,
     /// Throwable's getMessage
     GetMessage,
     String(StringCall),
@@ -119,302 +139,203 @@ pub enum LibCall {
 }
 
 impl Piece {
-    /// The descriptor of println of such a piece.
-    fn printed(self) -> &'static [u8]
-        ensures { result.now ≡ Calls.printed self }
+    /// The row of println of such a piece.
+    fn print_row(self) -> MemberRow
+        ensures { result ≡ Calls.print_row self }
     {
-        match self {
-            Piece::Int => b"(I)V",
-            Piece::Long => b"(J)V",
-            Piece::Char => b"(C)V",
-            Piece::Bool => b"(Z)V",
-            Piece::Text => b"(Ljava/lang/String;)V",
-        }
-    }
-
-    /// The descriptor of append of such a piece.
-    fn appended(self) -> &'static [u8]
-        ensures { result.now ≡ Calls.appended self }
-    {
-        match self {
-            Piece::Int => b"(I)Ljava/lang/StringBuilder;",
-            Piece::Long => b"(J)Ljava/lang/StringBuilder;",
-            Piece::Char => b"(C)Ljava/lang/StringBuilder;",
-            Piece::Bool => b"(Z)Ljava/lang/StringBuilder;",
-            Piece::Text => b"(Ljava/lang/String;)Ljava/lang/StringBuilder;",
+        table! { self;
+            Piece::Int => method(LibClass::PrintStream, b"println", b"(I)V");
+            Piece::Long => method(LibClass::PrintStream, b"println", b"(J)V");
+            Piece::Char => method(LibClass::PrintStream, b"println", b"(C)V");
+            Piece::Bool => method(LibClass::PrintStream, b"println", b"(Z)V");
+            Piece::Text => method(LibClass::PrintStream, b"println", b"(Ljava/lang/String;)V");
         }
     }
 }
 
 impl StringCall {
-    fn name(self) -> &'static [u8]
-        ensures { result.now ≡ Calls.string_name self }
+    /// Its row of the table of members.
+    fn row(self) -> MemberRow
+        ensures { result ≡ Calls.string_row self }
     {
-        match self {
-            StringCall::Length => b"length",
-            StringCall::CharAt => b"charAt",
-            StringCall::Equals => b"equals",
-            StringCall::Concat => b"concat",
-        }
-    }
-
-    fn desc(self) -> &'static [u8]
-        ensures { result.now ≡ Calls.string_desc self }
-    {
-        match self {
-            StringCall::Length => b"()I",
-            StringCall::CharAt => b"(I)C",
-            StringCall::Equals => b"(Ljava/lang/Object;)Z",
-            StringCall::Concat => b"(Ljava/lang/String;)Ljava/lang/String;",
+        table! { self;
+            StringCall::Length => method(LibClass::String, b"length", b"()I");
+            StringCall::CharAt => method(LibClass::String, b"charAt", b"(I)C");
+            StringCall::Equals => method(LibClass::String, b"equals", b"(Ljava/lang/Object;)Z");
+            StringCall::Concat => method(LibClass::String, b"concat", b"(Ljava/lang/String;)Ljava/lang/String;");
         }
     }
 }
 
 impl BuilderCall {
-    fn name(self) -> &'static [u8]
-        ensures { result.now ≡ Calls.builder_name self }
+    /// Its row of the table of members.
+    fn row(self) -> MemberRow
+        ensures { result ≡ Calls.builder_row self }
     {
-        match self {
-            BuilderCall::Init => b"<init>",
-            BuilderCall::InitText => b"<init>",
-            BuilderCall::Append(_) => b"append",
-            BuilderCall::ToString => b"toString",
-        }
-    }
-
-    fn desc(self) -> &'static [u8]
-        ensures { result.now ≡ Calls.builder_desc self }
-    {
-        match self {
-            BuilderCall::Init => b"()V",
-            BuilderCall::InitText => b"(Ljava/lang/String;)V",
-            BuilderCall::Append(piece) => piece.appended(),
-            BuilderCall::ToString => b"()Ljava/lang/String;",
+        table! { self;
+            BuilderCall::Init => constructor(LibClass::StringBuilder, b"()V");
+            BuilderCall::InitText => constructor(LibClass::StringBuilder, b"(Ljava/lang/String;)V");
+            BuilderCall::Append(Piece::Int) => method(LibClass::StringBuilder, b"append", b"(I)Ljava/lang/StringBuilder;");
+            BuilderCall::Append(Piece::Long) => method(LibClass::StringBuilder, b"append", b"(J)Ljava/lang/StringBuilder;");
+            BuilderCall::Append(Piece::Char) => method(LibClass::StringBuilder, b"append", b"(C)Ljava/lang/StringBuilder;");
+            BuilderCall::Append(Piece::Bool) => method(LibClass::StringBuilder, b"append", b"(Z)Ljava/lang/StringBuilder;");
+            BuilderCall::Append(Piece::Text) => method(LibClass::StringBuilder, b"append", b"(Ljava/lang/String;)Ljava/lang/StringBuilder;");
+            BuilderCall::ToString => method(LibClass::StringBuilder, b"toString", b"()Ljava/lang/String;");
         }
     }
 }
 
 impl ThreadCall {
-    fn name(self) -> &'static [u8]
-        ensures { result.now ≡ Calls.thread_name self }
+    /// Its row of the table of members.
+    fn row(self) -> MemberRow
+        ensures { result ≡ Calls.thread_row self }
     {
-        match self {
-            ThreadCall::Init(_) => b"<init>",
-            ThreadCall::Start => b"start",
-            ThreadCall::Join => b"join",
-            ThreadCall::Yield => b"yield",
-        }
-    }
-
-    fn desc(self) -> &'static [u8]
-        ensures { result.now ≡ Calls.thread_desc self }
-    {
-        match self {
-            ThreadCall::Init(Side::Source) => b"(Ljava/lang/Runnable;)V",
-            ThreadCall::Init(Side::Passing) => b"(Ljava/lang/Runnable;Lsps/Ctx;)V",
-            ThreadCall::Start => b"()V",
-            ThreadCall::Join => b"()V",
-            ThreadCall::Yield => b"()V",
+        table! { self;
+            ThreadCall::Init(Side::Source) => constructor_on(Side::Source, LibClass::Thread, b"(Ljava/lang/Runnable;)V");
+            ThreadCall::Init(Side::Passing) => constructor_on(Side::Passing, LibClass::Thread, b"(Ljava/lang/Runnable;Lsps/Ctx;)V");
+            ThreadCall::Start => method(LibClass::Thread, b"start", b"()V");
+            ThreadCall::Join => method(LibClass::Thread, b"join", b"()V");
+            ThreadCall::Yield => static_method(LibClass::Thread, b"yield", b"()V");
         }
     }
 }
 
 impl ControllerCall {
-    fn name(self) -> &'static [u8]
-        ensures { result.now ≡ Calls.controller_name self }
+    /// Its row of the table of members.
+    fn row(self) -> MemberRow
+        ensures { result ≡ Calls.controller_row self }
     {
-        match self {
-            ControllerCall::Check => b"checkPermission",
-            ControllerCall::Snapshot => b"getContext",
-            ControllerCall::Privileged => b"doPrivileged",
-            ControllerCall::PrivilegedWith => b"doPrivileged",
-            ControllerCall::PrivilegedLimited => b"doPrivileged",
-        }
-    }
-
-    fn desc(self) -> &'static [u8]
-        ensures { result.now ≡ Calls.controller_desc self }
-    {
-        match self {
-            ControllerCall::Check => b"(Ljava/security/Permission;)V",
-            ControllerCall::Snapshot => b"()Ljava/security/AccessControlContext;",
-            ControllerCall::Privileged => b"(Ljava/security/PrivilegedAction;)Ljava/lang/Object;",
-            ControllerCall::PrivilegedWith =>
-                b"(Ljava/security/PrivilegedAction;Ljava/security/AccessControlContext;)Ljava/lang/Object;",
-            ControllerCall::PrivilegedLimited =>
-                b"(Ljava/security/PrivilegedAction;Ljava/security/AccessControlContext;[Ljava/security/Permission;)Ljava/lang/Object;",
+        table! { self;
+            ControllerCall::Check => static_on(Side::Source, LibClass::AccessController, b"checkPermission", b"(Ljava/security/Permission;)V");
+            ControllerCall::Snapshot => static_on(Side::Source, LibClass::AccessController, b"getContext", b"()Ljava/security/AccessControlContext;");
+            ControllerCall::Privileged => static_on(Side::Source, LibClass::AccessController, b"doPrivileged", b"(Ljava/security/PrivilegedAction;)Ljava/lang/Object;");
+            ControllerCall::PrivilegedWith => static_on(Side::Source, LibClass::AccessController, b"doPrivileged",
+                b"(Ljava/security/PrivilegedAction;Ljava/security/AccessControlContext;)Ljava/lang/Object;");
+            ControllerCall::PrivilegedLimited => static_on(Side::Source, LibClass::AccessController, b"doPrivileged",
+                b"(Ljava/security/PrivilegedAction;Ljava/security/AccessControlContext;[Ljava/security/Permission;)Ljava/lang/Object;");
         }
     }
 }
 
 impl PermissionInit {
-    fn owner(self) -> PermissionClass
-        ensures { result ≡ Calls.permission_owner self }
+    /// Its row of the table of members.
+    fn row(self) -> MemberRow
+        ensures { result ≡ Calls.permission_row self }
     {
-        match self {
-            PermissionInit::All => PermissionClass::AllPermission,
-            PermissionInit::Runtime => PermissionClass::RuntimePermission,
-            PermissionInit::RuntimeActions => PermissionClass::RuntimePermission,
-            PermissionInit::Security => PermissionClass::SecurityPermission,
-            PermissionInit::SecurityActions => PermissionClass::SecurityPermission,
-            PermissionInit::Property => PermissionClass::PropertyPermission,
-            PermissionInit::File => PermissionClass::FilePermission,
-        }
-    }
-
-    fn desc(self) -> &'static [u8]
-        ensures { result.now ≡ Calls.permission_desc self }
-    {
-        match self {
-            PermissionInit::All => b"()V",
-            PermissionInit::Runtime => b"(Ljava/lang/String;)V",
-            PermissionInit::RuntimeActions => b"(Ljava/lang/String;Ljava/lang/String;)V",
-            PermissionInit::Security => b"(Ljava/lang/String;)V",
-            PermissionInit::SecurityActions => b"(Ljava/lang/String;Ljava/lang/String;)V",
-            PermissionInit::Property => b"(Ljava/lang/String;Ljava/lang/String;)V",
-            PermissionInit::File => b"(Ljava/lang/String;Ljava/lang/String;)V",
+        table! { self;
+            PermissionInit::All => constructor(LibClass::Permission(PermissionClass::AllPermission), b"()V");
+            PermissionInit::Runtime => constructor(LibClass::Permission(PermissionClass::RuntimePermission), b"(Ljava/lang/String;)V");
+            PermissionInit::RuntimeActions => constructor(LibClass::Permission(PermissionClass::RuntimePermission), b"(Ljava/lang/String;Ljava/lang/String;)V");
+            PermissionInit::Security => constructor(LibClass::Permission(PermissionClass::SecurityPermission), b"(Ljava/lang/String;)V");
+            PermissionInit::SecurityActions => constructor(LibClass::Permission(PermissionClass::SecurityPermission), b"(Ljava/lang/String;Ljava/lang/String;)V");
+            PermissionInit::Property => constructor(LibClass::Permission(PermissionClass::PropertyPermission), b"(Ljava/lang/String;Ljava/lang/String;)V");
+            PermissionInit::File => constructor(LibClass::Permission(PermissionClass::FilePermission), b"(Ljava/lang/String;Ljava/lang/String;)V");
         }
     }
 }
 
 impl RtCall {
-    fn name(self) -> &'static [u8]
-        ensures { result.now ≡ Calls.rt_name self }
+    /// Its row of the table of members.
+    fn row(self) -> MemberRow
+        ensures { result ≡ Calls.rt_row self }
     {
-        match self {
-            RtCall::Enter => b"enter",
-            RtCall::Check => b"check",
-            RtCall::Snapshot => b"snapshot",
-            RtCall::Privileged => b"priv",
-            RtCall::PrivilegedWith => b"privWith",
-            RtCall::PrivilegedLimited => b"privLimited",
-        }
-    }
-
-    fn desc(self) -> &'static [u8]
-        ensures { result.now ≡ Calls.rt_desc self }
-    {
-        match self {
-            RtCall::Enter => b"(Lsps/Ctx;I)Lsps/Ctx;",
-            RtCall::Check => b"(Ljava/security/Permission;Lsps/Ctx;)V",
-            RtCall::Snapshot => b"(Lsps/Ctx;)Ljava/security/AccessControlContext;",
-            RtCall::Privileged => b"(Ljava/security/PrivilegedAction;I)Ljava/lang/Object;",
-            RtCall::PrivilegedWith =>
-                b"(Ljava/security/PrivilegedAction;Ljava/security/AccessControlContext;I)Ljava/lang/Object;",
-            RtCall::PrivilegedLimited =>
-                b"(Ljava/security/PrivilegedAction;Ljava/security/AccessControlContext;[Ljava/security/Permission;Lsps/Ctx;I)Ljava/lang/Object;",
+        table! { self;
+            RtCall::Enter => static_on(Side::Passing, LibClass::Rt, b"enter", b"(Lsps/Ctx;I)Lsps/Ctx;");
+            RtCall::Check => static_on(Side::Passing, LibClass::Rt, b"check", b"(Ljava/security/Permission;Lsps/Ctx;)V");
+            RtCall::Snapshot => static_on(Side::Passing, LibClass::Rt, b"snapshot", b"(Lsps/Ctx;)Ljava/security/AccessControlContext;");
+            RtCall::Privileged => static_on(Side::Passing, LibClass::Rt, b"priv", b"(Ljava/security/PrivilegedAction;I)Ljava/lang/Object;");
+            RtCall::PrivilegedWith => static_on(Side::Passing, LibClass::Rt, b"privWith",
+                b"(Ljava/security/PrivilegedAction;Ljava/security/AccessControlContext;I)Ljava/lang/Object;");
+            RtCall::PrivilegedLimited => static_on(Side::Passing, LibClass::Rt, b"privLimited",
+                b"(Ljava/security/PrivilegedAction;Ljava/security/AccessControlContext;[Ljava/security/Permission;Lsps/Ctx;I)Ljava/lang/Object;");
         }
     }
 }
 
 impl LibCall {
+    /// Its row of the table of members.
+    fn row(self) -> MemberRow
+        ensures { result ≡ Calls.row_of self }
+    {
+        table! { self;
+            LibCall::ObjectInit => constructor(LibClass::Object, b"()V");
+            LibCall::ThrownInit(thrown, ThrownInit::Message) => constructor(LibClass::Thrown(thrown), b"(Ljava/lang/String;)V");
+            LibCall::ThrownInit(thrown, ThrownInit::Nothing) => constructor(LibClass::Thrown(thrown), b"()V");
+            LibCall::AccessControlInit => constructor(LibClass::AccessControlException, b"(Ljava/lang/String;)V");
+            LibCall::GetMessage => method(LibClass::Thrown(Thrown::Throwable), b"getMessage", b"()Ljava/lang/String;");
+            LibCall::String(call) => call.row();
+            LibCall::Builder(call) => call.row();
+            LibCall::Out => static_field(LibClass::System, b"out", b"Ljava/io/PrintStream;");
+            LibCall::PrintEnd => method(LibClass::PrintStream, b"println", b"()V");
+            LibCall::Print(piece) => piece.print_row();
+            LibCall::Run(Side::Source) => abstract_on(Side::Source, LibClass::Runnable, b"run", b"()V");
+            LibCall::Run(Side::Passing) => abstract_on(Side::Passing, LibClass::Runnable, b"run", b"(Lsps/Ctx;)V");
+            LibCall::Thread(call) => call.row();
+            LibCall::RunAction(Side::Source) => abstract_on(Side::Source, LibClass::PrivilegedAction, b"run", b"()Ljava/lang/Object;");
+            LibCall::RunAction(Side::Passing) => abstract_on(Side::Passing, LibClass::PrivilegedAction, b"run", b"(Lsps/Ctx;)Ljava/lang/Object;");
+            LibCall::Controller(call) => call.row();
+            LibCall::ContextCheck => method(LibClass::AccessControlContext, b"checkPermission", b"(Ljava/security/Permission;)V");
+            LibCall::PermissionInit(call) => call.row();
+            LibCall::Rt(call) => call.row();
+        }
+    }
+
     /// The class that declares it.
     pub fn owner(self) -> LibClass
         ensures { result ≡ Calls.owner self }
     {
-        match self {
-            LibCall::ObjectInit => LibClass::Object,
-            LibCall::ThrownInit(thrown, _) => LibClass::Thrown(thrown),
-            LibCall::GetMessage => LibClass::Thrown(Thrown::Throwable),
-            LibCall::String(_) => LibClass::String,
-            LibCall::Builder(_) => LibClass::StringBuilder,
-            LibCall::Out => LibClass::System,
-            LibCall::PrintEnd => LibClass::PrintStream,
-            LibCall::Print(_) => LibClass::PrintStream,
-            LibCall::Run(_) => LibClass::Runnable,
-            LibCall::Thread(_) => LibClass::Thread,
-            LibCall::RunAction(_) => LibClass::PrivilegedAction,
-            LibCall::Controller(_) => LibClass::AccessController,
-            LibCall::ContextCheck => LibClass::AccessControlContext,
-            LibCall::PermissionInit(init) => LibClass::Permission(init.owner()),
-            LibCall::Rt(_) => LibClass::Rt,
-        }
+        self.row().owner()
     }
 
     /// Its name, `<init>` of a constructor.
     pub fn name(self) -> &'static [u8]
         ensures { result.now ≡ Calls.name_of_call self }
     {
-        match self {
-            LibCall::ObjectInit => b"<init>",
-            LibCall::ThrownInit(_, _) => b"<init>",
-            LibCall::GetMessage => b"getMessage",
-            LibCall::String(call) => call.name(),
-            LibCall::Builder(call) => call.name(),
-            LibCall::Out => b"out",
-            LibCall::PrintEnd => b"println",
-            LibCall::Print(_) => b"println",
-            LibCall::Run(_) => b"run",
-            LibCall::Thread(call) => call.name(),
-            LibCall::RunAction(_) => b"run",
-            LibCall::Controller(call) => call.name(),
-            LibCall::ContextCheck => b"checkPermission",
-            LibCall::PermissionInit(_) => b"<init>",
-            LibCall::Rt(call) => call.name(),
-        }
+        self.row().name()
     }
 
     /// Its descriptor (JVMS 4.3).
     pub fn desc(self) -> &'static [u8]
         ensures { result.now ≡ Calls.desc_of self }
     {
-        match self {
-            LibCall::ObjectInit => b"()V",
-            LibCall::ThrownInit(_, ThrownInit::Message) => b"(Ljava/lang/String;)V",
-            LibCall::ThrownInit(_, ThrownInit::Nothing) => b"()V",
-            LibCall::GetMessage => b"()Ljava/lang/String;",
-            LibCall::String(call) => call.desc(),
-            LibCall::Builder(call) => call.desc(),
-            LibCall::Out => b"Ljava/io/PrintStream;",
-            LibCall::PrintEnd => b"()V",
-            LibCall::Print(piece) => piece.printed(),
-            LibCall::Run(Side::Source) => b"()V",
-            LibCall::Run(Side::Passing) => b"(Lsps/Ctx;)V",
-            LibCall::Thread(call) => call.desc(),
-            LibCall::RunAction(Side::Source) => b"()Ljava/lang/Object;",
-            LibCall::RunAction(Side::Passing) => b"(Lsps/Ctx;)Ljava/lang/Object;",
-            LibCall::Controller(call) => call.desc(),
-            LibCall::ContextCheck => b"(Ljava/security/Permission;)V",
-            LibCall::PermissionInit(init) => init.desc(),
-            LibCall::Rt(call) => call.desc(),
-        }
+        self.row().desc()
     }
 
     /// Whether it is the field, `System.out`.
     pub fn is_field(self) -> bool
         ensures { result ≡ Calls.is_field self }
     {
-        match self {
-            LibCall::Out => true,
-            _ => false,
-        }
+        matches!(self.row().kind(), MemberKind::StaticField)
     }
 
     /// Whether it is static.
     pub fn is_static(self) -> bool
         ensures { result ≡ Calls.is_static self }
     {
-        match self {
-            LibCall::Out => true,
-            LibCall::Thread(ThreadCall::Yield) => true,
-            LibCall::Controller(_) => true,
-            LibCall::Rt(_) => true,
-            _ => false,
-        }
+        matches!(
+            self.row().kind(),
+            MemberKind::StaticField | MemberKind::StaticMethod
+        )
+    }
+
+    /// Whether it is a method of an instance and has a body, constructors aside.
+    pub fn is_concrete(self) -> bool
+        ensures { result ≡ Calls.is_concrete self }
+    {
+        matches!(self.row().kind(), MemberKind::Method)
     }
 
     /// Whether a side's library has it.
     pub fn stands_on(self, side: Side) -> bool
         ensures { result ≡ Calls.call_stands_on side self }
     {
-        match self {
-            LibCall::ThrownInit(Thrown::AccessControlException, ThrownInit::Nothing) => false,
-            LibCall::Run(of) => side == of,
-            LibCall::Thread(ThreadCall::Init(of)) => side == of,
-            LibCall::RunAction(of) => side == of,
-            LibCall::Controller(_) => side == Side::Source,
-            LibCall::Rt(_) => side == Side::Passing,
-            _ => true,
-        }
+        self.row().sides().include(side)
+    }
+
+    /// Whether it has this name and descriptor.
+    pub fn is_called(self, name: &[u8], desc: &[u8]) -> bool
+        ensures { result ≡ Calls.is_called name.now desc.now self }
+    {
+        name == self.name() && desc == self.desc()
     }
 }

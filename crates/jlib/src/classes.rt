@@ -1,21 +1,19 @@
 ghost use Rattle.std.specs.Prelude.{◌≡◌};
 ghost use Rattle.jlib.specs.Classes;
 
-/// One of the two libraries: the one that programs are written for, and the one that they are moved to, whose calls are given a
-/// context.
-#[derive(Clone, Copy, Debug, PartialEq, Eq)]
-pub enum Side {
-    Source,
-    Passing,
-}
+use crate::class_row::{ClassRow, closed, closed_abstract, interface, open, open_abstract, top};
+use crate::side::Side;
+use crate::table::table;
 
-/// A class of the library that can be thrown: `Throwable` and the library's classes below it.
+/// A class of the library that can be thrown, and that has both constructors: of a message, and of nothing. These are
+/// `Throwable` and all below it but `AccessControlException`.
 #[derive(Clone, Copy, Debug, PartialEq, Eq)]
 pub enum Thrown {
     Throwable,
     Exception,
-    RuntimeException,
     Error,
+    RuntimeException,
+    InterruptedException,
     ArithmeticException,
     NullPointerException,
     ClassCastException,
@@ -25,11 +23,9 @@ pub enum Thrown {
     IllegalStateException,
     IndexOutOfBoundsException,
     SecurityException,
+    IllegalThreadStateException,
     ArrayIndexOutOfBoundsException,
     StringIndexOutOfBoundsException,
-    IllegalThreadStateException,
-    AccessControlException,
-    InterruptedException,
     LinkageError,
     VirtualMachineError,
     IncompatibleClassChangeError,
@@ -55,6 +51,8 @@ pub enum PermissionClass {
 pub enum LibClass {
     Object,
     Thrown(Thrown),
+    /// It can be thrown too, and its one constructor is given a message.
+    AccessControlException,
     String,
     StringBuilder,
     System,
@@ -74,208 +72,146 @@ pub enum LibClass {
     Ctx,
 }
 
-impl Thrown {
-    /// Its name, with `/` between packages (JVMS 4.2.1).
-    pub fn name(self) -> &'static [u8]
-        ensures { result.now ≡ Classes.thrown_name self }
-    {
-        match self {
-            Thrown::Throwable => b"java/lang/Throwable",
-            Thrown::Exception => b"java/lang/Exception",
-            Thrown::RuntimeException => b"java/lang/RuntimeException",
-            Thrown::Error => b"java/lang/Error",
-            Thrown::ArithmeticException => b"java/lang/ArithmeticException",
-            Thrown::NullPointerException => b"java/lang/NullPointerException",
-            Thrown::ClassCastException => b"java/lang/ClassCastException",
-            Thrown::NegativeArraySizeException => b"java/lang/NegativeArraySizeException",
-            Thrown::ArrayStoreException => b"java/lang/ArrayStoreException",
-            Thrown::IllegalArgumentException => b"java/lang/IllegalArgumentException",
-            Thrown::IllegalStateException => b"java/lang/IllegalStateException",
-            Thrown::IndexOutOfBoundsException => b"java/lang/IndexOutOfBoundsException",
-            Thrown::SecurityException => b"java/lang/SecurityException",
-            Thrown::ArrayIndexOutOfBoundsException => b"java/lang/ArrayIndexOutOfBoundsException",
-            Thrown::StringIndexOutOfBoundsException => b"java/lang/StringIndexOutOfBoundsException",
-            Thrown::IllegalThreadStateException => b"java/lang/IllegalThreadStateException",
-            Thrown::AccessControlException => b"java/security/AccessControlException",
-            Thrown::InterruptedException => b"java/lang/InterruptedException",
-            Thrown::LinkageError => b"java/lang/LinkageError",
-            Thrown::VirtualMachineError => b"java/lang/VirtualMachineError",
-            Thrown::IncompatibleClassChangeError => b"java/lang/IncompatibleClassChangeError",
-            Thrown::AbstractMethodError => b"java/lang/AbstractMethodError",
-            Thrown::IllegalAccessError => b"java/lang/IllegalAccessError",
-            Thrown::StackOverflowError => b"java/lang/StackOverflowError",
-        }
-    }
+/// What a class is to users.
+#[derive(Clone, Copy, Debug, PartialEq, Eq)]
+pub(crate) enum ClassKind {
+    /// Users may extend it.
+    Open,
+    /// Users may extend it, and make none.
+    OpenAbstract,
+    Closed,
+    /// Users may neither extend it nor make one.
+    ClosedAbstract,
+    /// Users may implement it.
+    Interface,
+}
 
-    /// The class that it extends.
-    pub fn superclass(self) -> LibClass
-        ensures { result ≡ Classes.thrown_superclass self }
+impl Thrown {
+    /// Its row of the table of classes.
+    fn row(self) -> ClassRow
+        ensures { result ≡ Classes.thrown_row self }
     {
-        match self {
-            Thrown::Throwable => LibClass::Object,
-            Thrown::Exception => LibClass::Thrown(Thrown::Throwable),
-            Thrown::RuntimeException => LibClass::Thrown(Thrown::Exception),
-            Thrown::Error => LibClass::Thrown(Thrown::Throwable),
-            Thrown::ArithmeticException => LibClass::Thrown(Thrown::RuntimeException),
-            Thrown::NullPointerException => LibClass::Thrown(Thrown::RuntimeException),
-            Thrown::ClassCastException => LibClass::Thrown(Thrown::RuntimeException),
-            Thrown::NegativeArraySizeException => LibClass::Thrown(Thrown::RuntimeException),
-            Thrown::ArrayStoreException => LibClass::Thrown(Thrown::RuntimeException),
-            Thrown::IllegalArgumentException => LibClass::Thrown(Thrown::RuntimeException),
-            Thrown::IllegalStateException => LibClass::Thrown(Thrown::RuntimeException),
-            Thrown::IndexOutOfBoundsException => LibClass::Thrown(Thrown::RuntimeException),
-            Thrown::SecurityException => LibClass::Thrown(Thrown::RuntimeException),
-            Thrown::ArrayIndexOutOfBoundsException => LibClass::Thrown(
-                Thrown::IndexOutOfBoundsException,
-            ),
-            Thrown::StringIndexOutOfBoundsException => LibClass::Thrown(
-                Thrown::IndexOutOfBoundsException,
-            ),
-            Thrown::IllegalThreadStateException => LibClass::Thrown(
-                Thrown::IllegalArgumentException,
-            ),
-            Thrown::AccessControlException => LibClass::Thrown(Thrown::SecurityException),
-            Thrown::InterruptedException => LibClass::Thrown(Thrown::Exception),
-            Thrown::LinkageError => LibClass::Thrown(Thrown::Error),
-            Thrown::VirtualMachineError => LibClass::Thrown(Thrown::Error),
-            Thrown::IncompatibleClassChangeError => LibClass::Thrown(Thrown::LinkageError),
-            Thrown::AbstractMethodError => LibClass::Thrown(Thrown::IncompatibleClassChangeError),
-            Thrown::IllegalAccessError => LibClass::Thrown(Thrown::IncompatibleClassChangeError),
-            Thrown::StackOverflowError => LibClass::Thrown(Thrown::VirtualMachineError),
+        table! { self;
+            Thrown::Throwable => open(b"java/lang/Throwable", LibClass::Object);
+            Thrown::Exception => open(b"java/lang/Exception", LibClass::Thrown(Thrown::Throwable));
+            Thrown::Error => open(b"java/lang/Error", LibClass::Thrown(Thrown::Throwable));
+            Thrown::RuntimeException => open(b"java/lang/RuntimeException", LibClass::Thrown(Thrown::Exception));
+            Thrown::InterruptedException => open(b"java/lang/InterruptedException", LibClass::Thrown(Thrown::Exception));
+            Thrown::ArithmeticException => open(b"java/lang/ArithmeticException", LibClass::Thrown(Thrown::RuntimeException));
+            Thrown::NullPointerException => open(b"java/lang/NullPointerException", LibClass::Thrown(Thrown::RuntimeException));
+            Thrown::ClassCastException => open(b"java/lang/ClassCastException", LibClass::Thrown(Thrown::RuntimeException));
+            Thrown::NegativeArraySizeException => open(b"java/lang/NegativeArraySizeException", LibClass::Thrown(Thrown::RuntimeException));
+            Thrown::ArrayStoreException => open(b"java/lang/ArrayStoreException", LibClass::Thrown(Thrown::RuntimeException));
+            Thrown::IllegalArgumentException => open(b"java/lang/IllegalArgumentException", LibClass::Thrown(Thrown::RuntimeException));
+            Thrown::IllegalStateException => open(b"java/lang/IllegalStateException", LibClass::Thrown(Thrown::RuntimeException));
+            Thrown::IndexOutOfBoundsException => open(b"java/lang/IndexOutOfBoundsException", LibClass::Thrown(Thrown::RuntimeException));
+            Thrown::SecurityException => open(b"java/lang/SecurityException", LibClass::Thrown(Thrown::RuntimeException));
+            Thrown::IllegalThreadStateException => open(b"java/lang/IllegalThreadStateException", LibClass::Thrown(Thrown::IllegalArgumentException));
+            Thrown::ArrayIndexOutOfBoundsException => open(b"java/lang/ArrayIndexOutOfBoundsException", LibClass::Thrown(Thrown::IndexOutOfBoundsException));
+            Thrown::StringIndexOutOfBoundsException => open(b"java/lang/StringIndexOutOfBoundsException", LibClass::Thrown(Thrown::IndexOutOfBoundsException));
+            Thrown::LinkageError => open(b"java/lang/LinkageError", LibClass::Thrown(Thrown::Error));
+            Thrown::VirtualMachineError => open_abstract(b"java/lang/VirtualMachineError", LibClass::Thrown(Thrown::Error));
+            Thrown::IncompatibleClassChangeError => open(b"java/lang/IncompatibleClassChangeError", LibClass::Thrown(Thrown::LinkageError));
+            Thrown::AbstractMethodError => open(b"java/lang/AbstractMethodError", LibClass::Thrown(Thrown::IncompatibleClassChangeError));
+            Thrown::IllegalAccessError => open(b"java/lang/IllegalAccessError", LibClass::Thrown(Thrown::IncompatibleClassChangeError));
+            Thrown::StackOverflowError => open(b"java/lang/StackOverflowError", LibClass::Thrown(Thrown::VirtualMachineError));
         }
     }
 }
 
 impl PermissionClass {
-    /// Its name, with `/` between packages (JVMS 4.2.1).
-    pub fn name(self) -> &'static [u8]
-        ensures { result.now ≡ Classes.permission_name self }
+    /// Its row of the table of classes.
+    fn row(self) -> ClassRow
+        ensures { result ≡ Classes.permission_row self }
     {
-        match self {
-            PermissionClass::Permission => b"java/security/Permission",
-            PermissionClass::BasicPermission => b"java/security/BasicPermission",
-            PermissionClass::AllPermission => b"java/security/AllPermission",
-            PermissionClass::RuntimePermission => b"java/lang/RuntimePermission",
-            PermissionClass::SecurityPermission => b"java/security/SecurityPermission",
-            PermissionClass::PropertyPermission => b"java/util/PropertyPermission",
-            PermissionClass::FilePermission => b"java/io/FilePermission",
-        }
-    }
-
-    /// The class that it extends.
-    pub fn superclass(self) -> LibClass
-        ensures { result ≡ Classes.permission_superclass self }
-    {
-        match self {
-            PermissionClass::Permission => LibClass::Object,
-            PermissionClass::BasicPermission => LibClass::Permission(PermissionClass::Permission),
-            PermissionClass::AllPermission => LibClass::Permission(PermissionClass::Permission),
-            PermissionClass::RuntimePermission => LibClass::Permission(
-                PermissionClass::BasicPermission,
-            ),
-            PermissionClass::SecurityPermission => LibClass::Permission(
-                PermissionClass::BasicPermission,
-            ),
-            PermissionClass::PropertyPermission => LibClass::Permission(
-                PermissionClass::BasicPermission,
-            ),
-            PermissionClass::FilePermission => LibClass::Permission(PermissionClass::Permission),
+        table! { self;
+            PermissionClass::Permission => closed_abstract(b"java/security/Permission", LibClass::Object);
+            PermissionClass::BasicPermission => closed_abstract(b"java/security/BasicPermission", LibClass::Permission(PermissionClass::Permission));
+            PermissionClass::AllPermission => closed(b"java/security/AllPermission", LibClass::Permission(PermissionClass::Permission));
+            PermissionClass::RuntimePermission => closed(b"java/lang/RuntimePermission", LibClass::Permission(PermissionClass::BasicPermission));
+            PermissionClass::SecurityPermission => closed(b"java/security/SecurityPermission", LibClass::Permission(PermissionClass::BasicPermission));
+            PermissionClass::PropertyPermission => closed(b"java/util/PropertyPermission", LibClass::Permission(PermissionClass::BasicPermission));
+            PermissionClass::FilePermission => closed(b"java/io/FilePermission", LibClass::Permission(PermissionClass::Permission));
         }
     }
 }
 
 impl LibClass {
+    /// Its row of the table of classes.
+    fn row(self) -> ClassRow
+        ensures { result ≡ Classes.class_row self }
+    {
+        table! { self;
+            LibClass::Object => top(b"java/lang/Object");
+            LibClass::Thrown(thrown) => thrown.row();
+            LibClass::AccessControlException => open(b"java/security/AccessControlException", LibClass::Thrown(Thrown::SecurityException));
+            LibClass::String => closed(b"java/lang/String", LibClass::Object);
+            LibClass::StringBuilder => closed(b"java/lang/StringBuilder", LibClass::Object);
+            LibClass::System => closed(b"java/lang/System", LibClass::Object);
+            LibClass::PrintStream => closed(b"java/io/PrintStream", LibClass::Object);
+            LibClass::Void => closed(b"java/lang/Void", LibClass::Object);
+            LibClass::Cloneable => interface(b"java/lang/Cloneable");
+            LibClass::Serializable => interface(b"java/io/Serializable");
+            LibClass::Runnable => interface(b"java/lang/Runnable");
+            LibClass::Thread => closed(b"java/lang/Thread", LibClass::Object).implementing(LibClass::Runnable);
+            LibClass::PrivilegedAction => interface(b"java/security/PrivilegedAction");
+            LibClass::AccessController => closed(b"java/security/AccessController", LibClass::Object);
+            LibClass::AccessControlContext => closed(b"java/security/AccessControlContext", LibClass::Object);
+            LibClass::Permission(permission) => permission.row();
+            LibClass::Rt => closed(b"sps/Rt", LibClass::Object).alone(Side::Passing);
+            LibClass::Ctx => closed(b"sps/Ctx", LibClass::Object).alone(Side::Passing);
+        }
+    }
+
     /// Its name, with `/` between packages (JVMS 4.2.1).
     pub fn name(self) -> &'static [u8]
         ensures { result.now ≡ Classes.name_of self }
     {
-        match self {
-            LibClass::Object => b"java/lang/Object",
-            LibClass::Thrown(thrown) => thrown.name(),
-            LibClass::String => b"java/lang/String",
-            LibClass::StringBuilder => b"java/lang/StringBuilder",
-            LibClass::System => b"java/lang/System",
-            LibClass::PrintStream => b"java/io/PrintStream",
-            LibClass::Void => b"java/lang/Void",
-            LibClass::Cloneable => b"java/lang/Cloneable",
-            LibClass::Serializable => b"java/io/Serializable",
-            LibClass::Runnable => b"java/lang/Runnable",
-            LibClass::Thread => b"java/lang/Thread",
-            LibClass::PrivilegedAction => b"java/security/PrivilegedAction",
-            LibClass::AccessController => b"java/security/AccessController",
-            LibClass::AccessControlContext => b"java/security/AccessControlContext",
-            LibClass::Permission(permission) => permission.name(),
-            LibClass::Rt => b"sps/Rt",
-            LibClass::Ctx => b"sps/Ctx",
-        }
+        self.row().name()
     }
 
     /// Whether a side's library has it.
     pub fn stands_on(self, side: Side) -> bool
         ensures { result ≡ Classes.stands_on side self }
     {
-        match self {
-            LibClass::Rt => side == Side::Passing,
-            LibClass::Ctx => side == Side::Passing,
-            _ => true,
-        }
+        self.row().sides().include(side)
     }
 
     /// The class that it extends: none of Object, and Object of an interface.
     pub fn superclass(self) -> Option<LibClass>
         ensures { result ≡ Classes.superclass self }
     {
-        match self {
-            LibClass::Object => None,
-            LibClass::Thrown(thrown) => Some(thrown.superclass()),
-            LibClass::Permission(permission) => Some(permission.superclass()),
-            _ => Some(LibClass::Object),
-        }
+        self.row().superclass()
     }
 
     /// The interface that it implements, by name alone: Thread is a Runnable, though it declares no `run`.
     pub fn implemented(self) -> Option<LibClass>
         ensures { result ≡ Classes.implemented self }
     {
-        match self {
-            LibClass::Thread => Some(LibClass::Runnable),
-            _ => None,
-        }
+        self.row().implemented()
     }
 
     /// Whether it is an interface. Users may implement each.
     pub fn is_interface(self) -> bool
         ensures { result ≡ Classes.is_interface self }
     {
-        match self {
-            LibClass::Cloneable => true,
-            LibClass::Serializable => true,
-            LibClass::Runnable => true,
-            LibClass::PrivilegedAction => true,
-            _ => false,
-        }
+        matches!(self.row().kind(), ClassKind::Interface)
     }
 
     /// Whether users may extend it: Object, and what can be thrown.
     pub fn is_open(self) -> bool
         ensures { result ≡ Classes.is_open self }
     {
-        match self {
-            LibClass::Object => true,
-            LibClass::Thrown(_) => true,
-            _ => false,
-        }
+        matches!(self.row().kind(), ClassKind::Open | ClassKind::OpenAbstract)
     }
 
     /// Whether it is an abstract class, interfaces aside.
     pub fn is_abstract(self) -> bool
         ensures { result ≡ Classes.is_abstract self }
     {
-        match self {
-            LibClass::Thrown(Thrown::VirtualMachineError) => true,
-            LibClass::Permission(PermissionClass::Permission) => true,
-            LibClass::Permission(PermissionClass::BasicPermission) => true,
-            _ => false,
-        }
+        matches!(
+            self.row().kind(),
+            ClassKind::OpenAbstract | ClassKind::ClosedAbstract
+        )
     }
 }

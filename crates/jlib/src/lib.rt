@@ -2,16 +2,22 @@
 #![tactic(auto)]
 
 mod calls;
+mod class_row;
 mod classes;
 mod laws;
 mod lookup;
+mod member_row;
 mod members;
+mod overriding;
+mod side;
+mod table;
 
 pub use calls::{
     BuilderCall, ControllerCall, LibCall, PermissionInit, Piece, RtCall, StringCall, ThreadCall,
     ThrownInit,
 };
-pub use classes::{LibClass, PermissionClass, Side, Thrown};
+pub use classes::{LibClass, PermissionClass, Thrown};
 pub use laws::{call_laws, class_laws};
-pub use lookup::class;
+pub use lookup::{class, open_classes};
 pub use members::member;
+pub use side::Side;

@@ -1,14 +1,17 @@
 ghost use Rattle.std.specs.Prelude.{◌≡◌};
-ghost use Rattle.jlib.specs.Calls.{member_among, member_named, members, permission_members, thrown_members};
+ghost use Rattle.jlib.specs.Calls.{member_among, member_named, members, permission_members};
 
 use crate::calls::{
     BuilderCall, ControllerCall, LibCall, PermissionInit, Piece, RtCall, StringCall, ThreadCall,
     ThrownInit,
 };
-use crate::classes::{LibClass, PermissionClass, Side, Thrown};
+use crate::classes::{LibClass, PermissionClass, Thrown};
 use crate::lookup::class;
+use crate::side::Side;
 
 const OBJECT: [LibCall; 1] = [LibCall::ObjectInit];
+
+const ACCESS_CONTROL: [LibCall; 1] = [LibCall::AccessControlInit];
 
 const STRING: [LibCall; 4] = [
     LibCall::String(StringCall::Length),
@@ -92,13 +95,14 @@ const RT: [LibCall; 6] = [
 fn member_among(side: Side, name: &[u8], desc: &[u8], calls: &[LibCall]) -> Option<LibCall>
     ensures { result ≡ member_among side name.now desc.now calls.now }
 {
-    calls.iter().copied().find(|call| {
-        call.stands_on(side) && (name == call.name() && desc == call.desc())
-    })
+    calls
+        .iter()
+        .copied()
+        .find(|call| call.stands_on(side) && call.is_called(name, desc))
 }
 
 fn thrown_member(side: Side, thrown: Thrown, name: &[u8], desc: &[u8]) -> Option<LibCall>
-    ensures { result ≡ member_among side name.now desc.now (thrown_members thrown) }
+    ensures { result ≡ member_among side name.now desc.now (members (LibClass.Thrown thrown)) }
 {
     let message = LibCall::ThrownInit(thrown, ThrownInit::Message);
     let nothing = LibCall::ThrownInit(thrown, ThrownInit::Nothing);
@@ -131,6 +135,7 @@ fn member_of(side: Side, owner: LibClass, name: &[u8], desc: &[u8]) -> Option<Li
     match owner {
         LibClass::Object => member_among(side, name, desc, &OBJECT),
         LibClass::Thrown(thrown) => thrown_member(side, thrown, name, desc),
+        LibClass::AccessControlException => member_among(side, name, desc, &ACCESS_CONTROL),
         LibClass::String => member_among(side, name, desc, &STRING),
         LibClass::StringBuilder => member_among(side, name, desc, &BUILDER),
         LibClass::System => member_among(side, name, desc, &SYSTEM),

@@ -1,6 +1,6 @@
 use jlib::{
     BuilderCall, ControllerCall, LibCall, LibClass, PermissionClass, PermissionInit, Piece, RtCall,
-    Side, StringCall, ThreadCall, Thrown, ThrownInit, class, member,
+    Side, StringCall, ThreadCall, Thrown, ThrownInit, class, member, open_classes,
 };
 use std::rt::HostRuntime;
 
@@ -8,7 +8,7 @@ const BOTH: [Side; 2] = [Side::Source, Side::Passing];
 
 #[test]
 fn classes_of_each_side(rt: HostRuntime) {
-    let access = LibClass::Thrown(Thrown::AccessControlException);
+    let access = LibClass::AccessControlException;
     let file = LibClass::Permission(PermissionClass::FilePermission);
     for (name, source, passing) in [
         (
@@ -99,16 +99,22 @@ fn members_of_each_side(rt: HostRuntime) {
 
 #[test]
 fn members_of_both_sides(rt: HostRuntime) {
-    let message = LibCall::ThrownInit(Thrown::AccessControlException, ThrownInit::Message);
+    let message = LibCall::ThrownInit(Thrown::LinkageError, ThrownInit::Message);
     let plain = LibCall::ThrownInit(Thrown::StackOverflowError, ThrownInit::Nothing);
     let append = LibCall::Builder(BuilderCall::Append(Piece::Char));
     let security = LibCall::PermissionInit(PermissionInit::SecurityActions);
     for (owner, name, desc, call) in [
         (
-            b"java/security/AccessControlException".as_slice(),
+            b"java/lang/LinkageError".as_slice(),
             b"<init>".as_slice(),
             b"(Ljava/lang/String;)V".as_slice(),
             Some(message),
+        ),
+        (
+            b"java/security/AccessControlException",
+            b"<init>",
+            b"(Ljava/lang/String;)V",
+            Some(LibCall::AccessControlInit),
         ),
         (
             b"java/security/AccessControlException",
@@ -233,4 +239,29 @@ fn what_classes_are(rt: HostRuntime) {
         assert!(rt; found.is_interface() == interface && found.is_abstract() == is_abstract);
     }
     assert!(rt; LibClass::Thread.implemented() == Some(LibClass::Runnable));
+}
+
+#[test]
+fn what_users_may_not_override(rt: HostRuntime) {
+    let text = b"()Ljava/lang/String;".as_slice();
+    let overflow = LibClass::Thrown(Thrown::StackOverflowError);
+    for (below, name, desc, fixed) in [
+        (LibClass::Object, b"getMessage".as_slice(), text, false),
+        (overflow, b"getMessage", text, true),
+        (overflow, b"getMessage", b"()V", false),
+        (overflow, b"<init>", b"()V", false),
+        (LibClass::AccessControlException, b"getMessage", text, true),
+        (LibClass::String, b"length", b"()I", false),
+    ] {
+        assert!(rt; below.has_fixed(name, desc) == fixed);
+    }
+    let mut open = 0;
+    let mut fixing = 0;
+    for class in open_classes() {
+        open += 1;
+        if class.fixes(b"getMessage", text) {
+            fixing += 1;
+        }
+    }
+    assert!(rt; open == 25 && fixing == 1);
 }
