@@ -5,13 +5,13 @@ use Rattle.std.specs.List.{list_all}
 use Rattle.std.proofs.lemmas.Bool.{cases_Bool, eqb-true}
 use Rattle.jbase.specs.First.{first_some}
 use Rattle.jformat.specs.declared.error.Fault.{Fault}
-use Rattle.jformat.specs.Format.{IsBytes, Answer}
+use Rattle.jformat.specs.Format.{IsBytes, Answer, unless_fault}
 use Rattle.jformat.proofs.Steps.{IsBytes-rest, bind_ok, bind_err, ok_is, both, first_true, second_true, fault_within}
 use Rattle.jformat.proofs.Laws.{Takes, IsFormat, HasBytes, as_case_law}
 use Rattle.jformat.proofs.Blocks.{IsBody}
 use Rattle.jformat.proofs.Stateful.{many_by_law}
-use Rattle.jcode.specs.declared.kind.CodeKind.{CodeKind}
-use Rattle.jcode.specs.declared.kind.CodeKind.TheVariants.{Truncated, BadTarget}
+use Rattle.jcode.specs.declared.fault.CodeFault.{CodeFault}
+use Rattle.jcode.specs.declared.fault.CodeFault.TheVariants.{Truncated, BadTarget}
 use Rattle.jcode.specs.declared.names.NumberKind.TheVariants as numbers
 use Rattle.jcode.specs.declared.names.LocalKind.TheVariants as kinds
 use Rattle.jcode.specs.declared.op.Op.{Op}
@@ -36,7 +36,7 @@ use Rattle.jcode.specs.declared.head.OtherHead.{OtherHead}
 use Rattle.jcode.specs.declared.head.OtherHead.TheVariants as other
 use Rattle.jcode.specs.Opcodes.{head_number, head_at}
 use Rattle.jcode.specs.Operands.{OtherOperand, Operand, other_operands, operands}
-use Rattle.jcode.specs.Instructions.{other_op, op_from, op_head, op_operand, behind, behind_fits, at_front, read_as, read_other, read_behind, behind_head, instruction_at, instruction, placed_at, op_at, placed, place_behind, instructions, leads, lost, first_lost, none_lost, code}
+use Rattle.jcode.specs.Instructions.{other_op, op_from, op_head, op_operand, behind, behind_fits, at_front, read_as, read_other, read_behind, behind_head, instruction_at, instruction, placed_at, op_at, placed, place_behind, instructions, leads, lost, first_lost, lost_fault, code}
 use Rattle.jcode.proofs.OpcodeLaws.{number_of_head, head_of_number}
 use Rattle.jcode.proofs.OperandLaws.{operands_law}
 
@@ -216,15 +216,15 @@ reads at (heads.Index h) rest = refl
 reads at (heads.Branch h) rest = refl
 reads at (heads.Other h) rest = reads_other at h rest
 
-front_ok : {A : Type 0} (bytes : List ℕ) (r : Answer CodeKind A) (x : A × List ℕ) → at_front bytes r ≡ Ok x → r ≡ Ok x
+front_ok : {A : Type 0} (bytes : List ℕ) (r : Answer CodeFault A) (x : A × List ℕ) → at_front bytes r ≡ Ok x → r ≡ Ok x
 front_ok bytes (Ok y) x e = e
 front_ok bytes (Err d) x e = absurd cc
 
-front_within : {A : Type 0} (bytes : List ℕ) (r : Answer CodeKind A) (d : Fault CodeKind) → at_front bytes r ≡ Err d → d.left ≤ length bytes
+front_within : {A : Type 0} (bytes : List ℕ) (r : Answer CodeFault A) (d : Fault CodeFault) → at_front bytes r ≡ Err d → d.left ≤ length bytes
 front_within bytes (Ok y) d e = absurd cc
 front_within bytes (Err c) d e = fault_within c.kind bytes bytes d (omega arith) cc
 
-head_takes : (at t : ℕ) (rest : List ℕ) (x : Op × List ℕ) (o : Result Head CodeKind) → head_at t ≡ o → IsBytes rest → at_front (t ∷ rest) (behind_head at rest o) ≡ Ok x → Takes (instruction at).spell (instruction at).fits (t ∷ rest) x
+head_takes : (at t : ℕ) (rest : List ℕ) (x : Op × List ℕ) (o : Result Head CodeFault) → head_at t ≡ o → IsBytes rest → at_front (t ∷ rest) (behind_head at rest o) ≡ Ok x → Takes (instruction at).spell (instruction at).fits (t ∷ rest) x
 unfolding instruction
 head_takes at t rest x (Err kind) is fits e = absurd cc
 head_takes at t rest x (Ok h) is fits e =
@@ -241,7 +241,7 @@ head_takes at t rest x (Ok h) is fits e =
       rest_fits = s.rest_fits;
       fit = fitting ∙ s.fit;
     } in
-    subst (λ (y : Op × List ℕ). Takes (instruction at).spell (instruction at).fits (t ∷ rest) y) (ok_is (Fault CodeKind) made x a.2) all
+    subst (λ (y : Op × List ℕ). Takes (instruction at).spell (instruction at).fits (t ∷ rest) y) (ok_is (Fault CodeFault) made x a.2) all
 
 instruction_takes : (at : ℕ) (bytes : List ℕ) (x : Op × List ℕ) → IsBytes bytes → instruction_at at bytes ≡ Ok x → Takes (instruction at).spell (instruction at).fits bytes x
 instruction_takes at [] x fits e = absurd cc
@@ -256,17 +256,17 @@ instruction_again at op rest fit =
     let named = head_of_number (op_head op) in
     rw (named, spelled, reads at (op_head op) ((operands at (op_head op)).spell (op_operand op) ++ rest), one) (ap (λ (o : Op). Ok (o, rest)) (op_forth op))
 
-instruction_within : (at : ℕ) (bytes : List ℕ) (d : Fault CodeKind) → instruction_at at bytes ≡ Err d → d.left ≤ length bytes
+instruction_within : (at : ℕ) (bytes : List ℕ) (d : Fault CodeFault) → instruction_at at bytes ≡ Err d → d.left ≤ length bytes
 instruction_within at [] d e = fault_within Truncated [] [] d (omega arith) cc
 instruction_within at (t ∷ rest) d e = front_within (t ∷ rest) (behind_head at rest (head_at t)) d e
 
-head_shorter : (at t : ℕ) (rest : List ℕ) (x : Op × List ℕ) (o : Result Head CodeKind) → at_front (t ∷ rest) (behind_head at rest o) ≡ Ok x → length x.1 ≤ length (t ∷ rest)
+head_shorter : (at t : ℕ) (rest : List ℕ) (x : Op × List ℕ) (o : Result Head CodeFault) → at_front (t ∷ rest) (behind_head at rest o) ≡ Ok x → length x.1 ≤ length (t ∷ rest)
 head_shorter at t rest x (Err kind) e = absurd cc
 head_shorter at t rest x (Ok h) e =
     let a = bind_ok ((operands at h).read rest) (λ y. Ok (op_from h y.0, y.1)) x (sym (reads at h rest) ∙ front_ok (t ∷ rest) (behind_head at rest (Ok h)) x e) in
     let le = (operands_law at h).reading.shorter rest a.0 a.1 in
     let made : Op × List ℕ = (op_from h a.0.0, a.0.1) in
-    rw (sym (ok_is (Fault CodeKind) made x a.2)) (omega arith)
+    rw (sym (ok_is (Fault CodeFault) made x a.2)) (omega arith)
 
 instruction_shorter : (at : ℕ) (bytes : List ℕ) (x : Op × List ℕ) → instruction_at at bytes ≡ Ok x → length x.1 ≤ length bytes
 instruction_shorter at [] x e = absurd cc
@@ -329,14 +329,14 @@ none_is_lost ps (q ∷ qs) fit =
     let good : leads ps q ≡ true = first_true (leads ps q) (list_all (leads ps) qs) fit in
     rw good (none_is_lost ps qs (second_true (leads ps q) (list_all (leads ps) qs) fit))
 
-good_code : (bytes : List ℕ) (qs ps : List Placed) (o : Option ℕ) → none_lost bytes qs o ≡ Ok ps → (o ≡ None) × (qs ≡ ps)
-good_code bytes qs ps None e = (refl, ok_is (Fault CodeKind) qs ps e)
+good_code : (bytes : List ℕ) (qs ps : List Placed) (o : Option ℕ) → unless_fault qs (lost_fault bytes o) ≡ Ok ps → (o ≡ None) × (qs ≡ ps)
+good_code bytes qs ps None e = (refl, ok_is (Fault CodeFault) qs ps e)
 good_code bytes qs ps (Some at) e = absurd cc
 
-bad_code : (bytes : List ℕ) (ps : List Placed) (o : Option ℕ) (d : Fault CodeKind) → none_lost bytes ps o ≡ Err d → d.left ≤ length bytes
+bad_code : (bytes : List ℕ) (ps : List Placed) (o : Option ℕ) (d : Fault CodeFault) → unless_fault ps (lost_fault bytes o) ≡ Err d → d.left ≤ length bytes
 bad_code bytes ps None d e = absurd cc
 bad_code bytes ps (Some at) d e =
-    let made : Fault CodeKind = record { left = length bytes - at; kind = BadTarget } in
+    let made : Fault CodeFault = record { left = length bytes - at; kind = BadTarget } in
     let same : made ≡ d = cc in
     rw (sym same) (omega arith)
 
@@ -344,7 +344,7 @@ pub code_law : IsBody code
 unfolding code first_lost
 code_law = record {
   takes = λ bytes ps fits e.
-      let a = bind_ok (instructions.read bytes) (λ qs. none_lost bytes qs (first_lost qs)) ps e in
+      let a = bind_ok (instructions.read bytes) (λ qs. unless_fault qs (lost_fault bytes (first_lost qs))) ps e in
       let g = good_code bytes a.0 ps (first_lost a.0) a.2 in
       let t = instructions_law.takes bytes a.0 fits a.1 in
       let lead : IsTrue (list_all (leads a.0) a.0) = all_lead a.0 a.0 g.0 in
@@ -353,7 +353,7 @@ code_law = record {
       let one = instructions_law.again ps (first_true (instructions.fits ps) (list_all (leads ps) ps) fit) in
       let none = none_is_lost ps ps (second_true (instructions.fits ps) (list_all (leads ps) ps) fit) in
       rw (one, none) refl;
-  within = λ bytes d e. elim (bind_err (instructions.read bytes) (λ qs. none_lost bytes qs (first_lost qs)) d e) [
+  within = λ bytes d e. elim (bind_err (instructions.read bytes) (λ qs. unless_fault qs (lost_fault bytes (first_lost qs))) d e) [
     | inl h ↦ instructions_law.within bytes d h
     | inr h ↦ bad_code bytes h.0 (first_lost h.0) d h.2
   ];

@@ -80,8 +80,8 @@ order : effect (form ops.Lcmp) ≡ Some (gives (taken.Two kinds.Long kinds.Long)
 unfolding form effect
 order = refl
 
--- putfield takes an object, below the value
-put : effect (form (ops.Field PutField 9)) ≡ Some (takes (taken.One kinds.Ref))
+-- what putfield takes is said by its entry of the pool
+put : effect (form (ops.Field PutField 9)) ≡ None
 unfolding form effect
 put = refl
 

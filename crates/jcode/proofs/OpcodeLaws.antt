@@ -27,8 +27,8 @@ use Rattle.jcode.specs.declared.names.FieldOp.TheVariants.{GetStatic, PutStatic,
 use Rattle.jcode.specs.declared.names.CallOp.TheVariants.{Virtual, Special, Static}
 use Rattle.jcode.specs.declared.names.ObjectOp.TheVariants.{ArrayLength, Throw}
 use Rattle.jcode.specs.declared.names.CastOp.TheVariants.{CheckCast, InstanceOf}
-use Rattle.jcode.specs.declared.kind.CodeKind.{CodeKind}
-use Rattle.jcode.specs.declared.kind.CodeKind.TheVariants.{LeftOut, UnknownOpcode}
+use Rattle.jcode.specs.declared.fault.CodeFault.{CodeFault}
+use Rattle.jcode.specs.declared.fault.CodeFault.TheVariants.{LeftOut, UnknownOpcode}
 use Rattle.jcode.specs.declared.head.Head.{Head}
 use Rattle.jcode.specs.declared.head.Head.TheVariants as heads
 use Rattle.jcode.specs.declared.head.Plain.{Plain}
@@ -52,7 +52,7 @@ found_has {H} number n (x ∷ xs) h e = elim (cases_Bool (eqb (number x) n)) [
   | inr miss ↦ let e' : with_number number n xs ≡ Some h = rw miss at e in found_has number n xs h e'
 ]
 
-abbrev refused : CodeKind → Result Head CodeKind
+abbrev refused : CodeFault → Result Head CodeFault
 refused kind = Err kind
 
 unless_fault : (n : ℕ) (o : Option Head) (h : Head) → or_fault n o ≡ Ok h → o ≡ Some h

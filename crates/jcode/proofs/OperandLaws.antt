@@ -2,16 +2,16 @@
 use Rattle.std.proofs.Common.{◌≡◌, ℕ, zero, suc, ◌%◌, ◌-◌, ℤ, true, eqb, List, [], ◌∷◌, length, Option, Some, None, refl, ap, arith, inl, inr}
 use Rattle.std.proofs.lemmas.Bool.{cases_Bool, eqb-true}
 use Rattle.std.specs.Int.{w8, w16, w32, to_be_bytes, from_be_bytes}
-use Rattle.jformat.specs.Format.{IsBytes, void, ◌·◌, such}
+use Rattle.jformat.specs.Format.{IsBytes, void, known, ◌·◌, such}
 use Rattle.jformat.specs.Bodies.{counted}
 use Rattle.jformat.specs.States.{counted_from}
 use Rattle.jformat.specs.Tags.{tagged}
-use Rattle.jformat.proofs.Laws.{IsWide, IsFormat, wide16, wide32, void_law, byte_law, number_law, signed_law, pair_law, then_law, via_law, as_case_law, such_law, literal_law}
+use Rattle.jformat.proofs.Laws.{IsWide, IsFormat, wide16, wide32, void_law, byte_law, number_law, signed_law, pair_law, then_law, via_law, such_law, literal_law, known_law}
 use Rattle.jformat.proofs.Blocks.{counted_law}
 use Rattle.jformat.proofs.Unions.{tag_law, either_law, tagged_law}
 use Rattle.jformat.proofs.Stateful.{counted_from_law}
 use Rattle.jbase.specs.First.{fault_if}
-use Rattle.jcode.specs.declared.kind.CodeKind.TheVariants.{Truncated, BadOperand}
+use Rattle.jcode.specs.declared.fault.CodeFault.TheVariants.{Truncated, BadOperand}
 use Rattle.jcode.specs.declared.names.ArrayType.{ArrayType}
 use Rattle.jcode.specs.declared.names.ArrayType.TheVariants as arrays
 use Rattle.jcode.specs.declared.names.LocalKind.TheVariants as kinds
@@ -22,7 +22,7 @@ use Rattle.jcode.specs.declared.head.Head.{Head}
 use Rattle.jcode.specs.declared.head.Head.TheVariants as heads
 use Rattle.jcode.specs.declared.head.OtherHead.{OtherHead}
 use Rattle.jcode.specs.declared.head.OtherHead.TheVariants as other
-use Rattle.jcode.specs.Operands.{u1, u2, u4, i1, i2, i4, is_number, known, nil, nils, padding, bounds, bounded, span, table_from, table_parts, table_switch, case_count, falls, case_from, case_parts, case_behind, key_of, lookup_from, lookup_parts, lookup_switch, call_from, call_parts, interface_call, ArrayParts, array_from, array_parts, array_tags, array_type, WideParts, wide_from, wide_parts, wide_tags, not_wide, wide, other_operands, operands}
+use Rattle.jcode.specs.Operands.{u1, u2, u4, i1, i2, i4, nil, nils, padding, bounds, bounded, span, table_from, table_parts, table_switch, case_count, falls, case_from, case_parts, case_behind, key_of, lookup_from, lookup_parts, lookup_switch, call_from, call_parts, interface_call, ArrayParts, array_from, array_parts, array_tags, array_type, WideParts, wide_from, wide_parts, wide_tags, not_wide, wide, other_operands, operands}
 
 -- ---- numbers
 
@@ -57,15 +57,6 @@ i2_law = signed_law w16 Truncated wide16
 
 i4_law : IsFormat i4
 i4_law = signed_law w32 Truncated wide32
-
-known_forth : (n k : ℕ) (u : Unit {0}) → is_number n k ≡ Some u → k ≡ n
-known_forth n k u h = elim (cases_Bool (eqb k n)) [ inl hit ↦ eqb-true _ _ hit | inr miss ↦ let no : None ≡ Some u = rw miss at h in absurd cc ]
-
-known_back : (n : ℕ) (u : Unit {0}) → is_number n n ≡ Some u
-known_back n u = let same : eqb n n ≡ true = grind arith in rw same refl
-
-known_law : (n : ℕ) → IsFormat (known n)
-known_law n = as_case_law (λ _. n) (is_number n) void (known_back n) (λ k u h. known_forth n k u h) void_law
 
 -- ---- switches
 

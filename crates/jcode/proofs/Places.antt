@@ -1,30 +1,32 @@
 -- Where instructions stand: places rise, a search finds them, and none stands behind the end.
-use Rattle.std.proofs.Common.{◌≡◌, ℕ, zero, suc, ◌+◌, ◌-◌, ◌<◌, ◌≤◌, ℤ, pos, negsuc, false, List, [], ◌∷◌, ◌++◌, length, get_or, Some, None, Result, Ok, Err, is_ok, refl, sym, ap, ◌∙◌, arith, inl, inr}
+use Rattle.std.proofs.Common.{◌≡◌, ℕ, zero, suc, ◌+◌, ◌-◌, ◌<◌, ◌≤◌, ℤ, pos, negsuc, Bool, true, false, eqb, ltb, List, [], ◌∷◌, map, ◌++◌, length, get_or, Option, Some, None, Result, Ok, Err, is_ok, refl, sym, ap, ◌∙◌, arith, inl, inr}
 use Rattle.std.specs.Prelude.{IsTrue, ◌<ℤ◌}
-use Rattle.std.specs.List.{flat_map, list_all}
+use Rattle.std.specs.List.{flat_map, list_all, position, position_or_len}
 use Rattle.std.specs.List.Sorted.{IsSearchInRange, IsBinarySearchResult, IsNonDecreasingBy}
 use Rattle.std.specs.Ordering.{int_cmp, int_eq, ordering_index}
-use Rattle.std.proofs.lemmas.Bool.{cases_Bool, cases_lt}
+use Rattle.std.proofs.lemmas.Bool.{cases_Bool, cases_lt, lt-ltb, le-ltb}
+use Rattle.std.proofs.lemmas.List.Sums.{position_or_len_is}
 use Rattle.std.proofs.lemmas.Bool.Decides.{Decides-int_eq, nat_tests}
 use Rattle.std.proofs.lemmas.Int.{ints}
 use Rattle.std.proofs.lemmas.Cmp.{int_ranked}
 use Rattle.std.proofs.lemmas.List.{length-append}
 use Rattle.std.proofs.lemmas.List.Concat.{flat_map-cons}
-use Rattle.std.proofs.lemmas.List.Folds.{list_any_at}
+use Rattle.std.proofs.lemmas.List.Folds.{list_any_at, list_all-map}
 use Rattle.std.proofs.lemmas.List.Sorted.{IsNonDecreasingBy-from_default}
 use Rattle.jbase.specs.First.{first_some}
 use Rattle.jbase.specs.declared.stop.Stop.{Stop}
 use Rattle.jbase.specs.Stops.{Fails}
 use Rattle.jformat.specs.declared.error.Fault.{Fault}
-use Rattle.jformat.specs.Format.{IsBytes}
+use Rattle.jformat.specs.Format.{IsBytes, unless_fault}
 use Rattle.jformat.specs.States.{fits_from, spell_from}
 use Rattle.jformat.proofs.Steps.{both, first_true, second_true}
-use Rattle.jcode.specs.declared.kind.CodeKind.{CodeKind}
-use Rattle.jcode.specs.declared.kind.CodeKind.TheVariants.{BadTarget}
+use Rattle.jcode.specs.declared.fault.CodeFault.{CodeFault}
+use Rattle.jcode.specs.declared.fault.CodeFault.TheVariants.{BadTarget}
 use Rattle.jcode.specs.declared.op.Op.{Op}
 use Rattle.jcode.specs.declared.op.Op.TheVariants as ops
+use Rattle.jcode.specs.declared.op.Case.{Case}
 use Rattle.jcode.specs.declared.op.Placed.{Placed}
-use Rattle.jcode.specs.Instructions.{instruction, size, placed, placed_at, place_behind, instructions, is_place, leads, lost, first_lost, code, Rises}
+use Rattle.jcode.specs.Instructions.{instruction, size, placed, placed_at, place_behind, instructions, place_of, is_place, leads, lost, first_lost, lost_fault, code, Rises}
 use Rattle.jcode.proofs.Stopping.{fails_on}
 use Rattle.jcode.proofs.CodeLaws.{instruction_law, fits_at, instructions_law, code_law}
 
@@ -45,7 +47,7 @@ goes at total rest after op fits le is e =
 pub reads_placed : (at : ℕ) (rest after : List ℕ) (op : Op) → (instruction at).read rest ≡ Ok (op, after) → (placed at).read rest ≡ Ok (placed_at at op, after)
 reads_placed at rest after op e = rw e refl
 
-pub stops_placed : (at : ℕ) (stop : Stop (Fault CodeKind)) (rest : List ℕ) → Fails stop ((instruction at).read rest) → Fails stop ((placed at).read rest)
+pub stops_placed : (at : ℕ) (stop : Stop (Fault CodeFault)) (rest : List ℕ) → Fails stop ((instruction at).read rest) → Fails stop ((placed at).read rest)
 stops_placed at stop rest h = fails_on stop ((instruction at).read rest) (λ x. Ok (placed_at at x.0, x.1)) h
 
 -- ---- places rise
@@ -76,6 +78,11 @@ rises_from s (p ∷ ps) fit (suc i) (suc j) d below lt = rises_from (place_behin
 pub rises : (ps : List Placed) → IsTrue (instructions.fits ps) → Rises ps
 unfolding instructions
 rises ps fit = rises_from 0 ps fit
+
+-- what is code rises
+pub fit_rises : (ps : List Placed) → IsTrue (code.fits ps) → Rises ps
+unfolding code
+fit_rises ps fit = rises ps (first_true (instructions.fits ps) (list_all (leads ps) ps) fit)
 
 -- ---- none stands behind the end
 
@@ -141,15 +148,51 @@ searched ps t (Err at) rise in_range parted = sym (none_is_place ps t (λ j d lt
   | inr behind ↦ above_differs (pos (get_or ps j d).at) t (int_ranked (pos (get_or ps j d).at) t _ (sym ((parted (comparisons_rise ps t rise)).1 j d behind lt)))
 ]))
 
+first_is : (p : Placed → Bool) (ps : List Placed) (i : ℕ) (d : Placed) → i < length ps → p (get_or ps i d) ≡ true → ((k : ℕ) → k < i → p (get_or ps k d) ≡ false) → position p ps ≡ Some i
+first_is p ps i d lt here before =
+    let e : position_or_len p ps ≡ i = position_or_len_is p ps i d (omega arith) before (λ _. here) in
+    let t : ltb i (length ps) ≡ true = lt-ltb i (length ps) lt in
+    rw (e, t) refl
+
+none_is : (p : Placed → Bool) (ps : List Placed) (d : Placed) → ((k : ℕ) → k < length ps → p (get_or ps k d) ≡ false) → position p ps ≡ None
+none_is p ps d none =
+    let e : position_or_len p ps ≡ length ps = position_or_len_is p ps (length ps) d (omega arith) none (λ lt. absurd (omega arith)) in
+    let t : ltb (length ps) (length ps) ≡ false = le-ltb (length ps) (length ps) (omega arith) in
+    rw (e, t) refl
+
+-- a search's result, as the number that it found
+abbrev pub found : Result ℕ ℕ → Option ℕ
+found (Ok i) = Some i
+found (Err i) = None
+
+pub numbered : (ps : List Placed) (at : ℕ) (t : ℤ) (r : Result ℕ ℕ) → Rises ps → IsSearchInRange r (length ps) → IsBinarySearchResult (λ p. int_cmp (pos p.at) t) ps r → t ≡ pos at → found r ≡ place_of ps at
+numbered ps at t (Ok i) rise in_range equal is =
+    let same : pos (get_or ps i first_op).at ≡ t = int_ranked _ t _ (sym (equal first_op)) in
+    let even : (get_or ps i first_op).at ≡ at = omega (arith, ints) in
+    let here : eqb (get_or ps i first_op).at at ≡ true = grind arith in
+    let before : (k : ℕ) → k < i → eqb (get_or ps k first_op).at at ≡ false = λ k lt. let less = rise k i first_op lt in_range in grind arith in
+    sym (first_is (λ p. eqb p.at at) ps i first_op in_range here before)
+numbered ps at t (Err i) rise in_range parted is = sym (none_is (λ p. eqb p.at at) ps first_op (λ k lt. elim (cases_lt k i) [
+  | inl before ↦
+      let less : pos (get_or ps k first_op).at <ℤ t = int_ranked (pos (get_or ps k first_op).at) t _ (sym ((parted (comparisons_rise ps t rise)).0 k first_op (omega arith) before)) in
+      let n : (get_or ps k first_op).at < at = omega (arith, ints) in
+      grind arith
+  | inr behind ↦
+      let more : t <ℤ pos (get_or ps k first_op).at = int_ranked (pos (get_or ps k first_op).at) t _ (sym ((parted (comparisons_rise ps t rise)).1 k first_op behind lt)) in
+      let n : at < (get_or ps k first_op).at = omega (arith, ints) in
+      grind arith
+]))
+
+-- ---- branches of cases
+
+pub cases_all : (leads : ℤ → Bool) (cases : List Case) → list_all leads (map (λ c. c.branch) cases) ≡ list_all (λ c. leads c.branch) cases
+cases_all leads cases = list_all-map leads (λ c. c.branch) cases
+
 -- ---- what code gives
 
 pub good : (bytes : List ℕ) (ps : List Placed) → instructions.read bytes ≡ Ok ps → first_lost ps ≡ None → code.read bytes ≡ Ok ps
 unfolding code
 good bytes ps e none = rw (e, none) refl
-
-pub bad : (bytes : List ℕ) (d : Fault CodeKind) → instructions.read bytes ≡ Err d → code.read bytes ≡ Err d
-unfolding code
-bad bytes d e = rw e refl
 
 pub lost_one : (bytes : List ℕ) (ps : List Placed) (at : ℕ) → IsBytes bytes → instructions.read bytes ≡ Ok ps → first_lost ps ≡ Some at → (at ≤ length bytes) × (code.read bytes ≡ Err (record { left = length bytes - at; kind = BadTarget }))
 unfolding code
@@ -157,12 +200,10 @@ lost_one bytes ps at fits e none =
     let t = instructions_law.takes bytes ps fits e in
     (lost_within bytes ps at t.0 t.1 none, rw (e, none) refl)
 
--- a fault so many bytes before the end stands at the offset of what lies before it
-pub faulty : (bytes : List ℕ) (d : Fault CodeKind) → instructions.read bytes ≡ Err d → (length bytes - d.left ≤ length bytes) × (code.read bytes ≡ Err (record { left = length bytes - (length bytes - d.left); kind = d.kind }))
-faulty bytes d e =
-    let le : d.left ≤ length bytes = instructions_law.within bytes d e in
-    let same : length bytes - (length bytes - d.left) ≡ d.left = omega arith in
-    (omega arith, rw same (bad bytes d e))
+-- where instructions have a fault, code has it
+pub faulty : (bytes : List ℕ) (stop : Stop (Fault CodeFault)) → Fails stop (instructions.read bytes) → Fails stop (code.read bytes)
+unfolding code
+faulty bytes stop h = fails_on stop (instructions.read bytes) (λ ps. unless_fault ps (lost_fault bytes (first_lost ps))) h
 
 pub read_rises : (bytes : List ℕ) (ps : List Placed) → IsBytes bytes → instructions.read bytes ≡ Ok ps → Rises ps
 read_rises bytes ps fits e = let t = instructions_law.takes bytes ps fits e in rises ps t.0

@@ -4,11 +4,13 @@ use Rattle.std.specs.List.{flat_map}
 use Rattle.std.proofs.lemmas.Bool.{cases_Bool}
 use Rattle.std.proofs.lemmas.List.{length-append}
 use Rattle.std.proofs.lemmas.List.Concat.{flat_map-cons}
+use Rattle.jformat.specs.Format.{known}
 use Rattle.jformat.specs.States.{spell_from}
+use Rattle.jcode.specs.declared.fault.CodeFault.{CodeFault}
 use Rattle.jcode.specs.declared.op.Case.{Case}
 use Rattle.jcode.specs.declared.op.TableSwitch.{TableSwitch}
 use Rattle.jcode.specs.declared.op.LookupSwitch.{LookupSwitch}
-use Rattle.jcode.specs.Operands.{i4, u4, known, span, nils, padding, bounded, case_behind, key_of, table_switch, lookup_switch}
+use Rattle.jcode.specs.Operands.{i4, u4, span, nils, padding, bounded, case_behind, key_of, table_switch, lookup_switch}
 
 nils_length : (n : ℕ) → length ((nils n).spell tt) ≡ n
 unfolding nils
@@ -27,14 +29,14 @@ unfolding spell_from
 cases_length s [] = refl
 cases_length s (x ∷ xs) = omega (arith, cases_length (key_of s x) xs)
 
-known_spelling : (n k : ℕ) → (known n).spell k ≡ []
+known_spelling : (n k : ℕ) → (known {K = CodeFault} n).spell k ≡ []
 known_spelling n k = elim (cases_Bool (eqb k n)) [ inl hit ↦ rw hit refl | inr miss ↦ rw miss refl ]
 
 pub table_length : (at : ℕ) (s : TableSwitch) → length ((table_switch at).spell s) ≡ 3 - at % 4 + (12 + 4 * length s.branches)
 unfolding table_switch bounded
 table_length at s =
     let pad = (padding at).spell tt in
-    let count = (known (span s.low s.high)).spell (length s.branches) in
+    let count = (known {K = CodeFault} (span s.low s.high)).spell (length s.branches) in
     let rest = λ (c : List ℕ). i4.spell s.default ++ ((i4.spell s.low ++ i4.spell s.high) ++ (c ++ flat_map i4.spell s.branches)) in
     let parts : (table_switch at).spell s ≡ pad ++ rest count = refl in
     let none : rest count ≡ rest [] = ap rest (known_spelling (span s.low s.high) (length s.branches)) in

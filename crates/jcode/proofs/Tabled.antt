@@ -2,7 +2,7 @@
 use Rattle.std.proofs.Common.{◌≡◌, ℕ, zero, suc, ◌+◌, ◌<◌, ◌≤◌, ltb, true, false, List, [], ◌∷◌, Option, None, Err, refl, sym, ap, ◌∙◌, get_or, arith}
 use Rattle.std.proofs.lemmas.Bool.{lt-ltb, le-ltb}
 use Rattle.jcode.specs.declared.head.Head.{Head}
-use Rattle.jcode.specs.declared.kind.CodeKind.TheVariants.{LeftOut, UnknownOpcode}
+use Rattle.jcode.specs.declared.fault.CodeFault.TheVariants.{LeftOut, UnknownOpcode}
 use Rattle.jcode.specs.Opcodes.{head_number, with_number, all_heads, or_fault, head_at}
 
 -- a function's values at so many numbers from one on

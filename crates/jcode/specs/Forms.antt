@@ -1,5 +1,5 @@
 -- What instructions do, whichever of their spellings they have, and the kinds of their operands (JVMS 6.5).
-use Rattle.std.specs.Prelude.{ℕ, ℤ, pos, negsuc, List, [], ◌∷◌, Option, Some, None}
+use Rattle.std.specs.Prelude.{ℕ, ℤ, pos, negsuc, Bool, true, false, map, List, [], ◌∷◌, Option, Some, None}
 use Rattle.std.specs.Borrow.{Bor}
 use Rattle.jcode.specs.declared.names.NumberKind.{NumberKind}
 use Rattle.jcode.specs.declared.names.NumberKind.TheVariants as numbers
@@ -20,11 +20,6 @@ use Rattle.jcode.specs.declared.names.RefTest.{RefTest}
 use Rattle.jcode.specs.declared.names.RefTest.TheVariants.{Same, Other, Null, NonNull}
 use Rattle.jcode.specs.declared.names.Returned.{Returned}
 use Rattle.jcode.specs.declared.names.Returned.TheVariants as results
-use Rattle.jcode.specs.declared.names.FieldOp.{FieldOp}
-use Rattle.jcode.specs.declared.names.FieldOp.TheVariants.{GetStatic, PutStatic, GetField, PutField}
-use Rattle.jcode.specs.declared.names.CallOp.{CallOp}
-use Rattle.jcode.specs.declared.names.CallOp.TheVariants.{Virtual, Special, Static}
-use Rattle.jcode.specs.declared.names.CastOp.TheVariants.{CheckCast, InstanceOf}
 use Rattle.jcode.specs.declared.names.ObjectOp.{ObjectOp}
 use Rattle.jcode.specs.declared.names.ObjectOp.TheVariants.{ArrayLength, Throw}
 use Rattle.jcode.specs.declared.op.Op.{Op}
@@ -40,6 +35,7 @@ use Rattle.jcode.specs.declared.op.Goto.TheVariants as gotos
 use Rattle.jcode.specs.declared.op.NewOp.{NewOp}
 use Rattle.jcode.specs.declared.op.NewOp.TheVariants as news
 use Rattle.jcode.specs.declared.op.Switch.{Switch}
+use Rattle.jcode.specs.declared.op.Switch.TheVariants as switches
 use Rattle.jcode.specs.declared.op.Wide.{Wide}
 use Rattle.jcode.specs.declared.op.Wide.TheVariants as wides
 use Rattle.jcode.specs.declared.form.Form.{Form}
@@ -52,7 +48,6 @@ use Rattle.jcode.specs.declared.form.Flow.{Flow}
 use Rattle.jcode.specs.declared.form.Flow.TheVariants as flows
 use Rattle.jcode.specs.declared.form.ArrayForm.{ArrayForm}
 use Rattle.jcode.specs.declared.form.ArrayForm.TheVariants as arrays
-use Rattle.jcode.specs.declared.form.PoolForm.{PoolForm}
 use Rattle.jcode.specs.declared.form.PoolForm.TheVariants as pool
 use Rattle.jcode.specs.declared.form.Kind.{Kind}
 use Rattle.jcode.specs.declared.form.Kind.TheVariants as kinds
@@ -254,37 +249,46 @@ array_effect (arrays.Load kind) = gives (taken.Two kinds.Int kinds.Array) (eleme
 array_effect (arrays.Store kind) = takes (taken.Three (element kind) kinds.Int kinds.Array)
 array_effect arrays.Length = gives (taken.One kinds.Array) kinds.Int
 
--- the object of a field
-abbrev pub owner : FieldOp → Kinds
-owner GetStatic = taken.None
-owner PutStatic = taken.None
-owner GetField = taken.One kinds.Ref
-owner PutField = taken.One kinds.Ref
-
--- the object that a method is called on
-abbrev pub receiver : CallOp → Kinds
-receiver Virtual = taken.One kinds.Ref
-receiver Special = taken.One kinds.Ref
-receiver Static = taken.None
-
--- What the pool's entry doesn't settle. A constant's own kind is given besides, and so are a read field and a call's result; a
--- value that is put in a field and the arguments of a call are taken before what stands here, since they are newer. A call of
--- `<init>` takes an object that isn't initialised yet in place of the reference, and so may a put in its own class.
-abbrev pub pool_effect : PoolForm → Effect
-pool_effect (pool.Constant n) = takes taken.None
-pool_effect (pool.LongConstant n) = gives taken.None kinds.Long
-pool_effect (pool.Field op n) = takes (owner op)
-pool_effect (pool.Call op n) = takes (receiver op)
-pool_effect (pool.CallInterface n slots) = takes (taken.One kinds.Ref)
-pool_effect (pool.New n) = gives taken.None kinds.Ref
-pool_effect (pool.Cast CheckCast n) = gives (taken.One kinds.Ref) kinds.Ref
-pool_effect (pool.Cast InstanceOf n) = gives (taken.One kinds.Ref) kinds.Int
-
--- The kinds that a form takes and gives; a move of the stack takes and gives items of any kinds, and has none here.
+-- The kinds that a form takes and gives, where the form itself says them: a move of the stack takes and gives items of any kinds,
+-- and what a form by the pool takes and gives is said by its entry.
 unfoldable pub effect : {S : Type 0} → Form S → Option Effect
 effect (forms.Simple f) = Some (simple_effect f)
 effect (forms.Local f) = Some (local_effect f)
 effect (forms.Stack f) = None
 effect (forms.Flow f) = Some (flow_effect f)
 effect (forms.Array f) = Some (array_effect f)
-effect (forms.Pool f) = Some (pool_effect f)
+effect (forms.Pool f) = None
+
+-- ---- where the method goes on
+
+abbrev pub switch_branches : Switch → List ℤ
+switch_branches (switches.Table s) = s.default ∷ s.branches
+switch_branches (switches.Lookup s) = s.default ∷ map (λ c. c.branch) s.cases
+
+abbrev pub flow_branches : Flow Switch → List ℤ
+flow_branches (flows.If test by) = by ∷ []
+flow_branches (flows.IfInt test by) = by ∷ []
+flow_branches (flows.IfRef test by) = by ∷ []
+flow_branches (flows.Goto by) = by ∷ []
+flow_branches (flows.Switch switch) = switch_branches switch
+flow_branches (flows.Return kind) = []
+flow_branches flows.Throw = []
+
+-- The distances to which a form may lead, from its instruction's own place; of a switch, the default first.
+unfoldable pub branches : Form Switch → List ℤ
+branches (forms.Flow f) = flow_branches f
+branches _ = []
+
+abbrev pub flow_goes_on : {S : Type 0} → Flow S → Bool
+flow_goes_on (flows.If test by) = true
+flow_goes_on (flows.IfInt test by) = true
+flow_goes_on (flows.IfRef test by) = true
+flow_goes_on (flows.Goto by) = false
+flow_goes_on (flows.Switch switch) = false
+flow_goes_on (flows.Return kind) = false
+flow_goes_on flows.Throw = false
+
+-- the instruction behind a form's own may follow it
+unfoldable pub goes_on : {S : Type 0} → Form S → Bool
+goes_on (forms.Flow f) = flow_goes_on f
+goes_on _ = true

@@ -1,17 +1,16 @@
 -- Instructions, and code: instructions one behind the other (JVMS 4.7.3, 6.5).
-use Rattle.std.specs.Prelude.{◌≡◌, ℕ, ◌+◌, ◌-◌, ◌<◌, ◌≤◌, ◌==◌, ℤ, pos, ◌+ℤ◌, Bool, true, IsTrue, ◌&&◌, if◌then◌else◌, List, [], ◌∷◌, length, get_or, Option, Some, None, Result, Ok, Err}
+use Rattle.std.specs.Prelude.{◌≡◌, ℕ, ◌+◌, ◌<◌, ◌≤◌, ◌==◌, ℤ, pos, ◌+ℤ◌, Bool, true, IsTrue, ◌&&◌, if◌then◌else◌, List, [], ◌∷◌, length, get_or, position, Option, Some, None, option_map, Result, Ok, Err}
 use Rattle.std.specs.List.{list_all, list_any}
 use Rattle.std.specs.Ordering.{int_eq}
 use Rattle.jbase.specs.Stops.{◌>>=◌}
 use Rattle.jbase.specs.First.{first_some}
 use Rattle.jformat.specs.declared.error.Fault.{Fault}
-use Rattle.jformat.specs.Format.{Answer, Format, fault, void, ◌·◌, as_case}
+use Rattle.jformat.specs.Format.{Answer, Format, fault, void, ◌·◌, as_case, unless_fault}
+use Rattle.jformat.specs.Places.{from_end}
 use Rattle.jformat.specs.Bodies.{Body}
 use Rattle.jformat.specs.States.{many_by}
-use Rattle.jcode.specs.declared.kind.CodeKind.{CodeKind}
-use Rattle.jcode.specs.declared.kind.CodeKind.TheVariants.{Truncated, BadTarget}
-use Rattle.jcode.specs.declared.kind.CodeError.{CodeError}
-use Rattle.jcode.specs.declared.kind.CodeError.TheVariants as errors
+use Rattle.jcode.specs.declared.fault.CodeFault.{CodeFault}
+use Rattle.jcode.specs.declared.fault.CodeFault.TheVariants.{Truncated, BadTarget}
 use Rattle.jcode.specs.declared.names.NumberKind.TheVariants as numbers
 use Rattle.jcode.specs.declared.names.LocalKind.{LocalKind}
 use Rattle.jcode.specs.declared.names.LocalKind.TheVariants as kinds
@@ -38,6 +37,7 @@ use Rattle.jcode.specs.declared.head.BranchHead.{BranchHead}
 use Rattle.jcode.specs.declared.head.BranchHead.TheVariants as branch
 use Rattle.jcode.specs.declared.head.OtherHead.{OtherHead}
 use Rattle.jcode.specs.declared.head.OtherHead.TheVariants as other
+use Rattle.jcode.specs.Forms.{form, branches}
 use Rattle.jcode.specs.Opcodes.{head_number, head_at}
 use Rattle.jcode.specs.Operands.{u1, u2, i1, i2, i4, table_switch, lookup_switch, interface_call, array_type, wide, OtherOperand, Operand}
 
@@ -242,14 +242,14 @@ behind_fits at _ = true
 -- ---- an instruction at a place
 
 -- a fault is named at the instruction's first byte
-abbrev pub at_front : {A : Type 0} → List ℕ → Answer CodeKind A → Answer CodeKind A
+abbrev pub at_front : {A : Type 0} → List ℕ → Answer CodeFault A → Answer CodeFault A
 at_front bytes (Ok x) = Ok x
 at_front bytes (Err d) = fault d.kind bytes
 
-abbrev pub read_as : {A : Type 0} → Format CodeKind A → (A → Op) → List ℕ → Answer CodeKind Op
+abbrev pub read_as : {A : Type 0} → Format CodeFault A → (A → Op) → List ℕ → Answer CodeFault Op
 read_as f make bytes = f.read bytes >>= λ x. Ok (make x.0, x.1)
 
-abbrev pub read_other : ℕ → OtherHead → List ℕ → Answer CodeKind Op
+abbrev pub read_other : ℕ → OtherHead → List ℕ → Answer CodeFault Op
 read_other at other.Bipush = read_as i1 (other_op other.Bipush)
 read_other at other.Sipush = read_as i2 (other_op other.Sipush)
 read_other at other.Iinc = read_as (u1 · i1) (other_op other.Iinc)
@@ -261,23 +261,23 @@ read_other at other.Wide = read_as wide (other_op other.Wide)
 read_other at other.GotoWide = read_as i4 (other_op other.GotoWide)
 
 -- an instruction behind its opcode
-abbrev pub read_behind : ℕ → Head → List ℕ → Answer CodeKind Op
+abbrev pub read_behind : ℕ → Head → List ℕ → Answer CodeFault Op
 read_behind at (heads.Plain h) = read_as void (λ _. plain_op h)
 read_behind at (heads.Byte h) = read_as u1 (byte_op h)
 read_behind at (heads.Index h) = read_as u2 (index_op h)
 read_behind at (heads.Branch h) = read_as i2 (branch_op h)
 read_behind at (heads.Other h) = read_other at h
 
-abbrev pub behind_head : ℕ → List ℕ → Result Head CodeKind → Answer CodeKind Op
+abbrev pub behind_head : ℕ → List ℕ → Result Head CodeFault → Answer CodeFault Op
 behind_head at rest (Ok h) = read_behind at h rest
 behind_head at rest (Err kind) = fault kind rest
 
-abbrev pub instruction_at : ℕ → List ℕ → Answer CodeKind Op
+abbrev pub instruction_at : ℕ → List ℕ → Answer CodeFault Op
 instruction_at at [] = fault Truncated []
 instruction_at at (t ∷ rest) = at_front (t ∷ rest) (behind_head at rest (head_at t))
 
 -- the opcode's byte, and behind it the operands
-unfoldable pub instruction : ℕ → Format CodeKind Op
+unfoldable pub instruction : ℕ → Format CodeFault Op
 instruction at = record {
   spell = λ op. head_number (op_head op) ∷ behind at op;
   fits = behind_fits at;
@@ -297,17 +297,21 @@ abbrev pub op_at : ℕ → Placed → Option Op
 op_at at p = if p.at == at then Some p.op else None
 
 -- an instruction with its place
-abbrev pub placed : ℕ → Format CodeKind Placed
+abbrev pub placed : ℕ → Format CodeFault Placed
 placed at = as_case (placed_at at) (op_at at) (instruction at)
 
 abbrev pub place_behind : ℕ → Placed → ℕ
 place_behind at p = at + size at p.op
 
 -- instructions from place 0 on, each at the sum of the sizes before it
-unfoldable pub instructions : Body CodeKind (List Placed)
+unfoldable pub instructions : Body CodeFault (List Placed)
 instructions = many_by Truncated placed place_behind 0
 
 -- ---- branches
+
+-- the number of the instruction that begins at a place
+abbrev pub place_of : List Placed → ℕ → Option ℕ
+place_of ps at = position (λ p. p.at == at) ps
 
 -- an instruction stands at this place
 abbrev pub is_place : List Placed → ℤ → Bool
@@ -317,22 +321,9 @@ is_place ps target = list_any (λ p. int_eq (pos p.at) target) ps
 abbrev pub lands : List Placed → ℕ → ℤ → Bool
 lands ps at by = is_place ps (pos at +ℤ by)
 
-abbrev pub switch_leads : List Placed → ℕ → Switch → Bool
-switch_leads ps at (switches.Table s) = lands ps at s.default && list_all (lands ps at) s.branches
-switch_leads ps at (switches.Lookup s) = lands ps at s.default && list_all (λ c. lands ps at c.branch) s.cases
-
-abbrev pub op_leads : List Placed → ℕ → Op → Bool
-op_leads ps at (ops.If test by) = lands ps at by
-op_leads ps at (ops.IfInt test by) = lands ps at by
-op_leads ps at (ops.IfRef test by) = lands ps at by
-op_leads ps at (ops.Goto (gotos.Narrow by)) = lands ps at by
-op_leads ps at (ops.Goto (gotos.Wide by)) = lands ps at by
-op_leads ps at (ops.Switch s) = switch_leads ps at s
-op_leads ps at _ = true
-
 -- each branch of an instruction leads to an instruction
 abbrev pub leads : List Placed → Placed → Bool
-leads ps p = op_leads ps p.at p.op
+leads ps p = list_all (lands ps p.at) (branches (form p.op))
 
 abbrev pub lost : List Placed → Placed → Option ℕ
 lost ps p = if leads ps p then None else Some p.at
@@ -341,16 +332,15 @@ lost ps p = if leads ps p then None else Some p.at
 unfoldable pub first_lost : List Placed → Option ℕ
 first_lost ps = first_some (lost ps) ps
 
-abbrev pub none_lost : List ℕ → List Placed → Option ℕ → Result (List Placed) (Fault CodeKind)
-none_lost bytes ps None = Ok ps
-none_lost bytes ps (Some at) = Err (record { left = length bytes - at; kind = BadTarget })
+abbrev pub lost_fault : List ℕ → Option ℕ → Option (Fault CodeFault)
+lost_fault bytes at = option_map (λ at. from_end bytes (record { at = at; kind = BadTarget })) at
 
 -- code: instructions one behind the other, whose branches lead to instructions
-unfoldable pub code : Body CodeKind (List Placed)
+unfoldable pub code : Body CodeFault (List Placed)
 code = record {
   spell = instructions.spell;
   fits = λ ps. instructions.fits ps && list_all (leads ps) ps;
-  read = λ bytes. instructions.read bytes >>= λ ps. none_lost bytes ps (first_lost ps);
+  read = λ bytes. instructions.read bytes >>= λ ps. unless_fault ps (lost_fault bytes (first_lost ps));
 }
 
 -- these bytes spell these instructions
@@ -362,12 +352,3 @@ Spells bytes ps = IsTrue (code.fits ps) × (bytes ≡ code.spell ps)
 -- Each instruction stands behind the one before it.
 abbrev pub Rises : List Placed → Type 0
 Rises ps = (i j : ℕ) (d : Placed) → i < j → j < length ps → (get_or ps i d).at < (get_or ps j d).at
-
-abbrev pub FailsAt : {A : Type 0} → List ℕ → CodeError → Result A (Fault CodeKind) → Type 0
-FailsAt bytes errors.Memory read = Unit {0}
-FailsAt bytes (errors.At at kind) read = (at ≤ length bytes) × (read ≡ Err (record { left = length bytes - at; kind = kind }))
-
--- The call answers what a reading gives, with a fault's place as an offset, unless memory runs out.
-abbrev pub GivesAt : {X A : Type 0} → (X → A) → List ℕ → Result X CodeError → Result A (Fault CodeKind) → Type 0
-GivesAt view bytes (Ok x) read = read ≡ Ok (view x)
-GivesAt view bytes (Err e) read = FailsAt bytes e read

@@ -38,8 +38,8 @@ use Rattle.jcode.specs.declared.names.ObjectOp.{ObjectOp}
 use Rattle.jcode.specs.declared.names.ObjectOp.TheVariants.{ArrayLength, Throw}
 use Rattle.jcode.specs.declared.names.CastOp.{CastOp}
 use Rattle.jcode.specs.declared.names.CastOp.TheVariants.{CheckCast, InstanceOf}
-use Rattle.jcode.specs.declared.kind.CodeKind.{CodeKind}
-use Rattle.jcode.specs.declared.kind.CodeKind.TheVariants.{LeftOut, UnknownOpcode}
+use Rattle.jcode.specs.declared.fault.CodeFault.{CodeFault}
+use Rattle.jcode.specs.declared.fault.CodeFault.TheVariants.{LeftOut, UnknownOpcode}
 use Rattle.jcode.specs.declared.head.Head.{Head}
 use Rattle.jcode.specs.declared.head.Head.TheVariants as heads
 use Rattle.jcode.specs.declared.head.Plain.{Plain}
@@ -299,10 +299,10 @@ with_number number n [] = None
 with_number number n (h ∷ hs) = if number h == n then Some h else with_number number n hs
 
 -- Other numbers below 0xca are of opcodes that are left out; there are no opcodes from 0xca on.
-abbrev pub or_fault : ℕ → Option Head → Result Head CodeKind
+abbrev pub or_fault : ℕ → Option Head → Result Head CodeFault
 or_fault n (Some h) = Ok h
 or_fault n None = if nat_lt n 0xca then Err (LeftOut n) else Err (UnknownOpcode n)
 
 -- what a first byte says
-unfoldable pub head_at : ℕ → Result Head CodeKind
+unfoldable pub head_at : ℕ → Result Head CodeFault
 head_at n = or_fault n (with_number head_number n all_heads)

@@ -3,12 +3,12 @@ use Rattle.std.specs.Prelude.{ℕ, zero, suc, ◌+◌, ◌-◌, ◌%◌, ◌==�
 use Rattle.std.proofs.Common.{inl, inr}
 use Rattle.std.specs.Int.{w8, w16, w32}
 use Rattle.jbase.specs.First.{fault_if}
-use Rattle.jformat.specs.Format.{Format, void, byte, number, signed, ◌·◌, ◌▹◌, via, as_case, such, literal}
+use Rattle.jformat.specs.Format.{Format, void, byte, number, signed, ◌·◌, ◌▹◌, via, known, such, literal}
 use Rattle.jformat.specs.Bodies.{counted}
 use Rattle.jformat.specs.States.{counted_from}
 use Rattle.jformat.specs.Tags.{Tagged, tag, ◌∣◌, tagged, is_in}
-use Rattle.jcode.specs.declared.kind.CodeKind.{CodeKind}
-use Rattle.jcode.specs.declared.kind.CodeKind.TheVariants.{Truncated, LeftOut, BadOperand}
+use Rattle.jcode.specs.declared.fault.CodeFault.{CodeFault}
+use Rattle.jcode.specs.declared.fault.CodeFault.TheVariants.{Truncated, LeftOut, BadOperand}
 use Rattle.jcode.specs.declared.names.ArrayType.{ArrayType}
 use Rattle.jcode.specs.declared.names.ArrayType.TheVariants as arrays
 use Rattle.jcode.specs.declared.names.LocalKind.TheVariants as kinds
@@ -25,48 +25,41 @@ use Rattle.jcode.specs.declared.head.OtherHead.TheVariants as other
 
 -- ---- numbers
 
-abbrev pub u1 : Format CodeKind ℕ
+abbrev pub u1 : Format CodeFault ℕ
 u1 = byte Truncated
 
-abbrev pub u2 : Format CodeKind ℕ
+abbrev pub u2 : Format CodeFault ℕ
 u2 = number w16 Truncated
 
-abbrev pub u4 : Format CodeKind ℕ
+abbrev pub u4 : Format CodeFault ℕ
 u4 = number w32 Truncated
 
-abbrev pub i1 : Format CodeKind ℤ
+abbrev pub i1 : Format CodeFault ℤ
 i1 = signed w8 Truncated
 
-abbrev pub i2 : Format CodeKind ℤ
+abbrev pub i2 : Format CodeFault ℤ
 i2 = signed w16 Truncated
 
-abbrev pub i4 : Format CodeKind ℤ
+abbrev pub i4 : Format CodeFault ℤ
 i4 = signed w32 Truncated
-
-abbrev pub is_number : ℕ → ℕ → Option (Unit {0})
-is_number n k = if k == n then Some tt else None
-
--- a number that is known before, of which the bytes tell nothing
-abbrev pub known : ℕ → Format CodeKind ℕ
-known n = as_case (λ _. n) (is_number n) void
 
 -- ---- switches
 
 -- a zero byte
-abbrev pub nil : Format CodeKind (Unit {0})
+abbrev pub nil : Format CodeFault (Unit {0})
 nil = literal u1 BadOperand 0
 
 -- so many zero bytes
-unfoldable pub nils : ℕ → Format CodeKind (Unit {0})
+unfoldable pub nils : ℕ → Format CodeFault (Unit {0})
 nils zero = void
 nils (suc n) = via (λ _. tt) (λ _. (tt, tt)) (nil · nils n)
 
 -- Behind an opcode at a place stand zero bytes up to the next multiple of four.
-abbrev pub padding : ℕ → Format CodeKind (Unit {0})
+abbrev pub padding : ℕ → Format CodeFault (Unit {0})
 padding at = nils (3 - at % 4)
 
 -- the least and the greatest int of a table
-abbrev pub bounds : Format CodeKind (ℤ × ℤ)
+abbrev pub bounds : Format CodeFault (ℤ × ℤ)
 bounds = such (λ b. fault_if (int_lt b.1 b.0) BadOperand) (i4 · i4)
 
 -- how many ints there are from the least to the greatest
@@ -74,7 +67,7 @@ abbrev pub span : ℤ → ℤ → ℕ
 span low high = unsigned_abs (high -ℤ low) + 1
 
 -- the bounds, and a branch for each int from the least to the greatest
-unfoldable pub bounded : Format CodeKind ((ℤ × ℤ) × List ℤ)
+unfoldable pub bounded : Format CodeFault ((ℤ × ℤ) × List ℤ)
 bounded = bounds ▹ λ b. counted (known (span b.0 b.1)) i4
 
 abbrev pub table_from : Unit {0} × (ℤ × ((ℤ × ℤ) × List ℤ)) → TableSwitch
@@ -83,15 +76,15 @@ table_from p = record { default = p.1.0; low = p.1.1.0.0; high = p.1.1.0.1; bran
 abbrev pub table_parts : TableSwitch → Unit {0} × (ℤ × ((ℤ × ℤ) × List ℤ))
 table_parts s = (tt, (s.default, ((s.low, s.high), s.branches)))
 
-unfoldable pub table_switch : ℕ → Format CodeKind TableSwitch
+unfoldable pub table_switch : ℕ → Format CodeFault TableSwitch
 table_switch at = via table_from table_parts (padding at · i4 · bounded)
 
 -- a number of cases, which isn't negative as a signed number
-abbrev pub case_count : Format CodeKind ℕ
+abbrev pub case_count : Format CodeFault ℕ
 case_count = such (λ n. fault_if (nat_le 0x8000_0000 n) BadOperand) u4
 
 -- Each key is above the one before it.
-abbrev pub falls : Option ℤ → ℤ → Option CodeKind
+abbrev pub falls : Option ℤ → ℤ → Option CodeFault
 falls None key = None
 falls (Some before) key = if int_lt before key then None else Some BadOperand
 
@@ -101,7 +94,7 @@ case_from p = record { key = p.0; branch = p.1 }
 abbrev pub case_parts : Case → ℤ × ℤ
 case_parts c = (c.key, c.branch)
 
-abbrev pub case_behind : Option ℤ → Format CodeKind Case
+abbrev pub case_behind : Option ℤ → Format CodeFault Case
 case_behind before = via case_from case_parts (such (falls before) i4 · i4)
 
 abbrev pub key_of : Option ℤ → Case → Option ℤ
@@ -113,7 +106,7 @@ lookup_from p = record { default = p.1.0; cases = p.1.1 }
 abbrev pub lookup_parts : LookupSwitch → Unit {0} × (ℤ × List Case)
 lookup_parts s = (tt, (s.default, s.cases))
 
-unfoldable pub lookup_switch : ℕ → Format CodeKind LookupSwitch
+unfoldable pub lookup_switch : ℕ → Format CodeFault LookupSwitch
 lookup_switch at = via lookup_from lookup_parts (padding at · i4 · counted_from case_count case_behind key_of None)
 
 -- ---- calls by an interface, arrays, wide instructions
@@ -125,7 +118,7 @@ abbrev pub call_parts : ℕ × ℕ → ℕ × (ℕ × Unit {0})
 call_parts p = (p.0, (p.1, tt))
 
 -- the method, the number of argument slots, which isn't 0, and a zero byte
-unfoldable pub interface_call : Format CodeKind (ℕ × ℕ)
+unfoldable pub interface_call : Format CodeFault (ℕ × ℕ)
 interface_call = via call_from call_parts (u2 · such (λ n. fault_if (n == 0) BadOperand) u1 · nil)
 
 abbrev pub ArrayParts : Type 0
@@ -147,11 +140,11 @@ array_parts arrays.Short = inr (inr (inr (inl tt)))
 array_parts arrays.Int = inr (inr (inr (inr (inl tt))))
 array_parts arrays.Long = inr (inr (inr (inr (inr tt))))
 
-abbrev pub array_tags : Tagged CodeKind ArrayParts
+abbrev pub array_tags : Tagged CodeFault ArrayParts
 array_tags = tag 4 void ∣ tag 5 void ∣ tag 8 void ∣ tag 9 void ∣ tag 10 void ∣ tag 11 void
 
 -- the code of newarray (JVMS 6.5, newarray)
-unfoldable pub array_type : Format CodeKind ArrayType
+unfoldable pub array_type : Format CodeFault ArrayType
 array_type = via array_from array_parts (tagged Truncated (λ _. BadOperand) array_tags)
 
 abbrev pub WideParts : Type 0
@@ -175,15 +168,15 @@ wide_parts (wides.Local kinds.Long Store n) = inr (inr (inr (inr (inl n))))
 wide_parts (wides.Local kinds.Ref Store n) = inr (inr (inr (inr (inr (inl n)))))
 wide_parts (wides.Iinc n by) = inr (inr (inr (inr (inr (inr (n, by))))))
 
-abbrev pub wide_tags : Tagged CodeKind WideParts
+abbrev pub wide_tags : Tagged CodeFault WideParts
 wide_tags = tag 0x15 u2 ∣ tag 0x16 u2 ∣ tag 0x19 u2 ∣ tag 0x36 u2 ∣ tag 0x37 u2 ∣ tag 0x3a u2 ∣ tag 0x84 (u2 · i2)
 
 -- The float and double loads and stores and ret are left out; no other opcode may be widened.
-abbrev pub not_wide : ℕ → CodeKind
+abbrev pub not_wide : ℕ → CodeFault
 not_wide t = if is_in t (0x17 ∷ 0x18 ∷ 0x38 ∷ 0x39 ∷ 0xa9 ∷ []) then LeftOut t else BadOperand
 
 -- the opcode that is widened, and its operands
-unfoldable pub wide : Format CodeKind Wide
+unfoldable pub wide : Format CodeFault Wide
 wide = via wide_from wide_parts (tagged Truncated not_wide wide_tags)
 
 -- ---- by the opcode
@@ -207,7 +200,7 @@ Operand (heads.Index h) = ℕ
 Operand (heads.Branch h) = ℤ
 Operand (heads.Other h) = OtherOperand h
 
-abbrev pub other_operands : ℕ → (h : OtherHead) → Format CodeKind (OtherOperand h)
+abbrev pub other_operands : ℕ → (h : OtherHead) → Format CodeFault (OtherOperand h)
 other_operands at other.Bipush = i1
 other_operands at other.Sipush = i2
 other_operands at other.Iinc = u1 · i1
@@ -219,7 +212,7 @@ other_operands at other.Wide = wide
 other_operands at other.GotoWide = i4
 
 -- how they are written behind an opcode at a place
-abbrev pub operands : ℕ → (h : Head) → Format CodeKind (Operand h)
+abbrev pub operands : ℕ → (h : Head) → Format CodeFault (Operand h)
 operands at (heads.Plain h) = void
 operands at (heads.Byte h) = u1
 operands at (heads.Index h) = u2

@@ -1,9 +1,12 @@
 ghost use Rattle.std.specs.Prelude.{◌≡◌};
 ghost use Rattle.std.specs.List.{list_all};
 ghost use Rattle.jcode.specs.Instructions;
-ghost use Rattle.jcode.specs.Instructions.{Rises, is_place, lands, leads, switch_leads};
+ghost use Rattle.jcode.specs.Forms.{flow_branches, seen_flow, switch_branches};
+ghost use Rattle.jcode.specs.Instructions.{Rises, is_place, lands, leads};
 
-use crate::op::{Case, Goto, Op, Placed, Switch};
+use crate::form::{Flow, Form};
+use crate::forming::form_of;
+use crate::op::{Case, Placed, Switch};
 
 /// An instruction stands at this place.
 fn is_place(ops: &[Placed], target: i64) -> bool
@@ -12,6 +15,17 @@ fn is_place(ops: &[Placed], target: i64) -> bool
 {
     ops.binary_search_by_key(&target, |one| i64::from(one.at))
         .is_ok()
+}
+
+/// The number of the instruction that begins at a place, where one does.
+pub fn place_of(ops: &[Placed], at: u32) -> Option<usize>
+    requires { Rises ops.now }
+    ensures { result ≡ Instructions.place_of ops.now at }
+{
+    match ops.binary_search_by_key(&i64::from(at), |one| i64::from(one.at)) {
+        Ok(number) => Some(number),
+        Err(_) => None,
+    }
 }
 
 /// A branch from a place leads to an instruction.
@@ -48,9 +62,11 @@ fn cases_land(ops: &[Placed], at: u32, cases: &[Case]) -> bool
     true
 }
 
+/// Each branch of a switch at a place leads to an instruction.
+#[tactic(auto, using(crate::proofs::Places::cases_all))]
 fn switch_leads(ops: &[Placed], at: u32, switch: &Switch) -> bool
     requires { Rises ops.now }
-    ensures { result ≡ switch_leads ops.now at switch.now }
+    ensures { result ≡ list_all (lands ops.now at) (switch_branches switch.now) }
 {
     match switch {
         Switch::Table(table) => {
@@ -62,18 +78,28 @@ fn switch_leads(ops: &[Placed], at: u32, switch: &Switch) -> bool
     }
 }
 
+fn flow_leads(ops: &[Placed], at: u32, flow: &Flow<&Switch>) -> bool
+    requires { Rises ops.now }
+    ensures { result ≡ list_all (lands ops.now at) (flow_branches (seen_flow flow.now)) }
+{
+    match flow {
+        Flow::If(_, by) => lands(ops, at, *by),
+        Flow::IfInt(_, by) => lands(ops, at, *by),
+        Flow::IfRef(_, by) => lands(ops, at, *by),
+        Flow::Goto(by) => lands(ops, at, *by),
+        Flow::Switch(switch) => switch_leads(ops, at, switch),
+        Flow::Return(_) | Flow::Throw => true,
+    }
+}
+
 /// Each branch of an instruction leads to an instruction.
+#[tactic(auto, unfolding(crate::specs::Forms::branches))]
 fn leads(ops: &[Placed], one: &Placed) -> bool
     requires { Rises ops.now }
     ensures { result ≡ leads ops.now one.now }
 {
-    match &one.op {
-        Op::If(_, by) => lands(ops, one.at, i32::from(*by)),
-        Op::IfInt(_, by) => lands(ops, one.at, i32::from(*by)),
-        Op::IfRef(_, by) => lands(ops, one.at, i32::from(*by)),
-        Op::Goto(Goto::Narrow(by)) => lands(ops, one.at, i32::from(*by)),
-        Op::Goto(Goto::Wide(by)) => lands(ops, one.at, *by),
-        Op::Switch(switch) => switch_leads(ops, one.at, switch),
+    match form_of(&one.op) {
+        Form::Flow(flow) => flow_leads(ops, one.at, &flow),
         _ => true,
     }
 }

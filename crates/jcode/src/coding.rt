@@ -1,19 +1,20 @@
 ghost use Rattle.std.specs.Prelude.{◌≡◌, ◌<◌, ◌^◌, IfOk, IsTrue, List, Ok, length};
 ghost use Rattle.jbase.specs.Stops.{Gives};
+ghost use Rattle.jformat.specs.Places.{GivesAt};
 ghost use Rattle.jcode.specs.declared.op.Placed.{Placed};
-ghost use Rattle.jcode.specs.Instructions.{GivesAt, code, instruction, instructions};
+ghost use Rattle.jcode.specs.Instructions.{code, instruction, instructions};
 
 use crate::branches::first_lost;
-use crate::kind::{CodeError, CodeKind};
+use crate::fault::{CodeError, CodeFault};
 use crate::op::Placed;
 use crate::read::op_of;
 use crate::write::put_op;
 use jbase::{Seq, Stop};
-use jformat::{ReadError, Writer, fault, put_each};
+use jformat::{At, ReadError, Writer, fault, put_each, stop_at};
 use std::alloc::{AllocError, Global};
 
 /// Instructions one behind the other, up to the end of the bytes.
-fn ops_of(alloc: Global, bytes: &[u8]) -> Result<Seq<Placed>, ReadError<CodeKind>>
+fn ops_of(alloc: Global, bytes: &[u8]) -> Result<Seq<Placed>, ReadError<CodeFault>>
     requires { length bytes.now < 2 ^ 32 }
     ensures { Gives (λ ops. ops) result (instructions.read bytes.now) }
 {
@@ -31,36 +32,42 @@ fn ops_of(alloc: Global, bytes: &[u8]) -> Result<Seq<Placed>, ReadError<CodeKind
     if rest.is_empty() {
         return Ok(ops);
     }
-    Err(fault(CodeKind::Truncated, rest))
+    Err(fault(CodeFault::Truncated, rest))
 }
 
 fn code_of(alloc: Global, bytes: &[u8]) -> Result<Seq<Placed>, CodeError>
     ensures { GivesAt (λ ops. ops) bytes.now result (code.read bytes.now) }
 {
     if bytes.len() > u32::MAX as usize {
-        return Err(CodeError::Memory);
+        return Err(Stop::Memory);
     }
     match ops_of(alloc, bytes) {
         Ok(ops) => match first_lost(ops.as_slice()) {
             None => Ok(ops),
-            Some(at) => Err(CodeError::At {
+            Some(at) => Err(Stop::Fault(At {
                 at,
-                kind: CodeKind::BadTarget,
-            }),
+                kind: CodeFault::BadTarget,
+            })),
         },
-        Err(Stop::Memory) => Err(CodeError::Memory),
-        Err(Stop::Fault(found)) => Err(CodeError::At {
-            at: (bytes.len() - found.left) as u32,
-            kind: found.kind,
-        }),
+        Err(stop) => Err(stop_at(bytes, stop)),
     }
+}
+
+/// A list's items, with no room to spare where the smaller block can be had.
+fn fitted(ops: Seq<Placed>) -> Vec<Placed>
+    ensures { result.items ≡ ops }
+{
+    let mut items = ops.into_vec();
+    items.shrink_to_fit();
+    items
 }
 
 /// The instructions that code spells (JVMS 4.7.3), or its first fault.
 ///
 /// The instructions are read front to back, and each fault stands at the first byte of its instruction: `Truncated`,
 /// `UnknownOpcode`, `LeftOut` and `BadOperand`. Where all are good, `BadTarget` stands at the first instruction with a branch
-/// that leads to no instruction. `Memory` comes where memory runs out, and where the code has 4 GiB or more.
+/// that leads to no instruction. `Memory` comes where memory runs out, and where the code has 4 GiB or more. The list that is
+/// handed out has no room to spare.
 pub fn decode(alloc: Global, bytes: &[u8]) -> Result<Vec<Placed>, CodeError>
     // What is read is spelled so.
     ensures found { IfOk result (λ v. IsTrue (code.fits v.items) × (bytes.now ≡ code.spell v.items)) }
@@ -70,7 +77,7 @@ pub fn decode(alloc: Global, bytes: &[u8]) -> Result<Vec<Placed>, CodeError>
     ensures exact { GivesAt (λ v. v.items) bytes.now result (code.read bytes.now) }
 {
     match code_of(alloc, bytes) {
-        Ok(ops) => Ok(ops.into_vec()),
+        Ok(ops) => Ok(fitted(ops)),
         Err(error) => Err(error),
     }
 }

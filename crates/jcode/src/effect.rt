@@ -1,11 +1,9 @@
 ghost use Rattle.std.specs.Prelude.{◌≡◌};
 ghost use Rattle.jcode.specs.Forms;
-ghost use Rattle.jcode.specs.Forms.{array_effect, compared, conversion, element, flow_effect, local, local_effect, number, owner, pool_effect, receiver, returned, simple_effect};
+ghost use Rattle.jcode.specs.Forms.{array_effect, compared, conversion, element, flow_effect, local, local_effect, number, returned, simple_effect};
 
-use crate::form::{ArrayForm, Effect, Flow, Form, Kind, Kinds, LocalForm, PoolForm, Simple};
-use crate::names::{
-    Access, CallOp, CastOp, ConvertOp, Element, FieldOp, LocalKind, NumberKind, RefTest, Returned,
-};
+use crate::form::{ArrayForm, Effect, Flow, Form, Kind, Kinds, LocalForm, Simple};
+use crate::names::{Access, ConvertOp, Element, LocalKind, NumberKind, RefTest, Returned};
 
 fn gives(takes: Kinds, kind: Kind) -> Effect
     ensures { result ≡ Forms.gives takes kind }
@@ -141,51 +139,10 @@ fn array_effect(form: ArrayForm) -> Effect
     }
 }
 
-fn owner(op: FieldOp) -> Kinds
-    ensures { result ≡ owner op }
-{
-    match op {
-        FieldOp::GetStatic => Kinds::None,
-        FieldOp::PutStatic => Kinds::None,
-        FieldOp::GetField => Kinds::One(Kind::Ref),
-        FieldOp::PutField => Kinds::One(Kind::Ref),
-    }
-}
-
-fn receiver(op: CallOp) -> Kinds
-    ensures { result ≡ receiver op }
-{
-    match op {
-        CallOp::Virtual => Kinds::One(Kind::Ref),
-        CallOp::Special => Kinds::One(Kind::Ref),
-        CallOp::Static => Kinds::None,
-    }
-}
-
-fn pool_effect(form: PoolForm) -> Effect
-    ensures { result ≡ pool_effect form }
-{
-    match form {
-        PoolForm::Constant(_) => takes(Kinds::None),
-        PoolForm::LongConstant(_) => gives(Kinds::None, Kind::Long),
-        PoolForm::Field(op, _) => takes(owner(op)),
-        PoolForm::Call(op, _) => takes(receiver(op)),
-        PoolForm::CallInterface(_, _) => takes(Kinds::One(Kind::Ref)),
-        PoolForm::New(_) => gives(Kinds::None, Kind::Ref),
-        PoolForm::Cast(CastOp::CheckCast, _) => gives(Kinds::One(Kind::Ref), Kind::Ref),
-        PoolForm::Cast(CastOp::InstanceOf, _) => gives(Kinds::One(Kind::Ref), Kind::Int),
-    }
-}
-
-/// The kinds that a form takes from the stack and gives to it, as far as its own text says: for a type checker and a machine
-/// alike.
+/// The kinds that a form takes from the stack and gives to it, for a type checker and a machine alike.
 ///
-/// What the pool's entry says comes on top. The constant of a `Constant`, a field that is read and the result of a call are
-/// given besides. A value that is put in a field and the arguments of a call are newer than the kinds here, so they are taken
-/// first. A call of `<init>`, which is a `Special` one, takes an object before its `<init>` in place of the reference; so may a
-/// put in the object's own class. `New` gives such an object.
-///
-/// `None` is answered for moves of the stack, which take and give items of any kinds.
+/// `None` is answered where the form itself doesn't say them: for moves of the stack, which take and give items of any kinds,
+/// and for forms by the pool, of which the entry says what they take and give.
 #[tactic(auto, unfolding(crate::specs::Forms::effect))]
 pub fn effect_of<S>(form: &Form<S>) -> Option<Effect>
     ensures { result ≡ Forms.effect form.now }
@@ -193,9 +150,8 @@ pub fn effect_of<S>(form: &Form<S>) -> Option<Effect>
     match form {
         Form::Simple(form) => Some(simple_effect(*form)),
         Form::Local(form) => Some(local_effect(*form)),
-        Form::Stack(_) => None,
         Form::Flow(form) => Some(flow_effect(form)),
         Form::Array(form) => Some(array_effect(*form)),
-        Form::Pool(form) => Some(pool_effect(*form)),
+        Form::Stack(_) | Form::Pool(_) => None,
     }
 }

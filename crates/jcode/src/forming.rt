@@ -138,7 +138,7 @@ pub fn form_of(op: &Op) -> Form<&Switch>
         Op::IfInt(test, by) => Form::Flow(Flow::IfInt(*test, i32::from(*by))),
         Op::IfRef(test, by) => Form::Flow(Flow::IfRef(*test, i32::from(*by))),
         Op::Goto(op) => Form::Flow(Flow::Goto(distance(*op))),
-        Op::Switch(switch) => Form::Flow(Flow::Switch(switch)),
+        Op::Switch(switch) => Form::Flow(Flow::Switch(switch.get())),
         Op::Return(kind) => Form::Flow(Flow::Return(*kind)),
         Op::Field(op, n) => Form::Pool(PoolForm::Field(*op, *n)),
         Op::Call(op, n) => Form::Pool(PoolForm::Call(*op, *n)),

@@ -2,6 +2,7 @@ use crate::names::{
     Access, ArrayType, CallOp, CastOp, Condition, ConvertOp, Element, FieldOp, LocalKind, LogicOp,
     MathOp, NumberKind, ObjectOp, RefTest, Returned, ShiftOp, Slot, SmallInt, SmallLong, StackOp,
 };
+use crate::pointer::Boxed;
 use jbase::Seq;
 
 /// An instruction as it is written (JVMS 6.5): which opcode of its row of the table it has, and its operands in order. Indices
@@ -40,7 +41,7 @@ pub enum Op {
     /// goto, goto_w
     Goto(Goto),
     /// tableswitch, lookupswitch
-    Switch(Switch),
+    Switch(Boxed<Switch>),
     Return(Returned),
     Field(FieldOp, u16),
     /// invokevirtual, invokespecial, invokestatic
@@ -147,3 +148,6 @@ pub struct Handler {
     pub at: u32,
     pub class: u16,
 }
+
+// An instruction with its place takes 24 bytes of memory.
+const _: () = prove!(size_of::<Placed>() == 24);

@@ -1,6 +1,7 @@
 ghost use Rattle.std.specs.Prelude.{◌≡◌, ◌≤◌};
 ghost use Rattle.jcode.specs.Opcodes;
 ghost use Rattle.jcode.specs.Opcodes.{branch_number, byte_number, cast_number, convert_number, head_number, index_number, object_number, other_number, plain_number, ref_test_number, return_number, slot_base};
+ghost use Rattle.jcode.specs.declared.op.Op.TheVariants as ops;
 ghost use Rattle.jcode.specs.Instructions.{local_head, op_head};
 
 use crate::head::{BranchHead, ByteHead, Head, IndexHead, OtherHead, Plain};
@@ -326,6 +327,15 @@ fn local_head(kind: LocalKind, op: LocalOp) -> Head
     }
 }
 
+fn switch_head(switch: &Switch) -> Head
+    ensures { result ≡ op_head (ops.Switch switch.now) }
+{
+    match switch {
+        Switch::Table(_) => Head::Other(OtherHead::TableSwitch),
+        Switch::Lookup(_) => Head::Other(OtherHead::LookupSwitch),
+    }
+}
+
 /// The opcode of an instruction.
 pub fn op_head(op: &Op) -> Head
     ensures { result ≡ op_head op.now }
@@ -359,8 +369,7 @@ pub fn op_head(op: &Op) -> Head
         Op::IfRef(test, _) => Head::Branch(BranchHead::IfRef(*test)),
         Op::Goto(Goto::Narrow(_)) => Head::Branch(BranchHead::Goto),
         Op::Goto(Goto::Wide(_)) => Head::Other(OtherHead::GotoWide),
-        Op::Switch(Switch::Table(_)) => Head::Other(OtherHead::TableSwitch),
-        Op::Switch(Switch::Lookup(_)) => Head::Other(OtherHead::LookupSwitch),
+        Op::Switch(switch) => switch_head(switch.get()),
         Op::Return(kind) => Head::Plain(Plain::Return(*kind)),
         Op::Field(op, _) => Head::Index(IndexHead::Field(*op)),
         Op::Call(op, _) => Head::Index(IndexHead::Call(*op)),

@@ -2,8 +2,8 @@ ghost use Rattle.std.specs.Prelude.{◌≡◌, None};
 ghost use Rattle.jbase.specs.Stops.{Gives};
 ghost use Rattle.jcode.specs.Operands.{array_type, bounded, bounds, case_behind, case_count, falls, i4, interface_call, key_of, lookup_switch, nil, nils, padding, span, table_switch, wide};
 
-use crate::kind::CodeKind;
-use crate::kind::CodeKind::{BadOperand, Truncated};
+use crate::fault::CodeFault;
+use crate::fault::CodeFault::{BadOperand, Truncated};
 use crate::names::{Access, ArrayType, LocalKind};
 use crate::op::{Case, LookupSwitch, TableSwitch, Wide};
 use jbase::Seq;
@@ -13,7 +13,7 @@ use jformat::{
 };
 use std::alloc::Global;
 
-fn nil_of(bytes: &[u8]) -> Result<&[u8], ReadError<CodeKind>>
+fn nil_of(bytes: &[u8]) -> Result<&[u8], ReadError<CodeFault>>
     ensures { Gives (λ x. (tt, x.now)) result (nil.read bytes.now) }
 {
     let (n, rest) = u8_of(Truncated, bytes)?;
@@ -25,7 +25,7 @@ fn nil_of(bytes: &[u8]) -> Result<&[u8], ReadError<CodeKind>>
 
 /// What lies behind the zero bytes that fill up a switch's opcode at a place to a multiple of four.
 #[tactic(auto, unfolding(crate::specs::Operands::nils))]
-pub fn padding_of(at: u32, bytes: &[u8]) -> Result<&[u8], ReadError<CodeKind>>
+pub fn padding_of(at: u32, bytes: &[u8]) -> Result<&[u8], ReadError<CodeFault>>
     ensures { Gives (λ x. (tt, x.now)) result ((padding at).read bytes.now) }
 {
     match 3 - at % 4 {
@@ -43,7 +43,7 @@ pub fn padding_of(at: u32, bytes: &[u8]) -> Result<&[u8], ReadError<CodeKind>>
     }
 }
 
-fn bounds_of(bytes: &[u8]) -> Result<((i32, i32), &[u8]), ReadError<CodeKind>>
+fn bounds_of(bytes: &[u8]) -> Result<((i32, i32), &[u8]), ReadError<CodeFault>>
     ensures { Gives (λ x. (x.0, x.1.now)) result (bounds.read bytes.now) }
 {
     let (low, rest) = i32_of(Truncated, bytes)?;
@@ -64,7 +64,7 @@ pub fn span_of(low: i32, high: i32) -> usize
 struct Branches;
 
 impl Reader for Branches {
-    type Kind = CodeKind;
+    type Kind = CodeFault;
 
     type Item = i32;
 
@@ -74,7 +74,7 @@ impl Reader for Branches {
         &self,
         _alloc: Global,
         bytes: &'a [u8],
-    ) -> Result<(i32, &'a [u8]), ReadError<CodeKind>> {
+    ) -> Result<(i32, &'a [u8]), ReadError<CodeFault>> {
         i32_of(Truncated, bytes)
     }
 }
@@ -84,7 +84,7 @@ impl Reader for Branches {
 fn bounded_of(
     alloc: Global,
     bytes: &[u8],
-) -> Result<(((i32, i32), Seq<i32>), &[u8]), ReadError<CodeKind>>
+) -> Result<(((i32, i32), Seq<i32>), &[u8]), ReadError<CodeFault>>
     ensures { Gives (λ x. (x.0, x.1.now)) result (bounded.read bytes.now) }
 {
     let ((low, high), rest) = bounds_of(bytes)?;
@@ -98,7 +98,7 @@ pub fn table_switch_of(
     alloc: Global,
     at: u32,
     bytes: &[u8],
-) -> Result<(TableSwitch, &[u8]), ReadError<CodeKind>>
+) -> Result<(TableSwitch, &[u8]), ReadError<CodeFault>>
     ensures { Gives (λ x. (x.0, x.1.now)) result ((table_switch at).read bytes.now) }
 {
     let rest = padding_of(at, bytes)?;
@@ -115,7 +115,7 @@ pub fn table_switch_of(
     ))
 }
 
-fn count_of(bytes: &[u8]) -> Result<(u32, &[u8]), ReadError<CodeKind>>
+fn count_of(bytes: &[u8]) -> Result<(u32, &[u8]), ReadError<CodeFault>>
     ensures { Gives (λ x. (x.0, x.1.now)) result (case_count.read bytes.now) }
 {
     let (count, rest) = u32_of(Truncated, bytes)?;
@@ -125,7 +125,7 @@ fn count_of(bytes: &[u8]) -> Result<(u32, &[u8]), ReadError<CodeKind>>
     Ok((count, rest))
 }
 
-fn key_falls(before: Option<i32>, key: i32) -> Option<CodeKind>
+fn key_falls(before: Option<i32>, key: i32) -> Option<CodeFault>
     ensures { result ≡ falls before key }
 {
     match before {
@@ -139,7 +139,7 @@ fn key_falls(before: Option<i32>, key: i32) -> Option<CodeKind>
     }
 }
 
-fn case_of(before: Option<i32>, bytes: &[u8]) -> Result<(Case, &[u8]), ReadError<CodeKind>>
+fn case_of(before: Option<i32>, bytes: &[u8]) -> Result<(Case, &[u8]), ReadError<CodeFault>>
     ensures { Gives (λ x. (x.0, x.1.now)) result ((case_behind before).read bytes.now) }
 {
     let (key, rest) = i32_of(Truncated, bytes)?;
@@ -153,7 +153,7 @@ fn case_of(before: Option<i32>, bytes: &[u8]) -> Result<(Case, &[u8]), ReadError
 struct Cases;
 
 impl StateReader for Cases {
-    type Kind = CodeKind;
+    type Kind = CodeFault;
 
     type State = Option<i32>;
 
@@ -168,7 +168,7 @@ impl StateReader for Cases {
         _alloc: Global,
         before: Option<i32>,
         bytes: &'a [u8],
-    ) -> Result<(Case, &'a [u8]), ReadError<CodeKind>> {
+    ) -> Result<(Case, &'a [u8]), ReadError<CodeFault>> {
         case_of(before, bytes)
     }
 
@@ -183,7 +183,7 @@ pub fn lookup_switch_of(
     alloc: Global,
     at: u32,
     bytes: &[u8],
-) -> Result<(LookupSwitch, &[u8]), ReadError<CodeKind>>
+) -> Result<(LookupSwitch, &[u8]), ReadError<CodeFault>>
     ensures { Gives (λ x. (x.0, x.1.now)) result ((lookup_switch at).read bytes.now) }
 {
     let rest = padding_of(at, bytes)?;
@@ -195,7 +195,7 @@ pub fn lookup_switch_of(
 
 /// The operands of a call by an interface.
 #[tactic(auto, unfolding(crate::specs::Operands::interface_call))]
-pub fn interface_call_of(bytes: &[u8]) -> Result<((u16, u8), &[u8]), ReadError<CodeKind>>
+pub fn interface_call_of(bytes: &[u8]) -> Result<((u16, u8), &[u8]), ReadError<CodeFault>>
     ensures { Gives (λ x. (x.0, x.1.now)) result (interface_call.read bytes.now) }
 {
     let (method, counted) = u16_of(Truncated, bytes)?;
@@ -209,7 +209,7 @@ pub fn interface_call_of(bytes: &[u8]) -> Result<((u16, u8), &[u8]), ReadError<C
 
 /// The code of newarray.
 #[tactic(auto, unfolding(crate::specs::Operands::array_type))]
-pub fn array_type_of(bytes: &[u8]) -> Result<(ArrayType, &[u8]), ReadError<CodeKind>>
+pub fn array_type_of(bytes: &[u8]) -> Result<(ArrayType, &[u8]), ReadError<CodeFault>>
     ensures { Gives (λ x. (x.0, x.1.now)) result (array_type.read bytes.now) }
 {
     match bytes {
@@ -226,7 +226,7 @@ pub fn array_type_of(bytes: &[u8]) -> Result<(ArrayType, &[u8]), ReadError<CodeK
 
 /// The opcode that a wide instruction widens, and its operands.
 #[tactic(auto, unfolding(crate::specs::Operands::wide))]
-pub fn wide_of(bytes: &[u8]) -> Result<(Wide, &[u8]), ReadError<CodeKind>>
+pub fn wide_of(bytes: &[u8]) -> Result<(Wide, &[u8]), ReadError<CodeFault>>
     ensures { Gives (λ x. (x.0, x.1.now)) result (wide.read bytes.now) }
 {
     let [opcode, rest @ ..] = bytes else {
@@ -244,7 +244,7 @@ pub fn wide_of(bytes: &[u8]) -> Result<(Wide, &[u8]), ReadError<CodeKind>>
             let (by, rest) = i16_of(Truncated, rest)?;
             return Ok((Wide::Iinc(local, by), rest));
         }
-        0x17 | 0x18 | 0x38 | 0x39 | 0xa9 => return Err(fault(CodeKind::LeftOut(*opcode), bytes)),
+        0x17 | 0x18 | 0x38 | 0x39 | 0xa9 => return Err(fault(CodeFault::LeftOut(*opcode), bytes)),
         _ => return Err(fault(BadOperand, bytes)),
     };
     let (local, rest) = u16_of(Truncated, rest)?;

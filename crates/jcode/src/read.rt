@@ -3,14 +3,15 @@ ghost use Rattle.jbase.specs.Stops.{Gives};
 ghost use Rattle.jcode.specs.Operands.{i2};
 ghost use Rattle.jcode.specs.Instructions.{branch_op, byte_op, index_op, instruction, local_op, plain_op, read_as, read_behind, read_other};
 
+use crate::fault::CodeFault;
+use crate::fault::CodeFault::Truncated;
 use crate::head::{BranchHead, ByteHead, Head, IndexHead, OtherHead, Plain};
-use crate::kind::CodeKind;
-use crate::kind::CodeKind::Truncated;
 use crate::names::{LocalKind, NumberKind};
 use crate::op::{Goto, IntConst, Ldc, LocalOp, NewOp, Op, Switch};
 use crate::operands::{
     array_type_of, interface_call_of, lookup_switch_of, table_switch_of, wide_of,
 };
+use crate::pointer::Boxed;
 use crate::table::head_of;
 use jbase::Stop;
 use jformat::{ReadError, fault, i8_of, i16_of, i32_of, u8_of, u16_of};
@@ -74,7 +75,7 @@ fn index_op(head: IndexHead, n: u16) -> Op
 }
 
 /// A branch behind its opcode.
-fn branch_of(head: BranchHead, bytes: &[u8]) -> Result<(Op, &[u8]), ReadError<CodeKind>>
+fn branch_of(head: BranchHead, bytes: &[u8]) -> Result<(Op, &[u8]), ReadError<CodeFault>>
     ensures { Gives (λ x. (x.0, x.1.now)) result (read_as i2 (branch_op head) bytes.now) }
 {
     let (by, rest) = i16_of(Truncated, bytes)?;
@@ -92,7 +93,7 @@ fn other_of(
     at: u32,
     head: OtherHead,
     bytes: &[u8],
-) -> Result<(Op, &[u8]), ReadError<CodeKind>>
+) -> Result<(Op, &[u8]), ReadError<CodeFault>>
     ensures { Gives (λ x. (x.0, x.1.now)) result (read_other at head bytes.now) }
 {
     match head {
@@ -111,11 +112,13 @@ fn other_of(
         }
         OtherHead::TableSwitch => {
             let (switch, rest) = table_switch_of(alloc, at, bytes)?;
-            Ok((Op::Switch(Switch::Table(switch)), rest))
+            let switch = Boxed::new(alloc, Switch::Table(switch))?;
+            Ok((Op::Switch(switch), rest))
         }
         OtherHead::LookupSwitch => {
             let (switch, rest) = lookup_switch_of(alloc, at, bytes)?;
-            Ok((Op::Switch(Switch::Lookup(switch)), rest))
+            let switch = Boxed::new(alloc, Switch::Lookup(switch))?;
+            Ok((Op::Switch(switch), rest))
         }
         OtherHead::CallInterface => {
             let ((method, slots), rest) = interface_call_of(bytes)?;
@@ -142,7 +145,7 @@ fn behind_opcode(
     at: u32,
     head: Head,
     bytes: &[u8],
-) -> Result<(Op, &[u8]), ReadError<CodeKind>>
+) -> Result<(Op, &[u8]), ReadError<CodeFault>>
     ensures { Gives (λ x. (x.0, x.1.now)) result (read_behind at head bytes.now) }
 {
     match head {
@@ -162,7 +165,7 @@ fn behind_opcode(
 
 /// An instruction at a place, and the bytes behind it. A fault stands at the instruction's first byte.
 #[tactic(auto, unfolding(crate::specs::Instructions::instruction))]
-pub fn op_of(alloc: Global, at: u32, bytes: &[u8]) -> Result<(Op, &[u8]), ReadError<CodeKind>>
+pub fn op_of(alloc: Global, at: u32, bytes: &[u8]) -> Result<(Op, &[u8]), ReadError<CodeFault>>
     ensures { Gives (λ x. (x.0, x.1.now)) result ((instruction at).read bytes.now) }
 {
     let [opcode, rest @ ..] = bytes else {

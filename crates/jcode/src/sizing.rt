@@ -1,5 +1,6 @@
 ghost use Rattle.std.specs.Prelude.{◌≡◌, ◌<◌, ◌≤◌, ◌^◌, length};
 ghost use Rattle.jcode.specs.Operands.{array_type, lookup_switch, table_switch, wide};
+ghost use Rattle.jcode.specs.declared.op.Op.TheVariants as ops;
 ghost use Rattle.jcode.specs.Instructions.{behind, size};
 
 use crate::names::{Access, ArrayType, LocalKind};
@@ -17,6 +18,16 @@ fn lookup_size(at: u32, switch: &LookupSwitch) -> u32
     ensures { result ≡ length ((lookup_switch at).spell switch.now) }
 {
     (3 - at % 4) + (8 + 8 * switch.cases.as_slice().len() as u32)
+}
+
+fn switch_size(at: u32, switch: &Switch) -> u32
+    requires { length (behind at (ops.Switch switch.now)) < 2 ^ 32 }
+    ensures { result ≡ length (behind at (ops.Switch switch.now)) }
+{
+    match switch {
+        Switch::Table(table) => table_size(at, table),
+        Switch::Lookup(lookup) => lookup_size(at, lookup),
+    }
 }
 
 /// The number of bytes behind an instruction's opcode.
@@ -40,8 +51,7 @@ fn size_behind(at: u32, op: &Op) -> u32
         Op::IfRef(_, _) => 2,
         Op::Goto(Goto::Narrow(_)) => 2,
         Op::Goto(Goto::Wide(_)) => 4,
-        Op::Switch(Switch::Table(table)) => table_size(at, table),
-        Op::Switch(Switch::Lookup(lookup)) => lookup_size(at, lookup),
+        Op::Switch(switch) => switch_size(at, switch.get()),
         Op::Field(_, _) => 2,
         Op::Call(_, _) => 2,
         Op::CallInterface(_, _) => 4,

@@ -1,8 +1,8 @@
 ghost use Rattle.std.specs.Prelude.{◌≡◌};
 ghost use Rattle.jcode.specs.Opcodes.{head_at};
 
+use crate::fault::CodeFault;
 use crate::head::{BranchHead, ByteHead, Head, IndexHead, OtherHead, Plain};
-use crate::kind::CodeKind;
 use crate::names::{
     Access, CallOp, CastOp, Condition, ConvertOp, Element, FieldOp, LocalKind, LogicOp, MathOp,
     NumberKind, ObjectOp, RefTest, Returned, ShiftOp, Slot, SmallInt, SmallLong, StackOp,
@@ -268,16 +268,16 @@ static TABLE: [Option<Head>; 256] = [
 ];
 
 /// What a first byte says.
-pub fn head_of(opcode: u8) -> Result<Head, CodeKind>
+pub fn head_of(opcode: u8) -> Result<Head, CodeFault>
     ensures { result ≡ head_at opcode }
 {
     match TABLE[usize::from(opcode)] {
         Some(head) => Ok(head),
         None => {
             if opcode < 0xca {
-                return Err(CodeKind::LeftOut(opcode));
+                return Err(CodeFault::LeftOut(opcode));
             }
-            Err(CodeKind::UnknownOpcode(opcode))
+            Err(CodeFault::UnknownOpcode(opcode))
         }
     }
 }

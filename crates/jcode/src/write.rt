@@ -1,6 +1,7 @@
 ghost use Rattle.std.specs.Prelude.{◌≡◌, ◌++◌, ◌∷◌, IsTrue, OnOk};
 ghost use Rattle.std.specs.Int.{to_be_bytes, w16};
 ghost use Rattle.jcode.specs.Operands.{array_type, bounded, case_behind, i4, interface_call, key_of, lookup_switch, padding, table_switch, wide};
+ghost use Rattle.jcode.specs.declared.op.Op.TheVariants as ops;
 ghost use Rattle.jcode.specs.Instructions.{behind, behind_fits, instruction};
 
 use crate::names::{Access, ArrayType, LocalKind};
@@ -168,6 +169,16 @@ fn put_interface_call(method: u16, slots: u8, out: &mut Seq<u8>) -> Result<(), A
     put_u8(0, out)
 }
 
+fn put_switch(alloc: Global, at: u32, switch: &Switch, out: &mut Seq<u8>) -> Result<(), AllocError>
+    requires { IsTrue (behind_fits at (ops.Switch switch.now)) }
+    ensures { OnOk result (out.new ≡ out.old ++ behind at (ops.Switch switch.now)) }
+{
+    match switch {
+        Switch::Table(table) => put_table(alloc, at, table, out),
+        Switch::Lookup(lookup) => put_lookup(alloc, at, lookup, out),
+    }
+}
+
 /// Writes what stands behind an instruction's opcode.
 fn put_operands(alloc: Global, at: u32, op: &Op, out: &mut Seq<u8>) -> Result<(), AllocError>
     requires { IsTrue (behind_fits at op.now) }
@@ -191,8 +202,7 @@ fn put_operands(alloc: Global, at: u32, op: &Op, out: &mut Seq<u8>) -> Result<()
         Op::IfRef(_, by) => put_i16(*by, out),
         Op::Goto(Goto::Narrow(by)) => put_i16(*by, out),
         Op::Goto(Goto::Wide(by)) => put_i32(*by, out),
-        Op::Switch(Switch::Table(table)) => put_table(alloc, at, table, out),
-        Op::Switch(Switch::Lookup(lookup)) => put_lookup(alloc, at, lookup, out),
+        Op::Switch(switch) => put_switch(alloc, at, switch.get(), out),
         Op::Field(_, n) => put_u16(*n, out),
         Op::Call(_, n) => put_u16(*n, out),
         Op::CallInterface(method, slots) => put_interface_call(*method, *slots, out),

@@ -1,62 +1,64 @@
-use jcode::{CodeError, CodeKind, Goto, Op, decode, encode, size_at};
+use jbase::Stop;
+use jcode::{CodeError, CodeFault, Goto, Op, decode, encode, place_of, size_at};
+use jformat::At;
 use std::alloc::{AllocError, Global};
 use std::test::Fail;
 
 #[test]
 fn first_faults(rt: HostRuntime) {
-    let rows: [(&[u8], u32, CodeKind); 24] = [
-        (b"\x62", 0, CodeKind::LeftOut(98)),
-        (b"\xa7\x00\x05\xb1", 0, CodeKind::BadTarget),
-        (b"\xaa\x00\x00\x00", 0, CodeKind::Truncated),
-        (b"\x00\xc4", 1, CodeKind::Truncated),
-        (b"\xc4\x17", 0, CodeKind::LeftOut(0x17)),
-        (b"\xc4\xa9", 0, CodeKind::LeftOut(0xa9)),
-        (b"\xc4\x1a\x00\x00", 0, CodeKind::BadOperand),
-        (b"\xc4\xff", 0, CodeKind::BadOperand),
-        (b"\xff", 0, CodeKind::UnknownOpcode(255)),
+    let rows: [(&[u8], u32, CodeFault); 24] = [
+        (b"\x62", 0, CodeFault::LeftOut(98)),
+        (b"\xa7\x00\x05\xb1", 0, CodeFault::BadTarget),
+        (b"\xaa\x00\x00\x00", 0, CodeFault::Truncated),
+        (b"\x00\xc4", 1, CodeFault::Truncated),
+        (b"\xc4\x17", 0, CodeFault::LeftOut(0x17)),
+        (b"\xc4\xa9", 0, CodeFault::LeftOut(0xa9)),
+        (b"\xc4\x1a\x00\x00", 0, CodeFault::BadOperand),
+        (b"\xc4\xff", 0, CodeFault::BadOperand),
+        (b"\xff", 0, CodeFault::UnknownOpcode(255)),
         // The first byte that is bad counts, or that isn't there.
-        (b"\xb9\x00\x01\x00", 0, CodeKind::BadOperand),
-        (b"\xb9\x00\x01\x01", 0, CodeKind::Truncated),
-        (b"\xb9\x00\x01\x01\x01", 0, CodeKind::BadOperand),
-        (b"\xbc\x06", 0, CodeKind::BadOperand),
-        (b"\xbc", 0, CodeKind::Truncated),
-        (b"\xaa\x00\x00\x01", 0, CodeKind::BadOperand),
+        (b"\xb9\x00\x01\x00", 0, CodeFault::BadOperand),
+        (b"\xb9\x00\x01\x01", 0, CodeFault::Truncated),
+        (b"\xb9\x00\x01\x01\x01", 0, CodeFault::BadOperand),
+        (b"\xbc\x06", 0, CodeFault::BadOperand),
+        (b"\xbc", 0, CodeFault::Truncated),
+        (b"\xaa\x00\x00\x01", 0, CodeFault::BadOperand),
         // A table from 1 to 0.
         (
             b"\xaa\x00\x00\x00\x00\x00\x00\x00\x00\x00\x00\x01\x00\x00\x00\x00",
             0,
-            CodeKind::BadOperand,
+            CodeFault::BadOperand,
         ),
         // Two cases of the key 7; fewer cases than none.
         (
             b"\xab\x00\x00\x00\x00\x00\x00\x00\x00\x00\x00\x02\x00\x00\x00\x07\x00\x00\x00\x00\x00\x00\x00\x07",
             0,
-            CodeKind::BadOperand,
+            CodeFault::BadOperand,
         ),
         (
             b"\xab\x00\x00\x00\x00\x00\x00\x00\xff\xff\xff\xff",
             0,
-            CodeKind::BadOperand,
+            CodeFault::BadOperand,
         ),
         // Branches into an instruction, before the code and behind it.
-        (b"\x00\xc7\xff\xff\x99\x00\x01\x00", 4, CodeKind::BadTarget),
-        (b"\xa7\xff\xff", 0, CodeKind::BadTarget),
-        (b"\x00\xa5\x00\x03", 1, CodeKind::BadTarget),
-        (b"\xc8\x7f\xff\xff\xff", 0, CodeKind::BadTarget),
+        (b"\x00\xc7\xff\xff\x99\x00\x01\x00", 4, CodeFault::BadTarget),
+        (b"\xa7\xff\xff", 0, CodeFault::BadTarget),
+        (b"\x00\xa5\x00\x03", 1, CodeFault::BadTarget),
+        (b"\xc8\x7f\xff\xff\xff", 0, CodeFault::BadTarget),
         (
             b"\xaa\x00\x00\x00\x00\x00\x00\x00\xff\xff\xff\xff\x00\x00\x00\x00\x00\x00\x00\x00\x00\x00\x00\x01",
             0,
-            CodeKind::BadTarget,
+            CodeFault::BadTarget,
         ),
         (
             b"\xab\x00\x00\x00\x00\x00\x00\x00\x00\x00\x00\x01\x80\x00\x00\x00\x00\x00\x00\x04",
             0,
-            CodeKind::BadTarget,
+            CodeFault::BadTarget,
         ),
     ];
     for (bytes, at, kind) in rows {
         match decode(rt.alloc(), bytes) {
-            Err(error) => assert_eq!(rt; error, CodeError::At { at, kind }, "{bytes:?}"),
+            Err(error) => assert_eq!(rt; error, Stop::Fault(At { at, kind }), "{bytes:?}"),
             Ok(_) => panic!(rt; "instructions in {bytes:?}"),
         }
     }
@@ -133,11 +135,11 @@ fn each_opcode(rt: HostRuntime) -> Result<(), Fail> {
                 }
                 Err(error) => {
                     let kind = match *letter {
-                        b'L' => CodeKind::LeftOut(opcode),
-                        _ => CodeKind::UnknownOpcode(opcode),
+                        b'L' => CodeFault::LeftOut(opcode),
+                        _ => CodeFault::UnknownOpcode(opcode),
                     };
                     assert!(rt; *letter == b'L' || *letter == b'U', "{opcode}");
-                    assert_eq!(rt; error, CodeError::At { at: 0, kind });
+                    assert_eq!(rt; error, Stop::Fault(At { at: 0, kind }));
                 }
             }
         }
@@ -169,24 +171,47 @@ fn padded(
     Ok(code)
 }
 
+/// Behind so many instructions of one byte, this many zero bytes stand before a switch's operands: up to a multiple of four. The
+/// size of each switch counts them: a table of one case has 17 bytes besides, a lookup of none has 9.
 #[test]
 fn paddings(rt: HostRuntime) -> Result<(), Fail> {
-    let rows = [(0, 3), (1, 2), (2, 1), (3, 0), (4, 3), (5, 2)];
+    let rows = [
+        (0, 3),
+        (1, 2),
+        (2, 1),
+        (3, 0),
+        (4, 3),
+        (5, 2),
+        (6, 1),
+        (7, 0),
+    ];
     for (before, pad) in rows {
-        let table = padded(rt.alloc(), 0xaa, before, pad, 0)?;
-        let ops = decode(rt.alloc(), table.as_slice())?;
-        assert!(rt; ops.len() == before + 1);
-        let lookup = padded(rt.alloc(), 0xab, before, pad, 0)?;
-        let ops = decode(rt.alloc(), lookup.as_slice())?;
-        assert!(rt; ops.len() == before + 1);
-        if pad > 0 {
-            let bad = padded(rt.alloc(), 0xaa, before, pad, 1)?;
-            let want = CodeError::At {
+        for (opcode, rest) in [(0xaau8, 17usize), (0xab, 9)] {
+            let code = padded(rt.alloc(), opcode, before, pad, 0)?;
+            let ops = decode(rt.alloc(), code.as_slice())?;
+            assert!(rt; ops.len() == before + 1, "{opcode} {before}");
+            assert_eq!(rt; ops[before].at as usize, before);
+            assert_eq!(rt; code.len(), before + pad + rest, "{opcode} {before}");
+            let again = encode(rt.alloc(), ops.as_slice())?;
+            assert!(rt; again.as_slice() == code.as_slice(), "{opcode} {before}");
+        }
+    }
+    Ok(())
+}
+
+/// The last byte before a switch's operands must be zero, as all of them.
+#[test]
+fn bad_paddings(rt: HostRuntime) -> Result<(), Fail> {
+    let rows = [(0, 3), (1, 2), (2, 1), (4, 3), (5, 2), (6, 1)];
+    for (before, pad) in rows {
+        for opcode in [0xaau8, 0xab] {
+            let bad = padded(rt.alloc(), opcode, before, pad, 1)?;
+            let want: CodeError = Stop::Fault(At {
                 at: before as u32,
-                kind: CodeKind::BadOperand,
-            };
+                kind: CodeFault::BadOperand,
+            });
             match decode(rt.alloc(), bad.as_slice()) {
-                Err(error) => assert_eq!(rt; error, want),
+                Err(error) => assert_eq!(rt; error, want, "{opcode} {before}"),
                 Ok(_) => panic!(rt; "padding"),
             }
         }

@@ -1,7 +1,8 @@
 use jcode::{
     Access, ArrayForm, ArrayType, CallOp, CastOp, Condition, ConvertOp, Effect, Element, FieldOp,
     Flow, Form, Kind, Kinds, LocalForm, LocalKind, LogicOp, MathOp, NumberKind, PoolForm, RefTest,
-    Returned, ShiftOp, Simple, StackOp, Switch, decode, effect_of, form_of,
+    Returned, ShiftOp, Simple, StackOp, Switch, branch_at, branch_count, decode, effect_of,
+    form_of, goes_on,
 };
 use std::test::Fail;
 
@@ -43,7 +44,7 @@ fn same(a: Form<&Switch>, b: Form<&Switch>) -> bool {
 fn forms_and_effects(rt: HostRuntime) -> Result<(), Fail> {
     use Kinds::{One, Three, Two};
     let nothing = Kinds::None;
-    let rows: [(&[u8], Form<&Switch>, Kinds, Option<Kind>); 40] = [
+    let rows: [(&[u8], Form<&Switch>, Kinds, Option<Kind>); 31] = [
         (b"\x00", Form::Simple(Simple::Nothing), nothing, None),
         (
             b"\x01",
@@ -61,25 +62,6 @@ fn forms_and_effects(rt: HostRuntime) -> Result<(), Fail> {
             Some(I),
         ),
         (b"\x0a", Form::Simple(Simple::Long(1)), nothing, Some(J)),
-        // ldc, ldc_w, ldc2_w
-        (
-            b"\x12\x07",
-            Form::Pool(PoolForm::Constant(7)),
-            nothing,
-            None,
-        ),
-        (
-            b"\x13\x00\x07",
-            Form::Pool(PoolForm::Constant(7)),
-            nothing,
-            None,
-        ),
-        (
-            b"\x14\x00\x09",
-            Form::Pool(PoolForm::LongConstant(9)),
-            nothing,
-            Some(J),
-        ),
         // iload_1, iload 1, wide iload 1
         (
             b"\x1b",
@@ -216,38 +198,7 @@ fn forms_and_effects(rt: HostRuntime) -> Result<(), Fail> {
             None,
         ),
         (b"\xbf", Form::Flow(Flow::Throw), One(R), None),
-        // putstatic, getfield, invokespecial, invokeinterface
-        (
-            b"\xb3\x00\x07",
-            Form::Pool(PoolForm::Field(FieldOp::PutStatic, 7)),
-            nothing,
-            None,
-        ),
-        (
-            b"\xb4\x00\x07",
-            Form::Pool(PoolForm::Field(FieldOp::GetField, 7)),
-            One(R),
-            None,
-        ),
-        (
-            b"\xb7\x00\x07",
-            Form::Pool(PoolForm::Call(CallOp::Special, 7)),
-            One(R),
-            None,
-        ),
-        (
-            b"\xb9\x00\x07\x02\x00",
-            Form::Pool(PoolForm::CallInterface(7, 2)),
-            One(R),
-            None,
-        ),
-        // new, newarray of char, arraylength, instanceof
-        (
-            b"\xbb\x00\x07",
-            Form::Pool(PoolForm::New(7)),
-            nothing,
-            Some(R),
-        ),
+        // newarray of char, arraylength
         (
             b"\xbc\x05",
             Form::Array(ArrayForm::New(ArrayType::Char)),
@@ -255,12 +206,6 @@ fn forms_and_effects(rt: HostRuntime) -> Result<(), Fail> {
             Some(A),
         ),
         (b"\xbe", Form::Array(ArrayForm::Length), One(A), Some(I)),
-        (
-            b"\xc1\x00\x07",
-            Form::Pool(PoolForm::Cast(CastOp::InstanceOf, 7)),
-            One(R),
-            Some(I),
-        ),
     ];
     for (code, form, takes, gives) in rows {
         let ops = decode(rt.alloc(), code)?;
@@ -271,6 +216,70 @@ fn forms_and_effects(rt: HostRuntime) -> Result<(), Fail> {
             effect_of(&found) == Some(Effect { takes, gives }),
             "{code:?}"
         );
+    }
+    Ok(())
+}
+
+/// The first instruction of each code is of the form, whose entry of the pool says what it takes and gives.
+#[test]
+fn forms_by_the_pool(rt: HostRuntime) -> Result<(), Fail> {
+    let rows: [(&[u8], PoolForm); 9] = [
+        // ldc, ldc_w, ldc2_w
+        (b"\x12\x07", PoolForm::Constant(7)),
+        (b"\x13\x00\x07", PoolForm::Constant(7)),
+        (b"\x14\x00\x09", PoolForm::LongConstant(9)),
+        // putstatic, getfield, invokespecial, invokeinterface
+        (b"\xb3\x00\x07", PoolForm::Field(FieldOp::PutStatic, 7)),
+        (b"\xb4\x00\x07", PoolForm::Field(FieldOp::GetField, 7)),
+        (b"\xb7\x00\x07", PoolForm::Call(CallOp::Special, 7)),
+        (b"\xb9\x00\x07\x02\x00", PoolForm::CallInterface(7, 2)),
+        // new, instanceof
+        (b"\xbb\x00\x07", PoolForm::New(7)),
+        (b"\xc1\x00\x07", PoolForm::Cast(CastOp::InstanceOf, 7)),
+    ];
+    for (code, form) in rows {
+        let ops = decode(rt.alloc(), code)?;
+        assert!(rt; !ops.is_empty(), "{code:?}");
+        let found = form_of(&ops[0].op);
+        assert!(rt; same(found, Form::Pool(form)), "{code:?}");
+        assert!(rt; effect_of(&found).is_none(), "{code:?}");
+    }
+    Ok(())
+}
+
+/// Where the first instruction of each code leads, and whether the next one may follow.
+#[test]
+fn branches_of_forms(rt: HostRuntime) -> Result<(), Fail> {
+    let rows: [(&[u8], &[i32], bool); 10] = [
+        (b"\x00", &[], true),
+        (b"\x12\x07", &[], true),
+        // ifeq, if_icmpne, ifnonnull
+        (b"\x99\x00\x03\xb1", &[3], true),
+        (b"\xa0\x00\x03\xb1", &[3], true),
+        (b"\xc7\x00\x03\xb1", &[3], true),
+        // goto, goto_w
+        (b"\xa7\x00\x03\xb1", &[3], false),
+        (b"\xc8\x00\x00\x00\x05\xb1", &[5], false),
+        // areturn, athrow
+        (b"\xb0", &[], false),
+        (b"\xbf", &[], false),
+        // lookupswitch: the default, then the branch of key 7
+        (
+            b"\xab\x00\x00\x00\x00\x00\x00\x15\x00\x00\x00\x01\x00\x00\x00\x07\x00\x00\x00\x14\xb1\xb1",
+            &[21, 20],
+            false,
+        ),
+    ];
+    for (code, branches, on) in rows {
+        let ops = decode(rt.alloc(), code)?;
+        assert!(rt; !ops.is_empty(), "{code:?}");
+        let form = form_of(&ops[0].op);
+        assert_eq!(rt; goes_on(&form), on, "{code:?}");
+        assert_eq!(rt; branch_count(&form), branches.len(), "{code:?}");
+        for (i, by) in branches.iter().enumerate() {
+            assert_eq!(rt; branch_at(&form, i), Some(*by), "{code:?}");
+        }
+        assert!(rt; branch_at(&form, branches.len()).is_none(), "{code:?}");
     }
     Ok(())
 }

@@ -1,7 +1,7 @@
 use Rattle.std.proofs.Common.{◌-◌, ◌<◌, length, refl}
 use Rattle.std.proofs.lemmas.Result.{err_from_is_err_and}
 use Rattle.jformat.proofs.Turns.{many_more, many_fail, many_done, many_over, is_none, is_some}
-use Rattle.jcode.specs.declared.kind.CodeKind.TheVariants.{Truncated}
+use Rattle.jcode.specs.declared.fault.CodeFault.TheVariants.{Truncated}
 use Rattle.jcode.specs.Instructions.{placed, place_behind, placed_at, instructions}
 use Rattle.jcode.proofs.Places.{goes, reads_placed, stops_placed}
 use Rattle.jcode.proofs.coding.ops_of.Goals as goal

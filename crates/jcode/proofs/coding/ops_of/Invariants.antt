@@ -2,7 +2,7 @@ use Rattle.std.proofs.Common.{◌≡◌, ◌-◌, ◌≤◌, length}
 use Rattle.jformat.specs.Format.{IsBytes}
 use Rattle.jformat.specs.States.{many_from}
 use Rattle.jformat.proofs.Turns.{with_list}
-use Rattle.jcode.specs.declared.kind.CodeKind.TheVariants.{Truncated}
+use Rattle.jcode.specs.declared.fault.CodeFault.TheVariants.{Truncated}
 use Rattle.jcode.specs.Instructions.{placed, place_behind}
 use Rattle.jcode.proofs.coding.ops_of.Given as goal
 

@@ -1,6 +1,9 @@
+use jbase::Stop;
+use jformat::At;
+
 /// What is wrong with code. The place of each is the first byte of its instruction.
 #[derive(Clone, Copy, Debug, PartialEq, Eq)]
-pub enum CodeKind {
+pub enum CodeFault {
     /// An instruction isn't wholly there.
     Truncated,
     /// No instruction has this opcode.
@@ -14,9 +17,5 @@ pub enum CodeKind {
     BadTarget,
 }
 
-/// Why code gave no instructions: the place of the first fault in the bytes, and what it is, or want of memory.
-#[derive(Clone, Copy, Debug, PartialEq, Eq)]
-pub enum CodeError {
-    At { at: u32, kind: CodeKind },
-    Memory,
-}
+/// Why code gave no instructions: the first fault and its place in the bytes, or want of memory.
+pub type CodeError = Stop<At<CodeFault>>;
