@@ -1,16 +1,16 @@
 -- Formats as later crates need them, and what their laws and readings compute to.
-use Rattle.std.proofs.Common.{◌≡◌, ℕ, ◌+◌, ◌⊎◌, Bool, true, false, cond, eqb, List, [], ◌∷◌, Ok, Err, refl, inl, inr, arith}
+use Rattle.std.proofs.Common.{◌≡◌, ℕ, ◌+◌, Bool, true, false, cond, eqb, List, [], ◌∷◌, Option, Some, None, Ok, Err, refl, arith}
 use Rattle.std.specs.Prelude.{ℤ, pos, negsuc}
 use Rattle.std.specs.Int.{w16, w32}
 use Rattle.std.proofs.lemmas.List.{length-append}
-use Rattle.jformat.specs.Format.{Format, void, byte, number, signed, ◌·◌, until, until_at}
+use Rattle.jformat.specs.Format.{Format, byte, number, signed, ◌·◌, until, until_at}
 use Rattle.jformat.specs.Bodies.{Body, whole, block, sized, counted, many, many_at, times_at}
-use Rattle.jformat.specs.Tags.{Tagged, tag, ◌∣◌, tagged}
+use Rattle.jformat.specs.Cases.{Cases, case, two_of, sole, ◌∣◌, union, IsOnce}
 use Rattle.jformat.specs.States.{many_by, many_from}
-use Rattle.jformat.proofs.Laws.{IsFormat, HasBytes, cond_law, wide16, wide32, void_law, byte_law, number_law, signed_law, pair_law, until_law}
+use Rattle.jformat.proofs.Laws.{IsFormat, HasBytes, cond_law, wide16, wide32, byte_law, number_law, signed_law, pair_law, until_law}
 use Rattle.jformat.proofs.Blocks.{IsBody, sized_law, block_law, counted_law, whole_law, many_law}
 use Rattle.jformat.proofs.Stateful.{many_by_law}
-use Rattle.jformat.proofs.Unions.{IsTagged, tag_law, either_law, tagged_law}
+use Rattle.jformat.proofs.Casing.{IsCases, case_law, sole_law, either_law, union_law}
 
 -- the kinds of fault are numbers here: 0 for what is cut, 1 for what is left over, a tag that isn't known for itself
 abbrev u1 : Format ℕ ℕ
@@ -22,14 +22,44 @@ u2 = number w16 0
 abbrev u4 : Format ℕ ℕ
 u4 = number w32 0
 
--- ---- a union of fifteen cases
+-- ---- a union of six forms; another has no spelling
 
-abbrev Cases : Type 0
-Cases = List ℕ ⊎ (ℕ ⊎ (ℕ ⊎ (ℕ ⊎ (ℕ ⊎ (ℕ ⊎ (ℕ ⊎ ((ℕ × ℕ) ⊎ ((ℕ × ℕ) ⊎ ((ℕ × ℕ) ⊎ ((ℕ × ℕ) ⊎ ((ℕ × ℕ) ⊎ (ℕ ⊎ ((ℕ × ℕ) ⊎ Unit {0})))))))))))))
+data Value : Type 0 where
+  Name : List ℕ → Value
+  Count : ℕ → Value
+  Pair : ℕ → ℕ → Value
+  Handle : ℕ → ℕ → Value
+  Start : Value
+  End : Value
+  Lost : Value
 
-abbrev cases : Tagged ℕ Cases
-cases = tag 1 (sized u2 0) ∣ tag 3 u4 ∣ tag 4 u4 ∣ tag 5 u4 ∣ tag 6 u4 ∣ tag 7 u2 ∣ tag 8 u2
-    ∣ tag 9 (u2 · u2) ∣ tag 10 (u2 · u2) ∣ tag 11 (u2 · u2) ∣ tag 12 (u2 · u2) ∣ tag 15 (u1 · u2) ∣ tag 16 u2 ∣ tag 18 (u2 · u2) ∣ tag 20 void
+abbrev name_parts : Value → Option (List ℕ)
+name_parts (Name text) = Some text
+name_parts _ = None
+
+abbrev count_parts : Value → Option ℕ
+count_parts (Count n) = Some n
+count_parts _ = None
+
+abbrev pair_parts : Value → Option (ℕ × ℕ)
+pair_parts (Pair m n) = Some (m, n)
+pair_parts _ = None
+
+abbrev handle_parts : Value → Option (ℕ × ℕ)
+handle_parts (Handle m n) = Some (m, n)
+handle_parts _ = None
+
+abbrev is_start : Value → Bool
+is_start Start = true
+is_start _ = false
+
+abbrev is_end : Value → Bool
+is_end End = true
+is_end _ = false
+
+abbrev cases : Cases ℕ Value
+cases = case 1 Name name_parts (sized u2 0) ∣ case 3 Count count_parts u4 ∣ case 9 (two_of Pair) pair_parts (u2 · u2)
+    ∣ case 15 (two_of Handle) handle_parts (u1 · u2) ∣ sole 16 Start is_start ∣ sole 18 End is_end
 
 u2_law : IsFormat u2
 u2_law = number_law w16 0 wide16
@@ -40,34 +70,33 @@ u4_law = number_law w32 0 wide32
 two_law : IsFormat (u2 · u2)
 two_law = pair_law u2 u2 u2_law u2_law
 
-cases_law : IsTagged cases
+cases_law : IsCases cases
 cases_law =
-    either_law _ _ refl (tag_law 1 _ (sized_law u2 0 u2_law))
-    (either_law _ _ refl (tag_law 3 _ u4_law)
-    (either_law _ _ refl (tag_law 4 _ u4_law)
-    (either_law _ _ refl (tag_law 5 _ u4_law)
-    (either_law _ _ refl (tag_law 6 _ u4_law)
-    (either_law _ _ refl (tag_law 7 _ u2_law)
-    (either_law _ _ refl (tag_law 8 _ u2_law)
-    (either_law _ _ refl (tag_law 9 _ two_law)
-    (either_law _ _ refl (tag_law 10 _ two_law)
-    (either_law _ _ refl (tag_law 11 _ two_law)
-    (either_law _ _ refl (tag_law 12 _ two_law)
-    (either_law _ _ refl (tag_law 15 _ (pair_law u1 u2 (byte_law 0) u2_law))
-    (either_law _ _ refl (tag_law 16 _ u2_law)
-    (either_law _ _ refl (tag_law 18 _ two_law)
-    (tag_law 20 _ void_law))))))))))))))
+    either_law refl (case_law name_parts (λ p. refl) (sized_law u2 0 u2_law))
+    (either_law refl (case_law count_parts (λ p. refl) u4_law)
+    (either_law refl (case_law pair_parts (λ p. refl) (pair_law u2 u2 u2_law u2_law))
+    (either_law refl (case_law handle_parts (λ p. refl) (pair_law u1 u2 (byte_law 0) u2_law))
+    (either_law refl (sole_law is_start refl)
+    (sole_law is_end refl)))))
 
-union_law : IsFormat (tagged 0 (λ t. t) cases)
-union_law = tagged_law 0 (λ t. t) cases cases_law
+once : (v : Value) → IsOnce cases v
+once Lost = (refl, refl)
+once _ = (refl, refl)
 
--- a class entry, and a byte behind it
-class_entry : (tagged 0 (λ t. t) cases).read (7 ∷ 0 ∷ 5 ∷ 9 ∷ []) ≡ Ok (inr (inr (inr (inr (inr (inl 5))))), 9 ∷ [])
-class_entry = refl
+value : Format ℕ Value
+value = union 0 (λ t. t) cases
 
--- no entry begins with 2
-unknown_entry : (tagged 0 (λ t. t) cases).read (2 ∷ 0 ∷ 5 ∷ []) ≡ Err (record { left = 3; kind = 2 })
-unknown_entry = refl
+value_law : IsFormat value
+unfolding value
+value_law = union_law 0 (λ t. t) cases once cases_law
+
+-- a count, and a byte behind it
+count_read : (union 0 (λ t. t) cases).read (3 ∷ 0 ∷ 0 ∷ 1 ∷ 5 ∷ 9 ∷ []) ≡ Ok (Count 261, 9 ∷ [])
+count_read = refl
+
+-- no form begins with 2
+unknown_read : (union 0 (λ t. t) cases).read (2 ∷ 0 ∷ 5 ∷ []) ≡ Err (record { left = 3; kind = 2 })
+unknown_read = refl
 
 -- ---- a block whose length stands in front of it, with a counted list of signed numbers inside
 

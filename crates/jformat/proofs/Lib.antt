@@ -1,4 +1,5 @@
 pub mod Blocks
+pub mod Casing
 pub mod Examples
 pub mod Laws
 pub mod Placing

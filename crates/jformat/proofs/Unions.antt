@@ -15,7 +15,7 @@ pub record IsTagged {K A : Type 0} (f : Tagged K A) : Type 0 where
   pub again : (a : A) (rest : List ℕ) → IsTrue (f.fits a) → (t : ℕ) × (more : List ℕ) × (f.spell a ++ rest ≡ t ∷ more) × (is_in t f.begins ≡ true) × (f.read t more ≡ Ok (a, rest))
   pub reading : (t : ℕ) → IsReading (f.read t)
 
-is_in_append : (t : ℕ) (us vs : List ℕ) → is_in t (us ++ vs) ≡ cond (is_in t us) true (is_in t vs)
+pub is_in_append : (t : ℕ) (us vs : List ℕ) → is_in t (us ++ vs) ≡ cond (is_in t us) true (is_in t vs)
 is_in_append t [] vs = refl
 is_in_append t (u ∷ us) vs = elim (cases_Bool (eqb t u)) [ inl hit ↦ rw hit refl | inr miss ↦ rw miss (is_in_append t us vs) ]
 
@@ -26,10 +26,10 @@ not_true false h = refl
 true_or_false : (b : Bool) → b ≡ true → b ≡ false → ⊥
 true_or_false b h k = cc
 
-in_one : (t u : ℕ) → is_in t (u ∷ []) ≡ true → t ≡ u
+pub in_one : (t u : ℕ) → is_in t (u ∷ []) ≡ true → t ≡ u
 in_one t u e = elim (cases_Bool (eqb t u)) [ inl hit ↦ eqb-true _ _ hit | inr miss ↦ absurd (true_or_false _ e (rw miss refl)) ]
 
-not_in_first : (t : ℕ) (us vs : List ℕ) → IsTrue (apart us vs) → is_in t vs ≡ true → is_in t us ≡ false
+pub not_in_first : (t : ℕ) (us vs : List ℕ) → IsTrue (apart us vs) → is_in t vs ≡ true → is_in t us ≡ false
 not_in_first t [] vs A h = refl
 not_in_first t (u ∷ us) vs A h =
     elim (cases_Bool (eqb t u)) [
@@ -100,7 +100,7 @@ either_again f g P F G (inr b) rest fit =
     let out = not_in_first h.0 f.begins g.begins P h.3 in
     (h.0, h.1, h.2, is_in_append h.0 f.begins g.begins ∙ rw out h.3, rw (out, one) refl)
 
-cond_reading : {K A : Type 0} (b : Bool) (r s : List ℕ → Answer K A) → IsReading r → IsReading s → IsReading (λ bytes. cond b (r bytes) (s bytes))
+pub cond_reading : {K A : Type 0} (b : Bool) (r s : List ℕ → Answer K A) → IsReading r → IsReading s → IsReading (λ bytes. cond b (r bytes) (s bytes))
 cond_reading true r s R S = R
 cond_reading false r s R S = S
 

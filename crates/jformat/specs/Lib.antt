@@ -1,4 +1,5 @@
 pub mod Bodies
+pub mod Cases
 pub mod Format
 pub mod Passes
 pub mod Places
