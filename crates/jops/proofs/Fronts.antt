@@ -1,7 +1,7 @@
 -- Moves of the stack look at the items that go alone.
 use Rattle.std.proofs.Common.{◌≡◌, ℕ, ◌≤◌, ◌++◌, List, [], ◌∷◌, length, take, refl, Option, Some, None, ap, subst, arith}
-use Rattle.jops.specs.declared.names.Shuffle.{Shuffle}
-use Rattle.jops.specs.declared.names.Shuffle.TheVariants.{Pop, Pop2, Dup, DupX1, DupX2, Dup2, Dup2X1, Dup2X2, Swap}
+use Rattle.jnames.specs.declared.names.Shuffle.{Shuffle}
+use Rattle.jnames.specs.declared.names.Shuffle.TheVariants.{Pop, Pop2, Dup, DupX1, DupX2, Dup2, Dup2X1, Dup2X2, Swap}
 use Rattle.jops.specs.Shuffles.{Item, One, Two, Move, moves, pop, pop2, dup, dup_x1, dup_x2, dup2, dup2_x1, dup2_x2, swap, shuffle}
 
 abbrev pub Front : {V : Type 0} → (List (Item V) → Option (Move V)) → Type 0

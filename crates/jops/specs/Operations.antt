@@ -7,14 +7,14 @@ use Rattle.std.specs.Ordering.{int_eq}
 use Rattle.jops.specs.declared.value.Value.{Value}
 use Rattle.jops.specs.declared.value.Value.TheVariants.{Int, Long, Ref}
 use Rattle.jops.specs.declared.value.DivideByZero.{DivideByZero}
-use Rattle.jops.specs.declared.names.Division.{Division}
-use Rattle.jops.specs.declared.names.Division.TheVariants.{Idiv, Irem, Ldiv, Lrem}
-use Rattle.jops.specs.declared.names.OpTwo.{OpTwo}
-use Rattle.jops.specs.declared.names.OpTwo.TheVariants.{Iadd, Ladd, Isub, Lsub, Imul, Lmul, Ishl, Lshl, Ishr, Lshr, Iushr, Lushr, Iand, Land, Ior, Lor, Ixor, Lxor, Lcmp}
-use Rattle.jops.specs.declared.names.OpOne.{OpOne}
-use Rattle.jops.specs.declared.names.OpOne.TheVariants.{Ineg, Lneg, I2l, L2i, I2b, I2c, I2s}
-use Rattle.jops.specs.declared.names.Compare.{Compare}
-use Rattle.jops.specs.declared.names.Compare.TheVariants as compares
+use Rattle.jnames.specs.declared.names.Division.{Division}
+use Rattle.jnames.specs.declared.names.Division.TheVariants.{Idiv, Irem, Ldiv, Lrem}
+use Rattle.jnames.specs.declared.names.OpTwo.{OpTwo}
+use Rattle.jnames.specs.declared.names.OpTwo.TheVariants.{Iadd, Ladd, Isub, Lsub, Imul, Lmul, Ishl, Lshl, Ishr, Lshr, Iushr, Lushr, Iand, Land, Ior, Lor, Ixor, Lxor, Lcmp}
+use Rattle.jnames.specs.declared.names.OpOne.{OpOne}
+use Rattle.jnames.specs.declared.names.OpOne.TheVariants.{Ineg, Lneg, I2l, L2i, I2b, I2c, I2s}
+use Rattle.jnames.specs.declared.names.Compare.{Compare}
+use Rattle.jnames.specs.declared.names.Compare.TheVariants as compares
 
 -- ---- kinds
 

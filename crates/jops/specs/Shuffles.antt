@@ -2,8 +2,8 @@
 use Rattle.std.specs.Prelude.{◌≡◌, ℕ, ◌≤◌, ◌++◌, Bool, true, false, if◌then◌else◌, List, [], ◌∷◌, length, map, take, reverse, Option, Some, None}
 use Rattle.jops.specs.declared.value.Value.{Value}
 use Rattle.jops.specs.declared.value.Value.TheVariants.{Long}
-use Rattle.jops.specs.declared.names.Shuffle.{Shuffle}
-use Rattle.jops.specs.declared.names.Shuffle.TheVariants.{Pop, Pop2, Dup, DupX1, DupX2, Dup2, Dup2X1, Dup2X2, Swap}
+use Rattle.jnames.specs.declared.names.Shuffle.{Shuffle}
+use Rattle.jnames.specs.declared.names.Shuffle.TheVariants.{Pop, Pop2, Dup, DupX1, DupX2, Dup2, Dup2X1, Dup2X2, Swap}
 use Rattle.jops.specs.declared.shuffling.Shuffled.{Shuffled}
 
 -- an item of the stack by its category (JVMS 2.11.1): one slot, or two slots as a long fills

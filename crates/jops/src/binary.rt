@@ -2,10 +2,10 @@ ghost use Rattle.std.specs.Prelude.{◌≡◌, ◌<◌, Some, IsSome, negsuc, po
 ghost use Rattle.jops.specs.Operations;
 ghost use Rattle.jops.specs.Operations.{low_5, low_6, order};
 
-use crate::names::OpTwo;
 use crate::operands::{int_of, long_of};
 use crate::value::Value;
 use crate::{ints, longs};
+use jnames::OpTwo;
 
 /// How far an int is shifted.
 fn by_int(y: i32) -> u32

@@ -2,9 +2,9 @@ ghost use Rattle.std.specs.Prelude.{◌≡◌, Some, IsSome};
 ghost use Rattle.jops.specs.Operations;
 ghost use Rattle.jops.specs.Operations.{same};
 
-use crate::names::Compare;
 use crate::operands::int_of;
 use crate::value::Value;
+use jnames::Compare;
 
 fn same(a: Value, b: Value) -> bool
     requires { IsSome (same a b) }

@@ -2,10 +2,10 @@ ghost use Rattle.std.specs.Prelude.{◌≡◌, Some, IsSome, is_err};
 ghost use Rattle.jops.specs.Operations;
 ghost use Rattle.jops.specs.Operations.{is_zero};
 
-use crate::names::Division;
 use crate::operands::{int_of, long_of};
 use crate::value::{DivideByZero, Value};
 use crate::{ints, longs};
+use jnames::Division;
 
 fn int_quotient(x: i32, y: i32) -> Result<Value, DivideByZero>
     ensures { result ≡ Operations.int_quotient x y }

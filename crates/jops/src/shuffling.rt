@@ -2,8 +2,8 @@ ghost use Rattle.std.specs.Prelude.{◌≡◌, ◌≤◌, [], ◌∷◌, Some, I
 ghost use Rattle.jops.specs.Shuffles;
 ghost use Rattle.jops.specs.Shuffles.{item, items, moved, moves};
 
-use crate::names::Shuffle;
 use crate::value::Value;
+use jnames::Shuffle;
 
 /// What becomes of the newest items of a stack: the newest `taken` go, and the first `put` of `values` come, the last of them
 /// newest.

@@ -1,10 +1,10 @@
 ghost use Rattle.std.specs.Prelude.{◌≡◌, Some, IsSome};
 ghost use Rattle.jops.specs.Operations;
 
-use crate::names::OpOne;
 use crate::operands::{int_of, long_of};
 use crate::value::Value;
 use crate::{ints, longs};
+use jnames::OpOne;
 
 /// What an instruction with one operand gives (JVMS 6.5): the least int or long is its own negative, and what is made narrower
 /// keeps its low bits. The operand is of the kind that the instruction takes.

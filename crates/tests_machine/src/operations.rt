@@ -1,14 +1,13 @@
 ghost use Rattle.std.specs.Prelude.{◌≤◌};
 
-use jops::OpOne::{I2b, I2c, I2l, I2s, Ineg, L2i, Lneg};
-use jops::OpTwo::{
+use jnames::OpOne::{I2b, I2c, I2l, I2s, Ineg, L2i, Lneg};
+use jnames::OpTwo::{
     Iadd, Iand, Imul, Ior, Ishl, Ishr, Isub, Iushr, Ixor, Ladd, Land, Lcmp, Lmul, Lor, Lshl, Lshr,
     Lsub, Lushr, Lxor,
 };
 use jops::Value::{Int, Long, Ref};
-use jops::{
-    Compare, DivideByZero, Division, Shuffle, Shuffled, Value, divide, one, shuffle, test, two,
-};
+use jnames::{Compare, Division, Shuffle};
+use jops::{DivideByZero, Shuffled, Value, divide, one, shuffle, test, two};
 
 /// The least and the greatest int and long.
 const LEAST: i32 = -2_147_483_648;

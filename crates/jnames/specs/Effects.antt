@@ -1,0 +1,65 @@
+-- The kinds of operands that instructions which compute take and give, the newest operand first (JVMS 6.5).
+use Rattle.std.specs.Prelude.{Option, Some, None}
+use Rattle.jnames.specs.declared.names.OpTwo.{OpTwo}
+use Rattle.jnames.specs.declared.names.OpTwo.TheVariants as two
+use Rattle.jnames.specs.declared.names.OpOne.{OpOne}
+use Rattle.jnames.specs.declared.names.OpOne.TheVariants as one
+use Rattle.jnames.specs.declared.names.Division.{Division}
+use Rattle.jnames.specs.declared.names.Division.TheVariants as divisions
+use Rattle.jnames.specs.declared.kinds.Kind.{Kind}
+use Rattle.jnames.specs.declared.kinds.Kind.TheVariants.{Int, Long}
+use Rattle.jnames.specs.declared.kinds.Kinds.{Kinds}
+use Rattle.jnames.specs.declared.kinds.Kinds.TheVariants as kinds
+use Rattle.jnames.specs.declared.kinds.Effect.{Effect}
+
+abbrev pub gives : Kinds → Kind → Effect
+gives ks k = record { takes = ks; gives = Some k }
+
+abbrev pub takes : Kinds → Effect
+takes ks = record { takes = ks; gives = None }
+
+-- two ints to an int, two longs to a long, and a long and a newer int to a long
+abbrev pub ints : Effect
+ints = gives (kinds.Two Int Int) Int
+
+abbrev pub longs : Effect
+longs = gives (kinds.Two Long Long) Long
+
+abbrev pub long_by_int : Effect
+long_by_int = gives (kinds.Two Int Long) Long
+
+abbrev pub two_effect : OpTwo → Effect
+two_effect two.Iadd = ints
+two_effect two.Isub = ints
+two_effect two.Imul = ints
+two_effect two.Ishl = ints
+two_effect two.Ishr = ints
+two_effect two.Iushr = ints
+two_effect two.Iand = ints
+two_effect two.Ior = ints
+two_effect two.Ixor = ints
+two_effect two.Ladd = longs
+two_effect two.Lsub = longs
+two_effect two.Lmul = longs
+two_effect two.Land = longs
+two_effect two.Lor = longs
+two_effect two.Lxor = longs
+two_effect two.Lshl = long_by_int
+two_effect two.Lshr = long_by_int
+two_effect two.Lushr = long_by_int
+two_effect two.Lcmp = gives (kinds.Two Long Long) Int
+
+abbrev pub one_effect : OpOne → Effect
+one_effect one.Ineg = gives (kinds.One Int) Int
+one_effect one.Lneg = gives (kinds.One Long) Long
+one_effect one.I2l = gives (kinds.One Int) Long
+one_effect one.L2i = gives (kinds.One Long) Int
+one_effect one.I2b = gives (kinds.One Int) Int
+one_effect one.I2c = gives (kinds.One Int) Int
+one_effect one.I2s = gives (kinds.One Int) Int
+
+abbrev pub division_effect : Division → Effect
+division_effect divisions.Idiv = ints
+division_effect divisions.Irem = ints
+division_effect divisions.Ldiv = longs
+division_effect divisions.Lrem = longs
