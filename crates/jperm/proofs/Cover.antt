@@ -139,7 +139,7 @@ others_nothing q asked list alone h = rw (alone, others_together q asked list h)
 
 -- ---- a list of one
 
-none_given : (wanted : ℕ) → (wanted == 0) ≡ false → has_all 0 wanted ≡ false
+pub none_given : (wanted : ℕ) → (wanted == 0) ≡ false → has_all 0 wanted ≡ false
 none_given wanted h = rw (zero-and wanted) (grind (arith, nat_tests))
 
 one_gives : (b : Bool) (actions wanted : ℕ) → (wanted == 0) ≡ false → has_all (bit_or 0 (if b then actions else 0)) wanted ≡ (b && has_all actions wanted)

@@ -2,6 +2,7 @@ pub mod Bits
 pub mod Blanks
 pub mod Chain
 pub mod Cover
+pub mod Named
 pub mod Parts
 pub mod Same
 pub mod Starts

@@ -11,7 +11,8 @@ use Rattle.jperm.specs.declared.action.Action.{Action}
 use Rattle.jperm.specs.Actions.{bit}
 use Rattle.jperm.specs.Paths.{slash}
 use Rattle.jperm.specs.Pieces.{pieces, pieces_if}
-use Rattle.jperm.specs.Written.{next, names_of}
+use Rattle.jperm.specs.Absolute.{is_absolute}
+use Rattle.jperm.specs.Written.{next, names_of, path_of_names}
 
 -- how much is left to go along, where what is left may be there
 abbrev pub left_of : Option (List ℕ) → ℕ
@@ -62,7 +63,7 @@ onto-append : {X : Type 0} (x : X) (parts more : List (List X)) → 0 < length p
 onto-append x [] more h = absurd (omega arith)
 onto-append x (part ∷ parts) more h = refl
 
-some_parts : (at : ℕ) (text : List ℕ) → 0 < length (pieces at text)
+pub some_parts : (at : ℕ) (text : List ℕ) → 0 < length (pieces at text)
 some_parts at text = omega (arith, length-slice_split (λ u. nat_eq u at) text)
 
 split_at_unit : (at u : ℕ) (front text : List ℕ) (b : Bool) → nat_eq u at ≡ b → pieces at (front ++ at ∷ text) ≡ pieces at front ++ pieces at text → cond b ([] ∷ pieces at (front ++ at ∷ text)) (onto_first u (pieces at (front ++ at ∷ text))) ≡ cond b ([] ∷ pieces at front) (onto_first u (pieces at front)) ++ pieces at text
@@ -78,13 +79,18 @@ pub goes_from : (b : Bool) (directory name : List ℕ) → fold next (if b then 
 goes_from true directory name = refl
 goes_from false directory name = sym (ap (λ (parts : List (List ℕ)). fold next [] parts) (pieces-append slash directory name) ∙ fold-append next [] (pieces slash directory) (pieces slash name))
 
+-- the path of some names begins at the root
+pub begins_at_root : (names : List (List ℕ)) (path : List ℕ) → path ≡ path_of_names names → is_absolute path ≡ true
+begins_at_root [] path is = ap is_absolute is
+begins_at_root (name ∷ names) path is = ap is_absolute is
+
 -- ---- the actions of a text
 
 -- the set that has some actions already, and those that are left, where each piece that is left names one
 abbrev pub joined_with : ℕ → Option (List Action) → Option ℕ
 joined_with actions left = option_map (fold (λ all action. bit_or all (bit action)) actions) left
 
-joined_next : (actions : ℕ) (action : Action) (left : Option (List Action)) → joined_with actions (put_front (Some action) left) ≡ joined_with (bit_or actions (bit action)) left
+pub joined_next : (actions : ℕ) (action : Action) (left : Option (List Action)) → joined_with actions (put_front (Some action) left) ≡ joined_with (bit_or actions (bit action)) left
 joined_next actions action (Some more) = refl
 joined_next actions action None = refl
 

@@ -1,10 +1,11 @@
 -- Actions, sets of them, and the texts that name them (class documentation of PropertyPermission and FilePermission).
-use Rattle.std.specs.Prelude.{ℕ, Bool, ◌==◌, List, [], ◌∷◌, Option, map, reverse, fold, bit_and, bit_or, if◌then◌else◌, codes}
+use Rattle.std.specs.Prelude.{ℕ, Bool, ◌==◌, ◌&&◌, not, List, [], ◌∷◌, Option, reverse, fold, bit_and, bit_or, if◌then◌else◌, codes}
 use Rattle.std.specs.List.{find}
 use Rattle.std.specs.Option.{option_map}
-use Rattle.std.specs.Str.{bytes_eq, byte}
-use Rattle.std.specs.Char.{is_ascii_whitespace, to_ascii_lowercase}
+use Rattle.std.specs.Str.{byte}
+use Rattle.std.specs.Char.{is_ascii_whitespace}
 use Rattle.jbase.specs.Each.{each_some}
+use Rattle.jtext.specs.Texts.{same_ignoring_case}
 use Rattle.jperm.specs.Pieces.{pieces}
 use Rattle.jperm.specs.declared.action.Action.{Action}
 use Rattle.jperm.specs.declared.action.Action.TheVariants.{Read, Write, Execute, Delete, Readlink}
@@ -41,6 +42,10 @@ has_all actions asked = bit_and actions asked == asked
 abbrev pub set_of : List Action → ℕ
 set_of actions = fold (λ all action. bit_or all (bit action)) 0 actions
 
+-- whether a set has some actions of a kind, and no other bits
+abbrev pub has_some_of : List Action → ℕ → Bool
+has_some_of kind set = not (set == 0) && has_all (set_of kind) set
+
 -- what a text has behind its blanks at the front; blanks are space, tab, line feed, form feed and carriage return
 unfoldable pub behind_blanks : List ℕ → List ℕ
 behind_blanks [] = []
@@ -52,7 +57,7 @@ trimmed text = reverse (behind_blanks (reverse (behind_blanks text)))
 
 -- the action of a kind that a word names, where ASCII letter case doesn't count
 abbrev pub named : List Action → List ℕ → Option Action
-named kind text = find (λ action. bytes_eq (map to_ascii_lowercase text) (word action)) kind
+named kind text = find (λ action. same_ignoring_case text (word action)) kind
 
 -- the set of the actions that a text names, split at commas, where each piece names an action of the kind
 abbrev pub actions_of : List Action → List ℕ → Option ℕ

@@ -1,3 +1,4 @@
+pub mod Absolute
 pub mod Actions
 pub mod Made
 pub mod Names

@@ -1,9 +1,10 @@
 -- The path that a written name gives (class documentation of FilePermission; by text alone, no link is followed).
 use Rattle.std.specs.Prelude.{ℕ, Bool, ◌-◌, ◌||◌, List, [], ◌∷◌, ◌++◌, length, take, fold, nat_eq, if◌then◌else◌, codes}
-use Rattle.std.specs.List.{starts_with, ends_with, flat_map}
+use Rattle.std.specs.List.{ends_with, flat_map}
 use Rattle.std.specs.Str.{bytes_eq}
 use Rattle.jperm.specs.declared.path.FilePath.{FilePath}
 use Rattle.jperm.specs.declared.path.FilePath.TheVariants.{AllFiles, Below, Children, Exact}
+use Rattle.jperm.specs.Absolute.{is_absolute}
 use Rattle.jperm.specs.Names.{but_last}
 use Rattle.jperm.specs.Paths.{slash}
 use Rattle.jperm.specs.Pieces.{pieces}
@@ -27,7 +28,7 @@ path_of_names (name ∷ names) = flat_map (λ n. slash ∷ n) (name ∷ names)
 -- the path that a name gives where it is read in a directory: behind it where the name doesn't begin with a slash, and then without `.`, `..` and needless slashes
 abbrev pub absolute : List ℕ → List ℕ → List ℕ
 absolute directory name =
-    path_of_names (names_of (if starts_with nat_eq name (codes "/") then name else directory ++ (codes "/" ++ name)))
+    path_of_names (names_of (if is_absolute name then name else directory ++ (codes "/" ++ name)))
 
 -- whether a name is a sign, or ends in a slash and the sign
 abbrev pub has_sign : List ℕ → List ℕ → Bool

@@ -1,10 +1,13 @@
-ghost use Rattle.std.specs.Prelude.{◌≡◌, ◌++◌, codes, map, reverse};
-ghost use Rattle.std.specs.Str.{bytes_eq};
-ghost use Rattle.std.specs.Char.{is_ascii_whitespace, to_ascii_lowercase};
+ghost use Rattle.std.specs.Prelude.{◌≡◌, ◌++◌, codes, reverse};
+ghost use Rattle.std.specs.Option.{option_map};
+ghost use Rattle.std.specs.Char.{is_ascii_whitespace};
 ghost use Rattle.jperm.specs.Actions.{bit, word, has_all, trimmed, behind_blanks, named, actions_of};
 
 use crate::pieces::first_piece;
+use crate::set::Actions;
 use crate::words;
+use bitflags::Flags;
+use jtext::same_ignoring_case;
 
 const COMMA: u16 = b',' as u16;
 
@@ -31,16 +34,29 @@ pub const FILE_ACTIONS: [Action; 5] = [
 ];
 
 impl Action {
-    /// The bit that stands for the action in a set of actions.
-    pub fn bit(self) -> u8
-        ensures { result ≡ bit self }
+    /// The set of the action alone: the bit that stands for it.
+    pub fn bit(self) -> Actions
+        ensures { result.0 ≡ bit self }
     {
         match self {
-            Action::Read => 1,
-            Action::Write => 2,
-            Action::Execute => 4,
-            Action::Delete => 8,
-            Action::Readlink => 16,
+            Action::Read => Actions::READ,
+            Action::Write => Actions::WRITE,
+            Action::Execute => Actions::EXECUTE,
+            Action::Delete => Actions::DELETE,
+            Action::Readlink => Actions::READLINK,
+        }
+    }
+
+    /// The word that names the action, as bytes.
+    fn name(self) -> &'static [u8]
+        ensures { result.now ≡ word self }
+    {
+        match self {
+            Action::Read => b"read",
+            Action::Write => b"write",
+            Action::Execute => b"execute",
+            Action::Delete => b"delete",
+            Action::Readlink => b"readlink",
         }
     }
 
@@ -66,21 +82,21 @@ impl Action {
 }
 
 /// Whether a set of actions has all of another one.
-pub fn has_all(actions: u8, asked: u8) -> bool
-    ensures { result ≡ has_all actions asked }
+pub fn has_all(actions: Actions, asked: Actions) -> bool
+    ensures { result ≡ has_all actions.0 asked.0 }
 {
-    actions & asked == asked
+    actions.contains(asked)
 }
 
 /// The set of the actions that a text names, split at commas, where each piece names an action of the kind.
-pub fn actions_of(kind: &[Action], text: &[u16]) -> Option<u8>
-    ensures { result ≡ actions_of kind.now text.now }
+pub fn actions_of(kind: &[Action], text: &[u16]) -> Option<Actions>
+    ensures { option_map (λ set. set.0) result ≡ actions_of kind.now text.now }
 {
-    let mut actions = 0;
+    let mut actions = Actions::empty();
     let mut left = Some(text);
     while let Some(rest) = left {
         let (piece, behind) = first_piece(rest, COMMA);
-        actions |= named(kind, trimmed(piece))?.bit();
+        actions.insert(named(kind, trimmed(piece))?.bit());
         left = behind;
     }
     Some(actions)
@@ -92,33 +108,7 @@ fn named(kind: &[Action], text: &[u16]) -> Option<Action>
 {
     kind.iter()
         .copied()
-        .find(|action| is_word(text, action.word()))
-}
-
-/// Whether a text is a word, where ASCII letter case doesn't count.
-fn is_word(text: &[u16], word: &[u16]) -> bool
-    ensures { result ≡ bytes_eq (map to_ascii_lowercase text.now) word.now }
-{
-    if text.len() != word.len() {
-        return false;
-    }
-    for (i, unit) in text.iter().enumerate() {
-        if lower(*unit) != word[i] {
-            return false;
-        }
-    }
-    true
-}
-
-/// The lower-case unit of an ASCII letter; any other unit itself.
-fn lower(unit: u16) -> u16
-    ensures { result ≡ to_ascii_lowercase unit }
-{
-    if unit >= b'A' as u16 && unit <= b'Z' as u16 {
-        unit + 32
-    } else {
-        unit
-    }
+        .find(|action| same_ignoring_case(text, action.name()))
 }
 
 /// A text without the blanks round it.

@@ -1,6 +1,8 @@
-ghost use Rattle.std.specs.Prelude.{◌≡◌, ◌↔◌, ℕ, List, [], ◌∷◌, ◌++◌, ◌&&◌, true, false, bit_or, length};
+ghost use Rattle.std.specs.Prelude.{◌≡◌, ◌↔◌, ℕ, List, Option, Ok, [], ◌∷◌, ◌++◌, ◌&&◌, true, false, bit_or, length};
 ghost use Rattle.std.specs.List.{Contains, flat_map};
 ghost use Rattle.jperm.specs.declared.permission.Permission.{Permission};
+ghost use Rattle.jperm.specs.declared.making.PermClass.{PermClass};
+ghost use Rattle.jperm.specs.Made.{made};
 ghost use Rattle.jperm.specs.Permissions.{equal, implies, covers, united, gives, stands_alone, asks_nothing, is_unresolved};
 ghost use Rattle.jperm.specs.Texts.{parts, text_of};
 
@@ -21,10 +23,18 @@ pub fn covers_laws()
     ensures one { (list : List Permission) (q asked : Permission) → Contains list q → implies q asked ≡ true → covers list asked ≡ true }
     ensures alone { (q asked : Permission) → asks_nothing asked ≡ false → covers (q ∷ []) asked ≡ implies q asked }
     ensures implied { (list : List Permission) (p q : Permission) → covers list p ≡ true → implies p q ≡ true → covers list q ≡ true }
-    ensures more { (list more : List Permission) (asked : Permission) → ((q : Permission) → Contains list q → Contains more q) → covers list asked ≡ true → covers more asked ≡ true }
+    ensures more { (list more : List Permission) (asked : Permission) → ((q : Permission) → Contains list q → Contains more q)
+        → covers list asked ≡ true → covers more asked ≡ true }
     ensures behind { (list more : List Permission) (asked : Permission) → covers list asked ≡ true → covers (list ++ more) asked ≡ true }
     ensures united { (list more : List Permission) (asked : Permission) → united (list ++ more) asked ≡ bit_or (united list asked) (united more asked) }
-    ensures others { (q asked : Permission) (list : List Permission) → (stands_alone q && implies q asked) ≡ false → gives q asked ≡ 0 → covers (q ∷ list) asked ≡ covers list asked }
+    ensures others { (q asked : Permission) (list : List Permission) → (stands_alone q && implies q asked) ≡ false → gives q asked ≡ 0
+        → covers (q ∷ list) asked ≡ covers list asked }
+{}
+
+/// The law of made permissions: none of a kind with actions is made without them.
+pub fn made_laws()
+    ensures actions { (class : PermClass) (name actions : Option (List ℕ)) (directory : List ℕ) (p : Permission)
+        → made class name actions directory ≡ Ok p → asks_nothing p ≡ false }
 {}
 
 /// The law of a permission's text: its parts in a row.

@@ -8,13 +8,15 @@ mod name;
 mod path;
 mod permission;
 mod pieces;
+mod set;
 mod text;
 mod words;
 mod written;
 
 pub use action::Action;
-pub use laws::{covers_laws, permission_laws, text_laws};
+pub use laws::{covers_laws, made_laws, permission_laws, text_laws};
 pub use making::{PermClass, PermError, make};
-pub use path::FilePath;
+pub use path::{AbsolutePath, FilePath};
 pub use permission::{BasicClass, Permission, covers};
+pub use set::{Actions, FileActions, PropertyActions};
 pub use text::PARTS;

@@ -6,6 +6,7 @@ ghost use Rattle.jperm.specs.Texts.{text_of_class, class_named};
 
 use crate::action::{Action, FILE_ACTIONS, PROPERTY_ACTIONS, actions_of};
 use crate::permission::{BasicClass, Permission};
+use crate::set::{Actions, FileActions, PropertyActions};
 use crate::words;
 use crate::written::path_of;
 use jtext::Units;
@@ -121,7 +122,7 @@ fn property(
     let actions = wanted(&PROPERTY_ACTIONS, actions)?;
     Ok(Permission::Property {
         name: name.copy(alloc)?,
-        actions,
+        actions: PropertyActions::new(actions),
     })
 }
 
@@ -141,7 +142,7 @@ fn file(
     Ok(Permission::File {
         path: path_of(alloc, cwd.as_slice(), name.as_slice())?,
         name: name.copy(alloc)?,
-        actions,
+        actions: FileActions::new(actions),
     })
 }
 
@@ -159,8 +160,8 @@ fn filled(name: Option<&Units>) -> Result<&Units, PermError>
 }
 
 /// The set of actions of a kind that a text gives, where there is a text.
-fn wanted(kind: &[Action], actions: Option<&Units>) -> Result<u8, PermError>
-    ensures { result ≡ wanted kind.now (option_copied actions.entry) }
+fn wanted(kind: &[Action], actions: Option<&Units>) -> Result<Actions, PermError>
+    ensures { MatchResult result (λ set. wanted kind.now (option_copied actions.entry) ≡ Ok set.0) (λ e. wanted kind.now (option_copied actions.entry) ≡ Err e) }
 {
     match actions {
         Some(text) => actions_of(kind, text.as_slice()).ok_or(PermError::BadActions),

@@ -1,9 +1,9 @@
 ghost use Rattle.std.specs.Prelude.{◌≡◌, ◌≤◌, IsTrue, length};
 ghost use Rattle.jperm.specs.Names.{name_covers, is_wildcard};
 
-const DOT: u16 = 46;
+const DOT: u16 = b'.' as u16;
 
-const STAR: u16 = 42;
+const STAR: u16 = b'*' as u16;
 
 /// Whether a name covers the asked one.
 pub fn name_covers(name: &[u16], asked: &[u16]) -> bool

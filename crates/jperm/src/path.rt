@@ -1,24 +1,70 @@
 ghost use Rattle.std.specs.Prelude.{◌≡◌, ◌≤◌, ◌||◌, ◌++◌, IfOk, IsTrue, length, codes};
 ghost use Rattle.std.specs.Str.{bytes_eq};
+ghost use Rattle.jperm.specs.Absolute.{is_absolute};
 ghost use Rattle.jperm.specs.Names.{goes_on};
 ghost use Rattle.jperm.specs.Paths.{path_covers, same_path, is_below, is_in, inside};
 
 use jtext::Units;
 use std::alloc::{AllocError, Global};
+use std::marker::Model;
 
-const SLASH: u16 = 47;
+const SLASH: u16 = b'/' as u16;
 
-/// What the path of a file permission names. A path is absolute and has no final `*` or `-`.
+/// A path that begins at the root. Contracts see its text.
+#[derive(Debug, Drop)]
+pub struct AbsolutePath {
+    text: Units,
+}
+
+impl Model for AbsolutePath {
+    ghost use Rattle.std.specs.Prelude.{ℕ, List, IsTrue};
+    ghost use Rattle.jperm.specs.Absolute.{is_absolute};
+
+    ghost Value = { List ℕ };
+
+    ghost view = { λ p. p.text };
+
+    ghost invariant = { λ p. IsTrue (is_absolute p.text) };
+}
+
+impl AbsolutePath {
+    /// The path of a text that begins with a slash. It takes no memory.
+    pub fn new(text: Units) -> AbsolutePath
+        requires { IsTrue (is_absolute text) }
+        ensures { result ≡ text }
+    {
+        AbsolutePath { text }
+    }
+
+    /// The units of the path, lent.
+    pub fn as_slice(&self) -> &[u16]
+        ensures value { result.now ≡ self.now }
+        ensures absolute { IsTrue (is_absolute self.now) }
+    {
+        self.text.as_slice()
+    }
+
+    /// The same path again.
+    pub fn copy(&self, alloc: Global) -> Result<AbsolutePath, AllocError>
+        ensures { IfOk result (λ p. p ≡ self.now) }
+    {
+        Ok(AbsolutePath {
+            text: self.text.copy(alloc)?,
+        })
+    }
+}
+
+/// What the path of a file permission names. The final `/-` or `/*` of a written path isn't part of it.
 #[derive(Debug, Drop)]
 pub enum FilePath {
     /// Every path, written `<<ALL FILES>>`.
     AllFiles,
     /// Every path below a directory, written with a final `/-`.
-    Below(Units),
+    Below(AbsolutePath),
     /// The files directly in a directory, written with a final `/*`.
-    Children(Units),
+    Children(AbsolutePath),
     /// One path.
-    Exact(Units),
+    Exact(AbsolutePath),
 }
 
 impl FilePath {
@@ -32,14 +78,21 @@ impl FilePath {
                 dir.as_slice(),
                 path.as_slice(),
             ),
-            (FilePath::Below(dir), FilePath::Children(other)) => is_at_or_below(dir, other),
-            (FilePath::Below(dir), FilePath::Below(other)) => is_at_or_below(dir, other),
+            (FilePath::Below(dir), FilePath::Children(other)) => is_at_or_below(
+                dir.as_slice(),
+                other.as_slice(),
+            ),
+            (FilePath::Below(dir), FilePath::Below(other)) => is_at_or_below(
+                dir.as_slice(),
+                other.as_slice(),
+            ),
             (FilePath::Children(dir), FilePath::Exact(path)) => is_in(
                 dir.as_slice(),
                 path.as_slice(),
             ),
-            (FilePath::Children(dir), FilePath::Children(other)) => same_text(dir, other),
-            (FilePath::Exact(path), FilePath::Exact(other)) => same_text(path, other),
+            (FilePath::Children(dir), FilePath::Children(other)) => dir.as_slice()
+                == other.as_slice(),
+            (FilePath::Exact(path), FilePath::Exact(other)) => path.as_slice() == other.as_slice(),
             _ => false,
         }
     }
@@ -50,9 +103,10 @@ impl FilePath {
     {
         match (self, other) {
             (FilePath::AllFiles, FilePath::AllFiles) => true,
-            (FilePath::Below(dir), FilePath::Below(other)) => same_text(dir, other),
-            (FilePath::Children(dir), FilePath::Children(other)) => same_text(dir, other),
-            (FilePath::Exact(path), FilePath::Exact(other)) => same_text(path, other),
+            (FilePath::Below(dir), FilePath::Below(other)) => dir.as_slice() == other.as_slice(),
+            (FilePath::Children(dir), FilePath::Children(other)) => dir.as_slice()
+                == other.as_slice(),
+            (FilePath::Exact(path), FilePath::Exact(other)) => path.as_slice() == other.as_slice(),
             _ => false,
         }
     }
@@ -78,10 +132,10 @@ pub fn same_text(text: &Units, other: &Units) -> bool
 }
 
 /// Whether a directory is the given one or lies below it.
-fn is_at_or_below(dir: &Units, other: &Units) -> bool
+fn is_at_or_below(dir: &[u16], other: &[u16]) -> bool
     ensures { result ≡ (bytes_eq dir.now other.now || is_below dir.now other.now) }
 {
-    same_text(dir, other) || is_below(dir.as_slice(), other.as_slice())
+    dir == other || is_below(dir, other)
 }
 
 /// Whether a path lies in a directory, with no other directory between them.

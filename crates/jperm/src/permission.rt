@@ -4,6 +4,8 @@ ghost use Rattle.jperm.specs.Permissions.{implies, covers, equal, united, gives,
 use crate::action::has_all;
 use crate::name::name_covers;
 use crate::path::{FilePath, same_text};
+use crate::set::{Actions, FileActions, PropertyActions};
+use bitflags::Flags;
 use jtext::Units;
 use std::alloc::{AllocError, Global};
 
@@ -26,17 +28,16 @@ pub enum Permission {
         class: BasicClass,
         name: Units,
     },
-    /// `java.util.PropertyPermission`. The actions are the bits of a set of `Action`.
+    /// `java.util.PropertyPermission`.
     Property {
         name: Units,
-        actions: u8,
+        actions: PropertyActions,
     },
-    /// `java.io.FilePermission`. The name is as it was written, and the path is what it names. The actions are the bits of a
-    /// set of `Action`.
+    /// `java.io.FilePermission`. The name is as it was written, and the path is what it names.
     File {
         path: FilePath,
         name: Units,
-        actions: u8,
+        actions: FileActions,
     },
     /// A permission of a policy that no class or constructor makes.
     Unresolved {
@@ -64,7 +65,9 @@ impl Permission {
                     name: wanted,
                     actions: all,
                 },
-            ) => { name_covers(name.as_slice(), wanted.as_slice()) && has_all(*actions, *all) }
+            ) => {
+                name_covers(name.as_slice(), wanted.as_slice()) && has_all(actions.set(), all.set())
+            }
             (
                 Permission::File { path, actions, .. },
                 Permission::File {
@@ -72,7 +75,7 @@ impl Permission {
                     actions: all,
                     ..
                 },
-            ) => { path.covers(wanted) && has_all(*actions, *all) }
+            ) => { path.covers(wanted) && has_all(actions.set(), all.set()) }
             _ => false,
         }
     }
@@ -97,7 +100,7 @@ impl Permission {
                     name: wanted,
                     actions: all,
                 },
-            ) => { same_text(name, wanted) && *actions == *all }
+            ) => { same_text(name, wanted) && actions.set() == all.set() }
             (
                 Permission::File {
                     path,
@@ -109,7 +112,7 @@ impl Permission {
                     name: other,
                     actions: all,
                 },
-            ) => { path.equal(wanted) && same_text(name, other) && *actions == *all }
+            ) => { path.equal(wanted) && same_text(name, other) && actions.set() == all.set() }
             (Permission::Unresolved { class }, Permission::Unresolved { class: other }) => {
                 same_text(class, other)
             }
@@ -129,7 +132,7 @@ impl Permission {
             }),
             Permission::Property { name, actions } => Ok(Permission::Property {
                 name: name.copy(alloc)?,
-                actions: *actions,
+                actions: actions.copy(),
             }),
             Permission::File {
                 path,
@@ -138,7 +141,7 @@ impl Permission {
             } => Ok(Permission::File {
                 path: path.copy(alloc)?,
                 name: name.copy(alloc)?,
-                actions: *actions,
+                actions: actions.copy(),
             }),
             Permission::Unresolved { class } => Ok(Permission::Unresolved {
                 class: class.copy(alloc)?,
@@ -147,21 +150,25 @@ impl Permission {
     }
 
     /// The actions that this permission gives on the asked one.
-    fn gives(&self, asked: &Permission) -> u8
-        ensures { result ≡ gives self.now asked.now }
+    fn gives(&self, asked: &Permission) -> Actions
+        ensures { result.0 ≡ gives self.now asked.now }
     {
         match (self, asked) {
             (Permission::Property { name, actions }, Permission::Property { name: wanted, .. }) => {
                 if name_covers(name.as_slice(), wanted.as_slice()) {
-                    *actions
+                    actions.set()
                 } else {
-                    0
+                    Actions::empty()
                 }
             }
             (Permission::File { path, actions, .. }, Permission::File { path: wanted, .. }) => {
-                if path.covers(wanted) { *actions } else { 0 }
+                if path.covers(wanted) {
+                    actions.set()
+                } else {
+                    Actions::empty()
+                }
             }
-            _ => 0,
+            _ => Actions::empty(),
         }
     }
 
@@ -188,10 +195,14 @@ fn same_class(class: BasicClass, other: BasicClass) -> bool
 }
 
 /// The actions that the members of a list give together on the asked permission.
-fn united(list: &[Permission], asked: &Permission) -> u8
-    ensures { result ≡ united list.now asked.now }
+fn united(list: &[Permission], asked: &Permission) -> Actions
+    ensures { result.0 ≡ united list.now asked.now }
 {
-    list.iter().fold(0, |all, member| all | member.gives(asked))
+    let mut all = Actions::empty();
+    for member in list {
+        all.insert(member.gives(asked));
+    }
+    all
 }
 
 /// Whether a member of a kind that has no actions implies the asked permission.
@@ -207,8 +218,8 @@ fn together(list: &[Permission], asked: &Permission) -> bool
     ensures { result ≡ together list.now asked.now }
 {
     match asked {
-        Permission::Property { actions, .. } => has_all(united(list, asked), *actions),
-        Permission::File { actions, .. } => has_all(united(list, asked), *actions),
+        Permission::Property { actions, .. } => has_all(united(list, asked), actions.set()),
+        Permission::File { actions, .. } => has_all(united(list, asked), actions.set()),
         _ => false,
     }
 }

@@ -7,6 +7,7 @@ ghost use Rattle.jperm.specs.Texts.{class_name, name_of, actions_text, text_of, 
 use crate::action::{Action, FILE_ACTIONS, has_all};
 use crate::making::PermClass;
 use crate::permission::{BasicClass, Permission};
+use crate::set::Actions;
 use crate::words;
 use jtext::Units;
 use std::alloc::{AllocError, Global};
@@ -65,8 +66,8 @@ impl Permission {
     {
         match self {
             Permission::All => true,
-            Permission::Property { actions, .. } => has_any(*actions),
-            Permission::File { actions, .. } => has_any(*actions),
+            Permission::Property { actions, .. } => has_any(actions.set()),
+            Permission::File { actions, .. } => has_any(actions.set()),
             _ => false,
         }
     }
@@ -77,8 +78,8 @@ impl Permission {
     {
         match self {
             Permission::All => if at == 0 { &words::ALL_ACTIONS } else { &[] },
-            Permission::Property { actions, .. } => set_part(*actions, at),
-            Permission::File { actions, .. } => set_part(*actions, at),
+            Permission::Property { actions, .. } => set_part(actions.set(), at),
+            Permission::File { actions, .. } => set_part(actions.set(), at),
             _ => &[],
         }
     }
@@ -118,8 +119,8 @@ impl Permission {
 }
 
 /// The part at a place of the words of a set of actions.
-fn set_part(actions: u8, at: usize) -> &'static [u16]
-    ensures { result.now ≡ slice_index_or (word_parts (λ action. has_all actions (bit action)) false file_actions) at [] }
+fn set_part(actions: Actions, at: usize) -> &'static [u16]
+    ensures { result.now ≡ slice_index_or (word_parts (λ action. has_all actions.0 (bit action)) false file_actions) at [] }
 {
     let read = has_all(actions, Action::Read.bit());
     let write = has_all(actions, Action::Write.bit());
@@ -136,8 +137,8 @@ fn set_part(actions: u8, at: usize) -> &'static [u16]
 }
 
 /// The word of an action where the action is in a set, behind a comma where an earlier one is; else nothing.
-fn word_part(action: Action, actions: u8, behind: bool) -> &'static [u16]
-    ensures { result.now ≡ (if has_all actions (bit action) then (if behind then codes "," ++ word action else word action) else []) }
+fn word_part(action: Action, actions: Actions, behind: bool) -> &'static [u16]
+    ensures { result.now ≡ (if has_all actions.0 (bit action) then (if behind then codes "," ++ word action else word action) else []) }
 {
     if !has_all(actions, action.bit()) {
         &[]
@@ -149,8 +150,8 @@ fn word_part(action: Action, actions: u8, behind: bool) -> &'static [u16]
 }
 
 /// Whether an action is in a set.
-fn has_any(actions: u8) -> bool
-    ensures { result ≡ list_any (λ action. has_all actions (bit action)) file_actions }
+fn has_any(actions: Actions) -> bool
+    ensures { result ≡ list_any (λ action. has_all actions.0 (bit action)) file_actions }
 {
     FILE_ACTIONS
         .iter()

@@ -1,10 +1,10 @@
 ghost use Rattle.std.specs.Prelude.{◌≡◌, ◌≤◌, ◌∷◌, [], IfOk, OnOk, IsTrue, length, codes, fold, nat_eq, if◌then◌else◌};
-ghost use Rattle.std.specs.List.{starts_with};
+ghost use Rattle.jperm.specs.Absolute.{is_absolute};
 ghost use Rattle.jperm.specs.Written.{path_of, absolute, path_of_names, has_sign, names_of, next};
 ghost use Rattle.jperm.specs.Paths.{slash};
 ghost use Rattle.jperm.specs.Pieces.{pieces};
 
-use crate::path::FilePath;
+use crate::path::{AbsolutePath, FilePath};
 use crate::pieces::first_piece;
 use crate::words;
 use jtext::Units;
@@ -38,18 +38,19 @@ fn has_sign(sign: u16, name: &[u16]) -> bool
 }
 
 /// The path that a name gives where it is read in a directory.
-#[tactic(auto, using(crate::proofs::Walks::goes_from))]
-fn absolute(alloc: Global, directory: &[u16], name: &[u16]) -> Result<Units, AllocError>
+#[tactic(auto, using(crate::proofs::Walks::goes_from, crate::proofs::Walks::begins_at_root))]
+fn absolute(alloc: Global, directory: &[u16], name: &[u16]) -> Result<AbsolutePath, AllocError>
     ensures { IfOk result (λ p. p ≡ absolute directory.now name.now) }
 {
     let mut names = start(alloc, directory, name)?;
     follow(alloc, &mut names, name)?;
-    path_of_names(alloc, &names)
+    let path = path_of_names(alloc, &names)?;
+    Ok(AbsolutePath::new(path))
 }
 
 /// The names from which a name leads on: none where it begins with a slash, else the directory's.
 fn start(alloc: Global, directory: &[u16], name: &[u16]) -> Result<Vec<Units>, AllocError>
-    ensures { IfOk result (λ names. names.items ≡ (if starts_with nat_eq name.now (codes "/") then [] else names_of directory.now)) }
+    ensures { IfOk result (λ names. names.items ≡ (if is_absolute name.now then [] else names_of directory.now)) }
 {
     let mut names = Vec::new(alloc);
     if name.starts_with(&[SLASH]) {

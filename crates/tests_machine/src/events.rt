@@ -1,17 +1,15 @@
 use jio::MemorySink;
-use jperm::Permission;
+use jperm::{Actions, Permission, PropertyActions};
 use jtext::Units;
 use jtrace::{End, Event, write_end, write_event};
 use std::alloc::{AllocError, Global};
 use std::test::Fail;
 
-const READ: u8 = 1;
-
 /// A check's permission on the property `x`.
 fn asked(alloc: Global) -> Result<Permission, AllocError> {
     Ok(Permission::Property {
         name: Units::from_text(alloc, "x")?,
-        actions: READ,
+        actions: PropertyActions::new(Actions::READ),
     })
 }
 

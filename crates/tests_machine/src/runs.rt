@@ -3,7 +3,7 @@ use jengine::{
     DEFAULT_DEPTH, DEFAULT_HEAP, DEFAULT_STEPS, Domains, Form, Method, Plan, Program, run_inspect,
 };
 use jio::MemorySink;
-use jperm::Permission;
+use jperm::{Actions, Permission, PropertyActions};
 use jtext::Units;
 use jtrace::End;
 use std::alloc::{AllocError, Global};
@@ -56,7 +56,7 @@ fn domains(alloc: Global, has: [bool; 2]) -> Result<Domains, AllocError> {
         if one {
             permissions.push(Permission::Property {
                 name: Units::from_text(alloc, "x")?,
-                actions: 1,
+                actions: PropertyActions::new(Actions::READ),
             })?;
         }
         granted.push(permissions)?;

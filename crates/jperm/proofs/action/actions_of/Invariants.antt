@@ -9,7 +9,7 @@ use Rattle.jperm.proofs.action.actions_of.Given as goal
 
 abbrev pub invariant-loop-left : goal.invariant-loop-left
 invariant-loop-left l =
-    joined_with l.actions (each_some (λ piece. named l.fn.kind (trimmed piece)) (pieces_if (byte ",") (option_copied l.left)))
+    joined_with l.actions.0 (each_some (λ piece. named l.fn.kind (trimmed piece)) (pieces_if (byte ",") (option_copied l.left)))
     ≡ actions_of l.fn.kind l.fn.text
 
 abbrev pub decreases-loop-left : goal.decreases-loop-left
