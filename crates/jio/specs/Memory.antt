@@ -47,6 +47,11 @@ pub record ShelfState : Type 0 where
   pub writes : ℕ
   pub write_faults : ℕ
 
+-- A shelf of these files before its first read and write.
+abbrev pub new_shelf : List File → List ℕ → List ℕ → ShelfState
+new_shelf files bad_reads bad_writes =
+    record { files = files; bad_reads = bad_reads; reads = 0; read_faults = 0; bad_writes = bad_writes; writes = 0; write_faults = 0 }
+
 -- The next read is to fail.
 abbrev pub read_listed : ShelfState → Bool
 read_listed shelf = is_listed shelf.bad_reads (next shelf.reads)
@@ -77,6 +82,10 @@ pub record SinkState : Type 0 where
   pub bad_puts : List ℕ
   pub puts : ℕ
   pub faults : ℕ
+
+-- A sink of so much room before its first put.
+abbrev pub new_sink : ℕ → List ℕ → SinkState
+new_sink room bad_puts = record { bytes = []; room = room; bad_puts = bad_puts; puts = 0; faults = 0 }
 
 -- What the next put answers.
 abbrev pub put_gives : SinkState → List ℕ → Result ℕ SinkError

@@ -1,8 +1,10 @@
 -- How a text is written in a line, and how a line goes out in pieces.
-use Rattle.std.specs.Prelude.{◌≡◌, ℕ, ◌*◌, ◌/◌, ◌%◌, List, [], ◌∷◌, ◌++◌, length, take, drop, Option, nat_le, ◌==◌, ◌&&◌, if◌then◌else◌, false}
+use Rattle.std.specs.Prelude.{◌≡◌, ℕ, ◌*◌, ◌/◌, ◌%◌, List, [], ◌∷◌, ◌++◌, length, take, drop, Option, Result, IfErr, nat_le, ◌==◌, ◌&&◌, if◌then◌else◌, false}
 use Rattle.std.specs.Fmt.{digit_glyph}
 use Rattle.jbase.specs.Causes.{appended}
+use Rattle.jio.specs.Puts.{IsCutAt}
 use Rattle.jio.specs.declared.TheConstants.{PIECE}
+use Rattle.jio.specs.declared.sink.PutFault.{PutFault}
 
 -- One UTF-16 unit: a printable one of ASCII stands for itself, but a backslash is written twice; any other is `\u` and
 -- four lower-case hexadecimal digits.
@@ -34,3 +36,17 @@ under_way bytes = record { written = whole (length bytes); pending = drop (whole
 pub record IsUnderWay (start now : Option (List ℕ)) (state : LineState) (bytes : List ℕ) : Type 0 where
   pub line : state ≡ under_way bytes
   pub out : now ≡ appended start (take (whole (length bytes)) bytes)
+
+-- These bytes came behind the line's: it goes on so, whatever it had before.
+abbrev pub Goes : Option (List ℕ) → Option (List ℕ) → LineState → LineState → List ℕ → Type 0
+Goes before now line next bytes =
+    (start : Option (List ℕ)) (text : List ℕ) → IsUnderWay start before line text → IsUnderWay start now next (text ++ bytes)
+
+-- At a fault that came at these bytes: of the line, whatever it had before and would have behind them, so many bytes went out.
+abbrev pub Breaks : {T : Type 0} → Option (List ℕ) → Option (List ℕ) → LineState → List ℕ → Result T PutFault → Type 0
+Breaks before now line bytes result =
+    (start : Option (List ℕ)) (text more : List ℕ) → IsUnderWay start before line text → IfErr result (λ e. IsCutAt start now (text ++ bytes ++ more) e.written)
+
+-- At a fault that came where the line was ended: of all its bytes so many went out.
+abbrev pub BreaksAtEnd : {T : Type 0} → Option (List ℕ) → Option (List ℕ) → LineState → Result T PutFault → Type 0
+BreaksAtEnd before now line result = (start : Option (List ℕ)) (text : List ℕ) → IsUnderWay start before line text → IfErr result (λ e. IsCutAt start now text e.written)

@@ -2,7 +2,7 @@ ghost use Rattle.std.specs.Prelude.{◌≡◌, ◌+◌, ◌*◌, ◌<◌, ◌≤
 ghost use Rattle.std.specs.Fmt.{digit_glyph};
 ghost use Rattle.jbase.specs.Causes.{HasCause, appended};
 ghost use Rattle.jio.specs.Puts.{IsCutAt};
-ghost use Rattle.jio.specs.Text.{written, written_unit, IsUnderWay};
+ghost use Rattle.jio.specs.Text.{written, written_unit, IsUnderWay, Goes, Breaks, BreaksAtEnd};
 
 use crate::PIECE;
 use crate::sink::{PutFault, Sink, put_all};
@@ -57,8 +57,8 @@ impl Line {
 
     fn byte<K: Sink>(&mut self, out: &mut K, byte: u8) -> Result<(), PutFault>
         requires { self.old.written + length self.old.pending + 1 < 2 ^ 64 }
-        ensures ok { (start : Option (List ℕ)) (text : List ℕ) → IsUnderWay start (K.out out.old) self.old text → OnOk result (IsUnderWay start (K.out out.new) self.new (text ++ byte ∷ [])) }
-        ensures err { (start : Option (List ℕ)) (text more : List ℕ) → IsUnderWay start (K.out out.old) self.old text → IfErr result (λ e. IsCutAt start (K.out out.new) (text ++ byte ∷ [] ++ more) e.written) }
+        ensures ok { OnOk result (Goes (K.out out.old) (K.out out.new) self.old self.new (byte ∷ [])) }
+        ensures err { Breaks (K.out out.old) (K.out out.new) self.old (byte ∷ []) result }
         ensures cause { HasCause (K.faults out.old) (K.faults out.new) result }
         ensures room { OnOk result (self.new.written + length self.new.pending ≤ self.old.written + length self.old.pending + 1) }
     {
@@ -82,8 +82,8 @@ impl Line {
     /// Puts these bytes behind the line's.
     pub fn bytes<K: Sink>(&mut self, out: &mut K, bytes: &[u8]) -> Result<(), PutFault>
         requires { self.old.written + length self.old.pending + length bytes.now < 2 ^ 64 }
-        ensures ok { (start : Option (List ℕ)) (text : List ℕ) → IsUnderWay start (K.out out.old) self.old text → OnOk result (IsUnderWay start (K.out out.new) self.new (text ++ bytes.now)) }
-        ensures err { (start : Option (List ℕ)) (text more : List ℕ) → IsUnderWay start (K.out out.old) self.old text → IfErr result (λ e. IsCutAt start (K.out out.new) (text ++ bytes.now ++ more) e.written) }
+        ensures ok { OnOk result (Goes (K.out out.old) (K.out out.new) self.old self.new bytes.now) }
+        ensures err { Breaks (K.out out.old) (K.out out.new) self.old bytes.now result }
         ensures cause { HasCause (K.faults out.old) (K.faults out.new) result }
         ensures room { OnOk result (self.new.written + length self.new.pending ≤ self.old.written + length self.old.pending + length bytes.now) }
     {
@@ -95,8 +95,8 @@ impl Line {
 
     fn unit<K: Sink>(&mut self, out: &mut K, unit: u16) -> Result<(), PutFault>
         requires { self.old.written + length self.old.pending + 6 < 2 ^ 64 }
-        ensures ok { (start : Option (List ℕ)) (text : List ℕ) → IsUnderWay start (K.out out.old) self.old text → OnOk result (IsUnderWay start (K.out out.new) self.new (text ++ written_unit unit)) }
-        ensures err { (start : Option (List ℕ)) (text more : List ℕ) → IsUnderWay start (K.out out.old) self.old text → IfErr result (λ e. IsCutAt start (K.out out.new) (text ++ written_unit unit ++ more) e.written) }
+        ensures ok { OnOk result (Goes (K.out out.old) (K.out out.new) self.old self.new (written_unit unit)) }
+        ensures err { Breaks (K.out out.old) (K.out out.new) self.old (written_unit unit) result }
         ensures cause { HasCause (K.faults out.old) (K.faults out.new) result }
         ensures room { OnOk result (self.new.written + length self.new.pending ≤ self.old.written + length self.old.pending + 6) }
     {
@@ -116,8 +116,8 @@ impl Line {
     /// Puts a text behind the line's bytes, as texts are written in lines.
     pub fn text<K: Sink>(&mut self, out: &mut K, units: &[u16]) -> Result<(), PutFault>
         requires { self.old.written + length self.old.pending + 6 * length units.now < 2 ^ 64 }
-        ensures ok { (start : Option (List ℕ)) (text : List ℕ) → IsUnderWay start (K.out out.old) self.old text → OnOk result (IsUnderWay start (K.out out.new) self.new (text ++ written units.now)) }
-        ensures err { (start : Option (List ℕ)) (text more : List ℕ) → IsUnderWay start (K.out out.old) self.old text → IfErr result (λ e. IsCutAt start (K.out out.new) (text ++ written units.now ++ more) e.written) }
+        ensures ok { OnOk result (Goes (K.out out.old) (K.out out.new) self.old self.new (written units.now)) }
+        ensures err { Breaks (K.out out.old) (K.out out.new) self.old (written units.now) result }
         ensures cause { HasCause (K.faults out.old) (K.faults out.new) result }
         ensures room { OnOk result (self.new.written + length self.new.pending ≤ self.old.written + length self.old.pending + 6 * length units.now) }
     {
@@ -130,8 +130,8 @@ impl Line {
     /// Puts a number's decimal digits behind the line's bytes.
     pub fn number<K: Sink>(&mut self, out: &mut K, number: u64) -> Result<(), PutFault>
         requires { self.old.written + length self.old.pending + 20 < 2 ^ 64 }
-        ensures ok { (start : Option (List ℕ)) (text : List ℕ) → IsUnderWay start (K.out out.old) self.old text → OnOk result (IsUnderWay start (K.out out.new) self.new (text ++ decimal number)) }
-        ensures err { (start : Option (List ℕ)) (text more : List ℕ) → IsUnderWay start (K.out out.old) self.old text → IfErr result (λ e. IsCutAt start (K.out out.new) (text ++ decimal number ++ more) e.written) }
+        ensures ok { OnOk result (Goes (K.out out.old) (K.out out.new) self.old self.new (decimal number)) }
+        ensures err { Breaks (K.out out.old) (K.out out.new) self.old (decimal number) result }
         ensures cause { HasCause (K.faults out.old) (K.faults out.new) result }
         ensures room { OnOk result (self.new.written + length self.new.pending ≤ self.old.written + length self.old.pending + 20) }
     {
@@ -142,7 +142,7 @@ impl Line {
     /// Ends the line: puts what is pending.
     pub fn end<K: Sink>(self, out: &mut K) -> Result<(), PutFault>
         ensures ok { (start : Option (List ℕ)) (text : List ℕ) → IsUnderWay start (K.out out.old) self text → OnOk result (K.out out.new ≡ appended start text) }
-        ensures err { (start : Option (List ℕ)) (text : List ℕ) → IsUnderWay start (K.out out.old) self text → IfErr result (λ e. IsCutAt start (K.out out.new) text e.written) }
+        ensures err { BreaksAtEnd (K.out out.old) (K.out out.new) self result }
         ensures cause { HasCause (K.faults out.old) (K.faults out.new) result }
     {
         match put_all(out, &self.buffer[..self.filled]) {

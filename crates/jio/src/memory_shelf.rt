@@ -4,7 +4,7 @@ ghost use Rattle.jbase.specs.Causes.{Rose};
 ghost use Rattle.jio.specs.declared.TheConstants.{MOST_READ};
 ghost use Rattle.jio.specs.declared.shelf.ShelfError.TheVariants.{Memory, Failed};
 ghost use Rattle.jio.specs.Held.{PathsDiffer, Told, Lacks, SameElsewhere, stored, file_at};
-ghost use Rattle.jio.specs.Memory.{files_of, place_from, read_listed, read_gives, after_read, write_listed, after_write};
+ghost use Rattle.jio.specs.Memory.{files_of, new_shelf, place_from, read_listed, read_gives, after_read, write_listed, after_write};
 
 use crate::MOST_READ;
 use crate::shelf::{Shelf, ShelfError};
@@ -28,7 +28,15 @@ impl Model for MemoryShelf {
 
     ghost Value = { ShelfState };
 
-    ghost view = { λ s. record { files = files_of s.files.items; bad_reads = s.bad_reads.items; reads = s.reads; read_faults = s.read_faults; bad_writes = s.bad_writes.items; writes = s.writes; write_faults = s.write_faults } };
+    ghost view = { λ s. record {
+      files = files_of s.files.items;
+      bad_reads = s.bad_reads.items;
+      reads = s.reads;
+      read_faults = s.read_faults;
+      bad_writes = s.bad_writes.items;
+      writes = s.writes;
+      write_faults = s.write_faults;
+    } };
 }
 
 fn place(files: &[(String, Vec<u8>)], path: &str) -> Option<usize>
@@ -97,7 +105,7 @@ impl MemoryShelf {
         bad_writes: Vec<u64>,
     ) -> Result<MemoryShelf, AllocError>
         requires { PathsDiffer (files_of files.items) }
-        ensures { IfOk result (λ s. s ≡ record { files = files_of files.items; bad_reads = bad_reads.items; reads = 0; read_faults = 0; bad_writes = bad_writes.items; writes = 0; write_faults = 0 }) }
+        ensures { IfOk result (λ s. s ≡ new_shelf (files_of files.items) bad_reads.items bad_writes.items) }
     {
         Ok(MemoryShelf {
             files,

@@ -1,6 +1,6 @@
-ghost use Rattle.std.specs.Prelude.{◌≡◌, ◌<◌, ◌≤◌, [], Some, IfOk, OnErr, length, take};
+ghost use Rattle.std.specs.Prelude.{◌≡◌, ◌<◌, ◌≤◌, Some, IfOk, OnErr, length, take};
 ghost use Rattle.jbase.specs.Causes.{HasCause, appended};
-ghost use Rattle.jio.specs.Memory.{next, put_gives, after_put};
+ghost use Rattle.jio.specs.Memory.{new_sink, next, put_gives, after_put};
 
 use crate::sink::{Sink, SinkError};
 use std::alloc::{AllocError, Global};
@@ -30,7 +30,7 @@ impl Model for MemorySink {
 impl MemorySink {
     /// An empty sink with room for so many bytes, which are reserved here. The puts whose numbers are listed fail.
     pub fn open(alloc: Global, room: usize, bad_puts: Vec<u64>) -> Result<MemorySink, AllocError>
-        ensures { IfOk result (λ s. s ≡ record { bytes = []; room = room; bad_puts = bad_puts.items; puts = 0; faults = 0 }) }
+        ensures { IfOk result (λ s. s ≡ new_sink room bad_puts.items) }
     {
         Ok(MemorySink {
             bytes: Vec::with_capacity(alloc, room)?,

@@ -2,7 +2,7 @@ ghost use Rattle.std.specs.Prelude.{◌≡◌, ℕ, ◌+◌, ◌<◌, ◌≤◌,
 ghost use Rattle.jbase.specs.Causes.{HasCause, appended};
 ghost use Rattle.jio.specs.Puts.{IsCutAt};
 ghost use Rattle.jio.specs.LineOf.{part_of, part_room, line_of, room_of};
-ghost use Rattle.jio.specs.Text.{IsUnderWay};
+ghost use Rattle.jio.specs.Text.{Goes, Breaks};
 
 use crate::lines::Line;
 use crate::sink::{PutFault, Sink};
@@ -20,8 +20,8 @@ pub enum Part<'a> {
 
 fn put_part<K: Sink>(line: &mut Line, out: &mut K, part: Part<'_>) -> Result<(), PutFault>
     requires { line.old.written + length line.old.pending + part_room part < 2 ^ 64 }
-    ensures ok { (start : Option (List ℕ)) (text : List ℕ) → IsUnderWay start (K.out out.old) line.old text → OnOk result (IsUnderWay start (K.out out.new) line.new (text ++ part_of part.entry)) }
-    ensures err { (start : Option (List ℕ)) (text more : List ℕ) → IsUnderWay start (K.out out.old) line.old text → IfErr result (λ e. IsCutAt start (K.out out.new) (text ++ part_of part.entry ++ more) e.written) }
+    ensures ok { OnOk result (Goes (K.out out.old) (K.out out.new) line.old line.new (part_of part.entry)) }
+    ensures err { Breaks (K.out out.old) (K.out out.new) line.old (part_of part.entry) result }
     ensures cause { HasCause (K.faults out.old) (K.faults out.new) result }
     ensures room { OnOk result (line.new.written + length line.new.pending ≤ line.old.written + length line.old.pending + part_room part.entry) }
 {
