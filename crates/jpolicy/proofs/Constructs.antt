@@ -1,5 +1,5 @@
 -- Each production of policy files is exact.
-use Rattle.std.proofs.Common.{◌≡◌, ℕ, suc, ◌<◌, Bool, true, false, cond, not, ◌&&◌, eqb, List, [], ◌∷◌, ◌++◌, length, Option, Ok, refl, sym, ap, ◌∙◌, append_assoc, subst, length-append, ◌+◌, inl, inr, arith}
+use Rattle.std.proofs.Common.{◌≡◌, ℕ, suc, ◌<◌, Bool, true, false, cond, not, ◌&&◌, eqb, List, [], ◌∷◌, ◌++◌, length, Option, Ok, Err, refl, sym, ap, ◌∙◌, append_assoc, subst, length-append, ◌+◌, inl, inr, arith}
 use Rattle.std.specs.Str.{byte}
 use Rattle.std.proofs.lemmas.Bool.{cases_Bool, eqb-true}
 use Rattle.std.proofs.lemmas.List.{append-nil}
@@ -7,7 +7,10 @@ use Rattle.jbase.specs.Stops.{◌>>=◌}
 use Rattle.jpolicy.specs.declared.token.Token.{Token}
 use Rattle.jpolicy.specs.declared.token.Token.TheVariants.{Word, Text, Mark, Bad}
 use Rattle.jpolicy.specs.declared.token.Placed.{Placed}
-use Rattle.jpolicy.specs.declared.fault.PolicyKind.TheVariants.{Syntax}
+use Rattle.jformat.specs.declared.error.Fault.{Fault}
+use Rattle.jpolicy.specs.declared.fault.PolicyFault.{PolicyFault}
+use Rattle.jpolicy.specs.declared.fault.PolicyFault.TheVariants.{Syntax}
+use Rattle.jpolicy.specs.declared.keyword.Keyword.{Keyword}
 use Rattle.jpolicy.specs.declared.keyword.Keyword.TheVariants as keywords
 use Rattle.jpolicy.specs.declared.grant.Grant.{Grant}
 use Rattle.jpolicy.specs.declared.grant.GrantEntry.{GrantEntry}
@@ -18,13 +21,23 @@ use Rattle.jpolicy.specs.Expansion.{Properties}
 use Rattle.jpolicy.specs.Walks.{walk}
 use Rattle.jpolicy.specs.Productions as read
 use Rattle.jpolicy.specs.Productions.{Answer, next, behind, is_mark, is_word, is_text, is_keyword, names_principal, is_absent, is_there, given, entry_of, with_entry, with_code_base, with_signers, with_principal, grant_of, with_grant, no_clauses, skip_comma, no_tokens}
-use Rattle.jpolicy.specs.Grammar.{Grammar, Nothing, Marked, Keyed, Worded, Texted, ◌▹◌, Either, Only, Comma, Signers, BehindActions, BehindComma, Named, BehindName, Entry, Entries, PrincipalName, Principal, Clause, AllClauses, OneGrant, Another, Others, Keystore, Password, Item, Items}
-use Rattle.jpolicy.proofs.Sound.{sound_next_and, bind_ok, picked}
-use Rattle.jpolicy.proofs.Laws.{Law, Complete, Any, Not, Steps, law_none, law_one, law_word, law_text, law_then, law_first, law_map, law_next, law_if, law_only, law_once, law_last, law_many, front_of}
-use Rattle.jpolicy.proofs.Fronts.{marks_apart, mark_no_keyword, mark_no_text, mark_no_word, keyword_no_mark, keyword_no_text, keywords_apart, begins, begins_so, begins_some, deeper, deeper_some, text_begins, nothing_first, next_apart, worded}
+use Rattle.jpolicy.specs.Grammar.{Grammar, Nothing, Marked, Keyed, Worded, Texted, ◌▹◌, Either, Only, Comma, Signers, BehindActions, BehindComma, Named, BehindName, Entry, Entries, PrincipalName, Principal, Clause, AllClauses, OneGrant, Another, Others, Keystore, Password, Item, Items, Begins, NotAllowed, Says}
+use Rattle.jpolicy.proofs.Walking.{bind_ok, walk_ends}
+use Rattle.jpolicy.proofs.Firm.{Firm, first, bind_err, picked, shrinks, and_false, same_next, firm_same, firm_wide, firm_if, firm_next, firm_none}
+use Rattle.jpolicy.proofs.Laws.{Law, Complete, Any, Not, Steps, law_none, law_one, law_word, law_text, law_then, law_first, law_map, law_next, law_if, law_only, law_once, law_last, law_many, front_of, steps_go}
+use Rattle.jpolicy.proofs.Fronts.{some_mark, some_word, some_keyword, marks_apart, mark_no_keyword, mark_no_text, mark_no_word, keyword_no_mark, keyword_no_text, keywords_apart, begins, begins_so, begins_some, deeper, deeper_some, text_begins, nothing_first, next_apart, worded}
 
 abbrev comma : Token → Bool
 comma = is_mark (byte ",")
+
+some_comma : Begins (Marked (byte ",")) []
+some_comma = some_mark (byte ",") refl
+
+law_key : (w : Keyword) → Law Any (read.keyword_at w) (Keyed w)
+law_key w = law_one (is_keyword w) (some_keyword w)
+
+law_semicolon : Law Any (read.mark_at (byte ";")) (Marked (byte ";"))
+law_semicolon = law_one (is_mark (byte ";")) (some_mark (byte ";") refl)
 
 abbrev star : Token → Bool
 star = is_mark (byte "*")
@@ -34,7 +47,7 @@ semicolon = is_mark (byte ";")
 
 -- what may follow where less may
 narrow : {A : Type 0} (F G : List Placed → Type 0) (f : List Placed → Answer A) (R : Grammar A) → ((rest : List Placed) → G rest → F rest) → Law F f R → Law G f R
-narrow F G f R h l = record { sound = l.sound; complete = λ front a rest d follow. l.complete front a rest d (h rest follow) }
+narrow F G f R h l = record { firm = l.firm; complete = λ front a rest d follow. l.complete front a rest d (h rest follow) }
 
 any : {A : Type 0} (G : List Placed → Type 0) (f : List Placed → Answer A) (R : Grammar A) → Law Any f R → Law G f R
 any G f R l = narrow Any G f R (λ rest follow. tt) l
@@ -43,20 +56,20 @@ any G f R l = narrow Any G f R (λ rest follow. tt) l
 
 signers : (p : Properties) → Law Any (read.signer_at p) (Signers p)
 unfolding read.signer_at
-signers p = law_first Any (read.keyword_at keywords.SignedBy) (Keyed keywords.SignedBy) (λ (u : Unit {0}) ts. read.text_at p ts >>= λ s. Ok (given s.0, s.1)) (λ (u : Unit {0}). Texted p ▹ λ s. Nothing (given s)) (law_one (is_keyword keywords.SignedBy)) (λ u. law_map Any (read.text_at p) (Texted p) given (law_text p))
+signers p = law_first Any (read.keyword_at keywords.SignedBy) (Keyed keywords.SignedBy) (λ (u : Unit {0}) ts. read.text_at p ts >>= λ s. Ok (given s.0, s.1)) (λ (u : Unit {0}). Texted p ▹ λ s. Nothing (given s)) (law_key keywords.SignedBy) (λ u. law_map Any (read.text_at p) (Texted p) given (law_text p))
 
 behind_actions : (p : Properties) → Law (Not comma) (read.behind_actions p) (BehindActions p)
-behind_actions p = law_next (Not comma) comma (read.signer_at p) (Signers p) (λ ts. Ok (Absent, ts)) (Nothing Absent) (any (Not comma) (read.signer_at p) (Signers p) (signers p)) (law_none (Not comma) Absent) (nothing_first (Not comma) Absent)
+behind_actions p = law_next (Not comma) comma some_comma (read.signer_at p) (Signers p) (λ ts. Ok (Absent, ts)) (Nothing Absent) (any (Not comma) (read.signer_at p) (Signers p) (signers p)) (law_none (Not comma) Absent) (nothing_first (Not comma) Absent)
 
 behind_comma : (p : Properties) → Law (Not comma) (read.behind_comma p) (BehindComma p)
-behind_comma p = law_if (Not comma) (next is_text) (λ ts. read.text_at p ts >>= λ a. read.behind_actions p a.1 >>= λ s. Ok ((given a.0, s.0), s.1)) (Texted p ▹ λ a. BehindActions p ▹ λ s. Nothing (given a, s)) (λ ts. read.signer_at p ts >>= λ s. Ok ((Absent, s.0), s.1)) (Signers p ▹ λ s. Nothing (Absent, s))
+behind_comma p = law_if (Not comma) is_text (λ ts. read.text_at p ts >>= λ a. read.behind_actions p a.1 >>= λ s. Ok ((given a.0, s.0), s.1)) (Texted p ▹ λ a. BehindActions p ▹ λ s. Nothing (given a, s)) (λ ts. read.signer_at p ts >>= λ s. Ok ((Absent, s.0), s.1)) (Signers p ▹ λ s. Nothing (Absent, s))
     (law_first (Not comma) (read.text_at p) (Texted p) (λ a ts. read.behind_actions p ts >>= λ s. Ok ((given a, s.0), s.1)) (λ a. BehindActions p ▹ λ s. Nothing (given a, s)) (law_text p) (λ a. law_map (Not comma) (read.behind_actions p) (BehindActions p) (λ s. (given a, s)) (behind_actions p)))
     (any (Not comma) (λ ts. read.signer_at p ts >>= λ s. Ok ((Absent, s.0), s.1)) (Signers p ▹ λ s. Nothing (Absent, s)) (law_map Any (read.signer_at p) (Signers p) (λ s. (Absent, s)) (signers p)))
     (λ front a rest d follow. text_begins p is_text true (λ a. BehindActions p ▹ λ s. Nothing (given a, s)) (λ u. refl) front a rest d)
     (λ front a rest d follow. deeper is_text false (Signers p) (λ s. Nothing (Absent, s)) (begins (is_keyword keywords.SignedBy) is_text (Texted p ▹ λ s. Nothing (given s)) (keyword_no_text keywords.SignedBy)) front a rest d)
 
 name : (p : Properties) → Law (Not is_text) (read.name_at p) (Named p)
-name p = law_if (Not is_text) (next is_text) (λ ts. read.text_at p ts >>= λ n. Ok (given n.0, n.1)) (Texted p ▹ λ n. Nothing (given n)) (λ ts. Ok (Absent, ts)) (Nothing Absent)
+name p = law_if (Not is_text) is_text (λ ts. read.text_at p ts >>= λ n. Ok (given n.0, n.1)) (Texted p ▹ λ n. Nothing (given n)) (λ ts. Ok (Absent, ts)) (Nothing Absent)
     (any (Not is_text) (λ ts. read.text_at p ts >>= λ n. Ok (given n.0, n.1)) (Texted p ▹ λ n. Nothing (given n)) (law_map Any (read.text_at p) (Texted p) given (law_text p)))
     (law_none (Not is_text) Absent)
     (λ front a rest d follow. text_begins p is_text true (λ n. Nothing (given n)) (λ u. refl) front a rest d)
@@ -65,10 +78,6 @@ name p = law_if (Not is_text) (next is_text) (λ ts. read.text_at p ts >>= λ n.
 -- what follows the parts of an entry
 abbrev Ends : List Placed → Type 0
 Ends rest = (next comma rest ≡ false) × (next (is_keyword keywords.SignedBy) rest ≡ false)
-
-and_false : (b : Bool) → (b && false) ≡ false
-and_false true = refl
-and_false false = refl
 
 abbrev BareSigners : Properties → Grammar (Stated × Stated)
 BareSigners p = Signers p ▹ λ s. Nothing (Absent, s)
@@ -81,9 +90,9 @@ none_misses : (b : Bool) (front : List Placed) (a : Stated × Stated) (rest : Li
 none_misses b front a rest d follow = ap (λ x. b && x) (nothing_first (Not (is_keyword keywords.SignedBy)) (Absent, Absent) front a rest d follow.1) ∙ and_false b
 
 behind_name : (p : Properties) (n : Stated) → Law Ends (read.behind_name p n) (BehindName p n)
-behind_name p n = law_next Ends comma (read.behind_comma p) (BehindComma p) (λ ts. cond (is_absent n && next (is_keyword keywords.SignedBy) ts) (read.signer_at p ts >>= λ s. Ok ((Absent, s.0), s.1)) (Ok ((Absent, Absent), ts))) (Either (Only (is_absent n) (BareSigners p)) (Nothing (Absent, Absent)))
+behind_name p n = law_next Ends comma some_comma (read.behind_comma p) (BehindComma p) (λ ts. cond (is_absent n && next (is_keyword keywords.SignedBy) ts) (read.signer_at p ts >>= λ s. Ok ((Absent, s.0), s.1)) (Ok ((Absent, Absent), ts))) (Either (Only (is_absent n) (BareSigners p)) (Nothing (Absent, Absent)))
     (narrow (Not comma) Ends (read.behind_comma p) (BehindComma p) (λ rest follow. follow.0) (behind_comma p))
-    (law_only Ends (is_absent n) (next (is_keyword keywords.SignedBy)) (λ ts. read.signer_at p ts >>= λ s. Ok ((Absent, s.0), s.1)) (BareSigners p) (λ ts. Ok ((Absent, Absent), ts)) (Nothing (Absent, Absent))
+    (law_only Ends (is_absent n) (is_keyword keywords.SignedBy) (λ ts. read.signer_at p ts >>= λ s. Ok ((Absent, s.0), s.1)) (BareSigners p) (λ ts. Ok ((Absent, Absent), ts)) (Nothing (Absent, Absent))
     (any Ends (λ ts. read.signer_at p ts >>= λ s. Ok ((Absent, s.0), s.1)) (BareSigners p) (law_map Any (read.signer_at p) (Signers p) (λ s. (Absent, s)) (signers p)))
     (law_none Ends (Absent, Absent))
     (λ front a rest d follow. deeper (is_keyword keywords.SignedBy) true (Signers p) (λ s. Nothing (Absent, s)) (begins_so (is_keyword keywords.SignedBy) (Texted p ▹ λ s. Nothing (given s))) front a rest d)
@@ -104,7 +113,7 @@ unfolding read.entry_at
 entry p = law_first Any (read.keyword_at keywords.Permission) (Keyed keywords.Permission)
     (λ (u : Unit {0}) ts. read.word_at ts >>= λ class. read.name_at p class.1 >>= λ n. read.behind_name p n.0 n.1 >>= λ more. read.mark_at (byte ";") more.1 >>= λ end. Ok (entry_of class.0 n.0 more.0.0 more.0.1, end.1))
     (λ (u : Unit {0}). Worded ▹ λ class. Named p ▹ λ n. BehindName p n ▹ λ more. EntryEnd (entry_of class n more.0 more.1))
-    (law_one (is_keyword keywords.Permission))
+    (law_key keywords.Permission)
     (λ u. law_first Any read.word_at Worded
     (λ class ts. read.name_at p ts >>= λ n. read.behind_name p n.0 n.1 >>= λ more. read.mark_at (byte ";") more.1 >>= λ end. Ok (entry_of class n.0 more.0.0 more.0.1, end.1))
     (λ class. Named p ▹ λ n. BehindName p n ▹ λ more. EntryEnd (entry_of class n more.0 more.1))
@@ -117,7 +126,7 @@ entry p = law_first Any (read.keyword_at keywords.Permission) (Keyed keywords.Pe
     (λ more ts. read.mark_at (byte ";") ts >>= λ end. Ok (entry_of class n more.0 more.1, end.1))
     (λ more. EntryEnd (entry_of class n more.0 more.1))
     (behind_name p n)
-    (λ more. law_map Any (read.mark_at (byte ";")) (Marked (byte ";")) (λ u. entry_of class n more.0 more.1) (law_one semicolon))
+    (λ more. law_map Any (read.mark_at (byte ";")) (Marked (byte ";")) (λ u. entry_of class n more.0 more.1) law_semicolon)
     (λ more back b rest s follow. (
       begins semicolon comma (Nothing (entry_of class n more.0 more.1)) (marks_apart (byte ";") (byte ",") refl) back b rest s,
       begins semicolon (is_keyword keywords.SignedBy) (Nothing (entry_of class n more.0 more.1)) (mark_no_keyword (byte ";") keywords.SignedBy) back b rest s,
@@ -145,6 +154,7 @@ entry_steps p = record {
   begins = λ entries front t rest d. deeper close_brace false (Entry p) (λ e. Nothing (with_entry entries e)) (begins (is_keyword keywords.Permission) close_brace (EntryRest p) (keyword_no_mark keywords.Permission (byte "}"))) front t rest d;
   again = λ entries front t rest d. tt;
   over = λ rest end. tt;
+  looks = same_next close_brace;
 }
 
 entries : (p : Properties) → Law (λ ts. next close_brace ts ≡ true) (read.entries_at p) (Entries p)
@@ -175,7 +185,7 @@ abbrev TextName : Properties → Grammar Bool
 TextName p = Texted p ▹ λ t. Nothing (not (is_there t))
 
 principal_name : (p : Properties) → Law Any (read.principal_name_at p) (PrincipalName p)
-principal_name p = law_next Any star (λ ts. Ok (false, ts)) (Nothing false) (λ ts. read.text_at p ts >>= λ t. Ok (not (is_there t.0), t.1)) (TextName p)
+principal_name p = law_next Any star (some_mark (byte "*") refl) (λ ts. Ok (false, ts)) (Nothing false) (λ ts. read.text_at p ts >>= λ t. Ok (not (is_there t.0), t.1)) (TextName p)
     (law_none Any false)
     (law_map Any (read.text_at p) (Texted p) (λ t. not (is_there t)) (law_text p))
     (λ front a rest d follow. text_begins p star false (λ t. Nothing (not (is_there t))) (λ u. refl) front a rest d)
@@ -208,9 +218,31 @@ starred_complete p front a rest (inr (inr d)) follow =
     let named = (principal_name p).complete front a rest (inr d) tt in
     rw unstarred (rw unstarred at named)
 
+-- what is behind a `*`: a name, or nothing where the `*` is the name
+abbrev named_or_done : Properties → List Placed → Answer Bool
+named_or_done p ts = cond (next names_principal ts) (read.principal_name_at p ts) (Ok (false, ts))
+
+star_cases : (p : Properties) (b c : Bool) (ts : List Placed) → next star ts ≡ b → cond b (cond c (read.principal_name_at p (behind ts)) (Ok (false, behind ts))) (read.principal_name_at p ts) ≡ cond (b && c) (read.principal_name_at p (behind ts)) (read.principal_name_at p ts)
+star_cases p true true ts is = refl
+star_cases p true false ts is = rw is refl
+star_cases p false c ts is = refl
+
+star_derives : (p : Properties) (ts : List Placed) (a : Bool) → Either (Marked (byte "*") ▹ λ _. Either (PrincipalName p) (Nothing false)) (PrincipalName p) ts a → Starred p ts a
+star_derives p ts a (inl (u, front, back, cut, d, inl e)) = inl (u, front, back, cut, d, e)
+star_derives p ts a (inl (u, front, back, cut, d, inr e)) = inr (inl (u, front, back, cut, d, e))
+star_derives p ts a (inr d) = inr d
+
+starred_firm : (p : Properties) → Firm (starred_at p) (Starred p)
+starred_firm p =
+    let named = (principal_name p).firm in
+    let tail = firm_if names_principal (read.principal_name_at p) (PrincipalName p) (λ ts. Ok (false, ts)) (Nothing false) named (firm_none false) in
+    let both = firm_next star (some_mark (byte "*") refl) (named_or_done p) (Either (PrincipalName p) (Nothing false)) (read.principal_name_at p) (PrincipalName p) tail named in
+    firm_same (λ ts. cond (next star ts) (named_or_done p (behind ts)) (read.principal_name_at p ts)) (starred_at p) (Starred p) (λ ts. star_cases p (next star ts) (next names_principal (behind ts)) ts refl)
+    (firm_wide (λ ts. cond (next star ts) (named_or_done p (behind ts)) (read.principal_name_at p ts)) (Either (Marked (byte "*") ▹ λ _. Either (PrincipalName p) (Nothing false)) (PrincipalName p)) (Starred p) (star_derives p) both)
+
 starred : (p : Properties) → Law (Not names_principal) (starred_at p) (Starred p)
 starred p = record {
-  sound = sound_next_and star (λ ts. next names_principal (behind ts)) (read.principal_name_at p) (PrincipalName p) (read.principal_name_at p) (PrincipalName p) (principal_name p).sound (principal_name p).sound;
+  firm = starred_firm p;
   complete = starred_complete p;
 }
 
@@ -219,7 +251,7 @@ starred_no_word p front a rest (inl d) follow = begins star is_word (PrincipalNa
 starred_no_word p front a rest (inr d) follow = name_no_word p front a rest d
 
 principal : (p : Properties) → Law (Not names_principal) (read.principal_at p) (Principal p)
-principal p = law_next (Not names_principal) is_word (read.principal_name_at p) (PrincipalName p) (starred_at p) (Starred p)
+principal p = law_next (Not names_principal) is_word some_word (read.principal_name_at p) (PrincipalName p) (starred_at p) (Starred p)
     (any (Not names_principal) (read.principal_name_at p) (PrincipalName p) (principal_name p)) (starred p) (starred_no_word p)
 
 abbrev CodeBase : Properties → Clauses → Grammar Clauses
@@ -240,15 +272,15 @@ base_misses p cs front a rest (inr d) follow = begins (is_keyword keywords.Princ
 
 clause : (p : Properties) (cs : Clauses) → Law (Not names_principal) (read.clause_at p cs) (Clause p cs)
 unfolding read.clause_at
-clause p cs = law_once (Not names_principal) (is_keyword keywords.CodeBase) (is_absent cs.code_base) (λ ts. read.text_at p ts >>= λ t. Ok (with_code_base cs t.0, t.1)) (Texted p ▹ λ t. Nothing (with_code_base cs t))
+clause p cs = law_once (Not names_principal) (is_keyword keywords.CodeBase) (some_keyword keywords.CodeBase) (is_absent cs.code_base) (λ ts. read.text_at p ts >>= λ t. Ok (with_code_base cs t.0, t.1)) (Texted p ▹ λ t. Nothing (with_code_base cs t))
     (λ ts. cond (next (is_keyword keywords.SignedBy) ts && is_absent cs.signers) (read.text_at p (behind ts) >>= λ t. Ok (with_signers cs t.0, t.1)) (cond (next (is_keyword keywords.Principal) ts) (read.principal_at p (behind ts) >>= λ q. Ok (with_principal cs q.0, q.1)) (read.not_allowed ts)))
     (Either (Only (is_absent cs.signers) (SignedBy p cs)) (ForPrincipal p cs))
     (any (Not names_principal) (λ ts. read.text_at p ts >>= λ t. Ok (with_code_base cs t.0, t.1)) (Texted p ▹ λ t. Nothing (with_code_base cs t)) (law_map Any (read.text_at p) (Texted p) (with_code_base cs) (law_text p)))
-    (law_once (Not names_principal) (is_keyword keywords.SignedBy) (is_absent cs.signers) (λ ts. read.text_at p ts >>= λ t. Ok (with_signers cs t.0, t.1)) (Texted p ▹ λ t. Nothing (with_signers cs t))
+    (law_once (Not names_principal) (is_keyword keywords.SignedBy) (some_keyword keywords.SignedBy) (is_absent cs.signers) (λ ts. read.text_at p ts >>= λ t. Ok (with_signers cs t.0, t.1)) (Texted p ▹ λ t. Nothing (with_signers cs t))
     (λ ts. cond (next (is_keyword keywords.Principal) ts) (read.principal_at p (behind ts) >>= λ q. Ok (with_principal cs q.0, q.1)) (read.not_allowed ts))
     (ForPrincipal p cs)
     (any (Not names_principal) (λ ts. read.text_at p ts >>= λ t. Ok (with_signers cs t.0, t.1)) (Texted p ▹ λ t. Nothing (with_signers cs t)) (law_map Any (read.text_at p) (Texted p) (with_signers cs) (law_text p)))
-    (law_last (Not names_principal) (is_keyword keywords.Principal) (λ ts. read.principal_at p ts >>= λ q. Ok (with_principal cs q.0, q.1)) (Principal p ▹ λ lacks. Nothing (with_principal cs lacks))
+    (law_last (Not names_principal) (is_keyword keywords.Principal) (some_keyword keywords.Principal) (λ ts. read.principal_at p ts >>= λ q. Ok (with_principal cs q.0, q.1)) (Principal p ▹ λ lacks. Nothing (with_principal cs lacks))
     (law_map (Not names_principal) (read.principal_at p) (Principal p) (with_principal cs) (principal p)))
     (signers_misses p cs))
     (base_misses p cs)
@@ -277,9 +309,9 @@ comma_cases c false ts = refl
 
 optional_comma : (c : Clauses) → Law (Not comma) (λ ts. Ok (c, skip_comma ts)) (OptionalComma c)
 optional_comma c =
-    let l = law_next (Not comma) comma (λ ts. Ok (c, ts)) (Nothing c) (λ ts. Ok (c, ts)) (Nothing c) (law_none (Not comma) c) (law_none (Not comma) c) (nothing_first (Not comma) c) in
+    let l = law_next (Not comma) comma some_comma (λ ts. Ok (c, ts)) (Nothing c) (λ ts. Ok (c, ts)) (Nothing c) (law_none (Not comma) c) (law_none (Not comma) c) (nothing_first (Not comma) c) in
     record {
-      sound = λ ts x e. l.sound ts x (sym (comma_cases c (next comma ts) ts) ∙ e);
+      firm = firm_same (λ ts. cond (next comma ts) (Ok (c, behind ts)) (Ok (c, ts))) (λ ts. Ok (c, skip_comma ts)) (OptionalComma c) (λ ts. sym (comma_cases c (next comma ts) ts)) l.firm;
       complete = λ front a rest d follow. comma_cases c (next comma (front ++ rest)) (front ++ rest) ∙ l.complete front a rest d follow;
     }
 
@@ -307,6 +339,7 @@ clause_steps p = record {
     deeper names_principal false (Clause p cs) (λ c. OptionalComma c) (λ f a r e. clause_word p cs f a r names_principal (λ u. refl) e) front t rest d,
   );
   over = λ rest end. (next_apart open_brace comma (marks_apart (byte "{") (byte ",") refl) rest end, next_apart open_brace names_principal brace_no_name rest end);
+  looks = same_next open_brace;
 }
 
 clauses : (p : Properties) → Law (λ ts. next open_brace ts ≡ true) (read.clauses_at p) (AllClauses p)
@@ -326,7 +359,7 @@ unfolding read.grant_at
 grant p = law_first Any (read.keyword_at keywords.Grant) (Keyed keywords.Grant)
     (λ (u : Unit {0}) ts. read.clauses_at p ts >>= λ cs. read.mark_at (byte "{") cs.1 >>= λ o. read.entries_at p o.1 >>= λ es. read.mark_at (byte "}") es.1 >>= λ c. read.mark_at (byte ";") c.1 >>= λ e. Ok (grant_of cs.0 es.0, e.1))
     (λ (u : Unit {0}). AllClauses p ▹ λ cs. Marked (byte "{") ▹ λ _. Entries p ▹ λ es. GrantEnd cs es)
-    (law_one (is_keyword keywords.Grant))
+    (law_key keywords.Grant)
     (λ u. law_then (λ ts. next open_brace ts ≡ true) Any (read.clauses_at p) (AllClauses p)
     (λ cs ts. read.mark_at (byte "{") ts >>= λ o. read.entries_at p o.1 >>= λ es. read.mark_at (byte "}") es.1 >>= λ c. read.mark_at (byte ";") c.1 >>= λ e. Ok (grant_of cs es.0, e.1))
     (λ cs. Marked (byte "{") ▹ λ _. Entries p ▹ λ es. GrantEnd cs es)
@@ -334,7 +367,7 @@ grant p = law_first Any (read.keyword_at keywords.Grant) (Keyed keywords.Grant)
     (λ cs. law_first Any (read.mark_at (byte "{")) (Marked (byte "{"))
     (λ (v : Unit {0}) ts. read.entries_at p ts >>= λ es. read.mark_at (byte "}") es.1 >>= λ c. read.mark_at (byte ";") c.1 >>= λ e. Ok (grant_of cs es.0, e.1))
     (λ (v : Unit {0}). Entries p ▹ λ es. GrantEnd cs es)
-    (law_one open_brace)
+    (law_one open_brace (some_mark (byte "{") refl))
     (λ v. law_then (λ ts. next close_brace ts ≡ true) Any (read.entries_at p) (Entries p)
     (λ es ts. read.mark_at (byte "}") ts >>= λ c. read.mark_at (byte ";") c.1 >>= λ e. Ok (grant_of cs es, e.1))
     (λ es. GrantEnd cs es)
@@ -342,18 +375,18 @@ grant p = law_first Any (read.keyword_at keywords.Grant) (Keyed keywords.Grant)
     (λ es. law_first Any (read.mark_at (byte "}")) (Marked (byte "}"))
     (λ (w : Unit {0}) ts. read.mark_at (byte ";") ts >>= λ e. Ok (grant_of cs es, e.1))
     (λ (w : Unit {0}). EndOf (grant_of cs es))
-    (law_one close_brace)
-    (λ w. law_map Any (read.mark_at (byte ";")) (Marked (byte ";")) (λ x. grant_of cs es) (law_one semicolon)))
+    (law_one close_brace (some_mark (byte "}") refl))
+    (λ w. law_map Any (read.mark_at (byte ";")) (Marked (byte ";")) (λ x. grant_of cs es) law_semicolon))
     (λ es back b rest s follow. begins_so close_brace (EndOf (grant_of cs es)) back b rest s)))
     (λ cs back b rest s follow. begins_so open_brace (Entries p ▹ λ es. GrantEnd cs es) back b rest s))
 
 another : (p : Properties) → Law (Not comma) (read.another_at p) (Another p)
-another p = law_next (Not comma) comma (λ ts. read.text_at p ts >>= λ t. Ok (tt, t.1)) (Texted p ▹ λ _. Nothing tt) (λ ts. Ok (tt, ts)) (Nothing tt)
+another p = law_next (Not comma) comma some_comma (λ ts. read.text_at p ts >>= λ t. Ok (tt, t.1)) (Texted p ▹ λ _. Nothing tt) (λ ts. Ok (tt, ts)) (Nothing tt)
     (any (Not comma) (λ ts. read.text_at p ts >>= λ t. Ok (tt, t.1)) (Texted p ▹ λ _. Nothing tt) (law_map Any (read.text_at p) (Texted p) (λ t. tt) (law_text p)))
     (law_none (Not comma) tt) (nothing_first (Not comma) tt)
 
 others : (p : Properties) → Law (Not comma) (read.others_at p) (Others p)
-others p = law_next (Not comma) comma (λ ts. read.text_at p ts >>= λ t. read.another_at p t.1) (Texted p ▹ λ _. Another p) (λ ts. Ok (tt, ts)) (Nothing tt)
+others p = law_next (Not comma) comma some_comma (λ ts. read.text_at p ts >>= λ t. read.another_at p t.1) (Texted p ▹ λ _. Another p) (λ ts. Ok (tt, ts)) (Nothing tt)
     (law_first (Not comma) (read.text_at p) (Texted p) (λ t ts. read.another_at p ts) (λ t. Another p) (law_text p) (λ t. another p))
     (law_none (Not comma) tt) (nothing_first (Not comma) tt)
 
@@ -362,16 +395,16 @@ unfolding read.keystore_at
 keystore p = law_first Any (read.keyword_at keywords.Keystore) (Keyed keywords.Keystore)
     (λ (u : Unit {0}) ts. read.text_at p ts >>= λ t. read.others_at p t.1 >>= λ o. read.mark_at (byte ";") o.1)
     (λ (u : Unit {0}). Texted p ▹ λ _. Others p ▹ λ _. Marked (byte ";"))
-    (law_one (is_keyword keywords.Keystore))
+    (law_key keywords.Keystore)
     (λ u. law_first Any (read.text_at p) (Texted p) (λ t ts. read.others_at p ts >>= λ o. read.mark_at (byte ";") o.1) (λ t. Others p ▹ λ _. Marked (byte ";")) (law_text p)
-    (λ t. law_then (Not comma) Any (read.others_at p) (Others p) (λ (o : Unit {0}) ts. read.mark_at (byte ";") ts) (λ (o : Unit {0}). Marked (byte ";")) (others p) (λ o. law_one semicolon)
+    (λ t. law_then (Not comma) Any (read.others_at p) (Others p) (λ (o : Unit {0}) ts. read.mark_at (byte ";") ts) (λ (o : Unit {0}). Marked (byte ";")) (others p) (λ o. law_semicolon)
     (λ o back b rest s follow. ap (next comma) (ap (λ (x : List Placed). x ++ rest) s.1) ∙ marks_apart (byte ";") (byte ",") refl s.0.token s.2)))
 
 password : (p : Properties) → Law Any (read.password_at p) (Password p)
 unfolding read.password_at
 password p = law_first Any (read.keyword_at keywords.PasswordUrl) (Keyed keywords.PasswordUrl) (λ (u : Unit {0}) ts. read.text_at p ts >>= λ t. read.mark_at (byte ";") t.1) (λ (u : Unit {0}). Texted p ▹ λ _. Marked (byte ";"))
-    (law_one (is_keyword keywords.PasswordUrl))
-    (λ u. law_first Any (read.text_at p) (Texted p) (λ t ts. read.mark_at (byte ";") ts) (λ t. Marked (byte ";")) (law_text p) (λ t. law_one semicolon))
+    (law_key keywords.PasswordUrl)
+    (λ u. law_first Any (read.text_at p) (Texted p) (λ t ts. read.mark_at (byte ";") ts) (λ t. Marked (byte ";")) (law_text p) (λ t. law_semicolon))
 
 abbrev KeystoreRest : Properties → Grammar (Unit {0})
 KeystoreRest p = Texted p ▹ λ _. Others p ▹ λ _. Marked (byte ";")
@@ -396,10 +429,10 @@ store_misses p gs front a rest (inl d) follow = deeper (is_keyword keywords.Keys
 store_misses p gs front a rest (inr d) follow = deeper (is_keyword keywords.Keystore) false (OneGrant p) (λ g. Nothing (with_grant gs g)) (begins (is_keyword keywords.Grant) (is_keyword keywords.Keystore) (GrantRest p) (keywords_apart keywords.Grant keywords.Keystore refl)) front a rest d
 
 item : (p : Properties) (gs : List Grant) → Law Any (read.one_item p gs) (Item p gs)
-item p gs = law_if Any (next (is_keyword keywords.Keystore)) (λ ts. read.keystore_at p ts >>= λ k. Ok (gs, k.1)) (StoreItem p gs)
+item p gs = law_if Any (is_keyword keywords.Keystore) (λ ts. read.keystore_at p ts >>= λ k. Ok (gs, k.1)) (StoreItem p gs)
     (λ ts. cond (next (is_keyword keywords.PasswordUrl) ts) (read.password_at p ts >>= λ k. Ok (gs, k.1)) (read.one_more_grant p gs ts)) (Either (PasswordItem p gs) (GrantItem p gs))
     (law_map Any (read.keystore_at p) (Keystore p) (λ u. gs) (keystore p))
-    (law_if Any (next (is_keyword keywords.PasswordUrl)) (λ ts. read.password_at p ts >>= λ k. Ok (gs, k.1)) (PasswordItem p gs) (read.one_more_grant p gs) (GrantItem p gs)
+    (law_if Any (is_keyword keywords.PasswordUrl) (λ ts. read.password_at p ts >>= λ k. Ok (gs, k.1)) (PasswordItem p gs) (read.one_more_grant p gs) (GrantItem p gs)
     (law_map Any (read.password_at p) (Password p) (λ u. gs) (password p))
     (law_map Any (read.grant_at p) (OneGrant p) (with_grant gs) (grant p))
     (λ front a rest d follow. deeper (is_keyword keywords.PasswordUrl) true (Password p) (λ u. Nothing gs) (begins_so (is_keyword keywords.PasswordUrl) (PasswordRest p)) front a rest d)
@@ -422,6 +455,12 @@ not_over (t ∷ ts) h = elim (cases_Bool (eqb (suc (length ts)) 0)) [ inl hit �
 more_tokens : (front rest : List Placed) → 0 < length front → 0 < length (front ++ rest)
 more_tokens front rest h = let both : length (front ++ rest) ≡ length front + length rest = length-append front rest in omega arith
 
+same_end : (xs ys : List Placed) → first xs ≡ first ys → no_tokens xs ≡ no_tokens ys
+same_end [] [] e = refl
+same_end [] (y ∷ ys) e = absurd cc
+same_end (x ∷ xs) [] e = absurd cc
+same_end (x ∷ xs) (y ∷ ys) e = not_over (x ∷ xs) (omega arith) ∙ sym (not_over (y ∷ ys) (omega arith))
+
 item_steps : (p : Properties) → Steps Any no_tokens (read.one_item p) (Item p)
 item_steps p = record {
   law = item p;
@@ -429,6 +468,7 @@ item_steps p = record {
   begins = λ gs front t rest d. not_over (front ++ rest) (more_tokens front rest (item_some p gs front t d));
   again = λ gs front t rest d. tt;
   over = λ rest end. tt;
+  looks = same_end;
 }
 
 -- ---- the policy
@@ -442,7 +482,7 @@ unfolding read.policy_at
 policy_sound p ts gs e =
     let b = bind_ok (walk no_tokens (read.one_item p) (length ts) [] ts) (λ x. cond (no_tokens x.1) (Ok x.0) (read.not_allowed x.1)) gs e in
     let done = picked (no_tokens b.0.1) b.0.0 (read.fault_at Syntax b.0.1) gs b.2 in
-    let s = (law_many Any no_tokens (read.one_item p) (Item p) [] (item_steps p)).sound ts b.0 b.1 in
+    let s = (law_many Any no_tokens (read.one_item p) (Item p) [] (item_steps p)).firm.takes ts b.0 b.1 in
     let all : ts ≡ s.0 = s.1 ∙ ap (λ (r : List Placed). s.0 ++ r) (over_is b.0.1 done.0) ∙ append-nil s.0 in
     subst (λ (t : List Placed). Items p t gs) (sym all) (subst (λ (g : List Grant). Items p s.0 g) done.1 s.2)
 
@@ -453,3 +493,42 @@ policy_complete p ts gs d =
     let all : walk no_tokens (read.one_item p) (length (ts ++ [])) [] (ts ++ []) ≡ Ok (gs, []) = l.complete ts gs [] d refl in
     let whole : walk no_tokens (read.one_item p) (length ts) [] ts ≡ Ok (gs, []) = ap (λ (t : List Placed). walk no_tokens (read.one_item p) (length t) [] t) (sym (append-nil ts)) ∙ all in
     ap (λ (r : Answer (List Grant)). r >>= λ x. cond (no_tokens x.1) (Ok x.0) (read.not_allowed x.1)) whole
+
+-- ---- where a policy is at fault
+
+items : (p : Properties) → Firm (λ ts. walk no_tokens (read.one_item p) (length ts) [] ts) (Items p)
+items p = (law_many Any no_tokens (read.one_item p) (Item p) [] (item_steps p)).firm
+
+-- the walk over items ends with nothing left
+items_end : (p : Properties) (ts : List Placed) (x : List Grant × List Placed) → walk no_tokens (read.one_item p) (length ts) [] ts ≡ Ok x → x.1 ≡ []
+items_end p ts x e = elim (walk_ends no_tokens (read.one_item p) (shrinks no_tokens (read.one_item p) (Item p) (steps_go Any no_tokens (read.one_item p) (Item p) (item_steps p))) (length ts) [] ts (Ok x) (omega arith) e) [
+  | inl over ↦ over_is x.1 over
+  | inr none ↦ none
+]
+
+behind_items : (p : Properties) (ts : List Placed) (d : Fault PolicyFault) → walk no_tokens (read.one_item p) (length ts) [] ts ≡ Err d → read.policy_at p ts ≡ Err d
+unfolding read.policy_at
+behind_items p ts d e = ap (λ (r : Answer (List Grant)). r >>= λ x. cond (no_tokens x.1) (Ok x.0) (read.not_allowed x.1)) e
+
+at_fault : (p : Properties) (ts : List Placed) (d : Fault PolicyFault) → read.policy_at p ts ≡ Err d → walk no_tokens (read.one_item p) (length ts) [] ts ≡ Err d
+unfolding read.policy_at
+at_fault p ts d e = elim (bind_err (walk no_tokens (read.one_item p) (length ts) [] ts) (λ x. cond (no_tokens x.1) (Ok x.0) (read.not_allowed x.1)) d e) [
+  | inl stop ↦ stop
+  | inr b ↦ absurd (let none : b.0.1 ≡ [] = items_end p ts b.0 b.1 in let h = rw none at b.2 in cc)
+]
+
+derived_no_fault : (p : Properties) (ts : List Placed) (gs : List Grant) (d : Fault PolicyFault) → Items p ts gs → walk no_tokens (read.one_item p) (length ts) [] ts ≡ Err d → ⊥
+derived_no_fault p ts gs d derived e = let one = sym (policy_complete p ts gs derived) ∙ behind_items p ts d e in absurd cc
+
+refuses : (p : Properties) (d : Fault PolicyFault) (front rest : List Placed) → ((other : List Placed) → first other ≡ first rest → walk no_tokens (read.one_item p) (length (front ++ other)) [] (front ++ other) ≡ Err d) → NotAllowed (Items p) front rest
+refuses p d front [] again = λ gs derived. derived_no_fault p (front ++ []) gs d (subst (λ (ts : List Placed). Items p ts gs) (sym (append-nil front)) derived) (again [] refl)
+refuses p d front (t ∷ ts) again = λ begun.
+    let joined = append_assoc front (t ∷ []) begun.0 in
+    derived_no_fault p (front ++ t ∷ begun.0) begun.1 d (subst (λ (us : List Placed). Items p us begun.1) joined begun.2) (again (t ∷ begun.0) refl)
+
+-- the first token that the grammar doesn't allow
+abbrev pub FirstFault : Properties → List Placed → Fault PolicyFault → Type 0
+FirstFault p ts d = (front : List Placed) × (rest : List Placed) × (ts ≡ front ++ rest) × (d ≡ read.fault_at d.kind rest) × Begins (Items p) front × NotAllowed (Items p) front rest × Says (Items p) front rest d.kind
+
+pub policy_first : (p : Properties) (ts : List Placed) (d : Fault PolicyFault) → read.policy_at p ts ≡ Err d → FirstFault p ts d
+policy_first p ts d e = let h = (items p).halts ts d (at_fault p ts d e) in (h.0, h.1, h.2, h.3, h.4, refuses p d h.0 h.1 h.5, h.6)

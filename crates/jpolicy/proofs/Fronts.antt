@@ -2,16 +2,41 @@
 use Rattle.std.proofs.Common.{◌≡◌, ℕ, suc, ◌<◌, Bool, true, false, eqb, List, [], ◌∷◌, ◌++◌, length, map, ◌+◌, length-append, Option, refl, ap, ◌∙◌, append_assoc, arith}
 use Rattle.std.specs.Char.{to_ascii_lowercase}
 use Rattle.std.specs.Str.{bytes_eq}
+use Rattle.jtext.specs.Texts.{same_ignoring_case}
 use Rattle.std.proofs.lemmas.Bool.{eqb-true}
 use Rattle.std.proofs.lemmas.Slice.Eq.{bytes_eq-Decides}
 use Rattle.jpolicy.specs.declared.token.Token.{Token}
 use Rattle.jpolicy.specs.declared.token.Token.TheVariants.{Word, Text, Mark, Bad}
 use Rattle.jpolicy.specs.declared.token.Placed.{Placed}
 use Rattle.jpolicy.specs.declared.keyword.Keyword.{Keyword}
+use Rattle.jpolicy.specs.declared.keyword.Keyword.TheVariants as keywords
 use Rattle.jpolicy.specs.Expansion.{Properties}
 use Rattle.jpolicy.specs.Productions.{next, is_mark, is_word, is_text, is_keyword, spelling}
-use Rattle.jpolicy.specs.Grammar.{Grammar, Nothing, One, Texted, ◌▹◌}
+use Rattle.jpolicy.specs.Grammar.{Grammar, Nothing, One, Texted, ◌▹◌, Begins}
 use Rattle.jpolicy.proofs.Laws.{front_of}
+
+-- ---- a token that passes a test
+
+some_one : (test : Token → Bool) (token : Token) → test token ≡ true → Begins (One test) []
+some_one test token hit = (record { left = 0; token = token } ∷ [], tt, (record { left = 0; token = token }, refl, hit))
+
+pub some_mark : (c : ℕ) → eqb c c ≡ true → Begins (One (is_mark c)) []
+some_mark c same = some_one (is_mark c) (Mark c) same
+
+pub some_word : Begins (One is_word) []
+some_word = some_one is_word (Word []) refl
+
+spelled : (w : Keyword) → is_keyword w (Word (spelling w)) ≡ true
+spelled keywords.Grant = refl
+spelled keywords.CodeBase = refl
+spelled keywords.SignedBy = refl
+spelled keywords.Principal = refl
+spelled keywords.Permission = refl
+spelled keywords.Keystore = refl
+spelled keywords.PasswordUrl = refl
+
+pub some_keyword : (w : Keyword) → Begins (One (is_keyword w)) []
+some_keyword w = some_one (is_keyword w) (Word (spelling w)) (spelled w)
 
 -- ---- tokens that pass one test alone
 
@@ -51,8 +76,8 @@ keyword_no_text w (Mark x) h = absurd cc
 keyword_no_text w (Text u) h = absurd cc
 keyword_no_text w Bad h = absurd cc
 
-pub keywords_apart : (v w : Keyword) → bytes_eq (spelling v) (spelling w) ≡ false → (k : Token) → is_keyword v k ≡ true → is_keyword w k ≡ false
-keywords_apart v w apart (Word u) h = ap (λ (x : List ℕ). bytes_eq x (spelling w)) ((bytes_eq-Decides (map to_ascii_lowercase u) (spelling v)).0 h) ∙ apart
+pub keywords_apart : (v w : Keyword) → same_ignoring_case (spelling v) (spelling w) ≡ false → (k : Token) → is_keyword v k ≡ true → is_keyword w k ≡ false
+keywords_apart v w apart (Word u) h = ap (λ (x : List ℕ). bytes_eq x (map to_ascii_lowercase (spelling w))) ((bytes_eq-Decides (map to_ascii_lowercase u) (map to_ascii_lowercase (spelling v))).0 h) ∙ apart
 keywords_apart v w apart (Mark x) h = absurd cc
 keywords_apart v w apart (Text u) h = absurd cc
 keywords_apart v w apart Bad h = absurd cc

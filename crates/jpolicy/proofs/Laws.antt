@@ -1,20 +1,20 @@
--- Readings that are exact: what they take is derived by the grammar, and what the grammar derives they take.
-use Rattle.std.proofs.Common.{◌≡◌, ℕ, zero, suc, ◌+◌, ◌≤◌, ◌<◌, Bool, true, false, cond, ◌&&◌, List, ◌∷◌, ◌++◌, length, Ok, refl, ap, ◌∙◌, append_assoc, inl, inr, arith, length-append}
+-- Readings that are exact: they are firm, and what the grammar derives they take.
+use Rattle.std.proofs.Common.{◌≡◌, ℕ, zero, suc, ◌+◌, ◌≤◌, ◌<◌, Bool, true, false, cond, ◌&&◌, List, [], ◌∷◌, ◌++◌, length, Ok, refl, ap, ◌∙◌, append_assoc, inl, inr, arith, length-append}
 use Rattle.jbase.specs.Stops.{◌>>=◌}
 use Rattle.jpolicy.specs.declared.token.Token.{Token}
 use Rattle.jpolicy.specs.declared.token.Placed.{Placed}
 use Rattle.jpolicy.specs.Expansion.{Properties}
 use Rattle.jpolicy.specs.Walks.{walk}
 use Rattle.jpolicy.specs.Productions.{Answer, not_allowed, behind, next, one, word_at, text_at}
-use Rattle.jpolicy.specs.Grammar.{Grammar, Nothing, One, Worded, Texted, ◌▹◌, Either, Only, Times, Many}
-use Rattle.jpolicy.proofs.Sound.{Sound, sound_none, sound_one, sound_word, sound_text, sound_then, sound_if, sound_next, sound_once, sound_only, sound_last, sound_walk}
+use Rattle.jpolicy.specs.Grammar.{Grammar, Nothing, One, Worded, Texted, ◌▹◌, Either, Only, Times, Many, Begins}
+use Rattle.jpolicy.proofs.Firm.{Firm, Going, first, firm_none, firm_one, firm_word, firm_text, firm_then, firm_if, firm_next, firm_once, firm_only, firm_last, firm_many}
 
 -- what is derived is taken, where what follows lets it end there
 abbrev pub Complete : {A : Type 0} → (List Placed → Type 0) → (List Placed → Answer A) → Grammar A → Type 0
 Complete {A} F f R = (front : List Placed) (a : A) (rest : List Placed) → R front a → F rest → f (front ++ rest) ≡ Ok (a, rest)
 
 pub record Law {A : Type 0} (F : List Placed → Type 0) (f : List Placed → Answer A) (R : Grammar A) : Type 0 where
-  pub sound : Sound f R
+  pub firm : Firm f R
   pub complete : Complete F f R
 
 -- what may follow: anything, or no token that passes a test
@@ -30,26 +30,26 @@ none_complete : {A : Type 0} (F : List Placed → Type 0) (a : A) → Complete F
 none_complete F a front b rest d follow = rw (d.0, d.1) refl
 
 pub law_none : {A : Type 0} (F : List Placed → Type 0) (a : A) → Law F (λ ts. Ok (a, ts)) (Nothing a)
-law_none F a = record { sound = sound_none a; complete = none_complete F a }
+law_none F a = record { firm = firm_none a; complete = none_complete F a }
 
 one_complete : (test : Token → Bool) → Complete Any (one test) (One test)
 one_complete test front a rest d follow = rw (d.1, d.2) refl
 
-pub law_one : (test : Token → Bool) → Law Any (one test) (One test)
-law_one test = record { sound = sound_one test; complete = one_complete test }
+pub law_one : (test : Token → Bool) → Begins (One test) [] → Law Any (one test) (One test)
+law_one test there = record { firm = firm_one test there; complete = one_complete test }
 
 word_complete : Complete Any word_at Worded
 word_complete front a rest d follow = rw (d.1, d.2) refl
 
 pub law_word : Law Any word_at Worded
-law_word = record { sound = sound_word; complete = word_complete }
+law_word = record { firm = firm_word; complete = word_complete }
 
 text_complete : (properties : Properties) → Complete Any (text_at properties) (Texted properties)
 unfolding text_at
 text_complete properties front a rest d follow = rw (d.2, d.3, d.4, d.5) refl
 
 pub law_text : (properties : Properties) → Law Any (text_at properties) (Texted properties)
-law_text properties = record { sound = sound_text properties; complete = text_complete properties }
+law_text properties = record { firm = firm_text properties; complete = text_complete properties }
 
 -- ---- one behind the other
 
@@ -62,7 +62,7 @@ then_complete {A} {B} F G f R g S cf cg leads front b rest d follow =
 pub law_then : {A B : Type 0} (F G : List Placed → Type 0) (f : List Placed → Answer A) (R : Grammar A) (g : A → List Placed → Answer B) (S : A → Grammar B) → Law F f R → ((a : A) → Law G (g a) (S a))
     → ((a : A) (back : List Placed) (b : B) (rest : List Placed) → S a back b → G rest → F (back ++ rest)) → Law G (λ ts. f ts >>= λ x. g x.0 x.1) (R ▹ S)
 law_then F G f R g S lf lg leads = record {
-  sound = sound_then f R g S lf.sound (λ a. (lg a).sound);
+  firm = firm_then f R g S lf.firm (λ a. (lg a).firm);
   complete = then_complete F G f R g S lf.complete (λ a. (lg a).complete) leads;
 }
 
@@ -86,31 +86,31 @@ next_complete F test f R g S cf cg misses front a rest (inl d) follow =
     ap (λ (ts : List Placed). cond (next test ts) (f (behind ts)) (g ts)) p.2 ∙ rw p.3 (cf p.1 a rest p.4 follow)
 next_complete F test f R g S cf cg misses front a rest (inr s) follow = rw (misses front a rest s follow) (cg front a rest s follow)
 
-pub law_next : {A : Type 0} (F : List Placed → Type 0) (test : Token → Bool) (f : List Placed → Answer A) (R : Grammar A) (g : List Placed → Answer A) (S : Grammar A) → Law F f R → Law F g S
+pub law_next : {A : Type 0} (F : List Placed → Type 0) (test : Token → Bool) → Begins (One test) [] → (f : List Placed → Answer A) (R : Grammar A) (g : List Placed → Answer A) (S : Grammar A) → Law F f R → Law F g S
     → ((front : List Placed) (a : A) (rest : List Placed) → S front a → F rest → next test (front ++ rest) ≡ false) → Law F (λ ts. cond (next test ts) (f (behind ts)) (g ts)) (Either (One test ▹ λ _. R) S)
-law_next F test f R g S lf lg misses = record { sound = sound_next test f R g S lf.sound lg.sound; complete = next_complete F test f R g S lf.complete lg.complete misses }
+law_next F test there f R g S lf lg misses = record { firm = firm_next test there f R g S lf.firm lg.firm; complete = next_complete F test f R g S lf.complete lg.complete misses }
 
-if_complete : {A : Type 0} (F : List Placed → Type 0) (c : List Placed → Bool) (f : List Placed → Answer A) (R : Grammar A) (g : List Placed → Answer A) (S : Grammar A) → Complete F f R → Complete F g S
-    → ((front : List Placed) (a : A) (rest : List Placed) → R front a → F rest → c (front ++ rest) ≡ true)
-    → ((front : List Placed) (a : A) (rest : List Placed) → S front a → F rest → c (front ++ rest) ≡ false) → Complete F (λ ts. cond (c ts) (f ts) (g ts)) (Either R S)
-if_complete F c f R g S cf cg hits misses front a rest (inl r) follow = rw (hits front a rest r follow) (cf front a rest r follow)
-if_complete F c f R g S cf cg hits misses front a rest (inr s) follow = rw (misses front a rest s follow) (cg front a rest s follow)
+if_complete : {A : Type 0} (F : List Placed → Type 0) (test : Token → Bool) (f : List Placed → Answer A) (R : Grammar A) (g : List Placed → Answer A) (S : Grammar A) → Complete F f R → Complete F g S
+    → ((front : List Placed) (a : A) (rest : List Placed) → R front a → F rest → next test (front ++ rest) ≡ true)
+    → ((front : List Placed) (a : A) (rest : List Placed) → S front a → F rest → next test (front ++ rest) ≡ false) → Complete F (λ ts. cond (next test ts) (f ts) (g ts)) (Either R S)
+if_complete F test f R g S cf cg hits misses front a rest (inl r) follow = rw (hits front a rest r follow) (cf front a rest r follow)
+if_complete F test f R g S cf cg hits misses front a rest (inr s) follow = rw (misses front a rest s follow) (cg front a rest s follow)
 
-pub law_if : {A : Type 0} (F : List Placed → Type 0) (c : List Placed → Bool) (f : List Placed → Answer A) (R : Grammar A) (g : List Placed → Answer A) (S : Grammar A) → Law F f R → Law F g S
-    → ((front : List Placed) (a : A) (rest : List Placed) → R front a → F rest → c (front ++ rest) ≡ true)
-    → ((front : List Placed) (a : A) (rest : List Placed) → S front a → F rest → c (front ++ rest) ≡ false) → Law F (λ ts. cond (c ts) (f ts) (g ts)) (Either R S)
-law_if F c f R g S lf lg hits misses = record { sound = sound_if c f R g S lf.sound lg.sound; complete = if_complete F c f R g S lf.complete lg.complete hits misses }
+pub law_if : {A : Type 0} (F : List Placed → Type 0) (test : Token → Bool) (f : List Placed → Answer A) (R : Grammar A) (g : List Placed → Answer A) (S : Grammar A) → Law F f R → Law F g S
+    → ((front : List Placed) (a : A) (rest : List Placed) → R front a → F rest → next test (front ++ rest) ≡ true)
+    → ((front : List Placed) (a : A) (rest : List Placed) → S front a → F rest → next test (front ++ rest) ≡ false) → Law F (λ ts. cond (next test ts) (f ts) (g ts)) (Either R S)
+law_if F test f R g S lf lg hits misses = record { firm = firm_if test f R g S lf.firm lg.firm; complete = if_complete F test f R g S lf.complete lg.complete hits misses }
 
-only_complete : {A : Type 0} (F : List Placed → Type 0) (b : Bool) (c : List Placed → Bool) (f : List Placed → Answer A) (R : Grammar A) (g : List Placed → Answer A) (S : Grammar A) → Complete F f R → Complete F g S
-    → ((front : List Placed) (a : A) (rest : List Placed) → R front a → F rest → c (front ++ rest) ≡ true)
-    → ((front : List Placed) (a : A) (rest : List Placed) → S front a → F rest → (b && c (front ++ rest)) ≡ false) → Complete F (λ ts. cond (b && c ts) (f ts) (g ts)) (Either (Only b R) S)
-only_complete F b c f R g S cf cg hits misses front a rest (inl r) follow = rw (r.0, hits front a rest r.1 follow) (cf front a rest r.1 follow)
-only_complete F b c f R g S cf cg hits misses front a rest (inr s) follow = rw (misses front a rest s follow) (cg front a rest s follow)
+only_complete : {A : Type 0} (F : List Placed → Type 0) (b : Bool) (test : Token → Bool) (f : List Placed → Answer A) (R : Grammar A) (g : List Placed → Answer A) (S : Grammar A) → Complete F f R → Complete F g S
+    → ((front : List Placed) (a : A) (rest : List Placed) → R front a → F rest → next test (front ++ rest) ≡ true)
+    → ((front : List Placed) (a : A) (rest : List Placed) → S front a → F rest → (b && next test (front ++ rest)) ≡ false) → Complete F (λ ts. cond (b && next test ts) (f ts) (g ts)) (Either (Only b R) S)
+only_complete F b test f R g S cf cg hits misses front a rest (inl r) follow = rw (r.0, hits front a rest r.1 follow) (cf front a rest r.1 follow)
+only_complete F b test f R g S cf cg hits misses front a rest (inr s) follow = rw (misses front a rest s follow) (cg front a rest s follow)
 
-pub law_only : {A : Type 0} (F : List Placed → Type 0) (b : Bool) (c : List Placed → Bool) (f : List Placed → Answer A) (R : Grammar A) (g : List Placed → Answer A) (S : Grammar A) → Law F f R → Law F g S
-    → ((front : List Placed) (a : A) (rest : List Placed) → R front a → F rest → c (front ++ rest) ≡ true)
-    → ((front : List Placed) (a : A) (rest : List Placed) → S front a → F rest → (b && c (front ++ rest)) ≡ false) → Law F (λ ts. cond (b && c ts) (f ts) (g ts)) (Either (Only b R) S)
-law_only F b c f R g S lf lg hits misses = record { sound = sound_only b c f R g S lf.sound lg.sound; complete = only_complete F b c f R g S lf.complete lg.complete hits misses }
+pub law_only : {A : Type 0} (F : List Placed → Type 0) (b : Bool) (test : Token → Bool) (f : List Placed → Answer A) (R : Grammar A) (g : List Placed → Answer A) (S : Grammar A) → Law F f R → Law F g S
+    → ((front : List Placed) (a : A) (rest : List Placed) → R front a → F rest → next test (front ++ rest) ≡ true)
+    → ((front : List Placed) (a : A) (rest : List Placed) → S front a → F rest → (b && next test (front ++ rest)) ≡ false) → Law F (λ ts. cond (b && next test ts) (f ts) (g ts)) (Either (Only b R) S)
+law_only F b test f R g S lf lg hits misses = record { firm = firm_only b test f R g S lf.firm lg.firm; complete = only_complete F b test f R g S lf.complete lg.complete hits misses }
 
 once_complete : {A : Type 0} (F : List Placed → Type 0) (test : Token → Bool) (b : Bool) (f : List Placed → Answer A) (R : Grammar A) (g : List Placed → Answer A) (S : Grammar A) → Complete F f R → Complete F g S
     → ((front : List Placed) (a : A) (rest : List Placed) → S front a → F rest → next test (front ++ rest) ≡ false) → Complete F (λ ts. cond (next test ts && b) (f (behind ts)) (g ts)) (Either (Only b (One test ▹ λ _. R)) S)
@@ -119,27 +119,29 @@ once_complete F test b f R g S cf cg misses front a rest (inl d) follow =
     ap (λ (ts : List Placed). cond (next test ts && b) (f (behind ts)) (g ts)) p.2 ∙ rw (p.3, d.0) (cf p.1 a rest p.4 follow)
 once_complete F test b f R g S cf cg misses front a rest (inr s) follow = rw (misses front a rest s follow) (cg front a rest s follow)
 
-pub law_once : {A : Type 0} (F : List Placed → Type 0) (test : Token → Bool) (b : Bool) (f : List Placed → Answer A) (R : Grammar A) (g : List Placed → Answer A) (S : Grammar A) → Law F f R → Law F g S
+pub law_once : {A : Type 0} (F : List Placed → Type 0) (test : Token → Bool) → Begins (One test) [] → (b : Bool) (f : List Placed → Answer A) (R : Grammar A) (g : List Placed → Answer A) (S : Grammar A) → Law F f R → Law F g S
     → ((front : List Placed) (a : A) (rest : List Placed) → S front a → F rest → next test (front ++ rest) ≡ false) → Law F (λ ts. cond (next test ts && b) (f (behind ts)) (g ts)) (Either (Only b (One test ▹ λ _. R)) S)
-law_once F test b f R g S lf lg misses = record { sound = sound_once test b f R g S lf.sound lg.sound; complete = once_complete F test b f R g S lf.complete lg.complete misses }
+law_once F test there b f R g S lf lg misses = record { firm = firm_once test there b f R g S lf.firm lg.firm; complete = once_complete F test b f R g S lf.complete lg.complete misses }
 
 last_complete : {A : Type 0} (F : List Placed → Type 0) (test : Token → Bool) (f : List Placed → Answer A) (R : Grammar A) → Complete F f R → Complete F (λ ts. cond (next test ts) (f (behind ts)) (not_allowed ts)) (One test ▹ λ _. R)
 last_complete F test f R cf front a rest d follow =
     let p = front_of test R front a rest d in
     ap (λ (ts : List Placed). cond (next test ts) (f (behind ts)) (not_allowed ts)) p.2 ∙ rw p.3 (cf p.1 a rest p.4 follow)
 
-pub law_last : {A : Type 0} (F : List Placed → Type 0) (test : Token → Bool) (f : List Placed → Answer A) (R : Grammar A) → Law F f R → Law F (λ ts. cond (next test ts) (f (behind ts)) (not_allowed ts)) (One test ▹ λ _. R)
-law_last F test f R lf = record { sound = sound_last test f R lf.sound; complete = last_complete F test f R lf.complete }
+pub law_last : {A : Type 0} (F : List Placed → Type 0) (test : Token → Bool) → Begins (One test) [] → (f : List Placed → Answer A) (R : Grammar A) → Law F f R → Law F (λ ts. cond (next test ts) (f (behind ts)) (not_allowed ts)) (One test ▹ λ _. R)
+law_last F test there f R lf = record { firm = firm_last test there f R lf.firm; complete = last_complete F test f R lf.complete }
 
 -- ---- any number
 
--- what a walk needs: its steps take something, don't begin where it ends, and may follow each other and stand in front of its end
+-- what a walk needs: its steps take something, don't begin where it ends, and may follow each other and stand in front of its end; where it
+-- ends it looks at the next token alone
 pub record Steps {S : Type 0} (F : List Placed → Type 0) (ends : List Placed → Bool) (goes : S → List Placed → Answer S) (R : S → Grammar S) : Type 0 where
   pub law : (s : S) → Law F (goes s) (R s)
   pub some : (s : S) (front : List Placed) (t : S) → R s front t → 0 < length front
   pub begins : (s : S) (front : List Placed) (t : S) (rest : List Placed) → R s front t → ends (front ++ rest) ≡ false
   pub again : (s : S) (front : List Placed) (t : S) (rest : List Placed) → R s front t → F (front ++ rest)
   pub over : (rest : List Placed) → ends rest ≡ true → F rest
+  pub looks : (xs ys : List Placed) → first xs ≡ first ys → ends xs ≡ ends ys
 
 follows : {S : Type 0} (F : List Placed → Type 0) (ends : List Placed → Bool) (goes : S → List Placed → Answer S) (R : S → Grammar S) → Steps F ends goes R → (k : ℕ) (s : S) (front : List Placed) (u : S) (rest : List Placed) → Times R k s front u → ends rest ≡ true → F (front ++ rest)
 follows F ends goes R w zero s front u rest d end = rw d.0 (w.over rest end)
@@ -166,8 +168,11 @@ many_complete F ends goes R s w front u rest d end =
     let both : length (front ++ rest) ≡ length front + length rest = length-append front rest in
     walk_complete F ends goes R w d.0 (length (front ++ rest)) s front u rest d.1 end (omega arith)
 
+pub steps_go : {S : Type 0} (F : List Placed → Type 0) (ends : List Placed → Bool) (goes : S → List Placed → Answer S) (R : S → Grammar S) → Steps F ends goes R → Going ends goes R
+steps_go F ends goes R w = record { firm = λ s. (w.law s).firm; takes_some = w.some; looks = w.looks }
+
 pub law_many : {S : Type 0} (F : List Placed → Type 0) (ends : List Placed → Bool) (goes : S → List Placed → Answer S) (R : S → Grammar S) (s : S) → Steps F ends goes R → Law (λ ts. ends ts ≡ true) (λ ts. walk ends goes (length ts) s ts) (Many R s)
 law_many F ends goes R s w = record {
-  sound = λ ts x e. sound_walk ends goes R (λ t. (w.law t).sound) (length ts) s ts x e;
+  firm = firm_many ends goes R (steps_go F ends goes R w) s;
   complete = many_complete F ends goes R s w;
 }

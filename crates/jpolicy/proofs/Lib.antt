@@ -4,5 +4,5 @@ pub mod Fronts
 pub mod Grounds
 pub mod Laws
 pub mod Places
-pub mod Sound
+pub mod Firm
 pub mod Walking

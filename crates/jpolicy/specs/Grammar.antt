@@ -4,6 +4,8 @@ use Rattle.std.specs.Str.{byte}
 use Rattle.jpolicy.specs.declared.token.Token.{Token}
 use Rattle.jpolicy.specs.declared.token.Token.TheVariants.{Word, Text}
 use Rattle.jpolicy.specs.declared.token.Placed.{Placed}
+use Rattle.jpolicy.specs.declared.fault.PolicyFault.{PolicyFault}
+use Rattle.jpolicy.specs.declared.fault.PolicyFault.TheVariants.{NotUtf8, Syntax, SelfExpansion}
 use Rattle.jpolicy.specs.declared.keyword.Keyword.{Keyword}
 use Rattle.jpolicy.specs.declared.keyword.Keyword.TheVariants as keywords
 use Rattle.jpolicy.specs.declared.grant.Grant.{Grant}
@@ -155,3 +157,29 @@ Item properties grants =
 -- any number of items; grants with a missing property in a clause are left out
 abbrev pub Items : Properties → Grammar (List Grant)
 Items properties = Many (Item properties) []
+
+-- ---- what is allowed
+
+-- some tokens behind these make what a construct may be
+abbrev pub Begins : {A : Type 0} → Grammar A → List Placed → Type 0
+Begins {A} R front = (more : List Placed) × (a : A) × R (front ++ more) a
+
+-- behind some tokens the next one isn't allowed, or the end of the text where none is left
+abbrev pub NotAllowed : {A : Type 0} → Grammar A → List Placed → List Placed → Type 0
+NotAllowed {A} R front [] = (a : A) → ¬ (R front a)
+NotAllowed R front (t ∷ ts) = ¬ (Begins R (front ++ t ∷ []))
+
+-- an empty string in place of a token
+abbrev pub emptied : Placed → Placed
+emptied t = record { left = t.left; token = Text [] }
+
+-- behind some tokens a string with `${{` stands where another string is allowed
+abbrev pub NotItself : {A : Type 0} → Grammar A → List Placed → List Placed → Type 0
+NotItself R front [] = ⊥
+NotItself R front (t ∷ ts) = (units : List ℕ) × (t.token ≡ Text units) × (expands_itself units ≡ true) × Begins R (front ++ emptied t ∷ [])
+
+-- what the kind of a fault says of the token behind some others
+abbrev pub Says : {A : Type 0} → Grammar A → List Placed → List Placed → PolicyFault → Type 0
+Says R front rest NotUtf8 = ⊥
+Says R front rest Syntax = Unit {0}
+Says R front rest SelfExpansion = NotItself R front rest

@@ -1,15 +1,15 @@
 -- The productions of policy files, over the tokens (policy file documentation). Each gives what stands at the front and the tokens behind
 -- it, or the first token that isn't allowed.
-use Rattle.std.specs.Prelude.{ℕ, Bool, true, false, not, ◌&&◌, ◌||◌, ◌==◌, List, [], ◌∷◌, ◌++◌, length, map, Option, Some, None, Result, Ok, Err, if◌then◌else◌, codes}
-use Rattle.std.specs.Char.{to_ascii_lowercase}
-use Rattle.std.specs.Str.{bytes_eq, byte}
+use Rattle.std.specs.Prelude.{ℕ, Bool, true, false, not, ◌&&◌, ◌||◌, ◌==◌, List, [], ◌∷◌, ◌++◌, length, Option, Some, None, Result, Ok, Err, if◌then◌else◌, codes}
+use Rattle.std.specs.Str.{byte}
 use Rattle.jbase.specs.Stops.{◌>>=◌}
 use Rattle.jformat.specs.declared.error.Fault.{Fault}
+use Rattle.jtext.specs.Texts.{same_ignoring_case}
 use Rattle.jpolicy.specs.declared.token.Token.{Token}
 use Rattle.jpolicy.specs.declared.token.Token.TheVariants.{Word, Text, Mark}
 use Rattle.jpolicy.specs.declared.token.Placed.{Placed}
-use Rattle.jpolicy.specs.declared.fault.PolicyKind.{PolicyKind}
-use Rattle.jpolicy.specs.declared.fault.PolicyKind.TheVariants.{Syntax, SelfExpansion}
+use Rattle.jpolicy.specs.declared.fault.PolicyFault.{PolicyFault}
+use Rattle.jpolicy.specs.declared.fault.PolicyFault.TheVariants.{Syntax, SelfExpansion}
 use Rattle.jpolicy.specs.declared.keyword.Keyword.{Keyword}
 use Rattle.jpolicy.specs.declared.keyword.Keyword.TheVariants as keywords
 use Rattle.jpolicy.specs.declared.grant.Grant.{Grant}
@@ -22,14 +22,14 @@ use Rattle.jpolicy.specs.Walks.{walk}
 
 -- what stands at the front and the tokens behind it, or a fault
 abbrev pub Answer : Type 0 → Type 0
-Answer A = Result (A × List Placed) (Fault PolicyKind)
+Answer A = Result (A × List Placed) (Fault PolicyFault)
 
 -- a fault of the next token; the end of the text counts as a token
-abbrev pub fault_at : PolicyKind → List Placed → Fault PolicyKind
+abbrev pub fault_at : PolicyFault → List Placed → Fault PolicyFault
 fault_at kind [] = record { left = 0; kind = kind }
 fault_at kind (t ∷ ts) = record { left = t.left; kind = kind }
 
-abbrev pub not_allowed : {A : Type 0} → List Placed → Result A (Fault PolicyKind)
+abbrev pub not_allowed : {A : Type 0} → List Placed → Result A (Fault PolicyFault)
 not_allowed ts = Err (fault_at Syntax ts)
 
 -- ---- single tokens
@@ -51,19 +51,19 @@ abbrev pub is_text : Token → Bool
 is_text (Text units) = true
 is_text _ = false
 
--- keywords in small letters
+-- the letters of a keyword
 abbrev pub spelling : Keyword → List ℕ
 spelling keywords.Grant = codes "grant"
-spelling keywords.CodeBase = codes "codebase"
-spelling keywords.SignedBy = codes "signedby"
+spelling keywords.CodeBase = codes "codeBase"
+spelling keywords.SignedBy = codes "signedBy"
 spelling keywords.Principal = codes "principal"
 spelling keywords.Permission = codes "permission"
 spelling keywords.Keystore = codes "keystore"
-spelling keywords.PasswordUrl = codes "keystorepasswordurl"
+spelling keywords.PasswordUrl = codes "keystorePasswordURL"
 
 -- whether a word is a keyword, whose case is unimportant
 abbrev pub is_keyword : Keyword → Token → Bool
-is_keyword keyword (Word units) = bytes_eq (map to_ascii_lowercase units) (spelling keyword)
+is_keyword keyword (Word units) = same_ignoring_case units (spelling keyword)
 is_keyword keyword _ = false
 
 abbrev pub next : (Token → Bool) → List Placed → Bool
@@ -271,5 +271,5 @@ abbrev pub no_tokens : List Placed → Bool
 no_tokens ts = length ts == 0
 
 -- items to the end of the text; grants with a missing property in a clause are left out
-unfoldable pub policy_at : Properties → List Placed → Result (List Grant) (Fault PolicyKind)
+unfoldable pub policy_at : Properties → List Placed → Result (List Grant) (Fault PolicyFault)
 policy_at properties ts = walk no_tokens (one_item properties) (length ts) [] ts >>= λ x. if no_tokens x.1 then Ok x.0 else not_allowed x.1

@@ -2,7 +2,7 @@ ghost use Rattle.std.specs.Prelude.{◌≡◌};
 ghost use Rattle.jbase.specs.Stops.{Gives};
 ghost use Rattle.jpolicy.specs.Productions.{clause_at, clauses_at, is_mark, next, no_clauses, one_clause, principal_at, principal_name_at, skip_comma, with_code_base, with_principal, with_signers};
 
-use crate::fault::{PolicyKind, fault};
+use crate::fault::{PolicyFault, fault};
 use crate::keyword::Keyword;
 use crate::parts::{behind, next_is, next_is_word, next_names_principal, next_says, text_of};
 use crate::stated::Stated;
@@ -74,7 +74,7 @@ fn principal_name_of<'a>(
     alloc: Global,
     properties: &[(Units, Units)],
     tokens: &'a [Placed],
-) -> Result<(bool, &'a [Placed]), ReadError<PolicyKind>>
+) -> Result<(bool, &'a [Placed]), ReadError<PolicyFault>>
     ensures { Gives (λ x. (x.0, x.1.now)) result (principal_name_at properties.now tokens.now) }
 {
     if next_is('*', tokens) {
@@ -89,7 +89,7 @@ fn principal_of<'a>(
     alloc: Global,
     properties: &[(Units, Units)],
     tokens: &'a [Placed],
-) -> Result<(bool, &'a [Placed]), ReadError<PolicyKind>>
+) -> Result<(bool, &'a [Placed]), ReadError<PolicyFault>>
     ensures { Gives (λ x. (x.0, x.1.now)) result (principal_at properties.now tokens.now) }
 {
     if next_is_word(tokens) {
@@ -110,7 +110,7 @@ fn clause_of<'a>(
     properties: &[(Units, Units)],
     clauses: Clauses,
     tokens: &'a [Placed],
-) -> Result<(Clauses, &'a [Placed]), ReadError<PolicyKind>>
+) -> Result<(Clauses, &'a [Placed]), ReadError<PolicyFault>>
     ensures { Gives (λ x. (x.0, x.1.now)) result (clause_at properties.now clauses tokens.now) }
 {
     if next_says(Keyword::CodeBase, tokens) && clauses.code_base.is_absent() {
@@ -125,7 +125,7 @@ fn clause_of<'a>(
         let (lacks, rest) = principal_of(alloc, properties, behind(tokens))?;
         return Ok((clauses.with_principal(lacks), rest));
     }
-    Err(fault(PolicyKind::Syntax, tokens))
+    Err(fault(PolicyFault::Syntax, tokens))
 }
 
 /// What is behind a comma, if one stands there.
@@ -143,7 +143,7 @@ fn one_clause<'a>(
     properties: &[(Units, Units)],
     clauses: Clauses,
     tokens: &'a [Placed],
-) -> Result<(Clauses, &'a [Placed]), ReadError<PolicyKind>>
+) -> Result<(Clauses, &'a [Placed]), ReadError<PolicyFault>>
     ensures { Gives (λ x. (x.0, x.1.now)) result (one_clause properties.now clauses tokens.now) }
 {
     let (clauses, rest) = clause_of(alloc, properties, clauses, tokens)?;
@@ -160,7 +160,7 @@ impl<'p> Walk for ClauseWalk<'p> {
 
     type State = Clauses;
 
-    type Fault = jformat::Fault<PolicyKind>;
+    type Fault = jformat::Fault<PolicyFault>;
 
     ghost ends = { λ _. next (is_mark 123) };
 
@@ -175,7 +175,7 @@ impl<'p> Walk for ClauseWalk<'p> {
         alloc: Global,
         clauses: Clauses,
         tokens: &'a [Placed],
-    ) -> Result<(Clauses, &'a [Placed]), ReadError<PolicyKind>> {
+    ) -> Result<(Clauses, &'a [Placed]), ReadError<PolicyFault>> {
         one_clause(alloc, self.properties, clauses, tokens)
     }
 }
@@ -186,7 +186,7 @@ pub fn clauses_of<'a>(
     alloc: Global,
     properties: &[(Units, Units)],
     tokens: &'a [Placed],
-) -> Result<(Clauses, &'a [Placed]), ReadError<PolicyKind>>
+) -> Result<(Clauses, &'a [Placed]), ReadError<PolicyFault>>
     ensures { Gives (λ x. (x.0, x.1.now)) result (clauses_at properties.now tokens.now) }
 {
     walk_of(alloc, &ClauseWalk { properties }, Clauses::none(), tokens)

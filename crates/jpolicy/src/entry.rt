@@ -2,7 +2,7 @@ ghost use Rattle.std.specs.Prelude.{◌≡◌};
 ghost use Rattle.jbase.specs.Stops.{Gives};
 ghost use Rattle.jpolicy.specs.Productions.{behind_actions, behind_comma, behind_name, entries_at, entry_at, entry_of, is_mark, name_at, next, one_entry, signer_at};
 
-use crate::fault::PolicyKind;
+use crate::fault::PolicyFault;
 use crate::grant::GrantEntry;
 use crate::keyword::Keyword;
 use crate::parts::{
@@ -22,7 +22,7 @@ fn signer_of<'a>(
     alloc: Global,
     properties: &[(Units, Units)],
     tokens: &'a [Placed],
-) -> Result<(Stated, &'a [Placed]), ReadError<PolicyKind>>
+) -> Result<(Stated, &'a [Placed]), ReadError<PolicyFault>>
     ensures { Gives (λ x. (x.0, x.1.now)) result (signer_at properties.now tokens.now) }
 {
     let rest = keyword_of(Keyword::SignedBy, tokens)?;
@@ -35,7 +35,7 @@ fn behind_actions<'a>(
     alloc: Global,
     properties: &[(Units, Units)],
     tokens: &'a [Placed],
-) -> Result<(Stated, &'a [Placed]), ReadError<PolicyKind>>
+) -> Result<(Stated, &'a [Placed]), ReadError<PolicyFault>>
     ensures { Gives (λ x. (x.0, x.1.now)) result (behind_actions properties.now tokens.now) }
 {
     if next_is(',', tokens) {
@@ -49,7 +49,7 @@ fn behind_comma<'a>(
     alloc: Global,
     properties: &[(Units, Units)],
     tokens: &'a [Placed],
-) -> Result<((Stated, Stated), &'a [Placed]), ReadError<PolicyKind>>
+) -> Result<((Stated, Stated), &'a [Placed]), ReadError<PolicyFault>>
     ensures { Gives (λ x. (x.0, x.1.now)) result (behind_comma properties.now tokens.now) }
 {
     if next_is_text(tokens) {
@@ -66,7 +66,7 @@ fn name_of<'a>(
     alloc: Global,
     properties: &[(Units, Units)],
     tokens: &'a [Placed],
-) -> Result<(Stated, &'a [Placed]), ReadError<PolicyKind>>
+) -> Result<(Stated, &'a [Placed]), ReadError<PolicyFault>>
     ensures { Gives (λ x. (x.0, x.1.now)) result (name_at properties.now tokens.now) }
 {
     if next_is_text(tokens) {
@@ -82,7 +82,7 @@ fn behind_name<'a>(
     properties: &[(Units, Units)],
     name: &Stated,
     tokens: &'a [Placed],
-) -> Result<((Stated, Stated), &'a [Placed]), ReadError<PolicyKind>>
+) -> Result<((Stated, Stated), &'a [Placed]), ReadError<PolicyFault>>
     ensures { Gives (λ x. (x.0, x.1.now)) result (behind_name properties.now name.now tokens.now) }
 {
     if next_is(',', tokens) {
@@ -124,7 +124,7 @@ fn one_entry_of<'a>(
     alloc: Global,
     properties: &[(Units, Units)],
     tokens: &'a [Placed],
-) -> Result<(Option<GrantEntry>, &'a [Placed]), ReadError<PolicyKind>>
+) -> Result<(Option<GrantEntry>, &'a [Placed]), ReadError<PolicyFault>>
     ensures { Gives (λ x. (x.0, x.1.now)) result (entry_at properties.now tokens.now) }
 {
     let rest = keyword_of(Keyword::Permission, tokens)?;
@@ -140,7 +140,7 @@ fn one_entry<'a>(
     properties: &[(Units, Units)],
     entries: Seq<GrantEntry>,
     tokens: &'a [Placed],
-) -> Result<(Seq<GrantEntry>, &'a [Placed]), ReadError<PolicyKind>>
+) -> Result<(Seq<GrantEntry>, &'a [Placed]), ReadError<PolicyFault>>
     ensures { Gives (λ x. (x.0, x.1.now)) result (one_entry properties.now entries tokens.now) }
 {
     let mut entries = entries;
@@ -164,7 +164,7 @@ impl<'p> Walk for Entries<'p> {
 
     type State = Seq<GrantEntry>;
 
-    type Fault = jformat::Fault<PolicyKind>;
+    type Fault = jformat::Fault<PolicyFault>;
 
     ghost ends = { λ _. next (is_mark 125) };
 
@@ -179,7 +179,7 @@ impl<'p> Walk for Entries<'p> {
         alloc: Global,
         entries: Seq<GrantEntry>,
         tokens: &'a [Placed],
-    ) -> Result<(Seq<GrantEntry>, &'a [Placed]), ReadError<PolicyKind>> {
+    ) -> Result<(Seq<GrantEntry>, &'a [Placed]), ReadError<PolicyFault>> {
         one_entry(alloc, self.properties, entries, tokens)
     }
 }
@@ -190,7 +190,7 @@ pub fn entries_of<'a>(
     alloc: Global,
     properties: &[(Units, Units)],
     tokens: &'a [Placed],
-) -> Result<(Seq<GrantEntry>, &'a [Placed]), ReadError<PolicyKind>>
+) -> Result<(Seq<GrantEntry>, &'a [Placed]), ReadError<PolicyFault>>
     ensures { Gives (λ x. (x.0, x.1.now)) result (entries_at properties.now tokens.now) }
 {
     walk_of(alloc, &Entries { properties }, Seq::new(alloc), tokens)

@@ -4,7 +4,7 @@ ghost use Rattle.jpolicy.specs.Productions.{another_at, grant_at, grant_of, keys
 
 use crate::clauses::{Clauses, clauses_of};
 use crate::entry::entries_of;
-use crate::fault::{PolicyKind, fault};
+use crate::fault::{PolicyFault, fault};
 use crate::grant::{Grant, GrantEntry};
 use crate::keyword::Keyword;
 use crate::parts::{behind, keyword_of, mark_of, next_is, next_says, text_of};
@@ -39,7 +39,7 @@ fn one_grant_of<'a>(
     alloc: Global,
     properties: &[(Units, Units)],
     tokens: &'a [Placed],
-) -> Result<(Option<Grant>, &'a [Placed]), ReadError<PolicyKind>>
+) -> Result<(Option<Grant>, &'a [Placed]), ReadError<PolicyFault>>
     ensures { Gives (λ x. (x.0, x.1.now)) result (grant_at properties.now tokens.now) }
 {
     let rest = keyword_of(Keyword::Grant, tokens)?;
@@ -56,7 +56,7 @@ fn another_of<'a>(
     alloc: Global,
     properties: &[(Units, Units)],
     tokens: &'a [Placed],
-) -> Result<&'a [Placed], ReadError<PolicyKind>>
+) -> Result<&'a [Placed], ReadError<PolicyFault>>
     ensures { Gives (λ x. (tt, x.now)) result (another_at properties.now tokens.now) }
 {
     if next_is(',', tokens) {
@@ -71,7 +71,7 @@ fn others_of<'a>(
     alloc: Global,
     properties: &[(Units, Units)],
     tokens: &'a [Placed],
-) -> Result<&'a [Placed], ReadError<PolicyKind>>
+) -> Result<&'a [Placed], ReadError<PolicyFault>>
     ensures { Gives (λ x. (tt, x.now)) result (others_at properties.now tokens.now) }
 {
     if next_is(',', tokens) {
@@ -87,7 +87,7 @@ fn behind_keystore<'a>(
     alloc: Global,
     properties: &[(Units, Units)],
     tokens: &'a [Placed],
-) -> Result<&'a [Placed], ReadError<PolicyKind>>
+) -> Result<&'a [Placed], ReadError<PolicyFault>>
     ensures { Gives (λ x. (tt, x.now)) result (keystore_at properties.now tokens.now) }
 {
     let rest = keyword_of(Keyword::Keystore, tokens)?;
@@ -103,7 +103,7 @@ fn behind_password<'a>(
     alloc: Global,
     properties: &[(Units, Units)],
     tokens: &'a [Placed],
-) -> Result<&'a [Placed], ReadError<PolicyKind>>
+) -> Result<&'a [Placed], ReadError<PolicyFault>>
     ensures { Gives (λ x. (tt, x.now)) result (password_at properties.now tokens.now) }
 {
     let rest = keyword_of(Keyword::PasswordUrl, tokens)?;
@@ -117,7 +117,7 @@ fn with_grant<'a>(
     properties: &[(Units, Units)],
     grants: Seq<Grant>,
     tokens: &'a [Placed],
-) -> Result<(Seq<Grant>, &'a [Placed]), ReadError<PolicyKind>>
+) -> Result<(Seq<Grant>, &'a [Placed]), ReadError<PolicyFault>>
     ensures { Gives (λ x. (x.0, x.1.now)) result (one_more_grant properties.now grants tokens.now) }
 {
     let mut grants = grants;
@@ -137,7 +137,7 @@ fn one_item<'a>(
     properties: &[(Units, Units)],
     grants: Seq<Grant>,
     tokens: &'a [Placed],
-) -> Result<(Seq<Grant>, &'a [Placed]), ReadError<PolicyKind>>
+) -> Result<(Seq<Grant>, &'a [Placed]), ReadError<PolicyFault>>
     ensures { Gives (λ x. (x.0, x.1.now)) result (one_item properties.now grants tokens.now) }
 {
     if next_says(Keyword::Keystore, tokens) {
@@ -161,7 +161,7 @@ impl<'p> Walk for Items<'p> {
 
     type State = Seq<Grant>;
 
-    type Fault = jformat::Fault<PolicyKind>;
+    type Fault = jformat::Fault<PolicyFault>;
 
     ghost ends = { λ _. no_tokens };
 
@@ -176,7 +176,7 @@ impl<'p> Walk for Items<'p> {
         alloc: Global,
         grants: Seq<Grant>,
         tokens: &'a [Placed],
-    ) -> Result<(Seq<Grant>, &'a [Placed]), ReadError<PolicyKind>> {
+    ) -> Result<(Seq<Grant>, &'a [Placed]), ReadError<PolicyFault>> {
         one_item(alloc, self.properties, grants, tokens)
     }
 }
@@ -188,12 +188,12 @@ pub fn grants_of(
     alloc: Global,
     properties: &[(Units, Units)],
     tokens: &[Placed],
-) -> Result<Seq<Grant>, ReadError<PolicyKind>>
+) -> Result<Seq<Grant>, ReadError<PolicyFault>>
     ensures { Gives (λ x. x) result (policy_at properties.now tokens.now) }
 {
     let (grants, rest) = walk_of(alloc, &Items { properties }, Seq::new(alloc), tokens)?;
     if rest.is_empty() {
         return Ok(grants);
     }
-    Err(fault(PolicyKind::Syntax, rest))
+    Err(fault(PolicyFault::Syntax, rest))
 }

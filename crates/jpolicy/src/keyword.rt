@@ -1,6 +1,4 @@
-ghost use Rattle.std.specs.Prelude.{◌≡◌, map};
-ghost use Rattle.std.specs.Char.{to_ascii_lowercase};
-ghost use Rattle.std.specs.Str.{bytes_eq};
+ghost use Rattle.std.specs.Prelude.{◌≡◌};
 ghost use Rattle.jpolicy.specs.Productions.{spelling};
 
 /// A keyword of policy files.
@@ -16,44 +14,18 @@ pub enum Keyword {
 }
 
 impl Keyword {
-    /// The keyword in small letters.
+    /// The letters of the keyword.
     pub fn spelling(self) -> &'static [u8]
         ensures { result.now ≡ spelling self }
     {
         match self {
             Keyword::Grant => b"grant",
-            Keyword::CodeBase => b"codebase",
-            Keyword::SignedBy => b"signedby",
+            Keyword::CodeBase => b"codeBase",
+            Keyword::SignedBy => b"signedBy",
             Keyword::Principal => b"principal",
             Keyword::Permission => b"permission",
             Keyword::Keystore => b"keystore",
-            Keyword::PasswordUrl => b"keystorepasswordurl",
+            Keyword::PasswordUrl => b"keystorePasswordURL",
         }
-    }
-}
-
-/// Whether a text is a word in small letters, where ASCII letter case doesn't count.
-pub fn is_spelled(text: &[u16], word: &[u8]) -> bool
-    ensures { result ≡ bytes_eq (map to_ascii_lowercase text.now) word.now }
-{
-    if text.len() != word.len() {
-        return false;
-    }
-    for (i, unit) in text.iter().enumerate() {
-        if lower(*unit) != u16::from(word[i]) {
-            return false;
-        }
-    }
-    true
-}
-
-/// The lower-case unit of an ASCII letter; any other unit itself.
-fn lower(unit: u16) -> u16
-    ensures { result ≡ to_ascii_lowercase unit }
-{
-    if unit >= b'A' as u16 && unit <= b'Z' as u16 {
-        unit + 32
-    } else {
-        unit
     }
 }

@@ -17,10 +17,6 @@ mod stated;
 mod token;
 mod walk;
 
-pub use expanding::{expanded, expands_itself};
-pub use fault::{PolicyError, PolicyKind};
+pub use fault::{PolicyError, PolicyFault};
 pub use grant::{Grant, GrantEntry, Policy};
-pub use items::grants_of;
-pub use lexing::tokens_of;
 pub use read::read_policy;
-pub use token::{Placed, Token};

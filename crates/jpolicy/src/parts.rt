@@ -3,11 +3,11 @@ ghost use Rattle.jbase.specs.Stops.{Gives};
 ghost use Rattle.jpolicy.specs.Productions.{behind, is_keyword, is_mark, is_text, is_word, keyword_at, mark_at, names_principal, next, text_at, word_at};
 
 use crate::expanding::{expanded, expands_itself};
-use crate::fault::{PolicyKind, fault};
-use crate::keyword::{Keyword, is_spelled};
+use crate::fault::{PolicyFault, fault};
+use crate::keyword::Keyword;
 use crate::token::{Placed, Token};
 use jformat::ReadError;
-use jtext::Units;
+use jtext::{Units, same_ignoring_case};
 use std::alloc::Global;
 
 /// The tokens behind the next one.
@@ -43,7 +43,7 @@ fn is_keyword(keyword: Keyword, token: &Token) -> bool
     ensures { result ≡ is_keyword keyword token.now }
 {
     match token {
-        Token::Word(units) => is_spelled(units.as_slice(), keyword.spelling()),
+        Token::Word(units) => same_ignoring_case(units.as_slice(), keyword.spelling()),
         _ => false,
     }
 }
@@ -93,37 +93,37 @@ pub fn next_names_principal(tokens: &[Placed]) -> bool
 }
 
 /// What is behind a mark.
-pub fn mark_of(mark: char, tokens: &[Placed]) -> Result<&[Placed], ReadError<PolicyKind>>
+pub fn mark_of(mark: char, tokens: &[Placed]) -> Result<&[Placed], ReadError<PolicyFault>>
     ensures { Gives (λ x. (tt, x.now)) result (mark_at mark tokens.now) }
 {
     if next_is(mark, tokens) {
         return Ok(behind(tokens));
     }
-    Err(fault(PolicyKind::Syntax, tokens))
+    Err(fault(PolicyFault::Syntax, tokens))
 }
 
 /// What is behind a keyword.
-pub fn keyword_of(keyword: Keyword, tokens: &[Placed]) -> Result<&[Placed], ReadError<PolicyKind>>
+pub fn keyword_of(keyword: Keyword, tokens: &[Placed]) -> Result<&[Placed], ReadError<PolicyFault>>
     ensures { Gives (λ x. (tt, x.now)) result (keyword_at keyword tokens.now) }
 {
     if next_says(keyword, tokens) {
         return Ok(behind(tokens));
     }
-    Err(fault(PolicyKind::Syntax, tokens))
+    Err(fault(PolicyFault::Syntax, tokens))
 }
 
 /// A word.
 pub fn word_of(
     alloc: Global,
     tokens: &[Placed],
-) -> Result<(Units, &[Placed]), ReadError<PolicyKind>>
+) -> Result<(Units, &[Placed]), ReadError<PolicyFault>>
     ensures { Gives (λ x. (x.0, x.1.now)) result (word_at tokens.now) }
 {
     match tokens {
-        [] => Err(fault(PolicyKind::Syntax, tokens)),
+        [] => Err(fault(PolicyFault::Syntax, tokens)),
         [t, rest @ ..] => match &t.token {
             Token::Word(units) => Ok((units.copy(alloc)?, rest)),
-            _ => Err(fault(PolicyKind::Syntax, tokens)),
+            _ => Err(fault(PolicyFault::Syntax, tokens)),
         },
     }
 }
@@ -134,19 +134,19 @@ pub fn text_of<'a>(
     alloc: Global,
     properties: &[(Units, Units)],
     tokens: &'a [Placed],
-) -> Result<(Option<Units>, &'a [Placed]), ReadError<PolicyKind>>
+) -> Result<(Option<Units>, &'a [Placed]), ReadError<PolicyFault>>
     ensures { Gives (λ x. (x.0, x.1.now)) result (text_at properties.now tokens.now) }
 {
     match tokens {
-        [] => Err(fault(PolicyKind::Syntax, tokens)),
+        [] => Err(fault(PolicyFault::Syntax, tokens)),
         [t, rest @ ..] => match &t.token {
             Token::Text(units) => {
                 if expands_itself(units.as_slice()) {
-                    return Err(fault(PolicyKind::SelfExpansion, tokens));
+                    return Err(fault(PolicyFault::SelfExpansion, tokens));
                 }
                 Ok((expanded(alloc, properties, units.as_slice())?, rest))
             }
-            _ => Err(fault(PolicyKind::Syntax, tokens)),
+            _ => Err(fault(PolicyFault::Syntax, tokens)),
         },
     }
 }

@@ -1,13 +1,15 @@
-ghost use Rattle.std.specs.Prelude.{◌≡◌, ◌≤◌, List, IfOk, Ok, length};
+ghost use Rattle.std.specs.Prelude.{◌≡◌, ◌≤◌, List, IfErr, IfOk, Ok, length};
 ghost use Rattle.std.specs.Str.{chars, encode_utf8_all};
+ghost use Rattle.jbase.specs.Stops.{Gives};
 ghost use Rattle.jpolicy.specs.declared.grant.Grant.{Grant};
-ghost use Rattle.jpolicy.specs.Policies.{IsPolicy, PolicyGives, place_of, policy, policy_in};
+ghost use Rattle.jpolicy.specs.Policies.{IsFault, IsPolicy, place_of, policy, policy_in};
 
-use crate::fault::{PolicyError, PolicyKind};
+use crate::fault::{PolicyError, PolicyFault};
 use crate::grant::Policy;
 use crate::items::grants_of;
 use crate::lexing::tokens_of;
 use jbase::Stop;
+use jformat::At;
 use jtext::Units;
 use std::alloc::{AllocError, Global};
 
@@ -38,17 +40,17 @@ fn policy_in(
     properties: &[(Units, Units)],
 ) -> Result<Policy, PolicyError>
     requires { length text.now ≤ 2147483647 }
-    ensures { PolicyGives result (policy_in properties.now (chars text.now)) }
+    ensures { Gives (λ x. x) result (policy_in properties.now (chars text.now)) }
 {
     let characters = characters_of(alloc, text)?;
     let tokens = tokens_of(alloc, characters.as_slice())?;
     match grants_of(alloc, properties, tokens.as_slice()) {
         Ok(grants) => Ok(grants),
-        Err(Stop::Memory) => Err(PolicyError::Memory),
-        Err(Stop::Fault(found)) => Err(PolicyError::At {
+        Err(Stop::Memory) => Err(Stop::Memory),
+        Err(Stop::Fault(found)) => Err(Stop::Fault(At {
             at: place_of(characters.as_slice(), found.left) as u32,
             kind: found.kind,
-        }),
+        })),
     }
 }
 
@@ -58,14 +60,14 @@ fn policy_of(
     properties: &[(Units, Units)],
 ) -> Result<Policy, PolicyError>
     requires { length bytes.now ≤ 2147483647 }
-    ensures { PolicyGives result (policy properties.now bytes.now) }
+    ensures { Gives (λ x. x) result (policy properties.now bytes.now) }
 {
     match str::from_utf8(bytes) {
         Ok(text) => policy_in(alloc, text, properties),
-        Err(found) => Err(PolicyError::At {
+        Err(found) => Err(Stop::Fault(At {
             at: found.valid_up_to() as u32,
-            kind: PolicyKind::NotUtf8,
-        }),
+            kind: PolicyFault::NotUtf8,
+        })),
     }
 }
 
@@ -79,9 +81,11 @@ pub fn read_policy(
     // What is read is derived by the grammar.
     ensures found { IfOk result (λ grants. IsPolicy props.now bytes.now grants) }
     // What the grammar derives is read, unless memory runs out.
-    ensures only { (grants : List Grant) → IsPolicy props.now bytes.now grants → PolicyGives result (Ok grants) }
+    ensures only { (grants : List Grant) → IsPolicy props.now bytes.now grants → Gives (λ x. x) result (Ok grants) }
     // Which fault it is: the first ill-formed group of bytes, else the first token that isn't allowed.
-    ensures exact { PolicyGives result (policy props.now bytes.now) }
+    ensures exact { Gives (λ x. x) result (policy props.now bytes.now) }
+    // The tokens in front of that one begin a policy of the grammar, and with it none begins.
+    ensures first { IfErr result (λ e. IsFault props.now bytes.now e) }
 {
     policy_of(alloc, bytes, props)
 }

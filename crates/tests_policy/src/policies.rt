@@ -1,4 +1,5 @@
-use jpolicy::{Policy, PolicyError, PolicyKind, read_policy};
+use jbase::Stop;
+use jpolicy::{Policy, PolicyError, PolicyFault, read_policy};
 use jtext::Units;
 use std::alloc::{AllocError, Global};
 
@@ -25,7 +26,7 @@ fn properties(alloc: Global) -> Result<Vec<(Units, Units)>, AllocError> {
 /// What a policy file gives: its grants, or the place and kind of its fault.
 fn outcome(alloc: Global, bytes: &[u8]) -> Result<Policy, PolicyError> {
     if 2_147_483_647 < bytes.len() {
-        return Err(PolicyError::Memory);
+        return Err(Stop::Memory);
     }
     let props = properties(alloc)?;
     read_policy(alloc, bytes, props.as_slice())
@@ -66,174 +67,186 @@ fn shown(alloc: Global, policy: &Policy) -> Result<Vec<u16>, AllocError> {
     Ok(out)
 }
 
-const BAD: [(&str, u32, PolicyKind); 64] = [
+const BAD: [(&str, u32, PolicyFault); 64] = [
     (
         "grant { permission java.security.AllPermission }",
         47,
-        PolicyKind::Syntax,
+        PolicyFault::Syntax,
     ),
-    ("grant {", 7, PolicyKind::Syntax),
+    ("grant {", 7, PolicyFault::Syntax),
     (
         "grant codeBase \"${{self}}\" { };",
         15,
-        PolicyKind::SelfExpansion,
+        PolicyFault::SelfExpansion,
     ),
-    ("/* x", 0, PolicyKind::Syntax),
-    ("\"x\"", 0, PolicyKind::Syntax),
-    ("grants { };", 0, PolicyKind::Syntax),
-    ("grant ;", 6, PolicyKind::Syntax),
-    ("grant grant { };", 6, PolicyKind::Syntax),
-    ("grant { }", 9, PolicyKind::Syntax),
+    ("/* x", 0, PolicyFault::Syntax),
+    ("\"x\"", 0, PolicyFault::Syntax),
+    ("grants { };", 0, PolicyFault::Syntax),
+    ("grant ;", 6, PolicyFault::Syntax),
+    ("grant grant { };", 6, PolicyFault::Syntax),
+    ("grant { }", 9, PolicyFault::Syntax),
     (
         "grant { permission a.B; } grant { };",
         26,
-        PolicyKind::Syntax,
+        PolicyFault::Syntax,
     ),
-    ("grant { }; }", 11, PolicyKind::Syntax),
-    ("grant { permissions a.B; };", 8, PolicyKind::Syntax),
-    ("grant { permission ; };", 19, PolicyKind::Syntax),
-    ("grant { permission \"a.B\"; };", 19, PolicyKind::Syntax),
+    ("grant { }; }", 11, PolicyFault::Syntax),
+    ("grant { permissions a.B; };", 8, PolicyFault::Syntax),
+    ("grant { permission ; };", 19, PolicyFault::Syntax),
+    ("grant { permission \"a.B\"; };", 19, PolicyFault::Syntax),
     (
         "grant { permission a.B \"x\" \"y\"; };",
         27,
-        PolicyKind::Syntax,
+        PolicyFault::Syntax,
     ),
-    ("grant { permission a.B \"x\", ; };", 28, PolicyKind::Syntax),
+    (
+        "grant { permission a.B \"x\", ; };",
+        28,
+        PolicyFault::Syntax,
+    ),
     (
         "grant { permission a.B \"x\", read; };",
         28,
-        PolicyKind::Syntax,
+        PolicyFault::Syntax,
     ),
     (
         "grant { permission a.B \"x\", \"y\", \"z\"; };",
         33,
-        PolicyKind::Syntax,
+        PolicyFault::Syntax,
     ),
     (
         "grant { permission a.B \"x\" signedBy \"y\"; };",
         27,
-        PolicyKind::Syntax,
+        PolicyFault::Syntax,
     ),
     (
         "grant { permission a.B, signedBy \"y\", \"z\"; };",
         36,
-        PolicyKind::Syntax,
+        PolicyFault::Syntax,
     ),
     (
         "grant { permission a.B, signedBy ; };",
         33,
-        PolicyKind::Syntax,
+        PolicyFault::Syntax,
     ),
     (
         "grant { permission a.B, \"r\", signedBy \"y\" \"z\"; };",
         42,
-        PolicyKind::Syntax,
+        PolicyFault::Syntax,
     ),
     (
         "grant codeBase \"x\" codeBase \"y\" { };",
         19,
-        PolicyKind::Syntax,
+        PolicyFault::Syntax,
     ),
     (
         "grant codeBase \"x\", signedBy \"s\", CODEBASE \"y\" { };",
         34,
-        PolicyKind::Syntax,
+        PolicyFault::Syntax,
     ),
     (
         "grant signedBy \"a\" principal \"p\", signedby \"b\" { };",
         34,
-        PolicyKind::Syntax,
+        PolicyFault::Syntax,
     ),
     (
         "grant codeBase \"${none}\" codeBase \"y\" { };",
         25,
-        PolicyKind::Syntax,
+        PolicyFault::Syntax,
     ),
-    ("grant codeBase \"x\",, { };", 19, PolicyKind::Syntax),
-    ("grant , { };", 6, PolicyKind::Syntax),
-    ("grant codeBase file { };", 15, PolicyKind::Syntax),
-    ("grant principal { };", 16, PolicyKind::Syntax),
-    ("grant principal a.B { };", 20, PolicyKind::Syntax),
-    ("grant principal * * * { };", 20, PolicyKind::Syntax),
-    ("grant principal * a.B \"x\" { };", 18, PolicyKind::Syntax),
+    ("grant codeBase \"x\",, { };", 19, PolicyFault::Syntax),
+    ("grant , { };", 6, PolicyFault::Syntax),
+    ("grant codeBase file { };", 15, PolicyFault::Syntax),
+    ("grant principal { };", 16, PolicyFault::Syntax),
+    ("grant principal a.B { };", 20, PolicyFault::Syntax),
+    ("grant principal * * * { };", 20, PolicyFault::Syntax),
+    ("grant principal * a.B \"x\" { };", 18, PolicyFault::Syntax),
     (
         "keystore \"a\", \"b\", \"c\", \"d\";",
         22,
-        PolicyKind::Syntax,
+        PolicyFault::Syntax,
     ),
-    ("keystore \"a\"", 12, PolicyKind::Syntax),
-    ("keystore a;", 9, PolicyKind::Syntax),
-    ("keystore \"a\",;", 13, PolicyKind::Syntax),
-    ("keystorePasswordURL \"a\", \"b\";", 23, PolicyKind::Syntax),
+    ("keystore \"a\"", 12, PolicyFault::Syntax),
+    ("keystore a;", 9, PolicyFault::Syntax),
+    ("keystore \"a\",;", 13, PolicyFault::Syntax),
+    ("keystorePasswordURL \"a\", \"b\";", 23, PolicyFault::Syntax),
     (
         "grant { permission a.B \"\\101\"; };",
         23,
-        PolicyKind::Syntax,
+        PolicyFault::Syntax,
     ),
     (
         "grant { permission a.B \"a\\7b\"; };",
         23,
-        PolicyKind::Syntax,
+        PolicyFault::Syntax,
     ),
-    ("grant { permission a.B \"x\n\"; };", 23, PolicyKind::Syntax),
-    ("grant { permission a.B \"x\r\"; };", 23, PolicyKind::Syntax),
+    (
+        "grant { permission a.B \"x\n\"; };",
+        23,
+        PolicyFault::Syntax,
+    ),
+    (
+        "grant { permission a.B \"x\r\"; };",
+        23,
+        PolicyFault::Syntax,
+    ),
     (
         "grant { permission a.B \"x\\\ny\"; };",
         23,
-        PolicyKind::Syntax,
+        PolicyFault::Syntax,
     ),
-    ("grant { permission a.B \"x", 23, PolicyKind::Syntax),
-    ("grant { permission a.B \"x\\", 23, PolicyKind::Syntax),
-    ("grant - { };", 6, PolicyKind::Syntax),
-    ("grant / { };", 6, PolicyKind::Syntax),
-    ("grant /*/ { };", 6, PolicyKind::Syntax),
-    ("grant { // x */\r]", 16, PolicyKind::Syntax),
-    ("grant \u{7f}{ };", 6, PolicyKind::Syntax),
-    ("grant \u{9f}{ };", 6, PolicyKind::Syntax),
-    ("grant\u{a0}{ };", 0, PolicyKind::Syntax),
-    ("grant \u{17f}ignedBy \"x\" { };", 6, PolicyKind::Syntax),
+    ("grant { permission a.B \"x", 23, PolicyFault::Syntax),
+    ("grant { permission a.B \"x\\", 23, PolicyFault::Syntax),
+    ("grant - { };", 6, PolicyFault::Syntax),
+    ("grant / { };", 6, PolicyFault::Syntax),
+    ("grant /*/ { };", 6, PolicyFault::Syntax),
+    ("grant { // x */\r]", 16, PolicyFault::Syntax),
+    ("grant \u{7f}{ };", 6, PolicyFault::Syntax),
+    ("grant \u{9f}{ };", 6, PolicyFault::Syntax),
+    ("grant\u{a0}{ };", 0, PolicyFault::Syntax),
+    ("grant \u{17f}ignedBy \"x\" { };", 6, PolicyFault::Syntax),
     (
         "/* \u{e9}\u{20ac}\u{1f600} */ grant ] { };",
         22,
-        PolicyKind::Syntax,
+        PolicyFault::Syntax,
     ),
     (
         "grant { permission \u{e9}\u{20ac}\u{1f600} \"\u{1f600}\" }",
         36,
-        PolicyKind::Syntax,
+        PolicyFault::Syntax,
     ),
-    ("keystore \"${{x}}\";", 9, PolicyKind::SelfExpansion),
+    ("keystore \"${{x}}\";", 9, PolicyFault::SelfExpansion),
     (
         "grant principal \"${{alias}}\" { };",
         16,
-        PolicyKind::SelfExpansion,
+        PolicyFault::SelfExpansion,
     ),
     (
         "grant { permission a.B \"$${{\"; };",
         23,
-        PolicyKind::SelfExpansion,
+        PolicyFault::SelfExpansion,
     ),
     (
         "grant { permission a.B \"${x\", \"${{y\"; };",
         30,
-        PolicyKind::SelfExpansion,
+        PolicyFault::SelfExpansion,
     ),
     (
         "grant { permission a.B signedBy \"\\$\\{{\"; };",
         32,
-        PolicyKind::SelfExpansion,
+        PolicyFault::SelfExpansion,
     ),
-    ("grant \"${{x}}\" { };", 6, PolicyKind::Syntax),
+    ("grant \"${{x}}\" { };", 6, PolicyFault::Syntax),
     (
         "grant { permission a.B \"x\" \"${{y}}\"; };",
         27,
-        PolicyKind::Syntax,
+        PolicyFault::Syntax,
     ),
-    ("grant x { permission \"\\1", 6, PolicyKind::Syntax),
+    ("grant x { permission \"\\1", 6, PolicyFault::Syntax),
     (
         "grant codeBase \"${{\" \"\\1\" ^",
         15,
-        PolicyKind::SelfExpansion,
+        PolicyFault::SelfExpansion,
     ),
 ];
 
@@ -358,19 +371,26 @@ const GOOD: [(&str, &str); 39] = [
     ),
 ];
 
+/// The place and kind of the fault of a policy file.
+fn fault_of(alloc: Global, bytes: &[u8]) -> Option<(u32, PolicyFault)> {
+    match outcome(alloc, bytes) {
+        Err(Stop::Fault(found)) => Some((found.at, found.kind)),
+        _ => None,
+    }
+}
+
 #[test]
 fn names_the_first_fault(rt: HostRuntime) -> Result<(), AllocError> {
     let alloc = rt.alloc();
     for (text, at, kind) in BAD {
-        let found = outcome(alloc, text.as_bytes()).err();
-        assert!(rt; found == Some(PolicyError::At { at, kind }), "{text}");
+        assert!(rt;
+            fault_of(alloc, text.as_bytes()) == Some((at, kind)),
+            "{text}"
+        );
     }
     for (bytes, at) in ILL_FORMED {
-        let kind = PolicyKind::NotUtf8;
-        assert!(rt;
-            outcome(alloc, bytes).err() == Some(PolicyError::At { at, kind }),
-            "at {at}"
-        );
+        let kind = PolicyFault::NotUtf8;
+        assert!(rt; fault_of(alloc, bytes) == Some((at, kind)), "at {at}");
     }
     Ok(())
 }
