@@ -6,7 +6,7 @@ use Rattle.std.proofs.lemmas.List.{append-nil}
 use Rattle.jbase.specs.declared.stop.Stop.{Stop}
 use Rattle.jbase.specs.declared.stop.Stop.TheVariants as stops
 use Rattle.jbase.specs.Stops.{◌>>=◌, Fails}
-use Rattle.jbase.specs.Each.{each, each_some, put_front, steps}
+use Rattle.jbase.specs.Each.{each, each_some, put_front}
 
 -- ---- the values of all items
 
@@ -64,25 +64,4 @@ pub some_ends : {A B : Type 0} (f : A → Option B) (done : List B) (xs : List A
 unfolding each_some
 some_ends {A} {B} f done xs i total le so_far =
     let one : some_behind done (each_some f (drop i xs)) ≡ Some done = rw (drop_of_length-le xs le) (ap (λ (zs : List B). Some zs) (append-nil done)) in
-    sym so_far ∙ one
-
--- ---- a state
-
-pub steps_more : {S A F : Type 0} (step : S → A → Result S F) (s t : S) (xs : List A) (i : ℕ) (x : A) (total : Result S F) → i < length xs → x ≡ get_or xs i x → step s x ≡ Ok t → steps step s (drop i xs) ≡ total → steps step t (drop (i + 1) xs) ≡ total
-unfolding steps
-steps_more step s t xs i x total lt is h so_far =
-    let one : steps step s (drop i xs) ≡ steps step t (drop (suc i) xs) = rw (drop-cons xs i x, ← is, h) refl in
-    rw add-one (sym one ∙ so_far)
-
-pub steps_fail : {S A F : Type 0} (step : S → A → Result S F) (s : S) (xs : List A) (i : ℕ) (x : A) (stop : Stop F) (total : Result S F) → i < length xs → x ≡ get_or xs i x → Fails stop (step s x) → steps step s (drop i xs) ≡ total → Fails stop total
-unfolding steps
-steps_fail step s xs i x stops.Memory total lt is h so_far = tt
-steps_fail step s xs i x (stops.Fault d) total lt is h so_far =
-    let one : steps step s (drop i xs) ≡ Err d = rw (drop-cons xs i x, ← is, h) refl in
-    sym so_far ∙ one
-
-pub steps_end : {S A F : Type 0} (step : S → A → Result S F) (s : S) (xs : List A) (i : ℕ) (total : Result S F) → length xs ≤ i → steps step s (drop i xs) ≡ total → total ≡ Ok s
-unfolding steps
-steps_end step s xs i total le so_far =
-    let one : steps step s (drop i xs) ≡ Ok s = rw (drop_of_length-le xs le) refl in
     sym so_far ∙ one

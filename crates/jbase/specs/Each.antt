@@ -1,4 +1,4 @@
--- A function on each item of a list, and a state that goes along it.
+-- A function on each item of a list.
 use Rattle.std.specs.Prelude.{List, [], ◌∷◌, Option, Some, None, Result, Ok}
 use Rattle.jbase.specs.Stops.{◌>>=◌}
 
@@ -15,8 +15,3 @@ put_front _ _ = None
 unfoldable pub each_some : {A B : Type 0} → (A → Option B) → List A → Option (List B)
 each_some f [] = Some []
 each_some f (x ∷ xs) = put_front (f x) (each_some f xs)
-
--- the state behind all items, or the first fault
-unfoldable pub steps : {S A F : Type 0} → (S → A → Result S F) → S → List A → Result S F
-steps step s [] = Ok s
-steps step s (x ∷ xs) = step s x >>= λ t. steps step t xs

@@ -1,40 +1,8 @@
-ghost use Rattle.std.specs.Prelude.{◌≡◌, IfOk, Option, Result};
-ghost use Rattle.jbase.specs.Each.{each, each_some, steps};
-ghost use Rattle.jbase.specs.Stops.{Gives};
+ghost use Rattle.std.specs.Prelude.{◌≡◌, IfOk, Option};
+ghost use Rattle.jbase.specs.Each.{each_some};
 
 use crate::seq::Seq;
-use crate::stop::Stop;
 use std::alloc::{AllocError, Global};
-
-/// What gives a value or a fault for each item.
-pub trait Each {
-    type Item;
-
-    type Value: Drop;
-
-    type Fault: Drop;
-
-    /// The value of an item, or its fault.
-    ghost gives: { Self → Self.Item → Result Self.Value Self.Fault };
-
-    fn value_of(&self, alloc: Global, item: &Self::Item) -> Result<Self::Value, Stop<Self::Fault>>
-        ensures { Gives (λ v. v) result (gives self.now item.now) };
-}
-
-/// The values of all items, or the fault of the first item that has one.
-pub fn each_of<E: Each>(
-    alloc: Global,
-    by: &E,
-    items: &[E::Item],
-) -> Result<Seq<E::Value>, Stop<E::Fault>>
-    ensures { Gives (λ vs. vs) result (each (E.gives by.now) items.now) }
-{
-    let mut values = Seq::new(alloc);
-    for item in items {
-        values.push(by.value_of(alloc, item)?)?;
-    }
-    Ok(values)
-}
 
 /// What gives a value, or none, for each item.
 pub trait EachSome {
@@ -67,38 +35,21 @@ pub fn each_some_of<E: EachSome>(
     Ok(Some(values))
 }
 
-/// What goes from one state to the next over an item, or finds a fault in it.
-pub trait Step {
-    type State: Drop;
-
-    type Item;
-
-    type Fault: Drop;
-
-    /// The state behind the item, or the item's fault.
-    ghost steps_to: { Self → Self.State → Self.Item → Result Self.State Self.Fault };
-
-    fn step(
-        &self,
-        alloc: Global,
-        state: Self::State,
-        item: &Self::Item,
-    ) -> Result<Self::State, Stop<Self::Fault>>
-        ensures { Gives (λ s. s) result (steps_to self.now state item.now) };
+/// What can be made again.
+pub trait Again: Drop {
+    /// The same value again.
+    fn again(&self, alloc: Global) -> Result<Self, AllocError>
+        ensures { IfOk result (λ same. same ≡ self.now) };
 }
 
-/// The state behind all items, or the first fault.
-pub fn steps_of<S: Step>(
-    alloc: Global,
-    step: &S,
-    first: S::State,
-    items: &[S::Item],
-) -> Result<S::State, Stop<S::Fault>>
-    ensures { Gives (λ s. s) result (steps (S.steps_to step.now) first items.now) }
+/// The same values again.
+pub fn all_again<T: Again>(alloc: Global, items: &[T]) -> Result<Seq<T>, AllocError>
+    ensures { IfOk result (λ same. same ≡ items.now) }
 {
-    let mut state = first;
+    let mut same = Seq::new(alloc);
     for item in items {
-        state = step.step(alloc, state, item)?;
+        let one = item.again(alloc)?;
+        same.push(one)?;
     }
-    Ok(state)
+    Ok(same)
 }

@@ -7,7 +7,7 @@ mod laws;
 mod seq;
 mod stop;
 
-pub use each::{Each, EachSome, Step, each_of, each_some_of, steps_of};
+pub use each::{Again, EachSome, all_again, each_some_of};
 pub use laws::first_along_laws;
 pub use seq::Seq;
 pub use stop::Stop;
