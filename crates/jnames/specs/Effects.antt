@@ -1,11 +1,13 @@
 -- The kinds of operands that instructions which compute take and give, the newest operand first (JVMS 6.5).
-use Rattle.std.specs.Prelude.{Option, Some, None}
+use Rattle.std.specs.Prelude.{Bool, true, false, Option, Some, None}
 use Rattle.jnames.specs.declared.names.OpTwo.{OpTwo}
 use Rattle.jnames.specs.declared.names.OpTwo.TheVariants as two
 use Rattle.jnames.specs.declared.names.OpOne.{OpOne}
 use Rattle.jnames.specs.declared.names.OpOne.TheVariants as one
 use Rattle.jnames.specs.declared.names.Division.{Division}
 use Rattle.jnames.specs.declared.names.Division.TheVariants as divisions
+use Rattle.jnames.specs.declared.names.Compare.{Compare}
+use Rattle.jnames.specs.declared.names.Compare.TheVariants.{Eq, Ne}
 use Rattle.jnames.specs.declared.kinds.Kind.{Kind}
 use Rattle.jnames.specs.declared.kinds.Kind.TheVariants.{Int, Long}
 use Rattle.jnames.specs.declared.kinds.Kinds.{Kinds}
@@ -63,3 +65,9 @@ division_effect divisions.Idiv = ints
 division_effect divisions.Irem = ints
 division_effect divisions.Ldiv = longs
 division_effect divisions.Lrem = longs
+
+-- Two ints are compared by each, two references by these alone.
+abbrev pub compares_references : Compare → Bool
+compares_references Eq = true
+compares_references Ne = true
+compares_references _ = false

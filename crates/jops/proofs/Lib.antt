@@ -1,2 +1,3 @@
+pub mod ByKinds
 pub mod Fronts
 pub mod Wraps

@@ -1,6 +1,6 @@
 -- What the instructions that compute make of their operands (JVMS 6.5). An int is a number of 32 bits in two's complement, a
 -- long one of 64. The older operand stands first. Each of these is None exactly where the operands aren't of the kinds that the
--- instruction takes.
+-- instruction takes. `K` is what stands for a security context.
 use Rattle.std.specs.Prelude.{ℕ, ◌/◌, ◌%◌, ◌^◌, ◌==◌, ℤ, pos, negsuc, ◌+ℤ◌, ◌-ℤ◌, ◌*ℤ◌, neg_ℤ, int_lt, int_le, int_div, int_rem, Bool, false, not, if◌then◌else◌, Option, Some, None, option_map, Result, Ok, Err, ⊤}
 use Rattle.std.specs.Int.{Width, w8, w16, w32, w64, cast_unsigned, cast_signed, int_wrap, int_rem_euclid, int_shr, int_bit_and, int_bit_or, int_bit_xor}
 use Rattle.std.specs.Ordering.{int_eq}
@@ -18,41 +18,41 @@ use Rattle.jnames.specs.declared.names.Compare.TheVariants as compares
 
 -- ---- kinds
 
-abbrev pub IsInt : Value → Type 0
+abbrev pub IsInt : {K : Type 0} → Value K → Type 0
 IsInt (Int x) = ⊤
 IsInt _ = ⊥
 
-abbrev pub IsLong : Value → Type 0
+abbrev pub IsLong : {K : Type 0} → Value K → Type 0
 IsLong (Long x) = ⊤
 IsLong _ = ⊥
 
-abbrev pub on_int : {R : Type 0} → (ℤ → R) → Value → Option R
+abbrev pub on_int : {K R : Type 0} → (ℤ → R) → Value K → Option R
 on_int f (Int x) = Some (f x)
 on_int f _ = None
 
-abbrev pub on_long : {R : Type 0} → (ℤ → R) → Value → Option R
+abbrev pub on_long : {K R : Type 0} → (ℤ → R) → Value K → Option R
 on_long f (Long x) = Some (f x)
 on_long f _ = None
 
-abbrev pub on_ints : {R : Type 0} → (ℤ → ℤ → R) → Value → Value → Option R
+abbrev pub on_ints : {K R : Type 0} → (ℤ → ℤ → R) → Value K → Value K → Option R
 on_ints f (Int x) (Int y) = Some (f x y)
 on_ints f _ _ = None
 
-abbrev pub on_longs : {R : Type 0} → (ℤ → ℤ → R) → Value → Value → Option R
+abbrev pub on_longs : {K R : Type 0} → (ℤ → ℤ → R) → Value K → Value K → Option R
 on_longs f (Long x) (Long y) = Some (f x y)
 on_longs f _ _ = None
 
-abbrev pub on_long_and_int : {R : Type 0} → (ℤ → ℤ → R) → Value → Value → Option R
+abbrev pub on_long_and_int : {K R : Type 0} → (ℤ → ℤ → R) → Value K → Value K → Option R
 on_long_and_int f (Long x) (Int y) = Some (f x y)
 on_long_and_int f _ _ = None
 
 -- ---- results
 
 -- the int or long that differs from z by a multiple of 2 ^ 32 or 2 ^ 64
-abbrev pub int : ℤ → Value
+abbrev pub int : {K : Type 0} → ℤ → Value K
 int z = Int (int_wrap w32 z)
 
-abbrev pub long : ℤ → Value
+abbrev pub long : {K : Type 0} → ℤ → Value K
 long z = Long (int_wrap w64 z)
 
 -- the lowest 5 or 6 bits of an int
@@ -73,7 +73,7 @@ order x y = if int_lt x y then negsuc 0 else (if int_lt y x then pos 1 else pos 
 -- ---- instructions
 
 -- `int_shr x k` is x divided by 2 ^ k and rounded down; the bits of two numbers are joined place by place
-unfoldable pub two : OpTwo → Value → Value → Option Value
+unfoldable pub two : {K : Type 0} → OpTwo → Value K → Value K → Option (Value K)
 two Iadd = on_ints (λ x y. int (x +ℤ y))
 two Ladd = on_longs (λ x y. long (x +ℤ y))
 two Isub = on_ints (λ x y. int (x -ℤ y))
@@ -95,7 +95,7 @@ two Lxor = on_longs (λ x y. Long (int_bit_xor w64 x y))
 two Lcmp = on_longs (λ x y. Int (order x y))
 
 -- a narrower number is widened again, i2c without sign
-unfoldable pub one : OpOne → Value → Option Value
+unfoldable pub one : {K : Type 0} → OpOne → Value K → Option (Value K)
 one Ineg = on_int (λ x. int (neg_ℤ x))
 one Lneg = on_long (λ x. long (neg_ℤ x))
 one I2l = on_int (λ x. Long x)
@@ -104,41 +104,41 @@ one I2b = on_int (λ x. Int (int_wrap w8 x))
 one I2c = on_int (λ x. Int (int_rem_euclid x (pos (2 ^ 16))))
 one I2s = on_int (λ x. Int (int_wrap w16 x))
 
-abbrev pub is_zero : Value → Bool
+abbrev pub is_zero : {K : Type 0} → Value K → Bool
 is_zero (Int y) = int_eq y (pos 0)
 is_zero (Long y) = int_eq y (pos 0)
 is_zero _ = false
 
 -- a division by y, which has no value where y is 0
-abbrev pub unless_zero : ℤ → Value → Result Value DivideByZero
+abbrev pub unless_zero : {K : Type 0} → ℤ → Value K → Result (Value K) DivideByZero
 unless_zero y v = if int_eq y (pos 0) then Err (record {}) else Ok v
 
 -- `int_div` rounds toward zero, and `int_rem` is what it leaves, with the sign of x
-abbrev pub int_quotient : ℤ → ℤ → Result Value DivideByZero
+abbrev pub int_quotient : {K : Type 0} → ℤ → ℤ → Result (Value K) DivideByZero
 int_quotient x y = unless_zero y (int (int_div x y))
 
-abbrev pub int_remainder : ℤ → ℤ → Result Value DivideByZero
+abbrev pub int_remainder : {K : Type 0} → ℤ → ℤ → Result (Value K) DivideByZero
 int_remainder x y = unless_zero y (Int (int_rem x y))
 
-abbrev pub long_quotient : ℤ → ℤ → Result Value DivideByZero
+abbrev pub long_quotient : {K : Type 0} → ℤ → ℤ → Result (Value K) DivideByZero
 long_quotient x y = unless_zero y (long (int_div x y))
 
-abbrev pub long_remainder : ℤ → ℤ → Result Value DivideByZero
+abbrev pub long_remainder : {K : Type 0} → ℤ → ℤ → Result (Value K) DivideByZero
 long_remainder x y = unless_zero y (Long (int_rem x y))
 
-unfoldable pub divide : Division → Value → Value → Option (Result Value DivideByZero)
+unfoldable pub divide : {K : Type 0} → Division → Value K → Value K → Option (Result (Value K) DivideByZero)
 divide Idiv = on_ints int_quotient
 divide Irem = on_ints int_remainder
 divide Ldiv = on_longs long_quotient
 divide Lrem = on_longs long_remainder
 
 -- two ints or two references are one
-abbrev pub same : Value → Value → Option Bool
+abbrev pub same : {K : Type 0} → Value K → Value K → Option Bool
 same (Int x) (Int y) = Some (int_eq x y)
 same (Ref x) (Ref y) = Some (x == y)
 same _ _ = None
 
-unfoldable pub test : Compare → Value → Value → Option Bool
+unfoldable pub test : {K : Type 0} → Compare → Value K → Value K → Option Bool
 test compares.Eq = same
 test compares.Ne = λ a b. option_map not (same a b)
 test compares.Lt = on_ints int_lt

@@ -80,26 +80,26 @@ shuffle Swap = swap
 
 -- ---- values as items
 
-abbrev pub is_long : Value → Bool
+abbrev pub is_long : {K : Type 0} → Value K → Bool
 is_long (Long x) = true
 is_long _ = false
 
-abbrev pub item : Value → Item Value
+abbrev pub item : {K : Type 0} → Value K → Item (Value K)
 item v = if is_long v then Two v else One v
 
 -- the items of values that stand newest last
-abbrev pub items : List Value → List (Item Value)
+abbrev pub items : {K : Type 0} → List (Value K) → List (Item (Value K))
 items top = map item (reverse top)
 
 -- what an answer says; its values stand newest last
-abbrev pub moved : Shuffled → Move Value
+abbrev pub moved : Shuffled → Move (Value ℕ)
 moved s = moves s.taken (reverse (take s.put s.values))
 
 -- What goes and comes depends on the items that go alone: where a form fits a stack, the same goes and comes with any others
 -- below, and no more go than are there.
-abbrev pub LooksNoDeeper : Type 0
-LooksNoDeeper = (s : Shuffle) (stack below : List (Item Value)) (m : Move Value) → shuffle s stack ≡ Some m → (shuffle s (stack ++ below) ≡ Some m) × (m.taken ≤ length stack)
+abbrev pub LooksNoDeeper : Type 0 → Type 0
+LooksNoDeeper V = (s : Shuffle) (stack below : List (Item V)) (m : Move V) → shuffle s stack ≡ Some m → (shuffle s (stack ++ below) ≡ Some m) × (m.taken ≤ length stack)
 
 -- no form looks at more than the newest four items
-abbrev pub LooksAtFour : Type 0
-LooksAtFour = (s : Shuffle) (stack : List (Item Value)) → shuffle s (take 4 stack) ≡ shuffle s stack
+abbrev pub LooksAtFour : Type 0 → Type 0
+LooksAtFour V = (s : Shuffle) (stack : List (Item V)) → shuffle s (take 4 stack) ≡ shuffle s stack

@@ -8,6 +8,7 @@ use crate::{ints, longs};
 use jnames::OpTwo;
 
 /// How far an int is shifted.
+#[inline]
 fn by_int(y: i32) -> u32
     ensures value { result ≡ low_5 y }
     ensures bound { result < 32 }
@@ -16,6 +17,7 @@ fn by_int(y: i32) -> u32
 }
 
 /// How far a long is shifted.
+#[inline]
 fn by_long(y: i32) -> u32
     ensures value { result ≡ low_6 y }
     ensures bound { result < 64 }
@@ -23,6 +25,7 @@ fn by_long(y: i32) -> u32
     y.cast_unsigned() % 64
 }
 
+#[inline]
 fn order(x: i64, y: i64) -> i32
     ensures { result ≡ order x y }
 {
@@ -38,6 +41,7 @@ fn order(x: i64, y: i64) -> i32
 /// What an instruction with two operands gives (JVMS 6.5), but for divisions; `b` is the newer operand. Sums, differences and
 /// products wrap, and a shift is by the low 5 (of an int) or 6 bits (of a long) of `b`. The operands are of the kinds that the
 /// instruction takes.
+#[inline]
 #[tactic(auto, unfolding(crate::specs::Operations::two))]
 pub fn two(op: OpTwo, a: Value, b: Value) -> Value
     requires { IsSome (Operations.two op a b) }

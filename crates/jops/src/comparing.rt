@@ -6,6 +6,7 @@ use crate::operands::int_of;
 use crate::value::Value;
 use jnames::Compare;
 
+#[inline]
 fn same(a: Value, b: Value) -> bool
     requires { IsSome (same a b) }
     ensures { Some result ≡ same a b }
@@ -20,6 +21,7 @@ fn same(a: Value, b: Value) -> bool
 /// Whether a branch is taken that compares two ints, or two references for `Eq` and `Ne` (JVMS 6.5); `b` is the newer operand.
 /// A branch that tests against zero or null is given `Int(0)` or `Ref(0)` as `b`. Both are ints, or both references where that is
 /// allowed.
+#[inline]
 #[tactic(auto, unfolding(crate::specs::Operations::test))]
 pub fn test(c: Compare, a: Value, b: Value) -> bool
     requires { IsSome (Operations.test c a b) }

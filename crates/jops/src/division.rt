@@ -7,6 +7,7 @@ use crate::value::{DivideByZero, Value};
 use crate::{ints, longs};
 use jnames::Division;
 
+#[inline]
 fn int_quotient(x: i32, y: i32) -> Result<Value, DivideByZero>
     ensures { result ≡ Operations.int_quotient x y }
 {
@@ -16,6 +17,7 @@ fn int_quotient(x: i32, y: i32) -> Result<Value, DivideByZero>
     Ok(Value::Int(ints::quotient(x, y)))
 }
 
+#[inline]
 fn int_remainder(x: i32, y: i32) -> Result<Value, DivideByZero>
     ensures { result ≡ Operations.int_remainder x y }
 {
@@ -25,6 +27,7 @@ fn int_remainder(x: i32, y: i32) -> Result<Value, DivideByZero>
     Ok(Value::Int(x.wrapping_rem(y)))
 }
 
+#[inline]
 fn long_quotient(x: i64, y: i64) -> Result<Value, DivideByZero>
     ensures { result ≡ Operations.long_quotient x y }
 {
@@ -34,6 +37,7 @@ fn long_quotient(x: i64, y: i64) -> Result<Value, DivideByZero>
     Ok(Value::Long(longs::quotient(x, y)))
 }
 
+#[inline]
 fn long_remainder(x: i64, y: i64) -> Result<Value, DivideByZero>
     ensures { result ≡ Operations.long_remainder x y }
 {
@@ -50,6 +54,7 @@ fn long_remainder(x: i64, y: i64) -> Result<Value, DivideByZero>
 /// # Errors
 ///
 /// DivideByZero exactly where `b` is 0.
+#[inline]
 #[tactic(auto, unfolding(crate::specs::Operations::divide))]
 pub fn divide(op: Division, a: Value, b: Value) -> Result<Value, DivideByZero>
     requires { IsSome (Operations.divide op a b) }

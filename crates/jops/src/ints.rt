@@ -1,24 +1,28 @@
 ghost use Rattle.std.specs.Prelude.{◌≡◌, ◌^◌, ◌<◌, pos, ◌+ℤ◌, ◌-ℤ◌, ◌*ℤ◌, neg_ℤ, int_div, ◌≢◌};
 ghost use Rattle.std.specs.Int.{int_wrap, w8, w16, w32};
 
+#[inline]
 pub(crate) fn sum(x: i32, y: i32) -> i32
     ensures { result ≡ int_wrap w32 (x +ℤ y) }
 {
     x.wrapping_add(y)
 }
 
+#[inline]
 pub(crate) fn difference(x: i32, y: i32) -> i32
     ensures { result ≡ int_wrap w32 (x -ℤ y) }
 {
     x.wrapping_sub(y)
 }
 
+#[inline]
 pub(crate) fn product(x: i32, y: i32) -> i32
     ensures { result ≡ int_wrap w32 (x *ℤ y) }
 {
     x.wrapping_mul(y)
 }
 
+#[inline]
 pub(crate) fn negative(x: i32) -> i32
     ensures { result ≡ int_wrap w32 (neg_ℤ x) }
 {
@@ -26,6 +30,7 @@ pub(crate) fn negative(x: i32) -> i32
 }
 
 /// The quotient, rounded toward zero.
+#[inline]
 pub(crate) fn quotient(x: i32, y: i32) -> i32
     requires { y ≢ pos 0 }
     ensures { result ≡ int_wrap w32 (int_div x y) }
@@ -34,6 +39,7 @@ pub(crate) fn quotient(x: i32, y: i32) -> i32
 }
 
 /// `x` times a power of two.
+#[inline]
 pub(crate) fn shifted_left(x: i32, by: u32) -> i32
     requires { by < 32 }
     ensures { result ≡ int_wrap w32 (x *ℤ pos (2 ^ by)) }
@@ -42,6 +48,7 @@ pub(crate) fn shifted_left(x: i32, by: u32) -> i32
 }
 
 /// The low 8 bits, as a number with a sign.
+#[inline]
 pub(crate) fn low_8(x: i32) -> i32
     ensures { result ≡ int_wrap w8 x }
 {
@@ -49,6 +56,7 @@ pub(crate) fn low_8(x: i32) -> i32
 }
 
 /// The low 16 bits, as a number with a sign.
+#[inline]
 pub(crate) fn low_16(x: i32) -> i32
     ensures { result ≡ int_wrap w16 x }
 {

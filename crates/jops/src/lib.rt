@@ -15,7 +15,7 @@ mod value;
 pub use binary::two;
 pub use comparing::test;
 pub use division::divide;
-pub use laws::shuffle_laws;
+pub use laws::{kind_laws, shuffle_laws};
 pub use shuffling::{Shuffled, shuffle};
 pub use unary::one;
 pub use value::{DivideByZero, Value};

@@ -4,6 +4,7 @@ ghost use Rattle.jops.specs.Operations.{IsInt, IsLong};
 use crate::value::Value;
 
 /// The number that an int is.
+#[inline]
 pub(crate) fn int_of(value: Value) -> i32
     requires { IsInt value }
     ensures { value ≡ Value.Int result }
@@ -15,6 +16,7 @@ pub(crate) fn int_of(value: Value) -> i32
 }
 
 /// The number that a long is.
+#[inline]
 pub(crate) fn long_of(value: Value) -> i64
     requires { IsLong value }
     ensures { value ≡ Value.Long result }

@@ -17,6 +17,7 @@ pub struct Shuffled {
 /// What stands in `values` behind those that come.
 const FREE: Value = Value::Int(0);
 
+#[inline]
 fn is_long(value: Value) -> bool
     ensures { result ≡ Shuffles.is_long value }
 {
@@ -26,6 +27,7 @@ fn is_long(value: Value) -> bool
     }
 }
 
+#[inline]
 fn put_none(taken: u32) -> Shuffled
     ensures { moved result ≡ moves taken [] }
 {
@@ -37,6 +39,7 @@ fn put_none(taken: u32) -> Shuffled
     }
 }
 
+#[inline]
 fn put_2(taken: u32, a: Value, b: Value) -> Shuffled
     ensures { moved result ≡ moves taken (b ∷ a ∷ []) }
 {
@@ -48,6 +51,7 @@ fn put_2(taken: u32, a: Value, b: Value) -> Shuffled
     }
 }
 
+#[inline]
 fn put_3(taken: u32, a: Value, b: Value, c: Value) -> Shuffled
     ensures { moved result ≡ moves taken (c ∷ b ∷ a ∷ []) }
 {
@@ -59,6 +63,7 @@ fn put_3(taken: u32, a: Value, b: Value, c: Value) -> Shuffled
     }
 }
 
+#[inline]
 fn put_4(taken: u32, a: Value, b: Value, c: Value, d: Value) -> Shuffled
     ensures { moved result ≡ moves taken (d ∷ c ∷ b ∷ a ∷ []) }
 {
@@ -70,6 +75,7 @@ fn put_4(taken: u32, a: Value, b: Value, c: Value, d: Value) -> Shuffled
     }
 }
 
+#[inline]
 fn put_5(taken: u32, a: Value, b: Value, c: Value, d: Value, e: Value) -> Shuffled
     ensures { moved result ≡ moves taken (e ∷ d ∷ c ∷ b ∷ a ∷ []) }
 {
@@ -81,6 +87,7 @@ fn put_5(taken: u32, a: Value, b: Value, c: Value, d: Value, e: Value) -> Shuffl
     }
 }
 
+#[inline]
 fn put_6(taken: u32, a: Value, b: Value, c: Value, d: Value, e: Value, f: Value) -> Shuffled
     ensures moved { moved result ≡ moves taken (f ∷ e ∷ d ∷ c ∷ b ∷ a ∷ []) }
     ensures put { result.put ≡ 6 }
@@ -93,6 +100,7 @@ fn put_6(taken: u32, a: Value, b: Value, c: Value, d: Value, e: Value, f: Value)
     }
 }
 
+#[inline]
 fn pop2(a: Value, b: Value, c: Value, d: Value) -> Shuffled
     requires { IsSome (Shuffles.pop2 (item a ∷ item b ∷ item c ∷ item d ∷ [])) }
     ensures { Some (moved result) ≡ Shuffles.pop2 (item a ∷ item b ∷ item c ∷ item d ∷ []) }
@@ -103,6 +111,7 @@ fn pop2(a: Value, b: Value, c: Value, d: Value) -> Shuffled
     put_none(2)
 }
 
+#[inline]
 fn dup_x2(a: Value, b: Value, c: Value, d: Value) -> Shuffled
     requires { IsSome (Shuffles.dup_x2 (item a ∷ item b ∷ item c ∷ item d ∷ [])) }
     ensures { Some (moved result) ≡ Shuffles.dup_x2 (item a ∷ item b ∷ item c ∷ item d ∷ []) }
@@ -113,6 +122,7 @@ fn dup_x2(a: Value, b: Value, c: Value, d: Value) -> Shuffled
     put_4(3, a, c, b, a)
 }
 
+#[inline]
 fn dup2(a: Value, b: Value, c: Value, d: Value) -> Shuffled
     requires { IsSome (Shuffles.dup2 (item a ∷ item b ∷ item c ∷ item d ∷ [])) }
     ensures { Some (moved result) ≡ Shuffles.dup2 (item a ∷ item b ∷ item c ∷ item d ∷ []) }
@@ -123,6 +133,7 @@ fn dup2(a: Value, b: Value, c: Value, d: Value) -> Shuffled
     put_4(2, b, a, b, a)
 }
 
+#[inline]
 fn dup2_x1(a: Value, b: Value, c: Value, d: Value) -> Shuffled
     requires { IsSome (Shuffles.dup2_x1 (item a ∷ item b ∷ item c ∷ item d ∷ [])) }
     ensures { Some (moved result) ≡ Shuffles.dup2_x1 (item a ∷ item b ∷ item c ∷ item d ∷ []) }
@@ -133,6 +144,7 @@ fn dup2_x1(a: Value, b: Value, c: Value, d: Value) -> Shuffled
     put_5(3, b, a, c, b, a)
 }
 
+#[inline]
 fn dup2_x2(a: Value, b: Value, c: Value, d: Value) -> Shuffled
     requires { IsSome (Shuffles.dup2_x2 (item a ∷ item b ∷ item c ∷ item d ∷ [])) }
     ensures moved { Some (moved result) ≡ Shuffles.dup2_x2 (item a ∷ item b ∷ item c ∷ item d ∷ []) }
@@ -154,6 +166,7 @@ fn dup2_x2(a: Value, b: Value, c: Value, d: Value) -> Shuffled
 /// last, with `Int(0)` in the older places that aren't there. An item is one place of `top` also where it is a long, which the
 /// instructions count as two slots: `Pop2` takes one long or two other items, and so on. One of the instruction's forms fits the
 /// items.
+#[inline]
 #[tactic(auto, unfolding(crate::specs::Shuffles::shuffle))]
 pub fn shuffle(s: Shuffle, top: [Value; 4]) -> Shuffled
     requires { IsSome (Shuffles.shuffle s (items top)) }

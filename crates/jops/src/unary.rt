@@ -8,6 +8,7 @@ use jnames::OpOne;
 
 /// What an instruction with one operand gives (JVMS 6.5): the least int or long is its own negative, and what is made narrower
 /// keeps its low bits. The operand is of the kind that the instruction takes.
+#[inline]
 #[tactic(auto, unfolding(crate::specs::Operations::one))]
 pub fn one(op: OpOne, a: Value) -> Value
     requires { IsSome (Operations.one op a) }
