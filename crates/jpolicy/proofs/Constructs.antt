@@ -18,13 +18,13 @@ use Rattle.jpolicy.specs.declared.stated.Stated.{Stated}
 use Rattle.jpolicy.specs.declared.stated.Stated.TheVariants.{Absent}
 use Rattle.jpolicy.specs.declared.clauses.Clauses.{Clauses}
 use Rattle.jpolicy.specs.Expansion.{Properties}
-use Rattle.jpolicy.specs.Walks.{walk}
+use Rattle.jpolicy.specs.Walks.{walk, Ends}
 use Rattle.jpolicy.specs.Productions as read
 use Rattle.jpolicy.specs.Productions.{Answer, next, behind, is_mark, is_word, is_text, is_keyword, names_principal, is_absent, is_there, given, entry_of, with_entry, with_code_base, with_signers, with_principal, grant_of, with_grant, no_clauses, skip_comma, no_tokens}
 use Rattle.jpolicy.specs.Grammar.{Grammar, Nothing, Marked, Keyed, Worded, Texted, ◌▹◌, Either, Only, Comma, Signers, BehindActions, BehindComma, Named, BehindName, Entry, Entries, PrincipalName, Principal, Clause, AllClauses, OneGrant, Another, Others, Keystore, Password, Item, Items, Begins, NotAllowed, Says}
 use Rattle.jpolicy.proofs.Walking.{bind_ok, walk_ends}
 use Rattle.jpolicy.proofs.Firm.{Firm, first, bind_err, picked, shrinks, and_false, same_next, firm_same, firm_wide, firm_if, firm_next, firm_none}
-use Rattle.jpolicy.proofs.Laws.{Law, Complete, Any, Not, Steps, law_none, law_one, law_word, law_text, law_then, law_first, law_map, law_next, law_if, law_only, law_once, law_last, law_many, front_of, steps_go}
+use Rattle.jpolicy.proofs.Exact.{Law, Complete, Any, Not, Steps, law_none, law_one, law_word, law_text, law_then, law_first, law_map, law_next, law_if, law_only, law_once, law_last, law_many, front_of, steps_go}
 use Rattle.jpolicy.proofs.Fronts.{some_mark, some_word, some_keyword, marks_apart, mark_no_keyword, mark_no_text, mark_no_word, keyword_no_mark, keyword_no_text, keywords_apart, begins, begins_so, begins_some, deeper, deeper_some, text_begins, nothing_first, next_apart, worded}
 
 abbrev comma : Token → Bool
@@ -76,25 +76,25 @@ name p = law_if (Not is_text) is_text (λ ts. read.text_at p ts >>= λ n. Ok (gi
     (nothing_first (Not is_text) Absent)
 
 -- what follows the parts of an entry
-abbrev Ends : List Placed → Type 0
-Ends rest = (next comma rest ≡ false) × (next (is_keyword keywords.SignedBy) rest ≡ false)
+abbrev EntryFollows : List Placed → Type 0
+EntryFollows rest = (next comma rest ≡ false) × (next (is_keyword keywords.SignedBy) rest ≡ false)
 
 abbrev BareSigners : Properties → Grammar (Stated × Stated)
 BareSigners p = Signers p ▹ λ s. Nothing (Absent, s)
 
-bare_misses : (p : Properties) (b : Bool) (front : List Placed) (a : Stated × Stated) (rest : List Placed) → Either (Only b (BareSigners p)) (Nothing (Absent, Absent)) front a → Ends rest → next comma (front ++ rest) ≡ false
+bare_misses : (p : Properties) (b : Bool) (front : List Placed) (a : Stated × Stated) (rest : List Placed) → Either (Only b (BareSigners p)) (Nothing (Absent, Absent)) front a → EntryFollows rest → next comma (front ++ rest) ≡ false
 bare_misses p b front a rest (inl d) follow = deeper comma false (Signers p) (λ s. Nothing (Absent, s)) (begins (is_keyword keywords.SignedBy) comma (Texted p ▹ λ s. Nothing (given s)) (keyword_no_mark keywords.SignedBy (byte ","))) front a rest d.1
 bare_misses p b front a rest (inr d) follow = nothing_first (Not comma) (Absent, Absent) front a rest d follow.0
 
-none_misses : (b : Bool) (front : List Placed) (a : Stated × Stated) (rest : List Placed) → Nothing (Absent, Absent) front a → Ends rest → (b && next (is_keyword keywords.SignedBy) (front ++ rest)) ≡ false
+none_misses : (b : Bool) (front : List Placed) (a : Stated × Stated) (rest : List Placed) → Nothing (Absent, Absent) front a → EntryFollows rest → (b && next (is_keyword keywords.SignedBy) (front ++ rest)) ≡ false
 none_misses b front a rest d follow = ap (λ x. b && x) (nothing_first (Not (is_keyword keywords.SignedBy)) (Absent, Absent) front a rest d follow.1) ∙ and_false b
 
-behind_name : (p : Properties) (n : Stated) → Law Ends (read.behind_name p n) (BehindName p n)
-behind_name p n = law_next Ends comma some_comma (read.behind_comma p) (BehindComma p) (λ ts. cond (is_absent n && next (is_keyword keywords.SignedBy) ts) (read.signer_at p ts >>= λ s. Ok ((Absent, s.0), s.1)) (Ok ((Absent, Absent), ts))) (Either (Only (is_absent n) (BareSigners p)) (Nothing (Absent, Absent)))
-    (narrow (Not comma) Ends (read.behind_comma p) (BehindComma p) (λ rest follow. follow.0) (behind_comma p))
-    (law_only Ends (is_absent n) (is_keyword keywords.SignedBy) (λ ts. read.signer_at p ts >>= λ s. Ok ((Absent, s.0), s.1)) (BareSigners p) (λ ts. Ok ((Absent, Absent), ts)) (Nothing (Absent, Absent))
-    (any Ends (λ ts. read.signer_at p ts >>= λ s. Ok ((Absent, s.0), s.1)) (BareSigners p) (law_map Any (read.signer_at p) (Signers p) (λ s. (Absent, s)) (signers p)))
-    (law_none Ends (Absent, Absent))
+behind_name : (p : Properties) (n : Stated) → Law EntryFollows (read.behind_name p n) (BehindName p n)
+behind_name p n = law_next EntryFollows comma some_comma (read.behind_comma p) (BehindComma p) (λ ts. cond (is_absent n && next (is_keyword keywords.SignedBy) ts) (read.signer_at p ts >>= λ s. Ok ((Absent, s.0), s.1)) (Ok ((Absent, Absent), ts))) (Either (Only (is_absent n) (BareSigners p)) (Nothing (Absent, Absent)))
+    (narrow (Not comma) EntryFollows (read.behind_comma p) (BehindComma p) (λ rest follow. follow.0) (behind_comma p))
+    (law_only EntryFollows (is_absent n) (is_keyword keywords.SignedBy) (λ ts. read.signer_at p ts >>= λ s. Ok ((Absent, s.0), s.1)) (BareSigners p) (λ ts. Ok ((Absent, Absent), ts)) (Nothing (Absent, Absent))
+    (any EntryFollows (λ ts. read.signer_at p ts >>= λ s. Ok ((Absent, s.0), s.1)) (BareSigners p) (law_map Any (read.signer_at p) (Signers p) (λ s. (Absent, s)) (signers p)))
+    (law_none EntryFollows (Absent, Absent))
     (λ front a rest d follow. deeper (is_keyword keywords.SignedBy) true (Signers p) (λ s. Nothing (Absent, s)) (begins_so (is_keyword keywords.SignedBy) (Texted p ▹ λ s. Nothing (given s))) front a rest d)
     (none_misses (is_absent n)))
     (bare_misses p (is_absent n))
@@ -122,7 +122,7 @@ entry p = law_first Any (read.keyword_at keywords.Permission) (Keyed keywords.Pe
     (λ n ts. read.behind_name p n ts >>= λ more. read.mark_at (byte ";") more.1 >>= λ end. Ok (entry_of class n more.0.0 more.0.1, end.1))
     (λ n. BehindName p n ▹ λ more. EntryEnd (entry_of class n more.0 more.1))
     (name p)
-    (λ n. law_then Ends Any (read.behind_name p n) (BehindName p n)
+    (λ n. law_then EntryFollows Any (read.behind_name p n) (BehindName p n)
     (λ more ts. read.mark_at (byte ";") ts >>= λ end. Ok (entry_of class n more.0 more.1, end.1))
     (λ more. EntryEnd (entry_of class n more.0 more.1))
     (behind_name p n)
@@ -499,12 +499,25 @@ policy_complete p ts gs d =
 items : (p : Properties) → Firm (λ ts. walk no_tokens (read.one_item p) (length ts) [] ts) (Items p)
 items p = (law_many Any no_tokens (read.one_item p) (Item p) [] (item_steps p)).firm
 
+-- a walk over tokens ends at its test, at a fault, or with nothing left
+walk_of_steps : {S : Type 0} (F : List Placed → Type 0) (ends : List Placed → Bool) (goes : S → List Placed → Answer S) (R : S → Grammar S) → Steps F ends goes R → (s : S) (ts : List Placed) → Ends ends (walk ends goes (length ts) s ts)
+walk_of_steps F ends goes R w s ts = walk_ends ends goes (shrinks ends goes R (steps_go F ends goes R w)) (length ts) s ts (walk ends goes (length ts) s ts) (omega arith) refl
+
+pub clauses_walk : (p : Properties) (ts : List Placed) → Ends (next open_brace) (walk (next open_brace) (read.one_clause p) (length ts) no_clauses ts)
+clauses_walk p ts = walk_of_steps Between (next open_brace) (read.one_clause p) (OneClause p) (clause_steps p) no_clauses ts
+
+pub entries_walk : (p : Properties) (ts : List Placed) → Ends (next close_brace) (walk (next close_brace) (read.one_entry p) (length ts) [] ts)
+entries_walk p ts = walk_of_steps Any (next close_brace) (read.one_entry p) (OneEntry p) (entry_steps p) [] ts
+
+pub items_walk : (p : Properties) (ts : List Placed) → Ends no_tokens (walk no_tokens (read.one_item p) (length ts) [] ts)
+items_walk p ts = walk_of_steps Any no_tokens (read.one_item p) (Item p) (item_steps p) [] ts
+
+ended : (x : List Grant × List Placed) (r : Answer (List Grant)) → Ends no_tokens r → r ≡ Ok x → x.1 ≡ []
+ended x r h e = elim (subst (λ (q : Answer (List Grant)). Ends no_tokens q) e h) [ inl over ↦ over_is x.1 over | inr none ↦ none ]
+
 -- the walk over items ends with nothing left
 items_end : (p : Properties) (ts : List Placed) (x : List Grant × List Placed) → walk no_tokens (read.one_item p) (length ts) [] ts ≡ Ok x → x.1 ≡ []
-items_end p ts x e = elim (walk_ends no_tokens (read.one_item p) (shrinks no_tokens (read.one_item p) (Item p) (steps_go Any no_tokens (read.one_item p) (Item p) (item_steps p))) (length ts) [] ts (Ok x) (omega arith) e) [
-  | inl over ↦ over_is x.1 over
-  | inr none ↦ none
-]
+items_end p ts x e = ended x (walk no_tokens (read.one_item p) (length ts) [] ts) (items_walk p ts) e
 
 behind_items : (p : Properties) (ts : List Placed) (d : Fault PolicyFault) → walk no_tokens (read.one_item p) (length ts) [] ts ≡ Err d → read.policy_at p ts ≡ Err d
 unfolding read.policy_at

@@ -13,7 +13,7 @@ use Rattle.jpolicy.specs.declared.keyword.Keyword.TheVariants as keywords
 use Rattle.jpolicy.specs.Expansion.{Properties}
 use Rattle.jpolicy.specs.Productions.{next, is_mark, is_word, is_text, is_keyword, spelling}
 use Rattle.jpolicy.specs.Grammar.{Grammar, Nothing, One, Texted, ◌▹◌, Begins}
-use Rattle.jpolicy.proofs.Laws.{front_of}
+use Rattle.jpolicy.proofs.Exact.{front_of}
 
 -- ---- a token that passes a test
 

@@ -1,8 +1,9 @@
 pub mod Constructs
+pub mod Exact
 pub mod FirstTest
 pub mod Fronts
 pub mod Grounds
-pub mod Laws
 pub mod Places
 pub mod Firm
+pub mod Shrinking
 pub mod Walking

@@ -69,3 +69,16 @@ walk_ends ends goes fewer (suc n) s xs (Ok x) room e = elim (chosen (ends xs) (O
       let less : length b.0.1 < length xs = fewer s xs b.0 miss.0 b.1 in
       walk_ends ends goes fewer n b.0.0 b.0.1 (Ok x) (omega arith) b.2)
 ]
+
+-- a walk leaves no more than it began with
+pub walk_no_more : {S A F : Type 0} (ends : List A → Bool) (goes : S → List A → Result (S × List A) F) → Shrinks ends goes → (n : ℕ) (s : S) (xs : List A) (x : S × List A) → walk ends goes n s xs ≡ Ok x → length x.1 ≤ length xs
+unfolding walk
+walk_no_more {S} {A} ends goes fewer zero s xs x e = let same : (s, xs) ≡ x = cc in subst (λ (y : S × List A). length y.1 ≤ length xs) same (omega arith)
+walk_no_more {S} {A} ends goes fewer (suc n) s xs x e = elim (chosen (ends xs) (Ok (s, xs)) (goes s xs >>= λ y. walk ends goes n y.0 y.1) (Ok x) e) [
+  | inl hit ↦ (let h = hit.1 in let same : (s, xs) ≡ x = cc in subst (λ (y : S × List A). length y.1 ≤ length xs) same (omega arith))
+  | inr miss ↦ (
+      let b = bind_ok (goes s xs) (λ y. walk ends goes n y.0 y.1) x miss.1 in
+      let less : length b.0.1 < length xs = fewer s xs b.0 miss.0 b.1 in
+      let rest : length x.1 ≤ length b.0.1 = walk_no_more ends goes fewer n b.0.0 b.0.1 x b.2 in
+      omega arith)
+]

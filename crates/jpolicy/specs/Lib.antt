@@ -5,4 +5,5 @@ pub mod Policies
 pub mod Productions
 pub mod Strings
 pub mod Tokens
+pub mod WalkLaws
 pub mod Walks

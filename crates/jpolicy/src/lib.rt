@@ -9,6 +9,7 @@ mod fault;
 mod grant;
 mod items;
 mod keyword;
+mod laws;
 mod lexing;
 mod parts;
 mod quoted;
@@ -19,4 +20,5 @@ mod walk;
 
 pub use fault::{PolicyError, PolicyFault};
 pub use grant::{Grant, GrantEntry, Policy};
+pub use laws::walk_laws;
 pub use read::read_policy;
