@@ -10,7 +10,7 @@ use Rattle.std.proofs.lemmas.List.Concat.{flat_map-append}
 abbrev pub joined : List (List ℕ) → List ℕ
 joined parts = flat_map (λ (part : List ℕ). part) parts
 
-joined_more : (parts : List (List ℕ)) (i : ℕ) → i < length parts → joined (take (i + 1) parts) ≡ joined (take i parts) ++ get_or parts i []
+pub joined_more : (parts : List (List ℕ)) (i : ℕ) → i < length parts → joined (take (i + 1) parts) ≡ joined (take i parts) ++ get_or parts i []
 joined_more parts i lt =
     rw (add-one, take-suc parts i [] lt) (flat_map-append (λ (part : List ℕ). part) (take i parts) (get_or parts i [] ∷ []) ∙ ap (λ (x : List ℕ). joined (take i parts) ++ x) (append-nil (get_or parts i [])))
 

@@ -1,7 +1,9 @@
 -- The lines that events and the end of a run are written in.
-use Rattle.std.specs.Prelude.{ℕ, List, [], ◌∷◌, ◌++◌, length, codes, decimal}
+use Rattle.std.specs.Prelude.{ℕ, ◌+◌, List, [], ◌∷◌, ◌++◌, length, codes, decimal}
 use Rattle.std.specs.List.{flat_map}
+use Rattle.jio.specs.LineOf.{part_of, part_room}
 use Rattle.jio.specs.Text.{written}
+use Rattle.jio.specs.declared.parts.Part.{Part}
 use Rattle.jperm.specs.Texts.{text_of}
 use Rattle.jtrace.specs.declared.event.Event.{Event}
 use Rattle.jtrace.specs.declared.event.Event.TheVariants as events
@@ -14,6 +16,10 @@ line_feed = 10 ∷ []
 -- a word, the thread's number, a text as texts are written in lines, and what stands behind it
 abbrev pub told : List ℕ → ℕ → List ℕ → List ℕ → List ℕ
 told word thread text behind = word ++ (decimal thread ++ (codes " " ++ (written text ++ behind)))
+
+-- what a check's line begins with: all that stands before the end of the permission
+abbrev pub checked : List ℕ → ℕ → List ℕ → List ℕ
+checked word thread text = word ++ (decimal thread ++ (codes " " ++ written text))
 
 -- what stands behind a denied permission
 abbrev pub behind_denial : ℕ → List ℕ
@@ -51,3 +57,15 @@ lines events = flat_map line events
 -- the text of a run: a line for each event, and the line of its end
 abbrev pub text : List Event → End → List ℕ
 text events end = lines events ++ end_line end
+
+-- ---- parts of a line
+
+-- the parts' bytes, one behind the other
+abbrev pub texts : List Part → List ℕ
+texts [] = []
+texts (part ∷ parts) = part_of part ++ texts parts
+
+-- no more bytes than these are in them
+abbrev pub room : List Part → ℕ
+room [] = 0
+room (part ∷ parts) = part_room part + room parts

@@ -1,8 +1,8 @@
-ghost use Rattle.std.specs.Prelude.{◌≡◌, ◌<◌, ◌≤◌, ◌^◌, IfErr, OnOk, nat_le, length, codes};
+ghost use Rattle.std.specs.Prelude.{◌≡◌, ◌+◌, ◌*◌, ◌<◌, ◌≤◌, ◌^◌, IfErr, OnOk, nat_le, length, take, codes};
 ghost use Rattle.jbase.specs.Causes.{HasCause, appended};
 ghost use Rattle.jio.specs.Puts.{IsCutAt};
 ghost use Rattle.jperm.specs.Texts.{text_of};
-ghost use Rattle.jtrace.specs.Lines.{line, end_line, line_feed, told, behind_denial, units_of};
+ghost use Rattle.jtrace.specs.Lines.{line, end_line, line_feed, told, checked, behind_denial, units_of, texts, room};
 
 use crate::event::{End, Event};
 use jio::{Part, PutFault, Sink, put_all, write_line};
@@ -10,6 +10,12 @@ use jperm::{PARTS, Permission, text_laws};
 
 /// The most units of an event's text that `write_event` writes.
 pub const MOST_UNITS: usize = 4_294_967_295;
+
+/// How many parts a check's line has before the permission's: a word, a number and a blank.
+const BEFORE: usize = 3;
+
+/// How many parts a check's line has at most: behind the permission come a word and a number.
+const CHECK_PARTS: usize = BEFORE + PARTS + 2;
 
 /// Whether a permission's text has at most `MOST_UNITS` units.
 fn is_short_permission(asked: &Permission) -> bool
@@ -52,6 +58,23 @@ fn write_told<'a, K: Sink>(
     )
 }
 
+/// The first parts of a check's line: a word, the thread's number, and the permission in its parts. The places behind these
+/// are free for two more.
+fn check_parts<'a>(word: &'a str, thread: u32, asked: &'a Permission) -> [Part<'a>; CHECK_PARTS]
+    ensures size { length result ≡ CHECK_PARTS }
+    ensures bytes { texts (take (BEFORE + PARTS) result) ≡ checked word.now thread (text_of asked.now) }
+    ensures room { room (take (BEFORE + PARTS) result) ≡ length word.now + 21 + 6 * length (text_of asked.now) }
+{
+    text_laws();
+    let mut parts = [Part::Plain(" "); CHECK_PARTS];
+    parts[0] = Part::Plain(word);
+    parts[1] = Part::Number(u64::from(thread));
+    for at in 0..PARTS {
+        parts[BEFORE + at] = Part::Text(asked.part(at));
+    }
+    parts
+}
+
 /// The line of a granted check.
 fn write_grant<K: Sink>(out: &mut K, thread: u32, asked: &Permission) -> Result<(), PutFault>
     requires { length (text_of asked.now) < 2 ^ 32 }
@@ -59,27 +82,9 @@ fn write_grant<K: Sink>(out: &mut K, thread: u32, asked: &Permission) -> Result<
     ensures err { IfErr result (λ e. IsCutAt (K.out out.old) (K.out out.new) (told (codes "grant ") thread (text_of asked.now) line_feed) e.written) }
     ensures cause { HasCause (K.faults out.old) (K.faults out.new) result }
 {
-    text_laws();
-    let thread = u64::from(thread);
-    write_line(
-        out,
-        &[
-            Part::Plain("grant "),
-            Part::Number(thread),
-            Part::Plain(" "),
-            Part::Text(asked.part(0)),
-            Part::Text(asked.part(1)),
-            Part::Text(asked.part(2)),
-            Part::Text(asked.part(3)),
-            Part::Text(asked.part(4)),
-            Part::Text(asked.part(5)),
-            Part::Text(asked.part(6)),
-            Part::Text(asked.part(7)),
-            Part::Text(asked.part(8)),
-            Part::Text(asked.part(9)),
-            Part::Text(asked.part(10)),
-        ],
-    )
+    let parts = check_parts("grant ", thread, asked);
+    let (parts, _) = parts.split_at(BEFORE + PARTS);
+    write_line(out, parts)
 }
 
 /// The line of a denied check.
@@ -94,30 +99,11 @@ fn write_deny<K: Sink>(
     ensures err { IfErr result (λ e. IsCutAt (K.out out.old) (K.out out.new) (told (codes "deny ") thread (text_of asked.now) (behind_denial domain)) e.written) }
     ensures cause { HasCause (K.faults out.old) (K.faults out.new) result }
 {
-    text_laws();
-    let thread = u64::from(thread);
     let domain = u64::from(domain);
-    write_line(
-        out,
-        &[
-            Part::Plain("deny "),
-            Part::Number(thread),
-            Part::Plain(" "),
-            Part::Text(asked.part(0)),
-            Part::Text(asked.part(1)),
-            Part::Text(asked.part(2)),
-            Part::Text(asked.part(3)),
-            Part::Text(asked.part(4)),
-            Part::Text(asked.part(5)),
-            Part::Text(asked.part(6)),
-            Part::Text(asked.part(7)),
-            Part::Text(asked.part(8)),
-            Part::Text(asked.part(9)),
-            Part::Text(asked.part(10)),
-            Part::Plain(" domain "),
-            Part::Number(domain),
-        ],
-    )
+    let mut parts = check_parts("deny ", thread, asked);
+    parts[BEFORE + PARTS] = Part::Plain(" domain ");
+    parts[BEFORE + PARTS + 1] = Part::Number(domain);
+    write_line(out, &parts)
 }
 
 impl Event {
