@@ -20,7 +20,7 @@ use Rattle.jpolicy.specs.declared.clauses.Clauses.{Clauses}
 use Rattle.jpolicy.specs.Expansion.{Properties}
 use Rattle.jpolicy.specs.Walks.{walk, Ends}
 use Rattle.jpolicy.specs.Productions as read
-use Rattle.jpolicy.specs.Productions.{Answer, next, behind, is_mark, is_word, is_text, is_keyword, names_principal, is_absent, is_there, given, entry_of, with_entry, with_code_base, with_signers, with_principal, grant_of, with_grant, no_clauses, skip_comma, no_tokens}
+use Rattle.jpolicy.specs.Productions.{Answer, next, behind, is_mark, is_word, is_text, is_keyword, names_principal, is_absent, is_there, given, entry_of, with_code_base, with_signers, with_principal, grant_of, with_one, no_clauses, skip_comma, no_tokens}
 use Rattle.jpolicy.specs.Grammar.{Grammar, Nothing, Marked, Keyed, Worded, Texted, ◌▹◌, Either, Only, Comma, Signers, BehindActions, BehindComma, Named, BehindName, Entry, Entries, PrincipalName, Principal, Clause, AllClauses, OneGrant, Another, Others, Keystore, Password, Item, Items, Begins, NotAllowed, Says}
 use Rattle.jpolicy.proofs.Walking.{bind_ok, walk_ends}
 use Rattle.jpolicy.proofs.Firm.{Firm, first, bind_err, picked, shrinks, and_false, same_next, firm_same, firm_wide, firm_if, firm_next, firm_none}
@@ -145,13 +145,13 @@ abbrev EntryRest : Properties → Grammar (Option GrantEntry)
 EntryRest p = Worded ▹ λ class. Named p ▹ λ n. BehindName p n ▹ λ more. EntryEnd (entry_of class n more.0 more.1)
 
 abbrev OneEntry : Properties → List GrantEntry → Grammar (List GrantEntry)
-OneEntry p entries = Entry p ▹ λ e. Nothing (with_entry entries e)
+OneEntry p entries = Entry p ▹ λ e. Nothing (with_one entries e)
 
 entry_steps : (p : Properties) → Steps Any (next close_brace) (read.one_entry p) (OneEntry p)
 entry_steps p = record {
-  law = λ entries. law_map Any (read.entry_at p) (Entry p) (with_entry entries) (entry p);
-  some = λ entries front t d. deeper_some (Entry p) (λ e. Nothing (with_entry entries e)) (begins_some (is_keyword keywords.Permission) (EntryRest p)) front t d;
-  begins = λ entries front t rest d. deeper close_brace false (Entry p) (λ e. Nothing (with_entry entries e)) (begins (is_keyword keywords.Permission) close_brace (EntryRest p) (keyword_no_mark keywords.Permission (byte "}"))) front t rest d;
+  law = λ entries. law_map Any (read.entry_at p) (Entry p) (with_one entries) (entry p);
+  some = λ entries front t d. deeper_some (Entry p) (λ e. Nothing (with_one entries e)) (begins_some (is_keyword keywords.Permission) (EntryRest p)) front t d;
+  begins = λ entries front t rest d. deeper close_brace false (Entry p) (λ e. Nothing (with_one entries e)) (begins (is_keyword keywords.Permission) close_brace (EntryRest p) (keyword_no_mark keywords.Permission (byte "}"))) front t rest d;
   again = λ entries front t rest d. tt;
   over = λ rest end. tt;
   looks = same_next close_brace;
@@ -422,11 +422,11 @@ abbrev PasswordItem : Properties → List Grant → Grammar (List Grant)
 PasswordItem p gs = Password p ▹ λ _. Nothing gs
 
 abbrev GrantItem : Properties → List Grant → Grammar (List Grant)
-GrantItem p gs = OneGrant p ▹ λ g. Nothing (with_grant gs g)
+GrantItem p gs = OneGrant p ▹ λ g. Nothing (with_one gs g)
 
 store_misses : (p : Properties) (gs : List Grant) (front : List Placed) (a : List Grant) (rest : List Placed) → Either (PasswordItem p gs) (GrantItem p gs) front a → Unit {0} → next (is_keyword keywords.Keystore) (front ++ rest) ≡ false
 store_misses p gs front a rest (inl d) follow = deeper (is_keyword keywords.Keystore) false (Password p) (λ u. Nothing gs) (begins (is_keyword keywords.PasswordUrl) (is_keyword keywords.Keystore) (PasswordRest p) (keywords_apart keywords.PasswordUrl keywords.Keystore refl)) front a rest d
-store_misses p gs front a rest (inr d) follow = deeper (is_keyword keywords.Keystore) false (OneGrant p) (λ g. Nothing (with_grant gs g)) (begins (is_keyword keywords.Grant) (is_keyword keywords.Keystore) (GrantRest p) (keywords_apart keywords.Grant keywords.Keystore refl)) front a rest d
+store_misses p gs front a rest (inr d) follow = deeper (is_keyword keywords.Keystore) false (OneGrant p) (λ g. Nothing (with_one gs g)) (begins (is_keyword keywords.Grant) (is_keyword keywords.Keystore) (GrantRest p) (keywords_apart keywords.Grant keywords.Keystore refl)) front a rest d
 
 item : (p : Properties) (gs : List Grant) → Law Any (read.one_item p gs) (Item p gs)
 item p gs = law_if Any (is_keyword keywords.Keystore) (λ ts. read.keystore_at p ts >>= λ k. Ok (gs, k.1)) (StoreItem p gs)
@@ -434,16 +434,16 @@ item p gs = law_if Any (is_keyword keywords.Keystore) (λ ts. read.keystore_at p
     (law_map Any (read.keystore_at p) (Keystore p) (λ u. gs) (keystore p))
     (law_if Any (is_keyword keywords.PasswordUrl) (λ ts. read.password_at p ts >>= λ k. Ok (gs, k.1)) (PasswordItem p gs) (read.one_more_grant p gs) (GrantItem p gs)
     (law_map Any (read.password_at p) (Password p) (λ u. gs) (password p))
-    (law_map Any (read.grant_at p) (OneGrant p) (with_grant gs) (grant p))
+    (law_map Any (read.grant_at p) (OneGrant p) (with_one gs) (grant p))
     (λ front a rest d follow. deeper (is_keyword keywords.PasswordUrl) true (Password p) (λ u. Nothing gs) (begins_so (is_keyword keywords.PasswordUrl) (PasswordRest p)) front a rest d)
-    (λ front a rest d follow. deeper (is_keyword keywords.PasswordUrl) false (OneGrant p) (λ g. Nothing (with_grant gs g)) (begins (is_keyword keywords.Grant) (is_keyword keywords.PasswordUrl) (GrantRest p) (keywords_apart keywords.Grant keywords.PasswordUrl refl)) front a rest d))
+    (λ front a rest d follow. deeper (is_keyword keywords.PasswordUrl) false (OneGrant p) (λ g. Nothing (with_one gs g)) (begins (is_keyword keywords.Grant) (is_keyword keywords.PasswordUrl) (GrantRest p) (keywords_apart keywords.Grant keywords.PasswordUrl refl)) front a rest d))
     (λ front a rest d follow. deeper (is_keyword keywords.Keystore) true (Keystore p) (λ u. Nothing gs) (begins_so (is_keyword keywords.Keystore) (KeystoreRest p)) front a rest d)
     (store_misses p gs)
 
 item_some : (p : Properties) (gs : List Grant) (front : List Placed) (a : List Grant) → Item p gs front a → 0 < length front
 item_some p gs front a (inl d) = deeper_some (Keystore p) (λ u. Nothing gs) (begins_some (is_keyword keywords.Keystore) (KeystoreRest p)) front a d
 item_some p gs front a (inr (inl d)) = deeper_some (Password p) (λ u. Nothing gs) (begins_some (is_keyword keywords.PasswordUrl) (PasswordRest p)) front a d
-item_some p gs front a (inr (inr d)) = deeper_some (OneGrant p) (λ g. Nothing (with_grant gs g)) (begins_some (is_keyword keywords.Grant) (GrantRest p)) front a d
+item_some p gs front a (inr (inr d)) = deeper_some (OneGrant p) (λ g. Nothing (with_one gs g)) (begins_some (is_keyword keywords.Grant) (GrantRest p)) front a d
 
 no_end : (n : ℕ) → eqb (suc n) 0 ≡ true → ⊥
 no_end n h = let e : suc n ≡ 0 = eqb-true (suc n) 0 h in omega arith

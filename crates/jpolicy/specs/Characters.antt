@@ -5,15 +5,15 @@ use Rattle.std.specs.Str.{byte}
 
 -- whether a character separates tokens: a blank or a control
 abbrev pub is_gap : ℕ → Bool
-is_gap c = nat_le c 32
+is_gap c = nat_le c (byte " ")
 
 -- whether a line ends at a character: a line feed or a carriage return
 abbrev pub ends_line : ℕ → Bool
-ends_line c = (c == 10) || (c == 13)
+ends_line c = (c == byte "\n") || (c == byte "\r")
 
 -- whether a character may stand in a word: letters, digits, `.`, `_`, `$`, and all from U+00A0 on
 abbrev pub is_word_character : ℕ → Bool
-is_word_character c = is_ascii_alphanumeric c || (c == byte ".") || (c == byte "_") || (c == byte "$") || nat_le 160 c
+is_word_character c = is_ascii_alphanumeric c || (c == byte ".") || (c == byte "_") || (c == byte "$") || nat_le 0xa0 c
 
 -- whether a character is a token by itself
 abbrev pub is_mark : ℕ → Bool

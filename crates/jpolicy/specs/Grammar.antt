@@ -14,7 +14,8 @@ use Rattle.jpolicy.specs.declared.stated.Stated.{Stated}
 use Rattle.jpolicy.specs.declared.stated.Stated.TheVariants.{Absent}
 use Rattle.jpolicy.specs.declared.clauses.Clauses.{Clauses}
 use Rattle.jpolicy.specs.Expansion.{Properties, expanded, expands_itself}
-use Rattle.jpolicy.specs.Productions.{is_mark, is_word, is_keyword, given, is_absent, is_there, entry_of, with_entry, no_clauses, with_code_base, with_signers, with_principal, grant_of, with_grant}
+use Rattle.jpolicy.specs.Productions.{is_mark, is_word, is_keyword, given, is_absent, is_there, entry_of, no_clauses}
+use Rattle.jpolicy.specs.Productions.{with_code_base, with_signers, with_principal, grant_of, with_one}
 
 -- which tokens a construct may be, each time with what it states
 abbrev pub Grammar : Type 0 → Type 1
@@ -100,7 +101,7 @@ Entry properties =
 
 -- any number of entries; those with a missing property are left out
 abbrev pub Entries : Properties → Grammar (List GrantEntry)
-Entries properties = Many (λ entries. Entry properties ▹ λ e. Nothing (with_entry entries e)) []
+Entries properties = Many (λ entries. Entry properties ▹ λ e. Nothing (with_one entries e)) []
 
 -- ---- clauses
 
@@ -152,7 +153,7 @@ Password properties = Keyed keywords.PasswordUrl ▹ λ _. Texted properties ▹
 abbrev pub Item : Properties → List Grant → Grammar (List Grant)
 Item properties grants =
     Either (Keystore properties ▹ λ _. Nothing grants)
-    (Either (Password properties ▹ λ _. Nothing grants) (OneGrant properties ▹ λ g. Nothing (with_grant grants g)))
+    (Either (Password properties ▹ λ _. Nothing grants) (OneGrant properties ▹ λ g. Nothing (with_one grants g)))
 
 -- any number of items; grants with a missing property in a clause are left out
 abbrev pub Items : Properties → Grammar (List Grant)

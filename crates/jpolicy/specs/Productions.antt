@@ -97,6 +97,11 @@ unfoldable pub text_at : Properties → List Placed → Answer (Option (List ℕ
 text_at properties [] = not_allowed []
 text_at properties (t ∷ ts) = value_of properties t.token (t ∷ ts) ts
 
+-- one more behind others, where there is one
+abbrev pub with_one : {A : Type 0} → List A → Option A → List A
+with_one xs (Some x) = xs ++ x ∷ []
+with_one xs None = xs
+
 -- ---- entries
 
 -- a string that is there
@@ -156,12 +161,8 @@ entry_at properties ts =
     keyword_at keywords.Permission ts >>= λ k. word_at k.1 >>= λ class. name_at properties class.1 >>= λ name.
     behind_name properties name.0 name.1 >>= λ more. mark_at (byte ";") more.1 >>= λ end. Ok (entry_of class.0 name.0 more.0.0 more.0.1, end.1)
 
-abbrev pub with_entry : List GrantEntry → Option GrantEntry → List GrantEntry
-with_entry entries (Some entry) = entries ++ entry ∷ []
-with_entry entries None = entries
-
 abbrev pub one_entry : Properties → List GrantEntry → List Placed → Answer (List GrantEntry)
-one_entry properties entries ts = entry_at properties ts >>= λ e. Ok (with_entry entries e.0, e.1)
+one_entry properties entries ts = entry_at properties ts >>= λ e. Ok (with_one entries e.0, e.1)
 
 -- entries up to a brace; those with a missing property are left out
 unfoldable pub entries_at : Properties → List Placed → Answer (List GrantEntry)
@@ -253,12 +254,8 @@ keystore_at properties ts =
 unfoldable pub password_at : Properties → List Placed → Answer (Unit {0})
 password_at properties ts = keyword_at keywords.PasswordUrl ts >>= λ k. text_at properties k.1 >>= λ t. mark_at (byte ";") t.1
 
-abbrev pub with_grant : List Grant → Option Grant → List Grant
-with_grant grants (Some grant) = grants ++ grant ∷ []
-with_grant grants None = grants
-
 abbrev pub one_more_grant : Properties → List Grant → List Placed → Answer (List Grant)
-one_more_grant properties grants ts = grant_at properties ts >>= λ g. Ok (with_grant grants g.0, g.1)
+one_more_grant properties grants ts = grant_at properties ts >>= λ g. Ok (with_one grants g.0, g.1)
 
 -- an item behind others
 abbrev pub one_item : Properties → List Grant → List Placed → Answer (List Grant)

@@ -12,7 +12,7 @@ Part A = Result (A × List ℕ) (Unit {0})
 
 -- what a character stands for behind a backslash
 abbrev pub meant : ℕ → ℕ
-meant c = if c == byte "n" then 10 else (if c == byte "r" then 13 else (if c == byte "t" then 9 else c))
+meant c = if c == byte "n" then byte "\n" else (if c == byte "r" then byte "\r" else (if c == byte "t" then byte "\t" else c))
 
 -- an escape, behind its backslash; it is not octal, and the line doesn't end in it
 abbrev pub escape_at : List ℕ → Part ℕ

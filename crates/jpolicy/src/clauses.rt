@@ -1,6 +1,8 @@
 ghost use Rattle.std.specs.Prelude.{◌≡◌};
+ghost use Rattle.std.specs.Str.{byte};
 ghost use Rattle.jbase.specs.Stops.{Gives};
-ghost use Rattle.jpolicy.specs.Productions.{clause_at, clauses_at, is_mark, next, no_clauses, one_clause, principal_at, principal_name_at, skip_comma, with_code_base, with_principal, with_signers};
+ghost use Rattle.jpolicy.specs.Productions.{clause_at, clauses_at, is_mark, next, no_clauses, one_clause};
+ghost use Rattle.jpolicy.specs.Productions.{principal_at, principal_name_at, skip_comma, with_code_base, with_principal, with_signers};
 
 use crate::fault::{PolicyFault, fault};
 use crate::keyword::Keyword;
@@ -162,7 +164,7 @@ impl<'p> Walk for ClauseWalk<'p> {
 
     type Fault = jformat::Fault<PolicyFault>;
 
-    ghost ends = { λ _. next (is_mark 123) };
+    ghost ends = { λ _. next (is_mark (byte "{")) };
 
     ghost goes = { λ w. one_clause w.properties.now };
 

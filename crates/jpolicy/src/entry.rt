@@ -1,4 +1,5 @@
 ghost use Rattle.std.specs.Prelude.{◌≡◌};
+ghost use Rattle.std.specs.Str.{byte};
 ghost use Rattle.jbase.specs.Stops.{Gives};
 ghost use Rattle.jpolicy.specs.Productions.{behind_actions, behind_comma, behind_name, entries_at, entry_at, entry_of, is_mark, name_at, next, one_entry, signer_at};
 
@@ -6,7 +7,7 @@ use crate::fault::PolicyFault;
 use crate::grant::GrantEntry;
 use crate::keyword::Keyword;
 use crate::parts::{
-    behind, keyword_of, mark_of, next_is, next_is_text, next_says, text_of, word_of,
+    behind, keyword_of, mark_of, next_is, next_is_text, next_says, text_of, with_one, word_of,
 };
 use crate::stated::Stated;
 use crate::token::Placed;
@@ -143,15 +144,9 @@ fn one_entry<'a>(
 ) -> Result<(Seq<GrantEntry>, &'a [Placed]), ReadError<PolicyFault>>
     ensures { Gives (λ x. (x.0, x.1.now)) result (one_entry properties.now entries tokens.now) }
 {
-    let mut entries = entries;
     let (entry, rest) = one_entry_of(alloc, properties, tokens)?;
-    match entry {
-        Some(entry) => {
-            entries.push(entry)?;
-            Ok((entries, rest))
-        }
-        None => Ok((entries, rest)),
-    }
+    let entries = with_one(entries, entry)?;
+    Ok((entries, rest))
 }
 
 #[derive(Drop)]
@@ -166,7 +161,7 @@ impl<'p> Walk for Entries<'p> {
 
     type Fault = jformat::Fault<PolicyFault>;
 
-    ghost ends = { λ _. next (is_mark 125) };
+    ghost ends = { λ _. next (is_mark (byte "}")) };
 
     ghost goes = { λ w. one_entry w.properties.now };
 

@@ -7,7 +7,7 @@ use crate::entry::entries_of;
 use crate::fault::{PolicyFault, fault};
 use crate::grant::{Grant, GrantEntry};
 use crate::keyword::Keyword;
-use crate::parts::{behind, keyword_of, mark_of, next_is, next_says, text_of};
+use crate::parts::{behind, keyword_of, mark_of, next_is, next_says, text_of, with_one};
 use crate::token::Placed;
 use crate::walk::{Walk, walk_of};
 use jbase::Seq;
@@ -120,15 +120,9 @@ fn with_grant<'a>(
 ) -> Result<(Seq<Grant>, &'a [Placed]), ReadError<PolicyFault>>
     ensures { Gives (λ x. (x.0, x.1.now)) result (one_more_grant properties.now grants tokens.now) }
 {
-    let mut grants = grants;
     let (grant, rest) = one_grant_of(alloc, properties, tokens)?;
-    match grant {
-        Some(grant) => {
-            grants.push(grant)?;
-            Ok((grants, rest))
-        }
-        None => Ok((grants, rest)),
-    }
+    let grants = with_one(grants, grant)?;
+    Ok((grants, rest))
 }
 
 /// One item more.

@@ -1,14 +1,15 @@
-ghost use Rattle.std.specs.Prelude.{◌≡◌};
+ghost use Rattle.std.specs.Prelude.{◌≡◌, IfOk};
 ghost use Rattle.jbase.specs.Stops.{Gives};
-ghost use Rattle.jpolicy.specs.Productions.{behind, is_keyword, is_mark, is_text, is_word, keyword_at, mark_at, names_principal, next, text_at, word_at};
+ghost use Rattle.jpolicy.specs.Productions.{behind, is_keyword, is_mark, is_text, is_word, keyword_at, mark_at, names_principal, next, text_at, with_one, word_at};
 
 use crate::expanding::{expanded, expands_itself};
 use crate::fault::{PolicyFault, fault};
 use crate::keyword::Keyword;
 use crate::token::{Placed, Token};
+use jbase::Seq;
 use jformat::ReadError;
 use jtext::{Units, same_ignoring_case};
-use std::alloc::Global;
+use std::alloc::{AllocError, Global};
 
 /// The tokens behind the next one.
 pub fn behind(tokens: &[Placed]) -> &[Placed]
@@ -148,5 +149,19 @@ pub fn text_of<'a>(
             }
             _ => Err(fault(PolicyFault::Syntax, tokens)),
         },
+    }
+}
+
+/// One more behind others, where there is one.
+pub fn with_one<T: Drop>(items: Seq<T>, one: Option<T>) -> Result<Seq<T>, AllocError>
+    ensures { IfOk result (λ all. all ≡ with_one items one) }
+{
+    let mut items = items;
+    match one {
+        Some(one) => {
+            items.push(one)?;
+            Ok(items)
+        }
+        None => Ok(items),
     }
 }
