@@ -1,12 +1,12 @@
 -- Expanding frames as a loop does, and writing full forms that expand to the frames.
-use Rattle.std.proofs.Common.{◌≡◌, ℕ, zero, suc, ◌+◌, ◌-◌, ◌*◌, ◌<◌, ◌≤◌, ◌^◌, Bool, ◌&&◌, cond, leb, ltb, true, false, List, [], ◌∷◌, ◌++◌, length, get_or, take, drop, Option, Some, None, Result, Ok, Err, refl, sym, ap, subst, ◌∙◌, append_assoc, add-one, arith}
+use Rattle.std.proofs.Common.{◌≡◌, ℕ, zero, suc, ◌+◌, ◌-◌, ◌*◌, ◌<◌, ◌≤◌, ◌^◌, Bool, ◌&&◌, cond, leb, ltb, true, false, List, [], ◌∷◌, ◌++◌, length, get_or, take, drop, map, Option, Some, None, Result, Ok, Err, refl, sym, ap, subst, ◌∙◌, append_assoc, add-one, arith}
 use Rattle.std.specs.Prelude.{IsTrue, IfSome}
 use Rattle.std.specs.List.{flat_map, list_all, slice_get}
 use Rattle.std.specs.Option.{option_map}
 use Rattle.std.proofs.Math.Seq.{drop-cons}
 use Rattle.std.proofs.Math.ListN.{drop_of_length-le}
 use Rattle.std.proofs.lemmas.Bool.{ltb-true, lt-ltb, eqb-true}
-use Rattle.std.proofs.lemmas.List.{append-nil, length-append}
+use Rattle.std.proofs.lemmas.List.{append-nil, length-append, length-map, map-append}
 use Rattle.std.proofs.lemmas.List.Concat.{flat_map-cons}
 use Rattle.std.specs.Int.{w16, to_be_bytes}
 use Rattle.jbase.specs.Stops.{◌>>=◌}
@@ -21,10 +21,15 @@ use Rattle.jmaps.specs.declared.types.FullFrame.{FullFrame}
 use Rattle.jmaps.specs.declared.types.Number.{Number}
 use Rattle.jmaps.specs.declared.types.Number.TheVariants.{Given, Written}
 use Rattle.jmaps.specs.declared.types.Row.{Row}
-use Rattle.jmaps.specs.declared.fault.MapKind.TheVariants as kinds
+use Rattle.jmaps.specs.declared.fault.MapFault.TheVariants as kinds
 use Rattle.jmaps.specs.Frames.{row, part, body, or_kind, frame, frames, maps, own_frame, own_type}
 use Rattle.jmaps.proofs.MapLaws.{maps_law}
-use Rattle.jmaps.specs.Full.{place_behind, locals_before, chopped, locals_of, or_number, expand_from, delta_behind, is_behind, full_form, full_forms, stands, can_follow, place_after, all_stand, can_write, with_locals}
+use Rattle.jmaps.specs.Full.{place_behind, locals_before, chopped, locals_of, locals_after, or_number, expand_from, delta_behind, is_behind, full_form, full_forms, stands, can_follow, place_after, all_stand, can_write, items_fit, with_locals}
+
+-- a test that each item passes
+pub all_are : (xs : List MapType) → IsTrue (list_all (λ x. true) xs)
+all_are [] = refl
+all_are (x ∷ xs) = all_are xs
 
 -- ---- expanding
 
@@ -89,19 +94,12 @@ few_frames fs fit = ltb-true _ _ (second_true (list_all own_frame.fits fs) (ltb 
 record Stands (earlier : Option ℕ) (f : FullFrame) : Type 0 where
   behind : IsTrue (is_behind earlier f.at)
   near : IsTrue (ltb (delta_behind earlier f.at) 65536)
-  locals : IsTrue (list_all own_type.fits f.locals)
-  stack : IsTrue (list_all own_type.fits f.stack)
 
 stand_parts : (earlier : Option ℕ) (f : FullFrame) → IsTrue (stands earlier f) → Stands earlier f
-stand_parts earlier f h =
-    let front = first_true (is_behind earlier f.at && ltb (delta_behind earlier f.at) 65536 && list_all own_type.fits f.locals) (list_all own_type.fits f.stack) h in
-    let place = first_true (is_behind earlier f.at && ltb (delta_behind earlier f.at) 65536) (list_all own_type.fits f.locals) front in
-    record {
-      behind = first_true (is_behind earlier f.at) (ltb (delta_behind earlier f.at) 65536) place;
-      near = second_true (is_behind earlier f.at) (ltb (delta_behind earlier f.at) 65536) place;
-      locals = second_true (is_behind earlier f.at && ltb (delta_behind earlier f.at) 65536) (list_all own_type.fits f.locals) front;
-      stack = second_true (is_behind earlier f.at && ltb (delta_behind earlier f.at) 65536 && list_all own_type.fits f.locals) (list_all own_type.fits f.stack) h;
-    }
+stand_parts earlier f h = record {
+  behind = first_true (is_behind earlier f.at) (ltb (delta_behind earlier f.at) 65536) h;
+  near = second_true (is_behind earlier f.at) (ltb (delta_behind earlier f.at) 65536) h;
+}
 
 abbrev place_of : Option FullFrame → Option ℕ
 place_of earlier = option_map (λ f. f.at) earlier
@@ -186,7 +184,7 @@ fit_cond true p q = p
 fit_cond false p q = q
 
 locals_fit : (before : List MapType) (x : RawFrame) → IsTrue (list_all own_type.fits before) → IsTrue (list_all own_type.fits x.locals) → FitWhere (locals_of before x)
-unfolding locals_of
+unfolding locals_after
 locals_fit before x b l =
     let n = 251 - x.form in
     let same : FitWhere (Some before) = record { fit = b } in
@@ -203,33 +201,61 @@ before_fits : (first : List MapType) (earlier : Option FullFrame) → IsTrue (li
 before_fits first None p q = p
 before_fits first (Some f) p q = q
 
-one_stands : (first : List MapType) (i : ℕ) (earlier : Option FullFrame) (x : RawFrame) (xs : List RawFrame) (full : List FullFrame) (o : Option (List MapType)) → IsWritten x → IsTrue (fit_where o)
-    → (or_number i (with_locals earlier x o) >>= λ one. expand_from first (i + 1) (Some one) xs >>= λ others. Ok (one ∷ others)) ≡ Ok full
-    → ((one : FullFrame) (others : List FullFrame) → IsTrue (list_all own_type.fits one.locals) → expand_from first (i + 1) (Some one) xs ≡ Ok others → IsTrue (fits_from stands place_after (Some one.at) others))
-    → IsTrue (fits_from stands place_after (place_of earlier) full)
-unfolding fits_from
-one_stands first i earlier x xs full None w fit e next = absurd cc
-one_stands first i earlier x xs full (Some locals) w fit e next =
+-- what the expansion of a frame and of those behind it is
+record IsNext (first : List MapType) (i : ℕ) (earlier : Option FullFrame) (x : RawFrame) (xs : List RawFrame) (full : List FullFrame) : Type 0 where
+  one : FullFrame
+  others : List FullFrame
+  at : one.at ≡ place_behind earlier x.delta
+  locals : locals_of (locals_before first earlier) x ≡ Some one.locals
+  stack : one.stack ≡ x.stack
+  rest : expand_from first (i + 1) (Some one) xs ≡ Ok others
+  all : one ∷ others ≡ full
+
+next_of : (first : List MapType) (i : ℕ) (earlier : Option FullFrame) (x : RawFrame) (xs : List RawFrame) (full : List FullFrame) (o : Option (List MapType)) → locals_of (locals_before first earlier) x ≡ o
+    → (or_number i (with_locals earlier x o) >>= λ one. expand_from first (i + 1) (Some one) xs >>= λ others. Ok (one ∷ others)) ≡ Ok full → IsNext first i earlier x xs full
+next_of first i earlier x xs full None same e = absurd cc
+next_of first i earlier x xs full (Some locals) same e =
     let one : FullFrame = record { at = place_behind earlier x.delta; locals = locals; stack = x.stack } in
     let others = bind_ok (expand_from first (i + 1) (Some one) xs) (λ ys. Ok (one ∷ ys)) full e in
-    let place = place_stands earlier x.delta w.delta in
-    let here : IsTrue (stands (place_of earlier) one) = both _ _ (both _ _ (both _ _ place.0 place.1) fit) w.stack in
-    let made : IsTrue (fits_from stands place_after (place_of earlier) (one ∷ others.0)) = both _ _ here (next one others.0 fit others.1) in
-    subst (λ (v : List FullFrame). IsTrue (fits_from stands place_after (place_of earlier) v)) (ok_is ℕ (one ∷ others.0) full others.2) made
+    record { one = one; others = others.0; at = refl; locals = same; stack = refl; rest = others.1; all = ok_is ℕ (one ∷ others.0) full others.2 }
 
-expanded_stand : (first : List MapType) (i : ℕ) (earlier : Option FullFrame) (fs : List RawFrame) (full : List FullFrame) → IsTrue (list_all own_type.fits first) → IfSome earlier (λ f. IsTrue (list_all own_type.fits f.locals)) → IsTrue (list_all own_frame.fits fs)
-    → expand_from first i earlier fs ≡ Ok full → IsTrue (fits_from stands place_after (place_of earlier) full)
+expanded_next : (first : List MapType) (i : ℕ) (earlier : Option FullFrame) (x : RawFrame) (xs : List RawFrame) (full : List FullFrame) → expand_from first i earlier (x ∷ xs) ≡ Ok full → IsNext first i earlier x xs full
+unfolding expand_from
+expanded_next first i earlier x xs full e = next_of first i earlier x xs full (locals_of (locals_before first earlier) x) refl e
+
+expanded_stand : (first : List MapType) (i : ℕ) (earlier : Option FullFrame) (fs : List RawFrame) (full : List FullFrame) → IsTrue (list_all own_frame.fits fs) → expand_from first i earlier fs ≡ Ok full → IsTrue (fits_from stands place_after (place_of earlier) full)
 unfolding expand_from fits_from
-expanded_stand first i earlier [] full p q fit e = subst (λ (v : List FullFrame). IsTrue (fits_from stands place_after (place_of earlier) v)) (ok_is ℕ [] full e) refl
-expanded_stand first i earlier (x ∷ xs) full p q fit e =
+expanded_stand first i earlier [] full fit e = subst (λ (v : List FullFrame). IsTrue (fits_from stands place_after (place_of earlier) v)) (ok_is ℕ [] full e) refl
+expanded_stand first i earlier (x ∷ xs) full fit e =
     let w = written_parts x (first_true (own_frame.fits x) (list_all own_frame.fits xs) fit) in
-    one_stands first i earlier x xs full (locals_of (locals_before first earlier) x) w (locals_fit (locals_before first earlier) x (before_fits first earlier p q) w.locals).fit e
-    (λ one others q' e'. expanded_stand first (i + 1) (Some one) xs others p q' (second_true (own_frame.fits x) (list_all own_frame.fits xs) fit) e')
+    let n = expanded_next first i earlier x xs full e in
+    let place = place_stands earlier x.delta w.delta in
+    let here : IsTrue (stands (place_of earlier) n.one) = rw n.at (both _ _ place.0 place.1) in
+    let rest = expanded_stand first (i + 1) (Some n.one) xs n.others (second_true (own_frame.fits x) (list_all own_frame.fits xs) fit) n.rest in
+    subst (λ (v : List FullFrame). IsTrue (fits_from stands place_after (place_of earlier) v)) n.all (both _ _ here rest)
 
--- What is read from a fitting text stands in order, where the first locals have a spelling.
-pub expands_in_order : (first : List MapType) (fs : List RawFrame) (full : List FullFrame) → IsTrue (list_all own_type.fits first) → IsTrue (maps.fits fs) → expand_from first 0 None fs ≡ Ok full → IsTrue (all_stand full)
+expanded_fit : (first : List MapType) (i : ℕ) (earlier : Option FullFrame) (fs : List RawFrame) (full : List FullFrame) → IsTrue (list_all own_type.fits first) → IfSome earlier (λ f. IsTrue (list_all own_type.fits f.locals)) → IsTrue (list_all own_frame.fits fs)
+    → expand_from first i earlier fs ≡ Ok full → IsTrue (items_fit full)
+unfolding expand_from
+expanded_fit first i earlier [] full p q fit e = subst (λ (v : List FullFrame). IsTrue (items_fit v)) (ok_is ℕ [] full e) refl
+expanded_fit first i earlier (x ∷ xs) full p q fit e =
+    let w = written_parts x (first_true (own_frame.fits x) (list_all own_frame.fits xs) fit) in
+    let n = expanded_next first i earlier x xs full e in
+    let where_fit = (locals_fit (locals_before first earlier) x (before_fits first earlier p q) w.locals).fit in
+    let locals : IsTrue (list_all own_type.fits n.one.locals) = rw n.locals at where_fit in
+    let stack : IsTrue (list_all own_type.fits n.one.stack) = rw n.stack w.stack in
+    let rest = expanded_fit first (i + 1) (Some n.one) xs n.others p locals (second_true (own_frame.fits x) (list_all own_frame.fits xs) fit) n.rest in
+    subst (λ (v : List FullFrame). IsTrue (items_fit v)) n.all (both _ _ (both _ _ locals stack) rest)
+
+-- What is read from a fitting text stands in order,
+pub expands_in_order : (first : List MapType) (fs : List RawFrame) (full : List FullFrame) → IsTrue (maps.fits fs) → expand_from first 0 None fs ≡ Ok full → IsTrue (all_stand full)
 unfolding maps frames
-expands_in_order first fs full p fit e = expanded_stand first 0 None fs full p tt (first_true (list_all own_frame.fits fs) (ltb (length fs) 65536) fit) e
+expands_in_order first fs full fit e = expanded_stand first 0 None fs full (first_true (list_all own_frame.fits fs) (ltb (length fs) 65536) fit) e
+
+-- and its items have a spelling, where the first locals have one.
+pub expands_fit : (first : List MapType) (fs : List RawFrame) (full : List FullFrame) → IsTrue (list_all own_type.fits first) → IsTrue (maps.fits fs) → expand_from first 0 None fs ≡ Ok full → IsTrue (items_fit full)
+unfolding maps frames
+expands_fit first fs full p fit e = expanded_fit first 0 None fs full p tt (first_true (list_all own_frame.fits fs) (ltb (length fs) 65536) fit) e
 
 -- ---- writing
 
@@ -239,19 +265,35 @@ unfolding spell_from full_forms
 spelled earlier [] = refl
 spelled earlier (f ∷ fs) = ap (λ (t : List ℕ). own_frame.spell (full_form earlier f) ++ t) (spelled (Some f.at) fs) ∙ sym (flat_map-cons own_frame.spell (full_form earlier f) (full_forms (Some f.at) fs))
 
-full_fits : (earlier : Option ℕ) (f : FullFrame) → IsTrue (can_follow earlier f) → IsTrue (own_frame.fits (full_form earlier f))
-unfolding frame row
-full_fits earlier f h =
-    let few_stack = second_true (stands earlier f && ltb (length f.locals) 65536) (ltb (length f.stack) 65536) h in
-    let front = first_true (stands earlier f && ltb (length f.locals) 65536) (ltb (length f.stack) 65536) h in
-    let few_locals = second_true (stands earlier f) (ltb (length f.locals) 65536) front in
-    let s = stand_parts earlier f (first_true (stands earlier f) (ltb (length f.locals) 65536) front) in
-    both _ _ s.near (both _ _ (both _ _ s.locals few_locals) (both _ _ s.stack few_stack))
+record Follows (earlier : Option ℕ) (f : FullFrame) : Type 0 where
+  stands : Stands earlier f
+  locals : IsTrue (ltb (length f.locals) 65536)
+  stack : IsTrue (ltb (length f.stack) 65536)
 
-all_fit : (earlier : Option ℕ) (fs : List FullFrame) → IsTrue (fits_from can_follow place_after earlier fs) → IsTrue (list_all own_frame.fits (full_forms earlier fs))
+follow_parts : (earlier : Option ℕ) (f : FullFrame) → IsTrue (can_follow earlier f) → Follows earlier f
+follow_parts earlier f h =
+    let few = second_true (stands earlier f) (ltb (length f.locals) 65536 && ltb (length f.stack) 65536) h in
+    record {
+      stands = stand_parts earlier f (first_true (stands earlier f) (ltb (length f.locals) 65536 && ltb (length f.stack) 65536) h);
+      locals = first_true (ltb (length f.locals) 65536) (ltb (length f.stack) 65536) few;
+      stack = second_true (ltb (length f.locals) 65536) (ltb (length f.stack) 65536) few;
+    }
+
+full_fits : (earlier : Option ℕ) (f : FullFrame) → IsTrue (can_follow earlier f) → IsTrue (list_all own_type.fits f.locals && list_all own_type.fits f.stack) → IsTrue (own_frame.fits (full_form earlier f))
+unfolding frame row
+full_fits earlier f h fit =
+    let p = follow_parts earlier f h in
+    let locals = first_true (list_all own_type.fits f.locals) (list_all own_type.fits f.stack) fit in
+    let stack = second_true (list_all own_type.fits f.locals) (list_all own_type.fits f.stack) fit in
+    both _ _ p.stands.near (both _ _ (both _ _ locals p.locals) (both _ _ stack p.stack))
+
+all_fit : (earlier : Option ℕ) (fs : List FullFrame) → IsTrue (fits_from can_follow place_after earlier fs) → IsTrue (items_fit fs) → IsTrue (list_all own_frame.fits (full_forms earlier fs))
 unfolding fits_from full_forms
-all_fit earlier [] h = refl
-all_fit earlier (f ∷ fs) h = both _ _ (full_fits earlier f (first_true (can_follow earlier f) (fits_from can_follow place_after (Some f.at) fs) h)) (all_fit (Some f.at) fs (second_true (can_follow earlier f) (fits_from can_follow place_after (Some f.at) fs) h))
+all_fit earlier [] h fit = refl
+all_fit earlier (f ∷ fs) h fit =
+    let items = list_all own_type.fits f.locals && list_all own_type.fits f.stack in
+    both _ _ (full_fits earlier f (first_true (can_follow earlier f) (fits_from can_follow place_after (Some f.at) fs) h) (first_true items (items_fit fs) fit))
+    (all_fit (Some f.at) fs (second_true (can_follow earlier f) (fits_from can_follow place_after (Some f.at) fs) h) (second_true items (items_fit fs) fit))
 
 as_many : (earlier : Option ℕ) (fs : List FullFrame) → length (full_forms earlier fs) ≡ length fs
 unfolding full_forms
@@ -259,27 +301,55 @@ as_many earlier [] = refl
 as_many earlier (f ∷ fs) = ap suc (as_many (Some f.at) fs)
 
 -- the full forms have a spelling
-pub written_fits : (fs : List FullFrame) → IsTrue (can_write fs) → IsTrue (maps.fits (full_forms None fs))
+pub written_fits : (fs : List FullFrame) → IsTrue (can_write fs) → IsTrue (items_fit fs) → IsTrue (maps.fits (full_forms None fs))
 unfolding maps frames
-written_fits fs h = both _ _ (all_fit None fs (first_true (fits_from can_follow place_after None fs) (ltb (length fs) 65536) h)) (rw (as_many None fs) (second_true (fits_from can_follow place_after None fs) (ltb (length fs) 65536) h))
+written_fits fs h fit = both _ _ (all_fit None fs (first_true (fits_from can_follow place_after None fs) (ltb (length fs) 65536) h) fit) (rw (as_many None fs) (second_true (fits_from can_follow place_after None fs) (ltb (length fs) 65536) h))
 
 -- and it is this
 pub written_is : (fs : List FullFrame) → to_be_bytes w16 (length fs) ++ spell_from (λ e f. own_frame.spell (full_form e f)) place_after None fs ≡ maps.spell (full_forms None fs)
 unfolding maps frames
 written_is fs = rw (as_many None fs, spelled None fs) refl
 
-pub written_again : (fs : List FullFrame) → IsTrue (can_write fs) → maps.read (maps.spell (full_forms None fs)) ≡ Ok (full_forms None fs)
-written_again fs h = maps_law.again (full_forms None fs) (written_fits fs h)
+pub written_again : (fs : List FullFrame) → IsTrue (can_write fs) → IsTrue (items_fit fs) → maps.read (maps.spell (full_forms None fs)) ≡ Ok (full_forms None fs)
+written_again fs h fit = maps_law.again (full_forms None fs) (written_fits fs h fit)
 
 -- The full forms say what the frames say.
 expand_back : (first : List MapType) (i : ℕ) (earlier : Option FullFrame) (fs : List FullFrame) → IsTrue (fits_from can_follow place_after (place_of earlier) fs) → expand_from first i earlier (full_forms (place_of earlier) fs) ≡ Ok fs
-unfolding fits_from full_forms expand_from locals_of
+unfolding fits_from full_forms expand_from locals_after
 expand_back first i earlier [] h = refl
 expand_back first i earlier (f ∷ fs) h =
     let here = first_true (can_follow (place_of earlier) f) (fits_from can_follow place_after (Some f.at) fs) h in
     let others = expand_back first (i + 1) (Some f) fs (second_true (can_follow (place_of earlier) f) (fits_from can_follow place_after (Some f.at) fs) h) in
-    let s = stand_parts (place_of earlier) f (first_true (stands (place_of earlier) f) (ltb (length f.locals) 65536) (first_true (stands (place_of earlier) f && ltb (length f.locals) 65536) (ltb (length f.stack) 65536) here)) in
+    let s = (follow_parts (place_of earlier) f here).stands in
     rw (place_back earlier f.at s.behind, others) refl
 
 pub written_expands : (fs : List FullFrame) → IsTrue (can_write fs) → (first : List MapType) → expand_from first 0 None (full_forms None fs) ≡ Ok fs
 written_expands fs h first = expand_back first 0 None fs (first_true (fits_from can_follow place_after None fs) (ltb (length fs) 65536) h)
+
+-- ---- a function of the items
+
+module _ {A B : Type 0} (f : A → B) where
+  map_take : (n : ℕ) (xs : List A) → map f (take n xs) ≡ take n (map f xs)
+  map_take zero xs = refl
+  map_take (suc n) [] = refl
+  map_take (suc n) (x ∷ xs) = ap (λ ys. f x ∷ ys) (map_take n xs)
+
+  map_chopped : (n : ℕ) (xs : List A) → option_map (map f) (chopped n xs) ≡ chopped n (map f xs)
+  map_chopped n xs = rw (length-map xs f) (go (leb n (length xs)))
+    where
+      go : (b : Bool) → option_map (map f) (cond {A = Option (List A)} b (Some (take (length xs - n) xs)) None) ≡ cond {A = Option (List B)} b (Some (take (length xs - n) (map f xs))) None
+      go true = ap Some (map_take (length xs - n) xs)
+      go false = refl
+
+  -- the same holds of a choice where it holds of both cases
+  map_cond : (b : Bool) (x y : Option (List A)) (v w : Option (List B)) → option_map (map f) x ≡ v → option_map (map f) y ≡ w → option_map (map f) (cond b x y) ≡ cond b v w
+  map_cond true x y v w p q = p
+  map_cond false x y v w p q = q
+
+  pub locals_map : (form : ℕ) (written before : List A) → option_map (map f) (locals_after form written before) ≡ locals_after form (map f written) (map f before)
+  unfolding locals_after
+  locals_map form written before =
+      map_cond (ltb form 248) _ _ _ _ refl
+      (map_cond (ltb form 251) _ _ _ _ (map_chopped (251 - form) before)
+      (map_cond (ltb form 252) _ _ _ _ refl
+      (map_cond (ltb form 255) _ _ _ _ (ap Some (map-append f before written)) refl)))

@@ -8,52 +8,45 @@ use Rattle.std.proofs.lemmas.Bool.{eqb-true}
 use Rattle.jformat.specs.declared.error.Fault.{Fault}
 use Rattle.jformat.specs.Format.{IsBytes, Format, void, number, ◌·◌}
 use Rattle.jformat.specs.Bodies.{counted}
-use Rattle.jformat.specs.Tags.{tagged, rows, row_spell, row_fits}
+use Rattle.jformat.specs.Cases.{IsOnce}
+use Rattle.jformat.specs.Tags.{rows, row_spell, row_fits}
 use Rattle.jformat.proofs.Steps.{ok_is, both, first_true, second_true}
 use Rattle.jformat.proofs.Laws.{Takes, IsFormat, wide16, void_law, number_law, pair_law, via_law}
 use Rattle.jformat.proofs.Blocks.{IsBody, whole_law, counted_law}
-use Rattle.jformat.proofs.Unions.{tag_law, either_law, tagged_law, rows_law}
+use Rattle.jformat.proofs.Unions.{rows_law}
+use Rattle.jformat.proofs.Casing.{IsCases, case_law, sole_law, either_law, union_law}
 use Rattle.jmaps.specs.declared.fault.Kinds.{Kinds}
-use Rattle.jmaps.specs.declared.fault.MapKind.{MapKind}
+use Rattle.jmaps.specs.declared.fault.MapFault.{MapFault}
 use Rattle.jmaps.specs.declared.types.MapType.{MapType}
 use Rattle.jmaps.specs.declared.types.MapType.TheVariants.{Top, Int, Long, Null, UninitThis, Uninit, Object}
 use Rattle.jmaps.specs.declared.types.RawFrame.{RawFrame}
 use Rattle.jmaps.specs.declared.types.Number.{Number}
 use Rattle.jmaps.specs.declared.types.Number.TheVariants.{Given, Written}
 use Rattle.jmaps.specs.declared.types.Row.{Row}
-use Rattle.jmaps.specs.Frames.{TypeParts, type_from, type_parts, type_tags, no_type, map_type, row, given, part, frame_from, frame_parts, body, or_kind, frame, frames, map_kinds, maps}
+use Rattle.jmaps.specs.Frames.{is_top, is_int, is_long, is_null, is_uninit_this, class_of, new_of, type_cases, no_type, map_type, row, given, part, frame_from, frame_parts, body, or_kind, frame, frames, map_kinds, maps}
 
-type_back : (p : TypeParts) → type_parts (type_from p) ≡ p
-type_back (inl _) = refl
-type_back (inr (inl _)) = refl
-type_back (inr (inr (inl _))) = refl
-type_back (inr (inr (inr (inl _)))) = refl
-type_back (inr (inr (inr (inr (inl _))))) = refl
-type_back (inr (inr (inr (inr (inr (inl n)))))) = refl
-type_back (inr (inr (inr (inr (inr (inr n)))))) = refl
+type_once : {K : Type 0} (cut : K) (a : MapType) → IsOnce (type_cases cut) a
+type_once cut Top = (refl, refl)
+type_once cut Int = (refl, refl)
+type_once cut Long = (refl, refl)
+type_once cut Null = (refl, refl)
+type_once cut UninitThis = (refl, refl)
+type_once cut (Object n) = (refl, refl)
+type_once cut (Uninit n) = (refl, refl)
 
-type_forth : (t : MapType) → type_from (type_parts t) ≡ t
-type_forth Top = refl
-type_forth Int = refl
-type_forth Long = refl
-type_forth Null = refl
-type_forth UninitThis = refl
-type_forth (Object n) = refl
-type_forth (Uninit n) = refl
+cases_law : {K : Type 0} (cut : K) → IsCases (type_cases cut)
+cases_law cut =
+    either_law refl (sole_law is_top refl)
+    (either_law refl (sole_law is_int refl)
+    (either_law refl (sole_law is_long refl)
+    (either_law refl (sole_law is_null refl)
+    (either_law refl (sole_law is_uninit_this refl)
+    (either_law refl (case_law class_of (λ p. refl) (number_law w16 cut wide16))
+    (case_law new_of (λ p. refl) (number_law w16 cut wide16)))))))
 
 pub type_law : {K : Type 0} (kinds : Kinds K) → IsFormat (map_type kinds)
 unfolding map_type
-type_law {K} kinds =
-    let u2 = number_law w16 kinds.truncated wide16 in
-    let top = tag_law 0 void (void_law {K = K}) in
-    let int = tag_law 1 void (void_law {K = K}) in
-    let long = tag_law 4 void (void_law {K = K}) in
-    let null = tag_law 5 void (void_law {K = K}) in
-    let uninit_this = tag_law 6 void (void_law {K = K}) in
-    let object = tag_law 7 (number w16 kinds.truncated) u2 in
-    let uninit = tag_law 8 (number w16 kinds.truncated) u2 in
-    let cases = either_law _ _ refl top (either_law _ _ refl int (either_law _ _ refl long (either_law _ _ refl null (either_law _ _ refl uninit_this (either_law _ _ refl object uninit))))) in
-    via_law type_from type_parts (tagged kinds.truncated (no_type kinds) (type_tags kinds.truncated)) (λ p fit. type_back p) (λ t fit. type_forth t) (tagged_law kinds.truncated (no_type kinds) (type_tags kinds.truncated) cases)
+type_law kinds = union_law kinds.truncated (no_type kinds) (type_cases kinds.truncated) (type_once kinds.truncated) (cases_law kinds.truncated)
 
 given_takes : {K : Type 0} (n : ℕ) (bytes : List ℕ) (x : ℕ × List ℕ) → IsBytes bytes → (given {K = K} n).read bytes ≡ Ok x → Takes (given {K = K} n).spell (given {K = K} n).fits bytes x
 given_takes {K} n bytes x fits e =
@@ -162,10 +155,6 @@ unfolding frames
 frames_fitting k l f g looser xs fit = both _ _ (all_fitting k l f g looser xs (first_true (list_all (frame k f).fits xs) (ltb (length xs) 65536) fit)) (second_true (list_all (frame k f).fits xs) (ltb (length xs) 65536) fit)
 
 -- ---- places
-
--- a fault so many bytes before the end stands at the offset of what lies before it
-pub placed : {A : Type 0} (bytes : List ℕ) (d : Fault MapKind) (read : Result A (Fault MapKind)) → d.left ≤ length bytes → read ≡ Err d → (length bytes - d.left ≤ length bytes) × (read ≡ Err (record { left = length bytes - (length bytes - d.left); kind = d.kind }))
-placed bytes d read le h = (omega arith, (let e : length bytes - (length bytes - d.left) ≡ d.left = omega arith in rw e h))
 
 -- what is spelled so can only be read as this
 pub read_is : (bytes : List ℕ) (fs : List RawFrame) → IsTrue (maps.fits fs) → bytes ≡ maps.spell fs → maps.read bytes ≡ Ok fs

@@ -1,16 +1,13 @@
 -- Stack maps as they are written: the content of a StackMapTable (JVMS 4.7.4).
-use Rattle.std.specs.Prelude.{◌≡◌, ℕ, ◌-◌, ◌≤◌, ◌==◌, nat_lt, true, if◌then◌else◌, List, [], ◌⊎◌, length, Option, Some, None, Result, Ok, Err}
-use Rattle.std.proofs.Common.{inl, inr}
+use Rattle.std.specs.Prelude.{ℕ, ◌-◌, ◌==◌, nat_lt, Bool, true, false, if◌then◌else◌, List, [], Option, Some, None, Result, Ok, Err}
 use Rattle.std.specs.Int.{w16}
-use Rattle.jformat.specs.declared.error.Fault.{Fault}
-use Rattle.jformat.specs.Format.{Answer, Format, void, number, ◌·◌, via}
+use Rattle.jformat.specs.Format.{Answer, Format, number, ◌·◌, via}
 use Rattle.jformat.specs.Bodies.{Body, counted, whole}
-use Rattle.jformat.specs.Tags.{Tagged, tag, ◌∣◌, tagged, rows}
+use Rattle.jformat.specs.Cases.{Cases, case, sole, ◌∣◌, union}
+use Rattle.jformat.specs.Tags.{rows}
 use Rattle.jmaps.specs.declared.fault.Kinds.{Kinds}
-use Rattle.jmaps.specs.declared.fault.MapKind.{MapKind}
-use Rattle.jmaps.specs.declared.fault.MapKind.TheVariants as kinds
-use Rattle.jmaps.specs.declared.fault.MapError.{MapError}
-use Rattle.jmaps.specs.declared.fault.MapError.TheVariants as errors
+use Rattle.jmaps.specs.declared.fault.MapFault.{MapFault}
+use Rattle.jmaps.specs.declared.fault.MapFault.TheVariants as kinds
 use Rattle.jmaps.specs.declared.types.MapType.{MapType}
 use Rattle.jmaps.specs.declared.types.MapType.TheVariants.{Top, Int, Long, Null, UninitThis, Uninit, Object}
 use Rattle.jmaps.specs.declared.types.RawFrame.{RawFrame}
@@ -20,36 +17,44 @@ use Rattle.jmaps.specs.declared.types.Row.{Row}
 
 -- ---- types
 
-abbrev pub TypeParts : Type 0
-TypeParts = Unit {0} ⊎ (Unit {0} ⊎ (Unit {0} ⊎ (Unit {0} ⊎ (Unit {0} ⊎ (ℕ ⊎ ℕ)))))
+abbrev pub is_top : MapType → Bool
+is_top Top = true
+is_top _ = false
 
-abbrev pub type_from : TypeParts → MapType
-type_from (inl _) = Top
-type_from (inr (inl _)) = Int
-type_from (inr (inr (inl _))) = Long
-type_from (inr (inr (inr (inl _)))) = Null
-type_from (inr (inr (inr (inr (inl _))))) = UninitThis
-type_from (inr (inr (inr (inr (inr (inl n)))))) = Object n
-type_from (inr (inr (inr (inr (inr (inr n)))))) = Uninit n
+abbrev pub is_int : MapType → Bool
+is_int Int = true
+is_int _ = false
 
-abbrev pub type_parts : MapType → TypeParts
-type_parts Top = inl tt
-type_parts Int = inr (inl tt)
-type_parts Long = inr (inr (inl tt))
-type_parts Null = inr (inr (inr (inl tt)))
-type_parts UninitThis = inr (inr (inr (inr (inl tt))))
-type_parts (Object n) = inr (inr (inr (inr (inr (inl n)))))
-type_parts (Uninit n) = inr (inr (inr (inr (inr (inr n)))))
+abbrev pub is_long : MapType → Bool
+is_long Long = true
+is_long _ = false
+
+abbrev pub is_null : MapType → Bool
+is_null Null = true
+is_null _ = false
+
+abbrev pub is_uninit_this : MapType → Bool
+is_uninit_this UninitThis = true
+is_uninit_this _ = false
+
+abbrev pub class_of : MapType → Option ℕ
+class_of (Object n) = Some n
+class_of _ = None
+
+abbrev pub new_of : MapType → Option ℕ
+new_of (Uninit n) = Some n
+new_of _ = None
 
 -- the types by their tags; 2 is float and 3 is double
-abbrev pub type_tags : {K : Type 0} → K → Tagged K TypeParts
-type_tags cut = tag 0 void ∣ tag 1 void ∣ tag 4 void ∣ tag 5 void ∣ tag 6 void ∣ tag 7 (number w16 cut) ∣ tag 8 (number w16 cut)
+abbrev pub type_cases : {K : Type 0} → K → Cases K MapType
+type_cases cut = sole 0 Top is_top ∣ sole 1 Int is_int ∣ sole 4 Long is_long ∣ sole 5 Null is_null ∣ sole 6 UninitThis is_uninit_this
+    ∣ case 7 Object class_of (number w16 cut) ∣ case 8 Uninit new_of (number w16 cut)
 
 abbrev pub no_type : {K : Type 0} → Kinds K → ℕ → K
 no_type kinds t = if t == 2 then kinds.left_out else (if t == 3 then kinds.left_out else kinds.bad_tag)
 
 unfoldable pub map_type : {K : Type 0} → Kinds K → Format K MapType
-map_type kinds = via type_from type_parts (tagged kinds.truncated (no_type kinds) (type_tags kinds.truncated))
+map_type kinds = union kinds.truncated (no_type kinds) (type_cases kinds.truncated)
 
 -- ---- frames
 
@@ -99,29 +104,18 @@ frames kinds item = whole kinds.trailing (counted (number w16 kinds.truncated) (
 
 -- ---- by their own names of faults
 
-abbrev pub map_kinds : Kinds MapKind
+abbrev pub map_kinds : Kinds MapFault
 map_kinds = record { truncated = kinds.Truncated; reserved = kinds.Reserved; bad_tag = kinds.BadTag; left_out = kinds.LeftOut; trailing = kinds.Trailing }
 
-abbrev pub own_type : Format MapKind MapType
+abbrev pub own_type : Format MapFault MapType
 own_type = map_type map_kinds
 
-abbrev pub own_frame : Format MapKind RawFrame
+abbrev pub own_frame : Format MapFault RawFrame
 own_frame = frame map_kinds own_type
 
 -- the content of a StackMapTable
-unfoldable pub maps : Body MapKind (List RawFrame)
+unfoldable pub maps : Body MapFault (List RawFrame)
 maps = frames map_kinds own_type
-
--- ---- places
-
-abbrev pub FailsAt : {A : Type 0} → List ℕ → MapError → Result A (Fault MapKind) → Type 0
-FailsAt bytes errors.Memory read = Unit {0}
-FailsAt bytes (errors.At at kind) read = (at ≤ length bytes) × (read ≡ Err (record { left = length bytes - at; kind = kind }))
-
--- The call answers what a reading gives, with a fault's place as an offset, unless memory runs out.
-abbrev pub GivesAt : {X A : Type 0} → (X → A) → List ℕ → Result X MapError → Result A (Fault MapKind) → Type 0
-GivesAt view bytes (Ok x) read = read ≡ Ok (view x)
-GivesAt view bytes (Err e) read = FailsAt bytes e read
 
 -- how a value is read, where no more is told of its format
 abbrev pub read_alone : {K A : Type 0} → (List ℕ → Answer K A) → Format K A

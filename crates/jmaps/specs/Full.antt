@@ -1,7 +1,8 @@
 -- Frames in full: where each stands and all that it says, by the frames before it (JVMS 4.7.4).
-use Rattle.std.specs.Prelude.{◌≡◌, ℕ, ◌+◌, ◌-◌, nat_le, nat_lt, true, ◌&&◌, Bool, if◌then◌else◌, List, [], ◌∷◌, ◌++◌, length, take, Option, Some, None, Result, Ok, Err}
+use Rattle.std.specs.Prelude.{◌≡◌, ℕ, ◌+◌, ◌-◌, nat_le, nat_lt, true, ◌&&◌, Bool, if◌then◌else◌, List, [], ◌∷◌, ◌++◌, length, take, map, Option, Some, None, Result, Ok, Err}
 use Rattle.std.specs.Global.{Vec}
 use Rattle.std.specs.List.{list_all}
+use Rattle.std.specs.Option.{option_map}
 use Rattle.jformat.specs.States.{fits_from}
 use Rattle.jbase.specs.Stops.{◌>>=◌}
 use Rattle.jmaps.specs.declared.types.MapType.{MapType}
@@ -11,30 +12,43 @@ use Rattle.jmaps.specs.declared.fault.ExpandError.{ExpandError}
 use Rattle.jmaps.specs.declared.fault.ExpandError.TheVariants.{Chop, Memory}
 use Rattle.jmaps.specs.Frames.{own_type}
 
--- ---- from written frames
+-- ---- from written frames, whatever the items are
 
 -- the place of a frame: the earlier frame's place plus its delta plus one, and for the first its delta
+abbrev pub place_from : Option ℕ → ℕ → ℕ
+place_from None delta = delta
+place_from (Some earlier) delta = earlier + delta + 1
+
+-- all locals but the last so many, where there are as many
+abbrev pub chopped : {A : Type 0} → ℕ → List A → Option (List A)
+chopped n locals = if nat_le n (length locals) then Some (take (length locals - n) locals) else None
+
+-- The locals that a frame of a type byte has, by those that are written in it and those of the frame before: as before, without the
+-- last 1 to 3, with those written behind them, or those written.
+unfoldable pub locals_after : {A : Type 0} → ℕ → List A → List A → Option (List A)
+locals_after form written before =
+    if nat_lt form 248 then Some before else (
+    if nat_lt form 251 then chopped (251 - form) before else (
+    if nat_lt form 252 then Some before else (
+    if nat_lt form 255 then Some (before ++ written) else
+    Some written)))
+
+-- A function of the items may be applied before or behind.
+abbrev pub LocalsMap : Type 0 → Type 0 → Type 0
+LocalsMap A B = (f : A → B) (form : ℕ) (written before : List A) → option_map (map f) (locals_after form written before) ≡ locals_after form (map f written) (map f before)
+
+-- ---- frames of a StackMapTable
+
 abbrev pub place_behind : Option FullFrame → ℕ → ℕ
-place_behind None delta = delta
-place_behind (Some earlier) delta = earlier.at + delta + 1
+place_behind earlier delta = place_from (option_map (λ f. f.at) earlier) delta
 
 -- the locals before a frame: those of the earlier frame, or the first locals
 abbrev pub locals_before : List MapType → Option FullFrame → List MapType
 locals_before first None = first
 locals_before first (Some earlier) = earlier.locals
 
--- all locals but the last so many, where there are as many
-abbrev pub chopped : ℕ → List MapType → Option (List MapType)
-chopped n locals = if nat_le n (length locals) then Some (take (length locals - n) locals) else None
-
--- The locals that a frame has: as before, without the last 1 to 3, with those written behind them, or those written.
-unfoldable pub locals_of : List MapType → RawFrame → Option (List MapType)
-locals_of before f =
-    if nat_lt f.form 248 then Some before else (
-    if nat_lt f.form 251 then chopped (251 - f.form) before else (
-    if nat_lt f.form 252 then Some before else (
-    if nat_lt f.form 255 then Some (before ++ f.locals) else
-    Some f.locals)))
+abbrev pub locals_of : List MapType → RawFrame → Option (List MapType)
+locals_of before f = locals_after f.form f.locals before
 
 abbrev pub with_locals : Option FullFrame → RawFrame → Option (List MapType) → Option FullFrame
 with_locals earlier f None = None
@@ -79,13 +93,13 @@ unfoldable pub full_forms : Option ℕ → List FullFrame → List RawFrame
 full_forms earlier [] = []
 full_forms earlier (f ∷ fs) = full_form earlier f ∷ full_forms (Some f.at) fs
 
--- A frame stands behind the earlier one, not too far, and its items have a spelling.
+-- A frame stands behind the earlier one, and not too far.
 abbrev pub stands : Option ℕ → FullFrame → Bool
-stands earlier f = is_behind earlier f.at && nat_lt (delta_behind earlier f.at) 65536 && list_all own_type.fits f.locals && list_all own_type.fits f.stack
+stands earlier f = is_behind earlier f.at && nat_lt (delta_behind earlier f.at) 0x1_0000
 
 -- It has not too many items either.
 abbrev pub can_follow : Option ℕ → FullFrame → Bool
-can_follow earlier f = stands earlier f && nat_lt (length f.locals) 65536 && nat_lt (length f.stack) 65536
+can_follow earlier f = stands earlier f && (nat_lt (length f.locals) 0x1_0000 && nat_lt (length f.stack) 0x1_0000)
 
 abbrev pub place_after : Option ℕ → FullFrame → Option ℕ
 place_after earlier f = Some f.at
@@ -94,6 +108,11 @@ place_after earlier f = Some f.at
 abbrev pub all_stand : List FullFrame → Bool
 all_stand fs = fits_from stands place_after None fs
 
--- frames that can be written
+-- Frames that can be written: they stand in order, and there are at most 65,535 of them, and of the locals and of the stack items of
+-- each.
 abbrev pub can_write : List FullFrame → Bool
-can_write fs = fits_from can_follow place_after None fs && nat_lt (length fs) 65536
+can_write fs = fits_from can_follow place_after None fs && nat_lt (length fs) 0x1_0000
+
+-- the items of frames have a spelling: their places and indices are of two bytes
+abbrev pub items_fit : List FullFrame → Bool
+items_fit fs = list_all (λ f. list_all own_type.fits f.locals && list_all own_type.fits f.stack) fs

@@ -2,7 +2,7 @@ ghost use Rattle.std.specs.Prelude.{◌≡◌, ◌+◌, ◌<◌, ◌≤◌, ◌^
 ghost use Rattle.std.specs.List.{list_all};
 ghost use Rattle.std.specs.Option.{option_copied};
 ghost use Rattle.jmaps.specs.Frames.{maps, own_type};
-ghost use Rattle.jmaps.specs.Full.{GivesFull, all_stand, chopped, expand_from, locals_before, locals_of, place_behind};
+ghost use Rattle.jmaps.specs.Full.{GivesFull, all_stand, chopped, expand_from, items_fit, locals_before, locals_of, place_behind};
 
 use crate::fault::ExpandError;
 use crate::types::{FullFrame, MapType, RawFrame};
@@ -33,7 +33,7 @@ fn chopped(
 }
 
 /// The locals that a frame has, by those before it.
-#[tactic(auto, unfolding(crate::specs::Full::locals_of))]
+#[tactic(auto, unfolding(crate::specs::Full::locals_after))]
 fn locals_of(
     alloc: Global,
     before: &[MapType],
@@ -78,8 +78,10 @@ pub fn expand(
 ) -> Result<Vec<FullFrame>, ExpandError>
     requires { IsTrue (maps.fits frames.now) }
     ensures exact { GivesFull result (expand_from first.now 0 None frames.now) }
-    // The frames stand in order, and their items have a spelling, if the first locals have one.
-    ensures stand { IsTrue (list_all own_type.fits first.now) → IfOk result (λ v. IsTrue (all_stand v.items)) }
+    // The frames stand in order,
+    ensures stand { IfOk result (λ v. IsTrue (all_stand v.items)) }
+    // and their items have a spelling, where the first locals have one.
+    ensures fit { IsTrue (list_all own_type.fits first.now) → IfOk result (λ v. IsTrue (items_fit v.items)) }
 {
     let mut full: Vec<FullFrame> = Vec::new(alloc);
     for (i, frame) in frames.iter().enumerate() {

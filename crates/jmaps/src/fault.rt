@@ -1,11 +1,13 @@
 ghost use Rattle.std.specs.Prelude.{◌≡◌};
 ghost use Rattle.jmaps.specs.declared.fault.ExpandError.TheVariants.{Memory};
 
+use jbase::Stop;
+use jformat::At;
 use std::alloc::{AllocError, AllocFailed};
 
 /// What is wrong with the content of a StackMapTable.
 #[derive(Clone, Copy, Debug, PartialEq, Eq)]
-pub enum MapKind {
+pub enum MapFault {
     /// A number isn't wholly there. The place is the number's first byte.
     Truncated,
     /// A frame's type byte is 128 to 246. The place is that byte.
@@ -18,12 +20,8 @@ pub enum MapKind {
     Trailing,
 }
 
-/// Why stack maps gave no frames: the place of the first fault in the bytes, and what it is, or want of memory.
-#[derive(Clone, Copy, Debug, PartialEq, Eq)]
-pub enum MapError {
-    At { at: u32, kind: MapKind },
-    Memory,
-}
+/// Why stack maps gave no frames: the first fault and the offset of its place, or want of memory, which may come at any time.
+pub type MapError = Stop<At<MapFault>>;
 
 /// The names that a reader gives to the faults of stack maps.
 #[derive(Clone, Copy, Debug, PartialEq, Eq)]

@@ -1,7 +1,7 @@
 ghost use Rattle.std.specs.Prelude.{◌≡◌, ◌++◌, IfOk, IsTrue, OnOk, List, None, Ok, Some};
 ghost use Rattle.jmaps.specs.declared.types.MapType.{MapType};
 ghost use Rattle.jmaps.specs.Frames.{frame, maps, own_frame};
-ghost use Rattle.jmaps.specs.Full.{can_follow, can_write, delta_behind, expand_from, full_form, full_forms, is_behind, place_after};
+ghost use Rattle.jmaps.specs.Full.{can_follow, can_write, delta_behind, expand_from, full_form, full_forms, is_behind, items_fit, place_after};
 
 use crate::types::FullFrame;
 use crate::write::put_types;
@@ -68,12 +68,13 @@ impl StateWriter for FullWriter {
     }
 }
 
-/// The content of a StackMapTable with these frames in full form.
+/// The content of a StackMapTable with these frames in full form. Their places rise, the first one and each difference less one are
+/// at most 65,535, and so are the number of frames and each frame's numbers of locals and of stack items.
 pub fn write_maps(alloc: Global, frames: &[FullFrame]) -> Result<Vec<u8>, AllocError>
     requires { IsTrue (can_write frames.now) }
     ensures spelled { IfOk result (λ v. v.items ≡ maps.spell (full_forms None frames.now)) }
-    // What is written is read back as the full forms,
-    ensures again { IfOk result (λ v. maps.read v.items ≡ Ok (full_forms None frames.now)) }
+    // What is written is read back as the full forms, where the items have a spelling,
+    ensures again { IsTrue (items_fit frames.now) → IfOk result (λ v. maps.read v.items ≡ Ok (full_forms None frames.now)) }
     // and these say what the frames say, whatever locals the method begins with.
     ensures same { IfOk result (λ v. (first : List MapType) → expand_from first 0 None (full_forms None frames.now) ≡ Ok frames.now) }
 {

@@ -1,13 +1,14 @@
 ghost use Rattle.std.specs.Prelude.{◌≡◌, ◌<◌, ◌^◌, IfOk, IsTrue, List, Ok, length};
 ghost use Rattle.jmaps.specs.declared.types.RawFrame.{RawFrame};
 ghost use Rattle.jbase.specs.Stops.{Gives};
-ghost use Rattle.jmaps.specs.Frames.{GivesAt, frame, frames, map_kinds, map_type, maps, or_kind, part, read_alone};
+ghost use Rattle.jformat.specs.Places.{GivesAt};
+ghost use Rattle.jmaps.specs.Frames.{frame, frames, map_kinds, map_type, maps, or_kind, part, read_alone};
 
-use crate::fault::{Kinds, MapError, MapKind};
+use crate::fault::{Kinds, MapError, MapFault};
 use crate::rows::row_of;
 use crate::types::{MapType, Number, RawFrame};
-use jbase::{Seq, Stop};
-use jformat::{ReadError, Reader, counted_of, fault, times_of, u16_of, whole_of};
+use jbase::Seq;
+use jformat::{ReadError, Reader, counted_of, fault, stop_at, times_of, u16_of};
 use std::alloc::Global;
 
 /// A type of an item. A tag that names none is `left_out` for float and double and `bad_tag` else, at the tag byte.
@@ -150,16 +151,16 @@ where
     Ok(found)
 }
 
-const KINDS: Kinds<MapKind> = Kinds {
-    truncated: MapKind::Truncated,
-    reserved: MapKind::Reserved,
-    bad_tag: MapKind::BadTag,
-    left_out: MapKind::LeftOut,
-    trailing: MapKind::Trailing,
+const KINDS: Kinds<MapFault> = Kinds {
+    truncated: MapFault::Truncated,
+    reserved: MapFault::Reserved,
+    bad_tag: MapFault::BadTag,
+    left_out: MapFault::LeftOut,
+    trailing: MapFault::Trailing,
 };
 
 #[tactic(auto, unfolding(crate::specs::Frames::maps))]
-fn all_of(alloc: Global, bytes: &[u8]) -> Result<Seq<RawFrame>, ReadError<MapKind>>
+fn all_of(alloc: Global, bytes: &[u8]) -> Result<Seq<RawFrame>, ReadError<MapFault>>
     ensures { Gives (λ x. x) result (maps.read bytes.now) }
 {
     frames_of(alloc, &TypeReader { kinds: KINDS }, &KINDS, bytes)
@@ -177,10 +178,6 @@ pub fn read_maps(alloc: Global, bytes: &[u8]) -> Result<Vec<RawFrame>, MapError>
 {
     match all_of(alloc, bytes) {
         Ok(found) => Ok(found.into_vec()),
-        Err(Stop::Memory) => Err(MapError::Memory),
-        Err(Stop::Fault(found)) => Err(MapError::At {
-            at: (bytes.len() - found.left) as u32,
-            kind: found.kind,
-        }),
+        Err(stop) => Err(stop_at(bytes, stop)),
     }
 }

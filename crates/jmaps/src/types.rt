@@ -1,4 +1,7 @@
+ghost use Rattle.std.specs.Prelude.{◌≡◌, IfOk};
+
 use jbase::Seq;
+use std::alloc::{AllocError, Global};
 
 /// What a local or a stack item of a frame holds (JVMS 4.7.4, verification_type_info). Float and double are left out.
 #[derive(Clone, Copy, Debug, PartialEq, Eq)]
@@ -24,12 +27,39 @@ pub struct RawFrame {
     pub stack: Seq<MapType>,
 }
 
+impl RawFrame {
+    /// The same frame again.
+    pub fn copy(&self, alloc: Global) -> Result<RawFrame, AllocError>
+        ensures { IfOk result (λ f. f ≡ self.now) }
+    {
+        Ok(RawFrame {
+            form: self.form,
+            delta: self.delta,
+            locals: self.locals.copy(alloc)?,
+            stack: self.stack.copy(alloc)?,
+        })
+    }
+}
+
 /// A frame with all that it says: the place in the code where it stands, all locals and all stack items.
 #[derive(Debug, Drop)]
 pub struct FullFrame {
     pub at: u32,
     pub locals: Seq<MapType>,
     pub stack: Seq<MapType>,
+}
+
+impl FullFrame {
+    /// The same frame again.
+    pub fn copy(&self, alloc: Global) -> Result<FullFrame, AllocError>
+        ensures { IfOk result (λ f. f ≡ self.now) }
+    {
+        Ok(FullFrame {
+            at: self.at,
+            locals: self.locals.copy(alloc)?,
+            stack: self.stack.copy(alloc)?,
+        })
+    }
 }
 
 /// A number of a frame: its delta, or how many items there are.

@@ -1,5 +1,5 @@
-ghost use Rattle.std.specs.Prelude.{◌≡◌, ◌++◌, ◌∷◌, [], IsTrue, OnOk, length};
-ghost use Rattle.std.specs.List.{flat_map, list_all};
+ghost use Rattle.std.specs.Prelude.{◌≡◌, ◌++◌, ◌∷◌, [], IsTrue, OnOk, length, true};
+ghost use Rattle.std.specs.List.{flat_map};
 ghost use Rattle.jmaps.specs.Frames.{frame, map_kinds, map_type, maps, own_frame, own_type, part, row};
 
 use crate::rows::row_of;
@@ -36,7 +36,7 @@ impl Writer for TypeWriter {
 
     ghost spells = { λ _. own_type.spell };
 
-    ghost fits = { λ _. own_type.fits };
+    ghost fits = { λ _ _. true };
 
     fn write(&self, _alloc: Global, item: &MapType, out: &mut Seq<u8>) -> Result<(), AllocError> {
         put_type(*item, out)
@@ -45,7 +45,6 @@ impl Writer for TypeWriter {
 
 /// Writes types one behind the other.
 pub fn put_types(alloc: Global, items: &[MapType], out: &mut Seq<u8>) -> Result<(), AllocError>
-    requires { IsTrue (list_all own_type.fits items.now) }
     ensures { OnOk result (out.new ≡ out.old ++ flat_map own_type.spell items.now) }
 {
     put_each(alloc, &TypeWriter, items, out)

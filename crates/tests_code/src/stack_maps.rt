@@ -1,33 +1,34 @@
-use jbase::Seq;
+use jbase::{Seq, Stop};
+use jformat::At;
 use jmaps::{
-    ExpandError, FullFrame, MapError, MapKind, MapType, expand, put_frames, read_maps, write_maps,
+    ExpandError, FullFrame, MapFault, MapType, expand, put_frames, read_maps, write_maps,
 };
 use std::test::Fail;
 
 #[test]
 fn first_faults(rt: HostRuntime) {
-    let rows: [(&[u8], u32, MapKind); 13] = [
-        (b"\x00\x01\xc8", 2, MapKind::Reserved),
-        (b"\x00\x01\x80", 2, MapKind::Reserved),
-        (b"\x00\x01\xf6", 2, MapKind::Reserved),
-        (b"", 0, MapKind::Truncated),
-        (b"\x00", 0, MapKind::Truncated),
-        (b"\x00\x01", 2, MapKind::Truncated),
-        (b"\x00\x00\x00", 2, MapKind::Trailing),
-        (b"\x00\x01\xfb\x00", 3, MapKind::Truncated),
-        (b"\x00\x01\x7f", 3, MapKind::Truncated),
-        (b"\x00\x01\x40\x07\x00", 4, MapKind::Truncated),
-        (b"\x00\x02\x40\x02\xc8", 3, MapKind::LeftOut),
-        (b"\x00\x01\xff\x00\x00\x00\x02\x01\x03", 8, MapKind::LeftOut),
+    let rows: [(&[u8], u32, MapFault); 13] = [
+        (b"\x00\x01\xc8", 2, MapFault::Reserved),
+        (b"\x00\x01\x80", 2, MapFault::Reserved),
+        (b"\x00\x01\xf6", 2, MapFault::Reserved),
+        (b"", 0, MapFault::Truncated),
+        (b"\x00", 0, MapFault::Truncated),
+        (b"\x00\x01", 2, MapFault::Truncated),
+        (b"\x00\x00\x00", 2, MapFault::Trailing),
+        (b"\x00\x01\xfb\x00", 3, MapFault::Truncated),
+        (b"\x00\x01\x7f", 3, MapFault::Truncated),
+        (b"\x00\x01\x40\x07\x00", 4, MapFault::Truncated),
+        (b"\x00\x02\x40\x02\xc8", 3, MapFault::LeftOut),
+        (b"\x00\x01\xff\x00\x00\x00\x02\x01\x03", 8, MapFault::LeftOut),
         (
             b"\x00\x01\xfe\x00\x00\x00\x08\x00\x00\x09",
             9,
-            MapKind::BadTag,
+            MapFault::BadTag,
         ),
     ];
     for (bytes, at, kind) in rows {
         match read_maps(rt.alloc(), bytes) {
-            Err(error) => assert_eq!(rt; error, MapError::At { at, kind }, "{bytes:?}"),
+            Err(error) => assert_eq!(rt; error, Stop::Fault(At { at, kind }), "{bytes:?}"),
             Ok(_) => panic!(rt; "frames in {bytes:?}"),
         }
     }

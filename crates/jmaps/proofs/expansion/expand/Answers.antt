@@ -3,7 +3,7 @@ use Rattle.std.specs.Option.{option_copied}
 use Rattle.jmaps.specs.declared.types.MapType.{MapType}
 use Rattle.jmaps.specs.declared.types.FullFrame.{FullFrame}
 use Rattle.jmaps.specs.Full.{locals_before, locals_of}
-use Rattle.jmaps.proofs.FullLaws.{newest, few_frames, place_fits, place_near, newest_near, expand_more, expand_stops, expand_ends, expands_in_order}
+use Rattle.jmaps.proofs.FullLaws.{newest, few_frames, place_fits, place_near, newest_near, expand_more, expand_stops, expand_ends, expands_in_order, expands_fit}
 use Rattle.jmaps.proofs.expansion.expand.Goals as goal
 
 pub place_behind-at-requires : goal.place_behind-at-requires
@@ -37,6 +37,7 @@ pub returns-clause-exact : goal.returns-clause-exact
 returns-clause-exact c = expand_ends c.args.first.now c.loop-i.i (newest c.loop-i.full.items) c.loop-i.full.items c.args.frames.now _ (omega arith) c.loop-i.invariant.so_far
 
 pub returns-clause-stand : goal.returns-clause-stand
-returns-clause-stand c = λ fit.
-    let done = expand_ends c.args.first.now c.loop-i.i (newest c.loop-i.full.items) c.loop-i.full.items c.args.frames.now _ (omega arith) c.loop-i.invariant.so_far in
-    expands_in_order c.args.first.now c.args.frames.now c.loop-i.full.items fit c.requires done
+returns-clause-stand c = expands_in_order c.args.first.now c.args.frames.now c.loop-i.full.items c.requires (expand_ends c.args.first.now c.loop-i.i (newest c.loop-i.full.items) c.loop-i.full.items c.args.frames.now _ (omega arith) c.loop-i.invariant.so_far)
+
+pub returns-clause-fit : goal.returns-clause-fit
+returns-clause-fit c = λ fit. expands_fit c.args.first.now c.args.frames.now c.loop-i.full.items fit c.requires (expand_ends c.args.first.now c.loop-i.i (newest c.loop-i.full.items) c.loop-i.full.items c.args.frames.now _ (omega arith) c.loop-i.invariant.so_far)
