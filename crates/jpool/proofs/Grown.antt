@@ -6,7 +6,7 @@ use Rattle.std.proofs.lemmas.List.{length-append}
 use Rattle.jformat.specs.States.{fits_from}
 use Rattle.jformat.specs.declared.error.Fault.{Fault}
 use Rattle.jformat.proofs.Steps.{both, first_true, ok_is, second_true}
-use Rattle.jpool.specs.declared.kind.PoolKind.{PoolKind}
+use Rattle.jpool.specs.declared.fault.PoolFault.{PoolFault}
 use Rattle.jpool.specs.declared.entry.Entry.{Entry}
 use Rattle.jpool.specs.declared.entry.Entry.TheVariants.{Unused, Class}
 use Rattle.jpool.specs.declared.slots.Slot.{Slot}
@@ -27,7 +27,7 @@ pub unused_is : (x : Entry) → IsTrue (unused.fits x) → x ≡ Unused
 unfolding unused
 unused_is x fit =
     let e = unused_law.again x [] fit in
-    sym (ap (λ (p : Entry × List ℕ). p.0) (ok_is (Fault PoolKind) (Unused, unused.spell x ++ []) (x, []) e))
+    sym (ap (λ (p : Entry × List ℕ). p.0) (ok_is (Fault PoolFault) (Unused, unused.spell x ++ []) (x, []) e))
 
 -- an entry of its own, or none
 pub slot_is : (s : Slot) (x : Entry) → IsTrue ((slot s).fits x) → (x ≡ Unused) ⊎ IsTrue (entry.fits x)

@@ -19,7 +19,7 @@ use Rattle.indexmap.specs.IndexMap.{IndexMap, get_by, insert_entry}
 use Rattle.indexmap.proofs.CallerLemmas.{insert_entry-new}
 use Rattle.jpool.specs.declared.entry.Entry.{Entry}
 use Rattle.jpool.specs.declared.entry.Entry.TheVariants.{Unused}
-use Rattle.jpool.specs.declared.kind.PoolKind.{PoolKind}
+use Rattle.jpool.specs.declared.fault.PoolFault.{PoolFault}
 use Rattle.jpool.specs.Entries.{entry, is_wide, first_slot}
 use Rattle.jpool.specs.Pools.{IsPool}
 use Rattle.jpool.specs.Adding.{AreLeast, IsLeast, IsNumbered, Notes, added, has_spelling, laid, number_in, put_behind, same}
@@ -84,7 +84,7 @@ same_is e x fit (inr own) h =
     let text : entry.spell e ≡ entry.spell x = (bytes_eq-Decides (entry.spell e) (entry.spell x)).0 h in
     let one : entry.read (entry.spell x ++ []) ≡ Ok (x, []) = entry_law.again x [] own in
     let other : entry.read (entry.spell x ++ []) ≡ Ok (e, []) = ap (λ (bs : List ℕ). entry.read (bs ++ [])) (sym text) ∙ entry_law.again e [] fit in
-    ap (λ (p : Entry × List ℕ). p.0) (ok_is (Fault PoolKind) (x, []) (e, []) (sym one ∙ other))
+    ap (λ (p : Entry × List ℕ). p.0) (ok_is (Fault PoolFault) (x, []) (e, []) (sym one ∙ other))
 
 same_self : (e : Entry) → same e e ≡ true
 same_self e = (bytes_eq-Decides (entry.spell e) (entry.spell e)).1 refl

@@ -1,30 +1,30 @@
 -- A pool is a format: its shape, and then what its entries name.
-use Rattle.std.proofs.Common.{◌≡◌, ℕ, zero, suc, ◌+◌, ◌-◌, ◌≤◌, ◌<◌, Bool, true, false, List, [], ◌∷◌, ◌++◌, length, get_or, drop, Option, Some, None, Result, Ok, Err, refl, sym, ap, subst, ◌∙◌, add-one, arith, inl, inr}
-use Rattle.std.specs.Prelude.{IsTrue, IfOk, IsSome, is_some, option_map, slice_get}
+use Rattle.std.proofs.Common.{◌≡◌, ℕ, zero, suc, ◌+◌, ◌-◌, ◌≤◌, ◌<◌, Bool, true, false, List, [], ◌∷◌, ◌++◌, length, get_or, drop, Option, Some, None, Ok, Err, refl, sym, ap, subst, ◌∙◌, add-one, arith, inl, inr}
+use Rattle.std.specs.Prelude.{IsTrue, IsSome, is_some, option_map, slice_get}
 use Rattle.std.specs.Int.{w16}
 use Rattle.std.specs.List.{list_all}
 use Rattle.std.proofs.Math.Seq.{drop-cons}
 use Rattle.std.proofs.Math.ListN.{drop_of_length-le}
-use Rattle.std.proofs.lemmas.List.{drop_at, drop-drop, length-append}
+use Rattle.std.proofs.lemmas.List.{drop_at, drop-drop, length-append, length-drop}
 use Rattle.jbase.specs.declared.stop.Stop.{Stop}
 use Rattle.jbase.specs.declared.stop.Stop.TheVariants as stops
 use Rattle.jbase.specs.Stops.{Fails}
 use Rattle.jbase.specs.First.{or_else}
 use Rattle.jformat.specs.declared.error.Fault.{Fault}
-use Rattle.jformat.specs.Format.{IsBytes, Answer, is_good, number_at}
+use Rattle.jformat.specs.Format.{IsBytes, Answer, is_good, unless_fault, number_at}
+use Rattle.jformat.specs.Places.{stop_at, FailsAt}
 use Rattle.jformat.specs.States.{times_from}
-use Rattle.jformat.proofs.Steps.{IsBytes-drop, bind_ok, bind_err, both, first_true, second_true}
+use Rattle.jformat.proofs.Steps.{IsBytes-drop, bind_ok, bind_err, done, ok_is, unless_ok, unless_err, both, first_true, second_true}
 use Rattle.jformat.proofs.Laws.{Takes, IsFormat}
 use Rattle.jpool.specs.declared.entry.Entry.{Entry}
-use Rattle.jpool.specs.declared.entry.Entry.TheVariants.{Unused, Utf8, Integer, Float, Long, Double, Class, Str, Field, Method, InterfaceMethod, NameAndType, MethodHandle, MethodType, InvokeDynamic}
-use Rattle.jpool.specs.declared.kind.PoolError.{PoolError}
-use Rattle.jpool.specs.declared.kind.PoolKind.{PoolKind}
-use Rattle.jpool.specs.declared.kind.PoolKind.TheVariants.{Truncated}
+use Rattle.jpool.specs.declared.entry.Entry.TheVariants.{Class}
+use Rattle.jpool.specs.declared.fault.PoolFault.{PoolFault}
+use Rattle.jpool.specs.declared.fault.PoolFault.TheVariants.{Truncated}
 use Rattle.jpool.specs.Entries.{slot, next_slot, first_slot, shape, size}
-use Rattle.jpool.specs.Pools.{text_in, name_in, is_class, utf8_at, is_utf8, name_fault, entry_fault, faulty, first_fault, unless_fault, judged, no_fault, pool, IsPool, placed, OrMemory}
+use Rattle.jpool.specs.Pools.{text_in, name_in, is_class, utf8_at, is_utf8, name_fault, entry_fault, faulty, first_fault, no_fault, pool, IsPool, Spells}
 use Rattle.jpool.proofs.EntryLaws.{shape_law}
 
-pub shape_stops : (bytes rest : List ℕ) (count n : ℕ) (stop : Stop (Fault PoolKind)) → number_at w16 Truncated bytes ≡ Ok (count, rest) → Fails stop (times_from (λ s. (slot s).read) next_slot (first_slot count) n rest) → n ≡ count → Fails stop (shape.read bytes)
+pub shape_stops : (bytes rest : List ℕ) (count n : ℕ) (stop : Stop (Fault PoolFault)) → number_at w16 Truncated bytes ≡ Ok (count, rest) → Fails stop (times_from (λ s. (slot s).read) next_slot (first_slot count) n rest) → n ≡ count → Fails stop (shape.read bytes)
 unfolding shape
 shape_stops bytes rest count n stops.Memory h k same = tt
 shape_stops bytes rest count n (stops.Fault d) h k same =
@@ -93,13 +93,8 @@ fault_none test left i es total le so_far =
 
 -- ---- the pool
 
-unless_ok : {A : Type 0} (x y : A) (o : Option (Fault PoolKind)) → unless_fault x o ≡ Ok y → (o ≡ None) × (x ≡ y)
-unless_ok x y None e = (refl, cc)
-unless_ok x y (Some d) e = absurd cc
-
-unless_err : {A : Type 0} (x : A) (d : Fault PoolKind) (o : Option (Fault PoolKind)) → unless_fault x o ≡ Err d → o ≡ Some d
-unless_err x d None e = absurd cc
-unless_err x d (Some c) e = cc
+abbrev judged : ℕ → List Entry × List ℕ → Answer PoolFault (List Entry)
+judged left x = unless_fault x (first_fault (entry_fault x.0) left x.0)
 
 pool_takes : (bytes : List ℕ) (x : List Entry × List ℕ) → IsBytes bytes → pool.read bytes ≡ Ok x → Takes pool.spell pool.fits bytes x
 unfolding pool no_fault
@@ -118,7 +113,7 @@ pool_again es rest fit =
     let none = good_is_none (entry_fault es) (length (shape.spell es ++ rest) - 2) es (second_true (shape.fits es) (no_fault es) fit) in
     rw (one, none) refl
 
-pool_within : (bytes : List ℕ) (d : Fault PoolKind) → pool.read bytes ≡ Err d → d.left ≤ length bytes
+pool_within : (bytes : List ℕ) (d : Fault PoolFault) → pool.read bytes ≡ Err d → d.left ≤ length bytes
 unfolding pool
 pool_within bytes d e =
     elim (bind_err (shape.read bytes) (judged (length bytes - 2)) d e) [
@@ -169,20 +164,7 @@ read_is_pool bytes es rest left fits e h = record {
 name_of_class : (o : Option Entry) (name : ℕ) → Some name ≡ name_in o → o ≡ Some (Class name)
 name_of_class None name h = absurd cc
 name_of_class (Some (Class n)) name h = let same : n ≡ name = cc in ap (λ (m : ℕ). Some (Class m)) same
-name_of_class (Some Unused) name h = absurd cc
-name_of_class (Some (Utf8 a)) name h = absurd cc
-name_of_class (Some (Integer a)) name h = absurd cc
-name_of_class (Some (Float a)) name h = absurd cc
-name_of_class (Some (Long a)) name h = absurd cc
-name_of_class (Some (Double a)) name h = absurd cc
-name_of_class (Some (Str a)) name h = absurd cc
-name_of_class (Some (Field a b)) name h = absurd cc
-name_of_class (Some (Method a b)) name h = absurd cc
-name_of_class (Some (InterfaceMethod a b)) name h = absurd cc
-name_of_class (Some (NameAndType a b)) name h = absurd cc
-name_of_class (Some (MethodHandle a b)) name h = absurd cc
-name_of_class (Some (MethodType a)) name h = absurd cc
-name_of_class (Some (InvokeDynamic a b)) name h = absurd cc
+name_of_class (Some _) name h = absurd cc
 
 pub no_class : (es : List Entry) (i : ℕ) → None ≡ name_in (slice_get es i) → IsTrue (is_class es i) → ⊥
 unfolding is_class
@@ -201,33 +183,46 @@ class_has_name es i name f r P h k = some_from f r (utf8_at es name) k (P.named 
 
 -- ---- at a place
 
-placed_ok : {A : Type 0} (at : ℕ) (text : List ℕ) (value : Answer PoolKind A) (r : A × ℕ) → placed at text value ≡ Ok r → (x : A × List ℕ) × (value ≡ Ok x) × (◌≡◌ {A = A × ℕ} (x.0, at + (length text - length x.1)) r)
-placed_ok at text (Ok x) r e = (x, refl, cc)
-placed_ok at text (Err d) r e = absurd cc
+pool_some : (es : List Entry) → 0 < length (pool.spell es)
+unfolding pool shape
+pool_some es = omega arith
 
-behind_spelling : (text spelled rest : List ℕ) → text ≡ spelled ++ rest → length text - length rest ≡ length spelled
-behind_spelling text spelled rest h = omega (arith, ap length h, length-append spelled rest)
+-- a pool that was read at a place, and the place behind it
+pub record Found (bytes : List ℕ) (at : ℕ) (es : List Entry) (behind : ℕ) : Type 0 where
+  pub spelled : Spells (drop at bytes) es (drop behind bytes)
+  pub place : behind ≡ at + length (pool.spell es)
+  pub read : pool.read (drop at bytes) ≡ Ok (es, drop behind bytes)
 
-abbrev Found : List ℕ → ℕ → List Entry × ℕ → Type 0
-Found bytes at r = IsTrue (pool.fits r.0) × (drop at bytes ≡ pool.spell r.0 ++ drop r.1 bytes) × (r.1 ≡ at + length (pool.spell r.0))
+pub found_at : (bytes : List ℕ) (at : ℕ) (es : List Entry) (rest : List ℕ) → IsBytes bytes → pool.read (drop at bytes) ≡ Ok (es, rest) → Found bytes at es (length bytes - length rest)
+found_at bytes at es rest fits e =
+    let t = pool_law.takes (drop at bytes) (es, rest) (IsBytes-drop at bytes fits) e in
+    let some = pool_some es in
+    let place : length bytes - length rest ≡ at + length (pool.spell es) = omega (arith, ap length t.parts, length-append (pool.spell es) rest, length-drop at bytes, some) in
+    let same : drop (length bytes - length rest) bytes ≡ rest =
+    ap (λ (k : ℕ). drop k bytes) place ∙ sym (drop-drop (length (pool.spell es)) at bytes) ∙ ap (drop (length (pool.spell es))) t.parts ∙ drop_at (pool.spell es) rest (length (pool.spell es)) refl in
+    record {
+      spelled = (t.fit, t.parts ∙ ap (λ (y : List ℕ). pool.spell es ++ y) (sym same));
+      place = place;
+      read = e ∙ ap (λ (y : List ℕ). Ok (es, y)) (sym same);
+    }
 
-found_at : (bytes : List ℕ) (at : ℕ) (x : List Entry × List ℕ) → Takes pool.spell pool.fits (drop at bytes) x → Found bytes at (x.0, at + (length (drop at bytes) - length x.1))
-found_at bytes at x s =
-    let n : length (drop at bytes) - length x.1 ≡ length (pool.spell x.0) = behind_spelling (drop at bytes) (pool.spell x.0) x.1 s.parts in
-    let rest : drop (at + (length (drop at bytes) - length x.1)) bytes ≡ x.1 =
-    ap (λ (k : ℕ). drop (at + k) bytes) n ∙ sym (drop-drop (length (pool.spell x.0)) at bytes) ∙ ap (drop (length (pool.spell x.0))) s.parts ∙ drop_at (pool.spell x.0) x.1 (length (pool.spell x.0)) refl in
-    (s.fit, s.parts ∙ ap (λ (y : List ℕ). pool.spell x.0 ++ y) (sym rest), ap (λ (k : ℕ). at + k) n)
+pub shorter_at : (bytes : List ℕ) (at : ℕ) (x : List Entry × List ℕ) → pool.read (drop at bytes) ≡ Ok x → length x.1 ≤ length bytes
+shorter_at bytes at x e = omega (arith, pool_law.reading.shorter (drop at bytes) x e, length-drop at bytes)
 
-pub read_found : (bytes : List ℕ) (at : ℕ) (result : Result (List Entry × ℕ) PoolError) → IsBytes bytes → OrMemory result (placed at (drop at bytes) (pool.read (drop at bytes))) → IfOk result (λ r. IsTrue (pool.fits r.0) × (drop at bytes ≡ pool.spell r.0 ++ drop r.1 bytes) × (r.1 ≡ at + length (pool.spell r.0)))
-read_found bytes at (Ok r) fits h =
-    let a = placed_ok at (drop at bytes) (pool.read (drop at bytes)) r h in
-    let s = pool_law.takes (drop at bytes) a.0 (IsBytes-drop at bytes fits) a.1 in
-    subst (Found bytes at) a.2 (found_at bytes at a.0 s)
-read_found bytes at (Err e) fits h = tt
+pub within_at : (bytes : List ℕ) (at : ℕ) (d : Fault PoolFault) → pool.read (drop at bytes) ≡ Err d → d.left ≤ length bytes
+within_at bytes at d e = omega (arith, pool_law.reading.within (drop at bytes) d e, length-drop at bytes)
 
-pub read_only : (bytes : List ℕ) (at : ℕ) (result : Result (List Entry × ℕ) PoolError) → OrMemory result (placed at (drop at bytes) (pool.read (drop at bytes))) → (entries : List Entry) (rest : List ℕ) → IsTrue (pool.fits entries) → drop at bytes ≡ pool.spell entries ++ rest → OrMemory result (Ok (entries, at + length (pool.spell entries)))
-read_only bytes at result h entries rest fit is =
-    let one : pool.read (drop at bytes) ≡ Ok (entries, rest) = ap pool.read is ∙ pool_law.again entries rest fit in
-    let n : length (drop at bytes) - length rest ≡ length (pool.spell entries) = behind_spelling (drop at bytes) (pool.spell entries) rest is in
-    let value : placed at (drop at bytes) (pool.read (drop at bytes)) ≡ Ok (entries, at + length (pool.spell entries)) = rw (one, n) refl in
-    subst (λ (v : Result (List Entry × ℕ) PoolError). OrMemory result v) value h
+-- what is spelled at the front is what is read
+pub read_is : (bytes : List ℕ) (es : List Entry) (rest : List ℕ) → Spells bytes es rest → pool.read bytes ≡ Ok (es, rest)
+read_is bytes es rest s = ap pool.read s.1 ∙ pool_law.again es rest s.0
+
+pub one_reading : (bytes rest others : List ℕ) (es fs : List Entry) → pool.read bytes ≡ Ok (es, rest) → Spells bytes fs others → es ≡ fs
+one_reading bytes rest others es fs e s = ap (λ (x : List Entry × List ℕ). x.0) (ok_is (Fault PoolFault) (es, rest) (fs, others) (sym e ∙ read_is bytes fs others s))
+
+pub spelled : (bytes rest : List ℕ) (es : List Entry) → IsBytes bytes → pool.read bytes ≡ Ok (es, rest) → Spells bytes es rest
+spelled bytes rest es fits e = let t = pool_law.takes bytes (es, rest) fits e in (t.fit, t.parts)
+
+-- where a pool is spelled, a reader stops for want of memory alone
+pub stopped : {A : Type 0} (bytes : List ℕ) (at : ℕ) (stop : Stop (Fault PoolFault)) (es : List Entry) (rest : List ℕ) (x : A) → Fails stop (pool.read (drop at bytes)) → Spells (drop at bytes) es rest → FailsAt bytes (stop_at bytes stop) (done (Fault PoolFault) x)
+stopped bytes at stops.Memory es rest x h s = tt
+stopped bytes at (stops.Fault d) es rest x h s = let no = sym (read_is (drop at bytes) es rest s) ∙ h in absurd cc

@@ -8,12 +8,12 @@ use Rattle.jformat.proofs.Steps.{both, second_true}
 use Rattle.jformat.proofs.Blocks.{all_law}
 use Rattle.jpool.specs.declared.entry.Entry.{Entry}
 use Rattle.jpool.specs.declared.entry.Entry.TheVariants.{Unused, Utf8, Integer, Float, Long, Double, Class, Str, Field, Method, InterfaceMethod, NameAndType, MethodHandle, MethodType, InvokeDynamic}
-use Rattle.jpool.specs.declared.kind.PoolKind.{PoolKind}
+use Rattle.jpool.specs.declared.fault.PoolFault.{PoolFault}
 use Rattle.jpool.specs.Adding.{has_spelling}
 use Rattle.jpool.specs.Entries.{entry, text}
 
 pub text_fits : (bytes : List ℕ) → IsBytes bytes → length bytes ≤ 65535 → IsTrue (text.fits bytes)
-text_fits bytes fits le = both _ _ ((all_law {K = PoolKind}).takes bytes bytes fits refl).0 (lt-ltb (length bytes) 65536 (omega arith))
+text_fits bytes fits le = both _ _ ((all_law {K = PoolFault}).takes bytes bytes fits refl).0 (lt-ltb (length bytes) 65536 (omega arith))
 
 pub fits_spelling : (e : Entry) → IsTrue (entry.fits e) → IsTrue (has_spelling e)
 unfolding entry

@@ -1,17 +1,15 @@
 -- A constant pool: its look-ups, and what its entries may name (JVMS 4.4).
-use Rattle.std.specs.Prelude.{◌≡◌, ℕ, Bool, ◌||◌, ◌&&◌, ◌+◌, ◌-◌, List, [], ◌∷◌, length, Option, Some, None, Result, Ok, Err, is_some, IsTrue, slice_get, if◌then◌else◌}
+use Rattle.std.specs.Prelude.{◌≡◌, ℕ, Bool, ◌||◌, ◌&&◌, ◌-◌, List, [], ◌∷◌, ◌++◌, length, Option, Some, None, is_some, IsTrue, slice_get, if◌then◌else◌}
 use Rattle.std.specs.Option.{option_map, option_and_then}
 use Rattle.std.specs.List.{list_all}
 use Rattle.jbase.specs.Stops.{◌>>=◌}
 use Rattle.jbase.specs.First.{or_else}
 use Rattle.jformat.specs.declared.error.Fault.{Fault}
-use Rattle.jformat.specs.Format.{Answer, Format, is_good}
+use Rattle.jformat.specs.Format.{Format, is_good, unless, unless_fault}
 use Rattle.jpool.specs.declared.entry.Entry.{Entry}
 use Rattle.jpool.specs.declared.entry.Entry.TheVariants.{Utf8, Class, Str, Field, Method, InterfaceMethod, NameAndType}
-use Rattle.jpool.specs.declared.kind.PoolKind.{PoolKind}
-use Rattle.jpool.specs.declared.kind.PoolKind.TheVariants.{BadIndex, BadName, BadDescriptor}
-use Rattle.jpool.specs.declared.kind.PoolError.{PoolError}
-use Rattle.jpool.specs.declared.kind.PoolError.TheVariants as errors
+use Rattle.jpool.specs.declared.fault.PoolFault.{PoolFault}
+use Rattle.jpool.specs.declared.fault.PoolFault.TheVariants.{BadIndex, BadName, BadDescriptor}
 use Rattle.jpool.specs.Names.{is_class_name}
 use Rattle.jpool.specs.Descriptors.{is_array_descriptor, is_field_descriptor, is_method_descriptor}
 use Rattle.jpool.specs.Entries.{shape, size}
@@ -53,24 +51,21 @@ is_name_and_type entries i = is_some (both_in (slice_get entries i))
 
 -- ---- what an entry may name
 
-abbrev pub name_fault : Option (List ℕ) → Option PoolKind
+abbrev pub name_fault : Option (List ℕ) → Option PoolFault
 name_fault None = Some BadIndex
 name_fault (Some text) = if is_class_name text || is_array_descriptor text then None else Some BadName
 
-abbrev pub descriptor_fault : Option (List ℕ) → Option PoolKind
+abbrev pub descriptor_fault : Option (List ℕ) → Option PoolFault
 descriptor_fault None = Some BadIndex
 descriptor_fault (Some text) = if is_field_descriptor text || is_method_descriptor text then None else Some BadDescriptor
 
-abbrev pub unless : Bool → Option PoolKind
-unless good = if good then None else Some BadIndex
-
-abbrev pub member_fault : List Entry → ℕ → ℕ → Option PoolKind
-member_fault entries class both = unless (is_class entries class && is_name_and_type entries both)
+abbrev pub member_fault : List Entry → ℕ → ℕ → Option PoolFault
+member_fault entries class both = unless (is_class entries class && is_name_and_type entries both) BadIndex
 
 -- an entry's fault among all entries
-unfoldable pub entry_fault : List Entry → Entry → Option PoolKind
+unfoldable pub entry_fault : List Entry → Entry → Option PoolFault
 entry_fault entries (Class name) = name_fault (utf8_at entries name)
-entry_fault entries (Str text) = unless (is_utf8 entries text)
+entry_fault entries (Str text) = unless (is_utf8 entries text) BadIndex
 entry_fault entries (Field class both) = member_fault entries class both
 entry_fault entries (Method class both) = member_fault entries class both
 entry_fault entries (InterfaceMethod class both) = member_fault entries class both
@@ -87,22 +82,15 @@ unfoldable pub first_fault : {K : Type 0} → (Entry → Option K) → ℕ → L
 first_fault test left [] = None
 first_fault test left (e ∷ es) = or_else (faulty left (test e)) (first_fault test (left - size e) es)
 
-abbrev pub unless_fault : {A : Type 0} → A → Option (Fault PoolKind) → Result A (Fault PoolKind)
-unless_fault x None = Ok x
-unless_fault x (Some d) = Err d
-
-abbrev pub judged : ℕ → List Entry × List ℕ → Answer PoolKind (List Entry)
-judged left x = unless_fault x (first_fault (entry_fault x.0) left x.0)
-
 unfoldable pub no_fault : List Entry → Bool
 no_fault entries = list_all (λ e. is_good (entry_fault entries e)) entries
 
 -- The entries' shape first, and then, entry by entry, what they name.
-unfoldable pub pool : Format PoolKind (List Entry)
+unfoldable pub pool : Format PoolFault (List Entry)
 pool = record {
   spell = shape.spell;
   fits = λ entries. shape.fits entries && no_fault entries;
-  read = λ bytes. shape.read bytes >>= judged (length bytes - 2);
+  read = λ bytes. shape.read bytes >>= λ x. unless_fault x (first_fault (entry_fault x.0) (length bytes - 2) x.0);
 }
 
 -- what each pool keeps: its entries have a spelling, and each class names a text
@@ -110,15 +98,6 @@ pub record IsPool (entries : List Entry) : Type 0 where
   pub laid : IsTrue (shape.fits entries)
   pub named : (i name : ℕ) → slice_get entries i ≡ Some (Class name) → IsTrue (is_utf8 entries name)
 
--- ---- at a place
-
--- what a reading of a text at a place gives, with places from the front
-abbrev pub placed : {A : Type 0} → ℕ → List ℕ → Answer PoolKind A → Result (A × ℕ) PoolError
-placed at text (Ok x) = Ok (x.0, at + (length text - length x.1))
-placed at text (Err d) = Err (errors.At (at + (length text - d.left)) d.kind)
-
--- The call gives the value, unless memory runs out.
-abbrev pub OrMemory : {A : Type 0} → Result A PoolError → Result A PoolError → Type 0
-OrMemory (Ok x) value = value ≡ Ok x
-OrMemory (Err (errors.At at kind)) value = value ≡ Err (errors.At at kind)
-OrMemory (Err errors.Memory) value = Unit {0}
+-- The entries are spelled at the front of the bytes, and these bytes stand behind them.
+abbrev pub Spells : List ℕ → List Entry → List ℕ → Type 0
+Spells bytes entries rest = IsTrue (pool.fits entries) × (bytes ≡ pool.spell entries ++ rest)

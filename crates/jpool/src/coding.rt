@@ -4,8 +4,8 @@ ghost use Rattle.jpool.specs.Adding.{has_spelling};
 ghost use Rattle.jpool.specs.Entries.{entry, handle, i8, is_above, text as text_format, two, u2, u4, u8 as u8_format};
 
 use crate::entry::Entry;
-use crate::kind::PoolKind;
-use crate::kind::PoolKind::{BadTag, Truncated};
+use crate::fault::PoolFault;
+use crate::fault::PoolFault::{BadTag, Truncated};
 use jbase::Seq;
 use jformat::{
     ReadError, fault, i32_of, put_sized16, put_u8, put_u16, put_u32, put_u64, sized_of, u8_of,
@@ -13,14 +13,14 @@ use jformat::{
 };
 use std::alloc::{AllocError, Global};
 
-fn i64_of(bytes: &[u8]) -> Result<(i64, &[u8]), ReadError<PoolKind>>
+fn i64_of(bytes: &[u8]) -> Result<(i64, &[u8]), ReadError<PoolFault>>
     ensures { Gives (λ x. (x.0, x.1.now)) result (i8.read bytes.now) }
 {
     let (n, rest) = u64_of(Truncated, bytes)?;
     Ok((n.cast_signed(), rest))
 }
 
-fn two_of(bytes: &[u8]) -> Result<((u16, u16), &[u8]), ReadError<PoolKind>>
+fn two_of(bytes: &[u8]) -> Result<((u16, u16), &[u8]), ReadError<PoolFault>>
     ensures { Gives (λ x. (x.0, x.1.now)) result (two.read bytes.now) }
 {
     let (one, rest) = u16_of(Truncated, bytes)?;
@@ -28,7 +28,7 @@ fn two_of(bytes: &[u8]) -> Result<((u16, u16), &[u8]), ReadError<PoolKind>>
     Ok(((one, other), rest))
 }
 
-fn handle_of(bytes: &[u8]) -> Result<((u8, u16), &[u8]), ReadError<PoolKind>>
+fn handle_of(bytes: &[u8]) -> Result<((u8, u16), &[u8]), ReadError<PoolFault>>
     ensures { Gives (λ x. (x.0, x.1.now)) result (handle.read bytes.now) }
 {
     let (kind, rest) = u8_of(Truncated, bytes)?;
@@ -38,7 +38,7 @@ fn handle_of(bytes: &[u8]) -> Result<((u8, u16), &[u8]), ReadError<PoolKind>>
 
 /// An entry that names others, and the bytes behind it.
 #[tactic(auto, unfolding(crate::specs::Entries::entry))]
-fn reference_of(bytes: &[u8]) -> Result<(Entry, &[u8]), ReadError<PoolKind>>
+fn reference_of(bytes: &[u8]) -> Result<(Entry, &[u8]), ReadError<PoolFault>>
     requires { IsTrue (is_above 6 bytes.now) }
     ensures { Gives (λ x. (x.0, x.1.now)) result (entry.read bytes.now) }
 {
@@ -85,7 +85,7 @@ fn reference_of(bytes: &[u8]) -> Result<(Entry, &[u8]), ReadError<PoolKind>>
 
 /// An entry that has a spelling of its own, and the bytes behind it.
 #[tactic(auto, unfolding(crate::specs::Entries::entry))]
-pub fn entry_of(alloc: Global, bytes: &[u8]) -> Result<(Entry, &[u8]), ReadError<PoolKind>>
+pub fn entry_of(alloc: Global, bytes: &[u8]) -> Result<(Entry, &[u8]), ReadError<PoolFault>>
     ensures { Gives (λ x. (x.0, x.1.now)) result (entry.read bytes.now) }
 {
     match bytes {

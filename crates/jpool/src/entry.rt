@@ -1,4 +1,7 @@
-use jbase::Seq;
+ghost use Rattle.std.specs.Prelude.{◌≡◌, IfOk};
+
+use jbase::{Again, Seq};
+use std::alloc::{AllocError, Global};
 
 /// An entry of the constant pool (JVMS 4.4). Numbers are indices of other entries, unless said otherwise.
 #[derive(Debug, Drop)]
@@ -31,4 +34,38 @@ pub enum Entry {
     MethodType(u16),
     /// A number of a bootstrap method, which isn't looked at, and a name and type.
     InvokeDynamic(u16, u16),
+}
+
+impl Entry {
+    /// The same entry again.
+    pub fn copy(&self, alloc: Global) -> Result<Entry, AllocError>
+        ensures { IfOk result (λ one. one ≡ self.now) }
+    {
+        match self {
+            Entry::Unused => Ok(Entry::Unused),
+            Entry::Utf8(text) => {
+                let text = text.copy(alloc)?;
+                Ok(Entry::Utf8(text))
+            }
+            Entry::Integer(n) => Ok(Entry::Integer(*n)),
+            Entry::Float(bits) => Ok(Entry::Float(*bits)),
+            Entry::Long(n) => Ok(Entry::Long(*n)),
+            Entry::Double(bits) => Ok(Entry::Double(*bits)),
+            Entry::Class(name) => Ok(Entry::Class(*name)),
+            Entry::Str(text) => Ok(Entry::Str(*text)),
+            Entry::Field(class, both) => Ok(Entry::Field(*class, *both)),
+            Entry::Method(class, both) => Ok(Entry::Method(*class, *both)),
+            Entry::InterfaceMethod(class, both) => Ok(Entry::InterfaceMethod(*class, *both)),
+            Entry::NameAndType(name, descriptor) => Ok(Entry::NameAndType(*name, *descriptor)),
+            Entry::MethodHandle(kind, member) => Ok(Entry::MethodHandle(*kind, *member)),
+            Entry::MethodType(descriptor) => Ok(Entry::MethodType(*descriptor)),
+            Entry::InvokeDynamic(bootstrap, both) => Ok(Entry::InvokeDynamic(*bootstrap, *both)),
+        }
+    }
+}
+
+impl Again for Entry {
+    fn again(&self, alloc: Global) -> Result<Entry, AllocError> {
+        self.copy(alloc)
+    }
 }

@@ -1,18 +1,19 @@
 ghost use Rattle.std.specs.Prelude.{◌≡◌, ◌&&◌, Option};
 ghost use Rattle.jpool.specs.declared.entry.Entry.{Entry};
 ghost use Rattle.jpool.specs.Entries.{size};
+ghost use Rattle.jformat.specs.Format.{unless};
+ghost use Rattle.jpool.specs.declared.fault.PoolFault.TheVariants as faults;
 ghost use Rattle.jpool.specs.Pools;
-ghost use Rattle.jpool.specs.Pools.{first_fault, is_class, is_name_and_type, is_utf8, unless};
+ghost use Rattle.jpool.specs.Pools.{first_fault, is_class, is_name_and_type};
 
 use crate::entry::Entry;
-use crate::kind::PoolKind;
-use crate::kind::PoolKind::BadIndex;
-use crate::uses::TextUses;
+use crate::fault::PoolFault;
+use crate::fault::PoolFault::BadIndex;
 use jformat::Fault;
 
 #[tactic(auto, unfolding(crate::specs::Pools::is_utf8))]
-pub fn is_text(entries: &[Entry], i: u16) -> bool
-    ensures { result ≡ is_utf8 entries.now i }
+pub fn is_utf8(entries: &[Entry], i: u16) -> bool
+    ensures { result ≡ Pools.is_utf8 entries.now i }
 {
     matches!(entries.get(usize::from(i)), Some(Entry::Utf8(_)))
 }
@@ -27,8 +28,8 @@ pub fn is_member(entries: &[Entry], class: u16, both: u16) -> bool
     matches!(entries.get(usize::from(both)), Some(Entry::NameAndType(..)))
 }
 
-pub fn unless_good(good: bool) -> Option<PoolKind>
-    ensures { result ≡ unless good }
+pub fn unless_good(good: bool) -> Option<PoolFault>
+    ensures { result ≡ unless good faults.BadIndex }
 {
     if good { None } else { Some(BadIndex) }
 }
@@ -75,20 +76,4 @@ pub fn first_fault_of<T: EntryTest>(
         left = left.saturating_sub(size_of(one));
     }
     None
-}
-
-/// The test of what an entry names among all.
-#[derive(Clone, Copy)]
-pub struct Naming<'r, 'a> {
-    pub uses: &'r TextUses<'a>,
-}
-
-impl<'r, 'a> EntryTest for Naming<'r, 'a> {
-    type Kind = PoolKind;
-
-    ghost faults = { λ test. Pools.entry_fault test.uses.now };
-
-    fn fault_of(&self, one: &Entry) -> Option<PoolKind> {
-        self.uses.entry_fault(one)
-    }
 }

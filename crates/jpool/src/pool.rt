@@ -6,8 +6,8 @@ ghost use Rattle.jpool.specs.Pools.{IsPool, class_name_at, is_class, is_name_and
 
 use crate::entry::Entry;
 use crate::slots::is_wide;
-use jbase::Seq;
-use std::alloc::AllocError;
+use jbase::{Seq, all_again};
+use std::alloc::{AllocError, Global};
 use std::marker::Model;
 
 /// A constant pool (JVMS 4.4). Contracts see it as the list of its entries by their indices: `Unused` stands at index 0 and
@@ -95,12 +95,12 @@ impl Pool {
         self.entries.as_slice()
     }
 
-    /// The entries by their indices. It takes no memory.
-    pub fn into_entries(self) -> Seq<Entry>
-        ensures same { result ≡ self }
-        ensures kept { IsPool self }
+    /// The same pool again.
+    pub fn copy(&self, alloc: Global) -> Result<Pool, AllocError>
+        ensures { IfOk result (λ pool. pool ≡ self.now) }
     {
-        Seq::from_vec(self.entries)
+        let entries = all_again(alloc, self.entries.as_slice())?;
+        Ok(Pool::from_entries(entries))
     }
 
     /// The entry at an index. None exactly where the index isn't below the count.

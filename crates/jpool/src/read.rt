@@ -1,17 +1,18 @@
 ghost use Rattle.std.specs.Prelude.{◌≡◌, ◌++◌, ◌+◌, ℕ, List, IfOk, IsTrue, Ok, drop, length};
 ghost use Rattle.jbase.specs.Stops.{Gives};
+ghost use Rattle.jformat.specs.Places.{GivesAt};
 ghost use Rattle.jpool.specs.declared.entry.Entry.{Entry};
 ghost use Rattle.jpool.specs.Pools;
-ghost use Rattle.jpool.specs.Pools.{OrMemory, entry_fault, first_fault, placed};
+ghost use Rattle.jpool.specs.Pools.{Spells, entry_fault, first_fault};
 
 use crate::entry::Entry;
-use crate::judge::{Naming, first_fault_of};
-use crate::kind::{PoolError, PoolKind};
+use crate::fault::{PoolError, PoolFault};
+use crate::judge::first_fault_of;
 use crate::pool::Pool;
 use crate::slots::{entries_of, put_entries};
 use crate::uses::TextUses;
 use jbase::{Seq, Stop};
-use jformat::{Fault, ReadError};
+use jformat::{Fault, ReadError, stop_at};
 use std::alloc::{AllocError, Global};
 
 /// The first fault of what the entries of a pool name, where so many bytes are left at the first entry.
@@ -19,18 +20,17 @@ fn fault_in(
     alloc: Global,
     entries: &[Entry],
     left: usize,
-) -> Result<Option<Fault<PoolKind>>, AllocError>
+) -> Result<Option<Fault<PoolFault>>, AllocError>
     ensures { IfOk result (λ found. found ≡ first_fault (entry_fault entries.now) left entries.now) }
 {
     let uses = TextUses::of(alloc, entries)?;
-    let naming = Naming { uses: &uses };
-    let found = first_fault_of(&naming, left, entries);
+    let found = first_fault_of(&uses, left, entries);
     Ok(found)
 }
 
 /// A pool at the front of bytes, and the bytes behind it.
 #[tactic(auto, unfolding(crate::specs::Pools::pool))]
-pub fn pool_of(alloc: Global, bytes: &[u8]) -> Result<(Pool, &[u8]), ReadError<PoolKind>>
+pub fn pool_of(alloc: Global, bytes: &[u8]) -> Result<(Pool, &[u8]), ReadError<PoolFault>>
     ensures { Gives (λ x. (x.0, x.1.now)) result (Pools.pool.read bytes.now) }
 {
     let (entries, rest) = entries_of(alloc, bytes)?;
@@ -53,23 +53,6 @@ fn behind(bytes: &[u8], at: u32) -> &[u8]
     rest
 }
 
-fn pool_at(alloc: Global, bytes: &[u8], at: u32) -> Result<(Pool, u32), PoolError>
-    ensures { OrMemory result (placed at (drop at bytes.now) (Pools.pool.read (drop at bytes.now))) }
-{
-    if bytes.len() > u32::MAX as usize {
-        return Err(PoolError::Memory);
-    }
-    let text = behind(bytes, at);
-    match pool_of(alloc, text) {
-        Ok((pool, rest)) => Ok((pool, at + (text.len() - rest.len()) as u32)),
-        Err(Stop::Memory) => Err(PoolError::Memory),
-        Err(Stop::Fault(found)) => Err(PoolError::At {
-            at: at + (text.len() - found.left) as u32,
-            kind: found.kind,
-        }),
-    }
-}
-
 /// The pool that is spelled at an offset, and the offset behind it (JVMS 4.4).
 ///
 /// The count and the entries are read front to back: `Truncated` stands at the first byte of a number or a text that isn't
@@ -78,13 +61,19 @@ fn pool_at(alloc: Global, bytes: &[u8], at: u32) -> Result<(Pool, u32), PoolErro
 /// as a pool without entries. `Memory` comes where memory runs out, and where the bytes are 4 GiB or more.
 pub fn read_pool(alloc: Global, bytes: &[u8], at: u32) -> Result<(Pool, u32), PoolError>
     // What is read is spelled so.
-    ensures found { IfOk result (λ r. IsTrue (Pools.pool.fits r.0) × (drop at bytes.now ≡ Pools.pool.spell r.0 ++ drop r.1 bytes.now) × (r.1 ≡ at + length (Pools.pool.spell r.0))) }
+    ensures found { IfOk result (λ r. Spells (drop at bytes.now) r.0 (drop r.1 bytes.now) × (r.1 ≡ at + length (Pools.pool.spell r.0))) }
     // What is spelled so is read, unless memory runs out.
-    ensures only { (entries : List Entry) (rest : List ℕ) → IsTrue (Pools.pool.fits entries) → drop at bytes.now ≡ Pools.pool.spell entries ++ rest → OrMemory result (Ok (entries, at + length (Pools.pool.spell entries))) }
+    ensures only { (entries : List Entry) (rest : List ℕ) → Spells (drop at bytes.now) entries rest → GivesAt (λ r. r) bytes.now result (Ok (entries, at + length (Pools.pool.spell entries))) }
     // Which fault it is, and where.
-    ensures exact { OrMemory result (placed at (drop at bytes.now) (Pools.pool.read (drop at bytes.now))) }
+    ensures exact { GivesAt (λ r. (r.0, drop r.1 bytes.now)) bytes.now result (Pools.pool.read (drop at bytes.now)) }
 {
-    pool_at(alloc, bytes, at)
+    if bytes.len() > u32::MAX as usize {
+        return Err(Stop::Memory);
+    }
+    match pool_of(alloc, behind(bytes, at)) {
+        Ok((pool, rest)) => Ok((pool, (bytes.len() - rest.len()) as u32)),
+        Err(stop) => Err(stop_at(bytes, stop)),
+    }
 }
 
 /// The bytes that spell a pool.

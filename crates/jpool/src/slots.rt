@@ -5,7 +5,7 @@ ghost use Rattle.jpool.specs.Entries.{begins_wide, narrow, next_slot, shape, slo
 
 use crate::coding::{entry_of, put_entry};
 use crate::entry::Entry;
-use crate::kind::PoolKind;
+use crate::fault::PoolFault;
 use jbase::Seq;
 use jformat::{ReadError, StateReader, StateWriter, fault, put_by, put_u16, times_by_of, u16_of};
 use std::alloc::{AllocError, Global};
@@ -33,17 +33,17 @@ fn begins_with_wide(bytes: &[u8]) -> bool
 }
 
 #[tactic(auto, unfolding(crate::specs::Entries::narrow))]
-fn narrow_of(alloc: Global, bytes: &[u8]) -> Result<(Entry, &[u8]), ReadError<PoolKind>>
+fn narrow_of(alloc: Global, bytes: &[u8]) -> Result<(Entry, &[u8]), ReadError<PoolFault>>
     ensures { Gives (λ x. (x.0, x.1.now)) result (narrow.read bytes.now) }
 {
     if begins_with_wide(bytes) {
-        return Err(fault(PoolKind::BadTag, bytes));
+        return Err(fault(PoolFault::BadTag, bytes));
     }
     entry_of(alloc, bytes)
 }
 
 #[tactic(auto, unfolding(crate::specs::Entries::unused))]
-fn slot_of(alloc: Global, place: Slot, bytes: &[u8]) -> Result<(Entry, &[u8]), ReadError<PoolKind>>
+fn slot_of(alloc: Global, place: Slot, bytes: &[u8]) -> Result<(Entry, &[u8]), ReadError<PoolFault>>
     ensures { Gives (λ x. (x.0, x.1.now)) result ((slot place).read bytes.now) }
 {
     if place.taken {
@@ -78,7 +78,7 @@ fn slot_behind(place: Slot, one: &Entry) -> Slot
 struct Slots;
 
 impl StateReader for Slots {
-    type Kind = PoolKind;
+    type Kind = PoolFault;
 
     type State = Slot;
 
@@ -93,7 +93,7 @@ impl StateReader for Slots {
         alloc: Global,
         place: Slot,
         bytes: &'a [u8],
-    ) -> Result<(Entry, &'a [u8]), ReadError<PoolKind>> {
+    ) -> Result<(Entry, &'a [u8]), ReadError<PoolFault>> {
         slot_of(alloc, place, bytes)
     }
 
@@ -131,10 +131,10 @@ impl StateWriter for Slots {
 /// The entries of a pool by their indices, as far as their shape goes, and the bytes behind them: what stands at index 0
 /// and behind an entry of two indices is `Unused`. What the entries name isn't looked at.
 #[tactic(auto, unfolding(crate::specs::Entries::shape))]
-pub fn entries_of(alloc: Global, bytes: &[u8]) -> Result<(Seq<Entry>, &[u8]), ReadError<PoolKind>>
+pub fn entries_of(alloc: Global, bytes: &[u8]) -> Result<(Seq<Entry>, &[u8]), ReadError<PoolFault>>
     ensures { Gives (λ x. (x.0, x.1.now)) result (shape.read bytes.now) }
 {
-    let (count, rest) = u16_of(PoolKind::Truncated, bytes)?;
+    let (count, rest) = u16_of(PoolFault::Truncated, bytes)?;
     let first = Slot {
         left: count,
         taken: true,

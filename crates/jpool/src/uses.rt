@@ -4,9 +4,9 @@ ghost use Rattle.jpool.specs.Pools.{class_name_at, descriptor_fault, name_fault,
 ghost use Rattle.jpool.specs.Uses.{use_in, use_of, uses_of};
 
 use crate::entry::Entry;
-use crate::judge::{is_member, is_text, unless_good};
-use crate::kind::PoolKind;
-use crate::kind::PoolKind::{BadDescriptor, BadIndex, BadName};
+use crate::fault::PoolFault;
+use crate::fault::PoolFault::{BadDescriptor, BadIndex, BadName};
+use crate::judge::{EntryTest, is_member, is_utf8, unless_good};
 use crate::names::is_class_name;
 use crate::pool::name_of;
 use crate::scan::{is_array_descriptor, is_field_descriptor, method_slots};
@@ -103,7 +103,7 @@ impl<'a> TextUses<'a> {
     }
 
     #[tactic(auto, unfolding(crate::specs::Uses::use_of))]
-    fn name_fault_at(&self, i: u16) -> Option<PoolKind>
+    fn name_fault_at(&self, i: u16) -> Option<PoolFault>
         ensures { result ≡ name_fault (utf8_at self.now i) }
     {
         let Some(found) = self.text_use(i) else {
@@ -116,7 +116,7 @@ impl<'a> TextUses<'a> {
     }
 
     #[tactic(auto, unfolding(crate::specs::Uses::use_of, crate::specs::Descriptors::is_method_descriptor, crate::specs::Descriptors::method_slots))]
-    fn descriptor_fault_at(&self, i: u16) -> Option<PoolKind>
+    fn descriptor_fault_at(&self, i: u16) -> Option<PoolFault>
         ensures { result ≡ descriptor_fault (utf8_at self.now i) }
     {
         let Some(found) = self.text_use(i) else {
@@ -132,24 +132,35 @@ impl<'a> TextUses<'a> {
     /// class's text that is neither a class name nor an array descriptor, or a member's descriptor that is none. What method
     /// handles, method types and dynamic calls name isn't looked at.
     #[tactic(auto, unfolding(crate::specs::Pools::entry_fault))]
-    pub fn entry_fault(&self, one: &Entry) -> Option<PoolKind>
+    pub fn entry_fault(&self, one: &Entry) -> Option<PoolFault>
         ensures { result ≡ Pools.entry_fault self.now one.now }
     {
         match one {
             Entry::Class(name) => self.name_fault_at(*name),
-            Entry::Str(text) => unless_good(is_text(self.entries, *text)),
+            Entry::Str(text) => unless_good(is_utf8(self.entries, *text)),
             Entry::Field(class, both)
             | Entry::Method(class, both)
             | Entry::InterfaceMethod(class, both) => {
                 unless_good(is_member(self.entries, *class, *both))
             }
             Entry::NameAndType(name, descriptor) => {
-                if !is_text(self.entries, *name) {
+                if !is_utf8(self.entries, *name) {
                     return Some(BadIndex);
                 }
                 self.descriptor_fault_at(*descriptor)
             }
             _ => None,
         }
+    }
+}
+
+/// The test of what an entry names among all.
+impl<'a> EntryTest for TextUses<'a> {
+    type Kind = PoolFault;
+
+    ghost faults = { λ entries. Pools.entry_fault entries };
+
+    fn fault_of(&self, one: &Entry) -> Option<PoolFault> {
+        self.entry_fault(one)
     }
 }

@@ -1,9 +1,10 @@
-use jbase::Seq;
-use jpool::PoolKind::{BadDescriptor, BadIndex, BadName, BadTag, Truncated};
+use jbase::{Seq, Stop};
+use jformat::At;
+use jpool::PoolFault::{BadDescriptor, BadIndex, BadName, BadTag, Truncated};
 use jpool::{
-    AddError, Adder, DescError, Descriptor, Entry, PoolError, PoolKind, is_array_descriptor,
-    is_class_name, is_field_descriptor, is_method_descriptor, method_slots, read_descriptor,
-    read_pool, slots_of, write_pool,
+    AddError, Adder, DescError, Descriptor, Entry, PoolFault, is_array_descriptor, is_class_name,
+    is_field_descriptor, is_method_descriptor, method_slots, read_descriptor, read_pool, slots_of,
+    write_pool,
 };
 use std::alloc::{AllocFailed, Global};
 
@@ -139,10 +140,10 @@ fn faults_of_pools(rt: HostRuntime) {
     ];
     for (length, at) in cuts {
         let (text, _) = small.split_at(length);
-        let error = PoolError::At {
+        let error = Stop::Fault(At {
             at,
             kind: Truncated,
-        };
+        });
         assert!(rt;
             read_pool(rt.alloc(), text, 8).err() == Some(error),
             "{length}"
@@ -154,12 +155,12 @@ fn faults_of_pools(rt: HostRuntime) {
     let mut text = Vec::from_slice(rt.alloc(), front).expect(&rt, "memory");
     text.push(2).expect(&rt, "memory");
     text.extend_from_slice(rest).expect(&rt, "memory");
-    let error = PoolError::At {
+    let error = Stop::Fault(At {
         at: 10,
         kind: BadTag,
-    };
+    });
     assert!(rt; read_pool(rt.alloc(), text.as_slice(), 8).err() == Some(error));
-    let texts: [(&str, u32, PoolKind); 19] = [
+    let texts: [(&str, u32, PoolFault); 19] = [
         ("", 0, Truncated),
         ("000202", 2, BadTag),
         ("00020d0001", 2, BadTag),
@@ -182,7 +183,7 @@ fn faults_of_pools(rt: HostRuntime) {
     ];
     for (text, at, kind) in texts {
         let bytes = hex::decode(rt.alloc(), text).expect(&rt, "hex");
-        let error = PoolError::At { at, kind };
+        let error = Stop::Fault(At { at, kind });
         assert!(rt;
             read_pool(rt.alloc(), bytes.as_slice(), 0).err() == Some(error),
             "{text}"
@@ -299,10 +300,10 @@ fn full_pools(rt: HostRuntime) {
         assert!(rt; written.as_slice() == bytes.as_slice());
         // An entry of one index, and one behind it that is cut.
         let bytes = full(rt.alloc(), count, 3).expect(&rt, "memory");
-        let error = PoolError::At {
+        let error = Stop::Fault(At {
             at: cut,
             kind: Truncated,
-        };
+        });
         assert!(rt; read_pool(rt.alloc(), bytes.as_slice(), 0).err() == Some(error));
     }
 }

@@ -1,6 +1,9 @@
+use jbase::Stop;
+use jformat::At;
+
 /// What is wrong in a pool's bytes.
 #[derive(Clone, Copy, Debug, PartialEq, Eq)]
-pub enum PoolKind {
+pub enum PoolFault {
     /// A number or a text isn't wholly there.
     Truncated,
     /// A tag that no entry has, or that of an entry of two indices at the last index.
@@ -13,11 +16,6 @@ pub enum PoolKind {
     BadDescriptor,
 }
 
-/// Why bytes gave no pool.
-#[derive(Clone, Copy, Debug, PartialEq, Eq)]
-pub enum PoolError {
-    /// A fault, and the offset of its first byte.
-    At { at: u32, kind: PoolKind },
-    /// No memory was left. It may come at any time, and comes where the bytes are too many for offsets of 32 bits.
-    Memory,
-}
+/// Why bytes gave no pool: a fault and the offset of its first byte, or want of memory, which may come at any time, and comes
+/// where an offset has more than 32 bits.
+pub type PoolError = Stop<At<PoolFault>>;
