@@ -12,7 +12,6 @@ use Rattle.jformat.proofs.Blocks.{IsBody}
 use Rattle.jformat.proofs.Stateful.{many_by_law}
 use Rattle.jcode.specs.declared.fault.CodeFault.{CodeFault}
 use Rattle.jcode.specs.declared.fault.CodeFault.TheVariants.{Truncated, BadTarget}
-use Rattle.jcode.specs.declared.names.NumberKind.TheVariants as numbers
 use Rattle.jcode.specs.declared.names.LocalKind.TheVariants as kinds
 use Rattle.jcode.specs.declared.op.Op.{Op}
 use Rattle.jcode.specs.declared.op.Op.TheVariants as ops
@@ -59,13 +58,9 @@ plain_back (plain.Local kinds.Ref access slot) x = refl
 plain_back (plain.ArrayLoad element) x = refl
 plain_back (plain.ArrayStore element) x = refl
 plain_back (plain.Stack op) x = refl
-plain_back (plain.Math numbers.Int op) x = refl
-plain_back (plain.Math numbers.Long op) x = refl
-plain_back (plain.Neg kind) x = refl
-plain_back (plain.Shift kind op) x = refl
-plain_back (plain.Logic kind op) x = refl
-plain_back (plain.Convert op) x = refl
-plain_back plain.Lcmp x = refl
+plain_back (plain.Two op) x = refl
+plain_back (plain.Divide op) x = refl
+plain_back (plain.One op) x = refl
 plain_back (plain.Return kind) x = refl
 plain_back (plain.Object op) x = refl
 
@@ -124,14 +119,10 @@ op_forth (ops.RefLocal (locals.Slot access slot)) = refl
 op_forth (ops.ArrayLoad element) = refl
 op_forth (ops.ArrayStore element) = refl
 op_forth (ops.Stack op) = refl
-op_forth (ops.IntMath op) = refl
-op_forth (ops.LongMath op) = refl
-op_forth (ops.Neg kind) = refl
-op_forth (ops.Shift kind op) = refl
-op_forth (ops.Logic kind op) = refl
+op_forth (ops.Two op) = refl
+op_forth (ops.Divide op) = refl
+op_forth (ops.One op) = refl
 op_forth (ops.Iinc n by) = refl
-op_forth (ops.Convert op) = refl
-op_forth ops.Lcmp = refl
 op_forth (ops.If test by) = refl
 op_forth (ops.IfInt test by) = refl
 op_forth (ops.IfRef test by) = refl
@@ -170,14 +161,10 @@ spells at (ops.RefLocal (locals.Slot access slot)) = refl
 spells at (ops.ArrayLoad element) = refl
 spells at (ops.ArrayStore element) = refl
 spells at (ops.Stack op) = refl
-spells at (ops.IntMath op) = refl
-spells at (ops.LongMath op) = refl
-spells at (ops.Neg kind) = refl
-spells at (ops.Shift kind op) = refl
-spells at (ops.Logic kind op) = refl
+spells at (ops.Two op) = refl
+spells at (ops.Divide op) = refl
+spells at (ops.One op) = refl
 spells at (ops.Iinc n by) = refl
-spells at (ops.Convert op) = refl
-spells at ops.Lcmp = refl
 spells at (ops.If test by) = refl
 spells at (ops.IfInt test by) = refl
 spells at (ops.IfRef test by) = refl

@@ -1,14 +1,13 @@
 -- Forms of instructions, and what they take and give, computed.
 use Rattle.std.proofs.Common.{◌≡◌, [], ◌∷◌, Some, None, refl}
 use Rattle.std.specs.Prelude.{pos, negsuc}
-use Rattle.jcode.specs.declared.names.NumberKind.TheVariants as numbers
 use Rattle.jcode.specs.declared.names.LocalKind.TheVariants as locals
 use Rattle.jcode.specs.declared.names.Access.TheVariants.{Load, Store}
 use Rattle.jcode.specs.declared.names.Slot.TheVariants as slots
 use Rattle.jcode.specs.declared.names.SmallInt.TheVariants as ints
 use Rattle.jcode.specs.declared.names.Element.TheVariants as elements
-use Rattle.jcode.specs.declared.names.ShiftOp.TheVariants as shifts
-use Rattle.jcode.specs.declared.names.StackOp.{StackOp}
+use Rattle.jcode.specs.declared.names.OpTwo.TheVariants.{Lshl, Lcmp}
+use Rattle.jcode.specs.declared.names.Shuffle.{Shuffle}
 use Rattle.jcode.specs.declared.names.FieldOp.TheVariants.{PutField}
 use Rattle.jcode.specs.declared.op.Op.TheVariants as ops
 use Rattle.jcode.specs.declared.op.IntConst.TheVariants as consts
@@ -71,12 +70,12 @@ stored_list : listed (taken.Three kinds.Long kinds.Int kinds.Array) ≡ kinds.Lo
 stored_list = refl
 
 -- lshl takes an int and below it a long
-shifted : effect (form (ops.Shift numbers.Long shifts.Left)) ≡ Some (gives (taken.Two kinds.Int kinds.Long) kinds.Long)
+shifted : effect (form (ops.Two Lshl)) ≡ Some (gives (taken.Two kinds.Int kinds.Long) kinds.Long)
 unfolding form effect
 shifted = refl
 
 -- lcmp gives an int
-order : effect (form ops.Lcmp) ≡ Some (gives (taken.Two kinds.Long kinds.Long) kinds.Int)
+order : effect (form (ops.Two Lcmp)) ≡ Some (gives (taken.Two kinds.Long kinds.Long) kinds.Int)
 unfolding form effect
 order = refl
 
@@ -86,6 +85,6 @@ unfolding form effect
 put = refl
 
 -- moves of the stack have no kinds of their own
-moved : (op : StackOp) → effect (form (ops.Stack op)) ≡ None
+moved : (op : Shuffle) → effect (form (ops.Stack op)) ≡ None
 unfolding form effect
 moved op = refl

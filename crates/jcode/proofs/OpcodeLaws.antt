@@ -1,7 +1,6 @@
 -- Each opcode has its own number.
 use Rattle.std.proofs.Common.{◌≡◌, ℕ, eqb, ltb, List, [], ◌∷◌, Option, Some, None, Result, Ok, Err, refl, sym, ap, ◌∙◌, inl, inr}
 use Rattle.std.proofs.lemmas.Bool.{cases_Bool, eqb-true}
-use Rattle.jcode.specs.declared.names.NumberKind.TheVariants as numbers
 use Rattle.jcode.specs.declared.names.LocalKind.{LocalKind}
 use Rattle.jcode.specs.declared.names.LocalKind.TheVariants as kinds
 use Rattle.jcode.specs.declared.names.Access.TheVariants.{Load, Store}
@@ -11,16 +10,12 @@ use Rattle.jcode.specs.declared.names.SmallInt.TheVariants as ints
 use Rattle.jcode.specs.declared.names.SmallLong.TheVariants as longs
 use Rattle.jcode.specs.declared.names.Element.{Element}
 use Rattle.jcode.specs.declared.names.Element.TheVariants as elements
-use Rattle.jcode.specs.declared.names.StackOp.TheVariants.{Pop, Pop2, Dup, DupX1, DupX2, Dup2, Dup2X1, Dup2X2, Swap}
-use Rattle.jcode.specs.declared.names.MathOp.{MathOp}
-use Rattle.jcode.specs.declared.names.MathOp.TheVariants.{Add, Sub, Mul, Div, Rem}
-use Rattle.jcode.specs.declared.names.ShiftOp.{ShiftOp}
-use Rattle.jcode.specs.declared.names.ShiftOp.TheVariants.{Left, Right, RightUnsigned}
-use Rattle.jcode.specs.declared.names.LogicOp.{LogicOp}
-use Rattle.jcode.specs.declared.names.LogicOp.TheVariants.{And, Or, Xor}
-use Rattle.jcode.specs.declared.names.ConvertOp.TheVariants.{IntToLong, LongToInt, IntToByte, IntToChar, IntToShort}
-use Rattle.jcode.specs.declared.names.Condition.{Condition}
-use Rattle.jcode.specs.declared.names.Condition.TheVariants.{Equal, NotEqual, Less, GreaterOrEqual, Greater, LessOrEqual}
+use Rattle.jcode.specs.declared.names.OpTwo.TheVariants as twos
+use Rattle.jcode.specs.declared.names.Division.TheVariants as divisions
+use Rattle.jcode.specs.declared.names.OpOne.TheVariants as ones
+use Rattle.jcode.specs.declared.names.Shuffle.TheVariants.{Pop, Pop2, Dup, DupX1, DupX2, Dup2, Dup2X1, Dup2X2, Swap}
+use Rattle.jcode.specs.declared.names.Compare.{Compare}
+use Rattle.jcode.specs.declared.names.Compare.TheVariants.{Eq, Ne, Lt, Ge, Gt, Le}
 use Rattle.jcode.specs.declared.names.RefTest.TheVariants.{Same, Other, Null, NonNull}
 use Rattle.jcode.specs.declared.names.Returned.TheVariants as results
 use Rattle.jcode.specs.declared.names.FieldOp.TheVariants.{GetStatic, PutStatic, GetField, PutField}
@@ -83,30 +78,13 @@ each_element P a b c d e f elements.Byte = d
 each_element P a b c d e f elements.Char = e
 each_element P a b c d e f elements.Short = f
 
-each_condition : (P : Condition → Type 0) → P Equal → P NotEqual → P Less → P GreaterOrEqual → P Greater → P LessOrEqual → (t : Condition) → P t
-each_condition P a b c d e f Equal = a
-each_condition P a b c d e f NotEqual = b
-each_condition P a b c d e f Less = c
-each_condition P a b c d e f GreaterOrEqual = d
-each_condition P a b c d e f Greater = e
-each_condition P a b c d e f LessOrEqual = f
-
-each_math : (P : MathOp → Type 0) → P Add → P Sub → P Mul → P Div → P Rem → (m : MathOp) → P m
-each_math P a b c d e Add = a
-each_math P a b c d e Sub = b
-each_math P a b c d e Mul = c
-each_math P a b c d e Div = d
-each_math P a b c d e Rem = e
-
-each_shift : (P : ShiftOp → Type 0) → P Left → P Right → P RightUnsigned → (s : ShiftOp) → P s
-each_shift P a b c Left = a
-each_shift P a b c Right = b
-each_shift P a b c RightUnsigned = c
-
-each_logic : (P : LogicOp → Type 0) → P And → P Or → P Xor → (l : LogicOp) → P l
-each_logic P a b c And = a
-each_logic P a b c Or = b
-each_logic P a b c Xor = c
+each_compare : (P : Compare → Type 0) → P Eq → P Ne → P Lt → P Ge → P Gt → P Le → (t : Compare) → P t
+each_compare P a b c d e f Eq = a
+each_compare P a b c d e f Ne = b
+each_compare P a b c d e f Lt = c
+each_compare P a b c d e f Ge = d
+each_compare P a b c d e f Gt = e
+each_compare P a b c d e f Le = f
 
 local_named : (kind : LocalKind) (access : _) (s : Slot) → head_at (plain_number (plain.Local kind access s)) ≡ Ok (heads.Plain (plain.Local kind access s))
 unfolding head_at
@@ -142,20 +120,36 @@ plain_named (plain.Stack Dup2) = refl
 plain_named (plain.Stack Dup2X1) = refl
 plain_named (plain.Stack Dup2X2) = refl
 plain_named (plain.Stack Swap) = refl
-plain_named (plain.Math numbers.Int m) = each_math (λ m. head_at (plain_number (plain.Math numbers.Int m)) ≡ Ok (heads.Plain (plain.Math numbers.Int m))) refl refl refl refl refl m
-plain_named (plain.Math numbers.Long m) = each_math (λ m. head_at (plain_number (plain.Math numbers.Long m)) ≡ Ok (heads.Plain (plain.Math numbers.Long m))) refl refl refl refl refl m
-plain_named (plain.Neg numbers.Int) = refl
-plain_named (plain.Neg numbers.Long) = refl
-plain_named (plain.Shift numbers.Int s) = each_shift (λ s. head_at (plain_number (plain.Shift numbers.Int s)) ≡ Ok (heads.Plain (plain.Shift numbers.Int s))) refl refl refl s
-plain_named (plain.Shift numbers.Long s) = each_shift (λ s. head_at (plain_number (plain.Shift numbers.Long s)) ≡ Ok (heads.Plain (plain.Shift numbers.Long s))) refl refl refl s
-plain_named (plain.Logic numbers.Int l) = each_logic (λ l. head_at (plain_number (plain.Logic numbers.Int l)) ≡ Ok (heads.Plain (plain.Logic numbers.Int l))) refl refl refl l
-plain_named (plain.Logic numbers.Long l) = each_logic (λ l. head_at (plain_number (plain.Logic numbers.Long l)) ≡ Ok (heads.Plain (plain.Logic numbers.Long l))) refl refl refl l
-plain_named (plain.Convert IntToLong) = refl
-plain_named (plain.Convert LongToInt) = refl
-plain_named (plain.Convert IntToByte) = refl
-plain_named (plain.Convert IntToChar) = refl
-plain_named (plain.Convert IntToShort) = refl
-plain_named plain.Lcmp = refl
+plain_named (plain.Two twos.Iadd) = refl
+plain_named (plain.Two twos.Ladd) = refl
+plain_named (plain.Two twos.Isub) = refl
+plain_named (plain.Two twos.Lsub) = refl
+plain_named (plain.Two twos.Imul) = refl
+plain_named (plain.Two twos.Lmul) = refl
+plain_named (plain.Two twos.Ishl) = refl
+plain_named (plain.Two twos.Lshl) = refl
+plain_named (plain.Two twos.Ishr) = refl
+plain_named (plain.Two twos.Lshr) = refl
+plain_named (plain.Two twos.Iushr) = refl
+plain_named (plain.Two twos.Lushr) = refl
+plain_named (plain.Two twos.Iand) = refl
+plain_named (plain.Two twos.Land) = refl
+plain_named (plain.Two twos.Ior) = refl
+plain_named (plain.Two twos.Lor) = refl
+plain_named (plain.Two twos.Ixor) = refl
+plain_named (plain.Two twos.Lxor) = refl
+plain_named (plain.Two twos.Lcmp) = refl
+plain_named (plain.Divide divisions.Idiv) = refl
+plain_named (plain.Divide divisions.Irem) = refl
+plain_named (plain.Divide divisions.Ldiv) = refl
+plain_named (plain.Divide divisions.Lrem) = refl
+plain_named (plain.One ones.Ineg) = refl
+plain_named (plain.One ones.Lneg) = refl
+plain_named (plain.One ones.I2l) = refl
+plain_named (plain.One ones.L2i) = refl
+plain_named (plain.One ones.I2b) = refl
+plain_named (plain.One ones.I2c) = refl
+plain_named (plain.One ones.I2s) = refl
 plain_named (plain.Return results.Int) = refl
 plain_named (plain.Return results.Long) = refl
 plain_named (plain.Return results.Ref) = refl
@@ -191,8 +185,8 @@ index_named (index.Cast InstanceOf) = refl
 
 branch_named : (h : BranchHead) → head_at (branch_number h) ≡ Ok (heads.Branch h)
 unfolding head_at
-branch_named (branch.If t) = each_condition (λ t. head_at (branch_number (branch.If t)) ≡ Ok (heads.Branch (branch.If t))) refl refl refl refl refl refl t
-branch_named (branch.IfInt t) = each_condition (λ t. head_at (branch_number (branch.IfInt t)) ≡ Ok (heads.Branch (branch.IfInt t))) refl refl refl refl refl refl t
+branch_named (branch.If t) = each_compare (λ t. head_at (branch_number (branch.If t)) ≡ Ok (heads.Branch (branch.If t))) refl refl refl refl refl refl t
+branch_named (branch.IfInt t) = each_compare (λ t. head_at (branch_number (branch.IfInt t)) ≡ Ok (heads.Branch (branch.IfInt t))) refl refl refl refl refl refl t
 branch_named (branch.IfRef Same) = refl
 branch_named (branch.IfRef Other) = refl
 branch_named (branch.IfRef Null) = refl

@@ -1,8 +1,12 @@
 -- What instructions do, whichever of their spellings they have, and the kinds of their operands (JVMS 6.5).
 use Rattle.std.specs.Prelude.{ℕ, ℤ, pos, negsuc, Bool, true, false, map, List, [], ◌∷◌, Option, Some, None}
 use Rattle.std.specs.Borrow.{Bor}
-use Rattle.jcode.specs.declared.names.NumberKind.{NumberKind}
-use Rattle.jcode.specs.declared.names.NumberKind.TheVariants as numbers
+use Rattle.jcode.specs.declared.names.OpTwo.{OpTwo}
+use Rattle.jcode.specs.declared.names.OpTwo.TheVariants as twos
+use Rattle.jcode.specs.declared.names.Division.{Division}
+use Rattle.jcode.specs.declared.names.Division.TheVariants as divisions
+use Rattle.jcode.specs.declared.names.OpOne.{OpOne}
+use Rattle.jcode.specs.declared.names.OpOne.TheVariants as ones
 use Rattle.jcode.specs.declared.names.LocalKind.{LocalKind}
 use Rattle.jcode.specs.declared.names.LocalKind.TheVariants as locals
 use Rattle.jcode.specs.declared.names.Access.TheVariants.{Load, Store}
@@ -14,8 +18,6 @@ use Rattle.jcode.specs.declared.names.SmallLong.{SmallLong}
 use Rattle.jcode.specs.declared.names.SmallLong.TheVariants as longs
 use Rattle.jcode.specs.declared.names.Element.{Element}
 use Rattle.jcode.specs.declared.names.Element.TheVariants as elements
-use Rattle.jcode.specs.declared.names.ConvertOp.{ConvertOp}
-use Rattle.jcode.specs.declared.names.ConvertOp.TheVariants.{IntToLong, LongToInt, IntToByte, IntToChar, IntToShort}
 use Rattle.jcode.specs.declared.names.RefTest.{RefTest}
 use Rattle.jcode.specs.declared.names.RefTest.TheVariants.{Same, Other, Null, NonNull}
 use Rattle.jcode.specs.declared.names.Returned.{Returned}
@@ -123,14 +125,10 @@ form (ops.RefLocal op) = forms.Local (local_form locals.Ref op)
 form (ops.ArrayLoad element) = forms.Array (arrays.Load element)
 form (ops.ArrayStore element) = forms.Array (arrays.Store element)
 form (ops.Stack op) = forms.Stack op
-form (ops.IntMath op) = forms.Simple (simple.Math numbers.Int op)
-form (ops.LongMath op) = forms.Simple (simple.Math numbers.Long op)
-form (ops.Neg kind) = forms.Simple (simple.Neg kind)
-form (ops.Shift kind op) = forms.Simple (simple.Shift kind op)
-form (ops.Logic kind op) = forms.Simple (simple.Logic kind op)
+form (ops.Two op) = forms.Simple (simple.Two op)
+form (ops.Divide op) = forms.Simple (simple.Divide op)
+form (ops.One op) = forms.Simple (simple.One op)
 form (ops.Iinc n by) = forms.Local (Increment n by)
-form (ops.Convert op) = forms.Simple (simple.Convert op)
-form ops.Lcmp = forms.Simple simple.Compare
 form (ops.If test by) = forms.Flow (flows.If test by)
 form (ops.IfInt test by) = forms.Flow (flows.IfInt test by)
 form (ops.IfRef test by) = forms.Flow (flows.IfRef test by)
@@ -178,28 +176,60 @@ gives ks k = record { takes = ks; gives = Some k }
 abbrev pub takes : Kinds → Effect
 takes ks = record { takes = ks; gives = None }
 
-abbrev pub number : NumberKind → Kind
-number numbers.Int = kinds.Int
-number numbers.Long = kinds.Long
+abbrev pub of_ints : Effect
+of_ints = gives (taken.Two kinds.Int kinds.Int) kinds.Int
 
-abbrev pub conversion : ConvertOp → Effect
-conversion IntToLong = gives (taken.One kinds.Int) kinds.Long
-conversion LongToInt = gives (taken.One kinds.Long) kinds.Int
-conversion IntToByte = gives (taken.One kinds.Int) kinds.Int
-conversion IntToChar = gives (taken.One kinds.Int) kinds.Int
-conversion IntToShort = gives (taken.One kinds.Int) kinds.Int
+abbrev pub of_longs : Effect
+of_longs = gives (taken.Two kinds.Long kinds.Long) kinds.Long
+
+-- a long by an int, which is the newer
+abbrev pub shifted : Effect
+shifted = gives (taken.Two kinds.Int kinds.Long) kinds.Long
+
+abbrev pub two_effect : OpTwo → Effect
+two_effect twos.Iadd = of_ints
+two_effect twos.Ladd = of_longs
+two_effect twos.Isub = of_ints
+two_effect twos.Lsub = of_longs
+two_effect twos.Imul = of_ints
+two_effect twos.Lmul = of_longs
+two_effect twos.Ishl = of_ints
+two_effect twos.Lshl = shifted
+two_effect twos.Ishr = of_ints
+two_effect twos.Lshr = shifted
+two_effect twos.Iushr = of_ints
+two_effect twos.Lushr = shifted
+two_effect twos.Iand = of_ints
+two_effect twos.Land = of_longs
+two_effect twos.Ior = of_ints
+two_effect twos.Lor = of_longs
+two_effect twos.Ixor = of_ints
+two_effect twos.Lxor = of_longs
+two_effect twos.Lcmp = gives (taken.Two kinds.Long kinds.Long) kinds.Int
+
+abbrev pub division_effect : Division → Effect
+division_effect divisions.Idiv = of_ints
+division_effect divisions.Irem = of_ints
+division_effect divisions.Ldiv = of_longs
+division_effect divisions.Lrem = of_longs
+
+abbrev pub one_effect : OpOne → Effect
+one_effect ones.Ineg = gives (taken.One kinds.Int) kinds.Int
+one_effect ones.Lneg = gives (taken.One kinds.Long) kinds.Long
+one_effect ones.I2l = gives (taken.One kinds.Int) kinds.Long
+one_effect ones.L2i = gives (taken.One kinds.Long) kinds.Int
+one_effect ones.I2b = gives (taken.One kinds.Int) kinds.Int
+one_effect ones.I2c = gives (taken.One kinds.Int) kinds.Int
+one_effect ones.I2s = gives (taken.One kinds.Int) kinds.Int
 
 abbrev pub simple_effect : Simple → Effect
 simple_effect simple.Nothing = takes taken.None
 simple_effect simple.Null = gives taken.None kinds.Null
 simple_effect (simple.Int n) = gives taken.None kinds.Int
 simple_effect (simple.Long n) = gives taken.None kinds.Long
-simple_effect (simple.Math kind op) = gives (taken.Two (number kind) (number kind)) (number kind)
-simple_effect (simple.Neg kind) = gives (taken.One (number kind)) (number kind)
-simple_effect (simple.Shift kind op) = gives (taken.Two kinds.Int (number kind)) (number kind)
-simple_effect (simple.Logic kind op) = gives (taken.Two (number kind) (number kind)) (number kind)
-simple_effect (simple.Convert op) = conversion op
-simple_effect simple.Compare = gives (taken.Two kinds.Long kinds.Long) kinds.Int
+simple_effect (simple.Two op) = two_effect op
+simple_effect (simple.Divide op) = division_effect op
+simple_effect (simple.One op) = one_effect op
 
 -- what a local holds
 abbrev pub local : LocalKind → Kind

@@ -11,7 +11,6 @@ use Rattle.jformat.specs.Bodies.{Body}
 use Rattle.jformat.specs.States.{many_by}
 use Rattle.jcode.specs.declared.fault.CodeFault.{CodeFault}
 use Rattle.jcode.specs.declared.fault.CodeFault.TheVariants.{Truncated, BadTarget}
-use Rattle.jcode.specs.declared.names.NumberKind.TheVariants as numbers
 use Rattle.jcode.specs.declared.names.LocalKind.{LocalKind}
 use Rattle.jcode.specs.declared.names.LocalKind.TheVariants as kinds
 use Rattle.jcode.specs.declared.op.Op.{Op}
@@ -57,13 +56,9 @@ plain_op (plain.Local kind access slot) = local_op kind (locals.Slot access slot
 plain_op (plain.ArrayLoad element) = ops.ArrayLoad element
 plain_op (plain.ArrayStore element) = ops.ArrayStore element
 plain_op (plain.Stack op) = ops.Stack op
-plain_op (plain.Math numbers.Int op) = ops.IntMath op
-plain_op (plain.Math numbers.Long op) = ops.LongMath op
-plain_op (plain.Neg kind) = ops.Neg kind
-plain_op (plain.Shift kind op) = ops.Shift kind op
-plain_op (plain.Logic kind op) = ops.Logic kind op
-plain_op (plain.Convert op) = ops.Convert op
-plain_op plain.Lcmp = ops.Lcmp
+plain_op (plain.Two op) = ops.Two op
+plain_op (plain.Divide op) = ops.Divide op
+plain_op (plain.One op) = ops.One op
 plain_op (plain.Return kind) = ops.Return kind
 plain_op (plain.Object op) = ops.Object op
 
@@ -125,14 +120,10 @@ op_head (ops.RefLocal op) = local_head kinds.Ref op
 op_head (ops.ArrayLoad element) = heads.Plain (plain.ArrayLoad element)
 op_head (ops.ArrayStore element) = heads.Plain (plain.ArrayStore element)
 op_head (ops.Stack op) = heads.Plain (plain.Stack op)
-op_head (ops.IntMath op) = heads.Plain (plain.Math numbers.Int op)
-op_head (ops.LongMath op) = heads.Plain (plain.Math numbers.Long op)
-op_head (ops.Neg kind) = heads.Plain (plain.Neg kind)
-op_head (ops.Shift kind op) = heads.Plain (plain.Shift kind op)
-op_head (ops.Logic kind op) = heads.Plain (plain.Logic kind op)
+op_head (ops.Two op) = heads.Plain (plain.Two op)
+op_head (ops.Divide op) = heads.Plain (plain.Divide op)
+op_head (ops.One op) = heads.Plain (plain.One op)
 op_head (ops.Iinc n by) = heads.Other other.Iinc
-op_head (ops.Convert op) = heads.Plain (plain.Convert op)
-op_head ops.Lcmp = heads.Plain plain.Lcmp
 op_head (ops.If test by) = heads.Branch (branch.If test)
 op_head (ops.IfInt test by) = heads.Branch (branch.IfInt test)
 op_head (ops.IfRef test by) = heads.Branch (branch.IfRef test)

@@ -1,7 +1,5 @@
 -- The opcodes (JVMS 6.5): the number of each, and which stands for a number.
 use Rattle.std.specs.Prelude.{ℕ, ◌+◌, ◌==◌, nat_lt, if◌then◌else◌, map, List, [], ◌∷◌, ◌++◌, Option, Some, None, Result, Ok, Err}
-use Rattle.jcode.specs.declared.names.NumberKind.{NumberKind}
-use Rattle.jcode.specs.declared.names.NumberKind.TheVariants as numbers
 use Rattle.jcode.specs.declared.names.LocalKind.{LocalKind}
 use Rattle.jcode.specs.declared.names.LocalKind.TheVariants as kinds
 use Rattle.jcode.specs.declared.names.Access.{Access}
@@ -14,18 +12,16 @@ use Rattle.jcode.specs.declared.names.SmallLong.{SmallLong}
 use Rattle.jcode.specs.declared.names.SmallLong.TheVariants as longs
 use Rattle.jcode.specs.declared.names.Element.{Element}
 use Rattle.jcode.specs.declared.names.Element.TheVariants as elements
-use Rattle.jcode.specs.declared.names.StackOp.{StackOp}
-use Rattle.jcode.specs.declared.names.StackOp.TheVariants.{Pop, Pop2, Dup, DupX1, DupX2, Dup2, Dup2X1, Dup2X2, Swap}
-use Rattle.jcode.specs.declared.names.MathOp.{MathOp}
-use Rattle.jcode.specs.declared.names.MathOp.TheVariants.{Add, Sub, Mul, Div, Rem}
-use Rattle.jcode.specs.declared.names.ShiftOp.{ShiftOp}
-use Rattle.jcode.specs.declared.names.ShiftOp.TheVariants.{Left, Right, RightUnsigned}
-use Rattle.jcode.specs.declared.names.LogicOp.{LogicOp}
-use Rattle.jcode.specs.declared.names.LogicOp.TheVariants.{And, Or, Xor}
-use Rattle.jcode.specs.declared.names.ConvertOp.{ConvertOp}
-use Rattle.jcode.specs.declared.names.ConvertOp.TheVariants.{IntToLong, LongToInt, IntToByte, IntToChar, IntToShort}
-use Rattle.jcode.specs.declared.names.Condition.{Condition}
-use Rattle.jcode.specs.declared.names.Condition.TheVariants.{Equal, NotEqual, Less, GreaterOrEqual, Greater, LessOrEqual}
+use Rattle.jcode.specs.declared.names.OpTwo.{OpTwo}
+use Rattle.jcode.specs.declared.names.OpTwo.TheVariants as twos
+use Rattle.jcode.specs.declared.names.Division.{Division}
+use Rattle.jcode.specs.declared.names.Division.TheVariants as divisions
+use Rattle.jcode.specs.declared.names.OpOne.{OpOne}
+use Rattle.jcode.specs.declared.names.OpOne.TheVariants as ones
+use Rattle.jcode.specs.declared.names.Shuffle.{Shuffle}
+use Rattle.jcode.specs.declared.names.Shuffle.TheVariants.{Pop, Pop2, Dup, DupX1, DupX2, Dup2, Dup2X1, Dup2X2, Swap}
+use Rattle.jcode.specs.declared.names.Compare.{Compare}
+use Rattle.jcode.specs.declared.names.Compare.TheVariants.{Eq, Ne, Lt, Ge, Gt, Le}
 use Rattle.jcode.specs.declared.names.RefTest.{RefTest}
 use Rattle.jcode.specs.declared.names.RefTest.TheVariants.{Same, Other, Null, NonNull}
 use Rattle.jcode.specs.declared.names.Returned.{Returned}
@@ -55,10 +51,6 @@ use Rattle.jcode.specs.declared.head.OtherHead.TheVariants as other
 
 -- ---- places in a row of opcodes
 
-abbrev pub number_step : NumberKind → ℕ
-number_step numbers.Int = 0
-number_step numbers.Long = 1
-
 abbrev pub slot_step : Slot → ℕ
 slot_step slots.Zero = 0
 slot_step slots.One = 1
@@ -86,41 +78,24 @@ element_step elements.Byte = 5
 element_step elements.Char = 6
 element_step elements.Short = 7
 
-abbrev pub stack_step : StackOp → ℕ
-stack_step Pop = 0
-stack_step Pop2 = 1
-stack_step Dup = 2
-stack_step DupX1 = 3
-stack_step DupX2 = 4
-stack_step Dup2 = 5
-stack_step Dup2X1 = 6
-stack_step Dup2X2 = 7
-stack_step Swap = 8
+abbrev pub shuffle_step : Shuffle → ℕ
+shuffle_step Pop = 0
+shuffle_step Pop2 = 1
+shuffle_step Dup = 2
+shuffle_step DupX1 = 3
+shuffle_step DupX2 = 4
+shuffle_step Dup2 = 5
+shuffle_step Dup2X1 = 6
+shuffle_step Dup2X2 = 7
+shuffle_step Swap = 8
 
-abbrev pub math_step : MathOp → ℕ
-math_step Add = 0
-math_step Sub = 4
-math_step Mul = 8
-math_step Div = 12
-math_step Rem = 16
-
-abbrev pub shift_step : ShiftOp → ℕ
-shift_step Left = 0
-shift_step Right = 2
-shift_step RightUnsigned = 4
-
-abbrev pub logic_step : LogicOp → ℕ
-logic_step And = 0
-logic_step Or = 2
-logic_step Xor = 4
-
-abbrev pub condition_step : Condition → ℕ
-condition_step Equal = 0
-condition_step NotEqual = 1
-condition_step Less = 2
-condition_step GreaterOrEqual = 3
-condition_step Greater = 4
-condition_step LessOrEqual = 5
+abbrev pub compare_step : Compare → ℕ
+compare_step Eq = 0
+compare_step Ne = 1
+compare_step Lt = 2
+compare_step Ge = 3
+compare_step Gt = 4
+compare_step Le = 5
 
 abbrev pub field_step : FieldOp → ℕ
 field_step GetStatic = 0
@@ -143,12 +118,41 @@ slot_base kinds.Int Store = 0x3b
 slot_base kinds.Long Store = 0x3f
 slot_base kinds.Ref Store = 0x4b
 
-abbrev pub convert_number : ConvertOp → ℕ
-convert_number IntToLong = 0x85
-convert_number LongToInt = 0x88
-convert_number IntToByte = 0x91
-convert_number IntToChar = 0x92
-convert_number IntToShort = 0x93
+abbrev pub two_number : OpTwo → ℕ
+two_number twos.Iadd = 0x60
+two_number twos.Ladd = 0x61
+two_number twos.Isub = 0x64
+two_number twos.Lsub = 0x65
+two_number twos.Imul = 0x68
+two_number twos.Lmul = 0x69
+two_number twos.Ishl = 0x78
+two_number twos.Lshl = 0x79
+two_number twos.Ishr = 0x7a
+two_number twos.Lshr = 0x7b
+two_number twos.Iushr = 0x7c
+two_number twos.Lushr = 0x7d
+two_number twos.Iand = 0x7e
+two_number twos.Land = 0x7f
+two_number twos.Ior = 0x80
+two_number twos.Lor = 0x81
+two_number twos.Ixor = 0x82
+two_number twos.Lxor = 0x83
+two_number twos.Lcmp = 0x94
+
+abbrev pub division_number : Division → ℕ
+division_number divisions.Idiv = 0x6c
+division_number divisions.Irem = 0x70
+division_number divisions.Ldiv = 0x6d
+division_number divisions.Lrem = 0x71
+
+abbrev pub one_number : OpOne → ℕ
+one_number ones.Ineg = 0x74
+one_number ones.Lneg = 0x75
+one_number ones.I2l = 0x85
+one_number ones.L2i = 0x88
+one_number ones.I2b = 0x91
+one_number ones.I2c = 0x92
+one_number ones.I2s = 0x93
 
 abbrev pub return_number : Returned → ℕ
 return_number results.Int = 0xac
@@ -168,13 +172,10 @@ plain_number (plain.LongConst n) = 0x09 + long_step n
 plain_number (plain.Local kind access slot) = slot_base kind access + slot_step slot
 plain_number (plain.ArrayLoad element) = 0x2e + element_step element
 plain_number (plain.ArrayStore element) = 0x4f + element_step element
-plain_number (plain.Stack op) = 0x57 + stack_step op
-plain_number (plain.Math kind op) = 0x60 + math_step op + number_step kind
-plain_number (plain.Neg kind) = 0x74 + number_step kind
-plain_number (plain.Shift kind op) = 0x78 + shift_step op + number_step kind
-plain_number (plain.Logic kind op) = 0x7e + logic_step op + number_step kind
-plain_number (plain.Convert op) = convert_number op
-plain_number plain.Lcmp = 0x94
+plain_number (plain.Stack op) = 0x57 + shuffle_step op
+plain_number (plain.Two op) = two_number op
+plain_number (plain.Divide op) = division_number op
+plain_number (plain.One op) = one_number op
 plain_number (plain.Return kind) = return_number kind
 plain_number (plain.Object op) = object_number op
 
@@ -207,8 +208,8 @@ ref_test_number Null = 0xc6
 ref_test_number NonNull = 0xc7
 
 abbrev pub branch_number : BranchHead → ℕ
-branch_number (branch.If test) = 0x99 + condition_step test
-branch_number (branch.IfInt test) = 0x9f + condition_step test
+branch_number (branch.If test) = 0x99 + compare_step test
+branch_number (branch.IfInt test) = 0x9f + compare_step test
 branch_number (branch.IfRef test) = ref_test_number test
 branch_number branch.Goto = 0xa7
 
@@ -244,36 +245,31 @@ all_ints = ints.MinusOne ∷ ints.Zero ∷ ints.One ∷ ints.Two ∷ ints.Three 
 abbrev pub all_elements : List Element
 all_elements = elements.Int ∷ elements.Long ∷ elements.Ref ∷ elements.Byte ∷ elements.Char ∷ elements.Short ∷ []
 
-abbrev pub all_stack : List StackOp
-all_stack = Pop ∷ Pop2 ∷ Dup ∷ DupX1 ∷ DupX2 ∷ Dup2 ∷ Dup2X1 ∷ Dup2X2 ∷ Swap ∷ []
+abbrev pub all_shuffles : List Shuffle
+all_shuffles = Pop ∷ Pop2 ∷ Dup ∷ DupX1 ∷ DupX2 ∷ Dup2 ∷ Dup2X1 ∷ Dup2X2 ∷ Swap ∷ []
 
-abbrev pub all_math : List MathOp
-all_math = Add ∷ Sub ∷ Mul ∷ Div ∷ Rem ∷ []
+abbrev pub all_two : List OpTwo
+all_two = twos.Iadd ∷ twos.Ladd ∷ twos.Isub ∷ twos.Lsub ∷ twos.Imul ∷ twos.Lmul ∷ twos.Ishl ∷ twos.Lshl ∷ twos.Ishr ∷ twos.Lshr ∷ twos.Iushr ∷ twos.Lushr
+    ∷ twos.Iand ∷ twos.Land ∷ twos.Ior ∷ twos.Lor ∷ twos.Ixor ∷ twos.Lxor ∷ twos.Lcmp ∷ []
 
-abbrev pub all_shifts : List ShiftOp
-all_shifts = Left ∷ Right ∷ RightUnsigned ∷ []
+abbrev pub all_divisions : List Division
+all_divisions = divisions.Idiv ∷ divisions.Irem ∷ divisions.Ldiv ∷ divisions.Lrem ∷ []
 
-abbrev pub all_logic : List LogicOp
-all_logic = And ∷ Or ∷ Xor ∷ []
+abbrev pub all_one : List OpOne
+all_one = ones.Ineg ∷ ones.Lneg ∷ ones.I2l ∷ ones.L2i ∷ ones.I2b ∷ ones.I2c ∷ ones.I2s ∷ []
 
-abbrev pub all_conversions : List ConvertOp
-all_conversions = IntToLong ∷ LongToInt ∷ IntToByte ∷ IntToChar ∷ IntToShort ∷ []
-
-abbrev pub all_conditions : List Condition
-all_conditions = Equal ∷ NotEqual ∷ Less ∷ GreaterOrEqual ∷ Greater ∷ LessOrEqual ∷ []
+abbrev pub all_compares : List Compare
+all_compares = Eq ∷ Ne ∷ Lt ∷ Ge ∷ Gt ∷ Le ∷ []
 
 abbrev pub of_kind : LocalKind → List Plain
 of_kind kind = map (plain.Local kind Load) all_slots ++ map (plain.Local kind Store) all_slots
 
-abbrev pub computing : NumberKind → List Plain
-computing kind = map (plain.Math kind) all_math ++ plain.Neg kind ∷ map (plain.Shift kind) all_shifts ++ map (plain.Logic kind) all_logic
-
 abbrev pub all_plain : List Plain
 all_plain = plain.Nop ∷ plain.AconstNull ∷ map plain.IntConst all_ints ++ plain.LongConst longs.Zero ∷ plain.LongConst longs.One
     ∷ of_kind kinds.Int ++ of_kind kinds.Long ++ of_kind kinds.Ref
-    ++ map plain.ArrayLoad all_elements ++ map plain.ArrayStore all_elements ++ map plain.Stack all_stack
-    ++ computing numbers.Int ++ computing numbers.Long ++ map plain.Convert all_conversions ++ plain.Lcmp
-    ∷ plain.Return results.Int ∷ plain.Return results.Long ∷ plain.Return results.Ref ∷ plain.Return results.Nothing
+    ++ map plain.ArrayLoad all_elements ++ map plain.ArrayStore all_elements ++ map plain.Stack all_shuffles
+    ++ map plain.Two all_two ++ map plain.Divide all_divisions ++ map plain.One all_one
+    ++ plain.Return results.Int ∷ plain.Return results.Long ∷ plain.Return results.Ref ∷ plain.Return results.Nothing
     ∷ plain.Object ArrayLength ∷ plain.Object Throw ∷ []
 
 abbrev pub all_bytes : List ByteHead
@@ -284,7 +280,7 @@ all_indices = index.LdcWide ∷ index.Ldc2 ∷ index.Field GetStatic ∷ index.F
     ∷ index.Call Virtual ∷ index.Call Special ∷ index.Call Static ∷ index.New ∷ index.NewRefArray ∷ index.Cast CheckCast ∷ index.Cast InstanceOf ∷ []
 
 abbrev pub all_branches : List BranchHead
-all_branches = map branch.If all_conditions ++ map branch.IfInt all_conditions ++ branch.IfRef Same ∷ branch.IfRef Other ∷ branch.IfRef Null ∷ branch.IfRef NonNull ∷ branch.Goto ∷ []
+all_branches = map branch.If all_compares ++ map branch.IfInt all_compares ++ branch.IfRef Same ∷ branch.IfRef Other ∷ branch.IfRef Null ∷ branch.IfRef NonNull ∷ branch.Goto ∷ []
 
 abbrev pub all_others : List OtherHead
 all_others = other.Bipush ∷ other.Sipush ∷ other.Iinc ∷ other.TableSwitch ∷ other.LookupSwitch ∷ other.CallInterface ∷ other.NewArray ∷ other.Wide ∷ other.GotoWide ∷ []

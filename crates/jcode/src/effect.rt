@@ -1,9 +1,9 @@
 ghost use Rattle.std.specs.Prelude.{◌≡◌};
 ghost use Rattle.jcode.specs.Forms;
-ghost use Rattle.jcode.specs.Forms.{array_effect, compared, conversion, element, flow_effect, local, local_effect, number, returned, simple_effect};
+ghost use Rattle.jcode.specs.Forms.{array_effect, compared, division_effect, element, flow_effect, local, local_effect, one_effect, returned, simple_effect, two_effect};
 
 use crate::form::{ArrayForm, Effect, Flow, Form, Kind, Kinds, LocalForm, Simple};
-use crate::names::{Access, ConvertOp, Element, LocalKind, NumberKind, RefTest, Returned};
+use crate::names::{Access, Division, Element, LocalKind, OpOne, OpTwo, RefTest, Returned};
 
 fn gives(takes: Kinds, kind: Kind) -> Effect
     ensures { result ≡ Forms.gives takes kind }
@@ -20,24 +20,51 @@ fn takes(takes: Kinds) -> Effect
     Effect { takes, gives: None }
 }
 
-fn number(kind: NumberKind) -> Kind
-    ensures { result ≡ number kind }
+fn two_effect(op: OpTwo) -> Effect
+    ensures { result ≡ two_effect op }
 {
-    match kind {
-        NumberKind::Int => Kind::Int,
-        NumberKind::Long => Kind::Long,
+    match op {
+        OpTwo::Iadd
+        | OpTwo::Isub
+        | OpTwo::Imul
+        | OpTwo::Ishl
+        | OpTwo::Ishr
+        | OpTwo::Iushr
+        | OpTwo::Iand
+        | OpTwo::Ior
+        | OpTwo::Ixor => gives(Kinds::Two(Kind::Int, Kind::Int), Kind::Int),
+        OpTwo::Ladd | OpTwo::Lsub | OpTwo::Lmul | OpTwo::Land | OpTwo::Lor | OpTwo::Lxor => gives(
+            Kinds::Two(Kind::Long, Kind::Long),
+            Kind::Long,
+        ),
+        OpTwo::Lshl | OpTwo::Lshr | OpTwo::Lushr => gives(
+            Kinds::Two(Kind::Int, Kind::Long),
+            Kind::Long,
+        ),
+        OpTwo::Lcmp => gives(Kinds::Two(Kind::Long, Kind::Long), Kind::Int),
     }
 }
 
-fn conversion(op: ConvertOp) -> Effect
-    ensures { result ≡ conversion op }
+fn division_effect(op: Division) -> Effect
+    ensures { result ≡ division_effect op }
 {
     match op {
-        ConvertOp::IntToLong => gives(Kinds::One(Kind::Int), Kind::Long),
-        ConvertOp::LongToInt => gives(Kinds::One(Kind::Long), Kind::Int),
-        ConvertOp::IntToByte => gives(Kinds::One(Kind::Int), Kind::Int),
-        ConvertOp::IntToChar => gives(Kinds::One(Kind::Int), Kind::Int),
-        ConvertOp::IntToShort => gives(Kinds::One(Kind::Int), Kind::Int),
+        Division::Idiv | Division::Irem => gives(Kinds::Two(Kind::Int, Kind::Int), Kind::Int),
+        Division::Ldiv | Division::Lrem => gives(Kinds::Two(Kind::Long, Kind::Long), Kind::Long),
+    }
+}
+
+fn one_effect(op: OpOne) -> Effect
+    ensures { result ≡ one_effect op }
+{
+    match op {
+        OpOne::Ineg | OpOne::I2b | OpOne::I2c | OpOne::I2s => gives(
+            Kinds::One(Kind::Int),
+            Kind::Int,
+        ),
+        OpOne::Lneg => gives(Kinds::One(Kind::Long), Kind::Long),
+        OpOne::I2l => gives(Kinds::One(Kind::Int), Kind::Long),
+        OpOne::L2i => gives(Kinds::One(Kind::Long), Kind::Int),
     }
 }
 
@@ -49,12 +76,9 @@ fn simple_effect(form: Simple) -> Effect
         Simple::Null => gives(Kinds::None, Kind::Null),
         Simple::Int(_) => gives(Kinds::None, Kind::Int),
         Simple::Long(_) => gives(Kinds::None, Kind::Long),
-        Simple::Math(kind, _) => gives(Kinds::Two(number(kind), number(kind)), number(kind)),
-        Simple::Neg(kind) => gives(Kinds::One(number(kind)), number(kind)),
-        Simple::Shift(kind, _) => gives(Kinds::Two(Kind::Int, number(kind)), number(kind)),
-        Simple::Logic(kind, _) => gives(Kinds::Two(number(kind), number(kind)), number(kind)),
-        Simple::Convert(op) => conversion(op),
-        Simple::Compare => gives(Kinds::Two(Kind::Long, Kind::Long), Kind::Int),
+        Simple::Two(op) => two_effect(op),
+        Simple::Divide(op) => division_effect(op),
+        Simple::One(op) => one_effect(op),
     }
 }
 

@@ -1,6 +1,6 @@
 use crate::names::{
-    Access, ArrayType, CallOp, CastOp, Condition, ConvertOp, Element, FieldOp, LocalKind, LogicOp,
-    MathOp, NumberKind, RefTest, Returned, ShiftOp, StackOp,
+    Access, ArrayType, CallOp, CastOp, Compare, Division, Element, FieldOp, LocalKind, OpOne,
+    OpTwo, RefTest, Returned, Shuffle,
 };
 
 /// What an instruction does, whichever of its spellings it has (JVMS 6.5): the short, the numbered and the wide ones are one
@@ -12,7 +12,7 @@ pub enum Form<S> {
     /// With a local.
     Local(LocalForm),
     /// Moves the newest items of the stack.
-    Stack(StackOp),
+    Stack(Shuffle),
     /// Says where the method goes on.
     Flow(Flow<S>),
     /// With an array.
@@ -29,13 +29,10 @@ pub enum Simple {
     Null,
     Int(i32),
     Long(i64),
-    Math(NumberKind, MathOp),
-    Neg(NumberKind),
-    Shift(NumberKind, ShiftOp),
-    Logic(NumberKind, LogicOp),
-    Convert(ConvertOp),
-    /// Two longs, to an int.
-    Compare,
+    Two(OpTwo),
+    /// A division, which is refused where the divisor is 0.
+    Divide(Division),
+    One(OpOne),
 }
 
 /// A form with a local.
@@ -50,9 +47,9 @@ pub enum LocalForm {
 #[derive(Clone, Copy, Debug)]
 pub enum Flow<S> {
     /// An int against zero.
-    If(Condition, i32),
+    If(Compare, i32),
     /// An int against another.
-    IfInt(Condition, i32),
+    IfInt(Compare, i32),
     IfRef(RefTest, i32),
     Goto(i32),
     Switch(S),

@@ -3,7 +3,7 @@ ghost use Rattle.jcode.specs.Forms;
 ghost use Rattle.jcode.specs.Forms.{const_value, distance, int_value, ldc_index, local_form, long_value, new_form, object_form, seen, slot_value, wide_form};
 
 use crate::form::{ArrayForm, Flow, Form, LocalForm, PoolForm, Simple};
-use crate::names::{LocalKind, NumberKind, ObjectOp, Slot, SmallInt, SmallLong};
+use crate::names::{LocalKind, ObjectOp, Slot, SmallInt, SmallLong};
 use crate::op::{Goto, IntConst, Ldc, LocalOp, NewOp, Op, Switch, Wide};
 
 fn int_value(n: SmallInt) -> i32
@@ -126,14 +126,10 @@ pub fn form_of(op: &Op) -> Form<&Switch>
         Op::ArrayLoad(element) => Form::Array(ArrayForm::Load(*element)),
         Op::ArrayStore(element) => Form::Array(ArrayForm::Store(*element)),
         Op::Stack(op) => Form::Stack(*op),
-        Op::IntMath(op) => Form::Simple(Simple::Math(NumberKind::Int, *op)),
-        Op::LongMath(op) => Form::Simple(Simple::Math(NumberKind::Long, *op)),
-        Op::Neg(kind) => Form::Simple(Simple::Neg(*kind)),
-        Op::Shift(kind, op) => Form::Simple(Simple::Shift(*kind, *op)),
-        Op::Logic(kind, op) => Form::Simple(Simple::Logic(*kind, *op)),
+        Op::Two(op) => Form::Simple(Simple::Two(*op)),
+        Op::Divide(op) => Form::Simple(Simple::Divide(*op)),
+        Op::One(op) => Form::Simple(Simple::One(*op)),
         Op::Iinc(n, by) => Form::Local(LocalForm::Increment(u16::from(*n), i16::from(*by))),
-        Op::Convert(op) => Form::Simple(Simple::Convert(*op)),
-        Op::Lcmp => Form::Simple(Simple::Compare),
         Op::If(test, by) => Form::Flow(Flow::If(*test, i32::from(*by))),
         Op::IfInt(test, by) => Form::Flow(Flow::IfInt(*test, i32::from(*by))),
         Op::IfRef(test, by) => Form::Flow(Flow::IfRef(*test, i32::from(*by))),

@@ -1,6 +1,6 @@
 use crate::names::{
-    Access, CallOp, CastOp, Condition, ConvertOp, Element, FieldOp, LocalKind, LogicOp, MathOp,
-    NumberKind, ObjectOp, RefTest, Returned, ShiftOp, Slot, SmallInt, SmallLong, StackOp,
+    Access, CallOp, CastOp, Compare, Division, Element, FieldOp, LocalKind, ObjectOp, OpOne, OpTwo,
+    RefTest, Returned, Shuffle, Slot, SmallInt, SmallLong,
 };
 
 /// An opcode, by what stands behind it.
@@ -28,13 +28,10 @@ pub enum Plain {
     Local(LocalKind, Access, Slot),
     ArrayLoad(Element),
     ArrayStore(Element),
-    Stack(StackOp),
-    Math(NumberKind, MathOp),
-    Neg(NumberKind),
-    Shift(NumberKind, ShiftOp),
-    Logic(NumberKind, LogicOp),
-    Convert(ConvertOp),
-    Lcmp,
+    Stack(Shuffle),
+    Two(OpTwo),
+    Divide(Division),
+    One(OpOne),
     Return(Returned),
     Object(ObjectOp),
 }
@@ -61,8 +58,8 @@ pub enum IndexHead {
 /// An opcode with a branch of two bytes.
 #[derive(Clone, Copy)]
 pub enum BranchHead {
-    If(Condition),
-    IfInt(Condition),
+    If(Compare),
+    IfInt(Compare),
     IfRef(RefTest),
     Goto,
 }

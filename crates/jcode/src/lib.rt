@@ -30,8 +30,8 @@ pub use form::{ArrayForm, Effect, Flow, Form, Kind, Kinds, LocalForm, PoolForm, 
 pub use forming::form_of;
 pub use laws::code_laws;
 pub use names::{
-    Access, ArrayType, CallOp, CastOp, Condition, ConvertOp, Element, FieldOp, LocalKind, LogicOp,
-    MathOp, NumberKind, ObjectOp, RefTest, Returned, ShiftOp, Slot, SmallInt, SmallLong, StackOp,
+    Access, ArrayType, CallOp, CastOp, Compare, Division, Element, FieldOp, LocalKind, ObjectOp,
+    OpOne, OpTwo, RefTest, Returned, Shuffle, Slot, SmallInt, SmallLong,
 };
 pub use op::{
     Case, Goto, Handler, IntConst, Ldc, LocalOp, LookupSwitch, NewOp, Op, Placed, Switch,

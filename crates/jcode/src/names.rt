@@ -1,8 +1,71 @@
-/// The two kinds of numbers that are computed with.
+/// An instruction that divides (opcodes 0x6c, 0x6d, 0x70 and 0x71).
 #[derive(Clone, Copy, Debug, PartialEq, Eq)]
-pub enum NumberKind {
-    Int,
-    Long,
+pub enum Division {
+    Idiv,
+    Irem,
+    Ldiv,
+    Lrem,
+}
+
+/// An instruction that computes with two operands and doesn't divide (opcodes 0x60 to 0x83, and lcmp).
+#[derive(Clone, Copy, Debug, PartialEq, Eq)]
+pub enum OpTwo {
+    Iadd,
+    Ladd,
+    Isub,
+    Lsub,
+    Imul,
+    Lmul,
+    Ishl,
+    Lshl,
+    Ishr,
+    Lshr,
+    Iushr,
+    Lushr,
+    Iand,
+    Land,
+    Ior,
+    Lor,
+    Ixor,
+    Lxor,
+    Lcmp,
+}
+
+/// An instruction that computes with one operand.
+#[derive(Clone, Copy, Debug, PartialEq, Eq)]
+pub enum OpOne {
+    Ineg,
+    Lneg,
+    I2l,
+    L2i,
+    I2b,
+    I2c,
+    I2s,
+}
+
+/// How a branch compares two ints, or two references.
+#[derive(Clone, Copy, Debug, PartialEq, Eq)]
+pub enum Compare {
+    Eq,
+    Ne,
+    Lt,
+    Ge,
+    Gt,
+    Le,
+}
+
+/// An instruction that moves the newest items of the stack (opcodes 0x57 to 0x5f).
+#[derive(Clone, Copy, Debug, PartialEq, Eq)]
+pub enum Shuffle {
+    Pop,
+    Pop2,
+    Dup,
+    DupX1,
+    DupX2,
+    Dup2,
+    Dup2X1,
+    Dup2X2,
+    Swap,
 }
 
 /// What a local holds.
@@ -57,67 +120,6 @@ pub enum Element {
     Byte,
     Char,
     Short,
-}
-
-/// What moves the newest items of the stack: pop to swap.
-#[derive(Clone, Copy, Debug, PartialEq, Eq)]
-pub enum StackOp {
-    Pop,
-    Pop2,
-    Dup,
-    DupX1,
-    DupX2,
-    Dup2,
-    Dup2X1,
-    Dup2X2,
-    Swap,
-}
-
-/// Computing with two numbers of a kind.
-#[derive(Clone, Copy, Debug, PartialEq, Eq)]
-pub enum MathOp {
-    Add,
-    Sub,
-    Mul,
-    Div,
-    Rem,
-}
-
-/// Shifting a number by an int.
-#[derive(Clone, Copy, Debug, PartialEq, Eq)]
-pub enum ShiftOp {
-    Left,
-    Right,
-    RightUnsigned,
-}
-
-/// Joining the bits of two numbers of a kind.
-#[derive(Clone, Copy, Debug, PartialEq, Eq)]
-pub enum LogicOp {
-    And,
-    Or,
-    Xor,
-}
-
-/// Making one kind of number of another.
-#[derive(Clone, Copy, Debug, PartialEq, Eq)]
-pub enum ConvertOp {
-    IntToLong,
-    LongToInt,
-    IntToByte,
-    IntToChar,
-    IntToShort,
-}
-
-/// How an int is compared with zero or with another.
-#[derive(Clone, Copy, Debug, PartialEq, Eq)]
-pub enum Condition {
-    Equal,
-    NotEqual,
-    Less,
-    GreaterOrEqual,
-    Greater,
-    LessOrEqual,
 }
 
 /// How a reference is compared: if_acmpeq, if_acmpne, ifnull, ifnonnull.

@@ -1,6 +1,6 @@
 use crate::names::{
-    Access, ArrayType, CallOp, CastOp, Condition, ConvertOp, Element, FieldOp, LocalKind, LogicOp,
-    MathOp, NumberKind, ObjectOp, RefTest, Returned, ShiftOp, Slot, SmallInt, SmallLong, StackOp,
+    Access, ArrayType, CallOp, CastOp, Compare, Division, Element, FieldOp, LocalKind, ObjectOp,
+    OpOne, OpTwo, RefTest, Returned, Shuffle, Slot, SmallInt, SmallLong,
 };
 use crate::pointer::Boxed;
 use jbase::Seq;
@@ -22,20 +22,17 @@ pub enum Op {
     RefLocal(LocalOp),
     ArrayLoad(Element),
     ArrayStore(Element),
-    Stack(StackOp),
-    IntMath(MathOp),
-    LongMath(MathOp),
-    Neg(NumberKind),
-    Shift(NumberKind, ShiftOp),
-    Logic(NumberKind, LogicOp),
+    Stack(Shuffle),
+    Two(OpTwo),
+    /// idiv, irem, ldiv, lrem
+    Divide(Division),
+    One(OpOne),
     /// A local, and what is added to it.
     Iinc(u8, i8),
-    Convert(ConvertOp),
-    Lcmp,
     /// An int against zero, and a branch.
-    If(Condition, i16),
+    If(Compare, i16),
     /// An int against another, and a branch.
-    IfInt(Condition, i16),
+    IfInt(Compare, i16),
     /// A reference, and a branch.
     IfRef(RefTest, i16),
     /// goto, goto_w

@@ -1,25 +1,15 @@
 ghost use Rattle.std.specs.Prelude.{◌≡◌, ◌≤◌};
 ghost use Rattle.jcode.specs.Opcodes;
-ghost use Rattle.jcode.specs.Opcodes.{branch_number, byte_number, cast_number, convert_number, head_number, index_number, object_number, other_number, plain_number, ref_test_number, return_number, slot_base};
+ghost use Rattle.jcode.specs.Opcodes.{branch_number, byte_number, cast_number, division_number, head_number, index_number, object_number, one_number, other_number, plain_number, ref_test_number, return_number, slot_base, two_number};
 ghost use Rattle.jcode.specs.declared.op.Op.TheVariants as ops;
 ghost use Rattle.jcode.specs.Instructions.{local_head, op_head};
 
 use crate::head::{BranchHead, ByteHead, Head, IndexHead, OtherHead, Plain};
 use crate::names::{
-    Access, CallOp, CastOp, Condition, ConvertOp, Element, FieldOp, LocalKind, LogicOp, MathOp,
-    NumberKind, ObjectOp, RefTest, Returned, ShiftOp, Slot, SmallInt, SmallLong, StackOp,
+    Access, CallOp, CastOp, Compare, Division, Element, FieldOp, LocalKind, ObjectOp, OpOne, OpTwo,
+    RefTest, Returned, Shuffle, Slot, SmallInt, SmallLong,
 };
 use crate::op::{Goto, IntConst, Ldc, LocalOp, NewOp, Op, Switch};
-
-fn number_step(kind: NumberKind) -> u8
-    ensures step { result ≡ Opcodes.number_step kind }
-    ensures low { result ≤ 1 }
-{
-    match kind {
-        NumberKind::Int => 0,
-        NumberKind::Long => 1,
-    }
-}
 
 fn slot_step(slot: Slot) -> u8
     ensures step { result ≡ Opcodes.slot_step slot }
@@ -72,69 +62,34 @@ fn element_step(element: Element) -> u8
     }
 }
 
-fn stack_step(op: StackOp) -> u8
-    ensures step { result ≡ Opcodes.stack_step op }
+fn shuffle_step(op: Shuffle) -> u8
+    ensures step { result ≡ Opcodes.shuffle_step op }
     ensures low { result ≤ 8 }
 {
     match op {
-        StackOp::Pop => 0,
-        StackOp::Pop2 => 1,
-        StackOp::Dup => 2,
-        StackOp::DupX1 => 3,
-        StackOp::DupX2 => 4,
-        StackOp::Dup2 => 5,
-        StackOp::Dup2X1 => 6,
-        StackOp::Dup2X2 => 7,
-        StackOp::Swap => 8,
+        Shuffle::Pop => 0,
+        Shuffle::Pop2 => 1,
+        Shuffle::Dup => 2,
+        Shuffle::DupX1 => 3,
+        Shuffle::DupX2 => 4,
+        Shuffle::Dup2 => 5,
+        Shuffle::Dup2X1 => 6,
+        Shuffle::Dup2X2 => 7,
+        Shuffle::Swap => 8,
     }
 }
 
-fn math_step(op: MathOp) -> u8
-    ensures step { result ≡ Opcodes.math_step op }
-    ensures low { result ≤ 16 }
-{
-    match op {
-        MathOp::Add => 0,
-        MathOp::Sub => 4,
-        MathOp::Mul => 8,
-        MathOp::Div => 12,
-        MathOp::Rem => 16,
-    }
-}
-
-fn shift_step(op: ShiftOp) -> u8
-    ensures step { result ≡ Opcodes.shift_step op }
-    ensures low { result ≤ 4 }
-{
-    match op {
-        ShiftOp::Left => 0,
-        ShiftOp::Right => 2,
-        ShiftOp::RightUnsigned => 4,
-    }
-}
-
-fn logic_step(op: LogicOp) -> u8
-    ensures step { result ≡ Opcodes.logic_step op }
-    ensures low { result ≤ 4 }
-{
-    match op {
-        LogicOp::And => 0,
-        LogicOp::Or => 2,
-        LogicOp::Xor => 4,
-    }
-}
-
-fn condition_step(test: Condition) -> u8
-    ensures step { result ≡ Opcodes.condition_step test }
+fn compare_step(test: Compare) -> u8
+    ensures step { result ≡ Opcodes.compare_step test }
     ensures low { result ≤ 5 }
 {
     match test {
-        Condition::Equal => 0,
-        Condition::NotEqual => 1,
-        Condition::Less => 2,
-        Condition::GreaterOrEqual => 3,
-        Condition::Greater => 4,
-        Condition::LessOrEqual => 5,
+        Compare::Eq => 0,
+        Compare::Ne => 1,
+        Compare::Lt => 2,
+        Compare::Ge => 3,
+        Compare::Gt => 4,
+        Compare::Le => 5,
     }
 }
 
@@ -175,15 +130,54 @@ fn slot_base(kind: LocalKind, access: Access) -> u8
     }
 }
 
-fn convert_number(op: ConvertOp) -> u8
-    ensures { result ≡ convert_number op }
+fn two_number(op: OpTwo) -> u8
+    ensures { result ≡ two_number op }
 {
     match op {
-        ConvertOp::IntToLong => 0x85,
-        ConvertOp::LongToInt => 0x88,
-        ConvertOp::IntToByte => 0x91,
-        ConvertOp::IntToChar => 0x92,
-        ConvertOp::IntToShort => 0x93,
+        OpTwo::Iadd => 0x60,
+        OpTwo::Ladd => 0x61,
+        OpTwo::Isub => 0x64,
+        OpTwo::Lsub => 0x65,
+        OpTwo::Imul => 0x68,
+        OpTwo::Lmul => 0x69,
+        OpTwo::Ishl => 0x78,
+        OpTwo::Lshl => 0x79,
+        OpTwo::Ishr => 0x7a,
+        OpTwo::Lshr => 0x7b,
+        OpTwo::Iushr => 0x7c,
+        OpTwo::Lushr => 0x7d,
+        OpTwo::Iand => 0x7e,
+        OpTwo::Land => 0x7f,
+        OpTwo::Ior => 0x80,
+        OpTwo::Lor => 0x81,
+        OpTwo::Ixor => 0x82,
+        OpTwo::Lxor => 0x83,
+        OpTwo::Lcmp => 0x94,
+    }
+}
+
+fn division_number(op: Division) -> u8
+    ensures { result ≡ division_number op }
+{
+    match op {
+        Division::Idiv => 0x6c,
+        Division::Irem => 0x70,
+        Division::Ldiv => 0x6d,
+        Division::Lrem => 0x71,
+    }
+}
+
+fn one_number(op: OpOne) -> u8
+    ensures { result ≡ one_number op }
+{
+    match op {
+        OpOne::Ineg => 0x74,
+        OpOne::Lneg => 0x75,
+        OpOne::I2l => 0x85,
+        OpOne::L2i => 0x88,
+        OpOne::I2b => 0x91,
+        OpOne::I2c => 0x92,
+        OpOne::I2s => 0x93,
     }
 }
 
@@ -218,13 +212,10 @@ fn plain_number(head: Plain) -> u8
         Plain::Local(kind, access, slot) => slot_base(kind, access) + slot_step(slot),
         Plain::ArrayLoad(element) => 0x2e + element_step(element),
         Plain::ArrayStore(element) => 0x4f + element_step(element),
-        Plain::Stack(op) => 0x57 + stack_step(op),
-        Plain::Math(kind, op) => 0x60 + math_step(op) + number_step(kind),
-        Plain::Neg(kind) => 0x74 + number_step(kind),
-        Plain::Shift(kind, op) => 0x78 + shift_step(op) + number_step(kind),
-        Plain::Logic(kind, op) => 0x7e + logic_step(op) + number_step(kind),
-        Plain::Convert(op) => convert_number(op),
-        Plain::Lcmp => 0x94,
+        Plain::Stack(op) => 0x57 + shuffle_step(op),
+        Plain::Two(op) => two_number(op),
+        Plain::Divide(op) => division_number(op),
+        Plain::One(op) => one_number(op),
         Plain::Return(kind) => return_number(kind),
         Plain::Object(op) => object_number(op),
     }
@@ -282,8 +273,8 @@ fn branch_number(head: BranchHead) -> u8
     ensures { result ≡ branch_number head }
 {
     match head {
-        BranchHead::If(test) => 0x99 + condition_step(test),
-        BranchHead::IfInt(test) => 0x9f + condition_step(test),
+        BranchHead::If(test) => 0x99 + compare_step(test),
+        BranchHead::IfInt(test) => 0x9f + compare_step(test),
         BranchHead::IfRef(test) => ref_test_number(test),
         BranchHead::Goto => 0xa7,
     }
@@ -356,14 +347,10 @@ pub fn op_head(op: &Op) -> Head
         Op::ArrayLoad(element) => Head::Plain(Plain::ArrayLoad(*element)),
         Op::ArrayStore(element) => Head::Plain(Plain::ArrayStore(*element)),
         Op::Stack(op) => Head::Plain(Plain::Stack(*op)),
-        Op::IntMath(op) => Head::Plain(Plain::Math(NumberKind::Int, *op)),
-        Op::LongMath(op) => Head::Plain(Plain::Math(NumberKind::Long, *op)),
-        Op::Neg(kind) => Head::Plain(Plain::Neg(*kind)),
-        Op::Shift(kind, op) => Head::Plain(Plain::Shift(*kind, *op)),
-        Op::Logic(kind, op) => Head::Plain(Plain::Logic(*kind, *op)),
+        Op::Two(op) => Head::Plain(Plain::Two(*op)),
+        Op::Divide(op) => Head::Plain(Plain::Divide(*op)),
+        Op::One(op) => Head::Plain(Plain::One(*op)),
         Op::Iinc(_, _) => Head::Other(OtherHead::Iinc),
-        Op::Convert(op) => Head::Plain(Plain::Convert(*op)),
-        Op::Lcmp => Head::Plain(Plain::Lcmp),
         Op::If(test, _) => Head::Branch(BranchHead::If(*test)),
         Op::IfInt(test, _) => Head::Branch(BranchHead::IfInt(*test)),
         Op::IfRef(test, _) => Head::Branch(BranchHead::IfRef(*test)),

@@ -6,7 +6,7 @@ ghost use Rattle.jcode.specs.Instructions.{branch_op, byte_op, index_op, instruc
 use crate::fault::CodeFault;
 use crate::fault::CodeFault::Truncated;
 use crate::head::{BranchHead, ByteHead, Head, IndexHead, OtherHead, Plain};
-use crate::names::{LocalKind, NumberKind};
+use crate::names::LocalKind;
 use crate::op::{Goto, IntConst, Ldc, LocalOp, NewOp, Op, Switch};
 use crate::operands::{
     array_type_of, interface_call_of, lookup_switch_of, table_switch_of, wide_of,
@@ -39,13 +39,9 @@ fn plain_op(head: Plain) -> Op
         Plain::ArrayLoad(element) => Op::ArrayLoad(element),
         Plain::ArrayStore(element) => Op::ArrayStore(element),
         Plain::Stack(op) => Op::Stack(op),
-        Plain::Math(NumberKind::Int, op) => Op::IntMath(op),
-        Plain::Math(NumberKind::Long, op) => Op::LongMath(op),
-        Plain::Neg(kind) => Op::Neg(kind),
-        Plain::Shift(kind, op) => Op::Shift(kind, op),
-        Plain::Logic(kind, op) => Op::Logic(kind, op),
-        Plain::Convert(op) => Op::Convert(op),
-        Plain::Lcmp => Op::Lcmp,
+        Plain::Two(op) => Op::Two(op),
+        Plain::Divide(op) => Op::Divide(op),
+        Plain::One(op) => Op::One(op),
         Plain::Return(kind) => Op::Return(kind),
         Plain::Object(op) => Op::Object(op),
     }
