@@ -6,8 +6,8 @@ use Rattle.jcode.specs.declared.names.Access.TheVariants.{Load, Store}
 use Rattle.jcode.specs.declared.names.Slot.TheVariants as slots
 use Rattle.jcode.specs.declared.names.SmallInt.TheVariants as ints
 use Rattle.jcode.specs.declared.names.Element.TheVariants as elements
-use Rattle.jcode.specs.declared.names.OpTwo.TheVariants.{Lshl, Lcmp}
-use Rattle.jcode.specs.declared.names.Shuffle.{Shuffle}
+use Rattle.jnames.specs.declared.names.OpTwo.TheVariants.{Lshl, Lcmp}
+use Rattle.jnames.specs.declared.names.Shuffle.{Shuffle}
 use Rattle.jcode.specs.declared.names.FieldOp.TheVariants.{PutField}
 use Rattle.jcode.specs.declared.op.Op.TheVariants as ops
 use Rattle.jcode.specs.declared.op.IntConst.TheVariants as consts
@@ -15,9 +15,10 @@ use Rattle.jcode.specs.declared.op.Ldc.TheVariants as ldcs
 use Rattle.jcode.specs.declared.op.LocalOp.TheVariants as moves
 use Rattle.jcode.specs.declared.op.Goto.TheVariants as gotos
 use Rattle.jcode.specs.declared.op.Wide.TheVariants as wides
-use Rattle.jcode.specs.declared.form.Kind.TheVariants as kinds
-use Rattle.jcode.specs.declared.form.Kinds.TheVariants as taken
-use Rattle.jcode.specs.Forms.{form, effect, gives, takes, listed}
+use Rattle.jnames.specs.declared.kinds.Kind.TheVariants as kinds
+use Rattle.jnames.specs.declared.kinds.Kinds.TheVariants as taken
+use Rattle.jnames.specs.Effects.{gives, takes}
+use Rattle.jcode.specs.Forms.{form, effect, listed}
 
 -- ---- one form for all spellings
 

@@ -10,12 +10,12 @@ use Rattle.jcode.specs.declared.names.SmallInt.TheVariants as ints
 use Rattle.jcode.specs.declared.names.SmallLong.TheVariants as longs
 use Rattle.jcode.specs.declared.names.Element.{Element}
 use Rattle.jcode.specs.declared.names.Element.TheVariants as elements
-use Rattle.jcode.specs.declared.names.OpTwo.TheVariants as twos
-use Rattle.jcode.specs.declared.names.Division.TheVariants as divisions
-use Rattle.jcode.specs.declared.names.OpOne.TheVariants as ones
-use Rattle.jcode.specs.declared.names.Shuffle.TheVariants.{Pop, Pop2, Dup, DupX1, DupX2, Dup2, Dup2X1, Dup2X2, Swap}
-use Rattle.jcode.specs.declared.names.Compare.{Compare}
-use Rattle.jcode.specs.declared.names.Compare.TheVariants.{Eq, Ne, Lt, Ge, Gt, Le}
+use Rattle.jnames.specs.declared.names.OpTwo.TheVariants as twos
+use Rattle.jnames.specs.declared.names.Division.TheVariants as divisions
+use Rattle.jnames.specs.declared.names.OpOne.TheVariants as ones
+use Rattle.jnames.specs.declared.names.Shuffle.TheVariants.{Pop, Pop2, Dup, DupX1, DupX2, Dup2, Dup2X1, Dup2X2, Swap}
+use Rattle.jnames.specs.declared.names.Compare.{Compare}
+use Rattle.jnames.specs.declared.names.Compare.TheVariants.{Eq, Ne, Lt, Ge, Gt, Le}
 use Rattle.jcode.specs.declared.names.RefTest.TheVariants.{Same, Other, Null, NonNull}
 use Rattle.jcode.specs.declared.names.Returned.TheVariants as results
 use Rattle.jcode.specs.declared.names.FieldOp.TheVariants.{GetStatic, PutStatic, GetField, PutField}

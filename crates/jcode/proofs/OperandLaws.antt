@@ -5,16 +5,18 @@ use Rattle.std.specs.Int.{w8, w16, w32, to_be_bytes, from_be_bytes}
 use Rattle.jformat.specs.Format.{IsBytes, void, known, ◌·◌, such}
 use Rattle.jformat.specs.Bodies.{counted}
 use Rattle.jformat.specs.States.{counted_from}
-use Rattle.jformat.specs.Tags.{tagged}
+use Rattle.jformat.specs.Cases.{IsOnce}
 use Rattle.jformat.proofs.Laws.{IsWide, IsFormat, wide16, wide32, void_law, byte_law, number_law, signed_law, pair_law, then_law, via_law, such_law, literal_law, known_law}
 use Rattle.jformat.proofs.Blocks.{counted_law}
-use Rattle.jformat.proofs.Unions.{tag_law, either_law, tagged_law}
+use Rattle.jformat.proofs.Casing.{IsCases, case_law, sole_law, either_law, union_law}
 use Rattle.jformat.proofs.Stateful.{counted_from_law}
 use Rattle.jbase.specs.First.{fault_if}
 use Rattle.jcode.specs.declared.fault.CodeFault.TheVariants.{Truncated, BadOperand}
 use Rattle.jcode.specs.declared.names.ArrayType.{ArrayType}
 use Rattle.jcode.specs.declared.names.ArrayType.TheVariants as arrays
+use Rattle.jcode.specs.declared.names.LocalKind.{LocalKind}
 use Rattle.jcode.specs.declared.names.LocalKind.TheVariants as kinds
+use Rattle.jcode.specs.declared.names.Access.{Access}
 use Rattle.jcode.specs.declared.names.Access.TheVariants.{Load, Store}
 use Rattle.jcode.specs.declared.op.Wide.{Wide}
 use Rattle.jcode.specs.declared.op.Wide.TheVariants as wides
@@ -22,7 +24,7 @@ use Rattle.jcode.specs.declared.head.Head.{Head}
 use Rattle.jcode.specs.declared.head.Head.TheVariants as heads
 use Rattle.jcode.specs.declared.head.OtherHead.{OtherHead}
 use Rattle.jcode.specs.declared.head.OtherHead.TheVariants as other
-use Rattle.jcode.specs.Operands.{u1, u2, u4, i1, i2, i4, nil, nils, padding, bounds, bounded, span, table_from, table_parts, table_switch, case_count, falls, case_from, case_parts, case_behind, key_of, lookup_from, lookup_parts, lookup_switch, call_from, call_parts, interface_call, ArrayParts, array_from, array_parts, array_tags, array_type, WideParts, wide_from, wide_parts, wide_tags, not_wide, wide, other_operands, operands}
+use Rattle.jcode.specs.Operands.{u1, u2, u4, i1, i2, i4, nil, nils, padding, bounds, bounded, span, table_from, table_parts, table_switch, case_count, falls, case_from, case_parts, case_behind, key_of, lookup_from, lookup_parts, lookup_switch, call_from, call_parts, interface_call, array_number, array_case, array_cases, array_type, local_number, local_of, increment_of, wide_local, wide_cases, not_wide, wide, other_operands, operands}
 
 -- ---- numbers
 
@@ -76,13 +78,13 @@ table_law : (at : ℕ) → IsFormat (table_switch at)
 unfolding table_switch
 table_law at = via_law table_from table_parts (padding at · i4 · bounded) (λ p fit. refl) (λ s fit. refl) (pair_law (padding at) (i4 · bounded) (nils_law (3 - at % 4)) (pair_law i4 bounded i4_law bounded_law))
 
-case_law : (before : Option ℤ) → IsFormat (case_behind before)
-case_law before = via_law case_from case_parts (such (falls before) i4 · i4) (λ p fit. refl) (λ c fit. refl) (pair_law (such (falls before) i4) i4 (such_law (falls before) i4 i4_law) i4_law)
+keyed_law : (before : Option ℤ) → IsFormat (case_behind before)
+keyed_law before = via_law case_from case_parts (such (falls before) i4 · i4) (λ p fit. refl) (λ c fit. refl) (pair_law (such (falls before) i4) i4 (such_law (falls before) i4 i4_law) i4_law)
 
 lookup_law : (at : ℕ) → IsFormat (lookup_switch at)
 unfolding lookup_switch
 lookup_law at =
-    let cases = counted_from_law case_count case_behind key_of (such_law (λ n. fault_if _ BadOperand) u4 u4_law) case_law None in
+    let cases = counted_from_law case_count case_behind key_of (such_law (λ n. fault_if _ BadOperand) u4 u4_law) keyed_law None in
     via_law lookup_from lookup_parts (padding at · i4 · counted_from case_count case_behind key_of None) (λ p fit. refl) (λ s fit. refl)
     (pair_law (padding at) (i4 · counted_from case_count case_behind key_of None) (nils_law (3 - at % 4)) (pair_law i4 (counted_from case_count case_behind key_of None) i4_law cases))
 
@@ -95,54 +97,43 @@ call_law =
     via_law call_from call_parts (u2 · such (λ n. fault_if (eqb n 0) BadOperand) u1 · nil) (λ p fit. refl) (λ s fit. refl)
     (pair_law u2 (such (λ n. fault_if (eqb n 0) BadOperand) u1 · nil) u2_law (pair_law (such (λ n. fault_if (eqb n 0) BadOperand) u1) nil slots nil_law))
 
-array_back : (p : ArrayParts) → array_parts (array_from p) ≡ p
-array_back (inl _) = refl
-array_back (inr (inl _)) = refl
-array_back (inr (inr (inl _))) = refl
-array_back (inr (inr (inr (inl _)))) = refl
-array_back (inr (inr (inr (inr (inl _))))) = refl
-array_back (inr (inr (inr (inr (inr _))))) = refl
+array_once : (a : ArrayType) → IsOnce array_cases a
+array_once arrays.Boolean = (refl, refl)
+array_once arrays.Char = (refl, refl)
+array_once arrays.Byte = (refl, refl)
+array_once arrays.Short = (refl, refl)
+array_once arrays.Int = (refl, refl)
+array_once arrays.Long = (refl, refl)
 
-array_forth : (a : ArrayType) → array_from (array_parts a) ≡ a
-array_forth arrays.Boolean = refl
-array_forth arrays.Char = refl
-array_forth arrays.Byte = refl
-array_forth arrays.Short = refl
-array_forth arrays.Int = refl
-array_forth arrays.Long = refl
+array_case_law : (one : ArrayType) → IsCases (array_case one)
+array_case_law one = let same : eqb (array_number one) (array_number one) ≡ true = grind arith in sole_law (λ other. eqb (array_number other) (array_number one)) same
 
 array_law : IsFormat array_type
 unfolding array_type
-array_law =
-    let cases = either_law _ _ refl (tag_law 4 void void_law) (either_law _ _ refl (tag_law 5 void void_law) (either_law _ _ refl (tag_law 8 void void_law)
-    (either_law _ _ refl (tag_law 9 void void_law) (either_law _ _ refl (tag_law 10 void void_law) (tag_law 11 void void_law))))) in
-    via_law array_from array_parts (tagged Truncated (λ _. BadOperand) array_tags) (λ p fit. array_back p) (λ a fit. array_forth a) (tagged_law Truncated (λ _. BadOperand) array_tags cases)
+array_law = union_law Truncated (λ _. BadOperand) array_cases array_once
+    (either_law refl (array_case_law arrays.Boolean) (either_law refl (array_case_law arrays.Char) (either_law refl (array_case_law arrays.Byte)
+    (either_law refl (array_case_law arrays.Short) (either_law refl (array_case_law arrays.Int) (array_case_law arrays.Long))))))
 
-wide_back : (p : WideParts) → wide_parts (wide_from p) ≡ p
-wide_back (inl n) = refl
-wide_back (inr (inl n)) = refl
-wide_back (inr (inr (inl n))) = refl
-wide_back (inr (inr (inr (inl n)))) = refl
-wide_back (inr (inr (inr (inr (inl n))))) = refl
-wide_back (inr (inr (inr (inr (inr (inl n)))))) = refl
-wide_back (inr (inr (inr (inr (inr (inr p)))))) = refl
+wide_once : (w : Wide) → IsOnce wide_cases w
+wide_once (wides.Local kinds.Int Load n) = (refl, refl)
+wide_once (wides.Local kinds.Long Load n) = (refl, refl)
+wide_once (wides.Local kinds.Ref Load n) = (refl, refl)
+wide_once (wides.Local kinds.Int Store n) = (refl, refl)
+wide_once (wides.Local kinds.Long Store n) = (refl, refl)
+wide_once (wides.Local kinds.Ref Store n) = (refl, refl)
+wide_once (wides.Iinc n by) = (refl, refl)
 
-wide_forth : (w : Wide) → wide_from (wide_parts w) ≡ w
-wide_forth (wides.Local kinds.Int Load n) = refl
-wide_forth (wides.Local kinds.Long Load n) = refl
-wide_forth (wides.Local kinds.Ref Load n) = refl
-wide_forth (wides.Local kinds.Int Store n) = refl
-wide_forth (wides.Local kinds.Long Store n) = refl
-wide_forth (wides.Local kinds.Ref Store n) = refl
-wide_forth (wides.Iinc n by) = refl
+wide_local_law : (kind : LocalKind) (access : Access) → IsCases (wide_local kind access)
+wide_local_law kind access =
+    let same : eqb (local_number kind access) (local_number kind access) ≡ true = grind arith in
+    case_law (local_of kind access) (λ n. rw same refl) u2_law
 
 wide_law : IsFormat wide
 unfolding wide
-wide_law =
-    let cases = either_law _ _ refl (tag_law 0x15 u2 u2_law) (either_law _ _ refl (tag_law 0x16 u2 u2_law) (either_law _ _ refl (tag_law 0x19 u2 u2_law)
-    (either_law _ _ refl (tag_law 0x36 u2 u2_law) (either_law _ _ refl (tag_law 0x37 u2 u2_law) (either_law _ _ refl (tag_law 0x3a u2 u2_law)
-    (tag_law 0x84 (u2 · i2) (pair_law u2 i2 u2_law i2_law))))))) in
-    via_law wide_from wide_parts (tagged Truncated not_wide wide_tags) (λ p fit. wide_back p) (λ w fit. wide_forth w) (tagged_law Truncated not_wide wide_tags cases)
+wide_law = union_law Truncated not_wide wide_cases wide_once
+    (either_law refl (wide_local_law kinds.Int Load) (either_law refl (wide_local_law kinds.Long Load) (either_law refl (wide_local_law kinds.Ref Load)
+    (either_law refl (wide_local_law kinds.Int Store) (either_law refl (wide_local_law kinds.Long Store) (either_law refl (wide_local_law kinds.Ref Store)
+    (case_law increment_of (λ p. refl) (pair_law u2 i2 u2_law i2_law))))))))
 
 -- ---- by the opcode
 

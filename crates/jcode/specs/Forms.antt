@@ -1,12 +1,6 @@
 -- What instructions do, whichever of their spellings they have, and the kinds of their operands (JVMS 6.5).
 use Rattle.std.specs.Prelude.{ℕ, ℤ, pos, negsuc, Bool, true, false, map, List, [], ◌∷◌, Option, Some, None}
 use Rattle.std.specs.Borrow.{Bor}
-use Rattle.jcode.specs.declared.names.OpTwo.{OpTwo}
-use Rattle.jcode.specs.declared.names.OpTwo.TheVariants as twos
-use Rattle.jcode.specs.declared.names.Division.{Division}
-use Rattle.jcode.specs.declared.names.Division.TheVariants as divisions
-use Rattle.jcode.specs.declared.names.OpOne.{OpOne}
-use Rattle.jcode.specs.declared.names.OpOne.TheVariants as ones
 use Rattle.jcode.specs.declared.names.LocalKind.{LocalKind}
 use Rattle.jcode.specs.declared.names.LocalKind.TheVariants as locals
 use Rattle.jcode.specs.declared.names.Access.TheVariants.{Load, Store}
@@ -51,11 +45,12 @@ use Rattle.jcode.specs.declared.form.Flow.TheVariants as flows
 use Rattle.jcode.specs.declared.form.ArrayForm.{ArrayForm}
 use Rattle.jcode.specs.declared.form.ArrayForm.TheVariants as arrays
 use Rattle.jcode.specs.declared.form.PoolForm.TheVariants as pool
-use Rattle.jcode.specs.declared.form.Kind.{Kind}
-use Rattle.jcode.specs.declared.form.Kind.TheVariants as kinds
-use Rattle.jcode.specs.declared.form.Kinds.{Kinds}
-use Rattle.jcode.specs.declared.form.Kinds.TheVariants as taken
-use Rattle.jcode.specs.declared.form.Effect.{Effect}
+use Rattle.jnames.specs.Effects.{gives, takes, two_effect, division_effect, one_effect}
+use Rattle.jnames.specs.declared.kinds.Kind.{Kind}
+use Rattle.jnames.specs.declared.kinds.Kind.TheVariants as kinds
+use Rattle.jnames.specs.declared.kinds.Kinds.{Kinds}
+use Rattle.jnames.specs.declared.kinds.Kinds.TheVariants as taken
+use Rattle.jnames.specs.declared.kinds.Effect.{Effect}
 
 -- ---- values that opcodes name
 
@@ -169,58 +164,6 @@ listed taken.None = []
 listed (taken.One a) = a ∷ []
 listed (taken.Two a b) = a ∷ b ∷ []
 listed (taken.Three a b c) = a ∷ b ∷ c ∷ []
-
-abbrev pub gives : Kinds → Kind → Effect
-gives ks k = record { takes = ks; gives = Some k }
-
-abbrev pub takes : Kinds → Effect
-takes ks = record { takes = ks; gives = None }
-
-abbrev pub of_ints : Effect
-of_ints = gives (taken.Two kinds.Int kinds.Int) kinds.Int
-
-abbrev pub of_longs : Effect
-of_longs = gives (taken.Two kinds.Long kinds.Long) kinds.Long
-
--- a long by an int, which is the newer
-abbrev pub shifted : Effect
-shifted = gives (taken.Two kinds.Int kinds.Long) kinds.Long
-
-abbrev pub two_effect : OpTwo → Effect
-two_effect twos.Iadd = of_ints
-two_effect twos.Ladd = of_longs
-two_effect twos.Isub = of_ints
-two_effect twos.Lsub = of_longs
-two_effect twos.Imul = of_ints
-two_effect twos.Lmul = of_longs
-two_effect twos.Ishl = of_ints
-two_effect twos.Lshl = shifted
-two_effect twos.Ishr = of_ints
-two_effect twos.Lshr = shifted
-two_effect twos.Iushr = of_ints
-two_effect twos.Lushr = shifted
-two_effect twos.Iand = of_ints
-two_effect twos.Land = of_longs
-two_effect twos.Ior = of_ints
-two_effect twos.Lor = of_longs
-two_effect twos.Ixor = of_ints
-two_effect twos.Lxor = of_longs
-two_effect twos.Lcmp = gives (taken.Two kinds.Long kinds.Long) kinds.Int
-
-abbrev pub division_effect : Division → Effect
-division_effect divisions.Idiv = of_ints
-division_effect divisions.Irem = of_ints
-division_effect divisions.Ldiv = of_longs
-division_effect divisions.Lrem = of_longs
-
-abbrev pub one_effect : OpOne → Effect
-one_effect ones.Ineg = gives (taken.One kinds.Int) kinds.Int
-one_effect ones.Lneg = gives (taken.One kinds.Long) kinds.Long
-one_effect ones.I2l = gives (taken.One kinds.Int) kinds.Long
-one_effect ones.L2i = gives (taken.One kinds.Long) kinds.Int
-one_effect ones.I2b = gives (taken.One kinds.Int) kinds.Int
-one_effect ones.I2c = gives (taken.One kinds.Int) kinds.Int
-one_effect ones.I2s = gives (taken.One kinds.Int) kinds.Int
 
 abbrev pub simple_effect : Simple → Effect
 simple_effect simple.Nothing = takes taken.None

@@ -1,17 +1,19 @@
 -- What stands behind an opcode (JVMS 6.5).
-use Rattle.std.specs.Prelude.{ℕ, zero, suc, ◌+◌, ◌-◌, ◌%◌, ◌==◌, nat_le, ℤ, ◌-ℤ◌, int_lt, unsigned_abs, if◌then◌else◌, List, [], ◌∷◌, ◌⊎◌, Option, Some, None}
-use Rattle.std.proofs.Common.{inl, inr}
+use Rattle.std.specs.Prelude.{ℕ, zero, suc, ◌+◌, ◌-◌, ◌%◌, ◌==◌, nat_le, ℤ, ◌-ℤ◌, int_lt, unsigned_abs, if◌then◌else◌, List, [], ◌∷◌, Option, Some, None}
 use Rattle.std.specs.Int.{w8, w16, w32}
 use Rattle.jbase.specs.First.{fault_if}
 use Rattle.jformat.specs.Format.{Format, void, byte, number, signed, ◌·◌, ◌▹◌, via, known, such, literal}
 use Rattle.jformat.specs.Bodies.{counted}
 use Rattle.jformat.specs.States.{counted_from}
-use Rattle.jformat.specs.Tags.{Tagged, tag, ◌∣◌, tagged, is_in}
+use Rattle.jformat.specs.Tags.{is_in}
+use Rattle.jformat.specs.Cases.{Cases, case, sole, two_of, ◌∣◌, union}
 use Rattle.jcode.specs.declared.fault.CodeFault.{CodeFault}
 use Rattle.jcode.specs.declared.fault.CodeFault.TheVariants.{Truncated, LeftOut, BadOperand}
 use Rattle.jcode.specs.declared.names.ArrayType.{ArrayType}
 use Rattle.jcode.specs.declared.names.ArrayType.TheVariants as arrays
+use Rattle.jcode.specs.declared.names.LocalKind.{LocalKind}
 use Rattle.jcode.specs.declared.names.LocalKind.TheVariants as kinds
+use Rattle.jcode.specs.declared.names.Access.{Access}
 use Rattle.jcode.specs.declared.names.Access.TheVariants.{Load, Store}
 use Rattle.jcode.specs.declared.op.TableSwitch.{TableSwitch}
 use Rattle.jcode.specs.declared.op.LookupSwitch.{LookupSwitch}
@@ -20,8 +22,10 @@ use Rattle.jcode.specs.declared.op.Wide.{Wide}
 use Rattle.jcode.specs.declared.op.Wide.TheVariants as wides
 use Rattle.jcode.specs.declared.head.Head.{Head}
 use Rattle.jcode.specs.declared.head.Head.TheVariants as heads
+use Rattle.jcode.specs.declared.head.ByteHead.TheVariants as byte
 use Rattle.jcode.specs.declared.head.OtherHead.{OtherHead}
 use Rattle.jcode.specs.declared.head.OtherHead.TheVariants as other
+use Rattle.jcode.specs.Opcodes.{byte_number}
 
 -- ---- numbers
 
@@ -121,55 +125,42 @@ call_parts p = (p.0, (p.1, tt))
 unfoldable pub interface_call : Format CodeFault (ℕ × ℕ)
 interface_call = via call_from call_parts (u2 · such (λ n. fault_if (n == 0) BadOperand) u1 · nil)
 
-abbrev pub ArrayParts : Type 0
-ArrayParts = Unit {0} ⊎ (Unit {0} ⊎ (Unit {0} ⊎ (Unit {0} ⊎ (Unit {0} ⊎ Unit {0}))))
+abbrev pub array_number : ArrayType → ℕ
+array_number arrays.Boolean = 4
+array_number arrays.Char = 5
+array_number arrays.Byte = 8
+array_number arrays.Short = 9
+array_number arrays.Int = 10
+array_number arrays.Long = 11
 
-abbrev pub array_from : ArrayParts → ArrayType
-array_from (inl _) = arrays.Boolean
-array_from (inr (inl _)) = arrays.Char
-array_from (inr (inr (inl _))) = arrays.Byte
-array_from (inr (inr (inr (inl _)))) = arrays.Short
-array_from (inr (inr (inr (inr (inl _))))) = arrays.Int
-array_from (inr (inr (inr (inr (inr _))))) = arrays.Long
+abbrev pub array_case : ArrayType → Cases CodeFault ArrayType
+array_case one = sole (array_number one) one (λ other. array_number other == array_number one)
 
-abbrev pub array_parts : ArrayType → ArrayParts
-array_parts arrays.Boolean = inl tt
-array_parts arrays.Char = inr (inl tt)
-array_parts arrays.Byte = inr (inr (inl tt))
-array_parts arrays.Short = inr (inr (inr (inl tt)))
-array_parts arrays.Int = inr (inr (inr (inr (inl tt))))
-array_parts arrays.Long = inr (inr (inr (inr (inr tt))))
-
-abbrev pub array_tags : Tagged CodeFault ArrayParts
-array_tags = tag 4 void ∣ tag 5 void ∣ tag 8 void ∣ tag 9 void ∣ tag 10 void ∣ tag 11 void
+abbrev pub array_cases : Cases CodeFault ArrayType
+array_cases = array_case arrays.Boolean ∣ array_case arrays.Char ∣ array_case arrays.Byte ∣ array_case arrays.Short ∣ array_case arrays.Int ∣ array_case arrays.Long
 
 -- the code of newarray (JVMS 6.5, newarray)
 unfoldable pub array_type : Format CodeFault ArrayType
-array_type = via array_from array_parts (tagged Truncated (λ _. BadOperand) array_tags)
+array_type = union Truncated (λ _. BadOperand) array_cases
 
-abbrev pub WideParts : Type 0
-WideParts = ℕ ⊎ (ℕ ⊎ (ℕ ⊎ (ℕ ⊎ (ℕ ⊎ (ℕ ⊎ (ℕ × ℤ))))))
+-- the opcode that is widened
+abbrev pub local_number : LocalKind → Access → ℕ
+local_number kind access = byte_number (byte.Local kind access)
 
-abbrev pub wide_from : WideParts → Wide
-wide_from (inl n) = wides.Local kinds.Int Load n
-wide_from (inr (inl n)) = wides.Local kinds.Long Load n
-wide_from (inr (inr (inl n))) = wides.Local kinds.Ref Load n
-wide_from (inr (inr (inr (inl n)))) = wides.Local kinds.Int Store n
-wide_from (inr (inr (inr (inr (inl n))))) = wides.Local kinds.Long Store n
-wide_from (inr (inr (inr (inr (inr (inl n)))))) = wides.Local kinds.Ref Store n
-wide_from (inr (inr (inr (inr (inr (inr p)))))) = wides.Iinc p.0 p.1
+abbrev pub local_of : LocalKind → Access → Wide → Option ℕ
+local_of kind access (wides.Local other way n) = if local_number other way == local_number kind access then Some n else None
+local_of kind access (wides.Iinc n by) = None
 
-abbrev pub wide_parts : Wide → WideParts
-wide_parts (wides.Local kinds.Int Load n) = inl n
-wide_parts (wides.Local kinds.Long Load n) = inr (inl n)
-wide_parts (wides.Local kinds.Ref Load n) = inr (inr (inl n))
-wide_parts (wides.Local kinds.Int Store n) = inr (inr (inr (inl n)))
-wide_parts (wides.Local kinds.Long Store n) = inr (inr (inr (inr (inl n))))
-wide_parts (wides.Local kinds.Ref Store n) = inr (inr (inr (inr (inr (inl n)))))
-wide_parts (wides.Iinc n by) = inr (inr (inr (inr (inr (inr (n, by))))))
+abbrev pub increment_of : Wide → Option (ℕ × ℤ)
+increment_of (wides.Local kind access n) = None
+increment_of (wides.Iinc n by) = Some (n, by)
 
-abbrev pub wide_tags : Tagged CodeFault WideParts
-wide_tags = tag 0x15 u2 ∣ tag 0x16 u2 ∣ tag 0x19 u2 ∣ tag 0x36 u2 ∣ tag 0x37 u2 ∣ tag 0x3a u2 ∣ tag 0x84 (u2 · i2)
+abbrev pub wide_local : LocalKind → Access → Cases CodeFault Wide
+wide_local kind access = case (local_number kind access) (wides.Local kind access) (local_of kind access) u2
+
+abbrev pub wide_cases : Cases CodeFault Wide
+wide_cases = wide_local kinds.Int Load ∣ wide_local kinds.Long Load ∣ wide_local kinds.Ref Load ∣ wide_local kinds.Int Store ∣ wide_local kinds.Long Store
+    ∣ wide_local kinds.Ref Store ∣ case 0x84 (two_of wides.Iinc) increment_of (u2 · i2)
 
 -- The float and double loads and stores and ret are left out; no other opcode may be widened.
 abbrev pub not_wide : ℕ → CodeFault
@@ -177,7 +168,7 @@ not_wide t = if is_in t (0x17 ∷ 0x18 ∷ 0x38 ∷ 0x39 ∷ 0xa9 ∷ []) then L
 
 -- the opcode that is widened, and its operands
 unfoldable pub wide : Format CodeFault Wide
-wide = via wide_from wide_parts (tagged Truncated not_wide wide_tags)
+wide = union Truncated not_wide wide_cases
 
 -- ---- by the opcode
 

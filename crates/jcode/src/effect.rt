@@ -1,84 +1,22 @@
 ghost use Rattle.std.specs.Prelude.{◌≡◌};
 ghost use Rattle.jcode.specs.Forms;
-ghost use Rattle.jcode.specs.Forms.{array_effect, compared, division_effect, element, flow_effect, local, local_effect, one_effect, returned, simple_effect, two_effect};
+ghost use Rattle.jcode.specs.Forms.{array_effect, compared, element, flow_effect, local, local_effect, returned, simple_effect};
 
-use crate::form::{ArrayForm, Effect, Flow, Form, Kind, Kinds, LocalForm, Simple};
-use crate::names::{Access, Division, Element, LocalKind, OpOne, OpTwo, RefTest, Returned};
-
-fn gives(takes: Kinds, kind: Kind) -> Effect
-    ensures { result ≡ Forms.gives takes kind }
-{
-    Effect {
-        takes,
-        gives: Some(kind),
-    }
-}
-
-fn takes(takes: Kinds) -> Effect
-    ensures { result ≡ Forms.takes takes }
-{
-    Effect { takes, gives: None }
-}
-
-fn two_effect(op: OpTwo) -> Effect
-    ensures { result ≡ two_effect op }
-{
-    match op {
-        OpTwo::Iadd
-        | OpTwo::Isub
-        | OpTwo::Imul
-        | OpTwo::Ishl
-        | OpTwo::Ishr
-        | OpTwo::Iushr
-        | OpTwo::Iand
-        | OpTwo::Ior
-        | OpTwo::Ixor => gives(Kinds::Two(Kind::Int, Kind::Int), Kind::Int),
-        OpTwo::Ladd | OpTwo::Lsub | OpTwo::Lmul | OpTwo::Land | OpTwo::Lor | OpTwo::Lxor => gives(
-            Kinds::Two(Kind::Long, Kind::Long),
-            Kind::Long,
-        ),
-        OpTwo::Lshl | OpTwo::Lshr | OpTwo::Lushr => gives(
-            Kinds::Two(Kind::Int, Kind::Long),
-            Kind::Long,
-        ),
-        OpTwo::Lcmp => gives(Kinds::Two(Kind::Long, Kind::Long), Kind::Int),
-    }
-}
-
-fn division_effect(op: Division) -> Effect
-    ensures { result ≡ division_effect op }
-{
-    match op {
-        Division::Idiv | Division::Irem => gives(Kinds::Two(Kind::Int, Kind::Int), Kind::Int),
-        Division::Ldiv | Division::Lrem => gives(Kinds::Two(Kind::Long, Kind::Long), Kind::Long),
-    }
-}
-
-fn one_effect(op: OpOne) -> Effect
-    ensures { result ≡ one_effect op }
-{
-    match op {
-        OpOne::Ineg | OpOne::I2b | OpOne::I2c | OpOne::I2s => gives(
-            Kinds::One(Kind::Int),
-            Kind::Int,
-        ),
-        OpOne::Lneg => gives(Kinds::One(Kind::Long), Kind::Long),
-        OpOne::I2l => gives(Kinds::One(Kind::Int), Kind::Long),
-        OpOne::L2i => gives(Kinds::One(Kind::Long), Kind::Int),
-    }
-}
+use crate::form::{ArrayForm, Flow, Form, LocalForm, Simple};
+use crate::names::{Access, Element, LocalKind, RefTest, Returned};
+use jnames::{Effect, Kind, Kinds};
 
 fn simple_effect(form: Simple) -> Effect
     ensures { result ≡ simple_effect form }
 {
     match form {
-        Simple::Nothing => takes(Kinds::None),
-        Simple::Null => gives(Kinds::None, Kind::Null),
-        Simple::Int(_) => gives(Kinds::None, Kind::Int),
-        Simple::Long(_) => gives(Kinds::None, Kind::Long),
-        Simple::Two(op) => two_effect(op),
-        Simple::Divide(op) => division_effect(op),
-        Simple::One(op) => one_effect(op),
+        Simple::Nothing => Effect::taking(Kinds::None),
+        Simple::Null => Effect::giving(Kinds::None, Kind::Null),
+        Simple::Int(_) => Effect::giving(Kinds::None, Kind::Int),
+        Simple::Long(_) => Effect::giving(Kinds::None, Kind::Long),
+        Simple::Two(op) => op.effect(),
+        Simple::Divide(op) => op.effect(),
+        Simple::One(op) => op.effect(),
     }
 }
 
@@ -96,9 +34,9 @@ fn local_effect(form: LocalForm) -> Effect
     ensures { result ≡ local_effect form }
 {
     match form {
-        LocalForm::Move(Access::Load, kind, _) => gives(Kinds::None, local(kind)),
-        LocalForm::Move(Access::Store, kind, _) => takes(Kinds::One(local(kind))),
-        LocalForm::Increment(_, _) => takes(Kinds::None),
+        LocalForm::Move(Access::Load, kind, _) => Effect::giving(Kinds::None, local(kind)),
+        LocalForm::Move(Access::Store, kind, _) => Effect::taking(Kinds::One(local(kind))),
+        LocalForm::Increment(_, _) => Effect::taking(Kinds::None),
     }
 }
 
@@ -128,13 +66,13 @@ fn flow_effect<S>(form: &Flow<S>) -> Effect
     ensures { result ≡ flow_effect form.now }
 {
     match form {
-        Flow::If(_, _) => takes(Kinds::One(Kind::Int)),
-        Flow::IfInt(_, _) => takes(Kinds::Two(Kind::Int, Kind::Int)),
-        Flow::IfRef(test, _) => takes(compared(*test)),
-        Flow::Goto(_) => takes(Kinds::None),
-        Flow::Switch(_) => takes(Kinds::One(Kind::Int)),
-        Flow::Return(kind) => takes(returned(*kind)),
-        Flow::Throw => takes(Kinds::One(Kind::Ref)),
+        Flow::If(_, _) => Effect::taking(Kinds::One(Kind::Int)),
+        Flow::IfInt(_, _) => Effect::taking(Kinds::Two(Kind::Int, Kind::Int)),
+        Flow::IfRef(test, _) => Effect::taking(compared(*test)),
+        Flow::Goto(_) => Effect::taking(Kinds::None),
+        Flow::Switch(_) => Effect::taking(Kinds::One(Kind::Int)),
+        Flow::Return(kind) => Effect::taking(returned(*kind)),
+        Flow::Throw => Effect::taking(Kinds::One(Kind::Ref)),
     }
 }
 
@@ -155,11 +93,15 @@ fn array_effect(form: ArrayForm) -> Effect
     ensures { result ≡ array_effect form }
 {
     match form {
-        ArrayForm::New(_) => gives(Kinds::One(Kind::Int), Kind::Array),
-        ArrayForm::NewRef(_) => gives(Kinds::One(Kind::Int), Kind::Array),
-        ArrayForm::Load(kind) => gives(Kinds::Two(Kind::Int, Kind::Array), element(kind)),
-        ArrayForm::Store(kind) => takes(Kinds::Three(element(kind), Kind::Int, Kind::Array)),
-        ArrayForm::Length => gives(Kinds::One(Kind::Array), Kind::Int),
+        ArrayForm::New(_) => Effect::giving(Kinds::One(Kind::Int), Kind::Array),
+        ArrayForm::NewRef(_) => Effect::giving(Kinds::One(Kind::Int), Kind::Array),
+        ArrayForm::Load(kind) => Effect::giving(Kinds::Two(Kind::Int, Kind::Array), element(kind)),
+        ArrayForm::Store(kind) => Effect::taking(Kinds::Three(
+            element(kind),
+            Kind::Int,
+            Kind::Array,
+        )),
+        ArrayForm::Length => Effect::giving(Kinds::One(Kind::Array), Kind::Int),
     }
 }
 

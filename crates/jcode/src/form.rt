@@ -1,7 +1,7 @@
 use crate::names::{
-    Access, ArrayType, CallOp, CastOp, Compare, Division, Element, FieldOp, LocalKind, OpOne,
-    OpTwo, RefTest, Returned, Shuffle,
+    Access, ArrayType, CallOp, CastOp, Element, FieldOp, LocalKind, RefTest, Returned,
 };
+use jnames::{Compare, Division, OpOne, OpTwo, Shuffle};
 
 /// What an instruction does, whichever of its spellings it has (JVMS 6.5): the short, the numbered and the wide ones are one
 /// form. `S` is the switch that is held: a `&Switch` is that of the instruction itself.
@@ -83,35 +83,4 @@ pub enum PoolForm {
     CallInterface(u16, u8),
     New(u16),
     Cast(CastOp, u16),
-}
-
-/// A kind of operand.
-#[derive(Clone, Copy, Debug, PartialEq, Eq)]
-pub enum Kind {
-    Int,
-    Long,
-    /// The null reference, which stands for each reference and array.
-    Null,
-    /// A reference, to an array too.
-    Ref,
-    /// A reference to an array. Which elements it has is said by the form.
-    Array,
-    /// What a local of `LocalKind::Ref` holds: a reference, an object before its `<init>`, or a security context.
-    Held,
-}
-
-/// Kinds of operands, the newest first.
-#[derive(Clone, Copy, Debug, PartialEq, Eq)]
-pub enum Kinds {
-    None,
-    One(Kind),
-    Two(Kind, Kind),
-    Three(Kind, Kind, Kind),
-}
-
-/// The kinds that a form takes from the stack, and the kind that it puts there.
-#[derive(Clone, Copy, Debug, PartialEq, Eq)]
-pub struct Effect {
-    pub takes: Kinds,
-    pub gives: Option<Kind>,
 }

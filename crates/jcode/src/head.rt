@@ -1,7 +1,8 @@
 use crate::names::{
-    Access, CallOp, CastOp, Compare, Division, Element, FieldOp, LocalKind, ObjectOp, OpOne, OpTwo,
-    RefTest, Returned, Shuffle, Slot, SmallInt, SmallLong,
+    Access, CallOp, CastOp, Element, FieldOp, LocalKind, ObjectOp, RefTest, Returned, Slot,
+    SmallInt, SmallLong,
 };
+use jnames::{Compare, Division, OpOne, OpTwo, Shuffle};
 
 /// An opcode, by what stands behind it.
 #[derive(Clone, Copy)]

@@ -26,12 +26,12 @@ pub use coding::{decode, encode};
 pub use effect::effect_of;
 pub use fault::{CodeError, CodeFault};
 pub use flow::{branch_at, branch_count, goes_on};
-pub use form::{ArrayForm, Effect, Flow, Form, Kind, Kinds, LocalForm, PoolForm, Simple};
+pub use form::{ArrayForm, Flow, Form, LocalForm, PoolForm, Simple};
 pub use forming::form_of;
 pub use laws::code_laws;
 pub use names::{
-    Access, ArrayType, CallOp, CastOp, Compare, Division, Element, FieldOp, LocalKind, ObjectOp,
-    OpOne, OpTwo, RefTest, Returned, Shuffle, Slot, SmallInt, SmallLong,
+    Access, ArrayType, CallOp, CastOp, Element, FieldOp, LocalKind, ObjectOp, RefTest, Returned,
+    Slot, SmallInt, SmallLong,
 };
 pub use op::{
     Case, Goto, Handler, IntConst, Ldc, LocalOp, LookupSwitch, NewOp, Op, Placed, Switch,

@@ -1,9 +1,10 @@
 use crate::names::{
-    Access, ArrayType, CallOp, CastOp, Compare, Division, Element, FieldOp, LocalKind, ObjectOp,
-    OpOne, OpTwo, RefTest, Returned, Shuffle, Slot, SmallInt, SmallLong,
+    Access, ArrayType, CallOp, CastOp, Element, FieldOp, LocalKind, ObjectOp, RefTest, Returned,
+    Slot, SmallInt, SmallLong,
 };
 use crate::pointer::Boxed;
 use jbase::Seq;
+use jnames::{Compare, Division, OpOne, OpTwo, Shuffle};
 
 /// An instruction as it is written (JVMS 6.5): which opcode of its row of the table it has, and its operands in order. Indices
 /// are of the pool, and a branch is the distance from the instruction's own place.

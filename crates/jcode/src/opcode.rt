@@ -6,10 +6,11 @@ ghost use Rattle.jcode.specs.Instructions.{local_head, op_head};
 
 use crate::head::{BranchHead, ByteHead, Head, IndexHead, OtherHead, Plain};
 use crate::names::{
-    Access, CallOp, CastOp, Compare, Division, Element, FieldOp, LocalKind, ObjectOp, OpOne, OpTwo,
-    RefTest, Returned, Shuffle, Slot, SmallInt, SmallLong,
+    Access, CallOp, CastOp, Element, FieldOp, LocalKind, ObjectOp, RefTest, Returned, Slot,
+    SmallInt, SmallLong,
 };
 use crate::op::{Goto, IntConst, Ldc, LocalOp, NewOp, Op, Switch};
+use jnames::{Compare, Division, OpOne, OpTwo, Shuffle};
 
 fn slot_step(slot: Slot) -> u8
     ensures step { result ≡ Opcodes.slot_step slot }

@@ -4,9 +4,10 @@ ghost use Rattle.jcode.specs.Opcodes.{head_at};
 use crate::fault::CodeFault;
 use crate::head::{BranchHead, ByteHead, Head, IndexHead, OtherHead, Plain};
 use crate::names::{
-    Access, CallOp, CastOp, Compare, Division, Element, FieldOp, LocalKind, ObjectOp, OpOne, OpTwo,
-    RefTest, Returned, Shuffle, Slot, SmallInt, SmallLong,
+    Access, CallOp, CastOp, Element, FieldOp, LocalKind, ObjectOp, RefTest, Returned, Slot,
+    SmallInt, SmallLong,
 };
+use jnames::{Compare, Division, OpOne, OpTwo, Shuffle};
 
 static TABLE: [Option<Head>; 256] = [
     Some(Head::Plain(Plain::Nop)),

@@ -1,9 +1,9 @@
 use jcode::{
-    Access, ArrayForm, ArrayType, CallOp, CastOp, Condition, ConvertOp, Effect, Element, FieldOp,
-    Flow, Form, Kind, Kinds, LocalForm, LocalKind, LogicOp, MathOp, NumberKind, PoolForm, RefTest,
-    Returned, ShiftOp, Simple, StackOp, Switch, branch_at, branch_count, decode, effect_of,
-    form_of, goes_on,
+    Access, ArrayForm, ArrayType, CallOp, CastOp, Element, FieldOp, Flow, Form, LocalForm,
+    LocalKind, PoolForm, RefTest, Returned, Simple, Switch, branch_at, branch_count, decode,
+    effect_of, form_of, goes_on,
 };
+use jnames::{Compare, Division, Effect, Kind, Kinds, OpOne, OpTwo, Shuffle};
 use std::test::Fail;
 
 const I: Kind = Kind::Int;
@@ -116,25 +116,25 @@ fn forms_and_effects(rt: HostRuntime) -> Result<(), Fail> {
         // ldiv, ineg, lushr, lxor
         (
             b"\x6d",
-            Form::Simple(Simple::Math(NumberKind::Long, MathOp::Div)),
+            Form::Simple(Simple::Divide(Division::Ldiv)),
             Two(J, J),
             Some(J),
         ),
         (
             b"\x74",
-            Form::Simple(Simple::Neg(NumberKind::Int)),
+            Form::Simple(Simple::One(OpOne::Ineg)),
             One(I),
             Some(I),
         ),
         (
             b"\x7d",
-            Form::Simple(Simple::Shift(NumberKind::Long, ShiftOp::RightUnsigned)),
+            Form::Simple(Simple::Two(OpTwo::Lushr)),
             Two(I, J),
             Some(J),
         ),
         (
             b"\x83",
-            Form::Simple(Simple::Logic(NumberKind::Long, LogicOp::Xor)),
+            Form::Simple(Simple::Two(OpTwo::Lxor)),
             Two(J, J),
             Some(J),
         ),
@@ -147,21 +147,26 @@ fn forms_and_effects(rt: HostRuntime) -> Result<(), Fail> {
         ),
         (
             b"\x88",
-            Form::Simple(Simple::Convert(ConvertOp::LongToInt)),
+            Form::Simple(Simple::One(OpOne::L2i)),
             One(J),
             Some(I),
         ),
-        (b"\x94", Form::Simple(Simple::Compare), Two(J, J), Some(I)),
+        (
+            b"\x94",
+            Form::Simple(Simple::Two(OpTwo::Lcmp)),
+            Two(J, J),
+            Some(I),
+        ),
         // iflt, if_icmple, if_acmpne, ifnull
         (
             b"\x9b\x00\x03\xb1",
-            Form::Flow(Flow::If(Condition::Less, 3)),
+            Form::Flow(Flow::If(Compare::Lt, 3)),
             One(I),
             None,
         ),
         (
             b"\xa4\x00\x03\xb1",
-            Form::Flow(Flow::IfInt(Condition::LessOrEqual, 3)),
+            Form::Flow(Flow::IfInt(Compare::Le, 3)),
             Two(I, I),
             None,
         ),
@@ -290,7 +295,7 @@ fn moves_and_switches(rt: HostRuntime) -> Result<(), Fail> {
     let swap = decode(rt.alloc(), b"\x5f")?;
     assert!(rt; swap.len() == 1);
     let form = form_of(&swap[0].op);
-    assert!(rt; same(form, Form::Stack(StackOp::Swap)));
+    assert!(rt; same(form, Form::Stack(Shuffle::Swap)));
     assert!(rt; effect_of(&form).is_none());
     let code =
         b"\xaa\x00\x00\x00\x00\x00\x00\x14\x00\x00\x00\x05\x00\x00\x00\x05\x00\x00\x00\x00\xb1";
