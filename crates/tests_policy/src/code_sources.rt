@@ -26,58 +26,60 @@ fn matched(alloc: Global, base: &str, source: &str) -> Result<Option<bool>, Allo
     }
 }
 
+/// A code base, a source, and whether the first stands for it.
+const CODE_BASES: [(&str, &str, bool); 40] = [
+    ("file:/app/-", "file:/app/", true),
+    ("file:/app/-", "file:/app/in/", true),
+    ("file:/app/-", "file:/apple/", false),
+    ("file:/-", "file:/app/", true),
+    ("file:/app/*", "file:/app/", true),
+    ("file:/app/*", "file:/app/in/", false),
+    ("file:/*", "file:/", true),
+    ("file:/*", "file:/app/", false),
+    ("file:/app/", "file:/app/", true),
+    ("file:/app", "file:/app/", true),
+    ("file:/ap", "file:/app/", false),
+    ("file:/app/", "file:/app/in/", false),
+    ("file:/app/x.jar", "file:/app/", false),
+    ("file:/app-", "file:/app-/", true),
+    ("file:/app-", "file:/app/", false),
+    ("file:/app*", "file:/app*/", true),
+    ("file:/in/../app/./", "file:/app/", true),
+    ("file:/%61pp/", "file:/app/", false),
+    ("FILE:/app/", "file:/app/", true),
+    ("file:///app/", "file:/app/", true),
+    ("file://localhost/app/", "file:/app/", true),
+    ("file://a.example/app/", "file:/app/", false),
+    ("a:///app/", "a:/app/", true),
+    ("a:", "a:/", true),
+    ("http://a.example/x/", "http://a.example/x/", true),
+    ("http://A.Example/x/", "http://a.example/x/", true),
+    ("http://b.example/x/", "http://a.example/x/", false),
+    ("http://127.1/x/", "http://127.0.0.1/x/", true),
+    ("https://a.example/x/", "http://a.example/x/", false),
+    ("http://a.example/x/", "http://a.example:8080/x/", true),
+    ("http://a.example:80/x/", "http://a.example:8080/x/", true),
+    ("http://a.example:8080/x/", "http://a.example/x/", false),
+    ("http://a.example:8080/x/", "http://a.example:80/x/", false),
+    ("http://a.example:8080/x/", "http://a.example:8080/x/", true),
+    (
+        "http://a.example:8080/x/",
+        "http://a.example:8081/x/",
+        false,
+    ),
+    ("http://u:p@a.example/x/?q#f", "http://a.example/x/", true),
+    ("http://a.example/x/", "http://u:p@a.example/x/?q#f", true),
+    ("/app/", "file:/app/", false),
+    ("", "file:/app/", false),
+    ("http://a b/", "http://a/", false),
+];
+
 #[test]
 fn code_bases_stand_for_sources(rt: HostRuntime) -> Result<(), Fail> {
     let alloc = rt.alloc();
-    let rows: [(&str, &str, bool); 40] = [
-        ("file:/app/-", "file:/app/", true),
-        ("file:/app/-", "file:/app/in/", true),
-        ("file:/app/-", "file:/apple/", false),
-        ("file:/-", "file:/app/", true),
-        ("file:/app/*", "file:/app/", true),
-        ("file:/app/*", "file:/app/in/", false),
-        ("file:/*", "file:/", true),
-        ("file:/*", "file:/app/", false),
-        ("file:/app/", "file:/app/", true),
-        ("file:/app", "file:/app/", true),
-        ("file:/ap", "file:/app/", false),
-        ("file:/app/", "file:/app/in/", false),
-        ("file:/app/x.jar", "file:/app/", false),
-        ("file:/app-", "file:/app-/", true),
-        ("file:/app-", "file:/app/", false),
-        ("file:/app*", "file:/app*/", true),
-        ("file:/in/../app/./", "file:/app/", true),
-        ("file:/%61pp/", "file:/app/", false),
-        ("FILE:/app/", "file:/app/", true),
-        ("file:///app/", "file:/app/", true),
-        ("file://localhost/app/", "file:/app/", true),
-        ("file://a.example/app/", "file:/app/", false),
-        ("a:///app/", "a:/app/", true),
-        ("a:", "a:/", true),
-        ("http://a.example/x/", "http://a.example/x/", true),
-        ("http://A.Example/x/", "http://a.example/x/", true),
-        ("http://b.example/x/", "http://a.example/x/", false),
-        ("http://127.1/x/", "http://127.0.0.1/x/", true),
-        ("https://a.example/x/", "http://a.example/x/", false),
-        ("http://a.example/x/", "http://a.example:8080/x/", true),
-        ("http://a.example:80/x/", "http://a.example:8080/x/", true),
-        ("http://a.example:8080/x/", "http://a.example/x/", false),
-        ("http://a.example:8080/x/", "http://a.example:80/x/", false),
-        ("http://a.example:8080/x/", "http://a.example:8080/x/", true),
-        (
-            "http://a.example:8080/x/",
-            "http://a.example:8081/x/",
-            false,
-        ),
-        ("http://u:p@a.example/x/?q#f", "http://a.example/x/", true),
-        ("http://a.example/x/", "http://u:p@a.example/x/?q#f", true),
-        ("/app/", "file:/app/", false),
-        ("", "file:/app/", false),
-        ("http://a b/", "http://a/", false),
-    ];
-    for (base, source, want) in rows {
+    for (base, source, want) in CODE_BASES {
         let found = matched(alloc, base, source)?;
-        assert!(rt; found == Some(want));
+        assert!(rt; found == Some(want), "{base} {source}");
     }
     Ok(())
 }
@@ -86,15 +88,27 @@ fn code_bases_stand_for_sources(rt: HostRuntime) -> Result<(), Fail> {
 fn grants_are_for_code(rt: HostRuntime) -> Result<(), Fail> {
     let alloc = rt.alloc();
     let Ok(source) = CodeSource::read(alloc, "file:/app/") else {
-        return Ok(assert!(rt; false));
+        panic!(rt; "no source");
     };
     let app = Units::from_text(alloc, "file:/app/-")?;
     let unpaired = [b'a' as u16, b':' as u16, 0xd800];
-    assert!(rt; source.matches(alloc, &grant(alloc, None, false))?);
-    assert!(rt; !source.matches(alloc, &grant(alloc, None, true))?);
-    assert!(rt; !source.matches(alloc, &grant(alloc, Some(app), true))?);
+    assert!(rt;
+        source.matches(alloc, &grant(alloc, None, false))?,
+        "all code"
+    );
+    assert!(rt;
+        !source.matches(alloc, &grant(alloc, None, true))?,
+        "asks for more"
+    );
+    assert!(rt;
+        !source.matches(alloc, &grant(alloc, Some(app), true))?,
+        "asks for more than its code"
+    );
     let unpaired = Units::from_slice(alloc, &unpaired)?;
-    assert!(rt; !source.matches(alloc, &grant(alloc, Some(unpaired), false))?);
+    assert!(rt;
+        !source.matches(alloc, &grant(alloc, Some(unpaired), false))?,
+        "an unpaired surrogate"
+    );
     Ok(())
 }
 
@@ -114,8 +128,8 @@ fn reads_code_sources(rt: HostRuntime) -> Result<(), Fail> {
     ];
     for (text, want) in texts {
         match CodeSource::read(alloc, text) {
-            Ok(source) => assert!(rt; source.text() == want),
-            Err(_) => assert!(rt; false),
+            Ok(source) => assert!(rt; source.text() == want, "{text}"),
+            Err(_) => panic!(rt; "{text} is no source"),
         }
     }
     let faults = [
@@ -129,7 +143,7 @@ fn reads_code_sources(rt: HostRuntime) -> Result<(), Fail> {
         ("a:", SourceError::NotDirectory),
     ];
     for (text, want) in faults {
-        assert!(rt; fault(alloc, text) == Some(want));
+        assert!(rt; fault(alloc, text) == Some(want), "{text}");
     }
     Ok(())
 }
@@ -143,14 +157,17 @@ fn bounds_the_length_of_a_url(rt: HostRuntime) -> Result<(), Fail> {
     }
     text.push('/')?;
     let Ok(source) = CodeSource::read(alloc, text.as_str()) else {
-        return Ok(assert!(rt; false));
+        panic!(rt; "the longest URL is no source");
     };
     let longest = grant(alloc, Some(Units::from_text(alloc, text.as_str())?), false);
-    assert!(rt; source.matches(alloc, &longest)?);
+    assert!(rt; source.matches(alloc, &longest)?, "the longest URL");
     text.push('/')?;
-    assert!(rt; fault(alloc, text.as_str()) == Some(SourceError::NotUrl));
+    assert!(rt;
+        fault(alloc, text.as_str()) == Some(SourceError::NotUrl),
+        "a source too long"
+    );
     let longer = grant(alloc, Some(Units::from_text(alloc, text.as_str())?), false);
-    assert!(rt; !source.matches(alloc, &longer)?);
+    assert!(rt; !source.matches(alloc, &longer)?, "a code base too long");
     Ok(())
 }
 
@@ -217,18 +234,21 @@ fn shown(alloc: Global, list: &[Permission]) -> Result<Vec<u16>, AllocError> {
 fn lists_what_is_granted(rt: HostRuntime) -> Result<(), Fail> {
     let alloc = rt.alloc();
     let Some(domains) = domains(alloc)? else {
-        return Ok(assert!(rt; false));
+        panic!(rt; "no domains");
     };
     let rows = [
-        "|(\"java.util.PropertyPermission\" \"a\" \"read\")|(\"java.io.FilePermission\" \"x\" \"read\")|(\"java.lang.RuntimePermission\" \"r\")|(\"java.io.FilePermission\" \"x\" \"write\")|com.example.Own|java.util.PropertyPermission",
-        "|(\"java.util.PropertyPermission\" \"a\" \"read\")|(\"java.io.FilePermission\" \"x\" \"read\")|(\"java.lang.RuntimePermission\" \"r\")",
+        "|(\"java.util.PropertyPermission\" \"a\" \"read\")|(\"java.io.FilePermission\" \"x\" \"read\")\
+            |(\"java.lang.RuntimePermission\" \"r\")|(\"java.io.FilePermission\" \"x\" \"write\")\
+            |com.example.Own|java.util.PropertyPermission",
+        "|(\"java.util.PropertyPermission\" \"a\" \"read\")|(\"java.io.FilePermission\" \"x\" \"read\")\
+            |(\"java.lang.RuntimePermission\" \"r\")",
         "|(\"java.util.PropertyPermission\" \"a\" \"read\")|java.security.AllPermission",
         "|(\"java.util.PropertyPermission\" \"a\" \"read\")",
     ];
     for d in 0..4u32 {
         let want = Units::from_text(alloc, rows[d as usize])?;
         let list = shown(alloc, domains.list(d))?;
-        assert!(rt; list.as_slice() == want.as_slice());
+        assert!(rt; list.as_slice() == want.as_slice(), "domain {d}");
     }
     Ok(())
 }
@@ -237,7 +257,7 @@ fn lists_what_is_granted(rt: HostRuntime) -> Result<(), Fail> {
 fn says_what_domains_have(rt: HostRuntime) -> Result<(), Fail> {
     let alloc = rt.alloc();
     let Some(domains) = domains(alloc)? else {
-        return Ok(assert!(rt; false));
+        panic!(rt; "no domains");
     };
     let rows = [
         (0, PermClass::File, "/w/x", "read,write", true),
@@ -251,12 +271,15 @@ fn says_what_domains_have(rt: HostRuntime) -> Result<(), Fail> {
         (4, PermClass::Property, "a", "read", false),
     ];
     let cwd = Units::from_text(alloc, "/")?;
-    for (d, class, name, actions, want) in rows {
-        let name = Units::from_text(alloc, name)?;
+    for (d, class, permission, actions, want) in rows {
+        let name = Units::from_text(alloc, permission)?;
         let actions = Units::from_text(alloc, actions)?;
         match make(alloc, class, Some(&name), Some(&actions), &cwd) {
-            Ok(asked) => assert!(rt; domains.implies(d, &asked) == want),
-            Err(_) => assert!(rt; false),
+            Ok(asked) => assert!(rt;
+                domains.implies(d, &asked) == want,
+                "domain {d} {permission}"
+            ),
+            Err(_) => panic!(rt; "no permission {permission}"),
         }
     }
     Ok(())

@@ -43,95 +43,99 @@ fn path_in(alloc: Global, cwd: &str, name: &str) -> Result<FilePath, PermError> 
     }
 }
 
+const ALL_TEXT: &str = "(\"java.security.AllPermission\" \"<all permissions>\" \"<all actions>\")";
+
+const EXIT_TEXT: &str = "(\"java.lang.RuntimePermission\" \"exitVM\")";
+
+/// A class, a name and actions, and the text of the permission that they make.
+const MADE: [(PermClass, Option<&str>, Option<&str>, &str); 17] = [
+    (All, None, None, ALL_TEXT),
+    (All, Some(""), Some("none"), ALL_TEXT),
+    (Runtime, Some("exitVM"), None, EXIT_TEXT),
+    (Runtime, Some("exitVM"), Some("none"), EXIT_TEXT),
+    (
+        Security,
+        Some("getPolicy"),
+        Some(""),
+        "(\"java.security.SecurityPermission\" \"getPolicy\")",
+    ),
+    (
+        Property,
+        Some("x"),
+        Some("read"),
+        "(\"java.util.PropertyPermission\" \"x\" \"read\")",
+    ),
+    (
+        Property,
+        Some("x"),
+        Some("write"),
+        "(\"java.util.PropertyPermission\" \"x\" \"write\")",
+    ),
+    (
+        Property,
+        Some("x"),
+        Some("write,read,write"),
+        "(\"java.util.PropertyPermission\" \"x\" \"read,write\")",
+    ),
+    (
+        Property,
+        Some(" x "),
+        Some(" \t\r\n\u{c}WRITE\u{c} \n\r\t, Read "),
+        "(\"java.util.PropertyPermission\" \" x \" \"read,write\")",
+    ),
+    (
+        Property,
+        Some("a\"\\\u{e9}"),
+        Some("read"),
+        "(\"java.util.PropertyPermission\" \"a\"\\\u{e9}\" \"read\")",
+    ),
+    (
+        File,
+        Some("/tmp/s/f"),
+        Some("write, READ"),
+        "(\"java.io.FilePermission\" \"/tmp/s/f\" \"read,write\")",
+    ),
+    (
+        File,
+        Some("/home/u/-"),
+        Some("read"),
+        "(\"java.io.FilePermission\" \"/home/u/-\" \"read\")",
+    ),
+    (
+        File,
+        Some(""),
+        Some("readLink"),
+        "(\"java.io.FilePermission\" \"\" \"readlink\")",
+    ),
+    (
+        File,
+        Some("x/../y/"),
+        Some("delete,execute"),
+        "(\"java.io.FilePermission\" \"x/../y/\" \"execute,delete\")",
+    ),
+    (
+        File,
+        Some("*"),
+        Some("readlink,write"),
+        "(\"java.io.FilePermission\" \"*\" \"write,readlink\")",
+    ),
+    (
+        File,
+        Some("<<ALL FILES>>"),
+        Some("readlink,delete,execute,write,read"),
+        "(\"java.io.FilePermission\" \"<<ALL FILES>>\" \"read,write,execute,delete,readlink\")",
+    ),
+    (
+        File,
+        Some("/tmp/*/"),
+        Some("delete"),
+        "(\"java.io.FilePermission\" \"/tmp/*/\" \"delete\")",
+    ),
+];
+
 #[test]
 fn makes_and_writes(rt: HostRuntime) -> Result<(), Fail> {
-    let all = "(\"java.security.AllPermission\" \"<all permissions>\" \"<all actions>\")";
-    let exit = "(\"java.lang.RuntimePermission\" \"exitVM\")";
-    let rows: [(PermClass, Option<&str>, Option<&str>, &str); 17] = [
-        (All, None, None, all),
-        (All, Some(""), Some("none"), all),
-        (Runtime, Some("exitVM"), None, exit),
-        (Runtime, Some("exitVM"), Some("none"), exit),
-        (
-            Security,
-            Some("getPolicy"),
-            Some(""),
-            "(\"java.security.SecurityPermission\" \"getPolicy\")",
-        ),
-        (
-            Property,
-            Some("x"),
-            Some("read"),
-            "(\"java.util.PropertyPermission\" \"x\" \"read\")",
-        ),
-        (
-            Property,
-            Some("x"),
-            Some("write"),
-            "(\"java.util.PropertyPermission\" \"x\" \"write\")",
-        ),
-        (
-            Property,
-            Some("x"),
-            Some("write,read,write"),
-            "(\"java.util.PropertyPermission\" \"x\" \"read,write\")",
-        ),
-        (
-            Property,
-            Some(" x "),
-            Some(" \t\r\n\u{c}WRITE\u{c} \n\r\t, Read "),
-            "(\"java.util.PropertyPermission\" \" x \" \"read,write\")",
-        ),
-        (
-            Property,
-            Some("a\"\\\u{e9}"),
-            Some("read"),
-            "(\"java.util.PropertyPermission\" \"a\"\\\u{e9}\" \"read\")",
-        ),
-        (
-            File,
-            Some("/tmp/s/f"),
-            Some("write, READ"),
-            "(\"java.io.FilePermission\" \"/tmp/s/f\" \"read,write\")",
-        ),
-        (
-            File,
-            Some("/home/u/-"),
-            Some("read"),
-            "(\"java.io.FilePermission\" \"/home/u/-\" \"read\")",
-        ),
-        (
-            File,
-            Some(""),
-            Some("readLink"),
-            "(\"java.io.FilePermission\" \"\" \"readlink\")",
-        ),
-        (
-            File,
-            Some("x/../y/"),
-            Some("delete,execute"),
-            "(\"java.io.FilePermission\" \"x/../y/\" \"execute,delete\")",
-        ),
-        (
-            File,
-            Some("*"),
-            Some("readlink,write"),
-            "(\"java.io.FilePermission\" \"*\" \"write,readlink\")",
-        ),
-        (
-            File,
-            Some("<<ALL FILES>>"),
-            Some("readlink,delete,execute,write,read"),
-            "(\"java.io.FilePermission\" \"<<ALL FILES>>\" \"read,write,execute,delete,readlink\")",
-        ),
-        (
-            File,
-            Some("/tmp/*/"),
-            Some("delete"),
-            "(\"java.io.FilePermission\" \"/tmp/*/\" \"delete\")",
-        ),
-    ];
-    for (class, name, actions, text) in rows {
+    for (class, name, actions, text) in MADE {
         let alloc = rt.alloc();
         let want = Units::from_text(alloc, text)?;
         let written = made(alloc, class, name, actions)?.text(alloc)?;
@@ -140,43 +144,45 @@ fn makes_and_writes(rt: HostRuntime) -> Result<(), Fail> {
     Ok(())
 }
 
+/// A class, a name and actions, and why they make no permission.
+const REFUSED: [(PermClass, Option<&str>, Option<&str>, PermError); 32] = [
+    (Runtime, None, None, NoName),
+    (Security, None, Some("read"), NoName),
+    (Property, None, None, NoName),
+    (Property, None, Some("none"), NoName),
+    (File, None, None, NoName),
+    (File, None, Some(""), NoName),
+    (Runtime, Some(""), None, EmptyName),
+    (Security, Some(""), Some("read"), EmptyName),
+    (Property, Some(""), None, EmptyName),
+    (Property, Some(""), Some("none"), EmptyName),
+    (Property, Some(""), Some("read"), EmptyName),
+    (Property, Some("x"), None, BadActions),
+    (Property, Some("x"), Some(""), BadActions),
+    (Property, Some("x"), Some(" "), BadActions),
+    (Property, Some("x"), Some(","), BadActions),
+    (Property, Some("x"), Some("read,"), BadActions),
+    (Property, Some("x"), Some(",read"), BadActions),
+    (Property, Some("x"), Some("read,,write"), BadActions),
+    (Property, Some("x"), Some("read write"), BadActions),
+    (Property, Some("x"), Some("read;write"), BadActions),
+    (Property, Some("x"), Some("re ad"), BadActions),
+    (Property, Some("x"), Some("rea"), BadActions),
+    (Property, Some("x"), Some("reads"), BadActions),
+    (Property, Some("x"), Some("\u{b}read"), BadActions),
+    (Property, Some("x"), Some("read\u{a0}"), BadActions),
+    (Property, Some("x"), Some("wr\u{130}te"), BadActions),
+    (Property, Some("x"), Some("read,execute"), BadActions),
+    (Property, Some("x"), Some("readlink"), BadActions),
+    (File, Some(""), None, BadActions),
+    (File, Some(""), Some(""), BadActions),
+    (File, Some("/x"), Some("read,none"), BadActions),
+    (File, Some("/x"), Some("readlin\u{212a}"), BadActions),
+];
+
 #[test]
 fn refuses_in_order(rt: HostRuntime) {
-    let rows: [(PermClass, Option<&str>, Option<&str>, PermError); 32] = [
-        (Runtime, None, None, NoName),
-        (Security, None, Some("read"), NoName),
-        (Property, None, None, NoName),
-        (Property, None, Some("none"), NoName),
-        (File, None, None, NoName),
-        (File, None, Some(""), NoName),
-        (Runtime, Some(""), None, EmptyName),
-        (Security, Some(""), Some("read"), EmptyName),
-        (Property, Some(""), None, EmptyName),
-        (Property, Some(""), Some("none"), EmptyName),
-        (Property, Some(""), Some("read"), EmptyName),
-        (Property, Some("x"), None, BadActions),
-        (Property, Some("x"), Some(""), BadActions),
-        (Property, Some("x"), Some(" "), BadActions),
-        (Property, Some("x"), Some(","), BadActions),
-        (Property, Some("x"), Some("read,"), BadActions),
-        (Property, Some("x"), Some(",read"), BadActions),
-        (Property, Some("x"), Some("read,,write"), BadActions),
-        (Property, Some("x"), Some("read write"), BadActions),
-        (Property, Some("x"), Some("read;write"), BadActions),
-        (Property, Some("x"), Some("re ad"), BadActions),
-        (Property, Some("x"), Some("rea"), BadActions),
-        (Property, Some("x"), Some("reads"), BadActions),
-        (Property, Some("x"), Some("\u{b}read"), BadActions),
-        (Property, Some("x"), Some("read\u{a0}"), BadActions),
-        (Property, Some("x"), Some("wr\u{130}te"), BadActions),
-        (Property, Some("x"), Some("read,execute"), BadActions),
-        (Property, Some("x"), Some("readlink"), BadActions),
-        (File, Some(""), None, BadActions),
-        (File, Some(""), Some(""), BadActions),
-        (File, Some("/x"), Some("read,none"), BadActions),
-        (File, Some("/x"), Some("readlin\u{212a}"), BadActions),
-    ];
-    for (class, name, actions, want) in rows {
+    for (class, name, actions, want) in REFUSED {
         match made(rt.alloc(), class, name, actions) {
             Err(error) => assert!(rt; error == want, "{name:?} {actions:?}"),
             Ok(_) => panic!(rt; "{name:?} {actions:?}"),
@@ -184,67 +190,82 @@ fn refuses_in_order(rt: HostRuntime) {
     }
 }
 
+/// A directory, a name that is read in it, and the one path that it names.
+const EXACT: [(&str, &str, &str); 25] = [
+    ("/w", "x/../y", "/w/y"),
+    ("/w", "/w//y/", "/w/y"),
+    ("/w", "", "/w"),
+    ("/w", ".", "/w"),
+    ("/w", "./x/./y/.", "/w/x/y"),
+    ("/w", "..", "/"),
+    ("/w", "../../x", "/x"),
+    ("/w", "/..", "/"),
+    ("/w", "/../../x/", "/x"),
+    ("/w", "/a/b/../../../c", "/c"),
+    ("/w", "/", "/"),
+    ("/w", "///", "/"),
+    ("/w", "...", "/w/..."),
+    ("/w", "/.a/..b", "/.a/..b"),
+    ("/w", "a*", "/w/a*"),
+    ("/w", "/a-", "/a-"),
+    ("/w", "-a", "/w/-a"),
+    ("/w", "/tmp/*/", "/tmp/*"),
+    ("/w", "/tmp/-/.", "/tmp/-"),
+    ("/w", "/<<ALL FILES>>", "/<<ALL FILES>>"),
+    ("/w", "<<all files>>", "/w/<<all files>>"),
+    ("/", "x", "/x"),
+    ("/", "", "/"),
+    ("/a/../b//", "x", "/b/x"),
+    ("/..", "../x", "/x"),
+];
+
+/// A directory, a name, and the directory whose files it names.
+const CHILDREN: [(&str, &str, &str); 7] = [
+    ("/w", "*", "/w"),
+    ("/w", "/*", "/"),
+    ("/w", "/tmp/*", "/tmp"),
+    ("/w", "a/../b/*", "/w/b"),
+    ("/w", "/..//*", "/"),
+    ("/w", "-/*", "/w/-"),
+    ("/", "*", "/"),
+];
+
+/// A directory, a name, and the directory below which it names all.
+const BELOW: [(&str, &str, &str); 7] = [
+    ("/w", "-", "/w"),
+    ("/w", "/-", "/"),
+    ("/w", "/tmp//-", "/tmp"),
+    ("/w", "/tmp/../-", "/"),
+    ("/w", "../../-", "/"),
+    ("/w", "*/-", "/w/*"),
+    ("/", "-", "/"),
+];
+
+/// Whether a path is of a kind, `=`, `*` or `-`, and has a text.
+fn is_path(alloc: Global, path: &FilePath, kind: char, text: &str) -> Result<bool, AllocError> {
+    let (of, path) = match path {
+        FilePath::AllFiles => return Ok(false),
+        FilePath::Exact(path) => ('=', path),
+        FilePath::Children(path) => ('*', path),
+        FilePath::Below(path) => ('-', path),
+    };
+    let text = Units::from_text(alloc, text)?;
+    Ok(of == kind && path.as_slice() == text.as_slice())
+}
+
 #[test]
 fn reads_paths(rt: HostRuntime) -> Result<(), Fail> {
-    let exact = [
-        ("/w", "x/../y", "/w/y"),
-        ("/w", "/w//y/", "/w/y"),
-        ("/w", "", "/w"),
-        ("/w", ".", "/w"),
-        ("/w", "./x/./y/.", "/w/x/y"),
-        ("/w", "..", "/"),
-        ("/w", "../../x", "/x"),
-        ("/w", "/..", "/"),
-        ("/w", "/../../x/", "/x"),
-        ("/w", "/a/b/../../../c", "/c"),
-        ("/w", "/", "/"),
-        ("/w", "///", "/"),
-        ("/w", "...", "/w/..."),
-        ("/w", "/.a/..b", "/.a/..b"),
-        ("/w", "a*", "/w/a*"),
-        ("/w", "/a-", "/a-"),
-        ("/w", "-a", "/w/-a"),
-        ("/w", "/tmp/*/", "/tmp/*"),
-        ("/w", "/tmp/-/.", "/tmp/-"),
-        ("/w", "/<<ALL FILES>>", "/<<ALL FILES>>"),
-        ("/w", "<<all files>>", "/w/<<all files>>"),
-        ("/", "x", "/x"),
-        ("/", "", "/"),
-        ("/a/../b//", "x", "/b/x"),
-        ("/..", "../x", "/x"),
-    ];
-    let children = [
-        ("/w", "*", "/w"),
-        ("/w", "/*", "/"),
-        ("/w", "/tmp/*", "/tmp"),
-        ("/w", "a/../b/*", "/w/b"),
-        ("/w", "/..//*", "/"),
-        ("/w", "-/*", "/w/-"),
-        ("/", "*", "/"),
-    ];
-    let below = [
-        ("/w", "-", "/w"),
-        ("/w", "/-", "/"),
-        ("/w", "/tmp//-", "/tmp"),
-        ("/w", "/tmp/../-", "/"),
-        ("/w", "../../-", "/"),
-        ("/w", "*/-", "/w/*"),
-        ("/", "-", "/"),
-    ];
     let alloc = rt.alloc();
-    for (cwd, name, path) in exact {
-        let want = FilePath::Exact(Units::from_text(alloc, path)?);
-        assert!(rt; path_in(alloc, cwd, name)?.equal(&want), "{name}");
+    for (kind, rows) in [('=', &EXACT[..]), ('*', &CHILDREN[..]), ('-', &BELOW[..])] {
+        for (cwd, name, path) in rows {
+            let found = path_in(alloc, cwd, name)?;
+            assert!(rt; is_path(alloc, &found, kind, path)?, "{name}");
+        }
     }
-    for (cwd, name, path) in children {
-        let want = FilePath::Children(Units::from_text(alloc, path)?);
-        assert!(rt; path_in(alloc, cwd, name)?.equal(&want), "{name}");
-    }
-    for (cwd, name, path) in below {
-        let want = FilePath::Below(Units::from_text(alloc, path)?);
-        assert!(rt; path_in(alloc, cwd, name)?.equal(&want), "{name}");
-    }
-    assert!(rt; path_in(alloc, "/w", "<<ALL FILES>>")?.equal(&FilePath::AllFiles));
+    assert!(rt;
+        path_in(alloc, "/w", "<<ALL FILES>>")?.equal(&FilePath::AllFiles),
+        "all files"
+    );
     Ok(())
 }
 
@@ -284,40 +305,42 @@ fn agrees(
     Ok(held.implies(&asked) == wanted && covers(&[held], &asked) == wanted)
 }
 
+/// A name, an asked one, and whether the first covers it.
+const NAMES: [(&str, &str, bool); 28] = [
+    ("a.*", "a.b", true),
+    ("a.*", "a.b.c", true),
+    ("a.*", "a.b.*", true),
+    ("a.*", "a..", true),
+    ("a.*", "a.*", true),
+    ("a.*", "a.", false),
+    ("a.*", "a", false),
+    ("a.*", "ab", false),
+    ("a.*", "b.a.b", false),
+    ("a.b.*", "a.*", false),
+    ("*", "a", true),
+    ("*", "a.*", true),
+    ("*", ".", true),
+    ("*", "*", true),
+    (".*", ".a", true),
+    (".*", ".", false),
+    (".*", "a", false),
+    ("a*", "a*", true),
+    ("a*", "ab", false),
+    ("a*", "a", false),
+    ("**", "***", false),
+    ("a.*b", "a.cb", false),
+    ("*.a", "b.a", false),
+    ("a", "a", true),
+    ("a", "A", false),
+    ("a", "a.b", false),
+    ("a.b", "a", false),
+    ("a.b", "a.*", false),
+];
+
 #[test]
 fn implies_by_name(rt: HostRuntime) -> Result<(), Fail> {
-    let names: [(&str, &str, bool); 28] = [
-        ("a.*", "a.b", true),
-        ("a.*", "a.b.c", true),
-        ("a.*", "a.b.*", true),
-        ("a.*", "a..", true),
-        ("a.*", "a.*", true),
-        ("a.*", "a.", false),
-        ("a.*", "a", false),
-        ("a.*", "ab", false),
-        ("a.*", "b.a.b", false),
-        ("a.b.*", "a.*", false),
-        ("*", "a", true),
-        ("*", "a.*", true),
-        ("*", ".", true),
-        ("*", "*", true),
-        (".*", ".a", true),
-        (".*", ".", false),
-        (".*", "a", false),
-        ("a*", "a*", true),
-        ("a*", "ab", false),
-        ("a*", "a", false),
-        ("**", "***", false),
-        ("a.*b", "a.cb", false),
-        ("*.a", "b.a", false),
-        ("a", "a", true),
-        ("a", "A", false),
-        ("a", "a.b", false),
-        ("a.b", "a", false),
-        ("a.b", "a.*", false),
-    ];
     let alloc = rt.alloc();
-    for (held, asked, wanted) in names {
+    for (held, asked, wanted) in NAMES {
         assert!(rt;
             agrees(alloc, (Runtime, held, ""), (Runtime, asked, ""), wanted)?,
             "{held} {asked}"
@@ -339,68 +362,70 @@ fn implies_by_name(rt: HostRuntime) -> Result<(), Fail> {
     Ok(())
 }
 
+/// A name of a file, an asked one, and whether the first covers it.
+const PATHS: [(&str, &str, bool); 56] = [
+    ("/a", "/a/", true),
+    ("/a", "/A", false),
+    ("/a", "/a/b", false),
+    ("/a/b", "/a", false),
+    ("/a/b", "/a/*", false),
+    ("/a/b", "/a/-", false),
+    ("", "/w", true),
+    ("x/../y", "/w//y/", true),
+    ("/..", "/", true),
+    ("/a/*", "/a/b", true),
+    ("/a/*", "/a/b/", true),
+    ("/a/*", "/a/*", true),
+    ("/a/*", "/a/*/", true),
+    ("/a/*", "/a", false),
+    ("/a/*", "/a/.", false),
+    ("/a/*", "/a/b/c", false),
+    ("/a/*", "/a/b/*", false),
+    ("/a/*", "/a/-", false),
+    ("/a/*", "/ab", false),
+    ("/a/*", "/a/../b", false),
+    ("/a/*/", "/a/*", false),
+    ("/a/*/", "/a/b", false),
+    ("/a/-", "/a/b", true),
+    ("/a/-", "/a/b/c", true),
+    ("/a/-", "/a/*", true),
+    ("/a/-", "/a/-", true),
+    ("/a/-", "/a/b/*", true),
+    ("/a/-", "/a/b/-", true),
+    ("/a/-", "/a", false),
+    ("/a/-", "/ab", false),
+    ("/a/-", "/ab/*", false),
+    ("/a/-", "/*", false),
+    ("/a/-", "/-", false),
+    ("/a/-", "/a/../b", false),
+    ("/*", "/a", true),
+    ("/*", "/", false),
+    ("/*", "/a/b", false),
+    ("/*", "/a/*", false),
+    ("/-", "/a", true),
+    ("/-", "/a/b", true),
+    ("/-", "/*", true),
+    ("/-", "/a/-", true),
+    ("/-", "/", false),
+    ("*", "x", true),
+    ("*", "/w/x", true),
+    ("*", "x/y", false),
+    ("*", "", false),
+    ("-", "x/y", true),
+    ("-", "*", true),
+    ("-", "", false),
+    ("-", "../x", false),
+    ("<<ALL FILES>>", "/", true),
+    ("<<ALL FILES>>", "/-", true),
+    ("<<ALL FILES>>", "<<ALL FILES>>", true),
+    ("/-", "<<ALL FILES>>", false),
+    ("/*", "<<ALL FILES>>", false),
+];
+
 #[test]
 fn implies_by_path(rt: HostRuntime) -> Result<(), Fail> {
-    let paths: [(&str, &str, bool); 56] = [
-        ("/a", "/a/", true),
-        ("/a", "/A", false),
-        ("/a", "/a/b", false),
-        ("/a/b", "/a", false),
-        ("/a/b", "/a/*", false),
-        ("/a/b", "/a/-", false),
-        ("", "/w", true),
-        ("x/../y", "/w//y/", true),
-        ("/..", "/", true),
-        ("/a/*", "/a/b", true),
-        ("/a/*", "/a/b/", true),
-        ("/a/*", "/a/*", true),
-        ("/a/*", "/a/*/", true),
-        ("/a/*", "/a", false),
-        ("/a/*", "/a/.", false),
-        ("/a/*", "/a/b/c", false),
-        ("/a/*", "/a/b/*", false),
-        ("/a/*", "/a/-", false),
-        ("/a/*", "/ab", false),
-        ("/a/*", "/a/../b", false),
-        ("/a/*/", "/a/*", false),
-        ("/a/*/", "/a/b", false),
-        ("/a/-", "/a/b", true),
-        ("/a/-", "/a/b/c", true),
-        ("/a/-", "/a/*", true),
-        ("/a/-", "/a/-", true),
-        ("/a/-", "/a/b/*", true),
-        ("/a/-", "/a/b/-", true),
-        ("/a/-", "/a", false),
-        ("/a/-", "/ab", false),
-        ("/a/-", "/ab/*", false),
-        ("/a/-", "/*", false),
-        ("/a/-", "/-", false),
-        ("/a/-", "/a/../b", false),
-        ("/*", "/a", true),
-        ("/*", "/", false),
-        ("/*", "/a/b", false),
-        ("/*", "/a/*", false),
-        ("/-", "/a", true),
-        ("/-", "/a/b", true),
-        ("/-", "/*", true),
-        ("/-", "/a/-", true),
-        ("/-", "/", false),
-        ("*", "x", true),
-        ("*", "/w/x", true),
-        ("*", "x/y", false),
-        ("*", "", false),
-        ("-", "x/y", true),
-        ("-", "*", true),
-        ("-", "", false),
-        ("-", "../x", false),
-        ("<<ALL FILES>>", "/", true),
-        ("<<ALL FILES>>", "/-", true),
-        ("<<ALL FILES>>", "<<ALL FILES>>", true),
-        ("/-", "<<ALL FILES>>", false),
-        ("/*", "<<ALL FILES>>", false),
-    ];
     let alloc = rt.alloc();
-    for (held, asked, wanted) in paths {
+    for (held, asked, wanted) in PATHS {
         assert!(rt;
             agrees(alloc, (File, held, "read"), (File, asked, "read"), wanted)?,
             "{held} {asked}"
@@ -440,66 +465,78 @@ fn list_of(alloc: Global, words: &[Words<'static>]) -> Result<Vec<Permission>, F
     Ok(list)
 }
 
+/// Members that have the actions on one file together.
+const JOB: [Words<'static>; 2] = [(File, "/tmp/-", "read"), (File, "/tmp/s/f", "write")];
+
+/// Members that have the actions on one property together.
+const PROPERTIES: [Words<'static>; 2] = [(Property, "a.*", "read"), (Property, "a.b", "write")];
+
+/// Members of four kinds with one name or another.
+const MIXED: [Words<'static>; 4] = [
+    (Property, "/a", "read"),
+    (File, "/a", "write"),
+    (Runtime, "a.*", ""),
+    (Security, "a.b", ""),
+];
+
+/// Members whose paths are of three kinds.
+const FORMS: [Words<'static>; 3] = [
+    (File, "/a/*", "read"),
+    (File, "/a/-", "write"),
+    (File, "<<ALL FILES>>", "execute"),
+];
+
+/// Members that cover all of their kinds.
+const WIDE: [Words<'static>; 3] = [
+    (Runtime, "*", ""),
+    (Property, "*", "read,write"),
+    (File, "<<ALL FILES>>", "read,write,execute,delete,readlink"),
+];
+
+/// A list, an asked permission, and whether the list covers it.
+const LISTS: [(&[Words<'static>], Words<'static>, bool); 32] = [
+    (&JOB, (File, "/tmp/s/f", "write, READ"), true),
+    (&JOB, (File, "/tmp/s/f", "write"), true),
+    (&JOB, (File, "/tmp/s/f", "read,delete"), false),
+    (&JOB, (File, "/tmp/s/g", "read"), true),
+    (&JOB, (File, "/tmp/s/g", "read,write"), false),
+    (&JOB, (File, "/tmp", "read"), false),
+    (&PROPERTIES, (Property, "a.b", "read,write"), true),
+    (&PROPERTIES, (Property, "a.c", "read"), true),
+    (&PROPERTIES, (Property, "a.c", "read,write"), false),
+    (&PROPERTIES, (Property, "a.*", "read,write"), false),
+    (&PROPERTIES, (Property, "b", "read"), false),
+    (&MIXED, (Property, "/a", "read"), true),
+    (&MIXED, (Property, "/a", "read,write"), false),
+    (&MIXED, (File, "/a", "write"), true),
+    (&MIXED, (File, "/a", "read,write"), false),
+    (&MIXED, (Runtime, "a.c", ""), true),
+    (&MIXED, (Security, "a.b", ""), true),
+    (&MIXED, (Security, "a.c", ""), false),
+    (&FORMS, (File, "/a/b", "read,write,execute"), true),
+    (&FORMS, (File, "/a/b", "read,delete"), false),
+    (&FORMS, (File, "/a/b/c", "write,execute"), true),
+    (&FORMS, (File, "/a/b/c", "read"), false),
+    (&FORMS, (File, "/a/*", "read,write,execute"), true),
+    (&FORMS, (File, "/a/-", "write,execute"), true),
+    (&FORMS, (File, "/a/-", "read"), false),
+    (&FORMS, (File, "/a", "execute"), true),
+    (&FORMS, (File, "<<ALL FILES>>", "execute,write"), false),
+    (&WIDE, (All, "", ""), false),
+    (&WIDE, (Security, "a", ""), false),
+    (
+        &[(All, "", "")],
+        (File, "<<ALL FILES>>", "read,write"),
+        true,
+    ),
+    (&[], (Property, "a", "read"), false),
+    (&[], (All, "", ""), false),
+];
+
 #[test]
 fn covers_by_lists(rt: HostRuntime) -> Result<(), Fail> {
-    let job = [(File, "/tmp/-", "read"), (File, "/tmp/s/f", "write")];
-    let names = [(Property, "a.*", "read"), (Property, "a.b", "write")];
-    let kinds = [
-        (Property, "/a", "read"),
-        (File, "/a", "write"),
-        (Runtime, "a.*", ""),
-        (Security, "a.b", ""),
-    ];
-    let forms = [
-        (File, "/a/*", "read"),
-        (File, "/a/-", "write"),
-        (File, "<<ALL FILES>>", "execute"),
-    ];
-    let wide = [
-        (Runtime, "*", ""),
-        (Property, "*", "read,write"),
-        (File, "<<ALL FILES>>", "read,write,execute,delete,readlink"),
-    ];
-    let rows: [(&[Words<'static>], Words<'static>, bool); 32] = [
-        (&job, (File, "/tmp/s/f", "write, READ"), true),
-        (&job, (File, "/tmp/s/f", "write"), true),
-        (&job, (File, "/tmp/s/f", "read,delete"), false),
-        (&job, (File, "/tmp/s/g", "read"), true),
-        (&job, (File, "/tmp/s/g", "read,write"), false),
-        (&job, (File, "/tmp", "read"), false),
-        (&names, (Property, "a.b", "read,write"), true),
-        (&names, (Property, "a.c", "read"), true),
-        (&names, (Property, "a.c", "read,write"), false),
-        (&names, (Property, "a.*", "read,write"), false),
-        (&names, (Property, "b", "read"), false),
-        (&kinds, (Property, "/a", "read"), true),
-        (&kinds, (Property, "/a", "read,write"), false),
-        (&kinds, (File, "/a", "write"), true),
-        (&kinds, (File, "/a", "read,write"), false),
-        (&kinds, (Runtime, "a.c", ""), true),
-        (&kinds, (Security, "a.b", ""), true),
-        (&kinds, (Security, "a.c", ""), false),
-        (&forms, (File, "/a/b", "read,write,execute"), true),
-        (&forms, (File, "/a/b", "read,delete"), false),
-        (&forms, (File, "/a/b/c", "write,execute"), true),
-        (&forms, (File, "/a/b/c", "read"), false),
-        (&forms, (File, "/a/*", "read,write,execute"), true),
-        (&forms, (File, "/a/-", "write,execute"), true),
-        (&forms, (File, "/a/-", "read"), false),
-        (&forms, (File, "/a", "execute"), true),
-        (&forms, (File, "<<ALL FILES>>", "execute,write"), false),
-        (&wide, (All, "", ""), false),
-        (&wide, (Security, "a", ""), false),
-        (
-            &[(All, "", "")],
-            (File, "<<ALL FILES>>", "read,write"),
-            true,
-        ),
-        (&[], (Property, "a", "read"), false),
-        (&[], (All, "", ""), false),
-    ];
     let alloc = rt.alloc();
-    for (words, asked, wanted) in rows {
+    for (words, asked, wanted) in LISTS {
         let list = list_of(alloc, words)?;
         let p = permission(alloc, asked)?;
         assert!(rt; covers(&list, &p) == wanted, "{} {}", asked.1, asked.2);
