@@ -9,7 +9,6 @@ use Rattle.jbase.specs.Stops.{◌>>=◌}
 use Rattle.jformat.specs.declared.error.Fault.{Fault}
 use Rattle.jformat.specs.Format.{IsBytes, Answer, Format, fault, fault_at, run_at}
 use Rattle.jformat.specs.Bodies.{Body, all, whole, outward, inner_at, block, sized, times_at, counted, counted_at, many, many_at}
-use Rattle.jformat.specs.Whole.{no_fault}
 use Rattle.jformat.proofs.Steps.{IsBytes-drop, IsBytes-take, IsBytes-rest, bind_ok, bind_err, guard_ok, guard_err, guard_ended, guard_cut, ok_is, both, first_true, second_true, fault_within}
 use Rattle.jformat.proofs.Laws.{IsReading, IsFormat, HasBytes, bind_reading}
 
@@ -21,6 +20,10 @@ pub record IsBody {K A : Type 0} (f : Body K A) : Type 0 where
 all_bytes : (text : List ℕ) → IsBytes text → list_all (λ b. ltb b 256) text ≡ true
 all_bytes [] fits = refl
 all_bytes (b ∷ bs) fits = both _ _ (lt-ltb _ _ (fits 0)) (all_bytes bs (IsBytes-rest b bs fits))
+
+-- All bytes of a text, read as they are, have no fault.
+no_fault : {K : Type 0} (bytes : List ℕ) (d : Fault K) → (all {K = K}).read bytes ≡ Err d → d.left ≤ length bytes
+no_fault bytes d e = absurd cc
 
 pub all_law : {K : Type 0} → IsBody (all {K = K})
 all_law {K} = record {

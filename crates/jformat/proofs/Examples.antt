@@ -2,12 +2,11 @@
 use Rattle.std.proofs.Common.{◌≡◌, ℕ, ◌+◌, Bool, true, false, cond, eqb, List, [], ◌∷◌, Option, Some, None, Ok, Err, refl, arith}
 use Rattle.std.specs.Prelude.{ℤ, pos, negsuc}
 use Rattle.std.specs.Int.{w16, w32}
-use Rattle.std.proofs.lemmas.List.{length-append}
-use Rattle.jformat.specs.Format.{Format, byte, number, signed, ◌·◌, until, until_at}
+use Rattle.jformat.specs.Format.{Format, byte, number, signed, ◌·◌}
 use Rattle.jformat.specs.Bodies.{Body, whole, block, sized, counted, many, many_at, times_at}
 use Rattle.jformat.specs.Cases.{Cases, case, two_of, sole, ◌∣◌, union, IsOnce}
 use Rattle.jformat.specs.States.{many_by, many_from}
-use Rattle.jformat.proofs.Laws.{IsFormat, HasBytes, cond_law, wide16, wide32, byte_law, number_law, signed_law, pair_law, until_law}
+use Rattle.jformat.proofs.Laws.{IsFormat, HasBytes, cond_law, wide16, wide32, byte_law, number_law, signed_law, pair_law}
 use Rattle.jformat.proofs.Blocks.{IsBody, sized_law, block_law, counted_law, whole_law, many_law}
 use Rattle.jformat.proofs.Stateful.{many_by_law}
 use Rattle.jformat.proofs.Casing.{IsCases, case_law, sole_law, either_law, union_law}
@@ -117,20 +116,20 @@ table_longer = refl
 
 -- ---- values to the end
 
-abbrev lines : Body ℕ (List (List ℕ))
-lines = many 1 (until 0 10)
+abbrev numbers : Body ℕ (List ℕ)
+numbers = many 1 u2
 
-lines_law : IsBody lines
-lines_law = many_law 1 (until 0 10) (until_law 0 10) (λ text fit. omega (arith, length-append text (10 ∷ [])))
+numbers_law : IsBody numbers
+numbers_law = many_law 1 u2 u2_law (λ n fit. omega (arith, wide16.len n))
 
-lines_read : lines.read (97 ∷ 98 ∷ 10 ∷ 10 ∷ 99 ∷ 10 ∷ []) ≡ Ok ((97 ∷ 98 ∷ []) ∷ [] ∷ (99 ∷ []) ∷ [])
-unfolding many_at until_at
-lines_read = refl
+numbers_read : numbers.read (0 ∷ 5 ∷ 1 ∷ 0 ∷ []) ≡ Ok (5 ∷ 256 ∷ [])
+unfolding many_at
+numbers_read = refl
 
--- a line that isn't ended
-lines_cut : lines.read (97 ∷ 10 ∷ 98 ∷ []) ≡ Err (record { left = 0; kind = 0 })
-unfolding many_at until_at
-lines_cut = refl
+-- a number that isn't wholly there
+numbers_cut : numbers.read (0 ∷ 5 ∷ 1 ∷ []) ≡ Err (record { left = 1; kind = 0 })
+unfolding many_at
+numbers_cut = refl
 
 -- ---- values by a state: the first has one byte, each other one two
 

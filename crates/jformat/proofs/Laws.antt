@@ -15,8 +15,8 @@ use Rattle.std.proofs.lemmas.Bool.Decides.{Decides-int_eq}
 use Rattle.std.proofs.lemmas.Nat.{be_bytes_2, be_bytes_4, from_be_bytes-to_be_bytes_2, from_be_bytes-to_be_bytes_4, be_bytes_8, from_be_bytes-to_be_bytes_8}
 use Rattle.jbase.specs.Stops.{◌>>=◌}
 use Rattle.jformat.specs.declared.error.Fault.{Fault}
-use Rattle.jformat.specs.Format.{IsBytes, Answer, Format, fault_at, void, byte, byte_at, number, number_at, signed, words, words_at, until, until_at, lacks, ◌·◌, ◌▹◌, via, as_case, part_spell, part_fits, is_number, known, after, ended, such, passed, is_good, literal}
-use Rattle.jformat.proofs.Steps.{IsBytes-drop, IsBytes-take, IsBytes-rest, bind_ok, bind_err, guard_ok, guard_err, guard_ended, guard_cut, done, ok_is, both, first_true, second_true, fault_within, passed_ok, passed_none, passed_err}
+use Rattle.jformat.specs.Format.{IsBytes, Answer, Format, fault_at, void, byte, byte_at, number, number_at, signed, words, words_at, ◌·◌, ◌▹◌, via, as_case, part_spell, part_fits, is_number, known, after, ended, such, passed, is_good, literal}
+use Rattle.jformat.proofs.Steps.{IsBytes-drop, IsBytes-take, IsBytes-rest, bind_ok, bind_err, guard_ok, guard_err, guard_ended, guard_cut, ok_is, both, first_true, second_true, fault_within, passed_ok, passed_none, passed_err}
 
 -- ---- the laws
 
@@ -401,76 +401,3 @@ pub literal_law : {K : Type 0} (count : Format K ℕ) (wrong : K) (n : ℕ) → 
 literal_law {K} count wrong n C = via_law (λ _. tt) (λ _. n) (such (λ k. cond (eqb k n) None (Some wrong)) count)
     (λ k fit. literal_back {K = K} k n wrong (second_true (count.fits k) (is_good (cond (eqb k n) None (Some wrong))) fit))
     (λ x fit. unit_is x) (such_law (λ k. cond (eqb k n) None (Some wrong)) count C)
-
--- ---- bytes up to a byte
-
-until_takes : {K : Type 0} (cut : K) (stop : ℕ) (bytes : List ℕ) (x : List ℕ × List ℕ) → IsBytes bytes → until_at cut stop bytes ≡ Ok x → Takes (until cut stop).spell (until cut stop).fits bytes x
-unfolding until_at lacks
-until_takes cut stop [] x fits e = absurd cc
-until_takes {K} cut stop (b ∷ bs) x fits e =
-    elim (cases_Bool (eqb b stop)) [
-      | inl hit ↦
-          let made : List ℕ × List ℕ = ([], bs) in
-          let e' : done (Fault K) made ≡ Ok x = rw hit at e in
-          let all : Takes (until cut stop).spell (until cut stop).fits (b ∷ bs) made = record { parts = ap (λ (n : ℕ). n ∷ bs) (eqb-true _ _ hit); rest_fits = IsBytes-rest b bs fits; fit = refl } in
-          subst (λ (y : List ℕ × List ℕ). Takes (until cut stop).spell (until cut stop).fits (b ∷ bs) y) (ok_is (Fault K) made x e') all
-      | inr miss ↦
-          let e' : (until_at cut stop bs >>= λ p. Ok (b ∷ p.0, p.1)) ≡ Ok x = rw miss at e in
-          let a = bind_ok (until_at cut stop bs) (λ p. Ok (b ∷ p.0, p.1)) x e' in
-          let s = until_takes cut stop bs a.0 (IsBytes-rest b bs fits) a.1 in
-          let made : List ℕ × List ℕ = (b ∷ a.0.0, a.0.1) in
-          let here : ltb b 256 ≡ true = lt-ltb _ _ (fits 0) in
-          let all : Takes (until cut stop).spell (until cut stop).fits (b ∷ bs) made = record { parts = ap (λ (r : List ℕ). b ∷ r) s.parts; rest_fits = s.rest_fits; fit = both _ _ (rw (miss, here) refl) s.fit } in
-          subst (λ (y : List ℕ × List ℕ). Takes (until cut stop).spell (until cut stop).fits (b ∷ bs) y) (ok_is (Fault K) made x a.2) all
-    ]
-
-not_stop : (b stop : ℕ) → IsTrue (cond (eqb b stop) false (ltb b 256)) → eqb b stop ≡ false
-not_stop b stop h = elim (cases_Bool (eqb b stop)) [ inl hit ↦ let no : false ≡ true = rw hit at h in absurd cc | inr miss ↦ miss ]
-
-until_again : {K : Type 0} (cut : K) (stop : ℕ) (text rest : List ℕ) → IsTrue (lacks stop text) → until_at cut stop (text ++ stop ∷ rest) ≡ Ok (text, rest)
-unfolding until_at lacks
-until_again cut stop [] rest fit = let same : eqb stop stop ≡ true = grind arith in rw same refl
-until_again cut stop (b ∷ bs) rest fit =
-    let miss = not_stop b stop (first_true (cond (eqb b stop) false (ltb b 256)) (lacks stop bs) fit) in
-    let others = until_again cut stop bs rest (second_true (cond (eqb b stop) false (ltb b 256)) (lacks stop bs) fit) in
-    rw (miss, others) refl
-
--- one byte more in front
-abbrev longer : (K : Type 0) → ℕ → List ℕ × List ℕ → Answer K (List ℕ)
-longer K b p = Ok (b ∷ p.0, p.1)
-
-within_next : {K : Type 0} (cut : K) (stop b : ℕ) (bs : List ℕ) (d : Fault K) (hit : Bool) → cond hit (done (Fault K) ([], bs)) (until_at cut stop bs >>= longer K b) ≡ Err d → ((until_at cut stop bs ≡ Err d) → d.left ≤ length bs) → d.left ≤ length (b ∷ bs)
-within_next cut stop b bs d true e h = absurd cc
-within_next {K} cut stop b bs d false e h = elim (bind_err (until_at cut stop bs) (longer K b) d e) [ inl k ↦ let le : d.left ≤ length bs = h k in omega arith | inr k ↦ absurd cc ]
-
-until_within : {K : Type 0} (cut : K) (stop : ℕ) (bytes : List ℕ) (d : Fault K) → until_at cut stop bytes ≡ Err d → d.left ≤ length bytes
-unfolding until_at
-until_within cut stop [] d e = fault_within cut [] [] d (omega arith) cc
-until_within cut stop (b ∷ bs) d e = within_next cut stop b bs d (eqb b stop) e (until_within cut stop bs d)
-
-until_shorter : {K : Type 0} (cut : K) (stop : ℕ) (bytes : List ℕ) (x : List ℕ × List ℕ) → until_at cut stop bytes ≡ Ok x → length x.1 ≤ length bytes
-unfolding until_at
-until_shorter cut stop [] x e = absurd cc
-until_shorter {K} cut stop (b ∷ bs) x e =
-    elim (cases_Bool (eqb b stop)) [
-      | inl hit ↦
-          let made : List ℕ × List ℕ = ([], bs) in
-          let e' : done (Fault K) made ≡ Ok x = rw hit at e in
-          rw (sym (ok_is (Fault K) made x e')) (omega arith)
-      | inr miss ↦
-          let e' : (until_at cut stop bs >>= λ p. Ok (b ∷ p.0, p.1)) ≡ Ok x = rw miss at e in
-          let a = bind_ok (until_at cut stop bs) (λ p. Ok (b ∷ p.0, p.1)) x e' in
-          let le = until_shorter cut stop bs a.0 a.1 in
-          let made : List ℕ × List ℕ = (b ∷ a.0.0, a.0.1) in
-          rw (sym (ok_is (Fault K) made x a.2)) (omega arith)
-    ]
-
-until_reading : {K : Type 0} (cut : K) (stop : ℕ) → IsReading (until_at cut stop)
-until_reading cut stop = record { within = until_within cut stop; shorter = until_shorter cut stop }
-
-pub until_law : {K : Type 0} (cut : K) (stop : ℕ) → IsFormat (until cut stop)
-until_law cut stop = record {
-  takes = until_takes cut stop;
-  again = λ text rest fit. ap (until_at cut stop) (append_assoc text (stop ∷ []) rest) ∙ until_again cut stop text rest fit;
-  reading = until_reading cut stop;
-}

@@ -1,15 +1,15 @@
 -- Reading and writing values one behind the other, as loops do: what is left gives what all gives.
-use Rattle.std.proofs.Common.{◌≡◌, ◌≢◌, ℕ, zero, suc, ◌-◌, ◌+◌, ◌≤◌, ◌<◌, Bool, true, false, ◌&&◌, eqb, List, [], ◌∷◌, ◌++◌, length, get_or, take, drop, Result, Ok, Err, refl, sym, ap, ◌∙◌, append_assoc, arith, add-one, inl, inr}
+use Rattle.std.proofs.Common.{◌≡◌, ℕ, zero, suc, ◌-◌, ◌+◌, ◌≤◌, ◌<◌, Bool, true, false, ◌&&◌, eqb, List, [], ◌∷◌, ◌++◌, length, get_or, drop, Result, Ok, Err, refl, sym, ap, ◌∙◌, append_assoc, arith, add-one}
 use Rattle.std.specs.Prelude.{IsTrue}
-use Rattle.std.proofs.Math.Seq.{drop-cons, take-suc}
+use Rattle.std.proofs.Math.Seq.{drop-cons}
 use Rattle.std.proofs.Math.ListN.{drop_of_length-le}
-use Rattle.std.proofs.lemmas.Bool.{cases_Bool, eqb-true}
+use Rattle.std.proofs.lemmas.Bool.{eqb-true}
 use Rattle.std.proofs.lemmas.List.{append-nil}
 use Rattle.jbase.specs.declared.stop.Stop.{Stop}
 use Rattle.jbase.specs.declared.stop.Stop.TheVariants as stops
 use Rattle.jbase.specs.Stops.{◌>>=◌, Fails}
 use Rattle.jformat.specs.declared.error.Fault.{Fault}
-use Rattle.jformat.specs.Format.{Answer, fault, until_at}
+use Rattle.jformat.specs.Format.{Answer, fault}
 use Rattle.jformat.specs.Bodies.{times_at, many_at}
 use Rattle.jformat.specs.States.{times_from, many_from, spell_from, fits_from}
 use Rattle.jformat.proofs.Stateful.{many_from_some}
@@ -140,41 +140,6 @@ is_none bytes h = eqb-true _ _ (sym h)
 pub is_some : (bytes : List ℕ) → false ≡ eqb (length bytes) 0 → 0 < length bytes
 is_some [] h = absurd cc
 is_some (b ∷ bs) h = omega arith
-
--- ---- up to a byte
-
-abbrev pub with_text : {K : Type 0} → List ℕ → Answer K (List ℕ) → Answer K (List ℕ)
-with_text front read = read >>= λ x. Ok (front ++ x.0, x.1)
-
-regroup_text : {K : Type 0} (front : List ℕ) (b : ℕ) (read : Answer K (List ℕ)) → with_text front (read >>= λ x. Ok (b ∷ x.0, x.1)) ≡ with_text (front ++ b ∷ []) read
-regroup_text front b (Ok x) = ap (λ (t : List ℕ). Ok (t, x.1)) (simp append_assoc)
-regroup_text front b (Err f) = refl
-
-pub differs : (a b : ℕ) → a ≢ b → eqb a b ≡ false
-differs a b h = elim (cases_Bool (eqb a b)) [ inl hit ↦ absurd (h (eqb-true a b hit)) | inr miss ↦ miss ]
-
-pub until_more : {K : Type 0} (cut : K) (stop i : ℕ) (bytes : List ℕ) (total : Answer K (List ℕ)) → i < length bytes → eqb (get_or bytes i 0) stop ≡ false → with_text (take i bytes) (until_at cut stop (drop i bytes)) ≡ total → with_text (take (i + 1) bytes) (until_at cut stop (drop (i + 1) bytes)) ≡ total
-unfolding until_at
-until_more cut stop i bytes total lt miss so_far =
-    let one : with_text (take i bytes) (until_at cut stop (drop i bytes)) ≡ with_text (take i bytes ++ get_or bytes i 0 ∷ []) (until_at cut stop (drop (suc i) bytes)) =
-    rw (drop-cons bytes i 0, miss) (regroup_text (take i bytes) (get_or bytes i 0) (until_at cut stop (drop (suc i) bytes))) in
-    let two : with_text (take (i + 1) bytes) (until_at cut stop (drop (i + 1) bytes)) ≡ with_text (take i bytes ++ get_or bytes i 0 ∷ []) (until_at cut stop (drop (suc i) bytes)) =
-    rw (add-one i, take-suc bytes i 0) refl in
-    two ∙ sym one ∙ so_far
-
-pub until_found : {K : Type 0} (cut : K) (stop i : ℕ) (bytes front rest : List ℕ) (total : Answer K (List ℕ)) → i < length bytes → get_or bytes i 0 ≡ stop → front ≡ take i bytes → rest ≡ drop (i + 1) bytes → with_text (take i bytes) (until_at cut stop (drop i bytes)) ≡ total → total ≡ Ok (front, rest)
-unfolding until_at
-until_found cut stop i bytes front rest total lt hit f r so_far =
-    let same : eqb (get_or bytes i 0) stop ≡ true = grind arith in
-    let one : with_text (take i bytes) (until_at cut stop (drop i bytes)) ≡ Ok (take i bytes ++ [], drop (suc i) bytes) = rw (drop-cons bytes i 0, same) refl in
-    let r' : rest ≡ drop (suc i) bytes = r ∙ ap (λ k. drop k bytes) (add-one i) in
-    sym so_far ∙ one ∙ ap (λ (t : List ℕ). Ok (t, drop (suc i) bytes)) (append-nil (take i bytes) ∙ sym f) ∙ ap (λ (t : List ℕ). Ok (front, t)) (sym r')
-
-pub until_none : {K : Type 0} (cut : K) (stop i : ℕ) (bytes : List ℕ) (total : Answer K (List ℕ)) → length bytes ≤ i → with_text (take i bytes) (until_at cut stop (drop i bytes)) ≡ total → total ≡ fault cut []
-unfolding until_at
-until_none cut stop i bytes total le so_far =
-    let one : with_text (take i bytes) (until_at cut stop (drop i bytes)) ≡ fault cut [] = rw (drop_of_length-le bytes le) refl in
-    sym so_far ∙ one
 
 -- ---- writing by a state
 

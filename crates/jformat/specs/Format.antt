@@ -64,18 +64,6 @@ words_at wrong text bytes = if bytes_eq (take (length text) bytes) text then Ok 
 abbrev pub words : {K : Type 0} → K → List ℕ → Format K (Unit {0})
 words wrong text = record { spell = λ _. text; fits = λ _. true; read = words_at wrong text }
 
-unfoldable pub until_at : {K : Type 0} → K → ℕ → List ℕ → Answer K (List ℕ)
-until_at cut stop [] = fault cut []
-until_at cut stop (b ∷ rest) = if b == stop then Ok ([], rest) else (until_at cut stop rest >>= λ x. Ok (b ∷ x.0, x.1))
-
-unfoldable pub lacks : ℕ → List ℕ → Bool
-lacks stop [] = true
-lacks stop (b ∷ bs) = (if b == stop then false else nat_lt b 256) && lacks stop bs
-
--- the bytes up to the first such byte, which ends them
-abbrev pub until : {K : Type 0} → K → ℕ → Format K (List ℕ)
-until cut stop = record { spell = λ text. text ++ stop ∷ []; fits = lacks stop; read = until_at cut stop }
-
 -- ---- parts and values
 
 -- one behind the other

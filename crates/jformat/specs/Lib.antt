@@ -5,4 +5,3 @@ pub mod Passes
 pub mod Places
 pub mod States
 pub mod Tags
-pub mod Whole

@@ -3,12 +3,11 @@ ghost use Rattle.std.specs.Int.{w32};
 ghost use Rattle.jbase.specs.Stops.{Gives};
 ghost use Rattle.jformat.specs.declared.error.Fault.{Fault};
 ghost use Rattle.jformat.specs.Format.{number_at};
-ghost use Rattle.jformat.specs.Bodies.{block_at, inner_at, whole_at};
+ghost use Rattle.jformat.specs.Bodies.{block_at, inner_at};
 
 use crate::error::{Fault, ReadError};
-use crate::loops::Reader;
 use crate::numbers::u32_of;
-use crate::parts::{fault, run_of};
+use crate::parts::run_of;
 use jbase::Stop;
 use std::alloc::Global;
 
@@ -38,6 +37,7 @@ pub fn inner_of<'a, R: BodyReader>(
 ) -> Result<(R::Item, &'a [u8]), ReadError<R::Kind>>
     ensures { Gives (λ x. (x.0, x.1.now)) result (inner_at cut (R.reads reader.now) count bytes.now) }
 {
+    // What the proof needs: a slice has no more bytes than a usize counts.
     let _size = bytes.len();
     let (text, rest) = run_of(cut, count, bytes)?;
     match reader.read(alloc, text) {
@@ -61,20 +61,4 @@ pub fn block_of<'a, R: BodyReader>(
 {
     let (count, rest) = u32_of(cut, bytes)?;
     inner_of(alloc, reader, cut, count as usize, rest)
-}
-
-/// A value and nothing behind it. Bytes that are left are a fault `more`.
-pub fn whole_of<R: Reader>(
-    alloc: Global,
-    reader: &R,
-    more: R::Kind,
-    bytes: &[u8],
-) -> Result<R::Item, ReadError<R::Kind>>
-    ensures { Gives (λ x. x) result (whole_at more (R.reads reader.now) bytes.now) }
-{
-    let (item, rest) = reader.read(alloc, bytes)?;
-    if !rest.is_empty() {
-        return Err(fault(more, rest));
-    }
-    Ok(item)
 }

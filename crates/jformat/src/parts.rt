@@ -1,7 +1,7 @@
 ghost use Rattle.std.specs.Prelude.{◌≡◌};
 ghost use Rattle.std.specs.Int.{w16};
 ghost use Rattle.jbase.specs.Stops.{Gives};
-ghost use Rattle.jformat.specs.Format.{fault_at, number, run_at, until_at, words_at};
+ghost use Rattle.jformat.specs.Format.{fault_at, number, run_at, words_at};
 ghost use Rattle.jformat.specs.Bodies.{sized};
 
 use crate::error::{Fault, ReadError};
@@ -57,18 +57,4 @@ pub fn words_of<'a, K: Drop>(
         }
     }
     Err(fault(wrong, bytes))
-}
-
-/// The bytes up to the first byte `stop`, and the rest behind it.
-pub fn until_of<K: Drop>(cut: K, stop: u8, bytes: &[u8]) -> Result<(&[u8], &[u8]), ReadError<K>>
-    ensures { Gives (λ x. (x.0.now, x.1.now)) result (until_at cut stop bytes.now) }
-{
-    for (i, b) in bytes.iter().enumerate() {
-        if *b == stop {
-            let (text, _) = bytes.split_at(i);
-            let (_, rest) = bytes.split_at(i + 1);
-            return Ok((text, rest));
-        }
-    }
-    Err(Stop::Fault(Fault { left: 0, kind: cut }))
 }

@@ -1,10 +1,9 @@
-ghost use Rattle.std.specs.Prelude.{◌≡◌, ℕ, List, Result, length};
+ghost use Rattle.std.specs.Prelude.{◌≡◌, ℕ, List, Result};
 ghost use Rattle.jbase.specs.Stops.{Gives};
 ghost use Rattle.jformat.specs.declared.error.Fault.{Fault};
-ghost use Rattle.jformat.specs.States.{many_from, times_from};
+ghost use Rattle.jformat.specs.States.{times_from};
 
 use crate::error::ReadError;
-use crate::parts::fault;
 use jbase::Seq;
 use std::alloc::Global;
 
@@ -54,33 +53,4 @@ pub fn times_by_of<'a, R: StateReader>(
         rest = after;
     }
     Ok((items, rest))
-}
-
-/// Values to the end of the bytes, each by the state that the earlier ones made. Bytes that are left behind as many values
-/// as there are bytes are a fault `more`.
-pub fn many_by_of<R: StateReader>(
-    alloc: Global,
-    reader: &R,
-    more: R::Kind,
-    first: R::State,
-    bytes: &[u8],
-) -> Result<Seq<R::Item>, ReadError<R::Kind>>
-    ensures { Gives (λ x. x) result (many_from more (R.reads reader.now) (R.goes_to reader.now) first (length bytes.now) bytes.now) }
-{
-    let mut items = Seq::new(alloc);
-    let mut state = first;
-    let mut rest = bytes;
-    for _ in 0..bytes.len() {
-        if rest.is_empty() {
-            return Ok(items);
-        }
-        let (one, after) = reader.read(alloc, state, rest)?;
-        state = reader.next(state, &one);
-        items.push(one)?;
-        rest = after;
-    }
-    if rest.is_empty() {
-        return Ok(items);
-    }
-    Err(fault(more, rest))
 }

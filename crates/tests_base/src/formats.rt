@@ -1,13 +1,13 @@
 ghost use Rattle.std.specs.Prelude.{◌≡◌, ◌+◌, ◌<◌, ◌^◌, ◌%◌, Ok, true, nat_lt};
 ghost use Rattle.std.specs.Int.{w16, to_be_bytes};
 ghost use Rattle.jformat.specs.Format.{number_at};
-ghost use Rattle.jformat.specs.Whole.{no_fault};
+ghost use Rattle.jformat.proofs.Blocks.{all_law};
 
 use jbase::{Seq, Stop};
 use jformat::{
     BodyReader, Fault, ReadError, Reader, StateReader, StateWriter, Writer, block_of, counted_of,
-    i8_of, i16_of, many_by_of, many_of, put_block, put_by, put_counted, put_i16, put_sized16,
-    put_u16, times_by_of, u16_of, until_of, whole_of, words_of,
+    i8_of, i16_of, many_of, put_block, put_by, put_counted, put_i16, put_sized16, put_u16,
+    times_by_of, u16_of, words_of,
 };
 use std::alloc::{AllocError, Global};
 
@@ -48,7 +48,7 @@ impl BodyReader for Text {
 
     ghost reads = { λ _ bytes. Ok bytes };
 
-    ghost within = { λ _ bytes d e. no_fault bytes d e };
+    ghost within = { λ _ bytes d e. all_law.within bytes d e };
 
     fn read(&self, alloc: Global, bytes: &[u8]) -> Result<Seq<u8>, ReadError<u8>> {
         Ok(Seq::from_slice(alloc, bytes)?)
@@ -132,13 +132,6 @@ fn reads_lists(rt: HostRuntime) {
         Ok((items, _)) => assert!(rt; items.as_slice() == [2, 256, 7].as_slice()),
         Err(_) => assert!(rt; false),
     }
-    assert!(rt;
-        many_by_of(alloc, &Nth, 1, 0, &bytes).err() == Some(Stop::Fault(Fault { left: 1, kind: 0 }))
-    );
-    assert!(rt;
-        whole_of(alloc, &Short, 1, &bytes[..3]).err()
-            == Some(Stop::Fault(Fault { left: 1, kind: 1 }))
-    );
 }
 
 #[test]
@@ -154,7 +147,6 @@ fn reads_parts(rt: HostRuntime) {
     }
     assert!(rt; i16_of(0, &[255, 128]) == Ok((-128, [].as_slice())));
     assert!(rt; i8_of(0, &[254, 1]) == Ok((-2, [1].as_slice())));
-    assert!(rt; until_of(0, 10, b"ab\nc") == Ok((b"ab".as_slice(), b"c".as_slice())));
     assert!(rt; words_of(3, b"run ", b"run it") == Ok(b"it".as_slice()));
     assert!(rt; words_of(3, b"run ", b"ran it") == Err(Stop::Fault(Fault { left: 6, kind: 3 })));
 }
