@@ -1,5 +1,5 @@
 -- Each production of policy files is exact.
-use Rattle.std.proofs.Common.{◌≡◌, ℕ, suc, ◌<◌, Bool, true, false, cond, not, ◌&&◌, eqb, List, [], ◌∷◌, ◌++◌, length, Option, Ok, Err, refl, sym, ap, ◌∙◌, append_assoc, subst, length-append, ◌+◌, inl, inr, arith}
+use Rattle.std.proofs.Common.{◌≡◌, ℕ, suc, ◌<◌, Bool, true, false, cond, not, ◌&&◌, eqb, List, [], ◌∷◌, ◌++◌, length, Option, Some, Ok, Err, refl, sym, ap, ◌∙◌, append_assoc, subst, length-append, ◌+◌, inl, inr, arith}
 use Rattle.std.specs.Str.{byte}
 use Rattle.std.proofs.lemmas.Bool.{cases_Bool, eqb-true}
 use Rattle.std.proofs.lemmas.List.{append-nil}
@@ -9,7 +9,7 @@ use Rattle.jpolicy.specs.declared.token.Token.TheVariants.{Word, Text, Mark, Bad
 use Rattle.jpolicy.specs.declared.token.Placed.{Placed}
 use Rattle.jformat.specs.declared.error.Fault.{Fault}
 use Rattle.jpolicy.specs.declared.fault.PolicyFault.{PolicyFault}
-use Rattle.jpolicy.specs.declared.fault.PolicyFault.TheVariants.{Syntax}
+use Rattle.jpolicy.specs.declared.fault.PolicyFault.TheVariants.{NotUtf8, Syntax, SelfExpansion}
 use Rattle.jpolicy.specs.declared.keyword.Keyword.{Keyword}
 use Rattle.jpolicy.specs.declared.keyword.Keyword.TheVariants as keywords
 use Rattle.jpolicy.specs.declared.grant.Grant.{Grant}
@@ -21,23 +21,23 @@ use Rattle.jpolicy.specs.Expansion.{Properties}
 use Rattle.jpolicy.specs.Walks.{walk, Ends}
 use Rattle.jpolicy.specs.Productions as read
 use Rattle.jpolicy.specs.Productions.{Answer, next, behind, is_mark, is_word, is_text, is_keyword, names_principal, is_absent, is_there, given, entry_of, with_code_base, with_signers, with_principal, grant_of, with_one, no_clauses, skip_comma, no_tokens}
-use Rattle.jpolicy.specs.Grammar.{Grammar, Nothing, Marked, Keyed, Worded, Texted, ◌▹◌, Either, Only, Comma, Signers, BehindActions, BehindComma, Named, BehindName, Entry, Entries, PrincipalName, Principal, Clause, AllClauses, OneGrant, Another, Others, Keystore, Password, Item, Items, Begins, NotAllowed, Says}
+use Rattle.jpolicy.specs.Grammar.{Grammar, Nothing, Marked, Keyed, Worded, Texted, ◌▹◌, Either, Only, Comma, Signers, BehindActions, BehindComma, Named, BehindName, Entry, Entries, PrincipalName, Principal, Clause, AllClauses, OneGrant, Another, Others, Keystore, Password, Item, Items, Begins, NotAllowed, Says, emptied}
 use Rattle.jpolicy.proofs.Walking.{bind_ok, walk_ends}
-use Rattle.jpolicy.proofs.Firm.{Firm, first, bind_err, picked, shrinks, and_false, same_next, firm_same, firm_wide, firm_if, firm_next, firm_none}
+use Rattle.jpolicy.proofs.Firm.{Firm, Seen, Alike, Said, plain, first, bind_err, picked, shrinks, and_false, same_next, firm_same, firm_wide, firm_if, firm_next, firm_none}
 use Rattle.jpolicy.proofs.Exact.{Law, Complete, Any, Not, Steps, law_none, law_one, law_word, law_text, law_then, law_first, law_map, law_next, law_if, law_only, law_once, law_last, law_many, front_of, steps_go}
-use Rattle.jpolicy.proofs.Fronts.{some_mark, some_word, some_keyword, marks_apart, mark_no_keyword, mark_no_text, mark_no_word, keyword_no_mark, keyword_no_text, keywords_apart, begins, begins_so, begins_some, deeper, deeper_some, text_begins, nothing_first, next_apart, worded}
+use Rattle.jpolicy.proofs.Fronts.{seen_mark, seen_word, seen_text, seen_name, seen_keyword, marks_apart, mark_no_keyword, mark_no_text, mark_no_word, keyword_no_mark, keyword_no_text, keywords_apart, begins, begins_so, begins_some, deeper, deeper_some, text_begins, nothing_first, next_apart, worded}
 
 abbrev comma : Token → Bool
 comma = is_mark (byte ",")
 
-some_comma : Begins (Marked (byte ",")) []
-some_comma = some_mark (byte ",") refl
+seen_comma : Seen comma
+seen_comma = seen_mark (byte ",") refl
 
 law_key : (w : Keyword) → Law Any (read.keyword_at w) (Keyed w)
-law_key w = law_one (is_keyword w) (some_keyword w)
+law_key w = law_one (is_keyword w) (seen_keyword w)
 
 law_semicolon : Law Any (read.mark_at (byte ";")) (Marked (byte ";"))
-law_semicolon = law_one (is_mark (byte ";")) (some_mark (byte ";") refl)
+law_semicolon = law_one (is_mark (byte ";")) (seen_mark (byte ";") refl)
 
 abbrev star : Token → Bool
 star = is_mark (byte "*")
@@ -59,17 +59,17 @@ unfolding read.signer_at
 signers p = law_first Any (read.keyword_at keywords.SignedBy) (Keyed keywords.SignedBy) (λ (u : Unit {0}) ts. read.text_at p ts >>= λ s. Ok (given s.0, s.1)) (λ (u : Unit {0}). Texted p ▹ λ s. Nothing (given s)) (law_key keywords.SignedBy) (λ u. law_map Any (read.text_at p) (Texted p) given (law_text p))
 
 behind_actions : (p : Properties) → Law (Not comma) (read.behind_actions p) (BehindActions p)
-behind_actions p = law_next (Not comma) comma some_comma (read.signer_at p) (Signers p) (λ ts. Ok (Absent, ts)) (Nothing Absent) (any (Not comma) (read.signer_at p) (Signers p) (signers p)) (law_none (Not comma) Absent) (nothing_first (Not comma) Absent)
+behind_actions p = law_next (Not comma) comma seen_comma (read.signer_at p) (Signers p) (λ ts. Ok (Absent, ts)) (Nothing Absent) (any (Not comma) (read.signer_at p) (Signers p) (signers p)) (law_none (Not comma) Absent) (nothing_first (Not comma) Absent)
 
 behind_comma : (p : Properties) → Law (Not comma) (read.behind_comma p) (BehindComma p)
-behind_comma p = law_if (Not comma) is_text (λ ts. read.text_at p ts >>= λ a. read.behind_actions p a.1 >>= λ s. Ok ((given a.0, s.0), s.1)) (Texted p ▹ λ a. BehindActions p ▹ λ s. Nothing (given a, s)) (λ ts. read.signer_at p ts >>= λ s. Ok ((Absent, s.0), s.1)) (Signers p ▹ λ s. Nothing (Absent, s))
+behind_comma p = law_if (Not comma) is_text seen_text (λ ts. read.text_at p ts >>= λ a. read.behind_actions p a.1 >>= λ s. Ok ((given a.0, s.0), s.1)) (Texted p ▹ λ a. BehindActions p ▹ λ s. Nothing (given a, s)) (λ ts. read.signer_at p ts >>= λ s. Ok ((Absent, s.0), s.1)) (Signers p ▹ λ s. Nothing (Absent, s))
     (law_first (Not comma) (read.text_at p) (Texted p) (λ a ts. read.behind_actions p ts >>= λ s. Ok ((given a, s.0), s.1)) (λ a. BehindActions p ▹ λ s. Nothing (given a, s)) (law_text p) (λ a. law_map (Not comma) (read.behind_actions p) (BehindActions p) (λ s. (given a, s)) (behind_actions p)))
     (any (Not comma) (λ ts. read.signer_at p ts >>= λ s. Ok ((Absent, s.0), s.1)) (Signers p ▹ λ s. Nothing (Absent, s)) (law_map Any (read.signer_at p) (Signers p) (λ s. (Absent, s)) (signers p)))
     (λ front a rest d follow. text_begins p is_text true (λ a. BehindActions p ▹ λ s. Nothing (given a, s)) (λ u. refl) front a rest d)
     (λ front a rest d follow. deeper is_text false (Signers p) (λ s. Nothing (Absent, s)) (begins (is_keyword keywords.SignedBy) is_text (Texted p ▹ λ s. Nothing (given s)) (keyword_no_text keywords.SignedBy)) front a rest d)
 
 name : (p : Properties) → Law (Not is_text) (read.name_at p) (Named p)
-name p = law_if (Not is_text) is_text (λ ts. read.text_at p ts >>= λ n. Ok (given n.0, n.1)) (Texted p ▹ λ n. Nothing (given n)) (λ ts. Ok (Absent, ts)) (Nothing Absent)
+name p = law_if (Not is_text) is_text seen_text (λ ts. read.text_at p ts >>= λ n. Ok (given n.0, n.1)) (Texted p ▹ λ n. Nothing (given n)) (λ ts. Ok (Absent, ts)) (Nothing Absent)
     (any (Not is_text) (λ ts. read.text_at p ts >>= λ n. Ok (given n.0, n.1)) (Texted p ▹ λ n. Nothing (given n)) (law_map Any (read.text_at p) (Texted p) given (law_text p)))
     (law_none (Not is_text) Absent)
     (λ front a rest d follow. text_begins p is_text true (λ n. Nothing (given n)) (λ u. refl) front a rest d)
@@ -90,9 +90,9 @@ none_misses : (b : Bool) (front : List Placed) (a : Stated × Stated) (rest : Li
 none_misses b front a rest d follow = ap (λ x. b && x) (nothing_first (Not (is_keyword keywords.SignedBy)) (Absent, Absent) front a rest d follow.1) ∙ and_false b
 
 behind_name : (p : Properties) (n : Stated) → Law EntryFollows (read.behind_name p n) (BehindName p n)
-behind_name p n = law_next EntryFollows comma some_comma (read.behind_comma p) (BehindComma p) (λ ts. cond (is_absent n && next (is_keyword keywords.SignedBy) ts) (read.signer_at p ts >>= λ s. Ok ((Absent, s.0), s.1)) (Ok ((Absent, Absent), ts))) (Either (Only (is_absent n) (BareSigners p)) (Nothing (Absent, Absent)))
+behind_name p n = law_next EntryFollows comma seen_comma (read.behind_comma p) (BehindComma p) (λ ts. cond (is_absent n && next (is_keyword keywords.SignedBy) ts) (read.signer_at p ts >>= λ s. Ok ((Absent, s.0), s.1)) (Ok ((Absent, Absent), ts))) (Either (Only (is_absent n) (BareSigners p)) (Nothing (Absent, Absent)))
     (narrow (Not comma) EntryFollows (read.behind_comma p) (BehindComma p) (λ rest follow. follow.0) (behind_comma p))
-    (law_only EntryFollows (is_absent n) (is_keyword keywords.SignedBy) (λ ts. read.signer_at p ts >>= λ s. Ok ((Absent, s.0), s.1)) (BareSigners p) (λ ts. Ok ((Absent, Absent), ts)) (Nothing (Absent, Absent))
+    (law_only EntryFollows (is_absent n) (is_keyword keywords.SignedBy) (seen_keyword keywords.SignedBy) (λ ts. read.signer_at p ts >>= λ s. Ok ((Absent, s.0), s.1)) (BareSigners p) (λ ts. Ok ((Absent, Absent), ts)) (Nothing (Absent, Absent))
     (any EntryFollows (λ ts. read.signer_at p ts >>= λ s. Ok ((Absent, s.0), s.1)) (BareSigners p) (law_map Any (read.signer_at p) (Signers p) (λ s. (Absent, s)) (signers p)))
     (law_none EntryFollows (Absent, Absent))
     (λ front a rest d follow. deeper (is_keyword keywords.SignedBy) true (Signers p) (λ s. Nothing (Absent, s)) (begins_so (is_keyword keywords.SignedBy) (Texted p ▹ λ s. Nothing (given s))) front a rest d)
@@ -154,7 +154,7 @@ entry_steps p = record {
   begins = λ entries front t rest d. deeper close_brace false (Entry p) (λ e. Nothing (with_one entries e)) (begins (is_keyword keywords.Permission) close_brace (EntryRest p) (keyword_no_mark keywords.Permission (byte "}"))) front t rest d;
   again = λ entries front t rest d. tt;
   over = λ rest end. tt;
-  looks = same_next close_brace;
+  looks = same_next close_brace (seen_mark (byte "}") refl).blind;
 }
 
 entries : (p : Properties) → Law (λ ts. next close_brace ts ≡ true) (read.entries_at p) (Entries p)
@@ -185,7 +185,7 @@ abbrev TextName : Properties → Grammar Bool
 TextName p = Texted p ▹ λ t. Nothing (not (is_there t))
 
 principal_name : (p : Properties) → Law Any (read.principal_name_at p) (PrincipalName p)
-principal_name p = law_next Any star (some_mark (byte "*") refl) (λ ts. Ok (false, ts)) (Nothing false) (λ ts. read.text_at p ts >>= λ t. Ok (not (is_there t.0), t.1)) (TextName p)
+principal_name p = law_next Any star (seen_mark (byte "*") refl) (λ ts. Ok (false, ts)) (Nothing false) (λ ts. read.text_at p ts >>= λ t. Ok (not (is_there t.0), t.1)) (TextName p)
     (law_none Any false)
     (law_map Any (read.text_at p) (Texted p) (λ t. not (is_there t)) (law_text p))
     (λ front a rest d follow. text_begins p star false (λ t. Nothing (not (is_there t))) (λ u. refl) front a rest d)
@@ -235,8 +235,8 @@ star_derives p ts a (inr d) = inr d
 starred_firm : (p : Properties) → Firm (starred_at p) (Starred p)
 starred_firm p =
     let named = (principal_name p).firm in
-    let tail = firm_if names_principal (read.principal_name_at p) (PrincipalName p) (λ ts. Ok (false, ts)) (Nothing false) named (firm_none false) in
-    let both = firm_next star (some_mark (byte "*") refl) (named_or_done p) (Either (PrincipalName p) (Nothing false)) (read.principal_name_at p) (PrincipalName p) tail named in
+    let tail = firm_if names_principal seen_name (read.principal_name_at p) (PrincipalName p) (λ ts. Ok (false, ts)) (Nothing false) named (firm_none false) in
+    let both = firm_next star (seen_mark (byte "*") refl) (named_or_done p) (Either (PrincipalName p) (Nothing false)) (read.principal_name_at p) (PrincipalName p) tail named in
     firm_same (λ ts. cond (next star ts) (named_or_done p (behind ts)) (read.principal_name_at p ts)) (starred_at p) (Starred p) (λ ts. star_cases p (next star ts) (next names_principal (behind ts)) ts refl)
     (firm_wide (λ ts. cond (next star ts) (named_or_done p (behind ts)) (read.principal_name_at p ts)) (Either (Marked (byte "*") ▹ λ _. Either (PrincipalName p) (Nothing false)) (PrincipalName p)) (Starred p) (star_derives p) both)
 
@@ -251,7 +251,7 @@ starred_no_word p front a rest (inl d) follow = begins star is_word (PrincipalNa
 starred_no_word p front a rest (inr d) follow = name_no_word p front a rest d
 
 principal : (p : Properties) → Law (Not names_principal) (read.principal_at p) (Principal p)
-principal p = law_next (Not names_principal) is_word some_word (read.principal_name_at p) (PrincipalName p) (starred_at p) (Starred p)
+principal p = law_next (Not names_principal) is_word seen_word (read.principal_name_at p) (PrincipalName p) (starred_at p) (Starred p)
     (any (Not names_principal) (read.principal_name_at p) (PrincipalName p) (principal_name p)) (starred p) (starred_no_word p)
 
 abbrev CodeBase : Properties → Clauses → Grammar Clauses
@@ -272,15 +272,15 @@ base_misses p cs front a rest (inr d) follow = begins (is_keyword keywords.Princ
 
 clause : (p : Properties) (cs : Clauses) → Law (Not names_principal) (read.clause_at p cs) (Clause p cs)
 unfolding read.clause_at
-clause p cs = law_once (Not names_principal) (is_keyword keywords.CodeBase) (some_keyword keywords.CodeBase) (is_absent cs.code_base) (λ ts. read.text_at p ts >>= λ t. Ok (with_code_base cs t.0, t.1)) (Texted p ▹ λ t. Nothing (with_code_base cs t))
+clause p cs = law_once (Not names_principal) (is_keyword keywords.CodeBase) (seen_keyword keywords.CodeBase) (is_absent cs.code_base) (λ ts. read.text_at p ts >>= λ t. Ok (with_code_base cs t.0, t.1)) (Texted p ▹ λ t. Nothing (with_code_base cs t))
     (λ ts. cond (next (is_keyword keywords.SignedBy) ts && is_absent cs.signers) (read.text_at p (behind ts) >>= λ t. Ok (with_signers cs t.0, t.1)) (cond (next (is_keyword keywords.Principal) ts) (read.principal_at p (behind ts) >>= λ q. Ok (with_principal cs q.0, q.1)) (read.not_allowed ts)))
     (Either (Only (is_absent cs.signers) (SignedBy p cs)) (ForPrincipal p cs))
     (any (Not names_principal) (λ ts. read.text_at p ts >>= λ t. Ok (with_code_base cs t.0, t.1)) (Texted p ▹ λ t. Nothing (with_code_base cs t)) (law_map Any (read.text_at p) (Texted p) (with_code_base cs) (law_text p)))
-    (law_once (Not names_principal) (is_keyword keywords.SignedBy) (some_keyword keywords.SignedBy) (is_absent cs.signers) (λ ts. read.text_at p ts >>= λ t. Ok (with_signers cs t.0, t.1)) (Texted p ▹ λ t. Nothing (with_signers cs t))
+    (law_once (Not names_principal) (is_keyword keywords.SignedBy) (seen_keyword keywords.SignedBy) (is_absent cs.signers) (λ ts. read.text_at p ts >>= λ t. Ok (with_signers cs t.0, t.1)) (Texted p ▹ λ t. Nothing (with_signers cs t))
     (λ ts. cond (next (is_keyword keywords.Principal) ts) (read.principal_at p (behind ts) >>= λ q. Ok (with_principal cs q.0, q.1)) (read.not_allowed ts))
     (ForPrincipal p cs)
     (any (Not names_principal) (λ ts. read.text_at p ts >>= λ t. Ok (with_signers cs t.0, t.1)) (Texted p ▹ λ t. Nothing (with_signers cs t)) (law_map Any (read.text_at p) (Texted p) (with_signers cs) (law_text p)))
-    (law_last (Not names_principal) (is_keyword keywords.Principal) (some_keyword keywords.Principal) (λ ts. read.principal_at p ts >>= λ q. Ok (with_principal cs q.0, q.1)) (Principal p ▹ λ lacks. Nothing (with_principal cs lacks))
+    (law_last (Not names_principal) (is_keyword keywords.Principal) (seen_keyword keywords.Principal) (λ ts. read.principal_at p ts >>= λ q. Ok (with_principal cs q.0, q.1)) (Principal p ▹ λ lacks. Nothing (with_principal cs lacks))
     (law_map (Not names_principal) (read.principal_at p) (Principal p) (with_principal cs) (principal p)))
     (signers_misses p cs))
     (base_misses p cs)
@@ -309,7 +309,7 @@ comma_cases c false ts = refl
 
 optional_comma : (c : Clauses) → Law (Not comma) (λ ts. Ok (c, skip_comma ts)) (OptionalComma c)
 optional_comma c =
-    let l = law_next (Not comma) comma some_comma (λ ts. Ok (c, ts)) (Nothing c) (λ ts. Ok (c, ts)) (Nothing c) (law_none (Not comma) c) (law_none (Not comma) c) (nothing_first (Not comma) c) in
+    let l = law_next (Not comma) comma seen_comma (λ ts. Ok (c, ts)) (Nothing c) (λ ts. Ok (c, ts)) (Nothing c) (law_none (Not comma) c) (law_none (Not comma) c) (nothing_first (Not comma) c) in
     record {
       firm = firm_same (λ ts. cond (next comma ts) (Ok (c, behind ts)) (Ok (c, ts))) (λ ts. Ok (c, skip_comma ts)) (OptionalComma c) (λ ts. sym (comma_cases c (next comma ts) ts)) l.firm;
       complete = λ front a rest d follow. comma_cases c (next comma (front ++ rest)) (front ++ rest) ∙ l.complete front a rest d follow;
@@ -339,7 +339,7 @@ clause_steps p = record {
     deeper names_principal false (Clause p cs) (λ c. OptionalComma c) (λ f a r e. clause_word p cs f a r names_principal (λ u. refl) e) front t rest d,
   );
   over = λ rest end. (next_apart open_brace comma (marks_apart (byte "{") (byte ",") refl) rest end, next_apart open_brace names_principal brace_no_name rest end);
-  looks = same_next open_brace;
+  looks = same_next open_brace (seen_mark (byte "{") refl).blind;
 }
 
 clauses : (p : Properties) → Law (λ ts. next open_brace ts ≡ true) (read.clauses_at p) (AllClauses p)
@@ -367,7 +367,7 @@ grant p = law_first Any (read.keyword_at keywords.Grant) (Keyed keywords.Grant)
     (λ cs. law_first Any (read.mark_at (byte "{")) (Marked (byte "{"))
     (λ (v : Unit {0}) ts. read.entries_at p ts >>= λ es. read.mark_at (byte "}") es.1 >>= λ c. read.mark_at (byte ";") c.1 >>= λ e. Ok (grant_of cs es.0, e.1))
     (λ (v : Unit {0}). Entries p ▹ λ es. GrantEnd cs es)
-    (law_one open_brace (some_mark (byte "{") refl))
+    (law_one open_brace (seen_mark (byte "{") refl))
     (λ v. law_then (λ ts. next close_brace ts ≡ true) Any (read.entries_at p) (Entries p)
     (λ es ts. read.mark_at (byte "}") ts >>= λ c. read.mark_at (byte ";") c.1 >>= λ e. Ok (grant_of cs es, e.1))
     (λ es. GrantEnd cs es)
@@ -375,18 +375,18 @@ grant p = law_first Any (read.keyword_at keywords.Grant) (Keyed keywords.Grant)
     (λ es. law_first Any (read.mark_at (byte "}")) (Marked (byte "}"))
     (λ (w : Unit {0}) ts. read.mark_at (byte ";") ts >>= λ e. Ok (grant_of cs es, e.1))
     (λ (w : Unit {0}). EndOf (grant_of cs es))
-    (law_one close_brace (some_mark (byte "}") refl))
+    (law_one close_brace (seen_mark (byte "}") refl))
     (λ w. law_map Any (read.mark_at (byte ";")) (Marked (byte ";")) (λ x. grant_of cs es) law_semicolon))
     (λ es back b rest s follow. begins_so close_brace (EndOf (grant_of cs es)) back b rest s)))
     (λ cs back b rest s follow. begins_so open_brace (Entries p ▹ λ es. GrantEnd cs es) back b rest s))
 
 another : (p : Properties) → Law (Not comma) (read.another_at p) (Another p)
-another p = law_next (Not comma) comma some_comma (λ ts. read.text_at p ts >>= λ t. Ok (tt, t.1)) (Texted p ▹ λ _. Nothing tt) (λ ts. Ok (tt, ts)) (Nothing tt)
+another p = law_next (Not comma) comma seen_comma (λ ts. read.text_at p ts >>= λ t. Ok (tt, t.1)) (Texted p ▹ λ _. Nothing tt) (λ ts. Ok (tt, ts)) (Nothing tt)
     (any (Not comma) (λ ts. read.text_at p ts >>= λ t. Ok (tt, t.1)) (Texted p ▹ λ _. Nothing tt) (law_map Any (read.text_at p) (Texted p) (λ t. tt) (law_text p)))
     (law_none (Not comma) tt) (nothing_first (Not comma) tt)
 
 others : (p : Properties) → Law (Not comma) (read.others_at p) (Others p)
-others p = law_next (Not comma) comma some_comma (λ ts. read.text_at p ts >>= λ t. read.another_at p t.1) (Texted p ▹ λ _. Another p) (λ ts. Ok (tt, ts)) (Nothing tt)
+others p = law_next (Not comma) comma seen_comma (λ ts. read.text_at p ts >>= λ t. read.another_at p t.1) (Texted p ▹ λ _. Another p) (λ ts. Ok (tt, ts)) (Nothing tt)
     (law_first (Not comma) (read.text_at p) (Texted p) (λ t ts. read.another_at p ts) (λ t. Another p) (law_text p) (λ t. another p))
     (law_none (Not comma) tt) (nothing_first (Not comma) tt)
 
@@ -429,10 +429,10 @@ store_misses p gs front a rest (inl d) follow = deeper (is_keyword keywords.Keys
 store_misses p gs front a rest (inr d) follow = deeper (is_keyword keywords.Keystore) false (OneGrant p) (λ g. Nothing (with_one gs g)) (begins (is_keyword keywords.Grant) (is_keyword keywords.Keystore) (GrantRest p) (keywords_apart keywords.Grant keywords.Keystore refl)) front a rest d
 
 item : (p : Properties) (gs : List Grant) → Law Any (read.one_item p gs) (Item p gs)
-item p gs = law_if Any (is_keyword keywords.Keystore) (λ ts. read.keystore_at p ts >>= λ k. Ok (gs, k.1)) (StoreItem p gs)
+item p gs = law_if Any (is_keyword keywords.Keystore) (seen_keyword keywords.Keystore) (λ ts. read.keystore_at p ts >>= λ k. Ok (gs, k.1)) (StoreItem p gs)
     (λ ts. cond (next (is_keyword keywords.PasswordUrl) ts) (read.password_at p ts >>= λ k. Ok (gs, k.1)) (read.one_more_grant p gs ts)) (Either (PasswordItem p gs) (GrantItem p gs))
     (law_map Any (read.keystore_at p) (Keystore p) (λ u. gs) (keystore p))
-    (law_if Any (is_keyword keywords.PasswordUrl) (λ ts. read.password_at p ts >>= λ k. Ok (gs, k.1)) (PasswordItem p gs) (read.one_more_grant p gs) (GrantItem p gs)
+    (law_if Any (is_keyword keywords.PasswordUrl) (seen_keyword keywords.PasswordUrl) (λ ts. read.password_at p ts >>= λ k. Ok (gs, k.1)) (PasswordItem p gs) (read.one_more_grant p gs) (GrantItem p gs)
     (law_map Any (read.password_at p) (Password p) (λ u. gs) (password p))
     (law_map Any (read.grant_at p) (OneGrant p) (with_one gs) (grant p))
     (λ front a rest d follow. deeper (is_keyword keywords.PasswordUrl) true (Password p) (λ u. Nothing gs) (begins_so (is_keyword keywords.PasswordUrl) (PasswordRest p)) front a rest d)
@@ -533,15 +533,46 @@ at_fault p ts d e = elim (bind_err (walk no_tokens (read.one_item p) (length ts)
 derived_no_fault : (p : Properties) (ts : List Placed) (gs : List Grant) (d : Fault PolicyFault) → Items p ts gs → walk no_tokens (read.one_item p) (length ts) [] ts ≡ Err d → ⊥
 derived_no_fault p ts gs d derived e = let one = sym (policy_complete p ts gs derived) ∙ behind_items p ts d e in absurd cc
 
-refuses : (p : Properties) (d : Fault PolicyFault) (front rest : List Placed) → ((other : List Placed) → first other ≡ first rest → walk no_tokens (read.one_item p) (length (front ++ other)) [] (front ++ other) ≡ Err d) → NotAllowed (Items p) front rest
-refuses p d front [] again = λ gs derived. derived_no_fault p (front ++ []) gs d (subst (λ (ts : List Placed). Items p ts gs) (sym (append-nil front)) derived) (again [] refl)
-refuses p d front (t ∷ ts) again = λ begun.
+begun_no_fault : (p : Properties) (d : Fault PolicyFault) (front : List Placed) (t : Placed) (begun : Begins (Items p) (front ++ t ∷ [])) → walk no_tokens (read.one_item p) (length (front ++ t ∷ begun.0)) [] (front ++ t ∷ begun.0) ≡ Err d → ⊥
+begun_no_fault p d front t begun e =
     let joined = append_assoc front (t ∷ []) begun.0 in
-    derived_no_fault p (front ++ t ∷ begun.0) begun.1 d (subst (λ (us : List Placed). Items p us begun.1) joined begun.2) (again (t ∷ begun.0) refl)
+    derived_no_fault p (front ++ t ∷ begun.0) begun.1 d (subst (λ (us : List Placed). Items p us begun.1) joined begun.2) e
+
+-- the walk stops at a fault, whatever stands behind the token
+abbrev StopsThere : Properties → Fault PolicyFault → List Placed → List Placed → Type 0
+StopsThere p d front rest = (other : List Placed) → Alike d.kind other rest → walk no_tokens (read.one_item p) (length (front ++ other)) [] (front ++ other) ≡ Err d
+
+itself_alike : (kind : PolicyFault) (xs : List Placed) (t : Placed) (ts : List Placed) → Alike kind (t ∷ xs) (t ∷ ts)
+itself_alike Syntax xs t ts = refl
+itself_alike SelfExpansion xs t ts = refl
+itself_alike NotUtf8 xs t ts = refl
+
+end_alike : (kind : PolicyFault) → Alike kind [] []
+end_alike Syntax = refl
+end_alike SelfExpansion = refl
+end_alike NotUtf8 = refl
+
+refuses : (p : Properties) (d : Fault PolicyFault) (front rest : List Placed) → StopsThere p d front rest → NotAllowed (Items p) front rest
+refuses p d front [] again = λ gs derived. derived_no_fault p (front ++ []) gs d (subst (λ (ts : List Placed). Items p ts gs) (sym (append-nil front)) derived) (again [] (end_alike d.kind))
+refuses p d front (t ∷ ts) again = λ begun. begun_no_fault p d front t begun (again (t ∷ begun.0) (itself_alike d.kind begun.0 t ts))
+
+abbrev next_of : ℕ → Token → Option Placed
+next_of left token = Some (record { left = left; token = token })
+
+-- where another string is allowed, no fault of syntax is
+says_so : (p : Properties) (d : Fault PolicyFault) (kind : PolicyFault) (front rest : List Placed) → kind ≡ d.kind → StopsThere p d front rest → Said (Items p) front rest kind → Says (Items p) front rest kind
+says_so p d NotUtf8 front rest same again said = said
+says_so p d SelfExpansion front rest same again said = said
+says_so p d Syntax front [] same again said = λ itself. itself
+says_so p d Syntax front (t ∷ ts) same again said = λ itself.
+    (let alike : first (emptied t ∷ itself.3.0) ≡ first (t ∷ ts) = ap (λ (k : Token). next_of t.left k) (sym (ap plain itself.1)) in
+    begun_no_fault p d front (emptied t) itself.3 (again (emptied t ∷ itself.3.0) (subst (λ (k : PolicyFault). Alike k (emptied t ∷ itself.3.0) (t ∷ ts)) same alike)))
 
 -- the first token that the grammar doesn't allow
 abbrev pub FirstFault : Properties → List Placed → Fault PolicyFault → Type 0
 FirstFault p ts d = (front : List Placed) × (rest : List Placed) × (ts ≡ front ++ rest) × (d ≡ read.fault_at d.kind rest) × Begins (Items p) front × NotAllowed (Items p) front rest × Says (Items p) front rest d.kind
 
 pub policy_first : (p : Properties) (ts : List Placed) (d : Fault PolicyFault) → read.policy_at p ts ≡ Err d → FirstFault p ts d
-policy_first p ts d e = let h = (items p).halts ts d (at_fault p ts d e) in (h.0, h.1, h.2, h.3, h.4, refuses p d h.0 h.1 h.5, h.6)
+policy_first p ts d e =
+    let h = (items p).halts ts d (at_fault p ts d e) in
+    (h.0, h.1, h.2, h.3, h.4, refuses p d h.0 h.1 h.5, says_so p d d.kind h.0 h.1 refl h.5 h.6)

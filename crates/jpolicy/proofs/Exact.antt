@@ -1,13 +1,13 @@
 -- Readings that are exact: they are firm, and what the grammar derives they take.
-use Rattle.std.proofs.Common.{◌≡◌, ℕ, zero, suc, ◌+◌, ◌≤◌, ◌<◌, Bool, true, false, cond, ◌&&◌, List, [], ◌∷◌, ◌++◌, length, Ok, refl, ap, ◌∙◌, append_assoc, inl, inr, arith, length-append}
+use Rattle.std.proofs.Common.{◌≡◌, ℕ, zero, suc, ◌+◌, ◌≤◌, ◌<◌, Bool, true, false, cond, ◌&&◌, List, ◌∷◌, ◌++◌, length, Ok, refl, ap, ◌∙◌, append_assoc, inl, inr, arith, length-append}
 use Rattle.jbase.specs.Stops.{◌>>=◌}
 use Rattle.jpolicy.specs.declared.token.Token.{Token}
 use Rattle.jpolicy.specs.declared.token.Placed.{Placed}
 use Rattle.jpolicy.specs.Expansion.{Properties}
 use Rattle.jpolicy.specs.Walks.{walk}
 use Rattle.jpolicy.specs.Productions.{Answer, not_allowed, behind, next, one, word_at, text_at}
-use Rattle.jpolicy.specs.Grammar.{Grammar, Nothing, One, Worded, Texted, ◌▹◌, Either, Only, Times, Many, Begins}
-use Rattle.jpolicy.proofs.Firm.{Firm, Going, first, firm_none, firm_one, firm_word, firm_text, firm_then, firm_if, firm_next, firm_once, firm_only, firm_last, firm_many}
+use Rattle.jpolicy.specs.Grammar.{Grammar, Nothing, One, Worded, Texted, ◌▹◌, Either, Only, Times, Many}
+use Rattle.jpolicy.proofs.Firm.{Firm, Going, Seen, first, firm_none, firm_one, firm_word, firm_text, firm_then, firm_if, firm_next, firm_once, firm_only, firm_last, firm_many}
 
 -- what is derived is taken, where what follows lets it end there
 abbrev pub Complete : {A : Type 0} → (List Placed → Type 0) → (List Placed → Answer A) → Grammar A → Type 0
@@ -35,8 +35,8 @@ law_none F a = record { firm = firm_none a; complete = none_complete F a }
 one_complete : (test : Token → Bool) → Complete Any (one test) (One test)
 one_complete test front a rest d follow = rw (d.1, d.2) refl
 
-pub law_one : (test : Token → Bool) → Begins (One test) [] → Law Any (one test) (One test)
-law_one test there = record { firm = firm_one test there; complete = one_complete test }
+pub law_one : (test : Token → Bool) → Seen test → Law Any (one test) (One test)
+law_one test seen = record { firm = firm_one test seen; complete = one_complete test }
 
 word_complete : Complete Any word_at Worded
 word_complete front a rest d follow = rw (d.1, d.2) refl
@@ -86,9 +86,9 @@ next_complete F test f R g S cf cg misses front a rest (inl d) follow =
     ap (λ (ts : List Placed). cond (next test ts) (f (behind ts)) (g ts)) p.2 ∙ rw p.3 (cf p.1 a rest p.4 follow)
 next_complete F test f R g S cf cg misses front a rest (inr s) follow = rw (misses front a rest s follow) (cg front a rest s follow)
 
-pub law_next : {A : Type 0} (F : List Placed → Type 0) (test : Token → Bool) → Begins (One test) [] → (f : List Placed → Answer A) (R : Grammar A) (g : List Placed → Answer A) (S : Grammar A) → Law F f R → Law F g S
+pub law_next : {A : Type 0} (F : List Placed → Type 0) (test : Token → Bool) → Seen test → (f : List Placed → Answer A) (R : Grammar A) (g : List Placed → Answer A) (S : Grammar A) → Law F f R → Law F g S
     → ((front : List Placed) (a : A) (rest : List Placed) → S front a → F rest → next test (front ++ rest) ≡ false) → Law F (λ ts. cond (next test ts) (f (behind ts)) (g ts)) (Either (One test ▹ λ _. R) S)
-law_next F test there f R g S lf lg misses = record { firm = firm_next test there f R g S lf.firm lg.firm; complete = next_complete F test f R g S lf.complete lg.complete misses }
+law_next F test seen f R g S lf lg misses = record { firm = firm_next test seen f R g S lf.firm lg.firm; complete = next_complete F test f R g S lf.complete lg.complete misses }
 
 if_complete : {A : Type 0} (F : List Placed → Type 0) (test : Token → Bool) (f : List Placed → Answer A) (R : Grammar A) (g : List Placed → Answer A) (S : Grammar A) → Complete F f R → Complete F g S
     → ((front : List Placed) (a : A) (rest : List Placed) → R front a → F rest → next test (front ++ rest) ≡ true)
@@ -96,10 +96,10 @@ if_complete : {A : Type 0} (F : List Placed → Type 0) (test : Token → Bool) 
 if_complete F test f R g S cf cg hits misses front a rest (inl r) follow = rw (hits front a rest r follow) (cf front a rest r follow)
 if_complete F test f R g S cf cg hits misses front a rest (inr s) follow = rw (misses front a rest s follow) (cg front a rest s follow)
 
-pub law_if : {A : Type 0} (F : List Placed → Type 0) (test : Token → Bool) (f : List Placed → Answer A) (R : Grammar A) (g : List Placed → Answer A) (S : Grammar A) → Law F f R → Law F g S
+pub law_if : {A : Type 0} (F : List Placed → Type 0) (test : Token → Bool) → Seen test → (f : List Placed → Answer A) (R : Grammar A) (g : List Placed → Answer A) (S : Grammar A) → Law F f R → Law F g S
     → ((front : List Placed) (a : A) (rest : List Placed) → R front a → F rest → next test (front ++ rest) ≡ true)
     → ((front : List Placed) (a : A) (rest : List Placed) → S front a → F rest → next test (front ++ rest) ≡ false) → Law F (λ ts. cond (next test ts) (f ts) (g ts)) (Either R S)
-law_if F test f R g S lf lg hits misses = record { firm = firm_if test f R g S lf.firm lg.firm; complete = if_complete F test f R g S lf.complete lg.complete hits misses }
+law_if F test seen f R g S lf lg hits misses = record { firm = firm_if test seen f R g S lf.firm lg.firm; complete = if_complete F test f R g S lf.complete lg.complete hits misses }
 
 only_complete : {A : Type 0} (F : List Placed → Type 0) (b : Bool) (test : Token → Bool) (f : List Placed → Answer A) (R : Grammar A) (g : List Placed → Answer A) (S : Grammar A) → Complete F f R → Complete F g S
     → ((front : List Placed) (a : A) (rest : List Placed) → R front a → F rest → next test (front ++ rest) ≡ true)
@@ -107,10 +107,10 @@ only_complete : {A : Type 0} (F : List Placed → Type 0) (b : Bool) (test : Tok
 only_complete F b test f R g S cf cg hits misses front a rest (inl r) follow = rw (r.0, hits front a rest r.1 follow) (cf front a rest r.1 follow)
 only_complete F b test f R g S cf cg hits misses front a rest (inr s) follow = rw (misses front a rest s follow) (cg front a rest s follow)
 
-pub law_only : {A : Type 0} (F : List Placed → Type 0) (b : Bool) (test : Token → Bool) (f : List Placed → Answer A) (R : Grammar A) (g : List Placed → Answer A) (S : Grammar A) → Law F f R → Law F g S
+pub law_only : {A : Type 0} (F : List Placed → Type 0) (b : Bool) (test : Token → Bool) → Seen test → (f : List Placed → Answer A) (R : Grammar A) (g : List Placed → Answer A) (S : Grammar A) → Law F f R → Law F g S
     → ((front : List Placed) (a : A) (rest : List Placed) → R front a → F rest → next test (front ++ rest) ≡ true)
     → ((front : List Placed) (a : A) (rest : List Placed) → S front a → F rest → (b && next test (front ++ rest)) ≡ false) → Law F (λ ts. cond (b && next test ts) (f ts) (g ts)) (Either (Only b R) S)
-law_only F b test f R g S lf lg hits misses = record { firm = firm_only b test f R g S lf.firm lg.firm; complete = only_complete F b test f R g S lf.complete lg.complete hits misses }
+law_only F b test seen f R g S lf lg hits misses = record { firm = firm_only b test seen f R g S lf.firm lg.firm; complete = only_complete F b test f R g S lf.complete lg.complete hits misses }
 
 once_complete : {A : Type 0} (F : List Placed → Type 0) (test : Token → Bool) (b : Bool) (f : List Placed → Answer A) (R : Grammar A) (g : List Placed → Answer A) (S : Grammar A) → Complete F f R → Complete F g S
     → ((front : List Placed) (a : A) (rest : List Placed) → S front a → F rest → next test (front ++ rest) ≡ false) → Complete F (λ ts. cond (next test ts && b) (f (behind ts)) (g ts)) (Either (Only b (One test ▹ λ _. R)) S)
@@ -119,17 +119,17 @@ once_complete F test b f R g S cf cg misses front a rest (inl d) follow =
     ap (λ (ts : List Placed). cond (next test ts && b) (f (behind ts)) (g ts)) p.2 ∙ rw (p.3, d.0) (cf p.1 a rest p.4 follow)
 once_complete F test b f R g S cf cg misses front a rest (inr s) follow = rw (misses front a rest s follow) (cg front a rest s follow)
 
-pub law_once : {A : Type 0} (F : List Placed → Type 0) (test : Token → Bool) → Begins (One test) [] → (b : Bool) (f : List Placed → Answer A) (R : Grammar A) (g : List Placed → Answer A) (S : Grammar A) → Law F f R → Law F g S
+pub law_once : {A : Type 0} (F : List Placed → Type 0) (test : Token → Bool) → Seen test → (b : Bool) (f : List Placed → Answer A) (R : Grammar A) (g : List Placed → Answer A) (S : Grammar A) → Law F f R → Law F g S
     → ((front : List Placed) (a : A) (rest : List Placed) → S front a → F rest → next test (front ++ rest) ≡ false) → Law F (λ ts. cond (next test ts && b) (f (behind ts)) (g ts)) (Either (Only b (One test ▹ λ _. R)) S)
-law_once F test there b f R g S lf lg misses = record { firm = firm_once test there b f R g S lf.firm lg.firm; complete = once_complete F test b f R g S lf.complete lg.complete misses }
+law_once F test seen b f R g S lf lg misses = record { firm = firm_once test seen b f R g S lf.firm lg.firm; complete = once_complete F test b f R g S lf.complete lg.complete misses }
 
 last_complete : {A : Type 0} (F : List Placed → Type 0) (test : Token → Bool) (f : List Placed → Answer A) (R : Grammar A) → Complete F f R → Complete F (λ ts. cond (next test ts) (f (behind ts)) (not_allowed ts)) (One test ▹ λ _. R)
 last_complete F test f R cf front a rest d follow =
     let p = front_of test R front a rest d in
     ap (λ (ts : List Placed). cond (next test ts) (f (behind ts)) (not_allowed ts)) p.2 ∙ rw p.3 (cf p.1 a rest p.4 follow)
 
-pub law_last : {A : Type 0} (F : List Placed → Type 0) (test : Token → Bool) → Begins (One test) [] → (f : List Placed → Answer A) (R : Grammar A) → Law F f R → Law F (λ ts. cond (next test ts) (f (behind ts)) (not_allowed ts)) (One test ▹ λ _. R)
-law_last F test there f R lf = record { firm = firm_last test there f R lf.firm; complete = last_complete F test f R lf.complete }
+pub law_last : {A : Type 0} (F : List Placed → Type 0) (test : Token → Bool) → Seen test → (f : List Placed → Answer A) (R : Grammar A) → Law F f R → Law F (λ ts. cond (next test ts) (f (behind ts)) (not_allowed ts)) (One test ▹ λ _. R)
+law_last F test seen f R lf = record { firm = firm_last test seen f R lf.firm; complete = last_complete F test f R lf.complete }
 
 -- ---- any number
 

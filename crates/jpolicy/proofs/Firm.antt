@@ -12,27 +12,48 @@ use Rattle.jpolicy.specs.declared.fault.PolicyFault.{PolicyFault}
 use Rattle.jpolicy.specs.declared.fault.PolicyFault.TheVariants.{NotUtf8, Syntax, SelfExpansion}
 use Rattle.jpolicy.specs.Expansion.{Properties, expanded, expands_itself}
 use Rattle.jpolicy.specs.Walks.{walk}
-use Rattle.jpolicy.specs.Productions.{Answer, fault_at, not_allowed, behind, next, one, units_of, word_at, value_of, text_at}
+use Rattle.jpolicy.specs.Productions.{Answer, fault_at, not_allowed, behind, next, one, is_word, is_text, units_of, word_at, value_of, text_at}
 use Rattle.jpolicy.proofs.Walking.{bind_ok, chosen, Shrinks}
-use Rattle.jpolicy.specs.Grammar.{Grammar, Nothing, One, Worded, Texted, ◌▹◌, Either, Only, Times, Many, Begins, Says, emptied}
+use Rattle.jpolicy.specs.Grammar.{Grammar, Nothing, One, Worded, Texted, ◌▹◌, Either, Only, Many, Begins, NotItself, emptied}
 
 -- ---- the next token
 
+abbrev head : List Placed → Option Placed
+head [] = None
+head (t ∷ ts) = Some t
+
+-- a token, where all strings are the same one
+abbrev pub plain : Token → Token
+plain (Text units) = Text []
+plain token = token
+
+abbrev pub plainly : Placed → Placed
+plainly t = record { left = t.left; token = plain t.token }
+
+-- the next token, where all strings are the same one
 abbrev pub first : List Placed → Option Placed
 first [] = None
-first (t ∷ ts) = Some t
+first (t ∷ ts) = Some (plainly t)
 
-pub same_next : (test : Token → Bool) (xs ys : List Placed) → first xs ≡ first ys → next test xs ≡ next test ys
-same_next test [] [] e = refl
-same_next test [] (y ∷ ys) e = absurd cc
-same_next test (x ∷ xs) [] e = absurd cc
-same_next test (x ∷ xs) (y ∷ ys) e = let same : x ≡ y = cc in ap (λ (t : Placed). test t.token) same
+some_same : (a b : Placed) → Some a ≡ Some b → a ≡ b
+some_same a b e = cc
+
+-- what a test needs: a token passes it, and it tells no string from another
+pub record Seen (test : Token → Bool) : Type 0 where
+  pub there : Begins (One test) []
+  pub blind : (k : Token) → test (plain k) ≡ test k
+
+pub same_next : (test : Token → Bool) → ((k : Token) → test (plain k) ≡ test k) → (xs ys : List Placed) → first xs ≡ first ys → next test xs ≡ next test ys
+same_next test blind [] [] e = refl
+same_next test blind [] (y ∷ ys) e = absurd cc
+same_next test blind (x ∷ xs) [] e = absurd cc
+same_next test blind (x ∷ xs) (y ∷ ys) e = let same : plain x.token ≡ plain y.token = ap (λ (t : Placed). t.token) (some_same (plainly x) (plainly y) e) in sym (blind x.token) ∙ ap test same ∙ blind y.token
 
 pub same_fault : (kind : PolicyFault) (xs ys : List Placed) → first xs ≡ first ys → fault_at kind xs ≡ fault_at kind ys
 same_fault kind [] [] e = refl
 same_fault kind [] (y ∷ ys) e = absurd cc
 same_fault kind (x ∷ xs) [] e = absurd cc
-same_fault kind (x ∷ xs) (y ∷ ys) e = let same : x ≡ y = cc in ap (λ (t : Placed). fault_at kind (t ∷ [])) same
+same_fault kind (x ∷ xs) (y ∷ ys) e = ap (λ (t : Placed). fault_at kind (t ∷ [])) (some_same (plainly x) (plainly y) e)
 
 pub first_behind : (front xs ys : List Placed) → first xs ≡ first ys → first (front ++ xs) ≡ first (front ++ ys)
 first_behind [] xs ys e = e
@@ -42,13 +63,35 @@ pub none_first : (xs : List Placed) → first xs ≡ None → xs ≡ []
 none_first [] e = refl
 none_first (x ∷ xs) e = absurd cc
 
+-- what a fault of some kind depends on: the next token, and in a fault of syntax not what a string says
+abbrev pub Alike : PolicyFault → List Placed → List Placed → Type 0
+Alike Syntax xs ys = first xs ≡ first ys
+Alike kind xs ys = head xs ≡ head ys
+
+heads : (xs ys : List Placed) → head xs ≡ head ys → first xs ≡ first ys
+heads [] [] e = refl
+heads [] (y ∷ ys) e = absurd cc
+heads (x ∷ xs) [] e = absurd cc
+heads (x ∷ xs) (y ∷ ys) e = let same : x ≡ y = cc in ap (λ (t : Placed). first (t ∷ [])) same
+
+pub alike_first : (kind : PolicyFault) (xs ys : List Placed) → Alike kind xs ys → first xs ≡ first ys
+alike_first Syntax xs ys e = e
+alike_first SelfExpansion xs ys e = heads xs ys e
+alike_first NotUtf8 xs ys e = heads xs ys e
+
 -- ---- what a firm reading does
 
 abbrev pub Takes : {A : Type 0} → (List Placed → Answer A) → Grammar A → List Placed → A × List Placed → Type 0
 Takes f R ts x = (front : List Placed) × (ts ≡ front ++ x.1) × R front x.0 × ((other : List Placed) → first other ≡ first x.1 → f (front ++ other) ≡ Ok (x.0, other))
 
+-- what the kind of a fault says of the next token here
+abbrev pub Said : {A : Type 0} → Grammar A → List Placed → List Placed → PolicyFault → Type 0
+Said R front rest NotUtf8 = ⊥
+Said R front rest Syntax = Unit {0}
+Said R front rest SelfExpansion = NotItself R front rest
+
 -- what begins one construct begins the other, behind some tokens
-said_lift : {A B : Type 0} (R : Grammar A) (S : Grammar B) (one front rest : List Placed) (kind : PolicyFault) → ((xs : List Placed) → Begins R xs → Begins S (one ++ xs)) → Says R front rest kind → Says S (one ++ front) rest kind
+said_lift : {A B : Type 0} (R : Grammar A) (S : Grammar B) (one front rest : List Placed) (kind : PolicyFault) → ((xs : List Placed) → Begins R xs → Begins S (one ++ xs)) → Said R front rest kind → Said S (one ++ front) rest kind
 said_lift R S one front rest NotUtf8 lift said = said
 said_lift R S one front rest Syntax lift said = tt
 said_lift R S one front [] SelfExpansion lift said = said
@@ -56,7 +99,7 @@ said_lift R S one front (t ∷ ts) SelfExpansion lift said =
     (said.0, said.1, said.2, subst (λ (xs : List Placed). Begins S xs) (sym (append_assoc one front (emptied t ∷ []))) (lift (front ++ emptied t ∷ []) said.3))
 
 abbrev pub Halts : {A : Type 0} → (List Placed → Answer A) → Grammar A → List Placed → Fault PolicyFault → Type 0
-Halts f R ts d = (front : List Placed) × (rest : List Placed) × (ts ≡ front ++ rest) × (d ≡ fault_at d.kind rest) × Begins R front × ((other : List Placed) → first other ≡ first rest → f (front ++ other) ≡ Err d) × Says R front rest d.kind
+Halts f R ts d = (front : List Placed) × (rest : List Placed) × (ts ≡ front ++ rest) × (d ≡ fault_at d.kind rest) × Begins R front × ((other : List Placed) → Alike d.kind other rest → f (front ++ other) ≡ Err d) × Said R front rest d.kind
 
 pub record Firm {A : Type 0} (f : List Placed → Answer A) (R : Grammar A) : Type 0 where
   pub takes : (ts : List Placed) (x : A × List Placed) → f ts ≡ Ok x → Takes f R ts x
@@ -123,21 +166,21 @@ one_takes test (t ∷ ts) x e =
     let p = picked (test t.token) (tt, ts) (fault_at Syntax (t ∷ ts)) x e in
     subst (λ (y : Unit {0} × List Placed). Takes (one test) (One test) (t ∷ ts) y) p.1 (t ∷ [], refl, (t, refl, p.0), λ other alike. rw p.0 refl)
 
-one_again : (test : Token → Bool) (ts : List Placed) (d : Fault PolicyFault) → next test ts ≡ false → fault_at Syntax ts ≡ d → (other : List Placed) → first other ≡ first ts → one test other ≡ Err d
-one_again test ts d miss is other alike = rw (same_next test other ts alike, miss, same_fault Syntax other ts alike, is) refl
+one_again : (test : Token → Bool) → Seen test → (ts : List Placed) (d : Fault PolicyFault) → next test ts ≡ false → fault_at Syntax ts ≡ d → (other : List Placed) → first other ≡ first ts → one test other ≡ Err d
+one_again test seen ts d miss is other alike = rw (same_next test seen.blind other ts alike, miss, same_fault Syntax other ts alike, is) refl
 
-syntax_said : {A : Type 0} (R : Grammar A) (ts : List Placed) → Says R [] ts (fault_at Syntax ts).kind
+syntax_said : {A : Type 0} (R : Grammar A) (ts : List Placed) → Said R [] ts (fault_at Syntax ts).kind
 syntax_said R [] = tt
 syntax_said R (t ∷ ts) = tt
 
-one_halts : (test : Token → Bool) → Begins (One test) [] → (ts : List Placed) (d : Fault PolicyFault) → one test ts ≡ Err d → Halts (one test) (One test) ts d
-one_halts test there ts d e =
+one_halts : (test : Token → Bool) → Seen test → (ts : List Placed) (d : Fault PolicyFault) → one test ts ≡ Err d → Halts (one test) (One test) ts d
+one_halts test seen ts d e =
     let p = refused (next test ts) (tt, behind ts) (fault_at Syntax ts) d e in
-    let again = one_again test ts d p.0 p.1 in
-    ([], ts, refl, subst (λ (c : Fault PolicyFault). c ≡ fault_at c.kind ts) p.1 (fault_is Syntax ts), there, again, subst (λ (c : Fault PolicyFault). Says (One test) [] ts c.kind) p.1 (syntax_said (One test) ts))
+    let again = one_again test seen ts d p.0 p.1 in
+    ([], ts, refl, subst (λ (c : Fault PolicyFault). c ≡ fault_at c.kind ts) p.1 (fault_is Syntax ts), seen.there, λ other alike. again other (alike_first d.kind other ts alike), subst (λ (c : Fault PolicyFault). Said (One test) [] ts c.kind) p.1 (syntax_said (One test) ts))
 
-pub firm_one : (test : Token → Bool) → Begins (One test) [] → Firm (one test) (One test)
-firm_one test there = record { takes = one_takes test; halts = one_halts test there; some = there }
+pub firm_one : (test : Token → Bool) → Seen test → Firm (one test) (One test)
+firm_one test seen = record { takes = one_takes test; halts = one_halts test seen; some = seen.there }
 
 word_takes : (t : Placed) (ts : List Placed) (x : List ℕ × List Placed) (k : Token) → t.token ≡ k → units_of k (t ∷ ts) ts ≡ Ok x → Takes word_at Worded (t ∷ ts) x
 word_takes t ts x (Word units) is e = subst (λ (y : List ℕ × List Placed). Takes word_at Worded (t ∷ ts) y) (ok_same (units, ts) x e) (t ∷ [], refl, (t, refl, is), λ other alike. rw is refl)
@@ -145,24 +188,54 @@ word_takes t ts x (Text units) is e = absurd cc
 word_takes t ts x (Mark c) is e = absurd cc
 word_takes t ts x Bad is e = absurd cc
 
-one_token : {A : Type 0} (f : List Placed → Answer A) (kind : PolicyFault) (t : Placed) (ts : List Placed) (d : Fault PolicyFault) → fault_at kind (t ∷ ts) ≡ d → ((us : List Placed) → f (t ∷ us) ≡ Err (fault_at kind (t ∷ us))) → (other : List Placed) → first other ≡ first (t ∷ ts) → f other ≡ Err d
-one_token f kind t ts d is again [] alike = absurd cc
-one_token {A} f kind t ts d is again (u ∷ us) alike =
-    let same : u ≡ t = cc in
-    subst (λ (v : Placed). f (v ∷ us) ≡ Err d) (sym same) (subst (λ (c : Fault PolicyFault). f (t ∷ us) ≡ Err c) is (again us))
+-- where a reading stops at the next token, whatever follows, and so at each that is like it
+abbrev StopsAt : {A : Type 0} → (List Placed → Answer A) → PolicyFault → Placed → Type 0
+StopsAt f kind t = (u : Placed) (us ts : List Placed) → Alike kind (u ∷ us) (t ∷ ts) → f (u ∷ us) ≡ Err (fault_at kind (u ∷ us))
+
+one_token : {A : Type 0} (f : List Placed → Answer A) (kind : PolicyFault) (t : Placed) (ts : List Placed) (d : Fault PolicyFault) → fault_at kind (t ∷ ts) ≡ d → StopsAt f kind t → (other : List Placed) → Alike kind other (t ∷ ts) → f other ≡ Err d
+one_token f kind t ts d is again [] alike = absurd (let none = alike_first kind [] (t ∷ ts) alike in cc)
+one_token f kind t ts d is again (u ∷ us) alike =
+    subst (λ (c : Fault PolicyFault). f (u ∷ us) ≡ Err c) (same_fault kind (u ∷ us) (t ∷ ts) (alike_first kind (u ∷ us) (t ∷ ts) alike) ∙ is) (again u us ts alike)
+
+kind_kept : (kind : PolicyFault) (t : Placed) (ts : List Placed) (d : Fault PolicyFault) → fault_at kind (t ∷ ts) ≡ d → kind ≡ d.kind
+kind_kept kind t ts d is = ap (λ (c : Fault PolicyFault). c.kind) is
 
 -- a reading that looks at the next token alone and stops there
-halts_here : {A : Type 0} (f : List Placed → Answer A) (R : Grammar A) (kind : PolicyFault) (t : Placed) (ts : List Placed) (d : Fault PolicyFault) → Begins R [] → Says R [] (t ∷ ts) kind → fault_at kind (t ∷ ts) ≡ d → ((us : List Placed) → f (t ∷ us) ≡ Err (fault_at kind (t ∷ us))) → Halts f R (t ∷ ts) d
-halts_here f R kind t ts d there said is again = ([], t ∷ ts, refl, subst (λ (c : Fault PolicyFault). c ≡ fault_at c.kind (t ∷ ts)) is refl, there, one_token f kind t ts d is again, subst (λ (c : Fault PolicyFault). Says R [] (t ∷ ts) c.kind) is said)
+halts_here : {A : Type 0} (f : List Placed → Answer A) (R : Grammar A) (kind : PolicyFault) (t : Placed) (ts : List Placed) (d : Fault PolicyFault) → Begins R [] → Said R [] (t ∷ ts) kind → fault_at kind (t ∷ ts) ≡ d → StopsAt f kind t → Halts f R (t ∷ ts) d
+halts_here f R kind t ts d there said is again = (
+  [],
+  t ∷ ts,
+  refl,
+  subst (λ (c : Fault PolicyFault). c ≡ fault_at c.kind (t ∷ ts)) is refl,
+  there,
+  λ other alike. one_token f kind t ts d is again other (subst (λ (k : PolicyFault). Alike k other (t ∷ ts)) (sym (kind_kept kind t ts d is)) alike),
+  subst (λ (c : Fault PolicyFault). Said R [] (t ∷ ts) c.kind) is said,
+)
 
 no_token : {A : Type 0} (f : List Placed → Answer A) (R : Grammar A) (d : Fault PolicyFault) → Begins R [] → f [] ≡ Err d → fault_at Syntax [] ≡ d → Halts f R [] d
-no_token f R d there stop is = ([], [], refl, subst (λ (c : Fault PolicyFault). c ≡ fault_at c.kind []) is refl, there, λ other alike. ap f (none_first other alike) ∙ stop, subst (λ (c : Fault PolicyFault). Says R [] [] c.kind) is tt)
+no_token f R d there stop is = ([], [], refl, subst (λ (c : Fault PolicyFault). c ≡ fault_at c.kind []) is refl, there, λ other alike. ap f (none_first other (alike_first d.kind other [] alike)) ∙ stop, subst (λ (c : Fault PolicyFault). Said R [] [] c.kind) is tt)
 
-word_stops : (t : Placed) (ts : List Placed) (d : Fault PolicyFault) (k : Token) → t.token ≡ k → units_of k (t ∷ ts) ts ≡ Err d → (fault_at Syntax (t ∷ ts) ≡ d) × ((us : List Placed) → word_at (t ∷ us) ≡ Err (fault_at Syntax (t ∷ us)))
+-- no word where another token stands
+no_word : (k : Token) (all rest : List Placed) → is_word k ≡ false → units_of k all rest ≡ not_allowed all
+no_word (Word units) all rest e = absurd cc
+no_word (Text units) all rest e = refl
+no_word (Mark c) all rest e = refl
+no_word Bad all rest e = refl
+
+pub word_blind : (k : Token) → is_word (plain k) ≡ is_word k
+word_blind (Word units) = refl
+word_blind (Text units) = refl
+word_blind (Mark c) = refl
+word_blind Bad = refl
+
+like : (t u : Placed) (us ts : List Placed) → first (u ∷ us) ≡ first (t ∷ ts) → plain u.token ≡ plain t.token
+like t u us ts e = ap (λ (x : Placed). x.token) (some_same (plainly u) (plainly t) e)
+
+word_stops : (t : Placed) (ts : List Placed) (d : Fault PolicyFault) (k : Token) → t.token ≡ k → units_of k (t ∷ ts) ts ≡ Err d → (fault_at Syntax (t ∷ ts) ≡ d) × (is_word t.token ≡ false)
 word_stops t ts d (Word units) is e = absurd cc
-word_stops t ts d (Text units) is e = (cc, λ us. rw is refl)
-word_stops t ts d (Mark c) is e = (cc, λ us. rw is refl)
-word_stops t ts d Bad is e = (cc, λ us. rw is refl)
+word_stops t ts d (Text units) is e = (cc, rw is refl)
+word_stops t ts d (Mark c) is e = (cc, rw is refl)
+word_stops t ts d Bad is e = (cc, rw is refl)
 
 abbrev a_word : Placed
 a_word = record { left = 0; token = Word [] }
@@ -172,7 +245,7 @@ some_word = (a_word ∷ [], [], (a_word, refl, refl))
 
 word_halts : (ts : List Placed) (d : Fault PolicyFault) → word_at ts ≡ Err d → Halts word_at Worded ts d
 word_halts [] d e = no_token word_at Worded d some_word e cc
-word_halts (t ∷ ts) d e = let w = word_stops t ts d t.token refl e in halts_here word_at Worded Syntax t ts d some_word tt w.0 w.1
+word_halts (t ∷ ts) d e = let w = word_stops t ts d t.token refl e in halts_here word_at Worded Syntax t ts d some_word tt w.0 (λ u us vs alike. no_word u.token (u ∷ us) us (sym (word_blind u.token) ∙ ap is_word (like t u us vs alike) ∙ word_blind t.token ∙ w.1))
 
 word_taken : (ts : List Placed) (x : List ℕ × List Placed) → word_at ts ≡ Ok x → Takes word_at Worded ts x
 word_taken [] x e = absurd cc
@@ -206,22 +279,43 @@ emptied_text p t = (emptied t, [], refl, refl, refl, refl)
 some_text : (p : Properties) → Begins (Texted p) []
 some_text p = (emptied a_word ∷ [], expanded p [], emptied_text p a_word)
 
+-- no string where another token stands
+no_text : (p : Properties) (k : Token) (all rest : List Placed) → is_text k ≡ false → value_of p k all rest ≡ not_allowed all
+no_text p (Word units) all rest e = refl
+no_text p (Text units) all rest e = absurd cc
+no_text p (Mark c) all rest e = refl
+no_text p Bad all rest e = refl
+
+pub text_blind : (k : Token) → is_text (plain k) ≡ is_text k
+text_blind (Word units) = refl
+text_blind (Text units) = refl
+text_blind (Mark c) = refl
+text_blind Bad = refl
+
 -- which fault a token is where a string is to stand
 abbrev StopsSo : Properties → Placed → List Placed → Fault PolicyFault → Type 0
-StopsSo p t ts d = (kind : PolicyFault) × (fault_at kind (t ∷ ts) ≡ d) × ((us : List Placed) → text_at p (t ∷ us) ≡ Err (fault_at kind (t ∷ us))) × Says (Texted p) [] (t ∷ ts) kind
+StopsSo p t ts d = (kind : PolicyFault) × (fault_at kind (t ∷ ts) ≡ d) × StopsAt (text_at p) kind t × Said (Texted p) [] (t ∷ ts) kind
+
+itself_again : (p : Properties) (t : Placed) (units : List ℕ) → t.token ≡ Text units → expands_itself units ≡ true → StopsAt (text_at p) SelfExpansion t
+unfolding text_at
+itself_again p t units is itself u us ts alike =
+    let same : t ≡ u = cc in
+    subst (λ (v : Placed). text_at p (v ∷ us) ≡ Err (fault_at SelfExpansion (v ∷ us))) same (rw (is, itself) refl)
 
 itself_stops : (p : Properties) (t : Placed) (ts : List Placed) (d : Fault PolicyFault) (units : List ℕ) → t.token ≡ Text units → (b : Bool) → expands_itself units ≡ b
     → cond b (refusal (fault_at SelfExpansion (t ∷ ts))) (Ok (expanded p units, ts)) ≡ Err d → StopsSo p t ts d
-unfolding text_at
-itself_stops p t ts d units is true itself e = (SelfExpansion, cc, λ us. rw (is, itself) refl, (units, is, itself, ([], expanded p [], emptied_text p t)))
+itself_stops p t ts d units is true itself e = (SelfExpansion, cc, itself_again p t units is itself, (units, is, itself, ([], expanded p [], emptied_text p t)))
 itself_stops p t ts d units is false itself e = absurd cc
 
-text_stops : (p : Properties) (t : Placed) (ts : List Placed) (d : Fault PolicyFault) (k : Token) → t.token ≡ k → value_of p k (t ∷ ts) ts ≡ Err d → StopsSo p t ts d
+text_again : (p : Properties) (t : Placed) → is_text t.token ≡ false → StopsAt (text_at p) Syntax t
 unfolding text_at
-text_stops p t ts d (Word units) is e = (Syntax, cc, λ us. rw is refl, tt)
+text_again p t other u us ts alike = no_text p u.token (u ∷ us) us (sym (text_blind u.token) ∙ ap is_text (like t u us ts alike) ∙ text_blind t.token ∙ other)
+
+text_stops : (p : Properties) (t : Placed) (ts : List Placed) (d : Fault PolicyFault) (k : Token) → t.token ≡ k → value_of p k (t ∷ ts) ts ≡ Err d → StopsSo p t ts d
+text_stops p t ts d (Word units) is e = (Syntax, cc, text_again p t (rw is refl), tt)
 text_stops p t ts d (Text units) is e = itself_stops p t ts d units is (expands_itself units) refl e
-text_stops p t ts d (Mark c) is e = (Syntax, cc, λ us. rw is refl, tt)
-text_stops p t ts d Bad is e = (Syntax, cc, λ us. rw is refl, tt)
+text_stops p t ts d (Mark c) is e = (Syntax, cc, text_again p t (rw is refl), tt)
+text_stops p t ts d Bad is e = (Syntax, cc, text_again p t (rw is refl), tt)
 
 text_halts : (p : Properties) (ts : List Placed) (d : Fault PolicyFault) → text_at p ts ≡ Err d → Halts (text_at p) (Texted p) ts d
 unfolding text_at
@@ -278,7 +372,7 @@ then_halts {A} f R g S wf wg ts d e = elim (bind_err (f ts) (λ x. g x.0 x.1) d 
         begun_second R S l.0 h.0 b.0.0 l.2 h.4,
         λ other alike. (
             ap (λ (u : List Placed). f u >>= λ x. g x.0 x.1) (append_assoc l.0 h.0 other) ∙
-            ap (λ (v : Answer A). v >>= λ x. g x.0 x.1) (l.3 (h.0 ++ other) (further l.0 h.0 b.0.1 h.1 other h.2 alike)) ∙ h.5 other alike),
+            ap (λ (v : Answer A). v >>= λ x. g x.0 x.1) (l.3 (h.0 ++ other) (further l.0 h.0 b.0.1 h.1 other h.2 (alike_first d.kind other h.1 alike))) ∙ h.5 other alike),
         said_lift (S b.0.0) (R ▹ S) l.0 h.0 h.1 d.kind (λ xs begun. begun_second R S l.0 xs b.0.0 l.2 begun) h.6,
       ))
 ]
@@ -292,39 +386,39 @@ firm_then f R g S wf wg = record {
 
 -- ---- choices by the next token
 
-at_next : (test : Token → Bool) (ts front xs other : List Placed) (b : Bool) → next test ts ≡ b → ts ≡ front ++ xs → first other ≡ first xs → next test (front ++ other) ≡ b
-at_next test ts front xs other b is cut alike = same_next test (front ++ other) ts (first_behind front other xs alike ∙ sym (ap first cut)) ∙ is
+at_next : (test : Token → Bool) → Seen test → (ts front xs other : List Placed) (b : Bool) → next test ts ≡ b → ts ≡ front ++ xs → first other ≡ first xs → next test (front ++ other) ≡ b
+at_next test seen ts front xs other b is cut alike = same_next test seen.blind (front ++ other) ts (first_behind front other xs alike ∙ sym (ap first cut)) ∙ is
 
-pub firm_if : {A : Type 0} (test : Token → Bool) (f : List Placed → Answer A) (R : Grammar A) (g : List Placed → Answer A) (S : Grammar A) → Firm f R → Firm g S → Firm (λ ts. cond (next test ts) (f ts) (g ts)) (Either R S)
-firm_if test f R g S wf wg = record {
+pub firm_if : {A : Type 0} (test : Token → Bool) → Seen test → (f : List Placed → Answer A) (R : Grammar A) (g : List Placed → Answer A) (S : Grammar A) → Firm f R → Firm g S → Firm (λ ts. cond (next test ts) (f ts) (g ts)) (Either R S)
+firm_if test seen f R g S wf wg = record {
   takes = λ ts x e. (elim (chosen (next test ts) (f ts) (g ts) (Ok x) e) [
-    | inl hit ↦ (let t = wf.takes ts x hit.1 in (t.0, t.1, inl t.2, λ other alike. rw (at_next test ts t.0 x.1 other true hit.0 t.1 alike) (t.3 other alike)))
-    | inr miss ↦ (let t = wg.takes ts x miss.1 in (t.0, t.1, inr t.2, λ other alike. rw (at_next test ts t.0 x.1 other false miss.0 t.1 alike) (t.3 other alike)))
+    | inl hit ↦ (let t = wf.takes ts x hit.1 in (t.0, t.1, inl t.2, λ other alike. rw (at_next test seen ts t.0 x.1 other true hit.0 t.1 alike) (t.3 other alike)))
+    | inr miss ↦ (let t = wg.takes ts x miss.1 in (t.0, t.1, inr t.2, λ other alike. rw (at_next test seen ts t.0 x.1 other false miss.0 t.1 alike) (t.3 other alike)))
   ]);
   halts = λ ts d e. (elim (chosen (next test ts) (f ts) (g ts) (Err d) e) [
-    | inl hit ↦ (let h = wf.halts ts d hit.1 in (h.0, h.1, h.2, h.3, wider R (Either R S) (λ us a derived. inl derived) h.0 h.4, λ other alike. rw (at_next test ts h.0 h.1 other true hit.0 h.2 alike) (h.5 other alike), said_lift R (Either R S) [] h.0 h.1 d.kind (wider R (Either R S) (λ us a derived. inl derived)) h.6))
-    | inr miss ↦ (let h = wg.halts ts d miss.1 in (h.0, h.1, h.2, h.3, wider S (Either R S) (λ us a derived. inr derived) h.0 h.4, λ other alike. rw (at_next test ts h.0 h.1 other false miss.0 h.2 alike) (h.5 other alike), said_lift S (Either R S) [] h.0 h.1 d.kind (wider S (Either R S) (λ us a derived. inr derived)) h.6))
+    | inl hit ↦ (let h = wf.halts ts d hit.1 in (h.0, h.1, h.2, h.3, wider R (Either R S) (λ us a derived. inl derived) h.0 h.4, λ other alike. rw (at_next test seen ts h.0 h.1 other true hit.0 h.2 (alike_first d.kind other h.1 alike)) (h.5 other alike), said_lift R (Either R S) [] h.0 h.1 d.kind (wider R (Either R S) (λ us a derived. inl derived)) h.6))
+    | inr miss ↦ (let h = wg.halts ts d miss.1 in (h.0, h.1, h.2, h.3, wider S (Either R S) (λ us a derived. inr derived) h.0 h.4, λ other alike. rw (at_next test seen ts h.0 h.1 other false miss.0 h.2 (alike_first d.kind other h.1 alike)) (h.5 other alike), said_lift S (Either R S) [] h.0 h.1 d.kind (wider S (Either R S) (λ us a derived. inr derived)) h.6))
   ]);
   some = (wg.some.0, wg.some.1, inr wg.some.2);
 }
 
-pub firm_behind : {A : Type 0} (test : Token → Bool) → Begins (One test) [] → (f : List Placed → Answer A) (R : Grammar A) → Firm f R → Firm (λ ts. one test ts >>= λ x. f x.1) (One test ▹ λ _. R)
-firm_behind test there f R w = firm_then (one test) (One test) (λ (u : Unit {0}) ts. f ts) (λ (u : Unit {0}). R) (firm_one test there) (λ u. w)
+pub firm_behind : {A : Type 0} (test : Token → Bool) → Seen test → (f : List Placed → Answer A) (R : Grammar A) → Firm f R → Firm (λ ts. one test ts >>= λ x. f x.1) (One test ▹ λ _. R)
+firm_behind test seen f R w = firm_then (one test) (One test) (λ (u : Unit {0}) ts. f ts) (λ (u : Unit {0}). R) (firm_one test seen) (λ u. w)
 
 last_same : {A : Type 0} (f : List Placed → Answer A) (b : Bool) (ts : List Placed) → (cond b (Ok (tt, behind ts)) (not_allowed ts) >>= λ (x : Unit {0} × List Placed). f x.1) ≡ cond b (f (behind ts)) (not_allowed ts)
 last_same f true ts = refl
 last_same f false ts = refl
 
-pub firm_last : {A : Type 0} (test : Token → Bool) → Begins (One test) [] → (f : List Placed → Answer A) (R : Grammar A) → Firm f R → Firm (λ ts. cond (next test ts) (f (behind ts)) (not_allowed ts)) (One test ▹ λ _. R)
-firm_last test there f R w = firm_same (λ ts. one test ts >>= λ x. f x.1) (λ ts. cond (next test ts) (f (behind ts)) (not_allowed ts)) (One test ▹ λ _. R) (λ ts. last_same f (next test ts) ts) (firm_behind test there f R w)
+pub firm_last : {A : Type 0} (test : Token → Bool) → Seen test → (f : List Placed → Answer A) (R : Grammar A) → Firm f R → Firm (λ ts. cond (next test ts) (f (behind ts)) (not_allowed ts)) (One test ▹ λ _. R)
+firm_last test seen f R w = firm_same (λ ts. one test ts >>= λ x. f x.1) (λ ts. cond (next test ts) (f (behind ts)) (not_allowed ts)) (One test ▹ λ _. R) (λ ts. last_same f (next test ts) ts) (firm_behind test seen f R w)
 
 next_same : {A : Type 0} (f g : List Placed → Answer A) (b : Bool) (ts : List Placed) → cond b (cond b (Ok (tt, behind ts)) (not_allowed ts) >>= λ (x : Unit {0} × List Placed). f x.1) (g ts) ≡ cond b (f (behind ts)) (g ts)
 next_same f g true ts = refl
 next_same f g false ts = refl
 
-pub firm_next : {A : Type 0} (test : Token → Bool) → Begins (One test) [] → (f : List Placed → Answer A) (R : Grammar A) (g : List Placed → Answer A) (S : Grammar A) → Firm f R → Firm g S → Firm (λ ts. cond (next test ts) (f (behind ts)) (g ts)) (Either (One test ▹ λ _. R) S)
-firm_next test there f R g S wf wg = firm_same (λ ts. cond (next test ts) (one test ts >>= λ x. f x.1) (g ts)) (λ ts. cond (next test ts) (f (behind ts)) (g ts)) (Either (One test ▹ λ _. R) S) (λ ts. next_same f g (next test ts) ts)
-    (firm_if test (λ ts. one test ts >>= λ x. f x.1) (One test ▹ λ _. R) g S (firm_behind test there f R wf) wg)
+pub firm_next : {A : Type 0} (test : Token → Bool) → Seen test → (f : List Placed → Answer A) (R : Grammar A) (g : List Placed → Answer A) (S : Grammar A) → Firm f R → Firm g S → Firm (λ ts. cond (next test ts) (f (behind ts)) (g ts)) (Either (One test ▹ λ _. R) S)
+firm_next test seen f R g S wf wg = firm_same (λ ts. cond (next test ts) (one test ts >>= λ x. f x.1) (g ts)) (λ ts. cond (next test ts) (f (behind ts)) (g ts)) (Either (One test ▹ λ _. R) S) (λ ts. next_same f g (next test ts) ts)
+    (firm_if test seen (λ ts. one test ts >>= λ x. f x.1) (One test ▹ λ _. R) g S (firm_behind test seen f R wf) wg)
 
 -- ---- choices that are only there where a test holds
 
@@ -340,15 +434,15 @@ if_only : {A : Type 0} (R S : Grammar A) (ts : List Placed) (a : A) → Either R
 if_only R S ts a (inl d) = inl (refl, d)
 if_only R S ts a (inr d) = inr d
 
-pub firm_only : {A : Type 0} (b : Bool) (test : Token → Bool) (f : List Placed → Answer A) (R : Grammar A) (g : List Placed → Answer A) (S : Grammar A) → Firm f R → Firm g S → Firm (λ ts. cond (b && next test ts) (f ts) (g ts)) (Either (Only b R) S)
-firm_only true test f R g S wf wg = firm_wide (λ ts. cond (next test ts) (f ts) (g ts)) (Either R S) (Either (Only true R) S) (if_only R S) (firm_if test f R g S wf wg)
-firm_only false test f R g S wf wg = firm_wide g S (Either (Only false R) S) (λ ts a d. inr d) wg
+pub firm_only : {A : Type 0} (b : Bool) (test : Token → Bool) → Seen test → (f : List Placed → Answer A) (R : Grammar A) (g : List Placed → Answer A) (S : Grammar A) → Firm f R → Firm g S → Firm (λ ts. cond (b && next test ts) (f ts) (g ts)) (Either (Only b R) S)
+firm_only true test seen f R g S wf wg = firm_wide (λ ts. cond (next test ts) (f ts) (g ts)) (Either R S) (Either (Only true R) S) (if_only R S) (firm_if test seen f R g S wf wg)
+firm_only false test seen f R g S wf wg = firm_wide g S (Either (Only false R) S) (λ ts a d. inr d) wg
 
-pub firm_once : {A : Type 0} (test : Token → Bool) → Begins (One test) [] → (b : Bool) (f : List Placed → Answer A) (R : Grammar A) (g : List Placed → Answer A) (S : Grammar A) → Firm f R → Firm g S → Firm (λ ts. cond (next test ts && b) (f (behind ts)) (g ts)) (Either (Only b (One test ▹ λ _. R)) S)
-firm_once {A} test there true f R g S wf wg = firm_same (λ ts. cond (next test ts) (f (behind ts)) (g ts)) (λ ts. cond (next test ts && true) (f (behind ts)) (g ts)) (Either (Only true (One test ▹ λ _. R)) S)
+pub firm_once : {A : Type 0} (test : Token → Bool) → Seen test → (b : Bool) (f : List Placed → Answer A) (R : Grammar A) (g : List Placed → Answer A) (S : Grammar A) → Firm f R → Firm g S → Firm (λ ts. cond (next test ts && b) (f (behind ts)) (g ts)) (Either (Only b (One test ▹ λ _. R)) S)
+firm_once {A} test seen true f R g S wf wg = firm_same (λ ts. cond (next test ts) (f (behind ts)) (g ts)) (λ ts. cond (next test ts && true) (f (behind ts)) (g ts)) (Either (Only true (One test ▹ λ _. R)) S)
     (λ ts. ap (λ (c : Bool). cond c (f (behind ts)) (g ts)) (sym (and_true (next test ts))))
-    (firm_wide (λ ts. cond (next test ts) (f (behind ts)) (g ts)) (Either (One test ▹ λ _. R) S) (Either (Only true (One test ▹ λ _. R)) S) (if_only (One test ▹ λ _. R) S) (firm_next test there f R g S wf wg))
-firm_once {A} test there false f R g S wf wg = firm_same g (λ ts. cond (next test ts && false) (f (behind ts)) (g ts)) (Either (Only false (One test ▹ λ _. R)) S)
+    (firm_wide (λ ts. cond (next test ts) (f (behind ts)) (g ts)) (Either (One test ▹ λ _. R) S) (Either (Only true (One test ▹ λ _. R)) S) (if_only (One test ▹ λ _. R) S) (firm_next test seen f R g S wf wg))
+firm_once {A} test seen false f R g S wf wg = firm_same g (λ ts. cond (next test ts && false) (f (behind ts)) (g ts)) (Either (Only false (One test ▹ λ _. R)) S)
     (λ ts. ap (λ (c : Bool). cond c (f (behind ts)) (g ts)) (sym (and_false (next test ts))))
     (firm_wide g S (Either (Only false (One test ▹ λ _. R)) S) (λ ts a d. inr d) wg)
 
@@ -452,7 +546,7 @@ walk_halts {S} ends goes R w (suc m) more s ts d is e = elim (chosen (ends ts) (
     | inl stop ↦ (
         let h = (w.firm s).halts ts d stop in
         let some : 0 < length (h.0 ++ h.1) + more = subst (λ (u : List Placed). 0 < length u + more) h.2 (subst (λ (k : ℕ). 0 < k) is (omega arith)) in
-        (h.0, h.1, h.2, h.3, begun_one R s h.0 h.4, λ other alike. first_stop ends goes more s h.0 h.1 other d alike some (at_end ends goes R w ts h.0 h.1 other false miss.0 h.2 alike) (h.5 other alike), said_lift (R s) (Many R s) [] h.0 h.1 d.kind (begun_one R s) h.6))
+        (h.0, h.1, h.2, h.3, begun_one R s h.0 h.4, λ other alike. first_stop ends goes more s h.0 h.1 other d (alike_first d.kind other h.1 alike) some (at_end ends goes R w ts h.0 h.1 other false miss.0 h.2 (alike_first d.kind other h.1 alike)) (h.5 other alike), said_lift (R s) (Many R s) [] h.0 h.1 d.kind (begun_one R s) h.6))
     | inr b ↦ (
         let l = (w.firm s).takes ts b.0 b.1 in
         let some : 0 < length l.0 = w.takes_some s l.0 b.0.0 l.2 in
@@ -465,7 +559,7 @@ walk_halts {S} ends goes R w (suc m) more s ts d is e = elim (chosen (ends ts) (
           h.3,
           begun_more R s b.0.0 l.0 h.0 l.2 h.4,
           λ other alike. (
-              let alike_behind = further l.0 h.0 b.0.1 h.1 other h.2 alike in
+              let alike_behind = further l.0 h.0 b.0.1 h.1 other h.2 (alike_first d.kind other h.1 alike) in
               first_step ends goes more s b.0.0 l.0 h.0 other some (at_end ends goes R w ts l.0 b.0.1 (h.0 ++ other) false miss.0 l.1 alike_behind) (l.3 (h.0 ++ other) alike_behind) ∙ h.5 other alike),
           said_lift (Many R b.0.0) (Many R s) l.0 h.0 h.1 d.kind (λ xs begun. begun_more R s b.0.0 l.0 xs l.2 begun) h.6,
         ))

@@ -6,7 +6,6 @@ use Rattle.std.proofs.lemmas.Bool.{cases_Bool}
 use Rattle.std.proofs.lemmas.Str.{IsUtf8-from_is_utf8, is_utf8-from_IsUtf8}
 use Rattle.jpolicy.specs.declared.grant.Grant.{Grant}
 use Rattle.jbase.specs.declared.stop.Stop.{Stop}
-use Rattle.jbase.specs.declared.stop.Stop.TheVariants as stops
 use Rattle.jbase.specs.Stops.{Gives}
 use Rattle.jformat.specs.declared.error.At.{At}
 use Rattle.jpolicy.specs.declared.fault.PolicyFault.{PolicyFault}

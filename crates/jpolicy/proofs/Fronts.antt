@@ -11,8 +11,9 @@ use Rattle.jpolicy.specs.declared.token.Placed.{Placed}
 use Rattle.jpolicy.specs.declared.keyword.Keyword.{Keyword}
 use Rattle.jpolicy.specs.declared.keyword.Keyword.TheVariants as keywords
 use Rattle.jpolicy.specs.Expansion.{Properties}
-use Rattle.jpolicy.specs.Productions.{next, is_mark, is_word, is_text, is_keyword, spelling}
+use Rattle.jpolicy.specs.Productions.{next, is_mark, is_word, is_text, is_keyword, names_principal, spelling}
 use Rattle.jpolicy.specs.Grammar.{Grammar, Nothing, One, Texted, ◌▹◌, Begins}
+use Rattle.jpolicy.proofs.Firm.{Seen, plain, word_blind, text_blind}
 use Rattle.jpolicy.proofs.Exact.{front_of}
 
 -- ---- a token that passes a test
@@ -20,11 +21,29 @@ use Rattle.jpolicy.proofs.Exact.{front_of}
 some_one : (test : Token → Bool) (token : Token) → test token ≡ true → Begins (One test) []
 some_one test token hit = (record { left = 0; token = token } ∷ [], tt, (record { left = 0; token = token }, refl, hit))
 
-pub some_mark : (c : ℕ) → eqb c c ≡ true → Begins (One (is_mark c)) []
-some_mark c same = some_one (is_mark c) (Mark c) same
+mark_blind : (c : ℕ) (k : Token) → is_mark c (plain k) ≡ is_mark c k
+mark_blind c (Word units) = refl
+mark_blind c (Text units) = refl
+mark_blind c (Mark d) = refl
+mark_blind c Bad = refl
 
-pub some_word : Begins (One is_word) []
-some_word = some_one is_word (Word []) refl
+pub seen_mark : (c : ℕ) → eqb c c ≡ true → Seen (is_mark c)
+seen_mark c same = record { there = some_one (is_mark c) (Mark c) same; blind = mark_blind c }
+
+pub seen_word : Seen is_word
+seen_word = record { there = some_one is_word (Word []) refl; blind = word_blind }
+
+pub seen_text : Seen is_text
+seen_text = record { there = some_one is_text (Text []) refl; blind = text_blind }
+
+name_blind : (k : Token) → names_principal (plain k) ≡ names_principal k
+name_blind (Word units) = refl
+name_blind (Text units) = refl
+name_blind (Mark d) = refl
+name_blind Bad = refl
+
+pub seen_name : Seen names_principal
+seen_name = record { there = some_one names_principal (Text []) refl; blind = name_blind }
 
 spelled : (w : Keyword) → is_keyword w (Word (spelling w)) ≡ true
 spelled keywords.Grant = refl
@@ -35,8 +54,14 @@ spelled keywords.Permission = refl
 spelled keywords.Keystore = refl
 spelled keywords.PasswordUrl = refl
 
-pub some_keyword : (w : Keyword) → Begins (One (is_keyword w)) []
-some_keyword w = some_one (is_keyword w) (Word (spelling w)) (spelled w)
+keyword_blind : (w : Keyword) (k : Token) → is_keyword w (plain k) ≡ is_keyword w k
+keyword_blind w (Word units) = refl
+keyword_blind w (Text units) = refl
+keyword_blind w (Mark d) = refl
+keyword_blind w Bad = refl
+
+pub seen_keyword : (w : Keyword) → Seen (is_keyword w)
+seen_keyword w = record { there = some_one (is_keyword w) (Word (spelling w)) (spelled w); blind = keyword_blind w }
 
 -- ---- tokens that pass one test alone
 

@@ -1,5 +1,5 @@
 -- Each step of a walk over characters or units leaves fewer of them.
-use Rattle.std.proofs.Common.{◌≡◌, ℕ, suc, ◌+◌, ◌-◌, ◌≤◌, ◌<◌, Bool, true, false, cond, ◌&&◌, ◌||◌, eqb, List, [], ◌∷◌, ◌++◌, length, take, drop, Option, Some, None, Result, Ok, Err, refl, sym, ap, ◌∙◌, subst, inl, inr, arith}
+use Rattle.std.proofs.Common.{◌≡◌, ℕ, ◌+◌, ◌≤◌, ◌<◌, Bool, true, false, cond, ◌&&◌, ◌||◌, eqb, List, [], ◌∷◌, ◌++◌, length, take, drop, Option, Some, None, Ok, Err, refl, ap, subst, inl, inr, arith}
 use Rattle.std.specs.Prelude.{position}
 use Rattle.std.specs.Str.{byte}
 use Rattle.std.specs.Char.Escape.{encode_utf16}
@@ -7,7 +7,6 @@ use Rattle.std.specs.List.{prefix_len, position_or_len}
 use Rattle.std.specs.Option.{ok_or}
 use Rattle.std.proofs.lemmas.List.{length-drop}
 use Rattle.jbase.specs.Stops.{◌>>=◌}
-use Rattle.jpolicy.specs.declared.token.Token.{Token}
 use Rattle.jpolicy.specs.declared.token.Token.TheVariants.{Mark}
 use Rattle.jpolicy.specs.declared.token.Placed.{Placed}
 use Rattle.jpolicy.specs.Characters.{is_gap, is_mark, is_word_character, ends_line, is_octal, quote, backslash, slash, star}

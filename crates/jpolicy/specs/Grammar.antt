@@ -179,8 +179,8 @@ abbrev pub NotItself : {A : Type 0} → Grammar A → List Placed → List Place
 NotItself R front [] = ⊥
 NotItself R front (t ∷ ts) = (units : List ℕ) × (t.token ≡ Text units) × (expands_itself units ≡ true) × Begins R (front ++ emptied t ∷ [])
 
--- what the kind of a fault says of the token behind some others
+-- what the kind of a fault says of the token behind some others: whether it is such a string
 abbrev pub Says : {A : Type 0} → Grammar A → List Placed → List Placed → PolicyFault → Type 0
 Says R front rest NotUtf8 = ⊥
-Says R front rest Syntax = Unit {0}
+Says R front rest Syntax = ¬ (NotItself R front rest)
 Says R front rest SelfExpansion = NotItself R front rest

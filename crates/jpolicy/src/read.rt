@@ -84,7 +84,8 @@ pub fn read_policy(
     ensures only { (grants : List Grant) → IsPolicy props.now bytes.now grants → Gives (λ x. x) result (Ok grants) }
     // Which fault it is: the first ill-formed group of bytes, else the first token that isn't allowed.
     ensures exact { Gives (λ x. x) result (policy props.now bytes.now) }
-    // The tokens in front of that one begin a policy of the grammar, and with it none begins.
+    // The tokens in front of that one begin a policy of the grammar, and with it none begins; it is a self-expansion exactly where it is
+    // a string with `${{` and another string is allowed there.
     ensures first { IfErr result (λ e. IsFault props.now bytes.now e) }
 {
     policy_of(alloc, bytes, props)
