@@ -1,16 +1,9 @@
--- Unions: a first byte, and behind it what the byte says.
-use Rattle.std.specs.Prelude.{ℕ, Bool, true, false, ◌&&◌, ◌⊎◌, not, List, [], ◌∷◌, ◌++◌, Result, Ok, Err, nat_lt, ◌==◌, if◌then◌else◌}
-use Rattle.std.proofs.Common.{inl, inr}
+-- First bytes that are apart, and tables of what each first byte says of the bytes behind it.
+use Rattle.std.specs.Prelude.{ℕ, Bool, true, false, ◌&&◌, not, List, [], ◌∷◌, Result, Ok, Err, nat_lt, ◌==◌, if◌then◌else◌}
 use Rattle.jbase.specs.Stops.{◌>>=◌}
 use Rattle.jformat.specs.Format.{Answer, Format, fault}
 
--- values whose spellings begin with one of these bytes
-pub record Tagged (K A : Type 0) : Type 0 where
-  pub begins : List ℕ
-  pub spell : A → List ℕ
-  pub fits : A → Bool
-  -- behind the byte
-  pub read : ℕ → List ℕ → Answer K A
+-- ---- first bytes
 
 abbrev pub is_in : ℕ → List ℕ → Bool
 is_in t [] = false
@@ -19,49 +12,6 @@ is_in t (u ∷ us) = if t == u then true else is_in t us
 abbrev pub apart : List ℕ → List ℕ → Bool
 apart [] us = true
 apart (t ∷ ts) us = not (is_in t us) && apart ts us
-
-abbrev pub tag : {K A : Type 0} → ℕ → Format K A → Tagged K A
-tag t f = record {
-  begins = t ∷ [];
-  spell = λ a. t ∷ f.spell a;
-  fits = f.fits;
-  read = λ _. f.read;
-}
-
--- one of several bytes, which is part of the value
-abbrev pub one_of : {K A : Type 0} → List ℕ → Format K A → Tagged K (ℕ × A)
-one_of ts f = record {
-  begins = ts;
-  spell = λ p. p.0 ∷ f.spell p.1;
-  fits = λ p. is_in p.0 ts && f.fits p.1;
-  read = λ t rest. f.read rest >>= λ x. Ok ((t, x.0), x.1);
-}
-
-abbrev pub either_spell : {A B : Type 0} → (A → List ℕ) → (B → List ℕ) → A ⊎ B → List ℕ
-either_spell f g (inl a) = f a
-either_spell f g (inr b) = g b
-
-abbrev pub either_fits : {A B : Type 0} → (A → Bool) → (B → Bool) → A ⊎ B → Bool
-either_fits f g (inl a) = f a
-either_fits f g (inr b) = g b
-
--- the one or the other, by the first byte
-infixr 11 ◌∣◌
-abbrev pub ◌∣◌ : {K A B : Type 0} → Tagged K A → Tagged K B → Tagged K (A ⊎ B)
-f ∣ g = record {
-  begins = f.begins ++ g.begins;
-  spell = either_spell f.spell g.spell;
-  fits = either_fits f.fits g.fits;
-  read = λ t rest. if is_in t f.begins then (f.read t rest >>= λ x. Ok (inl x.0, x.1)) else (g.read t rest >>= λ x. Ok (inr x.0, x.1));
-}
-
-abbrev pub tagged_at : {K A : Type 0} → K → (ℕ → K) → Tagged K A → List ℕ → Answer K A
-tagged_at cut unknown f [] = fault cut []
-tagged_at cut unknown f (t ∷ rest) = if is_in t f.begins then f.read t rest else fault (unknown t) (t ∷ rest)
-
--- A byte that begins none of the values is a fault of its own kind.
-abbrev pub tagged : {K A : Type 0} → K → (ℕ → K) → Tagged K A → Format K A
-tagged cut unknown f = record { spell = f.spell; fits = f.fits; read = tagged_at cut unknown f }
 
 -- ---- rows of a table
 
