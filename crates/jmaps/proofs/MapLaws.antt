@@ -1,22 +1,21 @@
 -- The laws of types, frames and stack maps as formats.
-use Rattle.std.proofs.Common.{◌≡◌, ℕ, ◌≤◌, ◌&&◌, ltb, List, [], ◌∷◌, ◌++◌, length, Option, Some, None, Result, Ok, Err, refl, sym, ap, subst, ◌∙◌, arith, inl, inr}
-use Rattle.std.specs.Prelude.{IsTrue, ◌-◌}
+use Rattle.std.proofs.Common.{◌≡◌, ℕ, ◌&&◌, ltb, List, [], ◌∷◌, ◌++◌, length, Option, Some, None, Ok, refl, sym, ap, subst, ◌∙◌, arith}
+use Rattle.std.specs.Prelude.{IsTrue}
 use Rattle.std.specs.Int.{w16, to_be_bytes}
 use Rattle.std.specs.List.{flat_map, list_all}
 use Rattle.std.proofs.lemmas.List.Concat.{flat_map-cons}
 use Rattle.std.proofs.lemmas.Bool.{eqb-true}
 use Rattle.jformat.specs.declared.error.Fault.{Fault}
-use Rattle.jformat.specs.Format.{IsBytes, Format, void, number, ◌·◌}
+use Rattle.jformat.specs.Format.{IsBytes, Format, number, ◌·◌}
 use Rattle.jformat.specs.Bodies.{counted}
 use Rattle.jformat.specs.Cases.{IsOnce}
 use Rattle.jformat.specs.Tags.{rows, row_spell, row_fits}
 use Rattle.jformat.proofs.Steps.{ok_is, both, first_true, second_true}
-use Rattle.jformat.proofs.Laws.{Takes, IsFormat, wide16, void_law, number_law, pair_law, via_law}
+use Rattle.jformat.proofs.Laws.{Takes, IsFormat, wide16, number_law, pair_law, via_law}
 use Rattle.jformat.proofs.Blocks.{IsBody, whole_law, counted_law}
 use Rattle.jformat.proofs.Unions.{rows_law}
 use Rattle.jformat.proofs.Casing.{IsCases, case_law, sole_law, either_law, union_law}
 use Rattle.jmaps.specs.declared.fault.Kinds.{Kinds}
-use Rattle.jmaps.specs.declared.fault.MapFault.{MapFault}
 use Rattle.jmaps.specs.declared.types.MapType.{MapType}
 use Rattle.jmaps.specs.declared.types.MapType.TheVariants.{Top, Int, Long, Null, UninitThis, Uninit, Object}
 use Rattle.jmaps.specs.declared.types.RawFrame.{RawFrame}

@@ -1,3 +1,4 @@
 pub mod Frames
 pub mod Full
 pub mod Spelled
+pub mod Steps

@@ -2,9 +2,10 @@ ghost use Rattle.std.specs.Prelude.{◌≡◌, ◌+◌, ◌<◌, ◌≤◌, ◌^
 ghost use Rattle.std.specs.List.{list_all};
 ghost use Rattle.std.specs.Option.{option_copied};
 ghost use Rattle.jmaps.specs.Frames.{maps, own_type};
-ghost use Rattle.jmaps.specs.Full.{GivesFull, all_stand, chopped, expand_from, items_fit, locals_before, locals_of, place_behind};
+ghost use Rattle.jmaps.specs.Full.{GivesFull, all_stand, expand_from, items_fit, locals_before, locals_of, place_behind};
 
 use crate::fault::ExpandError;
+use crate::locals::follow;
 use crate::types::{FullFrame, MapType, RawFrame};
 use jbase::Seq;
 use std::alloc::{AllocError, Global};
@@ -18,22 +19,7 @@ fn locals_before<'a>(first: &'a [MapType], earlier: Option<&'a FullFrame>) -> &'
     }
 }
 
-fn chopped(
-    alloc: Global,
-    count: usize,
-    locals: &[MapType],
-) -> Result<Option<Seq<MapType>>, AllocError>
-    ensures { IfOk result (λ r. r ≡ chopped count locals.now) }
-{
-    if locals.len() < count {
-        return Ok(None);
-    }
-    let (left, _) = locals.split_at(locals.len() - count);
-    Ok(Some(Seq::from_slice(alloc, left)?))
-}
-
 /// The locals that a frame has, by those before it.
-#[tactic(auto, unfolding(crate::specs::Full::locals_after))]
 fn locals_of(
     alloc: Global,
     before: &[MapType],
@@ -41,21 +27,11 @@ fn locals_of(
 ) -> Result<Option<Seq<MapType>>, AllocError>
     ensures { IfOk result (λ r. r ≡ locals_of before.now frame.now) }
 {
-    if frame.form < 248 {
-        return Ok(Some(Seq::from_slice(alloc, before)?));
+    let mut locals = Vec::from_slice(alloc, before)?;
+    if follow(&mut locals, frame, alloc)? {
+        return Ok(Some(Seq::from_vec(locals)));
     }
-    if frame.form < 251 {
-        return chopped(alloc, usize::from(251 - frame.form), before);
-    }
-    if frame.form < 252 {
-        return Ok(Some(Seq::from_slice(alloc, before)?));
-    }
-    if frame.form < 255 {
-        let mut locals = Seq::from_slice(alloc, before)?;
-        locals.extend(frame.locals.as_slice())?;
-        return Ok(Some(locals));
-    }
-    Ok(Some(frame.locals.copy(alloc)?))
+    Ok(None)
 }
 
 fn place_behind(earlier: Option<&FullFrame>, delta: u16) -> u32
@@ -69,7 +45,8 @@ fn place_behind(earlier: Option<&FullFrame>, delta: u16) -> u32
     }
 }
 
-/// The frames in full, by the locals that the method begins with (JVMS 4.7.4). The error is `Chop` exactly at the first frame
+/// All frames in full, by the locals that the method begins with (JVMS 4.7.4): it takes room for the locals of each frame, at most
+/// 65,535 times those of the longest, where `Expansion` holds one frame's at a time. The error is `Chop` exactly at the first frame
 /// that takes away more locals than there are.
 pub fn expand(
     alloc: Global,

@@ -5,8 +5,10 @@ mod expansion;
 mod fault;
 mod full;
 mod laws;
+mod locals;
 mod read;
 mod rows;
+mod steps;
 mod types;
 mod write;
 
@@ -15,5 +17,6 @@ pub use fault::{ExpandError, Kinds, MapError, MapFault};
 pub use full::write_maps;
 pub use laws::{locals_laws, map_laws};
 pub use read::{TypeReader, frames_of, read_maps, type_of};
+pub use steps::Expansion;
 pub use types::{FullFrame, MapType, RawFrame};
 pub use write::put_frames;

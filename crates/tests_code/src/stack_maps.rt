@@ -1,7 +1,7 @@
 use jbase::{Seq, Stop};
 use jformat::At;
 use jmaps::{
-    ExpandError, FullFrame, MapFault, MapType, expand, put_frames, read_maps, write_maps,
+    ExpandError, Expansion, FullFrame, MapFault, MapType, expand, put_frames, read_maps, write_maps,
 };
 use std::test::Fail;
 
@@ -51,12 +51,18 @@ fn frames_of_javac(rt: HostRuntime) -> Result<(), Fail> {
     assert_eq!(rt; full.len(), 8);
     let second = full[1].locals.as_slice();
     assert!(rt; second.len() == 5 && second[4] == MapType::Long);
+    let mut one = Expansion::open(rt.alloc(), &first, raw.as_slice())?;
     for (i, frame) in full.iter().enumerate() {
         assert!(rt; i < 8);
         assert_eq!(rt; frame.at, places[i]);
         assert_eq!(rt; frame.locals.as_slice().len(), locals[i]);
         assert_eq!(rt; frame.stack.as_slice().len(), stacks[i]);
+        assert_eq!(rt; one.next(rt.alloc()), Ok(true), "{i}");
+        assert_eq!(rt; one.at(), Some(places[i]));
+        assert!(rt; one.locals() == frame.locals.as_slice(), "{i}");
+        assert!(rt; one.stack() == frame.stack.as_slice(), "{i}");
     }
+    assert_eq!(rt; one.next(rt.alloc()), Ok(false));
     Ok(())
 }
 

@@ -1,5 +1,4 @@
-use Rattle.std.proofs.Common.{◌≡◌, Ok, sym, ◌∙◌}
-use Rattle.jmaps.specs.Frames.{maps}
+use Rattle.std.proofs.Common.{sym, ◌∙◌}
 use Rattle.jmaps.proofs.MapLaws.{maps_law, read_is}
 use Rattle.jmaps.proofs.laws.map_laws.Goals as goal
 

@@ -1,4 +1,4 @@
-use Rattle.std.proofs.Common.{◌≡◌, Err, sym, ap, ◌∙◌, arith}
+use Rattle.std.proofs.Common.{sym, ◌∙◌, arith}
 use Rattle.jformat.proofs.Placing.{fails_at}
 use Rattle.jmaps.specs.Frames.{maps}
 use Rattle.jmaps.proofs.MapLaws.{maps_law, read_is}
