@@ -34,18 +34,15 @@ use Rattle.jcode.specs.declared.head.BranchHead.TheVariants as branch
 use Rattle.jcode.specs.declared.head.OtherHead.{OtherHead}
 use Rattle.jcode.specs.declared.head.OtherHead.TheVariants as other
 use Rattle.jcode.specs.Opcodes.{head_number, head_at}
-use Rattle.jcode.specs.Operands.{OtherOperand, Operand, other_operands, operands}
-use Rattle.jcode.specs.Instructions.{other_op, op_from, op_head, op_operand, behind, behind_fits, at_front, read_as, read_other, read_behind, behind_head, instruction_at, instruction, placed_at, op_at, placed, place_behind, instructions, leads, lost, first_lost, lost_fault, code}
+use Rattle.jcode.specs.Operands.{OtherOperand, Operand, operands}
+use Rattle.jcode.specs.Instructions.{other_op, op_from, Parts, parts, behind, behind_fits, read_behind, at_front, behind_head, instruction_at, instruction, placed_at, op_at, placed, place_behind, instructions, leads, lost, first_lost, lost_fault, code}
 use Rattle.jcode.proofs.OpcodeLaws.{number_of_head, head_of_number}
 use Rattle.jcode.proofs.OperandLaws.{operands_law}
 
 -- ---- an opcode with its operands, and an instruction
 
-abbrev Pair : Type 0
-Pair = (h : Head) × Operand h
-
 abbrev Returns : (h : Head) → Operand h → Type 0
-Returns h x = ◌≡◌ {A = Pair} (op_head (op_from h x), op_operand (op_from h x)) (h, x)
+Returns h x = ◌≡◌ {A = Parts} (parts (op_from h x)) (h, x)
 
 plain_back : (p : Plain) (x : Unit {0}) → Returns (heads.Plain p) x
 plain_back plain.Nop x = refl
@@ -100,7 +97,7 @@ op_back (heads.Index h) x = index_back h x
 op_back (heads.Branch h) x = branch_back h x
 op_back (heads.Other h) x = other_back h x
 
-op_forth : (op : Op) → op_from (op_head op) (op_operand op) ≡ op
+op_forth : (op : Op) → op_from (parts op).0 (parts op).1 ≡ op
 op_forth ops.Nop = refl
 op_forth ops.AconstNull = refl
 op_forth (ops.IntConst (consts.Small n)) = refl
@@ -141,67 +138,7 @@ op_forth (ops.Object op) = refl
 op_forth (ops.Cast op n) = refl
 op_forth (ops.Wide w) = refl
 
--- what stands behind an opcode is the spelling of its operands
-spells : (at : ℕ) (op : Op) → ◌≡◌ {A = List ℕ × Bool} (behind at op, behind_fits at op) ((operands at (op_head op)).spell (op_operand op), (operands at (op_head op)).fits (op_operand op))
-spells at ops.Nop = refl
-spells at ops.AconstNull = refl
-spells at (ops.IntConst (consts.Small n)) = refl
-spells at (ops.IntConst (consts.Byte n)) = refl
-spells at (ops.IntConst (consts.Short n)) = refl
-spells at (ops.LongConst n) = refl
-spells at (ops.Ldc (ldcs.Narrow n)) = refl
-spells at (ops.Ldc (ldcs.Wide n)) = refl
-spells at (ops.Ldc2 n) = refl
-spells at (ops.IntLocal (locals.At access n)) = refl
-spells at (ops.IntLocal (locals.Slot access slot)) = refl
-spells at (ops.LongLocal (locals.At access n)) = refl
-spells at (ops.LongLocal (locals.Slot access slot)) = refl
-spells at (ops.RefLocal (locals.At access n)) = refl
-spells at (ops.RefLocal (locals.Slot access slot)) = refl
-spells at (ops.ArrayLoad element) = refl
-spells at (ops.ArrayStore element) = refl
-spells at (ops.Stack op) = refl
-spells at (ops.Two op) = refl
-spells at (ops.Divide op) = refl
-spells at (ops.One op) = refl
-spells at (ops.Iinc n by) = refl
-spells at (ops.If test by) = refl
-spells at (ops.IfInt test by) = refl
-spells at (ops.IfRef test by) = refl
-spells at (ops.Goto (gotos.Narrow by)) = refl
-spells at (ops.Goto (gotos.Wide by)) = refl
-spells at (ops.Switch (switches.Table s)) = refl
-spells at (ops.Switch (switches.Lookup s)) = refl
-spells at (ops.Return kind) = refl
-spells at (ops.Field op n) = refl
-spells at (ops.Call op n) = refl
-spells at (ops.CallInterface n slots) = refl
-spells at (ops.New (news.Object n)) = refl
-spells at (ops.New (news.Array element)) = refl
-spells at (ops.New (news.RefArray n)) = refl
-spells at (ops.Object op) = refl
-spells at (ops.Cast op n) = refl
-spells at (ops.Wide w) = refl
-
 -- ---- an instruction
-
-reads_other : (at : ℕ) (h : OtherHead) (rest : List ℕ) → read_other at h rest ≡ read_as (other_operands at h) (other_op h) rest
-reads_other at other.Bipush rest = refl
-reads_other at other.Sipush rest = refl
-reads_other at other.Iinc rest = refl
-reads_other at other.TableSwitch rest = refl
-reads_other at other.LookupSwitch rest = refl
-reads_other at other.CallInterface rest = refl
-reads_other at other.NewArray rest = refl
-reads_other at other.Wide rest = refl
-reads_other at other.GotoWide rest = refl
-
-reads : (at : ℕ) (h : Head) (rest : List ℕ) → read_behind at h rest ≡ read_as (operands at h) (op_from h) rest
-reads at (heads.Plain h) rest = refl
-reads at (heads.Byte h) rest = refl
-reads at (heads.Index h) rest = refl
-reads at (heads.Branch h) rest = refl
-reads at (heads.Other h) rest = reads_other at h rest
 
 front_ok : {A : Type 0} (bytes : List ℕ) (r : Answer CodeFault A) (x : A × List ℕ) → at_front bytes r ≡ Ok x → r ≡ Ok x
 front_ok bytes (Ok y) x e = e
@@ -212,17 +149,16 @@ front_within bytes (Ok y) d e = absurd cc
 front_within bytes (Err c) d e = fault_within c.kind bytes bytes d (omega arith) cc
 
 head_takes : (at t : ℕ) (rest : List ℕ) (x : Op × List ℕ) (o : Result Head CodeFault) → head_at t ≡ o → IsBytes rest → at_front (t ∷ rest) (behind_head at rest o) ≡ Ok x → Takes (instruction at).spell (instruction at).fits (t ∷ rest) x
-unfolding instruction
+unfolding instruction behind behind_fits read_behind
 head_takes at t rest x (Err kind) is fits e = absurd cc
 head_takes at t rest x (Ok h) is fits e =
-    let a = bind_ok ((operands at h).read rest) (λ y. Ok (op_from h y.0, y.1)) x (sym (reads at h rest) ∙ front_ok (t ∷ rest) (behind_head at rest (Ok h)) x e) in
+    let a = bind_ok ((operands at h).read rest) (λ y. Ok (op_from h y.0, y.1)) x (front_ok (t ∷ rest) (behind_head at rest (Ok h)) x e) in
     let s = (operands_law at h).takes rest a.0 fits a.1 in
     let made : Op × List ℕ = (op_from h a.0.0, a.0.1) in
     let spelled : (instruction at).spell made.0 ≡ t ∷ (operands at h).spell a.0.0 =
-    ap (λ (y : List ℕ × Bool). head_number (op_head made.0) ∷ y.0) (spells at made.0)
-    ∙ ap (λ (p : Pair). head_number p.0 ∷ (operands at p.0).spell p.1) (op_back h a.0.0) ∙ ap (λ (n : ℕ). n ∷ (operands at h).spell a.0.0) (number_of_head t h is) in
+    ap (λ (p : Parts). head_number p.0 ∷ (operands at p.0).spell p.1) (op_back h a.0.0) ∙ ap (λ (n : ℕ). n ∷ (operands at h).spell a.0.0) (number_of_head t h is) in
     let fitting : (instruction at).fits made.0 ≡ (operands at h).fits a.0.0 =
-    ap (λ (y : List ℕ × Bool). y.1) (spells at made.0) ∙ ap (λ (p : Pair). (operands at p.0).fits p.1) (op_back h a.0.0) in
+    ap (λ (p : Parts). (operands at p.0).fits p.1) (op_back h a.0.0) in
     let all : Takes (instruction at).spell (instruction at).fits (t ∷ rest) made = record {
       parts = ap (λ (r : List ℕ). t ∷ r) s.parts ∙ ap (λ (r : List ℕ). r ++ made.1) (sym spelled);
       rest_fits = s.rest_fits;
@@ -235,22 +171,22 @@ instruction_takes at [] x fits e = absurd cc
 instruction_takes at (t ∷ rest) x fits e = head_takes at t rest x (head_at t) refl (IsBytes-rest t rest fits) e
 
 instruction_again : (at : ℕ) (op : Op) (rest : List ℕ) → IsTrue ((instruction at).fits op) → instruction_at at ((instruction at).spell op ++ rest) ≡ Ok (op, rest)
-unfolding instruction
+unfolding instruction behind behind_fits read_behind
 instruction_again at op rest fit =
-    let fit' : IsTrue ((operands at (op_head op)).fits (op_operand op)) = sym (ap (λ (y : List ℕ × Bool). y.1) (spells at op)) ∙ fit in
-    let spelled : behind at op ≡ (operands at (op_head op)).spell (op_operand op) = ap (λ (y : List ℕ × Bool). y.0) (spells at op) in
-    let one = (operands_law at (op_head op)).again (op_operand op) rest fit' in
-    let named = head_of_number (op_head op) in
-    rw (named, spelled, reads at (op_head op) ((operands at (op_head op)).spell (op_operand op) ++ rest), one) (ap (λ (o : Op). Ok (o, rest)) (op_forth op))
+    let p = parts op in
+    let one = (operands_law at p.0).again p.1 rest fit in
+    let named = head_of_number p.0 in
+    rw (named, one) (ap (λ (o : Op). Ok (o, rest)) (op_forth op))
 
 instruction_within : (at : ℕ) (bytes : List ℕ) (d : Fault CodeFault) → instruction_at at bytes ≡ Err d → d.left ≤ length bytes
 instruction_within at [] d e = fault_within Truncated [] [] d (omega arith) cc
 instruction_within at (t ∷ rest) d e = front_within (t ∷ rest) (behind_head at rest (head_at t)) d e
 
 head_shorter : (at t : ℕ) (rest : List ℕ) (x : Op × List ℕ) (o : Result Head CodeFault) → at_front (t ∷ rest) (behind_head at rest o) ≡ Ok x → length x.1 ≤ length (t ∷ rest)
+unfolding read_behind
 head_shorter at t rest x (Err kind) e = absurd cc
 head_shorter at t rest x (Ok h) e =
-    let a = bind_ok ((operands at h).read rest) (λ y. Ok (op_from h y.0, y.1)) x (sym (reads at h rest) ∙ front_ok (t ∷ rest) (behind_head at rest (Ok h)) x e) in
+    let a = bind_ok ((operands at h).read rest) (λ y. Ok (op_from h y.0, y.1)) x (front_ok (t ∷ rest) (behind_head at rest (Ok h)) x e) in
     let le = (operands_law at h).reading.shorter rest a.0 a.1 in
     let made : Op × List ℕ = (op_from h a.0.0, a.0.1) in
     rw (sym (ok_is (Fault CodeFault) made x a.2)) (omega arith)

@@ -3,6 +3,7 @@ pub mod FormExamples
 pub mod OpcodeLaws
 pub mod OperandLaws
 pub mod Places
+pub mod Rows
 pub mod Sizes
 pub mod Stopping
 pub mod Tabled

@@ -38,7 +38,7 @@ use Rattle.jcode.specs.declared.head.OtherHead.{OtherHead}
 use Rattle.jcode.specs.declared.head.OtherHead.TheVariants as other
 use Rattle.jcode.specs.Forms.{form, branches}
 use Rattle.jcode.specs.Opcodes.{head_number, head_at}
-use Rattle.jcode.specs.Operands.{u1, u2, i1, i2, i4, table_switch, lookup_switch, interface_call, array_type, wide, OtherOperand, Operand}
+use Rattle.jcode.specs.Operands.{OtherOperand, Operand, operands}
 
 -- ---- an instruction as an opcode and its operands
 
@@ -99,136 +99,66 @@ op_from (heads.Index h) x = index_op h x
 op_from (heads.Branch h) x = branch_op h x
 op_from (heads.Other h) x = other_op h x
 
-abbrev pub local_head : LocalKind → LocalOp → Head
-local_head kind (locals.At access n) = heads.Byte (byte.Local kind access)
-local_head kind (locals.Slot access slot) = heads.Plain (plain.Local kind access slot)
+-- an opcode and its operands
+abbrev pub Parts : Type 0
+Parts = (h : Head) × Operand h
 
--- the opcode of an instruction
+abbrev pub bare : Plain → Parts
+bare h = (heads.Plain h, tt)
+
+abbrev pub local_parts : LocalKind → LocalOp → Parts
+local_parts kind (locals.At access n) = (heads.Byte (byte.Local kind access), n)
+local_parts kind (locals.Slot access slot) = bare (plain.Local kind access slot)
+
+-- the opcode of an instruction, and its operands
+abbrev pub parts : Op → Parts
+parts ops.Nop = bare plain.Nop
+parts ops.AconstNull = bare plain.AconstNull
+parts (ops.IntConst (consts.Small n)) = bare (plain.IntConst n)
+parts (ops.IntConst (consts.Byte n)) = (heads.Other other.Bipush, n)
+parts (ops.IntConst (consts.Short n)) = (heads.Other other.Sipush, n)
+parts (ops.LongConst n) = bare (plain.LongConst n)
+parts (ops.Ldc (ldcs.Narrow n)) = (heads.Byte byte.Ldc, n)
+parts (ops.Ldc (ldcs.Wide n)) = (heads.Index index.LdcWide, n)
+parts (ops.Ldc2 n) = (heads.Index index.Ldc2, n)
+parts (ops.IntLocal op) = local_parts kinds.Int op
+parts (ops.LongLocal op) = local_parts kinds.Long op
+parts (ops.RefLocal op) = local_parts kinds.Ref op
+parts (ops.ArrayLoad element) = bare (plain.ArrayLoad element)
+parts (ops.ArrayStore element) = bare (plain.ArrayStore element)
+parts (ops.Stack op) = bare (plain.Stack op)
+parts (ops.Two op) = bare (plain.Two op)
+parts (ops.Divide op) = bare (plain.Divide op)
+parts (ops.One op) = bare (plain.One op)
+parts (ops.Iinc n by) = (heads.Other other.Iinc, (n, by))
+parts (ops.If test by) = (heads.Branch (branch.If test), by)
+parts (ops.IfInt test by) = (heads.Branch (branch.IfInt test), by)
+parts (ops.IfRef test by) = (heads.Branch (branch.IfRef test), by)
+parts (ops.Goto (gotos.Narrow by)) = (heads.Branch branch.Goto, by)
+parts (ops.Goto (gotos.Wide by)) = (heads.Other other.GotoWide, by)
+parts (ops.Switch (switches.Table s)) = (heads.Other other.TableSwitch, s)
+parts (ops.Switch (switches.Lookup s)) = (heads.Other other.LookupSwitch, s)
+parts (ops.Return kind) = bare (plain.Return kind)
+parts (ops.Field op n) = (heads.Index (index.Field op), n)
+parts (ops.Call op n) = (heads.Index (index.Call op), n)
+parts (ops.CallInterface n slots) = (heads.Other other.CallInterface, (n, slots))
+parts (ops.New (news.Object n)) = (heads.Index index.New, n)
+parts (ops.New (news.Array element)) = (heads.Other other.NewArray, element)
+parts (ops.New (news.RefArray n)) = (heads.Index index.NewRefArray, n)
+parts (ops.Object op) = bare (plain.Object op)
+parts (ops.Cast op n) = (heads.Index (index.Cast op), n)
+parts (ops.Wide w) = (heads.Other other.Wide, w)
+
 abbrev pub op_head : Op → Head
-op_head ops.Nop = heads.Plain plain.Nop
-op_head ops.AconstNull = heads.Plain plain.AconstNull
-op_head (ops.IntConst (consts.Small n)) = heads.Plain (plain.IntConst n)
-op_head (ops.IntConst (consts.Byte n)) = heads.Other other.Bipush
-op_head (ops.IntConst (consts.Short n)) = heads.Other other.Sipush
-op_head (ops.LongConst n) = heads.Plain (plain.LongConst n)
-op_head (ops.Ldc (ldcs.Narrow n)) = heads.Byte byte.Ldc
-op_head (ops.Ldc (ldcs.Wide n)) = heads.Index index.LdcWide
-op_head (ops.Ldc2 n) = heads.Index index.Ldc2
-op_head (ops.IntLocal op) = local_head kinds.Int op
-op_head (ops.LongLocal op) = local_head kinds.Long op
-op_head (ops.RefLocal op) = local_head kinds.Ref op
-op_head (ops.ArrayLoad element) = heads.Plain (plain.ArrayLoad element)
-op_head (ops.ArrayStore element) = heads.Plain (plain.ArrayStore element)
-op_head (ops.Stack op) = heads.Plain (plain.Stack op)
-op_head (ops.Two op) = heads.Plain (plain.Two op)
-op_head (ops.Divide op) = heads.Plain (plain.Divide op)
-op_head (ops.One op) = heads.Plain (plain.One op)
-op_head (ops.Iinc n by) = heads.Other other.Iinc
-op_head (ops.If test by) = heads.Branch (branch.If test)
-op_head (ops.IfInt test by) = heads.Branch (branch.IfInt test)
-op_head (ops.IfRef test by) = heads.Branch (branch.IfRef test)
-op_head (ops.Goto (gotos.Narrow by)) = heads.Branch branch.Goto
-op_head (ops.Goto (gotos.Wide by)) = heads.Other other.GotoWide
-op_head (ops.Switch (switches.Table s)) = heads.Other other.TableSwitch
-op_head (ops.Switch (switches.Lookup s)) = heads.Other other.LookupSwitch
-op_head (ops.Return kind) = heads.Plain (plain.Return kind)
-op_head (ops.Field op n) = heads.Index (index.Field op)
-op_head (ops.Call op n) = heads.Index (index.Call op)
-op_head (ops.CallInterface n slots) = heads.Other other.CallInterface
-op_head (ops.New (news.Object n)) = heads.Index index.New
-op_head (ops.New (news.Array element)) = heads.Other other.NewArray
-op_head (ops.New (news.RefArray n)) = heads.Index index.NewRefArray
-op_head (ops.Object op) = heads.Plain (plain.Object op)
-op_head (ops.Cast op n) = heads.Index (index.Cast op)
-op_head (ops.Wide w) = heads.Other other.Wide
-
-abbrev pub local_operand : (kind : LocalKind) (op : LocalOp) → Operand (local_head kind op)
-local_operand kind (locals.At access n) = n
-local_operand kind (locals.Slot access slot) = tt
-
--- the operands of an instruction
-abbrev pub op_operand : (op : Op) → Operand (op_head op)
-op_operand (ops.IntConst (consts.Byte n)) = n
-op_operand (ops.IntConst (consts.Short n)) = n
-op_operand (ops.Ldc (ldcs.Narrow n)) = n
-op_operand (ops.Ldc (ldcs.Wide n)) = n
-op_operand (ops.Ldc2 n) = n
-op_operand (ops.IntLocal op) = local_operand kinds.Int op
-op_operand (ops.LongLocal op) = local_operand kinds.Long op
-op_operand (ops.RefLocal op) = local_operand kinds.Ref op
-op_operand (ops.Iinc n by) = (n, by)
-op_operand (ops.If test by) = by
-op_operand (ops.IfInt test by) = by
-op_operand (ops.IfRef test by) = by
-op_operand (ops.Goto (gotos.Narrow by)) = by
-op_operand (ops.Goto (gotos.Wide by)) = by
-op_operand (ops.Switch (switches.Table s)) = s
-op_operand (ops.Switch (switches.Lookup s)) = s
-op_operand (ops.Field op n) = n
-op_operand (ops.Call op n) = n
-op_operand (ops.CallInterface n slots) = (n, slots)
-op_operand (ops.New (news.Object n)) = n
-op_operand (ops.New (news.Array element)) = element
-op_operand (ops.New (news.RefArray n)) = n
-op_operand (ops.Cast op n) = n
-op_operand (ops.Wide w) = w
-op_operand _ = tt
+op_head op = (parts op).0
 
 -- what stands behind the opcode of an instruction at a place
-abbrev pub behind : ℕ → Op → List ℕ
-behind at (ops.IntConst (consts.Byte n)) = i1.spell n
-behind at (ops.IntConst (consts.Short n)) = i2.spell n
-behind at (ops.Ldc (ldcs.Narrow n)) = u1.spell n
-behind at (ops.Ldc (ldcs.Wide n)) = u2.spell n
-behind at (ops.Ldc2 n) = u2.spell n
-behind at (ops.IntLocal (locals.At access n)) = u1.spell n
-behind at (ops.LongLocal (locals.At access n)) = u1.spell n
-behind at (ops.RefLocal (locals.At access n)) = u1.spell n
-behind at (ops.Iinc n by) = (u1 · i1).spell (n, by)
-behind at (ops.If test by) = i2.spell by
-behind at (ops.IfInt test by) = i2.spell by
-behind at (ops.IfRef test by) = i2.spell by
-behind at (ops.Goto (gotos.Narrow by)) = i2.spell by
-behind at (ops.Goto (gotos.Wide by)) = i4.spell by
-behind at (ops.Switch (switches.Table s)) = (table_switch at).spell s
-behind at (ops.Switch (switches.Lookup s)) = (lookup_switch at).spell s
-behind at (ops.Field op n) = u2.spell n
-behind at (ops.Call op n) = u2.spell n
-behind at (ops.CallInterface n slots) = interface_call.spell (n, slots)
-behind at (ops.New (news.Object n)) = u2.spell n
-behind at (ops.New (news.Array element)) = array_type.spell element
-behind at (ops.New (news.RefArray n)) = u2.spell n
-behind at (ops.Cast op n) = u2.spell n
-behind at (ops.Wide w) = wide.spell w
-behind at _ = []
+unfoldable pub behind : ℕ → Op → List ℕ
+behind at op = (operands at (parts op).0).spell (parts op).1
 
--- the operands have a spelling
-abbrev pub behind_fits : ℕ → Op → Bool
-behind_fits at (ops.IntConst (consts.Byte n)) = i1.fits n
-behind_fits at (ops.IntConst (consts.Short n)) = i2.fits n
-behind_fits at (ops.Ldc (ldcs.Narrow n)) = u1.fits n
-behind_fits at (ops.Ldc (ldcs.Wide n)) = u2.fits n
-behind_fits at (ops.Ldc2 n) = u2.fits n
-behind_fits at (ops.IntLocal (locals.At access n)) = u1.fits n
-behind_fits at (ops.LongLocal (locals.At access n)) = u1.fits n
-behind_fits at (ops.RefLocal (locals.At access n)) = u1.fits n
-behind_fits at (ops.Iinc n by) = (u1 · i1).fits (n, by)
-behind_fits at (ops.If test by) = i2.fits by
-behind_fits at (ops.IfInt test by) = i2.fits by
-behind_fits at (ops.IfRef test by) = i2.fits by
-behind_fits at (ops.Goto (gotos.Narrow by)) = i2.fits by
-behind_fits at (ops.Goto (gotos.Wide by)) = i4.fits by
-behind_fits at (ops.Switch (switches.Table s)) = (table_switch at).fits s
-behind_fits at (ops.Switch (switches.Lookup s)) = (lookup_switch at).fits s
-behind_fits at (ops.Field op n) = u2.fits n
-behind_fits at (ops.Call op n) = u2.fits n
-behind_fits at (ops.CallInterface n slots) = interface_call.fits (n, slots)
-behind_fits at (ops.New (news.Object n)) = u2.fits n
-behind_fits at (ops.New (news.Array element)) = array_type.fits element
-behind_fits at (ops.New (news.RefArray n)) = u2.fits n
-behind_fits at (ops.Cast op n) = u2.fits n
-behind_fits at (ops.Wide w) = wide.fits w
-behind_fits at _ = true
+-- its operands have a spelling
+unfoldable pub behind_fits : ℕ → Op → Bool
+behind_fits at op = (operands at (parts op).0).fits (parts op).1
 
 -- ---- an instruction at a place
 
@@ -237,27 +167,9 @@ abbrev pub at_front : {A : Type 0} → List ℕ → Answer CodeFault A → Answe
 at_front bytes (Ok x) = Ok x
 at_front bytes (Err d) = fault d.kind bytes
 
-abbrev pub read_as : {A : Type 0} → Format CodeFault A → (A → Op) → List ℕ → Answer CodeFault Op
-read_as f make bytes = f.read bytes >>= λ x. Ok (make x.0, x.1)
-
-abbrev pub read_other : ℕ → OtherHead → List ℕ → Answer CodeFault Op
-read_other at other.Bipush = read_as i1 (other_op other.Bipush)
-read_other at other.Sipush = read_as i2 (other_op other.Sipush)
-read_other at other.Iinc = read_as (u1 · i1) (other_op other.Iinc)
-read_other at other.TableSwitch = read_as (table_switch at) (other_op other.TableSwitch)
-read_other at other.LookupSwitch = read_as (lookup_switch at) (other_op other.LookupSwitch)
-read_other at other.CallInterface = read_as interface_call (other_op other.CallInterface)
-read_other at other.NewArray = read_as array_type (other_op other.NewArray)
-read_other at other.Wide = read_as wide (other_op other.Wide)
-read_other at other.GotoWide = read_as i4 (other_op other.GotoWide)
-
 -- an instruction behind its opcode
-abbrev pub read_behind : ℕ → Head → List ℕ → Answer CodeFault Op
-read_behind at (heads.Plain h) = read_as void (λ _. plain_op h)
-read_behind at (heads.Byte h) = read_as u1 (byte_op h)
-read_behind at (heads.Index h) = read_as u2 (index_op h)
-read_behind at (heads.Branch h) = read_as i2 (branch_op h)
-read_behind at (heads.Other h) = read_other at h
+unfoldable pub read_behind : ℕ → Head → List ℕ → Answer CodeFault Op
+read_behind at h bytes = (operands at h).read bytes >>= λ x. Ok (op_from h x.0, x.1)
 
 abbrev pub behind_head : ℕ → List ℕ → Result Head CodeFault → Answer CodeFault Op
 behind_head at rest (Ok h) = read_behind at h rest

@@ -2,7 +2,7 @@ ghost use Rattle.std.specs.Prelude.{◌≡◌, ◌≤◌};
 ghost use Rattle.jcode.specs.Opcodes;
 ghost use Rattle.jcode.specs.Opcodes.{branch_number, byte_number, cast_number, division_number, head_number, index_number, object_number, one_number, other_number, plain_number, ref_test_number, return_number, slot_base, two_number};
 ghost use Rattle.jcode.specs.declared.op.Op.TheVariants as ops;
-ghost use Rattle.jcode.specs.Instructions.{local_head, op_head};
+ghost use Rattle.jcode.specs.Instructions.{local_parts, op_head};
 
 use crate::head::{BranchHead, ByteHead, Head, IndexHead, OtherHead, Plain};
 use crate::names::{
@@ -311,7 +311,7 @@ pub fn head_number(head: Head) -> u8
 }
 
 fn local_head(kind: LocalKind, op: LocalOp) -> Head
-    ensures { result ≡ local_head kind op }
+    ensures { result ≡ (local_parts kind op).0 }
 {
     match op {
         LocalOp::At(access, _) => Head::Byte(ByteHead::Local(kind, access)),

@@ -1,7 +1,7 @@
 ghost use Rattle.std.specs.Prelude.{◌≡◌};
 ghost use Rattle.jbase.specs.Stops.{Gives};
-ghost use Rattle.jcode.specs.Operands.{i2};
-ghost use Rattle.jcode.specs.Instructions.{branch_op, byte_op, index_op, instruction, local_op, plain_op, read_as, read_behind, read_other};
+ghost use Rattle.jcode.specs.declared.head.Head.TheVariants as heads;
+ghost use Rattle.jcode.specs.Instructions.{byte_op, index_op, instruction, local_op, plain_op, read_behind};
 
 use crate::fault::CodeFault;
 use crate::fault::CodeFault::Truncated;
@@ -71,8 +71,9 @@ fn index_op(head: IndexHead, n: u16) -> Op
 }
 
 /// A branch behind its opcode.
-fn branch_of(head: BranchHead, bytes: &[u8]) -> Result<(Op, &[u8]), ReadError<CodeFault>>
-    ensures { Gives (λ x. (x.0, x.1.now)) result (read_as i2 (branch_op head) bytes.now) }
+#[tactic(auto, using(crate::proofs::Rows::read_branch))]
+fn branch_of(at: u32, head: BranchHead, bytes: &[u8]) -> Result<(Op, &[u8]), ReadError<CodeFault>>
+    ensures { Gives (λ x. (x.0, x.1.now)) result (read_behind at (heads.Branch head) bytes.now) }
 {
     let (by, rest) = i16_of(Truncated, bytes)?;
     match head {
@@ -84,13 +85,14 @@ fn branch_of(head: BranchHead, bytes: &[u8]) -> Result<(Op, &[u8]), ReadError<Co
 }
 
 /// An instruction behind an opcode whose operands are like no other's.
+#[tactic(auto, using(crate::proofs::Rows::read_others))]
 fn other_of(
     alloc: Global,
     at: u32,
     head: OtherHead,
     bytes: &[u8],
 ) -> Result<(Op, &[u8]), ReadError<CodeFault>>
-    ensures { Gives (λ x. (x.0, x.1.now)) result (read_other at head bytes.now) }
+    ensures { Gives (λ x. (x.0, x.1.now)) result (read_behind at (heads.Other head) bytes.now) }
 {
     match head {
         OtherHead::Bipush => {
@@ -136,6 +138,7 @@ fn other_of(
 }
 
 /// An instruction behind its opcode.
+#[tactic(auto, using(crate::proofs::Rows::read_heads))]
 fn behind_opcode(
     alloc: Global,
     at: u32,
@@ -154,7 +157,7 @@ fn behind_opcode(
             let (n, rest) = u16_of(Truncated, bytes)?;
             Ok((index_op(head, n), rest))
         }
-        Head::Branch(head) => branch_of(head, bytes),
+        Head::Branch(head) => branch_of(at, head, bytes),
         Head::Other(head) => other_of(alloc, at, head, bytes),
     }
 }

@@ -20,6 +20,7 @@ fn lookup_size(at: u32, switch: &LookupSwitch) -> u32
     (3 - at % 4) + (8 + 8 * switch.cases.as_slice().len() as u32)
 }
 
+#[tactic(auto, using(crate::proofs::Rows::switch_rows))]
 fn switch_size(at: u32, switch: &Switch) -> u32
     requires { length (behind at (ops.Switch switch.now)) < 2 ^ 32 }
     ensures { result ≡ length (behind at (ops.Switch switch.now)) }
@@ -31,7 +32,7 @@ fn switch_size(at: u32, switch: &Switch) -> u32
 }
 
 /// The number of bytes behind an instruction's opcode.
-#[tactic(auto, unfolding(crate::specs::Operands::interface_call))]
+#[tactic(auto, using(crate::proofs::Rows::rows), unfolding(crate::specs::Operands::interface_call))]
 fn size_behind(at: u32, op: &Op) -> u32
     requires { length (behind at op.now) < 2 ^ 32 }
     ensures { result ≡ length (behind at op.now) }
@@ -60,7 +61,21 @@ fn size_behind(at: u32, op: &Op) -> u32
         Op::New(NewOp::RefArray(_)) => 2,
         Op::Cast(_, _) => 2,
         Op::Wide(op) => wide_size(*op),
-        _ => 0,
+        Op::Nop
+        | Op::AconstNull
+        | Op::IntConst(IntConst::Small(_))
+        | Op::LongConst(_)
+        | Op::IntLocal(LocalOp::Slot(_, _))
+        | Op::LongLocal(LocalOp::Slot(_, _))
+        | Op::RefLocal(LocalOp::Slot(_, _))
+        | Op::ArrayLoad(_)
+        | Op::ArrayStore(_)
+        | Op::Stack(_)
+        | Op::Two(_)
+        | Op::Divide(_)
+        | Op::One(_)
+        | Op::Return(_)
+        | Op::Object(_) => 0,
     }
 }
 

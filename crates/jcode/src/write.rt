@@ -169,6 +169,7 @@ fn put_interface_call(method: u16, slots: u8, out: &mut Seq<u8>) -> Result<(), A
     put_u8(0, out)
 }
 
+#[tactic(auto, using(crate::proofs::Rows::switch_rows))]
 fn put_switch(alloc: Global, at: u32, switch: &Switch, out: &mut Seq<u8>) -> Result<(), AllocError>
     requires { IsTrue (behind_fits at (ops.Switch switch.now)) }
     ensures { OnOk result (out.new ≡ out.old ++ behind at (ops.Switch switch.now)) }
@@ -180,6 +181,7 @@ fn put_switch(alloc: Global, at: u32, switch: &Switch, out: &mut Seq<u8>) -> Res
 }
 
 /// Writes what stands behind an instruction's opcode.
+#[tactic(auto, using(crate::proofs::Rows::rows))]
 fn put_operands(alloc: Global, at: u32, op: &Op, out: &mut Seq<u8>) -> Result<(), AllocError>
     requires { IsTrue (behind_fits at op.now) }
     ensures { OnOk result (out.new ≡ out.old ++ behind at op.now) }
@@ -211,7 +213,21 @@ fn put_operands(alloc: Global, at: u32, op: &Op, out: &mut Seq<u8>) -> Result<()
         Op::New(NewOp::RefArray(n)) => put_u16(*n, out),
         Op::Cast(_, n) => put_u16(*n, out),
         Op::Wide(op) => put_wide(*op, out),
-        _ => Ok(()),
+        Op::Nop
+        | Op::AconstNull
+        | Op::IntConst(IntConst::Small(_))
+        | Op::LongConst(_)
+        | Op::IntLocal(LocalOp::Slot(_, _))
+        | Op::LongLocal(LocalOp::Slot(_, _))
+        | Op::RefLocal(LocalOp::Slot(_, _))
+        | Op::ArrayLoad(_)
+        | Op::ArrayStore(_)
+        | Op::Stack(_)
+        | Op::Two(_)
+        | Op::Divide(_)
+        | Op::One(_)
+        | Op::Return(_)
+        | Op::Object(_) => Ok(()),
     }
 }
 
