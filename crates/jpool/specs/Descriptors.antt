@@ -1,6 +1,7 @@
 -- Field and method descriptors (JVMS 4.3.2, 4.3.3): how they are written, and how a text is read as one.
 use Rattle.std.specs.Prelude.{◌≡◌, ℕ, zero, suc, ◌+◌, ◌^◌, Bool, true, false, ◌&&◌, ◌||◌, List, [], ◌∷◌, ◌++◌, length, take, drop, replicate, Option, Some, None, Result, Ok, Err, is_some, option_map, option_and_then, nat_lt, nat_le, ◌==◌, if◌then◌else◌}
 use Rattle.std.specs.List.{list_all, flat_map, position, prefix_len}
+use Rattle.std.specs.Str.{byte}
 use Rattle.jpool.specs.declared.descriptor.FieldType.{FieldType}
 use Rattle.jpool.specs.declared.descriptor.Descriptor.{Descriptor}
 use Rattle.jpool.specs.declared.descriptor.Descriptor.TheVariants as descriptors
@@ -11,40 +12,40 @@ use Rattle.jpool.specs.Names.{is_class_name}
 -- ---- the signs
 
 abbrev pub is_bracket : ℕ → Bool
-is_bracket b = b == 91
+is_bracket b = b == byte "["
 
 abbrev pub is_semicolon : ℕ → Bool
-is_semicolon b = b == 59
+is_semicolon b = b == byte ";"
 
 -- 'L', which stands in front of a class name
 abbrev pub is_class_sign : ℕ → Bool
-is_class_sign b = b == 76
+is_class_sign b = b == byte "L"
 
 abbrev pub is_opening : ℕ → Bool
-is_opening b = b == 40
+is_opening b = b == byte "("
 
 abbrev pub is_closing : ℕ → Bool
-is_closing b = b == 41
+is_closing b = b == byte ")"
 
 -- 'V'
 abbrev pub is_void : ℕ → Bool
-is_void b = b == 86
+is_void b = b == byte "V"
 
 -- 'J' and 'D', the types of two slots
 abbrev pub is_wide : ℕ → Bool
-is_wide b = b == 74 || b == 68
+is_wide b = b == byte "J" || b == byte "D"
 
 -- one of 'B', 'C', 'D', 'F', 'I', 'J', 'S' and 'Z'
 abbrev pub is_base : ℕ → Bool
-is_base b = b == 66 || b == 67 || b == 68 || b == 70 || b == 73 || b == 74 || b == 83 || b == 90
+is_base b = b == byte "B" || b == byte "C" || b == byte "D" || b == byte "F" || b == byte "I" || b == byte "J" || b == byte "S" || b == byte "Z"
 
 -- ---- how they are written
 
 abbrev pub class_text : ℕ → List ℕ → List ℕ
-class_text base class = if is_class_sign base then class ++ 59 ∷ [] else []
+class_text base class = if is_class_sign base then class ++ byte ";" ∷ [] else []
 
 abbrev pub type_text : FieldType → List ℕ
-type_text t = replicate t.depth 91 ++ t.base ∷ class_text t.base t.class
+type_text t = replicate t.depth (byte "[") ++ t.base ∷ class_text t.base t.class
 
 abbrev pub is_type : FieldType → Bool
 is_type t = nat_lt t.depth (2 ^ 32) && (if is_class_sign t.base then is_class_name t.class else is_base t.base && length t.class == 0)
@@ -60,7 +61,7 @@ slots_of [] = 0
 slots_of (t ∷ ts) = slots t + slots_of ts
 
 abbrev pub return_text : Option FieldType → List ℕ
-return_text None = 86 ∷ []
+return_text None = byte "V" ∷ []
 return_text (Some t) = type_text t
 
 abbrev pub is_return : Option FieldType → Bool
@@ -68,7 +69,7 @@ is_return None = true
 is_return (Some t) = is_type t
 
 abbrev pub method_text : List FieldType → Option FieldType → List ℕ
-method_text params ret = 40 ∷ flat_map type_text params ++ 41 ∷ return_text ret
+method_text params ret = byte "(" ∷ flat_map type_text params ++ byte ")" ∷ return_text ret
 
 -- at most 255 slots of parameters
 abbrev pub is_method : List FieldType → Option FieldType → Bool
@@ -92,7 +93,7 @@ Reads view (Err errors.Memory) value = Unit {0}
 
 -- a class name, and what is behind its semicolon
 abbrev pub named : List ℕ → List ℕ → Option ((ℕ × List ℕ) × List ℕ)
-named name rest = if is_class_name name then Some ((76, name), rest) else None
+named name rest = if is_class_name name then Some ((byte "L", name), rest) else None
 
 unfoldable pub class_at : List ℕ → Option ((ℕ × List ℕ) × List ℕ)
 class_at text = option_and_then (λ i. named (take i text) (drop (i + 1) text)) (position is_semicolon text)

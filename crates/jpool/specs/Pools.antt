@@ -1,5 +1,5 @@
 -- A constant pool: its look-ups, and what its entries may name (JVMS 4.4).
-use Rattle.std.specs.Prelude.{◌≡◌, ℕ, Bool, ◌||◌, ◌&&◌, ◌-◌, List, [], ◌∷◌, ◌++◌, length, Option, Some, None, is_some, IsTrue, slice_get, if◌then◌else◌}
+use Rattle.std.specs.Prelude.{◌≡◌, ℕ, Bool, ◌||◌, ◌&&◌, ◌+◌, ◌-◌, List, [], ◌∷◌, ◌++◌, length, Option, Some, None, is_some, IsTrue, slice_get, if◌then◌else◌}
 use Rattle.std.specs.Option.{option_map, option_and_then}
 use Rattle.std.specs.List.{list_all}
 use Rattle.jbase.specs.Stops.{◌>>=◌}
@@ -101,3 +101,7 @@ pub record IsPool (entries : List Entry) : Type 0 where
 -- The entries are spelled at the front of the bytes, and these bytes stand behind them.
 abbrev pub Spells : List ℕ → List Entry → List ℕ → Type 0
 Spells bytes entries rest = IsTrue (pool.fits entries) × (bytes ≡ pool.spell entries ++ rest)
+
+-- the offset behind a pool that is spelled at an offset
+abbrev pub behind_pool : ℕ → List Entry → ℕ
+behind_pool at entries = at + length (pool.spell entries)

@@ -89,6 +89,7 @@ fn params_of(alloc: Global, text: &[u8]) -> Result<(Seq<FieldType>, &[u8]), Desc
 pub fn slots_of(types: &[FieldType]) -> usize
     ensures { result ≡ Descriptors.slots_of types.now }
 {
+    // What the proof needs: a slice has no more items than a usize counts.
     let _size = types.len();
     let mut count = 0;
     for one in types {

@@ -3,7 +3,7 @@ ghost use Rattle.jbase.specs.Stops.{Gives};
 ghost use Rattle.jformat.specs.Places.{GivesAt};
 ghost use Rattle.jpool.specs.declared.entry.Entry.{Entry};
 ghost use Rattle.jpool.specs.Pools;
-ghost use Rattle.jpool.specs.Pools.{Spells, entry_fault, first_fault};
+ghost use Rattle.jpool.specs.Pools.{Spells, behind_pool, entry_fault, first_fault};
 
 use crate::entry::Entry;
 use crate::fault::{PoolError, PoolFault};
@@ -61,9 +61,9 @@ fn behind(bytes: &[u8], at: u32) -> &[u8]
 /// as a pool without entries. `Memory` comes where memory runs out, and where the bytes are 4 GiB or more.
 pub fn read_pool(alloc: Global, bytes: &[u8], at: u32) -> Result<(Pool, u32), PoolError>
     // What is read is spelled so.
-    ensures found { IfOk result (λ r. Spells (drop at bytes.now) r.0 (drop r.1 bytes.now) × (r.1 ≡ at + length (Pools.pool.spell r.0))) }
+    ensures found { IfOk result (λ r. Spells (drop at bytes.now) r.0 (drop r.1 bytes.now) × (r.1 ≡ behind_pool at r.0)) }
     // What is spelled so is read, unless memory runs out.
-    ensures only { (entries : List Entry) (rest : List ℕ) → Spells (drop at bytes.now) entries rest → GivesAt (λ r. r) bytes.now result (Ok (entries, at + length (Pools.pool.spell entries))) }
+    ensures only { (entries : List Entry) (rest : List ℕ) → Spells (drop at bytes.now) entries rest → GivesAt (λ r. r) bytes.now result (Ok (entries, behind_pool at entries)) }
     // Which fault it is, and where.
     ensures exact { GivesAt (λ r. (r.0, drop r.1 bytes.now)) bytes.now result (Pools.pool.read (drop at bytes.now)) }
 {

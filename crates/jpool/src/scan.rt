@@ -143,6 +143,7 @@ pub fn closing_of(text: &[u8]) -> Option<&[u8]>
 fn params_slots(text: &[u8]) -> Option<(usize, &[u8])>
     ensures { option_map (λ x. (x.0, x.1.now)) result ≡ slots_at (length text.now) text.now }
 {
+    // What the proof needs: a slice has no more bytes than a usize counts.
     let _size = text.len();
     let mut count = 0;
     let mut rest = text;
