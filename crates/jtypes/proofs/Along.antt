@@ -6,7 +6,7 @@ use Rattle.jtypes.specs.declared.vtype.Element.TheVariants as elements
 use Rattle.jtypes.specs.declared.vtype.Name.{Name}
 use Rattle.jtypes.specs.declared.vtype.VType.{VType}
 use Rattle.jtypes.specs.declared.vtype.VType.TheVariants.{Top, Int, Long, Null, UninitThis, Uninit, Object, Array, Ctx}
-use Rattle.jtypes.specs.Fitting.{class_fits, element_fits, fits}
+use Rattle.jtypes.specs.Fitting.{class_fits, element_fits, fits_where}
 use Rattle.jtypes.specs.Tree.{Tree}
 use Rattle.jtypes.proofs.Dimensions.{as_many_fit}
 
@@ -29,13 +29,13 @@ element_itself t own (elements.Class c) = class_itself t own c
 same_number : (o : ℕ) → (o == o) ≡ true
 same_number o = eq-eqb o o refl
 
-pub fits_itself : (t : Tree) → ((c : Name) → t.extends c c ≡ true) → (a : VType) → fits t a a ≡ true
-fits_itself t own Top = refl
-fits_itself t own Int = refl
-fits_itself t own Long = refl
-fits_itself t own Null = refl
-fits_itself t own UninitThis = refl
-fits_itself t own (Uninit o) = same_number o
-fits_itself t own (Object c) = class_itself t own c
-fits_itself t own (Array a) = as_many_fit t a.depth a.element a.element ∙ element_itself t own a.element
-fits_itself t own Ctx = refl
+pub fits_itself : (above : Name → Bool) (t : Tree) → ((c : Name) → t.extends c c ≡ true) → (a : VType) → fits_where above t a a ≡ true
+fits_itself above t own Top = refl
+fits_itself above t own Int = refl
+fits_itself above t own Long = refl
+fits_itself above t own Null = refl
+fits_itself above t own UninitThis = refl
+fits_itself above t own (Uninit o) = same_number o
+fits_itself above t own (Object c) = class_itself t own c
+fits_itself above t own (Array a) = as_many_fit above t a.depth a.element a.element ∙ element_itself t own a.element
+fits_itself above t own Ctx = refl

@@ -1,2 +1,3 @@
 pub mod Dimensions
 pub mod Along
+pub mod Framing

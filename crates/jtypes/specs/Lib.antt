@@ -1,3 +1,4 @@
-pub mod Few
+pub mod Described
 pub mod Fitting
+pub mod Frames
 pub mod Tree

@@ -1,6 +1,6 @@
 ghost use Rattle.std.specs.Prelude.{◌≡◌, Bool, true, codes};
 ghost use Rattle.jtypes.specs.declared.vtype.Name.{Name};
-ghost use Rattle.jtypes.specs.Tree.{Tree};
+ghost use Rattle.jtypes.specs.Tree.{InterfacesExtendTheirs, Tree};
 
 use crate::vtype::Name;
 
@@ -30,4 +30,7 @@ pub trait Ancestry {
 
     /// Every class extends `java/lang/Object`.
     ghost below_object: { (n : Self) (c d : Name) → valid n → d.0 ≡ codes "java/lang/Object" → (tree n).extends c d ≡ true };
+
+    /// What an interface stands below is an interface or `java/lang/Object`.
+    ghost above_interface: { (n : Self) → valid n → InterfacesExtendTheirs (tree n) };
 }

@@ -27,7 +27,7 @@ fn class_fits<N: Ancestry>(n: &N, c: &Name, d: &Name) -> bool
 
 /// Whether every array fits what an array of one dimension and this element holds.
 fn is_above_array(x: &Element) -> bool
-    ensures { result ≡ is_above_array x.now }
+    ensures { result ≡ is_above_array is_above_arrays x.now }
 {
     match x {
         Element::Class(c) => is_above_arrays(c),
@@ -56,7 +56,7 @@ fn element_fits<N: Ancestry>(n: &N, x: &Element, y: &Element) -> bool
 /// Whether an array fits another. With fewer dimensions it doesn't; with more of them what the other holds has to be what every
 /// array fits.
 fn array_fits<N: Ancestry>(n: &N, a: &ArrayType, b: &ArrayType) -> bool
-    ensures { result ≡ array_fits (N.tree n.now) a.now.depth a.now.element b.now.depth b.now.element }
+    ensures { result ≡ array_fits is_above_arrays (N.tree n.now) a.now.depth a.now.element b.now.depth b.now.element }
 {
     if a.depth < b.depth {
         return false;

@@ -1,5 +1,5 @@
 ghost use Rattle.std.specs.Prelude.{◌≡◌, ⊤};
-ghost use Rattle.jtypes.specs.Few.{few, few_chain, few_itself, few_object};
+ghost use Rattle.tests_machine.specs.Few.{few, few_above, few_chain, few_itself, few_object};
 
 use jbase::Seq;
 use jtypes::{Ancestry, ArrayType, Element, Name, VType, fits};
@@ -41,6 +41,8 @@ impl Ancestry for Few {
     ghost transitive = { λ _ c d e _ first second. few_chain c d e first second };
 
     ghost below_object = { λ _ c d _ at. few_object c d at };
+
+    ghost above_interface = { λ _ _ c d is ext. few_above c d is ext };
 }
 
 fn name(alloc: Global, text: &[u8]) -> Result<Name, AllocError> {

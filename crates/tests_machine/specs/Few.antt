@@ -87,3 +87,16 @@ few_chain c d e first second = along c.0 d.0 e.0 first second
 
 pub few_object : (c d : Name) → d.0 ≡ codes "java/lang/Object" → few.extends c d ≡ true
 few_object c d at = to_object c.0 d.0 (subst (λ x. bytes_eq x object ≡ true) (sym at) (itself object))
+
+-- what is above an interface
+above : (c d : List ℕ) → few_interface c ≡ true → few_extends c d ≡ true → (few_interface d ≡ true) ⊎ (d ≡ object)
+above c d is ext = ⊎_elim
+    (λ at. inl (subst (λ x. few_interface x ≡ true) (same c d at) is))
+    (λ further. ⊎_elim
+    (λ at. inr (same d object at))
+    (λ at. absurd (true≢false (sym (subst (λ x. few_interface x ≡ true) (same c lower (both (bytes_eq c lower) (bytes_eq d upper) at).0) is))))
+    (either (bytes_eq d object) (bytes_eq c lower && bytes_eq d upper) further))
+    (either (bytes_eq c d) (stands_above d c) ext)
+
+pub few_above : (c d : Name) → few.is_interface c ≡ true → few.extends c d ≡ true → (few.is_interface d ≡ true) ⊎ (d.0 ≡ codes "java/lang/Object")
+few_above c d is ext = above c.0 d.0 is ext
