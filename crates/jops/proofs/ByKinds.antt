@@ -1,5 +1,5 @@
 -- Operations have a value exactly at the kinds that they take.
-use Rattle.std.proofs.Common.{◌≡◌, ◌∙◌, ℕ, ℤ, pos, Bool, true, false, not, ◌&&◌, ◌||◌, cond, List, [], ◌∷◌, Option, Some, None, is_some, option_map, Result, Ok, Err, refl, subst}
+use Rattle.std.proofs.Common.{◌≡◌, ◌∙◌, ℤ, pos, Bool, true, false, not, ◌&&◌, ◌||◌, cond, Option, Some, None, is_some, option_map, Result, Ok, Err, refl, subst}
 use Rattle.std.specs.Prelude.{int_lt, int_le, int_div, int_rem}
 use Rattle.std.specs.Ordering.{int_eq}
 use Rattle.jnames.specs.declared.kinds.Kind.{Kind}
@@ -11,7 +11,8 @@ use Rattle.jnames.specs.declared.names.Compare.TheVariants as compares
 use Rattle.jops.specs.declared.value.Value.{Value}
 use Rattle.jops.specs.declared.value.Value.TheVariants.{Int, Long, Ref, Ctx}
 use Rattle.jops.specs.declared.value.DivideByZero.{DivideByZero}
-use Rattle.jops.specs.Operations.{two, one, divide, test, on_int, on_long, on_ints, on_longs, on_long_and_int, unless_zero, same, int, long, int_quotient, int_remainder, long_quotient, long_remainder}
+use Rattle.jops.specs.Operations.{two, one, divide, test, on_int, on_long, on_ints, on_longs, on_long_and_int, unless_zero, same, int, long}
+use Rattle.jops.specs.Operations.{int_quotient, int_remainder, long_quotient, long_remainder}
 use Rattle.jops.specs.Kinds.{is_of, TwoByKinds, TwoGives, OneByKinds, OneGives, DivisionByKinds, DivisionGives, TestByKinds}
 
 -- ---- whether there is a value
@@ -207,7 +208,8 @@ quotient_is {K = K} y w v e = go (int_eq y (pos 0)) e
     go true h = cc
     go false h = cc
 
-ints_divide : {K : Type 0} (f : ℤ → ℤ → Result (Value K) DivideByZero) (k : Kind) → ((x y : ℤ) (v : Value K) → f x y ≡ Ok v → is_of k v ≡ true) → (a b v : Value K) → on_ints f a b ≡ Some (Ok v) → is_of k v ≡ true
+ints_divide : {K : Type 0} (f : ℤ → ℤ → Result (Value K) DivideByZero) (k : Kind)
+    → ((x y : ℤ) (v : Value K) → f x y ≡ Ok v → is_of k v ≡ true) → (a b v : Value K) → on_ints f a b ≡ Some (Ok v) → is_of k v ≡ true
 ints_divide f k each (Int x) (Int y) v e = each x y v (some_is (f x y) (Ok v) e)
 ints_divide f k each (Int x) (Long y) v e = cc
 ints_divide f k each (Int x) (Ref n) v e = cc
@@ -216,7 +218,8 @@ ints_divide f k each (Long x) b v e = cc
 ints_divide f k each (Ref n) b v e = cc
 ints_divide f k each (Ctx c) b v e = cc
 
-longs_divide : {K : Type 0} (f : ℤ → ℤ → Result (Value K) DivideByZero) (k : Kind) → ((x y : ℤ) (v : Value K) → f x y ≡ Ok v → is_of k v ≡ true) → (a b v : Value K) → on_longs f a b ≡ Some (Ok v) → is_of k v ≡ true
+longs_divide : {K : Type 0} (f : ℤ → ℤ → Result (Value K) DivideByZero) (k : Kind)
+    → ((x y : ℤ) (v : Value K) → f x y ≡ Ok v → is_of k v ≡ true) → (a b v : Value K) → on_longs f a b ≡ Some (Ok v) → is_of k v ≡ true
 longs_divide f k each (Long x) (Long y) v e = each x y v (some_is (f x y) (Ok v) e)
 longs_divide f k each (Long x) (Int y) v e = cc
 longs_divide f k each (Long x) (Ref n) v e = cc

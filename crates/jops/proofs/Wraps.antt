@@ -17,7 +17,8 @@ pub widened : (w v : Width) (z r : ℤ) → FitsSigned v (int_wrap w z) → r �
 widened w v z r f e = ap (λ t. to_z v (of_z v t)) (kept w z r e) ∙ to_z-of_z v (int_wrap w z) f
 
 -- the low bits r of a number x, as a narrower type reads its remainder e
-pub low_is : (w v : Width) (x e r : ℤ) → FitsSigned v x → FitsSigned v e → e ≡ int_rem_euclid (to_z v (of_z v x)) (pos (2 ^ bits w)) → r ≡ to_z w (unsigned_abs (to_z v (of_z v e))) → r ≡ int_wrap w x
+pub low_is : (w v : Width) (x e r : ℤ) → FitsSigned v x → FitsSigned v e
+    → e ≡ int_rem_euclid (to_z v (of_z v x)) (pos (2 ^ bits w)) → r ≡ to_z w (unsigned_abs (to_z v (of_z v e))) → r ≡ int_wrap w x
 unfolding int_wrap
 low_is w v x e r f g d h =
     h
@@ -52,7 +53,8 @@ abs_fits : (x : ℤ) (h : ℕ) → mag x < h → unsigned_abs x ≤ h
 abs_fits (pos n) h l = le_of_lt l
 abs_fits (negsuc n) h l = l
 
-pub quotient_is : (w : Width) (x y r : ℤ) → 2 ^ hbits w < 2 ^ bits w → FitsSigned w x → FitsSigned w y → r ≡ int_wrapping_div w (to_z w (of_z w x)) (to_z w (of_z w y)) → to_z w (of_z w r) ≡ int_wrap w (int_div x y)
+pub quotient_is : (w : Width) (x y r : ℤ) → 2 ^ hbits w < 2 ^ bits w → FitsSigned w x → FitsSigned w y
+    → r ≡ int_wrapping_div w (to_z w (of_z w x)) (to_z w (of_z w y)) → to_z w (of_z w r) ≡ int_wrap w (int_div x y)
 quotient_is w x y r half f g e =
     let small : unsigned_abs (int_div x y) < 2 ^ bits w = lt_of_le_of_lt (le_trans (div_abs x y) (abs_fits x (2 ^ hbits w) f.sfits)) half in
     let dividend = ap (λ t. int_wrapping_div w t (to_z w (of_z w y))) (to_z-of_z w x f) in

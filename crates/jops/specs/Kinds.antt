@@ -1,5 +1,5 @@
 -- Which values are of a kind, and the laws that operations have a value exactly at the kinds that they take.
-use Rattle.std.specs.Prelude.{◌≡◌, ℕ, Bool, true, false, ◌&&◌, ◌||◌, ◌==◌, List, [], ◌∷◌, Option, Some, None, is_some, Result, Ok}
+use Rattle.std.specs.Prelude.{◌≡◌, Bool, true, false, ◌&&◌, ◌||◌, ◌==◌, List, [], ◌∷◌, Option, Some, None, is_some, Ok}
 use Rattle.jnames.specs.declared.kinds.Kind.{Kind}
 use Rattle.jnames.specs.declared.kinds.Kind.TheVariants as kinds
 use Rattle.jnames.specs.declared.kinds.Kinds.{Kinds}
@@ -11,7 +11,6 @@ use Rattle.jnames.specs.declared.names.Compare.{Compare}
 use Rattle.jnames.specs.Effects.{two_effect, one_effect, division_effect, compares_references}
 use Rattle.jops.specs.declared.value.Value.{Value}
 use Rattle.jops.specs.declared.value.Value.TheVariants.{Int, Long, Ref, Ctx}
-use Rattle.jops.specs.declared.value.DivideByZero.{DivideByZero}
 use Rattle.jops.specs.Operations.{two, one, divide, test}
 
 -- Whether a value is of a kind, as far as it says itself: which object a reference names isn't looked at, so that every reference

@@ -1,7 +1,8 @@
 -- What the instructions that compute make of their operands (JVMS 6.5). An int is a number of 32 bits in two's complement, a
 -- long one of 64. The older operand stands first. Each of these is None exactly where the operands aren't of the kinds that the
 -- instruction takes. `K` is what stands for a security context.
-use Rattle.std.specs.Prelude.{ℕ, ◌/◌, ◌%◌, ◌^◌, ◌==◌, ℤ, pos, negsuc, ◌+ℤ◌, ◌-ℤ◌, ◌*ℤ◌, neg_ℤ, int_lt, int_le, int_div, int_rem, Bool, false, not, if◌then◌else◌, Option, Some, None, option_map, Result, Ok, Err, ⊤}
+use Rattle.std.specs.Prelude.{ℕ, ◌/◌, ◌%◌, ◌^◌, ◌==◌, ℤ, pos, negsuc, ◌+ℤ◌, ◌-ℤ◌, ◌*ℤ◌, neg_ℤ, int_lt, int_le, int_div, int_rem}
+use Rattle.std.specs.Prelude.{Bool, false, not, if◌then◌else◌, Option, Some, None, option_map, Result, Ok, Err, ⊤}
 use Rattle.std.specs.Int.{Width, w8, w16, w32, w64, cast_unsigned, cast_signed, int_wrap, int_rem_euclid, int_shr, int_bit_and, int_bit_or, int_bit_xor}
 use Rattle.std.specs.Ordering.{int_eq}
 use Rattle.jops.specs.declared.value.Value.{Value}
