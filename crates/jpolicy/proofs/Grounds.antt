@@ -64,7 +64,7 @@ fault_by : (p : Properties) (bytes : List ℕ) (a : At PolicyFault) (b : Bool) �
 fault_by p bytes a true is e = of_text p bytes a.at a.kind (IsUtf8-from_is_utf8 bytes is) (in_text p (chars bytes) a (policy_at p (tokens (chars bytes))) refl e)
 fault_by p bytes a false is e =
     let same : record { at = utf8_valid_len bytes; kind = NotUtf8 } ≡ a = cc in
-    subst (λ (d : At PolicyFault). FaultIn p bytes d.at d.kind) same (λ utf8. (let holds = is_utf8-from_IsUtf8 bytes utf8 in absurd cc))
+    subst (λ (d : At PolicyFault). FaultIn p bytes d.at d.kind) same (λ utf8. (let holds = is_utf8-from_IsUtf8 bytes utf8 in absurd cc), refl)
 
 pub first_so : (p : Properties) (bytes : List ℕ) (result : Result (List Grant) (Stop (At PolicyFault))) → Gives (λ x. x) result (policy p bytes) → IfErr result (λ e. IsFault p bytes e)
 unfolding policy

@@ -36,7 +36,7 @@ policy properties bytes = if is_utf8 bytes then policy_in properties (chars byte
 abbrev pub IsPolicy : Properties → List ℕ → List Grant → Type 0
 IsPolicy properties bytes grants = IsUtf8 bytes × Items properties (tokens (chars bytes)) grants
 
--- the characters in front of which so many tokens are left
+-- how many characters there are from the next token on
 abbrev pub left_of : List Placed → ℕ
 left_of [] = 0
 left_of (t ∷ ts) = t.left
@@ -47,11 +47,12 @@ IsFirst properties text at kind =
     (front : List Placed) × (rest : List Placed) × (tokens text ≡ front ++ rest) × (at ≡ place_of text (left_of rest)) ×
     Begins (Items properties) front × NotAllowed (Items properties) front rest × Says (Items properties) front rest kind
 
--- a fault of bytes that are not UTF-8, or of the first token that isn't allowed
+-- a fault of bytes that are not UTF-8, at the first ill-formed group, or of the first token that isn't allowed
 abbrev pub FaultIn : Properties → List ℕ → ℕ → PolicyFault → Type 0
-FaultIn properties bytes at NotUtf8 = ¬ (IsUtf8 bytes)
+FaultIn properties bytes at NotUtf8 = ¬ (IsUtf8 bytes) × (at ≡ utf8_valid_len bytes)
 FaultIn properties bytes at kind = IsUtf8 bytes × IsFirst properties (chars bytes) at kind
 
+-- a fault of the bytes; want of memory says nothing of them
 abbrev pub IsFault : Properties → List ℕ → Stop (At PolicyFault) → Type 0
 IsFault properties bytes (stops.Fault d) = FaultIn properties bytes d.at d.kind
 IsFault properties bytes stops.Memory = Unit {0}
