@@ -1,4 +1,4 @@
-ghost use Rattle.std.specs.Prelude.{◌≡◌, ◌≤◌, ◌∷◌, [], IfOk, OnOk, IsTrue, length, codes, fold, nat_eq, if◌then◌else◌};
+ghost use Rattle.std.specs.Prelude.{◌≡◌, ◌≤◌, ◌∷◌, [], IfOk, OnOk, IsTrue, length, fold, if◌then◌else◌};
 ghost use Rattle.jperm.specs.Absolute.{is_absolute};
 ghost use Rattle.jperm.specs.Written.{path_of, absolute, path_of_names, has_sign, names_of, next};
 ghost use Rattle.jperm.specs.Paths.{slash};
