@@ -5,8 +5,8 @@ use jnames::OpTwo::{
     Iadd, Iand, Imul, Ior, Ishl, Ishr, Isub, Iushr, Ixor, Ladd, Land, Lcmp, Lmul, Lor, Lshl, Lshr,
     Lsub, Lushr, Lxor,
 };
-use jops::Value::{Int, Long, Ref};
 use jnames::{Compare, Division, Shuffle};
+use jops::Value::{Int, Long, Ref};
 use jops::{DivideByZero, Shuffled, Value, divide, one, shuffle, test, two};
 
 /// The least and the greatest int and long.
