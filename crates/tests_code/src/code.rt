@@ -1,5 +1,5 @@
 use jbase::Stop;
-use jcode::{CodeError, CodeFault, Goto, Op, decode, encode, place_of, size_at};
+use jcode::{CodeError, CodeFault, Goto, Op, decode, encode, size_at};
 use jformat::At;
 use std::alloc::{AllocError, Global};
 use std::test::Fail;
@@ -171,30 +171,31 @@ fn padded(
     Ok(code)
 }
 
-/// Behind so many instructions of one byte, this many zero bytes stand before a switch's operands: up to a multiple of four. The
-/// size of each switch counts them: a table of one case has 17 bytes besides, a lookup of none has 9.
+/// A switch behind so many instructions of one byte has this many zero bytes before its operands, up to a multiple of four: the
+/// size of the code whole tells that they count. A table of one case has 17 bytes besides, a lookup of none has 9.
 #[test]
 fn paddings(rt: HostRuntime) -> Result<(), Fail> {
     let rows = [
-        (0, 3),
-        (1, 2),
-        (2, 1),
-        (3, 0),
-        (4, 3),
-        (5, 2),
-        (6, 1),
-        (7, 0),
+        (0xaa, 0, 3, 20),
+        (0xaa, 1, 2, 20),
+        (0xaa, 2, 1, 20),
+        (0xaa, 3, 0, 20),
+        (0xaa, 4, 3, 24),
+        (0xaa, 7, 0, 24),
+        (0xab, 0, 3, 12),
+        (0xab, 1, 2, 12),
+        (0xab, 2, 1, 12),
+        (0xab, 3, 0, 12),
+        (0xab, 5, 2, 16),
+        (0xab, 6, 1, 16),
     ];
-    for (before, pad) in rows {
-        for (opcode, rest) in [(0xaau8, 17usize), (0xab, 9)] {
-            let code = padded(rt.alloc(), opcode, before, pad, 0)?;
-            let ops = decode(rt.alloc(), code.as_slice())?;
-            assert!(rt; ops.len() == before + 1, "{opcode} {before}");
-            assert_eq!(rt; ops[before].at as usize, before);
-            assert_eq!(rt; code.len(), before + pad + rest, "{opcode} {before}");
-            let again = encode(rt.alloc(), ops.as_slice())?;
-            assert!(rt; again.as_slice() == code.as_slice(), "{opcode} {before}");
-        }
+    for (opcode, before, pad, size) in rows {
+        let code = padded(rt.alloc(), opcode, before, pad, 0)?;
+        assert_eq!(rt; code.len(), size, "{opcode} {before}");
+        let ops = decode(rt.alloc(), code.as_slice())?;
+        assert!(rt; ops.len() == before + 1, "{opcode} {before}");
+        let again = encode(rt.alloc(), ops.as_slice())?;
+        assert!(rt; again.as_slice() == code.as_slice(), "{opcode} {before}");
     }
     Ok(())
 }
@@ -202,18 +203,23 @@ fn paddings(rt: HostRuntime) -> Result<(), Fail> {
 /// The last byte before a switch's operands must be zero, as all of them.
 #[test]
 fn bad_paddings(rt: HostRuntime) -> Result<(), Fail> {
-    let rows = [(0, 3), (1, 2), (2, 1), (4, 3), (5, 2), (6, 1)];
-    for (before, pad) in rows {
-        for opcode in [0xaau8, 0xab] {
-            let bad = padded(rt.alloc(), opcode, before, pad, 1)?;
-            let want: CodeError = Stop::Fault(At {
-                at: before as u32,
-                kind: CodeFault::BadOperand,
-            });
-            match decode(rt.alloc(), bad.as_slice()) {
-                Err(error) => assert_eq!(rt; error, want, "{opcode} {before}"),
-                Ok(_) => panic!(rt; "padding"),
-            }
+    let rows = [
+        (0xaa, 0, 3),
+        (0xaa, 1, 2),
+        (0xaa, 2, 1),
+        (0xab, 4, 3),
+        (0xab, 5, 2),
+        (0xab, 6, 1),
+    ];
+    for (opcode, before, pad) in rows {
+        let bad = padded(rt.alloc(), opcode, before, pad, 1)?;
+        let want: CodeError = Stop::Fault(At {
+            at: before as u32,
+            kind: CodeFault::BadOperand,
+        });
+        match decode(rt.alloc(), bad.as_slice()) {
+            Err(error) => assert_eq!(rt; error, want, "{opcode} {before}"),
+            Ok(_) => panic!(rt; "padding"),
         }
     }
     Ok(())
