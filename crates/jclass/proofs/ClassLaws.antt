@@ -7,7 +7,7 @@ use Rattle.jformat.specs.declared.error.Fault.{Fault}
 use Rattle.jformat.specs.Format.{IsBytes, Format, ◌·◌, ◌▹◌, is_good}
 use Rattle.jformat.specs.Bodies.{whole, counted}
 use Rattle.jformat.specs.States.{counted_from}
-use Rattle.jformat.proofs.Steps.{bind_ok, bind_err, ok_is, both, first_true, second_true}
+use Rattle.jformat.proofs.Steps.{bind_ok, bind_err, ok_is, both, first_true, second_true, unless_ok, unless_err}
 use Rattle.jformat.proofs.Laws.{Takes, IsFormat, pair_law, then_law, via_law, such_law, as_case_law, literal_law}
 use Rattle.jformat.proofs.Blocks.{IsBody, whole_law, counted_law}
 use Rattle.jformat.proofs.Stateful.{counted_from_law}
@@ -24,14 +24,14 @@ use Rattle.jclass.specs.declared.class.Attribute.{Attribute}
 use Rattle.jclass.specs.declared.class.Attribute.TheVariants.{ConstantValue, Code, Raw}
 use Rattle.jclass.specs.declared.class.CodeBody.{CodeBody}
 use Rattle.jclass.specs.declared.class.ClassParts.{ClassParts}
-use Rattle.jclass.specs.declared.kind.ClassKind.{ClassKind}
-use Rattle.jclass.specs.declared.kind.ClassKind.TheVariants.{Trailing, Magic}
-use Rattle.jclass.specs.Basics.{u2, u4, run, access, index, told, told_as, pool_kind}
+use Rattle.jclass.specs.declared.fault.ClassFault.{ClassFault}
+use Rattle.jclass.specs.declared.fault.ClassFault.TheVariants.{Trailing, Magic}
+use Rattle.jclass.specs.Basics.{u2, u4, run, access, index, told, told_as, pool_fault}
 use Rattle.jclass.specs.Rules.{names_class, names_super, is_code, field_descriptor, method_descriptor}
 use Rattle.jclass.specs.Shapes
 use Rattle.jclass.specs.Shapes.{HeadParts, magic, version_fault, major, entries, shape, has_shape}
 use Rattle.jclass.specs.Judging
-use Rattle.jclass.specs.Judging.{entry_fault, no_fault, unless_fault, judged}
+use Rattle.jclass.specs.Judging.{entry_fault, no_fault, judged}
 use Rattle.jclass.specs.Attributes.{text_index, content, class_attribute, field_attribute, saw_constant}
 use Rattle.jclass.specs.Codes.{code_body}
 use Rattle.jclass.specs.Members.{member_from, member_parts, field, code_from, code_parts, method_attribute, method_parts, names_at, names_of, codes_fault, method}
@@ -97,19 +97,11 @@ major_law = such_law version_fault u2 u2_law
 
 entries_law : IsFormat entries
 unfolding entries
-entries_law = told_law pool_kind Entries.shape shape_law
+entries_law = told_law pool_fault Entries.shape shape_law
 
 pub head_law : IsFormat Shapes.head
 unfolding Shapes.head
 head_law = pair_law magic (u2 · major · entries) magic_law (pair_law u2 (major · entries) u2_law (pair_law major entries major_law entries_law))
-
-unless_ok : {A : Type 0} (x y : A) (o : Option (Fault ClassKind)) → unless_fault x o ≡ Ok y → (o ≡ None) × (x ≡ y)
-unless_ok x y None e = (refl, cc)
-unless_ok x y (Some d) e = absurd cc
-
-unless_err : {A : Type 0} (x : A) (d : Fault ClassKind) (o : Option (Fault ClassKind)) → unless_fault x o ≡ Err d → o ≡ Some d
-unless_err x d None e = absurd cc
-unless_err x d (Some c) e = cc
 
 fault_here : {K : Type 0} (left : ℕ) (o : Option K) (later : Option (Fault K)) (d : Fault K) → ((later ≡ Some d) → d.left ≤ left) → or_else (faulty left o) later ≡ Some d → d.left ≤ left
 fault_here left None later d h e = h e
@@ -137,7 +129,7 @@ judged_again h rest fit =
     let none = good_is_none (entry_fault h.1.1.1) (length (Shapes.head.spell h ++ rest) - 10) h.1.1.1 (second_true (Shapes.head.fits h) (no_fault h.1.1.1) fit) in
     rw (one, none) refl
 
-judged_within : (bytes : List ℕ) (d : Fault ClassKind) → Judging.head.read bytes ≡ Err d → d.left ≤ length bytes
+judged_within : (bytes : List ℕ) (d : Fault ClassFault) → Judging.head.read bytes ≡ Err d → d.left ≤ length bytes
 unfolding Judging.head
 judged_within bytes d e =
     elim (bind_err (Shapes.head.read bytes) (judged (length bytes - 10)) d e) [
@@ -222,7 +214,7 @@ shape_over c fit =
     let one : (Shapes.head · Shapes.tail).read text ≡ Ok (s.0, []) = ap (Shapes.head · Shapes.tail).read (sym (append-nil text)) ∙ eq in
     rw one refl
 
-has_shape_within : (bytes : List ℕ) (d : Fault ClassKind) → has_shape bytes ≡ Err d → d.left ≤ length bytes
+has_shape_within : (bytes : List ℕ) (d : Fault ClassFault) → has_shape bytes ≡ Err d → d.left ≤ length bytes
 has_shape_within bytes d e = elim (bind_err (shape.read bytes) (λ _. Ok tt) d e) [ inl h ↦ shape_body_law.within bytes d h | inr h ↦ absurd cc ]
 
 pub class_law : IsBody class_file
@@ -239,15 +231,12 @@ found_is bytes c fits e = class_law.takes bytes c fits e
 pub read_is : (bytes : List ℕ) (c : ClassParts) → Spells bytes c → class_file.read bytes ≡ Ok c
 read_is bytes c s = ap class_file.read s.1 ∙ class_law.again c s.0
 
-pub placed : {A : Type 0} (bytes : List ℕ) (d : Fault ClassKind) (read : Result A (Fault ClassKind)) → d.left ≤ length bytes → read ≡ Err d → (length bytes - d.left ≤ length bytes) × (read ≡ Err (record { left = length bytes - (length bytes - d.left); kind = d.kind }))
-placed bytes d read le h = (omega arith, (let e : length bytes - (length bytes - d.left) ≡ d.left = omega arith in rw e h))
-
 pub one_record : (bytes : List ℕ) (c d : ClassParts) → Spells bytes c → Spells bytes d → c ≡ d
-one_record bytes c d s t = ok_is (Fault ClassKind) c d (sym (read_is bytes c s) ∙ read_is bytes d t)
+one_record bytes c d s t = ok_is (Fault ClassFault) c d (sym (read_is bytes c s) ∙ read_is bytes d t)
 
 -- ---- what the pool keeps
 
-named_good : (o : Option (List ℕ)) → is_good (option_map pool_kind (name_fault o)) ≡ true → is_some o ≡ true
+named_good : (o : Option (List ℕ)) → is_good (option_map pool_fault (name_fault o)) ≡ true → is_some o ≡ true
 named_good None h = absurd cc
 named_good (Some text) h = refl
 
@@ -267,13 +256,18 @@ head_pool bytes rest h left fits e none =
       named = λ i name at. class_named h.1.1.1 name (at_index (λ one. is_good (entry_fault h.1.1.1 one)) h.1.1.1 i (Class name) good at);
     }
 
--- the attributes of a class file whose tail fits
-pub tail_attributes : (pool : List Entry) (t : TailParts) → IsTrue ((tail pool).fits t) → IsTrue ((counted u2 (class_attribute pool)).fits t.1.1.1.1.1.1)
+-- the methods and attributes of a class file whose tail fits
+tail_end : (pool : List Entry) (t : TailParts) → IsTrue ((tail pool).fits t) → IsTrue ((counted u2 (method pool) · counted u2 (class_attribute pool)).fits t.1.1.1.1.1)
 unfolding tail
-tail_attributes pool t fit =
+tail_end pool t fit =
     let a = second_true (access.fits t.0) ((index (names_class pool) · index (names_super pool) · counted u2 (index (names_class pool)) · counted u2 (field pool) · counted u2 (method pool) · counted u2 (class_attribute pool)).fits t.1) fit in
     let b = second_true ((index (names_class pool)).fits t.1.0) ((index (names_super pool) · counted u2 (index (names_class pool)) · counted u2 (field pool) · counted u2 (method pool) · counted u2 (class_attribute pool)).fits t.1.1) a in
     let c = second_true ((index (names_super pool)).fits t.1.1.0) ((counted u2 (index (names_class pool)) · counted u2 (field pool) · counted u2 (method pool) · counted u2 (class_attribute pool)).fits t.1.1.1) b in
     let d = second_true ((counted u2 (index (names_class pool))).fits t.1.1.1.0) ((counted u2 (field pool) · counted u2 (method pool) · counted u2 (class_attribute pool)).fits t.1.1.1.1) c in
-    let e = second_true ((counted u2 (field pool)).fits t.1.1.1.1.0) ((counted u2 (method pool) · counted u2 (class_attribute pool)).fits t.1.1.1.1.1) d in
-    second_true ((counted u2 (method pool)).fits t.1.1.1.1.1.0) ((counted u2 (class_attribute pool)).fits t.1.1.1.1.1.1) e
+    second_true ((counted u2 (field pool)).fits t.1.1.1.1.0) ((counted u2 (method pool) · counted u2 (class_attribute pool)).fits t.1.1.1.1.1) d
+
+pub tail_methods : (pool : List Entry) (t : TailParts) → IsTrue ((tail pool).fits t) → IsTrue ((counted u2 (method pool)).fits t.1.1.1.1.1.0)
+tail_methods pool t fit = first_true ((counted u2 (method pool)).fits t.1.1.1.1.1.0) ((counted u2 (class_attribute pool)).fits t.1.1.1.1.1.1) (tail_end pool t fit)
+
+pub tail_attributes : (pool : List Entry) (t : TailParts) → IsTrue ((tail pool).fits t) → IsTrue ((counted u2 (class_attribute pool)).fits t.1.1.1.1.1.1)
+tail_attributes pool t fit = second_true ((counted u2 (method pool)).fits t.1.1.1.1.1.0) ((counted u2 (class_attribute pool)).fits t.1.1.1.1.1.1) (tail_end pool t fit)

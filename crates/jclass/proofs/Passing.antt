@@ -6,30 +6,30 @@ use Rattle.jbase.specs.declared.stop.Stop.TheVariants as stops
 use Rattle.jbase.specs.Stops.{◌>>=◌, Fails}
 use Rattle.jformat.specs.declared.error.Fault.{Fault}
 use Rattle.jformat.specs.Format.{Answer, fault}
-use Rattle.jclass.specs.declared.kind.ClassKind.{ClassKind}
-use Rattle.jclass.specs.declared.kind.ClassKind.TheVariants.{Trailing}
+use Rattle.jclass.specs.declared.fault.ClassFault.{ClassFault}
+use Rattle.jclass.specs.declared.fault.ClassFault.TheVariants.{Trailing}
 use Rattle.jclass.specs.Basics.{unseen}
 use Rattle.jclass.specs.Shapes
 use Rattle.jclass.specs.Shapes.{HeadParts, RawTail, shape, has_shape}
 use Rattle.jclass.specs.Class.{ends}
 
-abbrev forget : {A : Type 0} → Result A (Fault ClassKind) → Result (Unit {0}) (Fault ClassKind)
+abbrev forget : {A : Type 0} → Result A (Fault ClassFault) → Result (Unit {0}) (Fault ClassFault)
 forget r = r >>= λ _. Ok tt
 
-abbrev only_if : {A : Type 0} → Bool → A → Fault ClassKind → Result A (Fault ClassKind)
+abbrev only_if : {A : Type 0} → Bool → A → Fault ClassFault → Result A (Fault ClassFault)
 only_if b x d = cond b (Ok x) (Err d)
 
-abbrev last : Answer ClassKind (HeadParts × RawTail) → Result (HeadParts × RawTail) (Fault ClassKind)
+abbrev last : Answer ClassFault (HeadParts × RawTail) → Result (HeadParts × RawTail) (Fault ClassFault)
 last r = r >>= λ x. if length x.1 == 0 then Ok x.0 else fault Trailing x.1
 
-abbrev behind_head : HeadParts → Answer ClassKind RawTail → Answer ClassKind (HeadParts × RawTail)
+abbrev behind_head : HeadParts → Answer ClassFault RawTail → Answer ClassFault (HeadParts × RawTail)
 behind_head h r = r >>= λ y. Ok ((h, y.0), y.1)
 
-forgotten : {A : Type 0} (b : Bool) (x : A) (d : Fault ClassKind) → forget (only_if b x d) ≡ only_if b tt d
+forgotten : {A : Type 0} (b : Bool) (x : A) (d : Fault ClassFault) → forget (only_if b x d) ≡ only_if b tt d
 forgotten true x d = refl
 forgotten false x d = refl
 
-ended : (h : HeadParts) (r : Answer ClassKind RawTail) → forget (last (behind_head h r)) ≡ ends (unseen r)
+ended : (h : HeadParts) (r : Answer ClassFault RawTail) → forget (last (behind_head h r)) ≡ ends (unseen r)
 ended h (Ok y) = forgotten (eqb (length y.1) 0) (h, y.0) (record { left = length y.1; kind = Trailing })
 ended h (Err d) = refl
 
@@ -37,10 +37,10 @@ pub shape_is : (bytes rest : List ℕ) (h : HeadParts) → Shapes.head.read byte
 unfolding shape
 shape_is bytes rest h e = rw e (ended h (Shapes.tail.read rest))
 
-pub head_stops : (bytes : List ℕ) (stop : Stop (Fault ClassKind)) → Fails stop (Shapes.head.read bytes) → Fails stop (has_shape bytes)
+pub head_stops : (bytes : List ℕ) (stop : Stop (Fault ClassFault)) → Fails stop (Shapes.head.read bytes) → Fails stop (has_shape bytes)
 unfolding shape
 head_stops bytes stops.Memory e = tt
 head_stops bytes (stops.Fault d) e = rw e refl
 
-pub tail_stops : (bytes rest : List ℕ) (h : HeadParts) (stop : Stop (Fault ClassKind)) → Shapes.head.read bytes ≡ Ok (h, rest) → Fails stop (ends (unseen (Shapes.tail.read rest))) → Fails stop (has_shape bytes)
-tail_stops bytes rest h stop e f = subst (λ (r : Result (Unit {0}) (Fault ClassKind)). Fails stop r) (sym (shape_is bytes rest h e)) f
+pub tail_stops : (bytes rest : List ℕ) (h : HeadParts) (stop : Stop (Fault ClassFault)) → Shapes.head.read bytes ≡ Ok (h, rest) → Fails stop (ends (unseen (Shapes.tail.read rest))) → Fails stop (has_shape bytes)
+tail_stops bytes rest h stop e f = subst (λ (r : Result (Unit {0}) (Fault ClassFault)). Fails stop r) (sym (shape_is bytes rest h e)) f

@@ -1,15 +1,15 @@
 -- The shape goes over what the stricter passes spell.
-use Rattle.std.proofs.Common.{◌≡◌, ℕ, suc, Bool, false, ◌&&◌, map, List, [], ◌∷◌, ◌++◌, length, Option, Ok, refl, sym, ap, ◌∙◌, append_assoc, inl, inr}
-use Rattle.std.specs.Prelude.{IsTrue}
+use Rattle.std.proofs.Common.{◌≡◌, ℕ, suc, Bool, false, ◌&&◌, ◌⊎◌, map, List, [], ◌∷◌, ◌++◌, length, Option, Ok, refl, sym, ap, ◌∙◌, append_assoc, inl, inr}
+use Rattle.std.specs.Prelude.{IsTrue, not}
 use Rattle.std.specs.List.{flat_map, list_all}
 use Rattle.std.proofs.lemmas.List.Concat.{flat_map-cons}
-use Rattle.jformat.specs.Format.{Format, ◌·◌, ◌▹◌, as_case, such, is_good}
+use Rattle.jformat.specs.Format.{Format, ◌·◌, ◌▹◌, as_case, such, is_good, unless}
 use Rattle.jformat.specs.Bodies.{Body, block, counted, counted_at, times_at}
 use Rattle.jformat.specs.States.{counted_from, spell_from, fits_from}
 use Rattle.jformat.proofs.Steps.{both, first_true, second_true}
 use Rattle.jformat.proofs.Laws.{IsReading, IsFormat, pair_law, ok_reading, then_reading}
 use Rattle.jformat.proofs.Blocks.{counted_reading}
-use Rattle.jformat.proofs.Skims.{Skims, skims_itself, skims_such, skims_via, skims_case, skims_cond, skims_then, skims_pair, skims_block, skims_counted}
+use Rattle.jformat.proofs.Skims.{Skims, skims_itself, skims_such, skims_via, skims_case, skims_then, skims_pair, skims_block, skims_counted}
 use Rattle.jpool.specs.declared.entry.Entry.{Entry}
 use Rattle.jpool.specs.Pools.{is_utf8}
 use Rattle.jclass.specs.declared.access.Access.{Access}
@@ -17,9 +17,9 @@ use Rattle.jclass.specs.declared.class.Attribute.{Attribute}
 use Rattle.jclass.specs.declared.class.Attribute.TheVariants.{ConstantValue, Code, Raw}
 use Rattle.jclass.specs.declared.class.CodeBody.{CodeBody}
 use Rattle.jclass.specs.declared.class.MemberInfo.{MemberInfo}
-use Rattle.jclass.specs.declared.kind.ClassKind.{ClassKind}
-use Rattle.jclass.specs.declared.kind.ClassKind.TheVariants.{Truncated, Index}
-use Rattle.jclass.specs.Basics.{u2, u4, run, flags_from, flags_parts, access, unless, left_of, right_of}
+use Rattle.jclass.specs.declared.fault.ClassFault.{ClassFault}
+use Rattle.jclass.specs.declared.fault.ClassFault.TheVariants.{Truncated, Index}
+use Rattle.jclass.specs.Basics.{u2, u4, run, flags_from, flags_parts, access}
 use Rattle.jclass.specs.Shapes
 use Rattle.jclass.specs.Rules.{is_code, field_descriptor, method_descriptor}
 use Rattle.jclass.specs.Attributes.{text_index, name_fault, name_once, content, raw_from, raw_parts, class_attribute, constant, constant_from, constant_parts, is_constant, field_attribute, saw_constant}
@@ -29,7 +29,7 @@ use Rattle.jclass.specs.AttributeLaws.{u2_law, u4_law, run_law, access_law}
 
 -- ---- values by a state
 
-from_skim : {S A B : Type 0} (f : Format ClassKind A) (g : S → Format ClassKind B) (next : S → B → S) → ((s : S) → Skims f (g s)) → (s : S) (xs : List B) (rest : List ℕ) → IsTrue (fits_from (λ t. (g t).fits) next s xs)
+from_skim : {S A B : Type 0} (f : Format ClassFault A) (g : S → Format ClassFault B) (next : S → B → S) → ((s : S) → Skims f (g s)) → (s : S) (xs : List B) (rest : List ℕ) → IsTrue (fits_from (λ t. (g t).fits) next s xs)
     → (ys : List A) × (times_at f.read (length xs) (spell_from (λ t. (g t).spell) next s xs ++ rest) ≡ Ok (ys, rest))
 unfolding times_at spell_from fits_from
 from_skim f g next S s [] rest fit = ([], refl)
@@ -40,7 +40,7 @@ from_skim f g next S s (x ∷ xs) rest fit =
     let eq2 = others.1 in
     (one.0 ∷ others.0, ap (times_at f.read (suc (length xs))) (append_assoc ((g s).spell x) (spell_from (λ t. (g t).spell) next (next s x) xs) rest) ∙ rw (eq1, eq2) refl)
 
-skims_from : {S A B : Type 0} (f : Format ClassKind A) (g : S → Format ClassKind B) (next : S → B → S) → ((s : S) → Skims f (g s)) → (s : S) → Skims (counted u2 f) (counted_from u2 g next s)
+skims_from : {S A B : Type 0} (f : Format ClassFault A) (g : S → Format ClassFault B) (next : S → B → S) → ((s : S) → Skims f (g s)) → (s : S) → Skims (counted u2 f) (counted_from u2 g next s)
 skims_from f g next S s = λ xs rest fit.
     let one = u2_law.again (length xs) (spell_from (λ t. (g t).spell) next s xs ++ rest) (second_true (fits_from (λ t. (g t).fits) next s xs) (u2.fits (length xs)) fit) in
     let two = from_skim f g next S s xs rest (first_true (fits_from (λ t. (g t).fits) next s xs) (u2.fits (length xs)) fit) in
@@ -49,12 +49,15 @@ skims_from f g next S s = λ xs rest fit.
 
 -- ---- attributes
 
-content_skim : {A : Type 0} (here : Bool) (body : Body ClassKind A) → Skims run (content here body)
-content_skim here body = skims_cond run here (as_case inl left_of (block u4 Truncated body)) (as_case inr right_of run)
-    (skims_case run inl left_of (block u4 Truncated body) (skims_block u4 Truncated body u4_law))
-    (skims_case run inr right_of run (skims_itself run run_law))
+content_over : {A : Type 0} (here : Bool) (body : Body ClassFault A) (x : A ⊎ List ℕ) (rest : List ℕ) → IsTrue ((content here body).fits x)
+    → (text : List ℕ) × (run.read ((content here body).spell x ++ rest) ≡ Ok (text, rest))
+content_over here body (inl a) rest fit = skims_block u4 Truncated body u4_law a rest (second_true here ((block u4 Truncated body).fits a) fit)
+content_over here body (inr text) rest fit = skims_itself run run_law text rest (second_true (not here) (run.fits text) fit)
 
-index_skim : (test : ℕ → Option ClassKind) → Skims u2 (such test u2)
+content_skim : {A : Type 0} (here : Bool) (body : Body ClassFault A) → Skims run (content here body)
+content_skim here body = content_over here body
+
+index_skim : (test : ℕ → Option ClassFault) → Skims u2 (such test u2)
 index_skim test = skims_such u2 test u2 (skims_itself u2 u2_law)
 
 class_attribute_skim : (pool : List Entry) → Skims Shapes.attribute (class_attribute pool)
@@ -105,7 +108,7 @@ attributes_skim pool = skims_counted u2 Shapes.attribute (class_attribute pool) 
 
 -- ---- the names of a method's attributes
 
-named : {C : Type 0} (k : ℕ → Format ClassKind C) (i : ℕ) (x : C) (rest : List ℕ) → IsTrue (u2.fits i) → ((bytes : List ℕ) × (run.read ((k i).spell x ++ rest) ≡ Ok (bytes, rest))) → name_at ((u2.spell i ++ (k i).spell x) ++ rest) ≡ Ok (i, rest)
+named : {C : Type 0} (k : ℕ → Format ClassFault C) (i : ℕ) (x : C) (rest : List ℕ) → IsTrue (u2.fits i) → ((bytes : List ℕ) × (run.read ((k i).spell x ++ rest) ≡ Ok (bytes, rest))) → name_at ((u2.spell i ++ (k i).spell x) ++ rest) ≡ Ok (i, rest)
 named k i x rest fit skim =
     let one = u2_law.again i ((k i).spell x ++ rest) fit in
     let eq2 = skim.1 in

@@ -8,13 +8,13 @@ use Rattle.jformat.specs.Bodies.{many_at}
 use Rattle.jformat.proofs.Blocks.{many_some}
 use Rattle.jformat.proofs.Turns.{is_none, is_some}
 use Rattle.jtext.specs.Modified.{unit_at}
-use Rattle.jclass.specs.Judging.{is_text, behind}
+use Rattle.jclass.specs.Judging.{is_modified, behind}
 
 abbrev pub rest_is_text : ℕ → List ℕ → Bool
 rest_is_text n bytes = is_ok (many_at tt unit_at n bytes)
 
-pub text_begins : (n : ℕ) (bytes : List ℕ) → n ≡ length bytes → rest_is_text n bytes ≡ is_text bytes
-unfolding is_text
+pub text_begins : (n : ℕ) (bytes : List ℕ) → n ≡ length bytes → rest_is_text n bytes ≡ is_modified bytes
+unfolding is_modified
 text_begins n bytes same = ap (λ (k : ℕ). rest_is_text k bytes) same
 
 is_empty_text : (n : ℕ) (bytes : List ℕ) → length bytes ≡ 0 → rest_is_text n bytes ≡ true

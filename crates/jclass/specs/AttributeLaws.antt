@@ -1,18 +1,21 @@
 -- The laws of numbers, indices and attributes as formats.
-use Rattle.std.proofs.Common.{◌≡◌, ℕ, Bool, ◌⊎◌, List, Some, refl, ap, inl, inr}
+use Rattle.std.proofs.Common.{◌≡◌, ℕ, Bool, true, false, ◌⊎◌, List, ◌++◌, Some, Ok, refl, ap, subst, inl, inr}
+use Rattle.std.specs.Prelude.{IsTrue}
 use Rattle.std.specs.Int.{w16, w32}
-use Rattle.jformat.specs.Format.{Format, ◌·◌, ◌▹◌, as_case}
+use Rattle.jformat.specs.declared.error.Fault.{Fault}
+use Rattle.jformat.specs.Format.{Format, ◌·◌, ◌▹◌, as_case, unless}
 use Rattle.jformat.specs.Bodies.{Body, block}
-use Rattle.jformat.proofs.Laws.{IsFormat, wide16, wide32, number_law, pair_law, then_law, via_law, as_case_law, such_law, cond_law}
+use Rattle.jformat.proofs.Laws.{Takes, IsFormat, wide16, wide32, number_law, pair_law, then_law, via_law, as_case_law, such_law, ok_reading}
+use Rattle.jformat.proofs.Steps.{bind_ok, ok_is}
 use Rattle.jformat.proofs.Blocks.{IsBody, sized_law, block_law, whole_law}
 use Rattle.jpool.specs.declared.entry.Entry.{Entry}
 use Rattle.jpool.specs.Pools.{is_utf8}
 use Rattle.jclass.specs.declared.access.Access.{Access}
 use Rattle.jclass.specs.declared.class.Attribute.{Attribute}
 use Rattle.jclass.specs.declared.class.Attribute.TheVariants.{ConstantValue, Code, Raw}
-use Rattle.jclass.specs.declared.kind.ClassKind.{ClassKind}
-use Rattle.jclass.specs.declared.kind.ClassKind.TheVariants.{Truncated, Trailing, Index}
-use Rattle.jclass.specs.Basics.{u2, u4, run, flags_from, flags_parts, access, unless, index, left_of, right_of, by_test}
+use Rattle.jclass.specs.declared.fault.ClassFault.{ClassFault}
+use Rattle.jclass.specs.declared.fault.ClassFault.TheVariants.{Truncated, Trailing, Index}
+use Rattle.jclass.specs.Basics.{u2, u4, run, flags_from, flags_parts, access, index, spell_either, fits_by, by_test}
 use Rattle.jclass.specs.Rules.{suits_field}
 use Rattle.jclass.specs.Attributes.{text_index, name_once, content, raw_from, raw_parts, class_attribute, constant, constant_from, constant_parts, is_constant, field_attribute}
 
@@ -35,23 +38,44 @@ index_law test = such_law (λ i. unless (test i) Index) u2 u2_law
 
 -- ---- one of two by a test
 
-left_only : {A B : Type 0} (x : A ⊎ B) (a : A) → left_of x ≡ Some a → x ≡ inl a
-left_only (inl b) a e = cc
-left_only (inr b) a e = absurd cc
+again_left : {A B : Type 0} (f : Format ClassFault A) (g : Format ClassFault B) → IsFormat f → (x : A ⊎ B) (rest : List ℕ) → IsTrue (fits_by true f g x)
+    → (by_test true f g).read (spell_either f g x ++ rest) ≡ Ok (x, rest)
+again_left f g F (inl a) rest fit = rw (F.again a rest fit) refl
+again_left f g F (inr b) rest fit = absurd cc
 
-right_only : {A B : Type 0} (x : A ⊎ B) (b : B) → right_of x ≡ Some b → x ≡ inr b
-right_only (inl a) b e = absurd cc
-right_only (inr a) b e = cc
+again_right : {A B : Type 0} (f : Format ClassFault A) (g : Format ClassFault B) → IsFormat g → (x : A ⊎ B) (rest : List ℕ) → IsTrue (fits_by false f g x)
+    → (by_test false f g).read (spell_either f g x ++ rest) ≡ Ok (x, rest)
+again_right f g G (inl a) rest fit = absurd cc
+again_right f g G (inr b) rest fit = rw (G.again b rest fit) refl
 
-by_test_law : {A B : Type 0} (test : Bool) (f : Format ClassKind A) (g : Format ClassKind B) → IsFormat f → IsFormat g → IsFormat (by_test test f g)
-by_test_law {A} {B} test f g F G = cond_law test (as_case inl left_of f) (as_case inr right_of g)
-    (as_case_law inl left_of f (λ a. refl) left_only F)
-    (as_case_law inr right_of g (λ b. refl) right_only G)
+by_test_law : {A B : Type 0} (test : Bool) (f : Format ClassFault A) (g : Format ClassFault B) → IsFormat f → IsFormat g → IsFormat (by_test test f g)
+by_test_law {A} {B} true f g F G = record {
+  takes = λ bytes x fits e.
+      let a = bind_ok (f.read bytes) (λ y. Ok (inl y.0, y.1)) x e in
+      let s = F.takes bytes a.0 fits a.1 in
+      let made : (A ⊎ B) × List ℕ = (inl a.0.0, a.0.1) in
+      let same : made ≡ x = ok_is (Fault ClassFault) made x a.2 in
+      let all : Takes (spell_either f g) (fits_by true f g) bytes made = record { parts = s.parts; rest_fits = s.rest_fits; fit = s.fit } in
+      subst (λ (y : (A ⊎ B) × List ℕ). Takes (spell_either f g) (fits_by true f g) bytes y) same all;
+  again = again_left f g F;
+  reading = ok_reading f.read inl F.reading;
+}
+by_test_law {A} {B} false f g F G = record {
+  takes = λ bytes x fits e.
+      let b = bind_ok (g.read bytes) (λ y. Ok (inr y.0, y.1)) x e in
+      let s = G.takes bytes b.0 fits b.1 in
+      let made : (A ⊎ B) × List ℕ = (inr b.0.0, b.0.1) in
+      let same : made ≡ x = ok_is (Fault ClassFault) made x b.2 in
+      let all : Takes (spell_either f g) (fits_by false f g) bytes made = record { parts = s.parts; rest_fits = s.rest_fits; fit = s.fit } in
+      subst (λ (y : (A ⊎ B) × List ℕ). Takes (spell_either f g) (fits_by false f g) bytes y) same all;
+  again = again_right f g G;
+  reading = ok_reading g.read inr G.reading;
+}
 
-pub content_law : {A : Type 0} (here : Bool) (body : Body ClassKind A) → IsBody body → IsFormat (content here body)
+pub content_law : {A : Type 0} (here : Bool) (body : Body ClassFault A) → IsBody body → IsFormat (content here body)
 content_law here body B = by_test_law here (block u4 Truncated body) run (block_law u4 Truncated body u4_law B) run_law
 
-pub name_once_law : (pool : List Entry) (here : ℕ → Bool) (again : ClassKind) (seen : Bool) → IsFormat (name_once pool here again seen)
+pub name_once_law : (pool : List Entry) (here : ℕ → Bool) (again : ClassFault) (seen : Bool) → IsFormat (name_once pool here again seen)
 name_once_law pool here again seen = such_law _ u2 u2_law
 
 -- ---- of a class

@@ -10,10 +10,9 @@ use Rattle.jclass.specs.declared.access.Access.{Access}
 use Rattle.jclass.specs.declared.class.Attribute.{Attribute}
 use Rattle.jclass.specs.declared.class.MemberInfo.{MemberInfo}
 use Rattle.jclass.specs.declared.class.ClassParts.{ClassParts}
-use Rattle.jclass.specs.declared.kind.ClassKind.{ClassKind}
-use Rattle.jclass.specs.declared.kind.ClassKind.TheVariants.{Trailing}
-use Rattle.jclass.specs.declared.kind.ClassError.{ClassError}
-use Rattle.jclass.specs.declared.kind.ClassError.TheVariants as errors
+use Rattle.jclass.specs.declared.fault.ClassFault.{ClassFault}
+use Rattle.jclass.specs.declared.read.Tail.{Tail}
+use Rattle.jclass.specs.declared.fault.ClassFault.TheVariants.{Trailing}
 use Rattle.jclass.specs.Basics.{u2, access, index}
 use Rattle.jclass.specs.Rules.{names_class, names_super}
 use Rattle.jclass.specs.Shapes.{HeadParts, has_shape}
@@ -25,8 +24,12 @@ abbrev pub TailParts : Type 0
 TailParts = Access × (ℕ × (ℕ × (List ℕ × (List MemberInfo × (List MemberInfo × List Attribute)))))
 
 -- The third pass: what stands behind the pool, front to back.
-unfoldable pub tail : List Entry → Format ClassKind TailParts
-tail pool = access · index (names_class pool) · index (names_super pool) · counted u2 (index (names_class pool)) · counted u2 (field pool) · counted u2 (method pool) · counted u2 (class_attribute pool)
+unfoldable pub tail : List Entry → Format ClassFault TailParts
+tail pool = access · index (names_class pool) · index (names_super pool) · counted u2 (index (names_class pool))
+    · counted u2 (field pool) · counted u2 (method pool) · counted u2 (class_attribute pool)
+
+abbrev pub tail_parts : Tail → TailParts
+tail_parts t = (t.flags, (t.this_class, (t.super_class, (t.interfaces, (t.fields, (t.methods, t.attributes))))))
 
 abbrev pub class_from : HeadParts × TailParts → ClassParts
 class_from p = record {
@@ -46,11 +49,11 @@ abbrev pub class_parts : ClassParts → HeadParts × TailParts
 class_parts c = ((tt, (c.minor, (c.major, c.pool))), (c.flags, (c.this_class, (c.super_class, (c.interfaces, (c.fields, (c.methods, c.attributes)))))))
 
 -- the second and third pass
-unfoldable pub strict : Format ClassKind ClassParts
+unfoldable pub strict : Format ClassFault ClassParts
 strict = via class_from class_parts (head ▹ λ h. tail h.1.1.1)
 
 -- A class file: its shape, then what its pool holds, then the rest by its pool. The first pass that finds a fault ends the reading.
-unfoldable pub class_file : Body ClassKind ClassParts
+unfoldable pub class_file : Body ClassFault ClassParts
 class_file = passes has_shape (λ _. tt) (λ _. whole Trailing strict)
 
 -- Bytes spell a class file where they are its parts' spellings, and the parts meet the demands on them.
@@ -58,16 +61,5 @@ abbrev pub Spells : List ℕ → ClassParts → Type 0
 Spells bytes c = IsTrue (class_file.fits c) × (bytes ≡ class_file.spell c)
 
 -- where nothing may stand behind a value that isn't looked at
-abbrev pub ends : Answer ClassKind (Unit {0}) → Result (Unit {0}) (Fault ClassKind)
+abbrev pub ends : Answer ClassFault (Unit {0}) → Result (Unit {0}) (Fault ClassFault)
 ends r = r >>= λ x. if length x.1 == 0 then Ok tt else fault Trailing x.1
-
--- ---- places
-
-abbrev pub FailsAt : {A : Type 0} → List ℕ → ClassError → Result A (Fault ClassKind) → Type 0
-FailsAt bytes errors.Memory read = Unit {0}
-FailsAt bytes (errors.At at kind) read = (at ≤ length bytes) × (read ≡ Err (record { left = length bytes - at; kind = kind }))
-
--- The call answers what a reading gives, with a fault's place as an offset, unless memory runs out.
-abbrev pub GivesAt : {A : Type 0} → List ℕ → Result A ClassError → Result A (Fault ClassKind) → Type 0
-GivesAt bytes (Ok c) read = read ≡ Ok c
-GivesAt bytes (Err e) read = FailsAt bytes e read

@@ -7,7 +7,7 @@ use Rattle.std.proofs.lemmas.List.{take_at}
 use Rattle.jformat.specs.declared.error.Fault.{Fault}
 use Rattle.jbase.specs.Stops.{◌>>=◌}
 use Rattle.jbase.specs.First.{or_else, first_some}
-use Rattle.jformat.specs.Format.{IsBytes, run_at, ◌·◌, ◌▹◌, via, is_good}
+use Rattle.jformat.specs.Format.{IsBytes, run_at, ◌·◌, ◌▹◌, via, is_good, unless}
 use Rattle.jformat.specs.Bodies.{Body, block, outward, inner_at, counted}
 use Rattle.jformat.specs.States.{counted_from}
 use Rattle.jformat.proofs.Steps.{IsBytes-take, bind_ok, bind_err, ok_is, both, first_true, second_true}
@@ -28,13 +28,13 @@ use Rattle.jcode.proofs.Places as standing
 use Rattle.jclass.specs.Operands.{names_well, misnamed}
 use Rattle.jclass.specs.declared.class.CodeAttribute.{CodeAttribute}
 use Rattle.jclass.specs.declared.class.CodeAttribute.TheVariants as code
-use Rattle.jclass.specs.declared.kind.ClassKind.{ClassKind}
-use Rattle.jclass.specs.declared.kind.ClassKind.TheVariants as kinds
-use Rattle.jclass.specs.declared.kind.ClassKind.TheVariants.{Truncated, Trailing, Index}
-use Rattle.jclass.specs.Basics.{u2, u4, unless, index, told}
+use Rattle.jclass.specs.declared.fault.ClassFault.{ClassFault}
+use Rattle.jclass.specs.declared.fault.ClassFault.TheVariants as kinds
+use Rattle.jclass.specs.declared.fault.ClassFault.TheVariants.{Truncated, Trailing, Index}
+use Rattle.jclass.specs.Basics.{u2, u4, index, told}
 use Rattle.jclass.specs.Rules.{names_caught, is_maps}
 use Rattle.jclass.specs.Attributes.{name_once, content}
-use Rattle.jclass.specs.Codes.{frame_kinds, plain_type, type_fault, named_type, maps, attribute_from, attribute_parts, attribute, saw_maps, code_kind, none_misnamed, ops, HandlerParts, handler_from, handler_parts, target_fault, handler, length_fault, code_length, behind_ops, body_from, body_parts, code_content, code_body}
+use Rattle.jclass.specs.Codes.{frame_kinds, plain_type, type_fault, named_type, maps, attribute_from, attribute_parts, attribute, saw_maps, code_fault, none_misnamed, ops, HandlerParts, handler_from, handler_parts, target_fault, handler, length_fault, code_length, behind_ops, body_from, body_parts, code_content, code_body}
 use Rattle.jclass.specs.AttributeLaws.{u2_law, u4_law, index_law, content_law, name_once_law}
 
 -- ---- frames
@@ -55,6 +55,15 @@ pub maps_law : (pool : List Entry) → IsBody (maps pool)
 unfolding maps
 maps_law pool = passes_law (frames frame_kinds plain_type).read (λ fs. fs) (λ _. frames frame_kinds (named_type pool)) (λ _. named_law pool)
     (λ _ fs fit. ap (frames frame_kinds plain_type).read (named_spelling pool fs) ∙ plain_law.again fs (named_fitting pool fs fit)) plain_law.within
+
+-- the frames are read once where all classes are there
+pub maps_good : (pool : List Entry) (bytes : List ℕ) (fs : List RawFrame) → IsBytes bytes → (frames frame_kinds (named_type pool)).read bytes ≡ Ok fs → (maps pool).read bytes ≡ Ok fs
+unfolding maps
+maps_good pool bytes fs fits e =
+    let s = (named_law pool).takes bytes fs fits e in
+    let back : (frames frame_kinds plain_type).read ((frames frame_kinds plain_type).spell fs) ≡ Ok fs = plain_law.again fs (named_fitting pool fs s.0) in
+    let plain : (frames frame_kinds plain_type).read bytes ≡ Ok fs = ap (frames frame_kinds plain_type).read (s.1 ∙ named_spelling pool fs) ∙ back in
+    rw plain e
 
 -- as jmaps writes them
 named_as_own : (pool : List Entry) → (named_type pool).spell ≡ own_type.spell
@@ -130,12 +139,12 @@ none_is : (bytes : List ℕ) (ps qs : List Placed) (o : Option ℕ) → none_mis
 none_is bytes ps qs None e = (refl, cc)
 none_is bytes ps qs (Some at) e = absurd cc
 
-misnamed_within : (bytes : List ℕ) (ps : List Placed) (o : Option ℕ) (d : Fault ClassKind) → none_misnamed bytes ps o ≡ Err d → d.left ≤ length bytes
+misnamed_within : (bytes : List ℕ) (ps : List Placed) (o : Option ℕ) (d : Fault ClassFault) → none_misnamed bytes ps o ≡ Err d → d.left ≤ length bytes
 misnamed_within bytes ps None d e = absurd cc
 misnamed_within bytes ps (Some at) d e =
-    let made : Fault ClassKind = record { left = length bytes - at; kind = Index } in
+    let made : Fault ClassFault = record { left = length bytes - at; kind = Index } in
     let same : made ≡ d = cc in
-    subst (λ (y : Fault ClassKind). y.left ≤ length bytes) same (omega arith)
+    subst (λ (y : Fault ClassFault). y.left ≤ length bytes) same (omega arith)
 
 well_or : (pool : List Entry) (p : Placed) (later : Option ℕ) → or_else (misnamed pool p) later ≡ None → (IsTrue (names_well pool p.op)) × (later ≡ None)
 well_or pool p later e = elim (cases_Bool (names_well pool p.op)) [
@@ -162,17 +171,17 @@ pub ops_law : (pool : List Entry) → IsBody (ops pool)
 unfolding ops
 ops_law pool = record {
   takes = λ bytes ps fits e.
-      let a = bind_ok (told code_kind (Instructions.code.read bytes)) (λ qs. none_misnamed bytes qs (first_some (misnamed pool) qs)) ps e in
+      let a = bind_ok (told code_fault (Instructions.code.read bytes)) (λ qs. none_misnamed bytes qs (first_some (misnamed pool) qs)) ps e in
       let n = none_is bytes a.0 ps (first_some (misnamed pool) a.0) a.2 in
-      let s = coded.code_law.takes bytes a.0 fits (told_ok code_kind (Instructions.code.read bytes) a.0 a.1) in
+      let s = coded.code_law.takes bytes a.0 fits (told_ok code_fault (Instructions.code.read bytes) a.0 a.1) in
       subst (λ (qs : List Placed). IsTrue (Instructions.code.fits qs && list_all (λ p. names_well pool p.op) qs) × (bytes ≡ Instructions.code.spell qs)) n.1 (both _ _ s.0 (all_well pool a.0 n.0), s.1);
   again = λ ps fit.
       let one = coded.code_law.again ps (first_true (Instructions.code.fits ps) (list_all (λ p. names_well pool p.op) ps) fit) in
       let none = none_misnamed_in pool ps (second_true (Instructions.code.fits ps) (list_all (λ p. names_well pool p.op) ps) fit) in
       rw (one, none) refl;
   within = λ bytes d e.
-      elim (bind_err (told code_kind (Instructions.code.read bytes)) (λ qs. none_misnamed bytes qs (first_some (misnamed pool) qs)) d e) [
-        | inl h ↦ let c = told_err code_kind (Instructions.code.read bytes) d h in let le : c.0.left ≤ length bytes = coded.code_law.within bytes c.0 c.1 in rw c.2 le
+      elim (bind_err (told code_fault (Instructions.code.read bytes)) (λ qs. none_misnamed bytes qs (first_some (misnamed pool) qs)) d e) [
+        | inl h ↦ let c = told_err code_fault (Instructions.code.read bytes) d h in let le : c.0.left ≤ length bytes = coded.code_law.within bytes c.0 c.1 in rw c.2 le
         | inr h ↦ misnamed_within bytes h.0 (first_some (misnamed pool) h.0) d h.2
       ];
 }
@@ -185,7 +194,7 @@ outward_ok : {K A : Type 0} (behind : ℕ) (r : Result A (Fault K)) (a : A) → 
 outward_ok behind (Ok x) a e = e
 outward_ok behind (Err d) a e = absurd cc
 
-inner_is : {A : Type 0} (f : Body ClassKind A) → IsBody f → (n : ℕ) (bytes : List ℕ) (x : A × List ℕ) → IsBytes bytes → inner_at Truncated f.read n bytes ≡ Ok x → (IsTrue (f.fits x.0)) × (n ≡ length (f.spell x.0))
+inner_is : {A : Type 0} (f : Body ClassFault A) → IsBody f → (n : ℕ) (bytes : List ℕ) (x : A × List ℕ) → IsBytes bytes → inner_at Truncated f.read n bytes ≡ Ok x → (IsTrue (f.fits x.0)) × (n ≡ length (f.spell x.0))
 inner_is {A} f F n bytes x fits e =
     let b = bind_ok (run_at Truncated n bytes) (λ r. outward (length r.1) (f.read r.0) >>= λ y. Ok (y, r.1)) x e in
     let r = run_is Truncated n bytes b.0 b.1 in
@@ -193,7 +202,7 @@ inner_is {A} f F n bytes x fits e =
     let text : IsBytes b.0.0 = front_bytes b.0.0 b.0.1 (subst IsBytes r.parts fits) in
     let t = F.takes b.0.0 c.0 text (outward_ok (length b.0.1) (f.read b.0.0) c.0 c.1) in
     let made : A × List ℕ = (c.0, b.0.1) in
-    let same : made ≡ x = ok_is (Fault ClassKind) made x c.2 in
+    let same : made ≡ x = ok_is (Fault ClassFault) made x c.2 in
     subst (λ (y : A × List ℕ). IsTrue (f.fits y.0) × (n ≡ length (f.spell y.0))) same (t.0, sym r.len ∙ ap length t.1)
 
 pub places_rise : (ps : List Placed) → IsTrue (Instructions.code.fits ps) → Instructions.Rises ps

@@ -5,12 +5,12 @@ use Rattle.std.proofs.Common.{inl, inr}
 use Rattle.jbase.specs.Stops.{◌>>=◌}
 use Rattle.jbase.specs.First.{first_some}
 use Rattle.jformat.specs.declared.error.Fault.{Fault}
-use Rattle.jformat.specs.Format.{Format, ◌·◌, ◌▹◌, via, such}
+use Rattle.jformat.specs.Format.{Format, ◌·◌, ◌▹◌, via, such, unless}
 use Rattle.jformat.specs.Bodies.{Body, whole, block, counted}
 use Rattle.jformat.specs.Passes.{passes, ahead}
 use Rattle.jformat.specs.States.{counted_from}
-use Rattle.jcode.specs.declared.kind.CodeKind.{CodeKind}
-use Rattle.jcode.specs.declared.kind.CodeKind.TheVariants as codes
+use Rattle.jcode.specs.declared.fault.CodeFault.{CodeFault}
+use Rattle.jcode.specs.declared.fault.CodeFault.TheVariants as codes
 use Rattle.jcode.specs.declared.op.Handler.{Handler}
 use Rattle.jcode.specs.declared.op.Placed.{Placed}
 use Rattle.jcode.specs.Instructions
@@ -25,32 +25,32 @@ use Rattle.jpool.specs.Pools.{is_class}
 use Rattle.jclass.specs.declared.class.CodeAttribute.{CodeAttribute}
 use Rattle.jclass.specs.declared.class.CodeBody.{CodeBody}
 use Rattle.jclass.specs.declared.class.CodeAttribute.TheVariants as code
-use Rattle.jclass.specs.declared.kind.ClassKind.{ClassKind}
-use Rattle.jclass.specs.declared.kind.ClassKind.TheVariants as kinds
-use Rattle.jclass.specs.declared.kind.ClassKind.TheVariants.{Truncated, Trailing, Index, Opcode, LeftOut, Operand, Target, Reserved, MapTag, MapLeftOut}
-use Rattle.jclass.specs.Basics.{u2, u4, unless, index, told}
+use Rattle.jclass.specs.declared.fault.ClassFault.{ClassFault}
+use Rattle.jclass.specs.declared.fault.ClassFault.TheVariants as kinds
+use Rattle.jclass.specs.declared.fault.ClassFault.TheVariants.{Truncated, Trailing, Index, Opcode, LeftOut, Operand, Target, Reserved, MapTag, MapLeftOut}
+use Rattle.jclass.specs.Basics.{u2, u4, index, told}
 use Rattle.jclass.specs.Rules.{names_caught, is_maps}
 use Rattle.jclass.specs.Attributes.{name_once, content}
 use Rattle.jclass.specs.Operands.{names_well, misnamed}
 
 -- ---- frames
 
-abbrev pub frame_kinds : Kinds ClassKind
+abbrev pub frame_kinds : Kinds ClassFault
 frame_kinds = record { truncated = Truncated; reserved = Reserved; bad_tag = MapTag; left_out = MapLeftOut; trailing = Trailing }
 
-abbrev pub plain_type : Format ClassKind MapType
+abbrev pub plain_type : Format ClassFault MapType
 plain_type = map_type frame_kinds
 
-abbrev pub type_fault : List Entry → MapType → Option ClassKind
+abbrev pub type_fault : List Entry → MapType → Option ClassFault
 type_fault pool (Object i) = unless (is_class pool i) Index
 type_fault pool _ = None
 
 -- a type of an item, whose class is there
-abbrev pub named_type : List Entry → Format ClassKind MapType
+abbrev pub named_type : List Entry → Format ClassFault MapType
 named_type pool = such (type_fault pool) plain_type
 
 -- the frames, and then the classes that they name
-unfoldable pub maps : List Entry → Body ClassKind (List RawFrame)
+unfoldable pub maps : List Entry → Body ClassFault (List RawFrame)
 maps pool = passes (frames frame_kinds plain_type).read (λ fs. fs) (λ _. frames frame_kinds (named_type pool))
 
 abbrev pub maps_or_raw : ℕ → List RawFrame ⊎ List ℕ → CodeAttribute
@@ -65,7 +65,7 @@ attribute_parts (code.Maps name fs) = (name, inl fs)
 attribute_parts (code.Raw name bytes) = (name, inr bytes)
 
 -- an attribute of a code; `seen` where frames stood before it
-unfoldable pub attribute : List Entry → Bool → Format ClassKind CodeAttribute
+unfoldable pub attribute : List Entry → Bool → Format ClassFault CodeAttribute
 attribute pool seen = via attribute_from attribute_parts (name_once pool (is_maps pool) kinds.Maps seen ▹ λ i. content (is_maps pool i) (maps pool))
 
 abbrev pub saw_maps : Bool → CodeAttribute → Bool
@@ -74,23 +74,23 @@ saw_maps seen _ = seen
 
 -- ---- instructions
 
-abbrev pub code_kind : CodeKind → ClassKind
-code_kind codes.Truncated = Truncated
-code_kind (codes.UnknownOpcode n) = Opcode n
-code_kind (codes.LeftOut n) = LeftOut n
-code_kind codes.BadOperand = Operand
-code_kind codes.BadTarget = Target
+abbrev pub code_fault : CodeFault → ClassFault
+code_fault codes.Truncated = Truncated
+code_fault (codes.UnknownOpcode n) = Opcode n
+code_fault (codes.LeftOut n) = LeftOut n
+code_fault codes.BadOperand = Operand
+code_fault codes.BadTarget = Target
 
-abbrev pub none_misnamed : List ℕ → List Placed → Option ℕ → Result (List Placed) (Fault ClassKind)
+abbrev pub none_misnamed : List ℕ → List Placed → Option ℕ → Result (List Placed) (Fault ClassFault)
 none_misnamed bytes ps None = Ok ps
 none_misnamed bytes ps (Some at) = Err (record { left = length bytes - at; kind = Index })
 
 -- the instructions, and then what they name, each fault at its instruction
-unfoldable pub ops : List Entry → Body ClassKind (List Placed)
+unfoldable pub ops : List Entry → Body ClassFault (List Placed)
 ops pool = record {
   spell = Instructions.code.spell;
   fits = λ ps. Instructions.code.fits ps && list_all (λ p. names_well pool p.op) ps;
-  read = λ bytes. told code_kind (Instructions.code.read bytes) >>= λ ps. none_misnamed bytes ps (first_some (misnamed pool) ps);
+  read = λ bytes. told code_fault (Instructions.code.read bytes) >>= λ ps. none_misnamed bytes ps (first_some (misnamed pool) ps);
 }
 
 -- an instruction begins at this place
@@ -113,27 +113,27 @@ abbrev pub handler_parts : Handler → HandlerParts
 handler_parts h = (h.start, (h.end, (h.at, h.class)))
 
 -- the start is below the end, both are places of the code, and so is the handler
-abbrev pub target_fault : List Placed → HandlerParts → Option ClassKind
+abbrev pub target_fault : List Placed → HandlerParts → Option ClassFault
 target_fault ps p = unless (nat_lt p.0 p.1.0 && (begins ps p.0 && (ends ps p.1.0 && begins ps p.1.1.0))) Target
 
 -- a handler: its places are looked at before the class that it catches
-unfoldable pub handler : List Entry → List Placed → Format ClassKind Handler
+unfoldable pub handler : List Entry → List Placed → Format ClassFault Handler
 handler pool ps = ahead (u2 · u2 · u2 · u2).read handler_parts (target_fault ps) (via handler_from handler_parts (u2 · u2 · u2 · index (names_caught pool)))
 
 -- ---- code
 
-abbrev pub length_fault : ℕ → Option ClassKind
+abbrev pub length_fault : ℕ → Option ClassFault
 length_fault n = if n == 0 || nat_lt 65535 n then Some kinds.Code else None
 
 -- the number of bytes of a method's instructions
-abbrev pub code_length : Format ClassKind ℕ
+abbrev pub code_length : Format ClassFault ℕ
 code_length = such length_fault u4
 
 abbrev pub CodeParts : Type 0
 CodeParts = ℕ × (ℕ × (List Placed × (List Handler × List CodeAttribute)))
 
 -- behind the instructions
-abbrev pub behind_ops : List Entry → List Placed → Format ClassKind (List Handler × List CodeAttribute)
+abbrev pub behind_ops : List Entry → List Placed → Format ClassFault (List Handler × List CodeAttribute)
 behind_ops pool ps = counted u2 (handler pool ps) · counted_from u2 (attribute pool) saw_maps false
 
 abbrev pub body_from : CodeParts → CodeBody
@@ -143,9 +143,9 @@ abbrev pub body_parts : CodeBody → CodeParts
 body_parts c = (c.max_stack, (c.max_locals, (c.ops, (c.handlers, c.attributes))))
 
 -- the content of a Code attribute
-unfoldable pub code_content : List Entry → Format ClassKind CodeBody
+unfoldable pub code_content : List Entry → Format ClassFault CodeBody
 code_content pool = via body_from body_parts (u2 · u2 · (block code_length Truncated (ops pool) ▹ behind_ops pool))
 
 -- all of it
-abbrev pub code_body : List Entry → Body ClassKind CodeBody
+abbrev pub code_body : List Entry → Body ClassFault CodeBody
 code_body pool = whole Trailing (code_content pool)

@@ -5,47 +5,43 @@ use Rattle.std.specs.Result.{is_ok}
 use Rattle.jbase.specs.Stops.{◌>>=◌}
 use Rattle.jbase.specs.First.{or_else}
 use Rattle.jformat.specs.declared.error.Fault.{Fault}
-use Rattle.jformat.specs.Format.{Answer, Format, is_good}
+use Rattle.jformat.specs.Format.{Answer, Format, is_good, unless, unless_fault}
 use Rattle.jtext.specs.Modified
 use Rattle.jpool.specs.declared.entry.Entry.{Entry}
 use Rattle.jpool.specs.declared.entry.Entry.TheVariants.{Utf8}
 use Rattle.jpool.specs.Pools
 use Rattle.jpool.specs.Pools.{first_fault}
-use Rattle.jclass.specs.declared.kind.ClassKind.{ClassKind}
-use Rattle.jclass.specs.declared.kind.ClassKind.TheVariants.{Text}
-use Rattle.jclass.specs.Basics.{unless, pool_kind}
+use Rattle.jclass.specs.declared.fault.ClassFault.{ClassFault}
+use Rattle.jclass.specs.declared.fault.ClassFault.TheVariants.{Text}
+use Rattle.jclass.specs.Basics.{pool_fault}
 use Rattle.jclass.specs.Shapes
 use Rattle.jclass.specs.Shapes.{HeadParts}
 
 -- whether bytes are modified UTF-8
-unfoldable pub is_text : List ℕ → Bool
-is_text bytes = is_ok (Modified.text.read bytes)
+unfoldable pub is_modified : List ℕ → Bool
+is_modified bytes = is_ok (Modified.text.read bytes)
 
 -- what is behind a value that was read
 abbrev pub behind : {K A : Type 0} → Answer K A → Option (List ℕ)
 behind (Ok x) = Some x.1
 behind (Err d) = None
 
-abbrev pub text_fault : Entry → Option ClassKind
-text_fault (Utf8 bytes) = unless (is_text bytes) Text
+abbrev pub text_fault : Entry → Option ClassFault
+text_fault (Utf8 bytes) = unless (is_modified bytes) Text
 text_fault _ = None
 
 -- the first fault of an entry among all
-unfoldable pub entry_fault : List Entry → Entry → Option ClassKind
-entry_fault pool one = or_else (text_fault one) (option_map pool_kind (Pools.entry_fault pool one))
+unfoldable pub entry_fault : List Entry → Entry → Option ClassFault
+entry_fault pool one = or_else (text_fault one) (option_map pool_fault (Pools.entry_fault pool one))
 
 unfoldable pub no_fault : List Entry → Bool
 no_fault pool = list_all (λ one. is_good (entry_fault pool one)) pool
 
-abbrev pub unless_fault : {A : Type 0} → A → Option (Fault ClassKind) → Result A (Fault ClassKind)
-unless_fault x None = Ok x
-unless_fault x (Some d) = Err d
-
-abbrev pub judged : ℕ → HeadParts × List ℕ → Answer ClassKind HeadParts
+abbrev pub judged : ℕ → HeadParts × List ℕ → Answer ClassFault HeadParts
 judged left x = unless_fault x (first_fault (entry_fault x.0.1.1.1) left x.0.1.1.1)
 
 -- The head, whose first entry stands behind ten bytes, and then the faults of its entries, each at its tag.
-unfoldable pub head : Format ClassKind HeadParts
+unfoldable pub head : Format ClassFault HeadParts
 head = record {
   spell = Shapes.head.spell;
   fits = λ h. Shapes.head.fits h && no_fault h.1.1.1;

@@ -9,3 +9,4 @@ pub mod Members
 pub mod Operands
 pub mod Rules
 pub mod Shapes
+pub mod Stored

@@ -3,7 +3,7 @@ use Rattle.std.specs.Prelude.{ℕ, Bool, false, ◌⊎◌, List, map, length, Op
 use Rattle.std.specs.List.{filter}
 use Rattle.std.proofs.Common.{inl, inr}
 use Rattle.jbase.specs.Stops.{◌>>=◌}
-use Rattle.jformat.specs.Format.{Answer, Format, ◌·◌, ◌▹◌, via, as_case, part_spell, part_fits}
+use Rattle.jformat.specs.Format.{Answer, Format, ◌·◌, ◌▹◌, via, as_case, part_spell, part_fits, unless}
 use Rattle.jformat.specs.Bodies.{counted, counted_at}
 use Rattle.jformat.specs.Passes.{ahead}
 use Rattle.jformat.specs.States.{counted_from}
@@ -13,9 +13,9 @@ use Rattle.jclass.specs.declared.class.Attribute.{Attribute}
 use Rattle.jclass.specs.declared.class.Attribute.TheVariants.{ConstantValue, Code, Raw}
 use Rattle.jclass.specs.declared.class.CodeBody.{CodeBody}
 use Rattle.jclass.specs.declared.class.MemberInfo.{MemberInfo}
-use Rattle.jclass.specs.declared.kind.ClassKind.{ClassKind}
-use Rattle.jclass.specs.declared.kind.ClassKind.TheVariants as kinds
-use Rattle.jclass.specs.Basics.{u2, access, unless}
+use Rattle.jclass.specs.declared.fault.ClassFault.{ClassFault}
+use Rattle.jclass.specs.declared.fault.ClassFault.TheVariants as kinds
+use Rattle.jclass.specs.Basics.{u2, access}
 use Rattle.jclass.specs.Rules.{field_descriptor, method_descriptor, has_no_code, is_code}
 use Rattle.jclass.specs.Shapes
 use Rattle.jclass.specs.Attributes.{text_index, content, field_attribute, saw_constant}
@@ -32,7 +32,7 @@ member_parts m = (m.flags, (m.name, (m.desc, m.attributes)))
 
 -- ---- fields
 
-unfoldable pub field : List Entry → Format ClassKind MemberInfo
+unfoldable pub field : List Entry → Format ClassFault MemberInfo
 field pool = via member_from member_parts (access ▹ λ a. text_index pool · (field_descriptor pool ▹ λ desc. counted_from u2 (field_attribute pool a desc) saw_constant false))
 
 -- ---- methods
@@ -45,13 +45,28 @@ abbrev pub code_from : ℕ × (CodeBody ⊎ List ℕ) → Attribute
 code_from p = code_or_raw p.0 p.1
 
 abbrev pub code_parts : Attribute → Option (ℕ × (CodeBody ⊎ List ℕ))
-code_parts (Code name stack locals ops handlers attributes) = Some (name, inl (record { max_stack = stack; max_locals = locals; ops = ops; handlers = handlers; attributes = attributes }))
+code_parts (Code name stack locals ops handlers attributes) = Some (
+  name,
+  inl (record {
+    max_stack = stack;
+    max_locals = locals;
+    ops = ops;
+    handlers = handlers;
+    attributes = attributes;
+  }),
+)
 code_parts (Raw name bytes) = Some (name, inr bytes)
 code_parts _ = None
 
 -- what stands in a Code attribute behind its name, if it is one
 abbrev pub body_of : Attribute → Option CodeBody
-body_of (Code name stack locals ops handlers attributes) = Some (record { max_stack = stack; max_locals = locals; ops = ops; handlers = handlers; attributes = attributes })
+body_of (Code name stack locals ops handlers attributes) = Some (record {
+  max_stack = stack;
+  max_locals = locals;
+  ops = ops;
+  handlers = handlers;
+  attributes = attributes;
+})
 body_of _ = None
 
 abbrev pub code_spell : List Entry → Attribute → List ℕ
@@ -61,18 +76,18 @@ abbrev pub code_fits : List Entry → Attribute → Bool
 code_fits pool a = part_fits (code_content pool) (body_of a)
 
 -- an attribute of a method
-unfoldable pub method_attribute : List Entry → Format ClassKind Attribute
+unfoldable pub method_attribute : List Entry → Format ClassFault Attribute
 method_attribute pool = as_case code_from code_parts (text_index pool ▹ λ i. content (is_code pool i) (code_body pool))
 
 -- a method, but for the number of its codes
-unfoldable pub method_parts : List Entry → Format ClassKind MemberInfo
+unfoldable pub method_parts : List Entry → Format ClassFault MemberInfo
 method_parts pool = via member_from member_parts (access ▹ λ a. text_index pool · method_descriptor pool a · counted u2 (method_attribute pool))
 
 -- the flags, and the names of the attributes, of what has the shape of a member
-abbrev pub name_at : List ℕ → Answer ClassKind ℕ
+abbrev pub name_at : List ℕ → Answer ClassFault ℕ
 name_at bytes = Shapes.attribute.read bytes >>= λ x. Ok (x.0.0, x.1)
 
-abbrev pub names_at : List ℕ → Answer ClassKind (Access × List ℕ)
+abbrev pub names_at : List ℕ → Answer ClassFault (Access × List ℕ)
 names_at bytes = (access · u2 · u2).read bytes >>= λ x. counted_at u2.read name_at x.1 >>= λ y. Ok ((x.0.0, y.0), y.1)
 
 abbrev pub attribute_name : Attribute → ℕ
@@ -87,9 +102,9 @@ names_of m = (m.flags, map attribute_name m.attributes)
 abbrev pub codes_wanted : Access → ℕ
 codes_wanted a = if has_no_code a then 0 else 1
 
-abbrev pub codes_fault : List Entry → Access × List ℕ → Option ClassKind
+abbrev pub codes_fault : List Entry → Access × List ℕ → Option ClassFault
 codes_fault pool p = unless (length (filter (is_code pool) p.1) == codes_wanted p.0) kinds.Code
 
 -- a method: the number of its codes is looked at before all else of it
-unfoldable pub method : List Entry → Format ClassKind MemberInfo
+unfoldable pub method : List Entry → Format ClassFault MemberInfo
 method pool = ahead names_at names_of (codes_fault pool) (method_parts pool)

@@ -2,16 +2,16 @@
 use Rattle.std.specs.Prelude.{ℕ, Bool, false, ◌||◌, List, Option, Some, None, ◌==◌, nat_le, codes, slice_get, if◌then◌else◌}
 use Rattle.std.specs.Str.{bytes_eq}
 use Rattle.std.specs.Int.RustNames.{bit_and}
-use Rattle.jformat.specs.Format.{Format, such}
+use Rattle.jformat.specs.Format.{Format, such, unless}
 use Rattle.jpool.specs.declared.entry.Entry.{Entry}
 use Rattle.jpool.specs.declared.entry.Entry.TheVariants.{Integer, Float, Long, Double, Str}
 use Rattle.jpool.specs.Names.{is_class_name}
 use Rattle.jpool.specs.Descriptors.{is_field_descriptor, method_slots}
 use Rattle.jpool.specs.Pools.{utf8_at, is_class, class_name_at}
 use Rattle.jclass.specs.declared.access.Access.{Access}
-use Rattle.jclass.specs.declared.kind.ClassKind.{ClassKind}
-use Rattle.jclass.specs.declared.kind.ClassKind.TheVariants.{Index, Descriptor}
-use Rattle.jclass.specs.Basics.{u2, unless}
+use Rattle.jclass.specs.declared.fault.ClassFault.{ClassFault}
+use Rattle.jclass.specs.declared.fault.ClassFault.TheVariants.{Index, Descriptor}
+use Rattle.jclass.specs.Basics.{u2}
 
 -- ---- indices
 
@@ -31,18 +31,19 @@ names_super pool i = i == 0 || names_class pool i
 unfoldable pub names_caught : List Entry → ℕ → Bool
 names_caught pool i = i == 0 || is_class pool i
 
-abbrev pub is_text : List ℕ → Option (List ℕ) → Bool
-is_text wanted None = false
-is_text wanted (Some text) = bytes_eq text wanted
+-- a text is there and is this one
+abbrev pub is_text : Option (List ℕ) → List ℕ → Bool
+is_text (Some text) wanted = bytes_eq text wanted
+is_text None wanted = false
 
 unfoldable pub is_constant_value : List Entry → ℕ → Bool
-is_constant_value pool i = is_text (codes "ConstantValue") (utf8_at pool i)
+is_constant_value pool i = is_text (utf8_at pool i) (codes "ConstantValue")
 
 unfoldable pub is_code : List Entry → ℕ → Bool
-is_code pool i = is_text (codes "Code") (utf8_at pool i)
+is_code pool i = is_text (utf8_at pool i) (codes "Code")
 
 unfoldable pub is_maps : List Entry → ℕ → Bool
-is_maps pool i = is_text (codes "StackMapTable") (utf8_at pool i)
+is_maps pool i = is_text (utf8_at pool i) (codes "StackMapTable")
 
 -- ---- flags
 
@@ -58,12 +59,12 @@ has_no_code a = has_flag 1024 a || has_flag 256 a
 
 -- ---- descriptors
 
-abbrev pub descriptor_fault : (List ℕ → Bool) → Option (List ℕ) → Option ClassKind
+abbrev pub descriptor_fault : (List ℕ → Bool) → Option (List ℕ) → Option ClassFault
 descriptor_fault good None = Some Index
 descriptor_fault good (Some text) = unless (good text) Descriptor
 
 -- the index of a field's descriptor
-unfoldable pub field_descriptor : List Entry → Format ClassKind ℕ
+unfoldable pub field_descriptor : List Entry → Format ClassFault ℕ
 field_descriptor pool = such (λ i. descriptor_fault is_field_descriptor (utf8_at pool i)) u2
 
 abbrev pub within : ℕ → Option ℕ → Bool
@@ -75,7 +76,7 @@ abbrev pub most_slots : Access → ℕ
 most_slots a = if is_static a then 255 else 254
 
 -- the index of a method's descriptor
-unfoldable pub method_descriptor : List Entry → Access → Format ClassKind ℕ
+unfoldable pub method_descriptor : List Entry → Access → Format ClassFault ℕ
 method_descriptor pool a = such (λ i. descriptor_fault (λ text. within (most_slots a) (method_slots text)) (utf8_at pool i)) u2
 
 -- ---- constant values (JVMS 4.7.2)

@@ -6,53 +6,53 @@ use Rattle.jformat.specs.Format.{Format, ◌·◌, such, literal}
 use Rattle.jformat.specs.Bodies.{Body, whole, counted}
 use Rattle.jpool.specs.declared.entry.Entry.{Entry}
 use Rattle.jpool.specs.Entries
-use Rattle.jclass.specs.declared.kind.ClassKind.{ClassKind}
-use Rattle.jclass.specs.declared.kind.ClassKind.TheVariants.{Magic, Version, Trailing}
-use Rattle.jclass.specs.Basics.{u2, u4, run, told_as, pool_kind}
+use Rattle.jclass.specs.declared.fault.ClassFault.{ClassFault}
+use Rattle.jclass.specs.declared.fault.ClassFault.TheVariants.{Magic, Version, Trailing}
+use Rattle.jclass.specs.Basics.{u2, u4, run, told_as, pool_fault}
 
-abbrev pub magic : Format ClassKind (Unit {0})
+abbrev pub magic : Format ClassFault (Unit {0})
 magic = literal u4 Magic 3405691582
 
-abbrev pub version_fault : ℕ → Option ClassKind
+abbrev pub version_fault : ℕ → Option ClassFault
 version_fault n = if nat_lt n 50 || nat_lt 52 n then Some Version else None
 
 -- the major version, of Java SE 6 to 8
-abbrev pub major : Format ClassKind ℕ
+abbrev pub major : Format ClassFault ℕ
 major = such version_fault u2
 
 -- the number of indices, and the entries
-unfoldable pub entries : Format ClassKind (List Entry)
-entries = told_as pool_kind Entries.shape
+unfoldable pub entries : Format ClassFault (List Entry)
+entries = told_as pool_fault Entries.shape
 
 abbrev pub HeadParts : Type 0
 HeadParts = Unit {0} × (ℕ × (ℕ × List Entry))
 
 -- up to the end of the pool
-unfoldable pub head : Format ClassKind HeadParts
+unfoldable pub head : Format ClassFault HeadParts
 head = magic · u2 · major · entries
 
 -- an attribute: its name and its bytes
-abbrev pub attribute : Format ClassKind (ℕ × List ℕ)
+abbrev pub attribute : Format ClassFault (ℕ × List ℕ)
 attribute = u2 · run
 
 abbrev pub RawMember : Type 0
 RawMember = ℕ × (ℕ × (ℕ × List (ℕ × List ℕ)))
 
 -- a field or a method: its flags, its name, its descriptor and its attributes
-abbrev pub member : Format ClassKind RawMember
+abbrev pub member : Format ClassFault RawMember
 member = u2 · u2 · u2 · counted u2 attribute
 
 abbrev pub RawTail : Type 0
 RawTail = ℕ × (ℕ × (ℕ × (List ℕ × (List RawMember × (List RawMember × List (ℕ × List ℕ))))))
 
 -- flags, this class, the class above it, interfaces, fields, methods, attributes
-unfoldable pub tail : Format ClassKind RawTail
+unfoldable pub tail : Format ClassFault RawTail
 tail = u2 · u2 · u2 · counted u2 u2 · counted u2 member · counted u2 member · counted u2 attribute
 
 -- all of a class file
-unfoldable pub shape : Body ClassKind (HeadParts × RawTail)
+unfoldable pub shape : Body ClassFault (HeadParts × RawTail)
 shape = whole Trailing (head · tail)
 
 -- whether bytes have the shape of a class file
-abbrev pub has_shape : List ℕ → Result (Unit {0}) (Fault ClassKind)
+abbrev pub has_shape : List ℕ → Result (Unit {0}) (Fault ClassFault)
 has_shape bytes = shape.read bytes >>= λ _. Ok tt

@@ -6,12 +6,12 @@ ghost use Rattle.jclass.specs.Rules.{suits_field};
 ghost use Rattle.jclass.specs.Attributes;
 ghost use Rattle.jclass.specs.Attributes.{class_attribute, constant, field_attribute, name_fault, name_once, saw_constant, text_index};
 ghost use Rattle.jclass.specs.AttributeLaws.{constant_law};
-ghost use Rattle.jclass.specs.declared.kind.ClassKind.TheVariants as kinds;
+ghost use Rattle.jclass.specs.declared.fault.ClassFault.TheVariants as kinds;
 
 use crate::access::Access;
 use crate::class::Attribute;
-use crate::kind::ClassKind;
-use crate::kind::ClassKind::{Index, Trailing, Truncated};
+use crate::fault::ClassFault;
+use crate::fault::ClassFault::{Index, Trailing, Truncated};
 use crate::known::{Known, is_static};
 use bitflags::Flags;
 use jbase::Seq;
@@ -21,7 +21,7 @@ use jformat::{
 use std::alloc::Global;
 
 /// Access flags.
-pub fn access_of(bytes: &[u8]) -> Result<(Access, &[u8]), ReadError<ClassKind>>
+pub fn access_of(bytes: &[u8]) -> Result<(Access, &[u8]), ReadError<ClassFault>>
     ensures { Gives (λ x. (x.0, x.1.now)) result (access.read bytes.now) }
 {
     let (bits, rest) = u16_of(Truncated, bytes)?;
@@ -32,7 +32,7 @@ pub fn access_of(bytes: &[u8]) -> Result<(Access, &[u8]), ReadError<ClassKind>>
 pub fn text_index_of<'a>(
     known: &Known<'_>,
     bytes: &'a [u8],
-) -> Result<(u16, &'a [u8]), ReadError<ClassKind>>
+) -> Result<(u16, &'a [u8]), ReadError<ClassFault>>
     ensures { Gives (λ x. (x.0, x.1.now)) result ((text_index known.now).read bytes.now) }
 {
     let (i, rest) = u16_of(Truncated, bytes)?;
@@ -43,7 +43,7 @@ pub fn text_index_of<'a>(
 }
 
 /// What is wrong with the name of an attribute that may stand once.
-pub fn name_fault_of(is_text: bool, is_again: bool, again: ClassKind) -> Option<ClassKind>
+pub fn name_fault_of(is_text: bool, is_again: bool, again: ClassFault) -> Option<ClassFault>
     ensures { result ≡ name_fault is_text is_again again }
 {
     if !is_text {
@@ -56,7 +56,7 @@ pub fn name_fault_of(is_text: bool, is_again: bool, again: ClassKind) -> Option<
 }
 
 /// Bytes behind their number, which has four bytes.
-pub fn bytes_of(alloc: Global, bytes: &[u8]) -> Result<(Seq<u8>, &[u8]), ReadError<ClassKind>>
+pub fn bytes_of(alloc: Global, bytes: &[u8]) -> Result<(Seq<u8>, &[u8]), ReadError<ClassFault>>
     ensures { Gives (λ x. (x.0, x.1.now)) result (run.read bytes.now) }
 {
     let (count, rest) = u32_of(Truncated, bytes)?;
@@ -69,7 +69,7 @@ fn class_attribute_of<'a>(
     alloc: Global,
     known: &Known<'_>,
     bytes: &'a [u8],
-) -> Result<(Attribute, &'a [u8]), ReadError<ClassKind>>
+) -> Result<(Attribute, &'a [u8]), ReadError<ClassFault>>
     ensures { Gives (λ x. (x.0, x.1.now)) result ((class_attribute known.now).read bytes.now) }
 {
     let (name, rest) = text_index_of(known, bytes)?;
@@ -84,7 +84,7 @@ pub struct ClassAttributes<'r, 'p> {
 }
 
 impl<'r, 'p> Reader for ClassAttributes<'r, 'p> {
-    type Kind = ClassKind;
+    type Kind = ClassFault;
 
     type Item = Attribute;
 
@@ -94,7 +94,7 @@ impl<'r, 'p> Reader for ClassAttributes<'r, 'p> {
         &self,
         alloc: Global,
         bytes: &'a [u8],
-    ) -> Result<(Attribute, &'a [u8]), ReadError<ClassKind>> {
+    ) -> Result<(Attribute, &'a [u8]), ReadError<ClassFault>> {
         class_attribute_of(alloc, self.known, bytes)
     }
 }
@@ -105,7 +105,7 @@ fn constant_of<'a>(
     known: &Known<'_>,
     desc: u16,
     bytes: &'a [u8],
-) -> Result<(u16, &'a [u8]), ReadError<ClassKind>>
+) -> Result<(u16, &'a [u8]), ReadError<ClassFault>>
     ensures { Gives (λ x. (x.0, x.1.now)) result ((index (suits_field known.now desc)).read bytes.now) }
 {
     let (i, rest) = u16_of(Truncated, bytes)?;
@@ -122,13 +122,13 @@ struct Constants<'r, 'p> {
 }
 
 impl<'r, 'p> BodyReader for Constants<'r, 'p> {
-    type Kind = ClassKind;
+    type Kind = ClassFault;
 
     type Item = u16;
 
     ghost reads = { λ r. (constant r.known.now r.desc).read };
 
-    fn read(&self, _alloc: Global, bytes: &[u8]) -> Result<u16, ReadError<ClassKind>> {
+    fn read(&self, _alloc: Global, bytes: &[u8]) -> Result<u16, ReadError<ClassFault>> {
         let (value, rest) = constant_of(self.known, self.desc, bytes)?;
         if !rest.is_empty() {
             return Err(fault(Trailing, rest));
@@ -140,7 +140,7 @@ impl<'r, 'p> BodyReader for Constants<'r, 'p> {
 }
 
 /// Whether an attribute of this name is the constant value of a field with these flags.
-pub fn is_constant(known: &Known<'_>, flags: Access, name: u16) -> bool
+fn is_constant(known: &Known<'_>, flags: Access, name: u16) -> bool
     ensures { result ≡ Attributes.is_constant known.now flags name }
 {
     is_static(flags) && known.is_constant_value(name)
@@ -151,7 +151,7 @@ fn constant_name_of<'a>(
     flags: Access,
     seen: bool,
     bytes: &'a [u8],
-) -> Result<(u16, &'a [u8]), ReadError<ClassKind>>
+) -> Result<(u16, &'a [u8]), ReadError<ClassFault>>
     ensures { Gives (λ x. (x.0, x.1.now)) result ((name_once known.now (Attributes.is_constant known.now flags) kinds.Index seen).read bytes.now) }
 {
     let (i, rest) = u16_of(Truncated, bytes)?;
@@ -177,7 +177,7 @@ fn field_attribute_of<'a>(
     field: FieldAttributes<'_, '_>,
     seen: bool,
     bytes: &'a [u8],
-) -> Result<(Attribute, &'a [u8]), ReadError<ClassKind>>
+) -> Result<(Attribute, &'a [u8]), ReadError<ClassFault>>
     ensures { Gives (λ x. (x.0, x.1.now)) result ((field_attribute field.entry.known.now field.entry.flags field.entry.desc seen).read bytes.now) }
 {
     let known = field.known;
@@ -195,7 +195,7 @@ fn field_attribute_of<'a>(
 }
 
 impl<'r, 'p> StateReader for FieldAttributes<'r, 'p> {
-    type Kind = ClassKind;
+    type Kind = ClassFault;
 
     type State = bool;
 
@@ -210,7 +210,7 @@ impl<'r, 'p> StateReader for FieldAttributes<'r, 'p> {
         alloc: Global,
         seen: bool,
         bytes: &'a [u8],
-    ) -> Result<(Attribute, &'a [u8]), ReadError<ClassKind>> {
+    ) -> Result<(Attribute, &'a [u8]), ReadError<ClassFault>> {
         field_attribute_of(alloc, *self, seen, bytes)
     }
 

@@ -6,23 +6,23 @@ ghost use Rattle.jclass.specs.Basics.{u2};
 ghost use Rattle.jbase.specs.Stops.{Gives};
 ghost use Rattle.jmaps.specs.Frames.{frames, map_type};
 ghost use Rattle.jclass.specs.Codes;
-ghost use Rattle.jclass.specs.Codes.{attribute, begins, code_body, code_content, code_kind, code_length, ends, handler, maps, named_type, ops, saw_maps, type_fault};
+ghost use Rattle.jclass.specs.Codes.{attribute, begins, code_body, code_content, code_fault, code_length, ends, handler, maps, named_type, ops, saw_maps, type_fault};
 ghost use Rattle.jclass.specs.CodeLaws.{code_body_law, maps_law, ops_law};
 ghost use Rattle.jclass.specs.Attributes.{name_once};
 ghost use Rattle.jclass.specs.Rules;
-ghost use Rattle.jclass.specs.declared.kind.ClassKind.TheVariants as kinds;
+ghost use Rattle.jclass.specs.declared.fault.ClassFault.TheVariants as kinds;
 
 use crate::attribute::{bytes_of, name_fault_of};
 use crate::class::{CodeAttribute, CodeBody};
-use crate::kind::ClassKind;
-use crate::kind::ClassKind::{
+use crate::fault::ClassFault;
+use crate::fault::ClassFault::{
     Code, Index, MapLeftOut, MapTag, Maps, Reserved, Target, Trailing, Truncated,
 };
 use crate::known::Known;
 use crate::operand::first_misnamed;
 use crate::places::Places;
 use jbase::{Seq, Stop};
-use jcode::{CodeError, CodeKind, Handler, Placed, decode};
+use jcode::{CodeFault, Handler, Placed, decode};
 use jformat::{
     BodyReader, Fault, ReadError, Reader, StateReader, block_of, counted_of, fault, inner_of,
     times_by_of, u16_of, u32_of,
@@ -32,7 +32,7 @@ use std::alloc::Global;
 
 // ---- frames
 
-const KINDS: Kinds<ClassKind> = Kinds {
+const KINDS: Kinds<ClassFault> = Kinds {
     truncated: Truncated,
     reserved: Reserved,
     bad_tag: MapTag,
@@ -40,7 +40,7 @@ const KINDS: Kinds<ClassKind> = Kinds {
     trailing: Trailing,
 };
 
-fn type_fault_of(known: &Known<'_>, one: MapType) -> Option<ClassKind>
+fn type_fault_of(known: &Known<'_>, one: MapType) -> Option<ClassFault>
     ensures { result ≡ type_fault known.now one }
 {
     match one {
@@ -61,7 +61,7 @@ struct NamedTypes<'r, 'p> {
 }
 
 impl<'r, 'p> Reader for NamedTypes<'r, 'p> {
-    type Kind = ClassKind;
+    type Kind = ClassFault;
 
     type Item = MapType;
 
@@ -71,7 +71,7 @@ impl<'r, 'p> Reader for NamedTypes<'r, 'p> {
         &self,
         _alloc: Global,
         bytes: &'a [u8],
-    ) -> Result<(MapType, &'a [u8]), ReadError<ClassKind>> {
+    ) -> Result<(MapType, &'a [u8]), ReadError<ClassFault>> {
         let (one, rest) = type_of(&KINDS, bytes)?;
         match type_fault_of(self.known, one) {
             None => Ok((one, rest)),
@@ -86,11 +86,18 @@ fn maps_of(
     alloc: Global,
     known: &Known<'_>,
     bytes: &[u8],
-) -> Result<Seq<RawFrame>, ReadError<ClassKind>>
+) -> Result<Seq<RawFrame>, ReadError<ClassFault>>
     ensures { Gives (λ x. x) result ((maps known.now).read bytes.now) }
 {
-    let _first = frames_of(alloc, &TypeReader { kinds: KINDS }, &KINDS, bytes)?;
-    frames_of(alloc, &NamedTypes { known }, &KINDS, bytes)
+    match frames_of(alloc, &NamedTypes { known }, &KINDS, bytes) {
+        Ok(found) => Ok(found),
+        Err(Stop::Memory) => Err(Stop::Memory),
+        Err(Stop::Fault(found)) => {
+            // A fault of the frames themselves comes before a class that isn't there.
+            let _plain = frames_of(alloc, &TypeReader { kinds: KINDS }, &KINDS, bytes)?;
+            Err(Stop::Fault(found))
+        }
+    }
 }
 
 #[derive(Clone, Copy)]
@@ -99,13 +106,13 @@ struct MapsReader<'r, 'p> {
 }
 
 impl<'r, 'p> BodyReader for MapsReader<'r, 'p> {
-    type Kind = ClassKind;
+    type Kind = ClassFault;
 
     type Item = Seq<RawFrame>;
 
     ghost reads = { λ r. (maps r.known.now).read };
 
-    fn read(&self, alloc: Global, bytes: &[u8]) -> Result<Seq<RawFrame>, ReadError<ClassKind>> {
+    fn read(&self, alloc: Global, bytes: &[u8]) -> Result<Seq<RawFrame>, ReadError<ClassFault>> {
         maps_of(alloc, self.known, bytes)
     }
 
@@ -118,7 +125,7 @@ fn maps_name_of<'a>(
     known: &Known<'_>,
     seen: bool,
     bytes: &'a [u8],
-) -> Result<(u16, &'a [u8]), ReadError<ClassKind>>
+) -> Result<(u16, &'a [u8]), ReadError<ClassFault>>
     ensures { Gives (λ x. (x.0, x.1.now)) result ((name_once known.now (Rules.is_maps known.now) kinds.Maps seen).read bytes.now) }
 {
     let (i, rest) = u16_of(Truncated, bytes)?;
@@ -135,7 +142,7 @@ fn attribute_of<'a>(
     known: &Known<'_>,
     seen: bool,
     bytes: &'a [u8],
-) -> Result<(CodeAttribute, &'a [u8]), ReadError<ClassKind>>
+) -> Result<(CodeAttribute, &'a [u8]), ReadError<ClassFault>>
     ensures { Gives (λ x. (x.0, x.1.now)) result ((attribute known.now seen).read bytes.now) }
 {
     let (name, rest) = maps_name_of(known, seen, bytes)?;
@@ -154,7 +161,7 @@ struct CodeAttributes<'r, 'p> {
 }
 
 impl<'r, 'p> StateReader for CodeAttributes<'r, 'p> {
-    type Kind = ClassKind;
+    type Kind = ClassFault;
 
     type State = bool;
 
@@ -169,7 +176,7 @@ impl<'r, 'p> StateReader for CodeAttributes<'r, 'p> {
         alloc: Global,
         seen: bool,
         bytes: &'a [u8],
-    ) -> Result<(CodeAttribute, &'a [u8]), ReadError<ClassKind>> {
+    ) -> Result<(CodeAttribute, &'a [u8]), ReadError<ClassFault>> {
         attribute_of(alloc, self.known, seen, bytes)
     }
 
@@ -195,7 +202,7 @@ fn handler_of<'a>(
     known: &Known<'_>,
     places: &Places<'_>,
     bytes: &'a [u8],
-) -> Result<(Handler, &'a [u8]), ReadError<ClassKind>>
+) -> Result<(Handler, &'a [u8]), ReadError<ClassFault>>
     ensures { Gives (λ x. (x.0, x.1.now)) result ((handler known.now places.now).read bytes.now) }
 {
     let (start, rest) = u16_of(Truncated, bytes)?;
@@ -227,7 +234,7 @@ struct Handlers<'r, 'p> {
 }
 
 impl<'r, 'p> Reader for Handlers<'r, 'p> {
-    type Kind = ClassKind;
+    type Kind = ClassFault;
 
     type Item = Handler;
 
@@ -237,14 +244,14 @@ impl<'r, 'p> Reader for Handlers<'r, 'p> {
         &self,
         _alloc: Global,
         bytes: &'a [u8],
-    ) -> Result<(Handler, &'a [u8]), ReadError<ClassKind>> {
+    ) -> Result<(Handler, &'a [u8]), ReadError<ClassFault>> {
         handler_of(self.known, self.places, bytes)
     }
 }
 
 // ---- code
 
-fn code_length_of(bytes: &[u8]) -> Result<(u32, &[u8]), ReadError<ClassKind>>
+fn code_length_of(bytes: &[u8]) -> Result<(u32, &[u8]), ReadError<ClassFault>>
     ensures { Gives (λ x. (x.0, x.1.now)) result (code_length.read bytes.now) }
 {
     let (count, rest) = u32_of(Truncated, bytes)?;
@@ -254,15 +261,15 @@ fn code_length_of(bytes: &[u8]) -> Result<(u32, &[u8]), ReadError<ClassKind>>
     Ok((count, rest))
 }
 
-fn class_kind(kind: CodeKind) -> ClassKind
-    ensures { result ≡ code_kind kind }
+fn code_fault(kind: CodeFault) -> ClassFault
+    ensures { result ≡ code_fault kind }
 {
     match kind {
-        CodeKind::Truncated => ClassKind::Truncated,
-        CodeKind::UnknownOpcode(opcode) => ClassKind::Opcode(opcode),
-        CodeKind::LeftOut(opcode) => ClassKind::LeftOut(opcode),
-        CodeKind::BadOperand => ClassKind::Operand,
-        CodeKind::BadTarget => ClassKind::Target,
+        CodeFault::Truncated => ClassFault::Truncated,
+        CodeFault::UnknownOpcode(opcode) => ClassFault::Opcode(opcode),
+        CodeFault::LeftOut(opcode) => ClassFault::LeftOut(opcode),
+        CodeFault::BadOperand => ClassFault::Operand,
+        CodeFault::BadTarget => ClassFault::Target,
     }
 }
 
@@ -272,7 +279,7 @@ fn ops_in(
     alloc: Global,
     known: &Known<'_>,
     bytes: &[u8],
-) -> Result<Seq<Placed>, ReadError<ClassKind>>
+) -> Result<Seq<Placed>, ReadError<ClassFault>>
     ensures { Gives (λ x. x) result ((ops known.now).read bytes.now) }
 {
     match decode(alloc, bytes) {
@@ -286,10 +293,10 @@ fn ops_in(
                 })),
             }
         }
-        Err(CodeError::Memory) => Err(Stop::Memory),
-        Err(CodeError::At { at, kind }) => Err(Stop::Fault(Fault {
-            left: bytes.len().saturating_sub(at as usize),
-            kind: class_kind(kind),
+        Err(Stop::Memory) => Err(Stop::Memory),
+        Err(Stop::Fault(found)) => Err(Stop::Fault(Fault {
+            left: bytes.len().saturating_sub(found.at as usize),
+            kind: code_fault(found.kind),
         })),
     }
 }
@@ -301,13 +308,13 @@ struct Ops<'r, 'p> {
 }
 
 impl<'r, 'p> BodyReader for Ops<'r, 'p> {
-    type Kind = ClassKind;
+    type Kind = ClassFault;
 
     type Item = Seq<Placed>;
 
     ghost reads = { λ r. (ops r.known.now).read };
 
-    fn read(&self, alloc: Global, bytes: &[u8]) -> Result<Seq<Placed>, ReadError<ClassKind>> {
+    fn read(&self, alloc: Global, bytes: &[u8]) -> Result<Seq<Placed>, ReadError<ClassFault>> {
         ops_in(alloc, self.known, bytes)
     }
 
@@ -319,7 +326,7 @@ fn ops_of<'a>(
     alloc: Global,
     known: &Known<'_>,
     bytes: &'a [u8],
-) -> Result<(Seq<Placed>, u32, &'a [u8]), ReadError<ClassKind>>
+) -> Result<(Seq<Placed>, u32, &'a [u8]), ReadError<ClassFault>>
     ensures read { Gives (λ x. (x.0, x.2.now)) result ((block code_length kinds.Truncated (ops known.now)).read bytes.now) }
     ensures size { IfOk result (λ x. IsTrue (Instructions.code.fits x.0) × (x.1 ≡ length (Instructions.code.spell x.0))) }
 {
@@ -334,7 +341,7 @@ fn handlers_of<'a>(
     found: &[Placed],
     size: u32,
     bytes: &'a [u8],
-) -> Result<(Seq<Handler>, &'a [u8]), ReadError<ClassKind>>
+) -> Result<(Seq<Handler>, &'a [u8]), ReadError<ClassFault>>
     requires fit { IsTrue (Instructions.code.fits found.now) }
     requires size { size ≡ length (Instructions.code.spell found.now) }
     ensures { Gives (λ x. (x.0, x.1.now)) result ((counted u2 (handler known.now found.now)).read bytes.now) }
@@ -351,7 +358,7 @@ fn attributes_of<'a>(
     alloc: Global,
     known: &Known<'_>,
     bytes: &'a [u8],
-) -> Result<(Seq<CodeAttribute>, &'a [u8]), ReadError<ClassKind>>
+) -> Result<(Seq<CodeAttribute>, &'a [u8]), ReadError<ClassFault>>
     ensures { Gives (λ x. (x.0, x.1.now)) result ((counted_from u2 (attribute known.now) saw_maps false).read bytes.now) }
 {
     let (count, rest) = u16_of(Truncated, bytes)?;
@@ -369,7 +376,7 @@ fn code_of<'a>(
     alloc: Global,
     known: &Known<'_>,
     bytes: &'a [u8],
-) -> Result<(CodeBody, &'a [u8]), ReadError<ClassKind>>
+) -> Result<(CodeBody, &'a [u8]), ReadError<ClassFault>>
     ensures { Gives (λ x. (x.0, x.1.now)) result ((code_content known.now).read bytes.now) }
 {
     let (max_stack, rest) = u16_of(Truncated, bytes)?;
@@ -396,13 +403,13 @@ pub struct CodeReader<'r, 'p> {
 }
 
 impl<'r, 'p> BodyReader for CodeReader<'r, 'p> {
-    type Kind = ClassKind;
+    type Kind = ClassFault;
 
     type Item = CodeBody;
 
     ghost reads = { λ r. (code_body r.known.now).read };
 
-    fn read(&self, alloc: Global, bytes: &[u8]) -> Result<CodeBody, ReadError<ClassKind>> {
+    fn read(&self, alloc: Global, bytes: &[u8]) -> Result<CodeBody, ReadError<ClassFault>> {
         let (one, rest) = code_of(alloc, self.known, bytes)?;
         if !rest.is_empty() {
             return Err(fault(Trailing, rest));

@@ -3,37 +3,37 @@ ghost use Rattle.jbase.specs.First.{or_else};
 ghost use Rattle.jpool.specs.declared.entry.Entry.{Entry};
 ghost use Rattle.jpool.specs.Pools;
 ghost use Rattle.jpool.specs.Pools.{first_fault};
-ghost use Rattle.jclass.specs.Basics.{pool_kind};
+ghost use Rattle.jclass.specs.Basics.{pool_fault};
 ghost use Rattle.jclass.specs.Judging;
 ghost use Rattle.jclass.specs.Judging.{text_fault};
 
-use crate::kind::ClassKind;
-use crate::shape::class_kind;
-use crate::text::is_text;
+use crate::fault::ClassFault;
+use crate::shape::pool_fault;
+use crate::text::is_modified;
 use jformat::Fault;
-use jpool::{Entry, EntryTest, PoolKind, TextUses, first_fault_of};
+use jpool::{Entry, EntryTest, PoolFault, TextUses, first_fault_of};
 use std::alloc::{AllocError, Global};
 
-fn text_fault_of(one: &Entry) -> Option<ClassKind>
+fn text_fault_of(one: &Entry) -> Option<ClassFault>
     ensures { result ≡ text_fault one.now }
 {
     match one {
         Entry::Utf8(bytes) => {
-            if is_text(bytes.as_slice()) {
+            if is_modified(bytes.as_slice()) {
                 return None;
             }
-            Some(ClassKind::Text)
+            Some(ClassFault::Text)
         }
         _ => None,
     }
 }
 
-fn as_class_kind(found: Option<PoolKind>) -> Option<ClassKind>
-    ensures { result ≡ option_map pool_kind found }
+fn as_pool_fault(found: Option<PoolFault>) -> Option<ClassFault>
+    ensures { result ≡ option_map pool_fault found }
 {
     match found {
         None => None,
-        Some(kind) => Some(class_kind(kind)),
+        Some(kind) => Some(pool_fault(kind)),
     }
 }
 
@@ -44,21 +44,21 @@ struct Among<'r, 'a> {
 }
 
 #[tactic(auto, unfolding(crate::specs::Judging::entry_fault))]
-fn fault_among(uses: &TextUses<'_>, one: &Entry) -> Option<ClassKind>
+fn fault_among(uses: &TextUses<'_>, one: &Entry) -> Option<ClassFault>
     ensures { result ≡ Judging.entry_fault uses.now one.now }
 {
     if let Some(kind) = text_fault_of(one) {
         return Some(kind);
     }
-    as_class_kind(uses.entry_fault(one))
+    as_pool_fault(uses.entry_fault(one))
 }
 
 impl<'r, 'a> EntryTest for Among<'r, 'a> {
-    type Kind = ClassKind;
+    type Kind = ClassFault;
 
     ghost faults = { λ test. Judging.entry_fault test.uses.now };
 
-    fn fault_of(&self, one: &Entry) -> Option<ClassKind> {
+    fn fault_of(&self, one: &Entry) -> Option<ClassFault> {
         fault_among(self.uses, one)
     }
 }
@@ -68,7 +68,7 @@ pub fn judge(
     alloc: Global,
     entries: &[Entry],
     left: usize,
-) -> Result<Option<Fault<ClassKind>>, AllocError>
+) -> Result<Option<Fault<ClassFault>>, AllocError>
     ensures { IfOk result (λ found. found ≡ first_fault (Judging.entry_fault entries.now) left entries.now) }
 {
     let uses = TextUses::of(alloc, entries)?;

@@ -5,7 +5,7 @@ ghost use Rattle.jclass.specs.Rules;
 ghost use Rattle.jclass.specs.Rules.{descriptor_fault, is_int, is_plain_class, most_slots, suits, suits_field, suits_type, within};
 
 use crate::access::Access;
-use crate::kind::ClassKind;
+use crate::fault::ClassFault;
 use bitflags::Flags;
 use jpool::{Entry, Pool, TextUses};
 use std::alloc::{AllocError, Global};
@@ -30,12 +30,13 @@ impl<'p> Model for Known<'p> {
     ghost invariant = { λ k. k.uses ≡ k.pool.now };
 }
 
-fn is_text(wanted: &[u8], text: Option<&[u8]>) -> bool
-    ensures { result ≡ Rules.is_text wanted.now (option_map (λ t. t.now) text.entry) }
+/// Whether a text is there and is this one.
+pub fn is_text(text: Option<&[u8]>, wanted: &[u8]) -> bool
+    ensures { result ≡ Rules.is_text (option_map (λ t. t.now) text.entry) wanted.now }
 {
     match text {
-        None => false,
         Some(text) => text == wanted,
+        None => false,
     }
 }
 
@@ -152,53 +153,56 @@ impl<'p> Known<'p> {
         i == 0 || self.is_class(i)
     }
 
+    /// Whether the text at an index is the name of a constant value.
     #[tactic(auto, unfolding(crate::specs::Rules::is_constant_value))]
     pub fn is_constant_value(&self, i: u16) -> bool
         ensures { result ≡ Rules.is_constant_value self.now i }
     {
-        is_text(b"ConstantValue", self.pool.utf8(i))
+        is_text(self.pool.utf8(i), b"ConstantValue")
     }
 
+    /// Whether the text at an index is the name of a code.
     #[tactic(auto, unfolding(crate::specs::Rules::is_code))]
     pub fn is_code(&self, i: u16) -> bool
         ensures { result ≡ Rules.is_code self.now i }
     {
-        is_text(b"Code", self.pool.utf8(i))
+        is_text(self.pool.utf8(i), b"Code")
     }
 
+    /// Whether the text at an index is the name of frames.
     #[tactic(auto, unfolding(crate::specs::Rules::is_maps))]
     pub fn is_maps(&self, i: u16) -> bool
         ensures { result ≡ Rules.is_maps self.now i }
     {
-        is_text(b"StackMapTable", self.pool.utf8(i))
+        is_text(self.pool.utf8(i), b"StackMapTable")
     }
 
     /// What is wrong with the index of a field's descriptor, if anything is.
     #[tactic(auto, unfolding(jpool::specs::Uses::use_of))]
-    pub fn field_fault(&self, i: u16) -> Option<ClassKind>
+    pub fn field_fault(&self, i: u16) -> Option<ClassFault>
         ensures { result ≡ descriptor_fault is_field_descriptor (Pools.utf8_at self.now i) }
     {
         let Some(found) = self.uses.text_use(i) else {
-            return Some(ClassKind::Index);
+            return Some(ClassFault::Index);
         };
         if found.is_field {
             return None;
         }
-        Some(ClassKind::Descriptor)
+        Some(ClassFault::Descriptor)
     }
 
     /// What is wrong with the index of a method's descriptor, if anything is.
     #[tactic(auto, unfolding(jpool::specs::Uses::use_of))]
-    pub fn method_fault(&self, flags: Access, i: u16) -> Option<ClassKind>
+    pub fn method_fault(&self, flags: Access, i: u16) -> Option<ClassFault>
         ensures { result ≡ descriptor_fault (λ t. within (most_slots flags) (method_slots t)) (Pools.utf8_at self.now i) }
     {
         let Some(found) = self.uses.text_use(i) else {
-            return Some(ClassKind::Index);
+            return Some(ClassFault::Index);
         };
         if is_within(most_slots(flags), found.slots) {
             return None;
         }
-        Some(ClassKind::Descriptor)
+        Some(ClassFault::Descriptor)
     }
 
     /// Whether the entry at an index may be the constant of a field whose descriptor stands at another.

@@ -12,8 +12,8 @@ use crate::access::Access;
 use crate::attribute::{FieldAttributes, access_of, bytes_of, text_index_of};
 use crate::class::{Attribute, MemberInfo};
 use crate::code::CodeReader;
-use crate::kind::ClassKind;
-use crate::kind::ClassKind::{Code, Truncated};
+use crate::fault::ClassFault;
+use crate::fault::ClassFault::{Code, Truncated};
 use crate::known::{Known, has_no_code};
 use crate::shape::skip_run;
 use jbase::Seq;
@@ -26,7 +26,7 @@ use std::alloc::Global;
 fn field_descriptor_of<'a>(
     known: &Known<'_>,
     bytes: &'a [u8],
-) -> Result<(u16, &'a [u8]), ReadError<ClassKind>>
+) -> Result<(u16, &'a [u8]), ReadError<ClassFault>>
     ensures { Gives (λ x. (x.0, x.1.now)) result ((field_descriptor known.now).read bytes.now) }
 {
     let (i, rest) = u16_of(Truncated, bytes)?;
@@ -42,7 +42,7 @@ fn field_attributes_of<'a>(
     flags: Access,
     desc: u16,
     bytes: &'a [u8],
-) -> Result<(Seq<Attribute>, &'a [u8]), ReadError<ClassKind>>
+) -> Result<(Seq<Attribute>, &'a [u8]), ReadError<ClassFault>>
     ensures { Gives (λ x. (x.0, x.1.now)) result ((counted_from u2 (field_attribute known.now flags desc) saw_constant false).read bytes.now) }
 {
     let (count, rest) = u16_of(Truncated, bytes)?;
@@ -55,7 +55,7 @@ fn field_of<'a>(
     alloc: Global,
     known: &Known<'_>,
     bytes: &'a [u8],
-) -> Result<(MemberInfo, &'a [u8]), ReadError<ClassKind>>
+) -> Result<(MemberInfo, &'a [u8]), ReadError<ClassFault>>
     ensures { Gives (λ x. (x.0, x.1.now)) result ((field known.now).read bytes.now) }
 {
     let (flags, rest) = access_of(bytes)?;
@@ -80,7 +80,7 @@ pub struct Fields<'r, 'p> {
 }
 
 impl<'r, 'p> Reader for Fields<'r, 'p> {
-    type Kind = ClassKind;
+    type Kind = ClassFault;
 
     type Item = MemberInfo;
 
@@ -90,7 +90,7 @@ impl<'r, 'p> Reader for Fields<'r, 'p> {
         &self,
         alloc: Global,
         bytes: &'a [u8],
-    ) -> Result<(MemberInfo, &'a [u8]), ReadError<ClassKind>> {
+    ) -> Result<(MemberInfo, &'a [u8]), ReadError<ClassFault>> {
         field_of(alloc, self.known, bytes)
     }
 }
@@ -102,7 +102,7 @@ fn method_descriptor_of<'a>(
     known: &Known<'_>,
     flags: Access,
     bytes: &'a [u8],
-) -> Result<(u16, &'a [u8]), ReadError<ClassKind>>
+) -> Result<(u16, &'a [u8]), ReadError<ClassFault>>
     ensures { Gives (λ x. (x.0, x.1.now)) result ((method_descriptor known.now flags).read bytes.now) }
 {
     let (i, rest) = u16_of(Truncated, bytes)?;
@@ -117,7 +117,7 @@ fn method_attribute_of<'a>(
     alloc: Global,
     known: &Known<'_>,
     bytes: &'a [u8],
-) -> Result<(Attribute, &'a [u8]), ReadError<ClassKind>>
+) -> Result<(Attribute, &'a [u8]), ReadError<ClassFault>>
     ensures { Gives (λ x. (x.0, x.1.now)) result ((method_attribute known.now).read bytes.now) }
 {
     let (name, rest) = text_index_of(known, bytes)?;
@@ -145,7 +145,7 @@ struct MethodAttributes<'r, 'p> {
 }
 
 impl<'r, 'p> Reader for MethodAttributes<'r, 'p> {
-    type Kind = ClassKind;
+    type Kind = ClassFault;
 
     type Item = Attribute;
 
@@ -155,7 +155,7 @@ impl<'r, 'p> Reader for MethodAttributes<'r, 'p> {
         &self,
         alloc: Global,
         bytes: &'a [u8],
-    ) -> Result<(Attribute, &'a [u8]), ReadError<ClassKind>> {
+    ) -> Result<(Attribute, &'a [u8]), ReadError<ClassFault>> {
         method_attribute_of(alloc, self.known, bytes)
     }
 }
@@ -165,7 +165,7 @@ fn method_parts_of<'a>(
     alloc: Global,
     known: &Known<'_>,
     bytes: &'a [u8],
-) -> Result<(MemberInfo, &'a [u8]), ReadError<ClassKind>>
+) -> Result<(MemberInfo, &'a [u8]), ReadError<ClassFault>>
     ensures { Gives (λ x. (x.0, x.1.now)) result ((method_parts known.now).read bytes.now) }
 {
     let (flags, rest) = access_of(bytes)?;
@@ -188,7 +188,7 @@ fn method_parts_of<'a>(
 struct Names;
 
 impl Reader for Names {
-    type Kind = ClassKind;
+    type Kind = ClassFault;
 
     type Item = u16;
 
@@ -198,7 +198,7 @@ impl Reader for Names {
         &self,
         _alloc: Global,
         bytes: &'a [u8],
-    ) -> Result<(u16, &'a [u8]), ReadError<ClassKind>> {
+    ) -> Result<(u16, &'a [u8]), ReadError<ClassFault>> {
         let (name, rest) = u16_of(Truncated, bytes)?;
         let rest = skip_run(rest)?;
         Ok((name, rest))
@@ -208,7 +208,7 @@ impl Reader for Names {
 fn names_of(
     alloc: Global,
     bytes: &[u8],
-) -> Result<((Access, Seq<u16>), &[u8]), ReadError<ClassKind>>
+) -> Result<((Access, Seq<u16>), &[u8]), ReadError<ClassFault>>
     ensures { Gives (λ x. (x.0, x.1.now)) result (names_at bytes.now) }
 {
     let (flags, rest) = access_of(bytes)?;
@@ -224,7 +224,7 @@ fn codes_in(known: &Known<'_>, names: &[u16]) -> usize
     names.iter().filter(|name| known.is_code(**name)).count()
 }
 
-fn codes_fault_of(known: &Known<'_>, flags: Access, names: &[u16]) -> Option<ClassKind>
+fn codes_fault_of(known: &Known<'_>, flags: Access, names: &[u16]) -> Option<ClassFault>
     ensures { result ≡ codes_fault known.now (flags, names.now) }
 {
     let wanted = if has_no_code(flags) { 0 } else { 1 };
@@ -239,7 +239,7 @@ fn method_of<'a>(
     alloc: Global,
     known: &Known<'_>,
     bytes: &'a [u8],
-) -> Result<(MemberInfo, &'a [u8]), ReadError<ClassKind>>
+) -> Result<(MemberInfo, &'a [u8]), ReadError<ClassFault>>
     ensures { Gives (λ x. (x.0, x.1.now)) result ((method known.now).read bytes.now) }
 {
     let ((flags, names), _) = names_of(alloc, bytes)?;
@@ -256,7 +256,7 @@ pub struct Methods<'r, 'p> {
 }
 
 impl<'r, 'p> Reader for Methods<'r, 'p> {
-    type Kind = ClassKind;
+    type Kind = ClassFault;
 
     type Item = MemberInfo;
 
@@ -266,7 +266,7 @@ impl<'r, 'p> Reader for Methods<'r, 'p> {
         &self,
         alloc: Global,
         bytes: &'a [u8],
-    ) -> Result<(MemberInfo, &'a [u8]), ReadError<ClassKind>> {
+    ) -> Result<(MemberInfo, &'a [u8]), ReadError<ClassFault>> {
         method_of(alloc, self.known, bytes)
     }
 }

@@ -1,27 +1,28 @@
-ghost use Rattle.std.specs.Prelude.{◌≡◌, ◌<◌, ◌^◌, IfOk, IsTrue, List, ℕ, Ok, length};
+ghost use Rattle.std.specs.Prelude.{◌≡◌, IfOk, List, ℕ, Ok};
 ghost use Rattle.jbase.specs.Stops.{Gives};
 ghost use Rattle.jclass.specs.declared.class.ClassParts.{ClassParts};
 ghost use Rattle.jclass.specs.Class;
-ghost use Rattle.jclass.specs.Class.{GivesAt, Spells, class_file, ends};
+ghost use Rattle.jclass.specs.Class.{Spells, class_file, ends, tail_parts};
+ghost use Rattle.jformat.specs.Places.{GivesAt};
 ghost use Rattle.jclass.specs.Rules.{names_class, names_super};
 ghost use Rattle.jformat.specs.Bodies.{whole};
 ghost use Rattle.jclass.specs.Basics.{index, unseen};
 ghost use Rattle.jclass.specs.Shapes;
 ghost use Rattle.jclass.specs.Shapes.{has_shape};
-ghost use Rattle.jclass.specs.declared.kind.ClassKind.TheVariants as kinds;
+ghost use Rattle.jclass.specs.declared.fault.ClassFault.TheVariants as kinds;
 
 use crate::access::Access;
 use crate::attribute::{ClassAttributes, access_of};
 use crate::class::{Attribute, ClassParts, MemberInfo};
 use crate::class_file::ClassFile;
+use crate::fault::ClassFault::{Index, Trailing, Truncated};
+use crate::fault::{ClassError, ClassFault};
 use crate::judge::judge;
-use crate::kind::ClassKind::{Index, Trailing, Truncated};
-use crate::kind::{ClassError, ClassKind};
 use crate::known::Known;
 use crate::member::{Fields, Methods};
 use crate::shape::{Head, head_of, skip_tail};
 use jbase::{Seq, Stop};
-use jformat::{ReadError, Reader, counted_of, fault, u16_of};
+use jformat::{ReadError, Reader, counted_of, fault, stop_at, u16_of};
 use jpool::Pool;
 use std::alloc::Global;
 
@@ -30,7 +31,7 @@ use std::alloc::Global;
 fn class_index_of<'a>(
     known: &Known<'_>,
     bytes: &'a [u8],
-) -> Result<(u16, &'a [u8]), ReadError<ClassKind>>
+) -> Result<(u16, &'a [u8]), ReadError<ClassFault>>
     ensures { Gives (λ x. (x.0, x.1.now)) result ((index (names_class known.now)).read bytes.now) }
 {
     let (i, rest) = u16_of(Truncated, bytes)?;
@@ -43,7 +44,7 @@ fn class_index_of<'a>(
 fn super_index_of<'a>(
     known: &Known<'_>,
     bytes: &'a [u8],
-) -> Result<(u16, &'a [u8]), ReadError<ClassKind>>
+) -> Result<(u16, &'a [u8]), ReadError<ClassFault>>
     ensures { Gives (λ x. (x.0, x.1.now)) result ((index (names_super known.now)).read bytes.now) }
 {
     let (i, rest) = u16_of(Truncated, bytes)?;
@@ -59,7 +60,7 @@ struct Interfaces<'r, 'p> {
 }
 
 impl<'r, 'p> Reader for Interfaces<'r, 'p> {
-    type Kind = ClassKind;
+    type Kind = ClassFault;
 
     type Item = u16;
 
@@ -69,21 +70,21 @@ impl<'r, 'p> Reader for Interfaces<'r, 'p> {
         &self,
         _alloc: Global,
         bytes: &'a [u8],
-    ) -> Result<(u16, &'a [u8]), ReadError<ClassKind>> {
+    ) -> Result<(u16, &'a [u8]), ReadError<ClassFault>> {
         class_index_of(self.known, bytes)
     }
 }
 
 /// What stands behind the pool.
 #[derive(Debug, Drop)]
-struct Tail {
-    flags: Access,
-    this_class: u16,
-    super_class: u16,
-    interfaces: Seq<u16>,
-    fields: Seq<MemberInfo>,
-    methods: Seq<MemberInfo>,
-    attributes: Seq<Attribute>,
+pub struct Tail {
+    pub flags: Access,
+    pub this_class: u16,
+    pub super_class: u16,
+    pub interfaces: Seq<u16>,
+    pub fields: Seq<MemberInfo>,
+    pub methods: Seq<MemberInfo>,
+    pub attributes: Seq<Attribute>,
 }
 
 #[tactic(auto, unfolding(crate::specs::Class::tail))]
@@ -91,8 +92,8 @@ fn tail_of<'a>(
     alloc: Global,
     known: &Known<'_>,
     bytes: &'a [u8],
-) -> Result<(Tail, &'a [u8]), ReadError<ClassKind>>
-    ensures { Gives (λ x. ((x.0.flags, (x.0.this_class, (x.0.super_class, (x.0.interfaces, (x.0.fields, (x.0.methods, x.0.attributes)))))), x.1.now)) result ((Class.tail known.now).read bytes.now) }
+) -> Result<(Tail, &'a [u8]), ReadError<ClassFault>>
+    ensures { Gives (λ x. (tail_parts x.0, x.1.now)) result ((Class.tail known.now).read bytes.now) }
 {
     let (flags, rest) = access_of(bytes)?;
     let (this_class, rest) = class_index_of(known, rest)?;
@@ -120,8 +121,8 @@ fn tail_in<'a>(
     alloc: Global,
     pool: &Pool,
     bytes: &'a [u8],
-) -> Result<(Tail, &'a [u8]), ReadError<ClassKind>>
-    ensures { Gives (λ x. ((x.0.flags, (x.0.this_class, (x.0.super_class, (x.0.interfaces, (x.0.fields, (x.0.methods, x.0.attributes)))))), x.1.now)) result ((Class.tail pool.now).read bytes.now) }
+) -> Result<(Tail, &'a [u8]), ReadError<ClassFault>>
+    ensures { Gives (λ x. (tail_parts x.0, x.1.now)) result ((Class.tail pool.now).read bytes.now) }
 {
     let known = Known::of(alloc, pool)?;
     let (tail, rest) = tail_of(alloc, &known, bytes)?;
@@ -131,7 +132,7 @@ fn tail_in<'a>(
 // ---- the passes
 
 /// Goes over the rest of a class file, behind which nothing may stand.
-fn skip_to_the_end(alloc: Global, bytes: &[u8]) -> Result<(), ReadError<ClassKind>>
+fn skip_to_the_end(alloc: Global, bytes: &[u8]) -> Result<(), ReadError<ClassFault>>
     ensures { Gives (λ x. x) result (ends (unseen (Shapes.tail.read bytes.now))) }
 {
     let rest = skip_tail(alloc, bytes)?;
@@ -142,7 +143,7 @@ fn skip_to_the_end(alloc: Global, bytes: &[u8]) -> Result<(), ReadError<ClassKin
 }
 
 /// The first pass: the front of a class file, and the bytes behind it, which have the shape of the rest of one.
-fn shape_of(alloc: Global, bytes: &[u8]) -> Result<(Head, &[u8]), ReadError<ClassKind>>
+fn shape_of(alloc: Global, bytes: &[u8]) -> Result<(Head, &[u8]), ReadError<ClassFault>>
     ensures front { IfOk result (λ x. Shapes.head.read bytes.now ≡ Ok ((tt, (x.0.minor, (x.0.major, x.0.entries))), x.1.now)) }
     ensures shape { Gives (λ _. tt) result (has_shape bytes.now) }
 {
@@ -158,7 +159,7 @@ fn parts_of(
     bytes: &[u8],
     head: Head,
     rest: &[u8],
-) -> Result<ClassParts, ReadError<ClassKind>>
+) -> Result<ClassParts, ReadError<ClassFault>>
     requires { Shapes.head.read bytes.now ≡ Ok ((tt, (head.minor, (head.major, head.entries))), rest.now) }
     ensures { Gives (λ c. c) result ((whole kinds.Trailing Class.strict).read bytes.now) }
 {
@@ -187,7 +188,7 @@ fn parts_of(
 
 /// The class file that all of the bytes are.
 #[tactic(auto, unfolding(crate::specs::Class::class_file))]
-fn class_of(alloc: Global, bytes: &[u8]) -> Result<ClassFile, ReadError<ClassKind>>
+fn class_of(alloc: Global, bytes: &[u8]) -> Result<ClassFile, ReadError<ClassFault>>
     ensures { Gives (λ c. c) result (class_file.read bytes.now) }
 {
     let (head, rest) = shape_of(alloc, bytes)?;
@@ -201,20 +202,15 @@ fn class_of(alloc: Global, bytes: &[u8]) -> Result<ClassFile, ReadError<ClassKin
 /// attributes as runs of bytes; the pool's entries, one after the other, each fault at its tag; and the rest by the pool, front
 /// to back.
 pub fn read_class(alloc: Global, bytes: &[u8]) -> Result<ClassFile, ClassError>
-    requires { length bytes.now < 2 ^ 31 }
     // What is read is spelled so.
     ensures found { IfOk result (λ c. Spells bytes.now c) }
     // What is spelled so is read, unless memory runs out.
-    ensures only { (c : ClassParts) → Spells bytes.now c → GivesAt bytes.now result (Ok c) }
+    ensures only { (c : ClassParts) → Spells bytes.now c → GivesAt (λ c. c) bytes.now result (Ok c) }
     // Which fault it is, and where.
-    ensures exact { GivesAt bytes.now result (class_file.read bytes.now) }
+    ensures exact { GivesAt (λ c. c) bytes.now result (class_file.read bytes.now) }
 {
     match class_of(alloc, bytes) {
         Ok(class) => Ok(class),
-        Err(Stop::Memory) => Err(ClassError::Memory),
-        Err(Stop::Fault(found)) => Err(ClassError::At {
-            at: (bytes.len() - found.left) as u32,
-            kind: found.kind,
-        }),
+        Err(stop) => Err(stop_at(bytes, stop)),
     }
 }

@@ -3,16 +3,16 @@ ghost use Rattle.std.specs.Int.{w16};
 ghost use Rattle.jbase.specs.Stops.{Gives};
 ghost use Rattle.jformat.specs.Format.{number_at};
 ghost use Rattle.jformat.specs.Bodies.{counted, counted_at};
-ghost use Rattle.jclass.specs.Basics.{pool_kind, run, u2, unseen};
+ghost use Rattle.jclass.specs.Basics.{pool_fault, run, u2, unseen};
 ghost use Rattle.jclass.specs.Shapes;
 ghost use Rattle.jclass.specs.Shapes.{magic, major, tail};
-ghost use Rattle.jclass.specs.declared.kind.ClassKind.TheVariants as kinds;
+ghost use Rattle.jclass.specs.declared.fault.ClassFault.TheVariants as kinds;
 
-use crate::kind::ClassKind;
-use crate::kind::ClassKind::{Magic, Truncated, Version};
+use crate::fault::ClassFault;
+use crate::fault::ClassFault::{Magic, Truncated, Version};
 use jbase::{Seq, Stop};
 use jformat::{Fault, ReadError, Reader, counted_of, fault, run_of, u16_of, u32_of};
-use jpool::{Entry, PoolKind, entries_of};
+use jpool::{Entry, PoolFault, entries_of};
 use std::alloc::Global;
 
 /// What stands in a class file up to the end of its pool.
@@ -23,7 +23,7 @@ pub struct Head {
     pub entries: Seq<Entry>,
 }
 
-fn magic_of(bytes: &[u8]) -> Result<&[u8], ReadError<ClassKind>>
+fn magic_of(bytes: &[u8]) -> Result<&[u8], ReadError<ClassFault>>
     ensures { Gives (λ x. (tt, x.now)) result (magic.read bytes.now) }
 {
     let (word, rest) = u32_of(Truncated, bytes)?;
@@ -33,7 +33,7 @@ fn magic_of(bytes: &[u8]) -> Result<&[u8], ReadError<ClassKind>>
     Err(fault(Magic, bytes))
 }
 
-fn major_of(bytes: &[u8]) -> Result<(u16, &[u8]), ReadError<ClassKind>>
+fn major_of(bytes: &[u8]) -> Result<(u16, &[u8]), ReadError<ClassFault>>
     ensures { Gives (λ x. (x.0, x.1.now)) result (major.read bytes.now) }
 {
     let (version, rest) = u16_of(Truncated, bytes)?;
@@ -44,20 +44,20 @@ fn major_of(bytes: &[u8]) -> Result<(u16, &[u8]), ReadError<ClassKind>>
 }
 
 /// A fault of the pool under the name that class files have for it.
-pub fn class_kind(kind: PoolKind) -> ClassKind
-    ensures { result ≡ pool_kind kind }
+pub fn pool_fault(kind: PoolFault) -> ClassFault
+    ensures { result ≡ pool_fault kind }
 {
     match kind {
-        PoolKind::Truncated => ClassKind::Truncated,
-        PoolKind::BadTag => ClassKind::Tag,
-        PoolKind::BadIndex => ClassKind::Index,
-        PoolKind::BadName => ClassKind::Name,
-        PoolKind::BadDescriptor => ClassKind::Descriptor,
+        PoolFault::Truncated => ClassFault::Truncated,
+        PoolFault::BadTag => ClassFault::Tag,
+        PoolFault::BadIndex => ClassFault::Index,
+        PoolFault::BadName => ClassFault::Name,
+        PoolFault::BadDescriptor => ClassFault::Descriptor,
     }
 }
 
 #[tactic(auto, unfolding(crate::specs::Shapes::entries))]
-fn pool_of(alloc: Global, bytes: &[u8]) -> Result<(Seq<Entry>, &[u8]), ReadError<ClassKind>>
+fn pool_of(alloc: Global, bytes: &[u8]) -> Result<(Seq<Entry>, &[u8]), ReadError<ClassFault>>
     ensures { Gives (λ x. (x.0, x.1.now)) result (Shapes.entries.read bytes.now) }
 {
     match entries_of(alloc, bytes) {
@@ -65,14 +65,14 @@ fn pool_of(alloc: Global, bytes: &[u8]) -> Result<(Seq<Entry>, &[u8]), ReadError
         Err(Stop::Memory) => Err(Stop::Memory),
         Err(Stop::Fault(found)) => Err(Stop::Fault(Fault {
             left: found.left,
-            kind: class_kind(found.kind),
+            kind: pool_fault(found.kind),
         })),
     }
 }
 
 /// The front of a class file up to the end of its pool, as far as its shape goes, and the bytes behind it.
 #[tactic(auto, unfolding(crate::specs::Shapes::head))]
-pub fn head_of(alloc: Global, bytes: &[u8]) -> Result<(Head, &[u8]), ReadError<ClassKind>>
+pub fn head_of(alloc: Global, bytes: &[u8]) -> Result<(Head, &[u8]), ReadError<ClassFault>>
     ensures { Gives (λ x. ((tt, (x.0.minor, (x.0.major, x.0.entries))), x.1.now)) result (Shapes.head.read bytes.now) }
 {
     let rest = magic_of(bytes)?;
@@ -92,7 +92,7 @@ pub fn head_of(alloc: Global, bytes: &[u8]) -> Result<(Head, &[u8]), ReadError<C
 // ---- going over what isn't looked at
 
 /// What lies behind bytes that stand behind their number.
-pub fn skip_run(bytes: &[u8]) -> Result<&[u8], ReadError<ClassKind>>
+pub fn skip_run(bytes: &[u8]) -> Result<&[u8], ReadError<ClassFault>>
     ensures { Gives (λ x. (tt, x.now)) result (unseen (run.read bytes.now)) }
 {
     let (count, rest) = u32_of(Truncated, bytes)?;
@@ -104,7 +104,7 @@ pub fn skip_run(bytes: &[u8]) -> Result<&[u8], ReadError<ClassKind>>
 struct Indices;
 
 impl Reader for Indices {
-    type Kind = ClassKind;
+    type Kind = ClassFault;
 
     type Item = ();
 
@@ -114,7 +114,7 @@ impl Reader for Indices {
         &self,
         _alloc: Global,
         bytes: &'a [u8],
-    ) -> Result<((), &'a [u8]), ReadError<ClassKind>> {
+    ) -> Result<((), &'a [u8]), ReadError<ClassFault>> {
         let (_, rest) = u16_of(Truncated, bytes)?;
         Ok(((), rest))
     }
@@ -124,7 +124,7 @@ impl Reader for Indices {
 struct Attributes;
 
 impl Reader for Attributes {
-    type Kind = ClassKind;
+    type Kind = ClassFault;
 
     type Item = ();
 
@@ -134,7 +134,7 @@ impl Reader for Attributes {
         &self,
         _alloc: Global,
         bytes: &'a [u8],
-    ) -> Result<((), &'a [u8]), ReadError<ClassKind>> {
+    ) -> Result<((), &'a [u8]), ReadError<ClassFault>> {
         let (_, rest) = u16_of(Truncated, bytes)?;
         let rest = skip_run(rest)?;
         Ok(((), rest))
@@ -142,30 +142,30 @@ impl Reader for Attributes {
 }
 
 /// What lies behind values that stand behind their number.
-fn skip_counted<'a, R: Reader<Kind = ClassKind, Item = ()>>(
+fn skip_counted<'a, R: Reader<Kind = ClassFault, Item = ()>>(
     alloc: Global,
     reader: &R,
     bytes: &'a [u8],
-) -> Result<&'a [u8], ReadError<ClassKind>>
+) -> Result<&'a [u8], ReadError<ClassFault>>
     ensures { Gives (λ x. (tt, x.now)) result (unseen (counted_at (number_at w16 kinds.Truncated) (R.reads reader.now) bytes.now)) }
 {
     let (_, rest) = counted_of(alloc, reader, Truncated, bytes)?;
     Ok(rest)
 }
 
-fn skip_attributes(alloc: Global, bytes: &[u8]) -> Result<&[u8], ReadError<ClassKind>>
+fn skip_attributes(alloc: Global, bytes: &[u8]) -> Result<&[u8], ReadError<ClassFault>>
     ensures { Gives (λ x. (tt, x.now)) result (unseen ((counted u2 Shapes.attribute).read bytes.now)) }
 {
     skip_counted(alloc, &Attributes, bytes)
 }
 
-fn skip_indices(alloc: Global, bytes: &[u8]) -> Result<&[u8], ReadError<ClassKind>>
+fn skip_indices(alloc: Global, bytes: &[u8]) -> Result<&[u8], ReadError<ClassFault>>
     ensures { Gives (λ x. (tt, x.now)) result (unseen ((counted u2 u2).read bytes.now)) }
 {
     skip_counted(alloc, &Indices, bytes)
 }
 
-fn skip_member(alloc: Global, bytes: &[u8]) -> Result<&[u8], ReadError<ClassKind>>
+fn skip_member(alloc: Global, bytes: &[u8]) -> Result<&[u8], ReadError<ClassFault>>
     ensures { Gives (λ x. (tt, x.now)) result (unseen (Shapes.member.read bytes.now)) }
 {
     let (_, rest) = u16_of(Truncated, bytes)?;
@@ -178,7 +178,7 @@ fn skip_member(alloc: Global, bytes: &[u8]) -> Result<&[u8], ReadError<ClassKind
 struct Members;
 
 impl Reader for Members {
-    type Kind = ClassKind;
+    type Kind = ClassFault;
 
     type Item = ();
 
@@ -188,13 +188,13 @@ impl Reader for Members {
         &self,
         alloc: Global,
         bytes: &'a [u8],
-    ) -> Result<((), &'a [u8]), ReadError<ClassKind>> {
+    ) -> Result<((), &'a [u8]), ReadError<ClassFault>> {
         let rest = skip_member(alloc, bytes)?;
         Ok(((), rest))
     }
 }
 
-fn skip_members(alloc: Global, bytes: &[u8]) -> Result<&[u8], ReadError<ClassKind>>
+fn skip_members(alloc: Global, bytes: &[u8]) -> Result<&[u8], ReadError<ClassFault>>
     ensures { Gives (λ x. (tt, x.now)) result (unseen ((counted u2 Shapes.member).read bytes.now)) }
 {
     skip_counted(alloc, &Members, bytes)
@@ -202,7 +202,7 @@ fn skip_members(alloc: Global, bytes: &[u8]) -> Result<&[u8], ReadError<ClassKin
 
 /// What lies behind the rest of a class file, as far as its shape goes. Nothing is kept of what is gone over.
 #[tactic(auto, unfolding(crate::specs::Shapes::tail))]
-pub fn skip_tail(alloc: Global, bytes: &[u8]) -> Result<&[u8], ReadError<ClassKind>>
+pub fn skip_tail(alloc: Global, bytes: &[u8]) -> Result<&[u8], ReadError<ClassFault>>
     ensures { Gives (λ x. (tt, x.now)) result (unseen (tail.read bytes.now)) }
 {
     let (_, rest) = u16_of(Truncated, bytes)?;

@@ -104,8 +104,8 @@ fn behind_unit(bytes: &[u8]) -> Option<&[u8]>
 }
 
 /// Whether bytes are a text in modified UTF-8 (JVMS 4.4.7). It takes no memory.
-pub fn is_text(bytes: &[u8]) -> bool
-    ensures { result ≡ Judging.is_text bytes.now }
+pub fn is_modified(bytes: &[u8]) -> bool
+    ensures { result ≡ Judging.is_modified bytes.now }
 {
     let mut rest = bytes;
     for _ in 0..bytes.len() {

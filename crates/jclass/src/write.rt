@@ -3,7 +3,7 @@ ghost use Rattle.jformat.specs.Bodies.{block, whole};
 ghost use Rattle.jformat.specs.States.{counted_from};
 ghost use Rattle.jmaps.specs.Frames.{maps};
 ghost use Rattle.jclass.specs.Basics.{access, index, u2, u4};
-ghost use Rattle.jclass.specs.declared.kind.ClassKind.TheVariants.{Trailing, Truncated};
+ghost use Rattle.jclass.specs.declared.fault.ClassFault.TheVariants.{Trailing, Truncated};
 ghost use Rattle.jclass.specs.Rules.{names_class};
 ghost use Rattle.jclass.specs.Attributes;
 ghost use Rattle.jclass.specs.Attributes.{class_attribute, constant, field_attribute, saw_constant};
@@ -16,10 +16,8 @@ ghost use Rattle.jclass.specs.Class.{Spells, class_parts};
 ghost use Rattle.jclass.specs.Judging;
 
 use crate::access::Access;
-use crate::attribute::is_constant;
 use crate::class::{Attribute, ClassParts, CodeAttribute, MemberInfo};
 use crate::class_file::ClassFile;
-use crate::known::Known;
 use bitflags::Flags;
 use jbase::Seq;
 use jcode::{Handler, Placed, encode};
@@ -27,7 +25,7 @@ use jformat::{
     StateWriter, Writer, put_block, put_by, put_bytes, put_counted, put_sized32, put_u16, put_u32,
 };
 use jmaps::{RawFrame, put_frames};
-use jpool::put_entries;
+use jpool::{Pool, put_entries};
 use std::alloc::{AllocError, Global};
 
 fn put_access(flags: Access, out: &mut Seq<u8>) -> Result<(), AllocError>
@@ -39,15 +37,11 @@ fn put_access(flags: Access, out: &mut Seq<u8>) -> Result<(), AllocError>
 // ---- attributes of classes and fields
 
 #[tactic(auto, unfolding(crate::specs::Attributes::class_attribute))]
-fn put_class_attribute(
-    known: &Known<'_>,
-    one: &Attribute,
-    out: &mut Seq<u8>,
-) -> Result<(), AllocError>
-    requires { IsTrue ((class_attribute known.now).fits one.now) }
-    ensures { OnOk result (out.new ≡ out.old ++ (class_attribute known.now).spell one.now) }
+fn put_class_attribute(pool: &Pool, one: &Attribute, out: &mut Seq<u8>) -> Result<(), AllocError>
+    requires { IsTrue ((class_attribute pool.now).fits one.now) }
+    ensures { OnOk result (out.new ≡ out.old ++ (class_attribute pool.now).spell one.now) }
 {
-    let _known = known;
+    let _pool = pool;
     match one {
         Attribute::Raw { name, bytes } => {
             put_u16(*name, out)?;
@@ -58,25 +52,25 @@ fn put_class_attribute(
 }
 
 #[derive(Clone, Copy)]
-struct ClassAttributeWriter<'r, 'p> {
-    known: &'r Known<'p>,
+struct ClassAttributeWriter<'r> {
+    pool: &'r Pool,
 }
 
-impl<'r, 'p> Writer for ClassAttributeWriter<'r, 'p> {
+impl<'r> Writer for ClassAttributeWriter<'r> {
     type Item = Attribute;
 
-    ghost spells = { λ w. (class_attribute w.known.now).spell };
+    ghost spells = { λ w. (class_attribute w.pool.now).spell };
 
-    ghost fits = { λ w. (class_attribute w.known.now).fits };
+    ghost fits = { λ w. (class_attribute w.pool.now).fits };
 
     fn write(&self, _alloc: Global, one: &Attribute, out: &mut Seq<u8>) -> Result<(), AllocError> {
-        put_class_attribute(self.known, one, out)
+        put_class_attribute(self.pool, one, out)
     }
 }
 
 #[derive(Clone, Copy)]
-struct FieldAttributeWriter<'r, 'p> {
-    known: &'r Known<'p>,
+struct FieldAttributeWriter<'r> {
+    pool: &'r Pool,
     flags: Access,
     desc: u16,
 }
@@ -90,41 +84,35 @@ fn put_constant(value: u16, out: &mut Seq<u8>) -> Result<(), AllocError>
 
 #[tactic(auto, unfolding(crate::specs::Attributes::field_attribute))]
 fn put_field_attribute(
-    field: FieldAttributeWriter<'_, '_>,
+    field: FieldAttributeWriter<'_>,
     seen: bool,
     one: &Attribute,
     out: &mut Seq<u8>,
 ) -> Result<(), AllocError>
-    requires { IsTrue ((field_attribute field.known.now field.flags field.desc seen).fits one.now) }
-    ensures { OnOk result (out.new ≡ out.old ++ (field_attribute field.entry.known.now field.entry.flags field.entry.desc seen).spell one.now) }
+    requires { IsTrue ((field_attribute field.pool.now field.flags field.desc seen).fits one.now) }
+    ensures { OnOk result (out.new ≡ out.old ++ (field_attribute field.entry.pool.now field.entry.flags field.entry.desc seen).spell one.now) }
 {
     match one {
         Attribute::ConstantValue { name, value } => {
             put_u16(*name, out)?;
-            if is_constant(field.known, field.flags, *name) {
-                return put_constant(*value, out);
-            }
-            Ok(())
+            put_constant(*value, out)
         }
         Attribute::Raw { name, bytes } => {
             put_u16(*name, out)?;
-            if is_constant(field.known, field.flags, *name) {
-                return Ok(());
-            }
             put_sized32(bytes.as_slice(), out)
         }
         Attribute::Code { .. } => Ok(()),
     }
 }
 
-impl<'r, 'p> StateWriter for FieldAttributeWriter<'r, 'p> {
+impl<'r> StateWriter for FieldAttributeWriter<'r> {
     type State = bool;
 
     type Item = Attribute;
 
-    ghost spells = { λ w seen. (field_attribute w.known.now w.flags w.desc seen).spell };
+    ghost spells = { λ w seen. (field_attribute w.pool.now w.flags w.desc seen).spell };
 
-    ghost fits = { λ w seen. (field_attribute w.known.now w.flags w.desc seen).fits };
+    ghost fits = { λ w seen. (field_attribute w.pool.now w.flags w.desc seen).fits };
 
     ghost goes_to = { λ _. saw_constant };
 
@@ -149,30 +137,30 @@ impl<'r, 'p> StateWriter for FieldAttributeWriter<'r, 'p> {
 // ---- code
 
 #[derive(Clone, Copy)]
-struct MapsWriter<'r, 'p> {
-    known: &'r Known<'p>,
+struct MapsWriter<'r> {
+    pool: &'r Pool,
 }
 
 #[tactic(auto, using(crate::specs::CodeLaws::maps_fitting, crate::specs::CodeLaws::maps_spelling))]
 fn put_maps(
     alloc: Global,
-    known: &Known<'_>,
+    pool: &Pool,
     frames: &[RawFrame],
     out: &mut Seq<u8>,
 ) -> Result<(), AllocError>
-    requires { IsTrue ((Codes.maps known.now).fits frames.now) }
-    ensures { OnOk result (out.new ≡ out.old ++ (Codes.maps known.now).spell frames.now) }
+    requires { IsTrue ((Codes.maps pool.now).fits frames.now) }
+    ensures { OnOk result (out.new ≡ out.old ++ (Codes.maps pool.now).spell frames.now) }
 {
-    let _known = known;
+    let _pool = pool;
     put_frames(alloc, frames, out)
 }
 
-impl<'r, 'p> Writer for MapsWriter<'r, 'p> {
+impl<'r> Writer for MapsWriter<'r> {
     type Item = Seq<RawFrame>;
 
-    ghost spells = { λ w. (Codes.maps w.known.now).spell };
+    ghost spells = { λ w. (Codes.maps w.pool.now).spell };
 
-    ghost fits = { λ w. (Codes.maps w.known.now).fits };
+    ghost fits = { λ w. (Codes.maps w.pool.now).fits };
 
     fn write(
         &self,
@@ -180,53 +168,47 @@ impl<'r, 'p> Writer for MapsWriter<'r, 'p> {
         frames: &Seq<RawFrame>,
         out: &mut Seq<u8>,
     ) -> Result<(), AllocError> {
-        put_maps(alloc, self.known, frames.as_slice(), out)
+        put_maps(alloc, self.pool, frames.as_slice(), out)
     }
 }
 
 #[tactic(auto, unfolding(crate::specs::Codes::attribute))]
 fn put_attribute(
     alloc: Global,
-    known: &Known<'_>,
+    pool: &Pool,
     seen: bool,
     one: &CodeAttribute,
     out: &mut Seq<u8>,
 ) -> Result<(), AllocError>
-    requires { IsTrue ((attribute known.now seen).fits one.now) }
-    ensures { OnOk result (out.new ≡ out.old ++ (attribute known.now seen).spell one.now) }
+    requires { IsTrue ((attribute pool.now seen).fits one.now) }
+    ensures { OnOk result (out.new ≡ out.old ++ (attribute pool.now seen).spell one.now) }
 {
     let _seen = seen;
     match one {
         CodeAttribute::Maps { name, frames } => {
             put_u16(*name, out)?;
-            if known.is_maps(*name) {
-                return put_block(alloc, &MapsWriter { known }, frames, out);
-            }
-            Ok(())
+            put_block(alloc, &MapsWriter { pool }, frames, out)
         }
         CodeAttribute::Raw { name, bytes } => {
             put_u16(*name, out)?;
-            if known.is_maps(*name) {
-                return Ok(());
-            }
             put_sized32(bytes.as_slice(), out)
         }
     }
 }
 
 #[derive(Clone, Copy)]
-struct CodeAttributeWriter<'r, 'p> {
-    known: &'r Known<'p>,
+struct CodeAttributeWriter<'r> {
+    pool: &'r Pool,
 }
 
-impl<'r, 'p> StateWriter for CodeAttributeWriter<'r, 'p> {
+impl<'r> StateWriter for CodeAttributeWriter<'r> {
     type State = bool;
 
     type Item = CodeAttribute;
 
-    ghost spells = { λ w seen. (attribute w.known.now seen).spell };
+    ghost spells = { λ w seen. (attribute w.pool.now seen).spell };
 
-    ghost fits = { λ w seen. (attribute w.known.now seen).fits };
+    ghost fits = { λ w seen. (attribute w.pool.now seen).fits };
 
     ghost goes_to = { λ _. saw_maps };
 
@@ -237,7 +219,7 @@ impl<'r, 'p> StateWriter for CodeAttributeWriter<'r, 'p> {
         one: &CodeAttribute,
         out: &mut Seq<u8>,
     ) -> Result<(), AllocError> {
-        put_attribute(alloc, self.known, seen, one, out)
+        put_attribute(alloc, self.pool, seen, one, out)
     }
 
     fn next(&self, seen: bool, one: &CodeAttribute) -> bool {
@@ -250,15 +232,15 @@ impl<'r, 'p> StateWriter for CodeAttributeWriter<'r, 'p> {
 
 #[tactic(auto, unfolding(crate::specs::Codes::handler))]
 fn put_handler(
-    known: &Known<'_>,
+    pool: &Pool,
     ops: &[Placed],
     one: &Handler,
     out: &mut Seq<u8>,
 ) -> Result<(), AllocError>
-    requires { IsTrue ((handler known.now ops.now).fits one.now) }
-    ensures { OnOk result (out.new ≡ out.old ++ (handler known.now ops.now).spell one.now) }
+    requires { IsTrue ((handler pool.now ops.now).fits one.now) }
+    ensures { OnOk result (out.new ≡ out.old ++ (handler pool.now ops.now).spell one.now) }
 {
-    let (_known, _ops) = (known, ops);
+    let (_pool, _ops) = (pool, ops);
     put_u16(one.start as u16, out)?;
     put_u16(one.end as u16, out)?;
     put_u16(one.at as u16, out)?;
@@ -266,90 +248,84 @@ fn put_handler(
 }
 
 #[derive(Clone, Copy)]
-struct HandlerWriter<'r, 'p> {
-    known: &'r Known<'p>,
+struct HandlerWriter<'r> {
+    pool: &'r Pool,
     ops: &'r [Placed],
 }
 
-impl<'r, 'p> Writer for HandlerWriter<'r, 'p> {
+impl<'r> Writer for HandlerWriter<'r> {
     type Item = Handler;
 
-    ghost spells = { λ w. (handler w.known.now w.ops.now).spell };
+    ghost spells = { λ w. (handler w.pool.now w.ops.now).spell };
 
-    ghost fits = { λ w. (handler w.known.now w.ops.now).fits };
+    ghost fits = { λ w. (handler w.pool.now w.ops.now).fits };
 
     fn write(&self, _alloc: Global, one: &Handler, out: &mut Seq<u8>) -> Result<(), AllocError> {
-        put_handler(self.known, self.ops, one, out)
+        put_handler(self.pool, self.ops, one, out)
     }
 }
 
 #[tactic(auto, unfolding(crate::specs::Codes::ops))]
 fn put_ops(
     alloc: Global,
-    known: &Known<'_>,
+    pool: &Pool,
     items: &[Placed],
     out: &mut Seq<u8>,
 ) -> Result<(), AllocError>
-    requires { IsTrue ((ops known.now).fits items.now) }
-    ensures { OnOk result (out.new ≡ out.old ++ (ops known.now).spell items.now) }
+    requires { IsTrue ((ops pool.now).fits items.now) }
+    ensures { OnOk result (out.new ≡ out.old ++ (ops pool.now).spell items.now) }
 {
-    let _known = known;
+    let _pool = pool;
     let text = encode(alloc, items)?;
     put_bytes(text.as_slice(), out)
 }
 
 /// Writes the instructions of a method.
 #[derive(Clone, Copy)]
-struct OpsWriter<'r, 'p> {
-    known: &'r Known<'p>,
+struct OpsWriter<'r> {
+    pool: &'r Pool,
 }
 
-impl<'r, 'p> Writer for OpsWriter<'r, 'p> {
+impl<'r> Writer for OpsWriter<'r> {
     type Item = Seq<Placed>;
 
-    ghost spells = { λ w. (ops w.known.now).spell };
+    ghost spells = { λ w. (ops w.pool.now).spell };
 
-    ghost fits = { λ w. (ops w.known.now).fits };
+    ghost fits = { λ w. (ops w.pool.now).fits };
 
     fn write(&self, alloc: Global, one: &Seq<Placed>, out: &mut Seq<u8>) -> Result<(), AllocError> {
-        put_ops(alloc, self.known, one.as_slice(), out)
+        put_ops(alloc, self.pool, one.as_slice(), out)
     }
 }
 
 fn put_code_attributes(
     alloc: Global,
-    known: &Known<'_>,
+    pool: &Pool,
     attributes: &[CodeAttribute],
     out: &mut Seq<u8>,
 ) -> Result<(), AllocError>
-    requires { IsTrue ((counted_from u2 (attribute known.now) saw_maps false).fits attributes.now) }
-    ensures { OnOk result (out.new ≡ out.old ++ (counted_from u2 (attribute known.now) saw_maps false).spell attributes.now) }
+    requires { IsTrue ((counted_from u2 (attribute pool.now) saw_maps false).fits attributes.now) }
+    ensures { OnOk result (out.new ≡ out.old ++ (counted_from u2 (attribute pool.now) saw_maps false).spell attributes.now) }
 {
     put_u16(attributes.len() as u16, out)?;
-    put_by(
-        alloc,
-        &CodeAttributeWriter { known },
-        false,
-        attributes,
-        out,
-    )
+    put_by(alloc, &CodeAttributeWriter { pool }, false, attributes, out)
 }
 
 /// Writes what stands in a Code attribute behind its length. The item is the attribute.
 #[derive(Clone, Copy)]
-struct CodeWriter<'r, 'p> {
-    known: &'r Known<'p>,
+struct CodeWriter<'r> {
+    pool: &'r Pool,
 }
 
 #[tactic(auto, unfolding(crate::specs::Codes::code_content))]
 fn put_code(
     alloc: Global,
-    known: &Known<'_>,
+    pool: &Pool,
     one: &Attribute,
     out: &mut Seq<u8>,
 ) -> Result<(), AllocError>
-    requires { IsTrue (code_fits known.now one.now) }
-    ensures { OnOk result (out.new ≡ out.old ++ code_spell known.now one.now) }
+    requires { IsTrue (code_fits pool.now one.now) }
+    ensures { OnOk result (out.new ≡ out.old ++ code_spell pool.now one.now) }
 {
     let Attribute::Code {
         max_stack,
@@ -364,24 +340,24 @@ fn put_code(
     };
     put_u16(*max_stack, out)?;
     put_u16(*max_locals, out)?;
-    put_block(alloc, &OpsWriter { known }, ops, out)?;
+    put_block(alloc, &OpsWriter { pool }, ops, out)?;
     let writer = HandlerWriter {
-        known,
+        pool,
         ops: ops.as_slice(),
     };
     put_counted(alloc, &writer, handlers.as_slice(), out)?;
-    put_code_attributes(alloc, known, attributes.as_slice(), out)
+    put_code_attributes(alloc, pool, attributes.as_slice(), out)
 }
 
-impl<'r, 'p> Writer for CodeWriter<'r, 'p> {
+impl<'r> Writer for CodeWriter<'r> {
     type Item = Attribute;
 
-    ghost spells = { λ w. code_spell w.known.now };
+    ghost spells = { λ w. code_spell w.pool.now };
 
-    ghost fits = { λ w. code_fits w.known.now };
+    ghost fits = { λ w. code_fits w.pool.now };
 
     fn write(&self, alloc: Global, one: &Attribute, out: &mut Seq<u8>) -> Result<(), AllocError> {
-        put_code(alloc, self.known, one, out)
+        put_code(alloc, self.pool, one, out)
     }
 }
 
@@ -390,26 +366,20 @@ impl<'r, 'p> Writer for CodeWriter<'r, 'p> {
 #[tactic(auto, unfolding(crate::specs::Members::method_attribute))]
 fn put_method_attribute(
     alloc: Global,
-    known: &Known<'_>,
+    pool: &Pool,
     one: &Attribute,
     out: &mut Seq<u8>,
 ) -> Result<(), AllocError>
-    requires { IsTrue ((method_attribute known.now).fits one.now) }
-    ensures { OnOk result (out.new ≡ out.old ++ (method_attribute known.now).spell one.now) }
+    requires { IsTrue ((method_attribute pool.now).fits one.now) }
+    ensures { OnOk result (out.new ≡ out.old ++ (method_attribute pool.now).spell one.now) }
 {
     match one {
         Attribute::Code { name, .. } => {
             put_u16(*name, out)?;
-            if known.is_code(*name) {
-                return put_block(alloc, &CodeWriter { known }, one, out);
-            }
-            Ok(())
+            put_block(alloc, &CodeWriter { pool }, one, out)
         }
         Attribute::Raw { name, bytes } => {
             put_u16(*name, out)?;
-            if known.is_code(*name) {
-                return Ok(());
-            }
             put_sized32(bytes.as_slice(), out)
         }
         Attribute::ConstantValue { .. } => Ok(()),
@@ -417,34 +387,34 @@ fn put_method_attribute(
 }
 
 #[derive(Clone, Copy)]
-struct MethodAttributeWriter<'r, 'p> {
-    known: &'r Known<'p>,
+struct MethodAttributeWriter<'r> {
+    pool: &'r Pool,
 }
 
-impl<'r, 'p> Writer for MethodAttributeWriter<'r, 'p> {
+impl<'r> Writer for MethodAttributeWriter<'r> {
     type Item = Attribute;
 
-    ghost spells = { λ w. (method_attribute w.known.now).spell };
+    ghost spells = { λ w. (method_attribute w.pool.now).spell };
 
-    ghost fits = { λ w. (method_attribute w.known.now).fits };
+    ghost fits = { λ w. (method_attribute w.pool.now).fits };
 
     fn write(&self, alloc: Global, one: &Attribute, out: &mut Seq<u8>) -> Result<(), AllocError> {
-        put_method_attribute(alloc, self.known, one, out)
+        put_method_attribute(alloc, self.pool, one, out)
     }
 }
 
 fn put_field_attributes(
     alloc: Global,
-    known: &Known<'_>,
+    pool: &Pool,
     one: &MemberInfo,
     out: &mut Seq<u8>,
 ) -> Result<(), AllocError>
-    requires { IsTrue ((counted_from u2 (field_attribute known.now one.now.flags one.now.desc) saw_constant false).fits one.now.attributes) }
-    ensures { OnOk result (out.new ≡ out.old ++ (counted_from u2 (field_attribute known.now one.now.flags one.now.desc) saw_constant false).spell one.now.attributes) }
+    requires { IsTrue ((counted_from u2 (field_attribute pool.now one.now.flags one.now.desc) saw_constant false).fits one.now.attributes) }
+    ensures { OnOk result (out.new ≡ out.old ++ (counted_from u2 (field_attribute pool.now one.now.flags one.now.desc) saw_constant false).spell one.now.attributes) }
 {
     let attributes = one.attributes.as_slice();
     let writer = FieldAttributeWriter {
-        known,
+        pool,
         flags: one.flags,
         desc: one.desc,
     };
@@ -455,87 +425,87 @@ fn put_field_attributes(
 #[tactic(auto, unfolding(crate::specs::Members::field, crate::specs::Rules::field_descriptor))]
 fn put_field(
     alloc: Global,
-    known: &Known<'_>,
+    pool: &Pool,
     one: &MemberInfo,
     out: &mut Seq<u8>,
 ) -> Result<(), AllocError>
-    requires { IsTrue ((field known.now).fits one.now) }
-    ensures { OnOk result (out.new ≡ out.old ++ (field known.now).spell one.now) }
+    requires { IsTrue ((field pool.now).fits one.now) }
+    ensures { OnOk result (out.new ≡ out.old ++ (field pool.now).spell one.now) }
 {
     put_access(one.flags, out)?;
     put_u16(one.name, out)?;
     put_u16(one.desc, out)?;
-    put_field_attributes(alloc, known, one, out)
+    put_field_attributes(alloc, pool, one, out)
 }
 
 #[derive(Clone, Copy)]
-struct FieldWriter<'r, 'p> {
-    known: &'r Known<'p>,
+struct FieldWriter<'r> {
+    pool: &'r Pool,
 }
 
-impl<'r, 'p> Writer for FieldWriter<'r, 'p> {
+impl<'r> Writer for FieldWriter<'r> {
     type Item = MemberInfo;
 
-    ghost spells = { λ w. (field w.known.now).spell };
+    ghost spells = { λ w. (field w.pool.now).spell };
 
-    ghost fits = { λ w. (field w.known.now).fits };
+    ghost fits = { λ w. (field w.pool.now).fits };
 
     fn write(&self, alloc: Global, one: &MemberInfo, out: &mut Seq<u8>) -> Result<(), AllocError> {
-        put_field(alloc, self.known, one, out)
+        put_field(alloc, self.pool, one, out)
     }
 }
 
 #[tactic(auto, unfolding(crate::specs::Members::method, crate::specs::Members::method_parts, crate::specs::Rules::method_descriptor))]
 fn put_method(
     alloc: Global,
-    known: &Known<'_>,
+    pool: &Pool,
     one: &MemberInfo,
     out: &mut Seq<u8>,
 ) -> Result<(), AllocError>
-    requires { IsTrue ((method known.now).fits one.now) }
-    ensures { OnOk result (out.new ≡ out.old ++ (method known.now).spell one.now) }
+    requires { IsTrue ((method pool.now).fits one.now) }
+    ensures { OnOk result (out.new ≡ out.old ++ (method pool.now).spell one.now) }
 {
     put_access(one.flags, out)?;
     put_u16(one.name, out)?;
     put_u16(one.desc, out)?;
     put_counted(
         alloc,
-        &MethodAttributeWriter { known },
+        &MethodAttributeWriter { pool },
         one.attributes.as_slice(),
         out,
     )
 }
 
 #[derive(Clone, Copy)]
-struct MethodWriter<'r, 'p> {
-    known: &'r Known<'p>,
+struct MethodWriter<'r> {
+    pool: &'r Pool,
 }
 
-impl<'r, 'p> Writer for MethodWriter<'r, 'p> {
+impl<'r> Writer for MethodWriter<'r> {
     type Item = MemberInfo;
 
-    ghost spells = { λ w. (method w.known.now).spell };
+    ghost spells = { λ w. (method w.pool.now).spell };
 
-    ghost fits = { λ w. (method w.known.now).fits };
+    ghost fits = { λ w. (method w.pool.now).fits };
 
     fn write(&self, alloc: Global, one: &MemberInfo, out: &mut Seq<u8>) -> Result<(), AllocError> {
-        put_method(alloc, self.known, one, out)
+        put_method(alloc, self.pool, one, out)
     }
 }
 
 // ---- the class file
 
 #[derive(Clone, Copy)]
-struct InterfaceWriter<'r, 'p> {
-    known: &'r Known<'p>,
+struct InterfaceWriter<'r> {
+    pool: &'r Pool,
 }
 
-impl<'r, 'p> Writer for InterfaceWriter<'r, 'p> {
+impl<'r> Writer for InterfaceWriter<'r> {
     type Item = u16;
 
-    ghost spells = { λ w. (index (names_class w.known.now)).spell };
+    ghost spells = { λ w. (index (names_class w.pool.now)).spell };
 
-    ghost fits = { λ w. (index (names_class w.known.now)).fits };
+    ghost fits = { λ w. (index (names_class w.pool.now)).fits };
 
     fn write(&self, _alloc: Global, one: &u16, out: &mut Seq<u8>) -> Result<(), AllocError> {
         put_u16(*one, out)
@@ -557,27 +527,27 @@ fn put_head(alloc: Global, one: &ClassParts, out: &mut Seq<u8>) -> Result<(), Al
 #[tactic(auto, unfolding(crate::specs::Class::tail))]
 fn put_tail_by(
     alloc: Global,
-    known: &Known<'_>,
+    pool: &Pool,
     one: &ClassParts,
     out: &mut Seq<u8>,
 ) -> Result<(), AllocError>
-    requires { IsTrue ((Class.tail known.now).fits (class_parts one.now).1) }
-    ensures { OnOk result (out.new ≡ out.old ++ (Class.tail known.now).spell (class_parts one.now).1) }
+    requires { IsTrue ((Class.tail pool.now).fits (class_parts one.now).1) }
+    ensures { OnOk result (out.new ≡ out.old ++ (Class.tail pool.now).spell (class_parts one.now).1) }
 {
     put_access(one.flags, out)?;
     put_u16(one.this_class, out)?;
     put_u16(one.super_class, out)?;
     put_counted(
         alloc,
-        &InterfaceWriter { known },
+        &InterfaceWriter { pool },
         one.interfaces.as_slice(),
         out,
     )?;
-    put_counted(alloc, &FieldWriter { known }, one.fields.as_slice(), out)?;
-    put_counted(alloc, &MethodWriter { known }, one.methods.as_slice(), out)?;
+    put_counted(alloc, &FieldWriter { pool }, one.fields.as_slice(), out)?;
+    put_counted(alloc, &MethodWriter { pool }, one.methods.as_slice(), out)?;
     put_counted(
         alloc,
-        &ClassAttributeWriter { known },
+        &ClassAttributeWriter { pool },
         one.attributes.as_slice(),
         out,
     )
@@ -587,8 +557,7 @@ fn put_tail(alloc: Global, one: &ClassParts, out: &mut Seq<u8>) -> Result<(), Al
     requires { IsTrue ((Class.tail one.now.pool).fits (class_parts one.now).1) }
     ensures { OnOk result (out.new ≡ out.old ++ (Class.tail one.now.pool).spell (class_parts one.now).1) }
 {
-    let known = Known::of(alloc, &one.pool)?;
-    put_tail_by(alloc, &known, one, out)
+    put_tail_by(alloc, &one.pool, one, out)
 }
 
 /// The bytes that spell a class file: where it was read from bytes, those very bytes.

@@ -63,9 +63,6 @@ fn code_comes_back(alloc: Global, bytes: &[u8]) -> Result<bool, AllocError> {
 
 /// Whether the bytes are a class file that is written as it was read.
 fn class_comes_back(alloc: Global, bytes: &[u8]) -> Result<bool, AllocError> {
-    if bytes.len() > i32::MAX as usize {
-        return Ok(false);
-    }
     let Ok(class) = read_class(alloc, bytes) else {
         return Ok(false);
     };

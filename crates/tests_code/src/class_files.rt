@@ -1,9 +1,11 @@
 use hex::decode;
-use jclass::ClassKind::{
+use jclass::ClassFault::{
     Code, Descriptor, Index, LeftOut, Magic, MapLeftOut, MapTag, Maps, Name, Opcode, Operand,
     Reserved, Tag, Target, Text, Trailing, Truncated, Version,
 };
-use jclass::{ClassError, ClassFile, ClassKind, read_class, write_class};
+use jbase::Stop;
+use jclass::{ClassError, ClassFault, read_class, write_class};
+use jformat::At;
 use std::alloc::{AllocError, Global};
 
 /// `A`, which extends `Object`.
@@ -48,27 +50,20 @@ fn joined(alloc: Global, front: &str, tail: &str) -> Result<Vec<u8>, AllocError>
     Ok(bytes)
 }
 
-fn read(alloc: Global, bytes: &[u8]) -> Result<ClassFile, ClassError> {
-    if bytes.len() > 0x7fff_ffff {
-        return Err(ClassError::Memory);
-    }
-    read_class(alloc, bytes)
-}
-
 fn fault_of(alloc: Global, bytes: &[u8]) -> Option<ClassError> {
-    match read(alloc, bytes) {
+    match read_class(alloc, bytes) {
         Ok(_) => None,
         Err(error) => Some(error),
     }
 }
 
-fn fault(at: u32, kind: ClassKind) -> Option<ClassError> {
-    Some(ClassError::At { at, kind })
+fn fault(at: u32, kind: ClassFault) -> Option<ClassError> {
+    Some(Stop::Fault(At { at, kind }))
 }
 
 /// Whether bytes are read, and then written as they were.
 fn is_kept(alloc: Global, bytes: &[u8]) -> bool {
-    match read(alloc, bytes) {
+    match read_class(alloc, bytes) {
         Ok(class) => match write_class(alloc, &class) {
             Ok(written) => written.as_slice() == bytes,
             Err(_) => false,
@@ -111,7 +106,7 @@ fn a_class_cut_at_every_length(rt: HostRuntime) -> Result<(), AllocError> {
 #[test]
 fn faults_of_shapes_and_pools(rt: HostRuntime) {
     let alloc = rt.alloc();
-    let rows: [(&str, u32, ClassKind); 29] = [
+    let rows: [(&str, u32, ClassFault); 29] = [
         (
             "cafebabf000000340005010001410700010100106a6176612f6c616e672f4f626a656374070003002100020004000000\
              0000000000",
@@ -300,7 +295,7 @@ fn faults_of_shapes_and_pools(rt: HostRuntime) {
 fn faults_behind_the_pool(rt: HostRuntime) -> Result<(), AllocError> {
     let alloc = rt.alloc();
     // the places are counted from the end of the pool
-    let rows: [(&str, u32, ClassKind); 77] = [
+    let rows: [(&str, u32, ClassFault); 77] = [
         ("0021000100040000000000000000", 2, Index),
         ("0021001300040000000000000000", 2, Index),
         ("0021000000040000000000000000", 2, Index),

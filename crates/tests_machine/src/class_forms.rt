@@ -1,5 +1,5 @@
 use hex::decode;
-use jclass::{ClassError, ClassFile, read_class};
+use jclass::read_class;
 use jform::{Op, form_of};
 use std::alloc::{AllocError, Global};
 
@@ -63,17 +63,10 @@ fn push_op(text: &mut String, op: &Op) -> Result<(), AllocError> {
     }
 }
 
-fn read(alloc: Global, bytes: &[u8]) -> Result<ClassFile, ClassError> {
-    if bytes.len() > 0x7fff_ffff {
-        return Err(ClassError::Memory);
-    }
-    read_class(alloc, bytes)
-}
-
 /// The name of a class, and behind each method's name, which has a star where it is main's descriptor, its instructions.
 fn shown(alloc: Global, bytes: &[u8]) -> Result<String, AllocError> {
     let mut text = String::new(alloc);
-    let Ok(class) = read(alloc, bytes) else {
+    let Ok(class) = read_class(alloc, bytes) else {
         text.push_str("no class file")?;
         return Ok(text);
     };

@@ -3,4 +3,4 @@ use Rattle.jclass.proofs.ClassLaws.{tail_attributes}
 use Rattle.jclass.proofs.write.put_tail_by.Goals as goal
 
 pub put_counted-requires-4 : goal.put_counted-requires-4
-put_counted-requires-4 c = rw (c.as_slice-4.ensures) (tail_attributes c.args.known.now (class_parts c.args.one.now).1 c.requires)
+put_counted-requires-4 c = rw (c.as_slice-4.ensures) (tail_attributes c.args.pool.now (class_parts c.args.one.now).1 c.requires)

@@ -1,6 +1,9 @@
+use jbase::Stop;
+use jformat::At;
+
 /// What is wrong with the bytes of a class file.
 #[derive(Clone, Copy, Debug, PartialEq, Eq)]
-pub enum ClassKind {
+pub enum ClassFault {
     /// A number, or a run of bytes, isn't wholly there. The place is its first byte.
     Truncated,
     /// The file doesn't begin with `cafebabe`.
@@ -39,11 +42,6 @@ pub enum ClassKind {
     Maps,
 }
 
-/// Why bytes gave no class file.
-#[derive(Clone, Copy, Debug, PartialEq, Eq)]
-pub enum ClassError {
-    /// A fault, and the offset of its place.
-    At { at: u32, kind: ClassKind },
-    /// No memory was left. It may come at any time.
-    Memory,
-}
+/// Why bytes gave no class file: the first fault and its place in the bytes, or want of memory, which may come at any time, and
+/// comes where an offset has more than 32 bits.
+pub type ClassError = Stop<At<ClassFault>>;

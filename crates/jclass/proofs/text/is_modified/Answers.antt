@@ -1,6 +1,6 @@
 use Rattle.std.proofs.Common.{◌∙◌, length, arith}
 use Rattle.jclass.proofs.Texts.{text_begins, text_ends, text_goes_on, text_stops, text_over}
-use Rattle.jclass.proofs.text.is_text.Goals as goal
+use Rattle.jclass.proofs.text.is_modified.Goals as goal
 
 pub loop-init : goal.loop-init
 loop-init c = text_begins _ c.args.bytes.now (omega arith)

@@ -1,7 +1,0 @@
-use Rattle.std.proofs.Common.{◌≡◌, ◌-◌, length}
-use Rattle.jclass.specs.Judging.{is_text}
-use Rattle.jclass.proofs.Texts.{rest_is_text}
-use Rattle.jclass.proofs.text.is_text.Given as goal
-
-abbrev pub invariant-loop : goal.invariant-loop
-invariant-loop l = rest_is_text (length l.bytes - l.counter) l.rest ≡ is_text l.bytes
