@@ -1,5 +1,6 @@
 -- What a class file of the first form says: a name, and methods of instructions that are looked up in the pool.
-use Rattle.std.specs.Prelude.{ℕ, ◌-◌, Bool, true, false, ◌&&◌, List, [], ◌∷◌, length, Option, Some, None, nat_le, ◌==◌, if◌then◌else◌, slice_get, codes, option_and_then, option_map}
+use Rattle.std.specs.Prelude.{ℕ, ◌-◌, Bool, true, false, ◌&&◌, List, [], ◌∷◌, length, Option, Some, None, nat_le, ◌==◌, if◌then◌else◌, slice_get, codes}
+use Rattle.std.specs.Option.{option_and_then, option_map}
 use Rattle.std.specs.List.{list_all}
 use Rattle.std.specs.Str.{bytes_eq}
 use Rattle.jbase.specs.Each.{each_some}
@@ -9,12 +10,13 @@ use Rattle.jpool.specs.Names.{is_class_name}
 use Rattle.jpool.specs.Pools.{utf8_at, class_name_at, name_and_type_at}
 use Rattle.jcode.specs.declared.names.CallOp.TheVariants as calls
 use Rattle.jcode.specs.declared.names.Returned.TheVariants as returned
-use Rattle.jcode.specs.declared.names.StackOp.TheVariants as stack
+use Rattle.jnames.specs.declared.names.Shuffle.TheVariants as stack
 use Rattle.jcode.specs.declared.op.Ldc.TheVariants as ldcs
 use Rattle.jcode.specs.declared.op.NewOp.TheVariants as news
 use Rattle.jcode.specs.declared.op.Op as coded
 use Rattle.jcode.specs.declared.op.Op.TheVariants as code
 use Rattle.jcode.specs.declared.op.Placed.{Placed}
+use Rattle.jclass.specs.Rules.{is_text}
 use Rattle.jclass.specs.declared.access.Access.{Access}
 use Rattle.jclass.specs.declared.class.Attribute.{Attribute}
 use Rattle.jclass.specs.declared.class.Attribute.TheVariants.{Code}
@@ -40,11 +42,6 @@ is_known (Str text) = true
 is_known (Method class both) = true
 is_known (NameAndType name desc) = true
 is_known _ = false
-
--- it is there, and is this text
-abbrev pub is_text : Option (List ℕ) → List ℕ → Bool
-is_text (Some text) other = bytes_eq text other
-is_text None other = false
 
 abbrev pub text_in : Option Entry → Option ℕ
 text_in (Some (Str text)) = Some text

@@ -1,17 +1,8 @@
 ghost use Rattle.std.specs.Prelude.{◌≡◌, option_map};
-ghost use Rattle.jform.specs.Forms.{both_at, both_in, class_in, desc_at, is_method, is_text, name_at, owner_at, string_at, text_in};
+ghost use Rattle.jform.specs.Forms.{both_at, both_in, class_in, desc_at, is_method, name_at, owner_at, string_at, text_in};
 
+use jclass::is_text;
 use jpool::{Entry, Pool};
-
-/// Whether the text is there and is the other one.
-pub fn is_text(text: Option<&[u8]>, other: &[u8]) -> bool
-    ensures { result ≡ is_text (option_map (λ t. t.now) text.entry) other.now }
-{
-    match text {
-        Some(text) => text == other,
-        None => false,
-    }
-}
 
 /// The index of a String's text.
 fn text_in(one: Option<&Entry>) -> Option<u16>

@@ -1,13 +1,15 @@
 ghost use Rattle.std.specs.Prelude.{◌≡◌, IfOk, option_map};
 ghost use Rattle.std.specs.List.{list_all};
-ghost use Rattle.jform.specs.Forms.{bare_code, called, class_named, code_in, ends_with_return, form_of, has_methods_only, is_known, is_plain, is_public_static, is_return, main_or_plain, method_form, new_op, op_form, special_op, static_op};
+ghost use Rattle.jform.specs.Forms.{bare_code, called, class_named, code_in, ends_with_return, form_of, has_methods_only};
+ghost use Rattle.jform.specs.Forms.{is_known, is_plain, is_public_static, is_return, main_or_plain, method_form, new_op, op_form, special_op, static_op};
 
 use crate::form::{ClassForm, MethodForm, Op};
-use crate::lookup::{desc_at, is_method, is_text, name_at, owner_at, string_at};
+use crate::lookup::{desc_at, is_method, name_at, owner_at, string_at};
 use bitflags::Flags;
 use jbase::{EachSome, Seq, each_some_of};
-use jclass::{Access, Attribute, ClassFile, ClassParts, MemberInfo};
-use jcode::{CallOp, Ldc, NewOp, Placed, Returned, StackOp};
+use jclass::{Access, Attribute, ClassFile, ClassParts, MemberInfo, is_text};
+use jcode::{CallOp, Ldc, NewOp, Placed, Returned};
+use jnames::Shuffle;
 use jpool::{Entry, Pool, is_class_name};
 use std::alloc::{AllocError, Global};
 
@@ -100,8 +102,8 @@ fn op_form(alloc: Global, pool: &Pool, op: &jcode::Op) -> Result<Option<Op>, All
 {
     match op {
         jcode::Op::Nop => Ok(Some(Op::Nop)),
-        jcode::Op::Stack(StackOp::Dup) => Ok(Some(Op::Dup)),
-        jcode::Op::Stack(StackOp::Pop) => Ok(Some(Op::Pop)),
+        jcode::Op::Stack(Shuffle::Dup) => Ok(Some(Op::Dup)),
+        jcode::Op::Stack(Shuffle::Pop) => Ok(Some(Op::Pop)),
         jcode::Op::Ldc(Ldc::Narrow(i)) => match string_at(pool, u16::from(*i)) {
             Some(text) => Ok(Some(Op::Text(Seq::from_slice(alloc, text)?))),
             None => Ok(None),
