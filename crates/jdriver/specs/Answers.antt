@@ -4,10 +4,10 @@ use Rattle.jbase.specs.Causes.{Rose, appended, IsCut}
 use Rattle.jio.specs.Held.{File}
 use Rattle.jio.specs.Text.{written}
 use Rattle.jtext.specs.Texts.{units_of_text}
-use Rattle.jclass.specs.declared.kind.ClassKind.{ClassKind}
-use Rattle.jclass.specs.declared.kind.ClassKind.TheVariants as kinds
-use Rattle.jpolicy.specs.declared.fault.PolicyKind.{PolicyKind}
-use Rattle.jpolicy.specs.declared.fault.PolicyKind.TheVariants as policies
+use Rattle.jclass.specs.declared.fault.ClassFault.{ClassFault}
+use Rattle.jclass.specs.declared.fault.ClassFault.TheVariants as kinds
+use Rattle.jpolicy.specs.declared.fault.PolicyFault.{PolicyFault}
+use Rattle.jpolicy.specs.declared.fault.PolicyFault.TheVariants as policies
 use Rattle.jengine.specs.declared.plan.Plan.{Plan}
 use Rattle.jengine.specs.declared.plan.TheConstants.{DEFAULT_HEAP, DEFAULT_DEPTH, DEFAULT_STEPS}
 use Rattle.jengine.specs.Runs.{Run, run, run_text, ending}
@@ -32,7 +32,7 @@ name_line words name = words ++ (written (units_of_text name) ++ codes "\n")
 -- ---- the refusal of a class file
 
 -- a fault's name
-unfoldable pub class_word : ClassKind → List ℕ
+unfoldable pub class_word : ClassFault → List ℕ
 class_word kinds.Truncated = codes "truncated"
 class_word kinds.Magic = codes "magic"
 class_word kinds.Version = codes "version"
@@ -53,7 +53,7 @@ class_word kinds.MapLeftOut = codes "leftout"
 class_word kinds.Maps = codes "maps"
 
 -- the opcode that it names, if it does
-unfoldable pub class_opcode : ClassKind → Option ℕ
+unfoldable pub class_opcode : ClassFault → Option ℕ
 class_opcode (kinds.Opcode opcode) = Some opcode
 class_opcode (kinds.LeftOut opcode) = Some opcode
 class_opcode _ = None
@@ -66,17 +66,17 @@ behind_word (Some opcode) = codes " " ++ (decimal opcode ++ codes "\n")
 abbrev pub class_text : List ℕ → ℕ → List ℕ → Option ℕ → List ℕ
 class_text path at word opcode = codes "refused class " ++ (written path ++ (codes " at " ++ (decimal at ++ (codes " " ++ (word ++ behind_word opcode)))))
 
-abbrev pub class_line : List ℕ → ℕ → ClassKind → List ℕ
+abbrev pub class_line : List ℕ → ℕ → ClassFault → List ℕ
 class_line path at kind = class_text (units_of_text path) at (class_word kind) (class_opcode kind)
 
 -- ---- the refusal of a policy
 
-unfoldable pub policy_word : PolicyKind → List ℕ
+unfoldable pub policy_word : PolicyFault → List ℕ
 policy_word policies.NotUtf8 = codes "not-utf8"
 policy_word policies.Syntax = codes "syntax"
 policy_word policies.SelfExpansion = codes "self-expansion"
 
-abbrev pub policy_line : ℕ → PolicyKind → List ℕ
+abbrev pub policy_line : ℕ → PolicyFault → List ℕ
 policy_line at kind = codes "refused policy " ++ (decimal at ++ (codes " " ++ (policy_word kind ++ codes "\n")))
 
 -- a refusal's line

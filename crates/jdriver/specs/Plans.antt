@@ -7,12 +7,12 @@ use Rattle.jbase.specs.Stops.{◌>>=◌}
 use Rattle.jio.specs.Held.{File, readable}
 use Rattle.jform.specs.declared.form.ClassForm.{ClassForm}
 use Rattle.jform.specs.Forms.{form_of}
+use Rattle.jformat.specs.declared.error.At.{At}
 use Rattle.jformat.specs.declared.error.Fault.{Fault}
 use Rattle.jclass.specs.declared.class.ClassParts.{ClassParts}
-use Rattle.jclass.specs.declared.kind.ClassKind.{ClassKind}
+use Rattle.jclass.specs.declared.fault.ClassFault.{ClassFault}
 use Rattle.jclass.specs.Class.{class_file}
-use Rattle.jpolicy.specs.declared.fault.PolicyError.{PolicyError}
-use Rattle.jpolicy.specs.declared.fault.PolicyError.TheVariants as errors
+use Rattle.jpolicy.specs.declared.fault.PolicyFault.{PolicyFault}
 use Rattle.jpolicy.specs.declared.grant.Grant.{Grant}
 use Rattle.jpolicy.specs.Policies.{policy}
 use Rattle.jload.specs.declared.job.Job.{Job}
@@ -47,7 +47,7 @@ bytes_at files path = found (readable files path)
 -- ---- class files
 
 -- the class file that is read, or its refusal at the first fault
-abbrev pub class_read : List ℕ → List ℕ → Result ClassParts (Fault ClassKind) → Result ClassParts Stopped
+abbrev pub class_read : List ℕ → List ℕ → Result ClassParts (Fault ClassFault) → Result ClassParts Stopped
 class_read path bytes (Ok class) = Ok class
 class_read path bytes (Err fault) = Err (Refused (BadClass path (length bytes - fault.left) fault.kind))
 
@@ -74,11 +74,10 @@ classes_task files path job grants = each (class_at files) job.sources >>= λ cl
 
 -- ---- the policy
 
--- the grants that are read, or their refusal at the first fault; the definition of policies has no want of memory
-abbrev pub grants_read : Result (List Grant) PolicyError → Result (List Grant) Stopped
+-- the grants that are read, or their refusal at the first fault
+abbrev pub grants_read : Result (List Grant) (At PolicyFault) → Result (List Grant) Stopped
 grants_read (Ok grants) = Ok grants
-grants_read (Err (errors.At at kind)) = Err (Refused (BadPolicy at kind))
-grants_read (Err errors.Memory) = Err Missing
+grants_read (Err fault) = Err (Refused (BadPolicy fault.at fault.kind))
 
 abbrev pub built_grants : List ℕ → List Grant → Result (List Grant) Stopped
 built_grants path grants = if built grants then Ok grants else Err (Refused (Unbuilt path))

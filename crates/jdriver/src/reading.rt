@@ -13,12 +13,13 @@ ghost use Rattle.jdriver.specs.Plans.{classes_task, grants_at, grants_in, grants
 
 use crate::joining::program_task;
 use crate::task::{Halt, Refusal, Task};
-use jbase::Seq;
-use jclass::{ClassError, ClassFile, ClassKind, read_class};
+use jbase::{Seq, Stop};
+use jclass::{ClassFault, ClassFile, read_class};
 use jform::{ClassForm, form_of};
+use jformat::At;
 use jio::{Shelf, ShelfError};
 use jload::{Job, Source, Text, is_built, read_job};
-use jpolicy::{Grant, PolicyError, read_policy};
+use jpolicy::{Grant, read_policy};
 use std::alloc::Global;
 
 fn read_at<S: Shelf>(alloc: Global, path: &str, shelf: &mut S) -> Result<Vec<u8>, Halt>
@@ -48,7 +49,7 @@ pub fn unbuilt<T>(alloc: Global, path: &str) -> Result<T, Halt>
 // ---- class files
 
 /// The refusal of a class file by its first fault.
-fn bad_class<T>(alloc: Global, path: &str, at: u32, kind: ClassKind) -> Result<T, Halt>
+fn bad_class<T>(alloc: Global, path: &str, at: u32, kind: ClassFault) -> Result<T, Halt>
     ensures value { Follows (λ x. x) result (Err (Refused (Refusal.BadClass path.now at kind))) }
     ensures unread { result ≡ Err Read → ⊥ }
 {
@@ -63,8 +64,8 @@ fn class_read(alloc: Global, path: &str, bytes: &[u8]) -> Result<ClassFile, Halt
 {
     match read_class(alloc, bytes) {
         Ok(class) => Ok(class),
-        Err(ClassError::Memory) => Err(Halt::Memory),
-        Err(ClassError::At { at, kind }) => bad_class(alloc, path, at, kind),
+        Err(Stop::Memory) => Err(Halt::Memory),
+        Err(Stop::Fault(At { at, kind })) => bad_class(alloc, path, at, kind),
     }
 }
 
@@ -145,8 +146,8 @@ fn grants_read(alloc: Global, bytes: &[u8]) -> Result<Seq<Grant>, Halt>
 {
     match read_policy(alloc, bytes, &[]) {
         Ok(grants) => Ok(grants),
-        Err(PolicyError::Memory) => Err(Halt::Memory),
-        Err(PolicyError::At { at, kind }) => Err(Halt::Refused(Refusal::BadPolicy { at, kind })),
+        Err(Stop::Memory) => Err(Halt::Memory),
+        Err(Stop::Fault(At { at, kind })) => Err(Halt::Refused(Refusal::BadPolicy { at, kind })),
     }
 }
 

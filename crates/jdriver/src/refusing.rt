@@ -7,10 +7,10 @@ ghost use Rattle.jdriver.specs.Answers.{Answers, class_line, class_opcode, class
 
 use crate::status::Status;
 use crate::task::Refusal;
-use jclass::ClassKind;
+use jclass::ClassFault;
 use jio::{Part, Sink, write_line};
 use jload::Text;
-use jpolicy::PolicyKind;
+use jpolicy::PolicyFault;
 use jtext::Units;
 use std::alloc::Global;
 
@@ -54,18 +54,18 @@ fn show_name<K: Sink>(alloc: Global, words: &str, name: &Text, out: &mut K) -> S
 // ---- policies
 
 #[tactic(auto, unfolding(crate::specs::Answers::policy_word))]
-fn policy_word(kind: PolicyKind) -> &'static str
+fn policy_word(kind: PolicyFault) -> &'static str
     ensures word { result.now ≡ policy_word kind }
     ensures few { length result.now < 32 }
 {
     match kind {
-        PolicyKind::NotUtf8 => "not-utf8",
-        PolicyKind::Syntax => "syntax",
-        PolicyKind::SelfExpansion => "self-expansion",
+        PolicyFault::NotUtf8 => "not-utf8",
+        PolicyFault::Syntax => "syntax",
+        PolicyFault::SelfExpansion => "self-expansion",
     }
 }
 
-fn show_policy<K: Sink>(at: u32, kind: PolicyKind, out: &mut K) -> Status
+fn show_policy<K: Sink>(at: u32, kind: PolicyFault, out: &mut K) -> Status
     ensures answer { Answers (refused_answer (policy_line at kind)) result (K.out out.old) (K.out out.new) }
     ensures later { K.faults out.old ≤ K.faults out.new }
     ensures cause { result ≡ WriteFault → Rose (K.faults out.old) (K.faults out.new) }
@@ -84,37 +84,37 @@ fn show_policy<K: Sink>(at: u32, kind: PolicyKind, out: &mut K) -> Status
 // ---- class files
 
 #[tactic(auto, unfolding(crate::specs::Answers::class_word))]
-fn class_word(kind: ClassKind) -> &'static str
+fn class_word(kind: ClassFault) -> &'static str
     ensures word { result.now ≡ class_word kind }
     ensures few { length result.now < 32 }
 {
     match kind {
-        ClassKind::Truncated => "truncated",
-        ClassKind::Magic => "magic",
-        ClassKind::Version => "version",
-        ClassKind::Tag => "tag",
-        ClassKind::Trailing => "trailing",
-        ClassKind::Text => "text",
-        ClassKind::Index => "index",
-        ClassKind::Name => "name",
-        ClassKind::Descriptor => "descriptor",
-        ClassKind::Code => "code",
-        ClassKind::Opcode(_) => "opcode",
-        ClassKind::LeftOut(_) | ClassKind::MapLeftOut => "leftout",
-        ClassKind::Operand => "operand",
-        ClassKind::Target => "target",
-        ClassKind::Reserved => "reserved",
-        ClassKind::MapTag => "maptag",
-        ClassKind::Maps => "maps",
+        ClassFault::Truncated => "truncated",
+        ClassFault::Magic => "magic",
+        ClassFault::Version => "version",
+        ClassFault::Tag => "tag",
+        ClassFault::Trailing => "trailing",
+        ClassFault::Text => "text",
+        ClassFault::Index => "index",
+        ClassFault::Name => "name",
+        ClassFault::Descriptor => "descriptor",
+        ClassFault::Code => "code",
+        ClassFault::Opcode(_) => "opcode",
+        ClassFault::LeftOut(_) | ClassFault::MapLeftOut => "leftout",
+        ClassFault::Operand => "operand",
+        ClassFault::Target => "target",
+        ClassFault::Reserved => "reserved",
+        ClassFault::MapTag => "maptag",
+        ClassFault::Maps => "maps",
     }
 }
 
 #[tactic(auto, unfolding(crate::specs::Answers::class_opcode))]
-fn class_opcode(kind: ClassKind) -> Option<u8>
+fn class_opcode(kind: ClassFault) -> Option<u8>
     ensures { result ≡ class_opcode kind }
 {
     match kind {
-        ClassKind::Opcode(opcode) | ClassKind::LeftOut(opcode) => Some(opcode),
+        ClassFault::Opcode(opcode) | ClassFault::LeftOut(opcode) => Some(opcode),
         _ => None,
     }
 }
@@ -163,7 +163,7 @@ fn put_class<'a, K: Sink>(
     }
 }
 
-fn show_class<K: Sink>(alloc: Global, path: &Text, at: u32, kind: ClassKind, out: &mut K) -> Status
+fn show_class<K: Sink>(alloc: Global, path: &Text, at: u32, kind: ClassFault, out: &mut K) -> Status
     ensures answer { Answers (refused_answer (class_line path.now at kind)) result (K.out out.old) (K.out out.new) }
     ensures later { K.faults out.old ≤ K.faults out.new }
     ensures cause { result ≡ WriteFault → Rose (K.faults out.old) (K.faults out.new) }

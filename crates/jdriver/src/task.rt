@@ -1,10 +1,10 @@
 ghost use Rattle.std.specs.Prelude.{◌≡◌};
 ghost use Rattle.jdriver.specs.declared.task.Halt.TheVariants.{Memory};
 
-use jclass::ClassKind;
+use jclass::ClassFault;
 use jengine::{Domains, Program};
 use jload::Text;
-use jpolicy::PolicyKind;
+use jpolicy::PolicyFault;
 use std::alloc::AllocError;
 
 /// What is to be run.
@@ -20,13 +20,13 @@ pub enum Refusal {
     /// The policy's text has a fault at this byte.
     BadPolicy {
         at: u32,
-        kind: PolicyKind,
+        kind: PolicyFault,
     },
     /// The class file at a path has a fault at this byte.
     BadClass {
         path: Text,
         at: u32,
-        kind: ClassKind,
+        kind: ClassFault,
     },
     /// What this file says isn't built; or this job's classes don't join.
     Unbuilt(Text),
