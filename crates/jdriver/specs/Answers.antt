@@ -134,10 +134,10 @@ UsageExactly None _ = ⊥
 UsageExactly (Some path) statuses.Usage = ⊥
 UsageExactly (Some path) _ = Unit {0}
 
--- The count of faults has not risen.
-abbrev pub Calm : ℕ → ℕ → Type 0
-Calm before now = Rose before now → ⊥
+-- Neither count of faults has risen, that of reads and that of puts.
+abbrev pub Calm : ℕ → ℕ → ℕ → ℕ → Type 0
+Calm read_before read_now put_before put_now = (Rose read_before read_now → ⊥) × (Rose put_before put_now → ⊥)
 
 -- The status is the answer's own over the files that are held, or memory ran out.
-abbrev pub Complete : (List File → Answer) → Option (List File) → Status → Type 0
-Complete told held s = (files : List File) (own : Status) → held ≡ Some files → (told files).status ≡ Some own → (s ≡ own) ⊎ (s ≡ statuses.OutOfMemory)
+abbrev pub Complete : List (List ℕ) → Option (List File) → Status → Type 0
+Complete words held s = (files : List File) (own : Status) → held ≡ Some files → (answer words files).status ≡ Some own → (s ≡ own) ⊎ (s ≡ statuses.OutOfMemory)

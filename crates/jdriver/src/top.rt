@@ -36,7 +36,7 @@ pub fn javasec<S: Shelf, K: Sink>(
     // A fault of writing is told only where one was counted in this call.
     ensures write { result ≡ WriteFault → Rose (K.faults out.old) (K.faults out.new) }
     // Where no fault is counted and each file that is to be read is there, the status is the answer's, or memory ran out.
-    ensures complete { Calm (S.read_faults shelf.old) (S.read_faults shelf.new) → Calm (K.faults out.old) (K.faults out.new) → Complete (answer (words_of words.now)) (S.held shelf.old) result }
+    ensures complete { Calm (S.read_faults shelf.old) (S.read_faults shelf.new) (K.faults out.old) (K.faults out.new) → Complete (words_of words.now) (S.held shelf.old) result }
     ensures reads_later { S.read_faults shelf.old ≤ S.read_faults shelf.new }
     ensures puts_later { K.faults out.old ≤ K.faults out.new }
 {

@@ -17,7 +17,7 @@ use crate::stepping::step;
 use jbase::Seq;
 use jio::Sink;
 use jtrace::{End, Event, RunFault, write_end, write_event};
-use std::alloc::{AllocError, Global};
+use std::alloc::Global;
 
 /// The cells of `System.out`, and of the empty array that `main` gets.
 const OPENING_CHARGE: u32 = 3;

@@ -116,7 +116,6 @@ or_none true = refl
 or_none false = refl
 
 pub test_there : (K : Type 0) → TestByKinds K
-unfolding test
 test_there K compares.Eq a b = same_there a b
 test_there K compares.Ne a b = turned_there (same a b) ∙ same_there a b
 test_there K compares.Lt a b = ints_there int_lt a b ∙ or_none (is_of kinds.Int a && is_of kinds.Int b)

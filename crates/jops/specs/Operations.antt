@@ -139,7 +139,7 @@ same (Int x) (Int y) = Some (int_eq x y)
 same (Ref x) (Ref y) = Some (x == y)
 same _ _ = None
 
-unfoldable pub test : {K : Type 0} → Compare → Value K → Value K → Option Bool
+abbrev pub test : {K : Type 0} → Compare → Value K → Value K → Option Bool
 test compares.Eq = same
 test compares.Ne = λ a b. option_map not (same a b)
 test compares.Lt = on_ints int_lt

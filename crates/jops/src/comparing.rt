@@ -22,7 +22,6 @@ fn same(a: Value, b: Value) -> bool
 /// A branch that tests against zero or null is given `Int(0)` or `Ref(0)` as `b`. Both are ints, or both references where that is
 /// allowed.
 #[inline]
-#[tactic(auto, unfolding(crate::specs::Operations::test))]
 pub fn test(c: Compare, a: Value, b: Value) -> bool
     requires { IsSome (Operations.test c a b) }
     ensures { Some result ≡ Operations.test c a b }

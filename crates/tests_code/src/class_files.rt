@@ -1,9 +1,9 @@
 use hex::decode;
+use jbase::Stop;
 use jclass::ClassFault::{
     Code, Descriptor, Index, LeftOut, Magic, MapLeftOut, MapTag, Maps, Name, Opcode, Operand,
     Reserved, Tag, Target, Text, Trailing, Truncated, Version,
 };
-use jbase::Stop;
 use jclass::{ClassError, ClassFault, read_class, write_class};
 use jformat::At;
 use std::alloc::{AllocError, Global};

@@ -19,7 +19,11 @@ fn first_faults(rt: HostRuntime) {
         (b"\x00\x01\x7f", 3, MapFault::Truncated),
         (b"\x00\x01\x40\x07\x00", 4, MapFault::Truncated),
         (b"\x00\x02\x40\x02\xc8", 3, MapFault::LeftOut),
-        (b"\x00\x01\xff\x00\x00\x00\x02\x01\x03", 8, MapFault::LeftOut),
+        (
+            b"\x00\x01\xff\x00\x00\x00\x02\x01\x03",
+            8,
+            MapFault::LeftOut,
+        ),
         (
             b"\x00\x01\xfe\x00\x00\x00\x08\x00\x00\x09",
             9,

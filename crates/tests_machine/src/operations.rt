@@ -126,7 +126,6 @@ fn divides(rt: HostRuntime) {
 }
 
 #[test]
-#[tactic(auto, unfolding(jops::specs::Operations::test))]
 fn compares(rt: HostRuntime) {
     use Compare::{Eq, Ge, Gt, Le, Lt, Ne};
     let rows = [

@@ -104,29 +104,44 @@ fn privileges(rt: HostRuntime) -> Result<(), Fail> {
 }
 
 #[test]
-fn verdicts(rt: HostRuntime) -> Result<(), Fail> {
+fn verdicts_behind_calls(rt: HostRuntime) -> Result<(), Fail> {
     let alloc = rt.alloc();
     let domains = domains(alloc)?;
     let x = reads(alloc, "x")?;
-    let y = reads(alloc, "y")?;
-    let limit = [reads(alloc, "x")?];
-    let calls: [(&[u32], Verdict); 5] = [
+    let rows: [(&[u32], Verdict); 5] = [
         (&[], Verdict::Granted),
         (&[1], Verdict::Granted),
         (&[0, 1], Verdict::Denied(0)),
         (&[1, 0], Verdict::Denied(0)),
         (&[1, 7], Verdict::Denied(7)),
     ];
-    for (entered, want) in calls {
+    for (entered, want) in rows {
         let context = called(alloc, entered)?;
         assert!(rt; context.verdict(&domains, &x) == want, "{entered:?}");
     }
+    Ok(())
+}
+
+/// What a privilege of domain 1 decides that stands under a limit and before a call of domain 0.
+fn under(alloc: Global, limit: &str, asked: &str) -> Result<Verdict, AllocError> {
+    let domains = domains(alloc)?;
+    let asked = reads(alloc, asked)?;
+    let limits = [reads(alloc, limit)?];
     let behind = called(alloc, &[0])?;
-    let limited = privileged(alloc, 1, None, Some(&limit), &behind)?;
-    assert!(rt; limited.verdict(&domains, &x) == Verdict::Granted);
-    assert!(rt; limited.verdict(&domains, &y) == Verdict::Denied(1));
-    let other = [reads(alloc, "z")?];
-    let missed = privileged(alloc, 1, None, Some(&other), &behind)?;
-    assert!(rt; missed.verdict(&domains, &x) == Verdict::Denied(0));
+    let context = privileged(alloc, 1, None, Some(&limits), &behind)?;
+    Ok(context.verdict(&domains, &asked))
+}
+
+#[test]
+fn verdicts_under_limits(rt: HostRuntime) -> Result<(), Fail> {
+    let rows: [(&str, &str, Verdict); 3] = [
+        ("x", "x", Verdict::Granted),
+        ("x", "y", Verdict::Denied(1)),
+        ("z", "x", Verdict::Denied(0)),
+    ];
+    for (limit, asked, want) in rows {
+        let got = under(rt.alloc(), limit, asked)?;
+        assert!(rt; got == want, "{limit} {asked}");
+    }
     Ok(())
 }
