@@ -1,5 +1,5 @@
 -- A class file is a body: what is read is spelled so, and what is spelled so is read.
-use Rattle.std.proofs.Common.{◌≡◌, ℕ, ◌-◌, ◌≤◌, Bool, true, false, ◌⊎◌, List, [], ◌∷◌, ◌++◌, length, Option, Some, None, Result, Ok, Err, refl, sym, ap, subst, ◌∙◌, arith, inl, inr}
+use Rattle.std.proofs.Common.{◌≡◌, ℕ, ◌-◌, ◌≤◌, Bool, true, false, ◌⊎◌, List, [], ◌∷◌, ◌++◌, length, Option, Some, None, Ok, Err, refl, sym, ap, subst, ◌∙◌, arith, inl, inr}
 use Rattle.std.specs.Prelude.{IsTrue, is_some, option_map, slice_get}
 use Rattle.std.proofs.lemmas.List.{append-nil}
 use Rattle.jbase.specs.First.{or_else}
@@ -36,7 +36,8 @@ use Rattle.jclass.specs.Attributes.{text_index, content, class_attribute, field_
 use Rattle.jclass.specs.Codes.{code_body}
 use Rattle.jclass.specs.Members.{member_from, member_parts, field, code_from, code_parts, method_attribute, method_parts, names_at, names_of, codes_fault, method}
 use Rattle.jclass.specs.Class.{TailParts, tail, class_from, class_parts, strict, class_file, Spells}
-use Rattle.jclass.specs.AttributeLaws.{u2_law, u4_law, run_law, access_law, index_law, content_law, class_attribute_law, field_attribute_law}
+use Rattle.jclass.specs.AttributeLaws.{u2_law, u4_law, run_law, index_law, content_law}
+use Rattle.jclass.proofs.AttributeLaws.{access_law, class_attribute_law, field_attribute_law}
 use Rattle.jclass.specs.CodeLaws.{told_ok, told_err, code_body_law}
 use Rattle.jclass.proofs.Shaped.{field_skim, method_skim, attributes_skim, names_over, names_reading}
 

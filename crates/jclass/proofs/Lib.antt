@@ -1,4 +1,6 @@
+pub mod AttributeLaws
 pub mod ClassLaws
+pub mod CodeLaws
 pub mod Passing
 pub mod Shaped
 pub mod Stored

@@ -3,7 +3,7 @@ use Rattle.std.proofs.Common.{◌≡◌, ℕ, suc, Bool, false, ◌&&◌, ◌⊎
 use Rattle.std.specs.Prelude.{IsTrue, not}
 use Rattle.std.specs.List.{flat_map, list_all}
 use Rattle.std.proofs.lemmas.List.Concat.{flat_map-cons}
-use Rattle.jformat.specs.Format.{Format, ◌·◌, ◌▹◌, as_case, such, is_good, unless}
+use Rattle.jformat.specs.Format.{Format, ◌·◌, ◌▹◌, such, is_good, unless}
 use Rattle.jformat.specs.Bodies.{Body, block, counted, counted_at, times_at}
 use Rattle.jformat.specs.States.{counted_from, spell_from, fits_from}
 use Rattle.jformat.proofs.Steps.{both, first_true, second_true}
@@ -25,7 +25,8 @@ use Rattle.jclass.specs.Rules.{is_code, field_descriptor, method_descriptor}
 use Rattle.jclass.specs.Attributes.{text_index, name_fault, name_once, content, raw_from, raw_parts, class_attribute, constant, constant_from, constant_parts, is_constant, field_attribute, saw_constant}
 use Rattle.jclass.specs.Codes.{code_body}
 use Rattle.jclass.specs.Members.{member_from, member_parts, field, code_from, code_parts, method_attribute, method_parts, name_at, names_at, attribute_name, names_of, codes_fault, method}
-use Rattle.jclass.specs.AttributeLaws.{u2_law, u4_law, run_law, access_law}
+use Rattle.jclass.specs.AttributeLaws.{u2_law, u4_law, run_law}
+use Rattle.jclass.proofs.AttributeLaws.{access_law}
 
 -- ---- values by a state
 

@@ -1,5 +1,5 @@
 -- What fits as a class file: its codes, their handlers and frames, and the texts of its pool.
-use Rattle.std.proofs.Common.{◌≡◌, ℕ, zero, suc, ◌<◌, ◌≤◌, Bool, true, false, ◌&&◌, List, [], ◌∷◌, length, Option, Some, None, refl, subst, arith, inl, inr}
+use Rattle.std.proofs.Common.{◌≡◌, ℕ, zero, suc, ◌≤◌, Bool, true, false, ◌&&◌, List, [], ◌∷◌, length, Option, Some, None, refl, subst, inl, inr}
 use Rattle.std.specs.Prelude.{IsTrue, ◌||◌, ◌==◌, nat_lt, option_map, slice_get, if◌then◌else◌}
 use Rattle.std.specs.List.{list_all}
 use Rattle.std.proofs.lemmas.Bool.{ltb-true, ltb-false, cases_Bool}
@@ -27,17 +27,17 @@ use Rattle.jclass.specs.declared.class.MemberInfo.{MemberInfo}
 use Rattle.jclass.specs.declared.fault.ClassFault.{ClassFault}
 use Rattle.jclass.specs.declared.fault.ClassFault.TheVariants as kinds
 use Rattle.jclass.specs.Basics.{u2, u4, access, index, pool_fault}
-use Rattle.jclass.specs.Rules.{names_class, names_super, names_caught, is_code, is_maps, method_descriptor}
+use Rattle.jclass.specs.Rules.{names_caught, is_code, is_maps, method_descriptor}
 use Rattle.jclass.specs.Shapes
 use Rattle.jclass.specs.Judging
 use Rattle.jclass.specs.Judging.{is_modified, text_fault, entry_fault, no_fault}
-use Rattle.jclass.specs.Attributes.{text_index, name_once, content, class_attribute}
+use Rattle.jclass.specs.Attributes.{text_index, name_once, content}
 use Rattle.jclass.specs.Codes.{begins, ends, code_length, length_fault, ops, handler, handler_parts, target_fault, behind_ops, code_content, code_body, maps, attribute, saw_maps}
-use Rattle.jclass.specs.Members.{body_of, codes_fault, field, method, method_parts, method_attribute, names_of}
-use Rattle.jclass.specs.Class.{TailParts, tail, class_parts, strict, class_file}
+use Rattle.jclass.specs.Members.{body_of, codes_fault, method, method_parts, method_attribute, names_of}
+use Rattle.jclass.specs.Class.{tail, class_parts, strict, class_file}
 use Rattle.jclass.specs.Stored.{IsIn, HasCode, Leads}
 use Rattle.jclass.specs.Operands.{names_well}
-use Rattle.jclass.specs.CodeLaws.{maps_fitting}
+use Rattle.jclass.proofs.CodeLaws.{maps_fitting}
 use Rattle.jclass.proofs.ClassLaws.{tail_methods}
 
 -- ---- tests

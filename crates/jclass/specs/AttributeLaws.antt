@@ -1,23 +1,19 @@
--- The laws of numbers, indices and attributes as formats.
-use Rattle.std.proofs.Common.{◌≡◌, ℕ, Bool, true, false, ◌⊎◌, List, ◌++◌, Some, Ok, refl, ap, subst, inl, inr}
+-- The laws of numbers, indices and constant values as formats, which the readers of blocks cite.
+use Rattle.std.proofs.Common.{◌≡◌, ℕ, Bool, true, false, ◌⊎◌, List, ◌++◌, Ok, refl, subst, inl, inr}
 use Rattle.std.specs.Prelude.{IsTrue}
 use Rattle.std.specs.Int.{w16, w32}
 use Rattle.jformat.specs.declared.error.Fault.{Fault}
-use Rattle.jformat.specs.Format.{Format, ◌·◌, ◌▹◌, as_case, unless}
+use Rattle.jformat.specs.Format.{Format, unless}
 use Rattle.jformat.specs.Bodies.{Body, block}
-use Rattle.jformat.proofs.Laws.{Takes, IsFormat, wide16, wide32, number_law, pair_law, then_law, via_law, as_case_law, such_law, ok_reading}
+use Rattle.jformat.proofs.Laws.{Takes, IsFormat, wide16, wide32, number_law, such_law, ok_reading}
 use Rattle.jformat.proofs.Steps.{bind_ok, ok_is}
 use Rattle.jformat.proofs.Blocks.{IsBody, sized_law, block_law, whole_law}
 use Rattle.jpool.specs.declared.entry.Entry.{Entry}
-use Rattle.jpool.specs.Pools.{is_utf8}
-use Rattle.jclass.specs.declared.access.Access.{Access}
-use Rattle.jclass.specs.declared.class.Attribute.{Attribute}
-use Rattle.jclass.specs.declared.class.Attribute.TheVariants.{ConstantValue, Code, Raw}
 use Rattle.jclass.specs.declared.fault.ClassFault.{ClassFault}
 use Rattle.jclass.specs.declared.fault.ClassFault.TheVariants.{Truncated, Trailing, Index}
-use Rattle.jclass.specs.Basics.{u2, u4, run, flags_from, flags_parts, access, index, spell_either, fits_by, by_test}
+use Rattle.jclass.specs.Basics.{u2, u4, run, index, spell_either, fits_by, by_test}
 use Rattle.jclass.specs.Rules.{suits_field}
-use Rattle.jclass.specs.Attributes.{text_index, name_once, content, raw_from, raw_parts, class_attribute, constant, constant_from, constant_parts, is_constant, field_attribute}
+use Rattle.jclass.specs.Attributes.{name_once, content, constant}
 
 -- ---- numbers and indices
 
@@ -29,9 +25,6 @@ u4_law = number_law w32 Truncated wide32
 
 pub run_law : IsFormat run
 run_law = sized_law u4 Truncated u4_law
-
-pub access_law : IsFormat access
-access_law = via_law flags_from flags_parts u2 (λ n fit. refl) (λ a fit. refl) u2_law
 
 pub index_law : (test : ℕ → Bool) → IsFormat (index test)
 index_law test = such_law (λ i. unless (test i) Index) u2 u2_law
@@ -78,34 +71,7 @@ content_law here body B = by_test_law here (block u4 Truncated body) run (block_
 pub name_once_law : (pool : List Entry) (here : ℕ → Bool) (again : ClassFault) (seen : Bool) → IsFormat (name_once pool here again seen)
 name_once_law pool here again seen = such_law _ u2 u2_law
 
--- ---- of a class
-
-raw_only : (b : Attribute) (a : ℕ × List ℕ) → raw_parts b ≡ Some a → b ≡ raw_from a
-raw_only (Raw name bytes) a e = let made : ℕ × List ℕ = (name, bytes) in let same : made ≡ a = cc in ap raw_from same
-raw_only (ConstantValue name value) a e = absurd cc
-raw_only (Code name stack locals ops handlers attributes) a e = absurd cc
-
-pub class_attribute_law : (pool : List Entry) → IsFormat (class_attribute pool)
-unfolding class_attribute
-class_attribute_law pool = as_case_law raw_from raw_parts (text_index pool · run) (λ a. refl) raw_only (pair_law (text_index pool) run (index_law (is_utf8 pool)) run_law)
-
 -- ---- of a field
 
 pub constant_law : (pool : List Entry) (desc : ℕ) → IsBody (constant pool desc)
 constant_law pool desc = whole_law Trailing (index (suits_field pool desc)) (index_law (suits_field pool desc))
-
-constant_made : (a : ℕ × (ℕ ⊎ List ℕ)) → constant_parts (constant_from a) ≡ Some a
-constant_made (name, inl value) = refl
-constant_made (name, inr bytes) = refl
-
-constant_only : (b : Attribute) (a : ℕ × (ℕ ⊎ List ℕ)) → constant_parts b ≡ Some a → b ≡ constant_from a
-constant_only (ConstantValue name value) a e = let made : ℕ × (ℕ ⊎ List ℕ) = (name, inl value) in let same : made ≡ a = cc in ap constant_from same
-constant_only (Raw name bytes) a e = let made : ℕ × (ℕ ⊎ List ℕ) = (name, inr bytes) in let same : made ≡ a = cc in ap constant_from same
-constant_only (Code name stack locals ops handlers attributes) a e = absurd cc
-
-pub field_attribute_law : (pool : List Entry) (flags : Access) (desc : ℕ) (seen : Bool) → IsFormat (field_attribute pool flags desc seen)
-unfolding field_attribute
-field_attribute_law pool flags desc seen =
-    as_case_law constant_from constant_parts (name_once pool (is_constant pool flags) Index seen ▹ λ i. content (is_constant pool flags i) (constant pool desc)) constant_made constant_only
-    (then_law (name_once pool (is_constant pool flags) Index seen) (λ i. content (is_constant pool flags i) (constant pool desc))
-    (name_once_law pool (is_constant pool flags) Index seen) (λ i. content_law (is_constant pool flags i) (constant pool desc) (constant_law pool desc)))

@@ -1,5 +1,5 @@
 -- Numbers of a class file, indices with a test, and the pool's faults under the class file's names.
-use Rattle.std.specs.Prelude.{ℕ, Bool, ◌&&◌, not, ◌⊎◌, List, Option, Some, None, Result, Ok, Err, if◌then◌else◌}
+use Rattle.std.specs.Prelude.{ℕ, Bool, ◌&&◌, not, ◌⊎◌, List, Result, Ok, Err, if◌then◌else◌}
 use Rattle.std.proofs.Common.{inl, inr}
 use Rattle.std.specs.Int.{w16, w32}
 use Rattle.jbase.specs.Stops.{◌>>=◌}

@@ -1,5 +1,5 @@
 -- A class file (JVMS 4.1): its spelling, and its first fault.
-use Rattle.std.specs.Prelude.{◌≡◌, ◌≤◌, ℕ, ◌-◌, List, length, Result, Ok, Err, ◌==◌, IsTrue, if◌then◌else◌}
+use Rattle.std.specs.Prelude.{◌≡◌, ℕ, List, length, Result, Ok, ◌==◌, IsTrue, if◌then◌else◌}
 use Rattle.jformat.specs.declared.error.Fault.{Fault}
 use Rattle.jbase.specs.Stops.{◌>>=◌}
 use Rattle.jformat.specs.Format.{Answer, Format, fault, ◌·◌, ◌▹◌, via}

@@ -1,30 +1,25 @@
--- The laws of frames, handlers and code as formats.
-use Rattle.std.proofs.Common.{◌≡◌, ℕ, ◌≤◌, Bool, false, ◌&&◌, ◌⊎◌, List, [], ◌∷◌, ◌++◌, length, Option, Some, None, Result, Ok, Err, refl, sym, ap, subst, ◌∙◌, arith, inl, inr}
+-- The laws of frames, handlers and code as formats, which the readers of blocks cite.
+use Rattle.std.proofs.Common.{◌≡◌, ℕ, ◌≤◌, Bool, false, ◌&&◌, ◌⊎◌, List, [], ◌∷◌, length, Option, Some, None, Result, Ok, Err, refl, sym, ap, subst, ◌∙◌, arith, inl, inr}
 use Rattle.std.specs.Prelude.{IsTrue, ◌-◌}
 use Rattle.std.specs.List.{list_all}
 use Rattle.std.proofs.lemmas.Bool.{cases_Bool}
-use Rattle.std.proofs.lemmas.List.{take_at}
 use Rattle.jformat.specs.declared.error.Fault.{Fault}
-use Rattle.jbase.specs.Stops.{◌>>=◌}
 use Rattle.jbase.specs.First.{or_else, first_some}
-use Rattle.jformat.specs.Format.{IsBytes, run_at, ◌·◌, ◌▹◌, via, is_good, unless}
-use Rattle.jformat.specs.Bodies.{Body, block, outward, inner_at, counted}
+use Rattle.jformat.specs.Format.{◌·◌, ◌▹◌, via, is_good, unless}
+use Rattle.jformat.specs.Bodies.{block, counted}
 use Rattle.jformat.specs.States.{counted_from}
-use Rattle.jformat.proofs.Steps.{IsBytes-take, bind_ok, bind_err, ok_is, both, first_true, second_true}
+use Rattle.jformat.proofs.Steps.{bind_ok, bind_err, both, first_true, second_true}
 use Rattle.jformat.proofs.Laws.{IsFormat, pair_law, then_law, via_law, such_law}
-use Rattle.jformat.proofs.Blocks.{IsBody, run_is, block_law, whole_law, counted_law}
+use Rattle.jformat.proofs.Blocks.{IsBody, block_law, whole_law, counted_law}
 use Rattle.jformat.proofs.Skims.{passes_law, ahead_law}
 use Rattle.jformat.proofs.Stateful.{counted_from_law}
-use Rattle.jmaps.specs.declared.types.MapType.{MapType}
 use Rattle.jmaps.specs.declared.types.RawFrame.{RawFrame}
-use Rattle.jmaps.specs.Frames
-use Rattle.jmaps.specs.Frames.{frames, map_kinds, map_type, own_type}
+use Rattle.jmaps.specs.Frames.{frames}
 use Rattle.jmaps.proofs.MapLaws.{type_law, frames_law, frames_spelling, frames_fitting}
 use Rattle.jpool.specs.declared.entry.Entry.{Entry}
 use Rattle.jcode.specs.declared.op.Placed.{Placed}
 use Rattle.jcode.specs.Instructions
 use Rattle.jcode.proofs.CodeLaws as coded
-use Rattle.jcode.proofs.Places as standing
 use Rattle.jclass.specs.Operands.{names_well, misnamed}
 use Rattle.jclass.specs.declared.class.CodeAttribute.{CodeAttribute}
 use Rattle.jclass.specs.declared.class.CodeAttribute.TheVariants as code
@@ -34,15 +29,16 @@ use Rattle.jclass.specs.declared.fault.ClassFault.TheVariants.{Truncated, Traili
 use Rattle.jclass.specs.Basics.{u2, u4, index, told}
 use Rattle.jclass.specs.Rules.{names_caught, is_maps}
 use Rattle.jclass.specs.Attributes.{name_once, content}
-use Rattle.jclass.specs.Codes.{frame_kinds, plain_type, type_fault, named_type, maps, attribute_from, attribute_parts, attribute, saw_maps, code_fault, none_misnamed, ops, HandlerParts, handler_from, handler_parts, target_fault, handler, length_fault, code_length, behind_ops, body_from, body_parts, code_content, code_body}
+use Rattle.jclass.specs.Codes.{frame_kinds, plain_type, type_fault, named_type, maps, attribute_from, attribute_parts, attribute, saw_maps, code_fault, none_misnamed, ops}
+use Rattle.jclass.specs.Codes.{HandlerParts, handler_from, handler_parts, target_fault, handler, length_fault, code_length, behind_ops, body_from, body_parts, code_content, code_body}
 use Rattle.jclass.specs.AttributeLaws.{u2_law, u4_law, index_law, content_law, name_once_law}
 
 -- ---- frames
 
-plain_law : IsBody (frames frame_kinds plain_type)
+pub plain_law : IsBody (frames frame_kinds plain_type)
 plain_law = frames_law frame_kinds plain_type (type_law frame_kinds)
 
-named_law : (pool : List Entry) → IsBody (frames frame_kinds (named_type pool))
+pub named_law : (pool : List Entry) → IsBody (frames frame_kinds (named_type pool))
 named_law pool = frames_law frame_kinds (named_type pool) (such_law (type_fault pool) plain_type (type_law frame_kinds))
 
 pub named_spelling : (pool : List Entry) (fs : List RawFrame) → (frames frame_kinds (named_type pool)).spell fs ≡ (frames frame_kinds plain_type).spell fs
@@ -56,32 +52,6 @@ unfolding maps
 maps_law pool = passes_law (frames frame_kinds plain_type).read (λ fs. fs) (λ _. frames frame_kinds (named_type pool)) (λ _. named_law pool)
     (λ _ fs fit. ap (frames frame_kinds plain_type).read (named_spelling pool fs) ∙ plain_law.again fs (named_fitting pool fs fit)) plain_law.within
 
--- the frames are read once where all classes are there
-pub maps_good : (pool : List Entry) (bytes : List ℕ) (fs : List RawFrame) → IsBytes bytes → (frames frame_kinds (named_type pool)).read bytes ≡ Ok fs → (maps pool).read bytes ≡ Ok fs
-unfolding maps
-maps_good pool bytes fs fits e =
-    let s = (named_law pool).takes bytes fs fits e in
-    let back : (frames frame_kinds plain_type).read ((frames frame_kinds plain_type).spell fs) ≡ Ok fs = plain_law.again fs (named_fitting pool fs s.0) in
-    let plain : (frames frame_kinds plain_type).read bytes ≡ Ok fs = ap (frames frame_kinds plain_type).read (s.1 ∙ named_spelling pool fs) ∙ back in
-    rw plain e
-
--- as jmaps writes them
-named_as_own : (pool : List Entry) → (named_type pool).spell ≡ own_type.spell
-unfolding map_type
-named_as_own pool = refl
-
-named_fits_own : (pool : List Entry) (t : MapType) → IsTrue ((named_type pool).fits t) → IsTrue (own_type.fits t)
-unfolding map_type
-named_fits_own pool t f = first_true (plain_type.fits t) (is_good (type_fault pool t)) f
-
-pub maps_spelling : (pool : List Entry) (fs : List RawFrame) → (maps pool).spell fs ≡ Frames.maps.spell fs
-unfolding maps Frames.maps
-maps_spelling pool fs = frames_spelling frame_kinds map_kinds (named_type pool) own_type (named_as_own pool) fs
-
-pub maps_fitting : (pool : List Entry) (fs : List RawFrame) → IsTrue ((maps pool).fits fs) → IsTrue (Frames.maps.fits fs)
-unfolding maps Frames.maps
-maps_fitting pool fs fit = frames_fitting frame_kinds map_kinds (named_type pool) own_type (named_fits_own pool) fs fit
-
 attribute_back : (a : ℕ × (List RawFrame ⊎ List ℕ)) → attribute_parts (attribute_from a) ≡ a
 attribute_back (name, inl fs) = refl
 attribute_back (name, inr bytes) = refl
@@ -92,8 +62,10 @@ attribute_forth (code.Raw name bytes) = refl
 
 pub attribute_law : (pool : List Entry) (seen : Bool) → IsFormat (attribute pool seen)
 unfolding attribute
-attribute_law pool seen = via_law attribute_from attribute_parts (name_once pool (is_maps pool) kinds.Maps seen ▹ λ i. content (is_maps pool i) (maps pool)) (λ a fit. attribute_back a) (λ a fit. attribute_forth a)
-    (then_law (name_once pool (is_maps pool) kinds.Maps seen) (λ i. content (is_maps pool i) (maps pool)) (name_once_law pool (is_maps pool) kinds.Maps seen) (λ i. content_law (is_maps pool i) (maps pool) (maps_law pool)))
+attribute_law pool seen =
+    via_law attribute_from attribute_parts (name_once pool (is_maps pool) kinds.Maps seen ▹ λ i. content (is_maps pool i) (maps pool)) (λ a fit. attribute_back a) (λ a fit. attribute_forth a)
+    (then_law (name_once pool (is_maps pool) kinds.Maps seen) (λ i. content (is_maps pool i) (maps pool))
+    (name_once_law pool (is_maps pool) kinds.Maps seen) (λ i. content_law (is_maps pool i) (maps pool) (maps_law pool)))
 
 -- ---- handlers
 
@@ -121,7 +93,7 @@ handler_law pool ps = ahead_law (u2 · u2 · u2 · u2).read handler_parts (targe
 
 -- ---- code
 
-code_length_law : IsFormat code_length
+pub code_length_law : IsFormat code_length
 code_length_law = such_law length_fault u4 u4_law
 
 -- a reading under other names of faults
@@ -174,7 +146,8 @@ ops_law pool = record {
       let a = bind_ok (told code_fault (Instructions.code.read bytes)) (λ qs. none_misnamed bytes qs (first_some (misnamed pool) qs)) ps e in
       let n = none_is bytes a.0 ps (first_some (misnamed pool) a.0) a.2 in
       let s = coded.code_law.takes bytes a.0 fits (told_ok code_fault (Instructions.code.read bytes) a.0 a.1) in
-      subst (λ (qs : List Placed). IsTrue (Instructions.code.fits qs && list_all (λ p. names_well pool p.op) qs) × (bytes ≡ Instructions.code.spell qs)) n.1 (both _ _ s.0 (all_well pool a.0 n.0), s.1);
+      subst (λ (qs : List Placed). IsTrue (Instructions.code.fits qs && list_all (λ p. names_well pool p.op) qs) × (bytes ≡ Instructions.code.spell qs))
+      n.1 (both _ _ s.0 (all_well pool a.0 n.0), s.1);
   again = λ ps fit.
       let one = coded.code_law.again ps (first_true (Instructions.code.fits ps) (list_all (λ p. names_well pool p.op) ps) fit) in
       let none = none_misnamed_in pool ps (second_true (Instructions.code.fits ps) (list_all (λ p. names_well pool p.op) ps) fit) in
@@ -186,42 +159,11 @@ ops_law pool = record {
       ];
 }
 
--- what instructions that were read are
-front_bytes : (front rest : List ℕ) → IsBytes (front ++ rest) → IsBytes front
-front_bytes front rest fits = subst IsBytes (take_at front rest (length front) refl) (IsBytes-take (length front) (front ++ rest) fits)
-
-outward_ok : {K A : Type 0} (behind : ℕ) (r : Result A (Fault K)) (a : A) → outward behind r ≡ Ok a → r ≡ Ok a
-outward_ok behind (Ok x) a e = e
-outward_ok behind (Err d) a e = absurd cc
-
-inner_is : {A : Type 0} (f : Body ClassFault A) → IsBody f → (n : ℕ) (bytes : List ℕ) (x : A × List ℕ) → IsBytes bytes → inner_at Truncated f.read n bytes ≡ Ok x → (IsTrue (f.fits x.0)) × (n ≡ length (f.spell x.0))
-inner_is {A} f F n bytes x fits e =
-    let b = bind_ok (run_at Truncated n bytes) (λ r. outward (length r.1) (f.read r.0) >>= λ y. Ok (y, r.1)) x e in
-    let r = run_is Truncated n bytes b.0 b.1 in
-    let c = bind_ok (outward (length b.0.1) (f.read b.0.0)) (λ y. Ok (y, b.0.1)) x b.2 in
-    let text : IsBytes b.0.0 = front_bytes b.0.0 b.0.1 (subst IsBytes r.parts fits) in
-    let t = F.takes b.0.0 c.0 text (outward_ok (length b.0.1) (f.read b.0.0) c.0 c.1) in
-    let made : A × List ℕ = (c.0, b.0.1) in
-    let same : made ≡ x = ok_is (Fault ClassFault) made x c.2 in
-    subst (λ (y : A × List ℕ). IsTrue (f.fits y.0) × (n ≡ length (f.spell y.0))) same (t.0, sym r.len ∙ ap length t.1)
-
-pub places_rise : (ps : List Placed) → IsTrue (Instructions.code.fits ps) → Instructions.Rises ps
-unfolding Instructions.code
-places_rise ps fit = standing.rises ps (first_true (Instructions.instructions.fits ps) (list_all (Instructions.leads ps) ps) fit)
-
-pub length_bytes : (bytes : List ℕ) (x : ℕ × List ℕ) → IsBytes bytes → code_length.read bytes ≡ Ok x → IsBytes x.1
-length_bytes bytes x fits e = (code_length_law.takes bytes x fits e).rest_fits
-
-pub ops_are : (pool : List Entry) (n : ℕ) (bytes : List ℕ) (x : List Placed × List ℕ) → IsBytes bytes → inner_at Truncated (ops pool).read n bytes ≡ Ok x → (IsTrue (Instructions.code.fits x.0)) × (n ≡ length (Instructions.code.spell x.0))
-unfolding ops
-ops_are pool n bytes x fits e =
-    let i = inner_is (ops pool) (ops_law pool) n bytes x fits e in
-    (first_true (Instructions.code.fits x.0) (list_all (λ p. names_well pool p.op) x.0) i.0, i.1)
-
 pub code_content_law : (pool : List Entry) → IsFormat (code_content pool)
 unfolding code_content
 code_content_law pool = via_law body_from body_parts (u2 · u2 · (block code_length Truncated (ops pool) ▹ behind_ops pool)) (λ p fit. refl) (λ c fit. refl)
-    (pair_law u2 _ u2_law (pair_law u2 _ u2_law (then_law (block code_length Truncated (ops pool)) (behind_ops pool) (block_law code_length Truncated (ops pool) code_length_law (ops_law pool))
+    (pair_law u2 _ u2_law (pair_law u2 _ u2_law (then_law (block code_length Truncated (ops pool)) (behind_ops pool)
+    (block_law code_length Truncated (ops pool) code_length_law (ops_law pool))
     (λ ps. pair_law (counted u2 (handler pool ps)) (counted_from u2 (attribute pool) saw_maps false) (counted_law u2 (handler pool ps) u2_law (handler_law pool ps))
     (counted_from_law u2 (attribute pool) saw_maps u2_law (attribute_law pool) false)))))
 

@@ -1,10 +1,9 @@
 -- The second pass: what the entries of the pool hold and name (JVMS 4.4), entry by entry.
-use Rattle.std.specs.Prelude.{ℕ, ◌-◌, ◌&&◌, Bool, List, length, Option, Some, None, Result, Ok, Err, option_map}
+use Rattle.std.specs.Prelude.{ℕ, ◌-◌, ◌&&◌, Bool, List, length, Option, Some, None, Ok, Err, option_map}
 use Rattle.std.specs.List.{list_all}
 use Rattle.std.specs.Result.{is_ok}
 use Rattle.jbase.specs.Stops.{◌>>=◌}
 use Rattle.jbase.specs.First.{or_else}
-use Rattle.jformat.specs.declared.error.Fault.{Fault}
 use Rattle.jformat.specs.Format.{Answer, Format, is_good, unless, unless_fault}
 use Rattle.jtext.specs.Modified
 use Rattle.jpool.specs.declared.entry.Entry.{Entry}

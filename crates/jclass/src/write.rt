@@ -9,7 +9,6 @@ ghost use Rattle.jclass.specs.Attributes;
 ghost use Rattle.jclass.specs.Attributes.{class_attribute, constant, field_attribute, saw_constant};
 ghost use Rattle.jclass.specs.Codes;
 ghost use Rattle.jclass.specs.Codes.{attribute, code_body, handler, ops, saw_maps};
-ghost use Rattle.jclass.specs.CodeLaws.{maps_fitting, maps_spelling};
 ghost use Rattle.jclass.specs.Members.{code_fits, code_spell, field, method, method_attribute};
 ghost use Rattle.jclass.specs.Class;
 ghost use Rattle.jclass.specs.Class.{Spells, class_parts};
@@ -141,7 +140,7 @@ struct MapsWriter<'r> {
     pool: &'r Pool,
 }
 
-#[tactic(auto, using(crate::specs::CodeLaws::maps_fitting, crate::specs::CodeLaws::maps_spelling))]
+#[tactic(auto, using(crate::proofs::CodeLaws::maps_fitting, crate::proofs::CodeLaws::maps_spelling))]
 fn put_maps(
     alloc: Global,
     pool: &Pool,

@@ -1,6 +1,7 @@
 ghost use Rattle.std.specs.Prelude.{◌≡◌, ◌≤◌};
 ghost use Rattle.jcode.specs.Opcodes;
-ghost use Rattle.jcode.specs.Opcodes.{branch_number, byte_number, cast_number, division_number, head_number, index_number, object_number, one_number, other_number, plain_number, ref_test_number, return_number, slot_base, two_number};
+ghost use Rattle.jcode.specs.Opcodes.{branch_number, byte_number, cast_number, division_number, head_number, index_number};
+ghost use Rattle.jcode.specs.Opcodes.{object_number, one_number, other_number, plain_number, ref_test_number, return_number, slot_base, two_number};
 ghost use Rattle.jcode.specs.declared.op.Op.TheVariants as ops;
 ghost use Rattle.jcode.specs.Instructions.{local_parts, op_head};
 

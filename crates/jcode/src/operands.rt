@@ -1,6 +1,7 @@
 ghost use Rattle.std.specs.Prelude.{◌≡◌, None};
 ghost use Rattle.jbase.specs.Stops.{Gives};
-ghost use Rattle.jcode.specs.Operands.{array_type, bounded, bounds, case_behind, case_count, falls, i4, interface_call, key_of, lookup_switch, nil, nils, padding, span, table_switch, wide};
+ghost use Rattle.jcode.specs.Operands.{array_type, bounded, bounds, case_behind, case_count, falls, i4, interface_call};
+ghost use Rattle.jcode.specs.Operands.{key_of, lookup_switch, nil, nils, padding, span, table_switch, wide};
 
 use crate::fault::CodeFault;
 use crate::fault::CodeFault::{BadOperand, Truncated};

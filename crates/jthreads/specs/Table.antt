@@ -1,5 +1,5 @@
 -- The table of guest threads: a list of threads by their numbers, and the table after each call.
-use Rattle.std.specs.Prelude.{ℕ, Bool, true, false, not, ◌&&◌, ◌||◌, ◌==◌, if◌then◌else◌, List, [], ◌∷◌, ◌++◌, map, length, Option, Some, None, slice_index_or, slice_set}
+use Rattle.std.specs.Prelude.{◌≡◌, ◌≢◌, ◌<◌, ℕ, Bool, true, false, not, ◌&&◌, ◌||◌, ◌==◌, if◌then◌else◌, List, [], ◌∷◌, ◌++◌, map, length, Option, Some, None, slice_index_or, slice_set}
 use Rattle.std.specs.Option.{is_none}
 use Rattle.std.specs.List.{filter, list_all, range_with_len}
 use Rattle.jthreads.specs.declared.thread.Thread.{Thread}
@@ -76,3 +76,7 @@ joined me t threads = if lives_at threads t then slice_set threads me (record (t
 -- thread t has ended, and nobody waits for it
 abbrev pub table_after_end : ℕ → List Thread → List Thread
 table_after_end t threads = map (woken t) (slice_set threads t (record (thread_at threads t) { ended = true }))
+
+-- thread n isn't t, was started, has not ended, and waits for thread t
+abbrev pub Awaits : List Thread → ℕ → ℕ → Type 0
+Awaits threads t n = (n < length threads) × (n ≢ t) × (lives_at threads n ≡ true) × ((thread_at threads n).waits_for ≡ Some t)

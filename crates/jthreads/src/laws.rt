@@ -2,7 +2,7 @@ ghost use Rattle.std.specs.Prelude.{◌≡◌, ◌≢◌, ◌<◌, ℕ, List, So
 ghost use Rattle.std.specs.List.{Contains};
 ghost use Rattle.std.specs.List.Sorted.{IsStrictlyIncreasing};
 ghost use Rattle.jthreads.specs.declared.thread.Thread.{Thread};
-ghost use Rattle.jthreads.specs.Table.{is_runnable, is_started, lives_at, runnable_numbers, table_after_end, thread_at};
+ghost use Rattle.jthreads.specs.Table.{Awaits, is_runnable, is_started, lives_at, runnable_numbers, table_after_end, thread_at};
 
 /// The laws of the table. The runnable numbers rise, and are those of the threads that are runnable. A thread that was never
 /// started isn't among them. After the end of a thread nobody waits for it, and who waited for it is runnable.
@@ -13,5 +13,5 @@ pub fn thread_laws()
     ensures every { (threads : List Thread) (t : ℕ) → t < length threads → is_runnable (thread_at threads t) ≡ true → Contains (runnable_numbers threads) t }
     ensures unstarted { (threads : List Thread) (t : ℕ) → is_started threads t ≡ false → Contains (runnable_numbers threads) t → ⊥ }
     ensures nobody { (threads : List Thread) (t n : ℕ) (x : Thread) → slice_get (table_after_end t threads) n ≡ Some x → x.waits_for ≡ Some t → ⊥ }
-    ensures again { (threads : List Thread) (t n : ℕ) → n < length threads → n ≢ t → lives_at threads n ≡ true → (thread_at threads n).waits_for ≡ Some t → Contains (runnable_numbers (table_after_end t threads)) n }
+    ensures again { (threads : List Thread) (t n : ℕ) → Awaits threads t n → Contains (runnable_numbers (table_after_end t threads)) n }
 {}

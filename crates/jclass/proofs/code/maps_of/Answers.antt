@@ -1,6 +1,6 @@
 use Rattle.std.proofs.Common.{arith}
 use Rattle.jmaps.specs.Frames.{frames, frame}
-use Rattle.jclass.specs.CodeLaws.{maps_good}
+use Rattle.jclass.proofs.CodeLaws.{maps_good}
 use Rattle.jclass.proofs.code.maps_of.Goals as goal
 
 pub returns-in-Ok : goal.returns-in-Ok

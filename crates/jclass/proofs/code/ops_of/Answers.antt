@@ -1,5 +1,5 @@
 use Rattle.std.proofs.Common.{arith}
-use Rattle.jclass.specs.CodeLaws.{ops_are, length_bytes}
+use Rattle.jclass.proofs.CodeLaws.{ops_are, length_bytes}
 use Rattle.jclass.proofs.code.ops_of.Goals as goal
 
 pub returns-clause-size : goal.returns-clause-size

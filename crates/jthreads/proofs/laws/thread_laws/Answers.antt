@@ -30,7 +30,7 @@ returns-clause-nobody c threads t n x e w =
     from_woken t (slice_get ended n) x (rw (slice_get-map (woken t) ended n) at e) w
 
 pub returns-clause-again : goal.returns-clause-again
-returns-clause-again c threads t n lt other lives waits =
+returns-clause-again c threads t n h =
     let ended = slice_set threads t (record (thread_at threads t) { ended = true }) in
-    let inside : n < length (table_after_end t threads) = omega (arith, lt, length-map ended (woken t), length-set threads t (record (thread_at threads t) { ended = true })) in
-    every (λ i. is_runnable (thread_at (table_after_end t threads) i)) n (length (table_after_end t threads)) inside (runs_again threads t n lt other lives waits)
+    let inside : n < length (table_after_end t threads) = omega (arith, h.0, length-map ended (woken t), length-set threads t (record (thread_at threads t) { ended = true })) in
+    every (λ i. is_runnable (thread_at (table_after_end t threads) i)) n (length (table_after_end t threads)) inside (runs_again threads t n h.0 h.1 h.2 h.3)
