@@ -123,7 +123,7 @@ handler pool ps = ahead (u2 · u2 · u2 · u2).read handler_parts (target_fault 
 -- ---- code
 
 abbrev pub length_fault : ℕ → Option ClassFault
-length_fault n = if n == 0 || nat_lt 65535 n then Some kinds.Code else None
+length_fault n = if n == 0 || nat_lt 0xffff n then Some kinds.Code else None
 
 -- the number of bytes of a method's instructions
 abbrev pub code_length : Format ClassFault ℕ

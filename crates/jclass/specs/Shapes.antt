@@ -11,7 +11,7 @@ use Rattle.jclass.specs.declared.fault.ClassFault.TheVariants.{Magic, Version, T
 use Rattle.jclass.specs.Basics.{u2, u4, run, told_as, pool_fault}
 
 abbrev pub magic : Format ClassFault (Unit {0})
-magic = literal u4 Magic 3405691582
+magic = literal u4 Magic 0xcafebabe
 
 abbrev pub version_fault : ℕ → Option ClassFault
 version_fault n = if nat_lt n 50 || nat_lt 52 n then Some Version else None

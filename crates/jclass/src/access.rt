@@ -31,10 +31,10 @@ impl Flags for Access {
 
     ghost exact = { ⊤ };
 
-    ghost table = { (codes "PUBLIC", 1) ∷ (codes "PRIVATE", 2) ∷ (codes "PROTECTED", 4) ∷ (codes "STATIC", 8) ∷ (codes "FINAL", 16) ∷
-        (codes "SYNCHRONIZED", 32) ∷ (codes "VOLATILE", 64) ∷ (codes "TRANSIENT", 128) ∷ (codes "NATIVE", 256) ∷
-        (codes "INTERFACE", 512) ∷ (codes "ABSTRACT", 1024) ∷ (codes "STRICT", 2048) ∷ (codes "SYNTHETIC", 4096) ∷
-        (codes "ANNOTATION", 8192) ∷ (codes "ENUM", 16384) ∷ [] };
+    ghost table = { (codes "PUBLIC", 0x1) ∷ (codes "PRIVATE", 0x2) ∷ (codes "PROTECTED", 0x4) ∷ (codes "STATIC", 0x8) ∷ (codes "FINAL", 0x10) ∷
+        (codes "SYNCHRONIZED", 0x20) ∷ (codes "VOLATILE", 0x40) ∷ (codes "TRANSIENT", 0x80) ∷ (codes "NATIVE", 0x100) ∷
+        (codes "INTERFACE", 0x200) ∷ (codes "ABSTRACT", 0x400) ∷ (codes "STRICT", 0x800) ∷ (codes "SYNTHETIC", 0x1000) ∷
+        (codes "ANNOTATION", 0x2000) ∷ (codes "ENUM", 0x4000) ∷ [] };
 
     ghost set_of = { λ a. a.0 };
 

@@ -255,7 +255,7 @@ fn code_length_of(bytes: &[u8]) -> Result<(u32, &[u8]), ReadError<ClassFault>>
     ensures { Gives (λ x. (x.0, x.1.now)) result (code_length.read bytes.now) }
 {
     let (count, rest) = u32_of(Truncated, bytes)?;
-    if count == 0 || 65535 < count {
+    if count == 0 || 0xffff < count {
         return Err(fault(Code, bytes));
     }
     Ok((count, rest))

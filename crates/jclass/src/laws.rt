@@ -27,7 +27,7 @@ pub fn spelling_laws()
 pub fn stored_laws()
     // A method's instructions are code of at most 65,535 bytes.
     ensures code { (c : ClassParts) (b : CodeBody) → HasCode c b → IsTrue (Instructions.code.fits b.ops) }
-    ensures size { (c : ClassParts) (b : CodeBody) → HasCode c b → length (Instructions.code.spell b.ops) ≤ 65535 }
+    ensures size { (c : ClassParts) (b : CodeBody) → HasCode c b → length (Instructions.code.spell b.ops) ≤ 0xffff }
     // Their places rise.
     ensures rises { (c : ClassParts) (b : CodeBody) → HasCode c b → Rises b.ops }
     // Each branch leads to an instruction.

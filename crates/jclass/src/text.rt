@@ -7,44 +7,47 @@ ghost use Rattle.jclass.specs.Judging.{behind};
 fn goes_on(b: u8) -> bool
     ensures { result ≡ Modified.goes_on b }
 {
-    128 <= b && b < 192
+    0x80 <= b && b < 0xc0
 }
 
 fn begins_two(a: u8) -> bool
-    ensures { result ≡ (nat_le 192 a && nat_lt a 224) }
+    ensures { result ≡ (nat_le 0xc0 a && nat_lt a 0xe0) }
 {
-    192 <= a && a < 224
+    0xc0 <= a && a < 0xe0
 }
 
 fn begins_three(a: u8) -> bool
-    ensures { result ≡ (nat_le 224 a && nat_lt a 240) }
+    ensures { result ≡ (nat_le 0xe0 a && nat_lt a 0xf0) }
 {
-    224 <= a && a < 240
+    0xe0 <= a && a < 0xf0
 }
 
 fn is_shortest_of_two(a: u8, b: u8) -> bool
-    requires first { IsTrue (nat_le 192 a && nat_lt a 224) }
+    requires first { IsTrue (nat_le 0xc0 a && nat_lt a 0xe0) }
     requires second { IsTrue (Modified.goes_on b) }
-    ensures { result ≡ (Modified.two a b == 0 || nat_le 128 (Modified.two a b)) }
+    ensures { result ≡ (Modified.two a b == 0 || nat_le 0x80 (Modified.two a b)) }
 {
-    let unit = (u16::from(a) - 192) * 64 + (u16::from(b) - 128);
-    unit == 0 || 128 <= unit
+    let unit = (u16::from(a) - 0xc0) * 0x40 + (u16::from(b) - 0x80);
+    unit == 0 || 0x80 <= unit
 }
 
 fn is_shortest_of_three(a: u8, b: u8, c: u8) -> bool
-    requires first { IsTrue (nat_le 224 a && nat_lt a 240) }
+    requires first { IsTrue (nat_le 0xe0 a && nat_lt a 0xf0) }
     requires second { IsTrue (Modified.goes_on b) }
     requires third { IsTrue (Modified.goes_on c) }
-    ensures { result ≡ nat_le 2048 (Modified.three a b c) }
+    ensures { result ≡ nat_le 0x800 (Modified.three a b c) }
 {
-    let unit = (u16::from(a) - 224) * 4096 + (u16::from(b) - 128) * 64 + (u16::from(c) - 128);
-    2048 <= unit
+    let unit = (u16::from(a) - 0xe0) * 0x1000
+        + (u16::from(b) - 0x80) * 0x40
+        + (u16::from(c) - 0x80);
+    0x800 <= unit
 }
 
 fn behind_two<'a>(bytes: &[u8], a: u8, rest: &'a [u8]) -> Option<&'a [u8]>
-    requires { IsTrue (nat_le 192 a && nat_lt a 224) }
+    requires { IsTrue (nat_le 0xc0 a && nat_lt a 0xe0) }
     ensures { option_map (λ t. t.now) result ≡ behind (two_at bytes.now a rest.now) }
 {
+    // What the proof needs: the bytes of the group.
     let _whole = bytes;
     match rest {
         [] => None,
@@ -61,9 +64,10 @@ fn behind_two<'a>(bytes: &[u8], a: u8, rest: &'a [u8]) -> Option<&'a [u8]>
 }
 
 fn behind_three<'a>(bytes: &[u8], a: u8, rest: &'a [u8]) -> Option<&'a [u8]>
-    requires { IsTrue (nat_le 224 a && nat_lt a 240) }
+    requires { IsTrue (nat_le 0xe0 a && nat_lt a 0xf0) }
     ensures { option_map (λ t. t.now) result ≡ behind (three_at bytes.now a rest.now) }
 {
+    // What the proof needs: the bytes of the group.
     let _whole = bytes;
     match rest {
         [] | [_] => None,
@@ -89,7 +93,7 @@ fn behind_unit(bytes: &[u8]) -> Option<&[u8]>
     match bytes {
         [] => None,
         [a, rest @ ..] => {
-            if 0 < *a && *a < 128 {
+            if 0 < *a && *a < 0x80 {
                 return Some(rest);
             }
             if begins_two(*a) {

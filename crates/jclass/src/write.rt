@@ -40,6 +40,7 @@ fn put_class_attribute(pool: &Pool, one: &Attribute, out: &mut Seq<u8>) -> Resul
     requires { IsTrue ((class_attribute pool.now).fits one.now) }
     ensures { OnOk result (out.new ≡ out.old ++ (class_attribute pool.now).spell one.now) }
 {
+    // What the proof needs: the pool, of which the clause speaks.
     let _pool = pool;
     match one {
         Attribute::Raw { name, bytes } => {
@@ -150,6 +151,7 @@ fn put_maps(
     requires { IsTrue ((Codes.maps pool.now).fits frames.now) }
     ensures { OnOk result (out.new ≡ out.old ++ (Codes.maps pool.now).spell frames.now) }
 {
+    // What the proof needs: the pool, of which the clause speaks.
     let _pool = pool;
     put_frames(alloc, frames, out)
 }
@@ -182,6 +184,7 @@ fn put_attribute(
     requires { IsTrue ((attribute pool.now seen).fits one.now) }
     ensures { OnOk result (out.new ≡ out.old ++ (attribute pool.now seen).spell one.now) }
 {
+    // What the proof needs: whether one was seen before, of which the clause speaks.
     let _seen = seen;
     match one {
         CodeAttribute::Maps { name, frames } => {
@@ -274,6 +277,7 @@ fn put_ops(
     requires { IsTrue ((ops pool.now).fits items.now) }
     ensures { OnOk result (out.new ≡ out.old ++ (ops pool.now).spell items.now) }
 {
+    // What the proof needs: the pool, of which the clause speaks.
     let _pool = pool;
     let text = encode(alloc, items)?;
     put_bytes(text.as_slice(), out)

@@ -111,7 +111,7 @@ fn wide_size(op: Wide) -> u32
 /// The number of bytes of an instruction at a place, its padding included.
 #[tactic(auto, unfolding(crate::specs::Instructions::size, crate::specs::Instructions::instruction))]
 pub fn size_at(op: &Op, at: u32) -> u32
-    requires { size at op.now ≤ 4294967295 }
+    requires { size at op.now ≤ 0xffff_ffff }
     ensures { result ≡ size at op.now }
 {
     1 + size_behind(at, op)

@@ -15,7 +15,7 @@ use jtext::Units;
 use std::alloc::Global;
 
 /// The most units of a name in a refusal.
-const MOST_UNITS: usize = 2_147_483_647;
+const MOST_UNITS: usize = 0x7fff_ffff;
 
 /// Writes a refusal's line of these parts.
 fn refuse<K: Sink>(parts: &[Part<'_>], out: &mut K) -> Status
@@ -126,7 +126,7 @@ fn put_class<'a, K: Sink>(
     opcode: Option<u8>,
     out: &mut K,
 ) -> Status
-    requires path { length path.now ≤ 2147483647 }
+    requires path { length path.now ≤ 0x7fff_ffff }
     requires word { length word.now < 32 }
     ensures answer { Answers (refused_answer (class_text path.now at word.now opcode)) result (K.out out.old) (K.out out.new) }
     ensures later { K.faults out.old ≤ K.faults out.new }

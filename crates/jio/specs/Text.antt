@@ -1,6 +1,7 @@
 -- How a text is written in a line, and how a line goes out in pieces.
-use Rattle.std.specs.Prelude.{◌≡◌, ℕ, ◌*◌, ◌/◌, ◌%◌, List, [], ◌∷◌, ◌++◌, length, take, drop, Option, Result, IfErr, nat_le, ◌==◌, ◌&&◌, if◌then◌else◌, false}
+use Rattle.std.specs.Prelude.{◌≡◌, ℕ, ◌*◌, ◌/◌, ◌%◌, List, [], ◌∷◌, ◌++◌, length, take, drop, Option, Result, IfErr, nat_le, ◌==◌, ◌&&◌, if◌then◌else◌, false, codes}
 use Rattle.std.specs.Fmt.{digit_glyph}
+use Rattle.std.specs.Str.{byte}
 use Rattle.jbase.specs.Causes.{appended}
 use Rattle.jio.specs.Puts.{IsCutAt}
 use Rattle.jio.specs.declared.TheConstants.{PIECE}
@@ -9,8 +10,8 @@ use Rattle.jio.specs.declared.sink.PutFault.{PutFault}
 -- One UTF-16 unit: a printable one of ASCII stands for itself, but a backslash is written twice; any other is `\u` and
 -- four lower-case hexadecimal digits.
 abbrev pub written_unit : ℕ → List ℕ
-written_unit unit = if unit == 92 then 92 ∷ 92 ∷ [] else (if nat_le 32 unit && nat_le unit 126 then unit ∷ [] else
-    92 ∷ 117 ∷ digit_glyph false (unit / 4096) ∷ digit_glyph false (unit / 256 % 16) ∷ digit_glyph false (unit / 16 % 16) ∷ digit_glyph false (unit % 16) ∷ [])
+written_unit unit = if unit == byte "\\" then codes "\\\\" else (if nat_le 0x20 unit && nat_le unit 0x7e then unit ∷ [] else
+    byte "\\" ∷ byte "u" ∷ digit_glyph false (unit / 0x1000) ∷ digit_glyph false (unit / 0x100 % 16) ∷ digit_glyph false (unit / 16 % 16) ∷ digit_glyph false (unit % 16) ∷ [])
 
 -- A text, unit by unit.
 unfoldable pub written : List ℕ → List ℕ

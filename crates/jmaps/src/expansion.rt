@@ -35,9 +35,9 @@ fn locals_of(
 }
 
 fn place_behind(earlier: Option<&FullFrame>, delta: u16) -> u32
-    requires { IfSome (option_copied earlier) (λ f. f.at + 65536 < 2 ^ 32) }
+    requires { IfSome (option_copied earlier) (λ f. f.at + 0x1_0000 < 2 ^ 32) }
     ensures place { result ≡ place_behind (option_copied earlier.entry) delta }
-    ensures near { result ≤ place_behind (option_copied earlier.entry) 65535 }
+    ensures near { result ≤ place_behind (option_copied earlier.entry) 0xffff }
 {
     match earlier {
         None => u32::from(delta),

@@ -8,7 +8,7 @@ use std::alloc::{AllocError, Global};
 
 /// The place of a frame by that of the frame before it.
 pub fn place_from(earlier: Option<u32>, delta: u16) -> u32
-    requires { Full.place_from earlier 65535 < 2 ^ 32 }
+    requires { Full.place_from earlier 0xffff < 2 ^ 32 }
     ensures { result ≡ place_from earlier delta }
 {
     match earlier {

@@ -27,7 +27,7 @@ impl<'a> Model for Expansion<'a> {
 
     ghost view = { λ e. record { at = e.at; locals = e.locals.items; stack = e.stack.now; number = e.number; left = e.left.now } };
 
-    ghost invariant = { λ e. IfSome e.at (λ at. at < e.number * 65536) × (e.number + length e.left.now < 65536) };
+    ghost invariant = { λ e. IfSome e.at (λ at. at < e.number * 0x1_0000) × (e.number + length e.left.now < 0x1_0000) };
 }
 
 impl<'a> Expansion<'a> {

@@ -22,9 +22,9 @@ fn characters_of(alloc: Global, text: &str) -> Result<Vec<char>, AllocError>
 
 /// How many bytes stand in front of the last so many characters.
 fn place_of(text: &[char], left: usize) -> usize
-    requires { length (encode_utf8_all text.now) ≤ 2147483647 }
+    requires { length (encode_utf8_all text.now) ≤ 0x7fff_ffff }
     ensures place { result ≡ place_of text.now left }
-    ensures within { result ≤ 2147483647 }
+    ensures within { result ≤ 0x7fff_ffff }
 {
     let (front, _) = text.split_at(text.len().saturating_sub(left));
     let mut bytes = 0;
@@ -39,7 +39,7 @@ fn policy_in(
     text: &str,
     properties: &[(Units, Units)],
 ) -> Result<Policy, PolicyError>
-    requires { length text.now ≤ 2147483647 }
+    requires { length text.now ≤ 0x7fff_ffff }
     ensures { Gives (λ x. x) result (policy_in properties.now (chars text.now)) }
 {
     let characters = characters_of(alloc, text)?;
@@ -59,7 +59,7 @@ fn policy_of(
     bytes: &[u8],
     properties: &[(Units, Units)],
 ) -> Result<Policy, PolicyError>
-    requires { length bytes.now ≤ 2147483647 }
+    requires { length bytes.now ≤ 0x7fff_ffff }
     ensures { Gives (λ x. x) result (policy properties.now bytes.now) }
 {
     match str::from_utf8(bytes) {
@@ -77,7 +77,7 @@ pub fn read_policy(
     bytes: &[u8],
     props: &[(Units, Units)],
 ) -> Result<Policy, PolicyError>
-    requires { length bytes.now ≤ 2147483647 }
+    requires { length bytes.now ≤ 0x7fff_ffff }
     // What is read is derived by the grammar.
     ensures found { IfOk result (λ grants. IsPolicy props.now bytes.now grants) }
     // What the grammar derives is read, unless memory runs out.

@@ -15,7 +15,7 @@ use Rattle.jpool.specs.Pools.{is_utf8, IsPool}
 -- an entry that has a spelling of its own
 abbrev pub has_spelling : Entry → Bool
 has_spelling Unused = false
-has_spelling (Utf8 text) = nat_le (length text) 65535
+has_spelling (Utf8 text) = nat_le (length text) 0xffff
 has_spelling _ = true
 
 -- a class names a text among the entries
@@ -35,7 +35,7 @@ laid e = if is_wide e then e ∷ Unused ∷ [] else e ∷ []
 
 -- the entry behind the others, where their number stays one of 16 bits
 abbrev pub put_behind : Entry → List Entry → Option (ℕ × List Entry)
-put_behind e entries = if nat_le (length entries + length (laid e)) 65535 then Some (length entries, entries ++ laid e) else None
+put_behind e entries = if nat_le (length entries + length (laid e)) 0xffff then Some (length entries, entries ++ laid e) else None
 
 -- The least index of an equal entry, and the entries as they are. Where none is equal: the first free index, and the
 -- entries with this one behind; nothing where a pool has no room for it.

@@ -177,7 +177,7 @@ impl Adder {
         ensures err { OnErr result (self.new ≡ self.old) }
     {
         let i = self.pool.entries().len();
-        if i + width(&e) > 65_535 {
+        if i + width(&e) > 0xffff {
             return Err(AddError::PoolFull);
         }
         self.numbers.reserve(1)?;

@@ -116,7 +116,7 @@ pub fn entry_of(alloc: Global, bytes: &[u8]) -> Result<(Entry, &[u8]), ReadError
 }
 
 fn put_text(text: &[u8], out: &mut Seq<u8>) -> Result<(), AllocError>
-    requires { length text.now ≤ 65535 }
+    requires { length text.now ≤ 0xffff }
     ensures fits { IsTrue (text_format.fits text.now) }
     ensures spelled { OnOk result (out.new ≡ out.old ++ 1 ∷ text_format.spell text.now) }
 {

@@ -16,46 +16,46 @@ pub type TextError = Stop<At<()>>;
 fn goes_on(b: u8) -> bool
     ensures { result ≡ goes_on b }
 {
-    128 <= b && b < 192
+    0x80 <= b && b < 0xc0
 }
 
 fn stands_alone(a: u8) -> bool
-    ensures { result ≡ (nat_lt 0 a && nat_lt a 128) }
+    ensures { result ≡ (nat_lt 0 a && nat_lt a 0x80) }
 {
-    0 < a && a < 128
+    0 < a && a < 0x80
 }
 
 fn begins_two(a: u8) -> bool
-    ensures { result ≡ (nat_le 192 a && nat_lt a 224) }
+    ensures { result ≡ (nat_le 0xc0 a && nat_lt a 0xe0) }
 {
-    192 <= a && a < 224
+    0xc0 <= a && a < 0xe0
 }
 
 fn begins_three(a: u8) -> bool
-    ensures { result ≡ (nat_le 224 a && nat_lt a 240) }
+    ensures { result ≡ (nat_le 0xe0 a && nat_lt a 0xf0) }
 {
-    224 <= a && a < 240
+    0xe0 <= a && a < 0xf0
 }
 
 fn two(a: u8, b: u8) -> u16
-    requires first { IsTrue (nat_le 192 a && nat_lt a 224) }
+    requires first { IsTrue (nat_le 0xc0 a && nat_lt a 0xe0) }
     requires second { IsTrue (goes_on b) }
     ensures { result ≡ two a b }
 {
-    (u16::from(a) - 192) * 64 + (u16::from(b) - 128)
+    (u16::from(a) - 0xc0) * 0x40 + (u16::from(b) - 0x80)
 }
 
 fn three(a: u8, b: u8, c: u8) -> u16
-    requires first { IsTrue (nat_le 224 a && nat_lt a 240) }
+    requires first { IsTrue (nat_le 0xe0 a && nat_lt a 0xf0) }
     requires second { IsTrue (goes_on b) }
     requires third { IsTrue (goes_on c) }
     ensures { result ≡ three a b c }
 {
-    (u16::from(a) - 224) * 4096 + (u16::from(b) - 128) * 64 + (u16::from(c) - 128)
+    (u16::from(a) - 0xe0) * 0x1000 + (u16::from(b) - 0x80) * 0x40 + (u16::from(c) - 0x80)
 }
 
 fn pair_of<'a>(bytes: &'a [u8], a: u8, rest: &'a [u8]) -> Result<(u16, &'a [u8]), ReadError<()>>
-    requires { IsTrue (nat_le 192 a && nat_lt a 224) }
+    requires { IsTrue (nat_le 0xc0 a && nat_lt a 0xe0) }
     ensures { Gives (λ x. (x.0, x.1.now)) result (two_at bytes.now a rest.now) }
 {
     match rest {
@@ -65,7 +65,7 @@ fn pair_of<'a>(bytes: &'a [u8], a: u8, rest: &'a [u8]) -> Result<(u16, &'a [u8])
                 return Err(fault((), bytes));
             }
             let unit = two(a, *b);
-            if unit == 0 || 128 <= unit {
+            if unit == 0 || 0x80 <= unit {
                 return Ok((unit, after));
             }
             Err(fault((), bytes))
@@ -74,7 +74,7 @@ fn pair_of<'a>(bytes: &'a [u8], a: u8, rest: &'a [u8]) -> Result<(u16, &'a [u8])
 }
 
 fn triple_of<'a>(bytes: &'a [u8], a: u8, rest: &'a [u8]) -> Result<(u16, &'a [u8]), ReadError<()>>
-    requires { IsTrue (nat_le 224 a && nat_lt a 240) }
+    requires { IsTrue (nat_le 0xe0 a && nat_lt a 0xf0) }
     ensures { Gives (λ x. (x.0, x.1.now)) result (three_at bytes.now a rest.now) }
 {
     match rest {
@@ -87,7 +87,7 @@ fn triple_of<'a>(bytes: &'a [u8], a: u8, rest: &'a [u8]) -> Result<(u16, &'a [u8
                 return Err(fault((), bytes));
             }
             let unit = three(a, *b, *c);
-            if 2048 <= unit {
+            if 0x800 <= unit {
                 return Ok((unit, after));
             }
             Err(fault((), bytes))
@@ -134,7 +134,7 @@ pub fn units_of(alloc: Global, bytes: &[u8]) -> Result<Units, TextError>
     // What is read is spelled so.
     ensures found { IfOk result (λ u. bytes.now ≡ flat_map group u) }
     // What is spelled so is read, unless memory runs out.
-    ensures only { (u : List ℕ) → IsTrue (list_all (λ n. nat_lt n 65536) u) → bytes.now ≡ flat_map group u → GivesAt (λ v. v) bytes.now result (Ok u) }
+    ensures only { (u : List ℕ) → IsTrue (list_all (λ n. nat_lt n 0x1_0000) u) → bytes.now ≡ flat_map group u → GivesAt (λ v. v) bytes.now result (Ok u) }
     // Which fault it is: the first byte of the first bad group.
     ensures exact { GivesAt (λ u. u) bytes.now result (text.read bytes.now) }
 {
@@ -145,19 +145,19 @@ pub fn units_of(alloc: Global, bytes: &[u8]) -> Result<Units, TextError>
 }
 
 fn put_pair(unit: u16, out: &mut Seq<u8>) -> Result<(), AllocError>
-    requires { unit < 2048 }
-    ensures { OnOk result (out.new ≡ out.old ++ (192 + unit / 64) ∷ (128 + unit % 64) ∷ []) }
+    requires { unit < 0x800 }
+    ensures { OnOk result (out.new ≡ out.old ++ (0xc0 + unit / 0x40) ∷ (0x80 + unit % 0x40) ∷ []) }
 {
-    put_u8((192 + unit / 64) as u8, out)?;
-    put_u8((128 + unit % 64) as u8, out)
+    put_u8((0xc0 + unit / 0x40) as u8, out)?;
+    put_u8((0x80 + unit % 0x40) as u8, out)
 }
 
 fn put_triple(unit: u16, out: &mut Seq<u8>) -> Result<(), AllocError>
-    ensures { OnOk result (out.new ≡ out.old ++ (224 + unit / 4096) ∷ (128 + unit / 64 % 64) ∷ (128 + unit % 64) ∷ []) }
+    ensures { OnOk result (out.new ≡ out.old ++ (0xe0 + unit / 0x1000) ∷ (0x80 + unit / 0x40 % 0x40) ∷ (0x80 + unit % 0x40) ∷ []) }
 {
-    put_u8((224 + unit / 4096) as u8, out)?;
-    put_u8((128 + unit / 64 % 64) as u8, out)?;
-    put_u8((128 + unit % 64) as u8, out)
+    put_u8((0xe0 + unit / 0x1000) as u8, out)?;
+    put_u8((0x80 + unit / 0x40 % 0x40) as u8, out)?;
+    put_u8((0x80 + unit % 0x40) as u8, out)
 }
 
 fn put_unit(unit: u16, out: &mut Seq<u8>) -> Result<(), AllocError>
@@ -166,10 +166,10 @@ fn put_unit(unit: u16, out: &mut Seq<u8>) -> Result<(), AllocError>
     if unit == 0 {
         return put_pair(0, out);
     }
-    if unit < 128 {
+    if unit < 0x80 {
         return put_u8(unit as u8, out);
     }
-    if unit < 2048 {
+    if unit < 0x800 {
         return put_pair(unit, out);
     }
     put_triple(unit, out)
@@ -200,5 +200,5 @@ pub fn bytes_of(alloc: Global, units: &Units) -> Result<Vec<u8>, AllocError>
 
 /// No two texts share a spelling.
 pub fn spelling_law()
-    ensures one { (u v : List ℕ) → IsTrue (list_all (λ n. nat_lt n 65536) u) → IsTrue (list_all (λ n. nat_lt n 65536) v) → flat_map group u ≡ flat_map group v → u ≡ v }
+    ensures one { (u v : List ℕ) → IsTrue (list_all (λ n. nat_lt n 0x1_0000) u) → IsTrue (list_all (λ n. nat_lt n 0x1_0000) v) → flat_map group u ≡ flat_map group v → u ≡ v }
 {}
