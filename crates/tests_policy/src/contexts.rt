@@ -65,20 +65,20 @@ fn called(alloc: Global, domains: &[u32]) -> Result<Context, AllocError> {
 #[test]
 fn calls(rt: HostRuntime) -> Result<(), Fail> {
     let alloc = rt.alloc();
-    let rows: [(&[u32], &str); 6] = [
-        (&[], ""),
-        (&[0], "0"),
-        (&[0, 0], "0"),
-        (&[0, 1], "10"),
-        (&[0, 1, 0], "01"),
-        (&[2, 1, 0, 1, 2], "210"),
+    let rows: [(&[u32], &[u8]); 6] = [
+        (&[], b""),
+        (&[0], b"0"),
+        (&[0, 0], b"0"),
+        (&[0, 1], b"10"),
+        (&[0, 1, 0], b"01"),
+        (&[2, 1, 0, 1, 2], b"210"),
     ];
     for (domains, want) in rows {
         let context = called(alloc, domains)?;
         let got = shown(alloc, &context)?;
-        assert!(rt; got.as_str() == want, "{want}");
-        let again = context.copy(alloc)?;
-        assert!(rt; shown(alloc, &again)?.as_str() == want, "{want}");
+        assert!(rt; got.as_bytes() == want, "{domains:?}");
+        let again = shown(alloc, &context.copy(alloc)?)?;
+        assert!(rt; again.as_bytes() == want, "{domains:?}");
     }
     Ok(())
 }
