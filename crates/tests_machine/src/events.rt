@@ -37,46 +37,65 @@ fn write_short(to: &mut MemorySink, event: &Event) -> Result<(), Option<usize>> 
     }
 }
 
+/// Whether an event is written as this line, whole.
+fn is_written(alloc: Global, event: &Event, line: &[u8]) -> Result<bool, AllocError> {
+    let mut to = sink(alloc, 2)?;
+    let written = write_short(&mut to, event).is_ok();
+    Ok(written && to.bytes() == line)
+}
+
 #[test]
-fn writes_a_line_for_each_event(rt: HostRuntime) -> Result<(), Fail> {
+fn writes_what_a_thread_prints(rt: HostRuntime) -> Result<(), Fail> {
+    let alloc = rt.alloc();
+    let nothing = out(alloc, "")?;
+    assert!(rt; is_written(alloc, &nothing, b"out 7 \n")?);
+    let escaped = out(alloc, "a\\é\n")?;
+    assert!(rt; is_written(alloc, &escaped, b"out 7 a\\\\\\u00e9\\u000a\n")?);
+    Ok(())
+}
+
+#[test]
+fn writes_what_a_check_decides(rt: HostRuntime) -> Result<(), Fail> {
+    let alloc = rt.alloc();
+    let asked = asked(alloc)?;
+    let grant = Event::Grant { thread: 0, asked };
+    let line = b"grant 0 (\"java.util.PropertyPermission\" \"x\" \"read\")\n";
+    assert!(rt; is_written(alloc, &grant, line)?);
+    Ok(())
+}
+
+#[test]
+fn writes_the_domain_that_denies(rt: HostRuntime) -> Result<(), Fail> {
+    let alloc = rt.alloc();
+    let deny = Event::Deny {
+        thread: 10,
+        asked: asked(alloc)?,
+        domain: 1,
+    };
+    let line = b"deny 10 (\"java.util.PropertyPermission\" \"x\" \"read\") domain 1\n";
+    assert!(rt; is_written(alloc, &deny, line)?);
+    Ok(())
+}
+
+#[test]
+fn writes_what_is_thrown(rt: HostRuntime) -> Result<(), Fail> {
     let alloc = rt.alloc();
     let class = Units::from_text(alloc, "java.security.AccessControlException")?;
-    let again = class.copy(alloc)?;
-    let rows = [
-        (out(alloc, "")?, "out 7 \n"),
-        (out(alloc, "a\\é\n")?, "out 7 a\\\\\\u00e9\\u000a\n"),
-        (
-            Event::Grant {
-                thread: 0,
-                asked: asked(alloc)?,
-            },
-            "grant 0 (\"java.util.PropertyPermission\" \"x\" \"read\")\n",
-        ),
-        (
-            Event::Deny {
-                thread: 10,
-                asked: asked(alloc)?,
-                domain: 1,
-            },
-            "deny 10 (\"java.util.PropertyPermission\" \"x\" \"read\") domain 1\n",
-        ),
-        (
-            Event::Throw { thread: 0, class },
-            "throw 0 java.security.AccessControlException\n",
-        ),
-        (
-            Event::Uncaught {
-                thread: 4_294_967_295,
-                class: again,
-            },
-            "uncaught 4294967295 java.security.AccessControlException\n",
-        ),
-    ];
-    for (event, line) in rows.iter() {
-        let mut to = sink(alloc, 2)?;
-        assert_eq!(rt; write_short(&mut to, event), Ok(()), "at {line}");
-        assert!(rt; to.bytes() == line.as_bytes(), "at {line}");
-    }
+    let throw = Event::Throw { thread: 0, class };
+    let line = b"throw 0 java.security.AccessControlException\n";
+    assert!(rt; is_written(alloc, &throw, line)?);
+    Ok(())
+}
+
+#[test]
+fn writes_what_nobody_catches(rt: HostRuntime) -> Result<(), Fail> {
+    let alloc = rt.alloc();
+    let uncaught = Event::Uncaught {
+        thread: 4_294_967_295,
+        class: Units::from_text(alloc, "java.security.AccessControlException")?,
+    };
+    let line = b"uncaught 4294967295 java.security.AccessControlException\n";
+    assert!(rt; is_written(alloc, &uncaught, line)?);
     Ok(())
 }
 
