@@ -1,0 +1,81 @@
+ghost use Rattle.std.specs.Prelude.{◌≡◌, ◌%◌, ◌^◌};
+ghost use Rattle.jheap.specs.Heaps;
+ghost use Rattle.jheap.specs.Raw;
+
+use jops::Value;
+
+/// What an object is.
+#[derive(Clone, Copy, Debug, PartialEq, Eq)]
+pub enum Kind {
+    /// An object of a class of the machine's, by its number.
+    Object(u32),
+    /// An array of an element type of the machine's, by its number.
+    Array(u32),
+    /// A text: a unit a cell.
+    Text,
+    /// What an `append` makes: a unit a cell, and the piece in front of it.
+    Piece,
+}
+
+/// The type of the value that a cell holds.
+#[derive(Clone, Copy, Debug, PartialEq, Eq)]
+pub enum CellType {
+    Int,
+    Long,
+    Ref,
+    Ctx,
+}
+
+/// Where an object's cells stand.
+#[derive(Clone, Copy, Debug, PartialEq, Eq)]
+pub(crate) struct Header {
+    pub kind: Kind,
+    pub first: usize,
+    pub len: u32,
+    pub before: u32,
+}
+
+/// What an object of so many cells costs.
+#[inline]
+pub(crate) fn charge(kind: Kind, len: u32) -> u64
+    ensures { result ≡ Heaps.charge kind len }
+{
+    match kind {
+        Kind::Object(_) => 1 + u64::from(len),
+        Kind::Array(_) | Kind::Text | Kind::Piece => 2 + u64::from(len),
+    }
+}
+
+/// The number that a cell holds for a value.
+#[inline]
+pub(crate) fn raw(value: Value) -> u64
+    ensures { result ≡ Raw.raw value }
+{
+    match value {
+        Value::Int(x) => u64::from(x.cast_unsigned()),
+        Value::Long(x) => x.cast_unsigned(),
+        Value::Ref(n) => u64::from(n),
+        Value::Ctx(n) => n,
+    }
+}
+
+/// The low 32 bits of a cell's number.
+#[inline]
+fn low_32(n: u64) -> u32
+    ensures { result ≡ n % 2 ^ 32 }
+{
+    (n % 0x1_0000_0000) as u32
+}
+
+/// The value of a type that a cell with this number holds.
+#[inline]
+pub(crate) fn of_raw(of: CellType, n: u64) -> Value
+    ensures { result ≡ Raw.of_raw of n }
+{
+    match of {
+        CellType::Int => Value::Int(low_32(n).cast_signed()),
+        CellType::Long => Value::Long(n.cast_signed()),
+        CellType::Ref => Value::Ref(low_32(n)),
+        CellType::Ctx => Value::Ctx(n),
+    }
+}

@@ -1,0 +1,5 @@
+//! The tests of the heap.
+#![tactic(auto)]
+
+#[cfg(test)]
+mod heaps;
