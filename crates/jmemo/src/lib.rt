@@ -1,0 +1,6 @@
+//! Remembered answers.
+#![tactic(auto)]
+
+mod memo;
+
+pub use memo::{Key, Memo};
