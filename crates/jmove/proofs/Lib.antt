@@ -1,0 +1,13 @@
+pub mod Assembling
+pub mod Bodies
+pub mod Bounds
+pub mod Coding
+pub mod Describing
+pub mod Emitting
+pub mod Growing
+pub mod Joining
+pub mod Limiting
+pub mod Placing
+pub mod Renumbering
+pub mod Sizes
+pub mod Turning

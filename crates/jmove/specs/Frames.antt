@@ -1,0 +1,39 @@
+-- Frames of moved code (JVMS 4.7.4).
+use Rattle.std.specs.Prelude.{ℕ, ◌+◌, ◌-◌, List, [], ◌∷◌, ◌++◌, length, map, replicate}
+use Rattle.jmaps.specs.declared.types.MapType.{MapType}
+use Rattle.jmaps.specs.declared.types.MapType.TheVariants.{Top, Long, Uninit, Object}
+use Rattle.jmaps.specs.declared.types.FullFrame.{FullFrame}
+
+-- a type whose `new` stands at another place
+abbrev pub moved_type : (ℕ → ℕ) → MapType → MapType
+moved_type to (Uninit old) = Uninit (to old)
+moved_type to t = t
+
+-- how many locals a type takes
+abbrev pub width : MapType → ℕ
+width Long = 2
+width t = 1
+
+abbrev pub widths : List MapType → ℕ
+widths [] = 0
+widths (t ∷ ts) = width t + widths ts
+
+-- the locals that nothing is said of, up to this one
+abbrev pub unsaid : ℕ → List MapType → List MapType
+unsaid local types = replicate (local - widths types) Top
+
+-- A frame written full: its locals, Top up to the local that holds the context, and the context; `context` is the index of its class.
+abbrev pub moved_frame : (ℕ → ℕ) → ℕ → ℕ → FullFrame → FullFrame
+moved_frame to local context f = record {
+  at = to f.at;
+  locals = map (moved_type to) f.locals ++ (unsaid local f.locals ++ Object context ∷ []);
+  stack = map (moved_type to) f.stack;
+}
+
+-- how many locals and stack items are written in it
+abbrev pub items : ℕ → FullFrame → ℕ
+items local f = length f.locals + (local - widths f.locals) + 1 + length f.stack
+
+abbrev pub items_of : ℕ → List FullFrame → ℕ
+items_of local [] = 0
+items_of local (f ∷ fs) = items local f + items_of local fs

@@ -1,0 +1,19 @@
+//! One moved method: it takes its caller's security context as one more parameter, enters its own domain, and hands the context on.
+#![tactic(auto)]
+
+mod adding;
+mod branching;
+mod descriptor;
+mod emission;
+mod framing;
+mod method;
+mod moving;
+mod naming;
+mod places;
+mod sizing;
+mod whole;
+
+pub use descriptor::moved_descriptor;
+pub use method::{Expand, MethodIn, MethodOut, MoveError};
+pub use moving::limit_of;
+pub use whole::move_method;

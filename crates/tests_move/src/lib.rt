@@ -1,0 +1,5 @@
+//! The tests of moved methods.
+#![tactic(auto)]
+
+#[cfg(test)]
+mod moved;
