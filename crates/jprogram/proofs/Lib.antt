@@ -1,0 +1,11 @@
+pub mod Chains
+pub mod Choices
+pub mod Counts
+pub mod Going
+pub mod Marked
+pub mod Marks
+pub mod Order
+pub mod Overriding
+pub mod Packages
+pub mod Search
+pub mod Table

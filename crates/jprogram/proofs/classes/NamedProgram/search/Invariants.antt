@@ -1,0 +1,12 @@
+use Rattle.jbase.specs.First.{first_some}
+use Rattle.jprogram.specs.Classes.{superinterfaces}
+use Rattle.jprogram.specs.Layers.{IsLayered, member_at, waiting_names}
+use Rattle.jprogram.proofs.Going.{Cost, Going}
+use Rattle.jprogram.proofs.classes.NamedProgram.search.Given as goal
+
+abbrev pub invariant-loop-face : goal.invariant-loop-face
+invariant-loop-face l =
+    (L : IsLayered l.self) → Going l.self L (member_at l.self l.sort l.name l.desc) (first_some (member_at l.self l.sort l.name l.desc) (superinterfaces l.self l.class)) (waiting_names l.waiting.items) l.closed
+
+abbrev pub decreases-loop-face : goal.decreases-loop-face
+decreases-loop-face l = Cost l.self (waiting_names l.waiting.items) l.closed

@@ -1,0 +1,10 @@
+pub mod Classes
+pub mod Heights
+pub mod Layers
+pub mod Members
+pub mod Names
+pub mod Naming
+pub mod Parts
+pub mod Seen
+pub mod Shortly
+pub mod Supers

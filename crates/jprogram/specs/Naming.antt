@@ -1,0 +1,108 @@
+-- The first phase of linking: names that may not be used, and names that stand twice.
+use Rattle.std.specs.Prelude.{ℕ, Bool, false, ◌||◌, List, map, take, Option, Some, None, is_some, nat_lt, codes}
+use Rattle.std.specs.List.{list_any}
+use Rattle.std.specs.Str.{bytes_eq}
+use Rattle.jbase.specs.First.{fault_if, first_along, or_else}
+use Rattle.jpool.specs.declared.descriptor.Descriptor.{Descriptor}
+use Rattle.jpool.specs.declared.descriptor.Descriptor.TheVariants as descriptors
+use Rattle.jpool.specs.declared.descriptor.FieldType.{FieldType}
+use Rattle.jpool.specs.declared.entry.Entry.{Entry}
+use Rattle.jpool.specs.declared.entry.Entry.TheVariants as entries
+use Rattle.jpool.specs.Descriptors.{descriptor_of}
+use Rattle.jpool.specs.Pools.{text_in}
+use Rattle.jclass.specs.declared.class.ClassParts.{ClassParts}
+use Rattle.jclass.specs.declared.class.MemberInfo.{MemberInfo}
+use Rattle.jlib.specs.declared.side.Side.{Side}
+use Rattle.jlib.specs.declared.side.Side.TheVariants.{Source, Passing}
+use Rattle.jlib.specs.Classes as library
+use Rattle.jprogram.specs.declared.fault.LinkKind.{LinkKind}
+use Rattle.jprogram.specs.declared.fault.LinkKind.TheVariants.{ReservedName, Twice}
+use Rattle.jprogram.specs.declared.fault.LinkFault.{LinkFault}
+use Rattle.jprogram.specs.declared.naming.TextMarks.{TextMarks}
+use Rattle.jprogram.specs.declared.part.CodePart.{CodePart}
+use Rattle.jprogram.specs.Parts.{member_desc, or_empty, text, this_name}
+use Rattle.jprogram.specs.Classes.{Program, place_of}
+
+-- ---- faults at their places
+
+abbrev pub in_class : ℕ → Option LinkKind → Option LinkFault
+in_class i None = None
+in_class i (Some kind) = Some (record { class = i; member = None; kind = kind })
+
+-- ---- reserved names
+
+-- the package that the passing library keeps for itself
+abbrev pub is_reserved : List ℕ → Bool
+is_reserved name = bytes_eq (take 4 name) (codes "sps/")
+
+abbrev pub type_reserved : FieldType → Bool
+type_reserved t = is_reserved t.class
+
+abbrev pub return_reserved : Option FieldType → Bool
+return_reserved None = false
+return_reserved (Some t) = type_reserved t
+
+-- a descriptor names such a class
+abbrev pub desc_reserved : Option Descriptor → Bool
+desc_reserved None = false
+desc_reserved (Some (descriptors.Field t)) = type_reserved t
+desc_reserved (Some (descriptors.Method params ret)) = list_any type_reserved params || return_reserved ret
+
+unfoldable pub text_reserved : List ℕ → Bool
+text_reserved desc = desc_reserved (descriptor_of desc)
+
+-- a class by its name, an array's by its element
+abbrev pub class_reserved : List ℕ → Bool
+class_reserved name = is_reserved name || text_reserved name
+
+-- what is looked at of a pool: the names of classes, and the descriptors of names and types
+abbrev pub entry_reserved : List Entry → Entry → Bool
+entry_reserved pool (entries.Class name) = class_reserved (text pool name)
+entry_reserved pool (entries.NameAndType name desc) = text_reserved (text pool desc)
+entry_reserved pool _ = false
+
+abbrev pub member_reserved : ClassParts → MemberInfo → Bool
+member_reserved c m = text_reserved (member_desc c m)
+
+abbrev pub names_reserved : ClassParts → Bool
+names_reserved c = list_any (entry_reserved c.pool) c.pool || (list_any (member_reserved c) c.methods || list_any (member_reserved c) c.fields)
+
+-- on the source side alone
+abbrev pub reserved_on : Side → ClassParts → Bool
+reserved_on Source c = names_reserved c
+reserved_on Passing c = false
+
+unfoldable pub reserved_test : Program → ClassParts → Option LinkKind
+reserved_test p c = fault_if (reserved_on p.side c) ReservedName
+
+-- what is known of a text: whether it names such a class as a class's name, and as a descriptor
+abbrev pub marks_of : List ℕ → TextMarks
+marks_of t = record { class = class_reserved t; desc = text_reserved t }
+
+abbrev pub marks_in : Entry → TextMarks
+marks_in e = marks_of (or_empty (text_in (Some e)))
+
+abbrev pub text_marks : List Entry → List TextMarks
+text_marks entries = map marks_in entries
+
+-- ---- names that stand twice
+
+abbrev pub is_before : ℕ → Option ℕ → Bool
+is_before i None = false
+is_before i (Some first) = nat_lt first i
+
+-- the first class of this name stands before a place
+abbrev pub stands_before : List CodePart → ℕ → List ℕ → Bool
+stands_before ps i name = is_before i (place_of ps name)
+
+-- the name is the library's, or that of a class before it
+unfoldable pub taken_test : Program → ℕ → ClassParts → Option LinkKind
+taken_test p i c = fault_if (is_some (library.class_named p.side (this_name c)) || stands_before p.parts i (this_name c)) Twice
+
+-- ---- the phase
+
+abbrev pub naming_test : Program → ℕ → CodePart → Option LinkKind
+naming_test p i part = or_else (reserved_test p part.class) (taken_test p i part.class)
+
+unfoldable pub naming_fault : Program → Option LinkFault
+naming_fault p = first_along (λ i part. in_class i (naming_test p i part)) 0 p.parts

@@ -1,0 +1,69 @@
+-- The second phase of linking: what classes extend and list.
+use Rattle.std.specs.Prelude.{ℕ, Bool, true, false, ◌&&◌, ◌||◌, not, List, length, Option, Some, None, is_some}
+use Rattle.std.specs.List.{list_any}
+use Rattle.std.specs.Str.{bytes_eq}
+use Rattle.jbase.specs.First.{fault_if, first_along, or_else}
+use Rattle.jclass.specs.declared.class.ClassParts.{ClassParts}
+use Rattle.jprogram.specs.declared.fault.LinkKind.{LinkKind}
+use Rattle.jprogram.specs.declared.fault.LinkKind.TheVariants.{BadSuper, Circular, NoClass}
+use Rattle.jprogram.specs.declared.fault.LinkFault.{LinkFault}
+use Rattle.jprogram.specs.declared.part.CodePart.{CodePart}
+use Rattle.jprogram.specs.Parts as parts
+use Rattle.jprogram.specs.Parts.{class_text, super_name, this_name}
+use Rattle.jprogram.specs.Classes.{Class, Program, find, holds, is_closed, is_interface, known, object, reaches}
+use Rattle.jprogram.specs.Naming.{in_class}
+
+-- ---- what isn't there
+
+abbrev pub is_missing : Program → List ℕ → Bool
+is_missing p name = not (is_some (find p name))
+
+abbrev pub super_missing : Program → Option (List ℕ) → Bool
+super_missing p None = true
+super_missing p (Some name) = is_missing p name
+
+abbrev pub face_missing : Program → ClassParts → Bool
+face_missing p c = list_any (λ i. is_missing p (class_text c.pool i)) c.interfaces
+
+-- no superclass, or it or an interface isn't found
+unfoldable pub missing_test : Program → ClassParts → Option LinkKind
+missing_test p c = fault_if (super_missing p (super_name c) || face_missing p c) NoClass
+
+-- ---- what may not stand above
+
+-- a class that is final or closed, or an interface
+abbrev pub is_barred : Class → Bool
+is_barred s = is_closed s || is_interface s
+
+abbrev pub super_barred : Program → Option (List ℕ) → Bool
+super_barred p None = true
+super_barred p (Some name) = holds is_barred (find p name)
+
+abbrev pub is_no_interface : Program → List ℕ → Bool
+is_no_interface p name = not (holds is_interface (find p name))
+
+abbrev pub lists_a_class : Program → ClassParts → Bool
+lists_a_class p c = list_any (λ i. is_no_interface p (class_text c.pool i)) c.interfaces
+
+abbrev pub is_object : Option (List ℕ) → Bool
+is_object None = false
+is_object (Some name) = bytes_eq name object
+
+-- the superclass may not be extended, or a class is listed, or an interface extends another class than Object
+unfoldable pub super_test : Program → ClassParts → Option LinkKind
+super_test p c =
+    fault_if (super_barred p (super_name c) || (lists_a_class p c || (parts.is_interface c.flags && not (is_object (super_name c))))) BadSuper
+
+-- ---- circles
+
+-- the class stands above itself
+unfoldable pub circle_test : Program → ClassParts → Option LinkKind
+circle_test p c = fault_if (reaches p (length (known p)) (this_name c) (this_name c)) Circular
+
+-- ---- the phase
+
+abbrev pub supers_test : Program → CodePart → Option LinkKind
+supers_test p part = or_else (missing_test p part.class) (or_else (super_test p part.class) (circle_test p part.class))
+
+unfoldable pub supers_fault : Program → Option LinkFault
+supers_fault p = first_along (λ i part. in_class i (supers_test p part)) 0 p.parts

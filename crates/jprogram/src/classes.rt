@@ -1,0 +1,221 @@
+ghost use Rattle.std.specs.Prelude.{◌≡◌, ◌≤◌, ◌+◌, IfErr, IfOk, length, option_map};
+ghost use Rattle.std.specs.List.{list_any};
+ghost use Rattle.std.specs.Str.{bytes_eq};
+ghost use Rattle.jprogram.specs.Classes;
+ghost use Rattle.jprogram.specs.Seen.{seen};
+
+use crate::found::Found;
+use crate::names::places_of;
+use crate::part::{ClassRef, CodePart};
+use jlib::{Side, class};
+use std::alloc::{AllocFailed, Global};
+use std::collections::BTreeMap;
+use std::marker::Model;
+
+pub(crate) const OBJECT: &[u8] = b"java/lang/Object";
+
+/// How many classes the library has, both sides' together.
+const LIBRARY: usize = 46;
+
+/// A program for a side's library: its parts, whose classes are found by name. Nothing is asked of the parts: classes may be missing,
+/// or stand twice, or stand in circles. Contracts see it as its side and its parts.
+#[derive(Drop)]
+pub struct NamedProgram {
+    side: Side,
+    parts: Vec<CodePart>,
+    /// The first place of each name.
+    places: BTreeMap<Vec<u8>, u32>,
+}
+
+impl Model for NamedProgram {
+    ghost use Rattle.std.specs.Prelude.{◌≤◌, length};
+    ghost use Rattle.jprogram.specs.Classes.{Program, program};
+    ghost use Rattle.jprogram.specs.Names.{ArePlaces};
+
+    ghost Value = { Program };
+
+    ghost view = { λ p. program p.side p.parts.items };
+
+    ghost invariant = { λ p. ArePlaces p.parts.items p.places × (length p.parts.items ≤ 0xffff) };
+}
+
+impl NamedProgram {
+    /// The program of parts. An error, which says that no memory was left, hands them back.
+    pub fn of(
+        alloc: Global,
+        parts: Vec<CodePart>,
+        side: Side,
+    ) -> Result<NamedProgram, AllocFailed<Vec<CodePart>>>
+        requires { length parts.items ≤ 0xffff }
+        ensures ok { IfOk result (λ p. p ≡ Classes.program side parts.items) }
+        ensures err { IfErr result (λ e. e.value ≡ parts) }
+    {
+        let Ok(places) = places_of(alloc, parts.as_slice()) else {
+            return Err(AllocFailed { value: parts });
+        };
+        Ok(NamedProgram {
+            side,
+            parts,
+            places,
+        })
+    }
+
+    /// Its side.
+    pub fn side(&self) -> Side
+        ensures { result ≡ self.now.side }
+    {
+        self.side
+    }
+
+    /// The parts, in their order.
+    pub fn parts(&self) -> &[CodePart]
+        ensures same { result.now ≡ self.now.parts }
+        ensures few { length self.now.parts ≤ 0xffff }
+    {
+        self.parts.as_slice()
+    }
+
+    /// The parts, handed back. It takes no memory.
+    pub fn into_parts(self) -> Vec<CodePart>
+        ensures { result.items ≡ self.parts }
+    {
+        self.parts
+    }
+
+    // ---- finding a class
+
+    pub(crate) fn place_of(&self, name: &[u8]) -> Option<u32>
+        ensures { result ≡ Classes.place_of self.now.parts name.now }
+    {
+        self.places.get(name).copied()
+    }
+
+    fn user_at(&self, i: u32) -> Option<Found<'_>>
+        ensures { option_map seen result ≡ Classes.user_at self.now i }
+    {
+        match self.parts.as_slice().get(i as usize) {
+            Some(part) => Some(Found::User(i, &part.class)),
+            None => None,
+        }
+    }
+
+    fn library_class(&self, name: &[u8]) -> Option<Found<'_>>
+        ensures { option_map seen result ≡ Classes.found_at self.now name.now None }
+    {
+        match class(self.side, name) {
+            Some(class) => Some(Found::Lib(class)),
+            None => None,
+        }
+    }
+
+    /// The class of a name: a user's first, else the library's.
+    #[tactic(auto, unfolding(crate::specs::Classes::find))]
+    pub(crate) fn find(&self, name: &[u8]) -> Option<Found<'_>>
+        ensures { option_map seen result ≡ Classes.find self.now name.now }
+    {
+        match self.place_of(name) {
+            Some(i) => self.user_at(i),
+            None => self.library_class(name),
+        }
+    }
+
+    /// The class of a number.
+    pub(crate) fn class_at(&self, class: ClassRef) -> Option<Found<'_>>
+        ensures { option_map seen result ≡ Classes.class_at self.now class }
+    {
+        match class {
+            ClassRef::User(i) => self.user_at(i),
+            ClassRef::Lib(class) => Some(Found::Lib(class)),
+        }
+    }
+
+    /// The number of the class of a name: a user's, the first of that name, or else one of the side's library.
+    pub fn class_of(&self, name: &[u8]) -> Option<ClassRef>
+        ensures { result ≡ option_map Classes.ref_of (Classes.find self.now name.now) }
+    {
+        match self.find(name) {
+            Some(found) => Some(found.number()),
+            None => None,
+        }
+    }
+
+    /// The name of the class of a number, empty where no part has it.
+    pub fn name_of(&self, class: ClassRef) -> &[u8]
+        ensures { result.now ≡ Classes.name_at self.now class }
+    {
+        match self.class_at(class) {
+            Some(found) => found.name(),
+            None => &[],
+        }
+    }
+
+    // ---- upwards
+
+    /// The name of the class above the class of a name.
+    pub fn above_name(&self, name: &[u8]) -> Option<&[u8]>
+        ensures { option_map (λ name. name.now) result ≡ Classes.above_name self.now name.now }
+    {
+        match self.find(name) {
+            Some(found) => found.above(),
+            None => None,
+        }
+    }
+
+    /// The number of the class above the class of a number. None where there is no such class, or none above it, or where what stands
+    /// above isn't found.
+    pub fn super_of(&self, class: ClassRef) -> Option<ClassRef>
+        ensures { result ≡ Classes.super_at self.now class }
+    {
+        let found = self.class_at(class)?;
+        let name = found.above()?;
+        self.class_of(name)
+    }
+
+    /// How many steps a walk upwards takes at most: as many as there are classes known, and one more.
+    #[tactic(auto, using(crate::proofs::Chains::known_count))]
+    pub(crate) fn most_steps(&self) -> usize
+        ensures { result ≡ length (Classes.known self.now) + 1 }
+    {
+        self.parts.len() + LIBRARY + 1
+    }
+
+    /// Whether the second name is that of the first class or of one above it.
+    #[tactic(auto, using(crate::proofs::Chains::chain_at, crate::proofs::Chains::chain_end))]
+    fn is_upwards(&self, c: &[u8], d: &[u8]) -> bool
+        ensures { result ≡ list_any (bytes_eq d.now) (Classes.up self.now c.now) }
+    {
+        let mut at = c;
+        let steps = self.most_steps();
+        for step in 0..steps {
+            if d == at {
+                return true;
+            }
+            match self.above_name(at) {
+                None => return false,
+                Some(above) => at = above,
+            }
+        }
+        false
+    }
+
+    /// Whether the class of the first name is that of the second or stands below it (JVMS 4.1). Every name stands below Object.
+    #[tactic(auto, unfolding(crate::specs::Classes::extends))]
+    pub fn extends(&self, c: &[u8], d: &[u8]) -> bool
+        ensures { result ≡ Classes.extends self.now c.now d.now }
+    {
+        if d == OBJECT {
+            return true;
+        }
+        self.is_upwards(c, d)
+    }
+
+    /// Whether the class of a name is an interface; it isn't where there is none.
+    pub fn is_interface(&self, name: &[u8]) -> bool
+        ensures { result ≡ Classes.holds Classes.is_interface (Classes.find self.now name.now) }
+    {
+        match self.find(name) {
+            Some(found) => found.is_interface(),
+            None => false,
+        }
+    }
+}

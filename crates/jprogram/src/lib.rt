@@ -1,0 +1,32 @@
+//! A program as a list of classes: how they are found by name, which stands above which, and which member a name stands for.
+#![tactic(auto)]
+
+mod access;
+mod classes;
+mod facts;
+mod fault;
+mod found;
+mod layers;
+mod main_method;
+mod member;
+mod members;
+mod names;
+mod naming;
+mod part;
+mod parts;
+mod reach;
+mod referring;
+mod resolving;
+mod searching;
+mod selecting;
+mod supers;
+
+pub use classes::NamedProgram;
+pub use fault::{LinkFault, LinkKind};
+pub use member::{CallKind, ClassId, Member, MethodId, Selected};
+pub use part::{ClassRef, CodePart};
+pub use parts::{
+    class_text, has_code, is_called, member_desc, member_name, reach_of, same_package, super_name,
+    text_at, this_name,
+};
+pub use reach::Reach;

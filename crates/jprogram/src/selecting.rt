@@ -1,0 +1,308 @@
+ghost use Rattle.std.specs.Prelude.{◌≡◌, option_map};
+ghost use Rattle.std.specs.List.{list_any};
+ghost use Rattle.jbase.specs.First.{first_some};
+ghost use Rattle.jprogram.specs.Classes;
+ghost use Rattle.jprogram.specs.Classes.{chain};
+ghost use Rattle.jprogram.specs.Members;
+ghost use Rattle.jprogram.specs.Members.{before, methods_along};
+ghost use Rattle.jprogram.specs.Parts;
+ghost use Rattle.jprogram.specs.Shortly;
+ghost use Rattle.jprogram.specs.Shortly.{methods_above};
+
+use crate::classes::{NamedProgram, OBJECT};
+use crate::member::{CallKind, ClassId, Member, Selected};
+use crate::part::ClassRef;
+use crate::parts::same_package;
+use crate::reach::Reach;
+
+fn same_method(a: Member, b: Member) -> bool
+    ensures { result ≡ Members.same_method a b }
+{
+    match a {
+        Member::Method(a) => match b {
+            Member::Method(b) => a.class == b.class && a.method == b.method,
+            _ => false,
+        },
+        _ => false,
+    }
+}
+
+fn is_shown(reach: Reach) -> bool
+    ensures { result ≡ Shortly.is_shown reach }
+{
+    matches!(reach, Reach::Public | Reach::Protected)
+}
+
+fn is_private(reach: Reach) -> bool
+    ensures { result ≡ Members.is_private reach }
+{
+    matches!(reach, Reach::Private)
+}
+
+impl NamedProgram {
+    // ---- overriding
+
+    fn is_instance(&self, method: Member) -> bool
+        ensures { result ≡ Shortly.is_instance self.now method }
+    {
+        if self.is_static(method) {
+            return false;
+        }
+        !is_private(self.reach_of(method))
+    }
+
+    fn is_near(&self, a: Member, b: Member) -> bool
+        ensures { result ≡ Parts.same_package (Members.owner_of self.now a) (Members.owner_of self.now b) }
+    {
+        same_package(self.owner_of(a), self.owner_of(b))
+    }
+
+    /// Whether a method that stands between shows the one above, of its package, to all below.
+    #[tactic(auto, unfolding(crate::specs::Shortly::opens))]
+    fn opens(&self, above: Member, between: Member) -> bool
+        ensures { result ≡ Shortly.opens self.now above between }
+    {
+        if !self.is_instance(between) {
+            return false;
+        }
+        if !is_shown(self.reach_of(between)) {
+            return false;
+        }
+        self.is_near(between, above)
+    }
+
+    #[tactic(auto, unfolding(crate::specs::Shortly::decided_at))]
+    fn decided_at(&self, above: Member, name: &[u8], desc: &[u8], class: &[u8]) -> Option<bool>
+        ensures { result ≡ Shortly.decided_at self.now above name.now desc.now class.now }
+    {
+        let between = self.method_in(name, desc, class)?;
+        if same_method(between, above) {
+            return Some(false);
+        }
+        if self.opens(above, between) {
+            return Some(true);
+        }
+        None
+    }
+
+    /// Whether one of the methods in front of `above` opens it, as far as there are such methods from a class upwards, at most so many
+    /// classes.
+    #[tactic(auto, using(crate::proofs::Chains::chain_at, crate::proofs::Chains::chain_end), unfolding(jbase::specs::First::first_some))]
+    fn decided_from(
+        &self,
+        above: Member,
+        name: &[u8],
+        desc: &[u8],
+        from: &[u8],
+        left: usize,
+    ) -> Option<bool>
+        ensures { result ≡ first_some (Shortly.decided_at self.now above name.now desc.now) (chain self.now left from.now) }
+    {
+        let mut at = from;
+        for step in 0..left {
+            if let Some(decided) = self.decided_at(above, name, desc, at) {
+                return Some(decided);
+            }
+            match self.above_name(at) {
+                None => return None,
+                Some(above) => at = above,
+            }
+        }
+        None
+    }
+
+    #[tactic(auto, using(crate::proofs::Choices::opened_is), unfolding(crate::specs::Members::before))]
+    fn is_opened(
+        &self,
+        above: Member,
+        name: &[u8],
+        desc: &[u8],
+        from: Option<&[u8]>,
+        left: usize,
+    ) -> bool
+        ensures { result ≡ list_any (Shortly.opens self.now above) (before above (methods_above self.now name.now desc.now left (option_map (λ t. t.now) from.entry))) }
+    {
+        let Some(from) = from else {
+            return false;
+        };
+        match self.decided_from(above, name, desc, from, left) {
+            Some(decided) => decided,
+            None => false,
+        }
+    }
+
+    /// Whether a method overrides another one, beside the methods of the classes between, which begin above it.
+    #[tactic(auto, using(crate::proofs::Overriding::overrides_shortly), unfolding(crate::specs::Shortly::overrides_by))]
+    fn overrides(
+        &self,
+        below: Member,
+        above: Member,
+        name: &[u8],
+        desc: &[u8],
+        from: Option<&[u8]>,
+        left: usize,
+    ) -> bool
+        ensures { result ≡ Members.overrides self.now below (before above (methods_above self.now name.now desc.now left (option_map (λ t. t.now) from.entry))) above }
+    {
+        if !self.is_instance(below) {
+            return false;
+        }
+        match self.reach_of(above) {
+            Reach::Public => true,
+            Reach::Protected => true,
+            Reach::Package => {
+                if self.is_near(below, above) {
+                    return true;
+                }
+                self.is_opened(above, name, desc, from, left)
+            }
+            Reach::Private => false,
+        }
+    }
+
+    // ---- selection
+
+    fn takes_call(
+        &self,
+        resolved: Member,
+        one: Member,
+        name: &[u8],
+        desc: &[u8],
+        from: Option<&[u8]>,
+        left: usize,
+    ) -> bool
+        ensures { result ≡ Members.takes_call self.now resolved one (methods_above self.now name.now desc.now left (option_map (λ t. t.now) from.entry)) }
+    {
+        if self.is_static(one) {
+            return false;
+        }
+        if same_method(one, resolved) {
+            return true;
+        }
+        self.overrides(one, resolved, name, desc, from, left)
+    }
+
+    #[tactic(auto, unfolding(crate::specs::Shortly::taking_at))]
+    fn taking_at(
+        &self,
+        resolved: Member,
+        name: &[u8],
+        desc: &[u8],
+        left: usize,
+        class: &[u8],
+    ) -> Option<Member>
+        ensures { result ≡ Shortly.taking_at self.now resolved name.now desc.now left class.now }
+    {
+        let one = self.method_in(name, desc, class)?;
+        if self.takes_call(resolved, one, name, desc, self.above_name(class), left) {
+            return Some(one);
+        }
+        None
+    }
+
+    #[tactic(auto, using(crate::proofs::Choices::taking_here, crate::proofs::Choices::taking_end), unfolding(crate::specs::Members::first_taking))]
+    fn first_taking(&self, resolved: Member, name: &[u8], desc: &[u8], on: &[u8]) -> Option<Member>
+        ensures { result ≡ Members.first_taking self.now resolved (methods_along self.now name.now desc.now (Classes.up self.now on.now)) }
+    {
+        let mut at = on;
+        let steps = self.most_steps();
+        for step in 0..steps {
+            if let Some(found) = self.taking_at(resolved, name, desc, steps - (step + 1), at) {
+                return Some(found);
+            }
+            match self.above_name(at) {
+                None => return None,
+                Some(above) => at = above,
+            }
+        }
+        None
+    }
+
+    #[tactic(auto, unfolding(crate::specs::Shortly::instance_at))]
+    fn instance_at(&self, name: &[u8], desc: &[u8], class: &[u8]) -> Option<Member>
+        ensures { result ≡ Shortly.instance_at self.now name.now desc.now class.now }
+    {
+        let one = self.method_in(name, desc, class)?;
+        if self.is_static(one) {
+            return None;
+        }
+        Some(one)
+    }
+
+    #[tactic(auto, using(crate::proofs::Chains::chain_at, crate::proofs::Chains::chain_end), unfolding(jbase::specs::First::first_some))]
+    fn instance_from(&self, name: &[u8], desc: &[u8], on: &[u8]) -> Option<Member>
+        ensures { result ≡ first_some (Shortly.instance_at self.now name.now desc.now) (Classes.up self.now on.now) }
+    {
+        let mut at = on;
+        let steps = self.most_steps();
+        for step in 0..steps {
+            if let Some(found) = self.instance_at(name, desc, at) {
+                return Some(found);
+            }
+            match self.above_name(at) {
+                None => return None,
+                Some(above) => at = above,
+            }
+        }
+        None
+    }
+
+    #[tactic(auto, using(crate::proofs::Choices::instance_is))]
+    fn first_by(
+        &self,
+        call: CallKind,
+        resolved: Member,
+        name: &[u8],
+        desc: &[u8],
+        on: &[u8],
+    ) -> Option<Member>
+        ensures { result ≡ Members.first_by self.now call resolved (methods_along self.now name.now desc.now (Classes.up self.now on.now)) }
+    {
+        match call {
+            CallKind::Virtual => self.first_taking(resolved, name, desc, on),
+            CallKind::Interface => self.instance_from(name, desc, on),
+            CallKind::Special => self.instance_from(name, desc, on),
+        }
+    }
+
+    fn as_selected(&self, found: Option<Member>) -> Selected
+        ensures { result ≡ Members.as_selected self.now found }
+    {
+        match found {
+            Some(Member::Method(id)) => {
+                if self.is_abstract(Member::Method(id)) {
+                    return Selected::Abstract(id);
+                }
+                Selected::Method(id)
+            }
+            Some(Member::LibMethod(call)) => Selected::Lib(call),
+            _ => Selected::Missing,
+        }
+    }
+
+    fn name_of_id(&self, on: ClassId) -> &[u8]
+        ensures { result.now ≡ Members.name_of_id self.now on }
+    {
+        match on {
+            ClassId::User(i) => self.name_of(ClassRef::User(i)),
+            ClassId::Lib(class) => class.name(),
+            ClassId::Array => OBJECT,
+        }
+    }
+
+    /// The method that a call runs which is made on an object of a class and whose reference stands for `method` (JVMS 5.4.6). For
+    /// `invokevirtual` it is the first instance method from the class upwards that is this method or overrides it. For
+    /// `invokeinterface`, and for `invokespecial` of a class above, it is the first instance method of its name and descriptor, which for
+    /// `invokespecial` is looked for from the superclass of the current class upwards; that class is handed in then.
+    ///
+    /// `Abstract` where what is found has no code, `Missing` where nothing is found.
+    #[tactic(auto, unfolding(crate::specs::Members::select))]
+    pub fn select(&self, on: ClassId, method: Member, call: CallKind) -> Selected
+        ensures { result ≡ Members.select self.now on method call }
+    {
+        let name = self.name_of_member(method);
+        let desc = self.desc_of_member(method);
+        let found = self.first_by(call, method, name, desc, self.name_of_id(on));
+        self.as_selected(found)
+    }
+}

@@ -1,0 +1,105 @@
+ghost use Rattle.std.specs.Prelude.{◌≡◌, option_map};
+ghost use Rattle.jprogram.specs.Classes;
+ghost use Rattle.jprogram.specs.Supers;
+
+use crate::classes::{NamedProgram, OBJECT};
+use crate::fault::LinkKind;
+use crate::parts::{class_text, super_name};
+use bitflags::Flags;
+use jclass::{Access, ClassParts};
+
+fn is_object(name: Option<&[u8]>) -> bool
+    ensures { result ≡ Supers.is_object (option_map (λ t. t.now) name.entry) }
+{
+    match name {
+        Some(name) => name == OBJECT,
+        None => false,
+    }
+}
+
+impl NamedProgram {
+    fn is_missing(&self, name: &[u8]) -> bool
+        ensures { result ≡ Supers.is_missing self.now name.now }
+    {
+        self.class_of(name).is_none()
+    }
+
+    fn super_missing(&self, name: Option<&[u8]>) -> bool
+        ensures { result ≡ Supers.super_missing self.now (option_map (λ t. t.now) name.entry) }
+    {
+        match name {
+            Some(name) => self.is_missing(name),
+            None => true,
+        }
+    }
+
+    fn face_missing(&self, class: &ClassParts) -> bool
+        ensures { result ≡ Supers.face_missing self.now class.now }
+    {
+        class
+            .interfaces
+            .as_slice()
+            .iter()
+            .any(|i| self.is_missing(class_text(&class.pool, *i)))
+    }
+
+    /// NoClass where a class has no superclass, or where this or an interface that it lists isn't found.
+    #[tactic(auto, unfolding(crate::specs::Supers::missing_test))]
+    pub fn missing_test(&self, class: &ClassParts) -> Option<LinkKind>
+        ensures { result ≡ Supers.missing_test self.now class.now }
+    {
+        if self.super_missing(super_name(class)) {
+            return Some(LinkKind::NoClass);
+        }
+        if self.face_missing(class) {
+            return Some(LinkKind::NoClass);
+        }
+        None
+    }
+
+    fn is_barred(&self, name: &[u8]) -> bool
+        ensures { result ≡ Classes.holds Supers.is_barred (Classes.find self.now name.now) }
+    {
+        match self.find(name) {
+            Some(found) => found.is_closed() || found.is_interface(),
+            None => false,
+        }
+    }
+
+    fn super_barred(&self, name: Option<&[u8]>) -> bool
+        ensures { result ≡ Supers.super_barred self.now (option_map (λ t. t.now) name.entry) }
+    {
+        match name {
+            Some(name) => self.is_barred(name),
+            None => true,
+        }
+    }
+
+    fn lists_a_class(&self, class: &ClassParts) -> bool
+        ensures { result ≡ Supers.lists_a_class self.now class.now }
+    {
+        class
+            .interfaces
+            .as_slice()
+            .iter()
+            .any(|i| !self.is_interface(class_text(&class.pool, *i)))
+    }
+
+    /// BadSuper where a class's superclass is final, closed or an interface, where it lists a class, and where it is an interface and
+    /// extends another class than Object.
+    #[tactic(auto, unfolding(crate::specs::Supers::super_test))]
+    pub fn super_test(&self, class: &ClassParts) -> Option<LinkKind>
+        ensures { result ≡ Supers.super_test self.now class.now }
+    {
+        if self.super_barred(super_name(class)) {
+            return Some(LinkKind::BadSuper);
+        }
+        if self.lists_a_class(class) {
+            return Some(LinkKind::BadSuper);
+        }
+        if class.flags.contains(Access::INTERFACE) && !is_object(super_name(class)) {
+            return Some(LinkKind::BadSuper);
+        }
+        None
+    }
+}
