@@ -1,0 +1,11 @@
+pub mod JobNumbers
+pub mod JobReading
+pub mod JobTold
+pub mod Join
+pub mod LineNumbers
+pub mod Looks
+pub mod Numbers
+pub mod Parts
+pub mod RowLaws
+pub mod Rows
+pub mod Steps

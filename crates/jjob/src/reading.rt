@@ -1,0 +1,114 @@
+ghost use Rattle.std.specs.Prelude.{◌≡◌, ◌∷◌, [], ◌<◌, ◌≤◌, length, IfErr, IfNone, IfSome, MatchResult, false, true};
+ghost use Rattle.std.specs.Str.{is_utf8};
+ghost use Rattle.std.specs.Str.Lossy.{utf8_valid_len};
+ghost use Rattle.jjob.specs.Jobs.{JobGives, job, job_in, line_at, lines_of, number_of_lines};
+ghost use Rattle.jjob.specs.JobReading.{TakesAll};
+
+use crate::job::{Job, JobError};
+use crate::reader::Reader;
+use std::alloc::Global;
+
+/// The job that the bytes of a job file are.
+///
+/// It is UTF-8 text of lines, each ended by a line feed; a line that is empty or begins with `#` is skipped, and any other is a key,
+/// a space and a value that isn't empty. An error names the first line that is bad, counted from 1: for bytes that aren't UTF-8 that
+/// of the first bad byte, before all else, and for a job without `main` the one behind the last line. Memory may run out at any time.
+#[tactic(auto, unfolding(crate::specs::Jobs::job))]
+pub fn read_job(alloc: Global, bytes: &[u8]) -> Result<Job, JobError>
+    requires { length bytes.now < 0xffff_ffff }
+    ensures { JobGives result (job bytes.now) }
+{
+    match text_of(bytes) {
+        Ok(text) => job_in(alloc, text),
+        Err(place) => Err(JobError::Line {
+            line: line_at(bytes, place),
+        }),
+    }
+}
+
+/// The text of UTF-8 bytes, or the place of the first bad one.
+fn text_of(bytes: &[u8]) -> Result<&str, usize>
+    ensures cases { MatchResult result (λ text. (text.now ≡ bytes.now) × (is_utf8 bytes.now ≡ true)) (λ place. (place ≡ utf8_valid_len bytes.now) × (is_utf8 bytes.now ≡ false)) }
+    ensures within { IfErr result (λ place. place ≤ length bytes.now) }
+{
+    match str::from_utf8(bytes) {
+        Ok(text) => Ok(text),
+        Err(fault) => Err(fault.valid_up_to()),
+    }
+}
+
+/// The number of the line in which a place stands.
+fn line_at(bytes: &[u8], place: usize) -> u32
+    requires small { length bytes.now < 0xffff_ffff }
+    requires within { place ≤ length bytes.now }
+    ensures { result ≡ line_at bytes.now place }
+{
+    let before = &bytes[..place];
+    let feeds = before.iter().filter(|b| **b == b'\n').count();
+    feeds as u32 + 1
+}
+
+/// The job of a text's lines.
+#[tactic(auto, unfolding(crate::specs::Jobs::job_in))]
+fn job_in(alloc: Global, text: &str) -> Result<Job, JobError>
+    requires { length text.now < 0xffff_ffff }
+    ensures { JobGives result (job_in text.now) }
+{
+    let reader = lines_read(alloc, text)?;
+    let Some(job) = reader.told.into_job(alloc)? else {
+        return Err(JobError::Line {
+            line: number_of_lines(text) + 1,
+        });
+    };
+    Ok(job)
+}
+
+/// What a text's lines give, or the first bad one.
+fn lines_read<'a>(alloc: Global, text: &'a str) -> Result<Reader<'a>, JobError>
+    requires { length text.now < 0xffff_ffff }
+    ensures { TakesAll (lines_of text.now) result }
+{
+    let mut reader = Reader::new(alloc);
+    let mut number = 1;
+    let mut rest = text;
+    while let Some((line, more)) = first_line(rest) {
+        reader.take(alloc, number, line)?;
+        number += 1;
+        rest = more;
+    }
+    reader.take(alloc, number, rest)?;
+    Ok(reader)
+}
+
+/// The first line of a text, and what stands behind the line feed that ends it.
+fn first_line(text: &str) -> Option<(&str, &str)>
+    ensures none { IfNone result (lines_of text.now ≡ text.now ∷ []) }
+    ensures some { IfSome result (λ x. lines_of text.now ≡ x.0.now ∷ lines_of x.1.now) }
+    ensures shorter { IfSome result (λ x. length x.1.now < length text.now) }
+{
+    if let Some(more) = text.strip_prefix('\n') {
+        return Some(("", more));
+    }
+    match text.split_once('\n') {
+        Some((first, more)) => Some((first, more)),
+        None => None,
+    }
+}
+
+/// How many lines a text has.
+fn number_of_lines(text: &str) -> u32
+    requires { length text.now < 0xffff_ffff }
+    ensures value { result ≡ number_of_lines (lines_of text.now) }
+    ensures small { result ≤ length text.now }
+{
+    let mut number = 0;
+    let mut rest = text;
+    while let Some((_, more)) = first_line(rest) {
+        number += 1;
+        rest = more;
+    }
+    if rest.is_empty() {
+        return number;
+    }
+    number + 1
+}
