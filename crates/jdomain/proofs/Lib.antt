@@ -1,2 +1,3 @@
 pub mod Slashes
 pub mod Taken
+pub mod Sharing

@@ -1,29 +1,32 @@
 ghost use Rattle.std.specs.Prelude.{◌≡◌, ◌<◌, IfOk, length, map, slice_get, Some};
 ghost use Rattle.jdomain.specs.Domains.{granted, has};
-ghost use Rattle.jdomain.specs.Shares.{taken};
 
-use crate::share::{Share, shares_of, taken};
+use crate::lists::{Lists, lists_of};
+use crate::share::shares_of;
 use crate::source::CodeSource;
-use jbase::Seq;
 use jperm::{Permission, covers};
 use jpolicy::Policy;
 use jtext::Units;
 use std::alloc::{AllocError, Global};
 use std::marker::Model;
 
-/// The domains of a job: the permissions that a policy grants to each code source. Contracts see the list of their lists.
+/// The domains of a job: the permissions that a policy grants to each code source. Contracts see the list of their lists. Sources to
+/// which the same grants are given share one.
 #[derive(Drop)]
 pub struct Domains {
-    lists: Seq<Seq<Permission>>,
+    lists: Lists,
 }
 
 impl Model for Domains {
-    ghost use Rattle.std.specs.Prelude.{List};
+    ghost use Rattle.std.specs.Prelude.{◌<◌, All, List, length, map};
     ghost use Rattle.jperm.specs.declared.permission.Permission.{Permission};
+    ghost use Rattle.jdomain.specs.Shares.{list_at};
 
     ghost Value = { List (List Permission) };
 
-    ghost view = { λ d. d.lists };
+    ghost view = { λ d. map (list_at d.lists.all) d.lists.numbers };
+
+    ghost invariant = { λ d. All (λ k. k < length d.lists.all) d.lists.numbers };
 }
 
 impl Domains {
@@ -47,8 +50,8 @@ impl Domains {
     pub fn implies(&self, d: u32, asked: &Permission) -> bool
         ensures { result ≡ has self.now d asked.now }
     {
-        match self.lists.as_slice().get(d as usize) {
-            Some(list) => covers(list.as_slice(), asked),
+        match self.lists.numbers.as_slice().get(d as usize) {
+            Some(number) => covers(self.lists.all.as_slice()[*number].as_slice(), asked),
             None => false,
         }
     }
@@ -58,21 +61,7 @@ impl Domains {
         requires { d < length self.now }
         ensures { slice_get self.now d ≡ Some result.now }
     {
-        self.lists.as_slice()[d as usize].as_slice()
+        let number = self.lists.numbers.as_slice()[d as usize];
+        self.lists.all.as_slice()[number].as_slice()
     }
-}
-
-/// What each source takes of what grants give.
-fn lists_of(
-    alloc: Global,
-    shares: &[Share],
-    sources: &[CodeSource],
-) -> Result<Seq<Seq<Permission>>, AllocError>
-    ensures { IfOk result (λ lists. lists ≡ map (taken shares.now) sources.now) }
-{
-    let mut lists = Seq::new(alloc);
-    for source in sources {
-        lists.push(taken(alloc, shares, source)?)?;
-    }
-    Ok(lists)
 }

@@ -26,7 +26,7 @@ pub fn permissions_of(
 /// The permission of an entry, with names of files read in a directory. It is unresolved where the entry asks for a signer, its
 /// class is unknown, or its name or actions make none.
 #[tactic(auto, unfolding(crate::specs::Domains::permission_of))]
-pub fn permission_of(
+fn permission_of(
     alloc: Global,
     entry: &GrantEntry,
     directory: &Units,

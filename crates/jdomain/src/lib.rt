@@ -6,13 +6,13 @@ mod code;
 mod domain;
 mod entry;
 mod fault;
+mod lists;
 mod share;
 mod source;
 mod verdict;
 
 pub use code::MOST_URL;
 pub use domain::Domains;
-pub use entry::permission_of;
 pub use fault::SourceError;
 pub use source::CodeSource;
 pub use verdict::Verdict;

@@ -1,5 +1,5 @@
 ghost use Rattle.std.specs.Prelude.{◌≡◌, ◌++◌, IfOk, OnOk, map};
-ghost use Rattle.jdomain.specs.Shares.{share_of, taken};
+ghost use Rattle.jdomain.specs.Shares.{marks, share_of, taken};
 
 use crate::code::Code;
 use crate::entry::permissions_of;
@@ -36,6 +36,17 @@ fn share_of(alloc: Global, grant: &Grant, cwd: &Units) -> Result<Share, AllocErr
         code: Code::of(alloc, grant)?,
         permissions: permissions_of(alloc, grant.entries.as_slice(), cwd)?,
     })
+}
+
+/// Which shares a source takes of, in order: 1 where it does.
+pub fn marks(alloc: Global, shares: &[Share], source: &CodeSource) -> Result<Vec<u8>, AllocError>
+    ensures { IfOk result (λ v. v.items ≡ marks shares.now source.now) }
+{
+    let mut marks = Vec::new(alloc);
+    for share in shares {
+        marks.push(u8::from(source.is_in(&share.code)))?;
+    }
+    Ok(marks)
 }
 
 /// The permissions that a source takes of what grants give, in order.

@@ -29,6 +29,7 @@ pub struct RealShelf<'a, R: Files> {
     rt: &'a R,
     read_faults: u64,
     write_faults: u64,
+    failed: Option<String>,
 }
 
 impl<'a, R: Files> Model for RealShelf<'a, R> {
@@ -48,6 +49,21 @@ impl<'a, R: Files> RealShelf<'a, R> {
             rt,
             read_faults: 0,
             write_faults: 0,
+            failed: None,
+        }
+    }
+
+    /// The path of the first call that failed, if one did. It is not kept where no memory was left for it.
+    pub fn failed(&self) -> Option<&str> {
+        self.failed.as_deref()
+    }
+
+    /// Keeps the path of a call that failed, if it is the first.
+    fn keep(&mut self, alloc: Global, path: &str)
+        ensures { self.new ≡ self.old }
+    {
+        if self.failed.is_none() {
+            self.failed = String::from_str(alloc, path).ok();
         }
     }
 }
@@ -76,16 +92,18 @@ impl<'a, R: Files> Shelf for RealShelf<'a, R> {
             }
         }
         self.read_faults = self.read_faults.saturating_add(1);
+        self.keep(alloc, path);
         Err(ShelfError::Failed)
     }
 
     /// Parent folders that are missing are made.
-    fn write(&mut self, _alloc: Global, path: &str, bytes: &[u8]) -> Result<(), ShelfError> {
+    fn write(&mut self, alloc: Global, path: &str, bytes: &[u8]) -> Result<(), ShelfError> {
         match write_file(self.rt, path, bytes) {
             Ok(()) => Ok(()),
             Err(e) if e.kind() == ErrorKind::OutOfMemory => Err(ShelfError::Memory),
             Err(_) => {
                 self.write_faults = self.write_faults.saturating_add(1);
+                self.keep(alloc, path);
                 Err(ShelfError::Failed)
             }
         }
