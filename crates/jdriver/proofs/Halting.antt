@@ -5,9 +5,9 @@ use Rattle.jio.specs.Held.{File}
 use Rattle.jbase.specs.declared.stop.Stop.TheVariants as stops
 use Rattle.jbase.specs.Each.{each}
 use Rattle.jbase.proofs.Loops.{behind, each_fails}
-use Rattle.jdriver.specs.declared.task.Halt.{Halt}
-use Rattle.jdriver.specs.declared.task.Halt.TheVariants as halts
-use Rattle.jdriver.specs.Plans.{Stopped, Missing, Refused, Halts, Misses}
+use Rattle.jdriver.specs.declared.halt.Halt.{Halt}
+use Rattle.jdriver.specs.declared.halt.Halt.TheVariants as halts
+use Rattle.jdriver.specs.Stages.{Stopped, Missing, Refused, Halts, Misses}
 
 pub each_halts : {A B : Type 0} (f : A → Result B Stopped) (done : List B) (xs : List A) (i : ℕ) (x : A) (halt : Halt) (total : Result (List B) Stopped) → i < length xs → x ≡ get_or xs i x → Halts halt (f x) → behind done (each f (drop i xs)) ≡ total → Halts halt total
 each_halts f done xs i x halts.Read total lt is h so_far = tt

@@ -1,21 +1,19 @@
--- The answer to the words, case by case, and why it is the status where no fault was counted.
-use Rattle.std.proofs.Common.{◌≡◌, ◌⊎◌, ℕ, List, Option, Some, None, Result, Err, refl, sym, ap, ◌∙◌, inl, inr}
+-- The answer to a command, case by case, and why it is the status where no fault was counted.
+use Rattle.std.proofs.Common.{◌≡◌, ◌⊎◌, ℕ, List, Bool, true, false, Option, Some, None, Result, Err, refl, sym, ap, ◌∙◌, inl, inr, if◌then◌else◌}
 use Rattle.jbase.specs.Causes.{Rose}
 use Rattle.jio.specs.Held.{File}
+use Rattle.jjob.specs.declared.command.Command.{Command}
+use Rattle.jjob.specs.Words.{Word, command}
 use Rattle.jdriver.specs.declared.task.Task.{Task}
 use Rattle.jdriver.specs.declared.status.Status.{Status}
 use Rattle.jdriver.specs.declared.status.Status.TheVariants as statuses
-use Rattle.jdriver.specs.Words.{command}
-use Rattle.jdriver.specs.Plans.{Stopped, Missing, Misses, task_at}
-use Rattle.jdriver.specs.Answers.{Answer, Answers, answer, answer_to, shown, usage_answer}
+use Rattle.jdriver.specs.Stages.{Stopped, Missing, Misses}
+use Rattle.jdriver.specs.Tasks.{built, task}
+use Rattle.jdriver.specs.Answers.{Answer, Answers, accepted, answer, if_built, stopped_or_shown}
 
-pub usage_is : (words : List (List ℕ)) (files : List File) → None ≡ command words → answer words files ≡ usage_answer
+pub answer_is : (c : Command) (files : List File) (read : Result Task Stopped) → task c files ≡ read → answer c files ≡ stopped_or_shown read
 unfolding answer
-usage_is words files e = ap (answer_to files) (sym e)
-
-pub shown_is : (words : List (List ℕ)) (files : List File) (path : List ℕ) (read : Result Task Stopped) → Some path ≡ command words → task_at files path ≡ read → answer words files ≡ shown read
-unfolding answer
-shown_is words files path read e h = ap (answer_to files) (sym e) ∙ ap shown h
+answer_is c files read h = ap stopped_or_shown h
 
 some_is : {A : Type 0} (a b : A) → Some a ≡ Some b → a ≡ b
 some_is a b e = cc
@@ -38,13 +36,27 @@ same_files : (held : Option (List File)) (files others : List File) → held ≡
 same_files held files others e h = some_is others files (sym h ∙ e)
 
 -- a file is missing, so there is no status
-pub no_status : (words : List (List ℕ)) (held : Option (List File)) (files : List File) (path : List ℕ) (t : Status) → Some path ≡ command words → held ≡ Some files → Misses held (λ fs. task_at fs path) → (answer words files).status ≡ Some t → ⊥
-no_status words held files path t e told misses is =
+pub no_status : (c : Command) (held : Option (List File)) (files : List File) (t : Status) → held ≡ Some files → Misses held (task c) → (answer c files).status ≡ Some t → ⊥
+no_status c held files t told misses is =
     let same : misses.0 ≡ files = same_files held files misses.0 told misses.1 in
-    let none : answer words files ≡ shown (Err Missing) = shown_is words files path (Err Missing) e (ap (λ (fs : List File). task_at fs path) (sym same) ∙ misses.2) in
+    let none : answer c files ≡ stopped_or_shown (Err Missing) = answer_is c files (Err Missing) (ap (task c) (sym same) ∙ misses.2) in
     let bad : None ≡ Some t = sym (ap (λ (a : Answer). a.status) none) ∙ is in
     absurd cc
 
-pub no_fault : (before now : ℕ) (words : List (List ℕ)) (held : Option (List File)) (files : List File) (path : List ℕ) (t : Status) → Some path ≡ command words → held ≡ Some files → Rose before now ⊎ Misses held (λ fs. task_at fs path) → (Rose before now → ⊥) → (answer words files).status ≡ Some t → ⊥
-no_fault before now words held files path t e told (inl rose) calm is = calm rose
-no_fault before now words held files path t e told (inr misses) calm is = no_status words held files path t e told misses is
+pub no_fault : (before now : ℕ) (c : Command) (held : Option (List File)) (files : List File) (t : Status) → held ≡ Some files → Rose before now ⊎ Misses held (task c) → (Rose before now → ⊥) → (answer c files).status ≡ Some t → ⊥
+no_fault before now c held files t told (inl rose) calm is = calm rose
+no_fault before now c held files t told (inr misses) calm is = no_status c held files t told misses is
+
+-- ---- words
+
+pub no_command : (words : List Word) → command words ≡ None → accepted words ≡ None
+unfolding accepted
+no_command words h = rw h refl
+
+pub not_built : (words : List Word) (c : Command) → command words ≡ Some c → built c ≡ false → accepted words ≡ None
+unfolding accepted
+not_built words c h b = rw h (ap (λ (it : Bool). if it then Some c else None) b)
+
+pub is_accepted : (words : List Word) (c : Command) → command words ≡ Some c → built c ≡ true → accepted words ≡ Some c
+unfolding accepted
+is_accepted words c h b = rw h (ap (λ (it : Bool). if it then Some c else None) b)

@@ -1,4 +1,7 @@
 pub mod Answers
-pub mod Plans
+pub mod Grounds
+pub mod Listings
+pub mod Refusals
+pub mod Stages
 pub mod Statuses
-pub mod Words
+pub mod Tasks

@@ -1,14 +1,17 @@
 //! The top call: what the program does with its words, the files that it reads, and the text that it writes.
 #![tactic(auto)]
 
-mod joining;
+mod ground;
+mod halt;
+mod listing;
 mod reading;
+mod refusal;
 mod refusing;
 mod showing;
 mod status;
 mod task;
+mod tasks;
 mod top;
-mod words;
 
 pub use status::Status;
-pub use top::javasec;
+pub use top::{dispatch, javasec};

@@ -1,25 +1,26 @@
-ghost use Rattle.std.specs.Prelude.{◌≡◌, ◌≤◌, ◌<◌, ◌^◌, ◌⊎◌, IfOk, List, [], Err, None, Some, length};
-ghost use Rattle.std.specs.Option.{option_copied};
+ghost use Rattle.std.specs.Prelude.{◌≡◌, ◌≤◌, ◌<◌, ◌^◌, ◌⊎◌, ℕ, IfOk, List, [], Err, Some, length};
 ghost use Rattle.jbase.specs.Causes.{Rose};
 ghost use Rattle.jbase.specs.Each.{each};
 ghost use Rattle.jio.specs.Held.{File};
 ghost use Rattle.jclass.specs.Class.{class_file};
 ghost use Rattle.jform.specs.Forms.{form_of};
-ghost use Rattle.jload.specs.Jobs.{job_form};
+ghost use Rattle.jjob.specs.Jobs.{job};
 ghost use Rattle.jpolicy.specs.Policies.{policy};
-ghost use Rattle.jdriver.specs.declared.task.Halt.TheVariants.{Read};
-ghost use Rattle.jdriver.specs.Plans.{Excused, Follows, Refused, built_grants, bytes_at, class_at, class_in, class_read};
-ghost use Rattle.jdriver.specs.Plans.{classes_task, grants_at, grants_in, grants_read, job_at, judged, policy_task, task_at};
+ghost use Rattle.jdriver.specs.declared.halt.Halt.TheVariants.{Read};
+ghost use Rattle.jdriver.specs.Stages.{Excused, Follows, Refused, bytes_at, judged};
+ghost use Rattle.jdriver.specs.Tasks.{class_at, class_in, class_read, grants_at, grants_of, grants_read, ground_at, job_at, job_read};
 
-use crate::joining::program_task;
-use crate::task::{Halt, Refusal, Task};
+use crate::ground::{Ground, ground_of};
+use crate::halt::Halt;
+use crate::refusal::Refusal;
 use jbase::{Seq, Stop};
 use jclass::{ClassFault, ClassFile, read_class};
 use jform::{ClassForm, form_of};
 use jformat::At;
 use jio::{Shelf, ShelfError};
-use jload::{Job, Source, Text, is_built, read_job};
-use jpolicy::{Grant, read_policy};
+use jjob::{Job, JobError, Text, read_job};
+use jpolicy::{Policy, read_policy};
+use jtext::Units;
 use std::alloc::Global;
 
 fn read_at<S: Shelf>(alloc: Global, path: &str, shelf: &mut S) -> Result<Vec<u8>, Halt>
@@ -37,6 +38,94 @@ fn read_at<S: Shelf>(alloc: Global, path: &str, shelf: &mut S) -> Result<Vec<u8>
     }
 }
 
+// ---- the job
+
+fn job_read(alloc: Global, bytes: &[u8]) -> Result<Job, Halt>
+    requires { length bytes.now < 2 ^ 31 }
+    ensures value { Follows (λ x. x) result (job_read (job bytes.now)) }
+    ensures unread { result ≡ Err Read → ⊥ }
+{
+    match read_job(alloc, bytes) {
+        Ok(job) => Ok(job),
+        Err(JobError::Line { line }) => Err(Halt::Refused(Refusal::BadJob { line })),
+        Err(JobError::Memory) => Err(Halt::Memory),
+    }
+}
+
+#[tactic(auto, unfolding(crate::specs::Tasks::job_at))]
+fn job_at<S: Shelf>(alloc: Global, path: &str, shelf: &mut S) -> Result<Job, Halt>
+    ensures value { (files : List File) → S.held shelf.old ≡ Some files → Follows (λ x. x) result (job_at files path.now) }
+    ensures held { S.held shelf.new ≡ S.held shelf.old }
+    ensures stored { S.write_faults shelf.new ≡ S.write_faults shelf.old }
+    ensures later { S.read_faults shelf.old ≤ S.read_faults shelf.new }
+    ensures cause { Excused result (S.read_faults shelf.old) (S.read_faults shelf.new) (S.held shelf.old) (λ files. job_at files path.now) }
+{
+    let bytes = read_at(alloc, path, shelf)?;
+    job_read(alloc, &bytes)
+}
+
+// ---- the policy
+
+fn grants_read(alloc: Global, bytes: &[u8], props: &[(Units, Units)]) -> Result<Policy, Halt>
+    requires { length bytes.now < 2 ^ 31 }
+    ensures value { Follows (λ x. x) result (grants_read (policy props.now bytes.now)) }
+    ensures unread { result ≡ Err Read → ⊥ }
+{
+    match read_policy(alloc, bytes, props) {
+        Ok(grants) => Ok(grants),
+        Err(Stop::Memory) => Err(Halt::Memory),
+        Err(Stop::Fault(At { at, kind })) => Err(Halt::Refused(Refusal::BadPolicy { at, kind })),
+    }
+}
+
+fn policy_at<S: Shelf>(
+    alloc: Global,
+    path: &Text,
+    props: &[(Units, Units)],
+    shelf: &mut S,
+) -> Result<Policy, Halt>
+    ensures value { (files : List File) → S.held shelf.old ≡ Some files → Follows (λ x. x) result (grants_of files props.now (Some path.now)) }
+    ensures held { S.held shelf.new ≡ S.held shelf.old }
+    ensures stored { S.write_faults shelf.new ≡ S.write_faults shelf.old }
+    ensures later { S.read_faults shelf.old ≤ S.read_faults shelf.new }
+    ensures cause { Excused result (S.read_faults shelf.old) (S.read_faults shelf.new) (S.held shelf.old) (λ files. grants_of files props.now (Some path.now)) }
+{
+    let bytes = read_at(alloc, path.as_str(), shelf)?;
+    grants_read(alloc, &bytes, props)
+}
+
+#[tactic(auto, unfolding(crate::specs::Tasks::grants_at))]
+fn grants_at<S: Shelf>(alloc: Global, job: &Job, shelf: &mut S) -> Result<Policy, Halt>
+    ensures value { (files : List File) → S.held shelf.old ≡ Some files → Follows (λ x. x) result (grants_at files job.now) }
+    ensures held { S.held shelf.new ≡ S.held shelf.old }
+    ensures stored { S.write_faults shelf.new ≡ S.write_faults shelf.old }
+    ensures later { S.read_faults shelf.old ≤ S.read_faults shelf.new }
+    ensures cause { Excused result (S.read_faults shelf.old) (S.read_faults shelf.new) (S.held shelf.old) (λ files. grants_at files job.now) }
+{
+    match &job.policy {
+        Some(path) => policy_at(alloc, path, job.props.as_slice(), shelf),
+        None => Ok(Seq::new(alloc)),
+    }
+}
+
+/// What the job at a path and its policy say.
+#[tactic(auto, unfolding(crate::specs::Tasks::ground_at))]
+pub fn ground_at<S: Shelf>(alloc: Global, path: &str, shelf: &mut S) -> Result<Ground, Halt>
+    ensures value { (files : List File) → S.held shelf.old ≡ Some files → Follows (λ x. x) result (ground_at files path.now) }
+    ensures whole { IfOk result (λ g. length g.domains ≡ length g.sources) }
+    ensures held { S.held shelf.new ≡ S.held shelf.old }
+    ensures stored { S.write_faults shelf.new ≡ S.write_faults shelf.old }
+    ensures later { S.read_faults shelf.old ≤ S.read_faults shelf.new }
+    ensures cause { Excused result (S.read_faults shelf.old) (S.read_faults shelf.new) (S.held shelf.old) (λ files. ground_at files path.now) }
+{
+    let job = job_at(alloc, path, shelf)?;
+    let grants = grants_at(alloc, &job, shelf)?;
+    let ground = ground_of(alloc, job, &grants)?;
+    Ok(ground)
+}
+
+// ---- class files
+
 /// The refusal of a file that says what isn't built.
 pub fn unbuilt<T>(alloc: Global, path: &str) -> Result<T, Halt>
     ensures value { Follows (λ x. x) result (judged (Refusal.Unbuilt path.now) None) }
@@ -45,8 +134,6 @@ pub fn unbuilt<T>(alloc: Global, path: &str) -> Result<T, Halt>
     let path = Text::from_str(alloc, path)?;
     Err(Halt::Refused(Refusal::Unbuilt(path)))
 }
-
-// ---- class files
 
 /// The refusal of a class file by its first fault.
 fn bad_class<T>(alloc: Global, path: &str, at: u32, kind: ClassFault) -> Result<T, Halt>
@@ -89,159 +176,33 @@ fn class_in(alloc: Global, path: &str, bytes: &[u8]) -> Result<ClassForm, Halt>
     class_form(alloc, path, &class)
 }
 
-#[tactic(auto, unfolding(crate::specs::Plans::class_at))]
-fn class_at<S: Shelf>(alloc: Global, source: &Source, shelf: &mut S) -> Result<ClassForm, Halt>
-    ensures value { (files : List File) → S.held shelf.old ≡ Some files → Follows (λ x. x) result (class_at files source.now) }
+#[tactic(auto, unfolding(crate::specs::Tasks::class_at))]
+fn class_at<S: Shelf>(alloc: Global, path: &Text, shelf: &mut S) -> Result<ClassForm, Halt>
+    ensures value { (files : List File) → S.held shelf.old ≡ Some files → Follows (λ x. x) result (class_at files path.now) }
     ensures held { S.held shelf.new ≡ S.held shelf.old }
     ensures stored { S.write_faults shelf.new ≡ S.write_faults shelf.old }
     ensures later { S.read_faults shelf.old ≤ S.read_faults shelf.new }
-    ensures cause { Excused result (S.read_faults shelf.old) (S.read_faults shelf.new) (S.held shelf.old) (λ files. class_at files source.now) }
-{
-    let bytes = read_at(alloc, source.path.as_str(), shelf)?;
-    class_in(alloc, source.path.as_str(), &bytes)
-}
-
-fn classes_at<S: Shelf>(
-    alloc: Global,
-    sources: &[Source],
-    shelf: &mut S,
-) -> Result<Seq<ClassForm>, Halt>
-    ensures value { (files : List File) → S.held shelf.old ≡ Some files → Follows (λ x. x) result (each (class_at files) sources.now) }
-    ensures held { S.held shelf.new ≡ S.held shelf.old }
-    ensures stored { S.write_faults shelf.new ≡ S.write_faults shelf.old }
-    ensures later { S.read_faults shelf.old ≤ S.read_faults shelf.new }
-    ensures cause { Excused result (S.read_faults shelf.old) (S.read_faults shelf.new) (S.held shelf.old) (λ files. each (class_at files) sources.now) }
-{
-    let mut classes = Seq::new(alloc);
-    for source in sources {
-        classes.push(class_at(alloc, source, shelf)?)?;
-    }
-    Ok(classes)
-}
-
-#[tactic(auto, unfolding(crate::specs::Plans::classes_task))]
-fn classes_task<S: Shelf>(
-    alloc: Global,
-    path: &str,
-    job: &Job,
-    grants: &[Grant],
-    shelf: &mut S,
-) -> Result<Task, Halt>
-    ensures value { (files : List File) → S.held shelf.old ≡ Some files → Follows (λ x. x) result (classes_task files path.now job.now grants.now) }
-    ensures held { S.held shelf.new ≡ S.held shelf.old }
-    ensures stored { S.write_faults shelf.new ≡ S.write_faults shelf.old }
-    ensures later { S.read_faults shelf.old ≤ S.read_faults shelf.new }
-    ensures cause { Excused result (S.read_faults shelf.old) (S.read_faults shelf.new) (S.held shelf.old) (λ files. classes_task files path.now job.now grants.now) }
-{
-    let classes = classes_at(alloc, job.sources.as_slice(), shelf)?;
-    program_task(alloc, path, job, grants, classes.as_slice())
-}
-
-// ---- the policy
-
-fn grants_read(alloc: Global, bytes: &[u8]) -> Result<Seq<Grant>, Halt>
-    requires { length bytes.now < 2 ^ 31 }
-    ensures value { Follows (λ x. x) result (grants_read (policy [] bytes.now)) }
-    ensures unread { result ≡ Err Read → ⊥ }
-{
-    match read_policy(alloc, bytes, &[]) {
-        Ok(grants) => Ok(grants),
-        Err(Stop::Memory) => Err(Halt::Memory),
-        Err(Stop::Fault(At { at, kind })) => Err(Halt::Refused(Refusal::BadPolicy { at, kind })),
-    }
-}
-
-fn built_grants(alloc: Global, path: &str, grants: Seq<Grant>) -> Result<Seq<Grant>, Halt>
-    ensures value { Follows (λ x. x) result (built_grants path.now grants) }
-    ensures unread { result ≡ Err Read → ⊥ }
-{
-    if is_built(grants.as_slice()) {
-        return Ok(grants);
-    }
-    unbuilt(alloc, path)
-}
-
-fn grants_in(alloc: Global, path: &str, bytes: &[u8]) -> Result<Seq<Grant>, Halt>
-    requires { length bytes.now < 2 ^ 31 }
-    ensures value { Follows (λ x. x) result (grants_in path.now bytes.now) }
-    ensures unread { result ≡ Err Read → ⊥ }
-{
-    let grants = grants_read(alloc, bytes)?;
-    built_grants(alloc, path, grants)
-}
-
-#[tactic(auto, unfolding(crate::specs::Plans::grants_at))]
-fn policy_at<S: Shelf>(alloc: Global, path: &Text, shelf: &mut S) -> Result<Seq<Grant>, Halt>
-    ensures value { (files : List File) → S.held shelf.old ≡ Some files → Follows (λ x. x) result (grants_at files (Some path.now)) }
-    ensures held { S.held shelf.new ≡ S.held shelf.old }
-    ensures stored { S.write_faults shelf.new ≡ S.write_faults shelf.old }
-    ensures later { S.read_faults shelf.old ≤ S.read_faults shelf.new }
-    ensures cause { Excused result (S.read_faults shelf.old) (S.read_faults shelf.new) (S.held shelf.old) (λ files. grants_at files (Some path.now)) }
+    ensures cause { Excused result (S.read_faults shelf.old) (S.read_faults shelf.new) (S.held shelf.old) (λ files. class_at files path.now) }
 {
     let bytes = read_at(alloc, path.as_str(), shelf)?;
-    grants_in(alloc, path.as_str(), &bytes)
+    class_in(alloc, path.as_str(), &bytes)
 }
 
-#[tactic(auto, unfolding(crate::specs::Plans::grants_at))]
-fn grants_at<S: Shelf>(alloc: Global, job: &Job, shelf: &mut S) -> Result<Seq<Grant>, Halt>
-    ensures value { (files : List File) → S.held shelf.old ≡ Some files → Follows (λ x. x) result (grants_at files job.now.policy) }
+/// What each of the class files at some paths says.
+pub fn classes_at<S: Shelf>(
+    alloc: Global,
+    paths: &[Text],
+    shelf: &mut S,
+) -> Result<Seq<ClassForm>, Halt>
+    ensures value { (files : List File) → S.held shelf.old ≡ Some files → Follows (λ x. x) result (each (class_at files) paths.now) }
     ensures held { S.held shelf.new ≡ S.held shelf.old }
     ensures stored { S.write_faults shelf.new ≡ S.write_faults shelf.old }
     ensures later { S.read_faults shelf.old ≤ S.read_faults shelf.new }
-    ensures cause { Excused result (S.read_faults shelf.old) (S.read_faults shelf.new) (S.held shelf.old) (λ files. grants_at files job.now.policy) }
+    ensures cause { Excused result (S.read_faults shelf.old) (S.read_faults shelf.new) (S.held shelf.old) (λ files. each (class_at files) paths.now) }
 {
-    match &job.policy {
-        Some(path) => policy_at(alloc, path, shelf),
-        None => Ok(Seq::new(alloc)),
+    let mut classes = Seq::new(alloc);
+    for path in paths {
+        classes.push(class_at(alloc, path, shelf)?)?;
     }
-}
-
-#[tactic(auto, unfolding(crate::specs::Plans::policy_task))]
-fn policy_task<S: Shelf>(alloc: Global, path: &str, job: &Job, shelf: &mut S) -> Result<Task, Halt>
-    ensures value { (files : List File) → S.held shelf.old ≡ Some files → Follows (λ x. x) result (policy_task files path.now job.now) }
-    ensures held { S.held shelf.new ≡ S.held shelf.old }
-    ensures stored { S.write_faults shelf.new ≡ S.write_faults shelf.old }
-    ensures later { S.read_faults shelf.old ≤ S.read_faults shelf.new }
-    ensures cause { Excused result (S.read_faults shelf.old) (S.read_faults shelf.new) (S.held shelf.old) (λ files. policy_task files path.now job.now) }
-{
-    let grants = grants_at(alloc, job, shelf)?;
-    classes_task(alloc, path, job, grants.as_slice(), shelf)
-}
-
-// ---- the job
-
-fn job_of(alloc: Global, path: &str, bytes: &[u8]) -> Result<Job, Halt>
-    ensures value { Follows (λ x. x) result (judged (Refusal.Unbuilt path.now) (job_form bytes.now)) }
-    ensures unread { result ≡ Err Read → ⊥ }
-{
-    match read_job(alloc, bytes) {
-        Ok(Some(job)) => Ok(job),
-        Ok(None) => unbuilt(alloc, path),
-        Err(_) => Err(Halt::Memory),
-    }
-}
-
-#[tactic(auto, unfolding(crate::specs::Plans::job_at))]
-fn job_at<S: Shelf>(alloc: Global, path: &str, shelf: &mut S) -> Result<Job, Halt>
-    ensures value { (files : List File) → S.held shelf.old ≡ Some files → Follows (λ x. x) result (job_at files path.now) }
-    ensures held { S.held shelf.new ≡ S.held shelf.old }
-    ensures stored { S.write_faults shelf.new ≡ S.write_faults shelf.old }
-    ensures later { S.read_faults shelf.old ≤ S.read_faults shelf.new }
-    ensures cause { Excused result (S.read_faults shelf.old) (S.read_faults shelf.new) (S.held shelf.old) (λ files. job_at files path.now) }
-{
-    let bytes = read_at(alloc, path, shelf)?;
-    job_of(alloc, path, &bytes)
-}
-
-/// What the job at a path asks to be run.
-#[tactic(auto, unfolding(crate::specs::Plans::task_at))]
-pub fn task_at<S: Shelf>(alloc: Global, path: &str, shelf: &mut S) -> Result<Task, Halt>
-    ensures value { (files : List File) → S.held shelf.old ≡ Some files → Follows (λ x. x) result (task_at files path.now) }
-    ensures held { S.held shelf.new ≡ S.held shelf.old }
-    ensures stored { S.write_faults shelf.new ≡ S.write_faults shelf.old }
-    ensures later { S.read_faults shelf.old ≤ S.read_faults shelf.new }
-    ensures cause { Excused result (S.read_faults shelf.old) (S.read_faults shelf.new) (S.held shelf.old) (λ files. task_at files path.now) }
-{
-    let job = job_at(alloc, path, shelf)?;
-    policy_task(alloc, path, &job, shelf)
+    Ok(classes)
 }

@@ -2,14 +2,15 @@ ghost use Rattle.std.specs.Prelude.{◌≡◌, ◌≤◌, ◌<◌, ◌^◌, ◌�
 ghost use Rattle.jbase.specs.Causes.{Rose};
 ghost use Rattle.jio.specs.LineOf.{line_of, room_of};
 ghost use Rattle.jdriver.specs.declared.status.Status.TheVariants.{ReadFault, Usage, WriteFault};
-ghost use Rattle.jdriver.specs.Answers;
-ghost use Rattle.jdriver.specs.Answers.{Answers, class_line, class_opcode, class_text, class_word, name_line, policy_line, policy_word, refusal_line, refused_answer};
+ghost use Rattle.jtext.specs.Texts.{units_of_text};
+ghost use Rattle.jdriver.specs.Answers.{Answers, refused_answer};
+ghost use Rattle.jdriver.specs.Refusals.{class_line, class_opcode, class_text, class_word, job_line, policy_line, policy_word, refusal_line, text_line};
 
+use crate::refusal::Refusal;
 use crate::status::Status;
-use crate::task::Refusal;
 use jclass::ClassFault;
 use jio::{Part, Sink, write_line};
-use jload::Text;
+use jjob::Text;
 use jpolicy::PolicyFault;
 use jtext::Units;
 use std::alloc::Global;
@@ -32,28 +33,52 @@ fn refuse<K: Sink>(parts: &[Part<'_>], out: &mut K) -> Status
     }
 }
 
-/// Writes a line of a few words and a name.
-fn show_name<K: Sink>(alloc: Global, words: &str, name: &Text, out: &mut K) -> Status
+/// Writes a line of a few words and a text.
+fn show_text<K: Sink>(words: &str, units: &[u16], out: &mut K) -> Status
     requires { length words.now < 2 ^ 32 }
-    ensures answer { Answers (refused_answer (name_line words.now name.now)) result (K.out out.old) (K.out out.new) }
+    ensures answer { Answers (refused_answer (text_line words.now units.now)) result (K.out out.old) (K.out out.new) }
     ensures later { K.faults out.old ≤ K.faults out.new }
     ensures cause { result ≡ WriteFault → Rose (K.faults out.old) (K.faults out.new) }
     ensures read { result ≡ ReadFault → ⊥ }
     ensures usage { result ≡ Usage → ⊥ }
 {
-    let Ok(units) = Units::from_text(alloc, name.as_str()) else {
-        return Status::OutOfMemory;
-    };
-    let units = units.as_slice();
     if MOST_UNITS < units.len() {
         return Status::OutOfMemory;
     }
     refuse(&[Part::Plain(words), Part::Text(units)], out)
 }
 
+/// Writes a line of a few words and a path.
+fn show_path<K: Sink>(alloc: Global, words: &str, path: &Text, out: &mut K) -> Status
+    requires { length words.now < 2 ^ 32 }
+    ensures answer { Answers (refused_answer (text_line words.now (units_of_text path.now))) result (K.out out.old) (K.out out.new) }
+    ensures later { K.faults out.old ≤ K.faults out.new }
+    ensures cause { result ≡ WriteFault → Rose (K.faults out.old) (K.faults out.new) }
+    ensures read { result ≡ ReadFault → ⊥ }
+    ensures usage { result ≡ Usage → ⊥ }
+{
+    let Ok(units) = Units::from_text(alloc, path.as_str()) else {
+        return Status::OutOfMemory;
+    };
+    show_text(words, units.as_slice(), out)
+}
+
+// ---- jobs
+
+fn show_job<K: Sink>(line: u32, out: &mut K) -> Status
+    ensures answer { Answers (refused_answer (job_line line)) result (K.out out.old) (K.out out.new) }
+    ensures later { K.faults out.old ≤ K.faults out.new }
+    ensures cause { result ≡ WriteFault → Rose (K.faults out.old) (K.faults out.new) }
+    ensures read { result ≡ ReadFault → ⊥ }
+    ensures usage { result ≡ Usage → ⊥ }
+{
+    let line = u64::from(line);
+    refuse(&[Part::Plain("refused job "), Part::Number(line)], out)
+}
+
 // ---- policies
 
-#[tactic(auto, unfolding(crate::specs::Answers::policy_word))]
+#[tactic(auto, unfolding(crate::specs::Refusals::policy_word))]
 fn policy_word(kind: PolicyFault) -> &'static str
     ensures word { result.now ≡ policy_word kind }
     ensures few { length result.now < 32 }
@@ -83,7 +108,7 @@ fn show_policy<K: Sink>(at: u32, kind: PolicyFault, out: &mut K) -> Status
 
 // ---- class files
 
-#[tactic(auto, unfolding(crate::specs::Answers::class_word))]
+#[tactic(auto, unfolding(crate::specs::Refusals::class_word))]
 fn class_word(kind: ClassFault) -> &'static str
     ensures word { result.now ≡ class_word kind }
     ensures few { length result.now < 32 }
@@ -109,7 +134,7 @@ fn class_word(kind: ClassFault) -> &'static str
     }
 }
 
-#[tactic(auto, unfolding(crate::specs::Answers::class_opcode))]
+#[tactic(auto, unfolding(crate::specs::Refusals::class_opcode))]
 fn class_opcode(kind: ClassFault) -> Option<u8>
     ensures { result ≡ class_opcode kind }
 {
@@ -189,9 +214,10 @@ pub fn show_refusal<K: Sink>(alloc: Global, refusal: &Refusal, out: &mut K) -> S
     ensures usage { result ≡ Usage → ⊥ }
 {
     match refusal {
+        Refusal::BadJob { line } => show_job(*line, out),
         Refusal::BadPolicy { at, kind } => show_policy(*at, *kind, out),
         Refusal::BadClass { path, at, kind } => show_class(alloc, path, *at, *kind, out),
-        Refusal::Unbuilt(path) => show_name(alloc, "refused unbuilt ", path, out),
-        Refusal::NoMain(name) => show_name(alloc, "refused main ", name, out),
+        Refusal::Unbuilt(path) => show_path(alloc, "refused unbuilt ", path, out),
+        Refusal::NoMain(name) => show_text("refused main ", name.as_slice(), out),
     }
 }

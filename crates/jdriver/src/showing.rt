@@ -1,11 +1,16 @@
-ghost use Rattle.std.specs.Prelude.{◌≡◌, ◌≤◌, ◌⊎◌};
+ghost use Rattle.std.specs.Prelude.{◌≡◌, ◌≤◌, ◌⊎◌, length};
 ghost use Rattle.jbase.specs.Causes.{Rose};
+ghost use Rattle.jengine.specs.Runs.{run};
 ghost use Rattle.jdriver.specs.declared.status.Status.TheVariants.{ReadFault, Usage, WriteFault};
-ghost use Rattle.jdriver.specs.Answers.{Answers, ran, run_of, usage_answer};
+ghost use Rattle.jdriver.specs.Answers.{Answers, listed, ran, shown, usage_answer};
+ghost use Rattle.jdriver.specs.Listings.{listing};
+ghost use Rattle.jdriver.specs.Tasks.{IsWhole};
 
+use crate::listing::put_listing;
 use crate::status::{Status, status_of};
 use crate::task::Task;
-use jengine::{DEFAULT_DEPTH, DEFAULT_HEAP, DEFAULT_STEPS, Plan, run_inspect};
+use jdomain::{CodeSource, Domains};
+use jengine::{Plan, Program, run_inspect};
 use jio::{Sink, put_all};
 use jtrace::RunFault;
 use std::alloc::Global;
@@ -24,23 +29,65 @@ pub fn show_usage<K: Sink>(out: &mut K) -> Status
     }
 }
 
-/// Runs a task, and writes what happens and how it ends.
-#[tactic(auto, using(crate::proofs::Ends::answers_run), unfolding(crate::specs::Answers::run_of))]
-pub fn show_run<K: Sink>(alloc: Global, task: &Task, out: &mut K) -> Status
-    ensures answer { Answers (ran (run_of task.now)) result (K.out out.old) (K.out out.new) }
+/// Runs a program, and writes what happens and how it ends.
+#[tactic(auto, using(crate::proofs::Ends::answers_run))]
+fn show_run<K: Sink>(
+    alloc: Global,
+    program: &Program,
+    domains: &Domains,
+    plan: &Plan,
+    out: &mut K,
+) -> Status
+    ensures answer { Answers (ran (run program.now domains.now plan.now plan.now.steps)) result (K.out out.old) (K.out out.new) }
     ensures later { K.faults out.old ≤ K.faults out.new }
     ensures cause { result ≡ WriteFault → Rose (K.faults out.old) (K.faults out.new) }
     ensures read { result ≡ ReadFault → ⊥ }
     ensures usage { result ≡ Usage → ⊥ }
 {
-    let plan = Plan {
-        heap: DEFAULT_HEAP,
-        depth: DEFAULT_DEPTH,
-        steps: DEFAULT_STEPS,
-    };
-    match run_inspect(alloc, &task.program, &task.domains, &plan, out) {
+    match run_inspect(alloc, program, domains, plan, out) {
         Ok(end) => status_of(end),
         Err(RunFault::Sink) => Status::WriteFault,
         Err(RunFault::Memory) => Status::OutOfMemory,
+    }
+}
+
+/// Writes what is granted to each code source.
+fn show_listing<K: Sink>(
+    alloc: Global,
+    sources: &[CodeSource],
+    domains: &Domains,
+    out: &mut K,
+) -> Status
+    requires { length domains.now ≡ length sources.now }
+    ensures answer { Answers (listed (listing 0 sources.now domains.now)) result (K.out out.old) (K.out out.new) }
+    ensures later { K.faults out.old ≤ K.faults out.new }
+    ensures cause { result ≡ WriteFault → Rose (K.faults out.old) (K.faults out.new) }
+    ensures read { result ≡ ReadFault → ⊥ }
+    ensures usage { result ≡ Usage → ⊥ }
+{
+    match put_listing(alloc, sources, domains, out) {
+        Ok(()) => Status::Finished,
+        Err(RunFault::Sink) => Status::WriteFault,
+        Err(RunFault::Memory) => Status::OutOfMemory,
+    }
+}
+
+/// Does a task, and writes what it tells.
+#[tactic(auto, unfolding(crate::specs::Answers::shown))]
+pub fn show<K: Sink>(alloc: Global, task: &Task, out: &mut K) -> Status
+    requires { IsWhole task.now }
+    ensures answer { Answers (shown task.now) result (K.out out.old) (K.out out.new) }
+    ensures later { K.faults out.old ≤ K.faults out.new }
+    ensures cause { result ≡ WriteFault → Rose (K.faults out.old) (K.faults out.new) }
+    ensures read { result ≡ ReadFault → ⊥ }
+    ensures usage { result ≡ Usage → ⊥ }
+{
+    match task {
+        Task::Run {
+            program,
+            domains,
+            plan,
+        } => show_run(alloc, program, domains, plan, out),
+        Task::Policy { sources, domains } => show_listing(alloc, sources.as_slice(), domains, out),
     }
 }

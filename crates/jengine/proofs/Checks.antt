@@ -2,12 +2,12 @@
 use Rattle.std.proofs.Common.{◌≡◌, ℕ, List, ◌∷◌, Some, ap, ◌∙◌}
 use Rattle.std.specs.List.{slice_get}
 use Rattle.jperm.specs.declared.permission.Permission.{Permission}
-use Rattle.jengine.specs.declared.domains.Domains.{Domains}
+use Rattle.jengine.specs.Checking.{Domains}
 use Rattle.jdomain.specs.declared.verdict.Verdict.{Verdict}
 use Rattle.jdomain.specs.declared.verdict.Verdict.TheVariants.{Denied}
 use Rattle.jengine.specs.declared.state.State.{State}
 use Rattle.jengine.specs.declared.stepped.Stepped.{Stepped}
-use Rattle.jengine.specs.Granting.{has}
+use Rattle.jdomain.specs.Domains.{has}
 use Rattle.jdomain.specs.Stacks.{walk}
 use Rattle.jengine.specs.Turns.{Matches, charged, outcome_of}
 use Rattle.jengine.specs.Checking.{check_row, check_at, check_of, judged, stack_of, value_of}

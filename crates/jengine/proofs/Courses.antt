@@ -11,7 +11,7 @@ use Rattle.jtrace.specs.declared.event.End.{End}
 use Rattle.jtrace.specs.declared.event.End.TheVariants as ends
 use Rattle.jtrace.specs.Lines.{lines, line, end_line}
 use Rattle.jengine.specs.declared.program.Program.{Program}
-use Rattle.jengine.specs.declared.domains.Domains.{Domains}
+use Rattle.jengine.specs.Checking.{Domains}
 use Rattle.jengine.specs.declared.plan.Plan.{Plan}
 use Rattle.jengine.specs.Turns.{told_by, ended_by}
 use Rattle.jengine.specs.Steps.{step}

@@ -3,18 +3,21 @@ use Rattle.std.specs.Prelude.{ℕ, ◌+◌, List, [], ◌∷◌, ◌++◌, lengt
 use Rattle.jperm.specs.declared.permission.Permission.{Permission}
 use Rattle.jperm.specs.Texts.{text_of}
 use Rattle.jtrace.specs.declared.event.Event.TheVariants.{Grant, Deny}
-use Rattle.jengine.specs.declared.domains.Domains.{Domains}
 use Rattle.jdomain.specs.declared.verdict.Verdict.{Verdict}
 use Rattle.jdomain.specs.declared.verdict.Verdict.TheVariants.{Granted, Denied}
 use Rattle.jengine.specs.declared.frames.Frame.{Frame}
 use Rattle.jengine.specs.declared.state.Object.{Object}
 use Rattle.jengine.specs.declared.state.Object.TheVariants as objects
 use Rattle.jengine.specs.declared.state.State.{State}
-use Rattle.jengine.specs.Granting.{has}
+use Rattle.jdomain.specs.Domains.{has}
 use Rattle.jdomain.specs.Stacks.{Stack, Bottom, Entry, Unmarked, walk}
 use Rattle.jengine.specs.Turns.{Turn, onward}
 use Rattle.jengine.specs.declared.raising.Exception.TheVariants.{AccessControl}
 use Rattle.jengine.specs.Raising.{exception_cells, text_cells, raised}
+
+-- the permissions of each domain, in the order of the domains' numbers
+abbrev pub Domains : Type 0
+Domains = List (List Permission)
 
 -- the entries of these frames
 abbrev pub entries : List Frame → Stack

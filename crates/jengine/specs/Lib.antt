@@ -1,5 +1,4 @@
 pub mod Programs
-pub mod Granting
 pub mod Turns
 pub mod Straight
 pub mod Raising

@@ -5,7 +5,7 @@ use Rattle.jtrace.specs.declared.event.End.{End}
 use Rattle.jtrace.specs.declared.event.End.TheVariants as ends
 use Rattle.jtrace.specs.Lines.{text}
 use Rattle.jengine.specs.declared.program.Program.{Program}
-use Rattle.jengine.specs.declared.domains.Domains.{Domains}
+use Rattle.jengine.specs.Checking.{Domains}
 use Rattle.jengine.specs.declared.plan.Plan.{Plan}
 use Rattle.jengine.specs.declared.state.State.{State}
 use Rattle.jengine.specs.Programs.{domain_of}

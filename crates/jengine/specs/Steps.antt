@@ -3,7 +3,7 @@ use Rattle.std.specs.Prelude.{ℕ, Option, Some, None}
 use Rattle.jengine.specs.declared.program.Form.{Form}
 use Rattle.jengine.specs.declared.program.Form.TheVariants as forms
 use Rattle.jengine.specs.declared.program.Program.{Program}
-use Rattle.jengine.specs.declared.domains.Domains.{Domains}
+use Rattle.jengine.specs.Checking.{Domains}
 use Rattle.jengine.specs.declared.state.State.{State}
 use Rattle.jengine.specs.Programs.{form_at}
 use Rattle.jengine.specs.Turns.{Turn, Outcome, outcome_of}

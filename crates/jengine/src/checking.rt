@@ -2,17 +2,16 @@ ghost use Rattle.std.specs.Prelude.{◌≡◌, ◌<◌, ◌^◌, ℕ, List, IfOk
 ghost use Rattle.std.specs.Option.{option_copied};
 ghost use Rattle.jdomain.specs.declared.verdict.Verdict.TheVariants.{Denied};
 ghost use Rattle.jengine.specs.declared.state.State.{State as Before};
-ghost use Rattle.jengine.specs.Granting.{has};
+ghost use Rattle.jdomain.specs.Domains.{has};
 ghost use Rattle.jdomain.specs.Stacks.{walk};
 ghost use Rattle.jengine.specs.Turns.{outcome_of, charged, Matches};
 ghost use Rattle.jengine.specs.Checking.{check_row, entries, stack_of, value_of, denial_cells, judged};
 
-use crate::domains::Domains;
 use crate::frames::Frames;
 use crate::raising::{EXCEPTION_CELLS, Exception, raise};
 use crate::state::{Object, State};
 use crate::stepped::{Stepped, one};
-use jdomain::Verdict;
+use jdomain::{Domains, Verdict};
 use jperm::Permission;
 use jtrace::Event;
 use std::alloc::{AllocError, Global};
@@ -34,7 +33,7 @@ fn walk_frames(domains: &Domains, frames: &Frames, asked: &Permission) -> Verdic
 {
     let mut newer = 0;
     while let Some(frame) = frames.get(newer) {
-        if !domains.has(frame.domain, asked) {
+        if !domains.implies(frame.domain, asked) {
             return Verdict::Denied(frame.domain);
         }
         newer += 1;
@@ -46,7 +45,7 @@ fn walk_frames(domains: &Domains, frames: &Frames, asked: &Permission) -> Verdic
 fn walk(domains: &Domains, state: &State, asked: &Permission) -> Verdict
     ensures { result ≡ walk (has domains.now) asked.now (stack_of state.now) }
 {
-    if !domains.has(state.frame.domain, asked) {
+    if !domains.implies(state.frame.domain, asked) {
         return Verdict::Denied(state.frame.domain);
     }
     walk_frames(domains, &state.below, asked)

@@ -3,7 +3,6 @@
 
 mod calling;
 mod checking;
-mod domains;
 mod frames;
 mod laws;
 mod making;
@@ -17,11 +16,10 @@ mod stepped;
 mod stepping;
 mod straight;
 
-pub use domains::Domains;
 pub use frames::{Frame, Frames};
 pub use laws::run_laws;
 pub use newest::Newest;
-pub use plan::{DEFAULT_DEPTH, DEFAULT_HEAP, DEFAULT_STEPS, Plan};
+pub use plan::Plan;
 pub use program::{Form, Method, Program};
 pub use running::run_inspect;
 pub use state::{Constant, Object, State};

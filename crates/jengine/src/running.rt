@@ -6,7 +6,6 @@ ghost use Rattle.jengine.specs.Turns.{told_by, ended_by, state_behind};
 ghost use Rattle.jengine.specs.Steps.{step};
 ghost use Rattle.jengine.specs.Runs.{run, run_text, ending, opening_state};
 
-use crate::domains::Domains;
 use crate::frames::{Frame, Frames};
 use crate::newest::Newest;
 use crate::plan::Plan;
@@ -15,6 +14,7 @@ use crate::state::State;
 use crate::stepped::Stepped;
 use crate::stepping::step;
 use jbase::Seq;
+use jdomain::Domains;
 use jio::Sink;
 use jtrace::{End, Event, RunFault, write_end, write_event};
 use std::alloc::Global;

@@ -4,12 +4,12 @@ ghost use Rattle.jengine.specs.Steps.{step};
 
 use crate::calling::{call, go_back};
 use crate::checking::check_permission;
-use crate::domains::Domains;
 use crate::making::{init_permission, load_text, new_permission};
 use crate::program::{Form, Program};
 use crate::state::State;
 use crate::stepped::Stepped;
 use crate::straight::{dup, nop, pop};
+use jdomain::Domains;
 use std::alloc::{AllocError, Global};
 
 /// One step of a thread that may have `depth` frames.

@@ -1,5 +1,2 @@
-pub mod Grants
 pub mod Indices
-pub mod Jobs
 pub mod Joins
-pub mod Urls

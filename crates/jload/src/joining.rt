@@ -6,7 +6,7 @@ ghost use Rattle.jload.specs.Joins.{begins_with, form_in, good_names, is_free, i
 ghost use Rattle.jload.specs.Indices.{find_in};
 
 use crate::index::{ClassIndex, find_in, index_of, same_kind};
-use crate::text::widened;
+use crate::widening::widened;
 use jbase::{EachSome, Seq, each_some_of};
 use jengine::{Form, Method, Program};
 use jform::{ClassForm, MethodForm, Op};

@@ -6,4 +6,6 @@ mod classes;
 #[cfg(test)]
 mod job;
 #[cfg(test)]
+mod policies;
+#[cfg(test)]
 mod rows;

@@ -34,6 +34,9 @@ const TO_SIGNED: &str =
 
 const GRANTED: &str = "grant 0 (\"java.util.PropertyPermission\" \"x\" \"read\")\nend finished\n";
 
+const GRANTED_BOUND: &str =
+    "grant 0 (\"java.util.PropertyPermission\" \"x\" \"read\")\nend bound\n";
+
 const DENIED_BY_0: &str = "deny 0 (\"java.util.PropertyPermission\" \"x\" \"read\") domain 0\n\
     throw 0 java.security.AccessControlException\n\
     uncaught 0 java.security.AccessControlException\n\
@@ -89,6 +92,69 @@ fn one_class(rt: HostRuntime) -> Result<(), AllocError> {
     Ok(())
 }
 
+/// Code bases that stand for more than one code source, or for none.
+#[test]
+fn code_bases(rt: HostRuntime) -> Result<(), AllocError> {
+    let alloc = rt.alloc();
+    let rows: [(&str, &str); 4] = [
+        (
+            "grant codeBase \"file:/-\" { permission java.util.PropertyPermission \"*\", \"read\"; };",
+            GRANTED,
+        ),
+        (
+            "grant codeBase \"file:/*\" { permission java.util.PropertyPermission \"*\", \"read\"; };",
+            DENIED_BY_0,
+        ),
+        (
+            "grant codeBase \"file:///a\" { permission java.util.PropertyPermission \"x\", \"read\"; };",
+            GRANTED,
+        ),
+        (
+            "grant codeBase \"no url\" { permission java.security.AllPermission; };",
+            DENIED_BY_0,
+        ),
+    ];
+    for (policy, text) in rows {
+        let files = [
+            ("job", Text(ONE)),
+            ("app.policy", Text(policy)),
+            ("Main.class", Hex(ROW_ONE)),
+        ];
+        let got = answered(alloc, &RUN, &files, NONE)?;
+        assert!(rt; got.text.as_slice() == text.as_bytes());
+    }
+    Ok(())
+}
+
+/// The limits that a job sets: a check takes 7 steps and 14 cells, and a denied one 61 cells more.
+#[test]
+fn limits(rt: HostRuntime) -> Result<(), AllocError> {
+    let alloc = rt.alloc();
+    let rows: [(&str, &str, &str, Status); 8] = [
+        ("steps 0", TO_A, "end bound\n", Status::Bound),
+        ("steps 5", TO_A, "end bound\n", Status::Bound),
+        ("steps 6", TO_A, GRANTED_BOUND, Status::Bound),
+        ("steps 7", TO_A, GRANTED, Status::Finished),
+        ("heap 14", TO_A, GRANTED, Status::Finished),
+        ("heap 2", TO_A, "end heap\n", Status::HeapFull),
+        ("heap 75", "", DENIED_BY_0, Status::Uncaught),
+        ("heap 74", "", "end heap\n", Status::HeapFull),
+    ];
+    for (limit, policy, text, status) in rows {
+        let mut job = String::from_str(alloc, ONE)?;
+        job.push_str(limit)?;
+        let files = [
+            ("job", Text(job.as_str())),
+            ("app.policy", Text(policy)),
+            ("Main.class", Hex(ROW_ONE)),
+        ];
+        let got = answered(alloc, &RUN, &files, NONE)?;
+        assert!(rt; got.text.as_slice() == text.as_bytes());
+        assert!(rt; got.status == status);
+    }
+    Ok(())
+}
+
 /// Two code sources: which of the two domains has the permission decides.
 #[test]
 fn two_classes(rt: HostRuntime) -> Result<(), AllocError> {
@@ -114,7 +180,7 @@ fn two_classes(rt: HostRuntime) -> Result<(), AllocError> {
 }
 
 /// A job, its policy and its class file, and in which words they are refused.
-const REFUSED: [(Content<'static>, Content<'static>, Content<'static>, &str); 16] = [
+const REFUSED: [(Content<'static>, Content<'static>, Content<'static>, &str); 18] = [
     (
         Text("policy app.policy\ncode file:/a/\nclass Main.class\nmain Mein\n"),
         Text(TO_A),
@@ -128,22 +194,28 @@ const REFUSED: [(Content<'static>, Content<'static>, Content<'static>, &str); 16
         "refused main M\\u00e9\\ud83d\\ude00\\\\\n",
     ),
     (
+        Text("code file:/a/\nclasses x\n"),
+        Text(TO_A),
+        Hex(ROW_ONE),
+        "refused job 2\n",
+    ),
+    (
+        Text("code file:/a\n"),
+        Text(TO_A),
+        Hex(ROW_ONE),
+        "refused job 1\n",
+    ),
+    (
         Text("code file:/a/\n"),
         Text(TO_A),
         Hex(ROW_ONE),
-        "refused unbuilt job\n",
+        "refused job 2\n",
     ),
     (
-        Bytes(b"main \xff\n"),
+        Bytes(b"policy none\nmain \xff\n"),
         Text(TO_A),
         Hex(ROW_ONE),
-        "refused unbuilt job\n",
-    ),
-    (
-        Text(ONE),
-        Text("grant codeBase \"file:/a/-\" { };\n"),
-        Hex(ROW_ONE),
-        "refused unbuilt app.policy\n",
+        "refused job 2\n",
     ),
     (
         Text(ONE),
@@ -198,7 +270,13 @@ const REFUSED: [(Content<'static>, Content<'static>, Content<'static>, &str); 16
         "refused unbuilt job\n",
     ),
     (
-        Text("policy app.policy\ncode file:/a/\nclass Main.class\nmain Main\nsteps 5\n"),
+        Text("policy app.policy\ncode file:/a/\nclass Main.class\nclass m.class\nmain Main\n"),
+        Text(TO_A),
+        Hex(ROW_ONE),
+        "refused unbuilt job\n",
+    ),
+    (
+        Text("policy app.policy\ncode file:/a/\nclass Main.class\ncode file:/b/\nmain Main\n"),
         Text(TO_A),
         Hex(ROW_ONE),
         "refused unbuilt job\n",
@@ -273,13 +351,15 @@ fn cut_class_files(rt: HostRuntime) -> Result<(), AllocError> {
 #[test]
 fn wrong_words(rt: HostRuntime) -> Result<(), AllocError> {
     let alloc = rt.alloc();
-    let rows: [&[&str]; 7] = [
+    let rows: [&[&str]; 9] = [
         &[],
         &["run"],
         &["run", "job"],
         &["run", "--form=fast", "job"],
         &["run", "--form=inspect", "-job"],
         &["run", "--form=inspect", "job", "job"],
+        &["policy", "--form=inspect", "job"],
+        &["check", "job"],
         &["--help"],
     ];
     for words in rows {

@@ -6,9 +6,9 @@ mod class_forms;
 #[cfg(test)]
 mod events;
 #[cfg(test)]
-mod library;
+mod joining;
 #[cfg(test)]
-mod loading;
+mod library;
 #[cfg(test)]
 mod operations;
 #[cfg(test)]

@@ -1,9 +1,8 @@
 use jbase::Seq;
-use jengine::{
-    DEFAULT_DEPTH, DEFAULT_HEAP, DEFAULT_STEPS, Domains, Form, Method, Plan, Program, run_inspect,
-};
+use jdomain::{CodeSource, Domains};
+use jengine::{Form, Method, Plan, Program, run_inspect};
 use jio::MemorySink;
-use jperm::{Actions, Permission, PropertyActions};
+use jpolicy::read_policy;
 use jtext::Units;
 use jtrace::End;
 use std::alloc::{AllocError, Global};
@@ -48,20 +47,41 @@ fn program(methods: Vec<Method>) -> Program {
     }
 }
 
+const TO_0: &[u8] =
+    b"grant codeBase \"file:/0/\" { permission java.util.PropertyPermission \"x\", \"read\"; };";
+
+const TO_1: &[u8] =
+    b"grant codeBase \"file:/1/\" { permission java.util.PropertyPermission \"x\", \"read\"; };";
+
+const TO_ALL: &[u8] = b"grant { permission java.util.PropertyPermission \"x\", \"read\"; };";
+
+/// Domains 0 and 1, by their policy.
+fn opened(alloc: Global, policy: &[u8]) -> Result<Domains, AllocError> {
+    if 0x7fff_ffff < policy.len() {
+        return Err(AllocError);
+    }
+    let Ok(policy) = read_policy(alloc, policy, &[]) else {
+        return Err(AllocError);
+    };
+    let mut sources = Vec::new(alloc);
+    for url in ["file:/0/", "file:/1/"] {
+        let Ok(source) = CodeSource::read(alloc, url) else {
+            return Err(AllocError);
+        };
+        sources.push(source)?;
+    }
+    let cwd = Units::from_text(alloc, "/")?;
+    Domains::open(alloc, &policy, &sources, &cwd)
+}
+
 /// Domains 0 and 1, each with the permission to read the property `x` where it says so.
 fn domains(alloc: Global, has: [bool; 2]) -> Result<Domains, AllocError> {
-    let mut granted = Seq::new(alloc);
-    for one in has {
-        let mut permissions = Seq::new(alloc);
-        if one {
-            permissions.push(Permission::Property {
-                name: Units::from_text(alloc, "x")?,
-                actions: PropertyActions::new(Actions::READ),
-            })?;
-        }
-        granted.push(permissions)?;
+    match has {
+        [false, false] => opened(alloc, b""),
+        [true, false] => opened(alloc, TO_0),
+        [false, true] => opened(alloc, TO_1),
+        [true, true] => opened(alloc, TO_ALL),
     }
-    Ok(Domains { granted })
 }
 
 /// What a run writes, and how it ends.
@@ -81,9 +101,9 @@ fn limits(heap: u32, depth: u32, steps: u64) -> Plan {
 }
 
 const USUAL: Plan = Plan {
-    heap: DEFAULT_HEAP,
-    depth: DEFAULT_DEPTH,
-    steps: DEFAULT_STEPS,
+    heap: 1_048_576,
+    depth: 1_000,
+    steps: 10_000_000,
 };
 
 #[test]
@@ -147,7 +167,7 @@ fn a_chain_is_walked_newest_first(rt: HostRuntime) -> Result<(), Fail> {
             code: calls(alloc, 1)?,
         };
         let program = program(vec![in alloc; check, middle, main]?);
-        let plan = limits(DEFAULT_HEAP, depth, DEFAULT_STEPS);
+        let plan = limits(USUAL.heap, depth, USUAL.steps);
         let (out, _) = shown(alloc, &program, has, &plan)?;
         assert!(rt; out.bytes() == text.as_bytes(), "at {text}");
     }

@@ -83,23 +83,43 @@ fn calls(rt: HostRuntime) -> Result<(), Fail> {
     Ok(())
 }
 
-#[test]
-fn privileges(rt: HostRuntime) -> Result<(), Fail> {
-    let alloc = rt.alloc();
+/// A privilege of domain 2 with one limit, behind a call of domain 0.
+fn limited(alloc: Global) -> Result<Context, AllocError> {
     let limit = [reads(alloc, "y")?];
     let behind = called(alloc, &[0])?;
-    let limited = privileged(alloc, 2, None, Some(&limit), &behind)?;
-    assert!(rt; shown(alloc, &limited)?.as_str() == "2'0");
-    let unlimited = privileged(alloc, 2, None, Some(&[]), &behind)?;
-    assert!(rt; shown(alloc, &unlimited)?.as_str() == "20");
+    privileged(alloc, 2, None, Some(&limit), &behind)
+}
+
+#[test]
+fn privileges_with_a_limit(rt: HostRuntime) -> Result<(), Fail> {
+    let alloc = rt.alloc();
+    let once = limited(alloc)?;
+    let limit = [reads(alloc, "y")?];
+    let twice = privileged(alloc, 2, None, Some(&limit), &once)?;
+    assert!(rt; shown(alloc, &once)?.as_bytes() == b"2'0".as_slice());
+    assert!(rt; shown(alloc, &twice)?.as_bytes() == b"2'0".as_slice());
+    Ok(())
+}
+
+#[test]
+fn privileges_without_a_limit(rt: HostRuntime) -> Result<(), Fail> {
+    let alloc = rt.alloc();
+    let behind = called(alloc, &[0])?;
+    let none_of_them = privileged(alloc, 2, None, Some(&[]), &behind)?;
     let alone = privileged(alloc, 2, None, None, &behind)?;
-    assert!(rt; shown(alloc, &alone)?.as_str() == "2");
+    assert!(rt; shown(alloc, &none_of_them)?.as_bytes() == b"20".as_slice());
+    assert!(rt; shown(alloc, &alone)?.as_bytes() == b"2".as_slice());
+    Ok(())
+}
+
+#[test]
+fn privileges_within_a_context(rt: HostRuntime) -> Result<(), Fail> {
+    let alloc = rt.alloc();
+    let limit = [reads(alloc, "y")?];
     let given = called(alloc, &[2])?;
     let behind = called(alloc, &[1, 0])?;
     let within = privileged(alloc, 1, Some(&given), Some(&limit), &behind)?;
-    assert!(rt; shown(alloc, &within)?.as_str() == "12'0");
-    let twice = privileged(alloc, 2, None, Some(&limit), &limited)?;
-    assert!(rt; shown(alloc, &twice)?.as_str() == "2'0");
+    assert!(rt; shown(alloc, &within)?.as_bytes() == b"12'0".as_slice());
     Ok(())
 }
 

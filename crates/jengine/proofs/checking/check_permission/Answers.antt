@@ -1,7 +1,7 @@
 use Rattle.std.proofs.Common.{rules, refl, ◌≡◌, Some}
 use Rattle.std.specs.List.{slice_get}
 use Rattle.jdomain.specs.declared.verdict.Verdict.TheVariants.{Denied}
-use Rattle.jengine.specs.Granting.{has}
+use Rattle.jdomain.specs.Domains.{has}
 use Rattle.jdomain.specs.Stacks.{walk}
 use Rattle.jengine.specs.Checking.{value_of, stack_of}
 use Rattle.jengine.proofs.Checks.{check_denied}

@@ -1,5 +1,5 @@
 use Rattle.std.proofs.Common.{◌≡◌, ◌-◌, drop, length}
-use Rattle.jengine.specs.Granting.{has}
+use Rattle.jdomain.specs.Domains.{has}
 use Rattle.jdomain.specs.Stacks.{walk}
 use Rattle.jengine.specs.Checking.{entries}
 use Rattle.jengine.proofs.checking.walk_frames.Given as goal

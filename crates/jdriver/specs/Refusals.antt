@@ -1,0 +1,77 @@
+-- The lines of refusals.
+use Rattle.std.specs.Prelude.{ℕ, List, ◌++◌, Option, Some, None, codes, decimal}
+use Rattle.jio.specs.Text.{written}
+use Rattle.jtext.specs.Texts.{units_of_text}
+use Rattle.jclass.specs.declared.fault.ClassFault.{ClassFault}
+use Rattle.jclass.specs.declared.fault.ClassFault.TheVariants as kinds
+use Rattle.jpolicy.specs.declared.fault.PolicyFault.{PolicyFault}
+use Rattle.jpolicy.specs.declared.fault.PolicyFault.TheVariants as policies
+use Rattle.jdriver.specs.declared.refusal.Refusal.{Refusal}
+use Rattle.jdriver.specs.declared.refusal.Refusal.TheVariants.{BadJob, BadPolicy, BadClass, Unbuilt, NoMain}
+
+-- some words and a text, which is written as texts are in lines
+abbrev pub text_line : List ℕ → List ℕ → List ℕ
+text_line words units = words ++ (written units ++ codes "\n")
+
+-- ---- the refusal of a job
+
+abbrev pub job_line : ℕ → List ℕ
+job_line line = codes "refused job " ++ (decimal line ++ codes "\n")
+
+-- ---- the refusal of a class file
+
+-- a fault's name
+unfoldable pub class_word : ClassFault → List ℕ
+class_word kinds.Truncated = codes "truncated"
+class_word kinds.Magic = codes "magic"
+class_word kinds.Version = codes "version"
+class_word kinds.Tag = codes "tag"
+class_word kinds.Trailing = codes "trailing"
+class_word kinds.Text = codes "text"
+class_word kinds.Index = codes "index"
+class_word kinds.Name = codes "name"
+class_word kinds.Descriptor = codes "descriptor"
+class_word kinds.Code = codes "code"
+class_word (kinds.Opcode opcode) = codes "opcode"
+class_word (kinds.LeftOut opcode) = codes "leftout"
+class_word kinds.Operand = codes "operand"
+class_word kinds.Target = codes "target"
+class_word kinds.Reserved = codes "reserved"
+class_word kinds.MapTag = codes "maptag"
+class_word kinds.MapLeftOut = codes "leftout"
+class_word kinds.Maps = codes "maps"
+
+-- the opcode that it names, if it does
+unfoldable pub class_opcode : ClassFault → Option ℕ
+class_opcode (kinds.Opcode opcode) = Some opcode
+class_opcode (kinds.LeftOut opcode) = Some opcode
+class_opcode _ = None
+
+-- what stands behind the name, to the end of the line
+abbrev pub behind_word : Option ℕ → List ℕ
+behind_word None = codes "\n"
+behind_word (Some opcode) = codes " " ++ (decimal opcode ++ codes "\n")
+
+abbrev pub class_text : List ℕ → ℕ → List ℕ → Option ℕ → List ℕ
+class_text path at word opcode = codes "refused class " ++ (written path ++ (codes " at " ++ (decimal at ++ (codes " " ++ (word ++ behind_word opcode)))))
+
+abbrev pub class_line : List ℕ → ℕ → ClassFault → List ℕ
+class_line path at kind = class_text (units_of_text path) at (class_word kind) (class_opcode kind)
+
+-- ---- the refusal of a policy
+
+unfoldable pub policy_word : PolicyFault → List ℕ
+policy_word policies.NotUtf8 = codes "not-utf8"
+policy_word policies.Syntax = codes "syntax"
+policy_word policies.SelfExpansion = codes "self-expansion"
+
+abbrev pub policy_line : ℕ → PolicyFault → List ℕ
+policy_line at kind = codes "refused policy " ++ (decimal at ++ (codes " " ++ (policy_word kind ++ codes "\n")))
+
+-- a refusal's line
+abbrev pub refusal_line : Refusal → List ℕ
+refusal_line (BadJob line) = job_line line
+refusal_line (BadPolicy at kind) = policy_line at kind
+refusal_line (BadClass path at kind) = class_line path at kind
+refusal_line (Unbuilt path) = text_line (codes "refused unbuilt ") (units_of_text path)
+refusal_line (NoMain name) = text_line (codes "refused main ") name

@@ -1,0 +1,118 @@
+-- What is to be done at a command with the files that are held: they are read in the order job, policy, class files, and each is
+-- judged before the next is read; then the classes join, and then `main` is looked for.
+use Rattle.std.specs.Prelude.{◌≡◌, ℕ, ◌-◌, Bool, true, false, List, [], length, Option, Some, None, Result, Ok, Err, if◌then◌else◌}
+use Rattle.std.specs.List.{flat_map}
+use Rattle.jbase.specs.Each.{each}
+use Rattle.jbase.specs.Stops.{◌>>=◌}
+use Rattle.jio.specs.Held.{File}
+use Rattle.jtext.specs.Modified.{group}
+use Rattle.jform.specs.declared.form.ClassForm.{ClassForm}
+use Rattle.jform.specs.Forms.{form_of}
+use Rattle.jformat.specs.declared.error.At.{At}
+use Rattle.jformat.specs.declared.error.Fault.{Fault}
+use Rattle.jclass.specs.declared.class.ClassParts.{ClassParts}
+use Rattle.jclass.specs.declared.fault.ClassFault.{ClassFault}
+use Rattle.jclass.specs.Class.{class_file}
+use Rattle.jpolicy.specs.declared.fault.PolicyFault.{PolicyFault}
+use Rattle.jpolicy.specs.declared.grant.Grant.{Grant}
+use Rattle.jpolicy.specs.Policies.{policy}
+use Rattle.jjob.specs.declared.command.Command.{Command}
+use Rattle.jjob.specs.declared.command.Command.TheVariants as commands
+use Rattle.jjob.specs.declared.command.Form.TheVariants.{Inspect}
+use Rattle.jjob.specs.declared.job.Job.{Job}
+use Rattle.jjob.specs.Jobs.{job}
+use Rattle.jengine.specs.declared.program.Method.{Method}
+use Rattle.jload.specs.Joins.{joined, main_of}
+use Rattle.jdriver.specs.declared.refusal.Refusal.TheVariants.{BadJob, BadPolicy, BadClass, Unbuilt, NoMain}
+use Rattle.jdriver.specs.declared.ground.Ground.{Ground}
+use Rattle.jdriver.specs.declared.task.Task.{Task}
+use Rattle.jdriver.specs.declared.task.Task.TheVariants as tasks
+use Rattle.jdriver.specs.Grounds.{ground_of}
+use Rattle.jdriver.specs.Stages.{Stopped, Missing, Refused, judged, bytes_at}
+
+-- ---- the job and its policy
+
+-- the job that is read, or its refusal at the first bad line
+abbrev pub job_read : Result Job ℕ → Result Job Stopped
+job_read (Ok it) = Ok it
+job_read (Err line) = Err (Refused (BadJob line))
+
+-- the job at a path
+unfoldable pub job_at : List File → List ℕ → Result Job Stopped
+job_at files path = bytes_at files path >>= λ bytes. job_read (job bytes)
+
+-- the grants that are read, or their refusal at the first fault
+abbrev pub grants_read : Result (List Grant) (At PolicyFault) → Result (List Grant) Stopped
+grants_read (Ok grants) = Ok grants
+grants_read (Err fault) = Err (Refused (BadPolicy fault.at fault.kind))
+
+-- the grants of a job's policy, expanded by the job's properties; a job without a policy has none
+abbrev pub grants_of : List File → List (List ℕ × List ℕ) → Option (List ℕ) → Result (List Grant) Stopped
+grants_of files props None = Ok []
+grants_of files props (Some path) = bytes_at files path >>= λ bytes. grants_read (policy props bytes)
+
+unfoldable pub grants_at : List File → Job → Result (List Grant) Stopped
+grants_at files it = grants_of files it.props it.policy
+
+-- what the job at a path and its policy say
+unfoldable pub ground_at : List File → List ℕ → Result Ground Stopped
+ground_at files path = job_at files path >>= λ it. grants_at files it >>= λ grants. Ok (ground_of it grants)
+
+-- ---- class files
+
+-- the class file that is read, or its refusal at the first fault
+abbrev pub class_read : List ℕ → List ℕ → Result ClassParts (Fault ClassFault) → Result ClassParts Stopped
+class_read path bytes (Ok class) = Ok class
+class_read path bytes (Err fault) = Err (Refused (BadClass path (length bytes - fault.left) fault.kind))
+
+-- what the class file says that bytes spell
+abbrev pub class_in : List ℕ → List ℕ → Result ClassForm Stopped
+class_in path bytes = class_read path bytes (class_file.read bytes) >>= λ class. judged (Unbuilt path) (form_of class)
+
+-- what the class file at a path says
+unfoldable pub class_at : List File → List ℕ → Result ClassForm Stopped
+class_at files path = bytes_at files path >>= λ bytes. class_in path bytes
+
+-- ---- a run
+
+-- the methods of classes that join, one class for each code source
+abbrev pub methods_of : Bool → List ClassForm → Option (List Method)
+methods_of single classes = if single then joined classes else None
+
+-- the run of these classes of the job at a path
+abbrev pub run_of_classes : List ℕ → Ground → List ClassForm → Result Task Stopped
+run_of_classes path g classes =
+    judged (Unbuilt path) (methods_of g.single classes) >>= λ methods.
+    judged (NoMain g.main) (main_of classes methods (flat_map group g.main)) >>= λ program.
+    Ok (tasks.Run program g.domains g.plan)
+
+unfoldable pub run_of_ground : List File → List ℕ → Ground → Result Task Stopped
+run_of_ground files path g = each (class_at files) g.paths >>= λ classes. run_of_classes path g classes
+
+unfoldable pub run_at : List File → List ℕ → Result Task Stopped
+run_at files path = ground_at files path >>= λ g. run_of_ground files path g
+
+-- ---- by verb
+
+-- what the job at a path grants; no class file is read
+unfoldable pub policy_at : List File → List ℕ → Result Task Stopped
+policy_at files path = ground_at files path >>= λ g. Ok (tasks.Policy g.sources g.domains)
+
+-- the commands that are built
+abbrev pub built : Command → Bool
+built (commands.Run Inspect path) = true
+built (commands.Policy path) = true
+built _ = false
+
+-- What a command asks for. The others aren't built, and nobody comes with one.
+unfoldable pub task : Command → List File → Result Task Stopped
+task (commands.Run form path) files = run_at files path
+task (commands.Policy path) files = policy_at files path
+task _ files = Err Missing
+
+-- ---- tasks
+
+-- each code source has its permissions
+abbrev pub IsWhole : Task → Type 0
+IsWhole (tasks.Run program domains plan) = Unit {0}
+IsWhole (tasks.Policy sources domains) = length domains ≡ length sources

@@ -1,8 +1,0 @@
-use Rattle.std.proofs.Common.{rules, ◌==◌}
-use Rattle.std.proofs.lemmas.Iterator.Search.{all_from_yields_List}
-use Rattle.std.proofs.lemmas.Iterator.Splits.{YieldsList-from_slice_split}
-use Rattle.jload.specs.Urls.{is_part}
-use Rattle.jload.proofs.url.all_parts.Goals as goal
-
-pub returns : goal.returns
-returns c = all_from_yields_List is_part _ _ c.all.result c.all.ensures.ran (YieldsList-from_slice_split _ (λ b. b == 47) c.args.text.now c.split.ensures.rest c.split.ensures.done c.split.ensures.closure (λ x b q h. search rules)) (λ x b q h. search rules)
