@@ -1,0 +1,6 @@
+pub mod Branches
+pub mod Distances
+pub mod Numbers
+pub mod Ranges
+pub mod Sizes
+pub mod Spelling
