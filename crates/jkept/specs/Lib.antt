@@ -1,0 +1,4 @@
+pub mod Entries
+pub mod Paths
+pub mod Settled
+pub mod Things
