@@ -41,7 +41,7 @@ one_name : (parts : List CodePart) (d m : List ℕ) (i : ℕ) → place_of parts
 one_name [] d m i ed em = absurd (no_place i d ed)
 one_name (q ∷ ps) d m i ed em = sym (place_named (q ∷ ps) m i q em) ∙ place_named (q ∷ ps) d i q ed
 
-some_is : {A : Type 0} (x y : A) → Some x ≡ Some y → x ≡ y
+pub some_is : {A : Type 0} (x y : A) → Some x ≡ Some y → x ≡ y
 some_is x y e = cc
 
 set_get : (bs : List Bool) (i j : ℕ) → is_marked (slice_get (slice_set bs i true) j) ≡ true → (is_marked (slice_get bs j) ≡ true) ⊎ (i ≡ j)
@@ -60,7 +60,7 @@ closed_by parts closed d m (Some i) (Some j) ed em e = elim (set_get closed i j 
 ]
 
 -- what is marked was marked, or is the name that is gone through now
-closed_or : (p : Program) (closed : List Bool) (d m : List ℕ) → is_closed p (closing p closed d) m ≡ true → (is_closed p closed m ≡ true) ⊎ (m ≡ d)
+pub closed_or : (p : Program) (closed : List Bool) (d m : List ℕ) → is_closed p (closing p closed d) m ≡ true → (is_closed p closed m ≡ true) ⊎ (m ≡ d)
 closed_or p closed d m e = closed_by p.parts closed d m (place_of p.parts d) (place_of p.parts m) refl refl e
 
 set_length : (bs : List Bool) (i : ℕ) → length (slice_set bs i true) ≡ length bs
@@ -68,7 +68,7 @@ set_length [] i = refl
 set_length (b ∷ bs) zero = refl
 set_length (b ∷ bs) (suc i) = ap (λ (n : ℕ). suc n) (set_length bs i)
 
-closing_length : (closed : List Bool) (o : Option ℕ) → length (closing_at closed o) ≡ length closed
+pub closing_length : (closed : List Bool) (o : Option ℕ) → length (closing_at closed o) ≡ length closed
 closing_length closed None = refl
 closing_length closed (Some i) = set_length closed i
 
@@ -158,7 +158,7 @@ unclosed_set p (q ∷ ps) (true ∷ bs) zero part at unmarked lt = absurd cc
 unclosed_set p (q ∷ ps) (false ∷ bs) zero part at unmarked lt = let same : q ≡ part = some_is q part at in rw same (omega arith)
 unclosed_set p (q ∷ ps) (b ∷ bs) (suc i) part at unmarked lt = let ih = unclosed_set p ps bs i part at unmarked (omega arith) in omega arith
 
-slice_get-within : {A : Type 0} (xs : List A) (i : ℕ) (x : A) → slice_get xs i ≡ Some x → i < length xs
+pub slice_get-within : {A : Type 0} (xs : List A) (i : ℕ) (x : A) → slice_get xs i ≡ Some x → i < length xs
 slice_get-within [] i x e = absurd cc
 slice_get-within (y ∷ ys) zero x e = omega arith
 slice_get-within (y ∷ ys) (suc i) x e = let ih = slice_get-within ys i x e in omega arith
@@ -296,7 +296,7 @@ visit_costs p d ds closed each unmarked = visit_at p d ds closed (place_of p.par
 
 -- ---- the names that wait
 
-waiting-push : (xs : List (Bor (List ℕ))) (x : Bor (List ℕ)) → waiting_names (xs ++ x ∷ []) ≡ x.now ∷ waiting_names xs
+pub waiting-push : (xs : List (Bor (List ℕ))) (x : Bor (List ℕ)) → waiting_names (xs ++ x ∷ []) ≡ x.now ∷ waiting_names xs
 waiting-push [] x = refl
 waiting-push (y ∷ ys) x = ap (λ (ns : List (List ℕ)). ns ++ y.now ∷ []) (waiting-push ys x)
 
@@ -324,13 +324,13 @@ face_missing names k lt le none = absurd (get_there names (k - 1) (omega arith) 
 
 -- ---- the steps of the loop, by what its calls say
 
-wait-popped : (items more : List (Bor (List ℕ))) (x : Bor (List ℕ)) → items ≡ more ++ x ∷ [] → waiting_names items ≡ x.now ∷ waiting_names more
+pub wait-popped : (items more : List (Bor (List ℕ))) (x : Bor (List ℕ)) → items ≡ more ++ x ∷ [] → waiting_names items ≡ x.now ∷ waiting_names more
 wait-popped items more x pop = ap waiting_names pop ∙ waiting-push more x
 
 put_is : (p : Program) (c : List ℕ) (o : Option Class) (ws new : List (List ℕ)) → o ≡ find p c → new ≡ faces_of o ++ ws → new ≡ face_names p c ++ ws
 put_is p c o ws new is put = put ∙ ap (λ (q : Option Class). faces_of q ++ ws) is
 
-none_at_end : (xs : List (List ℕ)) → xs ++ [] ≡ xs
+pub none_at_end : (xs : List (List ℕ)) → xs ++ [] ≡ xs
 none_at_end [] = refl
 none_at_end (x ∷ xs) = ap (λ (ys : List (List ℕ)). x ∷ ys) (none_at_end xs)
 

@@ -1,5 +1,7 @@
 pub mod Chains
+pub mod Circling
 pub mod Choices
+pub mod Climbing
 pub mod Counts
 pub mod Going
 pub mod Marked
@@ -8,4 +10,5 @@ pub mod Order
 pub mod Overriding
 pub mod Packages
 pub mod Search
+pub mod Settling
 pub mod Table

@@ -13,11 +13,11 @@ unmarked zero i = refl
 unmarked (suc n) zero = refl
 unmarked (suc n) (suc i) = unmarked n i
 
-none_at : (n : ℕ) (o : Option ℕ) → is_closed_at (replicate n false) o ≡ false
+pub none_at : (n : ℕ) (o : Option ℕ) → is_closed_at (replicate n false) o ≡ false
 none_at n None = refl
 none_at n (Some i) = unmarked n i
 
-replicate_length : (n : ℕ) → length (replicate n false) ≡ n
+pub replicate_length : (n : ℕ) → length (replicate n false) ≡ n
 replicate_length zero = refl
 replicate_length (suc n) = ap (λ k. suc k) (replicate_length n)
 

@@ -1,3 +1,4 @@
+pub mod Circles
 pub mod Classes
 pub mod Heights
 pub mod Layers

@@ -2,6 +2,7 @@
 #![tactic(auto)]
 
 mod access;
+mod circles;
 mod classes;
 mod facts;
 mod fault;

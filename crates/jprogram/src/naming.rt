@@ -5,7 +5,8 @@ ghost use Rattle.jprogram.specs.Naming.{marks_in, text_marks};
 ghost use Rattle.jprogram.specs.Parts;
 
 use crate::classes::NamedProgram;
-use crate::fault::LinkKind;
+use crate::fault::{LinkFault, LinkKind};
+use crate::part::CodePart;
 use crate::parts::this_name;
 use jclass::{ClassParts, MemberInfo};
 use jlib::{Side, class};
@@ -214,5 +215,40 @@ impl NamedProgram {
             return Some(LinkKind::Twice);
         }
         None
+    }
+
+    fn naming_test(
+        &self,
+        alloc: Global,
+        i: u32,
+        part: &CodePart,
+    ) -> Result<Option<LinkKind>, AllocError>
+        ensures { IfOk result (λ o. o ≡ Naming.naming_test self.now i part.now) }
+    {
+        let class = part.class.parts();
+        if let Some(kind) = self.reserved_test(alloc, class)? {
+            return Ok(Some(kind));
+        }
+        Ok(self.taken_test(i, class))
+    }
+
+    /// The first class that names one of the package `sps` in a program for the source library, or whose name is the library's or that
+    /// of a class before it.
+    #[tactic(auto, unfolding(jbase::specs::First::first_along, crate::specs::Naming::naming_fault))]
+    pub fn naming_fault(&self, alloc: Global) -> Result<Option<LinkFault>, AllocError>
+        ensures { IfOk result (λ o. o ≡ Naming.naming_fault self.now) }
+    {
+        let parts = self.parts();
+        for (i, part) in parts.iter().enumerate() {
+            let class = i as u32;
+            if let Some(kind) = self.naming_test(alloc, class, part)? {
+                return Ok(Some(LinkFault {
+                    class,
+                    member: None,
+                    kind,
+                }));
+            }
+        }
+        Ok(None)
     }
 }

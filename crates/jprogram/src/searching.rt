@@ -33,7 +33,10 @@ fn put_faces<'a>(waiting: &mut Vec<&'a [u8]>, class: Found<'a>) -> Result<(), Al
     Ok(())
 }
 
-fn put_faces_of<'a>(waiting: &mut Vec<&'a [u8]>, class: Option<Found<'a>>) -> Result<(), AllocError>
+pub fn put_faces_of<'a>(
+    waiting: &mut Vec<&'a [u8]>,
+    class: Option<Found<'a>>,
+) -> Result<(), AllocError>
     ensures { OnOk result (waiting_names waiting.new.items ≡ Classes.faces_of (option_map seen class.entry) ++ waiting_names waiting.old.items) }
 {
     match class {
@@ -52,7 +55,7 @@ impl NamedProgram {
         }
     }
 
-    fn is_closed(&self, closed: &[bool], name: &[u8]) -> bool
+    pub(crate) fn is_closed(&self, closed: &[bool], name: &[u8]) -> bool
         ensures { result ≡ Layers.is_closed self.now closed.now name.now }
     {
         let Some(i) = self.place_of(name) else {
@@ -64,7 +67,7 @@ impl NamedProgram {
         }
     }
 
-    fn close(&self, closed: &mut Seq<bool>, name: &[u8])
+    pub(crate) fn close(&self, closed: &mut Seq<bool>, name: &[u8])
         requires { length closed.old ≡ length self.now.parts }
         ensures { closed.new ≡ Layers.closing self.now closed.old name.now }
     {

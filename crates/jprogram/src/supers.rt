@@ -1,12 +1,14 @@
-ghost use Rattle.std.specs.Prelude.{◌≡◌, option_map};
+ghost use Rattle.std.specs.Prelude.{◌≡◌, IfOk, option_map};
 ghost use Rattle.jprogram.specs.Classes;
 ghost use Rattle.jprogram.specs.Supers;
 
 use crate::classes::{NamedProgram, OBJECT};
-use crate::fault::LinkKind;
+use crate::fault::{LinkFault, LinkKind};
+use crate::part::CodePart;
 use crate::parts::{class_text, super_name};
 use bitflags::Flags;
 use jclass::{Access, ClassParts};
+use std::alloc::{AllocError, Global};
 
 fn is_object(name: Option<&[u8]>) -> bool
     ensures { result ≡ Supers.is_object (option_map (λ t. t.now) name.entry) }
@@ -101,5 +103,39 @@ impl NamedProgram {
             return Some(LinkKind::BadSuper);
         }
         None
+    }
+
+    fn supers_test(&self, alloc: Global, part: &CodePart) -> Result<Option<LinkKind>, AllocError>
+        ensures { IfOk result (λ o. o ≡ Supers.supers_test self.now part.now) }
+    {
+        let class = part.class.parts();
+        if let Some(kind) = self.missing_test(class) {
+            return Ok(Some(kind));
+        }
+        if let Some(kind) = self.super_test(class) {
+            return Ok(Some(kind));
+        }
+        let circle = self.circle_test(alloc, class)?;
+        Ok(circle)
+    }
+
+    /// The first class that has no superclass or stands below one that isn't there, or below one that may not stand there, or above
+    /// itself.
+    #[tactic(auto, unfolding(jbase::specs::First::first_along, crate::specs::Supers::supers_fault))]
+    pub fn supers_fault(&self, alloc: Global) -> Result<Option<LinkFault>, AllocError>
+        ensures { IfOk result (λ o. o ≡ Supers.supers_fault self.now) }
+    {
+        let parts = self.parts();
+        for (i, part) in parts.iter().enumerate() {
+            let class = i as u32;
+            if let Some(kind) = self.supers_test(alloc, part)? {
+                return Ok(Some(LinkFault {
+                    class,
+                    member: None,
+                    kind,
+                }));
+            }
+        }
+        Ok(None)
     }
 }

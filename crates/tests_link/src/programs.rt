@@ -1,11 +1,12 @@
 use hex::decode;
 use jclass::read_class;
 use jlib::{LibCall, LibClass, PermissionInit, Side};
-use jprogram::LinkKind::{BadSuper, NoClass, ReservedName, Twice};
+use jprogram::LinkKind::{BadSuper, Circular, NoClass, ReservedName, Twice};
 use jprogram::Member::{Field, LibField, LibMethod, Method};
 use jprogram::Selected::{Abstract, Missing};
 use jprogram::{
-    CallKind, ClassId, ClassRef, CodePart, LinkKind, Member, MethodId, NamedProgram, Selected,
+    CallKind, ClassId, ClassRef, CodePart, LinkFault, LinkKind, Member, MethodId, NamedProgram,
+    Selected,
 };
 use std::alloc::Global;
 use std::test::Fail;
@@ -517,4 +518,91 @@ fn taken_names(rt: HostRuntime) {
     assert!(rt; program.taken_test(0, first.class.parts()) == None);
     assert!(rt; program.taken_test(1, second.class.parts()) == Some(Twice));
     assert!(rt; program.taken_test(2, third.class.parts()) == Some(Twice));
+}
+
+/// `a/A`, which extends `sps/Base`.
+const RESERVED: &str =
+    "cafebabe000000340005010003612f410700010100087370732f426173650700030021000200040000000000000000";
+
+/// `c/Z`, which extends `c/X`.
+const BELOW: &str =
+    "cafebabe000000340005010003632f5a070001010003632f580700030021000200040000000000000000";
+
+/// A class of the library's name `java/lang/Exception`, which extends RuntimeException, and so itself.
+const THROWN: &str =
+    "cafebabe0000003400050100136a6176612f6c616e672f457863657074696f6e07000101001a6a6176612f6c616e672f\
+    52756e74696d65457863657074696f6e0700030021000200040000000000000000";
+
+fn fault(class: u32, kind: LinkKind) -> Option<LinkFault> {
+    Some(LinkFault {
+        class,
+        member: None,
+        kind,
+    })
+}
+
+/// The first class whose name may not stand, or that names one that may not.
+#[test]
+fn first_faults_of_names(rt: HostRuntime) -> Result<(), Fail> {
+    let alloc = rt.alloc();
+    let rows: [(&str, &[&str], Option<LinkFault>); 5] = [
+        ("none", &CLASSES, None),
+        (
+            "a name again",
+            &[UPPER, OTHER, OTHER, UPPER],
+            fault(2, Twice),
+        ),
+        ("the library's", &[UPPER, THROWN], fault(1, Twice)),
+        (
+            "a reserved one",
+            &[UPPER, RESERVED, UPPER],
+            fault(1, ReservedName),
+        ),
+        ("both", &[RESERVED, UPPER, RESERVED], fault(0, ReservedName)),
+    ];
+    for (row, files, found) in rows {
+        let program = program(alloc, Side::Source, files).expect(&rt, "classes");
+        assert!(rt; program.naming_fault(alloc)? == found, "{row}");
+    }
+    Ok(())
+}
+
+/// The first class below one that isn't there or may not stand there, or above itself.
+#[test]
+fn first_faults_of_supers(rt: HostRuntime) -> Result<(), Fail> {
+    let alloc = rt.alloc();
+    let rows: [(&str, &[&str], Option<LinkFault>); 6] = [
+        ("none", &CLASSES, None),
+        ("one that isn't there", &[UPPER, FIRST], fault(1, NoClass)),
+        (
+            "superclasses in a circle",
+            &[UPPER, SECOND, FIRST],
+            fault(1, Circular),
+        ),
+        (
+            "below a circle",
+            &[BELOW, FIRST, SECOND],
+            fault(1, Circular),
+        ),
+        ("interfaces in a circle", &ROUND, fault(0, Circular)),
+        ("through the library", &[UPPER, THROWN], fault(1, Circular)),
+    ];
+    for (row, files, found) in rows {
+        let program = program(alloc, Side::Source, files).expect(&rt, "classes");
+        assert!(rt; program.supers_fault(alloc)? == found, "{row}");
+    }
+    Ok(())
+}
+
+/// A class stands above itself, or only below such ones.
+#[test]
+fn circles(rt: HostRuntime) -> Result<(), Fail> {
+    let alloc = rt.alloc();
+    let program = program(alloc, Side::Source, &[BELOW, FIRST, SECOND]).expect(&rt, "classes");
+    let [below, first, ..] = program.parts() else {
+        return Ok(());
+    };
+    assert!(rt; program.circle_test(alloc, below.class.parts())? == None);
+    assert!(rt; program.circle_test(alloc, first.class.parts())? == Some(Circular));
+    Ok(())
 }
