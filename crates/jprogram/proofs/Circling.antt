@@ -13,11 +13,11 @@ use Rattle.jprogram.proofs.Settling.{clash, name_equal, name_is, or_both, or_rig
 
 -- ---- lists
 
-all_weaken : {A : Type 0} (P Q : A → Type 0) → ((x : A) → P x → Q x) → (xs : List A) → AllByRecursion P xs → AllByRecursion Q xs
+pub all_weaken : {A : Type 0} (P Q : A → Type 0) → ((x : A) → P x → Q x) → (xs : List A) → AllByRecursion P xs → AllByRecursion Q xs
 all_weaken P Q h [] all = tt
 all_weaken P Q h (x ∷ xs) all = (h x all.0, all_weaken P Q h xs all.1)
 
-abbrev Among : List (List ℕ) → List ℕ → Type 0
+abbrev pub Among : List (List ℕ) → List ℕ → Type 0
 Among ws s = list_any (bytes_eq s) ws ≡ true
 
 among_left : (xs ys : List (List ℕ)) (s : List ℕ) → Among xs s → Among (xs ++ ys) s
@@ -31,15 +31,15 @@ among_right (x ∷ xs) ys s e = or_right (bytes_eq s x) (list_any (bytes_eq s) (
 among_head : (x : List ℕ) (xs : List (List ℕ)) → Among (x ∷ xs) x
 among_head x xs = rw (name_equal x) refl
 
-among_each : (xs : List (List ℕ)) → AllByRecursion (Among xs) xs
+pub among_each : (xs : List (List ℕ)) → AllByRecursion (Among xs) xs
 among_each [] = tt
 among_each (x ∷ xs) = (among_head x xs, all_weaken (Among xs) (Among (x ∷ xs)) (λ s e. or_right (bytes_eq s x) (list_any (bytes_eq s) xs) e) xs (among_each xs))
 
-or_split : (a b : Bool) → (a || b) ≡ true → (a ≡ true) ⊎ (b ≡ true)
+pub or_split : (a b : Bool) → (a || b) ≡ true → (a ≡ true) ⊎ (b ≡ true)
 or_split true b e = inl refl
 or_split false b e = inr e
 
-any_split : {A : Type 0} (t : A → Bool) (xs ys : List A) → list_any t (xs ++ ys) ≡ true → (list_any t xs ≡ true) ⊎ (list_any t ys ≡ true)
+pub any_split : {A : Type 0} (t : A → Bool) (xs ys : List A) → list_any t (xs ++ ys) ≡ true → (list_any t xs ≡ true) ⊎ (list_any t ys ≡ true)
 any_split t [] ys e = inr e
 any_split t (x ∷ xs) ys e = elim (or_split (t x) (list_any t (xs ++ ys)) e) [
   | inl h ↦ inl (rw h refl)

@@ -20,7 +20,7 @@ use Rattle.jprogram.proofs.Going.{only_runnable, place_there, slice_get-within, 
 -- ---- the library's classes
 
 -- none of them stands below Thread, which alone lists an interface
-abbrev faces_at : Option LibClass → ℕ
+abbrev pub faces_at : Option LibClass → ℕ
 faces_at None = 0
 faces_at (Some s) = length (option_to_list (library.implemented s))
 
@@ -58,7 +58,7 @@ permission_faces permission.SecurityPermission = refl
 permission_faces permission.PropertyPermission = refl
 permission_faces permission.FilePermission = refl
 
-above_faces : (c : LibClass) → faces_at (library.superclass c) ≡ 0
+pub above_faces : (c : LibClass) → faces_at (library.superclass c) ≡ 0
 above_faces lib.Object = refl
 above_faces (lib.Thrown t) = thrown_faces t
 above_faces lib.AccessControlException = refl

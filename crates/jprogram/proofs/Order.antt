@@ -1,110 +1,124 @@
--- Heights that are tested give that no class or interface stands among its own interfaces.
-use Rattle.std.proofs.Common.{◌≡◌, ℕ, ◌+◌, ◌<◌, ◌≤◌, Bool, true, List, [], ◌∷◌, length, map, get_or, Option, Some, None, refl, sym, ap, subst, ◌∙◌, arith}
-use Rattle.std.specs.Prelude.{IsTrue, codes, nat_lt, option_map, slice_get, ◌==◌}
-use Rattle.std.specs.List.{list_all}
+-- Heights that are tested give that no class stands above itself.
+use Rattle.std.proofs.Common.{◌≡◌, ℕ, zero, suc, ◌+◌, ◌<◌, ◌≤◌, ◌||◌, ◌&&◌, Bool, true, false, List, [], ◌∷◌, ◌++◌, length, Option, Some, None, refl, sym, ap, subst, arith, inl, inr}
+use Rattle.std.specs.Prelude.{IsTrue, is_some, not, slice_get}
+use Rattle.std.specs.List.{list_all, AllByRecursion}
 use Rattle.std.specs.Option.{option_to_list}
-use Rattle.std.proofs.lemmas.Bool.{eqb-true, ltb-true, lt-ltb}
-use Rattle.std.proofs.lemmas.Option.{get_or_from_slice_get}
-use Rattle.jformat.proofs.Steps.{both, first_true, second_true}
-use Rattle.jpool.proofs.PoolLaws.{at_index}
+use Rattle.std.specs.Str.{bytes_eq}
+use Rattle.std.proofs.lemmas.Bool.{ltb-true}
+use Rattle.jformat.proofs.Steps.{first_true, second_true}
+use Rattle.jclass.specs.declared.class.ClassParts.{ClassParts}
 use Rattle.jlib.specs.declared.classes.LibClass.{LibClass}
-use Rattle.jlib.specs.declared.classes.LibClass.TheVariants as lib
 use Rattle.jlib.specs.Classes as library
+use Rattle.jlib.proofs.Found.{next_above}
 use Rattle.jprogram.specs.declared.part.CodePart.{CodePart}
-use Rattle.jprogram.specs.Parts.{class_text, interface_names, this_name}
-use Rattle.jprogram.specs.Classes.{Class, Lib, Program, User, faces_of, find, found_at, known, place_of}
-use Rattle.jprogram.specs.Heights.{height_in, height_of, is_above, is_below, is_order, is_part_above}
-use Rattle.jprogram.specs.Layers.{IsLayered}
-use Rattle.jprogram.proofs.Chains.{known_count}
-use Rattle.jprogram.proofs.Going.{only_runnable, place_named, place_there}
+use Rattle.jprogram.specs.Parts.{class_text, interface_names, super_name, this_name}
+use Rattle.jprogram.specs.Circles.{supers_of}
+use Rattle.jprogram.specs.Classes.{Class, Program, known, reaches, supers}
+use Rattle.jprogram.specs.Heights.{height_in, height_of, is_above, is_below, is_order, is_part_above, super_below}
+use Rattle.jbase.specs.First.{fault_if}
+use Rattle.jprogram.specs.declared.fault.LinkKind.TheVariants.{Circular}
+use Rattle.jprogram.specs.Standing.{IsStraight}
+use Rattle.jprogram.specs.Supers.{circle_test}
+use Rattle.jprogram.proofs.Circling.{all_weaken, or_split}
+use Rattle.jprogram.proofs.Going.{some_is}
+use Rattle.jprogram.proofs.Settling.{name_is}
+use Rattle.jprogram.proofs.Standing.{LibStep, NamesApart, Stands, Users, Libs, Nowhere, all_append, all_of_map, any_of_all, lib_steps, stands}
 
 -- ---- lists
 
-all_map : {A B : Type 0} (t : B → Bool) (g : A → B) (xs : List A) → IsTrue (list_all (λ x. t (g x)) xs) → IsTrue (list_all t (map g xs))
-all_map t g [] a = a
-all_map t g (x ∷ xs) a = both (t (g x)) (list_all t (map g xs)) (first_true (t (g x)) (list_all (λ y. t (g y)) xs) a) (all_map t g xs (second_true (t (g x)) (list_all (λ y. t (g y)) xs) a))
+is_not : (b : Bool) → IsTrue (not b) → b ≡ false
+is_not true e = absurd cc
+is_not false e = refl
 
--- ---- the library
+all_of_true : {A : Type 0} (t : A → Bool) (xs : List A) → IsTrue (list_all t xs) → AllByRecursion (λ x. IsTrue (t x)) xs
+all_of_true t [] e = tt
+all_of_true t (x ∷ xs) e = (first_true (t x) (list_all t xs) e, all_of_true t xs (second_true (t x) (list_all t xs) e))
 
-one_at_most : {A : Type 0} (o : Option A) → length (option_to_list o) ≤ 1
-one_at_most None = omega arith
-one_at_most (Some x) = omega arith
+at_place : {A : Type 0} (t : A → Bool) (xs : List A) (i : ℕ) (x : A) → IsTrue (list_all t xs) → slice_get xs i ≡ Some x → IsTrue (t x)
+at_place t [] i x all at = absurd cc
+at_place t (y ∷ ys) zero x all at = subst (λ z. IsTrue (t z)) (some_is y x at) (first_true (t y) (list_all t ys) all)
+at_place t (y ∷ ys) (suc i) x all at = at_place t ys i x (second_true (t y) (list_all t ys) all) at
 
-lib_lower : (p : Program) (heights : List ℕ) (o : Option LibClass) → height_of p heights (codes "java/lang/Runnable") ≡ 0 → ((i : LibClass) → o ≡ Some i → i ≡ lib.Runnable)
-    → IsTrue (list_all (λ d. nat_lt (height_of p heights d) (length (option_to_list (option_map library.name_of o)))) (option_to_list (option_map library.name_of o)))
-lib_lower p heights None none only = refl
-lib_lower p heights (Some i) none only =
-    let name : library.name_of i ≡ codes "java/lang/Runnable" = ap library.name_of (only i refl) in
-    let low : height_of p heights (library.name_of i) ≡ 0 = ap (height_of p heights) name ∙ none in
-    both (nat_lt (height_of p heights (library.name_of i)) 1) true (lt-ltb (height_of p heights (library.name_of i)) 1 (omega (arith, low))) refl
-
--- ---- the classes of a program
+-- ---- what the test says
 
 module _ (p : Program) (heights : List ℕ) (good : IsTrue (is_order p heights)) where
-  runnable : height_of p heights (codes "java/lang/Runnable") ≡ 0
-  unfolding is_order
-  runnable = eqb-true (height_of p heights (codes "java/lang/Runnable")) 0 (first_true (height_of p heights (codes "java/lang/Runnable") == 0) (list_all (is_part_above p heights) p.parts) good)
-
-  each : (i : ℕ) (part : CodePart) → slice_get p.parts i ≡ Some part → IsTrue (is_above p heights (height_of p heights (this_name part.class)) part)
+  each : (i : ℕ) (part : CodePart) → slice_get p.parts i ≡ Some part → IsTrue (not (is_some (library.class_named p.side (this_name part.class))) && is_above p heights (height_of p heights (this_name part.class)) part.class)
   unfolding is_order is_part_above
-  each i part at = at_index (is_part_above p heights) p.parts i part (second_true (height_of p heights (codes "java/lang/Runnable") == 0) (list_all (is_part_above p heights) p.parts) good) at
+  each i part at = at_place (is_part_above p heights) p.parts i part good at
 
-  -- the part of a name
-  named : (c : List ℕ) (i : ℕ) (part : CodePart) → place_of p.parts c ≡ Some i → slice_get p.parts i ≡ Some part → this_name part.class ≡ c
-  named c i part e at =
-      let is : get_or p.parts i part ≡ part = get_or_from_slice_get p.parts i part part at in
-      ap (λ (x : CodePart). this_name x.class) (sym is) ∙ place_named p.parts c i part e
+  apart : NamesApart p
+  apart i part at = is_not (is_some (library.class_named p.side (this_name part.class))) (first_true (not (is_some (library.class_named p.side (this_name part.class)))) (is_above p heights (height_of p heights (this_name part.class)) part.class) (each i part at))
 
-  above_of : (c : List ℕ) (i : ℕ) (part : CodePart) → place_of p.parts c ≡ Some i → slice_get p.parts i ≡ Some part → IsTrue (is_above p heights (height_of p heights c) part)
-  above_of c i part e at = subst (λ (n : List ℕ). IsTrue (is_above p heights (height_of p heights n) part)) (named c i part e at) (each i part at)
+  Low : ℕ → List ℕ → Type 0
+  Low n s = height_of p heights s < n
 
-  user_is : (c : List ℕ) (i : ℕ) (part : CodePart) → place_of p.parts c ≡ Some i → slice_get p.parts i ≡ Some part → find p c ≡ Some (User i part.class)
-  unfolding find
-  user_is c i part e at = ap (found_at p c) e ∙ ap (option_map (λ (x : CodePart). User i x.class)) at
-
-  lib_is : (c : List ℕ) → place_of p.parts c ≡ None → find p c ≡ option_map Lib (library.class_named p.side c)
-  unfolding find
-  lib_is c e = ap (found_at p c) e
-
-  lib_within : (o : Option LibClass) → height_in heights (option_map Lib o) ≤ length (known p)
-  lib_within None = omega arith
-  lib_within (Some c) = let one = one_at_most (option_map library.name_of (library.implemented c)) in omega (arith, one, known_count p)
-
-  within_at : (c : List ℕ) (o : Option ℕ) → place_of p.parts c ≡ o → height_of p heights c ≤ length (known p)
-  within_at c None e = subst (λ (q : Option Class). height_in heights q ≤ length (known p)) (sym (lib_is c e)) (lib_within (library.class_named p.side c))
-  within_at c (Some i) e =
-      let there = place_there p.parts c i e in
-      let lt : height_of p heights c < length (known p) + 1 =
-      ltb-true (height_of p heights c) (length (known p) + 1) (first_true (nat_lt (height_of p heights c) (length (known p) + 1)) (list_all (λ i. is_below p heights (height_of p heights c) (class_text there.0.class.pool i)) there.0.class.interfaces) (above_of c i there.0 e there.1)) in
-      omega (arith, lt)
-
-  Low : Option Class → Type 0
-  Low q = IsTrue (list_all (λ d. nat_lt (height_of p heights d) (height_in heights q)) (faces_of q))
-
-  lib_low : (o : Option LibClass) → Low (option_map Lib o)
+  super_low : (n : ℕ) (o : Option (List ℕ)) → IsTrue (super_below p heights n o) → AllByRecursion (Low n) (option_to_list o)
   unfolding Low
-  lib_low None = refl
-  lib_low (Some c) = lib_lower p heights (library.implemented c) runnable (only_runnable c)
+  super_low n None e = tt
+  super_low n (Some s) e = (ltb-true (height_of p heights s) n e, tt)
 
-  user_low : (c : List ℕ) (i : ℕ) (part : CodePart) → place_of p.parts c ≡ Some i → slice_get p.parts i ≡ Some part → Low (Some (User i part.class))
+  faces_low : (n : ℕ) (c : ClassParts) → IsTrue (list_all (λ i. is_below p heights n (class_text c.pool i)) c.interfaces) → AllByRecursion (Low n) (interface_names c)
   unfolding Low
-  user_low c i part e at =
-      let is : height_of p heights c ≡ height_in heights (Some (User i part.class)) = ap (height_in heights) (user_is c i part e at) in
-      let each_low = second_true (nat_lt (height_of p heights c) (length (known p) + 1)) (list_all (λ k. is_below p heights (height_of p heights c) (class_text part.class.pool k)) part.class.interfaces) (above_of c i part e at) in
-      let all = all_map (is_below p heights (height_of p heights c)) (class_text part.class.pool) part.class.interfaces each_low in
-      subst (λ (n : ℕ). IsTrue (list_all (is_below p heights n) (interface_names part.class))) is all
+  faces_low n c e =
+      let all = all_of_true (λ i. is_below p heights n (class_text c.pool i)) c.interfaces e in
+      all_of_map (Low n) (class_text c.pool) c.interfaces (all_weaken (λ i. IsTrue (is_below p heights n (class_text c.pool i))) (λ i. Low n (class_text c.pool i)) (λ i h. ltb-true (height_of p heights (class_text c.pool i)) n h) c.interfaces all)
 
-  low_at : (c : List ℕ) (o : Option ℕ) → place_of p.parts c ≡ o → Low (find p c)
-  low_at c None e = subst (λ (q : Option Class). Low q) (sym (lib_is c e)) (lib_low (library.class_named p.side c))
-  low_at c (Some i) e = let there = place_there p.parts c i e in subst (λ (q : Option Class). Low q) (sym (user_is c i there.0 e there.1)) (user_low c i there.0 e there.1)
+  user_low : (n : ℕ) (c : ClassParts) → IsTrue (is_above p heights n c) → AllByRecursion (Low n) (option_to_list (super_name c) ++ interface_names c)
+  user_low n c e =
+      let above = first_true (super_below p heights n (super_name c)) (list_all (λ i. is_below p heights n (class_text c.pool i)) c.interfaces) e in
+      let listed = second_true (super_below p heights n (super_name c)) (list_all (λ i. is_below p heights n (class_text c.pool i)) c.interfaces) e in
+      all_append (Low n) (option_to_list (super_name c)) (interface_names c) (super_low n (super_name c) above) (faces_low n c listed)
 
-  layers : IsLayered p
+  low_at : (c : List ℕ) → Stands p c → AllByRecursion (Low (height_of p heights c)) (supers p c)
   unfolding Low
-  layers = record {
-    height = height_of p heights;
-    within = λ c. within_at c (place_of p.parts c) refl;
-    lower = λ c. low_at c (place_of p.parts c) refl;
-  }
+  low_at c (Users i part at name is) =
+      let one = second_true (not (is_some (library.class_named p.side (this_name part.class)))) (is_above p heights (height_of p heights (this_name part.class)) part.class) (each i part at) in
+      let here : IsTrue (is_above p heights (height_of p heights c) part.class) = subst (λ (n : List ℕ). IsTrue (is_above p heights (height_of p heights n) part.class)) name one in
+      subst (λ (o : Option Class). AllByRecursion (Low (height_of p heights c)) (supers_of o)) (sym is) (user_low (height_of p heights c) part.class here)
+  low_at c (Libs l named is) = all_weaken (LibStep p apart l) (Low (height_of p heights c)) (λ s step.
+      let less = step.less in
+      let below = ap (height_in heights) step.is in
+      let here = ap (height_in heights) is in
+      omega (arith, less, below, here)) (supers p c) (lib_steps p apart l c is)
+  low_at c (Nowhere none) = subst (λ (o : Option Class). AllByRecursion (Low (height_of p heights c)) (supers_of o)) (sym none) tt
 
-pub order_is_layered : (p : Program) (heights : List ℕ) → is_order p heights ≡ true → IsLayered p
-order_is_layered p heights good = layers p heights good
+  -- what is reached is lower
+  reached_by_order : (n : ℕ) (c d : List ℕ) → reaches p n d c ≡ true → height_of p heights d < height_of p heights c
+  unfolding reaches Low
+  reached_by_order zero c d e = absurd cc
+  reached_by_order (suc n) c d e = any_of_all (λ s. bytes_eq d s || reaches p n d s) (Low (height_of p heights c)) (supers p c) e (low_at c (stands p c)) (λ s h lt. elim (or_split (bytes_eq d s) (reaches p n d s) h) [
+    | inl same ↦ let at = ap (height_of p heights) (name_is d s same) in omega (arith, lt, at)
+    | inr far ↦ let less = reached_by_order n s d far in omega (arith, lt, less)
+  ])
+
+  never : (b : Bool) → (b ≡ true → ⊥) → b ≡ false
+  never true h = absurd (h refl)
+  never false h = refl
+
+  not_itself : IsStraight p
+  not_itself c = never (reaches p (length (known p)) c c) (λ e. let lt = reached_by_order (length (known p)) c c e in omega (arith, lt))
+
+pub order_is_straight : (p : Program) (heights : List ℕ) → is_order p heights ≡ true → IsStraight p
+order_is_straight p heights good = not_itself p heights good
+
+-- ---- the heights of the library's classes
+
+upward_most : (n : ℕ) (o : Option LibClass) → length (library.upward n o) ≤ n
+upward_most zero o = omega arith
+upward_most (suc n) None = omega arith
+upward_most (suc n) (Some c) = let ih = upward_most n (library.superclass c) in omega (arith, ih)
+
+pub height_most : (c : LibClass) → library.height c ≤ 46
+height_most c = upward_most 46 (library.superclass c)
+
+pub height_next : (c s : LibClass) → Some s ≡ library.superclass c → library.height c ≡ library.height s + 1
+height_next c s e = let one : library.height c ≡ suc (library.height s) = ap (λ (xs : List LibClass). length xs) (next_above c s (sym e)) in omega (arith, one)
+
+pub height_top : (c : LibClass) → None ≡ library.superclass c → library.height c ≡ 0
+height_top c e = ap (λ (o : Option LibClass). length (library.upward 46 o)) (sym e)
+
+-- ---- where no class stands above itself
+
+pub straight_none : (p : Program) (c : ClassParts) (straight : Bool) → straight ≡ true → (straight ≡ true → IsStraight p) → None ≡ circle_test p c
+unfolding circle_test
+straight_none p c straight is all = ap (λ (b : Bool). fault_if b Circular) (sym (all is (this_name c)))

@@ -36,7 +36,7 @@ pub any_more : {A : Type 0} (s t : A → Bool) → ((x : A) → Implies (s x) (t
 any_more s t h [] e = e
 any_more s t h (x ∷ xs) e = or_both (s x) (list_any s xs) (t x) (list_any t xs) (h x) (any_more s t h xs) e
 
-same_bool : (a b : Bool) → Implies a b → Implies b a → a ≡ b
+pub same_bool : (a b : Bool) → Implies a b → Implies b a → a ≡ b
 same_bool true b f g = sym (f refl)
 same_bool false true f g = g refl
 same_bool false false f g = refl
@@ -46,7 +46,7 @@ clash b t f = absurd cc
 
 -- ---- counting
 
-count : {A : Type 0} → (A → Bool) → List A → ℕ
+pub count : {A : Type 0} → (A → Bool) → List A → ℕ
 count t [] = 0
 count t (x ∷ xs) = cond (t x) 1 0 + count t xs
 
@@ -54,13 +54,13 @@ one_most : (b : Bool) (m n : ℕ) → m ≤ n → cond b 1 0 + m ≤ suc n
 one_most true m n le = omega arith
 one_most false m n le = omega arith
 
-count_most : {A : Type 0} (t : A → Bool) (xs : List A) → count t xs ≤ length xs
+pub count_most : {A : Type 0} (t : A → Bool) (xs : List A) → count t xs ≤ length xs
 unfolding count
 count_most t [] = omega arith
 count_most t (x ∷ xs) = one_most (t x) (count t xs) (length xs) (count_most t xs)
 
 -- what passes the second test passes the first
-abbrev Passes : {A : Type 0} → (A → Bool) → (A → Bool) → List A → Type 0
+abbrev pub Passes : {A : Type 0} → (A → Bool) → (A → Bool) → List A → Type 0
 Passes t s xs = AllByRecursion (λ x. Implies (t x) (s x)) xs
 
 grow_at : {A : Type 0} (s t : A → Bool) (x : A) (xs : List A) (a b : Bool) → s x ≡ a → t x ≡ b → Implies a b → (Passes t s xs) ⊎ (count s xs < count t xs) → count s xs ≤ count t xs
@@ -82,7 +82,7 @@ fewer s t h [] = omega arith
 fewer s t h (x ∷ xs) = fewer_at (s x) (t x) (count s xs) (count t xs) (h x) (fewer s t h xs)
 
 -- of two tests the weaker lets no more pass, or more
-grow : {A : Type 0} (s t : A → Bool) → ((x : A) → Implies (s x) (t x)) → (xs : List A) → (Passes t s xs) ⊎ (count s xs < count t xs)
+pub grow : {A : Type 0} (s t : A → Bool) → ((x : A) → Implies (s x) (t x)) → (xs : List A) → (Passes t s xs) ⊎ (count s xs < count t xs)
 unfolding count
 grow s t h [] = inl tt
 grow s t h (x ∷ xs) = grow_at s t x xs (s x) (t x) refl refl (h x) (grow s t h xs) (fewer s t h xs)
@@ -130,7 +130,7 @@ pick_at : (t : List ℕ → Type 0) (c x : List ℕ) (xs : List (List ℕ)) (b :
 pick_at t c x xs true here later is e = subst t (sym (name_is c x is)) here
 pick_at t c x xs false here later is e = later e
 
-pick : (t : List ℕ → Type 0) (c : List ℕ) (xs : List (List ℕ)) → AllByRecursion t xs → list_any (bytes_eq c) xs ≡ true → t c
+pub pick : (t : List ℕ → Type 0) (c : List ℕ) (xs : List (List ℕ)) → AllByRecursion t xs → list_any (bytes_eq c) xs ≡ true → t c
 pick t c [] all e = absurd cc
 pick t c (x ∷ xs) all e = pick_at t c x xs (bytes_eq c x) all.0 (pick t c xs all.1) refl e
 
@@ -161,7 +161,7 @@ module _ (p : Program) where
   known_at c None e = elim (lib_or c (library.class_named p.side c) refl) [ inl none ↦ inl (ap (found_at p c) e ∙ none) | inr one ↦ inr one ]
 
   -- a name that is found is known
-  known_or : (c : List ℕ) → (classes.find p c ≡ None) ⊎ (list_any (bytes_eq c) (known p) ≡ true)
+  pub known_or : (c : List ℕ) → (classes.find p c ≡ None) ⊎ (list_any (bytes_eq c) (known p) ≡ true)
   known_or c = known_at c (place_of p.parts c) refl
 
   -- ---- settling
@@ -176,7 +176,7 @@ module _ (p : Program) where
     more zero c e = absurd cc
     more (suc n) c e = any_more (λ s. bytes_eq d s || R n s) (λ s. bytes_eq d s || R (suc n) s) (λ s. or_more (bytes_eq d s) (R n s) (R (suc n) s) (more n s)) (supers p c) e
 
-    none_over : (c : List ℕ) (n : ℕ) → classes.find p c ≡ None → R n c ≡ false
+    pub none_over : (c : List ℕ) (n : ℕ) → classes.find p c ≡ None → R n c ≡ false
     unfolding reaches
     none_over c zero e = refl
     none_over c (suc n) e = ap (λ (o : Option Class). list_any (λ s. bytes_eq d s || R n s) (option_to_list (option_and_then classes.above o) ++ classes.faces_of o)) e

@@ -1,9 +1,13 @@
--- Heights by which no class or interface stands among its own interfaces.
-use Rattle.std.specs.Prelude.{ℕ, ◌+◌, Bool, ◌&&◌, List, length, Option, Some, None, nat_lt, slice_get, codes, ◌==◌}
+-- Heights by which no class stands above itself.
+use Rattle.std.specs.Prelude.{ℕ, ◌+◌, Bool, true, ◌&&◌, not, List, length, Option, Some, None, is_some, nat_lt, slice_get}
 use Rattle.std.specs.List.{list_all}
+use Rattle.std.specs.Option.{option_to_list}
+use Rattle.jclass.specs.declared.class.ClassParts.{ClassParts}
+use Rattle.jlib.specs.declared.classes.LibClass.{LibClass}
+use Rattle.jlib.specs.Classes as library
 use Rattle.jprogram.specs.declared.part.CodePart.{CodePart}
-use Rattle.jprogram.specs.Parts.{class_text, this_name}
-use Rattle.jprogram.specs.Classes.{Class, Lib, Program, User, faces, find, known}
+use Rattle.jprogram.specs.Parts.{class_text, super_name, this_name}
+use Rattle.jprogram.specs.Classes.{Class, Lib, Program, User, find}
 
 abbrev pub or_zero : Option ℕ → ℕ
 or_zero None = 0
@@ -13,24 +17,33 @@ or_zero (Some n) = n
 abbrev pub height_at : List ℕ → ℕ → ℕ
 height_at heights i = or_zero (slice_get heights i)
 
+-- the height of a class of the library: how many stand above it, and one more where it lists an interface
+abbrev pub lib_height : LibClass → ℕ
+lib_height c = library.height c + length (option_to_list (library.implemented c))
+
 abbrev pub height_in : List ℕ → Option Class → ℕ
 height_in heights None = 0
 height_in heights (Some (User i c)) = height_at heights i
-height_in heights (Some (Lib c)) = length (faces (Lib c))
+height_in heights (Some (Lib c)) = lib_height c
 
--- the height of a name: of the library's classes Thread alone lists an interface
+-- the height of a name
 abbrev pub height_of : Program → List ℕ → List ℕ → ℕ
 height_of p heights name = height_in heights (find p name)
 
 abbrev pub is_below : Program → List ℕ → ℕ → List ℕ → Bool
-is_below p heights height face = nat_lt (height_of p heights face) height
+is_below p heights height name = nat_lt (height_of p heights name) height
 
--- a part's height is no greater than the number of the known classes, and greater than those of the interfaces that it lists
-abbrev pub is_above : Program → List ℕ → ℕ → CodePart → Bool
-is_above p heights height part = nat_lt height (length (known p) + 1) && list_all (λ i. is_below p heights height (class_text part.class.pool i)) part.class.interfaces
+abbrev pub super_below : Program → List ℕ → ℕ → Option (List ℕ) → Bool
+super_below p heights height None = true
+super_below p heights height (Some name) = is_below p heights height name
 
+-- a height is greater than those of a class's superclass and of the interfaces that it lists
+abbrev pub is_above : Program → List ℕ → ℕ → ClassParts → Bool
+is_above p heights height c = super_below p heights height (super_name c) && list_all (λ i. is_below p heights height (class_text c.pool i)) c.interfaces
+
+-- a part has a name that the library hasn't, and its height is greater than those of what stands directly above it
 unfoldable pub is_part_above : Program → List ℕ → CodePart → Bool
-is_part_above p heights part = is_above p heights (height_of p heights (this_name part.class)) part
+is_part_above p heights part = not (is_some (library.class_named p.side (this_name part.class))) && is_above p heights (height_of p heights (this_name part.class)) part.class
 
 unfoldable pub is_order : Program → List ℕ → Bool
-is_order p heights = (height_of p heights (codes "java/lang/Runnable") == 0) && list_all (is_part_above p heights) p.parts
+is_order p heights = list_all (is_part_above p heights) p.parts

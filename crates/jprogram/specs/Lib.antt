@@ -1,6 +1,8 @@
+pub mod Bits
 pub mod Circles
 pub mod Classes
 pub mod Heights
+pub mod Implementing
 pub mod Layers
 pub mod Members
 pub mod Names
@@ -8,4 +10,5 @@ pub mod Naming
 pub mod Parts
 pub mod Seen
 pub mod Shortly
+pub mod Standing
 pub mod Supers

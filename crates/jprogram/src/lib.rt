@@ -7,7 +7,9 @@ mod classes;
 mod facts;
 mod fault;
 mod found;
-mod layers;
+mod heights;
+mod implemented;
+mod laws;
 mod main_method;
 mod member;
 mod members;
@@ -20,10 +22,13 @@ mod referring;
 mod resolving;
 mod searching;
 mod selecting;
+mod sets;
 mod supers;
 
 pub use classes::NamedProgram;
 pub use fault::{LinkFault, LinkKind};
+pub use implemented::Interfaces;
+pub use laws::{number_laws, program_laws};
 pub use member::{CallKind, ClassId, Member, MethodId, Selected};
 pub use part::{ClassRef, CodePart};
 pub use parts::{

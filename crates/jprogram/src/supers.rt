@@ -1,5 +1,6 @@
-ghost use Rattle.std.specs.Prelude.{◌≡◌, IfOk, option_map};
+ghost use Rattle.std.specs.Prelude.{◌≡◌, true, IfOk, option_map};
 ghost use Rattle.jprogram.specs.Classes;
+ghost use Rattle.jprogram.specs.Standing.{IsStraight};
 ghost use Rattle.jprogram.specs.Supers;
 
 use crate::classes::{NamedProgram, OBJECT};
@@ -105,7 +106,29 @@ impl NamedProgram {
         None
     }
 
-    fn supers_test(&self, alloc: Global, part: &CodePart) -> Result<Option<LinkKind>, AllocError>
+    /// The test of circles, where it isn't known already that there are none.
+    fn circle_unless(
+        &self,
+        alloc: Global,
+        class: &ClassParts,
+        straight: bool,
+    ) -> Result<Option<LinkKind>, AllocError>
+        requires { straight ≡ true → IsStraight self.now }
+        ensures { IfOk result (λ o. o ≡ Supers.circle_test self.now class.now) }
+    {
+        if straight {
+            return Ok(None);
+        }
+        self.circle_test(alloc, class)
+    }
+
+    fn supers_test(
+        &self,
+        alloc: Global,
+        part: &CodePart,
+        straight: bool,
+    ) -> Result<Option<LinkKind>, AllocError>
+        requires { straight ≡ true → IsStraight self.now }
         ensures { IfOk result (λ o. o ≡ Supers.supers_test self.now part.now) }
     {
         let class = part.class.parts();
@@ -115,20 +138,21 @@ impl NamedProgram {
         if let Some(kind) = self.super_test(class) {
             return Ok(Some(kind));
         }
-        let circle = self.circle_test(alloc, class)?;
+        let circle = self.circle_unless(alloc, class, straight)?;
         Ok(circle)
     }
 
     /// The first class that has no superclass or stands below one that isn't there, or below one that may not stand there, or above
-    /// itself.
+    /// itself. Where heights show that no class stands above itself, nothing is searched.
     #[tactic(auto, unfolding(jbase::specs::First::first_along, crate::specs::Supers::supers_fault))]
     pub fn supers_fault(&self, alloc: Global) -> Result<Option<LinkFault>, AllocError>
         ensures { IfOk result (λ o. o ≡ Supers.supers_fault self.now) }
     {
+        let straight = self.is_ordered(alloc)?;
         let parts = self.parts();
         for (i, part) in parts.iter().enumerate() {
             let class = i as u32;
-            if let Some(kind) = self.supers_test(alloc, part)? {
+            if let Some(kind) = self.supers_test(alloc, part, straight)? {
                 return Ok(Some(LinkFault {
                     class,
                     member: None,

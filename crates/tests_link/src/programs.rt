@@ -1,3 +1,7 @@
+ghost use Rattle.std.specs.Prelude.{◌≡◌, true};
+ghost use Rattle.jprogram.specs.Layers.{IsLayered};
+ghost use Rattle.jprogram.specs.Standing.{StandsInOrder};
+
 use hex::decode;
 use jclass::read_class;
 use jlib::{LibCall, LibClass, PermissionInit, Side};
@@ -5,8 +9,8 @@ use jprogram::LinkKind::{BadSuper, Circular, NoClass, ReservedName, Twice};
 use jprogram::Member::{Field, LibField, LibMethod, Method};
 use jprogram::Selected::{Abstract, Missing};
 use jprogram::{
-    CallKind, ClassId, ClassRef, CodePart, LinkFault, LinkKind, Member, MethodId, NamedProgram,
-    Selected,
+    CallKind, ClassId, ClassRef, CodePart, Interfaces, LinkFault, LinkKind, Member, MethodId,
+    NamedProgram, Selected, program_laws,
 };
 use std::alloc::Global;
 use std::test::Fail;
@@ -254,13 +258,34 @@ const ROUND: [&str; 2] = [
     000506010002000400010006000000000000",
 ];
 
+/// Whether the classes of a program stand in order.
+fn is_in_order(alloc: Global, program: &NamedProgram) -> bool
+    ensures { result ≡ true → StandsInOrder program.now }
+{
+    let Ok(None) = program.naming_fault(alloc) else {
+        return false;
+    };
+    let Ok(None) = program.supers_fault(alloc) else {
+        return false;
+    };
+    true
+}
+
+/// Whether members can be resolved.
+fn is_layered(alloc: Global, program: &NamedProgram) -> bool
+    ensures { result ≡ true → IsLayered program.now }
+{
+    program_laws();
+    is_in_order(alloc, program)
+}
+
 fn method_of(alloc: Global, program: &NamedProgram, class: &[u8], name: &[u8]) -> Option<Member> {
-    match program.is_layered(alloc) {
-        Ok(true) => match program.resolve_method(alloc, class, name, b"()V") {
-            Ok(found) => found,
-            Err(_) => None,
-        },
-        _ => None,
+    if !is_layered(alloc, program) {
+        return None;
+    }
+    match program.resolve_method(alloc, class, name, b"()V") {
+        Ok(found) => found,
+        Err(_) => None,
     }
 }
 
@@ -271,12 +296,12 @@ fn field_of(
     name: &[u8],
     desc: &[u8],
 ) -> Option<Member> {
-    match program.is_layered(alloc) {
-        Ok(true) => match program.resolve_field(alloc, class, name, desc) {
-            Ok(found) => found,
-            Err(_) => None,
-        },
-        _ => None,
+    if !is_layered(alloc, program) {
+        return None;
+    }
+    match program.resolve_field(alloc, class, name, desc) {
+        Ok(found) => found,
+        Err(_) => None,
     }
 }
 
@@ -330,26 +355,62 @@ fn fields_resolved(rt: HostRuntime) {
 }
 
 fn reference(alloc: Global, program: &NamedProgram, class: u32, i: u16) -> Option<Member> {
-    match program.is_layered(alloc) {
-        Ok(true) => match program.resolved(alloc, class, i) {
-            Ok(found) => found,
-            Err(_) => None,
-        },
-        _ => None,
+    if !is_layered(alloc, program) {
+        return None;
+    }
+    match program.resolved(alloc, class, i) {
+        Ok(found) => found,
+        Err(_) => None,
     }
 }
 
-/// What the entries of a pool stand for, and that interfaces in a circle have no heights.
+/// What the entries of a pool stand for.
 #[test]
-fn references(rt: HostRuntime) -> Result<(), Fail> {
+fn references(rt: HostRuntime) {
     let alloc = rt.alloc();
     let main = program(alloc, Side::Source, &[MAIN]).expect(&rt, "classes");
     let init = LibMethod(LibCall::PermissionInit(PermissionInit::Property));
     assert!(rt; reference(alloc, &main, 0, 11) == Some(init));
     assert!(rt; reference(alloc, &main, 0, 1) == None);
-    let round = program(alloc, Side::Source, &ROUND).expect(&rt, "classes");
-    assert!(rt; !round.is_layered(alloc)?);
-    Ok(())
+}
+
+fn implements(
+    alloc: Global,
+    program: &NamedProgram,
+    class: &[u8],
+    interface: &[u8],
+) -> Option<bool> {
+    if !is_in_order(alloc, program) {
+        return None;
+    }
+    match Interfaces::of(alloc, program) {
+        Ok(table) => Some(program.implements(&table, class, interface)),
+        Err(_) => None,
+    }
+}
+
+/// Interfaces: those that a class or one above it lists, and those that these extend.
+#[test]
+fn interfaces_implemented(rt: HostRuntime) {
+    let alloc = rt.alloc();
+    let program = program(alloc, Side::Source, &CLASSES).expect(&rt, "classes");
+    let rows: [(&[u8], &[u8], bool); 12] = [
+        (b"q/B", b"p/I", true),
+        (b"q/B", b"p/J", true),
+        (b"q/D", b"p/J", true),
+        (b"q/D", b"java/lang/Runnable", true),
+        (b"p/I", b"p/J", true),
+        (b"java/lang/Thread", b"java/lang/Runnable", true),
+        (b"p/J", b"p/I", false),
+        (b"p/I", b"p/I", false),
+        (b"p/A", b"p/I", false),
+        (b"q/B", b"p/A", false),
+        (b"q/B", b"java/lang/Cloneable", false),
+        (b"no/Such", b"p/I", false),
+    ];
+    for (class, interface, found) in rows {
+        assert!(rt; implements(alloc, &program, class, interface) == Some(found));
+    }
 }
 
 /// A class that is final.
