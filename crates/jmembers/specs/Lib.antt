@@ -1,0 +1,4 @@
+pub mod Declares
+pub mod Known
+pub mod Met
+pub mod Sealed

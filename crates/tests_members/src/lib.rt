@@ -1,0 +1,5 @@
+//! The tests of what members a class may declare.
+#![tactic(auto)]
+
+#[cfg(test)]
+mod members;
