@@ -1,0 +1,9 @@
+use Rattle.std.proofs.Common.{◌≡◌, drop}
+use Rattle.std.specs.Prelude.{option_and_then}
+use Rattle.jbase.specs.First.{first_some}
+use Rattle.jclass.specs.Members.{body_of}
+use Rattle.jreferring.specs.Code.{body_test, method_test}
+use Rattle.jreferring.proofs.code.method_test.Given as goal
+
+abbrev pub invariant-loop-attribute : goal.invariant-loop-attribute
+invariant-loop-attribute l = option_and_then (body_test l.table) (first_some body_of (drop l.attribute-index l.method.attributes)) ≡ method_test l.table l.method

@@ -1,0 +1,7 @@
+pub mod Code
+pub mod Entries
+pub mod Looking
+pub mod Names
+pub mod Operands
+pub mod References
+pub mod Units

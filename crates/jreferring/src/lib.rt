@@ -1,0 +1,13 @@
+//! The fourth phase of linking: what the code of methods names.
+#![tactic(auto)]
+
+mod code;
+mod entries;
+mod judged;
+mod names;
+mod operands;
+mod references;
+mod units;
+mod uses;
+
+pub use code::code_fault;
