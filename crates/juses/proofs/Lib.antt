@@ -1,0 +1,5 @@
+pub mod Keeping
+pub mod Naming
+pub mod Reading
+pub mod Resolving
+pub mod Spans

@@ -1,0 +1,6 @@
+pub mod Instructions
+pub mod Meanings
+pub mod Tables
+pub mod Typed
+pub mod Types
+pub mod Uses

@@ -1,0 +1,19 @@
+//! What instructions mean in their class (JVMS 6.5): verification types by number, and what the entries of pools stand for.
+#![tactic(auto)]
+
+mod descriptors;
+mod entries;
+mod fitting;
+mod laws;
+mod meaning;
+mod types;
+mod typing;
+mod uses;
+mod using;
+
+pub use fitting::{stands_below, type_fits};
+pub use laws::member_law;
+pub use meaning::{CallUse, Constant, FieldUse, How, Span, Use};
+pub use types::{ArrayRef, ElementRef, TypeRef};
+pub use typing::{class_type, type_in};
+pub use uses::Uses;

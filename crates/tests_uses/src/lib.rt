@@ -1,0 +1,7 @@
+//! The tests of what instructions mean in their class.
+#![tactic(auto)]
+
+#[cfg(test)]
+mod meanings;
+#[cfg(test)]
+mod order;
