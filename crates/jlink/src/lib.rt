@@ -1,0 +1,10 @@
+//! Programs that link (JVMS 5.4): a type that only linking makes, and the first broken rule where it isn't made.
+#![tactic(auto)]
+
+mod ancestry;
+mod error;
+mod linked;
+mod phases;
+
+pub use error::LinkError;
+pub use linked::{LinkedProgram, are_parts, link, link_or_return};
