@@ -1,0 +1,14 @@
+pub mod Arrays
+pub mod Effects
+pub mod Forms
+pub mod Here
+pub mod Locals
+pub mod Moves
+pub mod Objects
+pub mod Operands
+pub mod Rule
+pub mod Seen
+pub mod Slots
+pub mod Straight
+pub mod Swaps
+pub mod Uses
