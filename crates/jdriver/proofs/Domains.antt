@@ -6,7 +6,7 @@ use Rattle.std.proofs.Math.ListN.{drop_of_length-le}
 use Rattle.std.proofs.lemmas.List.{append-nil}
 use Rattle.url.specs.Parts.{Parts}
 use Rattle.jbase.specs.Causes.{appended, IsCut}
-use Rattle.jbase.proofs.Cuts.{appended_both, appended_nil, cut_more, cut_then, cut_whole}
+use Rattle.jbase.proofs.Cuts.{appended_both, appended_nil, cut_more, cut_then}
 use Rattle.jperm.specs.declared.permission.Permission.{Permission}
 use Rattle.jdriver.specs.Listings.{domain_lines, listing}
 

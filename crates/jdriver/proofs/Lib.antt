@@ -1,6 +1,9 @@
 pub mod Domains
 pub mod Ends
+pub mod Formed
 pub mod Halting
 pub mod Items
+pub mod Members
+pub mod Paths
 pub mod Tops
 pub mod Wholes

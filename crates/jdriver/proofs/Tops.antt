@@ -9,7 +9,7 @@ use Rattle.jdriver.specs.declared.status.Status.{Status}
 use Rattle.jdriver.specs.declared.status.Status.TheVariants as statuses
 use Rattle.jdriver.specs.Stages.{Stopped, Missing, Misses}
 use Rattle.jdriver.specs.Tasks.{built, task}
-use Rattle.jdriver.specs.Answers.{Answer, Answers, accepted, answer, if_built, stopped_or_shown}
+use Rattle.jdriver.specs.Answers.{Answer, Answers, accepted, answer, stopped_or_shown}
 
 pub answer_is : (c : Command) (files : List File) (read : Result Task Stopped) → task c files ≡ read → answer c files ≡ stopped_or_shown read
 unfolding answer

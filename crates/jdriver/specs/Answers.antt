@@ -1,5 +1,5 @@
 -- What the program answers to its words, over the files that are held.
-use Rattle.std.specs.Prelude.{◌≡◌, ◌⊎◌, ℕ, Bool, List, [], Option, Some, None, Result, Ok, Err, codes, option_and_then, if◌then◌else◌, String}
+use Rattle.std.specs.Prelude.{◌≡◌, ◌⊎◌, ℕ, List, [], Option, Some, None, Result, Ok, Err, codes, option_and_then, if◌then◌else◌, String}
 use Rattle.std.specs.declared.alloc.Global.{Global}
 use Rattle.jbase.specs.Causes.{Rose, appended, IsCut}
 use Rattle.jio.specs.Held.{File}

@@ -1,5 +1,7 @@
 pub mod Answers
+pub mod Forming
 pub mod Grounds
+pub mod Linking
 pub mod Listings
 pub mod Refusals
 pub mod Stages

@@ -4,10 +4,12 @@ use Rattle.jio.specs.Text.{written}
 use Rattle.jtext.specs.Texts.{units_of_text}
 use Rattle.jclass.specs.declared.fault.ClassFault.{ClassFault}
 use Rattle.jclass.specs.declared.fault.ClassFault.TheVariants as kinds
+use Rattle.jprogram.specs.declared.fault.LinkKind.{LinkKind}
+use Rattle.jprogram.specs.declared.fault.LinkKind.TheVariants as links
 use Rattle.jpolicy.specs.declared.fault.PolicyFault.{PolicyFault}
 use Rattle.jpolicy.specs.declared.fault.PolicyFault.TheVariants as policies
 use Rattle.jdriver.specs.declared.refusal.Refusal.{Refusal}
-use Rattle.jdriver.specs.declared.refusal.Refusal.TheVariants.{BadJob, BadPolicy, BadClass, Unbuilt, NoMain}
+use Rattle.jdriver.specs.declared.refusal.Refusal.TheVariants.{BadJob, BadPolicy, BadClass, BadLink, Unbuilt, NoMain}
 
 -- some words and a text, which is written as texts are in lines
 abbrev pub text_line : List ℕ → List ℕ → List ℕ
@@ -68,10 +70,38 @@ policy_word policies.SelfExpansion = codes "self-expansion"
 abbrev pub policy_line : ℕ → PolicyFault → List ℕ
 policy_line at kind = codes "refused policy " ++ (decimal at ++ (codes " " ++ (policy_word kind ++ codes "\n")))
 
+-- ---- the refusal of classes that don't link
+
+-- a broken rule's name
+unfoldable pub link_word : LinkKind → List ℕ
+link_word links.Twice = codes "twice"
+link_word links.NoClass = codes "noclass"
+link_word links.Circular = codes "circular"
+link_word links.BadSuper = codes "badsuper"
+link_word links.FinalMethod = codes "finalmethod"
+link_word links.NoMember = codes "nomember"
+link_word links.NotAccessible = codes "notaccessible"
+link_word links.OverridesLibrary = codes "overrideslibrary"
+link_word links.ReservedName = codes "reservedname"
+link_word links.LeftOut = codes "leftout"
+link_word links.BadUse = codes "baduse"
+
+-- a member's name and descriptor, or a dash where there is no member
+abbrev pub member_or_dash : Option (List ℕ) → List ℕ
+member_or_dash None = codes "-"
+member_or_dash (Some units) = written units
+
+abbrev pub link_text : List ℕ → Option (List ℕ) → List ℕ → List ℕ
+link_text class member word = codes "refused link " ++ (written class ++ (codes " " ++ (member_or_dash member ++ (codes " " ++ (word ++ codes "\n")))))
+
+abbrev pub link_line : List ℕ → Option (List ℕ) → LinkKind → List ℕ
+link_line class member kind = link_text class member (link_word kind)
+
 -- a refusal's line
 abbrev pub refusal_line : Refusal → List ℕ
 refusal_line (BadJob line) = job_line line
 refusal_line (BadPolicy at kind) = policy_line at kind
 refusal_line (BadClass path at kind) = class_line path at kind
+refusal_line (BadLink class member kind) = link_line class member kind
 refusal_line (Unbuilt path) = text_line (codes "refused unbuilt ") (units_of_text path)
 refusal_line (NoMain name) = text_line (codes "refused main ") name

@@ -1,13 +1,11 @@
 -- What is to be done at a command with the files that are held: they are read in the order job, policy, class files, and each is
--- judged before the next is read; then the classes join, and then `main` is looked for.
-use Rattle.std.specs.Prelude.{◌≡◌, ℕ, ◌-◌, Bool, true, false, List, [], length, Option, Some, None, Result, Ok, Err, if◌then◌else◌}
+-- judged before the next is read; then the classes link, and then `main` is looked for.
+use Rattle.std.specs.Prelude.{◌≡◌, ℕ, ◌-◌, Bool, true, false, List, [], length, Option, Some, None, Result, Ok, Err}
 use Rattle.std.specs.List.{flat_map}
 use Rattle.jbase.specs.Each.{each}
 use Rattle.jbase.specs.Stops.{◌>>=◌}
 use Rattle.jio.specs.Held.{File}
 use Rattle.jtext.specs.Modified.{group}
-use Rattle.jform.specs.declared.form.ClassForm.{ClassForm}
-use Rattle.jform.specs.Forms.{form_of}
 use Rattle.jformat.specs.declared.error.At.{At}
 use Rattle.jformat.specs.declared.error.Fault.{Fault}
 use Rattle.jclass.specs.declared.class.ClassParts.{ClassParts}
@@ -21,13 +19,18 @@ use Rattle.jjob.specs.declared.command.Command.TheVariants as commands
 use Rattle.jjob.specs.declared.command.Form.TheVariants.{Inspect}
 use Rattle.jjob.specs.declared.job.Job.{Job}
 use Rattle.jjob.specs.Jobs.{job}
-use Rattle.jengine.specs.declared.program.Method.{Method}
-use Rattle.jload.specs.Joins.{joined, main_of}
+use Rattle.jlib.specs.declared.side.Side.TheVariants.{Source}
+use Rattle.jprogram.specs.declared.part.CodePart.{CodePart}
+use Rattle.jprogram.specs.Classes.{program}
+use Rattle.jprogram.specs.Members.{main_of}
 use Rattle.jdriver.specs.declared.refusal.Refusal.TheVariants.{BadJob, BadPolicy, BadClass, Unbuilt, NoMain}
+use Rattle.jdriver.specs.declared.ground.ClassPath.{ClassPath}
 use Rattle.jdriver.specs.declared.ground.Ground.{Ground}
 use Rattle.jdriver.specs.declared.task.Task.{Task}
 use Rattle.jdriver.specs.declared.task.Task.TheVariants as tasks
+use Rattle.jdriver.specs.Forming.{first_form}
 use Rattle.jdriver.specs.Grounds.{ground_of}
+use Rattle.jdriver.specs.Linking.{linked}
 use Rattle.jdriver.specs.Stages.{Stopped, Missing, Refused, judged, bytes_at}
 
 -- ---- the job and its policy
@@ -65,29 +68,26 @@ abbrev pub class_read : List ℕ → List ℕ → Result ClassParts (Fault Class
 class_read path bytes (Ok class) = Ok class
 class_read path bytes (Err fault) = Err (Refused (BadClass path (length bytes - fault.left) fault.kind))
 
--- what the class file says that bytes spell
-abbrev pub class_in : List ℕ → List ℕ → Result ClassForm Stopped
-class_in path bytes = class_read path bytes (class_file.read bytes) >>= λ class. judged (Unbuilt path) (form_of class)
+-- the class file at a path
+unfoldable pub class_at : List File → List ℕ → Result ClassParts Stopped
+class_at files path = bytes_at files path >>= λ bytes. class_read path bytes (class_file.read bytes)
 
--- what the class file at a path says
-unfoldable pub class_at : List File → List ℕ → Result ClassForm Stopped
-class_at files path = bytes_at files path >>= λ bytes. class_in path bytes
+-- the class file at a path, with the number of its code source
+unfoldable pub part_at : List File → ClassPath → Result CodePart Stopped
+part_at files one = class_at files one.path >>= λ class. Ok (record { domain = one.domain; class = class })
 
 -- ---- a run
 
--- the methods of classes that join, one class for each code source
-abbrev pub methods_of : Bool → List ClassForm → Option (List Method)
-methods_of single classes = if single then joined classes else None
-
--- the run of these classes of the job at a path
-abbrev pub run_of_classes : List ℕ → Ground → List ClassForm → Result Task Stopped
-run_of_classes path g classes =
-    judged (Unbuilt path) (methods_of g.single classes) >>= λ methods.
-    judged (NoMain g.main) (main_of classes methods (flat_map group g.main)) >>= λ program.
-    Ok (tasks.Run program g.domains g.plan)
+-- the run of these classes of the job at a path: they link, the main class has a `main`, and the machine runs such programs
+abbrev pub run_of_parts : List ℕ → Ground → List CodePart → Result Task Stopped
+run_of_parts path g parts =
+    linked (program Source parts) >>= λ p.
+    judged (NoMain g.main) (main_of p (flat_map group g.main)) >>= λ main.
+    judged (Unbuilt path) (first_form p.parts (flat_map group g.main)) >>= λ made.
+    Ok (tasks.Run made g.domains g.plan)
 
 unfoldable pub run_of_ground : List File → List ℕ → Ground → Result Task Stopped
-run_of_ground files path g = each (class_at files) g.paths >>= λ classes. run_of_classes path g classes
+run_of_ground files path g = each (part_at files) g.classes >>= λ parts. run_of_parts path g parts
 
 unfoldable pub run_at : List File → List ℕ → Result Task Stopped
 run_at files path = ground_at files path >>= λ g. run_of_ground files path g

@@ -1,6 +1,5 @@
-ghost use Rattle.std.specs.Prelude.{◌≡◌, ◌++◌, IfOk, OnOk, flat_map, map};
-ghost use Rattle.std.specs.List.{list_all};
-ghost use Rattle.jdriver.specs.Grounds.{ground_of, is_single};
+ghost use Rattle.std.specs.Prelude.{◌≡◌, ◌++◌, IfOk, OnOk, map};
+ghost use Rattle.jdriver.specs.Grounds.{ground_of, paths_from, paths_with, urls_of};
 
 use jbase::Seq;
 use jdomain::{CodeSource, Domains};
@@ -10,6 +9,13 @@ use jpolicy::Policy;
 use jtext::Units;
 use std::alloc::{AllocError, Global};
 
+/// The path of a class file, with the number of the code source that it is of.
+#[derive(Drop)]
+pub struct ClassPath {
+    pub domain: u32,
+    pub path: Text,
+}
+
 /// What a job and its policy say: the ground on which each verb stands that reads a job.
 #[derive(Drop)]
 pub struct Ground {
@@ -18,47 +24,42 @@ pub struct Ground {
     /// What is granted to each.
     pub domains: Domains,
     /// The paths of all class files, in the job's order.
-    pub paths: Seq<Text>,
-    /// Whether each code source has exactly one class file.
-    pub single: bool,
+    pub classes: Seq<ClassPath>,
     /// The name of the main class.
     pub main: Units,
     pub plan: Plan,
 }
 
-/// Whether each code source has exactly one class file.
-fn is_single(sources: &[JobSource]) -> bool
-    ensures { result ≡ is_single sources.now }
-{
-    sources
-        .iter()
-        .all(|source| source.classes.as_slice().len() == 1)
-}
-
 /// Puts the paths of a code source's class files behind others.
-fn add_paths(more: Seq<Text>, paths: &mut Seq<Text>) -> Result<(), AllocError>
-    ensures { OnOk result (paths.new ≡ paths.old ++ more) }
+fn add_paths(domain: u32, more: Seq<Text>, classes: &mut Seq<ClassPath>) -> Result<(), AllocError>
+    ensures { OnOk result (classes.new ≡ classes.old ++ paths_with domain more) }
 {
     for path in more.into_vec() {
-        paths.push(path)?;
+        classes.push(ClassPath { domain, path })?;
     }
     Ok(())
 }
 
 /// The code sources of a job, and the paths of all their class files.
+#[tactic(auto, unfolding(crate::specs::Grounds::paths_from))]
 fn parted(
     alloc: Global,
     sources: Seq<JobSource>,
-) -> Result<(Seq<CodeSource>, Seq<Text>), AllocError>
-    ensures { IfOk result (λ p. (p.0 ≡ map (λ s. s.source) sources) × (p.1 ≡ flat_map (λ s. s.classes) sources)) }
+) -> Result<(Seq<CodeSource>, Seq<ClassPath>), AllocError>
+    ensures { IfOk result (λ p. (p.0 ≡ urls_of sources) × (p.1 ≡ paths_from 0 sources)) }
 {
     let mut urls = Seq::new(alloc);
-    let mut paths = Seq::new(alloc);
+    let mut classes = Seq::new(alloc);
+    let mut domain: u32 = 0;
     for one in sources.into_vec() {
         urls.push(one.source)?;
-        add_paths(one.classes, &mut paths)?;
+        add_paths(domain, one.classes, &mut classes)?;
+        let Some(next) = domain.checked_add(1) else {
+            return Err(AllocError);
+        };
+        domain = next;
     }
-    Ok((urls, paths))
+    Ok((urls, classes))
 }
 
 /// What a job says, and what a policy grants to its code.
@@ -66,14 +67,12 @@ fn parted(
 pub fn ground_of(alloc: Global, job: Job, grants: &Policy) -> Result<Ground, AllocError>
     ensures { IfOk result (λ g. g ≡ ground_of job grants.now) }
 {
-    let single = is_single(job.sources.as_slice());
-    let (sources, paths) = parted(alloc, job.sources)?;
+    let (sources, classes) = parted(alloc, job.sources)?;
     let domains = Domains::open(alloc, grants, sources.as_slice(), &job.cwd)?;
     Ok(Ground {
         sources,
         domains,
-        paths,
-        single,
+        classes,
         main: job.main,
         plan: Plan {
             heap: job.heap,

@@ -1,8 +1,10 @@
 //! The top call: what the program does with its words, the files that it reads, and the text that it writes.
 #![tactic(auto)]
 
+mod forming;
 mod ground;
 mod halt;
+mod linking;
 mod listing;
 mod reading;
 mod refusal;

@@ -3,23 +3,22 @@ ghost use Rattle.jbase.specs.Causes.{Rose};
 ghost use Rattle.jbase.specs.Each.{each};
 ghost use Rattle.jio.specs.Held.{File};
 ghost use Rattle.jclass.specs.Class.{class_file};
-ghost use Rattle.jform.specs.Forms.{form_of};
 ghost use Rattle.jjob.specs.Jobs.{job};
 ghost use Rattle.jpolicy.specs.Policies.{policy};
 ghost use Rattle.jdriver.specs.declared.halt.Halt.TheVariants.{Read};
-ghost use Rattle.jdriver.specs.Stages.{Excused, Follows, Refused, bytes_at, judged};
-ghost use Rattle.jdriver.specs.Tasks.{class_at, class_in, class_read, grants_at, grants_of, grants_read, ground_at, job_at, job_read};
+ghost use Rattle.jdriver.specs.Stages.{Excused, Follows, Refused, bytes_at};
+ghost use Rattle.jdriver.specs.Tasks.{class_at, class_read, grants_at, grants_of, grants_read, ground_at, job_at, job_read, part_at};
 
-use crate::ground::{Ground, ground_of};
+use crate::ground::{ClassPath, Ground, ground_of};
 use crate::halt::Halt;
 use crate::refusal::Refusal;
 use jbase::{Seq, Stop};
 use jclass::{ClassFault, ClassFile, read_class};
-use jform::{ClassForm, form_of};
 use jformat::At;
 use jio::{Shelf, ShelfError};
 use jjob::{Job, JobError, Text, read_job};
 use jpolicy::{Policy, read_policy};
+use jprogram::CodePart;
 use jtext::Units;
 use std::alloc::Global;
 
@@ -126,15 +125,6 @@ pub fn ground_at<S: Shelf>(alloc: Global, path: &str, shelf: &mut S) -> Result<G
 
 // ---- class files
 
-/// The refusal of a file that says what isn't built.
-pub fn unbuilt<T>(alloc: Global, path: &str) -> Result<T, Halt>
-    ensures value { Follows (λ x. x) result (judged (Refusal.Unbuilt path.now) None) }
-    ensures unread { result ≡ Err Read → ⊥ }
-{
-    let path = Text::from_str(alloc, path)?;
-    Err(Halt::Refused(Refusal::Unbuilt(path)))
-}
-
 /// The refusal of a class file by its first fault.
 fn bad_class<T>(alloc: Global, path: &str, at: u32, kind: ClassFault) -> Result<T, Halt>
     ensures value { Follows (λ x. x) result (Err (Refused (Refusal.BadClass path.now at kind))) }
@@ -156,28 +146,8 @@ fn class_read(alloc: Global, path: &str, bytes: &[u8]) -> Result<ClassFile, Halt
     }
 }
 
-fn class_form(alloc: Global, path: &str, class: &ClassFile) -> Result<ClassForm, Halt>
-    ensures value { Follows (λ x. x) result (judged (Refusal.Unbuilt path.now) (form_of class.now)) }
-    ensures unread { result ≡ Err Read → ⊥ }
-{
-    match form_of(alloc, class) {
-        Ok(Some(form)) => Ok(form),
-        Ok(None) => unbuilt(alloc, path),
-        Err(_) => Err(Halt::Memory),
-    }
-}
-
-fn class_in(alloc: Global, path: &str, bytes: &[u8]) -> Result<ClassForm, Halt>
-    requires { length bytes.now < 2 ^ 31 }
-    ensures value { Follows (λ x. x) result (class_in path.now bytes.now) }
-    ensures unread { result ≡ Err Read → ⊥ }
-{
-    let class = class_read(alloc, path, bytes)?;
-    class_form(alloc, path, &class)
-}
-
 #[tactic(auto, unfolding(crate::specs::Tasks::class_at))]
-fn class_at<S: Shelf>(alloc: Global, path: &Text, shelf: &mut S) -> Result<ClassForm, Halt>
+fn class_at<S: Shelf>(alloc: Global, path: &Text, shelf: &mut S) -> Result<ClassFile, Halt>
     ensures value { (files : List File) → S.held shelf.old ≡ Some files → Follows (λ x. x) result (class_at files path.now) }
     ensures held { S.held shelf.new ≡ S.held shelf.old }
     ensures stored { S.write_faults shelf.new ≡ S.write_faults shelf.old }
@@ -185,24 +155,39 @@ fn class_at<S: Shelf>(alloc: Global, path: &Text, shelf: &mut S) -> Result<Class
     ensures cause { Excused result (S.read_faults shelf.old) (S.read_faults shelf.new) (S.held shelf.old) (λ files. class_at files path.now) }
 {
     let bytes = read_at(alloc, path.as_str(), shelf)?;
-    class_in(alloc, path.as_str(), &bytes)
+    class_read(alloc, path.as_str(), &bytes)
 }
 
-/// What each of the class files at some paths says.
-pub fn classes_at<S: Shelf>(
-    alloc: Global,
-    paths: &[Text],
-    shelf: &mut S,
-) -> Result<Seq<ClassForm>, Halt>
-    ensures value { (files : List File) → S.held shelf.old ≡ Some files → Follows (λ x. x) result (each (class_at files) paths.now) }
+#[tactic(auto, unfolding(crate::specs::Tasks::part_at))]
+fn part_at<S: Shelf>(alloc: Global, one: &ClassPath, shelf: &mut S) -> Result<CodePart, Halt>
+    ensures value { (files : List File) → S.held shelf.old ≡ Some files → Follows (λ x. x) result (part_at files one.now) }
     ensures held { S.held shelf.new ≡ S.held shelf.old }
     ensures stored { S.write_faults shelf.new ≡ S.write_faults shelf.old }
     ensures later { S.read_faults shelf.old ≤ S.read_faults shelf.new }
-    ensures cause { Excused result (S.read_faults shelf.old) (S.read_faults shelf.new) (S.held shelf.old) (λ files. each (class_at files) paths.now) }
+    ensures cause { Excused result (S.read_faults shelf.old) (S.read_faults shelf.new) (S.held shelf.old) (λ files. part_at files one.now) }
 {
-    let mut classes = Seq::new(alloc);
+    let class = class_at(alloc, &one.path, shelf)?;
+    Ok(CodePart {
+        domain: one.domain,
+        class,
+    })
+}
+
+/// The class files at some paths, each with the number of its code source.
+pub fn parts_at<S: Shelf>(
+    alloc: Global,
+    paths: &[ClassPath],
+    shelf: &mut S,
+) -> Result<Seq<CodePart>, Halt>
+    ensures value { (files : List File) → S.held shelf.old ≡ Some files → Follows (λ x. x) result (each (part_at files) paths.now) }
+    ensures held { S.held shelf.new ≡ S.held shelf.old }
+    ensures stored { S.write_faults shelf.new ≡ S.write_faults shelf.old }
+    ensures later { S.read_faults shelf.old ≤ S.read_faults shelf.new }
+    ensures cause { Excused result (S.read_faults shelf.old) (S.read_faults shelf.new) (S.held shelf.old) (λ files. each (part_at files) paths.now) }
+{
+    let mut parts = Seq::new(alloc);
     for path in paths {
-        classes.push(class_at(alloc, path, shelf)?)?;
+        parts.push(part_at(alloc, path, shelf)?)?;
     }
-    Ok(classes)
+    Ok(parts)
 }

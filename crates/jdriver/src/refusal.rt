@@ -1,6 +1,7 @@
 use jclass::ClassFault;
 use jjob::Text;
 use jpolicy::PolicyFault;
+use jprogram::LinkKind;
 use jtext::Units;
 
 /// What is refused.
@@ -21,7 +22,13 @@ pub enum Refusal {
         at: u32,
         kind: ClassFault,
     },
-    /// What this class file says isn't built; or this job's classes don't join, or a code source of it hasn't exactly one.
+    /// The classes don't link: a class breaks a rule first, by a member of it (its name and descriptor) or else by itself.
+    BadLink {
+        class: Units,
+        member: Option<Units>,
+        kind: LinkKind,
+    },
+    /// The program of the job at this path links, and isn't of the form that the machine runs.
     Unbuilt(Text),
     /// There is no class of this name with a `main`.
     NoMain(Units),

@@ -1,10 +1,10 @@
-ghost use Rattle.std.specs.Prelude.{◌≡◌, ◌≤◌, ◌<◌, ◌^◌, ◌⊎◌, length};
+ghost use Rattle.std.specs.Prelude.{◌≡◌, ◌≤◌, ◌<◌, ◌^◌, ◌⊎◌, None, Some, length};
 ghost use Rattle.jbase.specs.Causes.{Rose};
 ghost use Rattle.jio.specs.LineOf.{line_of, room_of};
 ghost use Rattle.jdriver.specs.declared.status.Status.TheVariants.{ReadFault, Usage, WriteFault};
 ghost use Rattle.jtext.specs.Texts.{units_of_text};
 ghost use Rattle.jdriver.specs.Answers.{Answers, refused_answer};
-ghost use Rattle.jdriver.specs.Refusals.{class_line, class_opcode, class_text, class_word, job_line, policy_line, policy_word, refusal_line, text_line};
+ghost use Rattle.jdriver.specs.Refusals.{class_line, class_opcode, class_text, class_word, job_line, link_line, link_text, link_word, policy_line, policy_word, refusal_line, text_line};
 
 use crate::refusal::Refusal;
 use crate::status::Status;
@@ -12,6 +12,7 @@ use jclass::ClassFault;
 use jio::{Part, Sink, write_line};
 use jjob::Text;
 use jpolicy::PolicyFault;
+use jprogram::LinkKind;
 use jtext::Units;
 use std::alloc::Global;
 
@@ -205,6 +206,97 @@ fn show_class<K: Sink>(alloc: Global, path: &Text, at: u32, kind: ClassFault, ou
     put_class(units, at, class_word(kind), class_opcode(kind), out)
 }
 
+// ---- classes that don't link
+
+#[tactic(auto, unfolding(crate::specs::Refusals::link_word))]
+fn link_word(kind: LinkKind) -> &'static str
+    ensures word { result.now ≡ link_word kind }
+    ensures few { length result.now < 32 }
+{
+    match kind {
+        LinkKind::Twice => "twice",
+        LinkKind::NoClass => "noclass",
+        LinkKind::Circular => "circular",
+        LinkKind::BadSuper => "badsuper",
+        LinkKind::FinalMethod => "finalmethod",
+        LinkKind::NoMember => "nomember",
+        LinkKind::NotAccessible => "notaccessible",
+        LinkKind::OverridesLibrary => "overrideslibrary",
+        LinkKind::ReservedName => "reservedname",
+        LinkKind::LeftOut => "leftout",
+        LinkKind::BadUse => "baduse",
+    }
+}
+
+/// Writes the refusal of a class that breaks a rule by itself.
+fn put_link<'a, K: Sink>(class: &'a [u16], word: &'a str, out: &mut K) -> Status
+    requires class { length class.now ≤ 0x7fff_ffff }
+    requires word { length word.now < 32 }
+    ensures answer { Answers (refused_answer (link_text class.now None word.now)) result (K.out out.old) (K.out out.new) }
+    ensures later { K.faults out.old ≤ K.faults out.new }
+    ensures cause { result ≡ WriteFault → Rose (K.faults out.old) (K.faults out.new) }
+    ensures read { result ≡ ReadFault → ⊥ }
+    ensures usage { result ≡ Usage → ⊥ }
+{
+    let parts = [
+        Part::Plain("refused link "),
+        Part::Text(class),
+        Part::Plain(" "),
+        Part::Plain("-"),
+        Part::Plain(" "),
+        Part::Plain(word),
+    ];
+    refuse(&parts, out)
+}
+
+/// Writes the refusal of a class that breaks a rule by a member.
+fn put_member<'a, K: Sink>(
+    class: &'a [u16],
+    member: &'a [u16],
+    word: &'a str,
+    out: &mut K,
+) -> Status
+    requires class { length class.now ≤ 0x7fff_ffff }
+    requires member { length member.now ≤ 0x7fff_ffff }
+    requires word { length word.now < 32 }
+    ensures answer { Answers (refused_answer (link_text class.now (Some member.now) word.now)) result (K.out out.old) (K.out out.new) }
+    ensures later { K.faults out.old ≤ K.faults out.new }
+    ensures cause { result ≡ WriteFault → Rose (K.faults out.old) (K.faults out.new) }
+    ensures read { result ≡ ReadFault → ⊥ }
+    ensures usage { result ≡ Usage → ⊥ }
+{
+    let parts = [
+        Part::Plain("refused link "),
+        Part::Text(class),
+        Part::Plain(" "),
+        Part::Text(member),
+        Part::Plain(" "),
+        Part::Plain(word),
+    ];
+    refuse(&parts, out)
+}
+
+fn show_link<K: Sink>(class: &Units, member: &Option<Units>, kind: LinkKind, out: &mut K) -> Status
+    ensures answer { Answers (refused_answer (link_line class.now member.now kind)) result (K.out out.old) (K.out out.new) }
+    ensures later { K.faults out.old ≤ K.faults out.new }
+    ensures cause { result ≡ WriteFault → Rose (K.faults out.old) (K.faults out.new) }
+    ensures read { result ≡ ReadFault → ⊥ }
+    ensures usage { result ≡ Usage → ⊥ }
+{
+    let class = class.as_slice();
+    if MOST_UNITS < class.len() {
+        return Status::OutOfMemory;
+    }
+    let Some(member) = member else {
+        return put_link(class, link_word(kind), out);
+    };
+    let member = member.as_slice();
+    if MOST_UNITS < member.len() {
+        return Status::OutOfMemory;
+    }
+    put_member(class, member, link_word(kind), out)
+}
+
 /// Writes a refusal's line.
 pub fn show_refusal<K: Sink>(alloc: Global, refusal: &Refusal, out: &mut K) -> Status
     ensures answer { Answers (refused_answer (refusal_line refusal.now)) result (K.out out.old) (K.out out.new) }
@@ -217,6 +309,11 @@ pub fn show_refusal<K: Sink>(alloc: Global, refusal: &Refusal, out: &mut K) -> S
         Refusal::BadJob { line } => show_job(*line, out),
         Refusal::BadPolicy { at, kind } => show_policy(*at, *kind, out),
         Refusal::BadClass { path, at, kind } => show_class(alloc, path, *at, *kind, out),
+        Refusal::BadLink {
+            class,
+            member,
+            kind,
+        } => show_link(class, member, *kind, out),
         Refusal::Unbuilt(path) => show_path(alloc, "refused unbuilt ", path, out),
         Refusal::NoMain(name) => show_text("refused main ", name.as_slice(), out),
     }

@@ -3,24 +3,27 @@ ghost use Rattle.std.specs.List.{flat_map};
 ghost use Rattle.jbase.specs.Causes.{Rose};
 ghost use Rattle.jio.specs.Held.{File};
 ghost use Rattle.jtext.specs.Modified.{group};
-ghost use Rattle.jload.specs.Joins.{main_of};
+ghost use Rattle.jprogram.specs.Members.{main_of};
 ghost use Rattle.jdriver.specs.declared.halt.Halt.TheVariants.{Read};
+ghost use Rattle.jdriver.specs.Forming.{first_form};
 ghost use Rattle.jdriver.specs.Stages.{Excused, Follows, judged};
-ghost use Rattle.jdriver.specs.Tasks.{IsWhole, built, methods_of, policy_at, run_at, run_of_classes, run_of_ground, task};
+ghost use Rattle.jdriver.specs.Tasks.{IsWhole, built, policy_at, run_at, run_of_ground, run_of_parts, task};
 
+use crate::forming::first_form;
 use crate::ground::Ground;
 use crate::halt::Halt;
-use crate::reading::{classes_at, ground_at, unbuilt};
+use crate::linking::linked;
+use crate::reading::{ground_at, parts_at};
 use crate::refusal::Refusal;
 use crate::task::Task;
 use jbase::Seq;
-use jengine::{Method, Program};
-use jform::ClassForm;
+use jengine::Program;
 use jio::Shelf;
-use jjob::{Command, Form};
-use jload::{joined, main_of};
+use jjob::{Command, Form, Text};
+use jlink::LinkedProgram;
+use jprogram::{CodePart, MethodId};
 use jtext::{Units, bytes_of};
-use std::alloc::{AllocError, Global};
+use std::alloc::Global;
 
 /// Whether a command is built.
 pub fn is_built(command: &Command) -> bool
@@ -38,36 +41,6 @@ pub fn is_built(command: &Command) -> bool
 
 // ---- a run
 
-/// The methods of classes that join, one class for each code source.
-fn singly_joined(
-    alloc: Global,
-    single: bool,
-    classes: &[ClassForm],
-) -> Result<Option<Seq<Method>>, AllocError>
-    ensures { IfOk result (λ ms. ms ≡ methods_of single classes.now) }
-{
-    if !single {
-        return Ok(None);
-    }
-    joined(alloc, classes)
-}
-
-fn methods_of(
-    alloc: Global,
-    path: &str,
-    single: bool,
-    classes: &[ClassForm],
-) -> Result<Seq<Method>, Halt>
-    ensures value { Follows (λ x. x) result (judged (Refusal.Unbuilt path.now) (methods_of single classes.now)) }
-    ensures unread { result ≡ Err Read → ⊥ }
-{
-    match singly_joined(alloc, single, classes) {
-        Ok(Some(methods)) => Ok(methods),
-        Ok(None) => unbuilt(alloc, path),
-        Err(_) => Err(Halt::Memory),
-    }
-}
-
 fn no_main<T>(alloc: Global, name: &Units) -> Result<T, Halt>
     ensures value { Follows (λ x. x) result (judged (Refusal.NoMain name.now) None) }
     ensures unread { result ≡ Err Read → ⊥ }
@@ -76,37 +49,59 @@ fn no_main<T>(alloc: Global, name: &Units) -> Result<T, Halt>
     Err(Halt::Refused(Refusal::NoMain(name)))
 }
 
-fn program_of(
-    alloc: Global,
-    classes: &[ClassForm],
-    methods: Seq<Method>,
-    name: &Units,
-) -> Result<Program, Halt>
-    ensures value { Follows (λ x. x) result (judged (Refusal.NoMain name.now) (main_of classes.now methods (flat_map group name.now))) }
+/// The first method of a program: `main` of the class with this name.
+fn main_named(alloc: Global, program: &LinkedProgram, name: &Units) -> Result<MethodId, Halt>
+    ensures value { Follows (λ x. x) result (judged (Refusal.NoMain name.now) (main_of program.now (flat_map group name.now))) }
     ensures unread { result ≡ Err Read → ⊥ }
 {
     let bytes = bytes_of(alloc, name)?;
-    match main_of(classes, methods, bytes.as_slice()) {
-        Ok(Some(program)) => Ok(program),
-        Ok(None) => no_main(alloc, name),
+    match program.main_of(bytes.as_slice()) {
+        Some(main) => Ok(main),
+        None => no_main(alloc, name),
+    }
+}
+
+fn unbuilt<T>(alloc: Global, path: &str) -> Result<T, Halt>
+    ensures value { Follows (λ x. x) result (judged (Refusal.Unbuilt path.now) None) }
+    ensures unread { result ≡ Err Read → ⊥ }
+{
+    let path = Text::from_str(alloc, path)?;
+    Err(Halt::Refused(Refusal::Unbuilt(path)))
+}
+
+/// What the machine runs of the program of the job at a path.
+fn made_of(
+    alloc: Global,
+    path: &str,
+    program: &LinkedProgram,
+    name: &Units,
+) -> Result<Program, Halt>
+    ensures value { Follows (λ x. x) result (judged (Refusal.Unbuilt path.now) (first_form program.now.parts (flat_map group name.now))) }
+    ensures unread { result ≡ Err Read → ⊥ }
+{
+    let bytes = bytes_of(alloc, name)?;
+    match first_form(alloc, program, bytes.as_slice()) {
+        Ok(Some(made)) => Ok(made),
+        Ok(None) => unbuilt(alloc, path),
         Err(_) => Err(Halt::Memory),
     }
 }
 
-fn run_of_classes(
+fn run_of_parts(
     alloc: Global,
     path: &str,
     ground: Ground,
-    classes: &[ClassForm],
+    parts: Seq<CodePart>,
 ) -> Result<Task, Halt>
-    ensures value { Follows (λ x. x) result (run_of_classes path.now ground classes.now) }
+    ensures value { Follows (λ x. x) result (run_of_parts path.now ground parts) }
     ensures whole { IfOk result IsWhole }
     ensures unread { result ≡ Err Read → ⊥ }
 {
-    let methods = methods_of(alloc, path, ground.single, classes)?;
-    let program = program_of(alloc, classes, methods, &ground.main)?;
+    let program = linked(alloc, parts)?;
+    main_named(alloc, &program, &ground.main)?;
+    let made = made_of(alloc, path, &program, &ground.main)?;
     Ok(Task::Run {
-        program,
+        program: made,
         domains: ground.domains,
         plan: ground.plan,
     })
@@ -126,8 +121,8 @@ fn run_of_ground<S: Shelf>(
     ensures later { S.read_faults shelf.old ≤ S.read_faults shelf.new }
     ensures cause { Excused result (S.read_faults shelf.old) (S.read_faults shelf.new) (S.held shelf.old) (λ files. run_of_ground files path.now ground) }
 {
-    let classes = classes_at(alloc, ground.paths.as_slice(), shelf)?;
-    run_of_classes(alloc, path, ground, classes.as_slice())
+    let parts = parts_at(alloc, ground.classes.as_slice(), shelf)?;
+    run_of_parts(alloc, path, ground, parts)
 }
 
 #[tactic(auto, unfolding(crate::specs::Tasks::run_at))]

@@ -86,19 +86,19 @@ abbrev pub both : Option (List Method) → Option (List Method) → Option (List
 both (Some ms) (Some more) = Some (ms ++ more)
 both _ _ = None
 
--- the methods of these classes, the first of which has this domain
-unfoldable pub methods_from : (List ℕ → List ℕ → Option ℕ) → ℕ → List ClassForm → Option (List Method)
-methods_from place domain [] = Some []
-methods_from place domain (c ∷ cs) = both (each_some (method_in place domain) c.methods) (methods_from place (domain + 1) cs)
+-- the methods of these classes, each of the domain that stands beside its class
+unfoldable pub methods_from : (List ℕ → List ℕ → Option ℕ) → List ℕ → List ClassForm → Option (List Method)
+methods_from place (domain ∷ domains) (c ∷ cs) = both (each_some (method_in place domain) c.methods) (methods_from place domains cs)
+methods_from place _ _ = Some []
 
 -- the methods of each class differ in name or descriptor
 abbrev pub all_differ : List ClassForm → Bool
 all_differ all = list_all (λ c. differ c.methods) all
 
 -- All methods of the classes, class by class, where these join: their names differ and are free, the methods of each differ, and each
--- method that is called is there. A class's domain is its place.
-unfoldable pub joined : List ClassForm → Option (List Method)
-joined all = if good_names all && all_differ all then methods_from (called_place all) 0 all else None
+-- method that is called is there. The domain of each class stands beside it.
+unfoldable pub joined : List ℕ → List ClassForm → Option (List Method)
+joined domains all = if good_names all && all_differ all then methods_from (called_place all) domains all else None
 
 -- ---- where a program begins
 

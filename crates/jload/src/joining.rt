@@ -13,10 +13,15 @@ use jform::{ClassForm, MethodForm, Op};
 use std::alloc::{AllocError, Global};
 
 /// All methods of the classes, class by class, where the classes join: their names differ and begin with neither `java/` nor `sps/`,
-/// the methods of each differ in name or descriptor, and each method that is called is there. A class's domain is its place.
+/// the methods of each differ in name or descriptor, and each method that is called is there. The domain of each class stands beside it.
 #[tactic(auto, unfolding(crate::specs::Joins::joined))]
-pub fn joined(alloc: Global, classes: &[ClassForm]) -> Result<Option<Seq<Method>>, AllocError>
-    ensures { IfOk result (λ ms. ms ≡ joined classes.now) }
+pub fn joined(
+    alloc: Global,
+    domains: &[u32],
+    classes: &[ClassForm],
+) -> Result<Option<Seq<Method>>, AllocError>
+    requires { length domains.now ≡ length classes.now }
+    ensures { IfOk result (λ ms. ms ≡ joined domains.now classes.now) }
 {
     if !good_names(classes) {
         return Ok(None);
@@ -24,7 +29,7 @@ pub fn joined(alloc: Global, classes: &[ClassForm]) -> Result<Option<Seq<Method>
     let Some(index) = index_of(alloc, classes)? else {
         return Ok(None);
     };
-    methods_of(alloc, index.as_slice(), classes)
+    methods_of(alloc, index.as_slice(), domains, classes)
 }
 
 // ---- names
@@ -152,28 +157,26 @@ impl<'a, 'b> EachSome for MethodsIn<'a, 'b> {
     }
 }
 
-/// The methods of classes, where each method that they call has a place. The first class has the domain 0.
+/// The methods of classes, each of the domain that stands beside its class, where each method that they call has a place.
 #[tactic(auto, using(crate::proofs::Classes::along_classes), unfolding(crate::specs::Joins::methods_from))]
 fn methods_of(
     alloc: Global,
     index: &[ClassIndex<'_>],
+    domains: &[u32],
     classes: &[ClassForm],
 ) -> Result<Option<Seq<Method>>, AllocError>
-    ensures { IfOk result (λ ms. ms ≡ methods_from (find_in index.now) 0 classes.now) }
+    requires { length domains.now ≡ length classes.now }
+    ensures { IfOk result (λ ms. ms ≡ methods_from (find_in index.now) domains.now classes.now) }
 {
     let mut methods = Vec::new(alloc);
-    let mut domain: u32 = 0;
-    for class in classes {
+    for (i, class) in classes.iter().enumerate() {
+        let domain = domains[i];
         let by = MethodsIn { index, domain };
         let Some(more) = each_some_of(alloc, &by, class.methods.as_slice())? else {
             return Ok(None);
         };
         let mut more = more.into_vec();
         methods.append(&mut more)?;
-        let Some(next) = domain.checked_add(1) else {
-            return Err(AllocError);
-        };
-        domain = next;
     }
     Ok(Some(Seq::from_vec(methods)))
 }

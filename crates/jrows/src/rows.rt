@@ -1,6 +1,7 @@
 use crate::classes::{
-    ADDS_FLOATS, AGAIN, BAD_TAG, CALLER, EMPTY, FILLS, LIB, LOOPS, NO_NAME, OVER_ITSELF, POPS,
-    ROW_ONE, RUNS_ON, SHUFFLES, UNSET,
+    A_OVER_B, ADDS_FLOATS, AGAIN, B_OVER_A, BAD_TAG, BARE, CALLER, EMPTY, FILLS, LIB, LOOPS,
+    NO_NAME, NOT_STATIC, OBJECT, OVER_GONE, OVER_ITSELF, OVERRIDES, PASSES, POPS, ROW_ONE, RUNS_ON,
+    SHUFFLES, TAKES_FLOAT, TAKES_NOTHING, TELLS_ITSELF, UNSET,
 };
 use crate::job::Content::{Bytes, Hex, Text};
 use crate::job::{Content, Faults, NONE, Outcome, answered};
@@ -13,6 +14,21 @@ const ONE: &str = "policy app.policy\ncode file:/a/\nclass Main.class\nmain Main
 
 const TWO: &str =
     "policy app.policy\ncode file:/lib/\nclass Lib.class\ncode file:/main/\nclass Main.class\nmain Main\n";
+
+/// Two classes of one code source.
+const PAIR: &str = "code file:/a/\nclass First.class\nclass Second.class\nmain Main\n";
+
+/// All classes in one code source.
+const BESIDE: &str =
+    "policy app.policy\ncode file:/lib/\nclass Lib.class\nclass A.class\nclass Main.class\nmain Main\n";
+
+/// Two classes in the first code source, and one in the second.
+const APART: &str =
+    "policy app.policy\ncode file:/lib/\nclass Lib.class\nclass A.class\ncode file:/main/\nclass Main.class\nmain Main\n";
+
+/// A code source without classes, and two with one or two.
+const BEHIND_NONE: &str =
+    "policy app.policy\ncode file:/none/\ncode file:/main/\nclass Main.class\ncode file:/lib/\nclass A.class\nclass Lib.class\nmain Main\n";
 
 const TO_A: &str =
     "grant codeBase \"file:/a/\" { permission java.util.PropertyPermission \"x\", \"read\"; };\n";
@@ -179,8 +195,35 @@ fn two_classes(rt: HostRuntime) -> Result<(), AllocError> {
     Ok(())
 }
 
+/// Code sources of several classes, of one and of none: a class's domain is that of its code source.
+#[test]
+fn classes_by_source(rt: HostRuntime) -> Result<(), AllocError> {
+    let alloc = rt.alloc();
+    let rows: [(&str, &str, &str, Status); 6] = [
+        (BESIDE, TO_LIB, GRANTED, Status::Finished),
+        (BESIDE, "", DENIED_BY_0, Status::Uncaught),
+        (APART, TO_LIB, DENIED_BY_1, Status::Uncaught),
+        (APART, TO_BOTH, GRANTED, Status::Finished),
+        (BEHIND_NONE, TO_BOTH, GRANTED, Status::Finished),
+        (BEHIND_NONE, TO_LIB, DENIED_BY_1, Status::Uncaught),
+    ];
+    for (job, policy, text, status) in rows {
+        let files = [
+            ("job", Text(job)),
+            ("app.policy", Text(policy)),
+            ("Lib.class", Hex(LIB)),
+            ("A.class", Hex(EMPTY)),
+            ("Main.class", Hex(CALLER)),
+        ];
+        let got = answered(alloc, &RUN, &files, NONE)?;
+        assert!(rt; got.text.as_slice() == text.as_bytes(), "{text}");
+        assert!(rt; got.status == status, "{text}");
+    }
+    Ok(())
+}
+
 /// A job, its policy and its class file, and in which words they are refused.
-const REFUSED: [(Content<'static>, Content<'static>, Content<'static>, &str); 18] = [
+const REFUSED: [(Content<'static>, Content<'static>, Content<'static>, &str); 20] = [
     (
         Text("policy app.policy\ncode file:/a/\nclass Main.class\nmain Mein\n"),
         Text(TO_A),
@@ -246,7 +289,7 @@ const REFUSED: [(Content<'static>, Content<'static>, Content<'static>, &str); 18
         Text(ONE),
         Text(TO_A),
         Hex(OVER_ITSELF),
-        "refused unbuilt Main.class\n",
+        "refused link A - circular\n",
     ),
     (
         Text("code file:/a/\nclass m.class\nmain A\n"),
@@ -260,25 +303,42 @@ const REFUSED: [(Content<'static>, Content<'static>, Content<'static>, &str); 18
         Hex(ADDS_FLOATS),
         "refused class m.class at 90 leftout 98\n",
     ),
-    (Text(ONE), Text(TO_A), Hex(CALLER), "refused unbuilt job\n"),
+    (
+        Text(ONE),
+        Text(TO_A),
+        Hex(CALLER),
+        "refused link Main main([Ljava/lang/String;)V noclass\n",
+    ),
     (
         Text(
             "policy app.policy\ncode file:/a/\nclass Main.class\ncode file:/b/\nclass Main.class\nmain Main\n",
         ),
         Text(TO_A),
         Hex(ROW_ONE),
-        "refused unbuilt job\n",
+        "refused link Main - twice\n",
     ),
     (
         Text("policy app.policy\ncode file:/a/\nclass Main.class\nclass m.class\nmain Main\n"),
         Text(TO_A),
         Hex(ROW_ONE),
-        "refused unbuilt job\n",
+        "refused link Main - twice\n",
     ),
     (
-        Text("policy app.policy\ncode file:/a/\nclass Main.class\ncode file:/b/\nmain Main\n"),
+        Text(ONE),
         Text(TO_A),
-        Hex(ROW_ONE),
+        Hex(NOT_STATIC),
+        "refused main Main\n",
+    ),
+    (
+        Text(ONE),
+        Text(TO_A),
+        Hex(TAKES_NOTHING),
+        "refused main Main\n",
+    ),
+    (
+        Text(ONE),
+        Text(TO_A),
+        Hex(TELLS_ITSELF),
         "refused unbuilt job\n",
     ),
 ];
@@ -293,6 +353,35 @@ fn refusals(rt: HostRuntime) -> Result<(), AllocError> {
             ("app.policy", policy),
             ("Main.class", class),
             ("m.class", class),
+        ];
+        let got = answered(alloc, &RUN, &files, NONE)?;
+        assert!(rt; got.text.as_slice() == text.as_bytes(), "{text}");
+        assert!(rt; got.status == Status::Refused, "{text}");
+    }
+    Ok(())
+}
+
+/// Classes that don't link: the first broken rule, by the class and the member that break it.
+#[test]
+fn broken_links(rt: HostRuntime) -> Result<(), AllocError> {
+    let alloc = rt.alloc();
+    let rows: [(&str, &str, &str); 6] = [
+        (OVER_GONE, EMPTY, "refused link Main - noclass\n"),
+        (A_OVER_B, B_OVER_A, "refused link A - circular\n"),
+        (OBJECT, BARE, "refused link java/lang/Object - twice\n"),
+        (TAKES_FLOAT, BARE, "refused link M f(F)V leftout\n"),
+        (
+            OVERRIDES,
+            BARE,
+            "refused link M getMessage()Ljava/lang/String; overrideslibrary\n",
+        ),
+        (PASSES, EMPTY, "refused link Main - reservedname\n"),
+    ];
+    for (first, second, text) in rows {
+        let files = [
+            ("job", Text(PAIR)),
+            ("First.class", Hex(first)),
+            ("Second.class", Hex(second)),
         ];
         let got = answered(alloc, &RUN, &files, NONE)?;
         assert!(rt; got.text.as_slice() == text.as_bytes(), "{text}");

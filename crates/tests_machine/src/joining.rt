@@ -1,5 +1,5 @@
 use jbase::Seq;
-use jengine::Form;
+use jengine::{Form, Method};
 use jform::{ClassForm, MethodForm, Op};
 use jload::{joined, main_of};
 use std::alloc::{AllocError, Global};
@@ -60,13 +60,27 @@ fn two(
     Ok(classes)
 }
 
+/// The methods of as many classes as there are domains, where they join.
+fn joined_by(
+    alloc: Global,
+    domains: &[u32],
+    classes: &Seq<ClassForm>,
+) -> Result<Option<Seq<Method>>, AllocError> {
+    let classes = classes.as_slice();
+    if domains.len() != classes.len() {
+        return Err(AllocError);
+    }
+    joined(alloc, domains, classes)
+}
+
 /// The place that each method calls first, or 9, with ten for each domain; and the place of the main method of a class, or 9.
 fn places(
     alloc: Global,
+    domains: &[u32],
     classes: &Seq<ClassForm>,
     main: &[u8],
 ) -> Result<Option<(Seq<usize>, usize)>, AllocError> {
-    let Some(methods) = joined(alloc, classes.as_slice())? else {
+    let Some(methods) = joined_by(alloc, domains, classes)? else {
         return Ok(None);
     };
     let mut called = Seq::new(alloc);
@@ -89,12 +103,18 @@ fn places(
 fn joins(rt: HostRuntime) -> Result<(), AllocError> {
     let alloc = rt.alloc();
     let classes = two(alloc, b"a/A", b"f", &[(b"a/A", b"f")])?;
-    for (name, begins) in [(b"a/A".as_slice(), 0), (b"B/B", 9), (b"B", 3)] {
-        let Some((called, main)) = places(alloc, &classes, name)? else {
+    let rows: [([u32; 2], &[u8], [usize; 4], usize); 4] = [
+        ([0, 1], b"a/A", [1, 2, 19, 19], 0),
+        ([0, 1], b"B/B", [1, 2, 19, 19], 9),
+        ([0, 0], b"B", [1, 2, 9, 9], 3),
+        ([7, 0], b"B", [11, 12, 9, 9], 3),
+    ];
+    for (domains, name, calls, begins) in rows {
+        let Some((called, main)) = places(alloc, &domains, &classes, name)? else {
             assert!(rt; false);
             return Ok(());
         };
-        assert!(rt; called.as_slice() == [1, 2, 19, 19].as_slice());
+        assert!(rt; called.as_slice() == calls.as_slice());
         assert!(rt; main == begins);
     }
     Ok(())
@@ -115,11 +135,11 @@ fn classes_join_or_not(rt: HostRuntime) -> Result<(), AllocError> {
     ];
     for (name, second, called, joins) in rows {
         let classes = two(alloc, name, second, &[(name, called)])?;
-        let got = joined(alloc, classes.as_slice())?;
+        let got = joined_by(alloc, &[0, 1], &classes)?;
         assert!(rt; got.is_some() == joins);
     }
     let elsewhere = two(alloc, b"a/A", b"f", &[(b"C", b"f")])?;
-    assert!(rt; joined(alloc, elsewhere.as_slice())?.is_none());
+    assert!(rt; joined_by(alloc, &[0, 1], &elsewhere)?.is_none());
     Ok(())
 }
 
@@ -130,6 +150,6 @@ fn a_method_stands_once(rt: HostRuntime) -> Result<(), AllocError> {
     let plain = method(alloc, b"f", false, &[])?;
     let again = method(alloc, b"f", false, &[])?;
     twice.push(class(alloc, b"A", plain, again)?)?;
-    assert!(rt; joined(alloc, twice.as_slice())?.is_none());
+    assert!(rt; joined_by(alloc, &[0], &twice)?.is_none());
     Ok(())
 }

@@ -1,8 +1,10 @@
-use Rattle.std.proofs.Common.{◌≡◌, flat_map, map}
+use Rattle.std.proofs.Common.{◌≡◌, length}
+use Rattle.jdriver.specs.Grounds.{paths_from, urls_of}
 use Rattle.jdriver.proofs.ground.parted.Given as goal
 
 abbrev pub invariant-loop-one : goal.invariant-loop-one
 invariant-loop-one l = record {
-  urls : l.urls ≡ map (λ s. s.source) l.yielded;
-  paths : l.paths ≡ flat_map (λ s. s.classes) l.yielded;
+  urls : l.urls ≡ urls_of l.yielded;
+  classes : l.classes ≡ paths_from 0 l.yielded;
+  count : l.domain ≡ length l.yielded;
 }

@@ -1,4 +1,4 @@
-use Rattle.std.proofs.Common.{◌≡◌, ◌≤◌}
+use Rattle.std.proofs.Common.{◌≤◌}
 use Rattle.jdriver.proofs.Domains.{IsWent}
 use Rattle.jdriver.proofs.listing.put_listing.Given as goal
 
