@@ -2,4 +2,12 @@
 #![tactic(auto)]
 
 #[cfg(test)]
+mod full_pools;
+#[cfg(test)]
+mod given;
+#[cfg(test)]
+mod limits;
+#[cfg(test)]
+mod methods;
+#[cfg(test)]
 mod moved;
