@@ -28,8 +28,9 @@ pub(crate) enum DescUse {
 
 // ---- one descriptor
 
-/// The types of parameters, the last one first.
-fn params_in(
+/// The types of a method's parameters in a program, the last one first, as operands stand (JVMS 4.3.3). None where one is a float or a
+/// double, or names a class that isn't there.
+pub fn params_in(
     alloc: Global,
     p: &NamedProgram,
     params: &[FieldType],
@@ -48,7 +49,9 @@ fn params_in(
     Ok(Some(types))
 }
 
-fn return_in(p: &NamedProgram, ret: &Option<FieldType>) -> Option<Option<TypeRef>>
+/// The type of what a method returns, inside None where it returns nothing. None where it is a float or a double, or names a class that isn't
+/// there.
+pub fn return_in(p: &NamedProgram, ret: &Option<FieldType>) -> Option<Option<TypeRef>>
     ensures { option_map (option_map (named p.now)) result ≡ Typed.return_in p.now ret.now }
 {
     match ret {

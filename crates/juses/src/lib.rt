@@ -11,9 +11,10 @@ mod typing;
 mod uses;
 mod using;
 
+pub use descriptors::{params_in, return_in};
 pub use fitting::{stands_below, type_fits};
 pub use laws::member_law;
 pub use meaning::{CallUse, Constant, FieldUse, How, Span, Use};
 pub use types::{ArrayRef, ElementRef, TypeRef};
-pub use typing::{class_type, type_in};
+pub use typing::{class_there, class_type, type_in};
 pub use uses::Uses;

@@ -13,7 +13,7 @@ const CONTEXT: &[u8] = b"sps/Ctx";
 
 /// The number of the class of a name, where the program has one.
 #[tactic(auto, using(crate::proofs::Naming::there_is))]
-pub(crate) fn class_there(p: &NamedProgram, name: &[u8]) -> Option<ClassRef>
+pub fn class_there(p: &NamedProgram, name: &[u8]) -> Option<ClassRef>
     ensures { option_map (class_named p.now) result ≡ Typed.there p.now name.now }
 {
     p.class_of(name)
