@@ -24,7 +24,7 @@ unfolding slots slot_count
 slots_named p [] = refl
 slots_named p (k ∷ ks) = grind (arith, size_named p k, slots_named p ks)
 
-size_parts : (k : TypeRef) → size k ≡ 1 + longs_in k
+pub size_parts : (k : TypeRef) → size k ≡ 1 + longs_in k
 size_parts refs.Top = refl
 size_parts refs.Int = refl
 size_parts refs.Long = refl

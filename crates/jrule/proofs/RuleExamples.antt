@@ -10,7 +10,7 @@ use Rattle.jtypes.specs.declared.vtype.Name.{Name}
 use Rattle.jtypes.specs.declared.vtype.Element.TheVariants as elements
 use Rattle.jtypes.specs.declared.vtype.VType.{VType}
 use Rattle.jtypes.specs.declared.vtype.VType.TheVariants.{Top, Int, Long, Null, UninitThis, Uninit, Object, Array}
-use Rattle.jtypes.specs.Frames.{Frame, slots}
+use Rattle.jtypes.specs.Frames.{Frame, all_fit, slots}
 use Rattle.jtypes.specs.Tree.{Tree}
 use Rattle.jrule.specs.Arrays as array
 use Rattle.jrule.specs.Here.{Here}
@@ -19,6 +19,7 @@ use Rattle.jrule.specs.Locals.{with_local}
 use Rattle.jrule.specs.Moves as moves
 use Rattle.jrule.specs.Objects as objects
 use Rattle.jrule.specs.Operands.{below, taken}
+use Rattle.jrule.specs.Precise.{frame_precise, locals_precise, precise}
 use Rattle.jrule.specs.Straight as straight
 
 abbrev frame : List VType → List VType → Frame
@@ -148,3 +149,23 @@ return_int_early t = refl
 
 return_nothing_for_int : (t : Tree) → straight.leave t false (Some Int) results.Nothing (frame [] (Int ∷ [])) ≡ None
 return_nothing_for_int t = refl
+
+-- ---- frames of more precise types
+
+int_for_top : (t : Tree) → frame_precise t (frame (Int ∷ []) []) (frame (Top ∷ []) []) ≡ true
+unfolding frame_precise locals_precise all_fit
+int_for_top t = refl
+
+-- on the stack Top alone does for Top
+int_for_top_on_stack : (t : Tree) → frame_precise t (frame [] (Int ∷ [])) (frame [] (Top ∷ [])) ≡ false
+unfolding frame_precise locals_precise all_fit
+int_for_top_on_stack t = refl
+
+-- a long's second place stays Top
+int_for_second_half : (t : Tree) → frame_precise t (frame (Long ∷ Int ∷ []) []) (frame (Long ∷ Top ∷ []) []) ≡ false
+unfolding frame_precise locals_precise all_fit
+int_for_second_half t = refl
+
+-- an array fits Object, and isn't one that is more precise
+array_for_object : (t : Tree) → precise t (Array (record { depth = 1; element = elements.Int })) (Object object) ≡ false
+array_for_object t = refl

@@ -1,11 +1,15 @@
 pub mod Arrays
 pub mod Effects
+pub mod Filled
 pub mod Forms
+pub mod Further
 pub mod Here
 pub mod Locals
 pub mod Moves
+pub mod News
 pub mod Objects
 pub mod Operands
+pub mod Precise
 pub mod Rule
 pub mod Seen
 pub mod Slots

@@ -47,7 +47,8 @@ fn called<N: News>(
     c: &CallUse,
     f: FrameRef,
 ) -> Result<Option<FrameRef>, AllocError>
-    ensures { IfOk result (λ r. option_map (seen p.now) r ≡ Rule.called p.now (seen_here p.now (N.makes news.now) here.now) by (call_named p.now uses.now.types c.now) (seen p.now f)) }
+    ensures { IfOk result (λ r. option_map (seen p.now) r
+        ≡ Rule.called p.now (seen_here p.now (N.makes news.now) here.now) by (call_named p.now uses.now.types c.now) (seen p.now f)) }
 {
     let params = uses.params(c.params);
     match by {
@@ -68,7 +69,9 @@ fn used<N: News>(
     u: &Use,
     f: FrameRef,
 ) -> Result<Option<FrameRef>, AllocError>
-    ensures { IfOk result (λ r. option_map (seen p.now) r ≡ Rule.used p.now (seen_here p.now (N.makes news.now) here.now) (meaning_of p.now (pool_at p.now here.now.class) uses.now.types u.now) (seen p.now f)) }
+    ensures { IfOk result (λ r. option_map (seen p.now) r
+        ≡ Rule.used p.now (seen_here p.now (N.makes news.now) here.now)
+        (meaning_of p.now (pool_at p.now here.now.class) uses.now.types u.now) (seen p.now f)) }
 {
     match u {
         Use::Push(c) => constant(p, here.max_stack, *c, f),
@@ -88,7 +91,9 @@ fn by_meaning<N: News>(
     u: Option<Use>,
     f: FrameRef,
 ) -> Result<Option<FrameRef>, AllocError>
-    ensures { IfOk result (λ r. option_map (seen p.now) r ≡ Forms.by_meaning p.now (seen_here p.now (N.makes news.now) here.now) (option_map (meaning_of p.now (pool_at p.now here.now.class) uses.now.types) u) (seen p.now f)) }
+    ensures { IfOk result (λ r. option_map (seen p.now) r
+        ≡ Forms.by_meaning p.now (seen_here p.now (N.makes news.now) here.now)
+        (option_map (meaning_of p.now (pool_at p.now here.now.class) uses.now.types) u) (seen p.now f)) }
 {
     match u {
         None => Ok(None),
@@ -107,7 +112,8 @@ fn by_array<N: News>(
     f: FrameRef,
 ) -> Result<Option<FrameRef>, AllocError>
     requires { AreUses p.now uses.now }
-    ensures { IfOk result (λ r. option_map (seen p.now) r ≡ Forms.by_array p.now (seen_here p.now (N.makes news.now) here.now) (pool_at p.now here.now.class) form (seen p.now f)) }
+    ensures { IfOk result (λ r. option_map (seen p.now) r
+        ≡ Forms.by_array p.now (seen_here p.now (N.makes news.now) here.now) (pool_at p.now here.now.class) form (seen p.now f)) }
 {
     let most = here.max_stack;
     match form {
@@ -131,7 +137,8 @@ fn by_pool<N: News>(
     f: FrameRef,
 ) -> Result<Option<FrameRef>, AllocError>
     requires { AreUses p.now uses.now }
-    ensures { IfOk result (λ r. option_map (seen p.now) r ≡ Forms.by_meaning p.now (seen_here p.now (N.makes news.now) here.now) (meant p.now (pool_at p.now here.now.class) form) (seen p.now f)) }
+    ensures { IfOk result (λ r. option_map (seen p.now) r
+        ≡ Forms.by_meaning p.now (seen_here p.now (N.makes news.now) here.now) (meant p.now (pool_at p.now here.now.class) form) (seen p.now f)) }
 {
     let u = use_of(p, uses, here.class, form);
     by_meaning(p, uses, here, news, u, f)
@@ -149,7 +156,8 @@ pub fn rule<N: News, S>(
     f: FrameRef,
 ) -> Result<Option<FrameRef>, AllocError>
     requires { AreUses p.now uses.now }
-    ensures { IfOk result (λ r. option_map (seen p.now) r ≡ Forms.by_form p.now (seen_here p.now (N.makes news.now) here.now) (pool_at p.now here.now.class) form.now (seen p.now f)) }
+    ensures { IfOk result (λ r. option_map (seen p.now) r
+        ≡ Forms.by_form p.now (seen_here p.now (N.makes news.now) here.now) (pool_at p.now here.now.class) form.now (seen p.now f)) }
 {
     match form {
         Form::Simple(form) => simple(p, here.max_stack, *form, f),

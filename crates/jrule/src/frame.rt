@@ -4,8 +4,8 @@ ghost use Rattle.jrule.specs.Slots;
 ghost use Rattle.jrule.specs.Slots.{slot_count};
 ghost use Rattle.jrule.specs.Swaps.{is_for, swapped};
 
+use crate::kept::Locals;
 use crate::unready::Unready;
-use jbase::Seq;
 use juses::TypeRef;
 use std::alloc::{AllocError, Global};
 use std::marker::Model;
@@ -33,8 +33,8 @@ impl Model for Stack {
 /// A frame by number (JVMS 4.10.1): what is known of locals and operands before an instruction.
 #[derive(Debug, Drop)]
 pub struct FrameRef {
-    /// One for each local. A long fills two of them, and the second is Top.
-    pub locals: Seq<TypeRef>,
+    /// A long fills two of them, and the second is Top.
+    pub locals: Locals,
     pub stack: Stack,
     /// `this` isn't initialised yet.
     pub flag: bool,

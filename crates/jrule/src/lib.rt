@@ -4,6 +4,7 @@
 mod arrays;
 mod by_form;
 mod frame;
+mod kept;
 mod kinds;
 mod laws;
 mod locals;
@@ -18,7 +19,8 @@ mod uses;
 pub use arrays::array;
 pub use by_form::rule;
 pub use frame::{FrameRef, Stack};
-pub use laws::form_law;
+pub use kept::Locals;
+pub use laws::{form_law, local_law, news_law, precise_law};
 pub use locals::local;
 pub use moves::shuffle;
 pub use objects::{init, make};

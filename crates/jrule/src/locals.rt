@@ -2,14 +2,14 @@ ghost use Rattle.std.specs.Prelude.{◌≡◌, ◌+◌, ◌<◌, ◌≤◌, IfOk
 ghost use Rattle.jcode.specs.Forms as forms;
 ghost use Rattle.juses.specs.Types.{named};
 ghost use Rattle.jtypes.specs.Frames;
-ghost use Rattle.jrule.specs.Locals;
+ghost use Rattle.jrule.specs.Locals as rule;
 ghost use Rattle.jrule.specs.Seen.{seen};
 ghost use Rattle.jrule.specs.Slots.{size};
 
 use crate::frame::FrameRef;
+use crate::kept::Locals;
 use crate::kinds::is_of;
 use crate::operands::put;
-use jbase::Seq;
 use jcode::{Access, LocalForm, LocalKind};
 use jnames::Kind;
 use jprogram::NamedProgram;
@@ -26,10 +26,18 @@ fn kind_of(kind: LocalKind) -> Kind
     }
 }
 
+/// The type of a local; none where it isn't there.
+#[tactic(auto, using(crate::proofs::Places::get_named))]
+fn type_at(p: &NamedProgram, locals: &Locals, n: u16) -> Option<TypeRef>
+    ensures { option_map (named p.now) result ≡ slice_get (map (named p.now) locals.now) n }
+{
+    locals.get(usize::from(n))
+}
+
 // ---- loads
 
-fn is_top_at(p: &NamedProgram, locals: &[TypeRef], n: usize) -> bool
-    ensures { result ≡ Locals.passes Locals.is_top (slice_get (map (named p.now) locals.now) n) }
+fn is_top_at(p: &NamedProgram, locals: &Locals, n: usize) -> bool
+    ensures { result ≡ rule.passes rule.is_top (slice_get (map (named p.now) locals.now) n) }
 {
     match locals.get(n) {
         Some(t) => matches!(t, TypeRef::Top),
@@ -38,8 +46,8 @@ fn is_top_at(p: &NamedProgram, locals: &[TypeRef], n: usize) -> bool
 }
 
 /// Whether a local's value is there whole: a long takes the place behind it too.
-fn is_whole(p: &NamedProgram, locals: &[TypeRef], n: u16, t: TypeRef) -> bool
-    ensures { result ≡ Locals.is_whole (map (named p.now) locals.now) n (named p.now t) }
+fn is_whole(p: &NamedProgram, locals: &Locals, n: u16, t: TypeRef) -> bool
+    ensures { result ≡ rule.is_whole (map (named p.now) locals.now) n (named p.now t) }
 {
     match t {
         TypeRef::Long => is_top_at(p, locals, usize::from(n) + 1),
@@ -54,16 +62,15 @@ fn load(
     n: u16,
     f: FrameRef,
 ) -> Result<Option<FrameRef>, AllocError>
-    ensures { IfOk result (λ r. option_map (seen p.now) r ≡ Locals.load most kind n (seen p.now f)) }
+    ensures { IfOk result (λ r. option_map (seen p.now) r ≡ rule.load most kind n (seen p.now f)) }
 {
-    let Some(found) = f.locals.as_slice().get(usize::from(n)) else {
+    let Some(t) = type_at(p, &f.locals, n) else {
         return Ok(None);
     };
-    let t = *found;
     if !is_of(p, kind, t) {
         return Ok(None);
     }
-    if !is_whole(p, f.locals.as_slice(), n, t) {
+    if !is_whole(p, &f.locals, n, t) {
         return Ok(None);
     }
     put(p, most, t, f)
@@ -71,8 +78,8 @@ fn load(
 
 // ---- stores
 
-fn is_long_at(p: &NamedProgram, locals: &[TypeRef], n: usize) -> bool
-    ensures { result ≡ Locals.passes Frames.is_long (slice_get (map (named p.now) locals.now) n) }
+fn is_long_at(p: &NamedProgram, locals: &Locals, n: usize) -> bool
+    ensures { result ≡ rule.passes Frames.is_long (slice_get (map (named p.now) locals.now) n) }
 {
     match locals.get(n) {
         Some(t) => matches!(t, TypeRef::Long),
@@ -82,38 +89,38 @@ fn is_long_at(p: &NamedProgram, locals: &[TypeRef], n: usize) -> bool
 
 /// The locals without a long that begins in front of one.
 #[tactic(auto, using(crate::proofs::Places::set_named))]
-fn broken(p: &NamedProgram, mut locals: Seq<TypeRef>, n: usize) -> Seq<TypeRef>
+fn broken(p: &NamedProgram, mut locals: Locals, n: usize) -> Result<Locals, AllocError>
     requires { n < length locals }
-    ensures { map (named p.now) result ≡ Locals.broken (map (named p.now) locals) n }
+    ensures { IfOk result (λ r. map (named p.now) r ≡ rule.broken (map (named p.now) locals) n) }
 {
     if n == 0 {
-        return locals;
+        return Ok(locals);
     }
-    if is_long_at(p, locals.as_slice(), n - 1) {
-        locals.set(n - 1, TypeRef::Top);
-        return locals;
+    if is_long_at(p, &locals, n - 1) {
+        locals.set(n - 1, TypeRef::Top)?;
+        return Ok(locals);
     }
-    locals
+    Ok(locals)
 }
 
 /// The locals with a value from one on.
 #[tactic(auto, using(crate::proofs::Places::set_named), unfolding(crate::specs::Locals::with_local))]
-fn with_local(p: &NamedProgram, locals: Seq<TypeRef>, n: usize, t: TypeRef) -> Seq<TypeRef>
+fn with_local(p: &NamedProgram, locals: Locals, n: usize, t: TypeRef) -> Result<Locals, AllocError>
     requires { n + size t ≤ length locals }
-    ensures { map (named p.now) result ≡ Locals.with_local (map (named p.now) locals) n (named p.now t) }
+    ensures { IfOk result (λ r. map (named p.now) r ≡ rule.with_local (map (named p.now) locals) n (named p.now t)) }
 {
-    let mut locals = broken(p, locals, n);
-    locals.set(n, t);
+    let mut locals = broken(p, locals, n)?;
+    locals.set(n, t)?;
     match t {
         TypeRef::Long => {
-            locals.set(n + 1, TypeRef::Top);
-            locals
+            locals.set(n + 1, TypeRef::Top)?;
+            Ok(locals)
         }
-        _ => locals,
+        _ => Ok(locals),
     }
 }
 
-fn has_room(locals: &[TypeRef], n: u16, t: TypeRef) -> bool
+fn has_room(locals: &Locals, n: u16, t: TypeRef) -> bool
     ensures { result ≡ nat_le (n + size t) (length locals.now) }
 {
     let n = usize::from(n);
@@ -123,34 +130,42 @@ fn has_room(locals: &[TypeRef], n: u16, t: TypeRef) -> bool
     }
 }
 
-fn store(p: &NamedProgram, kind: Kind, n: u16, mut f: FrameRef) -> Option<FrameRef>
-    ensures { option_map (seen p.now) result ≡ Locals.store kind n (seen p.now f) }
+fn store(
+    p: &NamedProgram,
+    kind: Kind,
+    n: u16,
+    mut f: FrameRef,
+) -> Result<Option<FrameRef>, AllocError>
+    ensures { IfOk result (λ r. option_map (seen p.now) r ≡ rule.store kind n (seen p.now f)) }
 {
-    let t = f.stack.pop()?;
+    let Some(t) = f.stack.pop() else {
+        return Ok(None);
+    };
     if !is_of(p, kind, t) {
-        return None;
+        return Ok(None);
     }
-    if !has_room(f.locals.as_slice(), n, t) {
-        return None;
+    if !has_room(&f.locals, n, t) {
+        return Ok(None);
     }
     let FrameRef {
         locals,
         stack,
         flag,
     } = f;
-    Some(FrameRef {
-        locals: with_local(p, locals, usize::from(n), t),
+    let locals = with_local(p, locals, usize::from(n), t)?;
+    Ok(Some(FrameRef {
+        locals,
         stack,
         flag,
-    })
+    }))
 }
 
 // ---- all
 
 fn increment(p: &NamedProgram, n: u16, f: FrameRef) -> Option<FrameRef>
-    ensures { option_map (seen p.now) result ≡ Locals.increment n (seen p.now f) }
+    ensures { option_map (seen p.now) result ≡ rule.increment n (seen p.now f) }
 {
-    let t = *f.locals.as_slice().get(usize::from(n))?;
+    let t = type_at(p, &f.locals, n)?;
     match t {
         TypeRef::Int => Some(f),
         _ => None,
@@ -165,11 +180,11 @@ pub fn local(
     form: LocalForm,
     f: FrameRef,
 ) -> Result<Option<FrameRef>, AllocError>
-    ensures { IfOk result (λ r. option_map (seen p.now) r ≡ Locals.local most form (seen p.now f)) }
+    ensures { IfOk result (λ r. option_map (seen p.now) r ≡ rule.local most form (seen p.now f)) }
 {
     match form {
         LocalForm::Move(Access::Load, kind, n) => load(p, most, kind_of(kind), n, f),
-        LocalForm::Move(Access::Store, kind, n) => Ok(store(p, kind_of(kind), n, f)),
+        LocalForm::Move(Access::Store, kind, n) => store(p, kind_of(kind), n, f),
         LocalForm::Increment(n, _) => Ok(increment(p, n, f)),
     }
 }

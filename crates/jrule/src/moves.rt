@@ -22,7 +22,8 @@ pub(crate) enum Item {
 /// The newest operand, where it is known how many slots it takes.
 #[tactic(auto, unfolding(crate::specs::Moves::items))]
 fn pop_item(p: &NamedProgram, stack: &mut Stack) -> Option<Item>
-    ensures items { MatchOption result (items (map (named p.now) stack.old) ≡ []) (λ i. items (map (named p.now) stack.old) ≡ seen_item p.now i ∷ items (map (named p.now) stack.new)) }
+    ensures items { MatchOption result (items (map (named p.now) stack.old) ≡ []) (λ i. items (map (named p.now) stack.old)
+        ≡ seen_item p.now i ∷ items (map (named p.now) stack.new)) }
     ensures rest { IfSome result (λ i. stack.old ≡ item_type i ∷ stack.new) }
 {
     match stack.pop()? {
@@ -224,7 +225,9 @@ fn dup2_x1(p: &NamedProgram, mut stack: Stack) -> Result<Option<Stack>, AllocErr
 /// With a long as the newest item.
 #[tactic(auto, unfolding(jops::specs::Shuffles::shuffle))]
 fn dup2_x2_long(p: &NamedProgram, a: TypeRef, mut stack: Stack) -> Result<Option<Stack>, AllocError>
-    ensures { IfOk result (λ r. option_map (map (named p.now)) r ≡ option_map (moved (named p.now a ∷ map (named p.now) stack)) (slots.dup2_x2 (slots.Two (named p.now a) ∷ items (map (named p.now) stack)))) }
+    ensures { IfOk result (λ r. option_map (map (named p.now)) r
+        ≡ option_map (moved (named p.now a ∷ map (named p.now) stack))
+        (slots.dup2_x2 (slots.Two (named p.now a) ∷ items (map (named p.now) stack)))) }
 {
     match pop_item(p, &mut stack) {
         None => Ok(None),
@@ -251,7 +254,9 @@ fn dup2_x2_pair(
     b: TypeRef,
     mut stack: Stack,
 ) -> Result<Option<Stack>, AllocError>
-    ensures { IfOk result (λ r. option_map (map (named p.now)) r ≡ option_map (moved (named p.now a ∷ named p.now b ∷ map (named p.now) stack)) (slots.dup2_x2 (slots.One (named p.now a) ∷ slots.One (named p.now b) ∷ items (map (named p.now) stack)))) }
+    ensures { IfOk result (λ r. option_map (map (named p.now)) r
+        ≡ option_map (moved (named p.now a ∷ named p.now b ∷ map (named p.now) stack))
+        (slots.dup2_x2 (slots.One (named p.now a) ∷ slots.One (named p.now b) ∷ items (map (named p.now) stack)))) }
 {
     match pop_item(p, &mut stack) {
         None => Ok(None),

@@ -6,19 +6,19 @@ ghost use Rattle.jrule.specs.Objects.{all_replaced, init_of, is_named, may_ready
 ghost use Rattle.jrule.specs.Seen.{seen, seen_call, seen_here};
 
 use crate::frame::FrameRef;
+use crate::kept::Locals;
 use crate::operands::{give, put, take_arguments};
 use crate::place::{HereRef, News};
 use crate::unready::Unready;
-use jbase::Seq;
 use jprogram::{ClassRef, NamedProgram};
 use juses::{CallUse, TypeRef};
 use std::alloc::AllocError;
 
 /// The locals with another type for each copy of an object.
-fn all_replaced(p: &NamedProgram, it: Unready, new: TypeRef, locals: Seq<TypeRef>) -> Seq<TypeRef>
+fn all_replaced(p: &NamedProgram, it: Unready, new: TypeRef, locals: Locals) -> Locals
     ensures { map (named p.now) result ≡ all_replaced it (named p.now new) (map (named p.now) locals) }
 {
-    Seq::from_vec(it.all_swapped(new, locals.into_vec()))
+    locals.all_swapped(it, new)
 }
 
 /// The frame behind a `new` (JVMS 4.10.1.9, new), which stands at the place `at`; none where what it made before is on the stack, or where
@@ -136,7 +136,8 @@ pub fn init<N: News>(
     params: &[TypeRef],
     f: FrameRef,
 ) -> Result<Option<FrameRef>, AllocError>
-    ensures { IfOk result (λ r. option_map (seen p.now) r ≡ Objects.init (tree p.now) (seen_here p.now (N.makes news.now) here.now) (seen_call p.now call.now params.now) (seen p.now f)) }
+    ensures { IfOk result (λ r. option_map (seen p.now) r
+        ≡ Objects.init (tree p.now) (seen_here p.now (N.makes news.now) here.now) (seen_call p.now call.now params.now) (seen p.now f)) }
 {
     let Some(f) = take_arguments(p, params, f) else {
         return Ok(None);

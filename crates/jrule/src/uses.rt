@@ -108,7 +108,8 @@ fn take_written(
     owner: ClassRef,
     mut f: FrameRef,
 ) -> Option<FrameRef>
-    ensures { option_map (seen p.now) result ≡ taken (tree p.now) (Uses.written own (class_named p.now this) (class_named p.now owner) ∷ []) (seen p.now f) }
+    ensures { option_map (seen p.now) result
+        ≡ taken (tree p.now) (Uses.written own (class_named p.now this) (class_named p.now owner) ∷ []) (seen p.now f) }
 {
     let object = f.stack.pop()?;
     if !is_written(p, own, this, owner, object) {
@@ -125,7 +126,12 @@ fn put_field(
     field: &FieldUse,
     f: FrameRef,
 ) -> Option<FrameRef>
-    ensures { option_map (seen p.now) result ≡ taken (tree p.now) (Fits (named p.now field.now.held) ∷ Uses.written (Rule.is_own p.now is_init (class_named p.now this) field.now.member) (class_named p.now this) (class_named p.now field.now.owner) ∷ []) (seen p.now f) }
+    ensures { option_map (seen p.now) result
+        ≡ taken (tree p.now)
+        (Fits (named p.now field.now.held)
+        ∷ Uses.written (Rule.is_own p.now is_init (class_named p.now this) field.now.member) (class_named p.now this)
+        (class_named p.now field.now.owner) ∷ [])
+        (seen p.now f) }
 {
     let f = take_fitting(p, field.held, f)?;
     let own = is_own(p, is_init, this, field.member);
@@ -138,7 +144,9 @@ fn get_field(
     field: &FieldUse,
     f: FrameRef,
 ) -> Result<Option<FrameRef>, AllocError>
-    ensures { IfOk result (λ r. option_map (seen p.now) r ≡ exchanged (tree p.now) most (gives (Fits (named p.now (TypeRef.Object field.now.owner)) ∷ []) (named p.now field.now.held)) (seen p.now f)) }
+    ensures { IfOk result (λ r. option_map (seen p.now) r
+        ≡ exchanged (tree p.now) most (gives (Fits (named p.now (TypeRef.Object field.now.owner)) ∷ []) (named p.now field.now.held))
+        (seen p.now f)) }
 {
     let Some(f) = take_fitting(p, TypeRef::Object(field.owner), f) else {
         return Ok(None);
@@ -156,7 +164,9 @@ pub fn field(
     field: &FieldUse,
     f: FrameRef,
 ) -> Result<Option<FrameRef>, AllocError>
-    ensures { IfOk result (λ r. let this = class_named p.now (ClassRef.User here.now.class) in option_map (seen p.now) r ≡ exchanged (tree p.now) here.now.max_stack (Uses.of_field (Rule.is_own p.now here.now.is_init this) this op (field_named p.now field.now)) (seen p.now f)) }
+    ensures { IfOk result (λ r. let this = class_named p.now (ClassRef.User here.now.class) in option_map (seen p.now) r
+        ≡ exchanged (tree p.now) here.now.max_stack
+        (Uses.of_field (Rule.is_own p.now here.now.is_init this) this op (field_named p.now field.now)) (seen p.now f)) }
 {
     match op {
         FieldOp::GetStatic => put(p, here.max_stack, field.held, f),
@@ -176,7 +186,8 @@ fn take_receiver(
     owner: ClassRef,
     f: FrameRef,
 ) -> Option<FrameRef>
-    ensures { option_map (seen p.now) result ≡ taken (tree p.now) (Uses.receiver (class_named p.now this) by (class_named p.now owner)) (seen p.now f) }
+    ensures { option_map (seen p.now) result
+        ≡ taken (tree p.now) (Uses.receiver (class_named p.now this) by (class_named p.now owner)) (seen p.now f) }
 {
     match by {
         How::Virtual | How::Interface => take_fitting(p, TypeRef::Object(owner), f),
@@ -196,7 +207,9 @@ pub fn call(
     params: &[TypeRef],
     f: FrameRef,
 ) -> Result<Option<FrameRef>, AllocError>
-    ensures { IfOk result (λ r. option_map (seen p.now) r ≡ exchanged (tree p.now) here.now.max_stack (Uses.of_call (class_named p.now (ClassRef.User here.now.class)) by (seen_call p.now call.now params.now)) (seen p.now f)) }
+    ensures { IfOk result (λ r. option_map (seen p.now) r
+        ≡ exchanged (tree p.now) here.now.max_stack
+        (Uses.of_call (class_named p.now (ClassRef.User here.now.class)) by (seen_call p.now call.now params.now)) (seen p.now f)) }
 {
     let Some(f) = take_arguments(p, params, f) else {
         return Ok(None);

@@ -6,4 +6,4 @@ pub returns-then-is_long_at : goal.returns-then-is_long_at
 returns-then-is_long_at c =
     let behind : c.args.n ≡ suc (c.args.n - 1) = omega arith in
     broken_named c.args.p.now c.args.locals c.set.new.self c.args.n (c.args.n - 1) behind
-    (grind (arith, c.as_slice.ensures, c.is_long_at.ensures, c.if-is_long_at.true)) c.set.ensures
+    (grind (arith, c.is_long_at.ensures, c.if-is_long_at.true)) c.in_ok-set.ensures.ok
