@@ -1,0 +1,9 @@
+pub mod Bodies
+pub mod Chosen
+pub mod Indexed
+pub mod Methods
+pub mod Numbers
+pub mod Steps
+pub mod Successors
+pub mod Tests
+pub mod TypingExamples

@@ -1,0 +1,4 @@
+pub mod Declared
+pub mod Methods
+pub mod Typed
+pub mod Typing
