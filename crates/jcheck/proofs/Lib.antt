@@ -1,0 +1,17 @@
+pub mod Beginning
+pub mod Chaining
+pub mod Comparing
+pub mod Counting
+pub mod Faults
+pub mod Few
+pub mod Good
+pub mod Judging
+pub mod Leading
+pub mod Leaving
+pub mod Made
+pub mod Matching
+pub mod Naming
+pub mod Reversed
+pub mod Ruling
+pub mod Searching
+pub mod Walking

@@ -1,0 +1,23 @@
+use Rattle.std.proofs.Common.{rules, length, ap, refl}
+use Rattle.jprogram.specs.Classes.{tree}
+use Rattle.jrule.specs.Seen.{seen}
+use Rattle.jtyping.specs.Typing.{lets_in}
+use Rattle.jcheck.proofs.Searching.{declared_none, fits_there, found_again, kept_there}
+use Rattle.jcheck.proofs.declared.Declared.lets_in.Goals as goal
+
+pub kept_fits-requires : goal.kept_fits-requires
+kept_fits-requires c =
+    kept_there c.args.self.now c.self.inside.most (length c.args.f.now.locals) c.self.inside.chains c.self.inside.frames.items c.args.at c.in-Some.k.now c.self.view_is c.self.invariant.0
+    (found_again _ c.self.inside.frames.items c.args.at _ _ c.in-Some.ensures c.as_slice.ensures.value (search rules)) c.requires
+
+pub returns-in-None : goal.returns-in-None
+returns-in-None c =
+    ap (lets_in (tree c.args.p.now) (seen c.args.p.now c.args.f.now))
+    (declared_none c.args.p.now c.args.self.now c.self.inside.most c.self.inside.chains c.self.inside.frames.items c.args.at c.self.view_is
+    (found_again _ c.self.inside.frames.items c.args.at _ _ c.in-None.ensures c.as_slice.ensures.value (search rules)))
+
+pub returns-in-Some : goal.returns-in-Some
+returns-in-Some c =
+    fits_there c.args.p.now (lets_in (tree c.args.p.now)) (λ f d. refl) c.args.self.now c.self.inside.most c.self.inside.chains c.self.inside.frames.items c.args.at c.in-Some.k.now
+    c.args.f.now.locals c.as_slice-in-Some.result.now c.args.f.now.stack c.args.f.now.flag c.kept_fits.result c.self.view_is
+    (found_again _ c.self.inside.frames.items c.args.at _ _ c.in-Some.ensures c.as_slice.ensures.value (search rules)) c.requires c.as_slice-in-Some.ensures c.kept_fits.ensures

@@ -1,0 +1,7 @@
+pub mod Chained
+pub mod Checking
+pub mod Checks
+pub mod First
+pub mod Given
+pub mod News
+pub mod Numbered

@@ -1,0 +1,266 @@
+ghost use Rattle.std.specs.Prelude.{◌≡◌, ◌≤◌, IfOk, IfSome, Some, option_map, pos, slice_get};
+ghost use Rattle.std.specs.List.{list_all, list_any};
+ghost use Rattle.jcode.specs.Forms as forms;
+ghost use Rattle.jcode.specs.Forms.{branches, form};
+ghost use Rattle.juses.specs.Types.{named};
+ghost use Rattle.jrule.specs.Forms.{by_form};
+ghost use Rattle.jrule.specs.Seen.{seen};
+ghost use Rattle.jtyping.specs.Declared.{declared_at};
+ghost use Rattle.jtyping.specs.Methods;
+ghost use Rattle.jtyping.specs.Typing;
+ghost use Rattle.jcheck.specs.Checking as checking;
+ghost use Rattle.jcheck.specs.Checking.{IsChecking, IsCounted, IsHere, frames_of, method_of, program_of};
+
+use crate::declared::Declared;
+use crate::method::MethodRef;
+use crate::news::MethodNews;
+use jcode::{Form, Handler, Placed, Switch, branch_at, branch_count, form_of, goes_on};
+use jlib::{LibClass, Thrown};
+use jprogram::{ClassRef, NamedProgram};
+use jrule::{FrameRef, HereRef, rule};
+use juses::{TypeRef, Uses, type_fits};
+use std::alloc::{AllocError, Global};
+
+/// A method that is being checked.
+#[derive(Clone, Copy)]
+pub(crate) struct Checking<'a> {
+    pub p: &'a NamedProgram,
+    pub uses: &'a Uses,
+    pub method: &'a MethodRef<'a>,
+    pub news: &'a MethodNews<'a>,
+    pub declared: &'a Declared,
+}
+
+/// What a handler of index 0 catches.
+const THROWABLE: ClassRef = ClassRef::Lib(LibClass::Thrown(Thrown::Throwable));
+
+/// Whether an instruction at a place is one of those that a handler covers (JVMS 4.7.3).
+fn covers(at: u32, h: &Handler) -> bool
+    ensures { result ≡ Methods.covers at h.now }
+{
+    h.start <= at && at < h.end
+}
+
+impl<'a> Checking<'a> {
+    // ---- handlers
+
+    /// Whether a handler covers a place.
+    fn is_covered(&self, at: u32) -> bool
+        ensures { result ≡ list_any (Methods.covers at) (method_of self.now).body.handlers }
+    {
+        let method = self.method;
+        let handlers = method.body.handlers;
+        handlers.iter().any(|h| covers(at, h))
+    }
+
+    /// The type of what a handler catches, of everything at index 0.
+    fn caught_type(&self, h: &Handler) -> Option<TypeRef>
+        requires { IsChecking self.now }
+        ensures { option_map (named (program_of self.now)) result ≡ Typing.caught_type (program_of self.now) (method_of self.now) h.now }
+    {
+        if h.class == 0 {
+            return Some(TypeRef::Object(THROWABLE));
+        }
+        self.uses.class_at(self.method.class, h.class)
+    }
+
+    fn handler_fits(&self, f: &FrameRef, h: &Handler) -> bool
+        requires checking { IsChecking self.now }
+        requires count { IsCounted self.now f.now }
+        ensures { result ≡ Typing.handler_fits (program_of self.now) (method_of self.now) (frames_of self.now) (seen (program_of self.now) f.now) h.now }
+    {
+        let Some(caught) = self.caught_type(h) else {
+            return false;
+        };
+        if !type_fits(self.p, caught, TypeRef::Object(THROWABLE)) {
+            return false;
+        }
+        self.declared.catches(self.p, f, caught, i64::from(h.at))
+    }
+
+    /// Whether the frame before an instruction at a place serves a handler, if it covers it.
+    fn handler_test(&self, at: u32, f: &FrameRef, h: &Handler) -> bool
+        requires checking { IsChecking self.now }
+        requires count { IsCounted self.now f.now }
+        ensures { result ≡ Typing.handler_test (program_of self.now) (method_of self.now) (frames_of self.now) at (seen (program_of self.now) f.now) h.now }
+    {
+        if !covers(at, h) {
+            return true;
+        }
+        self.handler_fits(f, h)
+    }
+
+    /// Whether the frame before an instruction at a place serves the handlers that cover it.
+    fn handlers_fit(&self, at: u32, f: &FrameRef) -> bool
+        requires checking { IsChecking self.now }
+        requires count { IsCounted self.now f.now }
+        ensures { result ≡ Typing.handlers_fit (program_of self.now) (method_of self.now) (frames_of self.now) at (seen (program_of self.now) f.now) }
+    {
+        let method = self.method;
+        let handlers = method.body.handlers;
+        handlers.iter().all(|h| self.handler_test(at, f, h))
+    }
+
+    /// Whether a frame fits where the method begins.
+    pub(crate) fn enters(&self, f: &FrameRef) -> bool
+        requires { IsCounted self.now f.now }
+        ensures { result ≡ Typing.enters (program_of self.now) (frames_of self.now) (seen (program_of self.now) f.now) (method_of self.now).body.ops }
+    {
+        let method = self.method;
+        match method.body.ops {
+            [] => true,
+            [o, ..] => self.declared.lets_in(self.p, f, i64::from(o.at)),
+        }
+    }
+
+    // ---- an instruction
+
+    /// The place of an instruction as the rule has to know it.
+    fn here(&self, at: u16) -> HereRef
+        ensures { IsHere self.now at result }
+    {
+        let method = self.method;
+        HereRef {
+            class: method.class,
+            above: method.above,
+            is_init: method.is_init,
+            returns: method.returns,
+            max_stack: method.body.max_stack,
+            at,
+            covered: self.is_covered(u32::from(at)),
+        }
+    }
+
+    /// The frame behind an instruction.
+    fn ruled(&self, o: &Placed, f: FrameRef) -> Result<Option<FrameRef>, AllocError>
+        requires checking { IsChecking self.now }
+        requires short { o.now.at ≤ 0xffff }
+        requires count { IsCounted self.now f }
+        ensures count { IfOk result (λ r. IfSome r (IsCounted self.now)) }
+        ensures seen { IfOk result (λ r. option_map (seen (program_of self.now)) r ≡ by_form (program_of self.now) (Methods.here_of (program_of self.now) (method_of self.now) o.now.at) (method_of self.now).pool (form o.now.op) (seen (program_of self.now) f)) }
+    {
+        let here = self.here(o.at as u16);
+        let form = form_of(&o.op);
+        let behind = rule(self.p, self.uses, &here, self.news, &form, f)?;
+        Ok(behind)
+    }
+
+    /// Whether the frame behind an instruction serves where its branch of a number leads, if it has one.
+    fn branch_fits(&self, at: u32, form: &Form<&Switch>, i: usize, g: &FrameRef) -> bool
+        requires { IsCounted self.now g.now }
+        ensures { result ≡ checking.branch_test (Typing.branch_fits (program_of self.now) (frames_of self.now) at (seen (program_of self.now) g.now)) (slice_get (branches (forms.seen form.now)) i) }
+    {
+        match branch_at(form, i) {
+            Some(by) => self
+                .declared
+                .leads_in(self.p, g, i64::from(at) + i64::from(by)),
+            None => true,
+        }
+    }
+
+    /// Whether the frame behind an instruction serves where its branches lead.
+    fn branches_fit(&self, at: u32, form: &Form<&Switch>, g: &FrameRef) -> bool
+        requires { IsCounted self.now g.now }
+        ensures { result ≡ list_all (Typing.branch_fits (program_of self.now) (frames_of self.now) at (seen (program_of self.now) g.now)) (branches (forms.seen form.now)) }
+    {
+        for i in 0..branch_count(form) {
+            if !self.branch_fits(at, form, i, g) {
+                return false;
+            }
+        }
+        true
+    }
+
+    /// What arrives at the instruction behind one, inside None where it goes on and none is behind it, or where the frame doesn't fit there.
+    fn onward(&self, g: FrameRef, goes_on: bool, rest: &[Placed]) -> Option<Option<FrameRef>>
+        requires { IsCounted self.now g }
+        ensures count { IfSome result (λ r. IfSome r (IsCounted self.now)) }
+        ensures seen { option_map (option_map (seen (program_of self.now))) result ≡ Typing.onward (program_of self.now) (frames_of self.now) (seen (program_of self.now) g) goes_on rest.now }
+    {
+        if !goes_on {
+            return Some(None);
+        }
+        match rest {
+            [] => None,
+            [o, ..] => {
+                if !self.declared.lets_in(self.p, &g, i64::from(o.at)) {
+                    return None;
+                }
+                Some(Some(g))
+            }
+        }
+    }
+
+    fn leave(&self, o: &Placed, rest: &[Placed], g: FrameRef) -> Option<Option<FrameRef>>
+        requires { IsCounted self.now g }
+        ensures count { IfSome result (λ r. IfSome r (IsCounted self.now)) }
+        ensures seen { option_map (option_map (seen (program_of self.now))) result ≡ Typing.leave (program_of self.now) (frames_of self.now) o.now rest.now (seen (program_of self.now) g) }
+    {
+        let form = form_of(&o.op);
+        if !self.branches_fit(o.at, &form, &g) {
+            return None;
+        }
+        self.onward(g, goes_on(&form), rest)
+    }
+
+    /// What arrives behind an instruction by the frame before it; None where a test of it fails.
+    #[tactic(auto, unfolding(jtyping::specs::Typing::step))]
+    fn step(
+        &self,
+        o: &Placed,
+        rest: &[Placed],
+        f: FrameRef,
+    ) -> Result<Option<Option<FrameRef>>, AllocError>
+        requires checking { IsChecking self.now }
+        requires short { o.now.at ≤ 0xffff }
+        requires count { IsCounted self.now f }
+        ensures count { IfOk result (λ r. IfSome r (λ arriving. IfSome arriving (IsCounted self.now))) }
+        ensures seen { IfOk result (λ r. option_map (option_map (seen (program_of self.now))) r ≡ Typing.step (program_of self.now) (method_of self.now) (frames_of self.now) o.now rest.now (seen (program_of self.now) f)) }
+    {
+        if !self.handlers_fit(o.at, &f) {
+            return Ok(None);
+        }
+        let Some(g) = self.ruled(o, f)? else {
+            return Ok(None);
+        };
+        Ok(self.leave(o, rest, g))
+    }
+
+    /// The frame with which the instruction at a place begins: the declared one, or else what arrives.
+    fn begun(
+        &self,
+        alloc: Global,
+        at: u32,
+        arriving: Option<FrameRef>,
+    ) -> Result<Option<FrameRef>, AllocError>
+        requires { IfSome arriving (IsCounted self.now) }
+        ensures count { IfOk result (λ r. IfSome r (IsCounted self.now)) }
+        ensures seen { IfOk result (λ r. option_map (seen (program_of self.now)) r
+            ≡ Typing.begun (declared_at (frames_of self.now) (pos at)) (option_map (seen (program_of self.now)) arriving)) }
+    {
+        let begun = self.declared.begun(alloc, self.p, i64::from(at), arriving)?;
+        Ok(begun)
+    }
+
+    /// The place of the first instruction with a test that fails, where the method begins with a frame. One frame is held.
+    #[tactic(auto, unfolding(jtyping::specs::Typing::walk))]
+    pub(crate) fn walk(&self, alloc: Global, first: FrameRef) -> Result<Option<u32>, AllocError>
+        requires checking { IsChecking self.now }
+        requires count { IsCounted self.now first }
+        ensures { IfOk result (λ r. r ≡ Typing.walk (program_of self.now) (method_of self.now) (frames_of self.now) (method_of self.now).body.ops (Some (seen (program_of self.now) first))) }
+    {
+        let method = self.method;
+        let ops = method.body.ops;
+        let mut arriving = Some(first);
+        for (i, o) in ops.iter().enumerate() {
+            let Some(f) = self.begun(alloc, o.at, arriving)? else {
+                return Ok(Some(o.at));
+            };
+            match self.step(o, &ops[i + 1..], f)? {
+                Some(next) => arriving = next,
+                None => return Ok(Some(o.at)),
+            }
+        }
+        Ok(None)
+    }
+}
