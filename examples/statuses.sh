@@ -20,13 +20,14 @@ check() {
   fi
 }
 
-commands='javasec: the commands are `run --form=inspect JOB` and `policy JOB`'
+commands='javasec: the commands are `run --form=inspect JOB`, `check JOB`, `check --form=plain JOB` and `policy JOB`'
 out=/dev/null
 check 0 '' policy job
 check 2 "$commands"
-check 2 "$commands" check job
+check 2 "$commands" rewrite job out
 check 7 'javasec: nowhere could not be read' policy nowhere
 check 7 'javasec: nowhere could not be read' run --form=inspect -- nowhere
+check 7 'javasec: nowhere could not be read' check nowhere
 out=/dev/full
 check 8 'javasec: the output could not be written' policy job
 

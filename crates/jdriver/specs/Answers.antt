@@ -1,5 +1,5 @@
 -- What the program answers to its words, over the files that are held.
-use Rattle.std.specs.Prelude.{◌≡◌, ◌⊎◌, ℕ, List, [], Option, Some, None, Result, Ok, Err, codes, option_and_then, if◌then◌else◌, String}
+use Rattle.std.specs.Prelude.{◌≡◌, ◌⊎◌, ℕ, List, [], ◌++◌, length, Option, Some, None, Result, Ok, Err, codes, decimal, option_and_then, if◌then◌else◌, String}
 use Rattle.std.specs.declared.alloc.Global.{Global}
 use Rattle.jbase.specs.Causes.{Rose, appended, IsCut}
 use Rattle.jio.specs.Held.{File}
@@ -10,6 +10,7 @@ use Rattle.jdriver.specs.declared.task.Task.{Task}
 use Rattle.jdriver.specs.declared.task.Task.TheVariants as tasks
 use Rattle.jdriver.specs.declared.status.Status.{Status}
 use Rattle.jdriver.specs.declared.status.Status.TheVariants as statuses
+use Rattle.jdriver.specs.Checking.{methods_of}
 use Rattle.jdriver.specs.Listings.{listing}
 use Rattle.jdriver.specs.Refusals.{refusal_line}
 use Rattle.jdriver.specs.Stages.{Stopped, Missing, Refused, Misses}
@@ -36,10 +37,15 @@ ran r = record { text = run_text r; status = Some (status_of (ending r)) }
 abbrev pub listed : List ℕ → Answer
 listed text = record { text = text; status = Some statuses.Finished }
 
+-- the line of a program that is checked: how many classes it has, and how many of their methods have code
+abbrev pub checked_line : ℕ → ℕ → List ℕ
+checked_line classes methods = codes "checked " ++ (decimal classes ++ (codes " classes " ++ (decimal methods ++ codes " methods\n")))
+
 -- what is told when a task is done
 unfoldable pub shown : Task → Answer
 shown (tasks.Run program domains plan) = ran (run program domains plan plan.steps)
 shown (tasks.Policy sources domains) = listed (listing 0 sources domains)
+shown (tasks.Check program) = listed (checked_line (length program.parts) (methods_of program.parts))
 
 -- the same, where there may be none
 abbrev pub stopped_or_shown : Result Task Stopped → Answer

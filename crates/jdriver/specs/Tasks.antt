@@ -1,5 +1,5 @@
 -- What is to be done at a command with the files that are held: they are read in the order job, policy, class files, and each is
--- judged before the next is read; then the classes link, and then `main` is looked for.
+-- judged before the next is read; then the classes link, then `main` is looked for where they are to be run, and then they are checked.
 use Rattle.std.specs.Prelude.{◌≡◌, ℕ, ◌-◌, Bool, true, false, List, [], length, Option, Some, None, Result, Ok, Err}
 use Rattle.std.specs.List.{flat_map}
 use Rattle.jbase.specs.Each.{each}
@@ -16,10 +16,12 @@ use Rattle.jpolicy.specs.declared.grant.Grant.{Grant}
 use Rattle.jpolicy.specs.Policies.{policy}
 use Rattle.jjob.specs.declared.command.Command.{Command}
 use Rattle.jjob.specs.declared.command.Command.TheVariants as commands
-use Rattle.jjob.specs.declared.command.Form.TheVariants.{Inspect}
+use Rattle.jjob.specs.declared.command.Form.{Form}
+use Rattle.jjob.specs.declared.command.Form.TheVariants.{Inspect, Plain}
 use Rattle.jjob.specs.declared.job.Job.{Job}
 use Rattle.jjob.specs.Jobs.{job}
-use Rattle.jlib.specs.declared.side.Side.TheVariants.{Source}
+use Rattle.jlib.specs.declared.side.Side.{Side}
+use Rattle.jlib.specs.declared.side.Side.TheVariants.{Source, Passing}
 use Rattle.jprogram.specs.declared.part.CodePart.{CodePart}
 use Rattle.jprogram.specs.Classes.{program}
 use Rattle.jprogram.specs.Members.{main_of}
@@ -28,6 +30,7 @@ use Rattle.jdriver.specs.declared.ground.ClassPath.{ClassPath}
 use Rattle.jdriver.specs.declared.ground.Ground.{Ground}
 use Rattle.jdriver.specs.declared.task.Task.{Task}
 use Rattle.jdriver.specs.declared.task.Task.TheVariants as tasks
+use Rattle.jdriver.specs.Checking.{checked}
 use Rattle.jdriver.specs.Forming.{first_form}
 use Rattle.jdriver.specs.Grounds.{ground_of}
 use Rattle.jdriver.specs.Linking.{linked}
@@ -78,12 +81,14 @@ part_at files one = class_at files one.path >>= λ class. Ok (record { domain = 
 
 -- ---- a run
 
--- the run of these classes of the job at a path: they link, the main class has a `main`, and the machine runs such programs
+-- the run of these classes of the job at a path: they link, the main class has a `main`, they are well typed, and the machine runs such
+-- programs
 abbrev pub run_of_parts : List ℕ → Ground → List CodePart → Result Task Stopped
 run_of_parts path g parts =
     linked (program Source parts) >>= λ p.
     judged (NoMain g.main) (main_of p (flat_map group g.main)) >>= λ main.
-    judged (Unbuilt path) (first_form p.parts (flat_map group g.main)) >>= λ made.
+    checked p >>= λ q.
+    judged (Unbuilt path) (first_form q.parts (flat_map group g.main)) >>= λ made.
     Ok (tasks.Run made g.domains g.plan)
 
 unfoldable pub run_of_ground : List File → List ℕ → Ground → Result Task Stopped
@@ -91,6 +96,23 @@ run_of_ground files path g = each (part_at files) g.classes >>= λ parts. run_of
 
 unfoldable pub run_at : List File → List ℕ → Result Task Stopped
 run_at files path = ground_at files path >>= λ g. run_of_ground files path g
+
+-- ---- a check
+
+-- the library against which a form is checked: the passing side's for what is run without a look at frames, and else the source side's
+abbrev pub side_of : Form → Side
+side_of Plain = Passing
+side_of _ = Source
+
+-- the check of these classes on a side: they link, and they are well typed
+abbrev pub check_of_parts : Side → List CodePart → Result Task Stopped
+check_of_parts side parts = linked (program side parts) >>= λ p. checked p >>= λ q. Ok (tasks.Check q)
+
+unfoldable pub check_of_ground : List File → Side → Ground → Result Task Stopped
+check_of_ground files side g = each (part_at files) g.classes >>= λ parts. check_of_parts side parts
+
+unfoldable pub check_at : List File → Side → List ℕ → Result Task Stopped
+check_at files side path = ground_at files path >>= λ g. check_of_ground files side g
 
 -- ---- by verb
 
@@ -101,12 +123,14 @@ policy_at files path = ground_at files path >>= λ g. Ok (tasks.Policy g.sources
 -- the commands that are built
 abbrev pub built : Command → Bool
 built (commands.Run Inspect path) = true
+built (commands.Check form path) = true
 built (commands.Policy path) = true
 built _ = false
 
 -- What a command asks for. The others aren't built, and nobody comes with one.
 unfoldable pub task : Command → List File → Result Task Stopped
 task (commands.Run form path) files = run_at files path
+task (commands.Check form path) files = check_at files (side_of form) path
 task (commands.Policy path) files = policy_at files path
 task _ files = Err Missing
 
@@ -115,4 +139,5 @@ task _ files = Err Missing
 -- each code source has its permissions
 abbrev pub IsWhole : Task → Type 0
 IsWhole (tasks.Run program domains plan) = Unit {0}
+IsWhole (tasks.Check program) = Unit {0}
 IsWhole (tasks.Policy sources domains) = length domains ≡ length sources

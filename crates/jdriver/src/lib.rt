@@ -1,6 +1,8 @@
 //! The top call: what the program does with its words, the files that it reads, and the text that it writes.
 #![tactic(auto)]
 
+mod checking;
+mod counting;
 mod forming;
 mod ground;
 mod halt;

@@ -1,5 +1,4 @@
 ghost use Rattle.std.specs.Prelude.{◌≡◌, Err, IfOk, Option, Some, option_map};
-ghost use Rattle.jlib.specs.declared.side.Side.TheVariants.{Source};
 ghost use Rattle.jprogram.specs.Classes.{Program, program};
 ghost use Rattle.jlink.specs.Links.{LinkErrorIs};
 ghost use Rattle.jdriver.specs.declared.halt.Halt.TheVariants.{Read};
@@ -19,7 +18,7 @@ use std::alloc::{AllocError, Global};
 // ---- names
 
 /// The text that bytes spell in modified UTF-8; it is empty where they spell none.
-fn units_in(alloc: Global, bytes: &[u8]) -> Result<Units, AllocError>
+pub(crate) fn units_in(alloc: Global, bytes: &[u8]) -> Result<Units, AllocError>
     ensures { IfOk result (λ u. u ≡ units_in bytes.now) }
 {
     match units_of(alloc, bytes) {
@@ -30,7 +29,11 @@ fn units_in(alloc: Global, bytes: &[u8]) -> Result<Units, AllocError>
 }
 
 /// A member's name and behind it its descriptor.
-fn member_text(alloc: Global, class: &ClassParts, member: &MemberInfo) -> Result<Units, AllocError>
+pub(crate) fn member_text(
+    alloc: Global,
+    class: &ClassParts,
+    member: &MemberInfo,
+) -> Result<Units, AllocError>
     ensures { IfOk result (λ u. u ≡ member_text class.now member.now) }
 {
     let mut text = Seq::from_slice(alloc, member_name(class, member))?;
@@ -110,17 +113,17 @@ fn not_linked(alloc: Global, parts: &[CodePart], error: LinkError) -> Result<Lin
 
 // ---- programs
 
-/// The program that classes make which link against the source library.
+/// The program that classes make which link against a side's library.
 #[tactic(auto, unfolding(crate::specs::Linking::linked))]
-pub fn linked(alloc: Global, parts: Seq<CodePart>) -> Result<LinkedProgram, Halt>
-    ensures value { Follows (λ p. p) result (linked (program Source parts)) }
+pub fn linked(alloc: Global, parts: Seq<CodePart>, side: Side) -> Result<LinkedProgram, Halt>
+    ensures value { Follows (λ p. p) result (linked (program side parts)) }
     ensures unread { result ≡ Err Read → ⊥ }
 {
     let parts = parts.into_vec();
     if !are_parts(&parts) {
         return Err(Halt::Memory);
     }
-    match link_or_return(alloc, parts, Side::Source) {
+    match link_or_return(alloc, parts, side) {
         Ok(program) => Ok(program),
         Err(failed) => not_linked(alloc, &failed.0, failed.1),
     }

@@ -28,7 +28,13 @@ pub enum Refusal {
         member: Option<Units>,
         kind: LinkKind,
     },
-    /// The program of the job at this path links, and isn't of the form that the machine runs.
+    /// The classes link and aren't well typed: the first place where they aren't is this byte of this method (its name and descriptor).
+    BadCheck {
+        class: Units,
+        member: Units,
+        at: u32,
+    },
+    /// The program of the job at this path is well typed, and isn't of the form that the machine runs.
     Unbuilt(Text),
     /// There is no class of this name with a `main`.
     NoMain(Units),

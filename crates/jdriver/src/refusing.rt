@@ -4,7 +4,8 @@ ghost use Rattle.jio.specs.LineOf.{line_of, room_of};
 ghost use Rattle.jdriver.specs.declared.status.Status.TheVariants.{ReadFault, Usage, WriteFault};
 ghost use Rattle.jtext.specs.Texts.{units_of_text};
 ghost use Rattle.jdriver.specs.Answers.{Answers, refused_answer};
-ghost use Rattle.jdriver.specs.Refusals.{class_line, class_opcode, class_text, class_word, job_line, link_line, link_text, link_word, policy_line, policy_word, refusal_line, text_line};
+ghost use Rattle.jdriver.specs.Refusals.{check_line, class_line, job_line, link_line, policy_line, refusal_line, text_line};
+ghost use Rattle.jdriver.specs.Refusals.{class_opcode, class_text, class_word, link_text, link_word, policy_word};
 
 use crate::refusal::Refusal;
 use crate::status::Status;
@@ -297,6 +298,48 @@ fn show_link<K: Sink>(class: &Units, member: &Option<Units>, kind: LinkKind, out
     put_member(class, member, link_word(kind), out)
 }
 
+// ---- programs that aren't well typed
+
+/// Writes the refusal of a program by a place in a method.
+fn put_check<'a, K: Sink>(class: &'a [u16], member: &'a [u16], at: u32, out: &mut K) -> Status
+    requires class { length class.now ≤ 0x7fff_ffff }
+    requires member { length member.now ≤ 0x7fff_ffff }
+    ensures answer { Answers (refused_answer (check_line class.now member.now at)) result (K.out out.old) (K.out out.new) }
+    ensures later { K.faults out.old ≤ K.faults out.new }
+    ensures cause { result ≡ WriteFault → Rose (K.faults out.old) (K.faults out.new) }
+    ensures read { result ≡ ReadFault → ⊥ }
+    ensures usage { result ≡ Usage → ⊥ }
+{
+    let at = u64::from(at);
+    let parts = [
+        Part::Plain("refused check "),
+        Part::Text(class),
+        Part::Plain(" "),
+        Part::Text(member),
+        Part::Plain(" at "),
+        Part::Number(at),
+    ];
+    refuse(&parts, out)
+}
+
+fn show_check<K: Sink>(class: &Units, member: &Units, at: u32, out: &mut K) -> Status
+    ensures answer { Answers (refused_answer (check_line class.now member.now at)) result (K.out out.old) (K.out out.new) }
+    ensures later { K.faults out.old ≤ K.faults out.new }
+    ensures cause { result ≡ WriteFault → Rose (K.faults out.old) (K.faults out.new) }
+    ensures read { result ≡ ReadFault → ⊥ }
+    ensures usage { result ≡ Usage → ⊥ }
+{
+    let class = class.as_slice();
+    let member = member.as_slice();
+    if MOST_UNITS < class.len() {
+        return Status::OutOfMemory;
+    }
+    if MOST_UNITS < member.len() {
+        return Status::OutOfMemory;
+    }
+    put_check(class, member, at, out)
+}
+
 /// Writes a refusal's line.
 pub fn show_refusal<K: Sink>(alloc: Global, refusal: &Refusal, out: &mut K) -> Status
     ensures answer { Answers (refused_answer (refusal_line refusal.now)) result (K.out out.old) (K.out out.new) }
@@ -314,6 +357,7 @@ pub fn show_refusal<K: Sink>(alloc: Global, refusal: &Refusal, out: &mut K) -> S
             member,
             kind,
         } => show_link(class, member, *kind, out),
+        Refusal::BadCheck { class, member, at } => show_check(class, member, *at, out),
         Refusal::Unbuilt(path) => show_path(alloc, "refused unbuilt ", path, out),
         Refusal::NoMain(name) => show_text("refused main ", name.as_slice(), out),
     }

@@ -6,6 +6,7 @@ ghost use Rattle.jdriver.specs.Answers.{Answers, listed, ran, shown, usage_answe
 ghost use Rattle.jdriver.specs.Listings.{listing};
 ghost use Rattle.jdriver.specs.Tasks.{IsWhole};
 
+use crate::counting::show_checked;
 use crate::listing::put_listing;
 use crate::status::{Status, status_of};
 use crate::task::Task;
@@ -88,6 +89,7 @@ pub fn show<K: Sink>(alloc: Global, task: &Task, out: &mut K) -> Status
             domains,
             plan,
         } => show_run(alloc, program, domains, plan, out),
+        Task::Check(program) => show_checked(program.linked().parts(), out),
         Task::Policy { sources, domains } => show_listing(alloc, sources.as_slice(), domains, out),
     }
 }

@@ -1,4 +1,5 @@
 use jbase::Seq;
+use jcheck::CheckedProgram;
 use jdomain::{CodeSource, Domains};
 use jengine::{Plan, Program};
 
@@ -11,6 +12,8 @@ pub enum Task {
         domains: Domains,
         plan: Plan,
     },
+    /// How much of a program was checked is to be written.
+    Check(CheckedProgram),
     /// The permissions of each code source are to be written.
     Policy {
         sources: Seq<CodeSource>,

@@ -7,8 +7,9 @@ ghost use Rattle.jprogram.specs.Members.{main_of};
 ghost use Rattle.jdriver.specs.declared.halt.Halt.TheVariants.{Read};
 ghost use Rattle.jdriver.specs.Forming.{first_form};
 ghost use Rattle.jdriver.specs.Stages.{Excused, Follows, judged};
-ghost use Rattle.jdriver.specs.Tasks.{IsWhole, built, policy_at, run_at, run_of_ground, run_of_parts, task};
+ghost use Rattle.jdriver.specs.Tasks.{IsWhole, built, check_at, check_of_ground, check_of_parts, policy_at, run_at, run_of_ground, run_of_parts, side_of, task};
 
+use crate::checking::checked;
 use crate::forming::first_form;
 use crate::ground::Ground;
 use crate::halt::Halt;
@@ -20,6 +21,7 @@ use jbase::Seq;
 use jengine::Program;
 use jio::Shelf;
 use jjob::{Command, Form, Text};
+use jlib::Side;
 use jlink::LinkedProgram;
 use jprogram::{CodePart, MethodId};
 use jtext::{Units, bytes_of};
@@ -34,7 +36,7 @@ pub fn is_built(command: &Command) -> bool
             Form::Inspect => true,
             _ => false,
         },
-        Command::Policy { .. } => true,
+        Command::Check { .. } | Command::Policy { .. } => true,
         _ => false,
     }
 }
@@ -97,9 +99,10 @@ fn run_of_parts(
     ensures whole { IfOk result IsWhole }
     ensures unread { result ≡ Err Read → ⊥ }
 {
-    let program = linked(alloc, parts)?;
+    let program = linked(alloc, parts, Side::Source)?;
     main_named(alloc, &program, &ground.main)?;
-    let made = made_of(alloc, path, &program, &ground.main)?;
+    let program = checked(alloc, program)?;
+    let made = made_of(alloc, path, program.linked(), &ground.main)?;
     Ok(Task::Run {
         program: made,
         domains: ground.domains,
@@ -138,6 +141,59 @@ fn run_at<S: Shelf>(alloc: Global, path: &str, shelf: &mut S) -> Result<Task, Ha
     run_of_ground(alloc, path, ground, shelf)
 }
 
+// ---- a check
+
+/// The side against whose library a form is checked.
+fn side_of(form: Form) -> Side
+    ensures { result ≡ side_of form }
+{
+    match form {
+        Form::Plain => Side::Passing,
+        Form::Inspect | Form::Pass => Side::Source,
+    }
+}
+
+fn check_of_parts(alloc: Global, side: Side, parts: Seq<CodePart>) -> Result<Task, Halt>
+    ensures value { Follows (λ x. x) result (check_of_parts side parts) }
+    ensures whole { IfOk result IsWhole }
+    ensures unread { result ≡ Err Read → ⊥ }
+{
+    let program = linked(alloc, parts, side)?;
+    let program = checked(alloc, program)?;
+    Ok(Task::Check(program))
+}
+
+#[tactic(auto, unfolding(crate::specs::Tasks::check_of_ground))]
+fn check_of_ground<S: Shelf>(
+    alloc: Global,
+    side: Side,
+    ground: Ground,
+    shelf: &mut S,
+) -> Result<Task, Halt>
+    ensures value { (files : List File) → S.held shelf.old ≡ Some files → Follows (λ x. x) result (check_of_ground files side ground) }
+    ensures whole { IfOk result IsWhole }
+    ensures held { S.held shelf.new ≡ S.held shelf.old }
+    ensures stored { S.write_faults shelf.new ≡ S.write_faults shelf.old }
+    ensures later { S.read_faults shelf.old ≤ S.read_faults shelf.new }
+    ensures cause { Excused result (S.read_faults shelf.old) (S.read_faults shelf.new) (S.held shelf.old) (λ files. check_of_ground files side ground) }
+{
+    let parts = parts_at(alloc, ground.classes.as_slice(), shelf)?;
+    check_of_parts(alloc, side, parts)
+}
+
+#[tactic(auto, unfolding(crate::specs::Tasks::check_at))]
+fn check_at<S: Shelf>(alloc: Global, side: Side, path: &str, shelf: &mut S) -> Result<Task, Halt>
+    ensures value { (files : List File) → S.held shelf.old ≡ Some files → Follows (λ x. x) result (check_at files side path.now) }
+    ensures whole { IfOk result IsWhole }
+    ensures held { S.held shelf.new ≡ S.held shelf.old }
+    ensures stored { S.write_faults shelf.new ≡ S.write_faults shelf.old }
+    ensures later { S.read_faults shelf.old ≤ S.read_faults shelf.new }
+    ensures cause { Excused result (S.read_faults shelf.old) (S.read_faults shelf.new) (S.held shelf.old) (λ files. check_at files side path.now) }
+{
+    let ground = ground_at(alloc, path, shelf)?;
+    check_of_ground(alloc, side, ground, shelf)
+}
+
 // ---- by verb
 
 #[tactic(auto, unfolding(crate::specs::Tasks::policy_at))]
@@ -169,6 +225,7 @@ pub fn task_of<S: Shelf>(alloc: Global, command: &Command, shelf: &mut S) -> Res
 {
     match command {
         Command::Run { job, .. } => run_at(alloc, job.as_str(), shelf),
+        Command::Check { form, job } => check_at(alloc, side_of(*form), job.as_str(), shelf),
         Command::Policy { job } => policy_at(alloc, job.as_str(), shelf),
         _ => unreachable!(),
     }

@@ -26,7 +26,9 @@ fn explain(rt: &HostRuntime, status: Status, failed: Option<&str>) {
     let path = failed.unwrap_or("a file");
     let told = match status {
         Status::Usage => {
-            eprintln!(rt; "javasec: the commands are `run --form=inspect JOB` and `policy JOB`")
+            eprintln!(rt;
+                "javasec: the commands are `run --form=inspect JOB`, `check JOB`, `check --form=plain JOB` and `policy JOB`"
+            )
         }
         Status::ReadFault => eprintln!(rt; "javasec: {path} could not be read"),
         Status::WriteFault => eprintln!(rt; "javasec: the output could not be written"),

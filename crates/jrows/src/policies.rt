@@ -5,11 +5,12 @@ use std::alloc::AllocError;
 
 const POLICY: [&str; 2] = ["policy", "job"];
 
-/// A job whose class files are nowhere.
-const JOB: &str =
+/// A job of two class files.
+pub const JOB: &str =
     "policy app.policy\nprop user.home=/home/u\ncode file:/app/\nclass Main.class\nclass Main$1.class\nmain app/Main\n";
 
-const GRANTS: &str = "// grants of the row\n\
+/// Its policy.
+pub const GRANTS: &str = "// grants of the row\n\
     keystore \"ks.jks\", \"JKS\";\n\
     /* two grants */\n\
     grant codeBase \"file:/app/-\" {\n  \

@@ -1,7 +1,7 @@
 use crate::classes::{
-    A_OVER_B, ADDS_FLOATS, AGAIN, B_OVER_A, BAD_TAG, BARE, CALLER, EMPTY, FILLS, LIB, LOOPS,
-    NO_NAME, NOT_STATIC, OBJECT, OVER_GONE, OVER_ITSELF, OVERRIDES, PASSES, POPS, ROW_ONE, RUNS_ON,
-    SHUFFLES, TAKES_FLOAT, TAKES_NOTHING, TELLS_ITSELF, UNSET,
+    A_OVER_B, ADDS_FLOATS, B_OVER_A, BAD_TAG, BARE, CALLER, EMPTY, FILLS, LIB, LOOPS, NO_NAME,
+    NOT_STATIC, OBJECT, OVER_GONE, OVER_ITSELF, OVERRIDES, PASSES, ROW_ONE, RUNS_ON, SHUFFLES,
+    TAKES_FLOAT, TAKES_NOTHING, TELLS_ITSELF, WRITES,
 };
 use crate::job::Content::{Bytes, Hex, Text};
 use crate::job::{Content, Faults, NONE, Outcome, answered};
@@ -70,7 +70,7 @@ const ILLEGAL: &str = "throw 0 java.lang.IllegalArgumentException\n\
     uncaught 0 java.lang.IllegalArgumentException\n\
     end uncaught\n";
 
-const AGAIN_TEXT: &str =
+const DENIED_WRITE: &str =
     "deny 0 (\"java.util.PropertyPermission\" \"a\\\\b\" \"read,write\") domain 0\n\
     throw 0 java.security.AccessControlException\n\
     uncaught 0 java.security.AccessControlException\n\
@@ -80,18 +80,16 @@ const AGAIN_TEXT: &str =
 #[test]
 fn one_class(rt: HostRuntime) -> Result<(), AllocError> {
     let alloc = rt.alloc();
-    let rows: [(&str, &str, &str, Status); 13] = [
+    let rows: [(&str, &str, &str, Status); 11] = [
         (TO_A, ROW_ONE, GRANTED, Status::Finished),
         (TO_ALL, ROW_ONE, GRANTED, Status::Finished),
         (TO_SIGNED, ROW_ONE, DENIED_BY_0, Status::Uncaught),
         ("", ROW_ONE, DENIED_BY_0, Status::Uncaught),
         (TO_LIB, ROW_ONE, DENIED_BY_0, Status::Uncaught),
-        (TO_A, POPS, "end stuck\n", Status::Stuck),
         (TO_A, LOOPS, OVERFLOW, Status::Uncaught),
         (TO_A, SHUFFLES, "end finished\n", Status::Finished),
         (TO_A, NO_NAME, ILLEGAL, Status::Uncaught),
-        (TO_A, AGAIN, AGAIN_TEXT, Status::Uncaught),
-        (TO_A, UNSET, "end stuck\n", Status::Stuck),
+        (TO_A, WRITES, DENIED_WRITE, Status::Uncaught),
         (TO_A, RUNS_ON, "end bound\n", Status::Bound),
         (TO_A, FILLS, "end heap\n", Status::HeapFull),
     ];
@@ -440,7 +438,7 @@ fn cut_class_files(rt: HostRuntime) -> Result<(), AllocError> {
 #[test]
 fn wrong_words(rt: HostRuntime) -> Result<(), AllocError> {
     let alloc = rt.alloc();
-    let rows: [&[&str]; 9] = [
+    let rows: [&[&str]; 13] = [
         &[],
         &["run"],
         &["run", "job"],
@@ -448,7 +446,11 @@ fn wrong_words(rt: HostRuntime) -> Result<(), AllocError> {
         &["run", "--form=inspect", "-job"],
         &["run", "--form=inspect", "job", "job"],
         &["policy", "--form=inspect", "job"],
-        &["check", "job"],
+        &["check"],
+        &["check", "--form=fast", "job"],
+        &["check", "job", "job"],
+        &["rewrite", "job", "out"],
+        &["gen", "1", "1"],
         &["--help"],
     ];
     for words in rows {
