@@ -6,6 +6,7 @@ pub mod Describing
 pub mod Emitting
 pub mod Growing
 pub mod Joining
+pub mod Likening
 pub mod Limiting
 pub mod Placing
 pub mod Renumbering

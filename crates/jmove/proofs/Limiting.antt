@@ -1,5 +1,5 @@
 -- What holds of a method that breaks no limit.
-use Rattle.std.proofs.Common.{◌≡◌, ℕ, ◌+◌, ◌*◌, ◌<◌, ◌≤◌, Bool, true, false, cond, List, length, Some, None, refl, sym, subst, arith, nat_lt, ◌||◌, ◌==◌}
+use Rattle.std.proofs.Common.{◌≡◌, ℕ, ◌+◌, ◌*◌, ◌<◌, ◌≤◌, Bool, true, false, cond, List, length, Some, None, refl, ap, ◌∙◌, sym, subst, arith, nat_lt, ◌||◌, ◌==◌, if◌then◌else◌}
 use Rattle.std.proofs.lemmas.Bool.{ltb-false, eqb-false}
 use Rattle.jcode.specs.declared.op.Placed.{Placed}
 use Rattle.jcode.specs.Instructions.{code}
@@ -9,10 +9,12 @@ use Rattle.jmove.specs.declared.method.Setting.{Setting}
 use Rattle.jmove.specs.declared.method.MoveError.TheVariants.{Slots, Locals, Stack, TooLong}
 use Rattle.jmove.specs.Frames.{items_of}
 use Rattle.jmove.specs.Lines.{end_of, reach}
-use Rattle.jmove.specs.Moved.{CanMove, context_local, expansions, limit_of, moved_length, prologue, setting, too_many}
+use Rattle.jmove.specs.Limits.{Short}
+use Rattle.jmove.specs.Moved.{CanMove, context_local, expansions, limit_of, lines, moved_length, prologue, setting, too_many}
 use Rattle.jmove.proofs.Assembling.{end_reach}
-use Rattle.jmove.proofs.Bounds.{bound, prologue_above, end_alike}
+use Rattle.jmove.proofs.Bounds.{bound, prologue_above, prologue_reach, end_alike}
 use Rattle.jmove.proofs.Coding.{code_laid}
+use Rattle.jmove.proofs.Sizes.{move_size}
 
 pub record Within (m : MethodIn) (ks : List Expand) : Type 0 where
   pub slots : m.slots < 255
@@ -74,3 +76,23 @@ near_by m ks local domain at is l r i can none =
     (subst (λ (p : ℕ). end_of p (expansions (s local) ks m.ops) ≤ 0x7fff) r
     (subst (λ (n : ℕ). end_of (reach 0 (prologue m.slots (s n) 0)) (expansions (s n) ks m.ops) ≤ 0x7fff) (sym l) here)) in
     omega (arith, end_alike (s local) (t local) ks is at refl, there)
+
+-- ---- the code of a method that breaks no limit
+
+abbrev moves : ℕ → ℕ
+moves n = if nat_lt n 256 then 2 else 4
+
+begins : (slots local domain enter : ℕ) → reach 0 (prologue slots (record { local = local; domain = domain }) enter) ≡ moves slots + 6 + moves local
+begins slots local domain enter = prologue_reach slots local domain enter (moves slots) (moves local) (λ at access. move_size at access slots) (λ at access. move_size at access local)
+
+pub short : Short
+short m ks can none domain enter =
+    let s : Setting = setting m domain in
+    let zero : Setting = setting m 0 in
+    let here : reach 0 (prologue m.slots s enter) ≡ reach 0 (prologue m.slots zero 0) = begins m.slots (context_local m) domain enter ∙ sym (begins m.slots (context_local m) 0 0) in
+    let same : end_of 0 (lines (prologue m.slots s enter) s ks m.ops) ≡ end_of (reach 0 (prologue m.slots zero 0)) (expansions zero ks m.ops) =
+    end_reach 0 0 (prologue m.slots s enter) (expansions s ks m.ops)
+    ∙ ap (λ (p : ℕ). end_of p (expansions s ks m.ops)) here
+    ∙ end_alike s zero ks m.ops (reach 0 (prologue m.slots zero 0)) refl in
+    let within = no_limit m ks can none in
+    omega (arith, same, length_is m ks, within.length)

@@ -1,5 +1,7 @@
 pub mod Additions
 pub mod Frames
+pub mod Laying
+pub mod Limits
 pub mod Lines
 pub mod Methods
 pub mod Moved

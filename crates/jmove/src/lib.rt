@@ -6,6 +6,7 @@ mod branching;
 mod descriptor;
 mod emission;
 mod framing;
+mod laws;
 mod method;
 mod moving;
 mod naming;
@@ -14,6 +15,7 @@ mod sizing;
 mod whole;
 
 pub use descriptor::moved_descriptor;
+pub use laws::{limit_laws, line_laws};
 pub use method::{Expand, MethodIn, MethodOut, MoveError};
 pub use moving::limit_of;
 pub use whole::move_method;

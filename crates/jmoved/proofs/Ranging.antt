@@ -70,11 +70,11 @@ grows s (k ∷ ks) (i ∷ is) (suc a) (suc b) le = omega (arith, grows s ks is a
 -- ---- borders
 
 -- a place lies before an instruction and its expansion alike
-record Parts (to : ℕ → ℕ) (i x : Placed) (q : ℕ) : Type 0 where
+pub record Parts (to : ℕ → ℕ) (i x : Placed) (q : ℕ) : Type 0 where
   pub low : q ≤ i.at → to q ≤ x.at
   pub high : i.at < q → x.at < to q
 
-at_label : (begin : List Op) (s : Setting) (ks : List Expand) (is : List Placed) → IsTrue (code.fits is)
+pub at_label : (begin : List Op) (s : Setting) (ks : List Expand) (is : List Placed) → IsTrue (code.fits is)
     → (n j : ℕ) (k : Expand) (i x : Placed) → IsNth ks is n k i → j < length (expansion s k i.op) → slice_get (moved begin s ks is) (index_of begin s ks is n + j) ≡ Some x
     → (m : ℕ) (c : Expand) (t : Placed) → IsNth ks is m c t → Parts (new_place begin s ks is) i x t.at
 at_label begin s ks is fits n j k i x nth lt is_x m c t mth =
@@ -134,14 +134,14 @@ there [] n lt = absurd (omega arith)
 there (x ∷ xs) zero lt = (x, refl)
 there (x ∷ xs) (suc n) lt = there xs n (omega arith)
 
-record Labelled (ks : List Expand) (is : List Placed) (q : ℕ) : Type 0 where
+pub record Labelled (ks : List Expand) (is : List Placed) (q : ℕ) : Type 0 where
   pub number : ℕ
   pub kind : Expand
   pub one : Placed
   pub nth : IsNth ks is number kind one
   pub place : one.at ≡ q
 
-labelled : (ks : List Expand) (is : List Placed) (q : ℕ) → length ks ≡ length is → IsTrue (is_place is (pos q)) → Labelled ks is q
+pub labelled : (ks : List Expand) (is : List Placed) (q : ℕ) → length ks ≡ length is → IsTrue (is_place is (pos q)) → Labelled ks is q
 labelled ks is q e hit =
     let r = somewhere (λ p. int_eq (pos p.at) (pos q)) is hit in
     let even : pos r.one.at ≡ pos q = (Decides-int_eq (pos r.one.at) (pos q)).0 r.hit in

@@ -1,6 +1,8 @@
 ghost use Rattle.jmoved.specs.Branches.{EachBranch, Ended, Jumps, Leads};
-ghost use Rattle.jmoved.specs.Distances.{Near, Short};
+ghost use Rattle.jmoved.specs.Distances.{Near};
+ghost use Rattle.jmoved.specs.Frames.{Begins, ItemsFit, Written};
 ghost use Rattle.jmoved.specs.Numbers.{Begun, Counted, Covered, Fetched, Next};
+ghost use Rattle.jmoved.specs.Places.{Ends, First, Rise};
 ghost use Rattle.jmoved.specs.Ranges.{Ranges};
 ghost use Rattle.jmoved.specs.Sizes.{SameSize, StandsLaid};
 ghost use Rattle.jmoved.specs.Spelling.{Spelled};
@@ -23,6 +25,14 @@ pub fn number_laws()
     ensures covered { Covered }
 {}
 
+/// The laws of places. The old beginning lies behind what moved code begins with; an expansion ends where the old place behind its
+/// instruction lies; and new places of instructions rise as the old ones do.
+pub fn place_laws()
+    ensures first { First }
+    ensures ends { Ends }
+    ensures rise { Rise }
+{}
+
 /// The laws of branches. A branch that led from an old place to an instruction leads, from its new place, to where that one's
 /// expansion begins; and what names the end of the old code names the end of moved code.
 pub fn branch_laws()
@@ -37,10 +47,17 @@ pub fn handler_laws()
     ensures ranges { Ranges }
 {}
 
-/// The laws of distances. A method that breaks no limit becomes code of at most 32,767 bytes, so each branch's distance in it is a signed
-/// number of 16 bits.
+/// The laws of frames. A moved frame stands where the expansion of its instruction begins. Frames that could be written (JVMS 4.7.4) can be
+/// written where they are moved.
+pub fn frame_laws()
+    ensures begins { Begins }
+    ensures written { Written }
+    ensures items_fit { ItemsFit }
+{}
+
+/// The law of distances. In moved code of at most 32,767 bytes, which a method that breaks no limit becomes, each branch's distance is a
+/// signed number of 16 bits.
 pub fn distance_laws()
-    ensures short { Short }
     ensures near { Near }
 {}
 

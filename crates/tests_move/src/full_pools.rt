@@ -148,5 +148,6 @@ fn an_addition_without_room(rt: HostRuntime) {
 #[test]
 fn no_frames(rt: HostRuntime) {
     let m = called(rt.alloc(), Some(6), Seq::new(rt.alloc())).expect(&rt, "a method");
-    assert!(rt; m.is_ok());
+    let m = m.expect(&rt, "moved");
+    assert!(rt; m.frames.as_slice().is_empty());
 }

@@ -1,5 +1,6 @@
-ghost use Rattle.std.specs.Prelude.{◌≡◌, ◌≤◌, All, IsTrue};
+ghost use Rattle.std.specs.Prelude.{◌≡◌, ◌≤◌, All, IfSome, IsTrue};
 ghost use Rattle.jmove.specs.Frames.{width, widths};
+ghost use Rattle.jmove.specs.Moved.{CanMove};
 
 use jbase::Seq;
 use jcode::{Handler, Placed, decode};
@@ -73,16 +74,17 @@ fn lie_within(frames: &[FullFrame], max: u32) -> bool
         .all(|frame| are_within(frame.locals.as_slice(), max))
 }
 
-/// Moves code of domain 0, where its numbers are those of a class file and its frames have two locals at most.
-pub fn moved(
+/// A method, where its numbers are those of a class file, its frames have two locals at most, and so many expansions are its own.
+pub fn method_of(
     alloc: Global,
     code: &[u8],
     sizes: Sizes,
     handlers: Seq<Handler>,
     frames: Seq<FullFrame>,
     kinds: &[Expand],
-    pool: &mut Adder,
-) -> Option<Result<MethodOut, MoveError>> {
+) -> Option<MethodIn>
+    ensures { IfSome result (λ m. CanMove m kinds.now) }
+{
     let (slots, max_stack, max_locals) = sizes;
     if !lie_within(frames.as_slice(), max_locals) {
         return None;
@@ -96,17 +98,32 @@ pub fn moved(
             {
                 return None;
             }
-            let m = MethodIn {
+            Some(MethodIn {
                 slots,
                 max_stack,
                 max_locals,
                 ops: Seq::from_vec(ops),
                 handlers,
                 frames,
-            };
-            Some(move_method(alloc, &m, kinds, 0, pool))
+            })
         }
         Err(_) => None,
+    }
+}
+
+/// Moves a method of domain 0.
+pub fn moved(
+    alloc: Global,
+    code: &[u8],
+    sizes: Sizes,
+    handlers: Seq<Handler>,
+    frames: Seq<FullFrame>,
+    kinds: &[Expand],
+    pool: &mut Adder,
+) -> Option<Result<MethodOut, MoveError>> {
+    match method_of(alloc, code, sizes, handlers, frames, kinds) {
+        Some(m) => Some(move_method(alloc, &m, kinds, 0, pool)),
+        None => None,
     }
 }
 

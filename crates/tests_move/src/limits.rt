@@ -1,8 +1,8 @@
-use crate::given::{CALLS, Sizes, adder_of, moved};
+use crate::given::{CALLS, Sizes, adder_of, method_of, moved};
 use jbase::Seq;
 use jmaps::{FullFrame, MapType};
 use jmove::Expand::Same;
-use jmove::{MethodOut, MoveError};
+use jmove::{MethodOut, MoveError, limit_of};
 use jpool::Adder;
 use std::alloc::{AllocError, Global};
 
@@ -41,6 +41,18 @@ pub fn error_of(alloc: Global, count: usize, sizes: Sizes, pool: &mut Adder) -> 
     m.err()
 }
 
+/// The limit that so many nops and a return break.
+fn limit_with(alloc: Global, count: usize, sizes: Sizes) -> Option<MoveError> {
+    let code = nops(alloc, count).ok()?;
+    let kinds = vec![in alloc; Same; code.len()].ok()?;
+    let kinds = kinds.as_slice();
+    let none = Seq::new(alloc);
+    match method_of(alloc, code.as_slice(), sizes, none, Seq::new(alloc), kinds) {
+        Some(m) => limit_of(&m, kinds),
+        None => None,
+    }
+}
+
 #[test]
 fn each_limit(rt: HostRuntime) {
     let rows: [(usize, Sizes, Option<MoveError>); 10] = [
@@ -61,6 +73,7 @@ fn each_limit(rt: HostRuntime) {
             error_of(rt.alloc(), count, sizes, &mut pool) == want,
             "{want:?}"
         );
+        assert!(rt; limit_with(rt.alloc(), count, sizes) == want, "{want:?}");
         let all = pool.into_pool().entries().len();
         assert!(rt; (all == 8) == want.is_some(), "{want:?}");
     }

@@ -1,8 +1,8 @@
-use crate::given::{CALLS, Sizes, adder_of, code_of, moved, text_in};
+use crate::given::{CALLS, Sizes, adder_of, code_of, method_of, moved, text_in, text_of};
 use jbase::Seq;
 use jcode::Handler;
 use jmove::Expand::{Call, Check, Privileged, PrivilegedLimited, PrivilegedWith, Same, Snapshot};
-use jmove::{Expand, moved_descriptor};
+use jmove::{Expand, move_method, moved_descriptor};
 use jpool::{Entry, write_pool};
 
 /// The pool of a class file with a main method that checks a permission.
@@ -32,8 +32,19 @@ fn a_check(rt: HostRuntime) {
     );
     pool.add(Entry::Utf8(text)).expect(&rt, "room");
     let kinds = [Same, Same, Same, Same, Same, Check(15), Same];
-    let code = "bb00055912071209b7000bb8000fb1";
-    let code = code_of(rt.alloc(), code, (1, 4, 1), &kinds, &mut pool);
+    let code = hex::decode(rt.alloc(), "bb00055912071209b7000bb8000fb1").expect(&rt, "hex");
+    let m = moved(
+        rt.alloc(),
+        code.as_slice(),
+        (1, 4, 1),
+        Seq::new(rt.alloc()),
+        Seq::new(rt.alloc()),
+        &kinds,
+        &mut pool,
+    );
+    let m = m.expect(&rt, "a method").expect(&rt, "moved");
+    assert!(rt; m.slots == 2 && m.max_stack == 7 && m.max_locals == 3);
+    let code = text_of(rt.alloc(), m.ops.as_slice());
     let want = text_in(
         rt.alloc(),
         "1901110000b8001e3a02bb00055912071209b7000b1902b80022b1",
@@ -50,12 +61,31 @@ fn a_check(rt: HostRuntime) {
 #[test]
 fn widths_that_change(rt: HostRuntime) {
     // Code, its sizes, what its instructions become, and the moved code, over a pool of two methods.
-    let rows: [(&str, Sizes, &[Expand], &str); 12] = [
+    let rows: [(&str, Sizes, &[Expand], &str); 16] = [
         // The context's local has a number of one byte, and of two.
         ("b1", (1, 0, 255), &[Same], "1901110000b8000d3affb1"),
         ("b1", (1, 0, 256), &[Same], "1901110000b8000dc43a0100b1"),
         ("b1", (254, 0, 1), &[Same], "19fe110000b8000d3affb1"),
         ("b1", (0, 0, 0), &[Same], "1900110000b8000d3a01b1"),
+        (
+            "b80007b1",
+            (1, 0, 256),
+            &[Call(7), Same],
+            "1901110000b8000dc43a0100c4190100b80010b1",
+        ),
+        // Each call stays what it is.
+        (
+            "b60007b1",
+            (1, 0, 1),
+            &[Call(7), Same],
+            "1901110000b8000d3a021902b60010b1",
+        ),
+        (
+            "b70007b1",
+            (1, 0, 1),
+            &[Call(7), Same],
+            "1901110000b8000d3a021902b70010b1",
+        ),
         // An interface call's count rises, but for 255.
         (
             "b90006fe00b1",
@@ -82,6 +112,12 @@ fn widths_that_change(rt: HostRuntime) {
             (1, 0, 1),
             &[Same, Same, Same, Same, Same],
             "1901110000b8000d3a02000000aa000000000013000000000000000000000013b1",
+        ),
+        (
+            "ab00000000000014000000010000000500000014b1",
+            (1, 0, 1),
+            &[Same, Same],
+            "1901110000b8000d3a02ab0000000012000000010000000500000012b1",
         ),
         // Branches over a call, of two and of four bytes, and back to the beginning.
         (
@@ -160,4 +196,29 @@ fn handlers(rt: HostRuntime) {
     assert!(rt; handlers.len() == 2);
     assert!(rt; is_moved(&handlers[0], 10, 15, 18) && is_moved(&handlers[1], 18, 28, 15));
     assert!(rt; m.slots == 2 && m.max_stack == 5 && m.max_locals == 3);
+}
+
+#[test]
+fn domains(rt: HostRuntime) {
+    // The domain in the prologue, and in a privileged call.
+    let rows: [(u32, &str); 3] = [
+        (1, "1901110001b8000d3a02110001b80011b1"),
+        (255, "19011100ffb8000d3a021100ffb80011b1"),
+        (4095, "1901110fffb8000d3a02110fffb80011b1"),
+    ];
+    let code = hex::decode(rt.alloc(), "b80007b1").expect(&rt, "hex");
+    let kinds = [Privileged(7), Same];
+    for (domain, want) in rows {
+        let none = Seq::new(rt.alloc());
+        let frames = Seq::new(rt.alloc());
+        let m = method_of(rt.alloc(), code.as_slice(), (1, 0, 1), none, frames, &kinds);
+        let m = m.expect(&rt, "a method");
+        let mut pool = adder_of(rt.alloc(), CALLS).expect(&rt, "a pool");
+        let m = move_method(rt.alloc(), &m, &kinds, domain, &mut pool).expect(&rt, "moved");
+        let code = text_of(rt.alloc(), m.ops.as_slice());
+        assert!(rt;
+            code.is_some() && code == text_in(rt.alloc(), want),
+            "{domain}"
+        );
+    }
 }
