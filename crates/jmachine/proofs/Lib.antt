@@ -1,0 +1,15 @@
+mod Applying
+mod ArrayRows
+mod Asks
+mod CallRows
+mod Courses
+mod Examples
+mod FieldRows
+mod LibraryRows
+mod MakingRows
+mod Moving
+mod Openings
+mod Stepping
+mod Stores
+mod Straights
+mod Takes
