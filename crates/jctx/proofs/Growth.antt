@@ -39,7 +39,7 @@ covers-covers same i j k first second =
     (within-within same i.limits j.limits k.limits (and_right (i.domain == j.domain) (is_within i.limits j.limits) first)
     (and_right (j.domain == k.domain) (is_within j.limits k.limits) second))
 
-hidden-covers : (same : EqualIsSame) → (c : List Item) (i j : Item) → hidden c i ≡ true → covers i j ≡ true → hidden c j ≡ true
+pub hidden-covers : (same : EqualIsSame) → (c : List Item) (i j : Item) → hidden c i ≡ true → covers i j ≡ true → hidden c j ≡ true
 hidden-covers same [] i j found more = found
 hidden-covers same (e ∷ c) i j found more =
     or_cases (covers e i) (hidden c i) found

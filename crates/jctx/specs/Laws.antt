@@ -39,3 +39,9 @@ IsSmall = (c : List Item) (n : ℕ) → IsKept c → All (λ i. i.limits ≡ [])
 -- A call within the newest domain, where it has no limits, changes nothing.
 abbrev pub EnterSame : Type 0
 EnterSame = (c : List Item) (d : ℕ) → IsKept (plain d ∷ c) → enter (plain d ∷ c) d ≡ plain d ∷ c
+
+-- A privilege that a method of a domain takes in the context that it entered is one in the context in which it was called: its own domain
+-- adds nothing.
+abbrev pub PrivilegedSame : Type 0
+PrivilegedSame = (d : ℕ) (given : Option (List Item)) (limits : Option (List Permission)) (c : List Item)
+    → privileged d given limits (enter c d) ≡ privileged d given limits c

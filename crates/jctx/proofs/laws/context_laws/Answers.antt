@@ -5,6 +5,7 @@ use Rattle.jctx.specs.Items.{plain}
 use Rattle.jctx.proofs.Along.{verdict-along}
 use Rattle.jctx.proofs.Kept.{keep-keep, distinct_domains-keep, length-keep, along_kept}
 use Rattle.jctx.proofs.Growth.{enter_same}
+use Rattle.jctx.proofs.Limiting.{privileged-entered}
 use Rattle.jctx.proofs.laws.context_laws.Goals as goal
 
 pub returns-clause-decides : goal.returns-clause-decides
@@ -27,3 +28,6 @@ returns-clause-small c items n kept none below = subst (λ k. k ≤ n) (length-m
 
 pub returns-clause-same : goal.returns-clause-same
 returns-clause-same c = enter_same
+
+pub returns-clause-behind : goal.returns-clause-behind
+returns-clause-behind c = privileged-entered c.permission_laws.ensures.same
