@@ -13,8 +13,10 @@ pub mod Numbers
 pub mod Order
 pub mod Overriding
 pub mod Packages
+pub mod Plain
 pub mod Rows
 pub mod Search
 pub mod Settling
 pub mod Standing
 pub mod Table
+pub mod Telling

@@ -115,7 +115,7 @@ most_at : (b : Bool) (m j : ℕ) → m ≤ j → cond (not b) (1 + m) 0 ≤ suc 
 most_at true m j le = omega arith
 most_at false m j le = omega (arith, le)
 
-position_most : {A : Type 0} (t : A → Bool) (xs : List A) (j : ℕ) (x : A) → slice_get xs j ≡ Some x → t x ≡ true → position_or_len t xs ≤ j
+pub position_most : {A : Type 0} (t : A → Bool) (xs : List A) (j : ℕ) (x : A) → slice_get xs j ≡ Some x → t x ≡ true → position_or_len t xs ≤ j
 position_most t [] j x at is = absurd cc
 position_most t (y ∷ ys) zero x at is =
     let here : t y ≡ true = ap t (some_is y x at) ∙ is in

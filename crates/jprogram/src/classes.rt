@@ -1,12 +1,15 @@
-ghost use Rattle.std.specs.Prelude.{◌≡◌, ◌≤◌, ◌+◌, IfErr, IfOk, length, option_map};
+ghost use Rattle.std.specs.Prelude.{◌≡◌, ◌≤◌, ◌+◌, IfErr, IfOk, IfSome, length, option_map};
 ghost use Rattle.std.specs.List.{list_any};
 ghost use Rattle.std.specs.Str.{bytes_eq};
 ghost use Rattle.jprogram.specs.Classes;
+ghost use Rattle.jprogram.specs.Digests.{AreFirsts};
 ghost use Rattle.jprogram.specs.Seen.{seen};
 
+use crate::firsts::{Firsts, firsts_in};
 use crate::found::Found;
 use crate::names::places_of;
 use crate::part::{ClassRef, CodePart};
+use jclass::ClassFile;
 use jlib::{Side, class};
 use std::alloc::{AllocFailed, Global};
 use std::collections::BTreeMap;
@@ -25,18 +28,21 @@ pub struct NamedProgram {
     parts: Vec<CodePart>,
     /// The first place of each name.
     places: BTreeMap<Vec<u8>, u32>,
+    /// The first members of each class by their digests.
+    firsts: Vec<Firsts>,
 }
 
 impl Model for NamedProgram {
     ghost use Rattle.std.specs.Prelude.{◌≤◌, length};
     ghost use Rattle.jprogram.specs.Classes.{Program, program};
+    ghost use Rattle.jprogram.specs.Digests.{AreTold};
     ghost use Rattle.jprogram.specs.Names.{ArePlaces};
 
     ghost Value = { Program };
 
     ghost view = { λ p. program p.side p.parts.items };
 
-    ghost invariant = { λ p. ArePlaces p.parts.items p.places × (length p.parts.items ≤ 0xffff) };
+    ghost invariant = { λ p. ArePlaces p.parts.items p.places × (AreTold p.parts.items p.firsts.items × (length p.parts.items ≤ 0xffff)) };
 }
 
 impl NamedProgram {
@@ -53,10 +59,14 @@ impl NamedProgram {
         let Ok(places) = places_of(alloc, parts.as_slice()) else {
             return Err(AllocFailed { value: parts });
         };
+        let Ok(firsts) = firsts_in(alloc, parts.as_slice()) else {
+            return Err(AllocFailed { value: parts });
+        };
         Ok(NamedProgram {
             side,
             parts,
             places,
+            firsts,
         })
     }
 
@@ -97,6 +107,17 @@ impl NamedProgram {
             Some(part) => Some(Found::User(i, &part.class)),
             None => None,
         }
+    }
+
+    /// A part's class by its place, with its first members.
+    #[tactic(auto, using(crate::proofs::Telling::told_are, crate::proofs::Telling::told_there))]
+    pub(crate) fn user(&self, i: u32) -> Option<(&ClassFile, &Firsts)>
+        ensures class { option_map (λ x. Classes.User i x.0.now) result ≡ Classes.user_at self.now i }
+        ensures firsts { IfSome result (λ x. AreFirsts x.0.now x.1.now) }
+    {
+        let part = self.parts.as_slice().get(i as usize)?;
+        let firsts = self.firsts.as_slice().get(i as usize)?;
+        Some((&part.class, firsts))
     }
 
     fn library_class(&self, name: &[u8]) -> Option<Found<'_>>

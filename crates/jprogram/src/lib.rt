@@ -6,6 +6,7 @@ mod circles;
 mod classes;
 mod facts;
 mod fault;
+mod firsts;
 mod found;
 mod heights;
 mod implemented;

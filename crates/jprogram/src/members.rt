@@ -1,15 +1,16 @@
-ghost use Rattle.std.specs.Prelude.{◌≡◌, ◌<◌, IfSome, IsTrue, length, option_map};
+ghost use Rattle.std.specs.Prelude.{◌≡◌, ◌<◌, IfSome, length};
 ghost use Rattle.std.specs.List.{position};
 ghost use Rattle.jprogram.specs.Classes;
+ghost use Rattle.jprogram.specs.Digests.{AreFirst, AreFirsts};
 ghost use Rattle.jprogram.specs.Members;
 ghost use Rattle.jprogram.specs.Parts;
-ghost use Rattle.jprogram.specs.Seen.{seen};
 
-use crate::found::Found;
+use crate::firsts::{Firsts, digest, first_at};
 use crate::member::{Member, MethodId};
 use crate::parts::is_called;
 use jclass::{ClassFile, ClassParts, MemberInfo};
 use jlib::{LibCall, LibClass, Side, member};
+use std::collections::BTreeMap;
 
 /// The place of the first of a class's members that has this name and descriptor.
 fn place_among(
@@ -29,22 +30,60 @@ fn place_among(
     None
 }
 
-fn user_method(i: u32, class: &ClassFile, name: &[u8], desc: &[u8]) -> Option<Member>
+/// The same, where the first members of each digest are known. One that isn't the first of its digest is searched for.
+#[tactic(auto, using(crate::proofs::Telling::none_told, crate::proofs::Telling::first_told))]
+fn place_by(
+    class: &ClassParts,
+    members: &[MemberInfo],
+    firsts: &BTreeMap<u64, usize>,
+    name: &[u8],
+    desc: &[u8],
+) -> Option<usize>
+    requires { AreFirst class.now members.now firsts.now }
+    ensures place { result ≡ position (Parts.is_called class.now name.now desc.now) members.now }
+    ensures within { IfSome result (λ i. i < length members.now) }
+{
+    let first = first_at(firsts, digest(name, desc))?;
+    if let Some(one) = members.get(first) {
+        if is_called(class, name, desc, one) {
+            return Some(first);
+        }
+    }
+    place_among(class, members, name, desc)
+}
+
+/// The first method of this name and descriptor that a user's class declares itself.
+pub fn user_method(
+    i: u32,
+    class: &ClassFile,
+    firsts: &Firsts,
+    name: &[u8],
+    desc: &[u8],
+) -> Option<Member>
+    requires { AreFirsts class.now firsts.now }
     ensures { result ≡ Members.method_in Side.Source (Classes.User i class.now) name.now desc.now }
 {
     let parts = class.parts();
-    let place = place_among(parts, parts.methods.as_slice(), name, desc)?;
+    let place = place_by(parts, parts.methods.as_slice(), &firsts.methods, name, desc)?;
     Some(Member::Method(MethodId {
         class: i,
         method: place as u32,
     }))
 }
 
-fn user_field(i: u32, class: &ClassFile, name: &[u8], desc: &[u8]) -> Option<Member>
+/// The first field of this name and descriptor that a user's class declares itself.
+pub fn user_field(
+    i: u32,
+    class: &ClassFile,
+    firsts: &Firsts,
+    name: &[u8],
+    desc: &[u8],
+) -> Option<Member>
+    requires { AreFirsts class.now firsts.now }
     ensures { result ≡ Members.field_in Side.Source (Classes.User i class.now) name.now desc.now }
 {
     let parts = class.parts();
-    let place = place_among(parts, parts.fields.as_slice(), name, desc)?;
+    let place = place_by(parts, parts.fields.as_slice(), &firsts.fields, name, desc)?;
     Some(Member::Field {
         class: i,
         field: place as u32,
@@ -69,36 +108,18 @@ fn lib_field(call: LibCall) -> Option<Member>
     None
 }
 
-fn lib_method_in(side: Side, class: LibClass, name: &[u8], desc: &[u8]) -> Option<Member>
+/// The method of this name and descriptor that a class of the library has.
+pub fn lib_method_in(side: Side, class: LibClass, name: &[u8], desc: &[u8]) -> Option<Member>
     ensures { result ≡ Members.method_in side (Classes.Lib class) name.now desc.now }
 {
     let call = member(side, class.name(), name, desc)?;
     lib_method(call)
 }
 
-fn lib_field_in(side: Side, class: LibClass, name: &[u8], desc: &[u8]) -> Option<Member>
+/// The field of this name and descriptor that a class of the library has.
+pub fn lib_field_in(side: Side, class: LibClass, name: &[u8], desc: &[u8]) -> Option<Member>
     ensures { result ≡ Members.field_in side (Classes.Lib class) name.now desc.now }
 {
     let call = member(side, class.name(), name, desc)?;
     lib_field(call)
-}
-
-/// The first method of this name and descriptor that a class declares itself.
-pub fn method_in(side: Side, class: Found<'_>, name: &[u8], desc: &[u8]) -> Option<Member>
-    ensures { result ≡ Members.method_in side (seen class.entry) name.now desc.now }
-{
-    match class {
-        Found::User(i, class) => user_method(i, class, name, desc),
-        Found::Lib(class) => lib_method_in(side, class, name, desc),
-    }
-}
-
-/// The first field of this name and descriptor that a class declares itself.
-pub fn field_in(side: Side, class: Found<'_>, name: &[u8], desc: &[u8]) -> Option<Member>
-    ensures { result ≡ Members.field_in side (seen class.entry) name.now desc.now }
-{
-    match class {
-        Found::User(i, class) => user_field(i, class, name, desc),
-        Found::Lib(class) => lib_field_in(side, class, name, desc),
-    }
 }

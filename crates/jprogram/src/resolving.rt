@@ -1,4 +1,4 @@
-ghost use Rattle.std.specs.Prelude.{◌≡◌, None, IfOk};
+ghost use Rattle.std.specs.Prelude.{◌≡◌, None, IfOk, IfSome, length, nat_lt, option_and_then};
 ghost use Rattle.jbase.specs.First.{first_some};
 ghost use Rattle.jprogram.specs.Classes;
 ghost use Rattle.jprogram.specs.Layers;
@@ -7,33 +7,64 @@ ghost use Rattle.jprogram.specs.Members;
 
 use crate::classes::NamedProgram;
 use crate::member::Member;
-use crate::members::{field_in, method_in};
+use crate::members::{lib_field_in, lib_method_in, user_field, user_method};
 use crate::searching::Sort;
 use jbase::Seq;
+use jlib::class as library_class;
 use std::alloc::{AllocError, Global};
 
 const INIT: &[u8] = b"<init>";
 
 impl NamedProgram {
+    fn method_of(&self, i: u32, name: &[u8], desc: &[u8]) -> Option<Member>
+        ensures { result ≡ option_and_then (λ c. Members.method_in self.now.side c name.now desc.now) (Classes.user_at self.now i) }
+    {
+        let (class, firsts) = self.user(i)?;
+        user_method(i, class, firsts, name, desc)
+    }
+
+    fn library_method(&self, name: &[u8], desc: &[u8], class: &[u8]) -> Option<Member>
+        ensures { result ≡ option_and_then (λ c. Members.method_in self.now.side c name.now desc.now) (Classes.found_at self.now class.now None) }
+    {
+        let class = library_class(self.side(), class)?;
+        lib_method_in(self.side(), class, name, desc)
+    }
+
+    fn field_of(&self, i: u32, name: &[u8], desc: &[u8]) -> Option<Member>
+        ensures { result ≡ option_and_then (λ c. Members.field_in self.now.side c name.now desc.now) (Classes.user_at self.now i) }
+    {
+        let (class, firsts) = self.user(i)?;
+        user_field(i, class, firsts, name, desc)
+    }
+
+    fn library_field(&self, name: &[u8], desc: &[u8], class: &[u8]) -> Option<Member>
+        ensures { result ≡ option_and_then (λ c. Members.field_in self.now.side c name.now desc.now) (Classes.found_at self.now class.now None) }
+    {
+        let class = library_class(self.side(), class)?;
+        lib_field_in(self.side(), class, name, desc)
+    }
+
     /// The first method of this name and descriptor that the class of a name declares itself (JVMS 4.6). None where there is no such
     /// class.
+    #[tactic(auto, unfolding(crate::specs::Classes::find))]
     pub fn method_in(&self, name: &[u8], desc: &[u8], class: &[u8]) -> Option<Member>
         ensures { result ≡ Members.method_at self.now name.now desc.now class.now }
     {
-        match self.find(class) {
-            Some(found) => method_in(self.side(), found, name, desc),
-            None => None,
+        match self.place_of(class) {
+            Some(i) => self.method_of(i, name, desc),
+            None => self.library_method(name, desc, class),
         }
     }
 
     /// The first field of this name and descriptor that the class of a name declares itself (JVMS 4.5). None where there is no such
     /// class.
+    #[tactic(auto, unfolding(crate::specs::Classes::find))]
     pub fn field_in(&self, name: &[u8], desc: &[u8], class: &[u8]) -> Option<Member>
         ensures { result ≡ Members.field_at self.now name.now desc.now class.now }
     {
-        match self.find(class) {
-            Some(found) => field_in(self.side(), found, name, desc),
-            None => None,
+        match self.place_of(class) {
+            Some(i) => self.field_of(i, name, desc),
+            None => self.library_field(name, desc, class),
         }
     }
 
@@ -102,7 +133,62 @@ impl NamedProgram {
         }
     }
 
-    /// The first member that is found so, from a class upwards.
+    fn lists_faces(&self, class: &[u8]) -> bool
+        ensures { result ≡ nat_lt 0 (length (Classes.face_names self.now class.now)) }
+    {
+        match self.find(class) {
+            Some(found) => 0 < found.face_count(),
+            None => false,
+        }
+    }
+
+    /// The same where the class has it or lists no interfaces; `None` where these would have to be gone through.
+    #[tactic(auto, using(crate::proofs::Plain::plain_found, crate::proofs::Plain::plain_none))]
+    fn plainly_at(
+        &self,
+        sort: Sort,
+        name: &[u8],
+        desc: &[u8],
+        class: &[u8],
+    ) -> Option<Option<Member>>
+        ensures { IfSome result (λ m. m ≡ Layers.at_and_over self.now sort name.now desc.now class.now) }
+    {
+        if let Some(found) = self.own(sort, name, desc, class) {
+            return Some(Some(found));
+        }
+        if self.lists_faces(class) {
+            return None;
+        }
+        Some(None)
+    }
+
+    /// The first member that is found so, from a class upwards; `None` where interfaces would have to be gone through. It takes no
+    /// memory.
+    #[tactic(auto, using(crate::proofs::Chains::chain_at, crate::proofs::Chains::chain_end), unfolding(jbase::specs::First::first_some))]
+    fn found_plainly(
+        &self,
+        sort: Sort,
+        name: &[u8],
+        desc: &[u8],
+        class: &[u8],
+    ) -> Option<Option<Member>>
+        ensures { IfSome result (λ m. m ≡ first_some (Layers.at_and_over self.now sort name.now desc.now) (Classes.up self.now class.now)) }
+    {
+        let mut at = class;
+        let steps = self.most_steps();
+        for step in 0..steps {
+            if let Some(found) = self.plainly_at(sort, name, desc, at)? {
+                return Some(Some(found));
+            }
+            match self.above_name(at) {
+                None => return Some(None),
+                Some(above) => at = above,
+            }
+        }
+        Some(None)
+    }
+
+    /// The first member that is found so, from a class upwards. Marks are made only where interfaces are gone through.
     #[tactic(auto, using(crate::proofs::Chains::chain_at, crate::proofs::Chains::chain_end), unfolding(jbase::specs::First::first_some))]
     fn found_upwards(
         &self,
@@ -115,6 +201,9 @@ impl NamedProgram {
         requires { IsLayered self.now }
         ensures { IfOk result (λ m. m ≡ first_some (Layers.at_and_over self.now sort name.now desc.now) (Classes.up self.now class.now)) }
     {
+        if let Some(found) = self.found_plainly(sort, name, desc, class) {
+            return Ok(found);
+        }
         let mut closed = self.no_marks(alloc, sort, name, desc)?;
         let mut at = class;
         let steps = self.most_steps();
