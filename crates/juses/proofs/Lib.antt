@@ -1,5 +1,6 @@
 pub mod Keeping
 pub mod Naming
+pub mod Noting
 pub mod Reading
 pub mod Resolving
 pub mod Spans

@@ -1,4 +1,5 @@
 pub mod Instructions
+pub mod Known
 pub mod Meanings
 pub mod Tables
 pub mod Typed

@@ -86,7 +86,9 @@ fn called(
     params: &[FieldType],
     ret: &Option<FieldType>,
 ) -> Result<DescUse, AllocError>
-    ensures { IfOk result (λ d. DescIs p.now types.new d (Typed.called (each_some (Typed.type_in p.now) params.now) (Typed.return_in p.now ret.now)) × Grows types.old types.new) }
+    ensures { IfOk result (λ d.
+        DescIs p.now types.new d (Typed.called (each_some (Typed.type_in p.now) params.now) (Typed.return_in p.now ret.now))
+        × Grows types.old types.new) }
 {
     let Some(params) = params_in(alloc, p, params)? else {
         return Ok(DescUse::Untyped);

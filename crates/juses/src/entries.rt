@@ -1,20 +1,27 @@
-ghost use Rattle.std.specs.Prelude.{◌≡◌, ℕ, IfOk, List, Some, option_map};
+ghost use Rattle.std.specs.Prelude.{◌≡◌, ℕ, IfOk, List, OnOk, Some, option_map};
+ghost use Rattle.std.specs.Ordering.{nat_cmp};
+ghost use Rattle.std.specs.BTreeMap as tree;
 ghost use Rattle.jpool.specs.declared.entry.Entry.{Entry};
 ghost use Rattle.jprogram.specs.Classes.{Program};
 ghost use Rattle.jprogram.specs.Layers.{IsLayered};
 ghost use Rattle.juses.specs.declared.types.TypeRef.{TypeRef};
 ghost use Rattle.juses.specs.Meanings.{AField, AMethod, call_as, field_as};
+ghost use Rattle.juses.specs.Known;
+ghost use Rattle.juses.specs.Known.{AreClasses, AreKnown, AreNoted};
 ghost use Rattle.juses.specs.Tables.{AreDescs, AreKept, DescWithin, Grows, KeptIs, KeptWithin, desc_named, kept_named, member_of};
 ghost use Rattle.juses.specs.Types.{class_named};
 
 use crate::descriptors::{DescUse, desc_at, descs_of};
+use crate::indices::Indices;
 use crate::meaning::{CallUse, Constant, FieldUse};
+use crate::noted::{Noted, Refers, note, noted_of};
 use crate::types::TypeRef;
 use crate::typing::{class_there, class_type};
 use jbase::Seq;
 use jpool::{Entry, Pool};
 use jprogram::{ClassRef, Member, NamedProgram, class_text, text_at};
 use std::alloc::{AllocError, Global};
+use std::collections::BTreeMap;
 
 const INIT: &[u8] = b"<init>";
 
@@ -59,7 +66,8 @@ struct Texts<'a> {
 // ---- references
 
 fn field_kept(owner: ClassRef, member: Option<Member>, desc: DescUse) -> Kept
-    ensures named { (p : Program) (pool : List Entry) (types : List TypeRef) → kept_named p pool types result ≡ option_map AField (field_as (class_named p owner) member (desc_named p types desc)) }
+    ensures named { (p : Program) (pool : List Entry) (types : List TypeRef)
+        → kept_named p pool types result ≡ option_map AField (field_as (class_named p owner) member (desc_named p types desc)) }
     ensures member { member_of result ≡ member }
     ensures within { (n : ℕ) → KeptWithin n result }
 {
@@ -77,7 +85,9 @@ fn field_kept(owner: ClassRef, member: Option<Member>, desc: DescUse) -> Kept
 }
 
 fn method_kept(is_init: bool, owner: ClassRef, member: Option<Member>, desc: DescUse) -> Kept
-    ensures named { (p : Program) (pool : List Entry) (types : List TypeRef) → kept_named p pool types result ≡ option_map (AMethod is_init) (call_as (class_named p owner) member (desc_named p types desc)) }
+    ensures named { (p : Program) (pool : List Entry) (types : List TypeRef)
+        → kept_named p pool types result
+        ≡ option_map (AMethod is_init) (call_as (class_named p owner) member (desc_named p types desc)) }
     ensures member { member_of result ≡ member }
     ensures within { (n : ℕ) → DescWithin n desc → KeptWithin n result }
 {
@@ -170,25 +180,107 @@ fn class_entry(
     Ok(Kept::Class(class))
 }
 
+fn class_kept(classes: &BTreeMap<u16, Kept>, name: u16) -> Option<Kept>
+    ensures { result ≡ tree.get nat_cmp classes.now name }
+{
+    classes.get(&name).copied()
+}
+
+/// The same for all class entries that name one text.
+fn class_once(
+    alloc: Global,
+    p: &NamedProgram,
+    texts: Texts<'_>,
+    classes: &mut BTreeMap<u16, Kept>,
+    name: u16,
+) -> Result<Kept, AllocError>
+    requires { AreClasses p.now texts.pool.now texts.types.now classes.old }
+    ensures value { IfOk result (λ k. KeptIs p.now texts.entry.pool.now texts.entry.types.now k (Some (Entry.Class name))) }
+    ensures kept { OnOk result (AreClasses p.now texts.entry.pool.now texts.entry.types.now classes.new) }
+{
+    if let Some(one) = class_kept(classes, name) {
+        return Ok(one);
+    }
+    let one = class_entry(alloc, p, texts, name)?;
+    classes.insert(name, one)?;
+    Ok(one)
+}
+
+/// What a reference stands for.
+fn reference_entry(
+    alloc: Global,
+    p: &NamedProgram,
+    texts: Texts<'_>,
+    to: Refers,
+    class: u16,
+    both: u16,
+) -> Result<Kept, AllocError>
+    requires layered { IsLayered p.now }
+    requires descs { AreDescs p.now texts.types.now texts.pool.now texts.descs.now }
+    ensures { IfOk result (λ k. KeptIs p.now texts.entry.pool.now texts.entry.types.now k (Some (Known.entry_of to class both))) }
+{
+    match to {
+        Refers::ToField => field_entry(alloc, p, texts, class, both),
+        Refers::ToMethod => method_entry(alloc, p, texts, class, both),
+    }
+}
+
+/// The same for all references that name the same texts: it is resolved once.
+fn reference_once(
+    alloc: Global,
+    p: &NamedProgram,
+    texts: Texts<'_>,
+    references: &mut BTreeMap<u64, Noted>,
+    to: Refers,
+    class: u16,
+    both: u16,
+) -> Result<Kept, AllocError>
+    requires layered { IsLayered p.now }
+    requires descs { AreDescs p.now texts.types.now texts.pool.now texts.descs.now }
+    requires noted { AreNoted p.now texts.pool.now texts.types.now references.old }
+    ensures value { IfOk result (λ k. KeptIs p.now texts.entry.pool.now texts.entry.types.now k (Some (Known.entry_of to class both))) }
+    ensures kept { OnOk result (AreNoted p.now texts.entry.pool.now texts.entry.types.now references.new) }
+{
+    let Some(at) = Indices::of(texts.pool, class, both) else {
+        return reference_entry(alloc, p, texts, to, class, both);
+    };
+    if let Some(found) = noted_of(references, to, at) {
+        return Ok(found.kept);
+    }
+    let kept = reference_entry(alloc, p, texts, to, class, both)?;
+    note(references, Noted { to, at, kept })?;
+    Ok(kept)
+}
+
 #[tactic(auto, unfolding(crate::specs::Meanings::entry_meant))]
 fn entry_of(
     alloc: Global,
     p: &NamedProgram,
     texts: Texts<'_>,
+    classes: &mut BTreeMap<u16, Kept>,
+    references: &mut BTreeMap<u64, Noted>,
     entry: &Entry,
 ) -> Result<Kept, AllocError>
     requires layered { IsLayered p.now }
     requires descs { AreDescs p.now texts.types.now texts.pool.now texts.descs.now }
-    ensures { IfOk result (λ k. KeptIs p.now texts.entry.pool.now texts.entry.types.now k (Some entry.now)) }
+    requires known { AreKnown p.now texts.pool.now texts.types.now classes.old references.old }
+    ensures value { IfOk result (λ k. KeptIs p.now texts.entry.pool.now texts.entry.types.now k (Some entry.now)) }
+    ensures kept { OnOk result (AreKnown p.now texts.entry.pool.now texts.entry.types.now classes.new references.new) }
 {
     match entry {
         Entry::Integer(n) => Ok(Kept::Constant(Constant::Int(*n))),
         Entry::Long(n) => Ok(Kept::Constant(Constant::Long(*n))),
         Entry::Str(text) => Ok(Kept::Constant(Constant::Text(*text))),
-        Entry::Class(name) => class_entry(alloc, p, texts, *name),
-        Entry::Field(class, both) => field_entry(alloc, p, texts, *class, *both),
-        Entry::Method(class, both) => method_entry(alloc, p, texts, *class, *both),
-        Entry::InterfaceMethod(class, both) => method_entry(alloc, p, texts, *class, *both),
+        Entry::Class(name) => class_once(alloc, p, texts, classes, *name),
+        Entry::Field(class, both) => {
+            reference_once(alloc, p, texts, references, Refers::ToField, *class, *both)
+        }
+        Entry::Method(class, both) => {
+            reference_once(alloc, p, texts, references, Refers::ToMethod, *class, *both)
+        }
+        Entry::InterfaceMethod(class, both) => {
+            reference_once(alloc, p, texts, references, Refers::ToMethod, *class, *both)
+        }
         _ => Ok(Kept::Nothing),
     }
 }
@@ -205,15 +297,17 @@ fn entries_by(
     ensures { IfOk result (λ all. AreKept p.now pool.now types.now pool.now all) }
 {
     let texts = Texts { pool, descs, types };
+    let mut classes = BTreeMap::new(alloc);
+    let mut references = BTreeMap::new(alloc);
     let mut all = Seq::new(alloc);
     for entry in pool.entries() {
-        let one = entry_of(alloc, p, texts, entry)?;
+        let one = entry_of(alloc, p, texts, &mut classes, &mut references, entry)?;
         all.push(one)?;
     }
     Ok(all)
 }
 
-/// What the entries of a pool stand for, each reference resolved once. The types of parameters are put behind others.
+/// What the entries of a pool stand for. Those that name the same texts are looked at once. The types of parameters are put behind others.
 pub(crate) fn entries_of(
     alloc: Global,
     p: &NamedProgram,

@@ -82,7 +82,8 @@ fn element_fits(p: &NamedProgram, x: ElementRef, y: ElementRef) -> bool
 
 /// Whether an array fits another one.
 fn array_fits(p: &NamedProgram, a: ArrayRef, b: ArrayRef) -> bool
-    ensures { result ≡ Fitting.array_fits Fitting.is_above_arrays (tree p.now) a.depth (element_named p.now a.element) b.depth (element_named p.now b.element) }
+    ensures { result ≡ Fitting.array_fits Fitting.is_above_arrays (tree p.now) a.depth (element_named p.now a.element)
+        b.depth (element_named p.now b.element) }
 {
     if a.depth < b.depth {
         return false;

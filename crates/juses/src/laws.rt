@@ -8,5 +8,6 @@ ghost use Rattle.juses.specs.Tables.{pool_at};
 
 /// The law of members: the member of a field or of a call is the one to which its entry is resolved (JVMS 5.4.3).
 pub fn member_law()
-    ensures { (p : Program) (class : ℕ) (f : PoolForm) (m : Meaning) (x : Member) → meant p (pool_at p class) f ≡ Some m → member_meant m ≡ Some x → resolved p class (index_of f) ≡ Some x }
+    ensures { (p : Program) (class : ℕ) (f : PoolForm) (m : Meaning) (x : Member) → meant p (pool_at p class) f ≡ Some m
+        → member_meant m ≡ Some x → resolved p class (index_of f) ≡ Some x }
 {}

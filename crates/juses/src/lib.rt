@@ -4,8 +4,10 @@
 mod descriptors;
 mod entries;
 mod fitting;
+mod indices;
 mod laws;
 mod meaning;
+mod noted;
 mod types;
 mod typing;
 mod uses;
@@ -13,6 +15,7 @@ mod using;
 
 pub use descriptors::{params_in, return_in};
 pub use fitting::{stands_below, type_fits};
+pub use indices::Indices;
 pub use laws::member_law;
 pub use meaning::{CallUse, Constant, FieldUse, How, Span, Use};
 pub use types::{ArrayRef, ElementRef, TypeRef};

@@ -58,7 +58,8 @@ impl Uses {
     /// What an instruction by an entry of the pool means in its part (JVMS 6.5). None where its entry stands for nothing: what it names
     /// isn't there, is of a kind that is left out, or isn't what the instruction takes.
     pub fn use_at(&self, class: u32, form: PoolForm) -> Option<Use>
-        ensures { (p : Program) → AreUses p self.now → option_map (meaning_of p (pool_at p class) self.now.types) result ≡ meant p (pool_at p class) form }
+        ensures { (p : Program) → AreUses p self.now
+            → option_map (meaning_of p (pool_at p class) self.now.types) result ≡ meant p (pool_at p class) form }
     {
         let kept = self.kept_at(class, index_of(form));
         used(form, kept)
@@ -66,7 +67,8 @@ impl Uses {
 
     /// What the instruction means in a part that makes an array of the class at an index.
     pub fn array_use_at(&self, class: u32, i: u16) -> Option<Use>
-        ensures { (p : Program) → AreUses p self.now → option_map (meaning_of p (pool_at p class) self.now.types) result ≡ array_meant p (pool_at p class) i }
+        ensures { (p : Program) → AreUses p self.now
+            → option_map (meaning_of p (pool_at p class) self.now.types) result ≡ array_meant p (pool_at p class) i }
     {
         let kept = self.kept_at(class, i);
         array_made(kept)

@@ -14,7 +14,8 @@ use crate::typing::array_over;
 use jcode::{CallOp, CastOp, FieldOp, PoolForm};
 
 fn short_constant(kept: Kept) -> Option<Use>
-    ensures { (p : Program) (pool : List Entry) (types : List TypeRef) → option_map (meaning_of p pool types) result ≡ option_and_then Meanings.short_constant (kept_named p pool types kept) }
+    ensures { (p : Program) (pool : List Entry) (types : List TypeRef)
+        → option_map (meaning_of p pool types) result ≡ option_and_then Meanings.short_constant (kept_named p pool types kept) }
 {
     match kept {
         Kept::Constant(Constant::Int(n)) => Some(Use::Push(Constant::Int(n))),
@@ -24,7 +25,8 @@ fn short_constant(kept: Kept) -> Option<Use>
 }
 
 fn long_constant(kept: Kept) -> Option<Use>
-    ensures { (p : Program) (pool : List Entry) (types : List TypeRef) → option_map (meaning_of p pool types) result ≡ option_and_then Meanings.long_constant (kept_named p pool types kept) }
+    ensures { (p : Program) (pool : List Entry) (types : List TypeRef)
+        → option_map (meaning_of p pool types) result ≡ option_and_then Meanings.long_constant (kept_named p pool types kept) }
 {
     match kept {
         Kept::Constant(Constant::Long(n)) => Some(Use::Push(Constant::Long(n))),
@@ -33,7 +35,8 @@ fn long_constant(kept: Kept) -> Option<Use>
 }
 
 fn field_used(op: FieldOp, kept: Kept) -> Option<Use>
-    ensures { (p : Program) (pool : List Entry) (types : List TypeRef) → option_map (meaning_of p pool types) result ≡ option_and_then (Meanings.field_used op) (kept_named p pool types kept) }
+    ensures { (p : Program) (pool : List Entry) (types : List TypeRef)
+        → option_map (meaning_of p pool types) result ≡ option_and_then (Meanings.field_used op) (kept_named p pool types kept) }
 {
     match kept {
         Kept::Field(field) => Some(Use::Field(op, field)),
@@ -57,7 +60,8 @@ fn how_of(op: CallOp, is_init: bool) -> How
 }
 
 fn called_by(op: CallOp, kept: Kept) -> Option<Use>
-    ensures { (p : Program) (pool : List Entry) (types : List TypeRef) → option_map (meaning_of p pool types) result ≡ option_and_then (Meanings.called_by op) (kept_named p pool types kept) }
+    ensures { (p : Program) (pool : List Entry) (types : List TypeRef)
+        → option_map (meaning_of p pool types) result ≡ option_and_then (Meanings.called_by op) (kept_named p pool types kept) }
 {
     match kept {
         Kept::Method(is_init, call) => Some(Use::Call(how_of(op, is_init), call)),
@@ -66,7 +70,9 @@ fn called_by(op: CallOp, kept: Kept) -> Option<Use>
 }
 
 fn called_by_interface(kept: Kept) -> Option<Use>
-    ensures { (p : Program) (pool : List Entry) (types : List TypeRef) → option_map (meaning_of p pool types) result ≡ option_and_then Meanings.called_by_interface (kept_named p pool types kept) }
+    ensures { (p : Program) (pool : List Entry) (types : List TypeRef)
+        → option_map (meaning_of p pool types) result
+        ≡ option_and_then Meanings.called_by_interface (kept_named p pool types kept) }
 {
     match kept {
         Kept::Method(_, call) => Some(Use::Call(How::Interface, call)),
@@ -75,7 +81,8 @@ fn called_by_interface(kept: Kept) -> Option<Use>
 }
 
 fn made(kept: Kept) -> Option<Use>
-    ensures { (p : Program) (pool : List Entry) (types : List TypeRef) → option_map (meaning_of p pool types) result ≡ option_and_then Meanings.made (kept_named p pool types kept) }
+    ensures { (p : Program) (pool : List Entry) (types : List TypeRef)
+        → option_map (meaning_of p pool types) result ≡ option_and_then Meanings.made (kept_named p pool types kept) }
 {
     match kept {
         Kept::Class(TypeRef::Object(class)) => Some(Use::Make(class)),
@@ -85,7 +92,8 @@ fn made(kept: Kept) -> Option<Use>
 
 /// What an instruction that makes an array means by an entry of which this is kept.
 pub(crate) fn array_made(kept: Kept) -> Option<Use>
-    ensures { (p : Program) (pool : List Entry) (types : List TypeRef) → option_map (meaning_of p pool types) result ≡ option_and_then Meanings.array_made (kept_named p pool types kept) }
+    ensures { (p : Program) (pool : List Entry) (types : List TypeRef)
+        → option_map (meaning_of p pool types) result ≡ option_and_then Meanings.array_made (kept_named p pool types kept) }
 {
     match kept {
         Kept::Class(t) => {
@@ -97,7 +105,8 @@ pub(crate) fn array_made(kept: Kept) -> Option<Use>
 }
 
 fn cast_by(op: CastOp, kept: Kept) -> Option<Use>
-    ensures { (p : Program) (pool : List Entry) (types : List TypeRef) → option_map (meaning_of p pool types) result ≡ option_and_then (Meanings.cast_by op) (kept_named p pool types kept) }
+    ensures { (p : Program) (pool : List Entry) (types : List TypeRef)
+        → option_map (meaning_of p pool types) result ≡ option_and_then (Meanings.cast_by op) (kept_named p pool types kept) }
 {
     match kept {
         Kept::Class(t) => Some(Use::Cast(op, t)),
@@ -107,7 +116,8 @@ fn cast_by(op: CastOp, kept: Kept) -> Option<Use>
 
 /// The type of a class of which this is kept.
 pub(crate) fn class_in(kept: Kept) -> Option<TypeRef>
-    ensures { (p : Program) (pool : List Entry) (types : List TypeRef) → option_map (named p) result ≡ option_and_then Meanings.as_class (kept_named p pool types kept) }
+    ensures { (p : Program) (pool : List Entry) (types : List TypeRef)
+        → option_map (named p) result ≡ option_and_then Meanings.as_class (kept_named p pool types kept) }
 {
     match kept {
         Kept::Class(t) => Some(t),
@@ -117,7 +127,8 @@ pub(crate) fn class_in(kept: Kept) -> Option<TypeRef>
 
 /// What an instruction means by an entry of which this is kept.
 pub(crate) fn used(form: PoolForm, kept: Kept) -> Option<Use>
-    ensures { (p : Program) (pool : List Entry) (types : List TypeRef) → option_map (meaning_of p pool types) result ≡ option_and_then (Meanings.used form) (kept_named p pool types kept) }
+    ensures { (p : Program) (pool : List Entry) (types : List TypeRef)
+        → option_map (meaning_of p pool types) result ≡ option_and_then (Meanings.used form) (kept_named p pool types kept) }
 {
     match form {
         PoolForm::Constant(_) => short_constant(kept),
