@@ -7,6 +7,9 @@ use Rattle.jprogram.specs.declared.member.Member.{Member}
 use Rattle.jprogram.specs.Classes.{Program}
 use Rattle.jprogram.specs.Members.{looked_up, referred}
 use Rattle.jprogram.specs.Parts.{class_text, text}
+use Rattle.juses.specs.declared.indices.Indices.{Indices}
+use Rattle.juses.specs.Known.{HasTexts}
+use Rattle.juses.proofs.Noting.{class_named}
 use Rattle.jreferring.specs.declared.judged.MemberUse.{MemberUse}
 use Rattle.jreferring.specs.declared.judged.Sort.{Sort}
 use Rattle.jreferring.specs.declared.judged.Sort.TheVariants as sort
@@ -33,3 +36,8 @@ reference_named p from pool kind class both name desc is = sym (use_is p from po
 
 pub reference_nameless : (p : Program) (from : List ℕ) (pool : List Entry) (kind : Sort) (class both : ℕ) → name_and_type_at pool both ≡ None → member_use p from kind None (class_text pool class) [] [] ≡ reference p from pool kind class both
 reference_nameless p from pool kind class both is = sym (use_is p from pool kind class both ∙ ap (use_with p from pool kind class) is)
+
+-- by the indices of its texts
+pub reference_at : (p : Program) (from : List ℕ) (pool : List Entry) (kind : Sort) (class both : ℕ) (at : Indices) → HasTexts pool class both at → named_use p from kind (text pool at.owner) (text pool at.name) (text pool at.desc) ≡ reference p from pool kind class both
+reference_at p from pool kind class both at has =
+    ap (λ (o : List ℕ). named_use p from kind o (text pool at.name) (text pool at.desc)) (sym (class_named pool class at.owner has.named)) ∙ reference_named p from pool kind class both at.name at.desc has.says

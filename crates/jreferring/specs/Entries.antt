@@ -34,7 +34,8 @@ desc_in pool (Some both) = text pool both.1
 -- by the indices of its class and of its name and type
 unfoldable pub reference : Program → List ℕ → List Entry → Sort → ℕ → ℕ → MemberUse
 reference p from pool kind class both =
-    member_use p from kind (referred p pool (Some (entry_of kind class both))) (class_text pool class) (name_in pool (name_and_type_at pool both)) (desc_in pool (name_and_type_at pool both))
+    member_use p from kind (referred p pool (Some (entry_of kind class both)))
+    (class_text pool class) (name_in pool (name_and_type_at pool both)) (desc_in pool (name_and_type_at pool both))
 
 -- ---- entries
 

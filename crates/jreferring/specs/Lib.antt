@@ -1,5 +1,6 @@
 pub mod Code
 pub mod Entries
+pub mod Known
 pub mod Looking
 pub mod Names
 pub mod Operands

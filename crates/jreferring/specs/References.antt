@@ -1,5 +1,5 @@
 -- What a reference to a field or a method may be used for (JVMS 4.4.2, 5.4.3, 5.4.4, 6.5).
-use Rattle.std.specs.Prelude.{ℕ, ◌+◌, Bool, true, false, ◌&&◌, ◌||◌, not, ◌==◌, List, Option, Some, None, option_map, codes}
+use Rattle.std.specs.Prelude.{ℕ, ◌+◌, Bool, true, false, ◌&&◌, ◌||◌, not, ◌==◌, List, Option, Some, None, option_map, codes, if◌then◌else◌}
 use Rattle.std.specs.List.{list_any}
 use Rattle.std.specs.Str.{bytes_eq}
 use Rattle.jbase.specs.First.{fault_if, or_else}
@@ -16,8 +16,10 @@ use Rattle.jprogram.specs.declared.fault.LinkKind.TheVariants.{BadUse, LeftOut, 
 use Rattle.jprogram.specs.declared.member.Member.{Member}
 use Rattle.jprogram.specs.Classes.{Program, extends, find, holds, is_interface}
 use Rattle.jprogram.specs.Members.{init, is_final, is_private, is_static, may_use, owner_of, reach_of}
+use Rattle.jreferring.specs.declared.judged.DescUse.{DescUse}
 use Rattle.jreferring.specs.declared.judged.MemberFacts.{MemberFacts}
 use Rattle.jreferring.specs.declared.judged.MemberUse.{MemberUse}
+use Rattle.jreferring.specs.declared.judged.OwnerUse.{OwnerUse}
 use Rattle.jreferring.specs.declared.judged.Sort.{Sort}
 use Rattle.jreferring.specs.declared.judged.Sort.TheVariants as sort
 use Rattle.jreferring.specs.Names.{desc_test, is_array, type_named, type_test}
@@ -67,6 +69,28 @@ facts_of p from m = record {
   is_static = is_static p m;
   is_private = is_private (reach_of p m);
 }
+
+-- the class of a reference
+abbrev pub owner_use : Program → List ℕ → List ℕ → OwnerUse
+owner_use p from owner = record {
+  names = type_test p from (type_named owner);
+  array = is_array (type_named owner);
+  interface = holds is_interface (find p owner);
+  upward = extends p from owner;
+}
+
+-- its descriptor
+abbrev pub desc_use : Program → List ℕ → List ℕ → DescUse
+desc_use p from desc = record {
+  names = desc_test p from (descriptor_of desc);
+  misplaced = misplaces_context false (descriptor_of desc);
+  misplaced_at_enter = misplaces_context true (descriptor_of desc);
+  slots = method_slots desc;
+}
+
+-- whether a context stands where none may, said of both cases
+abbrev pub is_barred_by : OwnerUse → Bool → DescUse → Bool
+is_barred_by owner enter desc = owner.array || (if enter then desc.misplaced_at_enter else desc.misplaced)
 
 -- its class is named first, and then what its descriptor names
 abbrev pub names_test : Program → List ℕ → FieldType → Option Descriptor → Option LinkKind

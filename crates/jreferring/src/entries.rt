@@ -1,126 +1,146 @@
-ghost use Rattle.std.specs.Prelude.{◌≡◌, [], None, IfOk, map};
+ghost use Rattle.std.specs.Prelude.{◌≡◌, [], None, IfOk, OnOk, map};
 ghost use Rattle.jprogram.specs.Layers.{IsLayered};
+ghost use Rattle.jprogram.specs.Parts;
 ghost use Rattle.jreferring.specs.Entries;
+ghost use Rattle.jreferring.specs.Known.{AreKnown};
 ghost use Rattle.jreferring.specs.Looking;
 ghost use Rattle.jreferring.specs.Operands.{class_use};
 ghost use Rattle.jreferring.specs.References;
 
 use crate::judged::{Judged, MemberUse, Sort};
-use crate::operands::class_use;
-use crate::references::{Texts, member_use};
+use crate::known::{Home, Known, class_at, named_at, nothing, resolved};
+use crate::references::{Texts, desc_use, member_use, owner_use};
 use jclass::ClassParts;
 use jpool::{Entry, Pool};
 use jprogram::{Member, NamedProgram, class_text, text_at, this_name};
+use juses::Indices;
 use std::alloc::{AllocError, Global};
 
-/// The member that a reference stands for, which has these texts.
-fn resolved(
+/// What a reference that has these texts, and stands for this member, may be used for.
+fn use_by_texts(
     alloc: Global,
-    program: &NamedProgram,
+    home: Home<'_>,
     sort: Sort,
-    texts: Texts<'_>,
-) -> Result<Option<Member>, AllocError>
-    requires { IsLayered program.now }
-    ensures { IfOk result (λ m. m ≡ Looking.look_by program.now sort texts.entry.owner.now texts.entry.name.now texts.entry.desc.now) }
-{
-    match sort {
-        Sort::Field => program.resolve_field(alloc, texts.owner, texts.name, texts.desc),
-        Sort::Method => program.resolve_method(alloc, texts.owner, texts.name, texts.desc),
-        Sort::InterfaceMethod => {
-            program.resolve_method(alloc, texts.owner, texts.name, texts.desc)
-        }
-    }
-}
-
-/// What a reference that has these texts may be used for.
-#[tactic(auto, unfolding(crate::specs::Looking::named_use))]
-fn named_use(
-    alloc: Global,
-    program: &NamedProgram,
-    from: &[u8],
-    sort: Sort,
+    member: Option<Member>,
     texts: Texts<'_>,
 ) -> Result<MemberUse, AllocError>
-    requires { IsLayered program.now }
-    ensures { IfOk result (λ u. u ≡ Looking.named_use program.now from.now sort texts.entry.owner.now texts.entry.name.now texts.entry.desc.now) }
+    ensures { IfOk result (λ u. u ≡ References.member_use home.entry.program.now home.entry.from.now sort member
+        texts.entry.owner.now texts.entry.name.now texts.entry.desc.now) }
 {
-    let member = resolved(alloc, program, sort, texts)?;
-    let one = member_use(alloc, program, from, sort, member, texts)?;
-    Ok(one)
+    let owner = owner_use(alloc, home.program, home.from, texts.owner)?;
+    let desc = desc_use(alloc, home.program, home.from, texts.desc)?;
+    Ok(member_use(home.program, home.from, sort, member, texts, owner, desc))
 }
 
 /// What a reference may be used for that has no name and type.
 fn nameless_use(
     alloc: Global,
-    program: &NamedProgram,
-    from: &[u8],
+    home: Home<'_>,
     sort: Sort,
     owner: &[u8],
 ) -> Result<MemberUse, AllocError>
-    ensures { IfOk result (λ u. u ≡ References.member_use program.now from.now sort None owner.now [] []) }
+    ensures { IfOk result (λ u. u ≡ References.member_use home.entry.program.now home.entry.from.now sort None owner.now [] []) }
 {
     let texts = Texts {
         owner,
         name: &[],
         desc: &[],
     };
-    let one = member_use(alloc, program, from, sort, None, texts)?;
+    let one = use_by_texts(alloc, home, sort, None, texts)?;
     Ok(one)
 }
 
-/// What a reference may be used for, by the indices of its class and of its name and type.
-#[tactic(auto, using(crate::proofs::Referring::reference_named, crate::proofs::Referring::reference_nameless))]
-fn reference(
+/// What a reference may be used for that has these texts.
+#[tactic(auto, unfolding(crate::specs::Looking::named_use))]
+fn named_use(
     alloc: Global,
-    program: &NamedProgram,
-    from: &[u8],
-    pool: &Pool,
+    home: Home<'_>,
+    sort: Sort,
+    texts: Texts<'_>,
+) -> Result<MemberUse, AllocError>
+    requires { IsLayered home.program.now }
+    ensures { IfOk result (λ u. u
+        ≡ Looking.named_use home.entry.program.now home.entry.from.now sort texts.entry.owner.now texts.entry.name.now texts.entry.desc.now) }
+{
+    let member = resolved(alloc, home.program, sort, texts)?;
+    let one = use_by_texts(alloc, home, sort, member, texts)?;
+    Ok(one)
+}
+
+/// What a reference may be used for that isn't one to a Class entry and a NameAndType entry.
+#[tactic(auto, using(crate::proofs::Referring::reference_named, crate::proofs::Referring::reference_nameless))]
+fn odd_reference(
+    alloc: Global,
+    home: Home<'_>,
     sort: Sort,
     class: u16,
     both: u16,
 ) -> Result<MemberUse, AllocError>
-    requires { IsLayered program.now }
-    ensures { IfOk result (λ u. u ≡ Entries.reference program.now from.now pool.now sort class both) }
+    requires { IsLayered home.program.now }
+    ensures { IfOk result (λ u. u ≡ Entries.reference home.entry.program.now home.entry.from.now home.entry.pool.now sort class both) }
 {
-    let owner = class_text(pool, class);
-    let Some((name, desc)) = pool.name_and_type(both) else {
-        let one = nameless_use(alloc, program, from, sort, owner)?;
+    let owner = class_text(home.pool, class);
+    let Some((name, desc)) = home.pool.name_and_type(both) else {
+        let one = nameless_use(alloc, home, sort, owner)?;
         return Ok(one);
     };
     let texts = Texts {
         owner,
-        name: text_at(pool, name),
-        desc: text_at(pool, desc),
+        name: text_at(home.pool, name),
+        desc: text_at(home.pool, desc),
     };
-    let one = named_use(alloc, program, from, sort, texts)?;
+    let one = named_use(alloc, home, sort, texts)?;
+    Ok(one)
+}
+
+/// What a reference may be used for, by the indices of its class and of its name and type.
+#[tactic(auto, using(crate::proofs::Referring::reference_at))]
+fn reference(
+    alloc: Global,
+    home: Home<'_>,
+    known: &mut Known,
+    sort: Sort,
+    class: u16,
+    both: u16,
+) -> Result<MemberUse, AllocError>
+    requires layered { IsLayered home.program.now }
+    requires known { AreKnown home.program.now home.from.now home.pool.now known.old }
+    ensures value { IfOk result (λ u. u ≡ Entries.reference home.entry.program.now home.entry.from.now home.entry.pool.now sort class both) }
+    ensures kept { OnOk result (AreKnown home.entry.program.now home.entry.from.now home.entry.pool.now known.new) }
+{
+    let Some(at) = Indices::of(home.pool, class, both) else {
+        let one = odd_reference(alloc, home, sort, class, both)?;
+        return Ok(one);
+    };
+    let one = named_at(alloc, home, known, sort, at)?;
     Ok(one)
 }
 
 fn member(
     alloc: Global,
-    program: &NamedProgram,
-    from: &[u8],
-    pool: &Pool,
+    home: Home<'_>,
+    known: &mut Known,
     sort: Sort,
     class: u16,
     both: u16,
 ) -> Result<Judged, AllocError>
-    requires { IsLayered program.now }
-    ensures { IfOk result (λ j. j ≡ Judged.Member (Entries.reference program.now from.now pool.now sort class both)) }
+    requires layered { IsLayered home.program.now }
+    requires known { AreKnown home.program.now home.from.now home.pool.now known.old }
+    ensures value { IfOk result (λ j. j
+        ≡ Judged.Member (Entries.reference home.entry.program.now home.entry.from.now home.entry.pool.now sort class both)) }
+    ensures kept { OnOk result (AreKnown home.entry.program.now home.entry.from.now home.entry.pool.now known.new) }
 {
-    let one = reference(alloc, program, from, pool, sort, class, both)?;
+    let one = reference(alloc, home, known, sort, class, both)?;
     Ok(Judged::Member(one))
 }
 
-fn class(
-    alloc: Global,
-    program: &NamedProgram,
-    from: &[u8],
-    text: &[u8],
-) -> Result<Judged, AllocError>
-    ensures { IfOk result (λ j. j ≡ Judged.Class (class_use program.now from.now text.now)) }
+fn class(alloc: Global, home: Home<'_>, known: &mut Known, name: u16) -> Result<Judged, AllocError>
+    requires { AreKnown home.program.now home.from.now home.pool.now known.old }
+    ensures value { IfOk result (λ j. j
+        ≡ Judged.Class (class_use home.entry.program.now home.entry.from.now (Parts.text home.entry.pool.now name))) }
+    ensures kept { OnOk result (AreKnown home.entry.program.now home.entry.from.now home.entry.pool.now known.new) }
 {
-    let one = class_use(alloc, program, from, text)?;
+    let one = class_at(alloc, home, &mut known.classes, name)?;
     Ok(Judged::Class(one))
 }
 
@@ -128,55 +148,44 @@ fn class(
 #[tactic(auto, unfolding(crate::specs::Entries::judge))]
 fn judge(
     alloc: Global,
-    program: &NamedProgram,
-    from: &[u8],
-    pool: &Pool,
+    home: Home<'_>,
+    known: &mut Known,
     one: &Entry,
 ) -> Result<Judged, AllocError>
-    requires { IsLayered program.now }
-    ensures { IfOk result (λ j. j ≡ Entries.judge program.now from.now pool.now one.now) }
+    requires layered { IsLayered home.program.now }
+    requires known { AreKnown home.program.now home.from.now home.pool.now known.old }
+    ensures value { IfOk result (λ j. j ≡ Entries.judge home.entry.program.now home.entry.from.now home.entry.pool.now one.now) }
+    ensures kept { OnOk result (AreKnown home.entry.program.now home.entry.from.now home.entry.pool.now known.new) }
 {
     match one {
         Entry::Integer(_) => Ok(Judged::Constant),
         Entry::Str(_) => Ok(Judged::Constant),
         Entry::Long(_) => Ok(Judged::LongConstant),
-        Entry::Class(name) => class(alloc, program, from, text_at(pool, *name)),
-        Entry::Field(of, both) => member(alloc, program, from, pool, Sort::Field, *of, *both),
-        Entry::Method(of, both) => member(alloc, program, from, pool, Sort::Method, *of, *both),
+        Entry::Class(name) => class(alloc, home, known, *name),
+        Entry::Field(of, both) => member(alloc, home, known, Sort::Field, *of, *both),
+        Entry::Method(of, both) => member(alloc, home, known, Sort::Method, *of, *both),
         Entry::InterfaceMethod(of, both) => {
-            member(
-                alloc,
-                program,
-                from,
-                pool,
-                Sort::InterfaceMethod,
-                *of,
-                *both,
-            )
+            member(alloc, home, known, Sort::InterfaceMethod, *of, *both)
         }
         _ => Ok(Judged::Other),
     }
 }
 
-fn judge_all(
-    alloc: Global,
-    program: &NamedProgram,
-    from: &[u8],
-    pool: &Pool,
-    entries: &[Entry],
-) -> Result<Vec<Judged>, AllocError>
-    requires { IsLayered program.now }
-    ensures { IfOk result (λ table. table.items ≡ map (Entries.judge program.now from.now pool.now) entries.now) }
+fn judge_all(alloc: Global, home: Home<'_>, entries: &[Entry]) -> Result<Vec<Judged>, AllocError>
+    requires { IsLayered home.program.now }
+    ensures { IfOk result (λ table. table.items ≡ map (Entries.judge home.entry.program.now home.entry.from.now home.entry.pool.now) entries.now) }
 {
+    let mut known = nothing(alloc);
     let mut table = Vec::new(alloc);
     for one in entries {
-        let judged = judge(alloc, program, from, pool, one)?;
+        let judged = judge(alloc, home, &mut known, one)?;
         table.push(judged)?;
     }
     Ok(table)
 }
 
-/// What the entries of a class's pool stand for, by their indices. Each is looked at once.
+/// What the entries of a class's pool stand for, by their indices. Each text is looked at once as what entries name it for, and references
+/// of the same texts are resolved once.
 pub fn judge_pool(
     alloc: Global,
     program: &NamedProgram,
@@ -185,7 +194,11 @@ pub fn judge_pool(
     requires { IsLayered program.now }
     ensures { IfOk result (λ table. table.items ≡ Entries.judge_pool program.now class.now) }
 {
-    let pool = &class.pool;
-    let table = judge_all(alloc, program, this_name(class), pool, pool.entries())?;
+    let home = Home {
+        program,
+        from: this_name(class),
+        pool: &class.pool,
+    };
+    let table = judge_all(alloc, home, class.pool.entries())?;
     Ok(table)
 }

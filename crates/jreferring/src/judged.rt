@@ -25,6 +25,31 @@ pub struct ClassUse {
     pub unmade: bool,
 }
 
+/// What the class that a reference names may be used for.
+#[derive(Clone, Copy, Debug)]
+pub struct OwnerUse {
+    /// It isn't there, or may not be named.
+    pub names: Option<LinkKind>,
+    /// It is an array.
+    pub array: bool,
+    pub interface: bool,
+    /// It is the class from which it is seen, or stands above it.
+    pub upward: bool,
+}
+
+/// What the descriptor that a reference names may be used for.
+#[derive(Clone, Copy, Debug)]
+pub struct DescUse {
+    /// The first class that it names and that isn't there, or may not be named.
+    pub names: Option<LinkKind>,
+    /// It has a context where none may stand.
+    pub misplaced: bool,
+    /// It has one where none may stand even in the one method that returns a context.
+    pub misplaced_at_enter: bool,
+    /// The slots of the arguments, where it is of a method.
+    pub slots: Option<usize>,
+}
+
 /// Which kind of entry a reference is.
 #[derive(Clone, Copy, Debug)]
 pub enum Sort {

@@ -4,6 +4,7 @@
 mod code;
 mod entries;
 mod judged;
+mod known;
 mod names;
 mod operands;
 mod references;

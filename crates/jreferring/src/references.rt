@@ -1,9 +1,10 @@
 ghost use Rattle.std.specs.Prelude.{◌≡◌, IfOk, option_map};
 ghost use Rattle.std.specs.List.{list_any};
+ghost use Rattle.jbase.specs.First.{or_else};
 ghost use Rattle.jprogram.specs.Members;
 ghost use Rattle.jreferring.specs.References;
 
-use crate::judged::{MemberFacts, MemberUse, Sort};
+use crate::judged::{DescUse, MemberFacts, MemberUse, OwnerUse, Sort};
 use crate::names::{desc_test, descriptor_in, is_array, type_named, type_test};
 use crate::operands::is_context;
 use jpool::{Descriptor, FieldType, method_slots};
@@ -113,52 +114,87 @@ fn facts_in(program: &NamedProgram, from: &[u8], member: Option<Member>) -> Opti
     }
 }
 
-fn names_test(
-    program: &NamedProgram,
-    from: &[u8],
-    owner: &FieldType,
-    desc: &Option<Descriptor>,
-) -> Option<LinkKind>
-    ensures { result ≡ References.names_test program.now from.now owner.now desc.now }
+fn names_test(owner: &OwnerUse, desc: &DescUse) -> Option<LinkKind>
+    ensures { result ≡ or_else owner.now.names desc.now.names }
 {
-    if let Some(kind) = type_test(program, from, owner) {
+    if let Some(kind) = owner.names {
         return Some(kind);
     }
-    desc_test(program, from, desc)
+    desc.names
 }
 
 /// Whether a reference is of an array, or has a context where none may stand.
-fn is_barred(owner: &FieldType, enter: bool, desc: &Option<Descriptor>) -> bool
-    ensures { result ≡ References.is_barred owner.now enter desc.now }
+fn is_barred(owner: &OwnerUse, enter: bool, desc: &DescUse) -> bool
+    ensures { result ≡ References.is_barred_by owner.now enter desc.now }
 {
-    if is_array(owner) {
+    if owner.array {
         return true;
     }
-    misplaces_context(enter, desc)
+    if enter {
+        return desc.misplaced_at_enter;
+    }
+    desc.misplaced
 }
 
-/// What a reference may be used for, which has these texts and stands for this member.
-pub fn member_use(
+/// What the class that a reference names may be used for.
+pub fn owner_use(
     alloc: Global,
+    program: &NamedProgram,
+    from: &[u8],
+    owner: &[u8],
+) -> Result<OwnerUse, AllocError>
+    ensures { IfOk result (λ u. u ≡ References.owner_use program.now from.now owner.now) }
+{
+    let one = type_named(alloc, owner)?;
+    Ok(OwnerUse {
+        names: type_test(program, from, &one),
+        array: is_array(&one),
+        interface: program.is_interface(owner),
+        upward: program.extends(from, owner),
+    })
+}
+
+/// What the descriptor that a reference names may be used for.
+pub fn desc_use(
+    alloc: Global,
+    program: &NamedProgram,
+    from: &[u8],
+    text: &[u8],
+) -> Result<DescUse, AllocError>
+    ensures { IfOk result (λ u. u ≡ References.desc_use program.now from.now text.now) }
+{
+    let desc = descriptor_in(alloc, text)?;
+    Ok(DescUse {
+        names: desc_test(program, from, &desc),
+        misplaced: misplaces_context(false, &desc),
+        misplaced_at_enter: misplaces_context(true, &desc),
+        slots: method_slots(text),
+    })
+}
+
+/// What a reference may be used for, which has these texts and stands for this member: by what its class and its descriptor may be.
+pub fn member_use(
     program: &NamedProgram,
     from: &[u8],
     sort: Sort,
     member: Option<Member>,
     texts: Texts<'_>,
-) -> Result<MemberUse, AllocError>
-    ensures { IfOk result (λ u. u ≡ References.member_use program.now from.now sort member texts.entry.owner.now texts.entry.name.now texts.entry.desc.now) }
+    owner: OwnerUse,
+    desc: DescUse,
+) -> MemberUse
+    requires owner { owner ≡ References.owner_use program.now from.now texts.owner.now }
+    requires desc { desc ≡ References.desc_use program.now from.now texts.desc.now }
+    ensures { result ≡ References.member_use program.now from.now sort member texts.entry.owner.now texts.entry.name.now texts.entry.desc.now }
 {
-    let owner = type_named(alloc, texts.owner)?;
-    let desc = descriptor_in(alloc, texts.desc)?;
     let enter = is_enter(texts);
-    Ok(MemberUse {
-        names: names_test(program, from, &owner, &desc),
+    MemberUse {
+        names: names_test(&owner, &desc),
         barred: is_barred(&owner, enter, &desc),
         of_interface: is_of_interface(sort),
-        crossed: is_crossed(sort, program.is_interface(texts.owner)),
-        upward: program.extends(from, texts.owner),
+        crossed: is_crossed(sort, owner.interface),
+        upward: owner.upward,
         init: texts.name == INIT,
-        slots: method_slots(texts.desc),
+        slots: desc.slots,
         member: facts_in(program, from, member),
-    })
+    }
 }
