@@ -16,7 +16,9 @@ impl<'a> ClassTexts<'a> {
         met: &mut BTreeSet<(usize, usize)>,
         member: &MemberInfo,
     ) -> Result<bool, AllocError>
-        ensures { (before : List Info) → HasMet self.now.class before met.old → IfOk result (λ b. (Declares.is_again self.now.class before member.now ≡ not b) × HasMet self.now.class (before ++ member.now ∷ []) met.new) }
+        ensures { (before : List Info) → HasMet self.now.class before met.old
+            → IfOk result (λ b. (Declares.is_again self.now.class before member.now ≡ not b)
+            × HasMet self.now.class (before ++ member.now ∷ []) met.new) }
     {
         let pair = (self.number(member.name), self.number(member.desc));
         let fresh = met.insert(pair)?;
@@ -30,7 +32,9 @@ impl<'a> ClassTexts<'a> {
         met: &mut BTreeSet<(usize, usize)>,
         member: &MemberInfo,
     ) -> Result<Option<LinkKind>, AllocError>
-        ensures { (before : List Info) → HasMet self.now.class before met.old → IfOk result (λ o. (o ≡ Declares.again_test self.now.class before member.now) × HasMet self.now.class (before ++ member.now ∷ []) met.new) }
+        ensures { (before : List Info) → HasMet self.now.class before met.old
+            → IfOk result (λ o. (o ≡ Declares.again_test self.now.class before member.now)
+            × HasMet self.now.class (before ++ member.now ∷ []) met.new) }
     {
         if self.meet(met, member)? {
             return Ok(None);

@@ -16,7 +16,9 @@ fn method_test(
     k: u32,
     method: &MemberInfo,
 ) -> Result<Option<LinkKind>, AllocError>
-    ensures { (before : List Info) → HasMet texts.now.class before met.old → IfOk result (λ o. (o ≡ Declares.method_test texts.now.program texts.now.place texts.now.class before k method.now) × HasMet texts.now.class (before ++ method.now ∷ []) met.new) }
+    ensures { (before : List Info) → HasMet texts.now.class before met.old
+        → IfOk result (λ o. (o ≡ Declares.method_test texts.now.program texts.now.place texts.now.class before k method.now)
+        × HasMet texts.now.class (before ++ method.now ∷ []) met.new) }
 {
     if let Some(kind) = texts.again_test(met, method)? {
         return Ok(Some(kind));
@@ -39,7 +41,9 @@ fn field_test(
     met: &mut BTreeSet<(usize, usize)>,
     field: &MemberInfo,
 ) -> Result<Option<LinkKind>, AllocError>
-    ensures { (before : List Info) → HasMet texts.now.class before met.old → IfOk result (λ o. (o ≡ Declares.field_test texts.now.program texts.now.class before field.now) × HasMet texts.now.class (before ++ field.now ∷ []) met.new) }
+    ensures { (before : List Info) → HasMet texts.now.class before met.old
+        → IfOk result (λ o. (o ≡ Declares.field_test texts.now.program texts.now.class before field.now)
+        × HasMet texts.now.class (before ++ field.now ∷ []) met.new) }
 {
     if let Some(kind) = texts.again_test(met, field)? {
         return Ok(Some(kind));
@@ -71,7 +75,10 @@ fn method_fault(
     k: u32,
     method: &MemberInfo,
 ) -> Result<Option<LinkFault>, AllocError>
-    ensures { (before : List Info) → HasMet texts.now.class before met.old → IfOk result (λ o. (o ≡ Declares.at_member texts.now.place k (Declares.method_test texts.now.program texts.now.place texts.now.class before k method.now)) × HasMet texts.now.class (before ++ method.now ∷ []) met.new) }
+    ensures { (before : List Info) → HasMet texts.now.class before met.old
+        → IfOk result (λ o. (o ≡ Declares.at_member texts.now.place k
+        (Declares.method_test texts.now.program texts.now.place texts.now.class before k method.now))
+        × HasMet texts.now.class (before ++ method.now ∷ []) met.new) }
 {
     let kind = method_test(alloc, texts, met, k, method)?;
     Ok(at_member(texts.place(), k, kind))
@@ -83,7 +90,10 @@ fn field_fault(
     member: u32,
     field: &MemberInfo,
 ) -> Result<Option<LinkFault>, AllocError>
-    ensures { (before : List Info) → HasMet texts.now.class before met.old → IfOk result (λ o. (o ≡ Declares.at_member texts.now.place member (Declares.field_test texts.now.program texts.now.class before field.now)) × HasMet texts.now.class (before ++ field.now ∷ []) met.new) }
+    ensures { (before : List Info) → HasMet texts.now.class before met.old
+        → IfOk result (λ o. (o ≡ Declares.at_member texts.now.place member
+        (Declares.field_test texts.now.program texts.now.class before field.now))
+        × HasMet texts.now.class (before ++ field.now ∷ []) met.new) }
 {
     let kind = field_test(texts, met, field)?;
     Ok(at_member(texts.place(), member, kind))

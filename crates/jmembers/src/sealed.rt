@@ -137,7 +137,8 @@ fn overrides_final(
     desc: &[u8],
     from: &[u8],
 ) -> Result<bool, AllocError>
-    ensures { IfOk result (λ b. b ≡ Declares.overrides_final program.now below [] (Members.methods_along program.now name.now desc.now (Classes.up program.now from.now))) }
+    ensures { IfOk result (λ b. b ≡ Declares.overrides_final program.now below []
+        (Members.methods_along program.now name.now desc.now (Classes.up program.now from.now))) }
 {
     let mut shown = BTreeMap::new(alloc);
     let mut at = from;
