@@ -7,4 +7,4 @@ mod linked;
 mod phases;
 
 pub use error::LinkError;
-pub use linked::{LinkedProgram, are_parts, link, link_or_return};
+pub use linked::{LinkedProgram, are_parts, link, link_known, link_or_return};

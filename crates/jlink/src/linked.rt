@@ -1,4 +1,4 @@
-ghost use Rattle.std.specs.Prelude.{◌≡◌, IfOk, MatchBool, MatchResult, None, Some, option_map};
+ghost use Rattle.std.specs.Prelude.{◌≡◌, IfErr, IfOk, MatchBool, MatchResult, None, Some, option_map};
 ghost use Rattle.jprogram.specs.Classes;
 ghost use Rattle.jprogram.specs.Classes.{program};
 ghost use Rattle.jprogram.specs.Members;
@@ -98,11 +98,15 @@ fn tables_of(alloc: Global, program: &NamedProgram) -> Result<(Interfaces, Uses)
     Ok((interfaces, uses))
 }
 
-/// A program in which no rule is broken; where no memory is left its parts are handed back.
-fn linked(alloc: Global, program: NamedProgram) -> Result<LinkedProgram, (Vec<CodePart>, LinkError)>
+/// A program in which no rule is broken. An error, which says that no memory was left, hands its parts back.
+fn linked(
+    alloc: Global,
+    program: NamedProgram,
+) -> Result<LinkedProgram, AllocFailed<Vec<CodePart>>>
     requires parts { AreParts program.parts }
     requires rules { Links.link_fault program ≡ None }
-    ensures { MatchResult result (λ p. (p ≡ program) × (Links.link_fault p ≡ None)) (λ e. (e.0.items ≡ program.parts) × LinkErrorIs (Links.link_fault program) e.1) }
+    ensures ok { IfOk result (λ p. p ≡ program) }
+    ensures err { IfErr result (λ e. e.value.items ≡ program.parts) }
 {
     match tables_of(alloc, &program) {
         Ok((interfaces, uses)) => Ok(LinkedProgram {
@@ -110,8 +114,25 @@ fn linked(alloc: Global, program: NamedProgram) -> Result<LinkedProgram, (Vec<Co
             interfaces,
             uses,
         }),
-        Err(_) => Err((program.into_parts(), LinkError::Memory)),
+        Err(_) => Err(AllocFailed {
+            value: program.into_parts(),
+        }),
     }
+}
+
+/// The program of parts that are known to link against a side's library, as those of a program that was moved: no rule is tested. An error,
+/// which says that no memory was left, hands them back.
+pub fn link_known(
+    alloc: Global,
+    parts: Vec<CodePart>,
+    side: Side,
+) -> Result<LinkedProgram, AllocFailed<Vec<CodePart>>>
+    requires { Links (program side parts.items) }
+    ensures ok { IfOk result (λ p. p ≡ program side parts.items) }
+    ensures err { IfErr result (λ e. e.value.items ≡ parts.items) }
+{
+    let program = NamedProgram::of(alloc, parts, side)?;
+    linked(alloc, program)
 }
 
 /// Links parts against a side's library, and hands them back with the error where they don't link: the first broken rule, in the order of
@@ -124,14 +145,19 @@ pub fn link_or_return(
     side: Side,
 ) -> Result<LinkedProgram, (Vec<CodePart>, LinkError)>
     requires { AreParts parts.items }
-    ensures { MatchResult result (λ p. (p ≡ program side parts.items) × (Links.link_fault p ≡ None)) (λ e. (e.0.items ≡ parts.items) × LinkErrorIs (Links.link_fault (program side parts.items)) e.1) }
+    ensures { MatchResult result
+        (λ p. (p ≡ program side parts.items) × (Links.link_fault p ≡ None))
+        (λ e. (e.0.items ≡ parts.items) × LinkErrorIs (Links.link_fault (program side parts.items)) e.1) }
 {
     let program = match NamedProgram::of(alloc, parts, side) {
         Ok(program) => program,
         Err(AllocFailed { value }) => return Err((value, LinkError::Memory)),
     };
     match link_fault(alloc, &program) {
-        Ok(None) => linked(alloc, program),
+        Ok(None) => match linked(alloc, program) {
+            Ok(program) => Ok(program),
+            Err(AllocFailed { value }) => Err((value, LinkError::Memory)),
+        },
         Ok(Some(fault)) => Err((program.into_parts(), LinkError::At(fault))),
         Err(_) => Err((program.into_parts(), LinkError::Memory)),
     }
@@ -140,7 +166,9 @@ pub fn link_or_return(
 /// Links parts against a side's library, as [`link_or_return`] does; an error doesn't hand them back.
 pub fn link(alloc: Global, parts: Vec<CodePart>, side: Side) -> Result<LinkedProgram, LinkError>
     requires { AreParts parts.items }
-    ensures { MatchResult result (λ p. (p ≡ program side parts.items) × (Links.link_fault p ≡ None)) (LinkErrorIs (Links.link_fault (program side parts.items))) }
+    ensures { MatchResult result
+        (λ p. (p ≡ program side parts.items) × (Links.link_fault p ≡ None))
+        (LinkErrorIs (Links.link_fault (program side parts.items))) }
 {
     match link_or_return(alloc, parts, side) {
         Ok(program) => Ok(program),
