@@ -1,167 +1,107 @@
+use crate::permissions::reads;
+use crate::words::{Unread, number};
 use jctx::{Context, enter, privileged, top};
-use jdomain::{CodeSource, Domains, Verdict};
-use jperm::{PermClass, Permission, make};
-use jpolicy::read_policy;
+use jdomain::{Domains, Verdict};
+use jperm::Permission;
 use jtext::Units;
 use std::alloc::{AllocError, Global};
-use std::test::Fail;
 
-/// The permission to read a property.
-fn reads(alloc: Global, name: &str) -> Result<Permission, AllocError> {
-    let name = Units::from_text(alloc, name)?;
-    let actions = Units::from_text(alloc, "read")?;
-    let cwd = Units::from_text(alloc, "/")?;
-    match make(
-        alloc,
-        PermClass::Property,
-        Some(&name),
-        Some(&actions),
-        &cwd,
-    ) {
-        Ok(permission) => Ok(permission),
-        Err(_) => Err(AllocError),
+/// The limits that a word names: to read a property, or none.
+fn limits_of(alloc: Global, directory: &Units, name: &str) -> Result<Vec<Permission>, Unread> {
+    let mut limits = Vec::new(alloc);
+    if !name.is_empty() {
+        let limit = reads(alloc, directory, name)?;
+        limits.push(limit).map_err(AllocError::from)?;
     }
+    Ok(limits)
 }
 
-/// Two domains, of which the second alone may read the property x.
-fn domains(alloc: Global) -> Result<Domains, AllocError> {
-    let text =
-        b"grant codeBase \"file:/b/\" { permission java.util.PropertyPermission \"x\", \"read\"; };".as_slice();
-    let Ok(policy) = read_policy(alloc, text, &[]) else {
-        return Err(AllocError);
+/// The context of a privilege with limits, maybe in the context of one domain that is given.
+fn limited(
+    alloc: Global,
+    directory: &Units,
+    domain: u32,
+    words: &str,
+    behind: &Context,
+) -> Result<Context, Unread> {
+    let Some((name, given)) = words.split_once('@') else {
+        let limits = limits_of(alloc, directory, words)?;
+        return Ok(privileged(alloc, domain, None, Some(limits.as_slice()), behind)?);
     };
-    let mut sources = Vec::new(alloc);
-    for url in ["file:/a/", "file:/b/"] {
-        let Ok(source) = CodeSource::read(alloc, url) else {
-            return Err(AllocError);
-        };
-        sources.push(source)?;
-    }
-    let cwd = Units::from_text(alloc, "/")?;
-    Domains::open(alloc, &policy, &sources, &cwd)
+    let limits = limits_of(alloc, directory, name)?;
+    let given = enter(alloc, &top(alloc)?, number(given)?)?;
+    Ok(privileged(alloc, domain, Some(&given), Some(limits.as_slice()), behind)?)
 }
 
-/// A context as a text: each item's domain, with a stroke for each of its limits in front.
-fn shown(alloc: Global, context: &Context) -> Result<String, AllocError> {
-    let mut text = String::new(alloc);
-    for item in context.as_slice() {
-        for _ in item.limits.as_slice() {
-            text.push('\'')?;
-        }
-        text.push(char::from_digit(item.domain % 10, 10).unwrap_or('?'))?;
+/// The context behind one more word.
+fn with_word(
+    alloc: Global,
+    directory: &Units,
+    word: &str,
+    behind: &Context,
+) -> Result<Context, Unread> {
+    if let Some(domain) = word.strip_suffix('!') {
+        return Ok(privileged(alloc, number(domain)?, None, None, behind)?);
     }
-    Ok(text)
+    match word.split_once(':') {
+        Some((domain, words)) => limited(alloc, directory, number(domain)?, words, behind),
+        None => Ok(enter(alloc, behind, number(word)?)?),
+    }
 }
 
-/// The context of these domains, called one by the other, the last one innermost.
-fn called(alloc: Global, domains: &[u32]) -> Result<Context, AllocError> {
+/// The context that words make, the last one innermost; `-` are no words.
+fn context_of(alloc: Global, directory: &Units, words: &str) -> Result<Context, Unread> {
     let mut context = top(alloc)?;
-    for d in domains {
-        context = enter(alloc, &context, *d)?;
+    if words == "-" {
+        return Ok(context);
+    }
+    for word in words.split(' ') {
+        context = with_word(alloc, directory, word, &context)?;
     }
     Ok(context)
 }
 
-#[test]
-fn calls(rt: HostRuntime) -> Result<(), Fail> {
-    let alloc = rt.alloc();
-    let rows: [(&[u32], &[u8]); 6] = [
-        (&[], b""),
-        (&[0], b"0"),
-        (&[0, 0], b"0"),
-        (&[0, 1], b"10"),
-        (&[0, 1, 0], b"01"),
-        (&[2, 1, 0, 1, 2], b"210"),
-    ];
-    for (domains, want) in rows {
-        let context = called(alloc, domains)?;
-        let got = shown(alloc, &context)?;
-        assert!(rt; got.as_bytes() == want, "{domains:?}");
-        let again = shown(alloc, &context.copy(alloc)?)?;
-        assert!(rt; again.as_bytes() == want, "{domains:?}");
+/// A context as a text: the domain of each item, with a stroke behind it for each of its limits; `-` where there is none.
+fn shown(alloc: Global, context: &Context) -> Result<String, AllocError> {
+    let mut text = String::new(alloc);
+    for item in context.as_slice() {
+        if !text.is_empty() {
+            text.push(' ')?;
+        }
+        let domain = format!(in alloc; "{}", item.domain)?;
+        text.push_str(domain.as_str())?;
+        for _ in item.limits.as_slice() {
+            text.push('\'')?;
+        }
     }
-    Ok(())
-}
-
-/// A privilege of domain 2 with one limit, behind a call of domain 0.
-fn limited(alloc: Global) -> Result<Context, AllocError> {
-    let limit = [reads(alloc, "y")?];
-    let behind = called(alloc, &[0])?;
-    privileged(alloc, 2, None, Some(&limit), &behind)
-}
-
-#[test]
-fn privileges_with_a_limit(rt: HostRuntime) -> Result<(), Fail> {
-    let alloc = rt.alloc();
-    let once = limited(alloc)?;
-    let limit = [reads(alloc, "y")?];
-    let twice = privileged(alloc, 2, None, Some(&limit), &once)?;
-    assert!(rt; shown(alloc, &once)?.as_bytes() == b"2'0".as_slice());
-    assert!(rt; shown(alloc, &twice)?.as_bytes() == b"2'0".as_slice());
-    Ok(())
-}
-
-#[test]
-fn privileges_without_a_limit(rt: HostRuntime) -> Result<(), Fail> {
-    let alloc = rt.alloc();
-    let behind = called(alloc, &[0])?;
-    let none_of_them = privileged(alloc, 2, None, Some(&[]), &behind)?;
-    let alone = privileged(alloc, 2, None, None, &behind)?;
-    assert!(rt; shown(alloc, &none_of_them)?.as_bytes() == b"20".as_slice());
-    assert!(rt; shown(alloc, &alone)?.as_bytes() == b"2".as_slice());
-    Ok(())
-}
-
-#[test]
-fn privileges_within_a_context(rt: HostRuntime) -> Result<(), Fail> {
-    let alloc = rt.alloc();
-    let limit = [reads(alloc, "y")?];
-    let given = called(alloc, &[2])?;
-    let behind = called(alloc, &[1, 0])?;
-    let within = privileged(alloc, 1, Some(&given), Some(&limit), &behind)?;
-    assert!(rt; shown(alloc, &within)?.as_bytes() == b"12'0".as_slice());
-    Ok(())
-}
-
-#[test]
-fn verdicts_behind_calls(rt: HostRuntime) -> Result<(), Fail> {
-    let alloc = rt.alloc();
-    let domains = domains(alloc)?;
-    let x = reads(alloc, "x")?;
-    let rows: [(&[u32], Verdict); 5] = [
-        (&[], Verdict::Granted),
-        (&[1], Verdict::Granted),
-        (&[0, 1], Verdict::Denied(0)),
-        (&[1, 0], Verdict::Denied(0)),
-        (&[1, 7], Verdict::Denied(7)),
-    ];
-    for (entered, want) in rows {
-        let context = called(alloc, entered)?;
-        assert!(rt; context.verdict(&domains, &x) == want, "{entered:?}");
+    if text.is_empty() {
+        text.push('-')?;
     }
-    Ok(())
+    Ok(text)
 }
 
-/// What a privilege of domain 1 decides that stands under a limit and before a call of domain 0.
-fn under(alloc: Global, limit: &str, asked: &str) -> Result<Verdict, AllocError> {
-    let domains = domains(alloc)?;
-    let asked = reads(alloc, asked)?;
-    let limits = [reads(alloc, limit)?];
-    let behind = called(alloc, &[0])?;
-    let context = privileged(alloc, 1, None, Some(&limits), &behind)?;
-    Ok(context.verdict(&domains, &asked))
-}
-
-#[test]
-fn verdicts_under_limits(rt: HostRuntime) -> Result<(), Fail> {
-    let rows: [(&str, &str, Verdict); 3] = [
-        ("x", "x", Verdict::Granted),
-        ("x", "y", Verdict::Denied(1)),
-        ("z", "x", Verdict::Denied(0)),
-    ];
-    for (limit, asked, want) in rows {
-        let got = under(rt.alloc(), limit, asked)?;
-        assert!(rt; got == want, "{limit} {asked}");
+/// What a context shows, and its copy too.
+pub fn context(alloc: Global, directory: &Units, words: &str) -> Result<String, Unread> {
+    let context = context_of(alloc, directory, words)?;
+    let text = shown(alloc, &context)?;
+    let again = shown(alloc, &context.copy(alloc)?)?;
+    if again.as_str() != text.as_str() {
+        return Ok(String::from_str(alloc, "its copy is another")?);
     }
-    Ok(())
+    Ok(text)
+}
+
+/// What the walk of a context answers.
+pub fn verdict(
+    alloc: Global,
+    directory: &Units,
+    domains: &Domains,
+    words: &str,
+    asked: &Permission,
+) -> Result<String, Unread> {
+    let context = context_of(alloc, directory, words)?;
+    match context.verdict(domains, asked) {
+        Verdict::Granted => Ok(String::from_str(alloc, "granted")?),
+        Verdict::Denied(domain) => Ok(format!(in alloc; "denied by {domain}")?),
+    }
 }

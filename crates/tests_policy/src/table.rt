@@ -1,0 +1,177 @@
+use crate::words::{Unread, bytes_of, first, number, units_of, unquoted, yes_or_no};
+use crate::{contexts, permissions, policies, sources};
+use jdomain::{CodeSource, Domains};
+use jperm::Permission;
+use jpolicy::Policy;
+use jtext::Units;
+use std::alloc::{AllocError, Global};
+
+/// What was read so far.
+#[derive(Drop)]
+pub struct Table {
+    /// The directory in which names are read.
+    directory: Units,
+    /// The permissions of the list that is asked.
+    held: Vec<Permission>,
+    /// The properties of the policies, each with its value.
+    properties: Vec<(Units, Units)>,
+    /// The policy of the domains.
+    policy: Vec<u8>,
+    /// The directory in which that policy's names are read.
+    granted_in: Units,
+    /// The code sources of the domains.
+    sources: Vec<CodeSource>,
+}
+
+/// What a line is.
+pub enum Line<'a> {
+    /// One that says nothing, or that later lines are read by.
+    Known,
+    /// The name of the rows behind it.
+    Section(&'a str),
+    /// The answer that it wants, and the one that was found.
+    Row(&'a str, String),
+}
+
+impl Table {
+    pub fn new(alloc: Global) -> Table {
+        Table {
+            directory: Units::new(alloc),
+            held: Vec::new(alloc),
+            properties: Vec::new(alloc),
+            policy: Vec::new(alloc),
+            granted_in: Units::new(alloc),
+            sources: Vec::new(alloc),
+        }
+    }
+
+    /// The policy of the domains.
+    fn granting(&self, alloc: Global) -> Result<Policy, Unread> {
+        match policies::policy_of(alloc, self.policy.as_slice(), &[]) {
+            Ok(policy) => Ok(policy),
+            Err(_) => Err(Unread::Line),
+        }
+    }
+
+    fn domains(&self, alloc: Global) -> Result<Domains, Unread> {
+        let policy = self.granting(alloc)?;
+        let sources = self.sources.as_slice();
+        Ok(Domains::open(alloc, &policy, sources, &self.granted_in)?)
+    }
+
+    /// The permissions of a domain.
+    fn granted(&self, alloc: Global, field: &str) -> Result<String, Unread> {
+        let d = number(field)?;
+        let policy = self.granting(alloc)?;
+        let sources = self.sources.as_slice();
+        if sources.len() <= d as usize {
+            return Err(Unread::Line);
+        }
+        let domains = Domains::open(alloc, &policy, sources, &self.granted_in)?;
+        Ok(sources::listed(alloc, domains.list(d))?)
+    }
+
+    /// Whether a domain has a permission.
+    fn has(&self, alloc: Global, fields: &str) -> Result<String, Unread> {
+        let (d, asked) = first(fields)?;
+        let d = number(d)?;
+        let asked = permissions::permission(alloc, &self.directory, asked)?;
+        let domains = self.domains(alloc)?;
+        let has = domains.implies(d, &asked);
+        Ok(String::from_str(alloc, yes_or_no(has))?)
+    }
+
+    /// What a context answers about a permission.
+    fn verdict(&self, alloc: Global, fields: &str) -> Result<String, Unread> {
+        let (words, asked) = first(fields)?;
+        let asked = permissions::permission(alloc, &self.directory, asked)?;
+        let domains = self.domains(alloc)?;
+        contexts::verdict(alloc, &self.directory, &domains, words, &asked)
+    }
+
+    /// What was found for a row.
+    fn found(&self, alloc: Global, kind: &str, fields: &str) -> Result<String, Unread> {
+        match kind {
+            "made" => permissions::made(alloc, &self.directory, fields),
+            "path" => permissions::path(alloc, fields),
+            "implies" => permissions::implies(alloc, &self.directory, fields),
+            "equal" => permissions::equal(alloc, &self.directory, fields),
+            "covers" => {
+                permissions::covered(alloc, &self.directory, self.held.as_slice(), fields)
+            }
+            "read" => policies::read(alloc, self.properties.as_slice(), fields),
+            "source" => sources::source(alloc, fields),
+            "for" => sources::matched(alloc, false, fields),
+            "for more" => sources::matched(alloc, true, fields),
+            "granted" => self.granted(alloc, fields),
+            "has" => self.has(alloc, fields),
+            "context" => contexts::context(alloc, &self.directory, fields),
+            "verdict" => self.verdict(alloc, fields),
+            _ => Err(Unread::Line),
+        }
+    }
+
+    fn put_property(&mut self, alloc: Global, fields: &str) -> Result<(), Unread> {
+        let (name, value) = first(fields)?;
+        let name = units_of(alloc, unquoted(name)?)?;
+        let value = units_of(alloc, unquoted(value)?)?;
+        Ok(
+            self.properties
+                .push((name, value))
+                .map_err(AllocError::from)?,
+        )
+    }
+
+    /// Puts a line behind those of the policy.
+    fn put_policy(&mut self, alloc: Global, field: &str) -> Result<(), Unread> {
+        let line = bytes_of(alloc, unquoted(field)?)?;
+        self.policy.push(b'\n').map_err(AllocError::from)?;
+        Ok(self.policy.extend_from_slice(line.as_slice())?)
+    }
+
+    fn put_source(&mut self, alloc: Global, field: &str) -> Result<(), Unread> {
+        let source = sources::source_of(alloc, field)?;
+        Ok(self.sources.push(source).map_err(AllocError::from)?)
+    }
+
+    /// Begins other domains, with a policy whose names are read in a directory.
+    fn begin(&mut self, alloc: Global, fields: &str) -> Result<(), Unread> {
+        let (directory, line) = first(fields)?;
+        self.granted_in = units_of(alloc, unquoted(directory)?)?;
+        self.policy = bytes_of(alloc, unquoted(line)?)?;
+        self.sources = Vec::new(alloc);
+        Ok(())
+    }
+
+    fn known(&mut self, alloc: Global, kind: &str, fields: &str) -> Result<bool, Unread> {
+        match kind {
+            "directory" => self.directory = units_of(alloc, unquoted(fields)?)?,
+            "held" => self.held = permissions::all(alloc, &self.directory, fields)?,
+            "property" => self.put_property(alloc, fields)?,
+            "domains" => self.begin(alloc, fields)?,
+            "policy" => self.put_policy(alloc, fields)?,
+            "domain" => self.put_source(alloc, fields)?,
+            _ => return Ok(false),
+        }
+        Ok(true)
+    }
+
+    /// Reads a line, and answers where it asks something.
+    pub fn read<'a>(&mut self, alloc: Global, line: &'a str) -> Result<Line<'a>, Unread> {
+        if line.is_empty() || line.starts_with('#') {
+            return Ok(Line::Known);
+        }
+        let (kind, fields) = first(line)?;
+        if kind == "section" {
+            return Ok(Line::Section(fields));
+        }
+        if self.known(alloc, kind, fields)? {
+            return Ok(Line::Known);
+        }
+        let Some((asked, wanted)) = fields.rsplit_once(" | ") else {
+            return Err(Unread::Line);
+        };
+        let found = self.found(alloc, kind, asked)?;
+        Ok(Line::Row(wanted, found))
+    }
+}
