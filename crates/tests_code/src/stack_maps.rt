@@ -1,114 +1,166 @@
+ghost use Rattle.std.specs.Prelude.{IsTrue};
+ghost use Rattle.jmaps.specs.Frames.{maps};
+
+use crate::words::{Unread, hex_of, number};
 use jbase::{Seq, Stop};
-use jformat::At;
 use jmaps::{
-    ExpandError, Expansion, FullFrame, MapFault, MapType, expand, put_frames, read_maps, write_maps,
+    ExpandError, Expansion, FullFrame, MapType, RawFrame, expand, put_frames, read_maps, write_maps,
 };
-use std::test::Fail;
+use std::alloc::{AllocError, Global};
 
-#[test]
-fn first_faults(rt: HostRuntime) {
-    let rows: [(&[u8], u32, MapFault); 13] = [
-        (b"\x00\x01\xc8", 2, MapFault::Reserved),
-        (b"\x00\x01\x80", 2, MapFault::Reserved),
-        (b"\x00\x01\xf6", 2, MapFault::Reserved),
-        (b"", 0, MapFault::Truncated),
-        (b"\x00", 0, MapFault::Truncated),
-        (b"\x00\x01", 2, MapFault::Truncated),
-        (b"\x00\x00\x00", 2, MapFault::Trailing),
-        (b"\x00\x01\xfb\x00", 3, MapFault::Truncated),
-        (b"\x00\x01\x7f", 3, MapFault::Truncated),
-        (b"\x00\x01\x40\x07\x00", 4, MapFault::Truncated),
-        (b"\x00\x02\x40\x02\xc8", 3, MapFault::LeftOut),
-        (
-            b"\x00\x01\xff\x00\x00\x00\x02\x01\x03",
-            8,
-            MapFault::LeftOut,
-        ),
-        (
-            b"\x00\x01\xfe\x00\x00\x00\x08\x00\x00\x09",
-            9,
-            MapFault::BadTag,
-        ),
-    ];
-    for (bytes, at, kind) in rows {
-        match read_maps(rt.alloc(), bytes) {
-            Err(error) => assert_eq!(rt; error, Stop::Fault(At { at, kind }), "{bytes:?}"),
-            Ok(_) => panic!(rt; "frames in {bytes:?}"),
-        }
+/// How many frames a StackMapTable's content spells, or its first fault.
+pub fn read(alloc: Global, words: &str) -> Result<String, Unread> {
+    let bytes = hex_of(alloc, words)?;
+    if 0x7fff_ffff < bytes.len() {
+        return Err(Unread::Line);
+    }
+    match read_maps(alloc, bytes.as_slice()) {
+        Ok(raw) => Ok(format!(in alloc; "{} frames", raw.len())?),
+        Err(Stop::Fault(fault)) => Ok(format!(in alloc; "{} {:?}", fault.at, fault.kind)?),
+        Err(Stop::Memory) => Err(Unread::Memory),
     }
 }
 
-/// The stack map of a method of an int and an object, with two loops and a choice, as javac writes it.
-#[test]
-fn frames_of_javac(rt: HostRuntime) -> Result<(), Fail> {
-    let bytes =
-        b"\x00\x08\xfd\x00\x04\x01\x01\xfc\x00\x08\x04\x16\x09\xfa\x00\x05\xfa\x00\x05\x08\x43\x01";
-    let raw = read_maps(rt.alloc(), bytes)?;
-    let mut out = Seq::new(rt.alloc());
-    put_frames(rt.alloc(), raw.as_slice(), &mut out)?;
-    assert!(rt; out.as_slice() == bytes.as_slice());
-    let first = [MapType::Int, MapType::Object(7)];
-    let full = expand(rt.alloc(), &first, raw.as_slice())?;
-    let places = [4, 13, 36, 46, 52, 58, 67, 71];
-    let locals = [4, 5, 5, 5, 4, 3, 3, 3];
-    let stacks = [0, 0, 0, 0, 0, 0, 0, 1];
-    assert_eq!(rt; full.len(), 8);
-    let second = full[1].locals.as_slice();
-    assert!(rt; second.len() == 5 && second[4] == MapType::Long);
-    let mut one = Expansion::open(rt.alloc(), &first, raw.as_slice())?;
-    for (i, frame) in full.iter().enumerate() {
-        assert!(rt; i < 8);
-        assert_eq!(rt; frame.at, places[i]);
-        assert_eq!(rt; frame.locals.as_slice().len(), locals[i]);
-        assert_eq!(rt; frame.stack.as_slice().len(), stacks[i]);
-        assert_eq!(rt; one.next(rt.alloc()), Ok(true), "{i}");
-        assert_eq!(rt; one.at(), Some(places[i]));
-        assert!(rt; one.locals() == frame.locals.as_slice(), "{i}");
-        assert!(rt; one.stack() == frame.stack.as_slice(), "{i}");
+fn type_of(word: &str) -> Result<MapType, Unread> {
+    if word == "Int" {
+        return Ok(MapType::Int);
     }
-    assert_eq!(rt; one.next(rt.alloc()), Ok(false));
-    Ok(())
+    let Some(class) = word.strip_prefix("Object(") else {
+        return Err(Unread::Line);
+    };
+    let Some(class) = class.strip_suffix(')') else {
+        return Err(Unread::Line);
+    };
+    Ok(MapType::Object(number::<u16>(class)?))
 }
 
-#[test]
-fn chops(rt: HostRuntime) -> Result<(), Fail> {
-    let rows: [(&[u8], &[MapType], bool); 3] = [
-        (b"\x00\x01\xfa\x00\x02", &[MapType::Int], true),
-        (b"\x00\x01\xf9\x00\x02", &[MapType::Int], false),
-        (b"\x00\x01\xfa\x00\x02", &[], false),
-    ];
-    for (bytes, first, good) in rows {
-        let raw = read_maps(rt.alloc(), bytes)?;
-        match expand(rt.alloc(), first, raw.as_slice()) {
-            Ok(full) => {
-                assert!(rt; good && full.len() == 1 && full[0].at == 2);
-                assert!(rt; full[0].locals.as_slice().is_empty());
-                assert!(rt; full[0].stack.as_slice().is_empty());
-            }
-            Err(error) => assert!(rt; !good && error == ExpandError::Chop { frame: 0 }),
-        }
+/// The types that words say; `-` are none.
+fn types_of(alloc: Global, words: &str) -> Result<Vec<MapType>, Unread> {
+    let mut types = Vec::new(alloc);
+    if words == "-" {
+        return Ok(types);
+    }
+    for word in words.split(' ') {
+        let one = type_of(word)?;
+        types.push(one).map_err(AllocError::from)?;
+    }
+    Ok(types)
+}
+
+fn put_types(alloc: Global, types: &[MapType], text: &mut String) -> Result<(), AllocError> {
+    for one in types {
+        let told = format!(in alloc; " {one:?}")?;
+        text.push_str(told.as_str())?;
     }
     Ok(())
 }
 
-#[test]
-fn full_forms(rt: HostRuntime) -> Result<(), Fail> {
+/// A frame: its place, its locals, and behind a `/` its stack.
+fn frame(
+    alloc: Global,
+    at: u32,
+    locals: &[MapType],
+    stack: &[MapType],
+) -> Result<String, AllocError> {
+    let mut text = format!(in alloc; "{at}:")?;
+    put_types(alloc, locals, &mut text)?;
+    text.push_str(" /")?;
+    put_types(alloc, stack, &mut text)?;
+    Ok(text)
+}
+
+fn put_frame(text: &mut String, frame: &String) -> Result<(), AllocError> {
+    if !text.is_empty() {
+        text.push_str(", ")?;
+    }
+    text.push_str(frame.as_str())
+}
+
+/// The frames in full, all of them.
+fn full(alloc: Global, first: &[MapType], raw: &[RawFrame]) -> Result<String, ExpandError>
+    requires { IsTrue (maps.fits raw.now) }
+{
+    let mut text = String::new(alloc);
+    for one in &expand(alloc, first, raw)? {
+        let told = frame(alloc, one.at, one.locals.as_slice(), one.stack.as_slice())?;
+        put_frame(&mut text, &told)?;
+    }
+    Ok(text)
+}
+
+/// The frames in full, one at a time.
+fn steps(alloc: Global, first: &[MapType], raw: &[RawFrame]) -> Result<String, ExpandError>
+    requires { IsTrue (maps.fits raw.now) }
+{
+    let mut text = String::new(alloc);
+    let mut one = Expansion::open(alloc, first, raw)?;
+    for _ in raw {
+        if !one.next(alloc)? {
+            return Ok(String::from_str(alloc, "too few")?);
+        }
+        let told = frame(alloc, one.at().unwrap_or(0), one.locals(), one.stack())?;
+        put_frame(&mut text, &told)?;
+    }
+    if one.next(alloc)? {
+        return Ok(String::from_str(alloc, "too many")?);
+    }
+    Ok(text)
+}
+
+/// What the two ways to the frames in full say, where they say the same.
+fn told(
+    alloc: Global,
+    full: Result<String, ExpandError>,
+    steps: Result<String, ExpandError>,
+) -> Result<String, Unread> {
+    match (full, steps) {
+        (Ok(full), Ok(steps)) if full.as_str() == steps.as_str() => Ok(full),
+        (Err(ExpandError::Memory), _) | (_, Err(ExpandError::Memory)) => Err(Unread::Memory),
+        (Err(full), Err(steps)) if full == steps => Ok(format!(in alloc; "{full:?}")?),
+        _ => Ok(String::from_str(alloc, "one at a time they are others")?),
+    }
+}
+
+/// The frames of a StackMapTable in full, behind some first locals, if it is written back as it was.
+pub fn frames(alloc: Global, first: &str, words: &str) -> Result<String, Unread> {
+    let first = types_of(alloc, first)?;
+    let bytes = hex_of(alloc, words)?;
+    if 0x7fff_ffff < bytes.len() {
+        return Err(Unread::Line);
+    }
+    let Ok(raw) = read_maps(alloc, bytes.as_slice()) else {
+        return Err(Unread::Line);
+    };
+    let mut again = Seq::new(alloc);
+    put_frames(alloc, raw.as_slice(), &mut again)?;
+    if again.as_slice() != bytes.as_slice() {
+        return Ok(String::from_str(alloc, "not written as it was")?);
+    }
+    let full = full(alloc, first.as_slice(), raw.as_slice());
+    let steps = steps(alloc, first.as_slice(), raw.as_slice());
+    told(alloc, full, steps)
+}
+
+/// Two frames in full as they are written: at 3 with the locals Object(14) and Uninit(9), and at 10 with Long on the stack.
+fn full_forms(alloc: Global) -> Result<Vec<u8>, AllocError> {
     let locals = [MapType::Object(14), MapType::Uninit(9)];
     let frames = [
         FullFrame {
             at: 3,
-            locals: Seq::from_slice(rt.alloc(), &locals)?,
-            stack: Seq::new(rt.alloc()),
+            locals: Seq::from_slice(alloc, &locals)?,
+            stack: Seq::new(alloc),
         },
         FullFrame {
             at: 10,
-            locals: Seq::new(rt.alloc()),
-            stack: Seq::from_slice(rt.alloc(), &[MapType::Long])?,
+            locals: Seq::new(alloc),
+            stack: Seq::from_slice(alloc, &[MapType::Long])?,
         },
     ];
-    let bytes = write_maps(rt.alloc(), &frames)?;
-    let want =
-        b"\x00\x02\xff\x00\x03\x00\x02\x07\x00\x0e\x08\x00\x09\x00\x00\xff\x00\x06\x00\x00\x00\x01\x04";
-    assert!(rt; bytes.as_slice() == want.as_slice());
-    Ok(())
+    write_maps(alloc, &frames)
+}
+
+/// Those two frames as hexadecimal text.
+pub fn two_full(alloc: Global) -> Result<String, Unread> {
+    let bytes = full_forms(alloc)?;
+    Ok(hex::encode(alloc, bytes.as_slice())?)
 }

@@ -1,0 +1,126 @@
+use crate::words::{Unread, first, hex_of};
+use crate::{classes, code, pools, stack_maps};
+use jpool::{Adder, Pool};
+use std::alloc::Global;
+
+/// What was read so far.
+#[derive(Drop)]
+pub struct Table {
+    /// What stands in front of the rest of a class file.
+    front: Vec<u8>,
+    /// The pool that is asked.
+    pool: Option<Pool>,
+    /// The pool that grows.
+    adder: Option<Adder>,
+}
+
+/// What a line is.
+pub enum Line<'a> {
+    /// One that says nothing, or that later lines are read by.
+    Known,
+    /// The name of the rows behind it.
+    Section(&'a str),
+    /// The answer that it wants, and the one that was found.
+    Row(&'a str, String),
+}
+
+impl Table {
+    pub fn new(alloc: Global) -> Table {
+        Table {
+            front: Vec::new(alloc),
+            pool: None,
+            adder: None,
+        }
+    }
+
+    /// How many indices the pool that grows has, or else the one that is asked.
+    fn indices(&self, alloc: Global, which: &str) -> Result<String, Unread> {
+        let count = match (which, &self.pool, &self.adder) {
+            ("pool", Some(pool), _) => pool.entries().len(),
+            ("adder", _, Some(adder)) => adder.pool().entries().len(),
+            _ => return Err(Unread::Line),
+        };
+        Ok(format!(in alloc; "{count}")?)
+    }
+
+    /// What the pool has at an index.
+    fn look_up(&self, alloc: Global, how: &str, index: &str) -> Result<String, Unread> {
+        match &self.pool {
+            Some(pool) => pools::looked_up(alloc, pool, how, index),
+            None => Err(Unread::Line),
+        }
+    }
+
+    fn add(&mut self, alloc: Global, entry: &str) -> Result<String, Unread> {
+        match &mut self.adder {
+            Some(adder) => pools::added(alloc, adder, entry),
+            None => Err(Unread::Line),
+        }
+    }
+
+    fn frames(&self, alloc: Global, fields: &str) -> Result<String, Unread> {
+        let (locals, words) = first(fields)?;
+        stack_maps::frames(alloc, locals, words)
+    }
+
+    /// What was found for a row.
+    fn found(&mut self, alloc: Global, kind: &str, fields: &str) -> Result<String, Unread> {
+        match kind {
+            "name" => pools::class_name(alloc, fields),
+            "descriptor" => pools::descriptor(alloc, fields),
+            "parts" => pools::parts(alloc, fields),
+            "pool" => pools::pool(alloc, fields),
+            "indices" => self.indices(alloc, fields),
+            "text" | "class" | "entry" | "both" => self.look_up(alloc, kind, fields),
+            "add" => self.add(alloc, fields),
+            "maps" => stack_maps::read(alloc, fields),
+            "frames" => self.frames(alloc, fields),
+            "full" => stack_maps::two_full(alloc),
+            "code" => code::read(alloc, fields),
+            "list" => code::listed(alloc, fields),
+            "form" => code::form(alloc, fields),
+            "branches" => code::branches(alloc, fields),
+            "file" => classes::read(alloc, &[], fields),
+            "behind" => classes::read(alloc, self.front.as_slice(), fields),
+            _ => Err(Unread::Line),
+        }
+    }
+
+    /// Makes the pool that grew the one that is asked.
+    fn end_adding(&mut self) {
+        self.pool = match self.adder.take() {
+            Some(adder) => Some(adder.into_pool()),
+            None => None,
+        };
+    }
+
+    fn known(&mut self, alloc: Global, kind: &str, fields: &str) -> Result<bool, Unread> {
+        match kind {
+            "front" => self.front = hex_of(alloc, fields)?,
+            "asked" => self.pool = Some(pools::pool_of(alloc, fields)?),
+            "adder" => self.adder = Some(pools::adder_of(alloc, fields)?),
+            "grown" => self.end_adding(),
+            _ => return Ok(false),
+        }
+        Ok(true)
+    }
+
+    /// Reads a line, and answers where it asks something.
+    pub fn read<'a>(&mut self, alloc: Global, line: &'a str) -> Result<Line<'a>, Unread> {
+        if line.is_empty() || line.starts_with('#') {
+            return Ok(Line::Known);
+        }
+        let (kind, fields) = first(line)?;
+        if kind == "section" {
+            return Ok(Line::Section(fields));
+        }
+        if self.known(alloc, kind, fields)? {
+            return Ok(Line::Known);
+        }
+        let Some((asked, wanted)) = fields.rsplit_once(" | ") else {
+            return Err(Unread::Line);
+        };
+        let found = self.found(alloc, kind, asked)?;
+        Ok(Line::Row(wanted, found))
+    }
+}
