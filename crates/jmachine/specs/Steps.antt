@@ -107,7 +107,8 @@ module _ {K E : Type 0} (r : Rules K E) (p : Program) (plan : Plan) (s : State K
   acted frames cells (Raises events class message) = raised frames events (with_raised (paid cells s.store) class message)
   acted frames cells (Throws n) = thrown_at frames (paid cells s.store) [] n
   acted frames cells (Switches table) = on_newest frames (λ f below. turned plan.schedule (with_table (with_running s (onward f [] ∷ below) (paid cells s.store)) table) [])
-  acted frames cells (Makes store runnable kept) = on_newest frames (λ f below. Went (with_guest (with_running s (onward f [] ∷ below) (paid cells store)) (guest runnable kept)) [])
+  acted frames cells (Makes store runnable kept) = on_newest frames (λ f below.
+      Went (with_guest (with_running s (onward f [] ∷ below) (paid cells store)) (guest runnable kept)) [])
 
   -- a charge above what is left changes nothing, and ends the run
   unfoldable pub applied : List (FrameOf K E) → Row K E → Outcome (State K E)

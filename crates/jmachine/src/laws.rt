@@ -1,4 +1,6 @@
-ghost use Rattle.jmachine.specs.Natural.{AppliedAlike, ArrayAlike, CallAlike, CastAlike, FieldAlike, InitTakesAlike, JumpAlike, LibraryAlike, LocalAlike, MakeAlike, MakeArrayAlike, PushAlike, RunAlike, SimpleAlike, StackAlike, StepAlike, SwitchAlike, TakesAlike, ThrowAlike};
+ghost use Rattle.jmachine.specs.Natural.{AppliedAlike, ArrayAlike, CallAlike, CastAlike, FieldAlike, InitTakesAlike, JumpAlike};
+ghost use Rattle.jmachine.specs.Natural.{LibraryAlike, LocalAlike, MakeAlike, MakeArrayAlike, PushAlike, RunAlike, SimpleAlike};
+ghost use Rattle.jmachine.specs.Natural.{StackAlike, StepAlike, SwitchAlike, TakesAlike, ThrowAlike};
 ghost use Rattle.jmachine.specs.Machine.{RunGrows, RunStays};
 ghost use Rattle.jmachine.specs.Runs.{GoesOn, Grows, Stays};
 

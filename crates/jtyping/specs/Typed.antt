@@ -65,7 +65,8 @@ IsTyped p m = IsTypedWith p m (written p m)
 
 -- Each method with code is well typed.
 abbrev pub ProgramIsTyped : Program → Type 0
-ProgramIsTyped p = (part : CodePart) (m : MemberInfo) (body : CodeBody) → IsIn part p.parts → IsIn m part.class.methods → code_of m ≡ Some body → IsTyped p (method_of p part.class m body)
+ProgramIsTyped p = (part : CodePart) (m : MemberInfo) (body : CodeBody)
+    → IsIn part p.parts → IsIn m part.class.methods → code_of m ≡ Some body → IsTyped p (method_of p part.class m body)
 
 -- ---- where an instruction leads
 
