@@ -17,6 +17,7 @@ pub mod Plain
 pub mod Rows
 pub mod Search
 pub mod Settling
+pub mod Slotting
 pub mod Standing
 pub mod Table
 pub mod Telling

@@ -32,11 +32,11 @@ same_number a b e = grind (arith, nat_tests)
 number_same : (a : ℕ) → is_eq (nat_cmp a a) ≡ true
 number_same a = grind (arith, nat_tests)
 
-none_is : (o : Option ℕ) → is_some o ≡ false → o ≡ None
+pub none_is : (o : Option ℕ) → is_some o ≡ false → o ≡ None
 none_is None e = refl
 none_is (Some i) e = absurd cc
 
-or_some : (o later : Option ℕ) → is_some o ≡ true → option_or o later ≡ o
+pub or_some : (o later : Option ℕ) → is_some o ≡ true → option_or o later ≡ o
 or_some None later e = absurd cc
 or_some (Some i) later e = refl
 
@@ -131,13 +131,13 @@ some_test : (b : Bool) (m i : ℕ) → cond b (Some m) None ≡ Some i → m ≡
 some_test true m i e = cc
 some_test false m i e = absurd cc
 
-no_position : {A : Type 0} (p q : A → Bool) → ((x : A) → p x ≡ true → q x ≡ true) → (xs : List A) → position q xs ≡ None → position p xs ≡ None
+pub no_position : {A : Type 0} (p q : A → Bool) → ((x : A) → p x ≡ true → q x ≡ true) → (xs : List A) → position q xs ≡ None → position p xs ≡ None
 no_position p q f xs e =
     let past : length xs ≤ position_or_len q xs = ltb-false (position_or_len q xs) (length xs) (none_test (nat_lt (position_or_len q xs) (length xs)) (position_or_len q xs) e) in
     let le : position_or_len q xs ≤ position_or_len p xs = least p q f xs in
     ap (λ (b : Bool). cond b (Some (position_or_len p xs)) None) (le-ltb (position_or_len p xs) (length xs) (omega (arith, past, le)))
 
-same_position : {A : Type 0} (p q : A → Bool) → ((x : A) → p x ≡ true → q x ≡ true) → (xs : List A) (i : ℕ) (x : A) → position q xs ≡ Some i → slice_get xs i ≡ Some x → p x ≡ true → position p xs ≡ Some i
+pub same_position : {A : Type 0} (p q : A → Bool) → ((x : A) → p x ≡ true → q x ≡ true) → (xs : List A) (i : ℕ) (x : A) → position q xs ≡ Some i → slice_get xs i ≡ Some x → p x ≡ true → position p xs ≡ Some i
 same_position p q f xs i x e at is =
     let n : position_or_len q xs ≡ i = some_test (nat_lt (position_or_len q xs) (length xs)) (position_or_len q xs) i e in
     let le : position_or_len q xs ≤ position_or_len p xs = least p q f xs in

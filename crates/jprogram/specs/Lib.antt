@@ -11,5 +11,6 @@ pub mod Naming
 pub mod Parts
 pub mod Seen
 pub mod Shortly
+pub mod Slots
 pub mod Standing
 pub mod Supers

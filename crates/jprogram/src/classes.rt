@@ -1,14 +1,18 @@
-ghost use Rattle.std.specs.Prelude.{◌≡◌, ◌≤◌, ◌+◌, IfErr, IfOk, IfSome, length, option_map};
+ghost use Rattle.std.specs.Prelude.{◌≡◌, ◌≤◌, ◌+◌, IfErr, IfOk, IfSome, length, option_map, slice_get};
 ghost use Rattle.std.specs.List.{list_any};
 ghost use Rattle.std.specs.Str.{bytes_eq};
 ghost use Rattle.jprogram.specs.Classes;
 ghost use Rattle.jprogram.specs.Digests.{AreFirsts};
 ghost use Rattle.jprogram.specs.Seen.{seen};
+ghost use Rattle.jprogram.specs.Slots;
 
 use crate::firsts::{Firsts, firsts_in};
 use crate::found::Found;
 use crate::names::places_of;
 use crate::part::{ClassRef, CodePart};
+use crate::parts::this_name;
+use crate::slots::{place_in, slots_of};
+use jbase::Seq;
 use jclass::ClassFile;
 use jlib::{Side, class};
 use std::alloc::{AllocFailed, Global};
@@ -28,6 +32,8 @@ pub struct NamedProgram {
     parts: Vec<CodePart>,
     /// The first place of each name.
     places: BTreeMap<Vec<u8>, u32>,
+    /// The first place of each slot of names.
+    slots: Seq<Option<u32>>,
     /// The first members of each class by their digests.
     firsts: Vec<Firsts>,
 }
@@ -37,12 +43,13 @@ impl Model for NamedProgram {
     ghost use Rattle.jprogram.specs.Classes.{Program, program};
     ghost use Rattle.jprogram.specs.Digests.{AreTold};
     ghost use Rattle.jprogram.specs.Names.{ArePlaces};
+    ghost use Rattle.jprogram.specs.Slots.{AreSlots};
 
     ghost Value = { Program };
 
     ghost view = { λ p. program p.side p.parts.items };
 
-    ghost invariant = { λ p. ArePlaces p.parts.items p.places × (AreTold p.parts.items p.firsts.items × (length p.parts.items ≤ 0xffff)) };
+    ghost invariant = { λ p. ArePlaces p.parts.items p.places × (AreSlots p.parts.items p.slots × (AreTold p.parts.items p.firsts.items × (length p.parts.items ≤ 0xffff))) };
 }
 
 impl NamedProgram {
@@ -59,6 +66,9 @@ impl NamedProgram {
         let Ok(places) = places_of(alloc, parts.as_slice()) else {
             return Err(AllocFailed { value: parts });
         };
+        let Ok(slots) = slots_of(alloc, parts.as_slice()) else {
+            return Err(AllocFailed { value: parts });
+        };
         let Ok(firsts) = firsts_in(alloc, parts.as_slice()) else {
             return Err(AllocFailed { value: parts });
         };
@@ -66,6 +76,7 @@ impl NamedProgram {
             side,
             parts,
             places,
+            slots,
             firsts,
         })
     }
@@ -94,10 +105,31 @@ impl NamedProgram {
 
     // ---- finding a class
 
-    pub(crate) fn place_of(&self, name: &[u8]) -> Option<u32>
+    fn is_named(&self, i: u32, name: &[u8]) -> bool
+        ensures { result ≡ Slots.is_named name.now (slice_get self.now.parts i) }
+    {
+        match self.parts.as_slice().get(i as usize) {
+            Some(part) => this_name(part.class.parts()) == name,
+            None => false,
+        }
+    }
+
+    fn noted_place(&self, name: &[u8]) -> Option<u32>
         ensures { result ≡ Classes.place_of self.now.parts name.now }
     {
         self.places.get(name).copied()
+    }
+
+    /// The place of the first class of a name. It stands in the slot of the name, or else another of that slot stands in front of it.
+    #[tactic(auto, using(crate::proofs::Slotting::none_slotted, crate::proofs::Slotting::first_slotted))]
+    pub(crate) fn place_of(&self, name: &[u8]) -> Option<u32>
+        ensures { result ≡ Classes.place_of self.now.parts name.now }
+    {
+        let first = place_in(&self.slots, name)?;
+        if self.is_named(first, name) {
+            return Some(first);
+        }
+        self.noted_place(name)
     }
 
     fn user_at(&self, i: u32) -> Option<Found<'_>>

@@ -31,7 +31,7 @@ fn digest_from(front: u64, text: &[u8]) -> u64
 
 /// The same, of the ends of a text alone where it is long, so that many references may name it.
 #[tactic(auto, unfolding(crate::specs::Digests::digest_text))]
-fn digest_text(front: u64, text: &[u8]) -> u64
+pub fn digest_text(front: u64, text: &[u8]) -> u64
     ensures { result ≡ Digests.digest_text front text.now }
 {
     if 64 < text.len() {

@@ -24,6 +24,7 @@ mod resolving;
 mod searching;
 mod selecting;
 mod sets;
+mod slots;
 mod supers;
 
 pub use classes::NamedProgram;
