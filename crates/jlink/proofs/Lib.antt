@@ -1,2 +1,3 @@
 pub mod Layered
+pub mod Selecting
 pub mod There

@@ -1,3 +1,4 @@
 pub mod Links
 pub mod Referred
+pub mod Selecting
 pub mod Standing

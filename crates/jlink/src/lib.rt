@@ -3,8 +3,10 @@
 
 mod ancestry;
 mod error;
+mod laws;
 mod linked;
 mod phases;
 
 pub use error::LinkError;
+pub use laws::selection_law;
 pub use linked::{LinkedProgram, are_parts, link, link_known, link_or_return};

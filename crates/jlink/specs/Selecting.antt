@@ -1,0 +1,19 @@
+-- What the selected method is called (JVMS 5.4.6).
+use Rattle.std.specs.Prelude.{◌≡◌}
+use Rattle.jprogram.specs.declared.member.Member.{Member}
+use Rattle.jprogram.specs.declared.member.Member.TheVariants.{LibMethod, Method}
+use Rattle.jprogram.specs.declared.member.Selected.{Selected}
+use Rattle.jprogram.specs.declared.member.Selected.TheVariants as selected
+use Rattle.jprogram.specs.Classes.{Program}
+use Rattle.jprogram.specs.Members.{desc_of, name_of}
+
+-- a member has the name and the descriptor of another one
+abbrev pub IsCalledAs : Program → Member → Member → Type 0
+IsCalledAs p m x = (name_of p x ≡ name_of p m) × (desc_of p x ≡ desc_of p m)
+
+-- what is selected for a method has its name and its descriptor, if anything is selected
+abbrev pub IsSelectedAs : Program → Member → Selected → Type 0
+IsSelectedAs p m (selected.Method x) = IsCalledAs p m (Method x)
+IsSelectedAs p m (selected.Abstract x) = IsCalledAs p m (Method x)
+IsSelectedAs p m (selected.Lib x) = IsCalledAs p m (LibMethod x)
+IsSelectedAs p m selected.Missing = Unit {0}
