@@ -1,5 +1,5 @@
 -- How a method begins, by number and by name.
-use Rattle.std.proofs.Common.{◌≡◌, ◌≤◌, ◌<◌, ℕ, zero, suc, ◌-◌, Bool, ◌||◌, List, [], ◌∷◌, ◌++◌, map, length, refl, sym, ap, ◌∙◌, arith}
+use Rattle.std.proofs.Common.{◌≡◌, ◌≤◌, ◌<◌, ℕ, zero, suc, ◌-◌, Bool, List, [], ◌∷◌, ◌++◌, map, length, refl, sym, ap, ◌∙◌, arith}
 use Rattle.std.specs.Prelude.{replicate, Some, None, nat_lt}
 use Rattle.std.specs.List.{list_any}
 use Rattle.std.proofs.lemmas.Bool.{le-ltb, lt-ltb}
@@ -23,21 +23,7 @@ use Rattle.jcheck.specs.declared.method.MethodRef.{MethodRef}
 use Rattle.jcheck.specs.First.{places_in}
 use Rattle.jcheck.specs.Given.{places}
 use Rattle.jcheck.specs.Numbered.{seen_method}
-
-one_place : (p : Program) (t : TypeRef) → map (named p) (places t) ≡ frames.places (named p t)
-one_place p refs.Top = refl
-one_place p refs.Int = refl
-one_place p refs.Long = refl
-one_place p refs.Null = refl
-one_place p refs.UninitThis = refl
-one_place p (refs.Uninit o) = refl
-one_place p (refs.Object c) = refl
-one_place p (refs.Array a) = refl
-one_place p refs.Ctx = refl
-
-pub places_named : (p : Program) (ts : List TypeRef) → map (named p) (places_in ts) ≡ frames.places_of (map (named p) ts)
-places_named p [] = refl
-places_named p (t ∷ ts) = map-append (named p) (places t) (places_in ts) ∙ ap (λ (xs : List VType). xs ++ map (named p) (places_in ts)) (one_place p t) ∙ ap (λ (xs : List VType). frames.places (named p t) ++ xs) (places_named p ts)
+use Rattle.jcheck.proofs.Naming.{any_this, places_named}
 
 pub places_counted : (p : Program) (ts : List TypeRef) → length (frames.places_of (map (named p) ts)) ≡ length (places_in ts)
 places_counted p ts = sym (ap length (places_named p ts)) ∙ length-map (places_in ts) (named p)
@@ -52,21 +38,6 @@ filled_named p count ts =
     ∙ ap (λ (xs : List VType). map (named p) (places_in ts) ++ xs) (tops p (count - length (places_in ts)))
     ∙ ap (λ (xs : List VType). xs ++ replicate (count - length (places_in ts)) types.Top) (places_named p ts)
     ∙ ap (λ (n : ℕ). frames.places_of (map (named p) ts) ++ replicate (count - n) types.Top) (sym (places_counted p ts))
-
-one_this : (p : Program) (t : TypeRef) → is_this t ≡ is_uninit_this (named p t)
-one_this p refs.Top = refl
-one_this p refs.Int = refl
-one_this p refs.Long = refl
-one_this p refs.Null = refl
-one_this p refs.UninitThis = refl
-one_this p (refs.Uninit o) = refl
-one_this p (refs.Object c) = refl
-one_this p (refs.Array a) = refl
-one_this p refs.Ctx = refl
-
-pub this_named : (p : Program) (ts : List TypeRef) → list_any is_this ts ≡ list_any is_uninit_this (map (named p) ts)
-this_named p [] = refl
-this_named p (t ∷ ts) = ap (λ (b : Bool). b || list_any is_this ts) (one_this p t) ∙ ap (λ (b : Bool). is_uninit_this (named p t) || b) (this_named p ts)
 
 -- ---- the first frame
 
@@ -100,7 +71,7 @@ first_seen p m values places count f is filled most locals_are stack_is flag_is 
     let locals_by : f.locals ≡ places_in m.params ++ replicate (m.body.max_locals - length (places_in m.params)) refs.Top = cc in
     let flag_by : f.flag ≡ list_any is_this m.params = cc in
     same_frame (map (named p) f.locals) (filled_by m.body.max_locals (frames.places_of (map (named p) m.params))) (map (named p) f.stack) [] f.flag (list_any is_uninit_this (map (named p) m.params))
-    (ap (map (named p)) locals_by ∙ filled_named p m.body.max_locals m.params) (ap (map (named p)) stack_is) (flag_by ∙ this_named p m.params)
+    (ap (map (named p)) locals_by ∙ filled_named p m.body.max_locals m.params) (ap (map (named p)) stack_is) (flag_by ∙ sym (any_this p m.params))
 
 -- ---- places one by one
 

@@ -1,57 +1,50 @@
 -- The rule keeps the number of locals.
-use Rattle.std.proofs.Common.{◌≡◌, ℕ, zero, suc, ◌+◌, Bool, true, false, List, [], ◌∷◌, length, Option, Some, None, refl, ◌∙◌}
-use Rattle.std.specs.Prelude.{slice_get, slice_set, nat_le, option_and_then, option_map, ◌&&◌, if◌then◌else◌}
+use Rattle.std.proofs.Common.{◌≡◌, ℕ, zero, suc, ◌+◌, Bool, true, false, List, [], ◌∷◌, length, Option, Some, None, refl, ap, ◌∙◌}
+use Rattle.std.specs.Prelude.{slice_get, slice_set, nat_le, option_and_then, ◌&&◌, if◌then◌else◌}
 use Rattle.std.specs.List.{list_any}
 use Rattle.std.proofs.lemmas.List.{length-map, length-set}
-use Rattle.jnames.specs.declared.names.Shuffle.{Shuffle}
 use Rattle.jnames.specs.declared.kinds.Kind.{Kind}
-use Rattle.jnames.specs.declared.kinds.Kind.TheVariants as kinds
 use Rattle.jpool.specs.declared.entry.Entry.{Entry}
 use Rattle.jcode.specs.declared.names.Access.TheVariants.{Load, Store}
-use Rattle.jcode.specs.declared.form.ArrayForm.{ArrayForm}
-use Rattle.jcode.specs.declared.form.ArrayForm.TheVariants as arrays
-use Rattle.jcode.specs.declared.form.Flow.{Flow}
-use Rattle.jcode.specs.declared.form.Flow.TheVariants as flows
 use Rattle.jcode.specs.declared.form.Form.{Form}
 use Rattle.jcode.specs.declared.form.Form.TheVariants as forms
 use Rattle.jcode.specs.declared.form.LocalForm.{LocalForm}
 use Rattle.jcode.specs.declared.form.LocalForm.TheVariants.{Increment, Move as MoveLocal}
-use Rattle.jcode.specs.Forms.{array_effect}
+use Rattle.jcode.specs.Forms.{local as local_kind}
 use Rattle.jtypes.specs.declared.vtype.Name.{Name}
 use Rattle.jtypes.specs.declared.vtype.VType.{VType}
 use Rattle.jtypes.specs.declared.vtype.VType.TheVariants.{Top, Int, Long, Null, UninitThis, Uninit, Object, Array, Ctx}
-use Rattle.jtypes.specs.Frames.{Frame, is_long, places, within}
+use Rattle.jtypes.specs.Frames.{Frame, is_long, places}
 use Rattle.jtypes.specs.Tree.{Tree}
 use Rattle.jprogram.specs.Classes.{Program, tree}
 use Rattle.juses.specs.declared.meaning.How.{How}
 use Rattle.juses.specs.declared.meaning.How.TheVariants as how
 use Rattle.juses.specs.Meanings as meanings
-use Rattle.juses.specs.Meanings.{CallMeaning, Meaning, array_meant, meant}
+use Rattle.juses.specs.Meanings.{CallMeaning, Meaning, meant}
 use Rattle.jrule.specs.declared.unready.Unready.TheVariants as unready
-use Rattle.jrule.specs.Arrays.{array, of_numbers, row}
-use Rattle.jrule.specs.Effects.{Exchange, Of, Want, by_effect, gives}
+use Rattle.jrule.specs.Effects.{Exchange, Want, is_int, is_of}
 use Rattle.jrule.specs.Forms.{by_array, by_form, by_meaning}
 use Rattle.jrule.specs.Here.{Here}
-use Rattle.jrule.specs.Locals.{broken, is_whole, load_from, local, passes, store_on, with_local}
-use Rattle.jrule.specs.Effects.{is_of, is_int}
-use Rattle.jrule.specs.Moves.{move, shuffled}
+use Rattle.jrule.specs.Locals.{broken, load_from, local, passes, store_on, with_local}
+use Rattle.jrule.specs.Moves.{move}
 use Rattle.jrule.specs.Objects.{all_replaced, init, init_of, init_on, is_it, is_named, make, may_ready_this, replaced}
-use Rattle.jrule.specs.Operands.{below, exchanged, given, pushed, taken, with_room, with_stack}
+use Rattle.jrule.specs.Operands.{exchanged, given, pushed, taken}
 use Rattle.jrule.specs.Rule.{called, used}
 use Rattle.jrule.specs.Straight.{flow}
+use Rattle.jcheck.proofs.Resting.{Rests, by_array_rests, exchanged_rests, flow_rests, given_rests, increment_rests, load_rests, move_rests, pushed_rests, taken_rests}
 
 -- a frame of as many locals, if there is one
 abbrev pub Keeps : Frame → Option Frame → Type 0
 Keeps f None = Unit {0}
 Keeps f (Some g) = length g.locals ≡ length f.locals
 
+rests_keeps : (f : Frame) (o : Option Frame) → Rests f o → Keeps f o
+rests_keeps f None h = tt
+rests_keeps f (Some g) h = ap length h.0
+
 keeps_if : (f g : Frame) (b : Bool) → length g.locals ≡ length f.locals → Keeps f (if b then Some g else None)
 keeps_if f g true h = h
 keeps_if f g false h = tt
-
-if_keeps : (f : Frame) (b : Bool) (x : Option Frame) → Keeps f x → Keeps f (if b then x else None)
-if_keeps f true x h = h
-if_keeps f false x h = tt
 
 first_keeps : (f g : Frame) (x : Option Frame) → length g.locals ≡ length f.locals → Keeps g x → Keeps f x
 first_keeps f g None same h = tt
@@ -61,56 +54,21 @@ and_then : (f : Frame) (k : Frame → Option Frame) (x : Option Frame) → Keeps
 and_then f k None h each = tt
 and_then f k (Some g) h each = first_keeps f g (k g) h (each g)
 
--- ---- operands
-
-stacked : (f : Frame) (o : Option (List VType)) → Keeps f (option_map (with_stack f) o)
-stacked f None = tt
-stacked f (Some stack) = refl
+-- ---- where the locals rest
 
 taken_keeps : (t : Tree) (ws : List Want) (f : Frame) → Keeps f (taken t ws f)
-unfolding taken
-taken_keeps t ws f = stacked f (below t ws f.stack)
+taken_keeps t ws f = rests_keeps f (taken t ws f) (taken_rests t ws f)
 
 pushed_keeps : (most : ℕ) (a : VType) (f : Frame) → Keeps f (pushed most a f)
-pushed_keeps most a f = keeps_if f (with_stack f (a ∷ f.stack)) (within most (a ∷ f.stack)) refl
+pushed_keeps most a f = rests_keeps f (pushed most a f) (pushed_rests most a f)
 
 given_keeps : (most : ℕ) (o : Option VType) (f : Frame) → Keeps f (given most o f)
-given_keeps most None f = refl
-given_keeps most (Some a) f = pushed_keeps most a f
+given_keeps most o f = rests_keeps f (given most o f) (given_rests most o f)
 
 exchanged_keeps : (t : Tree) (most : ℕ) (e : Exchange) (f : Frame) → Keeps f (exchanged t most e f)
-exchanged_keeps t most e f = and_then f (given most e.gives) (taken t e.takes f) (taken_keeps t e.takes f) (given_keeps most e.gives)
-
--- ---- moves, arrays, jumps
-
-moved_keeps : (most : ℕ) (f : Frame) (o : Option (List VType)) → Keeps f (option_and_then (with_room most f) o)
-moved_keeps most f None = tt
-moved_keeps most f (Some stack) = keeps_if f (with_stack f stack) (within most stack) refl
-
-move_keeps : (most : ℕ) (s : Shuffle) (f : Frame) → Keeps f (move most s f)
-move_keeps most s f = moved_keeps most f (shuffled s f.stack)
-
-array_keeps : (t : Tree) (most : ℕ) (form : ArrayForm) (f : Frame) → Keeps f (array t most form f)
-array_keeps t most (arrays.New kind) f = exchanged_keeps t most (gives (Of kinds.Int ∷ []) (row (of_numbers kind))) f
-array_keeps t most (arrays.NewRef n) f = tt
-array_keeps t most (arrays.Load e) f = and_then f (pushed most _) (taken t _ f) (taken_keeps t _ f) (pushed_keeps most _)
-array_keeps t most (arrays.Store e) f = taken_keeps t _ f
-array_keeps t most arrays.Length f = exchanged_keeps t most (by_effect (array_effect arrays.Length)) f
-
-flow_keeps : {S : Type 0} (t : Tree) (is_init : Bool) (ret : Option VType) (form : Flow S) (f : Frame) → Keeps f (flow t is_init ret form f)
-flow_keeps t is_init ret (flows.If test by) f = taken_keeps t _ f
-flow_keeps t is_init ret (flows.IfInt test by) f = taken_keeps t _ f
-flow_keeps t is_init ret (flows.IfRef test by) f = taken_keeps t _ f
-flow_keeps t is_init ret (flows.Goto by) f = taken_keeps t _ f
-flow_keeps t is_init ret (flows.Switch s) f = taken_keeps t _ f
-flow_keeps t is_init ret (flows.Return kind) f = if_keeps f _ (taken t _ f) (taken_keeps t _ f)
-flow_keeps t is_init ret flows.Throw f = taken_keeps t _ f
+exchanged_keeps t most e f = rests_keeps f (exchanged t most e f) (exchanged_rests t most e f)
 
 -- ---- locals
-
-load_keeps : (most : ℕ) (k : Kind) (n : ℕ) (f : Frame) (o : Option VType) → Keeps f (load_from most k n f o)
-load_keeps most k n f None = tt
-load_keeps most k n f (Some a) = if_keeps f (is_of k a && is_whole f.locals n a) (pushed most a f) (pushed_keeps most a f)
 
 set_if : (b : Bool) (locals : List VType) (n : ℕ) (a : VType) → length (if b then slice_set locals n a else locals) ≡ length locals
 set_if true locals n a = length-set locals n a
@@ -133,9 +91,9 @@ store_keeps k n f (a ∷ stack) =
     keeps_if f (record { locals = with_local f.locals n a; stack = stack; flag = f.flag }) (is_of k a && nat_le (n + length (places a)) (length f.locals)) (with_keeps f.locals n a)
 
 local_keeps : (most : ℕ) (form : LocalForm) (f : Frame) → Keeps f (local most form f)
-local_keeps most (MoveLocal Load kind n) f = load_keeps most _ n f (slice_get f.locals n)
+local_keeps most (MoveLocal Load kind n) f = rests_keeps f (load_from most (local_kind kind) n f (slice_get f.locals n)) (load_rests most (local_kind kind) n f (slice_get f.locals n))
 local_keeps most (MoveLocal Store kind n) f = store_keeps _ n f f.stack
-local_keeps most (Increment n by) f = keeps_if f f (passes is_int (slice_get f.locals n)) refl
+local_keeps most (Increment n by) f = rests_keeps f (if passes is_int (slice_get f.locals n) then Some f else None) (increment_rests f (passes is_int (slice_get f.locals n)))
 
 -- ---- objects
 
@@ -185,18 +143,11 @@ meaning_keeps : (p : Program) (here : Here) (o : Option Meaning) (f : Frame) →
 meaning_keeps p here None f = tt
 meaning_keeps p here (Some m) f = used_keeps p here m f
 
-by_array_keeps : (p : Program) (here : Here) (pool : List Entry) (form : ArrayForm) (f : Frame) → Keeps f (by_array p here pool form f)
-by_array_keeps p here pool (arrays.New kind) f = array_keeps (tree p) here.max_stack (arrays.New kind) f
-by_array_keeps p here pool (arrays.NewRef i) f = meaning_keeps p here (array_meant p pool i) f
-by_array_keeps p here pool (arrays.Load e) f = array_keeps (tree p) here.max_stack (arrays.Load e) f
-by_array_keeps p here pool (arrays.Store e) f = array_keeps (tree p) here.max_stack (arrays.Store e) f
-by_array_keeps p here pool arrays.Length f = array_keeps (tree p) here.max_stack arrays.Length f
-
 pub form_keeps : {S : Type 0} (p : Program) (here : Here) (pool : List Entry) (form : Form S) (f : Frame) → Keeps f (by_form p here pool form f)
 unfolding by_form
 form_keeps p here pool (forms.Simple form) f = exchanged_keeps (tree p) here.max_stack _ f
 form_keeps p here pool (forms.Local form) f = local_keeps here.max_stack form f
-form_keeps p here pool (forms.Stack form) f = move_keeps here.max_stack form f
-form_keeps p here pool (forms.Flow form) f = flow_keeps (tree p) here.is_init here.returns form f
-form_keeps p here pool (forms.Array form) f = by_array_keeps p here pool form f
+form_keeps p here pool (forms.Stack form) f = rests_keeps f (move here.max_stack form f) (move_rests here.max_stack form f)
+form_keeps p here pool (forms.Flow form) f = rests_keeps f (flow (tree p) here.is_init here.returns form f) (flow_rests (tree p) here.is_init here.returns form f)
+form_keeps p here pool (forms.Array form) f = rests_keeps f (by_array p here pool form f) (by_array_rests p here pool form f)
 form_keeps p here pool (forms.Pool form) f = meaning_keeps p here (meant p pool form) f

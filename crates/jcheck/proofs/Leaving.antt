@@ -27,7 +27,7 @@ use Rattle.jcheck.specs.declared.declared.Kept.{Kept}
 use Rattle.jcheck.specs.Chained.{Extends, values}
 use Rattle.jcheck.specs.Given.{AreKept, IsKept, Rise, fault_in, given, is_good_in, written_named}
 use Rattle.jcheck.proofs.Chaining.{values_root}
-use Rattle.jcheck.proofs.Naming.{map_reversed}
+use Rattle.jrule.proofs.Swapping.{map_reversed}
 
 -- ---- the frames that are left
 

@@ -11,7 +11,9 @@ pub mod Leaving
 pub mod Made
 pub mod Matching
 pub mod Naming
+pub mod Resting
 pub mod Reversed
 pub mod Ruling
 pub mod Searching
+pub mod Serving
 pub mod Walking

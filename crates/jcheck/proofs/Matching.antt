@@ -9,8 +9,9 @@ use Rattle.std.proofs.lemmas.List.{append-nil, append_assoc, length-map, map-app
 use Rattle.std.proofs.lemmas.Option.{slice_get-get_or, slice_get-map}
 use Rattle.jtypes.specs.declared.vtype.VType.{VType}
 use Rattle.jtypes.specs.declared.vtype.VType.TheVariants as types
-use Rattle.jtypes.specs.Fitting.{fits}
-use Rattle.jtypes.specs.Frames.{all_fit, implies, item_fits, places_of, stack_fits}
+use Rattle.jtypes.specs.Fitting.{fits, is_above_arrays}
+use Rattle.jtypes.specs.Frames.{Frame, all_fit, implies, item_fits, places_of, stack_fits}
+use Rattle.jtypes.proofs.Along.{fits_itself}
 use Rattle.jprogram.specs.Classes.{Program, tree}
 use Rattle.juses.specs.declared.types.TypeRef.{TypeRef}
 use Rattle.juses.specs.declared.types.TypeRef.TheVariants as refs
@@ -18,6 +19,8 @@ use Rattle.juses.specs.Types.{named}
 use Rattle.jrule.specs.Effects.{is_uninit_this}
 use Rattle.jrule.specs.Slots.{size, slot_count}
 use Rattle.jrule.specs.Swaps.{is_this}
+use Rattle.jrule.proofs.Swapping.{map_reversed}
+use Rattle.jlink.specs.Standing.{itself}
 use Rattle.jtyping.specs.Declared.{filled}
 use Rattle.jtyping.specs.Typing.{frame_fits}
 use Rattle.jcheck.specs.declared.chains.Node.{Node}
@@ -26,7 +29,7 @@ use Rattle.jcheck.specs.declared.declared.Kept.{Kept}
 use Rattle.jcheck.specs.Given.{frame_named, frame_seen, given, places}
 use Rattle.jcheck.proofs.Chaining.{values_more, values_root}
 use Rattle.jcheck.proofs.Comparing.{front_fits, reversed_fit, values_fit}
-use Rattle.jcheck.proofs.Naming.{count_reversed, flag_named, map_reversed, places_named}
+use Rattle.jcheck.proofs.Naming.{count_reversed, flag_named, places_named}
 
 -- ---- locals, from the last one on
 
@@ -222,6 +225,37 @@ pub locals_count : (p : Program) (nodes : List Node) (k : Kept) (locals oldest :
 locals_count p nodes k locals oldest flag es ef =
     first_counts (locals_part p nodes k locals) (stack_part p k oldest) (flag_part nodes k flag) es ef ∙ sym (parts_fit p nodes k locals oldest flag)
 
+-- locals that are those of the declared frame fit it
+all_self : (f : VType → VType → Bool) → ((a : VType) → f a a ≡ true) → (xs : List VType) → all_fit f xs xs ≡ true
+unfolding all_fit
+all_self f own [] = refl
+all_self f own (a ∷ xs) = joined (f a a) (all_fit f xs xs) (own a) (all_self f own xs)
+  where
+    joined : (a b : Bool) → a ≡ true → b ≡ true → (a && b) ≡ true
+    joined true b ea eb = eb
+    joined false b ea eb = absurd cc
+
+pub same_fits : (p : Program) (nodes : List Node) (k : Kept) (locals oldest : List TypeRef) (flag : Bool) → map (named p) locals ≡ (frame_named p (length locals) (given nodes k)).locals →
+    stack_fits (fits (tree p)) (map (named p) oldest) (map (named p) k.stack) ≡ true → implies flag (list_any is_this (chain nodes k.last)) ≡ true →
+    true ≡ frame_fits (tree p) (frame_seen p locals (reverse oldest) flag) (frame_named p (length locals) (given nodes k))
+same_fits p nodes k locals oldest flag same es ef =
+    let all = filled (length locals) (places_of (map (named p) (values nodes k.last))) in
+    sym (ap (λ xs. all_fit (fits (tree p)) xs all) same ∙ all_self (fits (tree p)) (fits_itself is_above_arrays (tree p) (itself p)) all)
+    ∙ locals_count p nodes k locals oldest flag es ef
+
+-- ---- declared frames by their parts
+
+abbrev framed : List VType → List VType → Bool → Frame
+framed locals stack flag = record { locals = locals; stack = stack; flag = flag }
+
+pub frame_with : (p : Program) (nodes : List Node) (k : Kept) (most : ℕ) (locals : List VType) (stack : List TypeRef) (flag : Bool) → locals ≡ (frame_named p most (given nodes k)).locals → stack ≡ reverse k.stack →
+    flag ≡ list_any is_this (chain nodes k.last) → framed locals (map (named p) stack) flag ≡ frame_named p most (given nodes k)
+frame_with p nodes k most locals stack flag el es ef =
+    let vs = filled most (places_of (map (named p) (values nodes k.last))) in
+    ap (λ ls. framed ls (map (named p) stack) flag) el
+    ∙ ap (λ xs. framed vs (map (named p) xs) flag) es
+    ∙ ap (framed vs (map (named p) (reverse k.stack))) (ef ∙ sym (flag_named p (chain nodes k.last)))
+
 -- a frame made anew is the one that is kept
 pub frame_again : (p : Program) (nodes : List Node) (k : Kept) (most : ℕ) (items locals stack : List TypeRef) (flag : Bool) → items ≡ flat_map places (values nodes k.last) → locals ≡ items ++ replicate (most - length items) refs.Top →
     stack ≡ reverse k.stack → flag ≡ list_any is_this (chain nodes k.last) → frame_seen p locals stack flag ≡ frame_named p most (given nodes k)
@@ -233,9 +267,7 @@ frame_again p nodes k most items locals stack flag ei el es ef =
     ap (map (named p)) el ∙ map-append (named p) items (replicate (most - length items) refs.Top)
     ∙ ap (λ xs. xs ++ map (named p) (replicate (most - length items) refs.Top)) one
     ∙ ap (λ xs. vs ++ xs) (tops_named p (most - length items)) ∙ ap (λ n. vs ++ replicate (most - n) types.Top) count in
-    ap (λ ls. record { locals = ls; stack = map (named p) stack; flag = flag }) all
-    ∙ ap (λ xs. record { locals = filled most vs; stack = map (named p) xs; flag = flag }) es
-    ∙ ap (λ b. record { locals = filled most vs; stack = map (named p) (reverse k.stack); flag = b }) (ef ∙ sym (flag_named p (chain nodes k.last)))
+    frame_with p nodes k most (map (named p) locals) stack flag all es ef
   where
     tops_named : (p : Program) (n : ℕ) → map (named p) (replicate n refs.Top) ≡ replicate n types.Top
     tops_named p zero = refl

@@ -4,7 +4,7 @@ use Rattle.std.specs.Prelude.{is_some, nat_le, option_map}
 use Rattle.std.specs.List.{flat_map, list_all, list_any}
 use Rattle.std.proofs.lemmas.Bool.Decides.{nat_tests}
 use Rattle.std.proofs.lemmas.List.{length-append, length-replicate, map-append, reverse-append}
-use Rattle.std.proofs.lemmas.List.Folds.{list_all-append, list_any-append}
+use Rattle.std.proofs.lemmas.List.Folds.{list_all-append}
 use Rattle.jtypes.specs.declared.vtype.VType.{VType}
 use Rattle.jtypes.specs.declared.vtype.VType.TheVariants as types
 use Rattle.jtypes.specs.declared.vtype.Name.{Name}
@@ -19,6 +19,7 @@ use Rattle.jrule.specs.Effects.{is_uninit_this}
 use Rattle.jrule.specs.Slots.{slot_count}
 use Rattle.jrule.specs.Swaps.{is_this}
 use Rattle.jrule.proofs.Counted.{size_named, slots_named}
+use Rattle.jrule.proofs.Swapping.{any_reversed}
 use Rattle.jtyping.specs.Declared.{filled, is_there}
 use Rattle.jcheck.specs.Chained.{is_made}
 use Rattle.jcheck.specs.Given.{places}
@@ -31,36 +32,15 @@ and_turned true false = refl
 and_turned false true = refl
 and_turned false false = refl
 
-or_turned : (a b : Bool) → (a || b) ≡ (b || a)
-or_turned true true = refl
-or_turned true false = refl
-or_turned false true = refl
-or_turned false false = refl
-
 and_true : (a : Bool) → (a && true) ≡ a
 and_true true = refl
 and_true false = refl
-
-or_false : (a : Bool) → (a || false) ≡ a
-or_false true = refl
-or_false false = refl
 
 pub all_reversed : {A : Type 0} (test : A → Bool) (xs : List A) → list_all test (reverse xs) ≡ list_all test xs
 all_reversed test [] = refl
 all_reversed test (x ∷ xs) =
     ap (list_all test) (reverse-append (x ∷ []) xs) ∙ list_all-append test (reverse xs) (x ∷ [])
     ∙ ap (λ b. list_all test (reverse xs) && b) (and_true (test x)) ∙ ap (λ b. b && test x) (all_reversed test xs) ∙ and_turned (list_all test xs) (test x)
-
-pub any_reversed : {A : Type 0} (test : A → Bool) (xs : List A) → list_any test (reverse xs) ≡ list_any test xs
-any_reversed test [] = refl
-any_reversed test (x ∷ xs) =
-    ap (list_any test) (reverse-append (x ∷ []) xs) ∙ list_any-append test (reverse xs) (x ∷ [])
-    ∙ ap (λ b. list_any test (reverse xs) || b) (or_false (test x)) ∙ ap (λ b. b || test x) (any_reversed test xs) ∙ or_turned (list_any test xs) (test x)
-
-pub map_reversed : {A B : Type 0} (f : A → B) (xs : List A) → map f (reverse xs) ≡ reverse (map f xs)
-map_reversed f [] = refl
-map_reversed f (x ∷ xs) =
-    ap (map f) (reverse-append (x ∷ []) xs) ∙ map-append f (reverse xs) (x ∷ []) ∙ ap (λ ys. ys ++ f x ∷ []) (map_reversed f xs) ∙ sym (reverse-append (f x ∷ []) (map f xs))
 
 slots_append : (ks ms : List TypeRef) → slot_count (ks ++ ms) ≡ slot_count ks + slot_count ms
 unfolding slot_count
@@ -85,7 +65,7 @@ this_named p (refs.Object c) = refl
 this_named p (refs.Array a) = refl
 this_named p refs.Ctx = refl
 
-any_this : (p : Program) (ks : List TypeRef) → list_any is_uninit_this (map (named p) ks) ≡ list_any is_this ks
+pub any_this : (p : Program) (ks : List TypeRef) → list_any is_uninit_this (map (named p) ks) ≡ list_any is_this ks
 any_this p [] = refl
 any_this p (k ∷ ks) = ap (λ b. b || list_any is_uninit_this (map (named p) ks)) (this_named p k) ∙ ap (λ b. is_this k || b) (any_this p ks)
 

@@ -1,10 +1,10 @@
 -- A search finds the frame at a place, as places rise.
 use Rattle.std.proofs.Common.{◌≡◌, ℕ, ◌<◌, ◌≤◌, ℤ, pos, negsuc, Bool, true, false, cond, List, [], ◌∷◌, length, get_or, map, reverse, Option, Some, None, Result, Ok, Err, refl, sym, ap, subst, ◌∙◌, arith, inl, inr}
-use Rattle.std.specs.Prelude.{◌<ℤ◌, option_map, option_and_then}
+use Rattle.std.specs.Prelude.{◌<ℤ◌, ◌==◌, IfSome, option_map, option_and_then}
 use Rattle.std.specs.List.{AllByRecursion, find, position_or_len, slice_get}
 use Rattle.std.specs.List.Sorted.{IsSearchInRange, IsBinarySearchResult, IsNonDecreasingBy}
 use Rattle.std.specs.Ordering.{int_cmp, int_eq, ordering_index}
-use Rattle.std.proofs.lemmas.Bool.{cases_Bool, cases_lt}
+use Rattle.std.proofs.lemmas.Bool.{cases_Bool, cases_lt, eqb-true}
 use Rattle.std.proofs.lemmas.Bool.Decides.{Decides-int_eq, nat_tests}
 use Rattle.std.proofs.lemmas.Int.{ints}
 use Rattle.std.proofs.lemmas.Cmp.{int_ranked}
@@ -12,14 +12,18 @@ use Rattle.std.proofs.lemmas.List.Folds.{find_at}
 use Rattle.std.proofs.lemmas.List.Sums.{position_or_len_is}
 use Rattle.std.proofs.lemmas.List.Sorted.{IsNonDecreasingBy-from_default}
 use Rattle.std.proofs.lemmas.Option.{slice_get-get_or, slice_get_past}
-use Rattle.jtypes.specs.Frames.{Frame}
+use Rattle.jtypes.specs.declared.vtype.VType.{VType}
+use Rattle.jtypes.specs.Frames.{Frame, places_of}
 use Rattle.jprogram.specs.Classes.{Program, tree}
 use Rattle.juses.specs.declared.types.TypeRef.{TypeRef}
-use Rattle.jtyping.specs.Declared.{Written, declared_at}
+use Rattle.juses.specs.Types.{named}
+use Rattle.jtyping.specs.Declared.{Written, declared_at, filled}
 use Rattle.jtyping.specs.Typing.{frame_fits}
 use Rattle.jcheck.specs.declared.declared.Kept.{Kept}
 use Rattle.jcheck.specs.declared.chains.Node.{Node}
-use Rattle.jcheck.specs.Given.{AreKept, Given, Givens, IsKept, Rise, all_written, frame_named, frame_seen, given, written_named}
+use Rattle.jcheck.specs.Chained.{values}
+use Rattle.jcheck.specs.Given.{AreKept, Given, Givens, IsKept, Rise, all_written, frame_named, frame_seen, given, has_last, shares, written_named}
+use Rattle.jcheck.specs.Keeping.{AreFrom}
 
 first : Kept
 first = record { at = 0; last = 0; stack = [] }
@@ -128,3 +132,32 @@ fits_there p g same d most nodes ks t k locals oldest stack flag b view some cou
     ∙ ap (λ n. frame_fits (tree p) (frame_seen p locals stack flag) (frame_named p n (given nodes k))) (count ∙ sym (ap (λ (d : Givens). d.most) view))
     ∙ same (frame_seen p locals stack flag) (frame_named p most (given nodes k))
     ∙ ap (g (frame_seen p locals stack flag)) (declared_some p d most nodes ks t k view some)
+
+-- ---- frames that have the locals of others
+
+locals_by : (p : Program) (nodes : List Node) (most count last : ℕ) (k : Kept) (locals : List TypeRef) → last ≡ k.last → count ≡ most → map (named p) locals ≡ filled most (places_of (map (named p) (values nodes last))) →
+    map (named p) locals ≡ (frame_named p count (given nodes k)).locals
+locals_by p nodes most count last k locals el ec e =
+    e ∙ ap (λ n. filled most (places_of (map (named p) (values nodes n)))) el ∙ ap (λ n. filled n (places_of (map (named p) (values nodes k.last)))) (sym ec)
+
+same_of : (p : Program) (d : Givens) (most : ℕ) (nodes : List Node) (ks : List Kept) (locals : List TypeRef) (at : ℕ) (k : Kept) (o : Option Kept) → table most nodes ks ≡ d → length locals ≡ most →
+    AreFrom (all_written p d) (map (named p) locals) (Some at) → o ≡ find (stands (pos at)) ks → has_last k.last o ≡ true → map (named p) locals ≡ (frame_named p (length locals) (given nodes k)).locals
+same_of p d most nodes ks locals at k None view count from is e = absurd cc
+same_of p d most nodes ks locals at k (Some one) view count from is e =
+    locals_by p nodes most (length locals) one.last k locals (eqb-true one.last k.last e) count
+    (subst (λ o. IfSome o (λ (f : Frame). map (named p) locals ≡ f.locals)) (sym (declared_some p d most nodes ks (pos at) one view is)) from)
+
+-- locals that are known to be those of a frame with the same chain
+pub same_there : (p : Program) (d : Givens) (most : ℕ) (nodes : List Node) (ks items : List Kept) (locals : List TypeRef) (from : Option ℕ) (k : Kept) (b : Bool) → table most nodes ks ≡ d → items ≡ ks → length locals ≡ d.most →
+    AreFrom (all_written p d) (map (named p) locals) from → b ≡ shares items k.last from → b ≡ true → map (named p) locals ≡ (frame_named p (length locals) (given nodes k)).locals
+same_there p d most nodes ks items locals None k b view same count from e is = absurd cc
+same_there p d most nodes ks items locals (Some at) k b view same count from e is =
+    same_of p d most nodes ks locals at k (find (stands (pos at)) ks) view (count ∙ sym (ap (λ (d : Givens). d.most) view)) from refl
+    (ap (λ xs. has_last k.last (find (stands (pos at)) xs)) (sym same) ∙ sym e ∙ is)
+
+-- locals of a declared frame are those of the frame at its place
+pub from_there : (p : Program) (d : Givens) (most : ℕ) (nodes : List Node) (ks : List Kept) (at : ℕ) (k : Kept) (from : Option ℕ) (f : Frame) → table most nodes ks ≡ d → Some k ≡ find (stands (pos at)) ks → from ≡ Some at →
+    f ≡ frame_named p most (given nodes k) → AreFrom (all_written p d) f.locals from
+from_there p d most nodes ks at k from f view some is e =
+    subst (λ o. AreFrom (all_written p d) f.locals o) (sym is)
+    (subst (λ o. IfSome o (λ (g : Frame). f.locals ≡ g.locals)) (declared_some p d most nodes ks (pos at) k view some) (ap (λ (f : Frame). f.locals) e))

@@ -5,12 +5,9 @@ use Rattle.std.specs.Prelude.{IfSome, pos, slice_get}
 use Rattle.jcode.specs.declared.op.Placed.{Placed}
 use Rattle.jtypes.specs.Frames.{Frame}
 use Rattle.jprogram.specs.Classes.{Program}
-use Rattle.jrule.specs.declared.frame.FrameRef.{FrameRef}
 use Rattle.jtyping.specs.Declared.{Written, declared_at}
 use Rattle.jtyping.specs.Methods.{Method}
 use Rattle.jtyping.specs.Typing.{begun, or_at, step, walk}
-use Rattle.jcheck.specs.declared.walk.Checking.{Checking}
-use Rattle.jcheck.specs.Checking.{IsCounted}
 
 got_at : (ops : List Placed) (i : ℕ) (d : Placed) → i < length ops → slice_get ops i ≡ Some (get_or ops i d)
 got_at [] i d lt = absurd (omega arith)
@@ -52,16 +49,9 @@ stepped p m ws ops i o arriving next f at e s = with_frame p m ws ops i o arrivi
 pub got : (ops : List Placed) (i n : ℕ) (o : Placed) → i < n → n ≡ length ops → o ≡ get_or ops i o → slice_get ops i ≡ Some o
 got ops i n o lt end is = got_at ops i o (omega (arith, lt, end)) ∙ ap Some (sym is)
 
-counted_some : (most : ℕ) (o : Option FrameRef) (f : FrameRef) → IfSome o (λ g. length g.locals ≡ most) → o ≡ Some f → length f.locals ≡ most
-counted_some most (Some g) f count e = let same : g ≡ f = cc in ap (λ (x : FrameRef). length x.locals) (sym same) ∙ count
-counted_some most None f count e = absurd cc
-
-pub counted : (c : Checking) (o : Option FrameRef) (f : FrameRef) → IfSome o (IsCounted c) → o ≡ Some f → IsCounted c f
-counted c o f count e = counted_some c.declared.now.most o f count e
-
-pub counts_next : (c : Checking) (o : Option (Option FrameRef)) (next : Option FrameRef) → IfSome o (λ arriving. IfSome arriving (IsCounted c)) → o ≡ Some next → IfSome next (IsCounted c)
-counts_next c (Some x) next count e = let same : x ≡ next = cc in subst (λ (y : Option FrameRef). IfSome y (IsCounted c)) same count
-counts_next c None next count e = absurd cc
+pub told : {A : Type 0} (P : A → Type 0) (o : Option A) (x : A) → IfSome o P → o ≡ Some x → P x
+told P (Some y) x has e = let same : y ≡ x = cc in subst P same has
+told P None x has e = absurd cc
 
 -- behind the last instruction
 pub ended : (p : Program) (m : Method) (ws : List Written) (ops : List Placed) (i : ℕ) (arriving : Option Frame) → length ops ≤ i → None ≡ walk p m ws (drop i ops) arriving

@@ -13,7 +13,9 @@ use Rattle.jtyping.specs.Methods.{Method, covers}
 use Rattle.juses.specs.Tables.{pool_at}
 use Rattle.juses.specs.Uses.{AreUses}
 use Rattle.jcheck.specs.declared.walk.Checking.{Checking}
+use Rattle.jcheck.specs.declared.held.Held.{Held}
 use Rattle.jcheck.specs.Given.{all_written}
+use Rattle.jcheck.specs.Keeping.{IsKnown, held_seen}
 use Rattle.jcheck.specs.News.{AreNews, made_at}
 use Rattle.jcheck.specs.Numbered.{seen_method}
 
@@ -34,6 +36,11 @@ AreShort ops = (i : ℕ) (o : Placed) → slice_get ops i ≡ Some o → o.at �
 -- a frame has as many locals as the method
 abbrev pub IsCounted : Checking → FrameRef → Type 0
 IsCounted c f = length f.locals ≡ c.declared.now.most
+
+-- the same of one with what is known of it, which holds
+pub record IsHeld (c : Checking) (h : Held) : Type 0 where
+  pub count : IsCounted c h.frame
+  pub known : IsKnown (program_of c) (method_of c) (frames_of c) (held_seen (program_of c) h).locals h.frame.flag h.known
 
 -- what the rule has to know of a place in it
 abbrev pub here_in : Checking → ℕ → HereRef

@@ -1,6 +1,7 @@
 -- The frames that a method declares, types by number: what they stand for, and how they are kept.
-use Rattle.std.specs.Prelude.{◌≡◌, ℕ, ◌<◌, ◌≤◌, Bool, ◌&&◌, not, List, [], ◌∷◌, length, get_or, map, reverse, Option, Some, None, Result, Ok, Err}
-use Rattle.std.specs.List.{AllByRecursion}
+use Rattle.std.specs.Prelude.{◌≡◌, ℕ, pos, ◌<◌, ◌≤◌, ◌==◌, Bool, false, ◌&&◌, not, List, [], ◌∷◌, length, get_or, map, reverse, Option, Some, None, Result, Ok, Err}
+use Rattle.std.specs.List.{AllByRecursion, find}
+use Rattle.std.specs.Ordering.{int_eq}
 use Rattle.jbase.specs.First.{fault_if, first_some}
 use Rattle.jclass.specs.declared.class.CodeBody.{CodeBody}
 use Rattle.jclass.specs.Codes.{begins}
@@ -79,3 +80,12 @@ AreKept nodes most = AllByRecursion (IsKept nodes most)
 -- their places rise
 abbrev pub Rise : List Kept → Type 0
 Rise ks = (i j : ℕ) (d : Kept) → i < j → j < length ks → (get_or ks i d).at < (get_or ks j d).at
+
+abbrev pub has_last : ℕ → Option Kept → Bool
+has_last last None = false
+has_last last (Some k) = k.last == last
+
+-- the frame that is kept at a place, where one is told, has its locals from a chain
+abbrev pub shares : List Kept → ℕ → Option ℕ → Bool
+shares ks last None = false
+shares ks last (Some at) = has_last last (find (λ k. int_eq (pos k.at) (pos at)) ks)

@@ -1,8 +1,9 @@
-ghost use Rattle.std.specs.Prelude.{◌≡◌, ◌≤◌, ◌∷◌, ◌++◌, [], pos, IfOk, IfSome, OnOk, length, map, option_map, reverse, slice_get};
+ghost use Rattle.std.specs.Prelude.{◌≡◌, ◌≤◌, ◌∷◌, ◌++◌, [], pos, Bool, IfOk, IfSome, List, OnOk, Some, length, map, option_map, reverse, slice_get, true};
 ghost use Rattle.std.specs.List.{find, flat_map};
 ghost use Rattle.std.specs.Option.{option_copied};
 ghost use Rattle.std.specs.Ordering.{int_eq};
 ghost use Rattle.jprogram.specs.Classes.{tree};
+ghost use Rattle.jtypes.specs.declared.vtype.VType.{VType};
 ghost use Rattle.jtypes.specs.Fitting.{fits};
 ghost use Rattle.jtypes.specs.Frames;
 ghost use Rattle.jtypes.specs.Frames.{all_fit, places_of};
@@ -13,10 +14,14 @@ ghost use Rattle.jrule.specs.Slots.{slot_count};
 ghost use Rattle.jtyping.specs.Declared.{declared_at, filled};
 ghost use Rattle.jtyping.specs.Typing;
 ghost use Rattle.jcheck.specs.Chained.{chain, values};
+ghost use Rattle.jcheck.specs.declared.held.Served.{Served};
 ghost use Rattle.jcheck.specs.Given;
 ghost use Rattle.jcheck.specs.Given.{IsKept, Rise, all_written, frame_named, frame_seen, given, places};
+ghost use Rattle.jcheck.specs.Keeping as keeping;
+ghost use Rattle.jcheck.specs.Keeping.{AreFrom, held_seen};
 
 use crate::chains::{Chains, size};
+use crate::held::{Arriving, Held, Known, arrived, served_by};
 use jbase::Seq;
 use jprogram::NamedProgram;
 use jrule::{FrameRef, Locals, Stack};
@@ -124,7 +129,7 @@ fn implies(a: bool, b: bool) -> bool
     !a || b
 }
 
-/// Whether locals, operands, the oldest first, and a flag fit a declared frame.
+/// Whether locals, operands, the oldest first, and a flag fit a declared frame. Locals that are known to be `same` aren't looked at.
 fn kept_fits(
     p: &NamedProgram,
     chains: &Chains,
@@ -132,8 +137,10 @@ fn kept_fits(
     locals: &Locals,
     stack: &[TypeRef],
     flag: bool,
+    same: bool,
 ) -> bool
-    requires { IsKept chains.now (length locals.now) k.now }
+    requires kept { IsKept chains.now (length locals.now) k.now }
+    requires same { same ≡ true → map (named p.now) locals.now ≡ (frame_named p.now (length locals.now) (given chains.now k.now)).locals }
     ensures { result
         ≡ Typing.frame_fits (tree p.now) (frame_seen p.now locals.now (reverse stack.now) flag)
         (frame_named p.now (length locals.now) (given chains.now k.now)) }
@@ -143,6 +150,9 @@ fn kept_fits(
     }
     if !stack_fits(p, stack, k.stack.as_slice()) {
         return false;
+    }
+    if same {
+        return true;
     }
     locals_fit(p, chains, locals, k.last)
 }
@@ -214,6 +224,63 @@ fn frame_of(
     })
 }
 
+/// The declared frame of a place, which has the locals of the frame before it.
+fn again(
+    alloc: Global,
+    p: &NamedProgram,
+    chains: &Chains,
+    k: &Kept,
+    at: u32,
+    old: Held,
+) -> Result<Held, AllocError>
+    requires kept { IsKept chains.now (length old.frame.locals) k.now }
+    requires same { (held_seen p.now old).locals ≡ (frame_named p.now (length old.frame.locals) (given chains.now k.now)).locals }
+    ensures seen { IfOk result (λ h. held_seen p.now h ≡ frame_named p.now (length old.frame.locals) (given chains.now k.now)) }
+    ensures count { IfOk result (λ h. length h.frame.locals ≡ length old.frame.locals) }
+    ensures from { IfOk result (λ h. h.known.from ≡ Some at) }
+    ensures served { (test : List VType → Bool → Served → Bool) → IfSome old.known.served (λ s. test (held_seen p.now old).locals old.frame.flag s ≡ true)
+        → IfOk result (λ h. IfSome h.known.served (λ s. test (held_seen p.now h).locals h.frame.flag s ≡ true)) }
+{
+    let stack = stack_of(alloc, k.stack.as_slice())?;
+    let flag = chains.flag(k.last);
+    let served = served_by(old.known.served, old.frame.flag, flag);
+    Ok(Held {
+        frame: FrameRef {
+            locals: old.frame.locals,
+            stack,
+            flag,
+        },
+        known: Known {
+            from: Some(at),
+            served,
+        },
+    })
+}
+
+/// The declared frame of a place, made anew.
+fn anew(
+    alloc: Global,
+    p: &NamedProgram,
+    chains: &Chains,
+    k: &Kept,
+    most: u16,
+    at: u32,
+) -> Result<Held, AllocError>
+    requires { IsKept chains.now most k.now }
+    ensures seen { IfOk result (λ h. held_seen p.now h ≡ frame_named p.now most (given chains.now k.now)) }
+    ensures count { IfOk result (λ h. length h.frame.locals ≡ most) }
+    ensures from { IfOk result (λ h. h.known.from ≡ Some at) }
+    ensures served { IfOk result (λ h. h.known.served ≡ None) }
+{
+    Ok(Held {
+        frame: frame_of(alloc, p, chains, k, most)?,
+        known: Known {
+            from: Some(at),
+            served: None,
+        },
+    })
+}
+
 // ---- frames at places
 
 /// The frame that stands at a place.
@@ -227,60 +294,128 @@ fn found(frames: &[Kept], at: i64) -> Option<&Kept>
     }
 }
 
+/// Whether the frame that is kept at a place, where one is told, has its locals from a chain.
+fn shares(frames: &[Kept], from: Option<u32>, last: usize) -> bool
+    requires { Rise frames.now }
+    ensures { result ≡ Given.shares frames.now last from }
+{
+    let Some(at) = from else {
+        return false;
+    };
+    match found(frames, i64::from(at)) {
+        None => false,
+        Some(one) => one.last == last,
+    }
+}
+
 impl Declared {
-    /// Whether a frame fits the one that is declared at a place; false where none is. Its locals number those of the method.
-    pub(crate) fn leads_in(&self, p: &NamedProgram, f: &FrameRef, at: i64) -> bool
-        requires { length f.now.locals ≡ self.now.most }
+    /// Whether a frame fits the one that is declared at a place; false where none is. Its locals number those of the method, and are those
+    /// of the declared frame at `from`, where that is told.
+    pub(crate) fn leads_in(
+        &self,
+        p: &NamedProgram,
+        f: &FrameRef,
+        from: Option<u32>,
+        at: i64,
+    ) -> bool
+        requires count { length f.now.locals ≡ self.now.most }
+        requires from { AreFrom (all_written p.now self.now) (seen p.now f.now).locals from }
         ensures { result ≡ Typing.leads_in (tree p.now) (seen p.now f.now) (declared_at (all_written p.now self.now) at) }
     {
         match found(self.frames.as_slice(), at) {
             None => false,
-            Some(k) => kept_fits(p, &self.chains, k, &f.locals, f.stack.as_slice(), f.flag),
+            Some(k) => {
+                let same = shares(self.frames.as_slice(), from, k.last);
+                kept_fits(
+                    p,
+                    &self.chains,
+                    k,
+                    &f.locals,
+                    f.stack.as_slice(),
+                    f.flag,
+                    same,
+                )
+            }
         }
     }
 
-    /// Whether a frame fits the one that is declared at a place; true where none is. Its locals number those of the method.
-    pub(crate) fn lets_in(&self, p: &NamedProgram, f: &FrameRef, at: i64) -> bool
-        requires { length f.now.locals ≡ self.now.most }
+    /// Whether a frame fits the one that is declared at a place; true where none is. Its locals number those of the method, and are those
+    /// of the declared frame at `from`, where that is told.
+    pub(crate) fn lets_in(&self, p: &NamedProgram, f: &FrameRef, from: Option<u32>, at: i64) -> bool
+        requires count { length f.now.locals ≡ self.now.most }
+        requires from { AreFrom (all_written p.now self.now) (seen p.now f.now).locals from }
         ensures { result ≡ Typing.lets_in (tree p.now) (seen p.now f.now) (declared_at (all_written p.now self.now) at) }
     {
         match found(self.frames.as_slice(), at) {
             None => true,
-            Some(k) => kept_fits(p, &self.chains, k, &f.locals, f.stack.as_slice(), f.flag),
+            Some(k) => {
+                let same = shares(self.frames.as_slice(), from, k.last);
+                kept_fits(
+                    p,
+                    &self.chains,
+                    k,
+                    &f.locals,
+                    f.stack.as_slice(),
+                    f.flag,
+                    same,
+                )
+            }
         }
     }
 
     /// Whether a frame, with what is caught alone on its stack, fits the one that is declared at a place; false where none is. Its locals
-    /// number those of the method.
-    pub(crate) fn catches(&self, p: &NamedProgram, f: &FrameRef, caught: TypeRef, at: i64) -> bool
-        requires { length f.now.locals ≡ self.now.most }
+    /// number those of the method, and are those of the declared frame at `from`, where that is told.
+    pub(crate) fn catches(
+        &self,
+        p: &NamedProgram,
+        f: &FrameRef,
+        from: Option<u32>,
+        caught: TypeRef,
+        at: i64,
+    ) -> bool
+        requires count { length f.now.locals ≡ self.now.most }
+        requires from { AreFrom (all_written p.now self.now) (seen p.now f.now).locals from }
         ensures { result
             ≡ Typing.leads_in (tree p.now) (with_stack (seen p.now f.now) (named p.now caught ∷ []))
             (declared_at (all_written p.now self.now) at) }
     {
         match found(self.frames.as_slice(), at) {
             None => false,
-            Some(k) => kept_fits(p, &self.chains, k, &f.locals, &[caught], f.flag),
+            Some(k) => {
+                let same = shares(self.frames.as_slice(), from, k.last);
+                kept_fits(p, &self.chains, k, &f.locals, &[caught], f.flag, same)
+            }
         }
     }
 
-    /// The frame with which the instruction at a place begins: the declared one, or else what arrives.
+    /// The frame with which the instruction at a place begins: the declared one, or else what arrives. Its locals are made anew only where
+    /// they aren't known to be those of the frame that is held.
     pub(crate) fn begun(
         &self,
         alloc: Global,
         p: &NamedProgram,
-        at: i64,
-        arriving: Option<FrameRef>,
-    ) -> Result<Option<FrameRef>, AllocError>
-        ensures count { IfSome arriving (λ f. length f.locals ≡ self.now.most) → IfOk result (λ r. IfSome r (λ f. length f.locals ≡ self.now.most)) }
-        ensures seen { IfOk result (λ r. option_map (seen p.now) r
-            ≡ Typing.begun (declared_at (all_written p.now self.now) at) (option_map (seen p.now) arriving)) }
+        at: u32,
+        a: Arriving,
+    ) -> Result<Option<Held>, AllocError>
+        requires count { length a.held.frame.locals ≡ self.now.most }
+        requires from { AreFrom (all_written p.now self.now) (held_seen p.now a.held).locals a.held.known.from }
+        ensures count { IfOk result (λ r. IfSome r (λ h. length h.frame.locals ≡ self.now.most)) }
+        ensures seen { IfOk result (λ r. option_map (held_seen p.now) r
+            ≡ Typing.begun (declared_at (all_written p.now self.now) (pos at)) (keeping.arrived p.now a)) }
+        ensures from { IfOk result (λ r. IfSome r (λ h. AreFrom (all_written p.now self.now) (held_seen p.now h).locals h.known.from)) }
+        ensures served { (test : List VType → Bool → Served → Bool)
+            → IfSome a.held.known.served (λ s. test (held_seen p.now a.held).locals a.held.frame.flag s ≡ true)
+            → IfOk result (λ r. IfSome r (λ h. IfSome h.known.served (λ s. test (held_seen p.now h).locals h.frame.flag s ≡ true))) }
     {
-        match found(self.frames.as_slice(), at) {
-            None => Ok(arriving),
+        match found(self.frames.as_slice(), i64::from(at)) {
+            None => Ok(arrived(a)),
             Some(k) => {
-                let frame = frame_of(alloc, p, &self.chains, k, self.most)?;
-                Ok(Some(frame))
+                if shares(self.frames.as_slice(), a.held.known.from, k.last) {
+                    let held = again(alloc, p, &self.chains, k, at, a.held)?;
+                    return Ok(Some(held));
+                }
+                let held = anew(alloc, p, &self.chains, k, self.most, at)?;
+                Ok(Some(held))
             }
         }
     }

@@ -5,6 +5,7 @@ mod chains;
 mod checked;
 mod declared;
 mod fault;
+mod held;
 mod method;
 mod news;
 mod reading;

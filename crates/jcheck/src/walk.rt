@@ -1,4 +1,4 @@
-ghost use Rattle.std.specs.Prelude.{◌≡◌, ◌≤◌, IfOk, IfSome, Some, option_map, pos, slice_get};
+ghost use Rattle.std.specs.Prelude.{◌≡◌, ◌≤◌, ◌||◌, ◌⊎◌, IfOk, IfSome, Some, false, option_map, pos, slice_get, true};
 ghost use Rattle.std.specs.List.{list_all, list_any};
 ghost use Rattle.jcode.specs.Forms as forms;
 ghost use Rattle.jcode.specs.Forms.{branches, form};
@@ -9,9 +9,12 @@ ghost use Rattle.jtyping.specs.Declared.{declared_at};
 ghost use Rattle.jtyping.specs.Methods;
 ghost use Rattle.jtyping.specs.Typing;
 ghost use Rattle.jcheck.specs.Checking as checking;
-ghost use Rattle.jcheck.specs.Checking.{IsChecking, IsCounted, IsHere, frames_of, method_of, program_of};
+ghost use Rattle.jcheck.specs.Checking.{IsChecking, IsCounted, IsHeld, IsHere, frames_of, method_of, program_of};
+ghost use Rattle.jcheck.specs.Keeping as keeping;
+ghost use Rattle.jcheck.specs.Keeping.{IsKnown, arrived, held_seen, is_served, none_begins, unknown};
 
 use crate::declared::Declared;
+use crate::held::{Arriving, Held, Known, Served, is_quiet, spans};
 use crate::method::MethodRef;
 use crate::news::MethodNews;
 use jcode::{Form, Handler, Placed, Switch, branch_at, branch_count, form_of, goes_on};
@@ -41,6 +44,35 @@ fn covers(at: u32, h: &Handler) -> bool
     h.start <= at && at < h.end
 }
 
+/// The nearer of a place and that at which a handler begins, if it begins behind `at`.
+fn nearer(at: u32, next: u32, h: &Handler) -> u32
+    ensures near { result ≤ next }
+    ensures start { (h.now.start ≤ at) ⊎ (result ≤ h.now.start) }
+{
+    if at < h.start && h.start < next {
+        return h.start;
+    }
+    next
+}
+
+/// A frame that arrives, of which nothing is known.
+fn first_of(frame: FrameRef) -> Arriving
+    ensures frame { result.held.frame ≡ frame }
+    ensures known { result.held.known ≡ unknown }
+    ensures comes { result.comes ≡ true }
+{
+    Arriving {
+        held: Held {
+            frame,
+            known: Known {
+                from: None,
+                served: None,
+            },
+        },
+        comes: true,
+    }
+}
+
 impl<'a> Checking<'a> {
     // ---- handlers
 
@@ -64,10 +96,11 @@ impl<'a> Checking<'a> {
         self.uses.class_at(self.method.class, h.class)
     }
 
-    fn handler_fits(&self, f: &FrameRef, h: &Handler) -> bool
+    fn handler_fits(&self, f: &Held, h: &Handler) -> bool
         requires checking { IsChecking self.now }
-        requires count { IsCounted self.now f.now }
-        ensures { result ≡ Typing.handler_fits (program_of self.now) (method_of self.now) (frames_of self.now) (seen (program_of self.now) f.now) h.now }
+        requires held { IsHeld self.now f.now }
+        ensures { result
+            ≡ Typing.handler_fits (program_of self.now) (method_of self.now) (frames_of self.now) (held_seen (program_of self.now) f.now) h.now }
     {
         let Some(caught) = self.caught_type(h) else {
             return false;
@@ -75,14 +108,16 @@ impl<'a> Checking<'a> {
         if !type_fits(self.p, caught, TypeRef::Object(THROWABLE)) {
             return false;
         }
-        self.declared.catches(self.p, f, caught, i64::from(h.at))
+        self.declared
+            .catches(self.p, &f.frame, f.known.from, caught, i64::from(h.at))
     }
 
     /// Whether the frame before an instruction at a place serves a handler, if it covers it.
-    fn handler_test(&self, at: u32, f: &FrameRef, h: &Handler) -> bool
+    fn handler_test(&self, at: u32, f: &Held, h: &Handler) -> bool
         requires checking { IsChecking self.now }
-        requires count { IsCounted self.now f.now }
-        ensures { result ≡ Typing.handler_test (program_of self.now) (method_of self.now) (frames_of self.now) at (seen (program_of self.now) f.now) h.now }
+        requires held { IsHeld self.now f.now }
+        ensures { result
+            ≡ Typing.handler_test (program_of self.now) (method_of self.now) (frames_of self.now) at (held_seen (program_of self.now) f.now) h.now }
     {
         if !covers(at, h) {
             return true;
@@ -91,14 +126,125 @@ impl<'a> Checking<'a> {
     }
 
     /// Whether the frame before an instruction at a place serves the handlers that cover it.
-    fn handlers_fit(&self, at: u32, f: &FrameRef) -> bool
+    fn handlers_fit(&self, at: u32, f: &Held) -> bool
         requires checking { IsChecking self.now }
-        requires count { IsCounted self.now f.now }
-        ensures { result ≡ Typing.handlers_fit (program_of self.now) (method_of self.now) (frames_of self.now) at (seen (program_of self.now) f.now) }
+        requires held { IsHeld self.now f.now }
+        ensures { result
+            ≡ Typing.handlers_fit (program_of self.now) (method_of self.now) (frames_of self.now) at (held_seen (program_of self.now) f.now) }
     {
         let method = self.method;
         let handlers = method.body.handlers;
         handlers.iter().all(|h| self.handler_test(at, f, h))
+    }
+
+    // ---- handlers that were served before
+
+    fn later_test(&self, since: u32, at: u32, f: &Held, h: &Handler) -> bool
+        requires checking { IsChecking self.now }
+        requires held { IsHeld self.now f.now }
+        ensures { result
+            ≡ (Methods.covers since h.now
+            || Typing.handler_test (program_of self.now) (method_of self.now) (frames_of self.now) at (held_seen (program_of self.now) f.now) h.now) }
+    {
+        if covers(since, h) {
+            return true;
+        }
+        self.handler_test(at, f, h)
+    }
+
+    /// Whether the frame before an instruction at a place serves those handlers that cover it and not an earlier place.
+    fn later_fit(&self, since: u32, at: u32, f: &Held) -> bool
+        requires checking { IsChecking self.now }
+        requires held { IsHeld self.now f.now }
+        ensures { result ≡ list_all (λ h. Methods.covers since h
+            || Typing.handler_test (program_of self.now) (method_of self.now) (frames_of self.now) at (held_seen (program_of self.now) f.now) h)
+            (method_of self.now).body.handlers }
+    {
+        let method = self.method;
+        let handlers = method.body.handlers;
+        handlers.iter().all(|h| self.later_test(since, at, f, h))
+    }
+
+    fn serves_since(&self, s: Served, at: u32, f: &Held) -> bool
+        requires checking { IsChecking self.now }
+        requires held { IsHeld self.now f.now }
+        requires served { is_served (program_of self.now) (method_of self.now) (frames_of self.now)
+            (held_seen (program_of self.now) f.now).locals f.now.frame.flag s ≡ true }
+        ensures { result
+            ≡ Typing.handlers_fit (program_of self.now) (method_of self.now) (frames_of self.now) at (held_seen (program_of self.now) f.now) }
+    {
+        if spans(s, at) {
+            return true;
+        }
+        self.later_fit(s.at, at, f)
+    }
+
+    /// Whether the frame before an instruction at a place serves the handlers that cover it. What its locals and its flag are known to serve
+    /// isn't tested again.
+    fn serves(&self, at: u32, f: &Held) -> bool
+        requires checking { IsChecking self.now }
+        requires held { IsHeld self.now f.now }
+        ensures { result
+            ≡ Typing.handlers_fit (program_of self.now) (method_of self.now) (frames_of self.now) at (held_seen (program_of self.now) f.now) }
+    {
+        match f.known.served {
+            None => self.handlers_fit(at, f),
+            Some(s) => self.serves_since(s, at, f),
+        }
+    }
+
+    /// The first place behind one at which a handler begins, or a place behind all.
+    fn next_begin(&self, at: u32) -> u32
+        ensures { none_begins (method_of self.now).body.handlers at result ≡ true }
+    {
+        let method = self.method;
+        let handlers = method.body.handlers;
+        let mut next = u32::MAX;
+        for h in handlers {
+            next = nearer(at, next, h);
+        }
+        next
+    }
+
+    /// What is known of handlers by a frame that serves them at a place.
+    fn served_at(&self, at: u32, f: &Held) -> Served
+        requires held { IsHeld self.now f.now }
+        requires serves { Typing.handlers_fit (program_of self.now) (method_of self.now) (frames_of self.now) at
+            (held_seen (program_of self.now) f.now) ≡ true }
+        ensures { is_served (program_of self.now) (method_of self.now) (frames_of self.now)
+            (held_seen (program_of self.now) f.now).locals f.now.frame.flag result ≡ true }
+    {
+        if let Some(s) = f.known.served {
+            if spans(s, at) {
+                return s;
+            }
+        }
+        Served {
+            at,
+            next: self.next_begin(at),
+        }
+    }
+
+    /// What is known behind an instruction by a frame before it that serves its handlers. It holds before it, and is nothing where the
+    /// instruction may change locals or the flag.
+    fn known_behind(&self, o: &Placed, f: &Held) -> Known
+        requires held { IsHeld self.now f.now }
+        requires serves { Typing.handlers_fit (program_of self.now) (method_of self.now) (frames_of self.now) o.now.at
+            (held_seen (program_of self.now) f.now) ≡ true }
+        ensures known { IsKnown (program_of self.now) (method_of self.now) (frames_of self.now)
+            (held_seen (program_of self.now) f.now).locals f.now.frame.flag result }
+        ensures loud { keeping.is_quiet (form o.now.op) ≡ false → result ≡ unknown }
+    {
+        if !is_quiet(&o.op) {
+            return Known {
+                from: None,
+                served: None,
+            };
+        }
+        Known {
+            from: f.known.from,
+            served: Some(self.served_at(o.at, f)),
+        }
     }
 
     /// Whether a frame fits where the method begins.
@@ -109,7 +255,7 @@ impl<'a> Checking<'a> {
         let method = self.method;
         match method.body.ops {
             [] => true,
-            [o, ..] => self.declared.lets_in(self.p, f, i64::from(o.at)),
+            [o, ..] => self.declared.lets_in(self.p, f, None, i64::from(o.at)),
         }
     }
 
@@ -146,22 +292,29 @@ impl<'a> Checking<'a> {
     }
 
     /// Whether the frame behind an instruction serves where its branch of a number leads, if it has one.
-    fn branch_fits(&self, at: u32, form: &Form<&Switch>, i: usize, g: &FrameRef) -> bool
-        requires { IsCounted self.now g.now }
-        ensures { result ≡ checking.branch_test (Typing.branch_fits (program_of self.now) (frames_of self.now) at (seen (program_of self.now) g.now)) (slice_get (branches (forms.seen form.now)) i) }
+    fn branch_fits(&self, at: u32, form: &Form<&Switch>, i: usize, g: &Held) -> bool
+        requires { IsHeld self.now g.now }
+        ensures { result
+            ≡ checking.branch_test (Typing.branch_fits (program_of self.now) (frames_of self.now) at (held_seen (program_of self.now) g.now))
+            (slice_get (branches (forms.seen form.now)) i) }
     {
         match branch_at(form, i) {
-            Some(by) => self
-                .declared
-                .leads_in(self.p, g, i64::from(at) + i64::from(by)),
+            Some(by) => self.declared.leads_in(
+                self.p,
+                &g.frame,
+                g.known.from,
+                i64::from(at) + i64::from(by),
+            ),
             None => true,
         }
     }
 
     /// Whether the frame behind an instruction serves where its branches lead.
-    fn branches_fit(&self, at: u32, form: &Form<&Switch>, g: &FrameRef) -> bool
-        requires { IsCounted self.now g.now }
-        ensures { result ≡ list_all (Typing.branch_fits (program_of self.now) (frames_of self.now) at (seen (program_of self.now) g.now)) (branches (forms.seen form.now)) }
+    fn branches_fit(&self, at: u32, form: &Form<&Switch>, g: &Held) -> bool
+        requires { IsHeld self.now g.now }
+        ensures { result
+            ≡ list_all (Typing.branch_fits (program_of self.now) (frames_of self.now) at (held_seen (program_of self.now) g.now))
+            (branches (forms.seen form.now)) }
     {
         for i in 0..branch_count(form) {
             if !self.branch_fits(at, form, i, g) {
@@ -171,30 +324,41 @@ impl<'a> Checking<'a> {
         true
     }
 
-    /// What arrives at the instruction behind one, inside None where it goes on and none is behind it, or where the frame doesn't fit there.
-    fn onward(&self, g: FrameRef, goes_on: bool, rest: &[Placed]) -> Option<Option<FrameRef>>
-        requires { IsCounted self.now g }
-        ensures count { IfSome result (λ r. IfSome r (IsCounted self.now)) }
-        ensures seen { option_map (option_map (seen (program_of self.now))) result ≡ Typing.onward (program_of self.now) (frames_of self.now) (seen (program_of self.now) g) goes_on rest.now }
+    /// What arrives at the instruction behind one; None where it goes on and none is behind it, or where the frame doesn't fit there.
+    fn onward(&self, g: Held, goes_on: bool, rest: &[Placed]) -> Option<Arriving>
+        requires { IsHeld self.now g }
+        ensures held { IfSome result (λ a. IsHeld self.now a.held) }
+        ensures seen { option_map (arrived (program_of self.now)) result
+            ≡ Typing.onward (program_of self.now) (frames_of self.now) (held_seen (program_of self.now) g) goes_on rest.now }
     {
         if !goes_on {
-            return Some(None);
+            return Some(Arriving {
+                held: g,
+                comes: false,
+            });
         }
         match rest {
             [] => None,
             [o, ..] => {
-                if !self.declared.lets_in(self.p, &g, i64::from(o.at)) {
+                if !self
+                    .declared
+                    .lets_in(self.p, &g.frame, g.known.from, i64::from(o.at))
+                {
                     return None;
                 }
-                Some(Some(g))
+                Some(Arriving {
+                    held: g,
+                    comes: true,
+                })
             }
         }
     }
 
-    fn leave(&self, o: &Placed, rest: &[Placed], g: FrameRef) -> Option<Option<FrameRef>>
-        requires { IsCounted self.now g }
-        ensures count { IfSome result (λ r. IfSome r (IsCounted self.now)) }
-        ensures seen { option_map (option_map (seen (program_of self.now))) result ≡ Typing.leave (program_of self.now) (frames_of self.now) o.now rest.now (seen (program_of self.now) g) }
+    fn leave(&self, o: &Placed, rest: &[Placed], g: Held) -> Option<Arriving>
+        requires { IsHeld self.now g }
+        ensures held { IfSome result (λ a. IsHeld self.now a.held) }
+        ensures seen { option_map (arrived (program_of self.now)) result
+            ≡ Typing.leave (program_of self.now) (frames_of self.now) o.now rest.now (held_seen (program_of self.now) g) }
     {
         let form = form_of(&o.op);
         if !self.branches_fit(o.at, &form, &g) {
@@ -205,40 +369,32 @@ impl<'a> Checking<'a> {
 
     /// What arrives behind an instruction by the frame before it; None where a test of it fails.
     #[tactic(auto, unfolding(jtyping::specs::Typing::step))]
-    fn step(
-        &self,
-        o: &Placed,
-        rest: &[Placed],
-        f: FrameRef,
-    ) -> Result<Option<Option<FrameRef>>, AllocError>
+    fn step(&self, o: &Placed, rest: &[Placed], f: Held) -> Result<Option<Arriving>, AllocError>
         requires checking { IsChecking self.now }
         requires short { o.now.at ≤ 0xffff }
-        requires count { IsCounted self.now f }
-        ensures count { IfOk result (λ r. IfSome r (λ arriving. IfSome arriving (IsCounted self.now))) }
-        ensures seen { IfOk result (λ r. option_map (option_map (seen (program_of self.now))) r ≡ Typing.step (program_of self.now) (method_of self.now) (frames_of self.now) o.now rest.now (seen (program_of self.now) f)) }
+        requires held { IsHeld self.now f }
+        ensures held { IfOk result (λ r. IfSome r (λ a. IsHeld self.now a.held)) }
+        ensures seen { IfOk result (λ r. option_map (arrived (program_of self.now)) r
+            ≡ Typing.step (program_of self.now) (method_of self.now) (frames_of self.now) o.now rest.now (held_seen (program_of self.now) f)) }
     {
-        if !self.handlers_fit(o.at, &f) {
+        if !self.serves(o.at, &f) {
             return Ok(None);
         }
-        let Some(g) = self.ruled(o, f)? else {
+        let known = self.known_behind(o, &f);
+        let Some(frame) = self.ruled(o, f.frame)? else {
             return Ok(None);
         };
-        Ok(self.leave(o, rest, g))
+        Ok(self.leave(o, rest, Held { frame, known }))
     }
 
     /// The frame with which the instruction at a place begins: the declared one, or else what arrives.
-    fn begun(
-        &self,
-        alloc: Global,
-        at: u32,
-        arriving: Option<FrameRef>,
-    ) -> Result<Option<FrameRef>, AllocError>
-        requires { IfSome arriving (IsCounted self.now) }
-        ensures count { IfOk result (λ r. IfSome r (IsCounted self.now)) }
-        ensures seen { IfOk result (λ r. option_map (seen (program_of self.now)) r
-            ≡ Typing.begun (declared_at (frames_of self.now) (pos at)) (option_map (seen (program_of self.now)) arriving)) }
+    fn begun(&self, alloc: Global, at: u32, a: Arriving) -> Result<Option<Held>, AllocError>
+        requires { IsHeld self.now a.held }
+        ensures held { IfOk result (λ r. IfSome r (IsHeld self.now)) }
+        ensures seen { IfOk result (λ r. option_map (held_seen (program_of self.now)) r
+            ≡ Typing.begun (declared_at (frames_of self.now) (pos at)) (arrived (program_of self.now) a)) }
     {
-        let begun = self.declared.begun(alloc, self.p, i64::from(at), arriving)?;
+        let begun = self.declared.begun(alloc, self.p, at, a)?;
         Ok(begun)
     }
 
@@ -247,11 +403,13 @@ impl<'a> Checking<'a> {
     pub(crate) fn walk(&self, alloc: Global, first: FrameRef) -> Result<Option<u32>, AllocError>
         requires checking { IsChecking self.now }
         requires count { IsCounted self.now first }
-        ensures { IfOk result (λ r. r ≡ Typing.walk (program_of self.now) (method_of self.now) (frames_of self.now) (method_of self.now).body.ops (Some (seen (program_of self.now) first))) }
+        ensures { IfOk result (λ r. r
+            ≡ Typing.walk (program_of self.now) (method_of self.now) (frames_of self.now) (method_of self.now).body.ops
+            (Some (seen (program_of self.now) first))) }
     {
         let method = self.method;
         let ops = method.body.ops;
-        let mut arriving = Some(first);
+        let mut arriving = first_of(first);
         for (i, o) in ops.iter().enumerate() {
             let Some(f) = self.begun(alloc, o.at, arriving)? else {
                 return Ok(Some(o.at));

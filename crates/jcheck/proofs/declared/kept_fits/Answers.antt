@@ -4,7 +4,7 @@ use Rattle.jtypes.specs.Fitting.{fits}
 use Rattle.jtypes.specs.Frames.{implies, stack_fits}
 use Rattle.jprogram.specs.Classes.{tree}
 use Rattle.juses.specs.Types.{named}
-use Rattle.jcheck.proofs.Matching.{flag_fails, locals_count, stack_fails}
+use Rattle.jcheck.proofs.Matching.{flag_fails, locals_count, same_fits, stack_fails}
 use Rattle.jcheck.proofs.declared.kept_fits.Goals as goal
 
 pub returns-then-not-implies : goal.returns-then-not-implies
@@ -17,6 +17,13 @@ returns-then-not-stack_fits c =
     let p = c.args.p.now in
     stack_fails p c.args.chains.now c.args.k.now c.args.locals.now c.args.stack.now c.args.flag
     (ap (λ xs. stack_fits (fits (tree p)) (map (named p) c.args.stack.now) (map (named p) xs)) (sym c.as_slice.ensures) ∙ sym c.stack_fits.ensures ∙ c.if-not-stack_fits.true)
+
+pub returns-then-same : goal.returns-then-same
+returns-then-same c =
+    let p = c.args.p.now in
+    same_fits p c.args.chains.now c.args.k.now c.args.locals.now c.args.stack.now c.args.flag (c.requires.same c.if-same.true)
+    (ap (λ xs. stack_fits (fits (tree p)) (map (named p) c.args.stack.now) (map (named p) xs)) (sym c.as_slice.ensures) ∙ sym c.stack_fits.ensures ∙ c.if-not-stack_fits.false)
+    (ap (implies c.args.flag) (sym c.flag.ensures) ∙ sym c.implies.ensures ∙ c.if-not-implies.false)
 
 pub returns : goal.returns
 returns c =

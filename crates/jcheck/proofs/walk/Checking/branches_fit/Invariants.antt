@@ -7,4 +7,4 @@ use Rattle.jcheck.specs.Checking.{frames_of, program_of}
 use Rattle.jcheck.proofs.walk.Checking.branches_fit.Given as goal
 
 abbrev pub invariant-loop-i : goal.invariant-loop-i
-invariant-loop-i l = list_all (typing.branch_fits (program_of l.self) (frames_of l.self) l.at (seen (program_of l.self) l.g)) (drop l.i (branches (seen_form l.form))) ≡ list_all (typing.branch_fits (program_of l.self) (frames_of l.self) l.at (seen (program_of l.self) l.g)) (branches (seen_form l.form))
+invariant-loop-i l = list_all (typing.branch_fits (program_of l.self) (frames_of l.self) l.at (seen (program_of l.self) l.g.frame)) (drop l.i (branches (seen_form l.form))) ≡ list_all (typing.branch_fits (program_of l.self) (frames_of l.self) l.at (seen (program_of l.self) l.g.frame)) (branches (seen_form l.form))
