@@ -72,11 +72,3 @@ first_seen p m values places count f is filled most locals_are stack_is flag_is 
     let flag_by : f.flag ≡ list_any is_this m.params = cc in
     same_frame (map (named p) f.locals) (filled_by m.body.max_locals (frames.places_of (map (named p) m.params))) (map (named p) f.stack) [] f.flag (list_any is_uninit_this (map (named p) m.params))
     (ap (map (named p)) locals_by ∙ filled_named p m.body.max_locals m.params) (ap (map (named p)) stack_is) (flag_by ∙ sym (any_this p m.params))
-
--- ---- places one by one
-
-pub both_places : (places : List TypeRef) (a b : TypeRef) → (places ++ a ∷ []) ++ b ∷ [] ≡ places ++ a ∷ b ∷ []
-both_places places a b = append_assoc places (a ∷ []) (b ∷ [])
-
-pub places_more : (done some : List TypeRef) (k : TypeRef) (all : List TypeRef) → some ++ places_in (k ∷ all) ≡ done → (some ++ places k) ++ places_in all ≡ done
-places_more done some k all e = append_assoc some (places k) (places_in all) ∙ e

@@ -1,4 +1,5 @@
-ghost use Rattle.std.specs.Prelude.{◌≡◌, ◌≤◌, ◌∷◌, ◌++◌, [], pos, Bool, IfOk, IfSome, List, OnOk, Some, length, map, option_map, reverse, slice_get, true};
+ghost use Rattle.std.specs.Prelude.{◌≡◌, ◌≤◌, ◌∷◌, ◌++◌, [], pos, Bool, IfOk, IfSome, List, OnOk, Some};
+ghost use Rattle.std.specs.Prelude.{length, map, option_map, reverse, slice_get, true};
 ghost use Rattle.std.specs.List.{find, flat_map};
 ghost use Rattle.std.specs.Option.{option_copied};
 ghost use Rattle.std.specs.Ordering.{int_eq};
@@ -140,7 +141,8 @@ fn kept_fits(
     same: bool,
 ) -> bool
     requires kept { IsKept chains.now (length locals.now) k.now }
-    requires same { same ≡ true → map (named p.now) locals.now ≡ (frame_named p.now (length locals.now) (given chains.now k.now)).locals }
+    requires same { same ≡ true
+        → map (named p.now) locals.now ≡ (frame_named p.now (length locals.now) (given chains.now k.now)).locals }
     ensures { result
         ≡ Typing.frame_fits (tree p.now) (frame_seen p.now locals.now (reverse stack.now) flag)
         (frame_named p.now (length locals.now) (given chains.now k.now)) }
@@ -160,7 +162,7 @@ fn kept_fits(
 // ---- frames made anew
 
 /// Puts the places that a local fills to others, the last one first.
-fn push_places(places: &mut Vec<TypeRef>, kind: TypeRef) -> Result<(), AllocError>
+pub(crate) fn push_places(places: &mut Vec<TypeRef>, kind: TypeRef) -> Result<(), AllocError>
     ensures { OnOk result (places.new.items ≡ places.old.items ++ reverse (Given.places kind)) }
 {
     match kind {
@@ -238,7 +240,8 @@ fn again(
     ensures seen { IfOk result (λ h. held_seen p.now h ≡ frame_named p.now (length old.frame.locals) (given chains.now k.now)) }
     ensures count { IfOk result (λ h. length h.frame.locals ≡ length old.frame.locals) }
     ensures from { IfOk result (λ h. h.known.from ≡ Some at) }
-    ensures served { (test : List VType → Bool → Served → Bool) → IfSome old.known.served (λ s. test (held_seen p.now old).locals old.frame.flag s ≡ true)
+    ensures served { (test : List VType → Bool → Served → Bool)
+        → IfSome old.known.served (λ s. test (held_seen p.now old).locals old.frame.flag s ≡ true)
         → IfOk result (λ h. IfSome h.known.served (λ s. test (held_seen p.now h).locals h.frame.flag s ≡ true)) }
 {
     let stack = stack_of(alloc, k.stack.as_slice())?;

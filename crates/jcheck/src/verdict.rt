@@ -1,4 +1,4 @@
-ghost use Rattle.std.specs.Prelude.{◌≡◌, ◌++◌, IfOk, IfSome, IsTrue, MatchResult, None, OnOk, Some, length, option_map, slice_get};
+ghost use Rattle.std.specs.Prelude.{◌≡◌, IfOk, IfSome, IsTrue, MatchResult, None, Some, length, option_map, slice_get};
 ghost use Rattle.std.specs.List.{list_any};
 ghost use Rattle.jbase.specs.First.{first_some};
 ghost use Rattle.jclass.specs.Class.{class_file};
@@ -12,11 +12,11 @@ ghost use Rattle.jcheck.specs.Checking.{IsChecking, IsCounted, IsGood, frames_of
 ghost use Rattle.jcheck.specs.Checks.{TypeFaultIs, place_of};
 ghost use Rattle.jcheck.specs.First;
 ghost use Rattle.jcheck.specs.First.{IsFirst, places_in};
-ghost use Rattle.jcheck.specs.Given;
 ghost use Rattle.jcheck.specs.Numbered.{seen_body, seen_method};
 
 use crate::chains::is_this;
 use crate::checked::CheckedProgram;
+use crate::declared::push_places;
 use crate::fault::{Place, TypeFault};
 use crate::method::{MethodRef, code_in, method_of};
 use crate::news::news_of;
@@ -46,33 +46,18 @@ fn frames_in(attributes: &[CodeAttribute]) -> &[RawFrame]
     &[]
 }
 
-/// Puts the locals that a value fills behind others: a long fills two, and the second is Top.
-fn push_places(places: &mut Seq<TypeRef>, kind: TypeRef) -> Result<(), AllocError>
-    ensures { OnOk result (places.new ≡ places.old ++ Given.places kind) }
-{
-    match kind {
-        TypeRef::Long => {
-            places.push(TypeRef::Long)?;
-            places.push(TypeRef::Top)?;
-            Ok(())
-        }
-        _ => {
-            places.push(kind)?;
-            Ok(())
-        }
-    }
-}
-
-/// The locals that values fill, the first one first.
-#[tactic(auto, using(crate::proofs::Beginning::places_more))]
+/// The locals that values fill, the first one first: a long fills two, and the second is Top.
 fn places_of(alloc: Global, values: &[TypeRef]) -> Result<Seq<TypeRef>, AllocError>
     ensures { IfOk result (λ places. places ≡ places_in values.now) }
 {
-    let mut places = Seq::new(alloc);
-    for kind in values {
-        push_places(&mut places, *kind)?;
+    let mut places = Vec::new(alloc);
+    let mut left = values.len();
+    while left != 0 {
+        left -= 1;
+        push_places(&mut places, values[left])?;
     }
-    Ok(places)
+    places.reverse();
+    Ok(Seq::from_vec(places))
 }
 
 fn has_this(values: &[TypeRef]) -> bool

@@ -283,7 +283,9 @@ impl<'a> Checking<'a> {
         requires short { o.now.at ≤ 0xffff }
         requires count { IsCounted self.now f }
         ensures count { IfOk result (λ r. IfSome r (IsCounted self.now)) }
-        ensures seen { IfOk result (λ r. option_map (seen (program_of self.now)) r ≡ by_form (program_of self.now) (Methods.here_of (program_of self.now) (method_of self.now) o.now.at) (method_of self.now).pool (form o.now.op) (seen (program_of self.now) f)) }
+        ensures seen { IfOk result (λ r. option_map (seen (program_of self.now)) r
+            ≡ by_form (program_of self.now) (Methods.here_of (program_of self.now) (method_of self.now) o.now.at) (method_of self.now).pool
+            (form o.now.op) (seen (program_of self.now) f)) }
     {
         let here = self.here(o.at as u16);
         let form = form_of(&o.op);
