@@ -1,4 +1,5 @@
 pub mod Keeping
+pub mod Leading
 pub mod Naming
 pub mod Noting
 pub mod Reading
