@@ -190,7 +190,8 @@ fn by_flow(
     flow: &Flow<&Switch>,
 ) -> Result<Option<InstructionRef>, AllocError>
     requires { AreCode ops.now }
-    ensures { IfOk result (λ o. option_map (instruction_named p.now (pool_at p.now class) uses.now.types) o ≡ Instructions.flow ops.now at (Forms.seen_flow flow.now)) }
+    ensures { IfOk result (λ o. option_map (instruction_named p.now (pool_at p.now class) uses.now.types) o
+        ≡ Instructions.flow ops.now at (Forms.seen_flow flow.now)) }
 {
     match flow_of(alloc, ops, at, flow)? {
         Some(flow) => Ok(Some(InstructionRef::Flow(flow))),
@@ -202,7 +203,8 @@ fn by_flow(
 
 /// What an entry means to an instruction, seen as that instruction.
 fn as_used(p: &NamedProgram, uses: &Uses, class: u32, found: Option<Use>) -> Option<InstructionRef>
-    ensures { option_map (instruction_named p.now (pool_at p.now class) uses.now.types) result ≡ option_map Instructions.Used (option_map (meaning_of p.now (pool_at p.now class) uses.now.types) found) }
+    ensures { option_map (instruction_named p.now (pool_at p.now class) uses.now.types) result
+        ≡ option_map Instructions.Used (option_map (meaning_of p.now (pool_at p.now class) uses.now.types) found) }
 {
     match found {
         Some(found) => Some(InstructionRef::Used(found)),
@@ -212,7 +214,8 @@ fn as_used(p: &NamedProgram, uses: &Uses, class: u32, found: Option<Use>) -> Opt
 
 fn by_pool(p: &NamedProgram, uses: &Uses, class: u32, form: PoolForm) -> Option<InstructionRef>
     requires { AreUses p.now uses.now }
-    ensures { option_map (instruction_named p.now (pool_at p.now class) uses.now.types) result ≡ option_map Instructions.Used (meant p.now (pool_at p.now class) form) }
+    ensures { option_map (instruction_named p.now (pool_at p.now class) uses.now.types) result
+        ≡ option_map Instructions.Used (meant p.now (pool_at p.now class) form) }
 {
     let found = uses.use_at(class, form);
     as_used(p, uses, class, found)
@@ -220,7 +223,8 @@ fn by_pool(p: &NamedProgram, uses: &Uses, class: u32, form: PoolForm) -> Option<
 
 fn by_index(p: &NamedProgram, uses: &Uses, class: u32, i: u16) -> Option<InstructionRef>
     requires { AreUses p.now uses.now }
-    ensures { option_map (instruction_named p.now (pool_at p.now class) uses.now.types) result ≡ option_map Instructions.Used (array_meant p.now (pool_at p.now class) i) }
+    ensures { option_map (instruction_named p.now (pool_at p.now class) uses.now.types) result
+        ≡ option_map Instructions.Used (array_meant p.now (pool_at p.now class) i) }
 {
     let found = uses.array_use_at(class, i);
     as_used(p, uses, class, found)
@@ -254,7 +258,8 @@ pub fn instruction_of(
 ) -> Result<Option<InstructionRef>, AllocError>
     requires uses { AreUses p.now uses.now }
     requires code { AreCode ops.now }
-    ensures { IfOk result (λ o. option_map (instruction_named p.now (pool_at p.now class) uses.now.types) o ≡ Instructions.instruction p.now (pool_at p.now class) ops.now one.now) }
+    ensures { IfOk result (λ o. option_map (instruction_named p.now (pool_at p.now class) uses.now.types) o
+        ≡ Instructions.instruction p.now (pool_at p.now class) ops.now one.now) }
 {
     match form_of(&one.op) {
         Form::Simple(form) => Ok(Some(InstructionRef::Simple(form))),
@@ -276,7 +281,8 @@ pub fn instruction_at(
     i: u32,
 ) -> Result<Option<InstructionRef>, AllocError>
     requires { AreUses p.now uses.now }
-    ensures { IfOk result (λ o. option_map (instruction_named p.now (pool_at p.now m.class) uses.now.types) o ≡ Instructions.instruction_at p.now m i) }
+    ensures { IfOk result (λ o. option_map (instruction_named p.now (pool_at p.now m.class) uses.now.types) o
+        ≡ Instructions.instruction_at p.now m i) }
 {
     let Some(code) = code_at(p, m) else {
         return Ok(None);
