@@ -8,13 +8,14 @@ ghost use Rattle.jprogram.specs.Slots;
 
 use crate::firsts::{Firsts, firsts_in};
 use crate::found::Found;
+use crate::library::class_named;
 use crate::names::places_of;
 use crate::part::{ClassRef, CodePart};
 use crate::parts::this_name;
 use crate::slots::{place_in, slots_of};
 use jbase::Seq;
 use jclass::ClassFile;
-use jlib::{Side, class};
+use jlib::Side;
 use std::alloc::{AllocFailed, Global};
 use std::collections::BTreeMap;
 use std::marker::Model;
@@ -155,7 +156,7 @@ impl NamedProgram {
     fn library_class(&self, name: &[u8]) -> Option<Found<'_>>
         ensures { option_map seen result ≡ Classes.found_at self.now name.now None }
     {
-        match class(self.side, name) {
+        match class_named(self.side, name) {
             Some(class) => Some(Found::Lib(class)),
             None => None,
         }

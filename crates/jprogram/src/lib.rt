@@ -11,6 +11,7 @@ mod found;
 mod heights;
 mod implemented;
 mod laws;
+mod library;
 mod main_method;
 mod member;
 mod members;

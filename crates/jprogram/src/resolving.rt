@@ -6,11 +6,11 @@ ghost use Rattle.jprogram.specs.Layers.{AreClosed, IsLayered};
 ghost use Rattle.jprogram.specs.Members;
 
 use crate::classes::NamedProgram;
+use crate::library::class_named;
 use crate::member::Member;
 use crate::members::{lib_field_in, lib_method_in, user_field, user_method};
 use crate::searching::Sort;
 use jbase::Seq;
-use jlib::class as library_class;
 use std::alloc::{AllocError, Global};
 
 const INIT: &[u8] = b"<init>";
@@ -26,7 +26,7 @@ impl NamedProgram {
     fn library_method(&self, name: &[u8], desc: &[u8], class: &[u8]) -> Option<Member>
         ensures { result ≡ option_and_then (λ c. Members.method_in self.now.side c name.now desc.now) (Classes.found_at self.now class.now None) }
     {
-        let class = library_class(self.side(), class)?;
+        let class = class_named(self.side(), class)?;
         lib_method_in(self.side(), class, name, desc)
     }
 
@@ -40,7 +40,7 @@ impl NamedProgram {
     fn library_field(&self, name: &[u8], desc: &[u8], class: &[u8]) -> Option<Member>
         ensures { result ≡ option_and_then (λ c. Members.field_in self.now.side c name.now desc.now) (Classes.found_at self.now class.now None) }
     {
-        let class = library_class(self.side(), class)?;
+        let class = class_named(self.side(), class)?;
         lib_field_in(self.side(), class, name, desc)
     }
 
@@ -142,7 +142,8 @@ impl NamedProgram {
         }
     }
 
-    /// The same where the class has it or lists no interfaces; `None` where these would have to be gone through.
+    /// The first member of this name and descriptor in a class itself, of fields alone, and in its interfaces, where the class has it or
+    /// lists none; `None` where interfaces would have to be gone through.
     #[tactic(auto, using(crate::proofs::Plain::plain_found, crate::proofs::Plain::plain_none))]
     fn plainly_at(
         &self,

@@ -38,13 +38,13 @@ fn fill(slots: &mut Seq<Option<u32>>, k: usize, i: u32)
     slots.set(k, Some(i));
 }
 
-/// The slots of parts: some four for each, so that few names share one.
+/// The slots of parts: some eight for each, so that few names share one.
 #[tactic(auto, using(crate::proofs::Slotting::free_length, crate::proofs::Slotting::filled_none, crate::proofs::Slotting::filled_end))]
 pub fn slots_of(alloc: Global, parts: &[CodePart]) -> Result<Seq<Option<u32>>, AllocError>
     requires { length parts.now ≤ 0xffff }
     ensures { IfOk result (λ slots. AreSlots parts.now slots) }
 {
-    let count = 4 * parts.len() + 1;
+    let count = 8 * parts.len() + 1;
     let mut slots = Seq::from_vec(vec![in alloc; None; count]?);
     for (i, part) in parts.iter().enumerate() {
         let k = slot_of(count, this_name(part.class.parts()));
