@@ -1,5 +1,5 @@
 -- What is noted stays right.
-use Rattle.std.proofs.Common.{◌≡◌, ℕ, Bool, true, false, cond, List, [], Option, Some, None, refl, sym, ap, subst, ◌∙◌, inl, inr}
+use Rattle.std.proofs.Common.{◌≡◌, ℕ, Bool, true, cond, List, Option, Some, None, sym, ap, subst, ◌∙◌, inl, inr, arith}
 use Rattle.std.specs.Prelude.{option_and_then, slice_get}
 use Rattle.std.specs.Ordering.{is_eq, nat_cmp}
 use Rattle.std.specs.BTreeMap as tree
@@ -7,7 +7,6 @@ use Rattle.std.specs.BTreeMap.{BTreeMap}
 use Rattle.std.specs.Map.{lookup}
 use Rattle.std.proofs.lemmas.Bool.{cases_Bool}
 use Rattle.std.proofs.lemmas.Bool.Decides.{nat_tests}
-use Rattle.std.proofs.Common.{arith}
 use Rattle.jpool.specs.declared.entry.Entry.{Entry}
 use Rattle.jpool.specs.Pools.{class_name_at, name_and_type_at, name_in, utf8_at}
 use Rattle.jprogram.specs.declared.member.Member.{Member}
@@ -16,12 +15,11 @@ use Rattle.jprogram.specs.Members.{looked_up, referred, resolve_field, resolve_m
 use Rattle.jprogram.specs.Parts.{class_text, or_empty, text}
 use Rattle.juses.specs.declared.entries.Kept.{Kept}
 use Rattle.juses.specs.declared.indices.Indices.{Indices}
-use Rattle.juses.specs.declared.noted.Noted.{Noted}
 use Rattle.juses.specs.declared.noted.Refers.{Refers}
 use Rattle.juses.specs.declared.noted.Refers.TheVariants as refers
 use Rattle.juses.specs.declared.types.TypeRef.{TypeRef}
-use Rattle.juses.specs.Known.{AllAre, HasTexts, IsNoted, entry_of}
-use Rattle.juses.specs.Meanings.{EntryMeaning, entry_meant, field_entry, method_entry, reference}
+use Rattle.juses.specs.Known.{AllAre, HasTexts, entry_of}
+use Rattle.juses.specs.Meanings.{entry_meant, field_entry, method_entry, reference}
 use Rattle.juses.specs.Tables.{KeptIs}
 
 same_number : (a b : ℕ) → is_eq (nat_cmp a b) ≡ true → a ≡ b

@@ -1,5 +1,5 @@
 -- What is noted of a pool while its entries are looked at, so that what several of them name is looked at once.
-use Rattle.std.specs.Prelude.{◌≡◌, ℕ, List, Option, Some, slice_get}
+use Rattle.std.specs.Prelude.{◌≡◌, ℕ, List, Some, slice_get}
 use Rattle.std.specs.Ordering.{nat_cmp}
 use Rattle.std.specs.BTreeMap as tree
 use Rattle.std.specs.BTreeMap.{BTreeMap}
@@ -41,6 +41,6 @@ abbrev pub AreNoted : Program → List Entry → List TypeRef → BTreeMap ℕ N
 AreNoted p pool types noted = AllAre (λ i n. IsNoted p pool types n) noted
 
 -- What is noted of a pool.
-pub record AreKnown (p : Program) (pool : List Entry) (types : List TypeRef) (classes : BTreeMap ℕ Kept) (references : BTreeMap ℕ Noted) : Type 0 where
+pub record AreKnown (p : Program) (pool : List Entry) (types : List TypeRef) (classes : BTreeMap ℕ Kept) (noted : BTreeMap ℕ Noted) : Type 0 where
   pub of_classes : AreClasses p pool types classes
-  pub of_references : AreNoted p pool types references
+  pub of_references : AreNoted p pool types noted

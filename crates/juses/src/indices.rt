@@ -40,7 +40,7 @@ impl Indices {
         both * 65536 + u64::from(self.desc)
     }
 
-    /// Whether they are others.
+    /// Whether others are the same.
     pub fn is_same(self, other: Indices) -> bool
         ensures { result ≡ true → self ≡ other }
     {
