@@ -1,5 +1,5 @@
 -- What is selected has the name and the descriptor that was looked for.
-use Rattle.std.proofs.Common.{◌≡◌, ℕ, Bool, true, false, not, ◌&&◌, List, [], ◌∷◌, get_or, Option, Some, None, refl, sym, ap, subst, ◌∙◌}
+use Rattle.std.proofs.Common.{◌≡◌, ℕ, Bool, true, false, not, List, [], ◌∷◌, get_or, Option, Some, None, refl, ap, subst, ◌∙◌}
 use Rattle.std.specs.Prelude.{option_and_then, option_map, slice_get, if◌then◌else◌}
 use Rattle.std.specs.List as lists
 use Rattle.std.specs.List.{cons_option, filter_map, position}
@@ -24,7 +24,7 @@ use Rattle.jprogram.specs.declared.member.MethodId.{MethodId}
 use Rattle.jprogram.specs.declared.member.Selected.TheVariants as selected
 use Rattle.jprogram.specs.declared.part.CodePart.{CodePart}
 use Rattle.jprogram.specs.Parts.{is_called, member_desc, member_name}
-use Rattle.jprogram.specs.Classes.{Class, Lib, Program, User, find, found_at, place_of, up}
+use Rattle.jprogram.specs.Classes.{Lib, Program, User, find, found_at, place_of, up}
 use Rattle.jprogram.specs.Members.{as_selected, desc_in, desc_of, first_by, first_taking, info_of, is_abstract, is_static, lib_method, method_at, method_id, method_in, methods_along, name_in, name_of, name_of_id, select, takes_call}
 use Rattle.jlink.specs.Selecting.{IsCalledAs, IsSelectedAs}
 
