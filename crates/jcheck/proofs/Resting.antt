@@ -1,5 +1,5 @@
 -- A quiet form leaves the locals and the flag as they are.
-use Rattle.std.proofs.Common.{◌≡◌, ℕ, zero, suc, Bool, true, false, List, [], ◌∷◌, Option, Some, None, refl, sym, ap, ◌∙◌}
+use Rattle.std.proofs.Common.{◌≡◌, ℕ, Bool, true, false, List, [], ◌∷◌, Option, Some, None, refl, ◌∙◌}
 use Rattle.std.specs.Borrow.{Bor}
 use Rattle.std.specs.Prelude.{slice_get, option_and_then, option_map, ◌&&◌, if◌then◌else◌}
 use Rattle.jnames.specs.declared.names.Shuffle.{Shuffle}
@@ -26,7 +26,6 @@ use Rattle.jtypes.specs.declared.vtype.VType.{VType}
 use Rattle.jtypes.specs.Frames.{Frame, within}
 use Rattle.jtypes.specs.Tree.{Tree}
 use Rattle.jprogram.specs.Classes.{Program, tree}
-use Rattle.juses.specs.declared.meaning.How.TheVariants as how
 use Rattle.juses.specs.Meanings as meanings
 use Rattle.juses.specs.Meanings.{EntryMeaning, Meaning, array_made, array_meant, called_by, called_by_interface, cast_by, entry_meant, field_used, long_constant, meant, short_constant}
 use Rattle.juses.specs.Typed.{array_over}
@@ -37,7 +36,6 @@ use Rattle.jrule.specs.Here.{Here}
 use Rattle.jrule.specs.Locals.{is_whole, load_from, local, passes}
 use Rattle.jrule.specs.Moves.{move, shuffled}
 use Rattle.jrule.specs.Operands.{below, exchanged, given, pushed, taken, with_room, with_stack}
-use Rattle.jrule.specs.Rule.{used}
 use Rattle.jrule.specs.Straight.{flow}
 use Rattle.jcheck.specs.Keeping.{is_quiet}
 

@@ -1,6 +1,6 @@
 -- A search finds the frame at a place, as places rise.
 use Rattle.std.proofs.Common.{◌≡◌, ℕ, ◌<◌, ◌≤◌, ℤ, pos, negsuc, Bool, true, false, cond, List, [], ◌∷◌, length, get_or, map, reverse, Option, Some, None, Result, Ok, Err, refl, sym, ap, subst, ◌∙◌, arith, inl, inr}
-use Rattle.std.specs.Prelude.{◌<ℤ◌, ◌==◌, IfSome, option_map, option_and_then}
+use Rattle.std.specs.Prelude.{◌<ℤ◌, IfSome, option_map, option_and_then}
 use Rattle.std.specs.List.{AllByRecursion, find, position_or_len, slice_get}
 use Rattle.std.specs.List.Sorted.{IsSearchInRange, IsBinarySearchResult, IsNonDecreasingBy}
 use Rattle.std.specs.Ordering.{int_cmp, int_eq, ordering_index}
@@ -12,7 +12,6 @@ use Rattle.std.proofs.lemmas.List.Folds.{find_at}
 use Rattle.std.proofs.lemmas.List.Sums.{position_or_len_is}
 use Rattle.std.proofs.lemmas.List.Sorted.{IsNonDecreasingBy-from_default}
 use Rattle.std.proofs.lemmas.Option.{slice_get-get_or, slice_get_past}
-use Rattle.jtypes.specs.declared.vtype.VType.{VType}
 use Rattle.jtypes.specs.Frames.{Frame, places_of}
 use Rattle.jprogram.specs.Classes.{Program, tree}
 use Rattle.juses.specs.declared.types.TypeRef.{TypeRef}
