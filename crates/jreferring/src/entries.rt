@@ -11,7 +11,7 @@ use crate::judged::{Judged, MemberUse, Sort};
 use crate::known::{Home, Known, class_at, named_at, nothing, resolved};
 use crate::references::{Texts, desc_use, member_use, owner_use};
 use jclass::ClassParts;
-use jpool::{Entry, Pool};
+use jpool::Entry;
 use jprogram::{Member, NamedProgram, class_text, text_at, this_name};
 use juses::Indices;
 use std::alloc::{AllocError, Global};
