@@ -107,17 +107,36 @@ fn steps(alloc: Global, first: &[MapType], raw: &[RawFrame]) -> Result<String, E
     Ok(text)
 }
 
+/// What is told where the two ways to the frames in full differ.
+fn differing(alloc: Global) -> Result<String, Unread> {
+    Ok(String::from_str(alloc, "one at a time they are others")?)
+}
+
+fn same_text(alloc: Global, one: &str, other: &str) -> Result<String, Unread> {
+    if one != other {
+        return differing(alloc);
+    }
+    Ok(String::from_str(alloc, one)?)
+}
+
+fn same_fault(alloc: Global, one: &ExpandError, other: &ExpandError) -> Result<String, Unread> {
+    if one != other {
+        return differing(alloc);
+    }
+    Ok(format!(in alloc; "{one:?}")?)
+}
+
 /// What the two ways to the frames in full say, where they say the same.
 fn told(
     alloc: Global,
     full: Result<String, ExpandError>,
     steps: Result<String, ExpandError>,
 ) -> Result<String, Unread> {
-    match (full, steps) {
-        (Ok(full), Ok(steps)) if full.as_str() == steps.as_str() => Ok(full),
+    match (&full, &steps) {
+        (Ok(one), Ok(other)) => same_text(alloc, one.as_str(), other.as_str()),
         (Err(ExpandError::Memory), _) | (_, Err(ExpandError::Memory)) => Err(Unread::Memory),
-        (Err(full), Err(steps)) if full == steps => Ok(format!(in alloc; "{full:?}")?),
-        _ => Ok(String::from_str(alloc, "one at a time they are others")?),
+        (Err(one), Err(other)) => same_fault(alloc, one, other),
+        _ => differing(alloc),
     }
 }
 

@@ -5,4 +5,4 @@ use Rattle.tests_code.proofs.stack_maps.full_forms.Goals as goal
 
 pub write_maps-requires : goal.write_maps-requires
 unfolding fits_from map_type
-write_maps-requires g c = rw (c.in_ok-from_slice.ensures, c.new.ensures, c.new-2.ensures, c.in_ok-from_slice-2.ensures) refl
+write_maps-requires c = rw (c.in_ok-from_slice.ensures, c.new.ensures, c.new-2.ensures, c.in_ok-from_slice-2.ensures) refl
