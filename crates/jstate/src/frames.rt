@@ -1,0 +1,254 @@
+ghost use Rattle.std.specs.Prelude.{◌≡◌, ◌<◌, ◌≤◌, ◌+◌, ◌^◌, ◌∷◌, [], IfOk, OnOk, OnErr, None, Some, MatchBool, drop, length, reverse, slice_get, slice_set, take};
+ghost use Rattle.jmachine.specs.Frames.{carrying, standing, with_operands};
+ghost use Rattle.jmachine.specs.Straight.{local_at};
+ghost use Rattle.jstate.specs.Framed.{framed, holding, keeping, pushed, starting, with_newest};
+
+use crate::places::Places;
+use jops::Value;
+use jpile::Pile;
+use jprogram::MethodId;
+use std::alloc::{AllocError, Global};
+use std::marker::Model;
+
+/// Where a frame stands, and what it carries.
+#[derive(Clone, Copy)]
+struct At<M> {
+    method: MethodId,
+    place: u32,
+    mark: M,
+}
+
+/// The frames of a thread that has one. Contracts see the newest, and those below it, the newest of them first, as the machine's
+/// definition has them.
+#[derive(Drop)]
+pub struct Frames<M> {
+    at: At<M>,
+    below: Vec<At<M>>,
+    locals: Pile<Option<Value>>,
+    operands: Pile<Value>,
+}
+
+impl<M> Model for Frames<M> {
+    ghost use Rattle.std.specs.Prelude.{◌≡◌, ◌+◌, length};
+    ghost use Rattle.jstate.specs.Framed.{Framed, shown};
+
+    ghost Value = { Framed M };
+
+    ghost view = { λ f. shown f.at f.below.items f.locals f.operands };
+
+    ghost invariant = { λ f. (length f.locals.below ≡ length f.below.items + 1) × (length f.operands.below ≡ length f.below.items + 1) };
+}
+
+// ---- how frames begin and go
+
+impl<M: Copy> Frames<M> {
+    /// The one frame of a thread that begins: of a method with so many locals, with arguments, the newest last.
+    pub fn open(
+        alloc: Global,
+        method: MethodId,
+        most: u32,
+        arguments: &[Value],
+        mark: M,
+    ) -> Result<Frames<M>, AllocError>
+        ensures { IfOk result (λ f. f ≡ record { newest = starting method most (reverse arguments.now) mark; below = [] }) }
+    {
+        let mut locals = Pile::new(alloc);
+        locals.open_from::<Value, Places>(arguments, most, None)?;
+        let mut operands = Pile::new(alloc);
+        operands.open()?;
+        Ok(Frames {
+            at: At {
+                method,
+                place: 0,
+                mark,
+            },
+            below: Vec::new(alloc),
+            locals,
+            operands,
+        })
+    }
+
+    /// Puts a frame of a method with so many locals on the others. Its arguments are the newest operands of the frame that calls,
+    /// which loses them. They are there. After an error nothing is said of the frames.
+    pub fn begin(
+        &mut self,
+        method: MethodId,
+        most: u32,
+        arguments: usize,
+        mark: M,
+    ) -> Result<(), AllocError>
+        requires { arguments ≤ length self.old.newest.operands }
+        ensures { OnOk result (self.new ≡ pushed (starting method most (take arguments self.old.newest.operands) mark) (holding (drop arguments self.old.newest.operands) self.old)) }
+    {
+        let given = self.operands.top(arguments);
+        self.locals.open_from::<Value, Places>(given, most, None)?;
+        self.operands.shrink(arguments);
+        if self.operands.open().is_err() {
+            self.locals.close();
+            return Err(AllocError);
+        }
+        if self.below.push(self.at).is_err() {
+            self.operands.close();
+            self.locals.close();
+            return Err(AllocError);
+        }
+        self.at = At {
+            method,
+            place: 0,
+            mark,
+        };
+        Ok(())
+    }
+
+    /// Takes the newest frame away, where there is one below it. Where there is none nothing changes, and the answer is no.
+    pub fn leave(&mut self) -> bool
+        ensures { MatchBool result (framed self.old.below ≡ Some self.new) ((self.old.below ≡ []) × (self.new ≡ self.old)) }
+    {
+        match self.below.pop() {
+            None => false,
+            Some(at) => {
+                self.at = at;
+                self.locals.close();
+                self.operands.close();
+                true
+            }
+        }
+    }
+}
+
+// ---- where a frame stands
+
+impl<M: Copy> Frames<M> {
+    /// The method of the newest frame.
+    #[inline]
+    pub fn method(&self) -> MethodId
+        ensures { result ≡ self.now.newest.method }
+    {
+        self.at.method
+    }
+
+    /// The number of the instruction where the newest frame stands.
+    #[inline]
+    pub fn place(&self) -> u32
+        ensures { result ≡ self.now.newest.place }
+    {
+        self.at.place
+    }
+
+    /// What the newest frame carries.
+    #[inline]
+    pub fn mark(&self) -> M
+        ensures { result ≡ self.now.newest.entry }
+    {
+        self.at.mark
+    }
+
+    /// The newest frame goes on at a number.
+    #[inline]
+    pub fn go_to(&mut self, place: u32)
+        ensures { self.new ≡ with_newest (standing self.old.newest place self.old.newest.operands) self.old }
+    {
+        self.at.place = place;
+    }
+
+    /// The newest frame goes on behind its instruction.
+    #[inline]
+    pub fn go_on(&mut self)
+        requires { self.old.newest.place + 1 < 2 ^ 32 }
+        ensures { self.new ≡ with_newest (standing self.old.newest (self.old.newest.place + 1) self.old.newest.operands) self.old }
+    {
+        self.at.place += 1;
+    }
+
+    /// The newest frame carries something else from now on.
+    #[inline]
+    pub fn carry(&mut self, mark: M)
+        ensures { self.new ≡ with_newest (carrying mark self.old.newest) self.old }
+    {
+        self.at.mark = mark;
+    }
+}
+
+// ---- operands
+
+impl<M: Copy> Frames<M> {
+    /// How many operands the newest frame has.
+    #[inline]
+    pub fn count(&self) -> usize
+        ensures { result ≡ length self.now.newest.operands }
+    {
+        self.operands.len()
+    }
+
+    /// An operand of the newest frame, counted from its newest. It is there.
+    #[inline]
+    pub fn operand(&self, i: usize) -> Value
+        requires { i < length self.now.newest.operands }
+        ensures { Some result ≡ slice_get self.now.newest.operands i }
+    {
+        self.operands.get(i)
+    }
+
+    /// Puts an operand on those of the newest frame. After an error nothing has changed.
+    #[inline]
+    pub fn push(&mut self, value: Value) -> Result<(), AllocError>
+        ensures ok { OnOk result (self.new ≡ holding (value ∷ self.old.newest.operands) self.old) }
+        ensures err { OnErr result (self.new ≡ self.old) }
+    {
+        self.operands.push(value)?;
+        Ok(())
+    }
+
+    /// Takes so many of the newest frame's operands away. They are there.
+    #[inline]
+    pub fn shrink(&mut self, n: usize)
+        requires { n ≤ length self.old.newest.operands }
+        ensures { self.new ≡ holding (drop n self.old.newest.operands) self.old }
+    {
+        self.operands.shrink(n);
+    }
+
+    /// Puts an operand in the place of so many of the newest frame's. They are there, and it is at least one.
+    #[inline]
+    #[tactic(auto, using(crate::proofs::Lying::replaced))]
+    pub fn replace(&mut self, n: usize, value: Value)
+        requires some { 0 < n }
+        requires few { n ≤ length self.old.newest.operands }
+        ensures { self.new ≡ holding (value ∷ drop n self.old.newest.operands) self.old }
+    {
+        self.operands.shrink(n - 1);
+        self.operands.set(0, value);
+    }
+}
+
+// ---- locals
+
+impl<M: Copy> Frames<M> {
+    /// How many locals the newest frame has.
+    #[inline]
+    pub fn locals(&self) -> usize
+        ensures { result ≡ length self.now.newest.locals }
+    {
+        self.locals.len()
+    }
+
+    /// What a local of the newest frame holds, where it is there and holds something.
+    #[inline]
+    pub fn local(&self, n: usize) -> Option<Value>
+        ensures { result ≡ local_at self.now.newest.locals n }
+    {
+        if n >= self.locals.len() {
+            return None;
+        }
+        self.locals.at(n)
+    }
+
+    /// Puts what a local of the newest frame holds. It is there.
+    #[inline]
+    pub fn set_local(&mut self, n: usize, held: Option<Value>)
+        requires { n < length self.old.newest.locals }
+        ensures { self.new ≡ keeping (slice_set self.old.newest.locals n held) self.old }
+    {
+        self.locals.set_at(n, held);
+    }
+}
