@@ -98,11 +98,7 @@ pub(crate) fn two_of(op: OpTwo, a: Value, b: Value) -> Option<Value>
 /// What a division gives; `b` is the divisor.
 #[inline]
 #[tactic(auto, using(crate::proofs::Given::is_given, crate::proofs::Given::not_given))]
-pub(crate) fn division_of(
-    op: Division,
-    a: Value,
-    b: Value,
-) -> Option<Result<Value, DivideByZero>>
+pub(crate) fn division_of(op: Division, a: Value, b: Value) -> Option<Result<Value, DivideByZero>>
     ensures value { result ≡ Operations.divide op a b }
     ensures kinds { is_some result ≡ are_of (division_effect op).takes (b ∷ a ∷ []) }
 {

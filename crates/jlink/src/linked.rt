@@ -99,10 +99,7 @@ fn tables_of(alloc: Global, program: &NamedProgram) -> Result<(Interfaces, Uses)
 }
 
 /// A program in which no rule is broken. An error, which says that no memory was left, hands its parts back.
-fn linked(
-    alloc: Global,
-    program: NamedProgram,
-) -> Result<LinkedProgram, AllocFailed<Vec<CodePart>>>
+fn linked(alloc: Global, program: NamedProgram) -> Result<LinkedProgram, AllocFailed<Vec<CodePart>>>
     requires parts { AreParts program.parts }
     requires rules { Links.link_fault program ≡ None }
     ensures ok { IfOk result (λ p. p ≡ program) }

@@ -55,5 +55,5 @@ abbrev pub PrivilegesAlike : Type 0
 PrivilegesAlike = (has : ℕ → Permission → Bool) (entries : List Carried) (below : Option Stack) (d : ℕ)
     (given : Option Stack) (limits : Option (List Permission)) (none : List (Unit {0}))
     → let here = unmarked d ∷ entries in
-      ((plain.rules has).privileged (Some d) (handed_with limits (context_of here below)) (option_map along given) limits none).context
-      ≡ Some (along (within has given limits here below))
+    ((plain.rules has).privileged (Some d) (handed_with limits (context_of here below)) (option_map along given) limits none).context
+    ≡ Some (along (within has given limits here below))
