@@ -20,7 +20,7 @@ use Rattle.jtrace.specs.declared.event.End.{End}
 use Rattle.jmachine.specs.declared.plan.Plan.{Plan}
 use Rattle.jmachine.specs.Acts.{FrameOf, State, Outcome, Went, Over, NoStep}
 use Rattle.jmachine.specs.Frames.{begun, domain_of}
-use Rattle.jmachine.specs.Layout.{element, field_type, statics_of}
+use Rattle.jlayout.specs.Layout.{element, field_type, statics_of}
 use Rattle.jmachine.specs.Machine.{opening, run}
 use Rattle.jmachine.specs.Making.{units_of}
 use Rattle.jmachine.specs.Maps.{frame_map, frames_map, object_map, outcome_map, run_map, state_map, store_map, value_map, values_map}

@@ -1,7 +1,6 @@
 pub mod Objects
 pub mod Store
 pub mod Acts
-pub mod Layout
 pub mod World
 pub mod Operands
 pub mod Sites

@@ -22,7 +22,7 @@ use Rattle.jprogram.specs.Parts.{member_desc, text}
 use Rattle.jmachine.specs.Acts.{FrameOf, GuestOf, State, cells_of}
 use Rattle.jmachine.specs.Fields.{out}
 use Rattle.jmachine.specs.Frames.{begun, domain_of}
-use Rattle.jmachine.specs.Layout.{element, field_type, statics_of}
+use Rattle.jlayout.specs.Layout.{element, field_type, statics_of}
 use Rattle.jmachine.specs.Making.{units_of}
 use Rattle.jmachine.specs.Narrowing.{default, narrowed}
 use Rattle.jmachine.specs.Objects.{Object, Array, Bare, Text, library_name}

@@ -20,7 +20,7 @@ use Rattle.jprogram.specs.Classes as classes
 use Rattle.jprogram.specs.Classes.{Program}
 use Rattle.jprogram.specs.Members as members
 use Rattle.juses.specs.Typed.{name}
-use Rattle.jmachine.specs.Layout as fields
+use Rattle.jlayout.specs.Layout as fields
 use Rattle.jmachine.specs.Objects.{library_name}
 
 pub record World : Type 0 where

@@ -1,0 +1,5 @@
+pub mod Layout
+pub mod Counted
+pub mod Numbered
+pub mod Slots
+pub mod Layouts
