@@ -78,7 +78,9 @@ impl<M: Copy> Frames<M> {
         mark: M,
     ) -> Result<(), AllocError>
         requires { arguments ≤ length self.old.newest.operands }
-        ensures { OnOk result (self.new ≡ pushed (starting method most (take arguments self.old.newest.operands) mark) (holding (drop arguments self.old.newest.operands) self.old)) }
+        ensures { OnOk result (self.new
+            ≡ pushed (starting method most (take arguments self.old.newest.operands) mark)
+            (holding (drop arguments self.old.newest.operands) self.old)) }
     {
         let given = self.operands.top(arguments);
         self.locals.open_from::<Value, Places>(given, most, None)?;
