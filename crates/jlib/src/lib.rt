@@ -19,5 +19,5 @@ pub use calls::{
 pub use classes::{LibClass, PermissionClass, Thrown};
 pub use laws::{call_laws, class_laws};
 pub use lookup::{class, open_classes};
-pub use members::member;
+pub use members::{member, member_in};
 pub use side::Side;

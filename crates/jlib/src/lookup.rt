@@ -1,4 +1,5 @@
 ghost use Rattle.std.specs.Prelude.{◌≡◌};
+ghost use Rattle.jlib.specs.Beginnings;
 ghost use Rattle.jlib.specs.Classes;
 
 use crate::classes::{LibClass, PermissionClass, Thrown};
@@ -57,11 +58,22 @@ const CLASSES: [LibClass; 46] = [
 /// How many of them are open.
 const OPEN: usize = 25;
 
+/// Whether a name begins as the names of the library's classes do.
+fn begins_so(name: &[u8]) -> bool
+    ensures { result ≡ Beginnings.begins_so name.now }
+{
+    name.starts_with(b"java/") || name.starts_with(b"sps/")
+}
+
 /// The class of a side's library that has this name, with `/` between packages (JVMS 4.2.1); None exactly where the side has
 /// none.
+#[tactic(auto, using(crate::proofs::Beginning::none_named))]
 pub fn class(side: Side, name: &[u8]) -> Option<LibClass>
     ensures { result ≡ Classes.class_named side name.now }
 {
+    if !begins_so(name) {
+        return None;
+    }
     CLASSES
         .iter()
         .copied()

@@ -1,5 +1,6 @@
 ghost use Rattle.std.specs.Prelude.{◌≡◌};
 ghost use Rattle.jlib.specs.Calls.{member_among, member_named, members, permission_members};
+ghost use Rattle.jlib.specs.Classes.{name_of};
 
 use crate::calls::{
     BuilderCall, ControllerCall, LibCall, PermissionInit, Piece, RtCall, StringCall, ThreadCall,
@@ -152,6 +153,15 @@ fn member_of(side: Side, owner: LibClass, name: &[u8], desc: &[u8]) -> Option<Li
         LibClass::Serializable => None,
         LibClass::Ctx => None,
     }
+}
+
+/// The member that a class of the library declares itself on a side, by its name and descriptor: what `member` finds by the name
+/// of this class.
+#[tactic(auto, using(crate::proofs::Beginning::by_class))]
+pub fn member_in(side: Side, owner: LibClass, name: &[u8], desc: &[u8]) -> Option<LibCall>
+    ensures { result ≡ member_named side (name_of owner) name.now desc.now }
+{
+    member_of(side, owner, name, desc)
 }
 
 /// The member that a class of a side's library declares itself: a method, a constructor (`<init>`) or a field, by the names and
