@@ -14,7 +14,6 @@ use Rattle.jlib.specs.declared.classes.Thrown.TheVariants as thrown
 use Rattle.jlib.specs.declared.classes.PermissionClass.TheVariants as permission
 use Rattle.jlib.specs.declared.classes.LibClass.{LibClass}
 use Rattle.jlib.specs.declared.classes.LibClass.TheVariants as lib
-use Rattle.jlib.specs.declared.calls.LibCall.{LibCall}
 use Rattle.jlib.proofs.Found.{class_only}
 
 -- ---- names that begin otherwise
