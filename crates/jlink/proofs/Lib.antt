@@ -1,3 +1,11 @@
+pub mod Branching
+pub mod Coded
+pub mod Declared
+pub mod Filed
+pub mod Having
 pub mod Layered
+pub mod Library
+pub mod Meant
 pub mod Selecting
 pub mod There
+pub mod Typed

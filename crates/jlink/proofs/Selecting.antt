@@ -47,7 +47,7 @@ info_is p i j part m at there =
     ∙ ap (option_map (λ m. (part.class, m))) there
 
 -- the first of a name and a descriptor in a list
-first_called : (c : ClassParts) (name desc : List ℕ) (ms : List MemberInfo) (j : ℕ) → position (is_called c name desc) ms ≡ Some j → (m : MemberInfo) × (slice_get ms j ≡ Some m) × (is_called c name desc m ≡ true)
+pub first_called : (c : ClassParts) (name desc : List ℕ) (ms : List MemberInfo) (j : ℕ) → position (is_called c name desc) ms ≡ Some j → (m : MemberInfo) × (slice_get ms j ≡ Some m) × (is_called c name desc m ≡ true)
 first_called c name desc [] j e = absurd cc
 first_called c name desc (d ∷ ms) j e =
     let at = position-Some (is_called c name desc) (d ∷ ms) j d e in

@@ -46,7 +46,7 @@ use Rattle.jlink.specs.Referred.{IsReferred, reference_of}
 abbrev Stands : Program → List Entry → Option Entry → Type 0
 Stands p pool e = is_some (referred p pool e) ≡ true
 
-mapped_some : {A B : Type 0} (f : A → B) (o : Option A) → is_some (option_map f o) ≡ true → is_some o ≡ true
+pub mapped_some : {A B : Type 0} (f : A → B) (o : Option A) → is_some (option_map f o) ≡ true → is_some o ≡ true
 mapped_some f None e = cc
 mapped_some f (Some a) e = refl
 
@@ -79,20 +79,20 @@ of_entry p from pool (Some (entries.InvokeDynamic a b)) u is has = absurd cc
 
 -- ---- its uses
 
-field_has : (op : FieldOp) (m : Option MemberFacts) → field_member_test op m ≡ None → is_some m ≡ true
+pub field_has : (op : FieldOp) (m : Option MemberFacts) → field_member_test op m ≡ None → is_some m ≡ true
 field_has op None e = absurd cc
 field_has op (Some m) e = refl
 
-called_has : (op : CallOp) (u : MemberUse) (m : Option MemberFacts) → called_test op u m ≡ None → is_some m ≡ true
+pub called_has : (op : CallOp) (u : MemberUse) (m : Option MemberFacts) → called_test op u m ≡ None → is_some m ≡ true
 called_has op u None e = absurd cc
 called_has op u (Some m) e = refl
 
-interface_has : (count : ℕ) (u : MemberUse) (m : Option MemberFacts) → called_by_interface_test count u m ≡ None → is_some m ≡ true
+pub interface_has : (count : ℕ) (u : MemberUse) (m : Option MemberFacts) → called_by_interface_test count u m ≡ None → is_some m ≡ true
 interface_has count u None e = absurd cc
 interface_has count u (Some m) e = refl
 
 -- the last of three tests
-third_none : {F : Type 0} (a b c : Option F) → or_else a (or_else b c) ≡ None → c ≡ None
+pub third_none : {F : Type 0} (a b c : Option F) → or_else a (or_else b c) ≡ None → c ≡ None
 third_none a b c e = (none_of b c ((none_of a (or_else b c) e).1)).1
 
 has_member : (test : MemberUse → Option LinkKind) → ((u : MemberUse) → test u ≡ None → is_some u.member ≡ true) → (p : Program) (from : List ℕ) (pool : List Entry) (e : Option Entry) (o : Option MemberUse)
@@ -151,18 +151,18 @@ unfolding method_test
 body_none table m b none is = sym (ap (option_and_then (body_test table)) is) ∙ none
 
 -- no instruction of a class without a fault is at fault
-op_none : (p : Program) (i : ℕ) (c : ClassParts) (j : ℕ) (m : MemberInfo) (b : CodeBody) (k : ℕ) (one : Placed) → class_fault p i c ≡ None → slice_get c.methods j ≡ Some m → code_of m ≡ Some b → slice_get b.ops k ≡ Some one → op_test (judge_pool p c) one ≡ None
+pub op_none : (p : Program) (i : ℕ) (c : ClassParts) (j : ℕ) (m : MemberInfo) (b : CodeBody) (k : ℕ) (one : Placed) → class_fault p i c ≡ None → slice_get c.methods j ≡ Some m → code_of m ≡ Some b → slice_get b.ops k ≡ Some one → op_test (judge_pool p c) one ≡ None
 unfolding class_fault
 op_none p i c j m b k one none at coded placed =
     let method = none_fails (λ (j : ℕ) (m : MemberInfo). in_method i j (method_test (judge_pool p c) m)) c.methods j m none at in
     let body = body_none (judge_pool p c) m b (in_method_none i j (method_test (judge_pool p c) m) method) coded in
     some_none (op_test (judge_pool p c)) b.ops k one ((none_of _ _ body).0) placed
 
-class_none : (p : Program) (i : ℕ) (part : CodePart) → code_fault p ≡ None → slice_get p.parts i ≡ Some part → class_fault p i part.class ≡ None
+pub class_none : (p : Program) (i : ℕ) (part : CodePart) → code_fault p ≡ None → slice_get p.parts i ≡ Some part → class_fault p i part.class ≡ None
 unfolding code_fault
 class_none p i part none at = none_fails (λ (i : ℕ) (part : CodePart). class_fault p i part.class) p.parts i part none at
 
-code_none : (p : Program) → link_fault p ≡ None → code_fault p ≡ None
+pub code_none : (p : Program) → link_fault p ≡ None → code_fault p ≡ None
 unfolding link_fault
 code_none p e = (none_of (members_fault p) (code_fault p) (third_none (naming_fault p) (supers_fault p) (or_else (members_fault p) (code_fault p)) e)).1
 
@@ -170,7 +170,7 @@ resolved_at : (p : Program) (i k : ℕ) (part : CodePart) → slice_get p.parts 
 unfolding resolved
 resolved_at p i k part at has = ap (λ (o : Option CodePart). is_some (option_and_then (λ x. referred p x.class.pool (slice_get x.class.pool k)) o)) at ∙ has
 
-op_form_none : (table : List Judged) (one : Placed) → op_test table one ≡ None → form_test table (form one.op) ≡ None
+pub op_form_none : (table : List Judged) (one : Placed) → op_test table one ≡ None → form_test table (form one.op) ≡ None
 unfolding op_test
 op_form_none table one e = e
 
