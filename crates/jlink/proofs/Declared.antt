@@ -235,8 +235,8 @@ method_resolved p links files class name desc x e =
     chosen (bytes_eq name init) (method_at p name desc class) (or_else (first_some (method_at p name desc) (up p class)) (first_some (λ c. first_some (method_at p name desc) (superinterfaces p c)) (up p class))) x e
     (λ own. here class x own)
     (λ others. either (first_some (method_at p name desc) (up p class)) (first_some (λ c. first_some (method_at p name desc) (superinterfaces p c)) (up p class)) x others
-      (λ above. along (method_at p name desc) (up p class) x above (λ c at. here c x at))
-      (λ over. along (λ c. first_some (method_at p name desc) (superinterfaces p c)) (up p class) x over (λ c at. along (method_at p name desc) (superinterfaces p c) x at (λ i it. here i x it))))
+    (λ above. along (method_at p name desc) (up p class) x above (λ c at. here c x at))
+    (λ over. along (λ c. first_some (method_at p name desc) (superinterfaces p c)) (up p class) x over (λ c at. along (method_at p name desc) (superinterfaces p c) x at (λ i it. here i x it))))
 
 pub field_resolved : (p : Program) → Links p → AreFiles p → (class name desc : List ℕ) (x : Member) → resolve_field p class name desc ≡ Some x → IsFieldText desc
 unfolding resolve_field
@@ -244,5 +244,5 @@ field_resolved p links files class name desc x e =
     let here = field_named p links files name desc in
     along (λ c. or_else (field_at p name desc c) (first_some (field_at p name desc) (superinterfaces p c))) (up p class) x e
     (λ c at. either (field_at p name desc c) (first_some (field_at p name desc) (superinterfaces p c)) x at
-      (λ own. here c x own)
-      (λ over. along (field_at p name desc) (superinterfaces p c) x over (λ i it. here i x it)))
+    (λ own. here c x own)
+    (λ over. along (field_at p name desc) (superinterfaces p c) x over (λ i it. here i x it)))
