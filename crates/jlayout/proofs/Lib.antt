@@ -1,3 +1,4 @@
+pub mod Kinding
 pub mod Lists
 pub mod Placing
 pub mod Standings

@@ -3,3 +3,4 @@ pub mod Counted
 pub mod Numbered
 pub mod Slots
 pub mod Layouts
+pub mod Kinds

@@ -3,9 +3,11 @@
 
 mod counts;
 mod fields;
+mod held;
 mod laws;
 mod layouts;
 mod slots;
 
+pub use held::held_type;
 pub use laws::layout_laws;
 pub use layouts::Layouts;
