@@ -4,7 +4,7 @@ ghost use Rattle.jdomain.specs.Domains.{granted, has};
 use crate::lists::{Lists, lists_of};
 use crate::share::shares_of;
 use crate::source::CodeSource;
-use jperm::{Permission, covers};
+use jperm::Permission;
 use jpolicy::Policy;
 use jtext::Units;
 use std::alloc::{AllocError, Global};
@@ -51,7 +51,7 @@ impl Domains {
         ensures { result ≡ has self.now d asked.now }
     {
         match self.lists.numbers.as_slice().get(d as usize) {
-            Some(number) => covers(self.lists.all.as_slice()[*number].as_slice(), asked),
+            Some(number) => self.lists.all.as_slice()[*number].covers(asked),
             None => false,
         }
     }

@@ -4,15 +4,23 @@ ghost use Rattle.jdomain.specs.Shares.{IsList, Keeps, Knows, list_at, taken};
 use crate::share::{Share, marks, taken};
 use crate::source::CodeSource;
 use jbase::Seq;
-use jperm::Permission;
+use jperm::Indexed;
 use std::alloc::{AllocError, Global};
 use std::collections::BTreeMap;
 
 /// The lists of sources, and for each source the number of its own. Sources that take of the same shares have one list.
 #[derive(Drop)]
 pub struct Lists {
-    pub all: Seq<Seq<Permission>>,
+    pub all: Seq<Indexed>,
     pub numbers: Seq<usize>,
+}
+
+/// What a source takes of shares, with its index.
+fn list_of(alloc: Global, shares: &[Share], source: &CodeSource) -> Result<Indexed, AllocError>
+    ensures { IfOk result (λ list. list ≡ taken shares.now source.now) }
+{
+    let permissions = taken(alloc, shares, source)?;
+    Indexed::of(alloc, permissions)
 }
 
 /// The number of a source's list, which is made where none takes of the same shares.
@@ -20,7 +28,7 @@ fn number_of(
     alloc: Global,
     shares: &[Share],
     source: &CodeSource,
-    all: &mut Seq<Seq<Permission>>,
+    all: &mut Seq<Indexed>,
     known: &mut BTreeMap<Vec<u8>, usize>,
 ) -> Result<usize, AllocError>
     requires { Knows shares.now all.old known.old }
@@ -33,7 +41,7 @@ fn number_of(
         return Ok(*number);
     }
     let number = all.as_slice().len();
-    all.push(taken(alloc, shares, source)?)?;
+    all.push(list_of(alloc, shares, source)?)?;
     known.insert(marks, number)?;
     Ok(number)
 }

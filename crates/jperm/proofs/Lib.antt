@@ -7,3 +7,6 @@ pub mod Parts
 pub mod Same
 pub mod Starts
 pub mod Walks
+pub mod Chaining
+pub mod Keyed
+pub mod Looked

@@ -1,5 +1,7 @@
 pub mod Absolute
 pub mod Actions
+pub mod Chains
+pub mod Keys
 pub mod Made
 pub mod Names
 pub mod Paths

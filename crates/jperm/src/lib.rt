@@ -2,6 +2,9 @@
 #![tactic(auto)]
 
 mod action;
+mod chains;
+mod found;
+mod indexed;
 mod laws;
 mod making;
 mod name;
@@ -14,6 +17,7 @@ mod words;
 mod written;
 
 pub use action::Action;
+pub use indexed::Indexed;
 pub use laws::{covers_laws, made_laws, permission_laws, text_laws};
 pub use making::{PermClass, PermError, make};
 pub use path::{AbsolutePath, FilePath};

@@ -1,7 +1,7 @@
 ghost use Rattle.std.specs.Prelude.{◌≡◌, ◌≤◌, IsTrue, length};
 ghost use Rattle.jperm.specs.Names.{name_covers, is_wildcard};
 
-const DOT: u16 = b'.' as u16;
+pub const DOT: u16 = b'.' as u16;
 
 const STAR: u16 = b'*' as u16;
 
@@ -20,7 +20,7 @@ pub fn name_covers(name: &[u16], asked: &[u16]) -> bool
 }
 
 /// Whether a name is `*` or ends in `.*`.
-fn is_wildcard(name: &[u16]) -> bool
+pub fn is_wildcard(name: &[u16]) -> bool
     ensures value { result ≡ is_wildcard name.now }
     ensures filled { IsTrue result → 1 ≤ length name.now }
 {

@@ -150,7 +150,7 @@ impl Permission {
     }
 
     /// The actions that this permission gives on the asked one.
-    fn gives(&self, asked: &Permission) -> Actions
+    pub(crate) fn gives(&self, asked: &Permission) -> Actions
         ensures { result.0 ≡ gives self.now asked.now }
     {
         match (self, asked) {
@@ -173,7 +173,7 @@ impl Permission {
     }
 
     /// Whether the permission is of a kind that has no actions.
-    fn stands_alone(&self) -> bool
+    pub(crate) fn stands_alone(&self) -> bool
         ensures { result ≡ stands_alone self.now }
     {
         match self {
