@@ -55,12 +55,12 @@ has_two [] x h = cc
 has_two (v ∷ []) x h = cc
 has_two (v ∷ u ∷ rest) x h = omega arith
 
-no_int : (w : World) (s : Store ℕ) (wants : List Want) (operands : List (Value ℕ)) → int_in (slice_get operands 0) ≡ None → taken w s (Of kinds.Int ∷ wants) operands ≡ None
+pub no_int : (w : World) (s : Store ℕ) (wants : List Want) (operands : List (Value ℕ)) → int_in (slice_get operands 0) ≡ None → taken w s (Of kinds.Int ∷ wants) operands ≡ None
 unfolding taken
 no_int w s wants [] h = refl
 no_int w s wants (v ∷ rest) h = rw (serves_by w s kinds.Int tt v, isnt v h) refl
 
-one_int : (w : World) (s : Store ℕ) (operands : List (Value ℕ)) (x : ℤ) → Some x ≡ int_in (slice_get operands 0)
+pub one_int : (w : World) (s : Store ℕ) (operands : List (Value ℕ)) (x : ℤ) → Some x ≡ int_in (slice_get operands 0)
     → taken w s (Of kinds.Int ∷ []) operands ≡ Some (one_taken (Int x) (drop 1 operands))
 unfolding taken
 one_int w s operands x h = ap (taken w s (Of kinds.Int ∷ [])) (front_one operands (Int x) (there (slice_get operands 0) x h))

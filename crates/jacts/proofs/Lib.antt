@@ -1,6 +1,9 @@
+pub mod Arraying
 pub mod Costs
 pub mod Given
 pub mod Numbers
+pub mod Seen
 pub mod Computing
 pub mod Jumping
 pub mod Keeping
+pub mod NewArrays

@@ -57,7 +57,7 @@ not_number kinds.Ref n named x = elim n [ ]
 not_number kinds.Array n named x = elim n [ ]
 not_number kinds.Held n named x = elim n [ ]
 
-if_ready : (w : World) (k : Kind) (ready : Bool) (t : VType) → types.is_of k t ≡ false → serves_as w (Of k) (if ready then Some t else None) ≡ false
+pub if_ready : (w : World) (k : Kind) (ready : Bool) (t : VType) → types.is_of k t ≡ false → serves_as w (Of k) (if ready then Some t else None) ≡ false
 if_ready w k true t h = h
 if_ready w k false t h = refl
 

@@ -63,3 +63,8 @@ int_in v = None
 -- A switch that finds no key is stuck.
 abbrev pub NoKey : Type 0 → Type 0
 NoKey E = (cases : List (ℤ × ℕ)) (other : ℕ) (f g : FrameOf ℕ E) → int_in (slice_get f.operands 0) ≡ None → Does (Switch cases other) f ways.Stuck g
+
+-- A row of an instruction did what it does, wherever the instruction stands: the stores before and behind it are told.
+abbrev pub Acts : {E : Type 0} → Instruction → FrameOf ℕ E → Store ℕ → Left E → Type 0
+Acts {E} i f s l =
+    (r : Rules ℕ E) (at : Site) (own : Member → Bool) (entries : List E) (inherited : Option ℕ) → Comes f s (doing r at own s entries inherited i f) l

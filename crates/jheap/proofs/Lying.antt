@@ -2,6 +2,7 @@
 use Rattle.std.proofs.Common.{◌≡◌, ◌∙◌, ℕ, zero, suc, ◌+◌, ◌-◌, ◌<◌, ◌≤◌, List, [], ◌∷◌, ◌++◌, length, replicate, take, drop, Option, Some, refl, sym, ap, ap₂, subst, arith}
 use Rattle.std.specs.Prelude.{slice_set, slice_get, get_or, unwrap_or, is_some, true}
 use Rattle.std.specs.Option.{option_map}
+use Rattle.std.proofs.Common.{◌≢◌}
 use Rattle.std.proofs.lemmas.Option.{unwrap_or-slice_get, slice_get-map, slice_get_read}
 use Rattle.std.proofs.lemmas.List.{get_or-drop, get_or-take, length-take-le}
 use Rattle.std.proofs.lemmas.List.{length-drop, length-set, drop-append-le, take-append-le, length-replicate, map-append}
@@ -175,6 +176,13 @@ pub kind_is : (hs : List Header) (cells kept : List ℕ) (left o : ℕ) (r : Hea
 kind_is hs cells kept left zero r there read = cc
 kind_is hs cells kept left (suc n) r there read =
     sym (ap (option_map (λ (x : Object). x.kind)) (object_is hs cells n r (listed cells hs n there) (read ∙ ap (λ k. get_or hs k r) (less_one n))))
+
+-- what is found
+pub found_is : (hs : List Header) (cells kept : List ℕ) (left o : ℕ) (r : Header) → o ≢ 0 → o - 1 < length hs → r ≡ get_or hs (o - 1) r → Some r.kind ≡ kind_at (lies hs cells kept left) o
+found_is hs cells kept left zero r some lt read = absurd (some refl)
+found_is hs cells kept left (suc n) r some lt read =
+    let at = less_one n in
+    sym (ap (option_map (λ (x : Object). x.kind)) (object_is hs cells n r (omega (arith, at, lt)) (read ∙ ap (λ k. get_or hs k r) at)))
 
 pub len_is : (hs : List Header) (cells kept : List ℕ) (left o : ℕ) (r : Header) → IsLaid 0 hs → end_of 0 hs ≡ length cells → is_some (object_at (lies hs cells kept left) o) ≡ true → r ≡ get_or hs (o - 1) r → r.len ≡ length (cells_at (lies hs cells kept left) o)
 len_is hs cells kept left zero r laid ends there read = cc

@@ -137,6 +137,20 @@ impl Heap {
         self.headers[(o - 1) as usize].kind
     }
 
+    /// What the object of a number is, where there is one.
+    #[inline]
+    pub fn found(&self, o: u32) -> Option<Kind>
+        ensures { result ≡ kind_at self.now o }
+    {
+        if o == 0 {
+            return None;
+        }
+        match self.headers.get((o - 1) as usize) {
+            None => None,
+            Some(header) => Some(header.kind),
+        }
+    }
+
     /// How many cells an object has. It is there.
     #[inline]
     pub fn len(&self, o: u32) -> u32

@@ -1,1 +1,4 @@
 pub mod Lying
+pub mod Numbering
+pub mod Seeing
+pub mod Writing

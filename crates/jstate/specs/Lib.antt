@@ -1,1 +1,4 @@
 pub mod Framed
+pub mod Numbers
+pub mod Seen
+pub mod SeenLaws

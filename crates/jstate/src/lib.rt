@@ -3,5 +3,7 @@
 
 mod frames;
 mod places;
+mod shapes;
 
 pub use frames::Frames;
+pub use shapes::{Shape, Shapes, heap_laws, number_laws};

@@ -1,0 +1,26 @@
+use Rattle.std.proofs.Common.{◌≡◌, ◌∙◌, Some, None, ap, of_z, pos, rules, sym, to_z}
+use Rattle.std.specs.Prelude.{slice_get}
+use Rattle.std.specs.Int.{w32}
+use Rattle.jstate.specs.Seen.{store_by}
+use Rattle.jacts.specs.Ways.{int_in}
+use Rattle.jacts.proofs.NewArrays.{made_all, new_negative, new_stuck, of_place}
+use Rattle.jacts.proofs.arrays.new_array.Goals as goal
+
+pub returns-in_default-clause-row : goal.returns-in_default-clause-row
+returns-in_default-clause-row g c p shapes things constants kind type =
+    let none : int_in (slice_get c.args.frames.now.newest.operands 0) ≡ None = search rules in
+    new_stuck c.args.frames.now.newest kind (store_by p shapes things constants c.args.heap.now) c.args.frames.now.newest none
+
+pub returns-in-None-clause-row : goal.returns-in-None-clause-row
+returns-in-None-clause-row g c p shapes things constants kind type =
+    let n_is : to_z w32 (of_z w32 c.in-Some.n) ≡ c.in-Some.n = search rules in
+    let none = rw n_is at c.in-None.ensures in
+    new_negative c.args.frames.now.newest kind (store_by p shapes things constants c.args.heap.now) c.in-Some.n c.in-Some.ensures none
+
+pub returns-in-Some-count_of-clause-row : goal.returns-in-Some-count_of-clause-row
+returns-in-Some-count_of-clause-row g c =
+    let n_is : to_z w32 (of_z w32 c.in-Some.n) ≡ c.in-Some.n = search rules in
+    let some = rw n_is at c.in-Some-count_of.ensures in
+    let here : Some (pos c.in-Some-count_of.count) ≡ int_in (slice_get c.args.frames.now.newest.operands 0) = ap (λ z. Some z) (sym (of_place c.in-Some.n c.in-Some-count_of.count some)) ∙ c.in-Some.ensures in
+    made_all c.heap_laws.ensures.makes c.make_array.result c.args.number c.in-Some-count_of.count c.args.frames.now c.make_array.new.frames c.args.heap.now c.make_array.new.heap
+    c.make_array.ensures c.requires.built here

@@ -1,0 +1,164 @@
+ghost use Rattle.std.specs.Prelude.{◌≡◌, ◌<◌, ◌≤◌, ◌+◌, ◌^◌, ◌∷◌, [], ℕ, List, IfOk, MatchOption, OnOk, drop, is_some, length, pos, slice_get, true};
+ghost use Rattle.jcode.specs.declared.names.ArrayType.{ArrayType as ArrayKind};
+ghost use Rattle.jheap.specs.declared.cell.Kind.TheVariants as kinds;
+ghost use Rattle.juses.specs.Types.{array_named};
+ghost use Rattle.jmachine.specs.Frames.{standing};
+ghost use Rattle.jmachine.specs.Narrowing.{place as place_of};
+ghost use Rattle.jstate.specs.Framed.{with_newest};
+ghost use Rattle.jacts.specs.declared.way.Way.TheVariants as ways;
+ghost use Rattle.jcode.specs.declared.form.ArrayForm.TheVariants as forms;
+ghost use Rattle.jheap.specs.Heaps.{cells_at, object_at};
+ghost use Rattle.jops.specs.declared.value.Value.TheVariants as values;
+ghost use Rattle.jprogram.specs.Classes.{Program};
+ghost use Rattle.juses.specs.Instructions as instructions;
+ghost use Rattle.jstate.specs.declared.shapes.Shapes.{Shapes};
+ghost use Rattle.jstate.specs.Seen.{AreBuilt, Things, array_at as shape_at, store_by};
+ghost use Rattle.jacts.specs.Items.{HasMade, array_seen, row_of};
+ghost use Rattle.jacts.specs.Ways.{Acts, leaves};
+
+use crate::jumps::int_at;
+use crate::straight::give_for;
+use crate::way::Way;
+use jheap::{Heap, Kind};
+use jlib::{LibClass, Thrown};
+use jops::Value;
+use jstate::{Frames, heap_laws};
+use std::alloc::{AllocError, Global};
+
+/// What an operand is that is wanted to be an array.
+#[derive(Clone, Copy)]
+pub(crate) enum Found {
+    /// No array, or nothing that is there.
+    Other,
+    Null,
+    /// The array of a number, with the heap's number for its type.
+    Array(u32, u32),
+}
+
+/// The array that stands at a place among the newest frame's operands, counted from the newest.
+#[inline]
+pub(crate) fn array_at<M: Copy>(frames: &Frames<M>, heap: &Heap, i: usize) -> Found
+    ensures { result ≡ array_seen heap.now (slice_get frames.now.newest.operands i) }
+{
+    if i >= frames.count() {
+        return Found::Other;
+    }
+    match frames.operand(i) {
+        Value::Int(_) => Found::Other,
+        Value::Long(_) => Found::Other,
+        Value::Ctx(_) => Found::Other,
+        Value::Ref(o) => {
+            if o == 0 {
+                return Found::Null;
+            }
+            match heap.found(o) {
+                Some(Kind::Array(a)) => Found::Array(o, a),
+                Some(Kind::Object(_)) => Found::Other,
+                Some(Kind::Text) => Found::Other,
+                Some(Kind::Piece) => Found::Other,
+                None => Found::Other,
+            }
+        }
+    }
+}
+
+/// How many items an array has, as an int.
+#[inline]
+fn length_of(heap: &Heap, o: u32) -> Value
+    requires there { is_some (object_at heap.now o) ≡ true }
+    requires small { length (cells_at heap.now o) < 2 ^ 31 }
+    ensures { result ≡ values.Int (pos (length (cells_at heap.now o))) }
+{
+    Value::Int(heap.len(o) as i32)
+}
+
+/// The length of an array (JVMS 6.5: arraylength). Arrays have fewer than 2 ^ 31 items.
+#[inline]
+pub fn array_length<M: Copy>(frames: &mut Frames<M>, heap: &Heap) -> Way
+    requires place { frames.old.newest.place + 1 < 2 ^ 32 }
+    requires small { (o : ℕ) → length (cells_at heap.now o) < 2 ^ 31 }
+    ensures row { (p : Program) (shapes : Shapes) (things : Things) (constants : List (List ℕ × ℕ)) →
+        let s = store_by p shapes things constants heap.now in Acts (instructions.Array forms.Length) frames.old.newest s (leaves result [] frames.new.newest s) }
+    ensures below { frames.new.below ≡ frames.old.below }
+{
+    match array_at(frames, heap, 0) {
+        Found::Other => Way::Stuck,
+        Found::Null => Way::Raises(LibClass::Thrown(Thrown::NullPointerException)),
+        Found::Array(o, _) => {
+            let len = length_of(heap, o);
+            give_for(frames, 1, len);
+            Way::Went
+        }
+    }
+}
+
+// ---- new arrays
+
+/// How many items an array is to have, where the number isn't negative.
+#[inline]
+#[tactic(auto, using(crate::proofs::NewArrays::counts, crate::proofs::NewArrays::negative))]
+fn count_of(n: i32) -> Option<u32>
+    ensures { result ≡ place_of n }
+{
+    if n < 0 {
+        return None;
+    }
+    Some(n as u32)
+}
+
+/// The reference of what was made takes the place of its length; where there were too few cells nothing changes.
+#[inline]
+fn put_made<M: Copy>(frames: &mut Frames<M>, made: Option<u32>) -> Way
+    requires place { frames.old.newest.place + 1 < 2 ^ 32 }
+    requires few { 1 ≤ length frames.old.newest.operands }
+    ensures { MatchOption made ((result ≡ ways.Full) × (frames.new ≡ frames.old)) (λ o. (result ≡ ways.Went) × (frames.new ≡ with_newest (standing frames.old.newest (frames.old.newest.place + 1) (values.Ref o ∷ drop 1 frames.old.newest.operands)) frames.old)) }
+{
+    match made {
+        None => Way::Full,
+        Some(o) => {
+            give_for(frames, 1, Value::Ref(o));
+            Way::Went
+        }
+    }
+}
+
+#[inline]
+fn make_array<M: Copy>(
+    alloc: Global,
+    frames: &mut Frames<M>,
+    heap: &mut Heap,
+    number: u32,
+    count: u32,
+) -> Result<Way, AllocError>
+    requires place { frames.old.newest.place + 1 < 2 ^ 32 }
+    requires few { 1 ≤ length frames.old.newest.operands }
+    ensures { IfOk result (λ way. HasMade (kinds.Array number) count frames.old heap.old way frames.new heap.new) }
+{
+    let made = heap.make(alloc, Kind::Array(number), count)?;
+    Ok(put_made(frames, made))
+}
+
+/// A new array of numbers (JVMS 6.5: newarray), of the heap's number for its type: of so many items as an operand says, each 0.
+#[inline]
+pub fn new_array<M: Copy>(
+    alloc: Global,
+    frames: &mut Frames<M>,
+    heap: &mut Heap,
+    number: u32,
+) -> Result<Way, AllocError>
+    requires place { frames.old.newest.place + 1 < 2 ^ 32 }
+    requires built { AreBuilt heap.old.objects }
+    ensures row { IfOk result (λ way. (p : Program) (shapes : Shapes) (things : Things) (constants : List (List ℕ × ℕ)) (kind : ArrayKind) →
+        array_named p (shape_at shapes number) ≡ row_of kind → Acts (instructions.Array (forms.New kind)) frames.old.newest (store_by p shapes things constants heap.old)
+        (leaves way [] frames.new.newest (store_by p shapes things constants heap.new))) }
+    ensures below { OnOk result (frames.new.below ≡ frames.old.below) }
+{
+    heap_laws();
+    let Some(n) = int_at(frames, 0) else {
+        return Ok(Way::Stuck);
+    };
+    match count_of(n) {
+        None => Ok(Way::Raises(LibClass::Thrown(Thrown::NegativeArraySizeException))),
+        Some(count) => make_array(alloc, frames, heap, number, count),
+    }
+}

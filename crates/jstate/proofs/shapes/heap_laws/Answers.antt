@@ -1,0 +1,18 @@
+use Rattle.jstate.proofs.Seeing.{makes, seen_at}
+use Rattle.jstate.proofs.Writing.{writes, writes_field, writes_item}
+use Rattle.jstate.proofs.shapes.heap_laws.Goals as goal
+
+pub returns-clause-each : goal.returns-clause-each
+returns-clause-each c = seen_at
+
+pub returns-clause-makes : goal.returns-clause-makes
+returns-clause-makes c = makes
+
+pub returns-clause-writes : goal.returns-clause-writes
+returns-clause-writes c = writes
+
+pub returns-clause-field : goal.returns-clause-field
+returns-clause-field c = writes_field
+
+pub returns-clause-item : goal.returns-clause-item
+returns-clause-item c = writes_item

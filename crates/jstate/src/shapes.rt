@@ -1,0 +1,42 @@
+ghost use Rattle.jstate.specs.Numbers.{GivesBack};
+ghost use Rattle.jstate.specs.SeenLaws.{Makes, SeesEach, Writes, WritesField, WritesItem};
+
+use jbase::Seq;
+use jheap::CellType;
+use juses::ArrayRef;
+
+/// What objects of a user's class hold.
+#[derive(Drop)]
+pub struct Shape {
+    /// The types of their fields.
+    pub cells: Seq<CellType>,
+    /// They can be thrown, so that they have a message, in a cell behind their fields.
+    pub message: bool,
+}
+
+/// What stands in the heap's cells.
+#[derive(Drop)]
+pub struct Shapes {
+    /// Of the objects of each user's class, by its place among the parts.
+    pub users: Seq<Shape>,
+    /// The types of arrays, by the heap's numbers for them.
+    pub arrays: Seq<ArrayRef>,
+    /// Of the static fields of all classes, in their order.
+    pub statics: Seq<CellType>,
+}
+
+/// The law of the heap's numbers for classes: a class is that of its number. It has no body to run; its contract is the law.
+#[tactic(auto, using(crate::proofs::Numbering::gives_back))]
+pub fn number_laws()
+    ensures { GivesBack }
+{}
+
+/// The laws of what a heap stands for: the object of a number is what the heap holds there, and what is made is one more object, and a
+/// cell that is written changes its object alone, of which it is a field or an item. It has no body to run; its contract is the laws.
+pub fn heap_laws()
+    ensures each { SeesEach }
+    ensures makes { Makes }
+    ensures writes { Writes }
+    ensures field { WritesField }
+    ensures item { WritesItem }
+{}
