@@ -36,7 +36,9 @@ fn text_entry(alloc: Global, text: &[u8]) -> Result<Entry, AllocError>
     Ok(Entry::Utf8(text))
 }
 
-fn put_text(alloc: Global, pool: &mut Adder, text: &[u8]) -> Result<u16, MoveError>
+/// Puts a text of at most 65,535 bytes into a pool, unless it is there, and answers its least index. `PoolFull` comes exactly where the
+/// pool has no room for it.
+pub fn put_text(alloc: Global, pool: &mut Adder, text: &[u8]) -> Result<u16, MoveError>
     requires { length text.now ≤ 0xffff }
     ensures value { Adds (λ i. i) (with_text text.now) result pool.old pool.new }
     ensures there { IfOk result (λ i. IsTrue (is_utf8 pool.new i)) }
@@ -45,7 +47,9 @@ fn put_text(alloc: Global, pool: &mut Adder, text: &[u8]) -> Result<u16, MoveErr
     put(pool, e)
 }
 
-fn put_class(alloc: Global, pool: &mut Adder, name: &[u8]) -> Result<u16, MoveError>
+/// Puts the class of a name of at most 65,535 bytes into a pool, unless it is there: its name first. `PoolFull` comes exactly where the
+/// pool has no room for both.
+pub fn put_class(alloc: Global, pool: &mut Adder, name: &[u8]) -> Result<u16, MoveError>
     requires { length name.now ≤ 0xffff }
     ensures { Adds (λ i. i) (with_class name.now) result pool.old pool.new }
 {

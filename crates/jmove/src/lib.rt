@@ -14,6 +14,7 @@ mod places;
 mod sizing;
 mod whole;
 
+pub use adding::{put_class, put_text};
 pub use descriptor::moved_descriptor;
 pub use laws::{limit_laws, line_laws};
 pub use method::{Expand, MethodIn, MethodOut, MoveError};

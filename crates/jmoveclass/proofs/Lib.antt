@@ -1,0 +1,14 @@
+pub mod Answering
+pub mod Attributing
+pub mod Beginnings
+pub mod Coding
+pub mod Forms
+pub mod Fronts
+pub mod Full
+pub mod Growth
+pub mod Keeping
+pub mod Likening
+pub mod Members
+pub mod Short
+pub mod Stored
+pub mod Turning

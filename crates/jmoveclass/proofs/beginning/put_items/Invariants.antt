@@ -1,0 +1,8 @@
+use Rattle.std.proofs.Common.{◌≡◌, drop}
+use Rattle.jmoveclass.specs.Beginning.{with_item}
+use Rattle.jmoveclass.specs.Puts.{with_each}
+use Rattle.jmoveclass.proofs.Turning.{with_done}
+use Rattle.jmoveclass.proofs.beginning.put_items.Given as goal
+
+abbrev pub invariant-loop-t : goal.invariant-loop-t
+invariant-loop-t l = with_done l.items (with_each with_item (drop l.t-index l.types) l.pool) ≡ with_each with_item l.types l.fn.pool

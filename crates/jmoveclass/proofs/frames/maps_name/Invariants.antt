@@ -1,0 +1,7 @@
+use Rattle.std.proofs.Common.{◌≡◌, drop}
+use Rattle.jbase.specs.First.{first_some}
+use Rattle.jmoveclass.specs.Methods.{maps_name}
+use Rattle.jmoveclass.proofs.frames.maps_name.Given as goal
+
+abbrev pub invariant-loop-attribute : goal.invariant-loop-attribute
+invariant-loop-attribute l = first_some maps_name (drop l.attribute-index l.attributes) ≡ first_some maps_name l.attributes

@@ -1,0 +1,10 @@
+use Rattle.std.proofs.Common.{◌≡◌, drop}
+use Rattle.jmoveclass.specs.Methods.{with_method}
+use Rattle.jmoveclass.specs.Puts.{with_each}
+use Rattle.jmoveclass.proofs.Turning.{with_done}
+use Rattle.jmoveclass.proofs.whole.put_methods.Given as goal
+
+abbrev pub invariant-loop-m : goal.invariant-loop-m
+invariant-loop-m l =
+    with_done l.moved (with_each (with_method l.c.program.now l.c.class.now l.c.domain) (drop l.m-index l.c.class.now.methods) l.pool)
+    ≡ with_each (with_method l.c.program.now l.c.class.now l.c.domain) l.c.class.now.methods l.fn.pool

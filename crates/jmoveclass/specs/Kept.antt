@@ -1,0 +1,26 @@
+-- Which attributes moved classes keep. The others say what the source or its code was, or what no machine of ours looks at.
+use Rattle.std.specs.Prelude.{ℕ, Bool, ◌||◌, List, [], ◌∷◌, Option, codes}
+use Rattle.std.specs.List.{list_any}
+use Rattle.jpool.specs.declared.entry.Entry.{Entry}
+use Rattle.jpool.specs.Pools.{utf8_at}
+use Rattle.jclass.specs.declared.class.Attribute.{Attribute}
+use Rattle.jclass.specs.Members.{attribute_name}
+use Rattle.jclass.specs.Rules.{is_text}
+
+-- the text at an index is one of these
+abbrev pub is_one_of : List (List ℕ) → Option (List ℕ) → Bool
+is_one_of names text = list_any (is_text text) names
+
+-- of a class (JVMS 4.7): SourceFile, InnerClasses, Deprecated and Synthetic
+abbrev pub class_names : List (List ℕ)
+class_names = codes "SourceFile" ∷ codes "InnerClasses" ∷ codes "Deprecated" ∷ codes "Synthetic" ∷ []
+
+-- of a method, besides its code: Exceptions, Deprecated and Synthetic
+abbrev pub method_names : List (List ℕ)
+method_names = codes "Exceptions" ∷ codes "Deprecated" ∷ codes "Synthetic" ∷ []
+
+unfoldable pub class_keeps : List Entry → Attribute → Bool
+class_keeps pool a = is_one_of class_names (utf8_at pool (attribute_name a))
+
+unfoldable pub method_keeps : List Entry → Attribute → Bool
+method_keeps pool a = is_one_of method_names (utf8_at pool (attribute_name a))

@@ -1,0 +1,83 @@
+ghost use Rattle.std.specs.Prelude.{◌≡◌, IfOk, Some, slice_get};
+ghost use Rattle.jprogram.specs.Members.{part_of, referred};
+ghost use Rattle.juses.specs.Uses.{AreUses};
+ghost use Rattle.jmoveclass.specs.Calls;
+
+use crate::moving::Moving;
+use jbase::Seq;
+use jcode::{Op, Placed};
+use jlib::{ControllerCall, LibCall, ThreadCall};
+use jmove::Expand;
+use jprogram::Member;
+use std::alloc::{AllocError, Global};
+
+/// What a call of AccessController becomes.
+fn asking(n: u16, call: ControllerCall) -> Expand
+    ensures { result ≡ Calls.asking n call }
+{
+    match call {
+        ControllerCall::Check => Expand::Check(n),
+        ControllerCall::Snapshot => Expand::Snapshot(n),
+        ControllerCall::Privileged => Expand::Privileged(n),
+        ControllerCall::PrivilegedWith => Expand::PrivilegedWith(n),
+        ControllerCall::PrivilegedLimited => Expand::PrivilegedLimited(n),
+    }
+}
+
+fn calling_library(n: u16, call: LibCall) -> Expand
+    ensures { result ≡ Calls.calling_library n call }
+{
+    match call {
+        LibCall::Run(_) => Expand::Call(n),
+        LibCall::RunAction(_) => Expand::Call(n),
+        LibCall::Thread(ThreadCall::Init(_)) => Expand::Call(n),
+        LibCall::Controller(one) => asking(n, one),
+        _ => Expand::Same,
+    }
+}
+
+/// What a call by the reference at an index becomes, by the member that it stands for.
+fn calling(n: u16, member: Option<Member>) -> Expand
+    ensures { result ≡ Calls.calling n member }
+{
+    match member {
+        Some(Member::Method(_)) => Expand::Call(n),
+        Some(Member::LibMethod(call)) => calling_library(n, call),
+        _ => Expand::Same,
+    }
+}
+
+/// The member that the reference at an index of the class's pool stands for.
+fn stands_for(c: &Moving<'_>, n: u16) -> Option<Member>
+    requires uses { AreUses c.now.program.now c.now.uses.now }
+    requires part { part_of c.now.program.now c.now.place ≡ Some c.now.class.now }
+    ensures { result ≡ referred c.now.program.now c.now.class.now.pool (slice_get c.now.class.now.pool n) }
+{
+    c.uses.member_at(c.place, n)
+}
+
+fn expand_by(c: &Moving<'_>, op: &Op) -> Expand
+    requires uses { AreUses c.now.program.now c.now.uses.now }
+    requires part { part_of c.now.program.now c.now.place ≡ Some c.now.class.now }
+    ensures { result ≡ Calls.expand_by (λ n. referred c.now.program.now c.now.class.now.pool (slice_get c.now.class.now.pool n)) op.now }
+{
+    match op {
+        Op::Call(_, n) => calling(*n, stands_for(c, *n)),
+        Op::CallInterface(n, _) => calling(*n, stands_for(c, *n)),
+        _ => Expand::Same,
+    }
+}
+
+/// What instructions of the class become.
+#[tactic(auto, unfolding(crate::specs::Calls::expands))]
+pub fn expands(alloc: Global, c: &Moving<'_>, ops: &[Placed]) -> Result<Seq<Expand>, AllocError>
+    requires uses { AreUses c.now.program.now c.now.uses.now }
+    requires part { part_of c.now.program.now c.now.place ≡ Some c.now.class.now }
+    ensures { IfOk result (λ all. all ≡ Calls.expands c.now.program.now c.now.class.now.pool ops.now) }
+{
+    let mut all = Seq::new(alloc);
+    for one in ops {
+        all.push(expand_by(c, &one.op))?;
+    }
+    Ok(all)
+}
