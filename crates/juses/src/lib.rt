@@ -23,7 +23,7 @@ pub use indices::Indices;
 pub use laws::member_law;
 pub use meaning::{CallUse, Constant, FieldUse, How, Span, Use};
 pub use numbered::{FlowRef, InstructionRef, Key, Keys, When};
-pub use numbering::{instruction_at, instruction_of};
+pub use numbering::{flow_of, instruction_at, instruction_of};
 pub use types::{ArrayRef, ElementRef, TypeRef};
 pub use typing::{class_there, class_type, type_in};
 pub use uses::Uses;

@@ -159,7 +159,8 @@ fn switch_of(
     Ok(switch_with(keys, other))
 }
 
-fn flow_of(
+/// Where a form that says so goes on, by the numbers of its method's instructions. None where it leads to none. Only a switch takes memory.
+pub fn flow_of(
     alloc: Global,
     ops: &[Placed],
     at: u32,
