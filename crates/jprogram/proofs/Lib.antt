@@ -5,6 +5,7 @@ pub mod Circling
 pub mod Climbing
 pub mod Counts
 pub mod Extending
+pub mod Facing
 pub mod Going
 pub mod Implementing
 pub mod Marked

@@ -1,4 +1,4 @@
--- Heights that are tested give that no class stands above itself.
+-- Where heights are an order, a class that is higher than all directly above it doesn't stand above itself.
 use Rattle.std.proofs.Common.{◌≡◌, ℕ, zero, suc, ◌+◌, ◌<◌, ◌≤◌, ◌||◌, ◌&&◌, Bool, true, false, List, [], ◌∷◌, ◌++◌, length, Option, Some, None, refl, sym, ap, subst, arith, inl, inr}
 use Rattle.std.specs.Prelude.{IsTrue, is_some, not, slice_get}
 use Rattle.std.specs.List.{list_all, AllByRecursion}
@@ -13,11 +13,10 @@ use Rattle.jlib.proofs.Found.{next_above}
 use Rattle.jprogram.specs.declared.part.CodePart.{CodePart}
 use Rattle.jprogram.specs.Parts.{class_text, interface_names, super_name, this_name}
 use Rattle.jprogram.specs.Circles.{supers_of}
-use Rattle.jprogram.specs.Classes.{Class, Program, known, reaches, supers}
-use Rattle.jprogram.specs.Heights.{height_in, height_of, is_above, is_below, is_order, is_part_above, super_below}
+use Rattle.jprogram.specs.Classes.{Class, Lib, Program, User, find, known, reaches, supers}
+use Rattle.jprogram.specs.Heights.{height_in, height_of, is_above, is_below, is_order, is_part_above, is_strict, is_user_above, super_below}
 use Rattle.jbase.specs.First.{fault_if}
 use Rattle.jprogram.specs.declared.fault.LinkKind.TheVariants.{Circular}
-use Rattle.jprogram.specs.Standing.{IsStraight}
 use Rattle.jprogram.specs.Supers.{circle_test}
 use Rattle.jprogram.proofs.Circling.{all_weaken, or_split}
 use Rattle.jprogram.proofs.Going.{some_is}
@@ -42,12 +41,12 @@ at_place t (y ∷ ys) (suc i) x all at = at_place t ys i x (second_true (t y) (l
 -- ---- what the test says
 
 module _ (p : Program) (heights : List ℕ) (good : IsTrue (is_order p heights)) where
-  each : (i : ℕ) (part : CodePart) → slice_get p.parts i ≡ Some part → IsTrue (not (is_some (library.class_named p.side (this_name part.class))) && is_above p heights (height_of p heights (this_name part.class)) part.class)
+  each : (i : ℕ) (part : CodePart) → slice_get p.parts i ≡ Some part → IsTrue (not (is_some (library.class_named p.side (this_name part.class))) && is_above p heights (height_of p heights (this_name part.class) + 1) part.class)
   unfolding is_order is_part_above
   each i part at = at_place (is_part_above p heights) p.parts i part good at
 
   apart : NamesApart p
-  apart i part at = is_not (is_some (library.class_named p.side (this_name part.class))) (first_true (not (is_some (library.class_named p.side (this_name part.class)))) (is_above p heights (height_of p heights (this_name part.class)) part.class) (each i part at))
+  apart i part at = is_not (is_some (library.class_named p.side (this_name part.class))) (first_true (not (is_some (library.class_named p.side (this_name part.class)))) (is_above p heights (height_of p heights (this_name part.class) + 1) part.class) (each i part at))
 
   Low : ℕ → List ℕ → Type 0
   Low n s = height_of p heights s < n
@@ -69,24 +68,25 @@ module _ (p : Program) (heights : List ℕ) (good : IsTrue (is_order p heights))
       let listed = second_true (super_below p heights n (super_name c)) (list_all (λ i. is_below p heights n (class_text c.pool i)) c.interfaces) e in
       all_append (Low n) (option_to_list (super_name c)) (interface_names c) (super_low n (super_name c) above) (faces_low n c listed)
 
-  low_at : (c : List ℕ) → Stands p c → AllByRecursion (Low (height_of p heights c)) (supers p c)
+  -- nothing that stands directly above a class is higher
+  low_at : (c : List ℕ) → Stands p c → AllByRecursion (Low (height_of p heights c + 1)) (supers p c)
   unfolding Low
   low_at c (Users i part at name is) =
-      let one = second_true (not (is_some (library.class_named p.side (this_name part.class)))) (is_above p heights (height_of p heights (this_name part.class)) part.class) (each i part at) in
-      let here : IsTrue (is_above p heights (height_of p heights c) part.class) = subst (λ (n : List ℕ). IsTrue (is_above p heights (height_of p heights n) part.class)) name one in
-      subst (λ (o : Option Class). AllByRecursion (Low (height_of p heights c)) (supers_of o)) (sym is) (user_low (height_of p heights c) part.class here)
-  low_at c (Libs l named is) = all_weaken (LibStep p apart l) (Low (height_of p heights c)) (λ s step.
+      let one = second_true (not (is_some (library.class_named p.side (this_name part.class)))) (is_above p heights (height_of p heights (this_name part.class) + 1) part.class) (each i part at) in
+      let here : IsTrue (is_above p heights (height_of p heights c + 1) part.class) = subst (λ (n : List ℕ). IsTrue (is_above p heights (height_of p heights n + 1) part.class)) name one in
+      subst (λ (o : Option Class). AllByRecursion (Low (height_of p heights c + 1)) (supers_of o)) (sym is) (user_low (height_of p heights c + 1) part.class here)
+  low_at c (Libs l named is) = all_weaken (LibStep p apart l) (Low (height_of p heights c + 1)) (λ s step.
       let less = step.less in
       let below = ap (height_in heights) step.is in
       let here = ap (height_in heights) is in
       omega (arith, less, below, here)) (supers p c) (lib_steps p apart l c is)
-  low_at c (Nowhere none) = subst (λ (o : Option Class). AllByRecursion (Low (height_of p heights c)) (supers_of o)) (sym none) tt
+  low_at c (Nowhere none) = subst (λ (o : Option Class). AllByRecursion (Low (height_of p heights c + 1)) (supers_of o)) (sym none) tt
 
-  -- what is reached is lower
-  reached_by_order : (n : ℕ) (c d : List ℕ) → reaches p n d c ≡ true → height_of p heights d < height_of p heights c
+  -- nor what is reached
+  reached_by_order : (n : ℕ) (c d : List ℕ) → reaches p n d c ≡ true → height_of p heights d < height_of p heights c + 1
   unfolding reaches Low
   reached_by_order zero c d e = absurd cc
-  reached_by_order (suc n) c d e = any_of_all (λ s. bytes_eq d s || reaches p n d s) (Low (height_of p heights c)) (supers p c) e (low_at c (stands p c)) (λ s h lt. elim (or_split (bytes_eq d s) (reaches p n d s) h) [
+  reached_by_order (suc n) c d e = any_of_all (λ s. bytes_eq d s || reaches p n d s) (Low (height_of p heights c + 1)) (supers p c) e (low_at c (stands p c)) (λ s h lt. elim (or_split (bytes_eq d s) (reaches p n d s) h) [
     | inl same ↦ let at = ap (height_of p heights) (name_is d s same) in omega (arith, lt, at)
     | inr far ↦ let less = reached_by_order n s d far in omega (arith, lt, less)
   ])
@@ -95,11 +95,25 @@ module _ (p : Program) (heights : List ℕ) (good : IsTrue (is_order p heights))
   never true h = absurd (h refl)
   never false h = refl
 
-  not_itself : IsStraight p
-  not_itself c = never (reaches p (length (known p)) c c) (λ e. let lt = reached_by_order (length (known p)) c c e in omega (arith, lt))
+  -- a class that is higher than what stands directly above it
+  strict_low : (c : List ℕ) (o : Option Class) → find p c ≡ o → IsTrue (is_user_above p heights (height_of p heights c) o) → AllByRecursion (Low (height_of p heights c)) (supers p c)
+  strict_low c None is e = absurd cc
+  strict_low c (Some (User i k)) is e = subst (λ (o : Option Class). AllByRecursion (Low (height_of p heights c)) (supers_of o)) (sym is) (user_low (height_of p heights c) k e)
+  strict_low c (Some (Lib l)) is e = absurd cc
 
-pub order_is_straight : (p : Program) (heights : List ℕ) → is_order p heights ≡ true → IsStraight p
-order_is_straight p heights good = not_itself p heights good
+  itself_never : (n : ℕ) (c : List ℕ) → AllByRecursion (Low (height_of p heights c)) (supers p c) → reaches p n c c ≡ true → ⊥
+  unfolding reaches Low
+  itself_never zero c low e = cc
+  itself_never (suc n) c low e = any_of_all (λ s. bytes_eq c s || reaches p n c s) (Low (height_of p heights c)) (supers p c) e low (λ s h lt. elim (or_split (bytes_eq c s) (reaches p n c s) h) [
+    | inl same ↦ let at = ap (height_of p heights) (name_is c s same) in omega (arith, lt, at)
+    | inr far ↦ let most = reached_by_order n s c far in omega (arith, lt, most)
+  ])
+
+  apart_by : (c : List ℕ) → IsTrue (is_strict p heights c) → reaches p (length (known p)) c c ≡ false
+  apart_by c e = never (reaches p (length (known p)) c c) (λ h. itself_never (length (known p)) c (strict_low c (find p c) refl e) h)
+
+pub strict_apart : (p : Program) (heights : List ℕ) (c : List ℕ) → is_order p heights ≡ true → is_strict p heights c ≡ true → reaches p (length (known p)) c c ≡ false
+strict_apart p heights c good strict = apart_by p heights good c strict
 
 -- ---- the heights of the library's classes
 
@@ -117,8 +131,8 @@ height_next c s e = let one : library.height c ≡ suc (library.height s) = ap (
 pub height_top : (c : LibClass) → None ≡ library.superclass c → library.height c ≡ 0
 height_top c e = ap (λ (o : Option LibClass). length (library.upward 46 o)) (sym e)
 
--- ---- where no class stands above itself
+-- ---- a class that doesn't stand above itself
 
-pub straight_none : (p : Program) (c : ClassParts) (straight : Bool) → straight ≡ true → (straight ≡ true → IsStraight p) → None ≡ circle_test p c
+pub apart_none : (p : Program) (c : ClassParts) (name : List ℕ) → name ≡ this_name c → reaches p (length (known p)) name name ≡ false → None ≡ circle_test p c
 unfolding circle_test
-straight_none p c straight is all = ap (λ (b : Bool). fault_if b Circular) (sym (all is (this_name c)))
+apart_none p c name is none = ap (λ (b : Bool). fault_if b Circular) (sym (subst (λ (n : List ℕ). reaches p (length (known p)) n n ≡ false) is none))

@@ -23,6 +23,7 @@ use Rattle.jprogram.specs.declared.fault.LinkKind.TheVariants.{Twice}
 use Rattle.jprogram.specs.Parts.{class_text, interface_names, super_name, this_name}
 use Rattle.jprogram.specs.Bits.{Joins, has}
 use Rattle.jprogram.specs.Circles.{supers_of}
+use Rattle.jprogram.specs.Faces.{face_number}
 use Rattle.jprogram.specs.Classes.{Class, Lib, Program, User, above, above_name, face_names, faces_of, find, found_at, holds, implements, is_interface, known, name_at, place_of, ref_of, supers}
 use Rattle.std.specs.Prelude.{Err, IfOk, IfSome, Ok, Result}
 use denote.Ref.{Bor}
@@ -37,6 +38,7 @@ use Rattle.jprogram.proofs.Circling.{all_weaken}
 use Rattle.jprogram.proofs.Climbing.{above_faces, faces_at}
 use Rattle.jprogram.proofs.Going.{only_runnable, place_there, slice_get-within, some_is}
 use Rattle.jprogram.proofs.Extending.{above_lower}
+use Rattle.jprogram.proofs.Facing.{face_numbered, one_face}
 use Rattle.jprogram.proofs.Implementing.{IsFace, faces_are, faces_lower, implements_next}
 use Rattle.jprogram.proofs.Settling.{clash, name_equal, name_is, same_bool}
 use Rattle.jprogram.proofs.Standing.{Libs, Nowhere, Stands, Users, all_behind, fault_none, in_none, lib_find, lower_all, not_taken, or_none, stands, tall, tall_most}
@@ -79,13 +81,13 @@ set_length (y ∷ ys) (suc i) x = ap (λ (n : ℕ). suc n) (set_length ys i x)
 
 -- ---- by number
 
-number_from : (o : Option Class) → number_in o ≡ option_and_then number_at (option_map ref_of o)
-number_from None = refl
-number_from (Some (User i c)) = refl
-number_from (Some (Lib c)) = refl
+number_from : (p : Program) (o : Option Class) → number_in p o ≡ option_and_then (number_at p) (option_map ref_of o)
+number_from p None = refl
+number_from p (Some (User i c)) = refl
+number_from p (Some (Lib c)) = refl
 
-pub number_is : (p : Program) (r : ClassRef) → IsNumber p r → number_of p (name_at p r) ≡ number_at r
-number_is p r e = number_from (find p (name_at p r)) ∙ ap (option_and_then number_at) e
+pub number_is : (p : Program) (r : ClassRef) → IsNumber p r → number_of p (name_at p r) ≡ number_at p r
+number_is p r e = number_from p (find p (name_at p r)) ∙ ap (option_and_then (number_at p)) e
 
 user_from : (o : Option Class) (j : ℕ) → option_map ref_of o ≡ Some (refs.User j) → (q : ClassParts) × (o ≡ Some (User j q))
 user_from None j e = absurd cc
@@ -188,32 +190,37 @@ no_permission permission.FilePermission e = cc
 no_number : (k : ℕ) → None ≡ Some k → ⊥
 no_number k e = cc
 
-user_number : (i k : ℕ) → Some (i + 4) ≡ Some k → i + 4 ≡ k
-user_number i k e = some_is (i + 4) k e
+-- the number behind the library's
+behind_lib : (o : Option ℕ) (k : ℕ) → option_map (λ n. n + 4) o ≡ Some k → (n : ℕ) × ((o ≡ Some n) × (n + 4 ≡ k))
+behind_lib None k e = absurd cc
+behind_lib (Some n) k e = (n, (refl, some_is (n + 4) k e))
 
 -- a number is that of one name
 one_name_at : (p : Program) (i f : List ℕ) (k : ℕ) → number_of p i ≡ Some k → number_of p f ≡ Some k → Stands p i → Stands p f → i ≡ f
 one_name_at p i f k e h (Users a part at name is) (Users b other there called so) =
-    let one = user_number a k (sym (ap number_in is) ∙ e) in
-    let two = user_number b k (sym (ap number_in so) ∙ h) in
-    let same : a ≡ b = omega (arith, one, two) in
+    let one = behind_lib (face_number p.parts a) k (sym (ap (number_in p) is) ∙ e) in
+    let two = behind_lib (face_number p.parts b) k (sym (ap (number_in p) so) ∙ h) in
+    let first = one.1.1 in
+    let second = two.1.1 in
+    let numbers : two.0 ≡ one.0 = omega (arith, first, second) in
+    let same : a ≡ b = one_face p.parts a b one.0 one.1.0 (two.1.0 ∙ ap (λ (n : ℕ). Some n) numbers) in
     let parts : part ≡ other = some_is part other (sym at ∙ ap (slice_get p.parts) same ∙ there) in
     sym name ∙ ap (λ (x : CodePart). this_name x.class) parts ∙ called
 one_name_at p i f k e h (Users a part at name is) (Libs m named so) =
-    let one = user_number a k (sym (ap number_in is) ∙ e) in
-    let lt = (lib_number_is m k (sym (ap number_in so) ∙ h)).1 in
+    let one = (behind_lib (face_number p.parts a) k (sym (ap (number_in p) is) ∙ e)).1.1 in
+    let lt = (lib_number_is m k (sym (ap (number_in p) so) ∙ h)).1 in
     absurd (omega (arith, one, lt))
-one_name_at p i f k e h (Users a part at name is) (Nowhere none) = absurd (no_number k (sym (ap number_in none) ∙ h))
+one_name_at p i f k e h (Users a part at name is) (Nowhere none) = absurd (no_number k (sym (ap (number_in p) none) ∙ h))
 one_name_at p i f k e h (Libs l known is) (Users b other there called so) =
-    let two = user_number b k (sym (ap number_in so) ∙ h) in
-    let lt = (lib_number_is l k (sym (ap number_in is) ∙ e)).1 in
+    let two = (behind_lib (face_number p.parts b) k (sym (ap (number_in p) so) ∙ h)).1.1 in
+    let lt = (lib_number_is l k (sym (ap (number_in p) is) ∙ e)).1 in
     absurd (omega (arith, two, lt))
 one_name_at p i f k e h (Libs l known is) (Libs m named so) =
-    let one = (lib_number_is l k (sym (ap number_in is) ∙ e)).0 in
-    let two = (lib_number_is m k (sym (ap number_in so) ∙ h)).0 in
+    let one = (lib_number_is l k (sym (ap (number_in p) is) ∙ e)).0 in
+    let two = (lib_number_is m k (sym (ap (number_in p) so) ∙ h)).0 in
     sym (class_found p.side i l known).0 ∙ ap library.name_of (one ∙ sym two) ∙ (class_found p.side f m named).0
-one_name_at p i f k e h (Libs l known is) (Nowhere none) = absurd (no_number k (sym (ap number_in none) ∙ h))
-one_name_at p i f k e h (Nowhere none) s = absurd (no_number k (sym (ap number_in none) ∙ e))
+one_name_at p i f k e h (Libs l known is) (Nowhere none) = absurd (no_number k (sym (ap (number_in p) none) ∙ h))
+one_name_at p i f k e h (Nowhere none) s = absurd (no_number k (sym (ap (number_in p) none) ∙ e))
 
 number_same : (p : Program) (i f : List ℕ) (k : ℕ) (o : Option ℕ) → number_of p i ≡ Some k → number_of p f ≡ o → is_number k o ≡ bytes_eq i f
 number_same p i f k None e h = sym (false_from_ne_true (bytes_eq i f) (λ same. no_number k (sym h ∙ ap (number_of p) (sym (name_is i f same)) ∙ e)))
@@ -485,7 +492,7 @@ module _ (p : Program) (good : StandsInOrder p) where
       or_no (is_or_has p i (library.name_of f))
       ∙ ap (λ (b : Bool). bytes_eq i (library.name_of f) || b) (lib_none_at i (library.name_of f) f (face_none l f is) at)
       ∙ or_no (bytes_eq i (library.name_of f))
-      ∙ sym (number_same p i (library.name_of f) k (lib_number f) e (ap number_in at))
+      ∙ sym (number_same p i (library.name_of f) k (lib_number f) e (ap (number_in p) at))
 
   -- what a class of the library implements: what it lists
   pub lib_has : (i c : List ℕ) (k : ℕ) (l : LibClass) → number_of p i ≡ Some k → find p c ≡ Some (Lib l) → implements p c i ≡ is_number k (listed_number l)
@@ -630,10 +637,12 @@ module _ (p : Program) (good : StandsInOrder p) where
   face_of_lib lib.Rt e = absurd cc
   face_of_lib lib.Ctx e = absurd cc
 
-  face_number : (f : List ℕ) → Stands p f → IsFace p good f → is_some (number_of p f) ≡ true
-  face_number f (Users i part at name is) h = ap (λ (o : Option Class). is_some (number_in o)) is
-  face_number f (Libs l named is) h = ap (λ (o : Option Class). is_some (number_in o)) is ∙ face_of_lib l (sym (ap (holds is_interface) is) ∙ h)
-  face_number f (Nowhere none) h = clash (holds is_interface (find p f)) h (ap (holds is_interface) none)
+  face_number_is : (f : List ℕ) → Stands p f → IsFace p good f → is_some (number_of p f) ≡ true
+  face_number_is f (Users i part at name is) h =
+      let some = face_numbered p.parts i part at (sym (ap (holds is_interface) is) ∙ h) in
+      ap (λ (o : Option Class). is_some (number_in p o)) is ∙ ap (λ (o : Option ℕ). is_some (option_map (λ n. n + 4) o)) some
+  face_number_is f (Libs l named is) h = ap (λ (o : Option Class). is_some (number_in p o)) is ∙ face_of_lib l (sym (ap (holds is_interface) is) ∙ h)
+  face_number_is f (Nowhere none) h = clash (holds is_interface (find p f)) h (ap (holds is_interface) none)
 
   none_any : {A : Type 0} (t : A → Bool) (xs : List A) → AllByRecursion (λ x. t x ≡ false) xs → list_any t xs ≡ false
   none_any t [] all = refl
@@ -659,7 +668,7 @@ module _ (p : Program) (good : StandsInOrder p) where
       implements_next p good i c
       ∙ or_both_no (list_any (is_or_has p i) (face_names p c)) (above_has p i (above_name p c))
       (none_any (is_or_has p i) (face_names p c) (all_weaken (λ f. (tall p f < tall p c) × IsFace p good f) (λ f. is_or_has p i f ≡ false)
-      (λ f h. let less = h.0 in or_both_no (bytes_eq i f) (implements p f i) (not_same i f none (face_number f (stands p f) h.1)) (unnumbered n i f none (omega (arith, lt, less)))) (face_names p c)
+      (λ f h. let less = h.0 in or_both_no (bytes_eq i f) (implements p f i) (not_same i f none (face_number_is f (stands p f) h.1)) (unnumbered n i f none (omega (arith, lt, less)))) (face_names p c)
       (both_all (λ f. tall p f < tall p c) (IsFace p good) (face_names p c) (faces_lower p good c) (faces_are p good c))))
       (above_has_none i (above_name p c) (λ a is. let less = above_lower p good c a is in unnumbered n i a none (omega (arith, lt, less))))
 
@@ -682,12 +691,12 @@ module _ (p : Program) (good : StandsInOrder p) where
       let made = made_there rows j T.all (omega (arith, size, within)) in
       ap (λ (o : Option (Option (List ℕ))). row_has (row_in o) k) made.1 ∙ T.made.right c j made.0 place made.1 i k e
 
-  pub at_user : (rows : List (Option (List ℕ))) (r s : ClassRef) (j k : ℕ) (o : Option ℕ) (b : Bool) → AreInterfaces p rows → IsNumber p r → IsNumber p s → r ≡ refs.User j → o ≡ number_at s → o ≡ Some k → b ≡ row_has (row_in (slice_get rows j)) k → b ≡ implements p (name_at p r) (name_at p s)
+  pub at_user : (rows : List (Option (List ℕ))) (r s : ClassRef) (j k : ℕ) (o : Option ℕ) (b : Bool) → AreInterfaces p rows → IsNumber p r → IsNumber p s → r ≡ refs.User j → o ≡ number_at p s → o ≡ Some k → b ≡ row_has (row_in (slice_get rows j)) k → b ≡ implements p (name_at p r) (name_at p s)
   at_user rows r s j k o b T nr ns is oe os e =
       let there = user_number_is p j (subst (λ (x : ClassRef). IsNumber p x) is nr) in
       e ∙ user_answer rows (name_at p s) (name_at p r) j k there.0 T (number_is p s ns ∙ sym oe ∙ os) (ap (λ (x : ClassRef). find p (name_at p x)) is ∙ there.1)
 
-  pub at_lib : (r s : ClassRef) (l : LibClass) (k : ℕ) (o : Option ℕ) (b : Bool) → IsNumber p r → IsNumber p s → r ≡ refs.Lib l → o ≡ number_at s → o ≡ Some k → b ≡ is_number k (listed_number l) → b ≡ implements p (name_at p r) (name_at p s)
+  pub at_lib : (r s : ClassRef) (l : LibClass) (k : ℕ) (o : Option ℕ) (b : Bool) → IsNumber p r → IsNumber p s → r ≡ refs.Lib l → o ≡ number_at p s → o ≡ Some k → b ≡ is_number k (listed_number l) → b ≡ implements p (name_at p r) (name_at p s)
   at_lib r s l k o b nr ns is oe os e =
       let there = lib_number_found p l (subst (λ (x : ClassRef). IsNumber p x) is nr) in
       e ∙ sym (lib_has (name_at p s) (name_at p r) k l (number_is p s ns ∙ sym oe ∙ os) (ap (λ (x : ClassRef). find p (name_at p x)) is ∙ there))

@@ -1,5 +1,5 @@
--- Heights by which no class stands above itself.
-use Rattle.std.specs.Prelude.{ℕ, ◌+◌, Bool, true, ◌&&◌, not, List, length, Option, Some, None, is_some, nat_lt, slice_get}
+-- Heights by which a class that is higher than what stands directly above it doesn't stand above itself.
+use Rattle.std.specs.Prelude.{ℕ, ◌+◌, Bool, true, false, ◌&&◌, not, List, length, Option, Some, None, is_some, nat_lt, slice_get}
 use Rattle.std.specs.List.{list_all}
 use Rattle.std.specs.Option.{option_to_list}
 use Rattle.jclass.specs.declared.class.ClassParts.{ClassParts}
@@ -41,9 +41,19 @@ super_below p heights height (Some name) = is_below p heights height name
 abbrev pub is_above : Program → List ℕ → ℕ → ClassParts → Bool
 is_above p heights height c = super_below p heights height (super_name c) && list_all (λ i. is_below p heights height (class_text c.pool i)) c.interfaces
 
--- a part has a name that the library hasn't, and its height is greater than those of what stands directly above it
+-- a part has a name that the library hasn't, and nothing that stands directly above it is higher
 unfoldable pub is_part_above : Program → List ℕ → CodePart → Bool
-is_part_above p heights part = not (is_some (library.class_named p.side (this_name part.class))) && is_above p heights (height_of p heights (this_name part.class)) part.class
+is_part_above p heights part = not (is_some (library.class_named p.side (this_name part.class))) && is_above p heights (height_of p heights (this_name part.class) + 1) part.class
 
 unfoldable pub is_order : Program → List ℕ → Bool
 is_order p heights = list_all (is_part_above p heights) p.parts
+
+-- a height is greater than those of what stands directly above a user's class that was found
+abbrev pub is_user_above : Program → List ℕ → ℕ → Option Class → Bool
+is_user_above p heights height None = false
+is_user_above p heights height (Some (User i c)) = is_above p heights height c
+is_user_above p heights height (Some (Lib c)) = false
+
+-- a user's class has this name, and all that stands directly above it is lower
+abbrev pub is_strict : Program → List ℕ → List ℕ → Bool
+is_strict p heights name = is_user_above p heights (height_of p heights name) (find p name)

@@ -11,6 +11,7 @@ use Rattle.jprogram.specs.declared.part.ClassRef.{ClassRef}
 use Rattle.jprogram.specs.declared.part.ClassRef.TheVariants as refs
 use Rattle.jprogram.specs.declared.part.CodePart.{CodePart}
 use Rattle.jprogram.specs.Bits.{has}
+use Rattle.jprogram.specs.Faces.{face_number}
 use Rattle.jprogram.specs.Classes.{Class, Lib, Program, User, find, implements, name_at, place_of, ref_of}
 
 -- ---- numbers
@@ -23,19 +24,22 @@ lib_number lib.Runnable = Some 2
 lib_number lib.PrivilegedAction = Some 3
 lib_number _ = None
 
--- and behind them the users' classes, by place
-abbrev pub number_in : Option Class → Option ℕ
-number_in None = None
-number_in (Some (User i c)) = Some (i + 4)
-number_in (Some (Lib c)) = lib_number c
+-- and behind them the users' interfaces, in their order
+abbrev pub user_number : Program → ℕ → Option ℕ
+user_number p i = option_map (λ n. n + 4) (face_number p.parts i)
+
+abbrev pub number_in : Program → Option Class → Option ℕ
+number_in p None = None
+number_in p (Some (User i c)) = user_number p i
+number_in p (Some (Lib c)) = lib_number c
 
 abbrev pub number_of : Program → List ℕ → Option ℕ
-number_of p name = number_in (find p name)
+number_of p name = number_in p (find p name)
 
 -- of a class by its own number
-abbrev pub number_at : ClassRef → Option ℕ
-number_at (refs.User i) = Some (i + 4)
-number_at (refs.Lib c) = lib_number c
+abbrev pub number_at : Program → ClassRef → Option ℕ
+number_at p (refs.User i) = user_number p i
+number_at p (refs.Lib c) = lib_number c
 
 -- a class of the program has this number
 abbrev pub IsNumber : Program → ClassRef → Type 0

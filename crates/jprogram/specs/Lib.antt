@@ -2,6 +2,7 @@ pub mod Bits
 pub mod Circles
 pub mod Classes
 pub mod Digests
+pub mod Faces
 pub mod Heights
 pub mod Implementing
 pub mod Layers

@@ -3,9 +3,11 @@ ghost use Rattle.std.specs.List.{list_any};
 ghost use Rattle.std.specs.Str.{bytes_eq};
 ghost use Rattle.jprogram.specs.Classes;
 ghost use Rattle.jprogram.specs.Digests.{AreFirsts};
+ghost use Rattle.jprogram.specs.Faces;
 ghost use Rattle.jprogram.specs.Seen.{seen};
 ghost use Rattle.jprogram.specs.Slots;
 
+use crate::faces::{face_at, faces_of};
 use crate::firsts::{Firsts, firsts_in};
 use crate::found::Found;
 use crate::library::class_named;
@@ -35,6 +37,8 @@ pub struct NamedProgram {
     places: BTreeMap<Vec<u8>, u32>,
     /// The first place of each slot of names.
     slots: Seq<Option<u32>>,
+    /// The number of each interface.
+    faces: Seq<Option<u32>>,
     /// The first members of each class by their digests.
     firsts: Vec<Firsts>,
 }
@@ -43,6 +47,7 @@ impl Model for NamedProgram {
     ghost use Rattle.std.specs.Prelude.{◌≤◌, length};
     ghost use Rattle.jprogram.specs.Classes.{Program, program};
     ghost use Rattle.jprogram.specs.Digests.{AreTold};
+    ghost use Rattle.jprogram.specs.Faces.{AreFaces};
     ghost use Rattle.jprogram.specs.Names.{ArePlaces};
     ghost use Rattle.jprogram.specs.Slots.{AreSlots};
 
@@ -50,7 +55,7 @@ impl Model for NamedProgram {
 
     ghost view = { λ p. program p.side p.parts.items };
 
-    ghost invariant = { λ p. ArePlaces p.parts.items p.places × (AreSlots p.parts.items p.slots × (AreTold p.parts.items p.firsts.items × (length p.parts.items ≤ 0xffff))) };
+    ghost invariant = { λ p. ArePlaces p.parts.items p.places × (AreSlots p.parts.items p.slots × (AreFaces p.parts.items p.faces × (AreTold p.parts.items p.firsts.items × (length p.parts.items ≤ 0xffff)))) };
 }
 
 impl NamedProgram {
@@ -70,6 +75,9 @@ impl NamedProgram {
         let Ok(slots) = slots_of(alloc, parts.as_slice()) else {
             return Err(AllocFailed { value: parts });
         };
+        let Ok(faces) = faces_of(alloc, parts.as_slice()) else {
+            return Err(AllocFailed { value: parts });
+        };
         let Ok(firsts) = firsts_in(alloc, parts.as_slice()) else {
             return Err(AllocFailed { value: parts });
         };
@@ -78,6 +86,7 @@ impl NamedProgram {
             parts,
             places,
             slots,
+            faces,
             firsts,
         })
     }
@@ -131,6 +140,13 @@ impl NamedProgram {
             return Some(first);
         }
         self.noted_place(name)
+    }
+
+    /// The number of a part's class, where this is an interface, among the interfaces.
+    pub(crate) fn face_number(&self, i: u32) -> Option<u32>
+        ensures { result ≡ Faces.face_number self.now.parts i }
+    {
+        face_at(&self.faces, i as usize)
     }
 
     fn user_at(&self, i: u32) -> Option<Found<'_>>

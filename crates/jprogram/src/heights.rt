@@ -1,10 +1,10 @@
-ghost use Rattle.std.specs.Prelude.{◌≡◌, ◌≤◌, true, IfOk, length, option_map};
+ghost use Rattle.std.specs.Prelude.{◌≡◌, ◌≤◌, true, false, length, option_map};
 ghost use Rattle.std.specs.List.{list_all};
 ghost use Rattle.std.specs.Option.{option_to_list};
 ghost use Rattle.jlib.specs.Classes as library;
+ghost use Rattle.jprogram.specs.Classes;
 ghost use Rattle.jprogram.specs.Heights;
 ghost use Rattle.jprogram.specs.Parts;
-ghost use Rattle.jprogram.specs.Standing.{IsStraight};
 
 use crate::classes::NamedProgram;
 use crate::found::Found;
@@ -14,36 +14,37 @@ use jclass::ClassParts;
 use jlib::{LibClass, class};
 use std::alloc::{AllocError, Global};
 
-/// A class whose supers are being gone through, its interfaces and then its superclass: its place, the next of them, and the greatest
-/// height so far.
+/// A height above those of all classes of the library.
+const LIBRARY: u32 = 48;
+
+/// A class whose supers are being gone through, its interfaces and then its superclass: its place, the next of them, and the least
+/// number so far of a class without a height that it stands below.
 #[derive(Clone, Copy)]
 struct Visit {
     part: usize,
     next: usize,
-    height: u32,
+    least: u32,
 }
 
 impl Visit {
-    fn of(part: usize) -> Visit {
-        Visit {
-            part,
-            next: 0,
-            height: 0,
-        }
-    }
-
-    /// Behind a super of a height.
-    fn past(self, height: u32) -> Visit {
+    /// Behind a super.
+    fn past(self) -> Visit {
         Visit {
             part: self.part,
             next: self.next.saturating_add(1),
-            height: self.height.max(height),
+            least: self.least,
+        }
+    }
+
+    /// Where a class of a number, without a height, is come to.
+    fn reaching(self, number: u32) -> Visit {
+        Visit {
+            part: self.part,
+            next: self.next,
+            least: self.least.min(number),
         }
     }
 }
-
-/// The mark of a class whose supers are being gone through.
-const OPEN: u32 = 0xffff_ffff;
 
 fn set_height(heights: &mut Vec<u32>, i: usize, height: u32) {
     if i < heights.len() {
@@ -90,6 +91,97 @@ fn lib_height(class: LibClass) -> u32
     count_above(class) + count_faces(class)
 }
 
+/// What is known while heights are sought (Tarjan, Depth-first search and linear graph algorithms, 1972).
+#[derive(Drop)]
+struct Climb {
+    /// How many classes had been come to when a class was, itself included; 0 where it wasn't yet.
+    numbers: Vec<u32>,
+    /// 0 where a class has no height yet.
+    heights: Vec<u32>,
+    /// Those that were come to and have no height yet, in the order of their numbers.
+    waiting: Vec<usize>,
+    open: Vec<Visit>,
+    /// How many were come to.
+    count: u32,
+    /// The greatest height so far.
+    height: u32,
+}
+
+impl Climb {
+    fn of(alloc: Global, count: usize) -> Result<Climb, AllocError> {
+        let numbers = vec![in alloc; 0u32; count]?;
+        let heights = vec![in alloc; 0u32; count]?;
+        Ok(Climb {
+            numbers,
+            heights,
+            waiting: Vec::new(alloc),
+            open: Vec::new(alloc),
+            count: 0,
+            height: LIBRARY,
+        })
+    }
+
+    fn number_at(&self, i: usize) -> u32 {
+        height_at(self.numbers.as_slice(), i)
+    }
+
+    fn begin(&mut self, part: usize) -> Result<(), AllocError> {
+        self.count = self.count.saturating_add(1);
+        set_height(&mut self.numbers, part, self.count);
+        self.waiting.push(part)?;
+        self.open.push(Visit {
+            part,
+            next: 0,
+            least: self.count,
+        })?;
+        Ok(())
+    }
+
+    /// Gives a class its height, and those that were come to behind it and wait: they stand in circles with it.
+    fn close(&mut self, part: usize) {
+        self.height = self.height.saturating_add(1);
+        for _ in 0..self.waiting.len() {
+            let Some(next) = self.waiting.pop() else {
+                return;
+            };
+            set_height(&mut self.heights, next, self.height);
+            if next == part {
+                return;
+            }
+        }
+    }
+
+    /// All supers of a class were gone through: goes back to the class that it was come to from.
+    fn end(&mut self, visit: Visit) -> Result<(), AllocError> {
+        if visit.least == self.number_at(visit.part) {
+            self.close(visit.part);
+        }
+        if let Some(below) = self.open.pop() {
+            self.open.push(below.reaching(visit.least))?;
+        }
+        Ok(())
+    }
+
+    /// Goes on with a class by a super at a place.
+    fn pass(&mut self, visit: Visit, i: usize) -> Result<(), AllocError> {
+        let number = self.number_at(i);
+        if number == 0 {
+            self.open.push(visit.past())?;
+            return self.begin(i);
+        }
+        if height_at(self.heights.as_slice(), i) == 0 {
+            self.open.push(visit.past().reaching(number))?;
+            return Ok(());
+        }
+        self.skip(visit)
+    }
+
+    fn skip(&mut self, visit: Visit) -> Result<(), AllocError> {
+        self.open.push(visit.past())?;
+        Ok(())
+    }
+}
+
 impl NamedProgram {
     // ---- seeking heights
 
@@ -106,77 +198,48 @@ impl NamedProgram {
         None
     }
 
-    /// The place of a user's class that has no height yet.
-    fn without_height(&self, heights: &[u32], name: &[u8]) -> Option<usize> {
-        let i = self.place_of(name)? as usize;
-        if height_at(heights, i) == 0 {
-            return Some(i);
-        }
-        None
-    }
-
-    /// How many steps it takes at most to go through all classes: each is begun once, and each of its supers is come to twice at most.
+    /// How many steps it takes at most to go through all classes: one for each super of a class, and one to end it.
     fn most_visits(&self) -> usize {
         let mut count = 0usize;
         for part in self.parts() {
             let faces = part.class.parts().interfaces.as_slice().len();
             count = count.saturating_add(faces.saturating_add(2));
         }
-        count.saturating_mul(2)
+        count
     }
 
-    /// Goes on with a class: where all that stands directly above it has heights, it gets one above these.
-    fn go_on(
-        &self,
-        heights: &mut Vec<u32>,
-        open: &mut Vec<Visit>,
-        visit: Visit,
-    ) -> Result<(), AllocError> {
+    fn go_on(&self, climb: &mut Climb, visit: Visit) -> Result<(), AllocError> {
         let Some(name) = self.super_at(visit.part, visit.next) else {
-            set_height(heights, visit.part, visit.height.saturating_add(1));
-            return Ok(());
+            return climb.end(visit);
         };
-        if let Some(i) = self.without_height(heights.as_slice(), name) {
-            set_height(heights, i, OPEN);
-            open.push(visit)?;
-            open.push(Visit::of(i))?;
-            return Ok(());
+        match self.place_of(name) {
+            Some(i) => climb.pass(visit, i as usize),
+            None => climb.skip(visit),
         }
-        let height = self.height_of(heights.as_slice(), name);
-        open.push(visit.past(height))?;
-        Ok(())
     }
 
-    fn climb(
-        &self,
-        alloc: Global,
-        heights: &mut Vec<u32>,
-        root: usize,
-        most: usize,
-    ) -> Result<(), AllocError> {
-        let mut open = Vec::new(alloc);
-        open.push(Visit::of(root))?;
-        set_height(heights, root, OPEN);
+    fn climb(&self, climb: &mut Climb, root: usize, most: usize) -> Result<(), AllocError> {
+        climb.begin(root)?;
         for _ in 0..most {
-            let Some(top) = open.pop() else {
+            let Some(top) = climb.open.pop() else {
                 return Ok(());
             };
-            self.go_on(heights, &mut open, top)?;
+            self.go_on(climb, top)?;
         }
         Ok(())
     }
 
-    /// A height for each part, greater than those of what stands directly above it, unless some stand in a circle. It is only sought
-    /// here; whether it is one is tested.
+    /// A height for each part, greater than those of what stands directly above it, but that classes in one circle have one height. It is
+    /// only sought here; whether it is one is tested.
     pub(crate) fn heights(&self, alloc: Global) -> Result<Vec<u32>, AllocError> {
         let most = self.most_visits();
-        let mut heights = vec![in alloc; 0u32; self.parts().len()]?;
+        let mut climb = Climb::of(alloc, self.parts().len())?;
         for root in 0..self.parts().len() {
-            if height_at(heights.as_slice(), root) == 0 {
-                self.climb(alloc, &mut heights, root, most)?;
+            if climb.number_at(root) == 0 {
+                self.climb(&mut climb, root, most)?;
             }
         }
-        Ok(heights)
+        Ok(climb.heights)
     }
 
     // ---- testing them
@@ -191,22 +254,32 @@ impl NamedProgram {
         }
     }
 
-    fn super_below(&self, heights: &[u32], height: u32, name: Option<&[u8]>) -> bool
+    fn super_below(&self, heights: &[u32], height: u64, name: Option<&[u8]>) -> bool
         ensures { result ≡ Heights.super_below self.now heights.now height (option_map (λ t. t.now) name.entry) }
     {
         match name {
-            Some(name) => self.height_of(heights, name) < height,
+            Some(name) => (self.height_of(heights, name) as u64) < height,
             None => true,
         }
     }
 
-    fn faces_below(&self, heights: &[u32], height: u32, class: &ClassParts) -> bool
+    fn faces_below(&self, heights: &[u32], height: u64, class: &ClassParts) -> bool
         ensures { result ≡ list_all (λ i. Heights.is_below self.now heights.now height (Parts.class_text class.now.pool i)) class.now.interfaces }
     {
-        class.interfaces.as_slice().iter().all(|i| self.height_of(
+        class.interfaces.as_slice().iter().all(|i| (self.height_of(
             heights,
             class_text(&class.pool, *i),
-        ) < height)
+        ) as u64)
+            < height)
+    }
+
+    fn is_above(&self, heights: &[u32], height: u64, class: &ClassParts) -> bool
+        ensures { result ≡ Heights.is_above self.now heights.now height class.now }
+    {
+        if !self.super_below(heights, height, super_name(class)) {
+            return false;
+        }
+        self.faces_below(heights, height, class)
     }
 
     #[tactic(auto, unfolding(crate::specs::Heights::is_part_above))]
@@ -218,27 +291,40 @@ impl NamedProgram {
         if class(self.side(), name).is_some() {
             return false;
         }
-        let height = self.height_of(heights, name);
-        if !self.super_below(heights, height, super_name(parts)) {
-            return false;
-        }
-        self.faces_below(heights, height, parts)
+        let height = self.height_of(heights, name) as u64;
+        self.is_above(heights, height + 1, parts)
     }
 
+    /// Whether heights are an order: no name is the library's, and nothing that stands directly above a class is higher. Those that are
+    /// sought are one in each program where no name stands twice or is the library's.
     #[tactic(auto, unfolding(crate::specs::Heights::is_order))]
-    fn is_order(&self, heights: &[u32]) -> bool
+    pub(crate) fn is_order(&self, heights: &[u32]) -> bool
         ensures { result ≡ Heights.is_order self.now heights.now }
     {
         let parts = self.parts();
         parts.iter().all(|part| self.is_part_above(heights, part))
     }
 
-    /// Whether no class stands above itself, as far as heights show it. These are an order where there is no circle and no name is the
-    /// library's or stands twice; so the answer is yes for each program that links.
-    pub(crate) fn is_ordered(&self, alloc: Global) -> Result<bool, AllocError>
-        ensures { IfOk result (λ b. b ≡ true → IsStraight self.now) }
+    fn is_strict(&self, heights: &[u32], name: &[u8]) -> bool
+        ensures { result ≡ Heights.is_strict self.now heights.now name.now }
     {
-        let heights = self.heights(alloc)?;
-        Ok(self.is_order(heights.as_slice()))
+        let height = self.height_of(heights, name) as u64;
+        match self.find(name) {
+            Some(Found::User(_, class)) => self.is_above(heights, height, class.parts()),
+            Some(Found::Lib(_)) => false,
+            None => false,
+        }
+    }
+
+    /// Whether heights show that a class doesn't stand above itself. Where they are an order, they show it of each that is in no circle,
+    /// and of others never.
+    pub(crate) fn is_apart(&self, heights: &[u32], ordered: bool, name: &[u8]) -> bool
+        requires { ordered ≡ Heights.is_order self.now heights.now }
+        ensures { result ≡ true → Classes.reaches self.now (length (Classes.known self.now)) name.now name.now ≡ false }
+    {
+        if ordered {
+            return self.is_strict(heights, name);
+        }
+        false
     }
 }

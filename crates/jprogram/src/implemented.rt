@@ -1,4 +1,4 @@
-ghost use Rattle.std.specs.Prelude.{◌≡◌, ◌||◌, ℕ, false, true, IfOk, IfSome, OnOk, is_some, length, option_map, slice_get};
+ghost use Rattle.std.specs.Prelude.{◌≡◌, ◌+◌, ◌||◌, ℕ, false, true, IfOk, IfSome, OnOk, is_some, length, option_map, slice_get};
 ghost use Rattle.std.specs.List.{list_all, list_any};
 ghost use Rattle.std.specs.Str.{bytes_eq};
 ghost use Rattle.jprogram.specs.Bits;
@@ -56,12 +56,13 @@ fn listed_number(class: LibClass) -> Option<usize>
     }
 }
 
-fn number_at(class: ClassRef) -> Option<usize>
-    ensures { result ≡ Implementing.number_at class }
+/// The numbers of the users' interfaces, behind those of the library's.
+fn behind_lib(number: Option<u32>) -> Option<usize>
+    ensures { result ≡ option_map (λ n. n + 4) number }
 {
-    match class {
-        ClassRef::User(i) => Some(i as usize + 4),
-        ClassRef::Lib(class) => lib_number(class),
+    match number {
+        Some(number) => Some(number as usize + 4),
+        None => None,
     }
 }
 
@@ -111,11 +112,26 @@ fn is_number(number: usize, listed: Option<usize>) -> bool
 }
 
 impl NamedProgram {
+    fn user_number(&self, i: u32) -> Option<usize>
+        ensures { result ≡ Implementing.user_number self.now i }
+    {
+        behind_lib(self.face_number(i))
+    }
+
+    fn number_at(&self, class: ClassRef) -> Option<usize>
+        ensures { result ≡ Implementing.number_at self.now class }
+    {
+        match class {
+            ClassRef::User(i) => self.user_number(i),
+            ClassRef::Lib(class) => lib_number(class),
+        }
+    }
+
     fn number_of(&self, name: &[u8]) -> Option<usize>
         ensures { result ≡ Implementing.number_of self.now name.now }
     {
         match self.find(name) {
-            Some(Found::User(i, _)) => Some(i as usize + 4),
+            Some(Found::User(i, _)) => self.user_number(i),
             Some(Found::Lib(class)) => lib_number(class),
             None => None,
         }
@@ -356,7 +372,7 @@ impl NamedProgram {
         requires interface { Implementing.IsNumber self.now interface }
         ensures { result ≡ Classes.implements self.now (Classes.name_at self.now class) (Classes.name_at self.now interface) }
     {
-        let Some(number) = number_at(interface) else {
+        let Some(number) = self.number_at(interface) else {
             return false;
         };
         match class {

@@ -4,6 +4,7 @@
 mod access;
 mod circles;
 mod classes;
+mod faces;
 mod facts;
 mod fault;
 mod firsts;

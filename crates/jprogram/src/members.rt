@@ -9,7 +9,7 @@ use crate::firsts::{Firsts, digest, first_at};
 use crate::member::{Member, MethodId};
 use crate::parts::is_called;
 use jclass::{ClassFile, ClassParts, MemberInfo};
-use jlib::{LibCall, LibClass, Side, member};
+use jlib::{LibCall, LibClass, Side, member_in};
 use std::collections::BTreeMap;
 
 /// The place of the first of a class's members that has this name and descriptor.
@@ -112,7 +112,7 @@ fn lib_field(call: LibCall) -> Option<Member>
 pub fn lib_method_in(side: Side, class: LibClass, name: &[u8], desc: &[u8]) -> Option<Member>
     ensures { result ≡ Members.method_in side (Classes.Lib class) name.now desc.now }
 {
-    let call = member(side, class.name(), name, desc)?;
+    let call = member_in(side, class, name, desc)?;
     lib_method(call)
 }
 
@@ -120,6 +120,6 @@ pub fn lib_method_in(side: Side, class: LibClass, name: &[u8], desc: &[u8]) -> O
 pub fn lib_field_in(side: Side, class: LibClass, name: &[u8], desc: &[u8]) -> Option<Member>
     ensures { result ≡ Members.field_in side (Classes.Lib class) name.now desc.now }
 {
-    let call = member(side, class.name(), name, desc)?;
+    let call = member_in(side, class, name, desc)?;
     lib_field(call)
 }

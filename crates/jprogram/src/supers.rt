@@ -1,12 +1,12 @@
 ghost use Rattle.std.specs.Prelude.{◌≡◌, true, IfOk, option_map};
 ghost use Rattle.jprogram.specs.Classes;
-ghost use Rattle.jprogram.specs.Standing.{IsStraight};
+ghost use Rattle.jprogram.specs.Heights;
 ghost use Rattle.jprogram.specs.Supers;
 
 use crate::classes::{NamedProgram, OBJECT};
 use crate::fault::{LinkFault, LinkKind};
 use crate::part::CodePart;
-use crate::parts::{class_text, super_name};
+use crate::parts::{class_text, super_name, this_name};
 use bitflags::Flags;
 use jclass::{Access, ClassParts};
 use std::alloc::{AllocError, Global};
@@ -106,17 +106,18 @@ impl NamedProgram {
         None
     }
 
-    /// The test of circles, where it isn't known already that there are none.
+    /// The test of circles, where heights don't show already that the class is in none.
     fn circle_unless(
         &self,
         alloc: Global,
         class: &ClassParts,
-        straight: bool,
+        heights: &[u32],
+        ordered: bool,
     ) -> Result<Option<LinkKind>, AllocError>
-        requires { straight ≡ true → IsStraight self.now }
+        requires { ordered ≡ Heights.is_order self.now heights.now }
         ensures { IfOk result (λ o. o ≡ Supers.circle_test self.now class.now) }
     {
-        if straight {
+        if self.is_apart(heights, ordered, this_name(class)) {
             return Ok(None);
         }
         self.circle_test(alloc, class)
@@ -126,9 +127,10 @@ impl NamedProgram {
         &self,
         alloc: Global,
         part: &CodePart,
-        straight: bool,
+        heights: &[u32],
+        ordered: bool,
     ) -> Result<Option<LinkKind>, AllocError>
-        requires { straight ≡ true → IsStraight self.now }
+        requires { ordered ≡ Heights.is_order self.now heights.now }
         ensures { IfOk result (λ o. o ≡ Supers.supers_test self.now part.now) }
     {
         let class = part.class.parts();
@@ -138,21 +140,23 @@ impl NamedProgram {
         if let Some(kind) = self.super_test(class) {
             return Ok(Some(kind));
         }
-        let circle = self.circle_unless(alloc, class, straight)?;
+        let circle = self.circle_unless(alloc, class, heights, ordered)?;
         Ok(circle)
     }
 
     /// The first class that has no superclass or stands below one that isn't there, or below one that may not stand there, or above
-    /// itself. Where heights show that no class stands above itself, nothing is searched.
+    /// itself. What stands above a class is searched only where heights don't show that the class is in no circle.
     #[tactic(auto, unfolding(jbase::specs::First::first_along, crate::specs::Supers::supers_fault))]
     pub fn supers_fault(&self, alloc: Global) -> Result<Option<LinkFault>, AllocError>
         ensures { IfOk result (λ o. o ≡ Supers.supers_fault self.now) }
     {
-        let straight = self.is_ordered(alloc)?;
+        let sought = self.heights(alloc)?;
+        let heights = sought.as_slice();
+        let ordered = self.is_order(heights);
         let parts = self.parts();
         for (i, part) in parts.iter().enumerate() {
             let class = i as u32;
-            if let Some(kind) = self.supers_test(alloc, part, straight)? {
+            if let Some(kind) = self.supers_test(alloc, part, heights, ordered)? {
                 return Ok(Some(LinkFault {
                     class,
                     member: None,
