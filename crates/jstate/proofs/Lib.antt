@@ -1,3 +1,4 @@
+pub mod Building
 pub mod Lying
 pub mod Numbering
 pub mod Seeing

@@ -1,9 +1,8 @@
 -- How frames lie in lists.
-use Rattle.std.proofs.Common.{◌≡◌, ◌∙◌, ℕ, zero, suc, ◌+◌, ◌-◌, ◌<◌, ◌≤◌, List, [], ◌∷◌, ◌++◌, length, drop, take, reverse, replicate, Option, Some, None, refl, sym, ap, ap₂, subst, arith, append_assoc}
-use Rattle.std.specs.Prelude.{slice_set, false, true, Result, Ok, Err, OnOk, if◌then◌else◌, Bool}
+use Rattle.std.proofs.Common.{◌≡◌, ◌∙◌, ℕ, zero, suc, ◌+◌, ◌-◌, ◌<◌, ◌≤◌, List, [], ◌∷◌, ◌++◌, length, drop, take, reverse, replicate, Option, Some, None, refl, sym, ap, ap₂, arith, append_assoc}
+use Rattle.std.specs.Prelude.{slice_set, false, Result, Ok, Err, OnOk, if◌then◌else◌}
 use Rattle.std.specs.Result.{is_err, is_ok}
 use Rattle.std.specs.List.{flat_map}
-use Rattle.std.specs.Option.{option_to_list}
 use Rattle.std.proofs.lemmas.List.{reverse-append, reverse-reverse, append-nil}
 use Rattle.std.proofs.lemmas.Grind.{flat_map-append}
 use Rattle.jops.specs.declared.value.Value.{Value}

@@ -1,15 +1,12 @@
 -- The heap's numbers for classes.
-use Rattle.std.proofs.Common.{◌≡◌, ◌∙◌, ℕ, ◌+◌, ◌-◌, ◌<◌, Bool, true, false, refl, ap, arith, rules}
-use Rattle.std.specs.Prelude.{nat_lt, if◌then◌else◌}
-use Rattle.jlib.specs.declared.classes.Thrown.{Thrown as ThrownClass}
+use Rattle.std.proofs.Common.{◌≡◌, ◌+◌, ◌-◌, false, refl, arith, rules}
+use Rattle.std.specs.Prelude.{nat_lt}
 use Rattle.jlib.specs.declared.classes.Thrown.TheVariants as thrown
-use Rattle.jlib.specs.declared.classes.PermissionClass.{PermissionClass}
 use Rattle.jlib.specs.declared.classes.PermissionClass.TheVariants as permissions
 use Rattle.jlib.specs.declared.classes.LibClass.{LibClass}
 use Rattle.jlib.specs.declared.classes.LibClass.TheVariants as lib
-use Rattle.jprogram.specs.declared.part.ClassRef.{ClassRef}
 use Rattle.jprogram.specs.declared.part.ClassRef.TheVariants as refs
-use Rattle.jstate.specs.Numbers.{GivesBack, class_numbered, library_count, library_number, number_of}
+use Rattle.jstate.specs.Numbers.{GivesBack, class_numbered, library_count, library_number}
 
 library_back : (c : LibClass) → class_numbered (library_number c) ≡ refs.Lib c
 library_back (lib.Thrown thrown.Throwable) = refl

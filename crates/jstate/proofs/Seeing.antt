@@ -1,6 +1,6 @@
 -- The objects of the heap as the machine's definition has them.
-use Rattle.std.proofs.Common.{◌≡◌, ◌∙◌, ℕ, zero, suc, ◌+◌, ◌-◌, ◌<◌, ◌≤◌, Bool, true, false, List, [], ◌∷◌, ◌++◌, length, map, replicate, Option, Some, None, refl, sym, ap, ap₂, arith, rules}
-use Rattle.std.specs.Prelude.{slice_get, slice_set, option_map, if◌then◌else◌}
+use Rattle.std.proofs.Common.{◌≡◌, ◌∙◌, ℕ, zero, suc, ◌-◌, ◌<◌, ◌≤◌, Bool, true, false, List, [], ◌∷◌, ◌++◌, length, map, replicate, Option, Some, None, refl, ap, ap₂, arith}
+use Rattle.std.specs.Prelude.{slice_get, option_map, if◌then◌else◌}
 use Rattle.std.proofs.lemmas.Option.{slice_get-map}
 use Rattle.std.proofs.lemmas.List.{map-append}
 use Rattle.jheap.specs.declared.cell.Kind.{Kind}
@@ -12,11 +12,11 @@ use Rattle.jlib.specs.declared.classes.LibClass.TheVariants as lib
 use Rattle.jprogram.specs.declared.part.ClassRef.{ClassRef}
 use Rattle.jprogram.specs.declared.part.ClassRef.TheVariants as refs
 use Rattle.jmachine.specs.Objects.{Object, Builder}
-use Rattle.jmachine.specs.Store.{Store, object_at}
+use Rattle.jmachine.specs.Store.{object_at}
 use Rattle.jprogram.specs.Classes.{Program}
 use Rattle.jstate.specs.declared.shapes.Shapes.{Shapes}
 use Rattle.jstate.specs.Numbers.{class_numbered}
-use Rattle.jstate.specs.Seen.{AreBuilt, NamesWithin, Things, built, built_at, built_by, class_by, first, is_builder, kind_by, last_by, last_of, named_by, object_by, objects_by, piece_units, store_by, values_of}
+use Rattle.jstate.specs.Seen.{NamesWithin, Things, built, built_at, built_by, class_by, first, is_builder, kind_by, last_by, last_of, named_by, object_by, piece_units, store_by, values_of}
 use Rattle.jstate.specs.SeenLaws.{Makes, MakesOne}
 
 -- the object of a number
@@ -66,6 +66,21 @@ built_more objects more back (suc k) (suc o) h =
     ∙ front_alike (slice_get objects o) (built_by k (objects ++ more)) (built_by k objects)
     (λ x e. let low = back o x e in built_more objects more back k x.before (omega (arith, low, h)))
 
+-- what is made names no piece
+first_zero : (len : ℕ) → first (replicate len 0) ≡ 0
+first_zero zero = refl
+first_zero (suc len) = refl
+
+pub names_none : (kind : Kind) (len count : ℕ) → last_of kind (replicate len 0) ≤ count
+names_none (kinds.Object n) len count = rw (first_zero len) (none (is_builder (class_numbered n)))
+  where
+    none : (b : Bool) → (if b then 0 else 0) ≤ count
+    none true = omega arith
+    none false = omega arith
+names_none (kinds.Array n) len count = omega arith
+names_none kinds.Text len count = omega arith
+names_none kinds.Piece len count = omega arith
+
 module _ (p : Program) (shapes : Shapes) (things : Things) where
   -- what an object is depends on other objects by its pieces alone
   pub class_alike : (xs ys : List heaps.Object) (c : ClassRef) (cells : List ℕ) → (is_builder c ≡ true → built xs (named_by (first cells)) ≡ built ys (named_by (first cells)))
@@ -106,20 +121,6 @@ module _ (p : Program) (shapes : Shapes) (things : Things) where
       → map (object_by p shapes (objects ++ more) things) some ≡ map (object_by p shapes objects things) some
   map_more objects more [] back all = refl
   map_more objects more (x ∷ some) back all = ap₂ (λ y ys. y ∷ ys) (kind_more objects more back x.kind x.cells all.0) (map_more objects more some back all.1)
-
-  first_zero : (len : ℕ) → first (replicate len 0) ≡ 0
-  first_zero zero = refl
-  first_zero (suc len) = refl
-
-  names_none : (kind : Kind) (len count : ℕ) → last_of kind (replicate len 0) ≤ count
-  names_none (kinds.Object n) len count = rw (first_zero len) (none (is_builder (class_numbered n)))
-    where
-      none : (b : Bool) → (if b then 0 else 0) ≤ count
-      none true = omega arith
-      none false = omega arith
-  names_none (kinds.Array n) len count = omega arith
-  names_none kinds.Text len count = omega arith
-  names_none kinds.Piece len count = omega arith
 
   -- one more object is one more, and the others stay as they are
   pub makes_one : MakesOne p shapes things

@@ -1,6 +1,6 @@
 -- What a cell that is written changes.
-use Rattle.std.proofs.Common.{◌≡◌, ◌∙◌, ℕ, zero, suc, ◌+◌, ◌<◌, ◌≤◌, Bool, true, List, [], ◌∷◌, length, drop, map, Option, Some, None, refl, sym, ap, ap₂, arith}
-use Rattle.std.specs.Prelude.{⊤, slice_get, slice_set}
+use Rattle.std.proofs.Common.{◌≡◌, ◌∙◌, ℕ, zero, suc, List, [], ◌∷◌, length, map, Some, inl, inr, refl, ap, ap₂}
+use Rattle.std.specs.Prelude.{slice_get, slice_set}
 use Rattle.std.proofs.lemmas.List.{drop-set-lt}
 use Rattle.std.proofs.lemmas.Option.{slice_get_within}
 use Rattle.jheap.specs.declared.cell.CellType.{CellType}
@@ -12,14 +12,11 @@ use Rattle.jheap.specs.Raw.{of_raw}
 use Rattle.jops.specs.declared.value.Value.{Value}
 use Rattle.jprogram.specs.Classes.{Program}
 use Rattle.jmachine.specs.Objects.{Object, Instance, Array}
-use Rattle.jmachine.specs.Store.{Store}
-use Rattle.juses.specs.declared.types.ArrayRef.{ArrayRef}
 use Rattle.juses.specs.Types.{array_named}
-use Rattle.jstate.specs.declared.shapes.Shape.{Shape}
 use Rattle.jstate.specs.declared.shapes.Shapes.{Shapes}
 use Rattle.jstate.specs.Numbers.{class_numbered}
-use Rattle.jstate.specs.Seen.{Things, built, built_at, built_by, first, item_type, kind_by, message_by, named_by, object_by, objects_by, piece_units, store_by, values_of}
-use Rattle.jstate.specs.SeenLaws.{IsNoPiece, Writes, WritesField, WritesItem, with_number}
+use Rattle.jstate.specs.Seen.{Things, built_at, built_by, first, item_type, kind_by, message_by, named_by, object_by, objects_by, piece_units, values_of}
+use Rattle.jstate.specs.SeenLaws.{IsNoPiece, Reads, ReadsNone, Writes, WritesField, WritesItem, WritesStatic, with_number}
 use Rattle.jstate.proofs.Seeing.{class_alike, front_same}
 
 -- ---- pieces stay
@@ -83,6 +80,26 @@ values_set [] cells i n t is = cc
 values_set (s ∷ types) [] i n t is = refl
 values_set (s ∷ types) (m ∷ cells) zero n t is = let e : s ≡ t = cc in rw e refl
 values_set (s ∷ types) (m ∷ cells) (suc i) n t is = ap (λ vs. of_raw s m ∷ vs) (values_set types cells i n t is)
+
+pub writes_static : WritesStatic
+writes_static p shapes things constants h i n t is =
+    ap (λ (vs : List (Value ℕ)). record { objects = objects_by p shapes things h.objects; statics = vs; constants = constants; left = h.left })
+    (values_set shapes.statics h.statics i n t is)
+
+pub reads : Reads
+unfolding values_of
+reads [] cells i n t is there = cc
+reads (s ∷ types) [] i n t is there = cc
+reads (s ∷ types) (m ∷ cells) zero n t is there = let type : s ≡ t = cc in let cell : m ≡ n = cc in rw (type, cell) refl
+reads (s ∷ types) (m ∷ cells) (suc i) n t is there = reads types cells i n t is there
+
+pub reads_none : ReadsNone
+unfolding values_of
+reads_none [] cells i none = refl
+reads_none (s ∷ types) [] i none = refl
+reads_none (s ∷ types) (m ∷ cells) zero (inl none) = cc
+reads_none (s ∷ types) (m ∷ cells) zero (inr none) = cc
+reads_none (s ∷ types) (m ∷ cells) (suc i) none = reads_none types cells i none
 
 pub writes_field : WritesField
 writes_field c i n t shape cells is =

@@ -1,5 +1,5 @@
 -- Laws of what the heap stands for.
-use Rattle.std.specs.Prelude.{◌≡◌, ⊤, ℕ, List, Some, drop, length, map, option_map, replicate, slice_get, slice_set}
+use Rattle.std.specs.Prelude.{◌≡◌, ◌⊎◌, ⊤, ℕ, List, None, Some, drop, length, map, option_map, replicate, slice_get, slice_set}
 use Rattle.jheap.specs.declared.cell.CellType.{CellType}
 use Rattle.jheap.specs.declared.cell.Kind.{Kind}
 use Rattle.jheap.specs.declared.cell.Kind.TheVariants as kinds
@@ -9,11 +9,11 @@ use Rattle.jheap.specs.Raw.{of_raw}
 use Rattle.jprogram.specs.Classes.{Program}
 use Rattle.juses.specs.declared.types.ArrayRef.{ArrayRef}
 use Rattle.juses.specs.Types.{array_named}
-use Rattle.jmachine.specs.Objects.{Object, Instance, Array}
-use Rattle.jmachine.specs.Store.{Store, object_at, paid, with_made, with_object}
+use Rattle.jmachine.specs.Objects.{Instance, Array}
+use Rattle.jmachine.specs.Store.{object_at, paid, with_made, with_object, with_statics}
 use Rattle.jstate.specs.declared.shapes.Shape.{Shape}
 use Rattle.jstate.specs.declared.shapes.Shapes.{Shapes}
-use Rattle.jstate.specs.Seen.{AreBuilt, Things, array_by, item_type, kind_by, message_by, object_by, store_by, user_by, values_of}
+use Rattle.jstate.specs.Seen.{AreBuilt, Things, array_by, item_type, kind_by, last_of, message_by, object_by, store_by, user_by, values_of}
 
 -- The object of a number is what the heap holds there.
 abbrev pub SeesEach : Type 0
@@ -55,3 +55,36 @@ WritesField = (c i n : ℕ) (t : CellType) (shape : Shape) (cells : List ℕ) �
 abbrev pub WritesItem : Type 0
 WritesItem = (p : Program) (a : ArrayRef) (cells : List ℕ) (i n : ℕ)
     → array_by p a (slice_set cells i n) ≡ Array (array_named p a) (slice_set (map (of_raw (item_type a)) cells) i (of_raw (item_type a) n))
+
+-- ---- what cells hold
+
+-- What a cell of a type holds is the value that it stands for.
+abbrev pub Reads : Type 0
+Reads = (types : List CellType) (cells : List ℕ) (i n : ℕ) (t : CellType) → slice_get types i ≡ Some t → slice_get cells i ≡ Some n
+    → slice_get (values_of types cells) i ≡ Some (of_raw t n)
+
+-- There are no values where there are no cells, nor where there are no types.
+abbrev pub ReadsNone : Type 0
+ReadsNone = (types : List CellType) (cells : List ℕ) (i : ℕ) → (slice_get types i ≡ None) ⊎ (slice_get cells i ≡ None) → slice_get (values_of types cells) i ≡ None
+
+-- A static that is written changes that static alone.
+abbrev pub WritesStatic : Type 0
+WritesStatic = (p : Program) (shapes : Shapes) (things : Things) (constants : List (List ℕ × ℕ)) (h : Heaped) (i n : ℕ) (t : CellType)
+    → slice_get shapes.statics i ≡ Some t
+    → store_by p shapes things constants (heaps.with_statics h (slice_set h.statics i n))
+    ≡ with_statics (store_by p shapes things constants h) (slice_set (values_of shapes.statics h.statics) i (of_raw t n))
+
+-- ---- what holds of the pieces, behind a change
+
+-- What is made names no piece.
+abbrev pub MadeStaysBuilt : Type 0
+MadeStaysBuilt = (h : Heaped) (kind : Kind) (len : ℕ) → AreBuilt h.objects → AreBuilt (heaps.made h kind len).objects
+
+-- an object that names no piece, whatever its cells are
+abbrev pub NamesNone : Kind → Type 0
+NamesNone kind = (cells : List ℕ) → last_of kind cells ≡ 0
+
+-- A cell of what names no piece changes nothing of that.
+abbrev pub WrittenStaysBuilt : Type 0
+WrittenStaysBuilt = (h : Heaped) (o i n : ℕ) (x : heaps.Object) → heaps.object_at h o ≡ Some x → NamesNone x.kind → AreBuilt h.objects
+    → AreBuilt (heaps.with_cell h o i n).objects

@@ -6,4 +6,4 @@ mod places;
 mod shapes;
 
 pub use frames::Frames;
-pub use shapes::{Shape, Shapes, heap_laws, number_laws};
+pub use shapes::{Shape, Shapes, built_laws, cell_laws, heap_laws, number_laws};

@@ -1,5 +1,5 @@
 ghost use Rattle.jstate.specs.Numbers.{GivesBack};
-ghost use Rattle.jstate.specs.SeenLaws.{Makes, SeesEach, Writes, WritesField, WritesItem};
+ghost use Rattle.jstate.specs.SeenLaws.{MadeStaysBuilt, Makes, Reads, ReadsNone, SeesEach, Writes, WritesField, WritesItem, WritesStatic, WrittenStaysBuilt};
 
 use jbase::Seq;
 use jheap::CellType;
@@ -39,4 +39,18 @@ pub fn heap_laws()
     ensures writes { Writes }
     ensures field { WritesField }
     ensures item { WritesItem }
+    ensures statics { WritesStatic }
+{}
+
+/// The laws of what cells hold. It has no body to run; its contract is the laws.
+pub fn cell_laws()
+    ensures reads { Reads }
+    ensures none { ReadsNone }
+{}
+
+/// What holds of the pieces of builders holds behind what rows do: what is made names no piece, and so does what they write. It has no
+/// body to run; its contract is the laws.
+pub fn built_laws()
+    ensures made { MadeStaysBuilt }
+    ensures written { WrittenStaysBuilt }
 {}

@@ -1,5 +1,5 @@
 use Rattle.jstate.proofs.Seeing.{makes, seen_at}
-use Rattle.jstate.proofs.Writing.{writes, writes_field, writes_item}
+use Rattle.jstate.proofs.Writing.{writes, writes_field, writes_item, writes_static}
 use Rattle.jstate.proofs.shapes.heap_laws.Goals as goal
 
 pub returns-clause-each : goal.returns-clause-each
@@ -16,3 +16,6 @@ returns-clause-field c = writes_field
 
 pub returns-clause-item : goal.returns-clause-item
 returns-clause-item c = writes_item
+
+pub returns-clause-statics : goal.returns-clause-statics
+returns-clause-statics c = writes_static

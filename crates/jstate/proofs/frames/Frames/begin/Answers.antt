@@ -1,4 +1,4 @@
-use Rattle.std.proofs.Common.{◌≡◌, ◌∙◌, ◌∷◌, ◌++◌, [], Option, None, List, ap, sym}
+use Rattle.std.proofs.Common.{◌∙◌, ◌∷◌, ◌++◌, [], None, ap, sym}
 use Rattle.std.specs.List.{flat_map}
 use Rattle.jpile.specs.Piles.{on_top, padded}
 use Rattle.jmachine.specs.Straight.{places}
