@@ -1,6 +1,6 @@
 -- Instructions with arrays.
-use Rattle.std.proofs.Common.{◌≡◌, ◌∙◌, ℕ, zero, suc, ◌+◌, ◌<◌, pos, Bool, true, false, List, [], ◌∷◌, length, drop, map, Option, Some, None, refl, sym, ap, arith}
-use Rattle.std.specs.Prelude.{⊤, is_some, slice_get, option_map, unwrap_or, if◌then◌else◌}
+use Rattle.std.proofs.Common.{◌≡◌, ◌∙◌, ℕ, zero, suc, ◌+◌, pos, true, false, List, [], ◌∷◌, length, drop, map, Option, Some, None, refl, sym, ap}
+use Rattle.std.specs.Prelude.{is_some, slice_get, option_map, unwrap_or}
 use Rattle.std.proofs.lemmas.List.{length-map}
 use Rattle.jnames.specs.declared.kinds.Kind.TheVariants as wanted
 use Rattle.jops.specs.declared.value.Value.{Value}
@@ -23,13 +23,12 @@ use Rattle.juses.specs.Instructions as instructions
 use Rattle.juses.specs.Types.{array_named}
 use Rattle.jtypes.specs.declared.vtype.Name.{Name}
 use Rattle.jtypes.specs.declared.vtype.ArrayType.{ArrayType}
-use Rattle.jtypes.specs.declared.vtype.VType.{VType}
 use Rattle.jmachine.specs.Acts.{FrameOf}
 use Rattle.jmachine.specs.Arrays as rows
 use Rattle.jmachine.specs.Doing.{doing}
 use Rattle.jmachine.specs.Frames.{standing}
 use Rattle.jmachine.specs.Objects.{Object, Array, class_of, is_ready}
-use Rattle.jmachine.specs.Operands.{found_type, serves, serves_as, taken, type_of}
+use Rattle.jmachine.specs.Operands.{found_type, serves, serves_as, taken}
 use Rattle.jmachine.specs.Store.{Store, object_at}
 use Rattle.jmachine.specs.World.{World}
 use Rattle.jstate.specs.declared.shapes.Shape.{Shape}
@@ -91,7 +90,7 @@ module _ (p : Program) (shapes : Shapes) (things : Things) (constants : List (Li
   abbrev store : Heaped → Store ℕ
   store h = store_by p shapes things constants h
 
-  no_array : (h : Heaped) (v : Value ℕ) → found.Other ≡ array_seen h (Some v) → serves w (store h) (Of wanted.Array) v ≡ false
+  pub no_array : (h : Heaped) (v : Value ℕ) → found.Other ≡ array_seen h (Some v) → serves w (store h) (Of wanted.Array) v ≡ false
   no_array h (Int x) e = refl
   no_array h (Long x) e = refl
   no_array h (Ctx k) e = refl
@@ -151,7 +150,7 @@ abbrev pub null : LibClass
 null = lib.Thrown thrown.NullPointerException
 
 module _ {E : Type 0} (f : FrameOf ℕ E) (s : Store ℕ) where
-  front_null : (h : Heaped) (operands : List (Value ℕ)) → found.Null ≡ array_seen h (slice_get operands 0) → operands ≡ Ref zero ∷ drop 1 operands
+  pub front_null : (h : Heaped) (operands : List (Value ℕ)) → found.Null ≡ array_seen h (slice_get operands 0) → operands ≡ Ref zero ∷ drop 1 operands
   front_null h [] e = cc
   front_null h (Int x ∷ rest) e = cc
   front_null h (Long x ∷ rest) e = cc

@@ -1,6 +1,6 @@
 -- Instructions with operands alone.
-use Rattle.std.proofs.Common.{◌≡◌, ◌∙◌, ℕ, ℤ, ◌+◌, Bool, true, false, List, [], ◌∷◌, length, drop, Option, Some, None, refl, sym, ap, arith, ◌<◌}
-use Rattle.std.specs.Prelude.{⊤, slice_get, Result, Ok, Err, is_some}
+use Rattle.std.proofs.Common.{◌≡◌, ◌∙◌, ℕ, ℤ, ◌+◌, true, false, [], ◌∷◌, length, drop, Some, None, refl, sym, ap, ◌<◌}
+use Rattle.std.specs.Prelude.{slice_get, Ok, Err}
 use Rattle.jnames.specs.declared.kinds.Kinds.{Kinds}
 use Rattle.jnames.specs.Effects.{division_effect, one_effect, two_effect}
 use Rattle.jnames.specs.declared.names.OpTwo.{OpTwo}
@@ -18,22 +18,19 @@ use Rattle.jcode.specs.declared.form.Simple.TheVariants as simples
 use Rattle.jlib.specs.declared.classes.LibClass.{LibClass}
 use Rattle.jlib.specs.declared.classes.LibClass.TheVariants as lib
 use Rattle.jlib.specs.declared.classes.Thrown.TheVariants as thrown
-use Rattle.jprogram.specs.declared.member.Member.{Member}
-use Rattle.juses.specs.Instructions.{Instruction, Simple}
-use Rattle.jmachine.specs.Acts.{FrameOf, Row}
-use Rattle.jmachine.specs.Doing.{by_taken, doing}
-use Rattle.jmachine.specs.Frames.{onward, standing, with_operands}
-use Rattle.jmachine.specs.Operands.{Taken, taken}
-use Rattle.jmachine.specs.Security.{Rules}
+use Rattle.juses.specs.Instructions.{Simple}
+use Rattle.jmachine.specs.Acts.{FrameOf}
+use Rattle.jmachine.specs.Doing.{doing}
+use Rattle.jmachine.specs.Frames.{onward, standing}
+use Rattle.jmachine.specs.Operands.{taken}
 use Rattle.jmachine.specs.Sites.{Site}
 use Rattle.jmachine.specs.Store.{Store}
 use Rattle.jmachine.specs.Straight.{simple}
 use Rattle.jrule.specs.Effects.{of_kinds}
-use Rattle.jacts.specs.Ways.{Comes, Does, leaves}
-use Rattle.jacts.specs.declared.way.Way.{Way}
+use Rattle.jacts.specs.Ways.{Does}
 use Rattle.jacts.specs.declared.way.Way.TheVariants as ways
 use Rattle.jacts.proofs.Costs.{at_no_cost}
-use Rattle.jacts.proofs.Numbers.{AreTwo, IsOne, are_taken, front_one, front_two, is_taken, isnt_taken, none_there, not_taken, one_taken, too_few, two_taken}
+use Rattle.jacts.proofs.Numbers.{AreTwo, IsOne, are_taken, front_one, front_two, is_taken, isnt_taken, none_there, not_taken, too_few, two_taken}
 
 -- the kinds that instructions take are those of numbers
 two_kinds : (op : OpTwo) → AreTwo (two_effect op).takes

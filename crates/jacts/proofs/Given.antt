@@ -1,5 +1,5 @@
 -- Values that are there.
-use Rattle.std.proofs.Common.{◌≡◌, ◌∙◌, refl, rules, Bool, true, false, Option, Some, None, sym}
+use Rattle.std.proofs.Common.{◌≡◌, refl, rules, Bool, true, false, Option, Some, None}
 use Rattle.std.specs.Prelude.{IsSome, is_some}
 
 pub is_given : {A : Type 0} (v : Option A) (b : Bool) → is_some v ≡ b → b ≡ true → IsSome v

@@ -1,20 +1,19 @@
 -- Jumps.
-use Rattle.std.proofs.Common.{◌≡◌, ◌∙◌, ℕ, ℤ, pos, ◌+◌, ◌<◌, ◌≤◌, Bool, true, false, List, [], ◌∷◌, length, drop, Option, Some, None, refl, sym, ap, arith, rules}
+use Rattle.std.proofs.Common.{◌≡◌, ℕ, ℤ, pos, ◌+◌, ◌≤◌, Bool, true, false, List, [], ◌∷◌, length, drop, Option, Some, None, refl, ap, arith, rules}
 use Rattle.std.specs.Prelude.{IsSome, slice_get, if◌then◌else◌}
 use Rattle.jnames.specs.declared.kinds.Kind.TheVariants as kinds
-use Rattle.jnames.specs.declared.kinds.Kinds.TheVariants as many
 use Rattle.jnames.specs.declared.names.Compare.{Compare}
 use Rattle.jnames.specs.declared.names.Compare.TheVariants as compare
 use Rattle.jops.specs.declared.value.Value.{Value}
 use Rattle.jops.specs.declared.value.Value.TheVariants.{Int, Long, Ref, Ctx}
 use Rattle.jops.specs.Kinds.{is_of}
 use Rattle.jops.specs.Operations.{test}
-use Rattle.jrule.specs.Effects.{Of, Want, of_kinds}
+use Rattle.jrule.specs.Effects.{Of, Want}
 use Rattle.juses.specs.Instructions.{Always, If, IfInt, Jump, Switch}
 use Rattle.jmachine.specs.Acts.{FrameOf}
 use Rattle.jmachine.specs.Doing.{doing}
 use Rattle.jmachine.specs.Frames.{standing}
-use Rattle.jmachine.specs.Operands.{Taken, taken}
+use Rattle.jmachine.specs.Operands.{taken}
 use Rattle.jmachine.specs.Store.{Store}
 use Rattle.jmachine.specs.Straight.{case_of, jump, switch}
 use Rattle.jmachine.specs.World.{World}

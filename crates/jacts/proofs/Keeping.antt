@@ -1,6 +1,6 @@
 -- Instructions with a local.
-use Rattle.std.proofs.Common.{◌≡◌, ◌∙◌, ℕ, ℤ, ◌+◌, ◌<◌, ◌≤◌, Bool, true, false, ◌&&◌, List, [], ◌∷◌, length, drop, Option, Some, None, refl, sym, ap, arith, rules}
-use Rattle.std.specs.Prelude.{slice_get, slice_set, nat_le, ◌+ℤ◌, if◌then◌else◌, option_and_then}
+use Rattle.std.proofs.Common.{◌≡◌, ◌∙◌, ℕ, ℤ, ◌+◌, ◌<◌, ◌≤◌, true, false, List, [], ◌∷◌, length, drop, Option, Some, None, refl, ap, arith, rules}
+use Rattle.std.specs.Prelude.{slice_get, slice_set, nat_le, ◌+ℤ◌, option_and_then}
 use Rattle.std.proofs.lemmas.Option.{slice_get_within}
 use Rattle.std.specs.Int.{int_wrap, w32}
 use Rattle.jops.specs.declared.value.Value.{Value}
@@ -13,7 +13,7 @@ use Rattle.jcode.specs.declared.form.LocalForm.TheVariants.{Increment, Move}
 use Rattle.juses.specs.Instructions.{Local}
 use Rattle.jmachine.specs.Acts.{FrameOf}
 use Rattle.jmachine.specs.Doing.{doing}
-use Rattle.jmachine.specs.Frames.{onward, standing}
+use Rattle.jmachine.specs.Frames.{onward}
 use Rattle.jmachine.specs.Straight.{holding, increased, local, local_at, places, stored, with_local}
 use Rattle.jacts.specs.Ways.{Does, int_in}
 use Rattle.jacts.specs.declared.way.Way.TheVariants as ways

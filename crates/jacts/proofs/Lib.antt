@@ -1,3 +1,4 @@
+pub mod Accessing
 pub mod Arraying
 pub mod Costs
 pub mod Given
@@ -6,4 +7,6 @@ pub mod Seen
 pub mod Computing
 pub mod Jumping
 pub mod Keeping
+pub mod Moving
 pub mod NewArrays
+pub mod Puts

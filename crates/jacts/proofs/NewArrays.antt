@@ -1,6 +1,6 @@
 -- New arrays of numbers.
-use Rattle.std.proofs.Common.{◌≡◌, ◌∙◌, ℕ, zero, suc, ℤ, pos, negsuc, ◌+◌, ◌-◌, ◌<◌, ◌≤◌, Bool, true, false, List, [], ◌∷◌, length, drop, map, replicate, Option, Some, None, inl, inr, refl, sym, ap, arith, rules}
-use Rattle.std.specs.Prelude.{◌⊎◌, IfOk, Result, Ok, Err, nat_le, nat_lt, slice_get, if◌then◌else◌}
+use Rattle.std.proofs.Common.{◌≡◌, ◌∙◌, ℕ, zero, suc, ℤ, pos, negsuc, ◌+◌, ◌-◌, ◌<◌, ◌≤◌, true, false, List, [], ◌∷◌, length, drop, map, replicate, Some, None, inl, inr, refl, sym, ap, arith, rules}
+use Rattle.std.specs.Prelude.{IfOk, OnOk, Result, Ok, Err, nat_le, nat_lt, slice_get, if◌then◌else◌}
 use Rattle.std.proofs.lemmas.Bool.{le-leb, lt-ltb}
 use Rattle.std.proofs.lemmas.List.{length-map}
 use Rattle.jcode.specs.declared.names.ArrayType.{ArrayType as ArrayKind}
@@ -12,12 +12,9 @@ use Rattle.jheap.specs.Raw.{of_raw}
 use Rattle.jlib.specs.declared.classes.LibClass.{LibClass}
 use Rattle.jlib.specs.declared.classes.LibClass.TheVariants as lib
 use Rattle.jlib.specs.declared.classes.Thrown.TheVariants as thrown
-use Rattle.jnames.specs.declared.kinds.Kind.TheVariants as wanted
-use Rattle.jops.specs.declared.value.Value.{Value}
-use Rattle.jops.specs.declared.value.Value.TheVariants.{Int, Ref}
+use Rattle.jops.specs.declared.value.Value.TheVariants.{Ref}
 use Rattle.jprogram.specs.Classes.{Program}
 use Rattle.jrule.specs.Arrays.{component}
-use Rattle.jrule.specs.Effects.{Of}
 use Rattle.jtypes.specs.declared.vtype.ArrayType.{ArrayType}
 use Rattle.jtypes.specs.Described.{in_brackets}
 use Rattle.juses.specs.declared.types.ArrayRef.{ArrayRef}
@@ -35,7 +32,7 @@ use Rattle.jmachine.specs.Store.{Store, next_number, paid, with_made}
 use Rattle.jstate.specs.declared.shapes.Shapes.{Shapes}
 use Rattle.jstate.specs.Framed.{Framed}
 use Rattle.jstate.specs.Seen.{AreBuilt, Things, array_at, element_type, item_type, object_by, store_by}
-use Rattle.jstate.specs.SeenLaws.{Makes}
+use Rattle.jstate.specs.SeenLaws.{MadeStaysBuilt, Makes}
 use Rattle.jacts.specs.Items.{HasMade, row_of}
 use Rattle.jacts.specs.Ways.{Acts, int_in, leaves}
 use Rattle.jacts.specs.declared.way.Way.{Way}
@@ -123,3 +120,10 @@ made_all law (Err e) number count s t h g made built n = tt
 pub of_place : (z : ℤ) (k : ℕ) → Some k ≡ place z → z ≡ pos k
 of_place (pos n) k e = let same : k ≡ n = cc in ap pos (sym same)
 of_place (negsuc n) k e = cc
+
+-- what holds of the pieces stays
+pub made_stays : MadeStaysBuilt → {E F : Type 0} (r : Result Way F) (number count : ℕ) (s t : Framed E) (h g : Heaped) → IfOk r (λ way. HasMade (kinds.Array number) count s h way t g)
+    → AreBuilt h.objects → OnOk r (AreBuilt g.objects)
+made_stays law (Ok way) number count s t h g (inl (few, is, same, kept)) built = rw kept built
+made_stays law (Ok way) number count s t h g (inr (few, is, heap, frames)) built = rw heap (law h (kinds.Array number) count built)
+made_stays law (Err e) number count s t h g made built = tt

@@ -1,5 +1,5 @@
 -- What an operand is that is wanted to be an array.
-use Rattle.std.specs.Prelude.{◌≡◌, ◌+◌, ◌<◌, ◌⊎◌, ℕ, zero, suc, List, [], ◌∷◌, drop, length, Option, Some, None}
+use Rattle.std.specs.Prelude.{◌≡◌, ◌+◌, ◌<◌, ◌⊎◌, ℕ, zero, suc, ◌∷◌, drop, length, Option, Some}
 use Rattle.jcode.specs.declared.names.ArrayType.{ArrayType as ArrayKind}
 use Rattle.jops.specs.declared.value.Value.{Value}
 use Rattle.jops.specs.declared.value.Value.TheVariants.{Ref}

@@ -1,2 +1,4 @@
+pub mod Accesses
 pub mod Items
+pub mod Moves
 pub mod Ways

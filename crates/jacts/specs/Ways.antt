@@ -5,7 +5,7 @@ use Rattle.jops.specs.declared.value.Value.TheVariants.{Int}
 use Rattle.jtrace.specs.declared.event.Event.{Event}
 use Rattle.jprogram.specs.declared.member.Member.{Member}
 use Rattle.juses.specs.Instructions.{Instruction, Switch}
-use Rattle.jmachine.specs.Acts.{Act, FrameOf, Goes, Jumps, Raises, Throws, Row}
+use Rattle.jmachine.specs.Acts.{Act, FrameOf, Goes, Jumps, Raises, Throws}
 use Rattle.jmachine.specs.Doing.{Doing, doing}
 use Rattle.jmachine.specs.Frames.{onward, standing, with_operands}
 use Rattle.jmachine.specs.Security.{Rules}
@@ -68,3 +68,13 @@ NoKey E = (cases : List (ℤ × ℕ)) (other : ℕ) (f g : FrameOf ℕ E) → in
 abbrev pub Acts : {E : Type 0} → Instruction → FrameOf ℕ E → Store ℕ → Left E → Type 0
 Acts {E} i f s l =
     (r : Rules ℕ E) (at : Site) (own : Member → Bool) (entries : List E) (inherited : Option ℕ) → Comes f s (doing r at own s entries inherited i f) l
+
+-- A row that costs nothing goes on with the store that it made.
+abbrev pub GoesFree : Type 0 → Type 0
+GoesFree E = (f : FrameOf ℕ E) (s t : Store ℕ) (told : List Event) (g : FrameOf ℕ E)
+    → leaves ways.Went told g t ≡ (if nat_le 0 s.left then leaves ways.Went told g (paid 0 t) else leaves ways.Full [] f s)
+
+-- A row of an instruction did what it does wherever this holds of the place.
+abbrev pub ActsWhere : {E : Type 0} → (Site → (Member → Bool) → Type 0) → Instruction → FrameOf ℕ E → Store ℕ → Left E → Type 0
+ActsWhere {E} C i f s l =
+    (r : Rules ℕ E) (at : Site) (own : Member → Bool) (entries : List E) (inherited : Option ℕ) → C at own → Comes f s (doing r at own s entries inherited i f) l

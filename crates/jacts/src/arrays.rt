@@ -22,7 +22,7 @@ use crate::way::Way;
 use jheap::{Heap, Kind};
 use jlib::{LibClass, Thrown};
 use jops::Value;
-use jstate::{Frames, heap_laws};
+use jstate::{Frames, built_laws, heap_laws};
 use std::alloc::{AllocError, Global};
 
 /// What an operand is that is wanted to be an array.
@@ -152,8 +152,10 @@ pub fn new_array<M: Copy>(
         array_named p (shape_at shapes number) ≡ row_of kind → Acts (instructions.Array (forms.New kind)) frames.old.newest (store_by p shapes things constants heap.old)
         (leaves way [] frames.new.newest (store_by p shapes things constants heap.new))) }
     ensures below { OnOk result (frames.new.below ≡ frames.old.below) }
+    ensures built { OnOk result (AreBuilt heap.new.objects) }
 {
     heap_laws();
+    built_laws();
     let Some(n) = int_at(frames, 0) else {
         return Ok(Way::Stuck);
     };

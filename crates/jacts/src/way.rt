@@ -1,3 +1,5 @@
+ghost use Rattle.jacts.specs.Ways.{GoesFree};
+
 use jlib::LibClass;
 
 /// What is to be done behind a row.
@@ -14,3 +16,9 @@ pub enum Way {
     /// The state has no step.
     Stuck,
 }
+
+/// The law of rows that cost nothing. It has no body to run; its contract is the law.
+#[tactic(auto, using(crate::proofs::Costs::goes_free))]
+pub fn way_laws<M>()
+    ensures { GoesFree M }
+{}

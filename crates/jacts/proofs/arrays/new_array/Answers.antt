@@ -3,7 +3,7 @@ use Rattle.std.specs.Prelude.{slice_get}
 use Rattle.std.specs.Int.{w32}
 use Rattle.jstate.specs.Seen.{store_by}
 use Rattle.jacts.specs.Ways.{int_in}
-use Rattle.jacts.proofs.NewArrays.{made_all, new_negative, new_stuck, of_place}
+use Rattle.jacts.proofs.NewArrays.{made_all, made_stays, new_negative, new_stuck, of_place}
 use Rattle.jacts.proofs.arrays.new_array.Goals as goal
 
 pub returns-in_default-clause-row : goal.returns-in_default-clause-row
@@ -24,3 +24,8 @@ returns-in-Some-count_of-clause-row g c =
     let here : Some (pos c.in-Some-count_of.count) ≡ int_in (slice_get c.args.frames.now.newest.operands 0) = ap (λ z. Some z) (sym (of_place c.in-Some.n c.in-Some-count_of.count some)) ∙ c.in-Some.ensures in
     made_all c.heap_laws.ensures.makes c.make_array.result c.args.number c.in-Some-count_of.count c.args.frames.now c.make_array.new.frames c.args.heap.now c.make_array.new.heap
     c.make_array.ensures c.requires.built here
+
+pub returns-in-Some-count_of-clause-built : goal.returns-in-Some-count_of-clause-built
+returns-in-Some-count_of-clause-built g c =
+    made_stays c.built_laws.ensures.made c.make_array.result c.args.number c.in-Some-count_of.count c.args.frames.now c.make_array.new.frames c.args.heap.now c.make_array.new.heap
+    c.make_array.ensures c.requires.built

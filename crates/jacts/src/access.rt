@@ -1,0 +1,189 @@
+ghost use Rattle.std.specs.Prelude.{◌≡◌, ◌<◌, ◌≤◌, ◌+◌, ◌^◌, [], ℕ, List, IfSome, is_some, length, slice_get, true};
+ghost use Rattle.jcode.specs.declared.form.ArrayForm.TheVariants as forms;
+ghost use Rattle.jheap.specs.Heaps.{cells_at, object_at};
+ghost use Rattle.jmachine.specs.Arrays as rows;
+ghost use Rattle.jmachine.specs.Narrowing.{place as place_of};
+ghost use Rattle.jprogram.specs.Classes.{Program};
+ghost use Rattle.jrule.specs.Effects.{same_items};
+ghost use Rattle.juses.specs.Instructions as instructions;
+ghost use Rattle.jstate.specs.Seen;
+ghost use Rattle.jstate.specs.Seen.{Things, array_at as shape_at, store_by};
+ghost use Rattle.jacts.specs.Accesses;
+ghost use Rattle.jacts.specs.Accesses.{with_items};
+ghost use Rattle.jacts.specs.Items.{array_seen};
+ghost use Rattle.jacts.specs.Ways.{Acts, leaves};
+
+use crate::arrays::{Found, array_at};
+use crate::jumps::int_at;
+use crate::straight::give_for;
+use crate::way::Way;
+use jcode::Element;
+use jheap::{CellType, Heap};
+use jlib::{LibClass, Thrown};
+use jops::Value;
+use jstate::{Frames, Shapes};
+use juses::{ArrayRef, ElementRef};
+
+// ---- the types of arrays
+
+/// The type of the arrays of a number.
+#[inline]
+pub(crate) fn array_type(shapes: &Shapes, number: u32) -> ArrayRef
+    ensures { result ≡ shape_at shapes.now number }
+{
+    match shapes.arrays.as_slice().get(number as usize) {
+        None => ArrayRef {
+            depth: 1,
+            element: ElementRef::Int,
+        },
+        Some(a) => *a,
+    }
+}
+
+#[inline]
+fn element_type(element: ElementRef) -> CellType
+    ensures { result ≡ Seen.element_type element }
+{
+    match element {
+        ElementRef::Boolean => CellType::Int,
+        ElementRef::Char => CellType::Int,
+        ElementRef::Byte => CellType::Int,
+        ElementRef::Short => CellType::Int,
+        ElementRef::Int => CellType::Int,
+        ElementRef::Long => CellType::Long,
+        ElementRef::Class(_) => CellType::Ref,
+    }
+}
+
+/// The type of an array's cells.
+#[inline]
+fn item_type(a: ArrayRef) -> CellType
+    ensures { result ≡ Seen.item_type a }
+{
+    if 1 < a.depth {
+        return CellType::Ref;
+    }
+    element_type(a.element)
+}
+
+#[inline]
+fn held_as(element: ElementRef) -> Element
+    ensures { result ≡ Accesses.held_as element }
+{
+    match element {
+        ElementRef::Boolean => Element::Byte,
+        ElementRef::Char => Element::Char,
+        ElementRef::Byte => Element::Byte,
+        ElementRef::Short => Element::Short,
+        ElementRef::Int => Element::Int,
+        ElementRef::Long => Element::Long,
+        ElementRef::Class(_) => Element::Ref,
+    }
+}
+
+/// What an array holds, as loads and stores tell it apart.
+#[inline]
+fn items_by(a: ArrayRef) -> Element
+    ensures { result ≡ Accesses.items_by a }
+{
+    if 1 < a.depth {
+        return Element::Ref;
+    }
+    held_as(a.element)
+}
+
+#[inline]
+fn is_same(e: Element, held: Element) -> bool
+    ensures { result ≡ same_items e held }
+{
+    match e {
+        Element::Int => matches!(held, Element::Int),
+        Element::Long => matches!(held, Element::Long),
+        Element::Ref => matches!(held, Element::Ref),
+        Element::Byte => matches!(held, Element::Byte),
+        Element::Char => matches!(held, Element::Char),
+        Element::Short => matches!(held, Element::Short),
+    }
+}
+
+/// The array that stands at a place among the newest frame's operands, counted from the newest, where it has such items.
+#[inline]
+pub(crate) fn items_at<M: Copy>(
+    frames: &Frames<M>,
+    heap: &Heap,
+    shapes: &Shapes,
+    i: usize,
+    e: Element,
+) -> Found
+    ensures { result ≡ with_items shapes.now e (array_seen heap.now (slice_get frames.now.newest.operands i)) }
+{
+    match array_at(frames, heap, i) {
+        Found::Other => Found::Other,
+        Found::Null => Found::Null,
+        Found::Array(o, a) => {
+            if is_same(e, items_by(array_type(shapes, a))) {
+                return Found::Array(o, a);
+            }
+            Found::Other
+        }
+    }
+}
+
+// ---- items
+
+/// The place of an index, where there are so many items.
+#[inline]
+#[tactic(auto, using(crate::proofs::NewArrays::counts, crate::proofs::NewArrays::negative))]
+pub(crate) fn within(count: u32, i: i32) -> Option<u32>
+    ensures place { result ≡ rows.within count (place_of i) }
+    ensures inside { IfSome result (λ k. k < count) }
+{
+    if i < 0 {
+        return None;
+    }
+    let k = i as u32;
+    if k < count {
+        return Some(k);
+    }
+    None
+}
+
+/// The item of an index, where it is there.
+#[inline]
+#[tactic(auto, using(crate::proofs::Accessing::item_found))]
+fn item_at(heap: &Heap, of: CellType, o: u32, i: i32) -> Option<Value>
+    requires { is_some (object_at heap.now o) ≡ true }
+    ensures item { result ≡ Accesses.item_in heap.now of o i }
+    ensures there { is_some result ≡ is_some (rows.within (length (cells_at heap.now o)) (place_of i)) }
+{
+    match within(heap.len(o), i) {
+        None => None,
+        Some(k) => Some(heap.cell(o, k, of)),
+    }
+}
+
+/// A load of an item from an array (JVMS 6.5: iaload, laload, aaload, baload, caload, saload). A null array comes before an index that
+/// isn't there.
+#[inline]
+#[tactic(auto, using(crate::proofs::Accessing::has_second))]
+pub fn array_load<M: Copy>(frames: &mut Frames<M>, heap: &Heap, shapes: &Shapes, e: Element) -> Way
+    requires place { frames.old.newest.place + 1 < 2 ^ 32 }
+    ensures row { (p : Program) (things : Things) (constants : List (List ℕ × ℕ)) →
+        let s = store_by p shapes.now things constants heap.now in Acts (instructions.Array (forms.Load e)) frames.old.newest s (leaves result [] frames.new.newest s) }
+    ensures below { frames.new.below ≡ frames.old.below }
+{
+    let Some(i) = int_at(frames, 0) else {
+        return Way::Stuck;
+    };
+    match items_at(frames, heap, shapes, 1, e) {
+        Found::Other => Way::Stuck,
+        Found::Null => Way::Raises(LibClass::Thrown(Thrown::NullPointerException)),
+        Found::Array(o, a) => match item_at(heap, item_type(array_type(shapes, a)), o, i) {
+            None => Way::Raises(LibClass::Thrown(Thrown::ArrayIndexOutOfBoundsException)),
+            Some(value) => {
+                give_for(frames, 2, value);
+                Way::Went
+            }
+        },
+    }
+}
