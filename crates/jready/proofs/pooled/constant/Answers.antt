@@ -1,0 +1,12 @@
+use Rattle.std.proofs.Common.{ap, ◌∙◌}
+use Rattle.std.specs.Prelude.{option_map}
+use Rattle.juses.specs.Instructions.{Used}
+use Rattle.juses.specs.Tables.{pool_at}
+use Rattle.jready.specs.Meant.{meant}
+use Rattle.jready.proofs.pooled.constant.Goals as goal
+
+pub returns-clause-means : goal.returns-clause-means
+unfolding meant
+returns-clause-means c =
+    let p = c.args.known.now.p.now in
+    c.in_ok-push.ensures.means p (pool_at p c.args.class) ∙ ap (option_map Used) (c.in-Some.ensures ∙ c.requires.pushes)

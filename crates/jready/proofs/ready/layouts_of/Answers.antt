@@ -1,0 +1,7 @@
+use Rattle.std.proofs.Common.{sym, subst}
+use Rattle.jprogram.specs.Standing.{StandsInOrder}
+use Rattle.jlink.specs.Standing.{in_order}
+use Rattle.jready.proofs.ready.layouts_of.Goals as goal
+
+pub of-requires : goal.of-requires
+of-requires c = subst StandsInOrder (sym c.named.ensures.same) (in_order c.args.p.now c.named.ensures.links)

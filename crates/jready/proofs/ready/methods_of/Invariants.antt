@@ -1,0 +1,12 @@
+use Rattle.std.proofs.Common.{◌≡◌, length}
+use Rattle.jready.specs.Methods.{AreMethods}
+use Rattle.jready.specs.Numbers.{methods_before}
+use Rattle.jready.specs.Prepared.{AreNumbered}
+use Rattle.jready.proofs.ready.methods_of.Given as goal
+
+abbrev pub invariant-loop-i : goal.invariant-loop-i
+invariant-loop-i l = record {
+  are : AreMethods l.known.p.now l.known.uses.now.types l.methods;
+  count : length l.methods.rows ≡ methods_before l.known.p.now l.i;
+  numbered : AreNumbered l.known.p.now l.methods.rows l.i;
+}

@@ -1,0 +1,13 @@
+pub mod Tabled
+pub mod Meant
+pub mod Laid
+pub mod Only
+pub mod Numbers
+pub mod Handling
+pub mod Methods
+pub mod Prepared
+pub mod Exact
+pub mod Referred
+pub mod Known
+pub mod Shaped
+pub mod Statics
