@@ -1,0 +1,14 @@
+use Rattle.std.proofs.Common.{◌≡◌, ◌∷◌, [], Some, length, rules}
+use Rattle.jops.specs.declared.value.Value.TheVariants.{Ref}
+use Rattle.jcalls.specs.Marks.{resumed_by}
+use Rattle.jcalls.proofs.Settling.{settled_with, unwound_some}
+use Rattle.jcalls.proofs.unwinding.unwind.Goals as goal
+
+pub handle-requires : goal.handle-requires
+handle-requires g c = (c.settle.ensures.stand (length c.args.marks.now) c.requires).0.class
+
+pub returns : goal.returns
+returns g c =
+    let goes = g.H.Handlers.goes c.args.handlers.now in
+    unwound_some goes c.args.marks.now c.args.object c.in-Some.to c.args.frames.now c.settle.new.frames c.handle.new.frames
+    (settled_with goes c.args.frames.now c.settle.new.frames c.settle.result (Some c.in-Some.to) c.in-Some.is c.settle.ensures.row) c.in_ok-handle.ensures

@@ -1,0 +1,6 @@
+pub mod Calling
+pub mod Marks
+pub mod Readiness
+pub mod Returns
+pub mod Throws
+pub mod Unwinds

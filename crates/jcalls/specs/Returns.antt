@@ -1,0 +1,53 @@
+-- What a step comes to that returns from a method (JVMS 6.5: ireturn, lreturn, areturn, return).
+use Rattle.std.specs.Prelude.{◌≡◌, ⊤, ℕ, List, [], Some, false}
+use Rattle.jnames.specs.declared.kinds.Kind.{Kind}
+use Rattle.jnames.specs.declared.kinds.Kind.TheVariants as kinds
+use Rattle.jheap.specs.Heaps.{Heaped}
+use Rattle.jcode.specs.declared.names.Returned.{Returned}
+use Rattle.jcode.specs.declared.names.Returned.TheVariants as results
+use Rattle.jops.specs.declared.value.Value.{Value}
+use Rattle.jprogram.specs.Classes.{Program}
+use Rattle.juses.specs.Instructions.{Return}
+use Rattle.jmachine.specs.declared.plan.Plan.{Plan}
+use Rattle.jmachine.specs.Acts.{Outcome, NoStep, State}
+use Rattle.jmachine.specs.Security.{Rules}
+use Rattle.jmachine.specs.Steps.{executed, left, went}
+use Rattle.jmachine.specs.Turns.{ended}
+use Rattle.jstate.specs.Framed.{Framed, all}
+use Rattle.jstate.specs.declared.shapes.Shapes.{Shapes}
+use Rattle.jstate.specs.Seen.{Things, store_by}
+use Rattle.jcalls.specs.declared.ready.Counts.{Counts}
+use Rattle.jcalls.specs.declared.returns.Leaving.{Leaving}
+use Rattle.jcalls.specs.declared.returns.Leaving.TheVariants as ways
+use Rattle.jcalls.specs.Marks.{marks_of}
+use Rattle.jcalls.specs.Readiness.{AreCounted}
+
+-- the kinds of numbers
+abbrev pub IsNumber : Kind → Type 0
+IsNumber kinds.Int = ⊤
+IsNumber kinds.Long = ⊤
+IsNumber kind = ⊥
+
+-- the thread goes on with these frames, or has ended, or is stuck
+abbrev pub LeftAs : {E : Type 0} → Rules ℕ E → Program → Plan → State ℕ E → Leaving → Framed E → Outcome (State ℕ E) → Type 0
+LeftAs r p plan s ways.Resumed g outcome = outcome ≡ went r p plan s (all g) s.store []
+LeftAs r p plan s ways.Ends g outcome = outcome ≡ ended plan.schedule s s.store false []
+LeftAs r p plan s ways.Stuck g outcome = outcome ≡ NoStep
+
+-- The newest frame left with these values, as the machine's definition has it.
+abbrev pub Leaves : {E : Type 0} → List (Value ℕ) → List E → Framed E → Leaving → Framed E → Type 0
+Leaves {E} values marks f way g = (r : Rules ℕ E) (p : Program) (plan : Plan) (s : State ℕ E)
+    → marks ≡ marks_of r.entry_of p → LeftAs r p plan s way g (left r p plan s f.below s.store values)
+
+-- A return of a kind did what a step does that executes it, whatever the rules and the state are: `marks` are what the rules give to frames
+-- of each class.
+abbrev pub Returns : {E : Type 0} → Returned → List E → Framed E → Leaving → Framed E → Type 0
+Returns {E} kind marks f way g = (r : Rules ℕ E) (p : Program) (plan : Plan) (s : State ℕ E)
+    → marks ≡ marks_of r.entry_of p → LeftAs r p plan s way g (executed r p plan s f.newest f.below (Some (Return kind)))
+
+-- A return of a reference did so, where these are the objects of the heap.
+abbrev pub ReturnsRef : {E : Type 0} → Heaped → Counts → List E → Framed E → Leaving → Framed E → Type 0
+ReturnsRef {E} h counts marks f way g =
+    (r : Rules ℕ E) (p : Program) (plan : Plan) (s : State ℕ E) (shapes : Shapes) (things : Things) (constants : List (List ℕ × ℕ))
+    → marks ≡ marks_of r.entry_of p → s.store ≡ store_by p shapes things constants h → AreCounted counts things
+    → LeftAs r p plan s way g (executed r p plan s f.newest f.below (Some (Return results.Ref)))

@@ -1,0 +1,67 @@
+ghost use Rattle.std.specs.Prelude.{◌≡◌, IfOk, length};
+ghost use Rattle.jlib.specs.declared.classes.LibClass.TheVariants as lib;
+ghost use Rattle.jstate.specs.Framed.{all};
+ghost use Rattle.jstate.specs.Numbers.{thrown_number};
+ghost use Rattle.jstate.specs.Seen.{AreBuilt};
+ghost use Rattle.jcalls.specs.Marks.{Stand};
+ghost use Rattle.jcalls.specs.Throws.{Raises, Throws};
+
+use crate::handlers::Handlers;
+use crate::unwinding::unwind;
+use jheap::{Heap, Kind};
+use jlib::Thrown;
+use jstate::{Frames, heap_laws, number_laws};
+use std::alloc::{AllocError, Global};
+
+/// What raising or throwing came to.
+#[derive(Clone, Copy, Debug, PartialEq, Eq)]
+pub enum Raised {
+    /// The heap has too few cells left for the exception, and nothing has changed.
+    Full,
+    /// A frame handles it, and is the newest.
+    Handled,
+    /// No frame handled it: the thread has ended, and its frames are not to be used.
+    Uncaught,
+}
+
+/// Throws the object of a number (JVMS 2.10). Handlers are told of its type.
+#[tactic(auto, using(crate::proofs::Throwing::handled_so, crate::proofs::Throwing::uncaught_so))]
+pub fn throw_object<M: Copy, H: Handlers>(
+    frames: &mut Frames<M>,
+    object: u32,
+    marks: &[M],
+    handlers: &H,
+) -> Result<Raised, AllocError>
+    requires { Stand (length marks.now) (all frames.old) }
+    ensures { IfOk result (λ way. Throws marks.now (H.goes handlers.now) object frames.old way frames.new) }
+{
+    let caught = unwind(frames, object, marks, handlers)?;
+    if caught {
+        return Ok(Raised::Handled);
+    }
+    Ok(Raised::Uncaught)
+}
+
+/// Raises an exception of a class of the library, without a message: makes an object of the class, by the heap's number for it, and throws
+/// it. Handlers are told of its type.
+pub fn raise<M: Copy, H: Handlers>(
+    alloc: Global,
+    frames: &mut Frames<M>,
+    heap: &mut Heap,
+    class: Thrown,
+    number: u32,
+    marks: &[M],
+    handlers: &H,
+) -> Result<Raised, AllocError>
+    requires stand { Stand (length marks.now) (all frames.old) }
+    requires built { AreBuilt heap.old.objects }
+    requires number { number ≡ thrown_number class }
+    ensures { IfOk result (λ way. Raises marks.now (H.goes handlers.now) (lib.Thrown class) frames.old heap.old way frames.new heap.new) }
+{
+    heap_laws();
+    number_laws();
+    let Some(object) = heap.make(alloc, Kind::Object(number), 1)? else {
+        return Ok(Raised::Full);
+    };
+    throw_object(frames, object, marks, handlers)
+}
