@@ -1,6 +1,6 @@
 -- What a call comes to, by its object.
-use Rattle.std.proofs.Common.{◌≡◌, ◌∙◌, ℕ, zero, suc, Bool, true, false, not, List, [], ◌∷◌, take, Option, Some, None, refl, sym, ap}
-use Rattle.std.specs.Prelude.{⊤, option_map, option_and_then, slice_get}
+use Rattle.std.proofs.Common.{◌≡◌, ◌∙◌, ℕ, zero, suc, Bool, not, List, take, Option, Some, None, refl, sym, ap}
+use Rattle.std.specs.Prelude.{option_map, option_and_then, slice_get}
 use Rattle.jbase.specs.First.{fault_if, or_else}
 use Rattle.jops.specs.declared.value.Value.{Value}
 use Rattle.jops.specs.declared.value.Value.TheVariants.{Int, Long, Ref, Ctx}
@@ -27,7 +27,7 @@ use Rattle.jmachine.specs.Objects.{Object, id_of}
 use Rattle.jmachine.specs.Security.{Rules}
 use Rattle.jmachine.specs.Sites.{Site}
 use Rattle.jmachine.specs.Steps.{entries, executed, own_fields, site}
-use Rattle.jmachine.specs.Store.{Store, object_at, object_of}
+use Rattle.jmachine.specs.Store.{Store, object_at}
 use Rattle.jmachine.specs.World.{class_id, world}
 use Rattle.jstate.specs.Framed.{Framed, all}
 use Rattle.jstate.specs.declared.shapes.Shape.{Shape}

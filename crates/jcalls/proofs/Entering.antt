@@ -1,19 +1,17 @@
 -- Calls.
-use Rattle.std.proofs.Common.{◌≡◌, ◌∙◌, ℕ, zero, suc, Bool, true, false, List, [], ◌∷◌, length, drop, take, Option, Some, None, refl, sym, ap}
-use Rattle.std.specs.Prelude.{nat_le, option_map, if◌then◌else◌}
+use Rattle.std.proofs.Common.{◌≡◌, ◌∙◌, ℕ, Bool, true, false, List, length, drop, take, Option, Some, None, refl, sym, ap}
+use Rattle.std.specs.Prelude.{nat_le, option_map}
 use Rattle.std.proofs.Math.Dec.{leb-zero}
 use Rattle.jops.specs.declared.value.Value.{Value}
 use Rattle.jlib.specs.declared.calls.LibCall.{LibCall}
 use Rattle.jlib.specs.declared.classes.LibClass.{LibClass}
 use Rattle.jclass.specs.declared.class.CodeBody.{CodeBody}
 use Rattle.jprogram.specs.declared.member.MethodId.{MethodId}
-use Rattle.jprogram.specs.declared.member.Selected.{Selected}
-use Rattle.jprogram.specs.declared.member.Selected.TheVariants as selected
 use Rattle.jprogram.specs.Classes.{Program}
 use Rattle.juses.specs.Instructions.{code_at}
 use Rattle.jmachine.specs.declared.plan.Plan.{Plan}
-use Rattle.jmachine.specs.Acts.{FrameOf, State}
-use Rattle.jmachine.specs.Calls.{Target, Fails, Pushes, Runs, no_code, overflow, reached}
+use Rattle.jmachine.specs.Acts.{State}
+use Rattle.jmachine.specs.Calls.{Fails, Pushes, Runs, no_code, overflow}
 use Rattle.jmachine.specs.Frames.{domain_of, frame_of}
 use Rattle.jmachine.specs.Security.{Rules}
 use Rattle.jmachine.specs.Steps.{acted, applied}
@@ -22,7 +20,6 @@ use Rattle.jacts.proofs.Costs.{unpaid}
 use Rattle.jcalls.specs.declared.calls.Called.{Called}
 use Rattle.jcalls.specs.declared.calls.Called.TheVariants as ways
 use Rattle.jcalls.specs.declared.calls.Callee.{Callee}
-use Rattle.jcalls.specs.declared.calls.Found.{Found}
 use Rattle.jcalls.specs.declared.calls.Found.TheVariants as found
 use Rattle.jcalls.specs.Calling.{CalledAs, IsCallee, Reaches, comes, is_full}
 

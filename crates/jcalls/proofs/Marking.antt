@@ -1,12 +1,11 @@
 -- What frames carry.
-use Rattle.std.proofs.Common.{◌≡◌, ◌∙◌, ℕ, List, ◌∷◌, map, Option, Some, None, refl, sym, ap}
+use Rattle.std.proofs.Common.{◌≡◌, ◌∙◌, ℕ, List, Option, Some, None, refl, sym, ap}
 use Rattle.std.specs.Prelude.{option_map, slice_get}
 use Rattle.std.proofs.lemmas.Option.{slice_get-map}
 use Rattle.jops.specs.declared.value.Value.{Value}
 use Rattle.jprogram.specs.declared.part.CodePart.{CodePart}
 use Rattle.jprogram.specs.declared.member.MethodId.{MethodId}
 use Rattle.jprogram.specs.Classes.{Program}
-use Rattle.jmachine.specs.Acts.{FrameOf}
 use Rattle.jmachine.specs.Frames.{carrying, domain_in, domain_of, standing}
 use Rattle.jmachine.specs.Unwinding.{resumed}
 use Rattle.jstate.specs.Framed.{Framed, with_newest}

@@ -1,22 +1,21 @@
 -- What calls come to.
-use Rattle.std.proofs.Common.{◌≡◌, ◌∙◌, ℕ, zero, suc, ◌-◌, ◌≤◌, Bool, true, false, List, [], ◌∷◌, length, take, drop, Option, Some, None, refl, sym, ap, subst, arith}
+use Rattle.std.proofs.Common.{◌≡◌, ◌∙◌, ℕ, zero, suc, ◌-◌, ◌≤◌, Bool, true, false, List, [], ◌∷◌, length, take, drop, Some, None, refl, sym, ap, subst, arith}
 use Rattle.std.specs.Prelude.{IfOk, Ok, Err, Result, slice_get}
 use Rattle.jops.specs.declared.value.Value.{Value}
 use Rattle.jheap.specs.declared.cell.Kind.{Kind}
 use Rattle.jprogram.specs.declared.member.CallKind.TheVariants as call_kinds
 use Rattle.juses.specs.declared.meaning.How.TheVariants as how
-use Rattle.jmachine.specs.Calls.{Fails, no_access, null_pointer, reached, receiver, target, wrong_class}
+use Rattle.jmachine.specs.Calls.{Fails, no_access, null_pointer, reached, receiver, wrong_class}
 use Rattle.jmachine.specs.Steps.{site}
 use Rattle.jmachine.specs.World.{world}
 use Rattle.jstate.specs.Framed.{Framed, holding}
-use Rattle.jstate.specs.Seen.{store_by}
 use Rattle.jstate.specs.SeenLaws.{SeesEach}
 use Rattle.jcalls.specs.declared.calls.Called.{Called}
 use Rattle.jcalls.specs.declared.calls.Called.TheVariants as ways
 use Rattle.jcalls.specs.declared.calls.Found.{Found}
 use Rattle.jcalls.specs.declared.receiver.Receiver.{Receiver}
 use Rattle.jcalls.specs.declared.receiver.Receiver.TheVariants as receivers
-use Rattle.jcalls.specs.Calling.{CallsByInterface, CallsOn, CallsStatic, Reaches, id_by, is_full, receiver_seen, selected_on}
+use Rattle.jcalls.specs.Calling.{CallsByInterface, CallsOn, CallsStatic, Reaches, id_by, is_full, selected_on}
 use Rattle.jcalls.proofs.Choosing.{IsThere, class_target, comes_none, comes_so, face_target, interface_null, interface_target, is_there, nothing_called, null_is, null_target, on_target, static_target}
 
 -- ---- the oldest of some operands

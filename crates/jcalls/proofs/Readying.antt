@@ -1,5 +1,5 @@
 -- Objects that may be used.
-use Rattle.std.proofs.Common.{◌≡◌, ◌∙◌, ℕ, zero, suc, ◌+◌, ◌-◌, ◌<◌, ◌≤◌, Bool, true, false, List, [], ◌∷◌, length, map, Option, Some, None, refl, sym, ap, arith, rules, lt-ltb, inl, inr, ◌⊎◌}
+use Rattle.std.proofs.Common.{◌≡◌, ◌∙◌, ℕ, zero, suc, ◌-◌, ◌<◌, ◌≤◌, Bool, true, false, List, [], length, map, Option, Some, None, refl, sym, ap, arith, rules, lt-ltb, inl, inr, ◌⊎◌}
 use Rattle.std.specs.Prelude.{get_or, is_some, nat_lt, option_map, slice_get, unwrap_or}
 use Rattle.std.proofs.lemmas.Option.{slice_get-map, slice_get-get_or, slice_get_cases}
 use Rattle.jnames.specs.declared.kinds.Kind.TheVariants as wanted
@@ -19,11 +19,10 @@ use Rattle.jrule.specs.Effects.{Of}
 use Rattle.jrule.specs.Effects as types
 use Rattle.jmachine.specs.Objects.{Object, Instance, Thrown, Text, Builder, Piece, Permission, Context, Thread, Bare, Array, class_of, is_ready}
 use Rattle.jmachine.specs.Operands.{found_type, ready_type, serves, serves_as}
-use Rattle.jmachine.specs.Store.{Store, object_at}
 use Rattle.jmachine.specs.World.{World}
 use Rattle.jstate.specs.declared.shapes.Shape.{Shape}
 use Rattle.jstate.specs.declared.shapes.Shapes.{Shapes}
-use Rattle.jstate.specs.Numbers.{class_numbered, library_at, library_classes, library_count}
+use Rattle.jstate.specs.Numbers.{class_numbered, library_classes, library_count}
 use Rattle.jstate.specs.Seen.{Things, class_by, first, kind_by, number_in, object_by, place_in, store_by, user_by}
 use Rattle.jstate.specs.SeenLaws.{SeesEach}
 use Rattle.jcalls.specs.declared.ready.TheConstants.{NEEDS}

@@ -1,7 +1,6 @@
 -- Returns.
-use Rattle.std.proofs.Common.{◌≡◌, ◌∙◌, ℕ, ◌+◌, ◌<◌, ◌^◌, Bool, true, false, List, [], ◌∷◌, ◌++◌, length, drop, Option, Some, None, refl, sym, ap, arith}
+use Rattle.std.proofs.Common.{◌≡◌, ◌∙◌, ℕ, ◌+◌, ◌<◌, true, false, List, [], ◌∷◌, ◌++◌, length, drop, Option, Some, None, refl, sym, ap, arith}
 use Rattle.std.specs.Prelude.{IfOk, Ok, Err, Result, slice_get}
-use Rattle.std.specs.List.{AllByRecursion}
 use Rattle.std.proofs.Math.Dec.{leb-zero}
 use Rattle.jnames.specs.declared.kinds.Kind.{Kind}
 use Rattle.jnames.specs.declared.kinds.Kind.TheVariants as kinds
@@ -12,18 +11,14 @@ use Rattle.jheap.specs.Heaps.{Heaped}
 use Rattle.jcode.specs.declared.names.Returned.{Returned}
 use Rattle.jcode.specs.declared.names.Returned.TheVariants as returned_kinds
 use Rattle.jcode.specs.Forms.{returned}
-use Rattle.jprogram.specs.Classes.{Program}
-use Rattle.juses.specs.Instructions.{Return}
 use Rattle.jrule.specs.Effects.{Of, of_kinds}
-use Rattle.jmachine.specs.declared.plan.Plan.{Plan}
-use Rattle.jmachine.specs.Acts.{FrameOf, NoStep, Outcome, State}
+use Rattle.jmachine.specs.Acts.{FrameOf}
 use Rattle.jmachine.specs.Doing.{doing}
 use Rattle.jmachine.specs.Operands.{Taken, serves, taken}
-use Rattle.jmachine.specs.Security.{Rules}
-use Rattle.jmachine.specs.Steps.{acted, applied, left}
+use Rattle.jmachine.specs.Steps.{acted, applied}
 use Rattle.jmachine.specs.Store.{Store}
 use Rattle.jmachine.specs.World.{World, world}
-use Rattle.jstate.specs.Framed.{Framed, all, framed}
+use Rattle.jstate.specs.Framed.{Framed, framed}
 use Rattle.jacts.proofs.Costs.{unpaid}
 use Rattle.jacts.proofs.Numbers.{IsNumber as IsNumberKind, front_one, is_taken, isnt_taken, none_there}
 use Rattle.jstate.specs.Seen.{Things}
@@ -31,8 +26,8 @@ use Rattle.jstate.specs.SeenLaws.{SeesEach}
 use Rattle.jcalls.specs.declared.ready.Counts.{Counts}
 use Rattle.jcalls.specs.declared.returns.Leaving.{Leaving}
 use Rattle.jcalls.specs.declared.returns.Leaving.TheVariants as ways
-use Rattle.jcalls.specs.Marks.{Stand, Stands, marks_of, resumed_by}
-use Rattle.jcalls.specs.Returns.{IsNumber, LeftAs, Leaves, Returns, ReturnsRef}
+use Rattle.jcalls.specs.Marks.{Stand, Stands, resumed_by}
+use Rattle.jcalls.specs.Returns.{IsNumber, Leaves, Returns, ReturnsRef}
 use Rattle.jcalls.specs.Readiness.{AreCounted, is_reference}
 use Rattle.jcalls.proofs.Readying.{reference_serves}
 use Rattle.jcalls.proofs.Marking.{is_resumed}

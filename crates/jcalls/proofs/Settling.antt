@@ -8,7 +8,7 @@ use Rattle.jtypes.specs.declared.vtype.VType.{VType}
 use Rattle.jmachine.specs.Acts.{FrameOf}
 use Rattle.jmachine.specs.Unwinding.{unwound}
 use Rattle.jstate.specs.Framed.{Framed, all, framed}
-use Rattle.jcalls.specs.Marks.{Stand, marks_of, resumed_by}
+use Rattle.jcalls.specs.Marks.{Stand, resumed_by}
 use Rattle.jcalls.specs.Unwinds.{IsTold, Settles, Unwinds}
 use Rattle.jcalls.proofs.Marking.{is_resumed}
 

@@ -1,28 +1,24 @@
 -- What is raised and thrown.
-use Rattle.std.proofs.Common.{◌≡◌, ◌∙◌, ℕ, zero, suc, ◌+◌, ◌<◌, ◌≤◌, true, false, List, [], ◌∷◌, ◌++◌, length, Option, Some, None, refl, sym, ap, arith, rules, le-leb}
+use Rattle.std.proofs.Common.{◌≡◌, ◌∙◌, ℕ, suc, ◌+◌, ◌<◌, true, false, List, [], ◌∷◌, ◌++◌, length, Option, Some, None, refl, sym, ap, arith, rules, le-leb}
 use Rattle.std.specs.Prelude.{IfOk, Ok, Err, Result, nat_le, slice_get}
-use Rattle.std.specs.List.{AllByRecursion}
-use Rattle.std.proofs.lemmas.List.{length-map, length-append}
+use Rattle.std.proofs.lemmas.List.{length-map}
 use Rattle.jheap.specs.declared.cell.Kind.TheVariants as kinds
 use Rattle.jheap.specs.Heaps.{Heaped, Makes as MakesOne, made}
-use Rattle.jlib.specs.declared.classes.LibClass.{LibClass}
 use Rattle.jlib.specs.declared.classes.LibClass.TheVariants as lib
 use Rattle.jlib.specs.declared.classes.Thrown.{Thrown as ThrownClass}
 use Rattle.jprogram.specs.declared.part.ClassRef.{ClassRef}
 use Rattle.jprogram.specs.declared.part.ClassRef.TheVariants as refs
 use Rattle.jprogram.specs.declared.member.MethodId.{MethodId}
 use Rattle.jprogram.specs.Classes.{Program}
-use Rattle.jmachine.specs.declared.plan.Plan.{Plan}
-use Rattle.jmachine.specs.Acts.{State, raises}
+use Rattle.jmachine.specs.Acts.{raises}
 use Rattle.jmachine.specs.Objects.{Object, Thrown}
-use Rattle.jmachine.specs.Security.{Rules}
 use Rattle.jmachine.specs.Steps.{acted, applied, thrown_at}
 use Rattle.jmachine.specs.Store.{Store, object_at, paid, with_made}
 use Rattle.jmachine.specs.Unwinding.{with_raised}
 use Rattle.jstate.specs.Framed.{Framed, all}
 use Rattle.jstate.specs.Numbers.{GivesBack, class_numbered, thrown_number}
 use Rattle.jstate.specs.declared.shapes.Shapes.{Shapes}
-use Rattle.jstate.specs.Seen.{AreBuilt, Things, class_by, kind_by, object_by, store_by}
+use Rattle.jstate.specs.Seen.{AreBuilt, Things, class_by, object_by, store_by}
 use Rattle.jstate.specs.SeenLaws.{Makes}
 use Rattle.jcalls.specs.declared.raising.Raised.{Raised}
 use Rattle.jcalls.specs.declared.raising.Raised.TheVariants as ways

@@ -1,6 +1,6 @@
 -- What a step comes to that calls a method (JVMS 6.5: invokevirtual, invokespecial, invokestatic, invokeinterface), from the operands that
 -- it takes and what is selected.
-use Rattle.std.specs.Prelude.{◌≡◌, ⊤, ℕ, zero, suc, Bool, List, [], ◌∷◌, ◌++◌, length, nat_le, take, drop, Option, Some, None, option_map, if◌then◌else◌}
+use Rattle.std.specs.Prelude.{◌≡◌, ⊤, ℕ, zero, suc, Bool, List, [], ◌++◌, length, nat_le, take, drop, Option, Some, None, option_map, if◌then◌else◌}
 use Rattle.jops.specs.declared.value.Value.{Value}
 use Rattle.jops.specs.declared.value.Value.TheVariants.{Ref}
 use Rattle.jheap.specs.declared.cell.Kind.{Kind}

@@ -1,4 +1,3 @@
-use Rattle.std.proofs.Common.{◌≡◌, Some, None, rules}
 use Rattle.jcalls.proofs.Throwing.{all_raised, none_made, one_made, full_so}
 use Rattle.jcalls.proofs.raising.raise.Goals as goal
 

@@ -1,6 +1,4 @@
-use Rattle.std.proofs.Common.{◌≡◌, ◌∷◌, [], Some, length, rules}
-use Rattle.jops.specs.declared.value.Value.TheVariants.{Ref}
-use Rattle.jcalls.specs.Marks.{resumed_by}
+use Rattle.std.proofs.Common.{Some, length}
 use Rattle.jcalls.proofs.Settling.{settled_with, unwound_some}
 use Rattle.jcalls.proofs.unwinding.unwind.Goals as goal
 
