@@ -98,11 +98,13 @@ module _ (law : SeesEach) (p : Program) (shapes : Shapes) (things : Things) (con
   abbrev store : Store ℕ
   store = store_by p shapes things constants h
 
-  missing_object : (o : ℕ) (x : Option heaps.Object) → heaps.object_at h o ≡ x → receivers.Missing ≡ found_as (option_map (λ (y : heaps.Object). y.kind) x) → object_at store o ≡ None
+  missing_object : (o : ℕ) (x : Option heaps.Object) → heaps.object_at h o ≡ x → receivers.Missing ≡ found_as (option_map (λ (y : heaps.Object). y.kind) x)
+      → object_at store o ≡ None
   missing_object o None is e = law p shapes things constants h o ∙ ap (option_map (object_by p shapes h.objects things)) is
   missing_object o (Some x) is e = cc
 
-  pub nothing_called : (at : Site) (by : How) (c : CallMeaning) (v : Option (Value ℕ)) → receivers.Missing ≡ receiver_seen h v → option_and_then (on_value at store by c) v ≡ None
+  pub nothing_called : (at : Site) (by : How) (c : CallMeaning) (v : Option (Value ℕ)) → receivers.Missing ≡ receiver_seen h v
+      → option_and_then (on_value at store by c) v ≡ None
   nothing_called at by c None e = refl
   nothing_called at by c (Some (Int x)) e = refl
   nothing_called at by c (Some (Long x)) e = refl
@@ -110,7 +112,8 @@ module _ (law : SeesEach) (p : Program) (shapes : Shapes) (things : Things) (con
   nothing_called at by c (Some (Ref zero)) e = cc
   nothing_called at by c (Some (Ref (suc o))) e = ap (option_map (on_object at by c)) (missing_object (suc o) (heaps.object_at h (suc o)) refl e)
 
-  there_object : (o : ℕ) (kind : Kind) (x : Option heaps.Object) → heaps.object_at h (suc o) ≡ x → receivers.Object kind ≡ found_as (option_map (λ (y : heaps.Object). y.kind) x) → IsThere store (Some (Ref (suc o))) kind
+  there_object : (o : ℕ) (kind : Kind) (x : Option heaps.Object) → heaps.object_at h (suc o) ≡ x
+      → receivers.Object kind ≡ found_as (option_map (λ (y : heaps.Object). y.kind) x) → IsThere store (Some (Ref (suc o))) kind
   there_object o kind None is e = cc
   there_object o kind (Some x) is e =
       let same : kind ≡ x.kind = cc in
@@ -175,7 +178,8 @@ module _ {E : Type 0} (r : Rules ℕ E) (p : Program) (plan : Plan) (s : State �
   unfolding target
   interface_target = refl
 
-  reached_on : (by : How) → IsByClass by → (x : Object ℕ) → on_object at by c x ≡ reached (is_full plan f) (selected_on (world p) f.newest.method.class by c (id_of x))
+  reached_on : (by : How) → IsByClass by → (x : Object ℕ)
+      → on_object at by c x ≡ reached (is_full plan f) (selected_on (world p) f.newest.method.class by c (id_of x))
   reached_on how.Virtual is x = refl
   reached_on how.Special is x = refl
   reached_on how.Init is x = refl
@@ -204,7 +208,8 @@ module _ {E : Type 0} (r : Rules ℕ E) (p : Program) (plan : Plan) (s : State �
   pub face_target : (kind : Kind) (has hidden : Bool) → IsThere s.store (receiver values) kind → IsOfInterface p s.store c values has
       → is_hidden (world p) ((world p).select (id_by kind) c.member call_kinds.Interface) ≡ hidden
       → target at s.store how.Interface c values
-      ≡ Some (unless (or_else (fault_if (not has) wrong_class) (fault_if hidden no_access)) (reached (is_full plan f) ((world p).select (id_by kind) c.member call_kinds.Interface)))
+      ≡ Some (unless (or_else (fault_if (not has) wrong_class) (fault_if hidden no_access))
+      (reached (is_full plan f) ((world p).select (id_by kind) c.member call_kinds.Interface)))
   face_target kind has hidden there of hid =
       let asked = of (Ref (suc there.before)) there.object there.value there.held in
       interface_target ∙ value_there how.Interface kind there ∙ rw (asked, there.class, hid) refl

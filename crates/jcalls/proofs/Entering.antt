@@ -25,12 +25,14 @@ use Rattle.jcalls.specs.Calling.{CalledAs, IsCallee, Reaches, comes, is_full}
 
 -- ---- a frame that begins
 
-begun_some : {E : Type 0} (m : MethodId) (entry : E) (arguments : List (Value ℕ)) (most : ℕ) (o : Option CodeBody) → option_map (λ (body : CodeBody). body.max_locals) o ≡ Some most
+begun_some : {E : Type 0} (m : MethodId) (entry : E) (arguments : List (Value ℕ)) (most : ℕ) (o : Option CodeBody)
+    → option_map (λ (body : CodeBody). body.max_locals) o ≡ Some most
     → option_map (frame_of m entry arguments) o ≡ Some (starting m most arguments entry)
 begun_some m entry arguments most None h = cc
 begun_some m entry arguments most (Some body) h = let e : body.max_locals ≡ most = cc in ap (λ n. Some (starting m n arguments entry)) e
 
-begun_none : {E : Type 0} (m : MethodId) (entry : E) (arguments : List (Value ℕ)) (o : Option CodeBody) → option_map (λ (body : CodeBody). body.max_locals) o ≡ None
+begun_none : {E : Type 0} (m : MethodId) (entry : E) (arguments : List (Value ℕ)) (o : Option CodeBody)
+    → option_map (λ (body : CodeBody). body.max_locals) o ≡ None
     → option_map (frame_of m entry arguments) o ≡ None
 begun_none m entry arguments None h = refl
 begun_none m entry arguments (Some body) h = cc
@@ -38,10 +40,12 @@ begun_none m entry arguments (Some body) h = cc
 module _ {E : Type 0} (count : ℕ) (f : Framed E) where
   -- ---- what a call comes to
 
-  pub fails_so : (r : Rules ℕ E) (p : Program) (plan : Plan) (s : State ℕ E) (class : LibClass) → CalledAs r p plan s count f (ways.Raises class) (holding (drop count f.newest.operands) f) (comes r p plan s f count (Fails class))
+  pub fails_so : (r : Rules ℕ E) (p : Program) (plan : Plan) (s : State ℕ E) (class : LibClass)
+      → CalledAs r p plan s count f (ways.Raises class) (holding (drop count f.newest.operands) f) (comes r p plan s f count (Fails class))
   fails_so r p plan s class = refl
 
-  pub runs_so : (r : Rules ℕ E) (p : Program) (plan : Plan) (s : State ℕ E) (call : LibCall) → CalledAs r p plan s count f (ways.Runs call) f (comes r p plan s f count (Runs call))
+  pub runs_so : (r : Rules ℕ E) (p : Program) (plan : Plan) (s : State ℕ E) (call : LibCall)
+      → CalledAs r p plan s count f (ways.Runs call) f (comes r p plan s f count (Runs call))
   runs_so r p plan s call = (refl, refl)
 
   -- the frames with one more
@@ -53,7 +57,12 @@ module _ {E : Type 0} (count : ℕ) (f : Framed E) where
   unfolding applied acted
   pushes_so r p plan s c has is =
       let code : option_map (λ (body : CodeBody). body.max_locals) (code_at p c.method) ≡ Some c.most = is.code ∙ rw has refl in
-      rw (leb-zero s.store.left, begun_some c.method (r.entry_of (domain_of p c.method)) (take count f.newest.operands) c.most (code_at p c.method) code, ← is.mark, ← unpaid s.store) refl
+      rw (
+        leb-zero s.store.left,
+        begun_some c.method (r.entry_of (domain_of p c.method)) (take count f.newest.operands) c.most (code_at p c.method) code,
+        ← is.mark,
+        ← unpaid s.store,
+      ) refl
 
   pushes_none : (r : Rules ℕ E) (p : Program) (plan : Plan) (s : State ℕ E) (c : Callee E) (g : Framed E) → c.has_code ≡ false → IsCallee r.entry_of p c
       → CalledAs r p plan s count f ways.Stuck g (comes r p plan s f count (Pushes c.method))
@@ -83,8 +92,10 @@ module _ {E : Type 0} (count : ℕ) (f : Framed E) where
   pub library_runs : (depth : ℕ) (call : LibCall) → Reaches count (found.Lib call) depth f (ways.Runs call) f
   library_runs depth call r p plan s selected d is = rw is (refl, refl)
 
-  pub abstract_fails : (depth : ℕ) (way : Called) (g : Framed E) → way ≡ ways.Raises no_code → g ≡ holding (drop count f.newest.operands) f → Reaches count found.Abstract depth f way g
+  pub abstract_fails : (depth : ℕ) (way : Called) (g : Framed E) → way ≡ ways.Raises no_code → g ≡ holding (drop count f.newest.operands) f
+      → Reaches count found.Abstract depth f way g
   abstract_fails depth way g w e r p plan s selected d is = rw (w, e, is.1) refl
 
-  pub missing_fails : (depth : ℕ) (way : Called) (g : Framed E) → way ≡ ways.Raises no_code → g ≡ holding (drop count f.newest.operands) f → Reaches count found.Missing depth f way g
+  pub missing_fails : (depth : ℕ) (way : Called) (g : Framed E) → way ≡ ways.Raises no_code → g ≡ holding (drop count f.newest.operands) f
+      → Reaches count found.Missing depth f way g
   missing_fails depth way g w e r p plan s selected d is = rw (w, e, is) refl

@@ -12,7 +12,8 @@ use Rattle.jstate.specs.Framed.{Framed, with_newest}
 use Rattle.jcalls.specs.Marks.{marks_of, resumed_by}
 
 -- what those of a class carry is what the rules give for the domain of its methods
-mark_is : {E : Type 0} (entry_of : ℕ → E) (p : Program) (m : MethodId) (mark : E) → slice_get (marks_of entry_of p) m.class ≡ Some mark → mark ≡ entry_of (domain_of p m)
+mark_is : {E : Type 0} (entry_of : ℕ → E) (p : Program) (m : MethodId) (mark : E) → slice_get (marks_of entry_of p) m.class ≡ Some mark
+    → mark ≡ entry_of (domain_of p m)
 mark_is {E} entry_of p m mark h = found (slice_get p.parts m.class) (sym (slice_get-map (λ (part : CodePart). entry_of part.domain) p.parts m.class) ∙ h)
   where
     found : (part : Option CodePart) → option_map (λ (part : CodePart). entry_of part.domain) part ≡ Some mark → mark ≡ entry_of (domain_in part)
@@ -20,11 +21,13 @@ mark_is {E} entry_of p m mark h = found (slice_get p.parts m.class) (sym (slice_
     found (Some part) h = let e : entry_of part.domain ≡ mark = cc in sym e
 
 -- a frame that goes on carries what the rules give to one that nothing marks
-pub is_resumed : {E : Type 0} (entry_of : ℕ → E) (p : Program) (marks : List E) (f g : Framed E) (place : ℕ) (operands : List (Value ℕ)) → marks ≡ marks_of entry_of p
+pub is_resumed : {E : Type 0} (entry_of : ℕ → E) (p : Program) (marks : List E) (f g : Framed E) (place : ℕ) (operands : List (Value ℕ))
+    → marks ≡ marks_of entry_of p
     → Some g ≡ resumed_by marks f place operands → g ≡ with_newest (resumed entry_of p f.newest place operands) f
 is_resumed {E} entry_of p marks f g place operands is h = found (slice_get marks f.newest.method.class) refl h
   where
-    found : (o : Option E) → slice_get marks f.newest.method.class ≡ o → Some g ≡ option_map (λ mark. with_newest (carrying mark (standing f.newest place operands)) f) o
+    found : (o : Option E) → slice_get marks f.newest.method.class ≡ o
+        → Some g ≡ option_map (λ mark. with_newest (carrying mark (standing f.newest place operands)) f) o
         → g ≡ with_newest (resumed entry_of p f.newest place operands) f
     found None e h = cc
     found (Some mark) e h =

@@ -45,7 +45,8 @@ listed = refl
 pub library_needs : (n : ℕ) (d : Needs) → n < 46 → get_or NEEDS n d ≡ needed (class_numbered n)
 library_needs n d few =
     let b : nat_lt n library_count ≡ true = lt-ltb n library_count few in
-    rw b (found (slice_get library_classes n) (get_or NEEDS n d) (sym (slice_get-get_or NEEDS n d few) ∙ ap (λ (xs : List Needs). slice_get xs n) (sym listed) ∙ slice_get-map library_needed library_classes n))
+    rw b (found (slice_get library_classes n) (get_or NEEDS n d) (sym (slice_get-get_or NEEDS n d few) ∙ ap (λ (xs : List Needs). slice_get xs n) (sym listed)
+    ∙ slice_get-map library_needed library_classes n))
   where
     found : (o : Option LibClass) (x : Needs) → Some x ≡ option_map library_needed o → x ≡ library_needed (unwrap_or o lib.Object)
     found None x h = cc
@@ -64,7 +65,8 @@ some_within : {A : Type 0} (xs : List A) (n : ℕ) → is_within (length xs) n �
 some_within xs zero = refl
 some_within {A} xs (suc n) = by_cases (slice_get_cases xs n).1
   where
-    by_cases : ((x : A) × (n < length xs) × (slice_get xs n ≡ Some x) × (get_or xs n x ≡ x)) ⊎ ((length xs ≤ n) × (slice_get xs n ≡ None)) → nat_lt n (length xs) ≡ is_some (slice_get xs n)
+    by_cases : ((x : A) × (n < length xs) × (slice_get xs n ≡ Some x) × (get_or xs n x ≡ x)) ⊎ ((length xs ≤ n) × (slice_get xs n ≡ None))
+        → nat_lt n (length xs) ≡ is_some (slice_get xs n)
     by_cases (inl (x, few, e, d)) = let b : nat_lt n (length xs) ≡ true = lt-ltb n (length xs) few in rw (b, e) refl
     by_cases (inr (few, e)) = let b : nat_lt n (length xs) ≡ false = search rules in rw (b, e) refl
 
@@ -72,7 +74,8 @@ within_so : {A : Type 0} (xs : List A) (count n : ℕ) → length xs ≡ count �
 within_so xs count n is = ap (λ k. is_within k n) (sym is) ∙ some_within xs n
 
 module _ (counts : Counts) (things : Things) (cells : List ℕ) where
-  pub holds_permission : (b : Bool) (n : ℕ) → AreCounted counts things → b ≡ is_within counts.permissions n → n ≡ first cells → b ≡ holds things cells needs.Permission
+  pub holds_permission : (b : Bool) (n : ℕ) → AreCounted counts things → b ≡ is_within counts.permissions n → n ≡ first cells
+      → b ≡ holds things cells needs.Permission
   holds_permission b n are h is = h ∙ within_so things.permissions counts.permissions n are.permissions ∙ ap (λ k. is_some (place_in things.permissions k)) is
 
   pub holds_context : (b : Bool) (n : ℕ) → AreCounted counts things → b ≡ is_within counts.contexts n → n ≡ first cells → b ≡ holds things cells needs.Context
@@ -104,10 +107,12 @@ object_there h o kind e = other (heaps.object_at h o) e
     other None e = cc
     other (Some x) e = refl
 
-pub object_ready : (things : Things) (h : Heaped) (o : ℕ) (kind : Kind) (b : Bool) → Some kind ≡ kind_at h o → b ≡ ready_by things kind (cells_at h o) → b ≡ is_ready_in things (heaps.object_at h o)
+pub object_ready : (things : Things) (h : Heaped) (o : ℕ) (kind : Kind) (b : Bool) → Some kind ≡ kind_at h o → b ≡ ready_by things kind (cells_at h o)
+    → b ≡ is_ready_in things (heaps.object_at h o)
 object_ready things h o kind b e is = other (heaps.object_at h o) e is
   where
-    other : (x : Option heaps.Object) → Some kind ≡ option_map (λ (y : heaps.Object). y.kind) x → b ≡ ready_by things kind (unwrap_or (option_map (λ (y : heaps.Object). y.cells) x) []) → b ≡ is_ready_in things x
+    other : (x : Option heaps.Object) → Some kind ≡ option_map (λ (y : heaps.Object). y.kind) x
+        → b ≡ ready_by things kind (unwrap_or (option_map (λ (y : heaps.Object). y.cells) x) []) → b ≡ is_ready_in things x
     other None e is = cc
     other (Some x) e is = let same : kind ≡ x.kind = cc in is ∙ ap (λ k. ready_by things k x.cells) same
 
@@ -163,9 +168,11 @@ module _ (law : SeesEach) (w : World) (p : Program) (shapes : Shapes) (things : 
   object_serves x true e = rw e (is_ref_class w.named x)
   object_serves x false e = rw e refl
 
-  seen_serves : (x : Option heaps.Object) → serves_as w (Of wanted.Ref) (found_type w (option_map (object_by p shapes h.objects things) x)) ≡ is_ready_in things x
+  seen_serves : (x : Option heaps.Object)
+      → serves_as w (Of wanted.Ref) (found_type w (option_map (object_by p shapes h.objects things) x)) ≡ is_ready_in things x
   seen_serves None = refl
-  seen_serves (Some x) = object_serves (object_by p shapes h.objects things x) (ready_by things x.kind x.cells) (kind_ready shapes h.objects things x.cells p x.kind)
+  seen_serves (Some x) =
+      object_serves (object_by p shapes h.objects things x) (ready_by things x.kind x.cells) (kind_ready shapes h.objects things x.cells p x.kind)
 
   -- a value serves where a reference is wanted
   pub reference_serves : (v : Value ℕ) → serves w (store_by p shapes things constants h) (Of wanted.Ref) v ≡ is_reference things h v
@@ -173,4 +180,5 @@ module _ (law : SeesEach) (w : World) (p : Program) (shapes : Shapes) (things : 
   reference_serves (Long x) = refl
   reference_serves (Ctx k) = refl
   reference_serves (Ref zero) = refl
-  reference_serves (Ref (suc o)) = ap (λ x. serves_as w (Of wanted.Ref) (found_type w x)) (law p shapes things constants h (suc o)) ∙ seen_serves (heaps.object_at h (suc o))
+  reference_serves (Ref (suc o)) =
+      ap (λ x. serves_as w (Of wanted.Ref) (found_type w x)) (law p shapes things constants h (suc o)) ∙ seen_serves (heaps.object_at h (suc o))

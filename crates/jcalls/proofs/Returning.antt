@@ -52,15 +52,18 @@ pub nothing_taken : (operands : List (Value ℕ)) → HasTaken returned_kinds.No
 unfolding taken
 nothing_taken operands w s = refl
 
-pub kind_taken : (kind : Returned) (k : Kind) → returned kind ≡ many.One k → IsNumber k → (operands : List (Value ℕ)) (v : Value ℕ) → Some v ≡ slice_get operands 0 → is_of k v ≡ true
+pub kind_taken : (kind : Returned) (k : Kind) → returned kind ≡ many.One k → IsNumber k → (operands : List (Value ℕ)) (v : Value ℕ)
+    → Some v ≡ slice_get operands 0 → is_of k v ≡ true
     → HasTaken kind operands (Some (took (v ∷ []) (drop 1 operands)))
 kind_taken kind k one number operands v there h w s =
     rw one (ap (taken w s (of_kinds (many.One k))) (front_one operands v there) ∙ is_taken w s (many.One k) (number_is k number) v (drop 1 operands) h)
 
-none_taken : (kind : Returned) (k : Kind) → returned kind ≡ many.One k → IsNumber k → (operands : List (Value ℕ)) → length operands < 1 → HasTaken kind operands None
+none_taken : (kind : Returned) (k : Kind) → returned kind ≡ many.One k → IsNumber k → (operands : List (Value ℕ)) → length operands < 1
+    → HasTaken kind operands None
 none_taken kind k one number operands few w s = rw one (none_there w s (many.One k) (number_is k number) operands few)
 
-other_taken : (kind : Returned) (k : Kind) → returned kind ≡ many.One k → IsNumber k → (operands : List (Value ℕ)) (v : Value ℕ) → Some v ≡ slice_get operands 0 → is_of k v ≡ false
+other_taken : (kind : Returned) (k : Kind) → returned kind ≡ many.One k → IsNumber k → (operands : List (Value ℕ)) (v : Value ℕ)
+    → Some v ≡ slice_get operands 0 → is_of k v ≡ false
     → HasTaken kind operands None
 other_taken kind k one number operands v there h w s =
     rw one (ap (taken w s (of_kinds (many.One k))) (front_one operands v there) ∙ isnt_taken w s (many.One k) (number_is k number) v (drop 1 operands) h)
@@ -101,30 +104,35 @@ module _ {E : Type 0} where
   pub nothing_returned : (marks : List E) (f g : Framed E) (way : Leaving) → Leaves [] marks f way g → Returns returned_kinds.Nothing marks f way g
   nothing_returned marks f g way = returned_so returned_kinds.Nothing marks f g way [] f.newest.operands (nothing_taken f.newest.operands)
 
-  pub number_returned : (marks : List E) (f g : Framed E) (way : Leaving) (k : Kind) (v : Value ℕ) → IsNumber k → Some v ≡ slice_get f.newest.operands 0 → is_of k v ≡ true
+  pub number_returned : (marks : List E) (f g : Framed E) (way : Leaving) (k : Kind) (v : Value ℕ) → IsNumber k → Some v ≡ slice_get f.newest.operands 0
+      → is_of k v ≡ true
       → Leaves (v ∷ []) marks f way g → (kind : Returned) → returned kind ≡ many.One k → Returns kind marks f way g
   number_returned marks f g way k v number there h l kind one =
       returned_so kind marks f g way (v ∷ []) (drop 1 f.newest.operands) (kind_taken kind k one number f.newest.operands v there h) l
 
-  pub number_short : (marks : List E) (f g : Framed E) (k : Kind) → IsNumber k → length f.newest.operands < 1 → (kind : Returned) → returned kind ≡ many.One k → Returns kind marks f ways.Stuck g
+  pub number_short : (marks : List E) (f g : Framed E) (k : Kind) → IsNumber k → length f.newest.operands < 1 → (kind : Returned) → returned kind ≡ many.One k
+      → Returns kind marks f ways.Stuck g
   number_short marks f g k number few kind one = stuck_so kind marks f g (none_taken kind k one number f.newest.operands few)
 
   pub number_other : (marks : List E) (f g : Framed E) (k : Kind) (v : Value ℕ) → IsNumber k → Some v ≡ slice_get f.newest.operands 0 → is_of k v ≡ false
       → (kind : Returned) → returned kind ≡ many.One k → Returns kind marks f ways.Stuck g
   number_other marks f g k v number there h kind one = stuck_so kind marks f g (other_taken kind k one number f.newest.operands v there h)
 
-  pub all_nothing : (marks : List E) (f g : Framed E) {F : Type 0} (way : Result Leaving F) → IfOk way (λ w. Leaves [] marks f w g) → IfOk way (λ w. Returns returned_kinds.Nothing marks f w g)
+  pub all_nothing : (marks : List E) (f g : Framed E) {F : Type 0} (way : Result Leaving F) → IfOk way (λ w. Leaves [] marks f w g)
+      → IfOk way (λ w. Returns returned_kinds.Nothing marks f w g)
   all_nothing marks f g (Ok way) l = nothing_returned marks f g way l
   all_nothing marks f g (Err e) l = tt
 
-  pub all_number : (marks : List E) (f g : Framed E) {F : Type 0} (way : Result Leaving F) (k : Kind) (v : Value ℕ) → IsNumber k → Some v ≡ slice_get f.newest.operands 0 → is_of k v ≡ true
+  pub all_number : (marks : List E) (f g : Framed E) {F : Type 0} (way : Result Leaving F) (k : Kind) (v : Value ℕ) → IsNumber k
+      → Some v ≡ slice_get f.newest.operands 0 → is_of k v ≡ true
       → IfOk way (λ w. Leaves (v ∷ []) marks f w g) → IfOk way (λ w. (kind : Returned) → returned kind ≡ many.One k → Returns kind marks f w g)
   all_number marks f g (Ok way) k v number there h l = number_returned marks f g way k v number there h l
   all_number marks f g (Err e) k v number there h l = tt
 
   -- ---- references
 
-  pub reference_short : (h : Heaped) (counts : Counts) (marks : List E) (f g : Framed E) → length f.newest.operands < 1 → ReturnsRef h counts marks f ways.Stuck g
+  pub reference_short : (h : Heaped) (counts : Counts) (marks : List E) (f g : Framed E) → length f.newest.operands < 1
+      → ReturnsRef h counts marks f ways.Stuck g
   unfolding doing taken
   reference_short h counts marks f g few r p plan s shapes things constants is seen are = rw (none_there' f.newest.operands few) refl
     where
@@ -132,22 +140,25 @@ module _ {E : Type 0} where
       none_there' [] few = refl
       none_there' (v ∷ rest) few = absurd (omega (arith, few))
 
-  module _ (law : SeesEach) (h : Heaped) (counts : Counts) (marks : List E) (f g : Framed E) (v : Value ℕ) (there : Some v ≡ slice_get f.newest.operands 0) where
-    pub reference_other : ((things : Things) → AreCounted counts things → false ≡ is_reference things h v) → ReturnsRef h counts marks f ways.Stuck g
-    unfolding doing taken
-    reference_other other r p plan s shapes things constants is seen are =
-        let serves_not : serves (world p) s.store (Of kinds.Ref) v ≡ false =
-        ap (λ t. serves (world p) t (Of kinds.Ref) v) seen ∙ reference_serves law (world p) p shapes things constants h v ∙ sym (other things are) in
-        rw (front_one f.newest.operands v there, serves_not) refl
+  module _ (law : SeesEach) (h : Heaped) (counts : Counts) (marks : List E) (f g : Framed E) (v : Value ℕ) (there : Some v ≡ slice_get f.newest.operands 0)
+    where
+      pub reference_other : ((things : Things) → AreCounted counts things → false ≡ is_reference things h v) → ReturnsRef h counts marks f ways.Stuck g
+      unfolding doing taken
+      reference_other other r p plan s shapes things constants is seen are =
+          let serves_not : serves (world p) s.store (Of kinds.Ref) v ≡ false =
+          ap (λ t. serves (world p) t (Of kinds.Ref) v) seen ∙ reference_serves law (world p) p shapes things constants h v ∙ sym (other things are) in
+          rw (front_one f.newest.operands v there, serves_not) refl
 
-    pub reference_returned : (way : Leaving) → ((things : Things) → AreCounted counts things → true ≡ is_reference things h v) → Leaves (v ∷ []) marks f way g → ReturnsRef h counts marks f way g
-    unfolding doing taken applied acted
-    reference_returned way reference l r p plan s shapes things constants is seen are =
-        let serves_so : serves (world p) s.store (Of kinds.Ref) v ≡ true =
-        ap (λ t. serves (world p) t (Of kinds.Ref) v) seen ∙ reference_serves law (world p) p shapes things constants h v ∙ sym (reference things are) in
-        rw (front_one f.newest.operands v there, serves_so, leb-zero s.store.left, ← unpaid s.store) (l r p plan s is)
+      pub reference_returned : (way : Leaving) → ((things : Things) → AreCounted counts things → true ≡ is_reference things h v) → Leaves (v ∷ []) marks f way g
+          → ReturnsRef h counts marks f way g
+      unfolding doing taken applied acted
+      reference_returned way reference l r p plan s shapes things constants is seen are =
+          let serves_so : serves (world p) s.store (Of kinds.Ref) v ≡ true =
+          ap (λ t. serves (world p) t (Of kinds.Ref) v) seen ∙ reference_serves law (world p) p shapes things constants h v ∙ sym (reference things are) in
+          rw (front_one f.newest.operands v there, serves_so, leb-zero s.store.left, ← unpaid s.store) (l r p plan s is)
 
-    pub all_references : {F : Type 0} (way : Result Leaving F) → ((things : Things) → AreCounted counts things → true ≡ is_reference things h v) → IfOk way (λ w. Leaves (v ∷ []) marks f w g)
-        → IfOk way (λ w. ReturnsRef h counts marks f w g)
-    all_references (Ok way) reference l = reference_returned way reference l
-    all_references (Err e) reference l = tt
+      pub all_references : {F : Type 0} (way : Result Leaving F) → ((things : Things) → AreCounted counts things → true ≡ is_reference things h v)
+          → IfOk way (λ w. Leaves (v ∷ []) marks f w g)
+          → IfOk way (λ w. ReturnsRef h counts marks f w g)
+      all_references (Ok way) reference l = reference_returned way reference l
+      all_references (Err e) reference l = tt

@@ -62,7 +62,8 @@ module _ {E : Type 0} (goes : MethodId → ℕ → Option ℕ) where
   pub unwound_none : (marks : List E) (n : ℕ) (f g : Framed E) → Settles goes f None g → Unwinds marks goes n f false g
   unwound_none marks n f g settles entry_of p thrown is told = settles entry_of p thrown n told
 
-  pub unwound_some : (marks : List E) (n to : ℕ) (f u g : Framed E) → Settles goes f (Some to) u → Some g ≡ resumed_by marks u to (Ref n ∷ []) → Unwinds marks goes n f true g
+  pub unwound_some : (marks : List E) (n to : ℕ) (f u g : Framed E) → Settles goes f (Some to) u → Some g ≡ resumed_by marks u to (Ref n ∷ [])
+      → Unwinds marks goes n f true g
   unwound_some marks n to f u g settles h entry_of p thrown is told =
       settles entry_of p thrown n told ∙ ap (λ (v : Framed E). Some (all v)) (sym (is_resumed entry_of p marks u g to (Ref n ∷ []) is h))
 

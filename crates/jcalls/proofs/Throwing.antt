@@ -42,15 +42,18 @@ last_object s x = let e : length s.objects + 1 ≡ suc (length s.objects) = omeg
     last [] = refl
     last (y ∷ xs) = last xs
 
-module _ (numbers : GivesBack) (law : Makes) (p : Program) (shapes : Shapes) (things : Things) (constants : List (List ℕ × ℕ)) (h : Heaped) (built : AreBuilt h.objects) (c : ThrownClass) where
+module _ (numbers : GivesBack) (law : Makes) (p : Program) (shapes : Shapes) (things : Things) (constants : List (List ℕ × ℕ)) (h : Heaped)
+    (built : AreBuilt h.objects) (c : ThrownClass) where
   class_is : (k : ClassRef) → k ≡ refs.Lib (lib.Thrown c) → class_by shapes h.objects things k (0 ∷ []) ≡ Thrown (lib.Thrown c) 0
   class_is k is = rw is refl
 
   -- the heap with the exception
-  pub raised_store : store_by p shapes things constants (made h (kinds.Object (thrown_number c)) 1) ≡ with_raised (paid 2 (store_by p shapes things constants h)) (lib.Thrown c) None
+  pub raised_store : store_by p shapes things constants (made h (kinds.Object (thrown_number c)) 1) ≡ with_raised
+      (paid 2 (store_by p shapes things constants h)) (lib.Thrown c) None
   raised_store =
       law p shapes things constants h (kinds.Object (thrown_number c)) 1 built
-      ∙ ap (λ (x : Object ℕ). paid 2 (with_made (store_by p shapes things constants h) x)) (class_is (class_numbered (thrown_number c)) (numbers (refs.Lib (lib.Thrown c))))
+      ∙ ap (λ (x : Object ℕ). paid 2 (with_made (store_by p shapes things constants h) x))
+      (class_is (class_numbered (thrown_number c)) (numbers (refs.Lib (lib.Thrown c))))
 
 -- so many objects and one more
 one_longer : {A : Type 0} (xs : List A) (x : A) → length (xs ++ x ∷ []) ≡ length xs + 1
@@ -64,7 +67,8 @@ module _ {E : Type 0} (marks : List E) (goes : MethodId → ℕ → Option ℕ) 
       let short : nat_le 2 s.store.left ≡ false = rw seen (search rules) in
       rw short refl
 
-  pub raised_so : GivesBack → Makes → AreBuilt h.objects → (way : Raised) (o : ℕ) → (2 < h.left + 1) × (o ≡ length h.objects + 1) × (k ≡ made h (kinds.Object (thrown_number c)) 1)
+  pub raised_so : GivesBack → Makes → AreBuilt h.objects → (way : Raised) (o : ℕ)
+      → (2 < h.left + 1) × (o ≡ length h.objects + 1) × (k ≡ made h (kinds.Object (thrown_number c)) 1)
       → Throws marks goes o f way g → Raises marks goes (lib.Thrown c) f h way g k
   unfolding applied acted
   raised_so numbers law built way o (few, number, made_is) throws r p plan s shapes things constants is seen told =
@@ -74,14 +78,18 @@ module _ {E : Type 0} (marks : List E) (goes : MethodId → ℕ → Option ℕ) 
       let enough : nat_le 2 s.store.left ≡ true = rw seen (le-leb 2 h.left (omega (arith, few))) in
       let count : length S.objects + 1 ≡ o = ap (λ n. n + 1) (length-map h.objects (object_by p shapes h.objects things)) ∙ sym number in
       let longer : length (with_raised (paid 2 S) (lib.Thrown c) None).objects ≡ o = one_longer S.objects (Thrown (lib.Thrown c) 0) ∙ count in
-      let there : object_at T o ≡ Some (Thrown (lib.Thrown c) 0) = ap (λ t. object_at t o) made_so ∙ ap (object_at (with_made (paid 2 S) (Thrown (lib.Thrown c) 0))) (sym count) ∙ last_object (paid 2 S) (Thrown (lib.Thrown c) 0) in
+      let there : object_at T o ≡ Some (Thrown (lib.Thrown c) 0) =
+      ap (λ t. object_at t o) made_so ∙ ap (object_at (with_made (paid 2 S) (Thrown (lib.Thrown c) 0))) (sym count)
+      ∙ last_object (paid 2 S) (Thrown (lib.Thrown c) 0) in
       let outcome : applied r p plan s (all f) (raises (lib.Thrown c)) ≡ thrown_at r p plan s (all f) T [] o =
-      rw enough (ap (λ t. thrown_at r p plan s (all f) (with_raised (paid 2 t) (lib.Thrown c) None) [] (length (with_raised (paid 2 t) (lib.Thrown c) None).objects)) seen
+      rw enough (ap (λ t. thrown_at r p plan s (all f) (with_raised (paid 2 t) (lib.Thrown c) None) []
+      (length (with_raised (paid 2 t) (lib.Thrown c) None).objects)) seen
       ∙ ap (λ n. thrown_at r p plan s (all f) (with_raised (paid 2 S) (lib.Thrown c) None) [] n) longer
       ∙ ap (λ t. thrown_at r p plan s (all f) t [] o) (sym made_so)) in
       rw outcome (throws r p plan s T (Thrown (lib.Thrown c) 0) is there told)
 
-  pub all_raised : GivesBack → Makes → AreBuilt h.objects → {F : Type 0} (way : Result Raised F) (o : ℕ) → (2 < h.left + 1) × (o ≡ length h.objects + 1) × (k ≡ made h (kinds.Object (thrown_number c)) 1)
+  pub all_raised : GivesBack → Makes → AreBuilt h.objects → {F : Type 0} (way : Result Raised F) (o : ℕ)
+      → (2 < h.left + 1) × (o ≡ length h.objects + 1) × (k ≡ made h (kinds.Object (thrown_number c)) 1)
       → IfOk way (λ w. Throws marks goes o f w g) → IfOk way (λ w. Raises marks goes (lib.Thrown c) f h w g k)
   all_raised numbers law built (Ok way) o facts throws = raised_so numbers law built way o facts throws
   all_raised numbers law built (Err e) o facts throws = tt
@@ -92,7 +100,8 @@ pub none_made : (c : ThrownClass) (number : ℕ) (h k : Heaped) (o : Option ℕ)
 none_made c number h k None e m = m.0
 none_made c number h k (Some n) e m = cc
 
-pub one_made : (c : ThrownClass) (number : ℕ) (h k : Heaped) (o : Option ℕ) (n : ℕ) → number ≡ thrown_number c → o ≡ Some n → MakesOne (kinds.Object number) 1 h k o
+pub one_made : (c : ThrownClass) (number : ℕ) (h k : Heaped) (o : Option ℕ) (n : ℕ) → number ≡ thrown_number c → o ≡ Some n
+    → MakesOne (kinds.Object number) 1 h k o
     → (2 < h.left + 1) × (n ≡ length h.objects + 1) × (k ≡ made h (kinds.Object (thrown_number c)) 1)
 one_made c number h k None n is e m = cc
 one_made c number h k (Some x) n is e m = let same : x ≡ n = cc in (m.0, sym same ∙ m.1, m.2 ∙ ap (λ i. made h (kinds.Object i) 1) is)

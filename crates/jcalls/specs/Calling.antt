@@ -102,7 +102,9 @@ module _ {E : Type 0} (r : Rules ℕ E) (p : Program) (plan : Plan) (s : State �
   abbrev pub stepped : ℕ → (List (Value ℕ) → Option (Row ℕ E)) → Outcome (State ℕ E)
   stepped count row =
       let own = own_fields p f.newest.method in
-      done r p plan s f.below (with_row r (site r p plan s f.newest f.below) own s.store (entries r p plan s (all f)) s.running.inherited f.newest row (took count f.newest.operands))
+      done r p plan s f.below
+      (with_row r (site r p plan s f.newest f.below) own s.store (entries r p plan s (all f)) s.running.inherited f.newest row
+      (took count f.newest.operands))
 
   -- what it comes to by what a call comes to
   abbrev pub comes : ℕ → Target → Outcome (State ℕ E)
@@ -121,7 +123,8 @@ CalledAs r p plan s count f ways.Begun g outcome = outcome ≡ went r p plan s (
 CalledAs r p plan s count f (ways.Raises class) g outcome = outcome ≡ applied r p plan s (all g) (raises class)
 CalledAs r p plan s count f (ways.Runs call) g outcome =
     let own = own_fields p f.newest.method in
-    (g ≡ f) × (outcome ≡ stepped r p plan s f count (run r (site r p plan s f.newest f.below) own s.store (entries r p plan s (all f)) s.running.inherited call))
+    (g ≡ f) × (outcome ≡ stepped r p plan s f count
+    (run r (site r p plan s f.newest f.below) own s.store (entries r p plan s (all f)) s.running.inherited call))
 CalledAs r p plan s count f ways.Stuck g outcome = outcome ≡ NoStep
 
 -- ---- calls
@@ -150,8 +153,10 @@ IsByClass by = ⊥
 
 -- the same, on an object of a heap
 abbrev pub CallsOn : {E : Type 0} → Receiver → ℕ → Found E → (depth : ℕ) → Framed E → Called → Framed E → Type 0
-CallsOn {E} on count what depth f way g = (r : Rules ℕ E) (p : Program) (plan : Plan) (s : State ℕ E) (shapes : Shapes) (things : Things) (constants : List (List ℕ × ℕ))
-    (h : Heaped) (by : How) (c : CallMeaning) → IsByClass by → s.store ≡ store_by p shapes things constants h → on ≡ receiver_seen h (receiver (take count f.newest.operands))
+CallsOn {E} on count what depth f way g =
+    (r : Rules ℕ E) (p : Program) (plan : Plan) (s : State ℕ E) (shapes : Shapes) (things : Things) (constants : List (List ℕ × ℕ))
+    (h : Heaped) (by : How) (c : CallMeaning) → IsByClass by → s.store ≡ store_by p shapes things constants h → on ≡ receiver_seen h
+    (receiver (take count f.newest.operands))
     → plan.depth ≡ depth → Takes p s by c count f → IsFoundOn r.entry_of p f.newest.method.class by c what on
     → CalledAs r p plan s count f way g (executed r p plan s f.newest f.below (Some (Used (Call by c))))
 
@@ -166,9 +171,12 @@ IsHiddenOn p c on hidden = ⊤
 
 abbrev pub CallsByInterface : {E : Type 0} → Receiver → ℕ → Found E → (has hidden : Bool) (depth : ℕ) → Framed E → Called → Framed E → Type 0
 CallsByInterface {E} on count what has hidden depth f way g =
-    (r : Rules ℕ E) (p : Program) (plan : Plan) (s : State ℕ E) (shapes : Shapes) (things : Things) (constants : List (List ℕ × ℕ)) (h : Heaped) (c : CallMeaning)
-    → s.store ≡ store_by p shapes things constants h → on ≡ receiver_seen h (receiver (take count f.newest.operands)) → plan.depth ≡ depth → Takes p s how.Interface c count f
-    → IsFoundOn r.entry_of p f.newest.method.class how.Interface c what on → IsOfInterface p s.store c (take count f.newest.operands) has → IsHiddenOn p c on hidden
+    (r : Rules ℕ E) (p : Program) (plan : Plan) (s : State ℕ E) (shapes : Shapes) (things : Things) (constants : List (List ℕ × ℕ)) (h : Heaped)
+    (c : CallMeaning)
+    → s.store ≡ store_by p shapes things constants h → on ≡ receiver_seen h (receiver (take count f.newest.operands)) → plan.depth ≡ depth
+    → Takes p s how.Interface c count f
+    → IsFoundOn r.entry_of p f.newest.method.class how.Interface c what on → IsOfInterface p s.store c (take count f.newest.operands) has
+    → IsHiddenOn p c on hidden
     → CalledAs r p plan s count f way g (executed r p plan s f.newest f.below (Some (Used (Call how.Interface c))))
 
 -- what is selected is reached, as the definition has it

@@ -21,4 +21,5 @@ Stand classes frames = AllByRecursion (Stands classes) frames
 
 -- the newest frame goes on at a place with these operands, and carries what those of its class do
 abbrev pub resumed_by : {E : Type 0} → List E → Framed E → ℕ → List (Value ℕ) → Option (Framed E)
-resumed_by marks f place operands = option_map (λ mark. with_newest (carrying mark (standing f.newest place operands)) f) (slice_get marks f.newest.method.class)
+resumed_by marks f place operands =
+    option_map (λ mark. with_newest (carrying mark (standing f.newest place operands)) f) (slice_get marks f.newest.method.class)

@@ -134,7 +134,6 @@ pub fn call_static<M: Copy>(
 /// A call on an object (JVMS 6.5: invokevirtual, invokespecial), with so many operands, of which the oldest is the object. Null fails
 /// before all else.
 #[inline]
-#[tactic(auto, using(crate::proofs::Outcomes::on_missing, crate::proofs::Outcomes::on_null, crate::proofs::Outcomes::all_on))]
 pub fn call_on<M: Copy>(
     frames: &mut Frames<M>,
     receiver: Receiver,
@@ -157,7 +156,6 @@ pub fn call_on<M: Copy>(
 /// A call by an interface (JVMS 6.5: invokeinterface), as one on an object, whose class is to have the interface. What is selected is to
 /// be public.
 #[inline]
-#[tactic(auto, using(crate::proofs::Outcomes::face_missing, crate::proofs::Outcomes::face_null, crate::proofs::Outcomes::without_face, crate::proofs::Outcomes::hidden_fails, crate::proofs::Outcomes::all_faces))]
 pub fn call_by_interface<M: Copy>(
     frames: &mut Frames<M>,
     receiver: Receiver,

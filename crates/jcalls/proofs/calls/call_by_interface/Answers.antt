@@ -3,17 +3,21 @@ use Rattle.jcalls.proofs.calls.call_by_interface.Goals as goal
 
 pub returns-then-not-has : goal.returns-then-not-has
 returns-then-not-has g c =
-    without_face_at c.args.count c.args.what c.args.room.depth c.args.frames.now c.raise-then-not-has.new.frames c.raise-then-not-has.result c.raise-then-not-has.ensures.frames
+    without_face_at c.args.count c.args.what c.args.room.depth c.args.frames.now c.raise-then-not-has.new.frames c.raise-then-not-has.result
+    c.raise-then-not-has.ensures.frames
     c.heap_laws.ensures.each c.args.has c.args.hidden c.args.receiver c.in-Object.field-0 c.in-Object.is c.if-not-has.true c.raise-then-not-has.ensures.way
 
 pub returns-then-hidden : goal.returns-then-hidden
 returns-then-hidden g c =
-    hidden_fails_at c.args.count c.args.what c.args.room.depth c.args.frames.now c.raise-then-hidden.new.frames c.raise-then-hidden.result c.raise-then-hidden.ensures.frames
-    c.heap_laws.ensures.each c.args.has c.args.hidden c.args.receiver c.in-Object.field-0 c.in-Object.is c.if-not-has.false c.if-hidden.true c.raise-then-hidden.ensures.way
+    hidden_fails_at c.args.count c.args.what c.args.room.depth c.args.frames.now c.raise-then-hidden.new.frames c.raise-then-hidden.result
+    c.raise-then-hidden.ensures.frames
+    c.heap_laws.ensures.each c.args.has c.args.hidden c.args.receiver c.in-Object.field-0 c.in-Object.is c.if-not-has.false c.if-hidden.true
+    c.raise-then-hidden.ensures.way
 
 pub returns-in-Missing : goal.returns-in-Missing
 returns-in-Missing g c =
-    face_missing_at c.args.count c.args.what c.args.room.depth c.args.frames.now c.args.frames.now c.heap_laws.ensures.each c.args.has c.args.hidden c.args.receiver c.in-Missing.is
+    face_missing_at c.args.count c.args.what c.args.room.depth c.args.frames.now c.args.frames.now c.heap_laws.ensures.each c.args.has c.args.hidden
+    c.args.receiver c.in-Missing.is
 
 pub returns-in-Null : goal.returns-in-Null
 returns-in-Null g c =

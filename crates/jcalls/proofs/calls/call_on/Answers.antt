@@ -7,8 +7,10 @@ returns-in-Missing g c =
 
 pub returns-in-Null : goal.returns-in-Null
 returns-in-Null g c =
-    on_null_at c.args.count c.args.what c.args.room.depth c.args.frames.now c.raise.new.frames c.raise.result c.raise.ensures.frames c.args.receiver c.in-Null.is c.raise.ensures.way
+    on_null_at c.args.count c.args.what c.args.room.depth c.args.frames.now c.raise.new.frames c.raise.result c.raise.ensures.frames c.args.receiver
+    c.in-Null.is c.raise.ensures.way
 
 pub returns-in-Object : goal.returns-in-Object
 returns-in-Object g c =
-    all_on_at c.args.count c.args.what c.args.room.depth c.args.frames.now c.reach.new.frames c.heap_laws.ensures.each c.reach.result c.args.receiver c.in-Object.field-0 c.in-Object.is c.reach.ensures
+    all_on_at c.args.count c.args.what c.args.room.depth c.args.frames.now c.reach.new.frames c.heap_laws.ensures.each c.reach.result c.args.receiver
+    c.in-Object.field-0 c.in-Object.is c.reach.ensures

@@ -3,4 +3,5 @@ use Rattle.jcalls.proofs.calls.enter.Goals as goal
 
 pub returns-then-not-callee : goal.returns-then-not-callee
 returns-then-not-callee g c =
-    codeless c.args.count c.args.frames.now c.args.room.depth c.args.room.frames c.args.callee c.args.frames.now c.requires.room c.if-is_full.ensures c.if-not-callee.true
+    codeless c.args.count c.args.frames.now c.args.room.depth c.args.room.frames c.args.callee c.args.frames.now c.requires.room c.if-is_full.ensures
+    c.if-not-callee.true

@@ -16,4 +16,5 @@ returns-then-not-is_of g c =
 pub returns : goal.returns
 returns g c =
     let fits : is_of c.args.kind c.operand-value.result ≡ true = search rules in
-    all_number c.args.marks.now c.args.frames.now c.leave.new.frames c.leave.result c.args.kind c.operand-value.result c.requires.number c.operand-value.ensures fits c.leave.ensures
+    all_number c.args.marks.now c.args.frames.now c.leave.new.frames c.leave.result c.args.kind c.operand-value.result c.requires.number
+    c.operand-value.ensures fits c.leave.ensures

@@ -11,10 +11,14 @@ returns-then-count-lt1 g c =
 
 pub returns-then-not-is_reference : goal.returns-then-not-is_reference
 returns-then-not-is_reference g c =
-    let other : (things : Things) → AreCounted c.args.counts things → false ≡ is_reference things c.args.heap.now c.operand-value.result = λ things are. rw (← c.if-not-is_reference.true) (c.is_reference.ensures things are) in
-    reference_other c.heap_laws.ensures.each c.args.heap.now c.args.counts c.args.marks.now c.args.frames.now c.args.frames.now c.operand-value.result c.operand-value.ensures other
+    let other : (things : Things) → AreCounted c.args.counts things → false ≡ is_reference things c.args.heap.now c.operand-value.result =
+    λ things are. rw (← c.if-not-is_reference.true) (c.is_reference.ensures things are) in
+    reference_other c.heap_laws.ensures.each c.args.heap.now c.args.counts c.args.marks.now c.args.frames.now c.args.frames.now c.operand-value.result
+    c.operand-value.ensures other
 
 pub returns : goal.returns
 returns g c =
-    let fits : (things : Things) → AreCounted c.args.counts things → true ≡ is_reference things c.args.heap.now c.operand-value.result = λ things are. rw (← c.if-not-is_reference.false) (c.is_reference.ensures things are) in
-    all_references c.heap_laws.ensures.each c.args.heap.now c.args.counts c.args.marks.now c.args.frames.now c.leave.new.frames c.operand-value.result c.operand-value.ensures c.leave.result fits c.leave.ensures
+    let fits : (things : Things) → AreCounted c.args.counts things → true ≡ is_reference things c.args.heap.now c.operand-value.result =
+    λ things are. rw (← c.if-not-is_reference.false) (c.is_reference.ensures things are) in
+    all_references c.heap_laws.ensures.each c.args.heap.now c.args.counts c.args.marks.now c.args.frames.now c.leave.new.frames c.operand-value.result
+    c.operand-value.ensures c.leave.result fits c.leave.ensures

@@ -5,7 +5,8 @@ use Rattle.jcalls.proofs.Settling.{Reaches}
 use Rattle.jcalls.proofs.unwinding.settle.Given as goal
 
 abbrev pub invariant-loop-to : goal.invariant-loop-to
-invariant-loop-to g l = Reaches (g.H.Handlers.goes l.handlers) l.fn.frames l.frames × ((classes : ℕ) → Stand classes (all l.fn.frames) → Stand classes (all l.frames))
+invariant-loop-to g l =
+    Reaches (g.H.Handlers.goes l.handlers) l.fn.frames l.frames × ((classes : ℕ) → Stand classes (all l.fn.frames) → Stand classes (all l.frames))
 
 abbrev pub decreases-loop-to : goal.decreases-loop-to
 decreases-loop-to g l = length l.frames.below
