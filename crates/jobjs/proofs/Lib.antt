@@ -1,0 +1,5 @@
+pub mod Casting
+pub mod Getting
+pub mod News
+pub mod Served
+pub mod Statics

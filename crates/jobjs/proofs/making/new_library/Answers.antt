@@ -1,0 +1,11 @@
+use Rattle.jobjs.proofs.News.{library_row, new_stays}
+use Rattle.jobjs.proofs.making.new_library.Goals as goal
+
+pub returns-clause-row : goal.returns-clause-row
+returns-clause-row g c =
+    let made = rw (c.library_number.ensures, c.cells_of.ensures) at c.make_object.ensures in
+    library_row c.heap_laws.ensures.makes c.number_laws.ensures c.make_object.result c.args.class c.args.frames.now c.make_object.new.frames c.args.heap.now c.make_object.new.heap made c.requires.built
+
+pub returns-clause-built : goal.returns-clause-built
+returns-clause-built g c =
+    new_stays c.built_laws.ensures.made c.make_object.result c.library_number.result c.cells_of.result c.args.frames.now c.make_object.new.frames c.args.heap.now c.make_object.new.heap c.make_object.ensures c.requires.built

@@ -1,0 +1,49 @@
+-- What rows of instructions by an entry of the pool are told: whether the operands serve for what the entry wants.
+use Rattle.std.specs.Prelude.{◌≡◌, ℕ, zero, suc, Bool, List, [], ◌∷◌, Option, Some, is_some}
+use Rattle.jheap.specs.declared.cell.Kind.{Kind}
+use Rattle.jheap.specs.declared.cell.Kind.TheVariants as kinds
+use Rattle.jheap.specs.Heaps.{Heaped, kind_at}
+use Rattle.jops.specs.declared.value.Value.{Value}
+use Rattle.jops.specs.declared.value.Value.TheVariants.{Ref}
+use Rattle.jprogram.specs.declared.member.Member.{Member}
+use Rattle.jrule.specs.Effects.{Fits}
+use Rattle.jrule.specs.Uses.{exchange, throwable}
+use Rattle.jtypes.specs.declared.vtype.VType.{VType}
+use Rattle.juses.specs.Meanings.{Meaning}
+use Rattle.jmachine.specs.Making.{is_one}
+use Rattle.jmachine.specs.Operands.{taken, type_of}
+use Rattle.jmachine.specs.Sites.{Site}
+use Rattle.jmachine.specs.Store.{Store}
+use Rattle.jmachine.specs.World.{World}
+use Rattle.jobjs.specs.declared.casts.Named.{Named}
+use Rattle.jobjs.specs.declared.casts.Named.TheVariants as names
+use Rattle.jobjs.specs.declared.target.Target.{Target}
+use Rattle.jobjs.specs.declared.target.Target.TheVariants as targets
+
+-- the operands serve, or they don't
+abbrev pub Serve : Site → (Member → Bool) → Store ℕ → Meaning → List (Value ℕ) → Bool → Type 0
+Serve at own s m operands serve = is_some (taken at.world s (exchange own (at.world.named at.class) m).takes operands) ≡ serve
+
+-- what an operand is that is wanted to be an object of a class
+abbrev pub target_found : ℕ → Option Kind → Target
+target_found o (Some (kinds.Object n)) = targets.Object o n
+target_found o kind = targets.Other
+
+abbrev pub target_seen : Heaped → Option (Value ℕ) → Target
+target_seen h (Some (Ref zero)) = targets.Null
+target_seen h (Some (Ref (suc o))) = target_found (suc o) (kind_at h (suc o))
+target_seen h v = targets.Other
+
+-- what a reference names
+abbrev pub named_seen : Option (Value ℕ) → Named
+named_seen (Some (Ref zero)) = names.Null
+named_seen (Some (Ref (suc n))) = names.Object (suc n)
+named_seen v = names.Other
+
+-- Whether the object that an operand names is one of a type: this is asked where it isn't null.
+abbrev pub IsOne : World → Store ℕ → VType → Option (Value ℕ) → Bool → Type 0
+IsOne w s t operand answer = (n : ℕ) → operand ≡ Some (Ref (suc n)) → is_one w t (type_of w s (Ref (suc n))) ≡ answer
+
+-- what is thrown serves, or it doesn't
+abbrev pub ServeThrown : Site → Store ℕ → List (Value ℕ) → Bool → Type 0
+ServeThrown at s operands serve = is_some (taken at.world s (Fits throwable ∷ []) operands) ≡ serve

@@ -1,0 +1,90 @@
+ghost use Rattle.std.specs.Prelude.{◌≡◌, ◌<◌, ◌+◌, ◌^◌, [], ℕ, Bool, slice_get};
+ghost use Rattle.jcode.specs.declared.names.CastOp.TheVariants as ops;
+ghost use Rattle.jmachine.specs.Sites.{Site};
+ghost use Rattle.jmachine.specs.Store.{Store};
+ghost use Rattle.jprogram.specs.declared.member.Member.{Member};
+ghost use Rattle.jtypes.specs.declared.vtype.VType.{VType};
+ghost use Rattle.juses.specs.Instructions as instructions;
+ghost use Rattle.juses.specs.Meanings as meanings;
+ghost use Rattle.jacts.specs.Ways.{ActsWhere, leaves};
+ghost use Rattle.jobjs.specs.Serving.{IsOne, Serve, ServeThrown, named_seen};
+
+use jacts::{Way, way_laws};
+use jlib::{LibClass, Thrown};
+use jops::Value;
+use jstate::Frames;
+
+/// What the newest operand names.
+#[derive(Clone, Copy)]
+pub(crate) enum Named {
+    /// It is no reference, or isn't there.
+    Other,
+    Null,
+    Object(u32),
+}
+
+#[inline]
+fn named_at<M: Copy>(frames: &Frames<M>) -> Named
+    ensures { result ≡ named_seen (slice_get frames.now.newest.operands 0) }
+{
+    if frames.count() < 1 {
+        return Named::Other;
+    }
+    match frames.operand(0) {
+        Value::Int(_) => Named::Other,
+        Value::Long(_) => Named::Other,
+        Value::Ctx(_) => Named::Other,
+        Value::Ref(n) => {
+            if n == 0 {
+                return Named::Null;
+            }
+            Named::Object(n)
+        }
+    }
+}
+
+/// A cast of a reference (JVMS 6.5: checkcast). `serve` says that the operand serves, `is` that its object is one of the type.
+#[inline]
+pub fn check_cast<M: Copy>(frames: &mut Frames<M>, serve: bool, is: bool) -> Way
+    requires place { frames.old.newest.place + 1 < 2 ^ 32 }
+    ensures row { (t : VType) (s : Store ℕ) →
+        ActsWhere (λ (at : Site) (own : Member → Bool). Serve at own s (meanings.Cast ops.CheckCast t) frames.old.newest.operands serve
+        × IsOne at.world s t (slice_get frames.old.newest.operands 0) is)
+        (instructions.Used (meanings.Cast ops.CheckCast t)) frames.old.newest s (leaves result [] frames.new.newest s) }
+    ensures below { frames.new.below ≡ frames.old.below }
+{
+    way_laws::<M>();
+    if !serve {
+        return Way::Stuck;
+    }
+    match named_at(frames) {
+        Named::Other => Way::Stuck,
+        Named::Null => {
+            frames.go_on();
+            Way::Went
+        }
+        Named::Object(_) => {
+            if !is {
+                return Way::Raises(LibClass::Thrown(Thrown::ClassCastException));
+            }
+            frames.go_on();
+            Way::Went
+        }
+    }
+}
+
+/// Throws what an operand names (JVMS 6.5: athrow). `serve` says that the operand serves. Null raises an exception.
+#[inline]
+pub fn throw<M: Copy>(frames: &Frames<M>, serve: bool) -> Way
+    ensures row { (s : Store ℕ) →
+        ActsWhere (λ (at : Site) (own : Member → Bool). ServeThrown at s frames.now.newest.operands serve) instructions.Throw frames.now.newest s (leaves result [] frames.now.newest s) }
+{
+    if !serve {
+        return Way::Stuck;
+    }
+    match named_at(frames) {
+        Named::Other => Way::Stuck,
+        Named::Null => Way::Raises(LibClass::Thrown(Thrown::NullPointerException)),
+        Named::Object(n) => Way::Throws(n),
+    }
+}

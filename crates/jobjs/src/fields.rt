@@ -1,0 +1,165 @@
+ghost use Rattle.std.specs.Prelude.{◌≡◌, ◌<◌, ◌≤◌, ◌+◌, ◌^◌, ◌∷◌, [], ℕ, drop, List, Bool, length, option_map, slice_get, slice_set, is_some, true, IfOk, OnOk};
+ghost use Rattle.jcode.specs.declared.names.FieldOp.TheVariants as ops;
+ghost use Rattle.jheap.specs.declared.cell.CellType.{CellType as CellKind};
+ghost use Rattle.jheap.specs.Heaps.{cells_at, object_at, with_statics};
+ghost use Rattle.jheap.specs.Raw.{of_raw as raw_value, raw as raw_number, type_of};
+ghost use Rattle.jmachine.specs.Frames.{onward, standing};
+ghost use Rattle.jmachine.specs.Sites.{Site};
+ghost use Rattle.jprogram.specs.Classes.{Program};
+ghost use Rattle.jprogram.specs.declared.member.Member.{Member};
+ghost use Rattle.juses.specs.Instructions as instructions;
+ghost use Rattle.juses.specs.Meanings as meanings;
+ghost use Rattle.juses.specs.Meanings.{FieldMeaning};
+ghost use Rattle.jstate.specs.Seen.{Things, store_by};
+ghost use Rattle.jstate.specs.declared.shapes.Shapes.{Shapes};
+ghost use Rattle.jstate.specs.Framed.{with_newest};
+ghost use Rattle.jacts.specs.Ways.{ActsWhere, leaves};
+ghost use Rattle.jacts.specs.declared.way.Way.TheVariants as ways;
+ghost use Rattle.jobjs.specs.Fielded.{HoldsOnly, KeepsAs, StandsAt, StandsStatic};
+ghost use Rattle.jobjs.specs.Serving.{Serve};
+
+use crate::target::{Target, target_at};
+use jacts::{Way, narrowed, way_laws};
+use jheap::{CellType, Heap, raw_laws};
+use jlib::{LibClass, Thrown};
+use jops::Value;
+use jstate::{Frames, cell_laws, heap_laws};
+use juses::ElementRef;
+use std::alloc::AllocError;
+
+/// The value of a slot of an object that is there, where it has that cell.
+#[inline]
+fn slot_at(heap: &Heap, o: u32, slot: u32, of: CellType) -> Option<Value>
+    requires { is_some (object_at heap.now o) ≡ true }
+    ensures { result ≡ option_map (raw_value of) (slice_get (cells_at heap.now o) slot) }
+{
+    if slot >= heap.len(o) {
+        return None;
+    }
+    Some(heap.cell(o, slot, of))
+}
+
+/// The frame goes on behind its instruction with an operand in the place of its newest, which is there.
+#[inline]
+pub(crate) fn give_one<M: Copy>(frames: &mut Frames<M>, value: Value) -> Way
+    requires place { frames.old.newest.place + 1 < 2 ^ 32 }
+    requires few { 1 ≤ length frames.old.newest.operands }
+    ensures way { result ≡ ways.Went }
+    ensures frames { frames.new ≡ with_newest (standing frames.old.newest (frames.old.newest.place + 1) (value ∷ drop 1 frames.old.newest.operands)) frames.old }
+{
+    frames.replace(1, value);
+    frames.go_on();
+    Way::Went
+}
+
+/// The field of an object (JVMS 6.5: getfield), at its slot in a cell of a type. `serve` says that the operand serves.
+#[inline]
+pub fn get_field<M: Copy>(
+    frames: &mut Frames<M>,
+    heap: &Heap,
+    slot: u32,
+    of: CellType,
+    serve: bool,
+) -> Way
+    requires place { frames.old.newest.place + 1 < 2 ^ 32 }
+    ensures row { (p : Program) (shapes : Shapes) (things : Things) (constants : List (List ℕ × ℕ)) (f : FieldMeaning) →
+        let s = store_by p shapes things constants heap.now in
+        ActsWhere (λ (at : Site) (own : Member → Bool). Serve at own s (meanings.Field ops.GetField f) frames.old.newest.operands serve
+        × StandsAt at.world shapes heap.now f.member (slice_get frames.old.newest.operands 0) slot of)
+        (instructions.Used (meanings.Field ops.GetField f)) frames.old.newest s (leaves result [] frames.new.newest s) }
+    ensures below { frames.new.below ≡ frames.old.below }
+{
+    heap_laws();
+    cell_laws();
+    way_laws::<M>();
+    if !serve {
+        return Way::Stuck;
+    }
+    match target_at(frames, heap, 0) {
+        Target::Other => Way::Stuck,
+        Target::Null => Way::Raises(LibClass::Thrown(Thrown::NullPointerException)),
+        Target::Object(o, _) => match slot_at(heap, o, slot, of) {
+            None => Way::Stuck,
+            Some(value) => give_one(frames, value),
+        },
+    }
+}
+
+/// The frame goes on behind its instruction with one more operand.
+#[inline]
+pub(crate) fn push_one<M: Copy>(frames: &mut Frames<M>, value: Value) -> Result<Way, AllocError>
+    requires place { frames.old.newest.place + 1 < 2 ^ 32 }
+    ensures way { IfOk result (λ way. way ≡ ways.Went) }
+    ensures frames { OnOk result (frames.new ≡ with_newest (onward frames.old.newest (value ∷ [])) frames.old) }
+{
+    frames.push(value)?;
+    frames.go_on();
+    Ok(Way::Went)
+}
+
+/// A static field (JVMS 6.5: getstatic), at its slot in a cell of a type.
+#[inline]
+pub fn get_static<M: Copy>(
+    frames: &mut Frames<M>,
+    heap: &Heap,
+    slot: u32,
+    of: CellType,
+) -> Result<Way, AllocError>
+    requires place { frames.old.newest.place + 1 < 2 ^ 32 }
+    requires there { slot < length heap.now.statics }
+    ensures row { IfOk result (λ way. (p : Program) (shapes : Shapes) (things : Things) (constants : List (List ℕ × ℕ)) (f : FieldMeaning) →
+        let s = store_by p shapes things constants heap.now in
+        ActsWhere (λ (at : Site) (own : Member → Bool). StandsStatic at.world shapes f.member slot of)
+        (instructions.Used (meanings.Field ops.GetStatic f)) frames.old.newest s (leaves way [] frames.new.newest s)) }
+    ensures below { OnOk result (frames.new.below ≡ frames.old.below) }
+{
+    cell_laws();
+    way_laws::<M>();
+    push_one(frames, heap.static_at(slot, of))
+}
+
+/// Puts a value into a static that is there. The static gives it back.
+#[inline]
+fn keep_static(heap: &mut Heap, slot: u32, value: Value)
+    requires { slot < length heap.old.statics }
+    ensures heap { heap.new ≡ with_statics heap.old (slice_set heap.old.statics slot (raw_number value)) }
+    ensures back { raw_value (type_of value) (raw_number value) ≡ value }
+{
+    raw_laws();
+    heap.set_static(slot, value);
+}
+
+/// A write of a static field (JVMS 6.5: putstatic), at its slot. Of an int there stays what the field holds. `serve` says that the operand
+/// serves.
+#[inline]
+pub fn put_static<M: Copy>(
+    frames: &mut Frames<M>,
+    heap: &mut Heap,
+    slot: u32,
+    narrow: ElementRef,
+    serve: bool,
+) -> Way
+    requires place { frames.old.newest.place + 1 < 2 ^ 32 }
+    requires there { slot < length heap.old.statics }
+    ensures row { (p : Program) (shapes : Shapes) (things : Things) (constants : List (List ℕ × ℕ)) (f : FieldMeaning) (of : CellKind) →
+        let s = store_by p shapes things constants heap.old in
+        ActsWhere (λ (at : Site) (own : Member → Bool). Serve at own s (meanings.Field ops.PutStatic f) frames.old.newest.operands serve
+        × StandsStatic at.world shapes f.member slot of × KeepsAs p at.world f.member narrow × HoldsOnly at.world s f.held of)
+        (instructions.Used (meanings.Field ops.PutStatic f)) frames.old.newest s (leaves result [] frames.new.newest (store_by p shapes things constants heap.new)) }
+    ensures below { frames.new.below ≡ frames.old.below }
+    ensures objects { heap.new.objects ≡ heap.old.objects }
+{
+    heap_laws();
+    cell_laws();
+    way_laws::<M>();
+    if !serve {
+        return Way::Stuck;
+    }
+    if frames.count() < 1 {
+        return Way::Stuck;
+    }
+    keep_static(heap, slot, narrowed(narrow, frames.operand(0)));
+    frames.shrink(1);
+    frames.go_on();
+    Way::Went
+}

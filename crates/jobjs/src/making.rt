@@ -1,0 +1,180 @@
+ghost use Rattle.std.specs.Prelude.{◌≡◌, ◌<◌, ◌+◌, ◌^◌, ◌∷◌, [], ℕ, List, Bool, IfOk, OnOk, MatchOption};
+ghost use Rattle.jheap.specs.declared.cell.Kind.TheVariants as kinds;
+ghost use Rattle.jlib.specs.declared.classes.LibClass.TheVariants as lib;
+ghost use Rattle.jmachine.specs.Frames.{onward};
+ghost use Rattle.jmachine.specs.Sites.{Site};
+ghost use Rattle.jops.specs.declared.value.Value.TheVariants as values;
+ghost use Rattle.jprogram.specs.Classes.{Program};
+ghost use Rattle.jprogram.specs.declared.member.Member.{Member};
+ghost use Rattle.jprogram.specs.declared.part.ClassRef.TheVariants as refs;
+ghost use Rattle.jtypes.specs.declared.vtype.Name.{Name};
+ghost use Rattle.juses.specs.Instructions as instructions;
+ghost use Rattle.juses.specs.Meanings as meanings;
+ghost use Rattle.jstate.specs.Framed.{with_newest};
+ghost use Rattle.jstate.specs.Numbers;
+ghost use Rattle.jstate.specs.Seen.{AreBuilt, Things, store_by};
+ghost use Rattle.jstate.specs.declared.shapes.Shapes.{Shapes};
+ghost use Rattle.jacts.specs.Ways.{ActsWhere, leaves};
+ghost use Rattle.jacts.specs.declared.way.Way.TheVariants as ways;
+ghost use Rattle.jobjs.specs.Made;
+ghost use Rattle.jobjs.specs.Made.{HasNew};
+
+use crate::fields::push_one;
+use jacts::Way;
+use jheap::{Heap, Kind};
+use jlib::{LibClass, PermissionClass, Thrown};
+use jops::Value;
+use jstate::{Frames, built_laws, heap_laws, number_laws};
+use std::alloc::{AllocError, Global};
+
+// ---- the heap's numbers for classes of the library
+
+#[inline]
+fn thrown_number(c: Thrown) -> u32
+    ensures { result ≡ Numbers.thrown_number c }
+{
+    match c {
+        Thrown::Throwable => 0,
+        Thrown::Exception => 1,
+        Thrown::Error => 2,
+        Thrown::RuntimeException => 3,
+        Thrown::InterruptedException => 4,
+        Thrown::ArithmeticException => 5,
+        Thrown::NullPointerException => 6,
+        Thrown::ClassCastException => 7,
+        Thrown::NegativeArraySizeException => 8,
+        Thrown::ArrayStoreException => 9,
+        Thrown::IllegalArgumentException => 10,
+        Thrown::IllegalStateException => 11,
+        Thrown::IndexOutOfBoundsException => 12,
+        Thrown::SecurityException => 13,
+        Thrown::IllegalThreadStateException => 14,
+        Thrown::ArrayIndexOutOfBoundsException => 15,
+        Thrown::StringIndexOutOfBoundsException => 16,
+        Thrown::LinkageError => 17,
+        Thrown::VirtualMachineError => 18,
+        Thrown::IncompatibleClassChangeError => 19,
+        Thrown::AbstractMethodError => 20,
+        Thrown::IllegalAccessError => 21,
+        Thrown::StackOverflowError => 22,
+    }
+}
+
+#[inline]
+fn permission_number(c: PermissionClass) -> u32
+    ensures { result ≡ Numbers.permission_number c }
+{
+    match c {
+        PermissionClass::Permission => 23,
+        PermissionClass::BasicPermission => 24,
+        PermissionClass::AllPermission => 25,
+        PermissionClass::RuntimePermission => 26,
+        PermissionClass::SecurityPermission => 27,
+        PermissionClass::PropertyPermission => 28,
+        PermissionClass::FilePermission => 29,
+    }
+}
+
+#[inline]
+fn library_number(c: LibClass) -> u32
+    ensures { result ≡ Numbers.library_number c }
+{
+    match c {
+        LibClass::Thrown(c) => thrown_number(c),
+        LibClass::Permission(c) => permission_number(c),
+        LibClass::Object => 30,
+        LibClass::AccessControlException => 31,
+        LibClass::String => 32,
+        LibClass::StringBuilder => 33,
+        LibClass::System => 34,
+        LibClass::PrintStream => 35,
+        LibClass::Void => 36,
+        LibClass::Cloneable => 37,
+        LibClass::Serializable => 38,
+        LibClass::Runnable => 39,
+        LibClass::Thread => 40,
+        LibClass::PrivilegedAction => 41,
+        LibClass::AccessController => 42,
+        LibClass::AccessControlContext => 43,
+        LibClass::Rt => 44,
+        LibClass::Ctx => 45,
+    }
+}
+
+/// The cells of an object of the library's.
+#[inline]
+fn cells_of(c: LibClass) -> u32
+    ensures { result ≡ Made.cells_of c }
+{
+    match c {
+        LibClass::Thrown(_) => 1,
+        LibClass::Permission(_) => 1,
+        LibClass::Object => 0,
+        LibClass::AccessControlException => 1,
+        LibClass::String => 0,
+        LibClass::StringBuilder => 1,
+        LibClass::System => 0,
+        LibClass::PrintStream => 0,
+        LibClass::Void => 0,
+        LibClass::Cloneable => 0,
+        LibClass::Serializable => 0,
+        LibClass::Runnable => 0,
+        LibClass::Thread => 1,
+        LibClass::PrivilegedAction => 0,
+        LibClass::AccessController => 0,
+        LibClass::AccessControlContext => 1,
+        LibClass::Rt => 0,
+        LibClass::Ctx => 0,
+    }
+}
+
+// ---- new
+
+/// The reference of what was made is one more operand; where there were too few cells nothing changes.
+#[inline]
+fn push_made<M: Copy>(frames: &mut Frames<M>, made: Option<u32>) -> Result<Way, AllocError>
+    requires place { frames.old.newest.place + 1 < 2 ^ 32 }
+    ensures { IfOk result (λ way. MatchOption made ((way ≡ ways.Full) × (frames.new ≡ frames.old)) (λ o. (way ≡ ways.Went) × (frames.new ≡ with_newest (onward frames.old.newest (values.Ref o ∷ [])) frames.old))) }
+{
+    match made {
+        None => Ok(Way::Full),
+        Some(o) => push_one(frames, Value::Ref(o)),
+    }
+}
+
+#[inline]
+fn make_object<M: Copy>(
+    alloc: Global,
+    frames: &mut Frames<M>,
+    heap: &mut Heap,
+    number: u32,
+    count: u32,
+) -> Result<Way, AllocError>
+    requires place { frames.old.newest.place + 1 < 2 ^ 32 }
+    ensures { IfOk result (λ way. HasNew (kinds.Object number) count frames.old heap.old way frames.new heap.new) }
+{
+    let made = heap.make(alloc, Kind::Object(number), count)?;
+    push_made(frames, made)
+}
+
+/// A new object of a class of the library (JVMS 6.5: new), which holds nothing yet.
+#[inline]
+pub fn new_library<M: Copy>(
+    alloc: Global,
+    frames: &mut Frames<M>,
+    heap: &mut Heap,
+    class: LibClass,
+) -> Result<Way, AllocError>
+    requires place { frames.old.newest.place + 1 < 2 ^ 32 }
+    requires built { AreBuilt heap.old.objects }
+    ensures row { IfOk result (λ way. (p : Program) (shapes : Shapes) (things : Things) (constants : List (List ℕ × ℕ)) (c : Name) →
+        ActsWhere (λ (at : Site) (own : Member → Bool). at.world.class c ≡ Some (refs.Lib class)) (instructions.Used (meanings.Make c)) frames.old.newest
+        (store_by p shapes things constants heap.old) (leaves way [] frames.new.newest (store_by p shapes things constants heap.new))) }
+    ensures below { OnOk result (frames.new.below ≡ frames.old.below) }
+    ensures built { OnOk result (AreBuilt heap.new.objects) }
+{
+    heap_laws();
+    built_laws();
+    number_laws();
+    make_object(alloc, frames, heap, library_number(class), cells_of(class))
+}
