@@ -1,0 +1,32 @@
+-- What a step comes to behind a row: what the row left to do is done to the frames, of which it changed the newest.
+use Rattle.std.specs.Prelude.{◌≡◌, ℕ, List, [], ◌∷◌, Some, None, nat_le, if◌then◌else◌}
+use Rattle.jtrace.specs.declared.event.End.TheVariants.{HeapFull}
+use Rattle.jprogram.specs.Classes.{Program}
+use Rattle.juses.specs.Instructions.{Instruction}
+use Rattle.jmachine.specs.declared.plan.Plan.{Plan}
+use Rattle.jmachine.specs.Acts.{FrameOf, State, Outcome, Over, NoStep, two}
+use Rattle.jmachine.specs.Doing.{doing}
+use Rattle.jmachine.specs.Security.{Rules}
+use Rattle.jmachine.specs.Steps.{entries, fetched, own_fields, raised, site, step, thrown_at, went}
+use Rattle.jmachine.specs.Store.{paid}
+use Rattle.jmachine.specs.Unwinding.{with_raised}
+use Rattle.jacts.specs.declared.way.Way.{Way}
+use Rattle.jacts.specs.declared.way.Way.TheVariants as ways
+use Rattle.jacts.specs.Ways.{Comes, Left}
+
+module _ {E : Type 0} (r : Rules ℕ E) (p : Program) (plan : Plan) (s : State ℕ E) (below : List (FrameOf ℕ E)) where
+  -- An exception that the machine raises costs its cells; where they aren't there nothing changes.
+  abbrev pub behind : Way → Left E → Outcome (State ℕ E)
+  behind ways.Went l = went r p plan s (l.frame ∷ below) l.store l.told
+  behind (ways.Raises class) l =
+      if nat_le two s.store.left then raised r p plan s (l.frame ∷ below) l.told (with_raised (paid two l.store) class None) else Over s [] HeapFull
+  behind (ways.Throws n) l = thrown_at r p plan s (l.frame ∷ below) l.store [] n
+  behind ways.Full l = Over s [] HeapFull
+  behind ways.Stuck l = NoStep
+
+-- Where a row did what the instruction of the newest frame does, the step is what is made of what the row left.
+abbrev pub Follows : Type 0 → Type 0
+Follows E = (r : Rules ℕ E) (p : Program) (plan : Plan) (s : State ℕ E) (f : FrameOf ℕ E) (below : List (FrameOf ℕ E)) (i : Instruction) (l : Left E)
+    → s.running.frames ≡ f ∷ below → fetched p f.method f.place ≡ Some i
+    → Comes f s.store (doing r (site r p plan s f below) (own_fields p f.method) s.store (entries r p plan s (f ∷ below)) s.running.inherited i f) l
+    → step r p plan s ≡ behind r p plan s below l.way l
