@@ -2,6 +2,8 @@
 #![tactic(auto)]
 
 #[cfg(test)]
+mod linked;
+#[cfg(test)]
 mod meanings;
 #[cfg(test)]
 mod order;
