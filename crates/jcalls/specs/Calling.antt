@@ -155,28 +155,29 @@ IsByClass by = ⊥
 abbrev pub CallsOn : {E : Type 0} → Receiver → ℕ → Found E → (depth : ℕ) → Framed E → Called → Framed E → Type 0
 CallsOn {E} on count what depth f way g =
     (r : Rules ℕ E) (p : Program) (plan : Plan) (s : State ℕ E) (shapes : Shapes) (things : Things) (constants : List (List ℕ × ℕ))
-    (h : Heaped) (by : How) (c : CallMeaning) → IsByClass by → s.store ≡ store_by p shapes things constants h → on ≡ receiver_seen h
-    (receiver (take count f.newest.operands))
+    (h : Heaped) (by : How) (c : CallMeaning)
+    → IsByClass by → s.store ≡ store_by p shapes things constants h → on ≡ receiver_seen h (receiver (take count f.newest.operands))
     → plan.depth ≡ depth → Takes p s by c count f → IsFoundOn r.entry_of p f.newest.method.class by c what on
     → CalledAs r p plan s count f way g (executed r p plan s f.newest f.below (Some (Used (Call by c))))
 
--- the object's class has the interface, and what is selected may be called by it
+-- whether the object's class has the interface by which it is called
 abbrev pub IsOfInterface : Program → Store ℕ → CallMeaning → List (Value ℕ) → Bool → Type 0
 IsOfInterface p s c values has = (v : Value ℕ) (x : Object ℕ) → receiver values ≡ Some v → object_of s v ≡ Some x
     → is_instance (world p) (class_of (world p).named x) (types.Object c.owner) ≡ has
 
+-- whether what is selected isn't public
 abbrev pub IsHiddenOn : Program → CallMeaning → Receiver → Bool → Type 0
 IsHiddenOn p c (receivers.Object kind) hidden = is_hidden (world p) ((world p).select (id_by kind) c.member call_kinds.Interface) ≡ hidden
 IsHiddenOn p c on hidden = ⊤
 
+-- the same, by an interface
 abbrev pub CallsByInterface : {E : Type 0} → Receiver → ℕ → Found E → (has hidden : Bool) (depth : ℕ) → Framed E → Called → Framed E → Type 0
 CallsByInterface {E} on count what has hidden depth f way g =
-    (r : Rules ℕ E) (p : Program) (plan : Plan) (s : State ℕ E) (shapes : Shapes) (things : Things) (constants : List (List ℕ × ℕ)) (h : Heaped)
-    (c : CallMeaning)
+    (r : Rules ℕ E) (p : Program) (plan : Plan) (s : State ℕ E) (shapes : Shapes) (things : Things) (constants : List (List ℕ × ℕ))
+    (h : Heaped) (c : CallMeaning)
     → s.store ≡ store_by p shapes things constants h → on ≡ receiver_seen h (receiver (take count f.newest.operands)) → plan.depth ≡ depth
-    → Takes p s how.Interface c count f
-    → IsFoundOn r.entry_of p f.newest.method.class how.Interface c what on → IsOfInterface p s.store c (take count f.newest.operands) has
-    → IsHiddenOn p c on hidden
+    → Takes p s how.Interface c count f → IsFoundOn r.entry_of p f.newest.method.class how.Interface c what on
+    → IsOfInterface p s.store c (take count f.newest.operands) has → IsHiddenOn p c on hidden
     → CalledAs r p plan s count f way g (executed r p plan s f.newest f.below (Some (Used (Call how.Interface c))))
 
 -- what is selected is reached, as the definition has it

@@ -24,7 +24,7 @@ pub enum Raised {
     Uncaught,
 }
 
-/// Throws the object of a number (JVMS 2.10). Handlers are told of its type.
+/// Throws the object of a number (JVMS 2.10). `handlers` say where frames go on that handle its type.
 #[tactic(auto, using(crate::proofs::Throwing::handled_so, crate::proofs::Throwing::uncaught_so))]
 pub fn throw_object<M: Copy, H: Handlers>(
     frames: &mut Frames<M>,
@@ -43,7 +43,7 @@ pub fn throw_object<M: Copy, H: Handlers>(
 }
 
 /// Raises an exception of a class of the library, without a message: makes an object of the class, by the heap's number for it, and throws
-/// it. Handlers are told of its type.
+/// it. `handlers` say where frames go on that handle its type.
 pub fn raise<M: Copy, H: Handlers>(
     alloc: Global,
     frames: &mut Frames<M>,
