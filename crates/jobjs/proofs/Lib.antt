@@ -1,5 +1,6 @@
 pub mod Casting
 pub mod Getting
 pub mod News
+pub mod Putting
 pub mod Served
 pub mod Statics

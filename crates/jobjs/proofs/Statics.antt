@@ -48,6 +48,16 @@ users_static w s (members.Method m) h = refl
 users_static w s members.LibField h = cc
 users_static w s (members.LibMethod call) h = cc
 
+pub kept_type : (held : Option Element) (v : Value ℕ) → numbers.type_of (narrowed held v) ≡ numbers.type_of v
+kept_type None (Int x) = refl
+kept_type None (Long x) = refl
+kept_type None (Ref n) = refl
+kept_type None (Ctx k) = refl
+kept_type (Some e) (Int x) = refl
+kept_type (Some e) (Long x) = refl
+kept_type (Some e) (Ref n) = refl
+kept_type (Some e) (Ctx k) = refl
+
 module _ {E : Type 0} (f : FrameOf ℕ E) (h : Heaped) (slot : ℕ) (of : CellType) (p : Program) (shapes : Shapes) (things : Things) (constants : List (List ℕ × ℕ)) (m : FieldMeaning) where
   abbrev known : Store ℕ
   known = store_by p shapes things constants h
@@ -78,16 +88,6 @@ module _ {E : Type 0} (f : FrameOf ℕ E) (h : Heaped) (slot : ℕ) (of : CellTy
           → Comes f known (option_and_then (λ t. option_map (λ row. record { frame = with_operands f t.below; row = row }) (field at.world known ops.PutStatic m.member t.values)) (taken at.world known (Fits m.held ∷ []) xs)) (leaves ways.Stuck [] g known)
       by [] few told = cc
       by (x ∷ xs) few told = absurd (omega (arith, few))
-
-  kept_type : (held : Option Element) (v : Value ℕ) → numbers.type_of (narrowed held v) ≡ numbers.type_of v
-  kept_type None (Int x) = refl
-  kept_type None (Long x) = refl
-  kept_type None (Ref n) = refl
-  kept_type None (Ctx k) = refl
-  kept_type (Some e) (Int x) = refl
-  kept_type (Some e) (Long x) = refl
-  kept_type (Some e) (Ref n) = refl
-  kept_type (Some e) (Ctx k) = refl
 
   pub static_put : Reads → WritesStatic → GoesFree E → slot < length h.statics → (narrow : ElementRef) (v kept : Value ℕ) → Some v ≡ slice_get f.operands 0
       → kept ≡ narrowed (Some (element_named p narrow)) v → of_raw (numbers.type_of kept) (raw kept) ≡ kept

@@ -10,7 +10,7 @@ ghost use Rattle.jprogram.specs.declared.member.Member.{Member};
 ghost use Rattle.juses.specs.Instructions as instructions;
 ghost use Rattle.juses.specs.Meanings as meanings;
 ghost use Rattle.juses.specs.Meanings.{FieldMeaning};
-ghost use Rattle.jstate.specs.Seen.{Things, store_by};
+ghost use Rattle.jstate.specs.Seen.{AreBuilt, Things, store_by};
 ghost use Rattle.jstate.specs.declared.shapes.Shapes.{Shapes};
 ghost use Rattle.jstate.specs.Framed.{with_newest};
 ghost use Rattle.jacts.specs.Ways.{ActsWhere, leaves};
@@ -19,11 +19,11 @@ ghost use Rattle.jobjs.specs.Fielded.{HoldsOnly, KeepsAs, StandsAt, StandsStatic
 ghost use Rattle.jobjs.specs.Serving.{Serve};
 
 use crate::target::{Target, target_at};
-use jacts::{Way, narrowed, way_laws};
+use jacts::{Way, narrowed, put_cell, way_laws};
 use jheap::{CellType, Heap, raw_laws};
 use jlib::{LibClass, Thrown};
 use jops::Value;
-use jstate::{Frames, cell_laws, heap_laws};
+use jstate::{Frames, built_laws, cell_laws, heap_laws};
 use juses::ElementRef;
 use std::alloc::AllocError;
 
@@ -162,4 +162,50 @@ pub fn put_static<M: Copy>(
     frames.shrink(1);
     frames.go_on();
     Way::Went
+}
+
+/// A write of a field (JVMS 6.5: putfield), at its slot. Of an int there stays what the field holds. `serve` says that the operands serve.
+/// Null raises an exception.
+#[inline]
+pub fn put_field<M: Copy>(
+    frames: &mut Frames<M>,
+    heap: &mut Heap,
+    slot: u32,
+    narrow: ElementRef,
+    serve: bool,
+) -> Way
+    requires place { frames.old.newest.place + 1 < 2 ^ 32 }
+    ensures row { (p : Program) (shapes : Shapes) (things : Things) (constants : List (List ℕ × ℕ)) (f : FieldMeaning) (of : CellKind) →
+        let s = store_by p shapes things constants heap.old in
+        ActsWhere (λ (at : Site) (own : Member → Bool). Serve at own s (meanings.Field ops.PutField f) frames.old.newest.operands serve
+        × StandsAt at.world shapes heap.old f.member (slice_get frames.old.newest.operands 1) slot of × KeepsAs p at.world f.member narrow × HoldsOnly at.world s f.held of)
+        (instructions.Used (meanings.Field ops.PutField f)) frames.old.newest s (leaves result [] frames.new.newest (store_by p shapes things constants heap.new)) }
+    ensures below { frames.new.below ≡ frames.old.below }
+    ensures built { AreBuilt heap.old.objects → AreBuilt heap.new.objects }
+{
+    heap_laws();
+    cell_laws();
+    built_laws();
+    way_laws::<M>();
+    if !serve {
+        return Way::Stuck;
+    }
+    match target_at(frames, heap, 1) {
+        Target::Other => Way::Stuck,
+        Target::Null => Way::Raises(LibClass::Thrown(Thrown::NullPointerException)),
+        Target::Object(o, n) => {
+            // a class of the library
+            if n < 46 {
+                return Way::Stuck;
+            }
+            if slot >= heap.len(o) {
+                return Way::Stuck;
+            }
+            let value = narrowed(narrow, frames.operand(0));
+            put_cell(heap, o, slot, value);
+            frames.shrink(2);
+            frames.go_on();
+            Way::Went
+        }
+    }
 }

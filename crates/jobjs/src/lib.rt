@@ -7,5 +7,5 @@ mod making;
 mod target;
 
 pub use casts::{check_cast, throw};
-pub use fields::{get_field, get_static, put_static};
+pub use fields::{get_field, get_static, put_field, put_static};
 pub use making::new_library;
