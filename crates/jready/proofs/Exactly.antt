@@ -25,7 +25,8 @@ use Rattle.juses.specs.declared.meaning.How.{How}
 use Rattle.juses.specs.declared.types.ArrayRef.{ArrayRef}
 use Rattle.juses.specs.declared.types.TypeRef.{TypeRef}
 use Rattle.juses.specs.declared.types.TypeRef.TheVariants as numbers
-use Rattle.juses.specs.Meanings.{AClass, AConstant, AField, AMethod, Call, CallMeaning, EntryMeaning, Field, FieldMeaning, MakeArray, Meaning, array_made, array_meant, call_named, entry_meant, field_named, meant}
+use Rattle.juses.specs.Meanings.{AClass, AConstant, AField, AMethod, Call, CallMeaning, EntryMeaning, Field, FieldMeaning, MakeArray, Meaning, array_made}
+use Rattle.juses.specs.Meanings.{array_meant, call_named, entry_meant, field_named, meant}
 use Rattle.juses.specs.Tables.{pool_at}
 use Rattle.juses.specs.Typed.{array_over, typed}
 use Rattle.juses.specs.Types.{class_named, named}
@@ -34,10 +35,11 @@ use Rattle.jlayout.specs.Layout as layout
 use Rattle.jmachine.specs.Narrowing.{narrowed}
 use Rattle.jready.specs.declared.instr.Narrow.{Narrow}
 use Rattle.jready.specs.declared.tables.Tables.{Tables}
-use Rattle.jready.specs.Exact.{CallsLibrary, CallsUser, HoldsField, IsNumbered, MakesArray, cell_of, narrow}
+use Rattle.jready.specs.Exact.{ArrayMade, CallsLibrary, CallsUser, HoldsField, IsNumbered, MakesArray, cell_of, narrow}
 use Rattle.jready.specs.Only.{only_array, only_call, only_field, user_place}
 use Rattle.jready.specs.Numbers.{count_at, count_in, methods_before}
 use Rattle.jready.specs.Referred.{IsCalled, IsField, IsMethod, IsThere}
+use Rattle.jready.proofs.Back.{array_back}
 use Rattle.jready.proofs.Counting.{within}
 use Rattle.jready.proofs.Growing.{pair_first, pair_second, some_inj}
 use Rattle.jready.proofs.Referred.{ByField, field_is}
@@ -47,9 +49,6 @@ use Rattle.jready.proofs.Referred.{ByField, field_is}
 -- a field that is meant is the one that was found
 meant_field : (o : Option Meaning) (op : FieldOp) (f g : FieldMeaning) → Some g ≡ only_field o → o ≡ Some (Field op f) → g ≡ f
 meant_field o op f g is e = some_inj (is ∙ ap only_field e)
-
-pub no_field : {X : Type 0} (o : Option Meaning) (op : FieldOp) (f : FieldMeaning) → None ≡ only_field o → o ≡ Some (Field op f) → X
-no_field o op f none e = absurd cc (none ∙ ap only_field e)
 
 lib_only : (p : Program) (m : Member) (desc : List ℕ) → IsField p m desc → ((i j : ℕ) → m ≡ members.Field i j → ⊥) → m ≡ members.LibField
 lib_only p (members.Field i j) desc h other = absurd (other i j refl)
@@ -104,12 +103,15 @@ mapped_none : {A B X : Type 0} (f : A → B) (o : Option A) (x : A) → o ≡ So
 mapped_none f None x e none = absurd cc
 mapped_none f (Some y) x e none = absurd cc
 
-never_unplaced : {X : Type 0} (p : Program) (a j : ℕ) (c : ClassParts) (m : MemberInfo) → info_of p (members.Field a j) ≡ Some (c, m) → None ≡ layout.slot p (members.Field a j) → X
+never_unplaced : {X : Type 0} (p : Program) (a j : ℕ) (c : ClassParts) (m : MemberInfo) → info_of p (members.Field a j) ≡ Some (c, m)
+    → None ≡ layout.slot p (members.Field a j) → X
 unfolding layout.slot
-never_unplaced p a j c m there none = mapped_none (λ (one : ClassParts × MemberInfo). layout.place_among p a j one.0 one.1) (info_of p (members.Field a j)) (c, m) there none
+never_unplaced p a j c m there none = mapped_none (λ (one : ClassParts × MemberInfo). layout.place_among p a j one.0 one.1) (info_of p (members.Field a j))
+    (c, m) there none
 
 pub no_slot : {X : Type 0} (p : Program) (class i : ℕ) (op : FieldOp) (used : FieldUse) (a j : ℕ)
-    → Some (field_named p used) ≡ only_field (meant p (pool_at p class) (forms.Field op i)) → user_place used.member ≡ Some (a, j) → None ≡ layout.slot p (members.Field a j)
+    → Some (field_named p used) ≡ only_field (meant p (pool_at p class) (forms.Field op i)) → user_place used.member ≡ Some (a, j)
+    → None ≡ layout.slot p (members.Field a j)
     → (f : FieldMeaning) → meant p (pool_at p class) (forms.Field op i) ≡ Some (Field op f) → X
 no_slot p class i op used a j is placed none f e =
     let own : used.member ≡ members.Field a j = placed_at used.member a j placed in
@@ -119,7 +121,8 @@ no_slot p class i op used a j is placed none f e =
     never_unplaced p a j h.there.class h.there.info h.there.found none
 
 -- `System.out`
-pub exact_out : (p : Program) (class i : ℕ) (op : FieldOp) (used : FieldUse) → Some (field_named p used) ≡ only_field (meant p (pool_at p class) (forms.Field op i)) → None ≡ user_place used.member
+pub exact_out : (p : Program) (class i : ℕ) (op : FieldOp) (used : FieldUse)
+    → Some (field_named p used) ≡ only_field (meant p (pool_at p class) (forms.Field op i)) → None ≡ user_place used.member
     → (f : FieldMeaning) → meant p (pool_at p class) (forms.Field op i) ≡ Some (Field op f) → f.member ≡ members.LibField
 exact_out p class i op used is none f e =
     let same : field_named p used ≡ f = meant_field (meant p (pool_at p class) (forms.Field op i)) op f (field_named p used) is e in
@@ -127,28 +130,23 @@ exact_out p class i op used is none f e =
     let by = field_is p (pool_at p class) op i f e in
     lib_only p f.member by.desc by.member (λ a j at. cc (none ∙ ap user_place (sym member ∙ at)))
 
--- ---- what is meant is what was found
-
-pub by_only : {A : Type 0} (only : Option Meaning → Option A) (o : Option Meaning) (m : Meaning) (a b : A) → Some a ≡ only o → o ≡ Some m → only (Some m) ≡ Some b → b ≡ a
-by_only only o m a b is e gives = some_inj (sym gives ∙ sym (ap only e) ∙ sym is)
-
-pub none_only : {A X : Type 0} (only : Option Meaning → Option A) (o : Option Meaning) (m : Meaning) (b : A) → None ≡ only o → o ≡ Some m → only (Some m) ≡ Some b → X
-none_only only o m b none e gives = absurd cc (none ∙ ap only e ∙ gives)
-
 -- ---- calls
 
-method_in : (p : Program) (m : MethodId) (c : ClassParts) (one : MemberInfo) (part : CodePart) (o : Option MemberInfo) → slice_get p.parts m.class ≡ Some part → slice_get part.class.methods m.method ≡ o
+method_in : (p : Program) (m : MethodId) (c : ClassParts) (one : MemberInfo) (part : CodePart) (o : Option MemberInfo)
+    → slice_get p.parts m.class ≡ Some part → slice_get part.class.methods m.method ≡ o
     → option_map {U = ClassParts × MemberInfo} (λ (one : MemberInfo). (part.class, one)) o ≡ Some (c, one) → m.method < count_at p m.class
 method_in p m c one part None at own e = absurd cc
 method_in p m c one part (Some x) at own e = subst (λ (n : ℕ). m.method < n) (sym (ap count_in at)) (within part.class.methods m.method x own)
 
 member_there : (p : Program) (m : MethodId) (c : ClassParts) (one : MemberInfo) (o : Option CodePart) → slice_get p.parts m.class ≡ o
-    → option_and_then {U = ClassParts × MemberInfo} (λ (c : ClassParts). option_map {U = ClassParts × MemberInfo} (λ (one : MemberInfo). (c, one)) (slice_get c.methods m.method)) (option_map (λ (part : CodePart). part.class) o) ≡ Some (c, one)
+    → option_and_then {U = ClassParts × MemberInfo} (λ (c : ClassParts). option_map {U = ClassParts × MemberInfo} (λ (one : MemberInfo). (c, one))
+    (slice_get c.methods m.method)) (option_map (λ (part : CodePart). part.class) o) ≡ Some (c, one)
     → (m.class < length p.parts) × (m.method < count_at p m.class)
 member_there p m c one None at e = absurd cc
 member_there p m c one (Some part) at e = (within p.parts m.class part at, method_in p m c one part (slice_get part.class.methods m.method) at refl e)
 
-numbered : (p : Program) (m : MethodId) (desc : List ℕ) (k : ℕ) → IsThere p (members.Method m) desc → (m.class < length p.parts → m.method < count_at p m.class → k ≡ methods_before p m.class + m.method) → IsNumbered p k m
+numbered : (p : Program) (m : MethodId) (desc : List ℕ) (k : ℕ) → IsThere p (members.Method m) desc
+    → (m.class < length p.parts → m.method < count_at p m.class → k ≡ methods_before p m.class + m.method) → IsNumbered p k m
 numbered p m desc k h is =
     let t = member_there p m h.class h.info (slice_get p.parts m.class) refl h.found in
     record { class = t.0; method = t.1; number = is t.0 t.1 }
@@ -158,8 +156,10 @@ meant_call o w how c d is e =
     let both : ◌≡◌ {A = Option (How × CallMeaning)} (Some (w, c)) (Some (how, d)) = sym (ap only_call e) ∙ sym is in
     (pair_first How CallMeaning (w, c) (how, d) both, pair_second How CallMeaning (w, c) (how, d) both)
 
-pub exact_user : (p : Program) (types : List TypeRef) (o : Option Meaning) (how : How) (call : CallUse) (m : MethodId) (k : ℕ) → Some (how, call_named p types call) ≡ only_call o
-    → ((w : How) (c : CallMeaning) → o ≡ Some (Call w c) → IsCalled p c.member) → call.member ≡ members.Method m → (m.class < length p.parts → m.method < count_at p m.class → k ≡ methods_before p m.class + m.method)
+pub exact_user : (p : Program) (types : List TypeRef) (o : Option Meaning) (how : How) (call : CallUse) (m : MethodId) (k : ℕ)
+    → Some (how, call_named p types call) ≡ only_call o
+    → ((w : How) (c : CallMeaning) → o ≡ Some (Call w c) → IsCalled p c.member) → call.member ≡ members.Method m
+    → (m.class < length p.parts → m.method < count_at p m.class → k ≡ methods_before p m.class + m.method)
     → (w : How) (c : CallMeaning) → o ≡ Some (Call w c) → (w ≡ how) × CallsUser p types c call.params k
 exact_user p types o how call m k is by own number w c e =
     let same = meant_call o w how c (call_named p types call) is e in
@@ -168,14 +168,16 @@ exact_user p types o how call m k is by own number w c e =
     let there : IsThere p (members.Method m) one.desc = subst (λ (x : Member). IsMethod p x one.desc) member one.is in
     (same.0, record { taken = ap (λ (c : CallMeaning). c.params) same.1; method = m; member = member; number = numbered p m one.desc k there number })
 
-pub exact_library : (p : Program) (types : List TypeRef) (o : Option Meaning) (how : How) (call : CallUse) (lib : LibCall) → Some (how, call_named p types call) ≡ only_call o → call.member ≡ members.LibMethod lib
+pub exact_library : (p : Program) (types : List TypeRef) (o : Option Meaning) (how : How) (call : CallUse) (lib : LibCall)
+    → Some (how, call_named p types call) ≡ only_call o → call.member ≡ members.LibMethod lib
     → (w : How) (c : CallMeaning) → o ≡ Some (Call w c) → (w ≡ how) × CallsLibrary p types c call.params lib
 exact_library p types o how call lib is own w c e =
     let same = meant_call o w how c (call_named p types call) is e in
     (same.0, record { taken = ap (λ (c : CallMeaning). c.params) same.1; member = ap (λ (c : CallMeaning). c.member) same.1 ∙ own })
 
 -- a field isn't called
-pub exact_never : (p : Program) (types : List TypeRef) (o : Option Meaning) (how : How) (call : CallUse) → Some (how, call_named p types call) ≡ only_call o → ((w : How) (c : CallMeaning) → o ≡ Some (Call w c) → IsCalled p c.member)
+pub exact_never : (p : Program) (types : List TypeRef) (o : Option Meaning) (how : How) (call : CallUse) → Some (how, call_named p types call) ≡ only_call o
+    → ((w : How) (c : CallMeaning) → o ≡ Some (Call w c) → IsCalled p c.member)
     → ((desc : List ℕ) → IsMethod p call.member desc → ⊥) → (w : How) (c : CallMeaning) → o ≡ Some (Call w c) → ⊥
 exact_never p types o how call is by none w c e =
     let same = meant_call o w how c (call_named p types call) is e in
@@ -216,7 +218,8 @@ array_meaning : (p : Program) (pool : List Entry) (i : ℕ) (v : VType) → arra
 unfolding array_meant
 array_meaning p pool i v e = array_entry (entry_meant p pool (slice_get pool i)) v e
 
-makes : (p : Program) (t : Tables) (k : ℕ) (v : VType) (x : ArrayType) (r : TypeRef) → v ≡ types.Array x → named p r ≡ v → ((a : ArrayRef) → r ≡ numbers.Array a → slice_get t.arrays k ≡ Some a) → MakesArray p t v k
+makes : (p : Program) (t : Tables) (k : ℕ) (v : VType) (x : ArrayType) (r : TypeRef) → v ≡ types.Array x → named p r ≡ v
+    → ((a : ArrayRef) → r ≡ numbers.Array a → slice_get t.arrays k ≡ Some a) → MakesArray p t v k
 makes p t k v x numbers.Top is e there = absurd cc (e ∙ is)
 makes p t k v x numbers.Int is e there = absurd cc (e ∙ is)
 makes p t k v x numbers.Long is e there = absurd cc (e ∙ is)
@@ -227,10 +230,9 @@ makes p t k v x (numbers.Object c) is e there = absurd cc (e ∙ is)
 makes p t k v x (numbers.Array a) is e there = record { array = a; there = there a refl; type = sym e }
 makes p t k v x numbers.Ctx is e there = absurd cc (e ∙ is)
 
-made_by : (p : Program) (t : Tables) (k : ℕ) (v : VType) (x : ArrayType) (o : Option TypeRef) → v ≡ types.Array x → option_map (named p) o ≡ Some v → ((a : ArrayRef) → o ≡ Some (numbers.Array a) → slice_get t.arrays k ≡ Some a) → MakesArray p t v k
-made_by p t k v x None is e there = absurd cc
-made_by p t k v x (Some r) is e there = makes p t k v x r is (some_inj e) (λ a same. there a (ap (λ (r : TypeRef). Some r) same))
-
-pub exact_array : (p : Program) (pool : List Entry) (i : ℕ) (t : Tables) (o : Option TypeRef) (k : ℕ) → option_map (named p) o ≡ only_array (array_meant p pool i) → ((a : ArrayRef) → o ≡ Some (numbers.Array a) → slice_get t.arrays k ≡ Some a)
-    → (v : VType) → array_meant p pool i ≡ Some (MakeArray v) → MakesArray p t v k
-exact_array p pool i t o k is there v e = let array = array_meaning p pool i v e in made_by p t k v array.array o array.is (is ∙ ap only_array e) there
+pub array_made_so : (p : Program) (pool : List Entry) (i : ℕ) (t : Tables) (r : TypeRef) (k : ℕ) → Some (named p r) ≡ only_array (array_meant p pool i)
+    → ((a : ArrayRef) → r ≡ numbers.Array a → slice_get t.arrays k ≡ Some a) → ArrayMade p pool t i k
+array_made_so p pool i t r k is there =
+    let e = array_back (array_meant p pool i) (named p r) is in
+    let array = array_meaning p pool i (named p r) e in
+    record { type = named p r; means = e; makes = makes p t k (named p r) array.array r array.is refl there }

@@ -1,5 +1,6 @@
 -- What stood for something in tables stands for the same when they have grown.
-use Rattle.std.proofs.Common.{◌≡◌, ℕ, zero, suc, ◌+◌, ◌<◌, ◌≤◌, ◌⊎◌, inl, inr, Bool, List, [], ◌∷◌, ◌++◌, length, take, drop, map, Option, Some, refl, sym, ap, subst, ◌∙◌, arith}
+use Rattle.std.proofs.Common.{◌≡◌, ℕ, zero, suc, ◌+◌, ◌<◌, ◌≤◌, ◌⊎◌, inl, inr, Bool, List, [], ◌∷◌, ◌++◌, length, take, drop, map, Option, Some, refl, sym}
+use Rattle.std.proofs.Common.{ap, subst, ◌∙◌, arith}
 use Rattle.std.specs.Prelude.{nat_lt, option_map, slice_get}
 use Rattle.std.proofs.lemmas.Bool.{cases_lt}
 use Rattle.std.proofs.lemmas.List.{drop-append-le, drop_at, length-append, length-drop, take-append-le, take_all}
@@ -139,7 +140,8 @@ push_more p pool t u g (push.Text i) h = refl
 table_more : (t u : Tables) → Grown t u → (c : Table) → (c.first + 1) + c.count ≤ length t.targets → table_meant u c ≡ table_meant t c
 table_more t u g c h =
     let head : slice_get u.targets c.first ≡ slice_get t.targets c.first = get_grown t.targets u.targets c.first g.targets (omega arith) in
-    let rest : part u.targets (c.first + 1) c.count ≡ part t.targets (c.first + 1) c.count = part_grown t.targets u.targets (c.first + 1) c.count g.targets h in
+    let rest : part u.targets (c.first + 1) c.count ≡ part t.targets (c.first + 1) c.count =
+    part_grown t.targets u.targets (c.first + 1) c.count g.targets h in
     ap (option_map (Switch (keys_from c.low (part u.targets (c.first + 1) c.count)))) head
     ∙ ap (λ (l : List ℕ). option_map (Switch (keys_from c.low l)) (slice_get t.targets c.first)) rest
 
@@ -152,7 +154,8 @@ meant_grown p t u class g (instr.Local f) h = refl
 meant_grown p t u class g (instr.Stack f) h = refl
 meant_grown p t u class g (instr.Flow f) h = refl
 meant_grown p t u class g (instr.Table c) h = table_more t u g c h
-meant_grown p t u class g (instr.Lookup c) h = ap (λ (l : List Key). Some (Switch (map keyed_as l) c.other)) (part_grown t.keys u.keys c.first c.count g.keys h)
+meant_grown p t u class g (instr.Lookup c) h = ap (λ (l : List Key). Some (Switch (map keyed_as l) c.other))
+    (part_grown t.keys u.keys c.first c.count g.keys h)
 meant_grown p t u class g (instr.Array f) h = refl
 meant_grown p t u class g (instr.Object f) h = refl
 meant_grown p t u class g (instr.Field op cell narrow i declared field) h = refl
@@ -161,12 +164,22 @@ meant_grown p t u class g (instr.Library how i params call) h = refl
 
 -- ---- what they hold
 
-object_exact : (p : Program) (types : List TypeRef) (t u : Tables) (class : ℕ) → Grown t u → (f : ObjectInstr) → ExactObject p types t class f → ExactObject p types u class f
+object_exact : (p : Program) (types : List TypeRef) (t u : Tables) (class : ℕ) → Grown t u → (f : ObjectInstr) → ExactObject p types t class f
+    → ExactObject p types u class f
 object_exact p types t u class g (object.New i c) h = h
 object_exact p types t u class g (object.NewLibrary i c) h = h
-object_exact p types t u class g (object.NewArray i k) h = λ v e.
-    let made = h v e in
-    record { array = made.array; there = get_grown t.arrays u.arrays k g.arrays (got t.arrays k made.array made.there) ∙ made.there; type = made.type }
+object_exact p types t u class g (object.NewArray i k) h =
+    let made = h.makes in
+    record {
+      type = h.type;
+      means = h.means;
+      makes = record {
+        array = made.array;
+        there = get_grown t.arrays u.arrays k g.arrays (got t.arrays k made.array made.there)
+            ∙ made.there;
+        type = made.type;
+      };
+    }
 object_exact p types t u class g (object.CastClass op i c) h = h
 object_exact p types t u class g (object.Cast op i) h = h
 object_exact p types t u class g (object.Out op i) h = h
@@ -188,13 +201,21 @@ exact_grown p types t u class g (instr.Library how i params call) h = h
 
 -- ---- the instructions of a method
 
-stands_grown : (p : Program) (types : List TypeRef) (t u : Tables) (class : ℕ) (ops : List Placed) (more : Bool) (one : Placed) (i : Instr) → Grown t u → Stands p types t class ops more one i → Stands p types u class ops more one i
-stands_grown p types t u class ops more one i g h = record { means = meant_grown p t u class g i h.within ∙ h.means; within = within_grown t u g i h.within; exact = exact_grown p types t u class g i h.exact }
+stands_grown : (p : Program) (types : List TypeRef) (t u : Tables) (class : ℕ) (ops : List Placed) (more : Bool) (one : Placed) (i : Instr) → Grown t u
+    → Stands p types t class ops more one i → Stands p types u class ops more one i
+stands_grown p types t u class ops more one i g h = record {
+  means = meant_grown p t u class g i h.within
+      ∙ h.means;
+  within = within_grown t u g i h.within;
+  exact = exact_grown p types t u class g i h.exact;
+}
 
-pub laid_none : (p : Program) (types : List TypeRef) (t : Tables) (class : ℕ) (ops : List Placed) (code : List Instr) → AreLaid p types t class ops code (length code) 0
+pub laid_none : (p : Program) (types : List TypeRef) (t : Tables) (class : ℕ) (ops : List Placed) (code : List Instr)
+    → AreLaid p types t class ops code (length code) 0
 laid_none p types t class ops code = record { there = omega arith; each = λ j one i lt at is. absurd (omega arith) }
 
-pub laid_grown : (p : Program) (types : List TypeRef) (t u : Tables) (class : ℕ) (ops : List Placed) (code more : List Instr) (first count : ℕ) → Grown t u → Grows code more → AreLaid p types t class ops code first count → AreLaid p types u class ops more first count
+pub laid_grown : (p : Program) (types : List TypeRef) (t u : Tables) (class : ℕ) (ops : List Placed) (code more : List Instr) (first count : ℕ) → Grown t u
+    → Grows code more → AreLaid p types t class ops code first count → AreLaid p types u class ops more first count
 laid_grown p types t u class ops code more first count g grows h = record {
   there = there_grown code more (first + count) grows h.there;
   each = λ j one i lt at is. stands_grown p types t u class ops (nat_lt (j + 1) (length ops)) one i g
@@ -202,8 +223,10 @@ laid_grown p types t u class ops code more first count g grows h = record {
 }
 
 -- one more of them
-pub laid_more : (p : Program) (types : List TypeRef) (t u : Tables) (class : ℕ) (ops : List Placed) (code : List Instr) (first j : ℕ) (one : Placed) (i : Instr) → Grown t u → length code ≡ first + j → slice_get ops j ≡ Some one
-    → Stands p types u class ops (nat_lt (j + 1) (length ops)) one i → AreLaid p types t class ops code first j → AreLaid p types u class ops (code ++ i ∷ []) first (j + 1)
+pub laid_more : (p : Program) (types : List TypeRef) (t u : Tables) (class : ℕ) (ops : List Placed) (code : List Instr) (first j : ℕ) (one : Placed)
+    (i : Instr) → Grown t u → length code ≡ first + j → slice_get ops j ≡ Some one
+    → Stands p types u class ops (nat_lt (j + 1) (length ops)) one i → AreLaid p types t class ops code first j
+    → AreLaid p types u class ops (code ++ i ∷ []) first (j + 1)
 laid_more p types t u class ops code first j one i g len here stands h = record {
   there = let e = length-append code (i ∷ []) in omega arith;
   each = λ k other x lt at is. elim (under k j (omega arith)) [

@@ -26,11 +26,13 @@ step ops h r true false f g to e rest = absurd cc
 step ops h r false true f g to e rest = absurd cc
 step ops h r false false f g to e rest = rest
 
-pub handled_is : (p : Program) (pool : List Entry) (thrown : VType) (ops : List Placed) (i : ℕ) (one : Placed) → slice_get ops i ≡ Some one → (handlers : List Handler) (rows : List HandlerRow)
+pub handled_is : (p : Program) (pool : List Entry) (thrown : VType) (ops : List Placed) (i : ℕ) (one : Placed) → slice_get ops i ≡ Some one
+    → (handlers : List Handler) (rows : List HandlerRow)
     → AreHandlers ops handlers rows → handled p pool thrown i rows ≡ option_and_then (λ h. number_at ops h.at) (find (takes p pool thrown one.at) handlers)
 handled_is p pool thrown ops i one at [] [] all = refl
 handled_is p pool thrown ops i one at [] (r ∷ rows) all = absurd all
 handled_is p pool thrown ops i one at (h ∷ handlers) [] all = absurd all
 handled_is p pool thrown ops i one at (h ∷ handlers) (r ∷ rows) all =
-    step ops h r (row_takes p pool thrown i r) (takes p pool thrown one.at h) (find (row_takes p pool thrown i) rows) (find (takes p pool thrown one.at) handlers)
+    step ops h r (row_takes p pool thrown i r) (takes p pool thrown one.at h) (find (row_takes p pool thrown i) rows)
+    (find (takes p pool thrown one.at) handlers)
     all.0.to (same_test p pool thrown ops i one h r at all.0) (handled_is p pool thrown ops i one at handlers rows all.1)

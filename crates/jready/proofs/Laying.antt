@@ -15,9 +15,13 @@ use Rattle.jready.specs.Tabled.{Grown}
 use Rattle.jready.proofs.Counting.{at_index}
 use Rattle.jready.proofs.Growing.{laid_more}
 
-pub laid_step : (p : Program) (types : List TypeRef) (t u : Tables) (class : ℕ) (ops : List Placed) (code new : List Instr) (first i : ℕ) (one : Placed) (found made : Instr) (more : Bool)
-    → AreLaid p types t class ops code first i → length code ≡ first + i → i < length ops → one ≡ get_or ops i one → Grown t u → meant p u class found ≡ instruction p (pool_at p class) ops one → Within u found
-    → meant p u class made ≡ followed more (meant p u class found) → (Within u found → Within u made) → Exact p types u class found → (Exact p types u class found → Exact p types u class made) → more ≡ nat_lt (i + 1) (length ops) → new ≡ code ++ made ∷ [] → AreLaid p types u class ops new first (i + 1)
+pub laid_step : (p : Program) (types : List TypeRef) (t u : Tables) (class : ℕ) (ops : List Placed) (code new : List Instr) (first i : ℕ) (one : Placed)
+    (found made : Instr) (more : Bool)
+    → AreLaid p types t class ops code first i → length code ≡ first + i → i < length ops → one ≡ get_or ops i one → Grown t u
+    → meant p u class found ≡ instruction p (pool_at p class) ops one → Within u found
+    → meant p u class made ≡ followed more (meant p u class found) → (Within u found → Within u made) → Exact p types u class found
+    → (Exact p types u class found → Exact p types u class made) → more ≡ nat_lt (i + 1) (length ops) → new ≡ code ++ made ∷ []
+    → AreLaid p types u class ops new first (i + 1)
 laid_step p types t u class ops code new first i one found made more laid len lt is g means within kept still exact holds last put =
     let at : slice_get ops i ≡ Some one = at_index ops i one lt is in
     let stands : meant p u class made ≡ followed (nat_lt (i + 1) (length ops)) (instruction p (pool_at p class) ops one)

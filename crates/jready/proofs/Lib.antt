@@ -10,6 +10,7 @@ pub mod Numbering
 pub mod Switching
 pub mod Laying
 pub mod Referred
+pub mod Back
 pub mod Exactly
 pub mod Calling
 pub mod Narrowed

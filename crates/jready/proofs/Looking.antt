@@ -1,5 +1,6 @@
 -- What is looked up in a program that is ready.
-use Rattle.std.proofs.Common.{◌≡◌, ℕ, zero, suc, ◌+◌, ◌^◌, ◌<◌, ◌≤◌, ◌⊎◌, inl, inr, List, [], ◌∷◌, length, Option, Some, None, refl, sym, ap, subst, ◌∙◌, arith}
+use Rattle.std.proofs.Common.{◌≡◌, ℕ, zero, suc, ◌+◌, ◌^◌, ◌<◌, ◌≤◌, ◌⊎◌, inl, inr, List, [], ◌∷◌, length, Option, Some, None, refl, sym, ap, subst, ◌∙◌}
+use Rattle.std.proofs.Common.{arith}
 use Rattle.std.specs.Prelude.{nat_lt, option_and_then, option_map, slice_get, slice_index_or}
 use Rattle.std.proofs.lemmas.Bool.{cases_lt}
 use Rattle.jcode.specs.declared.op.Placed.{Placed}
@@ -20,7 +21,7 @@ use Rattle.jready.specs.declared.instr.Instr.TheVariants as instr
 use Rattle.jready.specs.declared.methods.MethodRow.{MethodRow}
 use Rattle.jready.specs.declared.tables.Tables.{Tables}
 use Rattle.jready.specs.Handling.{handled}
-use Rattle.jready.specs.Exact.{Exact}
+use Rattle.jready.specs.Exact.{Exact, IsNumbered}
 use Rattle.jready.specs.Laid.{Within, followed}
 use Rattle.jready.specs.Meant.{meant}
 use Rattle.jready.specs.Methods.{Has, IsBody, IsMethod}
@@ -60,44 +61,55 @@ off_means p t class i is = ap (meant p t class) is
 either : (i n : ℕ) → i ≤ n → (i < n) ⊎ (i ≡ n)
 either i n le = elim (cases_lt i n) [ inl less ↦ inl less | inr more ↦ inr (omega arith) ]
 
-fetches_body : (p : Program) (types : List TypeRef) (t : Tables) (code : List Instr) (handlers : List HandlerRow) (r : MethodRow) (place : ℕ) (i : Instr) (body : CodeBody) → code_at p r.id ≡ Some body → IsBody p types t code handlers r body
-    → slice_get code (r.first + r.count) ≡ Some instr.Off → place ≤ r.count → slice_get code (r.first + place) ≡ Some i → meant p t r.id.class i ≡ fetched p r.id place
+fetches_body : (p : Program) (types : List TypeRef) (t : Tables) (code : List Instr) (handlers : List HandlerRow) (r : MethodRow) (place : ℕ) (i : Instr)
+    (body : CodeBody) → code_at p r.id ≡ Some body → IsBody p types t code handlers r body
+    → slice_get code (r.first + r.count) ≡ Some instr.Off → place ≤ r.count → slice_get code (r.first + place) ≡ Some i
+    → meant p t r.id.class i ≡ fetched p r.id place
 fetches_body p types t code handlers r place i body some is off le at = elim (either place r.count le) [
   | inl less ↦
       let one = there body.ops place (let n = is.count in omega arith) in
       (is.laid.each place one.item i less one.at at).means
-      ∙ sym (fetched_at p r.id place body some ∙ ap (option_and_then (λ (one : Placed). followed (nat_lt (place + 1) (length body.ops)) (instruction p (pool_at p r.id.class) body.ops one))) one.at)
+      ∙ sym (fetched_at p r.id place body some ∙ ap (option_and_then
+      (λ (one : Placed). followed (nat_lt (place + 1) (length body.ops)) (instruction p (pool_at p r.id.class) body.ops one))) one.at)
   | inr same ↦
       let is_off : i ≡ instr.Off = some_inj (sym at ∙ ap (λ (n : ℕ). slice_get code (r.first + n)) same ∙ off) in
       let none : slice_get body.ops place ≡ None = past_end body.ops place (let n = is.count in omega arith) in
       off_means p t r.id.class i is_off
-      ∙ sym (fetched_at p r.id place body some ∙ ap (option_and_then (λ (one : Placed). followed (nat_lt (place + 1) (length body.ops)) (instruction p (pool_at p r.id.class) body.ops one))) none)
+      ∙ sym (fetched_at p r.id place body some ∙ ap (option_and_then
+      (λ (one : Placed). followed (nat_lt (place + 1) (length body.ops)) (instruction p (pool_at p r.id.class) body.ops one))) none)
 ]
 
-fetches_by : (p : Program) (types : List TypeRef) (t : Tables) (code : List Instr) (handlers : List HandlerRow) (r : MethodRow) (place : ℕ) (i : Instr) (o : Option CodeBody) → code_at p r.id ≡ o → Has p types t code handlers r o
-    → slice_get code (r.first + r.count) ≡ Some instr.Off → place ≤ r.count → slice_get code (r.first + place) ≡ Some i → meant p t r.id.class i ≡ fetched p r.id place
+fetches_by : (p : Program) (types : List TypeRef) (t : Tables) (code : List Instr) (handlers : List HandlerRow) (r : MethodRow) (place : ℕ) (i : Instr)
+    (o : Option CodeBody) → code_at p r.id ≡ o → Has p types t code handlers r o
+    → slice_get code (r.first + r.count) ≡ Some instr.Off → place ≤ r.count → slice_get code (r.first + place) ≡ Some i
+    → meant p t r.id.class i ≡ fetched p r.id place
 fetches_by p types t code handlers r place i None none is off le at =
     let same : place ≡ r.count = let n = is.count in omega arith in
     let is_off : i ≡ instr.Off = some_inj (sym at ∙ ap (λ (n : ℕ). slice_get code (r.first + n)) same ∙ off) in
     off_means p t r.id.class i is_off ∙ sym (fetched_none p r.id place none)
 fetches_by p types t code handlers r place i (Some body) some is off le at = fetches_body p types t code handlers r place i body some is off le at
 
-pub fetches : (p : Program) (types : List TypeRef) (t : Tables) (code : List Instr) (handlers : List HandlerRow) (r : MethodRow) (place : ℕ) (i : Instr) → IsMethod p types t code handlers r → place ≤ r.count → slice_get code (r.first + place) ≡ Some i
+pub fetches : (p : Program) (types : List TypeRef) (t : Tables) (code : List Instr) (handlers : List HandlerRow) (r : MethodRow) (place : ℕ) (i : Instr)
+    → IsMethod p types t code handlers r → place ≤ r.count → slice_get code (r.first + place) ≡ Some i
     → meant p t r.id.class i ≡ fetched p r.id place
 fetches p types t code handlers r place i is le at = fetches_by p types t code handlers r place i (code_at p r.id) refl is.holds is.off le at
 
 -- ---- handlers
 
-handler_part : (p : Program) (thrown : VType) (m i : ℕ) (o : Option CodePart) → option_and_then (λ c. option_and_then (handler_in p thrown i c) (body_in c m)) (option_map (λ part. part.class) o)
-    ≡ option_and_then (λ body. option_and_then (handler_from p (pool_in o) thrown body) (slice_get body.ops i)) (option_and_then (λ c. body_in c m) (option_map (λ part. part.class) o))
+handler_part : (p : Program) (thrown : VType) (m i : ℕ) (o : Option CodePart)
+    → option_and_then (λ c. option_and_then (handler_in p thrown i c) (body_in c m)) (option_map (λ part. part.class) o)
+    ≡ option_and_then (λ body. option_and_then (handler_from p (pool_in o) thrown body) (slice_get body.ops i))
+    (option_and_then (λ c. body_in c m) (option_map (λ part. part.class) o))
 handler_part p thrown m i None = refl
 handler_part p thrown m i (Some part) = refl
 
-handler_is : (p : Program) (thrown : VType) (m : MethodId) (i : ℕ) → handler_at p thrown m i ≡ option_and_then (λ body. option_and_then (handler_from p (pool_at p m.class) thrown body) (slice_get body.ops i)) (code_at p m)
+handler_is : (p : Program) (thrown : VType) (m : MethodId) (i : ℕ)
+    → handler_at p thrown m i ≡ option_and_then (λ body. option_and_then (handler_from p (pool_at p m.class) thrown body) (slice_get body.ops i)) (code_at p m)
 unfolding handler_at
 handler_is p thrown m i = handler_part p thrown m.method i (slice_get p.parts m.class)
 
-handles_by : (p : Program) (types : List TypeRef) (t : Tables) (code : List Instr) (handlers : List HandlerRow) (r : MethodRow) (thrown : VType) (place : ℕ) (o : Option CodeBody) → code_at p r.id ≡ o → Has p types t code handlers r o → place < r.count
+handles_by : (p : Program) (types : List TypeRef) (t : Tables) (code : List Instr) (handlers : List HandlerRow) (r : MethodRow) (thrown : VType) (place : ℕ)
+    (o : Option CodeBody) → code_at p r.id ≡ o → Has p types t code handlers r o → place < r.count
     → handler_at p thrown r.id place ≡ handled p (pool_at p r.id.class) thrown place (part handlers r.handlers.first r.handlers.count)
 handles_by p types t code handlers r thrown place None none is lt = absurd (let n = is.count in omega arith)
 handles_by p types t code handlers r thrown place (Some body) some is lt =
@@ -105,26 +117,33 @@ handles_by p types t code handlers r thrown place (Some body) some is lt =
     handler_is p thrown r.id place
     ∙ ap (option_and_then (λ (body : CodeBody). option_and_then (handler_from p (pool_at p r.id.class) thrown body) (slice_get body.ops place))) some
     ∙ ap (option_and_then (handler_from p (pool_at p r.id.class) thrown body)) one.at
-    ∙ sym (handled_is p (pool_at p r.id.class) thrown body.ops place one.item one.at body.handlers (part handlers r.handlers.first r.handlers.count) is.handles)
+    ∙ sym (handled_is p (pool_at p r.id.class) thrown body.ops place one.item one.at body.handlers
+    (part handlers r.handlers.first r.handlers.count) is.handles)
 
-pub handles : (p : Program) (types : List TypeRef) (t : Tables) (code : List Instr) (handlers : List HandlerRow) (r : MethodRow) (thrown : VType) (place : ℕ) → IsMethod p types t code handlers r → place < r.count
+pub handles : (p : Program) (types : List TypeRef) (t : Tables) (code : List Instr) (handlers : List HandlerRow) (r : MethodRow) (thrown : VType)
+    (place : ℕ) → IsMethod p types t code handlers r → place < r.count
     → handler_at p thrown r.id place ≡ handled p (pool_at p r.id.class) thrown place (part handlers r.handlers.first r.handlers.count)
 handles p types t code handlers r thrown place is lt = handles_by p types t code handlers r thrown place (code_at p r.id) refl is.holds lt
 
 -- ---- by rows
 
-pub row_is : (r : Prepared) (row : MethodRow) → IsReady r → IsRow r row → IsMethod r.program r.uses.types r.methods.tables r.methods.code r.methods.handlers row
+pub row_is : (r : Prepared) (row : MethodRow) → IsReady r → IsRow r row
+    → IsMethod r.program r.uses.types r.methods.tables r.methods.code r.methods.handlers row
 row_is r row ready own = ready.methods own.0 row own.1
 
 pub place_within : (r : Prepared) (row : MethodRow) (place : ℕ) → IsReady r → IsRow r row → place ≤ row.count → row.first + place < length r.methods.code
 place_within r row place ready own le = let lt = within r.methods.code (row.first + row.count) instr.Off (row_is r row ready own).off in omega arith
 
-pub fetches_row : (r : Prepared) (row : MethodRow) (place : ℕ) (i : Instr) → IsReady r → IsRow r row → place ≤ row.count → slice_get r.methods.code (row.first + place) ≡ Some i
+pub fetches_row : (r : Prepared) (row : MethodRow) (place : ℕ) (i : Instr) → IsReady r → IsRow r row → place ≤ row.count
+    → slice_get r.methods.code (row.first + place) ≡ Some i
     → meant r.program r.methods.tables row.id.class i ≡ fetched r.program row.id place
-fetches_row r row place i ready own le at = fetches r.program r.uses.types r.methods.tables r.methods.code r.methods.handlers row place i (row_is r row ready own) le at
+fetches_row r row place i ready own le at = fetches r.program r.uses.types r.methods.tables r.methods.code r.methods.handlers row place i
+    (row_is r row ready own) le at
 
-exact_by : (p : Program) (types : List TypeRef) (t : Tables) (code : List Instr) (handlers : List HandlerRow) (r : MethodRow) (place : ℕ) (i : Instr) (o : Option CodeBody) → Has p types t code handlers r o
-    → slice_get code (r.first + r.count) ≡ Some instr.Off → place ≤ r.count → slice_get code (r.first + place) ≡ Some i → Within t i × Exact p types t r.id.class i
+exact_by : (p : Program) (types : List TypeRef) (t : Tables) (code : List Instr) (handlers : List HandlerRow) (r : MethodRow) (place : ℕ) (i : Instr)
+    (o : Option CodeBody) → Has p types t code handlers r o
+    → slice_get code (r.first + r.count) ≡ Some instr.Off → place ≤ r.count → slice_get code (r.first + place) ≡ Some i
+    → Within t i × Exact p types t r.id.class i
 exact_by p types t code handlers r place i None is off le at =
     let same : place ≡ r.count = let n = is.count in omega arith in
     let is_off : i ≡ instr.Off = some_inj (sym at ∙ ap (λ (n : ℕ). slice_get code (r.first + n)) same ∙ off) in
@@ -139,31 +158,41 @@ exact_by p types t code handlers r place i (Some body) is off le at = elim (eith
       subst (λ (i : Instr). Within t i × Exact p types t r.id.class i) (sym is_off) (tt, tt)
 ]
 
-pub exact_at : (r : Prepared) (row : MethodRow) (place : ℕ) (code : List Instr) (d : Instr) → IsReady r → IsRow r row → place ≤ row.count → code ≡ r.methods.code
-    → Within r.methods.tables (slice_index_or code (row.first + place) d) × Exact r.program r.uses.types r.methods.tables row.id.class (slice_index_or code (row.first + place) d)
+pub exact_at : (r : Prepared) (row : MethodRow) (place : ℕ) (code : List Instr) (d : Instr) → IsReady r → IsRow r row → place ≤ row.count
+    → code ≡ r.methods.code
+    → Within r.methods.tables (slice_index_or code (row.first + place) d) × Exact r.program r.uses.types r.methods.tables row.id.class
+    (slice_index_or code (row.first + place) d)
 exact_at r row place code d ready own le is =
     let lt = place_within r row place ready own le in
     let m = row_is r row ready own in
-    let at : slice_get r.methods.code (row.first + place) ≡ Some (slice_index_or r.methods.code (row.first + place) d) = index_get r.methods.code (row.first + place) d lt in
+    let at : slice_get r.methods.code (row.first + place) ≡ Some (slice_index_or r.methods.code (row.first + place) d) =
+    index_get r.methods.code (row.first + place) d lt in
     let both = exact_by r.program r.uses.types r.methods.tables r.methods.code r.methods.handlers row place _ (code_at r.program row.id) m.holds m.off le at in
-    subst (λ (l : List Instr). Within r.methods.tables (slice_index_or l (row.first + place) d) × Exact r.program r.uses.types r.methods.tables row.id.class (slice_index_or l (row.first + place) d)) (sym is) both
+    subst (λ (l : List Instr). Within r.methods.tables (slice_index_or l (row.first + place) d) × Exact r.program r.uses.types r.methods.tables row.id.class
+    (slice_index_or l (row.first + place) d)) (sym is) both
 
 -- the instruction that a slice has there
-pub fetches_at : (r : Prepared) (row : MethodRow) (place : ℕ) (code : List Instr) (d : Instr) → IsReady r → IsRow r row → place ≤ row.count → code ≡ r.methods.code
+pub fetches_at : (r : Prepared) (row : MethodRow) (place : ℕ) (code : List Instr) (d : Instr) → IsReady r → IsRow r row → place ≤ row.count
+    → code ≡ r.methods.code
     → meant r.program r.methods.tables row.id.class (slice_index_or code (row.first + place) d) ≡ fetched r.program row.id place
 fetches_at r row place code d ready own le is =
     let lt = place_within r row place ready own le in
-    let at : slice_get r.methods.code (row.first + place) ≡ Some (slice_index_or r.methods.code (row.first + place) d) = index_get r.methods.code (row.first + place) d lt in
-    ap (λ (l : List Instr). meant r.program r.methods.tables row.id.class (slice_index_or l (row.first + place) d)) is ∙ fetches_row r row place _ ready own le at
+    let at : slice_get r.methods.code (row.first + place) ≡ Some (slice_index_or r.methods.code (row.first + place) d) =
+    index_get r.methods.code (row.first + place) d lt in
+    ap (λ (l : List Instr). meant r.program r.methods.tables row.id.class (slice_index_or l (row.first + place) d)) is
+    ∙ fetches_row r row place _ ready own le at
 
-has_there : (p : Program) (types : List TypeRef) (t : Tables) (code : List Instr) (handlers : List HandlerRow) (r : MethodRow) (o : Option CodeBody) → Has p types t code handlers r o → AreThere handlers r.handlers.first r.handlers.count
+has_there : (p : Program) (types : List TypeRef) (t : Tables) (code : List Instr) (handlers : List HandlerRow) (r : MethodRow) (o : Option CodeBody)
+    → Has p types t code handlers r o → AreThere handlers r.handlers.first r.handlers.count
 has_there p types t code handlers r None is = is.there
 has_there p types t code handlers r (Some body) is = is.there
 
 pub handlers_there : (r : Prepared) (row : MethodRow) → IsReady r → IsRow r row → AreThere r.methods.handlers row.handlers.first row.handlers.count
-handlers_there r row ready own = has_there r.program r.uses.types r.methods.tables r.methods.code r.methods.handlers row (code_at r.program row.id) (row_is r row ready own).holds
+handlers_there r row ready own = has_there r.program r.uses.types r.methods.tables r.methods.code r.methods.handlers row (code_at r.program row.id)
+    (row_is r row ready own).holds
 
-pub handles_row : (r : Prepared) (row : MethodRow) (own : List HandlerRow) → IsReady r → IsRow r row → own ≡ part r.methods.handlers row.handlers.first row.handlers.count → (thrown : VType) (place : ℕ) → place < row.count
+pub handles_row : (r : Prepared) (row : MethodRow) (own : List HandlerRow) → IsReady r → IsRow r row
+    → own ≡ part r.methods.handlers row.handlers.first row.handlers.count → (thrown : VType) (place : ℕ) → place < row.count
     → handler_at r.program thrown row.id place ≡ handled r.program (pool_at r.program row.id.class) thrown place own
 handles_row r row own ready is same thrown place lt =
     handles r.program r.uses.types r.methods.tables r.methods.code r.methods.handlers row thrown place (row_is r row ready is) lt
@@ -171,7 +200,8 @@ handles_row r row own ready is same thrown place lt =
 
 -- ---- the numbers of methods
 
-no_code_in : (p : Program) (m : MethodId) (o : Option CodePart) → slice_get p.parts m.class ≡ o → count_in o ≤ m.method → option_and_then (λ c. body_in c m.method) (option_map (λ part. part.class) o) ≡ None
+no_code_in : (p : Program) (m : MethodId) (o : Option CodePart) → slice_get p.parts m.class ≡ o → count_in o ≤ m.method
+    → option_and_then (λ c. body_in c m.method) (option_map (λ part. part.class) o) ≡ None
 no_code_in p m None is le = refl
 no_code_in p m (Some part) is le = ap (option_and_then code_of) (past_end part.class.methods m.method le)
 
@@ -183,7 +213,8 @@ pub no_class : (p : Program) (m : MethodId) → length p.parts ≤ m.class → c
 no_class p m le = let none : count_at p m.class ≡ 0 = ap count_in (past_end p.parts m.class le) in omega arith
 
 -- a method with a class and a place has its number
-pub number_there : (r : Prepared) (m : MethodId) → IsReady r → m.class < length r.program.parts → m.method < count_at r.program m.class → IsNumber r.methods.rows (methods_before r.program m.class + m.method) m
+pub number_there : (r : Prepared) (m : MethodId) → IsReady r → m.class < length r.program.parts → m.method < count_at r.program m.class
+    → IsNumber r.methods.rows (methods_before r.program m.class + m.method) m
 number_there r m ready lt own = ready.numbered m.class lt m.method own
 
 -- one that can't be there has no code
@@ -211,3 +242,7 @@ no_row rows k n m none is h = cc (sym none ∙ ap (slice_get rows) is ∙ h.at)
 
 pub other_row : (rows : List MethodRow) (k n : ℕ) (m : MethodId) (row : MethodRow) → slice_get rows k ≡ Some row → k ≡ n → IsNumber rows n m → row.id ≡ m
 other_row rows k n m row here is h = ap (λ (x : MethodRow). x.id) (some_inj (sym here ∙ ap (slice_get rows) is ∙ h.at)) ∙ h.id
+
+-- the number that a call holds is that of its method
+pub number_is : (r : Prepared) (k : ℕ) (m : MethodId) → IsReady r → IsNumbered r.program k m → IsNumber r.methods.rows k m
+number_is r k m ready is = subst (λ (n : ℕ). IsNumber r.methods.rows n m) (sym is.number) (ready.numbered m.class is.class m.method is.method)

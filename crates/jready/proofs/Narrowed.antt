@@ -43,14 +43,16 @@ class_keeps c (Long x) = refl
 class_keeps c (Ref n) = refl
 class_keeps c (Ctx k) = refl
 
-others : {K : Type 0} (i j l : Bool) (c : Name) (v : Value K) → narrowed (if i then Some elements.Int else (if j then Some elements.Long else (if l then Some (elements.Class c) else None))) v ≡ v
+others : {K : Type 0} (i j l : Bool) (c : Name) (v : Value K)
+    → narrowed (if i then Some elements.Int else (if j then Some elements.Long else (if l then Some (elements.Class c) else None))) v ≡ v
 others true j l c v = int_keeps v
 others false true l c v = long_keeps v
 others false false true c v = class_keeps c v
 others false false false c v = none_keeps v
 
 -- no letter of a narrow type
-letter_keeps : {K : Type 0} (base : ℕ) (c : Name) → (base == byte "Z") ≡ false → (base == byte "C") ≡ false → (base == byte "B") ≡ false → (base == byte "S") ≡ false → (v : Value K) → narrowed (element_of base c) v ≡ v
+letter_keeps : {K : Type 0} (base : ℕ) (c : Name) → (base == byte "Z") ≡ false → (base == byte "C") ≡ false → (base == byte "B") ≡ false
+    → (base == byte "S") ≡ false → (v : Value K) → narrowed (element_of base c) v ≡ v
 letter_keeps base c z ch b s v = rw (z, ch, b, s) (others (base == byte "I") (base == byte "J") (base == byte "L") c v)
 
 -- ---- by descriptors
@@ -72,7 +74,8 @@ alone t none other =
 class_is : {K : Type 0} (base : ℕ) (c : Name) → base ≡ byte "L" → (v : Value K) → narrowed (element_of base c) v ≡ v
 class_is {K} base c is v = subst (λ (n : ℕ). narrowed (element_of n c) v ≡ v) (sym is) (class_keeps c v)
 
-type_keeps : {K : Type 0} (t : FieldType) (desc : List ℕ) → desc ≡ type_text t → bytes_eq desc (codes "Z") ≡ false → bytes_eq desc (codes "C") ≡ false → bytes_eq desc (codes "B") ≡ false → bytes_eq desc (codes "S") ≡ false
+type_keeps : {K : Type 0} (t : FieldType) (desc : List ℕ) → desc ≡ type_text t → bytes_eq desc (codes "Z") ≡ false → bytes_eq desc (codes "C") ≡ false
+    → bytes_eq desc (codes "B") ≡ false → bytes_eq desc (codes "S") ≡ false
     → (v : Value K) → narrowed (element_by t) v ≡ v
 type_keeps t desc is z c b s v = elim (cases_Bool (t.depth == 0)) [
   | inl none ↦ elim (cases_Bool (t.base == byte "L")) [
@@ -81,7 +84,8 @@ type_keeps t desc is z c b s v = elim (cases_Bool (t.depth == 0)) [
         rw none (class_is t.base (name t.class) same v)
     | inr other ↦
         let one : desc ≡ t.base ∷ [] = is ∙ alone t none other in
-        rw none (letter_keeps t.base (name t.class) (letter_differs t.base (byte "Z") desc one z) (letter_differs t.base (byte "C") desc one c) (letter_differs t.base (byte "B") desc one b) (letter_differs t.base (byte "S") desc one s) v)
+        rw none (letter_keeps t.base (name t.class) (letter_differs t.base (byte "Z") desc one z) (letter_differs t.base (byte "C") desc one c)
+        (letter_differs t.base (byte "B") desc one b) (letter_differs t.base (byte "S") desc one s) v)
   ]
   | inr more ↦ rw more (none_keeps v)
 ]
@@ -90,14 +94,16 @@ field_text : (desc : List ℕ) (t : FieldType) → descriptor_of desc ≡ Some (
 unfolding descriptor_text
 field_text desc t is = (descriptor_take desc (descriptors.Field t) is).1
 
-desc_keeps : {K : Type 0} (desc : List ℕ) (o : Option Descriptor) → descriptor_of desc ≡ o → bytes_eq desc (codes "Z") ≡ false → bytes_eq desc (codes "C") ≡ false → bytes_eq desc (codes "B") ≡ false → bytes_eq desc (codes "S") ≡ false
+desc_keeps : {K : Type 0} (desc : List ℕ) (o : Option Descriptor) → descriptor_of desc ≡ o → bytes_eq desc (codes "Z") ≡ false
+    → bytes_eq desc (codes "C") ≡ false → bytes_eq desc (codes "B") ≡ false → bytes_eq desc (codes "S") ≡ false
     → (v : Value K) → narrowed (element_in o) v ≡ v
 desc_keeps desc None is z c b s v = none_keeps v
 desc_keeps desc (Some (descriptors.Method params ret)) is z c b s v = none_keeps v
 desc_keeps desc (Some (descriptors.Field t)) is z c b s v = type_keeps t desc (field_text desc t is) z c b s v
 
 -- all of a value is left in a field of any other descriptor
-pub whole : {K : Type 0} (desc : List ℕ) → bytes_eq desc (codes "Z") ≡ false → bytes_eq desc (codes "C") ≡ false → bytes_eq desc (codes "B") ≡ false → bytes_eq desc (codes "S") ≡ false → (v : Value K) → narrowed (element desc) v ≡ v
+pub whole : {K : Type 0} (desc : List ℕ) → bytes_eq desc (codes "Z") ≡ false → bytes_eq desc (codes "C") ≡ false → bytes_eq desc (codes "B") ≡ false
+    → bytes_eq desc (codes "S") ≡ false → (v : Value K) → narrowed (element desc) v ≡ v
 unfolding element
 whole desc z c b s v = desc_keeps desc (descriptor_of desc) refl z c b s v
 
@@ -139,7 +145,8 @@ unfolding element
 short_holds = ap element_in short_text
 
 holds_by : (desc text : List ℕ) (e : Option Element) (v : Value ℕ) → element text ≡ e → bytes_eq desc text ≡ true → narrowed (element desc) v ≡ narrowed e v
-holds_by desc text e v is same = ap (λ (d : List ℕ). narrowed (element d) v) ((bytes_eq-Decides desc text).0 same) ∙ ap (λ (e : Option Element). narrowed e v) is
+holds_by desc text e v is same = ap (λ (d : List ℕ). narrowed (element d) v) ((bytes_eq-Decides desc text).0 same)
+    ∙ ap (λ (e : Option Element). narrowed e v) is
 
 pub boolean_left : (desc : List ℕ) → bytes_eq desc (codes "Z") ≡ true → (v : Value ℕ) → narrowed (element desc) v ≡ narrowed (Some elements.Boolean) v
 boolean_left desc same v = holds_by desc (codes "Z") (Some elements.Boolean) v boolean_holds same

@@ -1,5 +1,6 @@
 -- How many instructions stand in front of a place, and handlers by number.
-use Rattle.std.proofs.Common.{◌≡◌, ℕ, zero, suc, ◌+◌, ◌<◌, ◌≤◌, ℤ, pos, negsuc, Bool, List, [], ◌∷◌, ◌++◌, length, get_or, take, Some, Result, Ok, Err, refl, sym, ap, subst, ◌∙◌, arith, inl, inr, append_assoc}
+use Rattle.std.proofs.Common.{◌≡◌, ℕ, zero, suc, ◌+◌, ◌<◌, ◌≤◌, ℤ, pos, negsuc, Bool, List, [], ◌∷◌, ◌++◌, length, get_or, take, Some, Result, Ok, Err}
+use Rattle.std.proofs.Common.{refl, sym, ap, subst, ◌∙◌, arith, inl, inr, append_assoc}
 use Rattle.std.specs.Prelude.{◌&&◌, ◌<ℤ◌, nat_le, nat_lt, slice_get}
 use Rattle.std.specs.List.Sorted.{IsSearchInRange, IsBinarySearchResult, IsNonDecreasingBy}
 use Rattle.std.specs.Ordering.{int_cmp, ordering_index}
@@ -32,7 +33,8 @@ cmp_rises a b (negsuc n) le = omega arith
 
 comparisons_rise : (ps : List Placed) (t : ℤ) → Rises ps → IsNonDecreasingBy (λ p. ordering_index (int_cmp (pos p.at) t)) ps
 comparisons_rise ps t rise = IsNonDecreasingBy-from_default (λ p. ordering_index (int_cmp (pos p.at) t)) ps first_op (λ i j le lt.
-    let places : (get_or ps i first_op).at ≤ (get_or ps j first_op).at = grind (arith, rise i j first_op, λ (same : i ≡ j). ap (λ (k : ℕ). (get_or ps k first_op).at) same) in
+    let places : (get_or ps i first_op).at ≤ (get_or ps j first_op).at =
+    grind (arith, rise i j first_op, λ (same : i ≡ j). ap (λ (k : ℕ). (get_or ps k first_op).at) same) in
     cmp_rises (get_or ps i first_op).at (get_or ps j first_op).at t places)
 
 -- what is found at an index
@@ -65,17 +67,21 @@ abbrev pub number_of : Result ℕ ℕ → ℕ
 number_of (Ok n) = n
 number_of (Err n) = n
 
-parted_below : (ps : List Placed) (at n : ℕ) (t : ℤ) → Rises ps → IsBinarySearchResult (λ p. int_cmp (pos p.at) t) ps (Err n) → t ≡ pos at → n ≤ length ps → Parts ps at n
+parted_below : (ps : List Placed) (at n : ℕ) (t : ℤ) → Rises ps → IsBinarySearchResult (λ p. int_cmp (pos p.at) t) ps (Err n) → t ≡ pos at → n ≤ length ps
+    → Parts ps at n
 parted_below ps at n t rise apart is le i less = (
   λ before.
-      let lower : pos (get_or ps i first_op).at <ℤ t = int_ranked (pos (get_or ps i first_op).at) t _ (sym ((apart (comparisons_rise ps t rise)).0 i first_op (omega arith) before)) in
+      let lower : pos (get_or ps i first_op).at <ℤ t = int_ranked (pos (get_or ps i first_op).at) t _
+      (sym ((apart (comparisons_rise ps t rise)).0 i first_op (omega arith) before)) in
       omega (arith, ints),
   λ behind.
-      let higher : t <ℤ pos (get_or ps i first_op).at = int_ranked (pos (get_or ps i first_op).at) t _ (sym ((apart (comparisons_rise ps t rise)).1 i first_op behind less)) in
+      let higher : t <ℤ pos (get_or ps i first_op).at = int_ranked (pos (get_or ps i first_op).at) t _
+      (sym ((apart (comparisons_rise ps t rise)).1 i first_op behind less)) in
       omega (arith, ints),
 )
 
-parted : (ps : List Placed) (at : ℕ) (t : ℤ) (r : Result ℕ ℕ) → Rises ps → IsSearchInRange r (length ps) → IsBinarySearchResult (λ p. int_cmp (pos p.at) t) ps r → t ≡ pos at → Parts ps at (number_of r)
+parted : (ps : List Placed) (at : ℕ) (t : ℤ) (r : Result ℕ ℕ) → Rises ps → IsSearchInRange r (length ps)
+    → IsBinarySearchResult (λ p. int_cmp (pos p.at) t) ps r → t ≡ pos at → Parts ps at (number_of r)
 parted ps at t (Ok n) rise in_range equal is =
     let same : pos (get_or ps n first_op).at ≡ t = int_ranked _ t _ (sym (equal first_op)) in
     parts_found ps at n rise in_range (omega (arith, ints))
@@ -93,7 +99,8 @@ counted ps at n parts i one e =
     let both = parts i h.less in
     ap (λ (p : Placed). nat_le at p.at) (sym h.is) ∙ tests_alike at (get_or ps i first_op).at n i both.0 both.1
 
-pub counts : (ps : List Placed) (at : ℕ) (t : ℤ) (r : Result ℕ ℕ) → Rises ps → IsSearchInRange r (length ps) → IsBinarySearchResult (λ p. int_cmp (pos p.at) t) ps r → t ≡ pos at
+pub counts : (ps : List Placed) (at : ℕ) (t : ℤ) (r : Result ℕ ℕ) → Rises ps → IsSearchInRange r (length ps)
+    → IsBinarySearchResult (λ p. int_cmp (pos p.at) t) ps r → t ≡ pos at
     → (i : ℕ) (one : Placed) → slice_get ps i ≡ Some one → nat_le at one.at ≡ nat_le (number_of r) i
 counts ps at t r rise in_range by is i one e = counted ps at (number_of r) (parted ps at t r rise in_range by is) i one e
 
@@ -102,10 +109,13 @@ counts ps at t r rise in_range by is i one e = counted ps at (number_of r) (part
 less_alike : (a b c d : ℕ) → nat_le a b ≡ nat_le c d → nat_lt b a ≡ nat_lt d c
 less_alike a b c d e = grind (arith, nat_tests)
 
-pub handler_is : (ops : List Placed) (h : Handler) (r : HandlerRow) → ((i : ℕ) (one : Placed) → slice_get ops i ≡ Some one → nat_le h.start one.at ≡ nat_le r.start i)
-    → ((i : ℕ) (one : Placed) → slice_get ops i ≡ Some one → nat_le h.end one.at ≡ nat_le r.end i) → r.to ≡ number_at ops h.at → r.class ≡ h.class → IsHandler ops h r
+pub handler_is : (ops : List Placed) (h : Handler) (r : HandlerRow)
+    → ((i : ℕ) (one : Placed) → slice_get ops i ≡ Some one → nat_le h.start one.at ≡ nat_le r.start i)
+    → ((i : ℕ) (one : Placed) → slice_get ops i ≡ Some one → nat_le h.end one.at ≡ nat_le r.end i) → r.to ≡ number_at ops h.at → r.class ≡ h.class
+    → IsHandler ops h r
 handler_is ops h r from upto to class = record {
-  range = λ i one at. ap (λ (b : Bool). b && nat_lt i r.end) (sym (from i one at)) ∙ ap (λ (b : Bool). nat_le h.start one.at && b) (sym (less_alike h.end one.at r.end i (upto i one at)));
+  range = λ i one at. ap (λ (b : Bool). b && nat_lt i r.end) (sym (from i one at))
+      ∙ ap (λ (b : Bool). nat_le h.start one.at && b) (sym (less_alike h.end one.at r.end i (upto i one at)));
   to = to;
   class = class;
 }
@@ -124,11 +134,13 @@ get_any [] i d e lt = absurd (omega arith)
 get_any (x ∷ xs) zero d e lt = refl
 get_any (x ∷ xs) (suc i) d e lt = get_any xs i d e (omega arith)
 
-pub puts_more : (ops : List Placed) (handlers : List Handler) (old rows new : List HandlerRow) (n : ℕ) (d : Handler) (r : HandlerRow) → Puts ops handlers old rows n → n < length handlers → IsHandler ops (get_or handlers n d) r
+pub puts_more : (ops : List Placed) (handlers : List Handler) (old rows new : List HandlerRow) (n : ℕ) (d : Handler) (r : HandlerRow)
+    → Puts ops handlers old rows n → n < length handlers → IsHandler ops (get_or handlers n d) r
     → new ≡ rows ++ r ∷ [] → Puts ops handlers old new (n + 1)
 puts_more ops handlers old rows new n d r so_far lt one put = record {
   own = so_far.own ++ r ∷ [];
-  lies = put ∙ ap (λ (l : List HandlerRow). l ++ r ∷ []) so_far.lies ∙ (let e : (old ++ so_far.own) ++ r ∷ [] ≡ old ++ (so_far.own ++ r ∷ []) = simp append_assoc in e);
+  lies = put ∙ ap (λ (l : List HandlerRow). l ++ r ∷ []) so_far.lies
+      ∙ (let e : (old ++ so_far.own) ++ r ∷ [] ≡ old ++ (so_far.own ++ r ∷ []) = simp append_assoc in e);
   are = pairs_step (IsHandler ops) handlers n (get_or handlers n d) so_far.own r lt (get_any handlers n d (get_or handlers n d) lt) so_far.are one;
 }
 
@@ -143,7 +155,8 @@ pub record Done (ops : List Placed) (handlers : List Handler) (old new : List Ha
   pub are : AreHandlers ops handlers (part new first count)
   pub behind : Grows old new
 
-pub puts_done : (ops : List Placed) (handlers : List Handler) (old new : List HandlerRow) (n first count : ℕ) → Puts ops handlers old new n → length handlers ≤ n → first ≡ length old → count ≡ length handlers → Done ops handlers old new first count
+pub puts_done : (ops : List Placed) (handlers : List Handler) (old new : List HandlerRow) (n first count : ℕ) → Puts ops handlers old new n
+    → length handlers ≤ n → first ≡ length old → count ≡ length handlers → Done ops handlers old new first count
 puts_done ops handlers old new n first count h le f c =
     let all : AreHandlers ops handlers h.own = pairs_end (IsHandler ops) handlers n h.own le h.are in
     let len : length h.own ≡ length handlers = pairs_count (IsHandler ops) handlers h.own all in

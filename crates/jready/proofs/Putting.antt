@@ -22,9 +22,11 @@ use Rattle.jready.specs.Tabled.{AreThere, Grown, part}
 use Rattle.jready.proofs.Counting.{within}
 use Rattle.jready.proofs.Growing.{get_grown, get_more, get_put, grown_not, laid_grown, part_grown, some_inj, there_grown, under}
 
-has_grown : (p : Program) (types : List TypeRef) (t u : Tables) (code more : List Instr) (handlers all : List HandlerRow) (r : MethodRow) → Grown t u → Grows code more → Grows handlers all
+has_grown : (p : Program) (types : List TypeRef) (t u : Tables) (code more : List Instr) (handlers all : List HandlerRow) (r : MethodRow) → Grown t u
+    → Grows code more → Grows handlers all
     → (o : Option CodeBody) → Has p types t code handlers r o → Has p types u more all r o
-has_grown p types t u code more handlers all r g c h None is = record { coded = is.coded; count = is.count; there = there_grown handlers all (r.handlers.first + r.handlers.count) h is.there }
+has_grown p types t u code more handlers all r g c h None is =
+    record { coded = is.coded; count = is.count; there = there_grown handlers all (r.handlers.first + r.handlers.count) h is.there }
 has_grown p types t u code more handlers all r g c h (Some body) is = record {
   coded = is.coded;
   count = is.count;
@@ -34,7 +36,8 @@ has_grown p types t u code more handlers all r g c h (Some body) is = record {
   handles = subst (AreHandlers body.ops body.handlers) (sym (part_grown handlers all r.handlers.first r.handlers.count h is.there)) is.handles;
 }
 
-method_grown : (p : Program) (types : List TypeRef) (t u : Tables) (code more : List Instr) (handlers all : List HandlerRow) (r : MethodRow) → Grown t u → Grows code more → Grows handlers all
+method_grown : (p : Program) (types : List TypeRef) (t u : Tables) (code more : List Instr) (handlers all : List HandlerRow) (r : MethodRow) → Grown t u
+    → Grows code more → Grows handlers all
     → IsMethod p types t code handlers r → IsMethod p types u more all r
 method_grown p types t u code more handlers all r g c h is = record {
   domain = is.domain;
@@ -42,7 +45,8 @@ method_grown p types t u code more handlers all r g c h is = record {
   off = get_grown code more (r.first + r.count) c (within code (r.first + r.count) instr.Off is.off) ∙ is.off;
 }
 
-pub puts : (p : Program) (types : List TypeRef) (id : MethodId) (old new : Methods) (row : MethodRow) → AreMethods p types old → Grown old.tables new.tables → Grows old.code new.code → Grows old.handlers new.handlers
+pub puts : (p : Program) (types : List TypeRef) (id : MethodId) (old new : Methods) (row : MethodRow) → AreMethods p types old → Grown old.tables new.tables
+    → Grows old.code new.code → Grows old.handlers new.handlers
     → new.rows ≡ old.rows ++ row ∷ [] → row.id ≡ id → IsMethod p types new.tables new.code new.handlers row → PutsMethod p types id old new
 puts p types id old new row are g c h is own one = record {
   are = λ k r at.
@@ -50,7 +54,8 @@ puts p types id old new row are g c h is own one = record {
       let lt = within (old.rows ++ row ∷ []) k r there in
       let len = length-append old.rows (row ∷ []) in
       elim (under k (length old.rows) (omega arith)) [
-        | inl less ↦ method_grown p types old.tables new.tables old.code new.code old.handlers new.handlers r g c h (are k r (sym (get_more old.rows (row ∷ []) k less) ∙ there))
+        | inl less ↦ method_grown p types old.tables new.tables old.code new.code old.handlers new.handlers r g c h
+            (are k r (sym (get_more old.rows (row ∷ []) k less) ∙ there))
         | inr same ↦
             let put : slice_get (old.rows ++ row ∷ []) k ≡ Some row = ap (slice_get (old.rows ++ row ∷ [])) same ∙ get_put old.rows row in
             subst (IsMethod p types new.tables new.code new.handlers) (some_inj (sym put ∙ there)) one
@@ -61,18 +66,23 @@ puts p types id old new row are g c h is own one = record {
 }
 
 -- one without code
-pub bare_is : (p : Program) (types : List TypeRef) (t : Tables) (code more : List Instr) (handlers : List HandlerRow) (r : MethodRow) → code_at p r.id ≡ None → r.domain ≡ domain_of p r.id → r.has_code ≡ false → r.count ≡ 0 → r.first ≡ length code
+pub bare_is : (p : Program) (types : List TypeRef) (t : Tables) (code more : List Instr) (handlers : List HandlerRow) (r : MethodRow)
+    → code_at p r.id ≡ None → r.domain ≡ domain_of p r.id → r.has_code ≡ false → r.count ≡ 0 → r.first ≡ length code
     → more ≡ code ++ instr.Off ∷ [] → r.handlers.first ≡ length handlers → r.handlers.count ≡ 0 → IsMethod p types t more handlers r
 bare_is p types t code more handlers r none domain coded count first is here zero = record {
   domain = domain;
   holds = subst (Has p types t more handlers r) (sym none) (record { coded = coded; count = count; there = omega arith });
-  off = ap (λ (l : List Instr). slice_get l (r.first + r.count)) is ∙ ap (slice_get (code ++ instr.Off ∷ [])) (let n : r.first + r.count ≡ length code = omega arith in n) ∙ get_put code instr.Off;
+  off = ap (λ (l : List Instr). slice_get l (r.first + r.count)) is
+      ∙ ap (slice_get (code ++ instr.Off ∷ [])) (let n : r.first + r.count ≡ length code = omega arith in n) ∙ get_put code instr.Off;
 }
 
 -- one with code
-pub coded_is : (p : Program) (types : List TypeRef) (t : Tables) (code more : List Instr) (handlers : List HandlerRow) (r : MethodRow) (body : CodeBody) → code_at p r.id ≡ Some body → r.domain ≡ domain_of p r.id → r.has_code ≡ true
-    → r.count ≡ length body.ops → r.max_locals ≡ body.max_locals → AreLaid p types t r.id.class body.ops code r.first r.count → length code ≡ r.first + r.count → more ≡ code ++ instr.Off ∷ []
-    → AreThere handlers r.handlers.first r.handlers.count → AreHandlers body.ops body.handlers (part handlers r.handlers.first r.handlers.count) → IsMethod p types t more handlers r
+pub coded_is : (p : Program) (types : List TypeRef) (t : Tables) (code more : List Instr) (handlers : List HandlerRow) (r : MethodRow) (body : CodeBody)
+    → code_at p r.id ≡ Some body → r.domain ≡ domain_of p r.id → r.has_code ≡ true
+    → r.count ≡ length body.ops → r.max_locals ≡ body.max_locals → AreLaid p types t r.id.class body.ops code r.first r.count
+    → length code ≡ r.first + r.count → more ≡ code ++ instr.Off ∷ []
+    → AreThere handlers r.handlers.first r.handlers.count → AreHandlers body.ops body.handlers (part handlers r.handlers.first r.handlers.count)
+    → IsMethod p types t more handlers r
 coded_is p types t code more handlers r body some domain coded count most laid len is there handles = record {
   domain = domain;
   holds = subst (Has p types t more handlers r) (sym some) (record {

@@ -26,7 +26,9 @@ use Rattle.jcode.specs.declared.names.CallOp.{CallOp}
 use Rattle.jcode.specs.declared.names.FieldOp.{FieldOp}
 use Rattle.jtypes.specs.declared.vtype.Name.{Name}
 use Rattle.juses.specs.declared.meaning.How.{How}
-use Rattle.juses.specs.Meanings.{AClass, AConstant, AField, AMethod, Call, CallMeaning, EntryMeaning, Field as FieldOf, FieldMeaning, Reference, call_as, call_meant, called_by, called_by_interface, entry_meant, field_as, field_entry, field_meant, field_used, meant, method_entry, reference}
+use Rattle.juses.specs.Meanings.{AClass, AConstant, AField, AMethod, Call, CallMeaning, EntryMeaning, Field as FieldOf, FieldMeaning, Reference, call_as}
+use Rattle.juses.specs.Meanings.{call_meant, called_by, called_by_interface, entry_meant, field_as, field_entry, field_meant, field_used, meant}
+use Rattle.juses.specs.Meanings.{method_entry, reference}
 use Rattle.juses.specs.Typed.{Called, Held, Typed, Untyped, name, typed}
 use Rattle.jready.specs.Referred.{IsCalled, IsField, IsMethod, IsThere}
 
@@ -61,7 +63,8 @@ no_user : (o : Option LibClass) (i : ℕ) (c : ClassParts) → option_map Lib o 
 no_user None i c e = cc
 no_user (Some l) i c e = cc
 
-user_part : (o : Option CodePart) (k i : ℕ) (c : ClassParts) → option_map (λ (part : CodePart). User k part.class) o ≡ Some (User i c) → (k ≡ i) × (option_map (λ (part : CodePart). part.class) o ≡ Some c)
+user_part : (o : Option CodePart) (k i : ℕ) (c : ClassParts) → option_map (λ (part : CodePart). User k part.class) o ≡ Some (User i c)
+    → (k ≡ i) × (option_map (λ (part : CodePart). part.class) o ≡ Some c)
 user_part None k i c e = absurd cc
 user_part (Some part) k i c e = (cc, cc)
 
@@ -80,31 +83,37 @@ class_there p name i c e = found_part p name (place_of p.parts name) i c e
 described : (c : ClassParts) (name desc : List ℕ) (m : MemberInfo) → is_called c name desc m ≡ true → member_desc c m ≡ desc
 described c name desc m e = (bytes_eq-Decides (member_desc c m) desc).0 (second (bytes_eq (member_name c m) name) (bytes_eq (member_desc c m) desc) e)
 
-field_there : (p : Program) (i j : ℕ) (c : ClassParts) (name desc : List ℕ) → part_of p i ≡ Some c → position (is_called c name desc) c.fields ≡ Some j → IsThere p (Field i j) desc
+field_there : (p : Program) (i j : ℕ) (c : ClassParts) (name desc : List ℕ) → part_of p i ≡ Some c → position (is_called c name desc) c.fields ≡ Some j
+    → IsThere p (Field i j) desc
 field_there p i j c name desc part at =
     let one = at_position (is_called c name desc) c.fields j at in
     record {
       class = c;
       info = one.item;
-      found = ap (option_and_then (λ (c : ClassParts). option_map (λ (m : MemberInfo). (c, m)) (slice_get c.fields j))) part ∙ ap (option_map (λ (m : MemberInfo). (c, m))) one.there;
+      found = ap (option_and_then (λ (c : ClassParts). option_map (λ (m : MemberInfo). (c, m)) (slice_get c.fields j))) part
+          ∙ ap (option_map (λ (m : MemberInfo). (c, m))) one.there;
       described = described c name desc one.item one.passes;
     }
 
-method_there : (p : Program) (i j : ℕ) (c : ClassParts) (name desc : List ℕ) → part_of p i ≡ Some c → position (is_called c name desc) c.methods ≡ Some j → IsThere p (Method (method_id i j)) desc
+method_there : (p : Program) (i j : ℕ) (c : ClassParts) (name desc : List ℕ) → part_of p i ≡ Some c → position (is_called c name desc) c.methods ≡ Some j
+    → IsThere p (Method (method_id i j)) desc
 method_there p i j c name desc part at =
     let one = at_position (is_called c name desc) c.methods j at in
     record {
       class = c;
       info = one.item;
-      found = ap (option_and_then (λ (c : ClassParts). option_map (λ (m : MemberInfo). (c, m)) (slice_get c.methods j))) part ∙ ap (option_map (λ (m : MemberInfo). (c, m))) one.there;
+      found = ap (option_and_then (λ (c : ClassParts). option_map (λ (m : MemberInfo). (c, m)) (slice_get c.methods j))) part
+          ∙ ap (option_map (λ (m : MemberInfo). (c, m))) one.there;
       described = described c name desc one.item one.passes;
     }
 
-field_by : (p : Program) (i : ℕ) (c : ClassParts) (name desc : List ℕ) (m : Member) (o : Option ℕ) → part_of p i ≡ Some c → position (is_called c name desc) c.fields ≡ o → option_map (λ (j : ℕ). Field i j) o ≡ Some m → IsField p m desc
+field_by : (p : Program) (i : ℕ) (c : ClassParts) (name desc : List ℕ) (m : Member) (o : Option ℕ) → part_of p i ≡ Some c
+    → position (is_called c name desc) c.fields ≡ o → option_map (λ (j : ℕ). Field i j) o ≡ Some m → IsField p m desc
 field_by p i c name desc m None part at e = absurd cc
 field_by p i c name desc m (Some j) part at e = subst (λ (m : Member). IsField p m desc) (some_of e) (field_there p i j c name desc part at)
 
-method_by : (p : Program) (i : ℕ) (c : ClassParts) (name desc : List ℕ) (m : Member) (o : Option ℕ) → part_of p i ≡ Some c → position (is_called c name desc) c.methods ≡ o → option_map (λ (j : ℕ). Method (method_id i j)) o ≡ Some m → IsMethod p m desc
+method_by : (p : Program) (i : ℕ) (c : ClassParts) (name desc : List ℕ) (m : Member) (o : Option ℕ) → part_of p i ≡ Some c
+    → position (is_called c name desc) c.methods ≡ o → option_map (λ (j : ℕ). Method (method_id i j)) o ≡ Some m → IsMethod p m desc
 method_by p i c name desc m None part at e = absurd cc
 method_by p i c name desc m (Some j) part at e = subst (λ (m : Member). IsMethod p m desc) (some_of e) (method_there p i j c name desc part at)
 
@@ -112,7 +121,8 @@ lib_field_is : (p : Program) (desc : List ℕ) (b : Bool) (m : Member) → (if b
 lib_field_is p desc true m e = subst (λ (m : Member). IsField p m desc) (some_of e) tt
 lib_field_is p desc false m e = absurd cc
 
-lib_method_is : (p : Program) (desc : List ℕ) (b : Bool) (call : LibCall) (m : Member) → (if b then None else Some (LibMethod call)) ≡ Some m → IsMethod p m desc
+lib_method_is : (p : Program) (desc : List ℕ) (b : Bool) (call : LibCall) (m : Member) → (if b then None else Some (LibMethod call)) ≡ Some m
+    → IsMethod p m desc
 lib_method_is p desc true call m e = absurd cc
 lib_method_is p desc false call m e = subst (λ (m : Member). IsMethod p m desc) (some_of e) tt
 
@@ -124,14 +134,18 @@ lib_method_by : (p : Program) (desc : List ℕ) (o : Option LibCall) (m : Member
 lib_method_by p desc None m e = absurd cc
 lib_method_by p desc (Some call) m e = lib_method_is p desc (library_calls.is_field call) call m e
 
-field_in_class : (p : Program) (class name desc : List ℕ) (m : Member) (o : Option Class) → find p class ≡ o → option_and_then (λ (c : Class). field_in p.side c name desc) o ≡ Some m → IsField p m desc
+field_in_class : (p : Program) (class name desc : List ℕ) (m : Member) (o : Option Class) → find p class ≡ o
+    → option_and_then (λ (c : Class). field_in p.side c name desc) o ≡ Some m → IsField p m desc
 field_in_class p class name desc m None at e = absurd cc
-field_in_class p class name desc m (Some (User i c)) at e = field_by p i c name desc m (position (is_called c name desc) c.fields) (class_there p class i c at) refl e
+field_in_class p class name desc m (Some (User i c)) at e = field_by p i c name desc m (position (is_called c name desc) c.fields)
+    (class_there p class i c at) refl e
 field_in_class p class name desc m (Some (Lib l)) at e = lib_field_by p desc (library_calls.member_named p.side (library.name_of l) name desc) m e
 
-method_in_class : (p : Program) (class name desc : List ℕ) (m : Member) (o : Option Class) → find p class ≡ o → option_and_then (λ (c : Class). method_in p.side c name desc) o ≡ Some m → IsMethod p m desc
+method_in_class : (p : Program) (class name desc : List ℕ) (m : Member) (o : Option Class) → find p class ≡ o
+    → option_and_then (λ (c : Class). method_in p.side c name desc) o ≡ Some m → IsMethod p m desc
 method_in_class p class name desc m None at e = absurd cc
-method_in_class p class name desc m (Some (User i c)) at e = method_by p i c name desc m (position (is_called c name desc) c.methods) (class_there p class i c at) refl e
+method_in_class p class name desc m (Some (User i c)) at e = method_by p i c name desc m (position (is_called c name desc) c.methods)
+    (class_there p class i c at) refl e
 method_in_class p class name desc m (Some (Lib l)) at e = lib_method_by p desc (library_calls.member_named p.side (library.name_of l) name desc) m e
 
 field_at_is : (p : Program) (name desc : List ℕ) (class : List ℕ) (m : Member) → field_at p name desc class ≡ Some m → IsField p m desc
@@ -142,11 +156,13 @@ method_at_is p name desc class m e = method_in_class p class name desc m (find p
 
 -- ---- the first of several
 
-either_is : (P : Member → Type 0) (a b : Option Member) (m : Member) → ((m : Member) → a ≡ Some m → P m) → ((m : Member) → b ≡ Some m → P m) → or_else a b ≡ Some m → P m
+either_is : (P : Member → Type 0) (a b : Option Member) (m : Member) → ((m : Member) → a ≡ Some m → P m) → ((m : Member) → b ≡ Some m → P m)
+    → or_else a b ≡ Some m → P m
 either_is P None b m f g e = g m e
 either_is P (Some x) b m f g e = f m e
 
-first_is : (P : Member → Type 0) (f : List ℕ → Option Member) → ((x : List ℕ) (m : Member) → f x ≡ Some m → P m) → (xs : List (List ℕ)) (m : Member) → first_some f xs ≡ Some m → P m
+first_is : (P : Member → Type 0) (f : List ℕ → Option Member) → ((x : List ℕ) (m : Member) → f x ≡ Some m → P m) → (xs : List (List ℕ)) (m : Member)
+    → first_some f xs ≡ Some m → P m
 unfolding first_some
 first_is P f h [] m e = absurd cc
 first_is P f h (x ∷ xs) m e = either_is P (f x) (first_some f xs) m (h x) (first_is P f h xs) e
@@ -157,10 +173,13 @@ pub field_resolved : (p : Program) (class name desc : List ℕ) (m : Member) →
 unfolding resolve_field
 field_resolved p class name desc m e =
     let own = field_at_is p name desc in
-    first_is (λ m. IsField p m desc) _ (λ x m is. either_is (λ m. IsField p m desc) (field_at p name desc x) (first_some (field_at p name desc) (superinterfaces p x)) m (own x)
+    first_is (λ m. IsField p m desc) _ (λ x m is. either_is (λ m. IsField p m desc) (field_at p name desc x)
+    (first_some (field_at p name desc) (superinterfaces p x)) m (own x)
     (first_is (λ m. IsField p m desc) (field_at p name desc) own (superinterfaces p x)) is) (up p class) m e
 
-method_chosen : (p : Program) (class name desc : List ℕ) (b : Bool) (m : Member) → (if b then method_at p name desc class else or_else (first_some (method_at p name desc) (up p class)) (first_some (λ x. first_some (method_at p name desc) (superinterfaces p x)) (up p class))) ≡ Some m → IsMethod p m desc
+method_chosen : (p : Program) (class name desc : List ℕ) (b : Bool) (m : Member)
+    → (if b then method_at p name desc class else or_else (first_some (method_at p name desc) (up p class))
+    (first_some (λ x. first_some (method_at p name desc) (superinterfaces p x)) (up p class))) ≡ Some m → IsMethod p m desc
 method_chosen p class name desc true m e = method_at_is p name desc class m e
 method_chosen p class name desc false m e =
     let own = method_at_is p name desc in
@@ -184,7 +203,8 @@ pub record ByField (p : Program) (f : FieldMeaning) : Type 0 where
   pub member : IsField p f.member desc
   pub held : typed p desc ≡ Held f.held
 
-field_by_parts : (p : Program) (owner : Name) (o : Option Member) (t : Typed) (f : FieldMeaning) → field_as owner o t ≡ Some f → (o ≡ Some f.member) × (t ≡ Held f.held)
+field_by_parts : (p : Program) (owner : Name) (o : Option Member) (t : Typed) (f : FieldMeaning) → field_as owner o t ≡ Some f
+    → (o ≡ Some f.member) × (t ≡ Held f.held)
 field_by_parts p owner None t f e = absurd cc
 field_by_parts p owner (Some m) Untyped f e = absurd cc
 field_by_parts p owner (Some m) (Held t) f e = (cc, cc)
@@ -196,17 +216,21 @@ field_of_reference p r f e =
     let parts = field_by_parts p (name r.owner) (resolve_field p r.owner r.name r.desc) (typed p r.desc) f e in
     record { desc = r.desc; member = field_resolved p r.owner r.name r.desc f.member parts.0; held = parts.1 }
 
-field_mapped : (p : Program) (r : Reference) (f : FieldMeaning) (o : Option FieldMeaning) → field_meant p r ≡ o → option_map AField o ≡ Some (AField f) → ByField p f
+field_mapped : (p : Program) (r : Reference) (f : FieldMeaning) (o : Option FieldMeaning) → field_meant p r ≡ o → option_map AField o ≡ Some (AField f)
+    → ByField p f
 field_mapped p r f None is e = absurd cc
 field_mapped p r f (Some g) is e = field_of_reference p r f (is ∙ cc)
 
-field_paired : (p : Program) (pool : List Entry) (class : ℕ) (f : FieldMeaning) (o : Option (ℕ × ℕ)) → option_and_then (λ b. field_entry p (reference pool class b)) o ≡ Some (AField f) → ByField p f
+field_paired : (p : Program) (pool : List Entry) (class : ℕ) (f : FieldMeaning) (o : Option (ℕ × ℕ))
+    → option_and_then (λ b. field_entry p (reference pool class b)) o ≡ Some (AField f) → ByField p f
 field_paired p pool class f None e = absurd cc
 field_paired p pool class f (Some b) e = field_mapped p (reference pool class b) f (field_meant p (reference pool class b)) refl e
 
-method_no_field : (p : Program) (pool : List Entry) (class : ℕ) (f : FieldMeaning) (o : Option (ℕ × ℕ)) → option_and_then (λ b. method_entry p (reference pool class b)) o ≡ Some (AField f) → ⊥
+method_no_field : (p : Program) (pool : List Entry) (class : ℕ) (f : FieldMeaning) (o : Option (ℕ × ℕ))
+    → option_and_then (λ b. method_entry p (reference pool class b)) o ≡ Some (AField f) → ⊥
 method_no_field p pool class f None e = cc
-method_no_field p pool class f (Some b) e = mapped_apart (AMethod (bytes_eq (reference pool class b).name init)) (AField f) (λ c e. cc) (call_meant p (reference pool class b)) e
+method_no_field p pool class f (Some b) e = mapped_apart (AMethod (bytes_eq (reference pool class b).name init)) (AField f) (λ c e. cc)
+    (call_meant p (reference pool class b)) e
 
 pub field_entry_is : (p : Program) (pool : List Entry) (e : Option Entry) (f : FieldMeaning) → entry_meant p pool e ≡ Some (AField f) → ByField p f
 unfolding entry_meant
@@ -240,19 +264,24 @@ call_of_reference p r c e = record {
   is = method_resolved p r.owner r.name r.desc c.member (call_by_parts p (name r.owner) (resolve_method p r.owner r.name r.desc) (typed p r.desc) c e);
 }
 
-call_mapped : (p : Program) (r : Reference) (is_init b : Bool) (c : CallMeaning) (o : Option CallMeaning) → call_meant p r ≡ o → option_map (AMethod is_init) o ≡ Some (AMethod b c) → IsCalled p c.member
+call_mapped : (p : Program) (r : Reference) (is_init b : Bool) (c : CallMeaning) (o : Option CallMeaning) → call_meant p r ≡ o
+    → option_map (AMethod is_init) o ≡ Some (AMethod b c) → IsCalled p c.member
 call_mapped p r is_init b c None is e = absurd cc
 call_mapped p r is_init b c (Some d) is e = call_of_reference p r c (is ∙ cc)
 
-call_paired : (p : Program) (pool : List Entry) (class : ℕ) (b : Bool) (c : CallMeaning) (o : Option (ℕ × ℕ)) → option_and_then (λ both. method_entry p (reference pool class both)) o ≡ Some (AMethod b c) → IsCalled p c.member
+call_paired : (p : Program) (pool : List Entry) (class : ℕ) (b : Bool) (c : CallMeaning) (o : Option (ℕ × ℕ))
+    → option_and_then (λ both. method_entry p (reference pool class both)) o ≡ Some (AMethod b c) → IsCalled p c.member
 call_paired p pool class b c None e = absurd cc
-call_paired p pool class b c (Some both) e = call_mapped p (reference pool class both) (bytes_eq (reference pool class both).name init) b c (call_meant p (reference pool class both)) refl e
+call_paired p pool class b c (Some both) e = call_mapped p (reference pool class both) (bytes_eq (reference pool class both).name init) b c
+    (call_meant p (reference pool class both)) refl e
 
-field_no_method : (p : Program) (pool : List Entry) (class : ℕ) (b : Bool) (c : CallMeaning) (o : Option (ℕ × ℕ)) → option_and_then (λ both. field_entry p (reference pool class both)) o ≡ Some (AMethod b c) → ⊥
+field_no_method : (p : Program) (pool : List Entry) (class : ℕ) (b : Bool) (c : CallMeaning) (o : Option (ℕ × ℕ))
+    → option_and_then (λ both. field_entry p (reference pool class both)) o ≡ Some (AMethod b c) → ⊥
 field_no_method p pool class b c None e = cc
 field_no_method p pool class b c (Some both) e = mapped_apart AField (AMethod b c) (λ f e. cc) (field_meant p (reference pool class both)) e
 
-pub method_entry_is : (p : Program) (pool : List Entry) (e : Option Entry) (b : Bool) (c : CallMeaning) → entry_meant p pool e ≡ Some (AMethod b c) → IsCalled p c.member
+pub method_entry_is : (p : Program) (pool : List Entry) (e : Option Entry) (b : Bool) (c : CallMeaning) → entry_meant p pool e ≡ Some (AMethod b c)
+    → IsCalled p c.member
 unfolding entry_meant
 method_entry_is p pool None b c e = absurd cc
 method_entry_is p pool (Some entries.Unused) b c e = absurd cc
@@ -273,7 +302,8 @@ method_entry_is p pool (Some (entries.InvokeDynamic x y)) b c e = absurd cc
 
 -- ---- what instructions mean
 
-field_used_is : (p : Program) (op : FieldOp) (f : FieldMeaning) (o : Option EntryMeaning) → ((g : FieldMeaning) → o ≡ Some (AField g) → ByField p g) → option_and_then (field_used op) o ≡ Some (FieldOf op f) → ByField p f
+field_used_is : (p : Program) (op : FieldOp) (f : FieldMeaning) (o : Option EntryMeaning) → ((g : FieldMeaning) → o ≡ Some (AField g) → ByField p g)
+    → option_and_then (field_used op) o ≡ Some (FieldOf op f) → ByField p f
 field_used_is p op f None h e = absurd cc
 field_used_is p op f (Some (AConstant c)) h e = absurd cc
 field_used_is p op f (Some (AClass t)) h e = absurd cc
@@ -281,28 +311,35 @@ field_used_is p op f (Some (AField g)) h e = let same : g ≡ f = cc in subst (B
 field_used_is p op f (Some (AMethod b c)) h e = absurd cc
 
 -- the field of an instruction is there, and of the type by which it is named
-pub field_is : (p : Program) (pool : List Entry) (op : FieldOp) (i : ℕ) (f : FieldMeaning) → meant p pool (forms.Field op i) ≡ Some (FieldOf op f) → ByField p f
+pub field_is : (p : Program) (pool : List Entry) (op : FieldOp) (i : ℕ) (f : FieldMeaning) → meant p pool (forms.Field op i) ≡ Some (FieldOf op f)
+    → ByField p f
 unfolding meant
 field_is p pool op i f e = field_used_is p op f (entry_meant p pool (slice_get pool i)) (λ g is. field_entry_is p pool (slice_get pool i) g is) e
 
-called_by_is : (p : Program) (op : CallOp) (w : How) (c : CallMeaning) (o : Option EntryMeaning) → ((b : Bool) (d : CallMeaning) → o ≡ Some (AMethod b d) → IsCalled p d.member) → option_and_then (called_by op) o ≡ Some (Call w c) → IsCalled p c.member
+called_by_is : (p : Program) (op : CallOp) (w : How) (c : CallMeaning) (o : Option EntryMeaning)
+    → ((b : Bool) (d : CallMeaning) → o ≡ Some (AMethod b d) → IsCalled p d.member) → option_and_then (called_by op) o ≡ Some (Call w c) → IsCalled p c.member
 called_by_is p op w c None h e = absurd cc
 called_by_is p op w c (Some (AConstant x)) h e = absurd cc
 called_by_is p op w c (Some (AClass t)) h e = absurd cc
 called_by_is p op w c (Some (AField g)) h e = absurd cc
 called_by_is p op w c (Some (AMethod b d)) h e = let same : d ≡ c = cc in subst (λ (x : CallMeaning). IsCalled p x.member) same (h b d refl)
 
-pub call_is : (p : Program) (pool : List Entry) (op : CallOp) (i : ℕ) (w : How) (c : CallMeaning) → meant p pool (forms.Call op i) ≡ Some (Call w c) → IsCalled p c.member
+pub call_is : (p : Program) (pool : List Entry) (op : CallOp) (i : ℕ) (w : How) (c : CallMeaning) → meant p pool (forms.Call op i) ≡ Some (Call w c)
+    → IsCalled p c.member
 unfolding meant
 call_is p pool op i w c e = called_by_is p op w c (entry_meant p pool (slice_get pool i)) (λ b d is. method_entry_is p pool (slice_get pool i) b d is) e
 
-interface_by_is : (p : Program) (w : How) (c : CallMeaning) (o : Option EntryMeaning) → ((b : Bool) (d : CallMeaning) → o ≡ Some (AMethod b d) → IsCalled p d.member) → option_and_then called_by_interface o ≡ Some (Call w c) → IsCalled p c.member
+interface_by_is : (p : Program) (w : How) (c : CallMeaning) (o : Option EntryMeaning)
+    → ((b : Bool) (d : CallMeaning) → o ≡ Some (AMethod b d) → IsCalled p d.member) → option_and_then called_by_interface o ≡ Some (Call w c)
+    → IsCalled p c.member
 interface_by_is p w c None h e = absurd cc
 interface_by_is p w c (Some (AConstant x)) h e = absurd cc
 interface_by_is p w c (Some (AClass t)) h e = absurd cc
 interface_by_is p w c (Some (AField g)) h e = absurd cc
 interface_by_is p w c (Some (AMethod b d)) h e = let same : d ≡ c = cc in subst (λ (x : CallMeaning). IsCalled p x.member) same (h b d refl)
 
-pub interface_is : (p : Program) (pool : List Entry) (i slots : ℕ) (w : How) (c : CallMeaning) → meant p pool (forms.CallInterface i slots) ≡ Some (Call w c) → IsCalled p c.member
+pub interface_is : (p : Program) (pool : List Entry) (i slots : ℕ) (w : How) (c : CallMeaning)
+    → meant p pool (forms.CallInterface i slots) ≡ Some (Call w c) → IsCalled p c.member
 unfolding meant
-interface_is p pool i slots w c e = interface_by_is p w c (entry_meant p pool (slice_get pool i)) (λ b d is. method_entry_is p pool (slice_get pool i) b d is) e
+interface_is p pool i slots w c e = interface_by_is p w c (entry_meant p pool (slice_get pool i))
+    (λ b d is. method_entry_is p pool (slice_get pool i) b d is) e

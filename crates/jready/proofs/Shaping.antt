@@ -12,7 +12,8 @@ use Rattle.jready.specs.Shaped.{AreShapesTo, IsShape}
 use Rattle.jready.proofs.Growing.{get_more, get_put, some_inj, under}
 use Rattle.jready.proofs.Counting.{within}
 
-counted : (p : Program) (i n : ℕ) (o : Option CodePart) → Some n ≡ option_map (count_of p) o → n ≡ length (fields.layout p (named (option_map (λ (part : CodePart). User i part.class) o)))
+counted : (p : Program) (i n : ℕ) (o : Option CodePart) → Some n ≡ option_map (count_of p) o
+    → n ≡ length (fields.layout p (named (option_map (λ (part : CodePart). User i part.class) o)))
 counted p i n None e = absurd cc
 counted p i n (Some part) e = some_inj e
 
@@ -30,7 +31,8 @@ fields_there p i lt e = absent (count_of p) p.parts i lt e
 
 -- ---- of all classes
 
-each_more : (p : Program) (shapes : List Shape) (i : ℕ) (s : Shape) → AreShapesTo p shapes i → IsShape p i s → (j : ℕ) (x : Shape) → slice_get (shapes ++ s ∷ []) j ≡ Some x → IsShape p j x
+each_more : (p : Program) (shapes : List Shape) (i : ℕ) (s : Shape) → AreShapesTo p shapes i → IsShape p i s → (j : ℕ) (x : Shape)
+    → slice_get (shapes ++ s ∷ []) j ≡ Some x → IsShape p j x
 each_more p shapes i s h is j x at =
     let len : length (shapes ++ s ∷ []) ≡ length shapes + 1 = length-append shapes (s ∷ []) in
     let count = h.count in
@@ -43,7 +45,8 @@ each_more p shapes i s h is j x at =
           subst (λ (x : Shape). IsShape p j x) one (subst (λ (k : ℕ). IsShape p k s) (sym same) is)
     ]
 
-pub shapes_more : (p : Program) (shapes new : List Shape) (i : ℕ) (s : Shape) → AreShapesTo p shapes i → IsShape p i s → new ≡ shapes ++ s ∷ [] → AreShapesTo p new (i + 1)
+pub shapes_more : (p : Program) (shapes new : List Shape) (i : ℕ) (s : Shape) → AreShapesTo p shapes i → IsShape p i s → new ≡ shapes ++ s ∷ []
+    → AreShapesTo p new (i + 1)
 shapes_more p shapes new i s h is put = record {
   count = ap length put ∙ length-append shapes (s ∷ []) ∙ ap (λ (n : ℕ). n + 1) h.count;
   each = λ j x at. each_more p shapes i s h is j x (sym (ap (λ (l : List Shape). slice_get l j) put) ∙ at);

@@ -26,21 +26,26 @@ unfolding case_of
 case_none key other = refl
 
 -- a key that isn't less than the least stands behind it
-case_behind : (numbers : List ℕ) (low key : ℤ) (other n : ℕ) → key ≡ low +ℤ pos n → unwrap_or (slice_get numbers n) other ≡ case_of key (keys_from low numbers) other
+case_behind : (numbers : List ℕ) (low key : ℤ) (other n : ℕ) → key ≡ low +ℤ pos n
+    → unwrap_or (slice_get numbers n) other ≡ case_of key (keys_from low numbers) other
 unfolding keys_from
 case_behind [] low key other n e = sym (case_none key other)
 case_behind (x ∷ xs) low key other zero e = sym (case_hit key low x other (keys_from (low +ℤ pos 1) xs) (omega (arith, ints)))
-case_behind (x ∷ xs) low key other (suc m) e = case_behind xs (low +ℤ pos 1) key other m (omega (arith, ints)) ∙ sym (case_miss key low x other (keys_from (low +ℤ pos 1) xs) (λ same. omega (arith, ints)))
+case_behind (x ∷ xs) low key other (suc m) e = case_behind xs (low +ℤ pos 1) key other m (omega (arith, ints))
+    ∙ sym (case_miss key low x other (keys_from (low +ℤ pos 1) xs) (λ same. omega (arith, ints)))
 
 pub case_before : (numbers : List ℕ) (low key : ℤ) (other : ℕ) → key <ℤ low → other ≡ case_of key (keys_from low numbers) other
 unfolding keys_from
 case_before [] low key other lt = sym (case_none key other)
-case_before (x ∷ xs) low key other lt = case_before xs (low +ℤ pos 1) key other (omega (arith, ints)) ∙ sym (case_miss key low x other (keys_from (low +ℤ pos 1) xs) (λ same. omega (arith, ints)))
+case_before (x ∷ xs) low key other lt = case_before xs (low +ℤ pos 1) key other (omega (arith, ints))
+    ∙ sym (case_miss key low x other (keys_from (low +ℤ pos 1) xs) (λ same. omega (arith, ints)))
 
 -- the target of a key
-pub case_at : (numbers : List ℕ) (low key : ℤ) (other n to : ℕ) → key ≡ low +ℤ pos n → Some to ≡ slice_get numbers n → to ≡ case_of key (keys_from low numbers) other
+pub case_at : (numbers : List ℕ) (low key : ℤ) (other n to : ℕ) → key ≡ low +ℤ pos n → Some to ≡ slice_get numbers n
+    → to ≡ case_of key (keys_from low numbers) other
 case_at numbers low key other n to e is = ap (λ (o : Option ℕ). unwrap_or o other) is ∙ case_behind numbers low key other n e
 
 -- a key behind all
-pub case_past : (numbers : List ℕ) (low key : ℤ) (other n : ℕ) → key ≡ low +ℤ pos n → None ≡ slice_get numbers n → other ≡ case_of key (keys_from low numbers) other
+pub case_past : (numbers : List ℕ) (low key : ℤ) (other n : ℕ) → key ≡ low +ℤ pos n → None ≡ slice_get numbers n
+    → other ≡ case_of key (keys_from low numbers) other
 case_past numbers low key other n e none = ap (λ (o : Option ℕ). unwrap_or o other) none ∙ case_behind numbers low key other n e

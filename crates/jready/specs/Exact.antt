@@ -1,11 +1,12 @@
 -- What an instruction by number holds beside the index of its entry, by what its entry stands for.
 use Rattle.std.specs.Prelude.{◌≡◌, ℕ, ◌+◌, ◌<◌, List, length, map, Some, slice_get}
+use Rattle.jpool.specs.declared.entry.Entry.{Entry}
 use Rattle.jcode.specs.declared.form.PoolForm.TheVariants as forms
+use Rattle.jcode.specs.declared.names.FieldOp.{FieldOp}
 use Rattle.jheap.specs.declared.cell.CellType.{CellType}
 use Rattle.jheap.specs.declared.cell.CellType.TheVariants as cells
 use Rattle.jlib.specs.declared.calls.LibCall.{LibCall}
 use Rattle.jtypes.specs.declared.vtype.Element.TheVariants as elements
-use Rattle.jtypes.specs.declared.vtype.Name.{Name}
 use Rattle.jtypes.specs.declared.vtype.VType.{VType}
 use Rattle.jtypes.specs.declared.vtype.VType.TheVariants as types
 use Rattle.jops.specs.declared.value.Value.{Value}
@@ -93,21 +94,53 @@ pub record MakesArray (p : Program) (t : Tables) (v : VType) (k : ℕ) : Type 0 
   pub there : slice_get t.arrays k ≡ Some array
   pub type : v ≡ types.Array (array_named p array)
 
+-- ---- what entries mean
+
+-- The entry at an index means a user's field that is there.
+pub record FieldHeld (p : Program) (pool : List Entry) (op : FieldOp) (i : ℕ) (cell : CellType) (n : Narrow) (s owner : ℕ) : Type 0 where
+  pub field : FieldMeaning
+  pub means : meant p pool (forms.Field op i) ≡ Some (Field op field)
+  pub holds : HoldsField p field cell n s owner
+
+-- It means the library's field.
+pub record OutHeld (p : Program) (pool : List Entry) (op : FieldOp) (i : ℕ) : Type 0 where
+  pub field : FieldMeaning
+  pub means : meant p pool (forms.Field op i) ≡ Some (Field op field)
+  pub member : field.member ≡ members.LibField
+
+-- It means a user's method that is there.
+pub record UserCalled (p : Program) (pool : List Entry) (types : List TypeRef) (way : How) (i : ℕ) (params : Span) (k : ℕ) : Type 0 where
+  pub call : CallMeaning
+  pub means : meant p pool (call_form way i) ≡ Some (Call way call)
+  pub calls : CallsUser p types call params k
+
+-- It means a method of the library.
+pub record LibraryCalled (p : Program) (pool : List Entry) (types : List TypeRef) (way : How) (i : ℕ) (params : Span) (lib : LibCall) : Type 0 where
+  pub call : CallMeaning
+  pub means : meant p pool (call_form way i) ≡ Some (Call way call)
+  pub calls : CallsLibrary p types call params lib
+
+-- Arrays of the class at an index are of the type of a number.
+pub record ArrayMade (p : Program) (pool : List Entry) (t : Tables) (i k : ℕ) : Type 0 where
+  pub type : VType
+  pub means : array_meant p pool i ≡ Some (MakeArray type)
+  pub makes : MakesArray p t type k
+
 -- ---- all
 
 module _ (p : Program) (known : List TypeRef) (t : Tables) (class : ℕ) where
   abbrev pub ExactObject : ObjectInstr → Type 0
-  ExactObject (object.New i c) = (n : Name) → meant p (pool_at p class) (forms.New i) ≡ Some (Make n) → n ≡ class_named p (refs.User c)
-  ExactObject (object.NewLibrary i c) = (n : Name) → meant p (pool_at p class) (forms.New i) ≡ Some (Make n) → n ≡ class_named p (refs.Lib c)
-  ExactObject (object.NewArray i k) = (v : VType) → array_meant p (pool_at p class) i ≡ Some (MakeArray v) → MakesArray p t v k
-  ExactObject (object.CastClass op i c) = (v : VType) → meant p (pool_at p class) (forms.Cast op i) ≡ Some (Cast op v) → v ≡ types.Object (class_named p (refs.User c))
+  ExactObject (object.New i c) = meant p (pool_at p class) (forms.New i) ≡ Some (Make (class_named p (refs.User c)))
+  ExactObject (object.NewLibrary i c) = meant p (pool_at p class) (forms.New i) ≡ Some (Make (class_named p (refs.Lib c)))
+  ExactObject (object.NewArray i k) = ArrayMade p (pool_at p class) t i k
+  ExactObject (object.CastClass op i c) = meant p (pool_at p class) (forms.Cast op i) ≡ Some (Cast op (types.Object (class_named p (refs.User c))))
   ExactObject (object.Cast op i) = Unit {0}
-  ExactObject (object.Out op i) = (f : FieldMeaning) → meant p (pool_at p class) (forms.Field op i) ≡ Some (Field op f) → f.member ≡ members.LibField
+  ExactObject (object.Out op i) = OutHeld p (pool_at p class) op i
 
   -- What it holds is what its entry stands for.
   abbrev pub Exact : Instr → Type 0
   Exact (instr.Object f) = ExactObject f
-  Exact (instr.Field op cell n i s owner) = (f : FieldMeaning) → meant p (pool_at p class) (forms.Field op i) ≡ Some (Field op f) → HoldsField p f cell n s owner
-  Exact (instr.Call way i params k) = (w : How) (c : CallMeaning) → meant p (pool_at p class) (call_form way i) ≡ Some (Call w c) → (w ≡ way) × CallsUser p known c params k
-  Exact (instr.Library way i params call) = (w : How) (c : CallMeaning) → meant p (pool_at p class) (call_form way i) ≡ Some (Call w c) → (w ≡ way) × CallsLibrary p known c params call
+  Exact (instr.Field op cell n i s owner) = FieldHeld p (pool_at p class) op i cell n s owner
+  Exact (instr.Call way i params k) = UserCalled p (pool_at p class) known way i params k
+  Exact (instr.Library way i params call) = LibraryCalled p (pool_at p class) known way i params call
   Exact i = Unit {0}

@@ -1,5 +1,6 @@
 -- How the instructions of methods lie in one list, one method behind the other, and what they stand for.
-use Rattle.std.specs.Prelude.{◌≡◌, ℕ, ◌+◌, ◌<◌, ◌≤◌, Bool, true, false, ◌||◌, not, List, length, Option, Some, None, option_and_then, slice_get, nat_lt, if◌then◌else◌}
+use Rattle.std.specs.Prelude.{◌≡◌, ℕ, ◌+◌, ◌<◌, ◌≤◌, Bool, true, false, ◌||◌, not, List, length, Option, Some, None, option_and_then, slice_get, nat_lt}
+use Rattle.std.specs.Prelude.{if◌then◌else◌}
 use Rattle.jcode.specs.declared.op.Placed.{Placed}
 use Rattle.jprogram.specs.Classes.{Program}
 use Rattle.juses.specs.declared.numbered.When.TheVariants as when
@@ -67,4 +68,5 @@ pub record Stands (p : Program) (types : List TypeRef) (t : Tables) (class : ℕ
 -- From a number on, so many stand in the places of a method's.
 pub record AreLaid (p : Program) (types : List TypeRef) (t : Tables) (class : ℕ) (ops : List Placed) (code : List Instr) (first count : ℕ) : Type 0 where
   pub there : first + count ≤ length code
-  pub each : (j : ℕ) (one : Placed) (i : Instr) → j < count → slice_get ops j ≡ Some one → slice_get code (first + j) ≡ Some i → Stands p types t class ops (nat_lt (j + 1) (length ops)) one i
+  pub each : (j : ℕ) (one : Placed) (i : Instr) → j < count → slice_get ops j ≡ Some one → slice_get code (first + j) ≡ Some i
+      → Stands p types t class ops (nat_lt (j + 1) (length ops)) one i

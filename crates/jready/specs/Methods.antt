@@ -17,7 +17,8 @@ use Rattle.jready.specs.Laid.{AreLaid}
 use Rattle.jready.specs.Tabled.{AreThere, part}
 
 -- A method with code.
-pub record IsBody (p : Program) (types : List TypeRef) (t : Tables) (code : List Instr) (handlers : List HandlerRow) (r : MethodRow) (body : CodeBody) : Type 0 where
+pub record IsBody (p : Program) (types : List TypeRef) (t : Tables) (code : List Instr) (handlers : List HandlerRow) (r : MethodRow)
+    (body : CodeBody) : Type 0 where
   pub coded : r.has_code ≡ true
   pub count : r.count ≡ length body.ops
   pub max_locals : r.max_locals ≡ body.max_locals

@@ -23,7 +23,6 @@ use crate::known::{Known, number_at};
 use crate::tables::Tables;
 use jcode::{CallOp, CastOp, FieldOp, PoolForm};
 use jheap::CellType;
-use jlib::LibClass;
 use jprogram::{ClassRef, Member};
 use juses::{CallUse, Constant, FieldUse, How, Span, TypeRef, Use};
 use std::alloc::AllocError;
@@ -144,7 +143,7 @@ fn field_of(known: &Known<'_>, class: u32, op: FieldOp, pool: u16) -> Instr
     ensures exact { (t : Tables) → Exact known.now.p.now known.now.uses.now.types t class result }
 {
     let Some(used) = field_used(known, class, op, pool) else {
-        return Instr::Object(ObjectInstr::Out { op, pool });
+        return Instr::Off;
     };
     let Some((declared, field)) = place_of(used.member) else {
         return Instr::Object(ObjectInstr::Out { op, pool });
@@ -280,7 +279,7 @@ fn array_used(known: &Known<'_>, class: u32, pool: u16) -> Option<TypeRef>
 }
 
 /// What is by number an instruction that makes an object of the class at an index.
-#[tactic(auto, unfolding(crate::specs::Meant::meant))]
+#[tactic(auto, using(crate::proofs::Back::made_back, crate::proofs::Back::made_nothing), unfolding(crate::specs::Meant::meant))]
 fn make_of(known: &Known<'_>, class: u32, pool: u16) -> Instr
     requires { IsKnown known.now }
     ensures means { (t : Tables) → meant known.now.p.now t class result ≡ by_pool known.now.p.now (pool_at known.now.p.now class) (forms.New pool) }
@@ -290,15 +289,12 @@ fn make_of(known: &Known<'_>, class: u32, pool: u16) -> Instr
     match made_used(known, class, pool) {
         Some(ClassRef::User(made)) => Instr::Object(ObjectInstr::New { pool, class: made }),
         Some(ClassRef::Lib(made)) => Instr::Object(ObjectInstr::NewLibrary { pool, class: made }),
-        None => Instr::Object(ObjectInstr::NewLibrary {
-            pool,
-            class: LibClass::Object,
-        }),
+        None => Instr::Off,
     }
 }
 
 /// What is by number an instruction that tests for the type at an index.
-#[tactic(auto, unfolding(crate::specs::Meant::meant))]
+#[tactic(auto, using(crate::proofs::Back::cast_back), unfolding(crate::specs::Meant::meant))]
 fn cast_of(known: &Known<'_>, class: u32, op: CastOp, pool: u16) -> Instr
     requires { IsKnown known.now }
     ensures means { (t : Tables) → meant known.now.p.now t class result ≡ by_pool known.now.p.now (pool_at known.now.p.now class) (forms.Cast op pool) }
@@ -313,13 +309,13 @@ fn cast_of(known: &Known<'_>, class: u32, op: CastOp, pool: u16) -> Instr
     }
 }
 
-/// The number of a type of arrays, if it is one. Any number serves where it isn't.
-fn array_number(tables: &mut Tables, t: Option<TypeRef>) -> Result<u32, AllocError>
-    ensures there { IfOk result (λ k. (a : ArrayRef) → t ≡ Some (TypeRef.Array a) → slice_get tables.new.arrays k ≡ Some a) }
+/// The number of a type of arrays. Any number serves for a type that isn't one.
+fn array_number(tables: &mut Tables, t: TypeRef) -> Result<u32, AllocError>
+    ensures there { IfOk result (λ k. (a : ArrayRef) → t ≡ TypeRef.Array a → slice_get tables.new.arrays k ≡ Some a) }
     ensures grown { IfOk result (λ k. Grown tables.old tables.new) }
 {
     match t {
-        Some(TypeRef::Array(array)) => tables.put_array(array),
+        TypeRef::Array(array) => tables.put_array(array),
         _ => Ok(0),
     }
 }
@@ -338,7 +334,10 @@ pub(crate) fn array_of(
     ensures exact { IfOk result (Exact known.now.p.now known.now.uses.now.types tables.new class) }
     ensures grown { IfOk result (λ i. Grown tables.old tables.new) }
 {
-    let array = array_number(tables, array_used(known, class, pool))?;
+    let Some(t) = array_used(known, class, pool) else {
+        return Ok(Instr::Off);
+    };
+    let array = array_number(tables, t)?;
     Ok(Instr::Object(ObjectInstr::NewArray { pool, array }))
 }
 

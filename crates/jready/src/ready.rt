@@ -7,7 +7,7 @@ ghost use Rattle.jlayout.specs.Layouts.{AreLayouts};
 ghost use Rattle.jlayout.specs.Numbered.{all_statics};
 ghost use Rattle.jmachine.specs.Steps.{fetched};
 ghost use Rattle.jmachine.specs.Unwinding.{handler_at};
-ghost use Rattle.jready.specs.Exact.{Exact};
+ghost use Rattle.jready.specs.Exact.{Exact, IsNumbered};
 ghost use Rattle.jready.specs.Handling.{handled};
 ghost use Rattle.jready.specs.Known.{IsKnown};
 ghost use Rattle.jready.specs.Laid.{Within};
@@ -235,6 +235,15 @@ impl<'p> Ready<'p> {
         ensures { Some result ≡ slice_get self.now.methods.rows k }
     {
         self.methods.rows.as_slice()[k as usize]
+    }
+
+    /// The same, by the number that a call holds: it is that of the method which is called.
+    #[inline]
+    pub fn called(&self, k: u32) -> Option<MethodRow>
+        ensures row { result ≡ slice_get self.now.methods.rows k }
+        ensures number { (m : MethodId) → IsNumbered self.now.program k m → IsNumber self.now.methods.rows k m }
+    {
+        row_at(self.methods.rows.as_slice(), k)
     }
 
     /// The number of a user's method. None only of one that has no code.

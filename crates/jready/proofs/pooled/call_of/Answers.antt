@@ -1,20 +1,24 @@
-use Rattle.std.proofs.Common.{sym, ap, subst, ◌∙◌}
+use Rattle.std.proofs.Common.{◌≡◌, Some, sym, ap, subst, ◌∙◌}
 use Rattle.std.specs.Prelude.{option_map}
 use Rattle.jprogram.specs.declared.member.Member.{Member}
 use Rattle.juses.specs.Instructions.{Used}
+use Rattle.juses.specs.declared.meaning.How.{How}
 use Rattle.juses.specs.Meanings as meanings
+use Rattle.juses.specs.Meanings.{Call, CallMeaning, call_named}
 use Rattle.juses.specs.Tables.{pool_at}
 use Rattle.jready.specs.Exact.{Exact}
 use Rattle.jready.specs.Meant.{call_form, meant}
 use Rattle.jready.specs.Only.{only_call}
 use Rattle.jready.specs.Referred.{IsMethod}
+use Rattle.jready.proofs.Back.{call_back}
 use Rattle.jready.proofs.Calling.{form_means, is_called, nothing_called}
 use Rattle.jready.proofs.Exactly.{exact_library, exact_never, exact_user}
 use Rattle.jready.proofs.pooled.call_of.Goals as goal
 
 pub returns-in_default-clause-means : goal.returns-in_default-clause-means
 unfolding meant
-returns-in_default-clause-means c t = nothing_called c.args.known.now.p.now (pool_at c.args.known.now.p.now c.args.class) c.args.form c.args.pool c.requires.calls c.in_default.ensures
+returns-in_default-clause-means c t = nothing_called c.args.known.now.p.now
+    (pool_at c.args.known.now.p.now c.args.class) c.args.form c.args.pool c.requires.calls c.in_default.ensures
 
 pub returns-in-LibMethod-clause-means : goal.returns-in-LibMethod-clause-means
 unfolding meant
@@ -27,53 +31,76 @@ returns-in-LibMethod-clause-exact c t =
     let p = c.args.known.now.p.now in
     let pool = pool_at p c.args.class in
     let types = c.args.known.now.uses.now.types in
-    let same = form_means p pool c.args.form c.args.pool c.in-Some.how _ c.requires.calls c.in-Some.ensures in
-    exact_library p types (meanings.meant p pool (call_form c.in-Some.how c.args.pool)) c.in-Some.how c.in-Some.call c.in-LibMethod.one (c.in-Some.ensures ∙ ap only_call (sym same)) c.in-LibMethod.is
+    let how = c.in-Some.how in
+    let o = meanings.meant p pool (call_form how c.args.pool) in
+    let named = call_named p types c.in-Some.call in
+    let same = form_means p pool c.args.form c.args.pool how _ c.requires.calls c.in-Some.ensures in
+    let is = c.in-Some.ensures ∙ ap only_call (sym same) in
+    let e = call_back o how named is in
+    let calls = (exact_library p types o how c.in-Some.call c.in-LibMethod.one is c.in-LibMethod.is how named e).1 in
+    record { call = named; means = e; calls = calls }
 
 pub returns-in-Method-clause-means : goal.returns-in-Method-clause-means
 unfolding meant
 returns-in-Method-clause-means c t =
     let p = c.args.known.now.p.now in
-    ap (meant p t c.args.class) c.call_to.ensures ∙ ap (option_map Used) (form_means p (pool_at p c.args.class) c.args.form c.args.pool c.in-Some.how _ c.requires.calls c.in-Some.ensures)
+    ap (meant p t c.args.class) c.call_to.ensures ∙ ap (option_map Used)
+    (form_means p (pool_at p c.args.class) c.args.form c.args.pool c.in-Some.how _ c.requires.calls c.in-Some.ensures)
 
 pub returns-in-Method-clause-exact : goal.returns-in-Method-clause-exact
 returns-in-Method-clause-exact c t =
     let p = c.args.known.now.p.now in
     let pool = pool_at p c.args.class in
     let types = c.args.known.now.uses.now.types in
-    let same = form_means p pool c.args.form c.args.pool c.in-Some.how _ c.requires.calls c.in-Some.ensures in
-    subst (Exact p types t c.args.class) (sym c.call_to.ensures)
-    (exact_user p types (meanings.meant p pool (call_form c.in-Some.how c.args.pool)) c.in-Some.how c.in-Some.call c.in-Method.id c.number_at-number.result (c.in-Some.ensures ∙ ap only_call (sym same))
-    (λ w d e. is_called p pool c.args.form c.args.pool w d c.requires.calls (sym same ∙ e)) c.in-Method.is c.number_at-number.ensures)
+    let how = c.in-Some.how in
+    let o = meanings.meant p pool (call_form how c.args.pool) in
+    let named = call_named p types c.in-Some.call in
+    let same = form_means p pool c.args.form c.args.pool how _ c.requires.calls c.in-Some.ensures in
+    let is = c.in-Some.ensures ∙ ap only_call (sym same) in
+    let e = call_back o how named is in
+    let called = λ (w : How) (d : CallMeaning) (e : o ≡ Some (Call w d)). is_called p pool c.args.form c.args.pool w d c.requires.calls (sym same ∙ e) in
+    let number = c.number_at-number in
+    let calls = (exact_user p types o how c.in-Some.call c.in-Method.id number.result is called c.in-Method.is number.ensures how named e).1 in
+    subst (Exact p types t c.args.class) (sym c.call_to.ensures) (record { call = named; means = e; calls = calls })
 
 pub returns-in-Field-clause-means : goal.returns-in-Field-clause-means
 unfolding meant
 returns-in-Field-clause-means c t =
     let p = c.args.known.now.p.now in
-    ap (meant p t c.args.class) c.call_to-in-Field.ensures ∙ ap (option_map Used) (form_means p (pool_at p c.args.class) c.args.form c.args.pool c.in-Some.how _ c.requires.calls c.in-Some.ensures)
+    ap (meant p t c.args.class) c.call_to-in-Field.ensures ∙ ap (option_map Used)
+    (form_means p (pool_at p c.args.class) c.args.form c.args.pool c.in-Some.how _ c.requires.calls c.in-Some.ensures)
 
 pub returns-in-Field-clause-exact : goal.returns-in-Field-clause-exact
 returns-in-Field-clause-exact c t =
     let p = c.args.known.now.p.now in
     let pool = pool_at p c.args.class in
     let types = c.args.known.now.uses.now.types in
-    let same = form_means p pool c.args.form c.args.pool c.in-Some.how _ c.requires.calls c.in-Some.ensures in
-    subst (Exact p types t c.args.class) (sym c.call_to-in-Field.ensures)
-    (λ w d e. absurd (exact_never p types (meanings.meant p pool (call_form c.in-Some.how c.args.pool)) c.in-Some.how c.in-Some.call (c.in-Some.ensures ∙ ap only_call (sym same))
-    (λ w d e. is_called p pool c.args.form c.args.pool w d c.requires.calls (sym same ∙ e)) (λ desc h. subst (λ (m : Member). IsMethod p m desc) c.in-Field.is h) w d e))
+    let how = c.in-Some.how in
+    let o = meanings.meant p pool (call_form how c.args.pool) in
+    let named = call_named p types c.in-Some.call in
+    let same = form_means p pool c.args.form c.args.pool how _ c.requires.calls c.in-Some.ensures in
+    let is = c.in-Some.ensures ∙ ap only_call (sym same) in
+    let e = call_back o how named is in
+    let called = λ (w : How) (d : CallMeaning) (e : o ≡ Some (Call w d)). is_called p pool c.args.form c.args.pool w d c.requires.calls (sym same ∙ e) in
+    absurd (exact_never p types o how c.in-Some.call is called (λ desc h. subst (λ (m : Member). IsMethod p m desc) c.in-Field.is h) how named e)
 
 pub returns-in-LibField-clause-means : goal.returns-in-LibField-clause-means
 unfolding meant
 returns-in-LibField-clause-means c t =
     let p = c.args.known.now.p.now in
-    ap (meant p t c.args.class) c.call_to-in-LibField.ensures ∙ ap (option_map Used) (form_means p (pool_at p c.args.class) c.args.form c.args.pool c.in-Some.how _ c.requires.calls c.in-Some.ensures)
+    ap (meant p t c.args.class) c.call_to-in-LibField.ensures
+    ∙ ap (option_map Used) (form_means p (pool_at p c.args.class) c.args.form c.args.pool c.in-Some.how _ c.requires.calls c.in-Some.ensures)
 
 pub returns-in-LibField-clause-exact : goal.returns-in-LibField-clause-exact
 returns-in-LibField-clause-exact c t =
     let p = c.args.known.now.p.now in
     let pool = pool_at p c.args.class in
     let types = c.args.known.now.uses.now.types in
-    let same = form_means p pool c.args.form c.args.pool c.in-Some.how _ c.requires.calls c.in-Some.ensures in
-    subst (Exact p types t c.args.class) (sym c.call_to-in-LibField.ensures)
-    (λ w d e. absurd (exact_never p types (meanings.meant p pool (call_form c.in-Some.how c.args.pool)) c.in-Some.how c.in-Some.call (c.in-Some.ensures ∙ ap only_call (sym same))
-    (λ w d e. is_called p pool c.args.form c.args.pool w d c.requires.calls (sym same ∙ e)) (λ desc h. subst (λ (m : Member). IsMethod p m desc) c.in-LibField.is h) w d e))
+    let how = c.in-Some.how in
+    let o = meanings.meant p pool (call_form how c.args.pool) in
+    let named = call_named p types c.in-Some.call in
+    let same = form_means p pool c.args.form c.args.pool how _ c.requires.calls c.in-Some.ensures in
+    let is = c.in-Some.ensures ∙ ap only_call (sym same) in
+    let e = call_back o how named is in
+    let called = λ (w : How) (d : CallMeaning) (e : o ≡ Some (Call w d)). is_called p pool c.args.form c.args.pool w d c.requires.calls (sym same ∙ e) in
+    absurd (exact_never p types o how c.in-Some.call is called (λ desc h. subst (λ (m : Member). IsMethod p m desc) c.in-LibField.is h) how named e)

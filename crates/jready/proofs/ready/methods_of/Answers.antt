@@ -18,8 +18,10 @@ loop-i-preserved c =
     let same = c.parts-parts.ensures.same in
     let lt : i < length p.parts = omega (arith, ap length same, c.loop-i-test.true) in
     let here : part ≡ get_or p.parts i part = subst (λ (l : List CodePart). part ≡ get_or l i part) same c.index-parts-i.is in
-    let count : c.in_ok-count.count ≡ method_count part = c.in_ok-count.ensures ∙ ap length (c.as_slice.ensures ∙ ap (λ (x : ClassParts). x.methods) c.parts.ensures.same) in
-    let own : AreOwn new (length rows) i c.in_ok-count.count = subst (λ (k : ℕ). AreOwn new (length rows) k c.in_ok-count.count) c.in_ok-class.ensures put.own in
+    let count : c.in_ok-count.count ≡ method_count part = c.in_ok-count.ensures
+    ∙ ap length (c.as_slice.ensures ∙ ap (λ (x : ClassParts). x.methods) c.parts.ensures.same) in
+    let own : AreOwn new (length rows) i c.in_ok-count.count =
+    subst (λ (k : ℕ). AreOwn new (length rows) k c.in_ok-count.count) c.in_ok-class.ensures put.own in
     record {
       are = put.are;
       count = before_next p i (length rows) (length new) part old.count lt here (put.count ∙ ap (λ (n : ℕ). length rows + n) count);

@@ -19,7 +19,9 @@ loop-field-preserved c before h =
     elim c.if-is_static.branch [
       | then-is_static+in_ok-row_of+in_ok-push w ↦
           let one = subst (λ (x : ClassParts). IsStatic p x m w.in_ok-row_of.field-0) c.parts-parts.ensures.same w.in_ok-row_of.ensures in
-          own_put p before part fields j m c.loop-field.rows c.if-is_static.rows w.in_ok-row_of.field-0 lt is (sym c.is_static.ensures ∙ w.if-is_static.true) (c.loop-field.invariant before h) one (w.rows-is ∙ w.in_ok-push.ensures.ok)
+          own_put p before part fields j m c.loop-field.rows c.if-is_static.rows w.in_ok-row_of.field-0 lt is (sym c.is_static.ensures
+          ∙ w.if-is_static.true) (c.loop-field.invariant before h) one (w.rows-is ∙ w.in_ok-push.ensures.ok)
       | else-is_static w ↦
-          own_passed p before part fields j m c.if-is_static.rows lt is (sym c.is_static.ensures ∙ w.if-is_static.false) (subst (AreStatics p (before ++ own part (take j fields))) (sym w.rows-is) (c.loop-field.invariant before h))
+          own_passed p before part fields j m c.if-is_static.rows lt is (sym c.is_static.ensures ∙ w.if-is_static.false)
+          (subst (AreStatics p (before ++ own part (take j fields))) (sym w.rows-is) (c.loop-field.invariant before h))
     ]

@@ -6,4 +6,5 @@ use Rattle.jready.proofs.Beginning.{own}
 use Rattle.jready.proofs.statics.put_statics.Given as goal
 
 abbrev pub invariant-loop-field : goal.invariant-loop-field
-invariant-loop-field l = (before : List (CodePart × MemberInfo)) → AreStatics l.p before l.fn.rows → AreStatics l.p (before ++ own l.part (take l.field-index l.part.class.fields)) l.rows
+invariant-loop-field l = (before : List (CodePart × MemberInfo)) → AreStatics l.p before l.fn.rows
+    → AreStatics l.p (before ++ own l.part (take l.field-index l.part.class.fields)) l.rows

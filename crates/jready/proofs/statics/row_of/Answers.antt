@@ -15,7 +15,9 @@ returns c =
     let parts = c.args.parts.now in
     let n = c.narrow_of.result in
     let cell = c.cell_in-cell.result in
-    let celled = cell_is p c.named.result.now parts c.args.field.now c.member_desc-desc.result.now c.in_ok-held_type.field-0 cell c.named.ensures.same c.member_desc-desc.ensures c.in_ok-held_type.ensures c.cell_in-cell.ensures in
+    let celled = cell_is p c.named.result.now parts c.args.field.now c.member_desc-desc.result.now c.in_ok-held_type.field-0 cell c.named.ensures.same
+    c.member_desc-desc.ensures c.in_ok-held_type.ensures c.cell_in-cell.ensures in
     let keeps = subst (λ (d : List ℕ). (v : Value ℕ) → narrowed (element d) v ≡ narrow n v) c.member_desc-desc.ensures c.narrow_of.ensures in
     static_is p parts c.args.field.now _ n c.requires celled keeps
-    (λ made. c.first_of-first.ensures made ∙ ap (λ (o : Option ℕ). narrow n (unwrap_or (value_of made parts (option_and_then (slice_get parts.pool) o)) (nothing cell))) c.constant_index.ensures)
+    (λ made. c.first_of-first.ensures made ∙ ap (λ (o : Option ℕ). narrow n
+    (unwrap_or (value_of made parts (option_and_then (slice_get parts.pool) o)) (nothing cell))) c.constant_index.ensures)

@@ -11,5 +11,6 @@ returns c =
     let p = c.args.known.now.p.now in
     let types = c.args.known.now.uses.now.types in
     let code = c.in_ok-push.ensures.ok in
-    let row = bare_is p types old.tables old.code c.push.new.self old.handlers _ c.requires.bare c.domain_at.ensures refl refl (c.in_ok-first.ensures ∙ ap length c.as_slice.ensures) code (c.in_ok-handlers.ensures ∙ ap length c.as_slice-2.ensures) refl in
+    let row = bare_is p types old.tables old.code c.push.new.self old.handlers _ c.requires.bare c.domain_at.ensures refl refl (c.in_ok-first.ensures
+    ∙ ap length c.as_slice.ensures) code (c.in_ok-handlers.ensures ∙ ap length c.as_slice-2.ensures) refl in
     puts p types c.args.id old _ _ c.requires.are (grown_not old.tables) (Off ∷ [], code) (grows_not old.handlers) c.in_ok-push-2.ensures.ok refl row
