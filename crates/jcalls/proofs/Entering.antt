@@ -42,6 +42,7 @@ module _ {E : Type 0} (count : ℕ) (f : Framed E) where
 
   pub fails_so : (r : Rules ℕ E) (p : Program) (plan : Plan) (s : State ℕ E) (class : LibClass)
       → CalledAs r p plan s count f (ways.Raises class) (holding (drop count f.newest.operands) f) (comes r p plan s f count (Fails class))
+  unfolding applied acted
   fails_so r p plan s class = refl
 
   pub runs_so : (r : Rules ℕ E) (p : Program) (plan : Plan) (s : State ℕ E) (call : LibCall)
@@ -79,6 +80,7 @@ module _ {E : Type 0} (count : ℕ) (f : Framed E) where
 
   pub overflows : (depth frames : ℕ) (c : Callee E) (way : Called) (g : Framed E) → frames ≡ length (all f) → true ≡ nat_le depth frames
       → way ≡ ways.Raises overflow → g ≡ holding (drop count f.newest.operands) f → Reaches count (found.Method c) depth f way g
+  unfolding applied acted
   overflows depth frames c way g n full w e r p plan s selected d is = rw (w, e, is.0, full_so plan depth frames true d n full) refl
 
   pub begins_so : (depth frames : ℕ) (c : Callee E) (g : Framed E) → frames ≡ length (all f) → false ≡ nat_le depth frames → c.has_code ≡ true
@@ -94,8 +96,10 @@ module _ {E : Type 0} (count : ℕ) (f : Framed E) where
 
   pub abstract_fails : (depth : ℕ) (way : Called) (g : Framed E) → way ≡ ways.Raises no_code → g ≡ holding (drop count f.newest.operands) f
       → Reaches count found.Abstract depth f way g
+  unfolding applied acted
   abstract_fails depth way g w e r p plan s selected d is = rw (w, e, is.1) refl
 
   pub missing_fails : (depth : ℕ) (way : Called) (g : Framed E) → way ≡ ways.Raises no_code → g ≡ holding (drop count f.newest.operands) f
       → Reaches count found.Missing depth f way g
+  unfolding applied acted
   missing_fails depth way g w e r p plan s selected d is = rw (w, e, is) refl

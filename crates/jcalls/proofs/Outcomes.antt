@@ -6,7 +6,7 @@ use Rattle.jheap.specs.declared.cell.Kind.{Kind}
 use Rattle.jprogram.specs.declared.member.CallKind.TheVariants as call_kinds
 use Rattle.juses.specs.declared.meaning.How.TheVariants as how
 use Rattle.jmachine.specs.Calls.{Fails, no_access, null_pointer, reached, receiver, wrong_class}
-use Rattle.jmachine.specs.Steps.{site}
+use Rattle.jmachine.specs.Steps.{acted, applied, site}
 use Rattle.jmachine.specs.World.{world}
 use Rattle.jstate.specs.Framed.{Framed, holding}
 use Rattle.jstate.specs.SeenLaws.{SeesEach}
@@ -111,23 +111,27 @@ module _ {E : Type 0} (count : ℕ) (what : Found E) (depth : ℕ) (f g : Framed
 
 module _ {E : Type 0} (count : ℕ) (what : Found E) (depth : ℕ) (f g : Framed E) (way : Called) (dropped : g ≡ holding (drop count f.newest.operands) f) where
   pub on_null : way ≡ ways.Raises null_pointer → CallsOn receivers.Null count what depth f way g
+  unfolding applied acted
   on_null w r p plan s shapes things constants h by c is seen on d takes found =
       rw (w, dropped) (comes_so r p plan s f count c by (Fails null_pointer) takes
       (null_target r p plan s f count c by is (null_is h (receiver (take count f.newest.operands)) on)))
 
   pub face_null : (has hidden : Bool) → way ≡ ways.Raises null_pointer → CallsByInterface receivers.Null count what has hidden depth f way g
+  unfolding applied acted
   face_null has hidden w r p plan s shapes things constants h c seen on d takes found of hid =
       rw (w, dropped) (comes_so r p plan s f count c how.Interface (Fails null_pointer) takes
       (interface_null r p plan s f count c (null_is h (receiver (take count f.newest.operands)) on)))
 
   pub without_face : SeesEach → (hidden : Bool) (kind : Kind) → way ≡ ways.Raises wrong_class
       → CallsByInterface (receivers.Object kind) count what false hidden depth f way g
+  unfolding applied acted
   without_face law hidden kind w r p plan s shapes things constants h c seen on d takes found of hid =
       let there : IsThere s.store (receiver (take count f.newest.operands)) kind =
       rw seen (is_there law p shapes things constants h kind (receiver (take count f.newest.operands)) on) in
       rw (w, dropped) (comes_so r p plan s f count c how.Interface (Fails wrong_class) takes (face_target r p plan s f count c kind false hidden there of hid))
 
   pub hidden_fails : SeesEach → (kind : Kind) → way ≡ ways.Raises no_access → CallsByInterface (receivers.Object kind) count what true true depth f way g
+  unfolding applied acted
   hidden_fails law kind w r p plan s shapes things constants h c seen on d takes found of hid =
       let there : IsThere s.store (receiver (take count f.newest.operands)) kind =
       rw seen (is_there law p shapes things constants h kind (receiver (take count f.newest.operands)) on) in

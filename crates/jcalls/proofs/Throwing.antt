@@ -10,9 +10,8 @@ use Rattle.jprogram.specs.declared.part.ClassRef.{ClassRef}
 use Rattle.jprogram.specs.declared.part.ClassRef.TheVariants as refs
 use Rattle.jprogram.specs.declared.member.MethodId.{MethodId}
 use Rattle.jprogram.specs.Classes.{Program}
-use Rattle.jmachine.specs.Acts.{raises}
 use Rattle.jmachine.specs.Objects.{Object, Thrown}
-use Rattle.jmachine.specs.Steps.{acted, applied, thrown_at}
+use Rattle.jmachine.specs.Steps.{thrown_at}
 use Rattle.jmachine.specs.Store.{Store, object_at, paid, with_made}
 use Rattle.jmachine.specs.Unwinding.{with_raised}
 use Rattle.jstate.specs.Framed.{Framed, all}
@@ -23,14 +22,14 @@ use Rattle.jstate.specs.SeenLaws.{Makes}
 use Rattle.jcalls.specs.declared.raising.Raised.{Raised}
 use Rattle.jcalls.specs.declared.raising.Raised.TheVariants as ways
 use Rattle.jcalls.specs.Unwinds.{Unwinds}
-use Rattle.jcalls.specs.Throws.{Raises, Throws}
+use Rattle.jcalls.specs.Throws.{Raises, Throws, raising}
 
 module _ {E : Type 0} (marks : List E) (goes : MethodId → ℕ → Option ℕ) (n : ℕ) (f g : Framed E) where
   pub handled_so : Unwinds marks goes n f true g → Throws marks goes n f ways.Handled g
-  handled_so u r p plan s store x is there told = rw (there, u r.entry_of p _ is told) refl
+  handled_so u r p plan s events store x is there told = rw (there, u r.entry_of p _ is told) refl
 
   pub uncaught_so : Unwinds marks goes n f false g → Throws marks goes n f ways.Uncaught g
-  uncaught_so u r p plan s store x is there told = rw (there, u r.entry_of p _ is told) refl
+  uncaught_so u r p plan s events store x is there told = rw (there, u r.entry_of p _ is told) refl
 
 -- ---- an exception that is made
 
@@ -62,16 +61,14 @@ one_longer (y ∷ xs) x = let e : suc (length xs + 1) ≡ suc (length xs) + 1 = 
 
 module _ {E : Type 0} (marks : List E) (goes : MethodId → ℕ → Option ℕ) (c : ThrownClass) (f g : Framed E) (h k : Heaped) where
   pub full_so : (h.left < 2) → Raises marks goes (lib.Thrown c) f h ways.Full g k
-  unfolding applied
-  full_so few r p plan s shapes things constants is seen told =
+  full_so few r p plan s events shapes things constants is seen told =
       let short : nat_le 2 s.store.left ≡ false = rw seen (search rules) in
       rw short refl
 
   pub raised_so : GivesBack → Makes → AreBuilt h.objects → (way : Raised) (o : ℕ)
       → (2 < h.left + 1) × (o ≡ length h.objects + 1) × (k ≡ made h (kinds.Object (thrown_number c)) 1)
       → Throws marks goes o f way g → Raises marks goes (lib.Thrown c) f h way g k
-  unfolding applied acted
-  raised_so numbers law built way o (few, number, made_is) throws r p plan s shapes things constants is seen told =
+  raised_so numbers law built way o (few, number, made_is) throws r p plan s events shapes things constants is seen told =
       let S : Store ℕ = store_by p shapes things constants h in
       let T : Store ℕ = store_by p shapes things constants k in
       let made_so : T ≡ with_raised (paid 2 S) (lib.Thrown c) None = rw made_is (raised_store numbers law p shapes things constants h built c) in
@@ -81,12 +78,12 @@ module _ {E : Type 0} (marks : List E) (goes : MethodId → ℕ → Option ℕ) 
       let there : object_at T o ≡ Some (Thrown (lib.Thrown c) 0) =
       ap (λ t. object_at t o) made_so ∙ ap (object_at (with_made (paid 2 S) (Thrown (lib.Thrown c) 0))) (sym count)
       ∙ last_object (paid 2 S) (Thrown (lib.Thrown c) 0) in
-      let outcome : applied r p plan s (all f) (raises (lib.Thrown c)) ≡ thrown_at r p plan s (all f) T [] o =
-      rw enough (ap (λ t. thrown_at r p plan s (all f) (with_raised (paid 2 t) (lib.Thrown c) None) []
+      let outcome : raising r p plan s (all f) events (lib.Thrown c) ≡ thrown_at r p plan s (all f) T events o =
+      rw enough (ap (λ t. thrown_at r p plan s (all f) (with_raised (paid 2 t) (lib.Thrown c) None) events
       (length (with_raised (paid 2 t) (lib.Thrown c) None).objects)) seen
-      ∙ ap (λ n. thrown_at r p plan s (all f) (with_raised (paid 2 S) (lib.Thrown c) None) [] n) longer
-      ∙ ap (λ t. thrown_at r p plan s (all f) t [] o) (sym made_so)) in
-      rw outcome (throws r p plan s T (Thrown (lib.Thrown c) 0) is there told)
+      ∙ ap (λ n. thrown_at r p plan s (all f) (with_raised (paid 2 S) (lib.Thrown c) None) events n) longer
+      ∙ ap (λ t. thrown_at r p plan s (all f) t events o) (sym made_so)) in
+      rw outcome (throws r p plan s events T (Thrown (lib.Thrown c) 0) is there told)
 
   pub all_raised : GivesBack → Makes → AreBuilt h.objects → {F : Type 0} (way : Result Raised F) (o : ℕ)
       → (2 < h.left + 1) × (o ≡ length h.objects + 1) × (k ≡ made h (kinds.Object (thrown_number c)) 1)

@@ -22,14 +22,14 @@ use Rattle.juses.specs.Instructions.{Used, code_at}
 use Rattle.juses.specs.Meanings.{Call, CallMeaning}
 use Rattle.jrule.specs.Uses.{arguments, receiver as wanted_receiver}
 use Rattle.jmachine.specs.declared.plan.Plan.{Plan}
-use Rattle.jmachine.specs.Acts.{NoStep, Outcome, Row, State, raises}
+use Rattle.jmachine.specs.Acts.{NoStep, Outcome, Row, State}
 use Rattle.jmachine.specs.Calls.{Target, init_taken, is_hidden, reached, receiver, special}
 use Rattle.jmachine.specs.Doing.{called, run, with_row}
 use Rattle.jmachine.specs.Frames.{domain_of}
 use Rattle.jmachine.specs.Objects.{Object, class_of}
 use Rattle.jmachine.specs.Operands.{Taken, taken}
 use Rattle.jmachine.specs.Security.{Rules}
-use Rattle.jmachine.specs.Steps.{applied, done, entries, executed, own_fields, site, went}
+use Rattle.jmachine.specs.Steps.{done, entries, executed, own_fields, site, went}
 use Rattle.jmachine.specs.Store.{Store, object_of}
 use Rattle.jmachine.specs.World.{World, class_id, is_instance, world}
 use Rattle.jstate.specs.Framed.{Framed, all}
@@ -43,6 +43,7 @@ use Rattle.jcalls.specs.declared.calls.Found.{Found}
 use Rattle.jcalls.specs.declared.calls.Found.TheVariants as found
 use Rattle.jcalls.specs.declared.receiver.Receiver.{Receiver}
 use Rattle.jcalls.specs.declared.receiver.Receiver.TheVariants as receivers
+use Rattle.jcalls.specs.Throws.{raising}
 
 -- ---- what is known of a method
 
@@ -120,7 +121,7 @@ is_full plan f = nat_le plan.depth (length (all f))
 -- it is stuck.
 abbrev pub CalledAs : {E : Type 0} → Rules ℕ E → Program → Plan → State ℕ E → ℕ → Framed E → Called → Framed E → Outcome (State ℕ E) → Type 0
 CalledAs r p plan s count f ways.Begun g outcome = outcome ≡ went r p plan s (all g) s.store []
-CalledAs r p plan s count f (ways.Raises class) g outcome = outcome ≡ applied r p plan s (all g) (raises class)
+CalledAs r p plan s count f (ways.Raises class) g outcome = outcome ≡ raising r p plan s (all g) [] class
 CalledAs r p plan s count f (ways.Runs call) g outcome =
     let own = own_fields p f.newest.method in
     (g ≡ f) × (outcome ≡ stepped r p plan s f count

@@ -1,22 +1,23 @@
 -- What a step comes to in which something is raised or thrown (JVMS 2.10).
-use Rattle.std.specs.Prelude.{◌≡◌, ℕ, true, List, [], ◌∷◌, Option, Some}
+use Rattle.std.specs.Prelude.{◌≡◌, ℕ, true, List, [], ◌∷◌, ◌++◌, nat_le, Option, Some, None, if◌then◌else◌}
 use Rattle.std.specs.List.{AllByRecursion}
 use Rattle.jheap.specs.Heaps.{Heaped}
 use Rattle.jlib.specs.declared.classes.LibClass.{LibClass}
 use Rattle.jtypes.specs.declared.vtype.VType.{VType}
 use Rattle.jtypes.specs.declared.vtype.VType.TheVariants as types
+use Rattle.jtrace.specs.declared.event.Event.{Event}
 use Rattle.jtrace.specs.declared.event.Event.TheVariants.{Throw, Uncaught}
 use Rattle.jtrace.specs.declared.event.End.TheVariants.{HeapFull}
 use Rattle.jprogram.specs.declared.member.MethodId.{MethodId}
 use Rattle.jprogram.specs.Classes.{Program}
 use Rattle.jmachine.specs.declared.plan.Plan.{Plan}
-use Rattle.jmachine.specs.Acts.{Outcome, Over, State, raises}
+use Rattle.jmachine.specs.Acts.{FrameOf, Outcome, Over, State, two}
 use Rattle.jmachine.specs.Objects.{Object, class_of, library_name}
 use Rattle.jmachine.specs.Security.{Rules}
-use Rattle.jmachine.specs.Steps.{applied, thrown_at, went}
-use Rattle.jmachine.specs.Store.{Store, object_at}
+use Rattle.jmachine.specs.Steps.{raised, thrown_at, went}
+use Rattle.jmachine.specs.Store.{Store, object_at, paid}
 use Rattle.jmachine.specs.Turns.{ended, thread_of}
-use Rattle.jmachine.specs.Unwinding.{told_name}
+use Rattle.jmachine.specs.Unwinding.{told_name, with_raised}
 use Rattle.jmachine.specs.World.{world}
 use Rattle.jstate.specs.Framed.{Framed, all}
 use Rattle.jstate.specs.declared.shapes.Shapes.{Shapes}
@@ -26,24 +27,29 @@ use Rattle.jcalls.specs.declared.raising.Raised.TheVariants as ways
 use Rattle.jcalls.specs.Marks.{marks_of}
 use Rattle.jcalls.specs.Unwinds.{IsTold}
 
--- The cells for the exception aren't there, and the run is over; or the thread goes on with these frames; or it has ended by the exception.
-abbrev pub RaisedAs : {E : Type 0} → Rules ℕ E → Program → Plan → State ℕ E → VType → Store ℕ → Raised → Framed E → Outcome (State ℕ E) → Type 0
-RaisedAs r p plan s type store ways.Full g outcome = outcome ≡ Over s [] HeapFull
-RaisedAs r p plan s type store ways.Handled g outcome = outcome ≡ went r p plan s (all g) store (Throw (thread_of s) (told_name type) ∷ [])
-RaisedAs r p plan s type store ways.Uncaught g outcome =
-    outcome ≡ ended plan.schedule s store true (Throw (thread_of s) (told_name type) ∷ Uncaught (thread_of s) (told_name type) ∷ [])
+-- What raising an exception of a class of the library comes to behind these events, without a message: it costs its cells, and where they
+-- aren't there nothing changes.
+abbrev pub raising : {E : Type 0} → Rules ℕ E → Program → Plan → State ℕ E → List (FrameOf ℕ E) → List Event → LibClass → Outcome (State ℕ E)
+raising r p plan s frames told class =
+    if nat_le two s.store.left then raised r p plan s frames told (with_raised (paid two s.store) class None) else Over s [] HeapFull
 
--- An exception of a class of the library, without a message, was raised in these frames, and these were left.
+-- The cells for the exception aren't there, and the run is over; or the thread goes on with these frames; or it has ended by the exception.
+abbrev pub RaisedAs : {E : Type 0} → Rules ℕ E → Program → Plan → State ℕ E → List Event → VType → Store ℕ → Raised → Framed E → Outcome (State ℕ E) → Type 0
+RaisedAs r p plan s told type store ways.Full g outcome = outcome ≡ Over s [] HeapFull
+RaisedAs r p plan s told type store ways.Handled g outcome = outcome ≡ went r p plan s (all g) store (told ++ Throw (thread_of s) (told_name type) ∷ [])
+RaisedAs r p plan s told type store ways.Uncaught g outcome =
+    outcome ≡ ended plan.schedule s store true (told ++ Throw (thread_of s) (told_name type) ∷ Uncaught (thread_of s) (told_name type) ∷ [])
+
+-- An exception of a class of the library was raised in these frames, and these were left.
 abbrev pub Raises : {E : Type 0} → List E → (MethodId → ℕ → Option ℕ) → LibClass → Framed E → Heaped → Raised → Framed E → Heaped → Type 0
-Raises {E} marks goes class f h way g k =
-    (r : Rules ℕ E) (p : Program) (plan : Plan) (s : State ℕ E) (shapes : Shapes) (things : Things) (constants : List (List ℕ × ℕ))
-    → let type = types.Object (library_name class) in
+Raises {E} marks goes class f h way g k = (r : Rules ℕ E) (p : Program) (plan : Plan) (s : State ℕ E) (told : List Event)
+    (shapes : Shapes) (things : Things) (constants : List (List ℕ × ℕ)) → let type = types.Object (library_name class) in
     marks ≡ marks_of r.entry_of p → s.store ≡ store_by p shapes things constants h → AllByRecursion (IsTold p type goes) (all f)
-    → RaisedAs r p plan s type (store_by p shapes things constants k) way g (applied r p plan s (all f) (raises class))
+    → RaisedAs r p plan s told type (store_by p shapes things constants k) way g (raising r p plan s (all f) told class)
 
 -- The object of a number was thrown in these frames, and these were left.
 abbrev pub Throws : {E : Type 0} → List E → (MethodId → ℕ → Option ℕ) → ℕ → Framed E → Raised → Framed E → Type 0
-Throws {E} marks goes n f way g = (r : Rules ℕ E) (p : Program) (plan : Plan) (s : State ℕ E) (store : Store ℕ) (x : Object ℕ)
+Throws {E} marks goes n f way g = (r : Rules ℕ E) (p : Program) (plan : Plan) (s : State ℕ E) (told : List Event) (store : Store ℕ) (x : Object ℕ)
     → let type = class_of (world p).named x in
     marks ≡ marks_of r.entry_of p → object_at store n ≡ Some x → AllByRecursion (IsTold p type goes) (all f)
-    → RaisedAs r p plan s type store way g (thrown_at r p plan s (all f) store [] n)
+    → RaisedAs r p plan s told type store way g (thrown_at r p plan s (all f) store told n)
