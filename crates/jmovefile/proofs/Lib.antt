@@ -1,0 +1,9 @@
+pub mod Beginning
+pub mod Calling
+pub mod Cutting
+pub mod Filing
+pub mod Naming
+pub mod Pooling
+pub mod Referring
+pub mod Sound
+pub mod Texts

@@ -1,0 +1,6 @@
+//! What a moved class is: its pool, and the class file around its methods.
+#![tactic(auto)]
+
+mod laws;
+
+pub use laws::{file_law, pool_law};
