@@ -1,0 +1,9 @@
+mod Costs
+mod LoadRows
+mod OneMore
+mod PrintRows
+mod Reading
+mod StringRows
+mod TextRows
+mod Units
+mod Writing

@@ -1,0 +1,54 @@
+-- Constants.
+use Rattle.std.proofs.Common.{◌≡◌, ◌∙◌, ℕ, ◌+◌, ◌<◌, ◌^◌, ℤ, List, [], ◌∷◌, ◌++◌, length, get_or, Option, Some, None, false, sym, ap, ap₂, arith, rules}
+use Rattle.std.specs.Prelude.{nat_le}
+use Rattle.std.proofs.lemmas.Bool.{le-leb}
+use Rattle.std.proofs.lemmas.List.{length-map}
+use Rattle.jops.specs.declared.value.Value.TheVariants.{Int, Long, Ref}
+use Rattle.jheap.specs.declared.cell.Kind.TheVariants as kinds
+use Rattle.jheap.specs.Heaps.{Heaped}
+use Rattle.jprogram.specs.Classes.{Program}
+use Rattle.juses.specs.Meanings as meanings
+use Rattle.jmachine.specs.Making.{push, units_of as units_held}
+use Rattle.jmachine.specs.Objects.{Text}
+use Rattle.jmachine.specs.Store.{Store, constant_at, next_number, paid, with_constant, with_made}
+use Rattle.jstate.specs.declared.shapes.Shapes.{Shapes}
+use Rattle.jstate.specs.Seen.{AreBuilt, Things, object_by, store_by}
+use Rattle.jtexts.specs.HeapTexts.{Puts}
+use Rattle.jtexts.specs.Loaded.{constants_behind}
+use Rattle.jtexts.specs.Rans.{Comes, leaves}
+use Rattle.jtexts.specs.declared.ran.Ran.TheVariants as rans
+use Rattle.jtexts.proofs.Costs.{at_no_cost}
+use Rattle.jtexts.proofs.TextRows.{text_view}
+
+module _ (E : Type 0) (s : Store ℕ) where
+  pub int_row : (n : ℤ) → Comes {E = E} s (push s (meanings.Int n) []) (leaves (rans.Gave (Int n)) [] s)
+  unfolding push
+  int_row n = at_no_cost s s (rans.Gave (Int n)) [] (leaves rans.Full [] s)
+
+  pub long_row : (n : ℤ) → Comes {E = E} s (push s (meanings.Long n) []) (leaves (rans.Gave (Long n)) [] s)
+  unfolding push
+  long_row n = at_no_cost s s (rans.Gave (Long n)) [] (leaves rans.Full [] s)
+
+module _ (E : Type 0) (p : Program) (shapes : Shapes) (things : Things) (constants : List (List ℕ × ℕ)) (bytes us : List ℕ) where
+  abbrev at : Heaped → Store ℕ
+  at h = store_by p shapes things constants h
+
+  pub known_row : (h : Heaped) (o : ℕ) → units_held bytes ≡ us → constant_at constants us ≡ Some o → Comes {E = E} (at h) (push (at h) (meanings.Text bytes) []) (leaves (rans.Gave (Ref o)) [] (at h))
+  unfolding push
+  known_row h o held known = rw (held, known) (at_no_cost (at h) (at h) (rans.Gave (Ref o)) [] (leaves rans.Full [] (at h)))
+
+  pub full_row : (old new : Heaped) → units_held bytes ≡ us → constant_at constants us ≡ None → Puts kinds.Text us old new None
+      → Comes {E = E} (at old) (push (at old) (meanings.Text bytes) []) (leaves rans.Full [] (at new))
+  unfolding push
+  full_row old new held none (few, is) =
+      let short : nat_le (2 + length us) old.left ≡ false = search rules in
+      rw (held, none, short) (ap (λ h. leaves rans.Full [] (at h)) is)
+
+  pub made_row : (old new : Heaped) (o : ℕ) → AreBuilt old.objects → ((i : ℕ) → get_or us i 0 < 2 ^ 16) → units_held bytes ≡ us → constant_at constants us ≡ None → Puts kinds.Text us old new (Some o)
+      → Comes {E = E} (at old) (push (at old) (meanings.Text bytes) []) (leaves (rans.Gave (Ref o)) [] (store_by p shapes things (constants ++ (us, o) ∷ []) new))
+  unfolding push
+  made_row old new o built small held none (few, number, is) =
+      let next : o ≡ next_number (at old) = number ∙ ap (λ k. k + 1) (sym (length-map old.objects (object_by p shapes old.objects things))) in
+      let view = text_view p shapes things (constants ++ (us, o) ∷ []) us old new built small is in
+      let there = ap (λ n. paid (2 + length us) (with_made (store_by p shapes things (constants ++ (us, n) ∷ []) old) (Text (Some us)))) next in
+      rw (held, none, le-leb (2 + length us) old.left few) (ap₂ (λ (n : ℕ) (t : Store ℕ). leaves (rans.Gave (Ref n)) [] t) next (view ∙ there))

@@ -1,0 +1,5 @@
+pub mod HeapTexts
+pub mod Loaded
+pub mod Printed
+pub mod Rans
+pub mod Shown

@@ -1,0 +1,17 @@
+//! What the library's members do that ask nothing of access control, by numbers: one function a member, from the operands of its call.
+#![tactic(auto)]
+
+mod loading;
+mod making;
+mod object;
+mod printing;
+mod ran;
+mod shown;
+mod strings;
+mod texts;
+
+pub use loading::{load_int, load_long, load_text};
+pub use object::object_init;
+pub use printing::{print, print_end};
+pub use ran::Ran;
+pub use strings::{char_at, concat, equals, length};

@@ -1,0 +1,59 @@
+ghost use Rattle.std.specs.Prelude.{◌≡◌, ◌<◌, ◌^◌, [], ℕ, List, IfOk, Some, length as len};
+ghost use Rattle.jheap.specs.declared.cell.Kind.TheVariants as kinds;
+ghost use Rattle.jheap.specs.Heaps.{cells_at};
+ghost use Rattle.jprogram.specs.Classes.{Program};
+ghost use Rattle.jmachine.specs.Making as making;
+ghost use Rattle.jstate.specs.declared.shapes.Shapes.{Shapes};
+ghost use Rattle.jstate.specs.Seen.{AreBuilt, Things, store_by};
+ghost use Rattle.jtexts.specs.HeapTexts.{Puts, written};
+ghost use Rattle.jtexts.specs.Rans.{Comes, leaves};
+
+use crate::ran::Ran;
+use jheap::{Heap, Kind};
+use jops::Value;
+use std::alloc::{AllocError, Global};
+
+/// Writes units into the cells of a text or a piece, of which there are as many.
+#[tactic(auto, unfolding(crate::specs::HeapTexts::written))]
+fn write_units(heap: &mut Heap, o: u32, units: &[u16])
+    requires many { len (cells_at heap.old o) ≡ len units.now }
+    requires few { len units.now < 2 ^ 32 }
+    ensures { heap.new ≡ written heap.old o 0 units.now }
+{
+    let mut i: u32 = 0;
+    for unit in units {
+        heap.set_unit(o, i, *unit);
+        i += 1;
+    }
+}
+
+/// Makes a text of these units, where the cells for it are left. Where they aren't, nothing changes.
+pub(crate) fn put_text(
+    alloc: Global,
+    heap: &mut Heap,
+    units: &[u16],
+) -> Result<Option<u32>, AllocError>
+    ensures { IfOk result (λ o. Puts kinds.Text units.now heap.old heap.new o) }
+{
+    if units.len() >= heap.left() as usize {
+        return Ok(None);
+    }
+    let made = heap.make(alloc, Kind::Text, units.len() as u32)?;
+    if let Some(o) = made {
+        write_units(heap, o, units);
+    }
+    Ok(made)
+}
+
+/// A new string of these units.
+pub(crate) fn text_made<M>(alloc: Global, heap: &mut Heap, units: &[u16]) -> Result<Ran, AllocError>
+    requires { AreBuilt heap.old.objects }
+    ensures { IfOk result (λ ran. (p : Program) (shapes : Shapes) (things : Things) (constants : List (List ℕ × ℕ)) →
+        let s = store_by p shapes things constants heap.old in
+        Comes {E = M} s (Some (making.text_made s units.now)) (leaves ran [] (store_by p shapes things constants heap.new))) }
+{
+    match put_text(alloc, heap, units)? {
+        None => Ok(Ran::Full),
+        Some(o) => Ok(Ran::Gave(Value::Ref(o))),
+    }
+}

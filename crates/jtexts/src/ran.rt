@@ -1,0 +1,17 @@
+use jlib::LibClass;
+use jops::Value;
+
+/// What a call of the library came to.
+#[derive(Clone, Copy, Debug, PartialEq, Eq)]
+pub enum Ran {
+    /// It went, and gives nothing.
+    Went,
+    /// It gives a value.
+    Gave(Value),
+    /// An exception of a class is raised, without a message.
+    Raises(LibClass),
+    /// The heap has too few cells left, and nothing has changed.
+    Full,
+    /// The state has no step.
+    Stuck,
+}
