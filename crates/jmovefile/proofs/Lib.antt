@@ -2,6 +2,7 @@ pub mod Beginning
 pub mod Calling
 pub mod Cutting
 pub mod Filing
+pub mod Framing
 pub mod Naming
 pub mod Pooling
 pub mod Referring

@@ -3,4 +3,4 @@
 
 mod laws;
 
-pub use laws::{file_law, pool_law};
+pub use laws::{file_law, frame_laws, pool_law};

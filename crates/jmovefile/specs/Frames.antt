@@ -1,0 +1,24 @@
+-- Frames whose items name classes that are there (JVMS 4.7.4).
+use Rattle.std.specs.Prelude.{ℕ, List, None, IsTrue}
+use Rattle.std.specs.List.{AllByRecursion, list_all}
+use Rattle.jpool.specs.declared.entry.Entry.{Entry}
+use Rattle.jmaps.specs.declared.types.FullFrame.{FullFrame}
+use Rattle.jmaps.specs.declared.types.MapType.{MapType}
+use Rattle.jmaps.specs.Full.{can_write, full_forms, items_fit}
+use Rattle.jclass.specs.declared.class.CodeBody.{CodeBody}
+use Rattle.jclass.specs.Codes.{maps, named_type}
+use Rattle.jmoveclass.specs.Methods.{frames_in, frames_of}
+
+-- the classes that the items of frames name stand in a pool
+abbrev pub AreThere : List Entry → List FullFrame → Type 0
+AreThere pool fs = AllByRecursion (λ f. IsTrue (list_all (named_type pool).fits f.locals) × IsTrue (list_all (named_type pool).fits f.stack)) fs
+
+-- Frames in full name classes that are there, where those do from which they are made,
+abbrev pub FullFrames : Type 0
+FullFrames = (pool : List Entry) (first : List MapType) (b : CodeBody) → IsTrue (list_all (named_type pool).fits first)
+    → IsTrue ((maps pool).fits (frames_in b)) → AreThere pool (frames_of first b)
+
+-- and where they can be written they are frames of a class file with this pool.
+abbrev pub FramesFit : Type 0
+FramesFit = (pool : List Entry) (fs : List FullFrame) → IsTrue (can_write fs) → IsTrue (items_fit fs) → AreThere pool fs
+    → IsTrue ((maps pool).fits (full_forms None fs))
