@@ -5,5 +5,6 @@ mod PrintRows
 mod Reading
 mod StringRows
 mod TextRows
+mod ThrownRows
 mod Units
 mod Writing

@@ -1,5 +1,5 @@
 -- Constants.
-use Rattle.std.proofs.Common.{◌≡◌, ◌∙◌, ℕ, ◌+◌, ◌<◌, ◌^◌, ℤ, List, [], ◌∷◌, ◌++◌, length, get_or, Option, Some, None, false, sym, ap, ap₂, arith, rules}
+use Rattle.std.proofs.Common.{◌≡◌, ◌∙◌, ℕ, ◌+◌, ◌<◌, ◌^◌, ℤ, List, [], ◌∷◌, ◌++◌, length, get_or, Some, None, false, sym, ap, ap₂, rules}
 use Rattle.std.specs.Prelude.{nat_le}
 use Rattle.std.proofs.lemmas.Bool.{le-leb}
 use Rattle.std.proofs.lemmas.List.{length-map}
@@ -10,11 +10,10 @@ use Rattle.jprogram.specs.Classes.{Program}
 use Rattle.juses.specs.Meanings as meanings
 use Rattle.jmachine.specs.Making.{push, units_of as units_held}
 use Rattle.jmachine.specs.Objects.{Text}
-use Rattle.jmachine.specs.Store.{Store, constant_at, next_number, paid, with_constant, with_made}
+use Rattle.jmachine.specs.Store.{Store, constant_at, next_number, paid, with_made}
 use Rattle.jstate.specs.declared.shapes.Shapes.{Shapes}
 use Rattle.jstate.specs.Seen.{AreBuilt, Things, object_by, store_by}
 use Rattle.jtexts.specs.HeapTexts.{Puts}
-use Rattle.jtexts.specs.Loaded.{constants_behind}
 use Rattle.jtexts.specs.Rans.{Comes, leaves}
 use Rattle.jtexts.specs.declared.ran.Ran.TheVariants as rans
 use Rattle.jtexts.proofs.Costs.{at_no_cost}

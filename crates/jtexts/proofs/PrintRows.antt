@@ -1,6 +1,5 @@
 -- What is printed.
 use Rattle.std.proofs.Common.{◌≡◌, ◌∙◌, ℕ, zero, suc, List, [], ◌∷◌, Option, Some, None, refl, sym}
-use Rattle.std.specs.Prelude.{IfOk, Result, Ok, Err}
 use Rattle.jops.specs.declared.value.Value.{Value}
 use Rattle.jops.specs.declared.value.Value.TheVariants.{Int, Long, Ref, Ctx}
 use Rattle.jheap.specs.Heaps.{Heaped}
@@ -13,7 +12,6 @@ use Rattle.jmachine.specs.Texts.{print, print_end, printed, units_or_null}
 use Rattle.jstate.specs.declared.shapes.Shapes.{Shapes}
 use Rattle.jstate.specs.Seen.{Things, store_by}
 use Rattle.jstate.specs.SeenLaws.{SeesEach}
-use Rattle.jtexts.specs.HeapTexts.{text_in}
 use Rattle.jtexts.specs.Printed.{Prints}
 use Rattle.jtexts.specs.Rans.{leaves}
 use Rattle.jtexts.specs.Shown.{shown, text_or_null}

@@ -1,5 +1,6 @@
 pub mod HeapTexts
 pub mod Loaded
+pub mod Messages
 pub mod Printed
 pub mod Rans
 pub mod Shown

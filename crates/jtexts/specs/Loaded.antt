@@ -1,5 +1,5 @@
 -- String constants that were made.
-use Rattle.std.specs.Prelude.{ℕ, List, [], ◌∷◌, ◌++◌, Option, Some, None}
+use Rattle.std.specs.Prelude.{ℕ, List, [], ◌∷◌, ◌++◌, Option, None}
 use Rattle.jops.specs.declared.value.Value.TheVariants.{Ref}
 use Rattle.jtexts.specs.declared.ran.Ran.{Ran}
 use Rattle.jtexts.specs.declared.ran.Ran.TheVariants as rans

@@ -3,15 +3,15 @@
 
 mod loading;
 mod making;
-mod object;
 mod printing;
 mod ran;
 mod shown;
 mod strings;
 mod texts;
+mod thrown;
 
 pub use loading::{load_int, load_long, load_text};
-pub use object::object_init;
 pub use printing::{print, print_end};
 pub use ran::Ran;
 pub use strings::{char_at, concat, equals, length};
+pub use thrown::{message, object_init};

@@ -1,0 +1,156 @@
+-- Messages.
+use Rattle.std.proofs.Common.{◌≡◌, ◌∙◌, ℕ, zero, suc, ◌+◌, ◌-◌, ◌<◌, ◌≤◌, Bool, true, false, List, [], ◌∷◌, drop, length, Option, Some, None, refl, sym, ap, arith, rules}
+use Rattle.std.specs.Prelude.{option_map, slice_get, unwrap_or, nat_lt, nat_eq, if◌then◌else◌}
+use Rattle.std.proofs.lemmas.Bool.{lt-ltb}
+use Rattle.jops.specs.declared.value.Value.{Value}
+use Rattle.jops.specs.declared.value.Value.TheVariants.{Int, Long, Ref, Ctx}
+use Rattle.jheap.specs.declared.cell.Kind.{Kind}
+use Rattle.jheap.specs.declared.cell.Kind.TheVariants as kinds
+use Rattle.jheap.specs.Heaps as heaps
+use Rattle.jheap.specs.Heaps.{Heaped}
+use Rattle.jlib.specs.declared.classes.LibClass.{LibClass}
+use Rattle.jlib.specs.declared.classes.LibClass.TheVariants as lib
+use Rattle.jprogram.specs.declared.part.ClassRef.{ClassRef}
+use Rattle.jprogram.specs.declared.part.ClassRef.TheVariants as refs
+use Rattle.jprogram.specs.Classes.{Program}
+use Rattle.jmachine.specs.Library.{object_init}
+use Rattle.jmachine.specs.Store.{Store, object_at}
+use Rattle.jmachine.specs.Throwables.{message, message_of}
+use Rattle.jstate.specs.declared.shapes.Shape.{Shape}
+use Rattle.jstate.specs.declared.shapes.Shapes.{Shapes}
+use Rattle.jstate.specs.Numbers.{class_numbered, library_at, library_classes, library_count}
+use Rattle.jstate.specs.Seen.{Things, class_by, first, kind_by, named_by, object_by, store_by, user_by}
+use Rattle.jstate.specs.SeenLaws.{SeesEach}
+use Rattle.jtexts.specs.Messages.{has_message, kind_told, message_by_shape, message_named, object_told, told_by}
+use Rattle.jtexts.specs.Rans.{Comes, leaves}
+use Rattle.jtexts.specs.declared.ran.Ran.TheVariants as rans
+use Rattle.jtexts.proofs.Costs.{at_no_cost}
+
+pub init_row : (E : Type 0) (s : Store ℕ) (v : Value ℕ) → Comes {E = E} s (object_init s (v ∷ [])) (leaves rans.Went [] s)
+init_row E s v = at_no_cost s s rans.Went [] (leaves rans.Full [] s)
+
+-- ---- what the definition sees
+
+module _ (p : Program) (shapes : Shapes) (things : Things) (objects : List heaps.Object) where
+  user_told : (i : ℕ) (o : Option Shape) (cells : List ℕ) → message_of (Some (user_by i o cells)) ≡ Some (message_by_shape o cells)
+  user_told i None cells = refl
+  user_told i (Some shape) cells = refl
+
+  class_told : (c : ClassRef) (cells : List ℕ) → message_of (Some (class_by shapes objects things c cells)) ≡ told_by shapes c cells
+  class_told (refs.User i) cells = user_told i (slice_get shapes.users i) cells
+  class_told (refs.Lib (lib.Thrown c)) cells = refl
+  class_told (refs.Lib lib.AccessControlException) cells = refl
+  class_told (refs.Lib lib.String) cells = refl
+  class_told (refs.Lib lib.StringBuilder) cells = refl
+  class_told (refs.Lib (lib.Permission c)) cells = refl
+  class_told (refs.Lib lib.AccessControlContext) cells = refl
+  class_told (refs.Lib lib.Thread) cells = refl
+  class_told (refs.Lib lib.Object) cells = refl
+  class_told (refs.Lib lib.System) cells = refl
+  class_told (refs.Lib lib.PrintStream) cells = refl
+  class_told (refs.Lib lib.Void) cells = refl
+  class_told (refs.Lib lib.Cloneable) cells = refl
+  class_told (refs.Lib lib.Serializable) cells = refl
+  class_told (refs.Lib lib.Runnable) cells = refl
+  class_told (refs.Lib lib.PrivilegedAction) cells = refl
+  class_told (refs.Lib lib.AccessController) cells = refl
+  class_told (refs.Lib lib.Rt) cells = refl
+  class_told (refs.Lib lib.Ctx) cells = refl
+
+  kind_is_told : (kind : Kind) (cells : List ℕ) → message_of (Some (kind_by p shapes objects things kind cells)) ≡ kind_told shapes kind cells
+  kind_is_told (kinds.Object n) cells = class_told (class_numbered n) cells
+  kind_is_told (kinds.Array a) cells = refl
+  kind_is_told kinds.Text cells = refl
+  kind_is_told kinds.Piece cells = refl
+
+  object_is_told : (x : Option heaps.Object) → message_of (option_map (object_by p shapes objects things) x) ≡ object_told shapes x
+  object_is_told None = refl
+  object_is_told (Some x) = kind_is_told x.kind x.cells
+
+-- ---- getMessage
+
+module _ (E : Type 0) (s : Store ℕ) where
+  message_gives : (o m : ℕ) → message_of (object_at s o) ≡ Some m → Comes {E = E} s (message s (Ref o ∷ [])) (leaves (rans.Gave (Ref m)) [] s)
+  unfolding message
+  message_gives o m e = rw e (at_no_cost s s (rans.Gave (Ref m)) [] (leaves rans.Full [] s))
+
+  message_none : (o : ℕ) → message_of (object_at s o) ≡ None → Comes {E = E} s (message s (Ref o ∷ [])) (leaves rans.Stuck [] s)
+  unfolding message
+  message_none o e = rw e refl
+
+module _ (E : Type 0) (each : SeesEach) (shapes : Shapes) (h : Heaped) (p : Program) (things : Things) (constants : List (List ℕ × ℕ)) where
+  abbrev known : Store ℕ
+  known = store_by p shapes things constants h
+
+  sees : (o : ℕ) → message_of (object_at known o) ≡ object_told shapes (heaps.object_at h o)
+  sees o = ap message_of (each p shapes things constants h o) ∙ object_is_told p shapes things h.objects (heaps.object_at h o)
+
+  pub message_some : (v : Value ℕ) (m : ℕ) → Some m ≡ message_named shapes h v → Comes {E = E} known (message known (v ∷ [])) (leaves (rans.Gave (Ref m)) [] known)
+  message_some (Ref o) m e = message_gives E known o m (sees o ∙ sym e)
+  message_some (Int x) m e = cc
+  message_some (Long x) m e = cc
+  message_some (Ctx k) m e = cc
+
+  pub message_stuck : (v : Value ℕ) → None ≡ message_named shapes h v → Comes {E = E} known (message known (v ∷ [])) (leaves rans.Stuck [] known)
+  unfolding message
+  message_stuck (Ref o) e = message_none E known o (sees o ∙ sym e)
+  message_stuck (Int x) e = refl
+  message_stuck (Long x) e = refl
+  message_stuck (Ctx k) e = refl
+
+-- ---- classes of the library by their numbers
+
+abbrev low : ℕ → Bool
+low n = if nat_lt n 23 then true else nat_eq n 31
+
+-- the classes of a list that have messages are those of which a test says so by their places, counted from a number
+abbrev as_said : (ℕ → Bool) → ℕ → List LibClass → Bool
+as_said said n [] = true
+as_said said n (c ∷ cs) = if has_message c then (if said n then as_said said (suc n) cs else false) else (if said n then false else as_said said (suc n) cs)
+
+same : (a b r : Bool) → (if a then (if b then r else false) else (if b then false else r)) ≡ true → a ≡ b
+same true true r e = refl
+same true false r e = cc
+same false true r e = cc
+same false false r e = refl
+
+rest : (a b r : Bool) → (if a then (if b then r else false) else (if b then false else r)) ≡ true → r ≡ true
+rest true true r e = e
+rest true false r e = cc
+rest false true r e = cc
+rest false false r e = e
+
+has_at : (said : ℕ → Bool) (cs : List LibClass) (n k : ℕ) → as_said said n cs ≡ true → k < length cs → has_message (unwrap_or (slice_get cs k) lib.Object) ≡ said (k + n)
+has_at said [] n k all h = absurd (omega (arith, h))
+has_at said (c ∷ cs) n zero all h = let here : n ≡ 0 + n = omega arith in same (has_message c) (said n) (as_said said (suc n) cs) all ∙ ap said here
+has_at said (c ∷ cs) n (suc k) all h =
+    let behind = rest (has_message c) (said n) (as_said said (suc n) cs) all in
+    let moved : k + suc n ≡ suc k + n = omega arith in
+    has_at said cs (suc n) k behind (omega (arith, h)) ∙ ap said moved
+
+has_low : (k : ℕ) → k < library_count → has_message (library_at k) ≡ low k
+has_low k h = let none : k + 0 ≡ k = omega arith in has_at low library_classes 0 k refl h ∙ ap low none
+
+pub first_ones : (k : ℕ) → k < 23 → true ≡ has_message (library_at k)
+first_ones k h = let small : nat_lt k 23 ≡ true = lt-ltb k 23 h in sym (has_low k (omega (arith, h)) ∙ rw small refl)
+
+pub last_one : (k : ℕ) → 23 ≤ k → k < library_count → nat_eq k 31 ≡ has_message (library_at k)
+last_one k h less = let large : nat_lt k 23 ≡ false = search rules in sym (has_low k less ∙ rw large refl)
+
+pub library_told : (shapes : Shapes) (n : ℕ) (cells : List ℕ) → n < library_count → told_by shapes (class_numbered n) cells ≡ (if has_message (library_at n) then Some (named_by (first cells)) else None)
+library_told shapes n cells h = let small : nat_lt n library_count ≡ true = lt-ltb n library_count h in rw small refl
+
+pub users_told : (shapes : Shapes) (n : ℕ) (cells : List ℕ) → library_count ≤ n → Some (message_by_shape (slice_get shapes.users (n - library_count)) cells) ≡ told_by shapes (class_numbered n) cells
+users_told shapes n cells h = let large : nat_lt n library_count ≡ false = search rules in rw large refl
+
+-- ---- cells
+
+pub first_drop : (cells : List ℕ) (i : ℕ) → first (drop i cells) ≡ unwrap_or (slice_get cells i) 0
+first_drop [] zero = refl
+first_drop [] (suc i) = refl
+first_drop (c ∷ cells) zero = refl
+first_drop (c ∷ cells) (suc i) = first_drop cells i
+
+abbrev pub number_in : Value ℕ → ℕ
+number_in (Ref n) = n
+number_in v = 0

@@ -1,0 +1,44 @@
+-- The messages of objects of the heap that can be thrown.
+use Rattle.std.specs.Prelude.{ℕ, Bool, true, false, List, drop, length, Option, Some, None, slice_get, if◌then◌else◌}
+use Rattle.jops.specs.declared.value.Value.{Value}
+use Rattle.jops.specs.declared.value.Value.TheVariants.{Ref}
+use Rattle.jheap.specs.declared.cell.Kind.{Kind}
+use Rattle.jheap.specs.declared.cell.Kind.TheVariants as kinds
+use Rattle.jheap.specs.Heaps as heaps
+use Rattle.jheap.specs.Heaps.{Heaped, object_at}
+use Rattle.jlib.specs.declared.classes.LibClass.{LibClass}
+use Rattle.jlib.specs.declared.classes.LibClass.TheVariants as lib
+use Rattle.jprogram.specs.declared.part.ClassRef.{ClassRef}
+use Rattle.jprogram.specs.declared.part.ClassRef.TheVariants as refs
+use Rattle.jstate.specs.declared.shapes.Shape.{Shape}
+use Rattle.jstate.specs.declared.shapes.Shapes.{Shapes}
+use Rattle.jstate.specs.Numbers.{class_numbered}
+use Rattle.jstate.specs.Seen.{first, message_by, named_by}
+
+-- objects of a class of the library that can be thrown have one
+abbrev pub has_message : LibClass → Bool
+has_message (lib.Thrown c) = true
+has_message lib.AccessControlException = true
+has_message c = false
+
+-- those of a user's class have it in a cell behind their fields
+abbrev pub message_by_shape : Option Shape → List ℕ → ℕ
+message_by_shape None cells = 0
+message_by_shape (Some shape) cells = message_by shape.message (drop (length shape.cells) cells)
+
+abbrev pub told_by : Shapes → ClassRef → List ℕ → Option ℕ
+told_by shapes (refs.User i) cells = Some (message_by_shape (slice_get shapes.users i) cells)
+told_by shapes (refs.Lib c) cells = if has_message c then Some (named_by (first cells)) else None
+
+abbrev pub kind_told : Shapes → Kind → List ℕ → Option ℕ
+kind_told shapes (kinds.Object n) cells = told_by shapes (class_numbered n) cells
+kind_told shapes kind cells = None
+
+abbrev pub object_told : Shapes → Option heaps.Object → Option ℕ
+object_told shapes None = None
+object_told shapes (Some x) = kind_told shapes x.kind x.cells
+
+-- the message of the object that a value names
+abbrev pub message_named : Shapes → Heaped → Value ℕ → Option ℕ
+message_named shapes h (Ref o) = object_told shapes (object_at h o)
+message_named shapes h v = None

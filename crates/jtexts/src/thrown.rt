@@ -1,0 +1,117 @@
+ghost use Rattle.std.specs.Prelude.{◌≡◌, ◌<◌, ◌∷◌, [], ℕ, List, drop, is_some, slice_get, true};
+ghost use Rattle.jheap.specs.Heaps.{cells_at, object_at};
+ghost use Rattle.jprogram.specs.Classes.{Program};
+ghost use Rattle.jmachine.specs.Library.{object_init as init_row};
+ghost use Rattle.jmachine.specs.Store.{Store};
+ghost use Rattle.jmachine.specs.Throwables.{message as message_row};
+ghost use Rattle.jstate.specs.Numbers.{class_numbered, library_at, library_count};
+ghost use Rattle.jstate.specs.Seen.{Things, first, named_by, store_by};
+ghost use Rattle.jtexts.specs.Messages.{has_message, message_by_shape, message_named, told_by};
+ghost use Rattle.jtexts.specs.Rans.{Comes, leaves};
+
+use crate::ran::Ran;
+use jheap::{CellType, Heap, Kind};
+use jops::Value;
+use jstate::{Shapes, heap_laws};
+
+/// The constructor of Object does nothing. `M` is what frames carry, which no call looks at.
+#[inline]
+pub fn object_init<M>(object: Value) -> Ran
+    ensures { (s : Store ℕ) → Comes {E = M} s (init_row s (object ∷ [])) (leaves result [] s) }
+{
+    let _ = object;
+    Ran::Went
+}
+
+/// Whether objects of a class of the library have a message, by its number.
+#[inline]
+fn is_thrown(class: u32) -> bool
+    requires { class < library_count }
+    ensures { result ≡ has_message (library_at class) }
+{
+    if class < 23 {
+        return true;
+    }
+    class == 31
+}
+
+/// The object that a cell names, 0 where there is no such cell.
+#[inline]
+fn named_at(heap: &Heap, o: u32, at: usize) -> u32
+    requires { is_some (object_at heap.now o) ≡ true }
+    ensures { result ≡ named_by (first (drop at (cells_at heap.now o))) }
+{
+    if at >= heap.len(o) as usize {
+        return 0;
+    }
+    match heap.cell(o, at as u32, CellType::Ref) {
+        Value::Ref(n) => n,
+        Value::Int(_) => 0,
+        Value::Long(_) => 0,
+        Value::Ctx(_) => 0,
+    }
+}
+
+/// The message of an object of a user's class, 0 where it has none.
+#[inline]
+fn user_message(heap: &Heap, shapes: &Shapes, o: u32, class: usize) -> u32
+    requires { is_some (object_at heap.now o) ≡ true }
+    ensures { result ≡ message_by_shape (slice_get shapes.now.users class) (cells_at heap.now o) }
+{
+    match shapes.users.as_slice().get(class) {
+        None => 0,
+        Some(shape) => {
+            if !shape.message {
+                return 0;
+            }
+            named_at(heap, o, shape.cells.as_slice().len())
+        }
+    }
+}
+
+/// The message of an object of a class, by the heap's number for it, where such objects have one.
+#[inline]
+fn class_message(heap: &Heap, shapes: &Shapes, o: u32, class: u32) -> Option<u32>
+    requires { is_some (object_at heap.now o) ≡ true }
+    ensures { result ≡ told_by shapes.now (class_numbered class) (cells_at heap.now o) }
+{
+    if class >= 46 {
+        return Some(user_message(heap, shapes, o, (class - 46) as usize));
+    }
+    if is_thrown(class) {
+        return Some(named_at(heap, o, 0));
+    }
+    None
+}
+
+/// The message of the object that a value names, where it can have one.
+#[inline]
+fn message_in(heap: &Heap, shapes: &Shapes, value: Value) -> Option<u32>
+    ensures { result ≡ message_named shapes.now heap.now value }
+{
+    match value {
+        Value::Int(_) => None,
+        Value::Long(_) => None,
+        Value::Ctx(_) => None,
+        Value::Ref(o) => match heap.found(o) {
+            Some(Kind::Object(class)) => class_message(heap, shapes, o, class),
+            Some(Kind::Array(_)) => None,
+            Some(Kind::Text) => None,
+            Some(Kind::Piece) => None,
+            None => None,
+        },
+    }
+}
+
+/// Throwable's `getMessage`.
+#[inline]
+pub fn message<M>(heap: &Heap, shapes: &Shapes, thrown: Value) -> Ran
+    ensures { (p : Program) (things : Things) (constants : List (List ℕ × ℕ)) →
+        let s = store_by p shapes.now things constants heap.now in Comes {E = M} s (message_row s (thrown ∷ [])) (leaves result [] s) }
+{
+    heap_laws();
+    match message_in(heap, shapes, thrown) {
+        None => Ran::Stuck,
+        Some(m) => Ran::Gave(Value::Ref(m)),
+    }
+}
