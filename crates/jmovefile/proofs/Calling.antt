@@ -42,12 +42,12 @@ kind_in (Some (Method class both)) = Some false
 kind_in (Some (InterfaceMethod class both)) = Some true
 kind_in _ = None
 
-record IsReference (o : Option Entry) (b : Bool) : Type 0 where
+pub record IsReference (o : Option Entry) (b : Bool) : Type 0 where
   pub class : ℕ
   pub two : ℕ
   pub is : o ≡ Some (reference b class two)
 
-reference_of : (o : Option Entry) (b : Bool) → kind_in o ≡ Some b → IsReference o b
+pub reference_of : (o : Option Entry) (b : Bool) → kind_in o ≡ Some b → IsReference o b
 reference_of (Some (Method c d)) false h = record { class = c; two = d; is = refl }
 reference_of (Some (Method c d)) true h = absurd cc
 reference_of (Some (InterfaceMethod c d)) true h = record { class = c; two = d; is = refl }

@@ -27,6 +27,7 @@ use Rattle.jmoveclass.proofs.Keeping.{all_on, class_attribute_on, field_on, inde
 use Rattle.jmoveclass.proofs.Stored.{class_tail}
 use Rattle.jmoveclass.proofs.Turning.{each_grows}
 use Rattle.jmovefile.specs.Files.{CanBeFile}
+use Rattle.jmovefile.proofs.Methods.{methods_good}
 use Rattle.jmovefile.proofs.Pooling.{head_stays}
 
 pub pool_front : (p : Program) (domain : ℕ) (c : ClassParts) → IsFront c.pool (moved_class p domain c).pool
@@ -114,7 +115,7 @@ tail_stays p domain c t good =
     (both _ _ (both (list_all (method whole).fits x.0) (u2.fits (length x.0)) good many)
     (attributes_on pool whole f (class_keeps pool) c.attributes (second_true ((counted u2 (method pool)).fits c.methods) _ g)))))))
 
-pub file_from : (p : Program) (domain : ℕ) (c : ClassParts) → CanBeFile p domain c → IsTrue (list_all (method (moved_class p domain c).pool).fits (moved_class p domain c).methods) → IsTrue (class_file.fits (moved_class p domain c))
+pub file_from : (p : Program) (domain : ℕ) (c : ClassParts) → CanBeFile p domain c → IsTrue (class_file.fits (moved_class p domain c))
 unfolding class_file strict
-file_from p domain c k good =
-    both (judging.head.fits (class_parts (moved_class p domain c)).0) ((tail (moved_class p domain c).pool).fits (class_parts (moved_class p domain c)).1) (head_stays p domain c k) (tail_stays p domain c (class_tail c k.good) good)
+file_from p domain c k =
+    both (judging.head.fits (class_parts (moved_class p domain c)).0) ((tail (moved_class p domain c).pool).fits (class_parts (moved_class p domain c)).1) (head_stays p domain c k) (tail_stays p domain c (class_tail c k.good) (methods_good p domain c k))

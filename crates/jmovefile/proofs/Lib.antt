@@ -1,8 +1,14 @@
 pub mod Beginning
+pub mod Bodying
 pub mod Calling
+pub mod Coding
 pub mod Cutting
 pub mod Filing
 pub mod Framing
+pub mod Handling
+pub mod Mapping
+pub mod Measuring
+pub mod Methods
 pub mod Naming
 pub mod Pooling
 pub mod Referring

@@ -56,15 +56,15 @@ use Rattle.jmoveclass.specs.declared.limit.Limit.{Limit}
 use Rattle.jmoveclass.specs.declared.limit.RewriteKind.TheVariants.{PoolFull}
 use Rattle.jmoveclass.specs.Calls.{asking, calling, calling_library, expand_by, expands}
 use Rattle.jmoveclass.specs.Limits.{at_method, class_limit, method_limit, pool_limit}
-use Rattle.jmoveclass.specs.Methods.{frames_in, method_in, new_desc, with_attribute, with_code, with_first, with_method}
+use Rattle.jmoveclass.specs.Methods.{frames_in, frames_of, method_in, new_desc, with_attribute, with_code, with_first, with_method}
 use Rattle.jmoveclass.specs.Moved.{moved_class}
 use Rattle.jmoveclass.specs.Puts.{with_each}
 use Rattle.jmoveclass.proofs.Growth.{attribute_grows, first_grows, method_grows}
 use Rattle.jmoveclass.proofs.Short.{moved_short}
 use Rattle.jmoveclass.proofs.Stored.{begun, is_method_of}
 use Rattle.jmoveclass.proofs.Turning.{each_grows}
-use Rattle.jmovefile.proofs.Beginning.{Begins, begins_of, desc_text, put_first}
-use Rattle.jmovefile.proofs.Calling.{AreCalls, IsCall, kind_in, put_body}
+use Rattle.jmovefile.proofs.Beginning.{AreItems, Begins, begins_of, desc_text, put_first}
+use Rattle.jmovefile.proofs.Calling.{AreCalls, IsBody, IsCall, kind_in, put_body}
 use Rattle.jmovefile.specs.Files.{CanBeFile, HasRoom, HaveRoom}
 use Rattle.jmovefile.proofs.Sound.{IsSound, IsText, entry_front, front_length, map_good, name_text, or_good, put_text}
 use Rattle.jmovefile.proofs.Texts.{longer, longer_text, moved_is}
@@ -112,7 +112,7 @@ sound_of c fit =
 -- ---- calls that change
 
 -- of what calls become only the same call is handed a context
-abbrev CallsOnly : ℕ → Expand → Type 0
+abbrev pub CallsOnly : ℕ → Expand → Type 0
 CallsOnly n (Call i) = i ≡ n
 CallsOnly n k = Unit {0}
 
@@ -144,7 +144,7 @@ library_only n calls.ContextCheck = tt
 library_only n (calls.PermissionInit one) = tt
 library_only n (calls.Rt one) = tt
 
-calling_only : (n : ℕ) (o : Option Member) → CallsOnly n (calling n o)
+pub calling_only : (n : ℕ) (o : Option Member) → CallsOnly n (calling n o)
 calling_only n None = tt
 calling_only n (Some (members.Field i j)) = tt
 calling_only n (Some (members.Method m)) = refl
@@ -254,24 +254,38 @@ code_calls p c b has room = ops_calls p c b.ops room (ops_named c.pool b (code_f
 -- ---- what is put, method by method
 
 -- the pool has grown from the class's
-record Grown (base pool : List Entry) : Type 0 where
+pub record Grown (base pool : List Entry) : Type 0 where
   pub front : IsFront base pool
   pub before : IsSound base
   pub sound : IsSound pool
 
-put_code : (p : Program) (c : ClassParts) (domain : ℕ) (m : MemberInfo) (name : ℕ) (b : CodeBody) (pool : List Entry) → Grown c.pool pool → Begins c m → AreCalls c.pool (expands p c.pool b.ops)
-    → length (with_code p c domain m name b pool).1 ≤ 65535 → IsSound (with_code p c domain m name b pool).1
+-- what was put for a code: the classes that its frames begin with, and what it calls and names
+pub record IsCodePut (p : Program) (c : ClassParts) (m : MemberInfo) (b : CodeBody) (pool : List Entry) : Type 0 where
+  pub items : AreItems (with_first c m (frames_in b) pool).1 (with_first c m (frames_in b) pool).0
+  pub body : IsBody c.pool (expands p c.pool b.ops) (frames_of (with_first c m (frames_in b) pool).0 b)
+      (with_body (expands p c.pool b.ops) (frames_of (with_first c m (frames_in b) pool).0 b) (with_first c m (frames_in b) pool).1)
+
+pub code_put : (p : Program) (c : ClassParts) (domain : ℕ) (m : MemberInfo) (name : ℕ) (b : CodeBody) (pool : List Entry) → Grown c.pool pool → Begins c m → AreCalls c.pool (expands p c.pool b.ops)
+    → length (with_code p c domain m name b pool).1 ≤ 65535 → IsCodePut p c m b pool
 unfolding with_code ◌>>◌
-put_code p c domain m name b pool g begins calls few =
+code_put p c domain m name b pool g begins calls few =
     let x = with_first c m (frames_in b) pool in
     let ks = expands p c.pool b.ops in
     let fs = (method_in c m b x.0).frames in
     let y = with_body ks fs x.1 in
     let le : length x.1 ≤ length y.1 = front_length x.1 y.1 ((body_grows ks fs).on x.1) in
     let q = put_first c m (frames_in b) pool g.sound begins (omega arith) in
-    (put_body c.pool ks fs x.1 (front_on c.pool pool x.1 g.front ((first_grows c m (frames_in b)).on pool)) g.before q.0 calls few).sound
+    record {
+      items = q.1;
+      body = put_body c.pool ks fs x.1 (front_on c.pool pool x.1 g.front ((first_grows c m (frames_in b)).on pool)) g.before q.0 calls few;
+    }
 
-put_attribute : (p : Program) (c : ClassParts) (domain : ℕ) (m : MemberInfo) (a : Attribute) (pool : List Entry) → Grown c.pool pool → Begins c m
+put_code : (p : Program) (c : ClassParts) (domain : ℕ) (m : MemberInfo) (name : ℕ) (b : CodeBody) (pool : List Entry) → Grown c.pool pool → Begins c m → AreCalls c.pool (expands p c.pool b.ops)
+    → length (with_code p c domain m name b pool).1 ≤ 65535 → IsSound (with_code p c domain m name b pool).1
+unfolding with_code ◌>>◌
+put_code p c domain m name b pool g begins calls few = (code_put p c domain m name b pool g begins calls few).body.sound
+
+pub put_attribute : (p : Program) (c : ClassParts) (domain : ℕ) (m : MemberInfo) (a : Attribute) (pool : List Entry) → Grown c.pool pool → Begins c m
     → ((b : CodeBody) → body_of a ≡ Some b → AreCalls c.pool (expands p c.pool b.ops)) → length (with_attribute p c domain m a pool).1 ≤ 65535 → IsSound (with_attribute p c domain m a pool).1
 unfolding ◌>>◌
 put_attribute p c domain m (attributes.Code name stack locals is handlers others) pool g begins calls few =
@@ -293,7 +307,7 @@ put_attributes p c domain m (a ∷ xs) pool g begins calls few =
     put_attributes p c domain m xs x.1 (record { front = front_on c.pool pool x.1 g.front ((attribute_grows p c domain m a).on pool); before = g.before; sound = q }) begins (λ i d b at e. calls (suc i) d b at e) few
 
 -- the new descriptor of a method
-new_text : (c : ClassParts) (m : MemberInfo) → IsTrue (class_file.fits c) → IsSound c.pool → IsIn m c.methods → length (member_desc c m) ≤ 65526 → IsText (new_desc c m)
+pub new_text : (c : ClassParts) (m : MemberInfo) → IsTrue (class_file.fits c) → IsSound c.pool → IsIn m c.methods → length (member_desc c m) ≤ 65526 → IsText (new_desc c m)
 new_text c m fit s there short =
     let d = is_method_of c m fit there in
     let is : new_desc c m ≡ longer d.params d.ret = ap or_empty (moved_is (member_desc c m) d.params d.ret d.is) in
@@ -302,13 +316,13 @@ new_text c m fit s there short =
     subst IsText (sym is) (longer_text (member_desc c m) d.params d.ret text d.is (subst (λ (l : List ℕ). length l ≤ 65535) is few))
 
 -- what is known of a class that is to be moved
-record Movable (p : Program) (c : ClassParts) : Type 0 where
+pub record Movable (p : Program) (c : ClassParts) : Type 0 where
   pub good : IsTrue (class_file.fits c)
   pub sound : IsSound c.pool
   pub short : (m : MemberInfo) → IsIn m c.methods → length (member_desc c m) ≤ 65526
   pub room : HaveRoom p c
 
-put_method : (p : Program) (c : ClassParts) (domain : ℕ) (m : MemberInfo) (pool : List Entry) → Movable p c → IsIn m c.methods → Grown c.pool pool → length (with_method p c domain m pool).1 ≤ 65535 → IsSound (with_method p c domain m pool).1
+pub put_method : (p : Program) (c : ClassParts) (domain : ℕ) (m : MemberInfo) (pool : List Entry) → Movable p c → IsIn m c.methods → Grown c.pool pool → length (with_method p c domain m pool).1 ≤ 65535 → IsSound (with_method p c domain m pool).1
 unfolding with_method ◌>>◌
 put_method p c domain m pool k there g few =
     let text = new_desc c m in

@@ -1,4 +1,4 @@
-ghost use Rattle.jmovefile.specs.Files.{FileStays, HeadStays};
+ghost use Rattle.jmovefile.specs.Files.{FileStays, HeadStays, MethodsStay};
 ghost use Rattle.jmovefile.specs.Frames.{FramesFit, FullFrames};
 
 /// The law of pools. What a moved class puts into its pool may stand there: each entry has a spelling, texts are in modified UTF-8, names and
@@ -7,8 +7,13 @@ pub fn pool_law()
     ensures { HeadStays }
 {}
 
-/// The law of files. But for its methods, all that stands behind the pool of a moved class meets what is asked of class files; so the class
-/// is one where each of its methods meets what is asked of methods.
+/// The law of methods. Each method of a moved class meets what is asked of methods: its code has a spelling and names what it must name, its
+/// handlers and frames stand at instructions, and what it holds beside them is what a method may hold (JVMS 4.6, 4.7.3, 4.7.4).
+pub fn method_law()
+    ensures { MethodsStay }
+{}
+
+/// The law of files. A moved class is a class file: all that stands in it and behind its pool meets what is asked of class files.
 pub fn file_law()
     ensures { FileStays }
 {}

@@ -1,6 +1,6 @@
-//! What a moved class is: its pool, and the class file around its methods.
+//! What a moved class is: a class file, its pool and its methods.
 #![tactic(auto)]
 
 mod laws;
 
-pub use laws::{file_law, frame_laws, pool_law};
+pub use laws::{file_law, frame_laws, method_law, pool_law};
