@@ -28,7 +28,7 @@ use Rattle.jobjs.specs.declared.casts.Named.TheVariants as names
 use Rattle.jobjs.specs.Serving.{IsOne, Serve, ServeThrown, named_seen}
 use Rattle.jobjs.proofs.Served.{front_one, has_front, not_served, taken_front}
 
-null_there : (v : Option (Value ℕ)) → names.Null ≡ named_seen v → Some (Ref zero) ≡ v
+pub null_there : (v : Option (Value ℕ)) → names.Null ≡ named_seen v → Some (Ref zero) ≡ v
 null_there None h = cc
 null_there (Some (Int x)) h = cc
 null_there (Some (Long x)) h = cc
@@ -36,12 +36,12 @@ null_there (Some (Ref zero)) h = refl
 null_there (Some (Ref (suc m))) h = cc
 null_there (Some (Ctx k)) h = cc
 
-record IsNamed (v : Option (Value ℕ)) (n : ℕ) : Type 0 where
+pub record IsNamed (v : Option (Value ℕ)) (n : ℕ) : Type 0 where
   pub before : ℕ
   pub number : n ≡ suc before
   pub value : Some (Ref (suc before)) ≡ v
 
-is_named : (v : Option (Value ℕ)) (n : ℕ) → names.Object n ≡ named_seen v → IsNamed v n
+pub is_named : (v : Option (Value ℕ)) (n : ℕ) → names.Object n ≡ named_seen v → IsNamed v n
 is_named None n h = cc
 is_named (Some (Int x)) n h = cc
 is_named (Some (Long x)) n h = cc

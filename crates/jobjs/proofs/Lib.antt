@@ -1,6 +1,9 @@
+pub mod Branches
 pub mod Casting
 pub mod Getting
 pub mod News
 pub mod Putting
+pub mod Refs
 pub mod Served
 pub mod Statics
+pub mod Testing

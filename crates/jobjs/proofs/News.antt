@@ -1,13 +1,15 @@
 -- New objects.
-use Rattle.std.proofs.Common.{◌≡◌, ◌∙◌, ℕ, ◌+◌, ◌<◌, ◌≤◌, Bool, false, List, [], ◌∷◌, length, replicate, Some, inl, inr, refl, sym, ap, ap₂, arith, rules}
-use Rattle.std.specs.Prelude.{Result, Ok, Err, IfOk, OnOk, nat_le}
+use Rattle.std.proofs.Common.{◌≡◌, ◌∙◌, ℕ, zero, suc, ◌+◌, ◌<◌, ◌≤◌, Bool, true, false, List, [], ◌∷◌, ◌++◌, drop, length, map, replicate, Some, None, inl, inr, refl, sym, ap, ap₂, arith, rules, subst}
+use Rattle.std.specs.Prelude.{Result, Ok, Err, IfOk, OnOk, nat_le, option_map, slice_get}
 use Rattle.std.proofs.lemmas.Bool.{le-leb}
 use Rattle.std.proofs.lemmas.List.{length-map}
 use Rattle.jheap.specs.declared.cell.Kind.TheVariants as kinds
 use Rattle.jheap.specs.Heaps as heaps
 use Rattle.jheap.specs.Heaps.{Heaped}
+use Rattle.jheap.specs.Raw.{of_raw}
 use Rattle.jlib.specs.declared.classes.LibClass.{LibClass}
 use Rattle.jlib.specs.declared.classes.LibClass.TheVariants as lib
+use Rattle.jops.specs.declared.value.Value.{Value}
 use Rattle.jops.specs.declared.value.Value.TheVariants.{Ref}
 use Rattle.jprogram.specs.Classes.{Program}
 use Rattle.jprogram.specs.declared.member.Member.{Member}
@@ -15,26 +17,29 @@ use Rattle.jprogram.specs.declared.part.ClassRef.{ClassRef}
 use Rattle.jprogram.specs.declared.part.ClassRef.TheVariants as refs
 use Rattle.jrule.specs.Uses.{exchange}
 use Rattle.jtypes.specs.declared.vtype.Name.{Name}
+use Rattle.jtypes.specs.declared.vtype.VType.{VType}
+use Rattle.jtypes.specs.declared.vtype.VType.TheVariants as types
 use Rattle.juses.specs.Instructions as instructions
 use Rattle.juses.specs.Meanings as meanings
 use Rattle.jmachine.specs.Acts.{FrameOf}
 use Rattle.jmachine.specs.Doing.{doing, used}
 use Rattle.jmachine.specs.Frames.{onward}
-use Rattle.jmachine.specs.Making.{library_object, make, object_of}
-use Rattle.jmachine.specs.Objects.{Object}
+use Rattle.jmachine.specs.Making.{library_object, make, message_cell, object_of}
+use Rattle.jmachine.specs.Narrowing.{default}
+use Rattle.jmachine.specs.Objects.{Object, Instance}
 use Rattle.jmachine.specs.Operands.{taken}
 use Rattle.jmachine.specs.Sites.{Site}
 use Rattle.jmachine.specs.Store.{Store, next_number, paid, with_made}
-use Rattle.jmachine.specs.World.{World}
+use Rattle.jmachine.specs.World.{World, can_be_thrown}
 use Rattle.jstate.specs.declared.shapes.Shapes.{Shapes}
 use Rattle.jstate.specs.Framed.{Framed}
 use Rattle.jstate.specs.Numbers.{GivesBack, library_number}
-use Rattle.jstate.specs.Seen.{AreBuilt, Things, built_by, class_by, kind_by, library_by, object_by, store_by}
+use Rattle.jstate.specs.Seen.{AreBuilt, Things, built_by, class_by, kind_by, library_by, message_by, object_by, store_by, user_by, values_of}
 use Rattle.jstate.specs.SeenLaws.{MadeStaysBuilt, Makes}
 use Rattle.jacts.specs.Ways.{ActsWhere, leaves}
 use Rattle.jacts.specs.declared.way.Way.{Way}
 use Rattle.jacts.specs.declared.way.Way.TheVariants as ways
-use Rattle.jobjs.specs.Made.{HasNew, cells_of}
+use Rattle.jobjs.specs.Made.{HasNew, HasShape, cell_of, cells_in, cells_of}
 
 -- ---- the row
 
@@ -128,6 +133,78 @@ library_row law back (Ok way) class s t h g made built = λ p shapes things cons
     made_row law p shapes things constants c (refs.Lib class) (library_number class) (cells_of class) s t h g way built made r at own entries inherited
     (named, library_made p shapes things h.objects back at.world class)
 library_row law back (Err e) class s t h g made built = tt
+
+-- ---- objects of users' classes
+
+zero_value : (t : VType) → of_raw (cell_of t) 0 ≡ default t
+zero_value types.Top = refl
+zero_value types.Int = refl
+zero_value types.Long = refl
+zero_value types.Null = refl
+zero_value types.UninitThis = refl
+zero_value (types.Uninit o) = refl
+zero_value (types.Object c) = refl
+zero_value (types.Array a) = refl
+zero_value types.Ctx = refl
+
+zero_values : (ts : List VType) (more : List ℕ) → values_of (map cell_of ts) (replicate (length ts) 0 ++ more) ≡ map default ts
+unfolding values_of
+zero_values [] more = refl
+zero_values (t ∷ ts) more = ap₂ (λ v vs. v ∷ vs) (zero_value t) (zero_values ts more)
+
+zero_message : (b : Bool) → message_by b (replicate (message_cell b) 0) ≡ 0
+zero_message true = refl
+zero_message false = refl
+
+drop_front : (n : ℕ) (more : List ℕ) → drop n (replicate n 0 ++ more) ≡ more
+drop_front zero more = refl
+drop_front (suc n) more = drop_front n more
+
+both_zero : (n m : ℕ) → replicate {A = ℕ} (n + m) 0 ≡ replicate {A = ℕ} n 0 ++ replicate {A = ℕ} m 0
+both_zero zero m = let e : 0 + m ≡ m = omega arith in ap (λ k. replicate {A = ℕ} k 0) e
+both_zero (suc n) m = let e : suc n + m ≡ suc (n + m) = omega arith in ap (λ k. replicate {A = ℕ} k 0) e ∙ ap (λ (xs : List ℕ). 0 ∷ xs) (both_zero n m)
+
+module _ (w : World) (shapes : Shapes) (class : ℕ) (has : HasShape w shapes class) where
+  pub user_made : GivesBack → (p : Program) (things : Things) (objects : List heaps.Object)
+      → object_of w (refs.User class) ≡ record { object = kind_by p shapes objects things (kinds.Object (46 + class)) (replicate (cells_in has.shape) 0); cells = 1 + cells_in has.shape }
+  user_made law p things objects =
+      let shape = has.shape in
+      let count = length shape.cells in
+      let many : length (w.layout class) ≡ count = sym (ap length has.fields ∙ length-map (w.layout class) cell_of) in
+      let cells : 1 + message_cell (can_be_thrown w (w.named class)) + length (w.layout class) ≡ 1 + cells_in shape =
+      ap₂ (λ b n. 1 + message_cell b + n) (sym has.message) many ∙ omega arith in
+      let zeros : replicate (cells_in shape) 0 ≡ replicate count 0 ++ replicate (message_cell shape.message) 0 = both_zero count (message_cell shape.message) in
+      let message = ap (message_by shape.message) (ap (drop count) zeros ∙ drop_front count (replicate (message_cell shape.message) 0)) ∙ zero_message shape.message in
+      let values = ap₂ values_of has.fields (zeros ∙ ap (λ n. replicate n 0 ++ replicate (message_cell shape.message) 0) (sym many)) ∙ zero_values (w.layout class) (replicate (message_cell shape.message) 0) in
+      let object = ap (λ c. class_by shapes objects things c (replicate (cells_in shape) 0)) (law (refs.User class)) ∙ ap (λ x. user_by class x (replicate (cells_in shape) 0)) has.there
+      ∙ ap₂ (λ (n : ℕ) (vs : List (Value ℕ)). Instance class n vs) message values in
+      ap₂ (λ (x : Object ℕ) (n : ℕ). record { object = x; cells = n }) (sym object) cells
+
+  count_is : (count : ℕ) → Some count ≡ option_map cells_in (slice_get shapes.users class) → count ≡ cells_in has.shape
+  count_is count is = let both : Some count ≡ Some (cells_in has.shape) = is ∙ ap (option_map cells_in) has.there in cc
+
+  no_count : {A : Type 0} → None ≡ option_map cells_in (slice_get shapes.users class) → A
+  no_count is = let both : None ≡ Some (cells_in has.shape) = is ∙ ap (option_map cells_in) has.there in cc
+
+module _ (shapes : Shapes) (class : ℕ) (c : Name) where
+  abbrev Shaped : Site → (Member → Bool) → Type 0
+  Shaped at own = (at.world.class c ≡ Some (refs.User class)) × HasShape at.world shapes class
+
+  -- the class has no shape
+  pub user_none : None ≡ option_map cells_in (slice_get shapes.users class) → {E : Type 0} (f g : FrameOf ℕ E) (s t : Store ℕ) → ActsWhere Shaped (instructions.Used (meanings.Make c)) f s (leaves ways.Stuck [] g t)
+  user_none none f g s t r at own entries inherited told = no_count at.world shapes class told.1 none
+
+pub user_row : Makes → GivesBack → {E F : Type 0} (result : Result Way F) (shapes : Shapes) (class count : ℕ) → Some count ≡ option_map cells_in (slice_get shapes.users class) → (s t : Framed E) (h g : Heaped)
+    → IfOk result (λ way. HasNew (kinds.Object (46 + class)) count s h way t g) → AreBuilt h.objects
+    → IfOk result (λ way. (p : Program) (things : Things) (constants : List (List ℕ × ℕ)) (c : Name) →
+    ActsWhere (Shaped shapes class c) (instructions.Used (meanings.Make c)) s.newest
+    (store_by p shapes things constants h) (leaves way [] t.newest (store_by p shapes things constants g)))
+user_row law back (Ok way) shapes class count is s t h g made built = λ p things constants c r at own entries inherited told.
+    let same = count_is at.world shapes class told.1 count is in
+    let object = subst (λ (n : ℕ). object_of at.world (refs.User class) ≡ record { object = kind_by p shapes h.objects things (kinds.Object (46 + class)) (replicate n 0); cells = 1 + n }) (sym same)
+    (user_made at.world shapes class told.1 back p things h.objects) in
+    made_row law p shapes things constants c (refs.User class) (46 + class) count s t h g way built made r at own entries inherited (told.0, object)
+user_row law back (Err e) shapes class count is s t h g made built = tt
 
 pub new_stays : MadeStaysBuilt → {E F : Type 0} (result : Result Way F) (number count : ℕ) (s t : Framed E) (h g : Heaped) → IfOk result (λ way. HasNew (kinds.Object number) count s h way t g)
     → AreBuilt h.objects → OnOk result (AreBuilt g.objects)

@@ -87,7 +87,7 @@ past (x ∷ xs) (suc i) none = let rest = past xs i none in omega (arith, rest)
 none_lt : {A : Type 0} (xs : List A) (i : ℕ) → slice_get xs i ≡ None → nat_lt i (length xs) ≡ false
 none_lt xs i none = let high = past xs i none in search rules
 
-next : {A : Type 0} (xs : List A) → slice_get xs 1 ≡ slice_get (drop 1 xs) 0
+pub next : {A : Type 0} (xs : List A) → slice_get xs 1 ≡ slice_get (drop 1 xs) 0
 next [] = refl
 next (x ∷ xs) = refl
 

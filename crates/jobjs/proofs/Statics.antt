@@ -35,7 +35,7 @@ use Rattle.jstate.specs.declared.shapes.Shapes.{Shapes}
 use Rattle.jstate.specs.Framed.{Framed, with_newest}
 use Rattle.jstate.specs.Seen.{Things, store_by, values_of}
 use Rattle.jstate.specs.SeenLaws.{Reads, WritesStatic}
-use Rattle.jacts.specs.Ways.{ActsWhere, Comes, GoesFree, leaves}
+use Rattle.jacts.specs.Ways.{Acts, ActsWhere, Comes, GoesFree, leaves}
 use Rattle.jacts.specs.declared.way.Way.{Way}
 use Rattle.jacts.specs.declared.way.Way.TheVariants as ways
 use Rattle.jobjs.specs.Fielded.{HoldsOnly, KeepsAs, StandsStatic, is_users}
@@ -116,3 +116,16 @@ pub all_got : Reads → {E F : Type 0} → GoesFree E → (result : Result Way F
     (store_by p shapes things constants h) (leaves way [] t.newest (store_by p shapes things constants h)))
 all_got reads free (Ok way) s t h slot of there went is = λ p shapes things constants m. rw (went, is) (static_got s.newest h slot of p shapes things constants m reads free there)
 all_got reads free (Err e) s t h slot of there went is = tt
+
+-- ---- the library's
+
+out_got : {E : Type 0} → GoesFree E → (f : FrameOf ℕ E) (m : FieldMeaning) (s : Store ℕ) → m.member ≡ members.LibField
+    → Acts (instructions.Used (meanings.Field ops.GetStatic m)) f s (leaves ways.Went [] (onward f (Ref 1 ∷ [])) s)
+unfolding doing used exchange taken field
+out_got free f m s is r at own entries inherited = rw is (free f s s [] (onward f (Ref 1 ∷ [])))
+
+pub all_out : {E F : Type 0} → GoesFree E → (result : Result Way F) (s t : Framed E) → IfOk result (λ way. way ≡ ways.Went) → OnOk result (t ≡ with_newest (onward s.newest (Ref 1 ∷ [])) s)
+    → IfOk result (λ way. (m : FieldMeaning) (st : Store ℕ) → m.member ≡ members.LibField
+    → Acts (instructions.Used (meanings.Field ops.GetStatic m)) s.newest st (leaves way [] t.newest st))
+all_out free (Ok way) s t went is = λ m st field. rw (went, is) (out_got free s.newest m st field)
+all_out free (Err e) s t went is = tt

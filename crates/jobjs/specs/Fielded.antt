@@ -2,7 +2,6 @@
 use Rattle.std.specs.Prelude.{◌≡◌, ◌-◌, ℕ, Bool, true, false, Option, Some, None, option_and_then, slice_get, nat_lt, if◌then◌else◌}
 use Rattle.jheap.specs.declared.cell.CellType.{CellType}
 use Rattle.jheap.specs.Heaps.{Heaped}
-use Rattle.jheap.specs.Raw.{of_raw}
 use Rattle.jheap.specs.Raw as numbers
 use Rattle.jops.specs.declared.value.Value.{Value}
 use Rattle.jprogram.specs.declared.member.Member.{Member}

@@ -1,3 +1,4 @@
+pub mod Branching
 pub mod Fielded
 pub mod Made
 pub mod Serving

@@ -1,11 +1,19 @@
 -- What `new` makes.
-use Rattle.std.specs.Prelude.{◌≡◌, ◌+◌, ◌<◌, ◌⊎◌, ℕ, [], ◌∷◌, length}
+use Rattle.std.specs.Prelude.{◌≡◌, ◌+◌, ◌<◌, ◌⊎◌, ℕ, [], ◌∷◌, Some, length, map, slice_get}
+use Rattle.jheap.specs.declared.cell.CellType.{CellType}
+use Rattle.jheap.specs.declared.cell.CellType.TheVariants as cells
 use Rattle.jheap.specs.declared.cell.Kind.{Kind}
 use Rattle.jheap.specs.Heaps.{Heaped, charge, made}
 use Rattle.jops.specs.declared.value.Value.TheVariants.{Ref}
 use Rattle.jlib.specs.declared.classes.LibClass.{LibClass}
 use Rattle.jlib.specs.declared.classes.LibClass.TheVariants as lib
+use Rattle.jtypes.specs.declared.vtype.VType.{VType}
+use Rattle.jtypes.specs.declared.vtype.VType.TheVariants as types
 use Rattle.jmachine.specs.Frames.{onward}
+use Rattle.jmachine.specs.Making.{message_cell}
+use Rattle.jmachine.specs.World.{World, can_be_thrown}
+use Rattle.jstate.specs.declared.shapes.Shape.{Shape}
+use Rattle.jstate.specs.declared.shapes.Shapes.{Shapes}
 use Rattle.jstate.specs.Framed.{Framed, with_newest}
 use Rattle.jacts.specs.declared.way.Way.{Way}
 use Rattle.jacts.specs.declared.way.Way.TheVariants as ways
@@ -25,3 +33,22 @@ cells_of (lib.Permission c) = 1
 cells_of lib.AccessControlContext = 1
 cells_of lib.Thread = 1
 cells_of c = 0
+
+-- ---- objects of users' classes
+
+-- the type of the cell of a field
+abbrev pub cell_of : VType → CellType
+cell_of types.Int = cells.Int
+cell_of types.Long = cells.Long
+cell_of t = cells.Ref
+
+-- the cells of an object of a shape
+abbrev pub cells_in : Shape → ℕ
+cells_in shape = length shape.cells + message_cell shape.message
+
+-- The class of a place has a shape: its fields are those of its objects, and it has a message where these can be thrown.
+pub record HasShape (w : World) (shapes : Shapes) (class : ℕ) : Type 0 where
+  pub shape : Shape
+  pub there : slice_get shapes.users class ≡ Some shape
+  pub fields : shape.cells ≡ map cell_of (w.layout class)
+  pub message : shape.message ≡ can_be_thrown w (w.named class)

@@ -1,5 +1,5 @@
 -- What rows of instructions by an entry of the pool are told: whether the operands serve for what the entry wants.
-use Rattle.std.specs.Prelude.{◌≡◌, ℕ, zero, suc, Bool, List, [], ◌∷◌, Option, Some, is_some}
+use Rattle.std.specs.Prelude.{◌≡◌, ℕ, ℤ, pos, zero, suc, Bool, true, false, List, [], ◌∷◌, Option, Some, is_some}
 use Rattle.jheap.specs.declared.cell.Kind.{Kind}
 use Rattle.jheap.specs.declared.cell.Kind.TheVariants as kinds
 use Rattle.jheap.specs.Heaps.{Heaped, kind_at}
@@ -43,6 +43,11 @@ named_seen v = names.Other
 -- Whether the object that an operand names is one of a type: this is asked where it isn't null.
 abbrev pub IsOne : World → Store ℕ → VType → Option (Value ℕ) → Bool → Type 0
 IsOne w s t operand answer = (n : ℕ) → operand ≡ Some (Ref (suc n)) → is_one w t (type_of w s (Ref (suc n))) ≡ answer
+
+-- what a test gives
+abbrev pub bit : Bool → ℤ
+bit true = pos 1
+bit false = pos 0
 
 -- what is thrown serves, or it doesn't
 abbrev pub ServeThrown : Site → Store ℕ → List (Value ℕ) → Bool → Type 0

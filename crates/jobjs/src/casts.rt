@@ -2,13 +2,15 @@ ghost use Rattle.std.specs.Prelude.{◌≡◌, ◌<◌, ◌+◌, ◌^◌, [], �
 ghost use Rattle.jcode.specs.declared.names.CastOp.TheVariants as ops;
 ghost use Rattle.jmachine.specs.Sites.{Site};
 ghost use Rattle.jmachine.specs.Store.{Store};
+ghost use Rattle.jops.specs.declared.value.Value.TheVariants as values;
 ghost use Rattle.jprogram.specs.declared.member.Member.{Member};
 ghost use Rattle.jtypes.specs.declared.vtype.VType.{VType};
 ghost use Rattle.juses.specs.Instructions as instructions;
 ghost use Rattle.juses.specs.Meanings as meanings;
 ghost use Rattle.jacts.specs.Ways.{ActsWhere, leaves};
-ghost use Rattle.jobjs.specs.Serving.{IsOne, Serve, ServeThrown, named_seen};
+ghost use Rattle.jobjs.specs.Serving.{IsOne, Serve, ServeThrown, bit, named_seen};
 
+use crate::fields::give_one;
 use jacts::{Way, way_laws};
 use jlib::{LibClass, Thrown};
 use jops::Value;
@@ -70,6 +72,39 @@ pub fn check_cast<M: Copy>(frames: &mut Frames<M>, serve: bool, is: bool) -> Way
             frames.go_on();
             Way::Went
         }
+    }
+}
+
+/// Whether a reference is to an object of a type, as an int.
+#[inline]
+fn told(is: bool) -> Value
+    ensures { result ≡ values.Int (bit is) }
+{
+    if is {
+        return Value::Int(1);
+    }
+    Value::Int(0)
+}
+
+/// A test of a reference (JVMS 6.5: instanceof): 1 takes its place where its object is one of the type, else 0. Null is one of none. `serve`
+/// and `is` say what they say for a cast.
+#[inline]
+pub fn instance_of<M: Copy>(frames: &mut Frames<M>, serve: bool, is: bool) -> Way
+    requires place { frames.old.newest.place + 1 < 2 ^ 32 }
+    ensures row { (t : VType) (s : Store ℕ) →
+        ActsWhere (λ (at : Site) (own : Member → Bool). Serve at own s (meanings.Cast ops.InstanceOf t) frames.old.newest.operands serve
+        × IsOne at.world s t (slice_get frames.old.newest.operands 0) is)
+        (instructions.Used (meanings.Cast ops.InstanceOf t)) frames.old.newest s (leaves result [] frames.new.newest s) }
+    ensures below { frames.new.below ≡ frames.old.below }
+{
+    way_laws::<M>();
+    if !serve {
+        return Way::Stuck;
+    }
+    match named_at(frames) {
+        Named::Other => Way::Stuck,
+        Named::Null => give_one(frames, told(false)),
+        Named::Object(_) => give_one(frames, told(is)),
     }
 }
 

@@ -5,15 +5,17 @@ ghost use Rattle.jheap.specs.Heaps.{cells_at, object_at, with_statics};
 ghost use Rattle.jheap.specs.Raw.{of_raw as raw_value, raw as raw_number, type_of};
 ghost use Rattle.jmachine.specs.Frames.{onward, standing};
 ghost use Rattle.jmachine.specs.Sites.{Site};
+ghost use Rattle.jmachine.specs.Store.{Store};
 ghost use Rattle.jprogram.specs.Classes.{Program};
 ghost use Rattle.jprogram.specs.declared.member.Member.{Member};
+ghost use Rattle.jprogram.specs.declared.member.Member.TheVariants as members;
 ghost use Rattle.juses.specs.Instructions as instructions;
 ghost use Rattle.juses.specs.Meanings as meanings;
 ghost use Rattle.juses.specs.Meanings.{FieldMeaning};
 ghost use Rattle.jstate.specs.Seen.{AreBuilt, Things, store_by};
 ghost use Rattle.jstate.specs.declared.shapes.Shapes.{Shapes};
 ghost use Rattle.jstate.specs.Framed.{with_newest};
-ghost use Rattle.jacts.specs.Ways.{ActsWhere, leaves};
+ghost use Rattle.jacts.specs.Ways.{Acts, ActsWhere, leaves};
 ghost use Rattle.jacts.specs.declared.way.Way.TheVariants as ways;
 ghost use Rattle.jobjs.specs.Fielded.{HoldsOnly, KeepsAs, StandsAt, StandsStatic};
 ghost use Rattle.jobjs.specs.Serving.{Serve};
@@ -116,6 +118,18 @@ pub fn get_static<M: Copy>(
     cell_laws();
     way_laws::<M>();
     push_one(frames, heap.static_at(slot, of))
+}
+
+/// The field of the library's, `System.out` (JVMS 6.5: getstatic). Its object is the first that is made.
+#[inline]
+pub fn get_out<M: Copy>(frames: &mut Frames<M>) -> Result<Way, AllocError>
+    requires place { frames.old.newest.place + 1 < 2 ^ 32 }
+    ensures row { IfOk result (λ way. (f : FieldMeaning) (s : Store ℕ) → f.member ≡ members.LibField
+        → Acts (instructions.Used (meanings.Field ops.GetStatic f)) frames.old.newest s (leaves way [] frames.new.newest s)) }
+    ensures below { OnOk result (frames.new.below ≡ frames.old.below) }
+{
+    way_laws::<M>();
+    push_one(frames, Value::Ref(1))
 }
 
 /// Puts a value into a static that is there. The static gives it back.

@@ -1,6 +1,5 @@
-ghost use Rattle.std.specs.Prelude.{◌≡◌, ◌<◌, ◌+◌, ◌^◌, ◌∷◌, [], ℕ, List, Bool, IfOk, OnOk, MatchOption};
+ghost use Rattle.std.specs.Prelude.{◌≡◌, ◌<◌, ◌+◌, ◌^◌, ◌∷◌, [], ℕ, List, Bool, IfOk, OnOk, MatchOption, Some, length, option_map, slice_get};
 ghost use Rattle.jheap.specs.declared.cell.Kind.TheVariants as kinds;
-ghost use Rattle.jlib.specs.declared.classes.LibClass.TheVariants as lib;
 ghost use Rattle.jmachine.specs.Frames.{onward};
 ghost use Rattle.jmachine.specs.Sites.{Site};
 ghost use Rattle.jops.specs.declared.value.Value.TheVariants as values;
@@ -13,18 +12,19 @@ ghost use Rattle.juses.specs.Meanings as meanings;
 ghost use Rattle.jstate.specs.Framed.{with_newest};
 ghost use Rattle.jstate.specs.Numbers;
 ghost use Rattle.jstate.specs.Seen.{AreBuilt, Things, store_by};
-ghost use Rattle.jstate.specs.declared.shapes.Shapes.{Shapes};
+ghost use Rattle.jstate.specs.declared.shapes.Shapes.{Shapes as ShapesOf};
 ghost use Rattle.jacts.specs.Ways.{ActsWhere, leaves};
 ghost use Rattle.jacts.specs.declared.way.Way.TheVariants as ways;
 ghost use Rattle.jobjs.specs.Made;
-ghost use Rattle.jobjs.specs.Made.{HasNew};
+ghost use Rattle.jobjs.specs.Made.{HasNew, HasShape};
+ghost use Rattle.jstate.specs.declared.shapes.Shape.{Shape as ShapeOf};
 
 use crate::fields::push_one;
 use jacts::Way;
 use jheap::{Heap, Kind};
 use jlib::{LibClass, PermissionClass, Thrown};
 use jops::Value;
-use jstate::{Frames, built_laws, heap_laws, number_laws};
+use jstate::{Frames, Shape, Shapes, built_laws, heap_laws, number_laws};
 use std::alloc::{AllocError, Global};
 
 // ---- the heap's numbers for classes of the library
@@ -167,7 +167,7 @@ pub fn new_library<M: Copy>(
 ) -> Result<Way, AllocError>
     requires place { frames.old.newest.place + 1 < 2 ^ 32 }
     requires built { AreBuilt heap.old.objects }
-    ensures row { IfOk result (λ way. (p : Program) (shapes : Shapes) (things : Things) (constants : List (List ℕ × ℕ)) (c : Name) →
+    ensures row { IfOk result (λ way. (p : Program) (shapes : ShapesOf) (things : Things) (constants : List (List ℕ × ℕ)) (c : Name) →
         ActsWhere (λ (at : Site) (own : Member → Bool). at.world.class c ≡ Some (refs.Lib class)) (instructions.Used (meanings.Make c)) frames.old.newest
         (store_by p shapes things constants heap.old) (leaves way [] frames.new.newest (store_by p shapes things constants heap.new))) }
     ensures below { OnOk result (frames.new.below ≡ frames.old.below) }
@@ -177,4 +177,57 @@ pub fn new_library<M: Copy>(
     built_laws();
     number_laws();
     make_object(alloc, frames, heap, library_number(class), cells_of(class))
+}
+
+/// The cells of an object of a shape.
+#[inline]
+fn cells_in(shape: &Shape) -> u32
+    requires { length shape.now.cells + 1 < 2 ^ 32 }
+    ensures { result ≡ Made.cells_in shape.now }
+{
+    let cells = shape.cells.as_slice().len() as u32;
+    if shape.message {
+        return cells + 1;
+    }
+    cells
+}
+
+/// The cells of an object of the class of a place, by its shape.
+#[inline]
+fn count_at(shapes: &Shapes, class: u32) -> Option<u32>
+    requires { (shape : ShapeOf) → slice_get shapes.now.users class ≡ Some shape → length shape.cells + 1 < 2 ^ 32 }
+    ensures { result ≡ option_map Made.cells_in (slice_get shapes.now.users class) }
+{
+    match shapes.users.as_slice().get(class as usize) {
+        None => None,
+        Some(shape) => Some(cells_in(shape)),
+    }
+}
+
+/// A new object of a user's class (JVMS 6.5: new), by its place among the parts. Each field is 0 or null.
+#[inline]
+pub fn new_object<M: Copy>(
+    alloc: Global,
+    frames: &mut Frames<M>,
+    heap: &mut Heap,
+    shapes: &Shapes,
+    class: u32,
+) -> Result<Way, AllocError>
+    requires place { frames.old.newest.place + 1 < 2 ^ 32 }
+    requires built { AreBuilt heap.old.objects }
+    requires numbered { 46 + class < 2 ^ 32 }
+    requires small { (shape : ShapeOf) → slice_get shapes.now.users class ≡ Some shape → length shape.cells + 1 < 2 ^ 32 }
+    ensures row { IfOk result (λ way. (p : Program) (things : Things) (constants : List (List ℕ × ℕ)) (c : Name) →
+        ActsWhere (λ (at : Site) (own : Member → Bool). (at.world.class c ≡ Some (refs.User class)) × HasShape at.world shapes.now class) (instructions.Used (meanings.Make c)) frames.old.newest
+        (store_by p shapes.now things constants heap.old) (leaves way [] frames.new.newest (store_by p shapes.now things constants heap.new))) }
+    ensures below { OnOk result (frames.new.below ≡ frames.old.below) }
+    ensures built { OnOk result (AreBuilt heap.new.objects) }
+{
+    heap_laws();
+    built_laws();
+    number_laws();
+    match count_at(shapes, class) {
+        None => Ok(Way::Stuck),
+        Some(count) => make_object(alloc, frames, heap, 46 + class, count),
+    }
 }

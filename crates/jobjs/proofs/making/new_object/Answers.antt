@@ -1,0 +1,18 @@
+use Rattle.std.proofs.Common.{◌+◌}
+use Rattle.jobjs.proofs.News.{new_stays, user_none, user_row}
+use Rattle.jstate.specs.Seen.{store_by}
+use Rattle.jobjs.proofs.making.new_object.Goals as goal
+
+pub returns-in-None-clause-row : goal.returns-in-None-clause-row
+returns-in-None-clause-row g c p things constants name =
+    let all = store_by p c.args.shapes.now things constants c.args.heap.now in
+    user_none c.args.shapes.now c.args.class name c.in-None.ensures c.args.frames.now.newest c.args.frames.now.newest all all
+
+pub returns-in-Some-clause-row : goal.returns-in-Some-clause-row
+returns-in-Some-clause-row g c =
+    user_row c.heap_laws.ensures.makes c.number_laws.ensures c.make_object.result c.args.shapes.now c.args.class c.in-Some.count c.in-Some.ensures c.args.frames.now c.make_object.new.frames c.args.heap.now c.make_object.new.heap c.make_object.ensures
+    c.requires.built
+
+pub returns-in-Some-clause-built : goal.returns-in-Some-clause-built
+returns-in-Some-clause-built g c =
+    new_stays c.built_laws.ensures.made c.make_object.result (46 + c.args.class) c.in-Some.count c.args.frames.now c.make_object.new.frames c.args.heap.now c.make_object.new.heap c.make_object.ensures c.requires.built
