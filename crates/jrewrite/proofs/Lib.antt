@@ -1,7 +1,9 @@
+pub mod Filed
 pub mod Finding
 pub mod Framed
 pub mod Moving
 pub mod Plainly
+pub mod Rooming
 pub mod Sides
 pub mod Standing
 pub mod Starting

@@ -1,6 +1,6 @@
 -- Each class of a program that is checked can be moved.
 use Rattle.std.proofs.Common.{◌≡◌, ℕ, zero, suc, ◌≤◌, ◌<◌, Bool, true, false, ◌&&◌, List, [], ◌∷◌, length, Option, Some, None, refl, ap, sym, ◌∙◌, subst, arith}
-use Rattle.std.specs.Prelude.{All, IsTrue, slice_get, nat_lt, nat_le, option_and_then, take, codes, ◌||◌}
+use Rattle.std.specs.Prelude.{IsTrue, slice_get, nat_lt, nat_le, option_and_then, take, codes, ◌||◌}
 use Rattle.std.specs.Str.{bytes_eq}
 use Rattle.std.specs.List.{list_any}
 use Rattle.std.proofs.lemmas.Bool.{ltb-false, ltb-true}
@@ -37,7 +37,8 @@ use Rattle.jmoveclass.specs.Beginning.{bare_beginning}
 use Rattle.jmoveclass.specs.Calls.{expands}
 use Rattle.jmoveclass.specs.Methods.{frames_of}
 use Rattle.jmoveclass.specs.Moving.{CanMoveAll}
-use Rattle.jrewrite.proofs.Framed.{framed}
+use Rattle.jmovefile.specs.Files.{FramesStand}
+use Rattle.jrewrite.proofs.Framed.{Keep, framed, stand_of, wide_of}
 use Rattle.jrewrite.proofs.Starting.{are_there, begun_under, or_false, return_some}
 use Rattle.jmoveclass.proofs.Stored.{IsMethod, is_method_of, only_code}
 
@@ -111,14 +112,14 @@ typed_at p i k part m b typed at there code =
 
 -- ---- a method
 
-frames_keep : (p : Program) (c : ClassParts) (m : MemberInfo) (b : CodeBody) → IsMethod c m → Tested p c m → method_fault p (method_of p c m b) ≡ None → All (λ f. widths f.locals ≤ b.max_locals) (frames_of (bare_beginning c m) b)
+frames_keep : (p : Program) (c : ClassParts) (m : MemberInfo) (b : CodeBody) → IsMethod c m → Tested p c m → method_fault p (method_of p c m b) ≡ None → Keep b (frames_of (bare_beginning c m) b)
 unfolding text_left_out text_missing
 frames_keep p c m b is test typed =
     let kept = or_false (list_any param_left_out is.params) (return_left_out is.ret) (ap desc_left_out (sym is.is) ∙ test.kept) in
     let here = or_false (list_any (type_missing p) is.params) (return_missing p is.ret) (ap (desc_missing p) (sym is.is) ∙ test.here) in
     let there = are_there p is.params is.good here.0 kept.0 in
     let back = return_some p is.ret is.good_return here.1 kept.1 in
-    All-from_recursion (λ f. widths f.locals ≤ b.max_locals) (frames_of (bare_beginning c m) b) (framed p (method_of p c m b) (bare_beginning c m) (begun_under p c m b is.params is.ret is.is there back) typed)
+    framed p (method_of p c m b) (bare_beginning c m) (begun_under p c m b is.params is.ret is.is there back) typed
 
 locals_fit : (c : ClassParts) (b : CodeBody) → HasCode c b → b.max_locals ≤ 0xffff
 unfolding code_content
@@ -144,8 +145,17 @@ can_move p i part links typed fit at m a b there is body =
       short = items.1;
       slots = method.few;
       locals = locals_fit c b has;
-      frames = frames_keep p c m b method (tested_at p i there.0 part m links at there.1) (typed_at p i there.0 part m b typed at there.1 code);
+      frames = All-from_recursion (λ f. widths f.locals ≤ b.max_locals) (frames_of (bare_beginning c m) b)
+          (wide_of b (frames_of (bare_beginning c m) b) (frames_keep p c m b method (tested_at p i there.0 part m links at there.1) (typed_at p i there.0 part m b typed at there.1 code)));
     }
+
+-- its frames stand at instructions
+pub frames_stand : (p : Program) (i : ℕ) (part : CodePart) → Links p → WellTyped p → IsTrue (class_file.fits part.class) → slice_get p.parts i ≡ Some part → FramesStand part.class
+frames_stand p i part links typed fit at m a b there is body =
+    let c = part.class in
+    let code = only_code c m a b fit there is body in
+    stand_of b (frames_of (bare_beginning c m) b)
+    (frames_keep p c m b (is_method_of c m fit there) (tested_at p i there.0 part m links at there.1) (typed_at p i there.0 part m b typed at there.1 code))
 
 -- ---- domains
 
