@@ -1,9 +1,15 @@
+mod Appending
+mod BuilderRows
 mod Costs
+mod Gathering
 mod LoadRows
+mod Numbered
 mod OneMore
 mod PrintRows
 mod Reading
+mod StaysBuilt
 mod StringRows
+mod TellingRows
 mod TextRows
 mod ThrownRows
 mod Units

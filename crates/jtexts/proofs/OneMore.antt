@@ -37,7 +37,7 @@ enough objects back (suc k) (suc m) (suc o) h g =
     front_alike (slice_get objects o) (built_by k objects) (built_by m objects)
     (λ x e. let low = back o x e in enough objects back k m x.before (omega (arith, low, h)) (omega (arith, low, g)))
 
-front_get : {A : Type 0} (xs ys : List A) (i : ℕ) → i < length xs → slice_get (xs ++ ys) i ≡ slice_get xs i
+pub front_get : {A : Type 0} (xs ys : List A) (i : ℕ) → i < length xs → slice_get (xs ++ ys) i ≡ slice_get xs i
 front_get [] ys i h = absurd (omega (arith, h))
 front_get (x ∷ xs) ys zero h = refl
 front_get (x ∷ xs) ys (suc i) h = front_get xs ys i (omega (arith, h))

@@ -1,5 +1,5 @@
 -- Messages.
-use Rattle.std.proofs.Common.{◌≡◌, ◌∙◌, ℕ, zero, suc, ◌+◌, ◌-◌, ◌<◌, ◌≤◌, Bool, true, false, List, [], ◌∷◌, drop, length, Option, Some, None, refl, sym, ap, arith, rules}
+use Rattle.std.proofs.Common.{◌≡◌, ◌∙◌, ℕ, zero, suc, ◌-◌, ◌<◌, ◌≤◌, Bool, true, false, List, [], ◌∷◌, drop, Option, Some, None, refl, sym, ap, arith, rules}
 use Rattle.std.specs.Prelude.{option_map, slice_get, unwrap_or, nat_lt, nat_eq, if◌then◌else◌}
 use Rattle.std.proofs.lemmas.Bool.{lt-ltb}
 use Rattle.jops.specs.declared.value.Value.{Value}
@@ -8,7 +8,6 @@ use Rattle.jheap.specs.declared.cell.Kind.{Kind}
 use Rattle.jheap.specs.declared.cell.Kind.TheVariants as kinds
 use Rattle.jheap.specs.Heaps as heaps
 use Rattle.jheap.specs.Heaps.{Heaped}
-use Rattle.jlib.specs.declared.classes.LibClass.{LibClass}
 use Rattle.jlib.specs.declared.classes.LibClass.TheVariants as lib
 use Rattle.jprogram.specs.declared.part.ClassRef.{ClassRef}
 use Rattle.jprogram.specs.declared.part.ClassRef.TheVariants as refs
@@ -18,13 +17,14 @@ use Rattle.jmachine.specs.Store.{Store, object_at}
 use Rattle.jmachine.specs.Throwables.{message, message_of}
 use Rattle.jstate.specs.declared.shapes.Shape.{Shape}
 use Rattle.jstate.specs.declared.shapes.Shapes.{Shapes}
-use Rattle.jstate.specs.Numbers.{class_numbered, library_at, library_classes, library_count}
+use Rattle.jstate.specs.Numbers.{class_numbered, library_at, library_count}
 use Rattle.jstate.specs.Seen.{Things, class_by, first, kind_by, named_by, object_by, store_by, user_by}
 use Rattle.jstate.specs.SeenLaws.{SeesEach}
 use Rattle.jtexts.specs.Messages.{has_message, kind_told, message_by_shape, message_named, object_told, told_by}
 use Rattle.jtexts.specs.Rans.{Comes, leaves}
 use Rattle.jtexts.specs.declared.ran.Ran.TheVariants as rans
 use Rattle.jtexts.proofs.Costs.{at_no_cost}
+use Rattle.jtexts.proofs.Numbered.{at_number}
 
 pub init_row : (E : Type 0) (s : Store ℕ) (v : Value ℕ) → Comes {E = E} s (object_init s (v ∷ [])) (leaves rans.Went [] s)
 init_row E s v = at_no_cost s s rans.Went [] (leaves rans.Full [] s)
@@ -82,7 +82,7 @@ module _ (E : Type 0) (each : SeesEach) (shapes : Shapes) (h : Heaped) (p : Prog
   abbrev known : Store ℕ
   known = store_by p shapes things constants h
 
-  sees : (o : ℕ) → message_of (object_at known o) ≡ object_told shapes (heaps.object_at h o)
+  pub sees : (o : ℕ) → message_of (object_at known o) ≡ object_told shapes (heaps.object_at h o)
   sees o = ap message_of (each p shapes things constants h o) ∙ object_is_told p shapes things h.objects (heaps.object_at h o)
 
   pub message_some : (v : Value ℕ) (m : ℕ) → Some m ≡ message_named shapes h v → Comes {E = E} known (message known (v ∷ [])) (leaves (rans.Gave (Ref m)) [] known)
@@ -103,33 +103,8 @@ module _ (E : Type 0) (each : SeesEach) (shapes : Shapes) (h : Heaped) (p : Prog
 abbrev low : ℕ → Bool
 low n = if nat_lt n 23 then true else nat_eq n 31
 
--- the classes of a list that have messages are those of which a test says so by their places, counted from a number
-abbrev as_said : (ℕ → Bool) → ℕ → List LibClass → Bool
-as_said said n [] = true
-as_said said n (c ∷ cs) = if has_message c then (if said n then as_said said (suc n) cs else false) else (if said n then false else as_said said (suc n) cs)
-
-same : (a b r : Bool) → (if a then (if b then r else false) else (if b then false else r)) ≡ true → a ≡ b
-same true true r e = refl
-same true false r e = cc
-same false true r e = cc
-same false false r e = refl
-
-rest : (a b r : Bool) → (if a then (if b then r else false) else (if b then false else r)) ≡ true → r ≡ true
-rest true true r e = e
-rest true false r e = cc
-rest false true r e = cc
-rest false false r e = e
-
-has_at : (said : ℕ → Bool) (cs : List LibClass) (n k : ℕ) → as_said said n cs ≡ true → k < length cs → has_message (unwrap_or (slice_get cs k) lib.Object) ≡ said (k + n)
-has_at said [] n k all h = absurd (omega (arith, h))
-has_at said (c ∷ cs) n zero all h = let here : n ≡ 0 + n = omega arith in same (has_message c) (said n) (as_said said (suc n) cs) all ∙ ap said here
-has_at said (c ∷ cs) n (suc k) all h =
-    let behind = rest (has_message c) (said n) (as_said said (suc n) cs) all in
-    let moved : k + suc n ≡ suc k + n = omega arith in
-    has_at said cs (suc n) k behind (omega (arith, h)) ∙ ap said moved
-
 has_low : (k : ℕ) → k < library_count → has_message (library_at k) ≡ low k
-has_low k h = let none : k + 0 ≡ k = omega arith in has_at low library_classes 0 k refl h ∙ ap low none
+has_low k h = at_number has_message low refl k h
 
 pub first_ones : (k : ℕ) → k < 23 → true ≡ has_message (library_at k)
 first_ones k h = let small : nat_lt k 23 ≡ true = lt-ltb k 23 h in sym (has_low k (omega (arith, h)) ∙ rw small refl)

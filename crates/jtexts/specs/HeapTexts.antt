@@ -1,5 +1,5 @@
 -- Texts of the heap: those that values name, and new ones.
-use Rattle.std.specs.Prelude.{◌≡◌, ◌≤◌, ◌<◌, ◌+◌, ◌-◌, ◌++◌, ℕ, zero, suc, Bool, true, false, List, [], ◌∷◌, length, Option, Some, None}
+use Rattle.std.specs.Prelude.{◌≡◌, ⊤, ◌≤◌, ◌<◌, ◌+◌, ◌-◌, ◌++◌, ℕ, zero, suc, Bool, true, false, List, [], ◌∷◌, length, Option, Some, None}
 use Rattle.jops.specs.declared.value.Value.{Value}
 use Rattle.jops.specs.declared.value.Value.TheVariants.{Ref}
 use Rattle.jheap.specs.declared.cell.Kind.{Kind}
@@ -36,6 +36,12 @@ names_nothing (Ref zero) = true
 names_nothing v = false
 
 -- ---- new texts and pieces
+
+-- they have a unit a cell
+abbrev pub HoldsUnits : Kind → Type 0
+HoldsUnits kinds.Text = ⊤
+HoldsUnits kinds.Piece = ⊤
+HoldsUnits kind = ⊥
 
 -- with these units in the cells of an object, from a place on
 unfoldable pub written : Heaped → ℕ → ℕ → List ℕ → Heaped

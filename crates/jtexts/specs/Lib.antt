@@ -1,3 +1,4 @@
+pub mod HeapBuilders
 pub mod HeapTexts
 pub mod Loaded
 pub mod Messages

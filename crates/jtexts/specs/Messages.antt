@@ -1,11 +1,11 @@
 -- The messages of objects of the heap that can be thrown.
-use Rattle.std.specs.Prelude.{ℕ, Bool, true, false, List, drop, length, Option, Some, None, slice_get, if◌then◌else◌}
+use Rattle.std.specs.Prelude.{◌≡◌, ⊤, ℕ, Bool, true, false, List, drop, length, Option, Some, None, slice_get, if◌then◌else◌}
 use Rattle.jops.specs.declared.value.Value.{Value}
 use Rattle.jops.specs.declared.value.Value.TheVariants.{Ref}
 use Rattle.jheap.specs.declared.cell.Kind.{Kind}
 use Rattle.jheap.specs.declared.cell.Kind.TheVariants as kinds
 use Rattle.jheap.specs.Heaps as heaps
-use Rattle.jheap.specs.Heaps.{Heaped, object_at}
+use Rattle.jheap.specs.Heaps.{HasCell, Heaped, kind_at, object_at}
 use Rattle.jlib.specs.declared.classes.LibClass.{LibClass}
 use Rattle.jlib.specs.declared.classes.LibClass.TheVariants as lib
 use Rattle.jprogram.specs.declared.part.ClassRef.{ClassRef}
@@ -42,3 +42,40 @@ object_told shapes (Some x) = kind_told shapes x.kind x.cells
 abbrev pub message_named : Shapes → Heaped → Value ℕ → Option ℕ
 message_named shapes h (Ref o) = object_told shapes (object_at h o)
 message_named shapes h v = None
+
+-- ---- where messages stand
+
+abbrev pub shape_place : Option Shape → Option ℕ
+shape_place None = None
+shape_place (Some shape) = if shape.message then Some (length shape.cells) else None
+
+-- the place of the message among the cells of an object of a class
+abbrev pub place_by : Shapes → ClassRef → Option ℕ
+place_by shapes (refs.User i) = shape_place (slice_get shapes.users i)
+place_by shapes (refs.Lib c) = if has_message c then Some 0 else None
+
+abbrev pub kind_place : Shapes → Option Kind → Option ℕ
+kind_place shapes (Some (kinds.Object n)) = place_by shapes (class_numbered n)
+kind_place shapes kind = None
+
+-- that of the object of a number
+abbrev pub message_place : Shapes → Heaped → ℕ → Option ℕ
+message_place shapes h o = kind_place shapes (kind_at h o)
+
+abbrev pub IsCell : Heaped → ℕ → Option ℕ → Type 0
+IsCell h o None = ⊥
+IsCell h o (Some i) = HasCell h o i
+
+-- The object of a number has the cell for its message, if it can have one.
+abbrev pub CanTell : Shapes → Heaped → ℕ → Type 0
+CanTell shapes h o = (m : ℕ) → object_told shapes (object_at h o) ≡ Some m → IsCell h o (message_place shapes h o)
+
+-- So has the one that a value names.
+abbrev pub CanBeTold : Shapes → Heaped → Value ℕ → Type 0
+CanBeTold shapes h (Ref o) = CanTell shapes h o
+CanBeTold shapes h v = ⊤
+
+-- the object that a value names
+abbrev pub named_as : Value ℕ → Option ℕ
+named_as (Ref o) = Some o
+named_as v = None

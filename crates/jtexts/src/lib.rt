@@ -1,6 +1,7 @@
 //! What the library's members do that ask nothing of access control, by numbers: one function a member, from the operands of its call.
 #![tactic(auto)]
 
+mod builders;
 mod loading;
 mod making;
 mod printing;
@@ -10,8 +11,9 @@ mod strings;
 mod texts;
 mod thrown;
 
+pub use builders::{append, builder_init, builder_of_text, built_text};
 pub use loading::{load_int, load_long, load_text};
 pub use printing::{print, print_end};
 pub use ran::Ran;
 pub use strings::{char_at, concat, equals, length};
-pub use thrown::{message, object_init};
+pub use thrown::{init, init_message, message, object_init};

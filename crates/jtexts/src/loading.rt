@@ -1,4 +1,4 @@
-ghost use Rattle.std.specs.Prelude.{◌≡◌, [], ℕ, List, IfOk, None};
+ghost use Rattle.std.specs.Prelude.{◌≡◌, [], ℕ, List, IfOk, None, OnOk};
 ghost use Rattle.jprogram.specs.Classes.{Program};
 ghost use Rattle.juses.specs.Meanings as meanings;
 ghost use Rattle.jmachine.specs.Making.{push, units_of as units_held};
@@ -8,9 +8,9 @@ ghost use Rattle.jstate.specs.Seen.{AreBuilt, Things, store_by};
 ghost use Rattle.jtexts.specs.Loaded.{constants_behind};
 ghost use Rattle.jtexts.specs.Rans.{Comes, leaves};
 
-use crate::making::put_text;
+use crate::making::put_units;
 use crate::ran::Ran;
-use jheap::Heap;
+use jheap::{Heap, Kind};
 use jops::Value;
 use std::alloc::{AllocError, Global};
 
@@ -33,12 +33,13 @@ pub fn load_long<M>(n: i64) -> Ran
 /// A string constant of these units that wasn't made yet.
 fn first_load<M>(alloc: Global, heap: &mut Heap, units: &[u16]) -> Result<Ran, AllocError>
     requires { AreBuilt heap.old.objects }
-    ensures { IfOk result (λ ran. (p : Program) (shapes : Shapes) (things : Things) (constants : List (List ℕ × ℕ)) (bytes : List ℕ) →
+    ensures row { IfOk result (λ ran. (p : Program) (shapes : Shapes) (things : Things) (constants : List (List ℕ × ℕ)) (bytes : List ℕ) →
         units_held bytes ≡ units.now → constant_at constants units.now ≡ None →
         let s = store_by p shapes things constants heap.old in
         Comes {E = M} s (push s (meanings.Text bytes) []) (leaves ran [] (store_by p shapes things (constants_behind None ran units.now constants) heap.new))) }
+    ensures built { OnOk result (AreBuilt heap.new.objects) }
 {
-    match put_text(alloc, heap, units)? {
+    match put_units(alloc, heap, Kind::Text, units)? {
         None => Ok(Ran::Full),
         Some(o) => Ok(Ran::Gave(Value::Ref(o))),
     }
@@ -54,10 +55,11 @@ pub fn load_text<M>(
     units: &[u16],
 ) -> Result<Ran, AllocError>
     requires { AreBuilt heap.old.objects }
-    ensures { IfOk result (λ ran. (p : Program) (shapes : Shapes) (things : Things) (constants : List (List ℕ × ℕ)) (bytes : List ℕ) →
+    ensures row { IfOk result (λ ran. (p : Program) (shapes : Shapes) (things : Things) (constants : List (List ℕ × ℕ)) (bytes : List ℕ) →
         units_held bytes ≡ units.now → constant_at constants units.now ≡ known →
         let s = store_by p shapes things constants heap.old in
         Comes {E = M} s (push s (meanings.Text bytes) []) (leaves ran [] (store_by p shapes things (constants_behind known ran units.now constants) heap.new))) }
+    ensures built { OnOk result (AreBuilt heap.new.objects) }
 {
     match known {
         Some(o) => Ok(Ran::Gave(Value::Ref(o))),

@@ -1,11 +1,10 @@
-ghost use Rattle.std.specs.Prelude.{◌≡◌, ◌<◌, ◌^◌, [], ℕ, List, IfOk, Some, length as len};
-ghost use Rattle.jheap.specs.declared.cell.Kind.TheVariants as kinds;
+ghost use Rattle.std.specs.Prelude.{◌≡◌, ◌<◌, ◌^◌, [], ℕ, List, IfOk, OnOk, Some, length as len};
 ghost use Rattle.jheap.specs.Heaps.{cells_at};
 ghost use Rattle.jprogram.specs.Classes.{Program};
 ghost use Rattle.jmachine.specs.Making as making;
 ghost use Rattle.jstate.specs.declared.shapes.Shapes.{Shapes};
 ghost use Rattle.jstate.specs.Seen.{AreBuilt, Things, store_by};
-ghost use Rattle.jtexts.specs.HeapTexts.{Puts, written};
+ghost use Rattle.jtexts.specs.HeapTexts.{HoldsUnits, Puts, written};
 ghost use Rattle.jtexts.specs.Rans.{Comes, leaves};
 
 use crate::ran::Ran;
@@ -27,18 +26,22 @@ fn write_units(heap: &mut Heap, o: u32, units: &[u16])
     }
 }
 
-/// Makes a text of these units, where the cells for it are left. Where they aren't, nothing changes.
-pub(crate) fn put_text(
+/// Makes a text or a piece of these units, where the cells for it are left. Where they aren't, nothing changes.
+pub(crate) fn put_units(
     alloc: Global,
     heap: &mut Heap,
+    kind: Kind,
     units: &[u16],
 ) -> Result<Option<u32>, AllocError>
-    ensures { IfOk result (λ o. Puts kinds.Text units.now heap.old heap.new o) }
+    requires holds { HoldsUnits kind }
+    requires built { AreBuilt heap.old.objects }
+    ensures puts { IfOk result (λ o. Puts kind units.now heap.old heap.new o) }
+    ensures built { OnOk result (AreBuilt heap.new.objects) }
 {
     if units.len() >= heap.left() as usize {
         return Ok(None);
     }
-    let made = heap.make(alloc, Kind::Text, units.len() as u32)?;
+    let made = heap.make(alloc, kind, units.len() as u32)?;
     if let Some(o) = made {
         write_units(heap, o, units);
     }
@@ -48,11 +51,12 @@ pub(crate) fn put_text(
 /// A new string of these units.
 pub(crate) fn text_made<M>(alloc: Global, heap: &mut Heap, units: &[u16]) -> Result<Ran, AllocError>
     requires { AreBuilt heap.old.objects }
-    ensures { IfOk result (λ ran. (p : Program) (shapes : Shapes) (things : Things) (constants : List (List ℕ × ℕ)) →
+    ensures row { IfOk result (λ ran. (p : Program) (shapes : Shapes) (things : Things) (constants : List (List ℕ × ℕ)) →
         let s = store_by p shapes things constants heap.old in
         Comes {E = M} s (Some (making.text_made s units.now)) (leaves ran [] (store_by p shapes things constants heap.new))) }
+    ensures built { OnOk result (AreBuilt heap.new.objects) }
 {
-    match put_text(alloc, heap, units)? {
+    match put_units(alloc, heap, Kind::Text, units)? {
         None => Ok(Ran::Full),
         Some(o) => Ok(Ran::Gave(Value::Ref(o))),
     }

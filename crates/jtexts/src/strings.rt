@@ -1,4 +1,4 @@
-ghost use Rattle.std.specs.Prelude.{◌≡◌, ◌<◌, ◌^◌, ◌∷◌, [], ℕ, List, IfOk, is_some, length as len, option_and_then, pos, slice_get, true};
+ghost use Rattle.std.specs.Prelude.{◌≡◌, ◌<◌, ◌^◌, ◌∷◌, [], ℕ, List, IfOk, OnOk, is_some, length as len, option_and_then, pos, slice_get, true};
 ghost use Rattle.std.specs.Str.{bytes_eq};
 ghost use Rattle.jheap.specs.Heaps.{cells_at, object_at};
 ghost use Rattle.jops.specs.declared.value.Value.TheVariants as values;
@@ -132,8 +132,9 @@ pub fn concat<M>(
     more: Value,
 ) -> Result<Ran, AllocError>
     requires { AreBuilt heap.old.objects }
-    ensures { IfOk result (λ ran. (p : Program) (shapes : Shapes) (things : Things) (constants : List (List ℕ × ℕ)) →
+    ensures row { IfOk result (λ ran. (p : Program) (shapes : Shapes) (things : Things) (constants : List (List ℕ × ℕ)) →
         let s = store_by p shapes things constants heap.old in Comes {E = M} s (string s calls.Concat (more ∷ text ∷ [])) (leaves ran [] (store_by p shapes things constants heap.new))) }
+    ensures built { OnOk result (AreBuilt heap.new.objects) }
 {
     heap_laws();
     if is_null(more) {

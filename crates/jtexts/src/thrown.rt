@@ -1,18 +1,19 @@
 ghost use Rattle.std.specs.Prelude.{◌≡◌, ◌<◌, ◌∷◌, [], ℕ, List, drop, is_some, slice_get, true};
-ghost use Rattle.jheap.specs.Heaps.{cells_at, object_at};
+ghost use Rattle.jheap.specs.Heaps.{HasCell, cells_at, object_at, with_cell};
 ghost use Rattle.jprogram.specs.Classes.{Program};
 ghost use Rattle.jmachine.specs.Library.{object_init as init_row};
 ghost use Rattle.jmachine.specs.Store.{Store};
-ghost use Rattle.jmachine.specs.Throwables.{message as message_row};
+ghost use Rattle.jlib.specs.declared.calls.ThrownInit.TheVariants as given;
+ghost use Rattle.jmachine.specs.Throwables.{init as thrown_init, message as message_row, told as told_row};
 ghost use Rattle.jstate.specs.Numbers.{class_numbered, library_at, library_count};
-ghost use Rattle.jstate.specs.Seen.{Things, first, named_by, store_by};
-ghost use Rattle.jtexts.specs.Messages.{has_message, message_by_shape, message_named, told_by};
+ghost use Rattle.jstate.specs.Seen.{AreBuilt, Things, first, named_by, store_by};
+ghost use Rattle.jtexts.specs.Messages.{CanBeTold, CanTell, has_message, message_by_shape, message_named, message_place, named_as, place_by, shape_place, told_by};
 ghost use Rattle.jtexts.specs.Rans.{Comes, leaves};
 
 use crate::ran::Ran;
 use jheap::{CellType, Heap, Kind};
 use jops::Value;
-use jstate::{Shapes, heap_laws};
+use jstate::{Shapes, built_laws, heap_laws};
 
 /// The constructor of Object does nothing. `M` is what frames carry, which no call looks at.
 #[inline]
@@ -37,7 +38,7 @@ fn is_thrown(class: u32) -> bool
 
 /// The object that a cell names, 0 where there is no such cell.
 #[inline]
-fn named_at(heap: &Heap, o: u32, at: usize) -> u32
+pub(crate) fn named_at(heap: &Heap, o: u32, at: usize) -> u32
     requires { is_some (object_at heap.now o) ≡ true }
     ensures { result ≡ named_by (first (drop at (cells_at heap.now o))) }
 {
@@ -114,4 +115,125 @@ pub fn message<M>(heap: &Heap, shapes: &Shapes, thrown: Value) -> Ran
         None => Ran::Stuck,
         Some(m) => Ran::Gave(Value::Ref(m)),
     }
+}
+
+/// The place of the message among the cells of an object of a user's class, where such objects have one.
+#[inline]
+fn user_place(shapes: &Shapes, class: usize) -> Option<usize>
+    ensures { result ≡ shape_place (slice_get shapes.now.users class) }
+{
+    match shapes.users.as_slice().get(class) {
+        None => None,
+        Some(shape) => {
+            if !shape.message {
+                return None;
+            }
+            Some(shape.cells.as_slice().len())
+        }
+    }
+}
+
+/// The place of the message among the cells of an object of a class, by the heap's number for it.
+#[inline]
+fn class_place(shapes: &Shapes, class: u32) -> Option<usize>
+    ensures { result ≡ place_by shapes.now (class_numbered class) }
+{
+    if class >= 46 {
+        return user_place(shapes, (class - 46) as usize);
+    }
+    if is_thrown(class) {
+        return Some(0);
+    }
+    None
+}
+
+/// The place of the message among the cells of the object of a number.
+#[inline]
+fn place_in(heap: &Heap, shapes: &Shapes, o: u32) -> Option<usize>
+    ensures { result ≡ message_place shapes.now heap.now o }
+{
+    match heap.found(o) {
+        Some(Kind::Object(class)) => class_place(shapes, class),
+        Some(Kind::Array(_)) => None,
+        Some(Kind::Text) => None,
+        Some(Kind::Piece) => None,
+        None => None,
+    }
+}
+
+/// Puts a message into a cell of an object. The cell is there.
+#[inline]
+fn put_message(heap: &mut Heap, o: u32, at: usize, m: u32)
+    requires { HasCell heap.old o at }
+    ensures { heap.new ≡ with_cell heap.old o at m }
+{
+    if at < heap.len(o) as usize {
+        heap.set_cell(o, at as u32, Value::Ref(m));
+    }
+}
+
+/// Gives the object of a number a message, or none by 0.
+fn tell<M>(heap: &mut Heap, shapes: &Shapes, o: u32, m: u32) -> Ran
+    requires built { AreBuilt heap.old.objects }
+    requires cell { CanTell shapes.now heap.old o }
+    ensures row { (p : Program) (things : Things) (constants : List (List ℕ × ℕ)) →
+        let s = store_by p shapes.now things constants heap.old in
+        Comes {E = M} s (told_row s o m) (leaves result [] (store_by p shapes.now things constants heap.new)) }
+    ensures built { AreBuilt heap.new.objects }
+{
+    heap_laws();
+    built_laws();
+    match place_in(heap, shapes, o) {
+        None => Ran::Stuck,
+        Some(i) => {
+            put_message(heap, o, i, m);
+            Ran::Went
+        }
+    }
+}
+
+/// The object that a value names, where it is a reference.
+#[inline]
+fn reference(value: Value) -> Option<u32>
+    ensures { result ≡ named_as value }
+{
+    match value {
+        Value::Int(_) => None,
+        Value::Long(_) => None,
+        Value::Ctx(_) => None,
+        Value::Ref(n) => Some(n),
+    }
+}
+
+/// Throwable's constructor of nothing, and those of the classes below.
+pub fn init<M>(heap: &mut Heap, shapes: &Shapes, thrown: Value) -> Ran
+    requires built { AreBuilt heap.old.objects }
+    requires cell { CanBeTold shapes.now heap.old thrown }
+    ensures row { (p : Program) (things : Things) (constants : List (List ℕ × ℕ)) →
+        let s = store_by p shapes.now things constants heap.old in
+        Comes {E = M} s (thrown_init s given.Nothing (thrown ∷ [])) (leaves result [] (store_by p shapes.now things constants heap.new)) }
+    ensures built { AreBuilt heap.new.objects }
+{
+    match reference(thrown) {
+        None => Ran::Stuck,
+        Some(o) => tell::<M>(heap, shapes, o, 0),
+    }
+}
+
+/// Throwable's constructor of a message, and those of the classes below.
+pub fn init_message<M>(heap: &mut Heap, shapes: &Shapes, thrown: Value, message: Value) -> Ran
+    requires built { AreBuilt heap.old.objects }
+    requires cell { CanBeTold shapes.now heap.old thrown }
+    ensures row { (p : Program) (things : Things) (constants : List (List ℕ × ℕ)) →
+        let s = store_by p shapes.now things constants heap.old in
+        Comes {E = M} s (thrown_init s given.Message (message ∷ thrown ∷ [])) (leaves result [] (store_by p shapes.now things constants heap.new)) }
+    ensures built { AreBuilt heap.new.objects }
+{
+    let Some(o) = reference(thrown) else {
+        return Ran::Stuck;
+    };
+    let Some(m) = reference(message) else {
+        return Ran::Stuck;
+    };
+    tell::<M>(heap, shapes, o, m)
 }

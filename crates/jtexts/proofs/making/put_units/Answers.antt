@@ -1,0 +1,13 @@
+use Rattle.jtexts.proofs.Writing.{put_done, units_stay}
+use Rattle.jtexts.proofs.making.put_units.Goals as goal
+
+pub returns-in-Some-clause-puts : goal.returns-in-Some-clause-puts
+returns-in-Some-clause-puts c =
+    put_done c.args.kind c.args.units.now c.args.heap.now c.make.new.self c.write_units.new.heap c.in-Some.o c.requires.holds (rw c.in-Some.is at c.in_ok-made.ensures.ok)
+    c.write_units.ensures
+
+pub returns-in-Some-clause-built : goal.returns-in-Some-clause-built
+returns-in-Some-clause-built c =
+    units_stay c.args.kind c.args.units.now c.args.heap.now c.write_units.new.heap c.in-Some.o c.requires.holds c.requires.built
+    (put_done c.args.kind c.args.units.now c.args.heap.now c.make.new.self c.write_units.new.heap c.in-Some.o c.requires.holds (rw c.in-Some.is at c.in_ok-made.ensures.ok)
+    c.write_units.ensures)
