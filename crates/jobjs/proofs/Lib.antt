@@ -3,6 +3,7 @@ pub mod Casting
 pub mod Getting
 pub mod News
 pub mod Putting
+pub mod RefStores
 pub mod Refs
 pub mod Served
 pub mod Statics

@@ -2,3 +2,4 @@ pub mod Branching
 pub mod Fielded
 pub mod Made
 pub mod Serving
+pub mod Stored

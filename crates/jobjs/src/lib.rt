@@ -6,6 +6,7 @@ mod branching;
 mod casts;
 mod fields;
 mod making;
+mod storing;
 mod target;
 
 pub use arrays::new_refs;
@@ -13,3 +14,4 @@ pub use branching::{if_null, if_same};
 pub use casts::{check_cast, instance_of, throw};
 pub use fields::{get_field, get_out, get_static, put_field, put_static};
 pub use making::{new_library, new_object};
+pub use storing::store_ref;

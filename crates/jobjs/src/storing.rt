@@ -1,0 +1,149 @@
+ghost use Rattle.std.specs.Prelude.{◌≡◌, ◌<◌, ◌≤◌, ◌+◌, ◌^◌, [], ℕ, List, Bool, IfSome, is_some, length, slice_get, true};
+ghost use Rattle.jcode.specs.declared.names.Element.TheVariants as items;
+ghost use Rattle.jcode.specs.declared.form.ArrayForm.TheVariants as forms;
+ghost use Rattle.jheap.specs.Heaps.{cells_at, object_at};
+ghost use Rattle.jmachine.specs.Arrays as rows;
+ghost use Rattle.jmachine.specs.Narrowing.{place as place_of};
+ghost use Rattle.jmachine.specs.Sites.{Site};
+ghost use Rattle.jprogram.specs.Classes.{Program};
+ghost use Rattle.jprogram.specs.declared.member.Member.{Member};
+ghost use Rattle.juses.specs.Instructions as instructions;
+ghost use Rattle.jstate.specs.Seen.{AreBuilt, Things, store_by};
+ghost use Rattle.jstate.specs.declared.shapes.Shapes.{Shapes};
+ghost use Rattle.jacts.specs.Ways.{ActsWhere, int_in, leaves};
+ghost use Rattle.jobjs.specs.Stored.{HasStored, MayStore, ServeStore, held_seen};
+
+use jacts::{Way, put_cell, way_laws};
+use jheap::{Heap, Kind};
+use jlib::{LibClass, Thrown};
+use jops::Value;
+use jstate::{Frames, built_laws, heap_laws};
+
+/// The index of a store, which stands below what is stored.
+#[inline]
+fn index_at<M: Copy>(frames: &Frames<M>) -> Option<i32>
+    ensures { result ≡ int_in (slice_get frames.now.newest.operands 1) }
+{
+    if frames.count() <= 1 {
+        return None;
+    }
+    match frames.operand(1) {
+        Value::Int(x) => Some(x),
+        Value::Long(_) => None,
+        Value::Ref(_) => None,
+        Value::Ctx(_) => None,
+    }
+}
+
+/// What stands below the index of a store.
+#[derive(Clone, Copy)]
+pub(crate) enum Held {
+    /// No array.
+    Other,
+    Null,
+    /// The array of a number, with the heap's number for its type.
+    Array(u32, u32),
+}
+
+#[inline]
+fn array_at<M: Copy>(frames: &Frames<M>, heap: &Heap) -> Held
+    ensures { result ≡ held_seen heap.now (slice_get frames.now.newest.operands 2) }
+{
+    if frames.count() <= 2 {
+        return Held::Other;
+    }
+    match frames.operand(2) {
+        Value::Int(_) => Held::Other,
+        Value::Long(_) => Held::Other,
+        Value::Ctx(_) => Held::Other,
+        Value::Ref(o) => {
+            if o == 0 {
+                return Held::Null;
+            }
+            match heap.found(o) {
+                Some(Kind::Array(a)) => Held::Array(o, a),
+                Some(Kind::Object(_)) => Held::Other,
+                Some(Kind::Text) => Held::Other,
+                Some(Kind::Piece) => Held::Other,
+                None => Held::Other,
+            }
+        }
+    }
+}
+
+/// The place of an index, where there are so many items.
+#[inline]
+#[tactic(auto, using(jacts::proofs::NewArrays::counts, jacts::proofs::NewArrays::negative))]
+fn within(count: u32, i: i32) -> Option<u32>
+    ensures place { result ≡ rows.within count (place_of i) }
+    ensures inside { IfSome result (λ k. k < count) }
+{
+    if i < 0 {
+        return None;
+    }
+    let k = i as u32;
+    if k < count {
+        return Some(k);
+    }
+    None
+}
+
+/// The item of an index is written, where it is there and holds what is stored, and the frame loses what it took. The index comes first.
+#[inline]
+fn put_item<M: Copy>(
+    frames: &mut Frames<M>,
+    heap: &mut Heap,
+    o: u32,
+    i: i32,
+    value: Value,
+    is: bool,
+) -> Way
+    requires place { frames.old.newest.place + 1 < 2 ^ 32 }
+    requires few { 3 ≤ length frames.old.newest.operands }
+    requires there { is_some (object_at heap.old o) ≡ true }
+    ensures { HasStored is o value frames.old heap.old result frames.new heap.new (rows.within (length (cells_at heap.old o)) (place_of i)) }
+{
+    match within(heap.len(o), i) {
+        None => Way::Raises(LibClass::Thrown(Thrown::ArrayIndexOutOfBoundsException)),
+        Some(k) => {
+            if !is {
+                return Way::Raises(LibClass::Thrown(Thrown::ArrayStoreException));
+            }
+            put_cell(heap, o, k, value);
+            frames.shrink(3);
+            frames.go_on();
+            Way::Went
+        }
+    }
+}
+
+/// A store of a reference into an array (JVMS 6.5: aastore). A null array comes before an index that isn't there, and that before the class
+/// of what is stored. `serve` says that the operands serve, `is` that the array holds what is stored.
+#[inline]
+pub fn store_ref<M: Copy>(frames: &mut Frames<M>, heap: &mut Heap, serve: bool, is: bool) -> Way
+    requires place { frames.old.newest.place + 1 < 2 ^ 32 }
+    ensures row { (p : Program) (shapes : Shapes) (things : Things) (constants : List (List ℕ × ℕ)) →
+        let s = store_by p shapes things constants heap.old in
+        ActsWhere (λ (at : Site) (own : Member → Bool). ServeStore at s frames.old.newest.operands serve × MayStore at.world p shapes s heap.old frames.old.newest.operands is)
+        (instructions.Array (forms.Store items.Ref)) frames.old.newest s (leaves result [] frames.new.newest (store_by p shapes things constants heap.new)) }
+    ensures below { frames.new.below ≡ frames.old.below }
+    ensures built { AreBuilt heap.old.objects → AreBuilt heap.new.objects }
+{
+    heap_laws();
+    built_laws();
+    way_laws::<M>();
+    if !serve {
+        return Way::Stuck;
+    }
+    let Some(i) = index_at(frames) else {
+        return Way::Stuck;
+    };
+    match array_at(frames, heap) {
+        Held::Other => Way::Stuck,
+        Held::Null => Way::Raises(LibClass::Thrown(Thrown::NullPointerException)),
+        Held::Array(o, _) => {
+            let value = frames.operand(0);
+            put_item(frames, heap, o, i, value, is)
+        }
+    }
+}
