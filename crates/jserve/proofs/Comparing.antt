@@ -1,0 +1,44 @@
+-- Types by number that fit.
+use Rattle.std.proofs.Common.{◌≡◌, ◌∙◌, ℕ, ◌<◌, Bool, true, false, ◌||◌, refl, sym, ap}
+use Rattle.jtypes.specs.declared.vtype.Element.{Element}
+use Rattle.jtypes.specs.declared.vtype.Name.{Name}
+use Rattle.jtypes.specs.Fitting.{array_fits, class_fits, element_fits, is_above_array}
+use Rattle.jtypes.specs.Tree.{Tree}
+use Rattle.jtypes.proofs.Dimensions.{as_many_fit, fewer_fail, more_fit}
+use Rattle.jprogram.specs.declared.part.ClassRef.{ClassRef}
+use Rattle.jprogram.specs.Classes.{Program, tree}
+use Rattle.juses.specs.Types.{class_named}
+use Rattle.jlink.specs.Standing.{itself}
+use Rattle.jmachine.specs.World.{world}
+use Rattle.jserve.specs.declared.fitting.Asked.{Asked}
+use Rattle.jserve.specs.declared.fitting.Asked.TheVariants as asked
+use Rattle.jserve.specs.Asked.{tree_by}
+
+or_true : (a b : Bool) → b ≡ true → (a || b) ≡ true
+or_true true b h = refl
+or_true false b h = h
+
+true_or : (a b : Bool) → a ≡ true → (a || b) ≡ true
+true_or true b h = refl
+true_or false b h = cc
+
+same_fits : (p : Program) (a : Asked) (c : ClassRef) → class_fits (tree_by (world p) a) (class_named p c) (class_named p c) ≡ true
+unfolding world
+same_fits p asked.Fits c = or_true _ _ (itself p (class_named p c))
+same_fits p asked.IsOne c = true_or _ _ (itself p (class_named p c))
+
+-- a class fits itself
+pub one_fits : (p : Program) (a : Asked) (c d : ClassRef) → c ≡ d → true ≡ class_fits (tree_by (world p) a) (class_named p c) (class_named p d)
+one_fits p a c d e = sym (ap (λ (x : ClassRef). class_fits (tree_by (world p) a) (class_named p c) (class_named p x)) (sym e) ∙ same_fits p a c)
+
+-- ---- arrays by their numbers of dimensions
+
+module _ (above : Name → Bool) (t : Tree) (d : ℕ) (x : Element) (e : ℕ) (y : Element) where
+  pub fewer : d < e → false ≡ array_fits above t d x e y
+  fewer few = sym (fewer_fail above t d x e y few)
+
+  pub more : (b : Bool) → e < d → b ≡ is_above_array above y → b ≡ array_fits above t d x e y
+  more b many h = h ∙ sym (more_fit above t d x e y many)
+
+  pub as_many : (b : Bool) → d ≡ e → b ≡ element_fits t x y → b ≡ array_fits above t d x e y
+  as_many b same h = h ∙ sym (as_many_fit above t d x y) ∙ ap (λ n. array_fits above t d x n y) same

@@ -1,0 +1,6 @@
+pub mod Comparing
+pub mod Valuing
+pub mod Wanting
+pub mod Called
+pub mod Fielding
+pub mod Casting

@@ -1,0 +1,4 @@
+pub mod Asked
+pub mod Valued
+pub mod Served
+pub mod Calls

@@ -1,0 +1,31 @@
+-- Operands that serve, by number.
+use Rattle.std.specs.Prelude.{◌≡◌, ℕ, zero, suc, Bool, true, false, ◌&&◌, List, [], ◌∷◌, Option, Some, None, option_map}
+use Rattle.jops.specs.declared.value.Value.{Value}
+use Rattle.jprogram.specs.Classes.{Program}
+use Rattle.jrule.specs.Effects.{Want}
+use Rattle.juses.specs.Types.{named}
+use Rattle.jmachine.specs.Operands.{Taken, serves_as}
+use Rattle.jmachine.specs.World.{world}
+use Rattle.jcalls.specs.Calling.{took}
+use Rattle.jserve.specs.declared.values.Objects.{Objects}
+use Rattle.jserve.specs.Valued.{type_in}
+
+-- a value serves where this is wanted
+abbrev pub serves_in : Program → Objects → Want → Value ℕ → Bool
+serves_in p x want v = serves_as (world p) want (option_map (named p) (type_in x v))
+
+-- the newest operands serve for what is wanted
+unfoldable pub all_serve : (Want → Value ℕ → Bool) → List Want → List (Value ℕ) → Bool
+all_serve f [] operands = true
+all_serve f (want ∷ wants) [] = false
+all_serve f (want ∷ wants) (v ∷ operands) = f want v && all_serve f wants operands
+
+-- an operand serves, if it is there
+abbrev pub one_serves : (Want → Value ℕ → Bool) → Want → Option (Value ℕ) → Bool
+one_serves f want None = false
+one_serves f want (Some v) = f want v
+
+-- so many operands, if they serve
+abbrev pub took_if : ℕ → List (Value ℕ) → Bool → Option (Taken ℕ)
+took_if count operands true = Some (took count operands)
+took_if count operands false = None

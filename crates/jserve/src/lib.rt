@@ -1,0 +1,18 @@
+//! Which operands serve where an instruction wants something, by number, without memory.
+#![tactic(auto)]
+
+mod ancestors;
+mod calls;
+mod casts;
+mod fields;
+mod fitting;
+mod ready;
+mod serving;
+mod values;
+
+pub use ancestors::Ancestors;
+pub use calls::{call_serves, has_interface};
+pub use casts::{is_one, is_stored, ref_serves, refs_serve, thrown_serves};
+pub use fields::{get_field_serves, put_field_serves, put_static_serves};
+pub use fitting::{fits, is_instance};
+pub use values::{Objects, type_at};

@@ -1,0 +1,100 @@
+ghost use Rattle.std.specs.Prelude.{◌≡◌, ◌<◌, ℕ, None, Some, option_and_then, option_map};
+ghost use Rattle.jheap.specs.Heaps.{object_at};
+ghost use Rattle.jmachine.specs.Operands.{type_of};
+ghost use Rattle.jmachine.specs.Store.{Store};
+ghost use Rattle.jmachine.specs.World.{world};
+ghost use Rattle.jprogram.specs.Classes.{Program};
+ghost use Rattle.jstate.specs.Seen.{array_at};
+ghost use Rattle.juses.specs.Types.{named};
+ghost use Rattle.jserve.specs.Valued;
+ghost use Rattle.jserve.specs.Valued.{IsStore, type_in};
+
+use crate::ready::{class_numbered, is_ready};
+use jcalls::Counts;
+use jheap::{Heap, Kind};
+use jlib::LibClass;
+use jops::Value;
+use jprogram::ClassRef;
+use jstate::{Shapes, heap_laws};
+use juses::{ArrayRef, ElementRef, TypeRef};
+
+/// The objects of a machine: the heap, what its numbers stand for, and how many permissions and contexts the machine keeps.
+#[derive(Clone, Copy)]
+pub struct Objects<'a> {
+    pub shapes: &'a Shapes,
+    pub heap: &'a Heap,
+    pub counts: Counts,
+}
+
+/// The type of the arrays of a number.
+#[inline]
+fn array_type(shapes: &Shapes, number: u32) -> ArrayRef
+    ensures { result ≡ array_at shapes.now number }
+{
+    match shapes.arrays.as_slice().get(number as usize) {
+        None => ArrayRef {
+            depth: 1,
+            element: ElementRef::Int,
+        },
+        Some(a) => *a,
+    }
+}
+
+/// The class of an object of a kind, or the type of an array.
+#[inline]
+pub(crate) fn kind_type(shapes: &Shapes, kind: Kind) -> TypeRef
+    ensures { result ≡ Valued.kind_type shapes.now kind }
+{
+    match kind {
+        Kind::Object(n) => TypeRef::Object(class_numbered(n)),
+        Kind::Array(n) => TypeRef::Array(array_type(shapes, n)),
+        Kind::Text => TypeRef::Object(ClassRef::Lib(LibClass::String)),
+        Kind::Piece => TypeRef::Object(ClassRef::Lib(LibClass::StringBuilder)),
+    }
+}
+
+/// The type of the object of a number, if it is there and may be used.
+#[inline]
+#[tactic(auto, using(crate::proofs::Valuing::none_there, crate::proofs::Valuing::object_there, crate::proofs::Valuing::object_ready, crate::proofs::Valuing::object_bare))]
+fn object_type(x: &Objects<'_>, o: u32) -> Option<TypeRef>
+    ensures { result ≡ option_and_then (Valued.object_type x.now.shapes.now x.now.counts) (object_at x.now.heap.now o) }
+{
+    match x.heap.found(o) {
+        None => None,
+        Some(kind) => {
+            if !is_ready(x.heap, o, kind, x.counts) {
+                return None;
+            }
+            Some(kind_type(x.shapes, kind))
+        }
+    }
+}
+
+/// The type of a value by number, without a look at names. None where it names an object that may not be used yet, or isn't there.
+#[inline]
+#[tactic(auto, using(crate::proofs::Valuing::null_typed, crate::proofs::Valuing::ref_typed))]
+pub(crate) fn value_type(x: &Objects<'_>, value: Value) -> Option<TypeRef>
+    ensures { result ≡ type_in x.now value }
+{
+    match value {
+        Value::Int(_) => Some(TypeRef::Int),
+        Value::Long(_) => Some(TypeRef::Long),
+        Value::Ctx(_) => Some(TypeRef::Ctx),
+        Value::Ref(o) => {
+            if o == 0 {
+                return Some(TypeRef::Null);
+            }
+            object_type(x, o)
+        }
+    }
+}
+
+/// The type of a value, by number: of a reference the class of the object that it names, or the type of the array. None where it names
+/// an object that may not be used yet, or isn't there.
+#[inline]
+pub fn type_at(x: &Objects<'_>, value: Value) -> Option<TypeRef>
+    ensures { (p : Program) (s : Store ℕ) → IsStore p x.now s → option_map (named p) result ≡ type_of (world p) s value }
+{
+    heap_laws();
+    value_type(x, value)
+}
