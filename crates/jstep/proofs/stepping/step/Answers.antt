@@ -1,0 +1,20 @@
+use Rattle.std.specs.Prelude.{length}
+use Rattle.jstep.proofs.Settled.{all_steps, may_raise, still_stands}
+use Rattle.jstep.proofs.stepping.step.Goals as goal
+
+pub run-requires-clause-place : goal.run-requires-clause-place
+run-requires-clause-place g c = c.requires.stand.0.place
+
+pub settle-requires-clause-raised : goal.settle-requires-clause-raised
+settle-requires-clause-raised g c = may_raise c.args.frames.now c.run.new.frames c.in_ok-way.way c.in_ok-way.ensures.stays
+
+pub settle-requires-clause-stand : goal.settle-requires-clause-stand
+settle-requires-clause-stand g c =
+    still_stands c.args.frames.now c.run.new.frames (length c.args.fixed.now.marks.now) c.in_ok-way.way c.in_ok-way.ensures.stays c.in_ok-way.ensures.below
+    c.requires.stand
+
+pub returns : goal.returns
+returns g c =
+    all_steps c.args.fixed.now.tables.now c.args.fixed.now.shapes.now c.args.fixed.now.marks.now (g.C.Catchers.program c.args.catchers.now) c.args.one
+    c.args.frames.now c.run.new.frames c.settle.new.frames c.args.heap.now c.run.new.heap c.settle.new.heap c.settle.result c.in_ok-way.way
+    c.behind_laws.ensures c.requires.here c.requires.within c.in_ok-way.ensures.row c.in_ok-way.ensures.below c.settle.ensures

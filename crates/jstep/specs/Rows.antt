@@ -1,0 +1,143 @@
+-- What an instruction by number did that the machine's definition has a row for.
+use Rattle.std.specs.Prelude.{◌≡◌, ⊤, ℕ, List, [], Option, Some}
+use Rattle.jcode.specs.declared.names.ArrayType.{ArrayType}
+use Rattle.jcode.specs.declared.names.ArrayType.TheVariants as numbers
+use Rattle.jcode.specs.declared.names.Element.TheVariants as items
+use Rattle.jheap.specs.Heaps.{Heaped}
+use Rattle.jlib.specs.declared.classes.LibClass.{LibClass}
+use Rattle.jlib.specs.declared.classes.LibClass.TheVariants as lib
+use Rattle.jlib.specs.declared.classes.Thrown.{Thrown as ThrownClass}
+use Rattle.jops.specs.declared.value.Value.{Value}
+use Rattle.jops.specs.declared.value.Value.TheVariants as values
+use Rattle.jprogram.specs.Classes.{Program}
+use Rattle.juses.specs.declared.numbered.When.{When}
+use Rattle.juses.specs.declared.numbered.When.TheVariants as when
+use Rattle.juses.specs.declared.types.ElementRef.{ElementRef}
+use Rattle.juses.specs.declared.types.ElementRef.TheVariants as elements
+use Rattle.juses.specs.Instructions.{Instruction, Used}
+use Rattle.juses.specs.Meanings as meanings
+use Rattle.jmachine.specs.Acts.{FrameOf}
+use Rattle.jready.specs.declared.instr.ArrayInstr.{ArrayInstr}
+use Rattle.jready.specs.declared.instr.ArrayInstr.TheVariants as array
+use Rattle.jready.specs.declared.instr.FlowInstr.{FlowInstr}
+use Rattle.jready.specs.declared.instr.FlowInstr.TheVariants as flow
+use Rattle.jready.specs.declared.instr.Instr.{Instr}
+use Rattle.jready.specs.declared.instr.Instr.TheVariants as instr
+use Rattle.jready.specs.declared.instr.Push.{Push}
+use Rattle.jready.specs.declared.instr.Push.TheVariants as push
+use Rattle.jready.specs.declared.tables.Tables.{Tables}
+use Rattle.jready.specs.Meant.{meant}
+use Rattle.jstate.specs.declared.shapes.Shapes.{Shapes}
+use Rattle.jstate.specs.Seen.{Things, array_at, store_by}
+use Rattle.jacts.specs.declared.way.Way.{Way}
+use Rattle.jacts.specs.declared.way.Way.TheVariants as ways
+use Rattle.jacts.specs.Ways.{Acts, Does, leaves}
+use Rattle.jstep.specs.declared.arrays.NumberArrays.{NumberArrays}
+
+-- ---- what was done
+
+-- Where this is an instruction, a row did what it does.
+abbrev pub DoesAs : {E : Type 0} → Option Instruction → FrameOf ℕ E → Way → FrameOf ℕ E → Type 0
+DoesAs o f way g = (i : Instruction) → o ≡ Some i → Does i f way g
+
+-- What an instruction by number stands for was done at the newest frame, with the store that the heap stands for, whatever else is told.
+abbrev pub Runs : {E : Type 0} → Tables → Shapes → Instr → FrameOf ℕ E → Heaped → Way → FrameOf ℕ E → Heaped → Type 0
+Runs tables shapes one f h way g k =
+    (p : Program) (class : ℕ) (things : Things) (constants : List (List ℕ × ℕ)) (i : Instruction) → meant p tables class one ≡ Some i
+    → Acts i f (store_by p shapes things constants h) (leaves way [] g (store_by p shapes things constants k))
+
+-- ---- constants
+
+-- a constant of the pool that is a number
+abbrev pub IsNumberPush : Push → Type 0
+IsNumberPush (push.Text i) = ⊥
+IsNumberPush f = ⊤
+
+abbrev pub IsNumber : Value ℕ → Type 0
+IsNumber (values.Int n) = ⊤
+IsNumber (values.Long n) = ⊤
+IsNumber v = ⊥
+
+abbrev pub number_of : Value ℕ → meanings.Pushed
+number_of (values.Int n) = meanings.Int n
+number_of (values.Long n) = meanings.Long n
+number_of v = meanings.Text []
+
+-- the instruction that pushes a number
+abbrev pub pushed : Value ℕ → Instruction
+pushed v = Used (meanings.Push (number_of v))
+
+-- ---- jumps
+
+-- a test of numbers
+abbrev pub IsNumberTest : When → Type 0
+IsNumberTest (when.IfRef test) = ⊥
+IsNumberTest test = ⊤
+
+-- ---- arrays
+
+-- the heap's number for the arrays of such numbers
+abbrev pub array_number : NumberArrays → ArrayType → ℕ
+array_number rows numbers.Boolean = rows.boolean
+array_number rows numbers.Char = rows.char
+array_number rows numbers.Byte = rows.byte
+array_number rows numbers.Short = rows.short
+array_number rows numbers.Int = rows.int
+array_number rows numbers.Long = rows.long
+
+abbrev pub element_of : ArrayType → ElementRef
+element_of numbers.Boolean = elements.Boolean
+element_of numbers.Char = elements.Char
+element_of numbers.Byte = elements.Byte
+element_of numbers.Short = elements.Short
+element_of numbers.Int = elements.Int
+element_of numbers.Long = elements.Long
+
+-- These numbers are those of the arrays of numbers.
+abbrev pub AreRows : Shapes → NumberArrays → Type 0
+AreRows shapes rows = (kind : ArrayType) → array_at shapes (array_number rows kind) ≡ record { depth = 1; element = element_of kind }
+
+-- it stores no reference
+abbrev pub StoresNumber : ArrayInstr → Type 0
+StoresNumber (array.Store items.Ref) = ⊥
+StoresNumber f = ⊤
+
+-- ---- all
+
+abbrev pub IsFlowHere : FlowInstr → Type 0
+IsFlowHere (flow.Jump test to) = IsNumberTest test
+IsFlowHere f = ⊥
+
+-- an instruction with numbers alone, with a local, with the newest items of the stack, or with an array of numbers
+abbrev pub IsHere : Instr → Type 0
+IsHere (instr.Plain f) = ⊤
+IsHere (instr.Push f) = IsNumberPush f
+IsHere (instr.Local f) = ⊤
+IsHere (instr.Stack f) = ⊤
+IsHere (instr.Flow f) = IsFlowHere f
+IsHere (instr.Table c) = ⊤
+IsHere (instr.Lookup c) = ⊤
+IsHere (instr.Array f) = StoresNumber f
+IsHere f = ⊥
+
+-- ---- what is left to do
+
+-- a class of what can be thrown
+abbrev pub IsThrown : LibClass → Type 0
+IsThrown class = (c : ThrownClass) × (class ≡ lib.Thrown c)
+
+abbrev pub IsRaising : Way → Type 0
+IsRaising (ways.Raises class) = ⊤
+IsRaising way = ⊥
+
+-- Nothing is thrown but what is raised, of a class that can be thrown.
+abbrev pub MayRaise : Way → Type 0
+MayRaise (ways.Raises class) = IsThrown class
+MayRaise (ways.Throws n) = ⊥
+MayRaise way = ⊤
+
+-- So it is, and a frame that raises stands where it stood.
+abbrev pub Stays : {E : Type 0} → Way → FrameOf ℕ E → FrameOf ℕ E → Type 0
+Stays (ways.Raises class) f g = IsThrown class × (g.method ≡ f.method) × (g.place ≡ f.place)
+Stays (ways.Throws n) f g = ⊥
+Stays way f g = ⊤

@@ -1,0 +1,72 @@
+ghost use Rattle.std.specs.Prelude.{◌≡◌, ◌<◌, ◌+◌, ◌^◌, [], ℕ, IfOk, List, OnOk, length};
+ghost use Rattle.jheap.specs.Heaps.{cells_at};
+ghost use Rattle.jprogram.specs.Classes.{Program};
+ghost use Rattle.jready.specs.Meant.{array_instr};
+ghost use Rattle.jstate.specs.Seen.{AreBuilt, Things, store_by};
+ghost use Rattle.jacts.specs.Ways.{Acts, leaves};
+ghost use Rattle.jstep.specs.Rows.{AreRows, StoresNumber};
+ghost use Rattle.jstep.specs.Rows;
+
+use jacts::{Way, array_length, array_load, array_store, new_array};
+use jcode::ArrayType;
+use jheap::Heap;
+use jready::ArrayInstr;
+use jstate::{Frames, Shapes};
+use std::alloc::{AllocError, Global};
+
+/// The heap's numbers for the types of arrays of numbers.
+#[derive(Clone, Copy, Debug)]
+pub struct NumberArrays {
+    pub boolean: u32,
+    pub char: u32,
+    pub byte: u32,
+    pub short: u32,
+    pub int: u32,
+    pub long: u32,
+}
+
+impl NumberArrays {
+    /// That for the arrays of such numbers.
+    #[inline]
+    fn of(self, kind: ArrayType) -> u32
+        ensures { result ≡ Rows.array_number self kind }
+    {
+        match kind {
+            ArrayType::Boolean => self.boolean,
+            ArrayType::Char => self.char,
+            ArrayType::Byte => self.byte,
+            ArrayType::Short => self.short,
+            ArrayType::Int => self.int,
+            ArrayType::Long => self.long,
+        }
+    }
+}
+
+/// An instruction with an array, but a store of a reference (JVMS 6.5).
+#[inline]
+pub fn array<M: Copy>(
+    alloc: Global,
+    frames: &mut Frames<M>,
+    heap: &mut Heap,
+    shapes: &Shapes,
+    numbers: NumberArrays,
+    f: ArrayInstr,
+) -> Result<Way, AllocError>
+    requires place { frames.old.newest.place + 1 < 2 ^ 32 }
+    requires small { (o : ℕ) → length (cells_at heap.old o) < 2 ^ 31 }
+    requires built { AreBuilt heap.old.objects }
+    requires numbers { AreRows shapes.now numbers }
+    requires number { StoresNumber f }
+    ensures row { IfOk result (λ way. (p : Program) (things : Things) (constants : List (List ℕ × ℕ)) →
+        Acts (array_instr f) frames.old.newest (store_by p shapes.now things constants heap.old)
+        (leaves way [] frames.new.newest (store_by p shapes.now things constants heap.new))) }
+    ensures below { OnOk result (frames.new.below ≡ frames.old.below) }
+    ensures built { OnOk result (AreBuilt heap.new.objects) }
+{
+    match f {
+        ArrayInstr::New(kind) => new_array(alloc, frames, heap, numbers.of(kind)),
+        ArrayInstr::Load(e) => Ok(array_load(frames, heap, shapes, e)),
+        ArrayInstr::Store(e) => Ok(array_store(frames, heap, shapes, e)),
+        ArrayInstr::Length => Ok(array_length(frames, heap)),
+    }
+}

@@ -1,0 +1,82 @@
+ghost use Rattle.std.specs.Prelude.{◌≡◌, ◌<◌, ◌+◌, ◌^◌, ℕ, IfOk, OnOk, length};
+ghost use Rattle.jheap.specs.Heaps.{cells_at};
+ghost use Rattle.jready.specs.Laid.{Within};
+ghost use Rattle.jstate.specs.Seen.{AreBuilt};
+ghost use Rattle.jstep.specs.Rows.{AreRows, IsHere, Runs, Stays};
+
+use crate::arrays::{NumberArrays, array};
+use crate::computing::{plain, push};
+use crate::jumps::{flow, lookup, table};
+use jacts::{Way, local, stack};
+use jheap::Heap;
+use jready::{Instr, Tables};
+use jstate::{Frames, Shapes};
+use std::alloc::{AllocError, Global};
+
+/// What stands as long as a program runs.
+#[derive(Drop)]
+pub struct Fixed<'p, M> {
+    /// What its instructions name by number.
+    pub tables: &'p Tables,
+    /// What stands in the heap's cells.
+    pub shapes: &'p Shapes,
+    pub numbers: NumberArrays,
+    /// What frames carry of the methods of each class, where nothing else marks them.
+    pub marks: &'p [M],
+}
+
+/// The row of an instruction by number that is here.
+#[inline]
+fn run_row<M: Copy>(
+    alloc: Global,
+    frames: &mut Frames<M>,
+    heap: &mut Heap,
+    fixed: &Fixed<'_, M>,
+    one: Instr,
+) -> Result<Way, AllocError>
+    requires place { frames.old.newest.place + 1 < 2 ^ 32 }
+    requires small { (o : ℕ) → length (cells_at heap.old o) < 2 ^ 31 }
+    requires built { AreBuilt heap.old.objects }
+    requires numbers { AreRows fixed.now.shapes.now fixed.now.numbers }
+    requires here { IsHere one }
+    requires within { Within fixed.now.tables.now one }
+    ensures row { IfOk result (λ way. Runs fixed.now.tables.now fixed.now.shapes.now one frames.old.newest heap.old way frames.new.newest heap.new) }
+    ensures below { OnOk result (frames.new.below ≡ frames.old.below) }
+    ensures built { OnOk result (AreBuilt heap.new.objects) }
+{
+    match one {
+        Instr::Plain(f) => plain(frames, fixed.tables, f),
+        Instr::Push(f) => push(frames, fixed.tables, f),
+        Instr::Local(f) => local(frames, f),
+        Instr::Stack(op) => stack(frames, op),
+        Instr::Flow(f) => Ok(flow(frames, f)),
+        Instr::Table(c) => Ok(table(frames, fixed.tables, c)),
+        Instr::Lookup(c) => Ok(lookup(frames, fixed.tables, c)),
+        Instr::Array(f) => array(alloc, frames, heap, fixed.shapes, fixed.numbers, f),
+        _ => unreachable!(),
+    }
+}
+
+/// Does what an instruction by number does that is here: one with numbers alone, with a local, with the newest items of the stack, or with
+/// an array, but a store of a reference. What is left to do behind it is answered.
+#[inline]
+pub fn run<M: Copy>(
+    alloc: Global,
+    frames: &mut Frames<M>,
+    heap: &mut Heap,
+    fixed: &Fixed<'_, M>,
+    one: Instr,
+) -> Result<Way, AllocError>
+    requires place { frames.old.newest.place + 1 < 2 ^ 32 }
+    requires small { (o : ℕ) → length (cells_at heap.old o) < 2 ^ 31 }
+    requires built { AreBuilt heap.old.objects }
+    requires numbers { AreRows fixed.now.shapes.now fixed.now.numbers }
+    requires here { IsHere one }
+    requires within { Within fixed.now.tables.now one }
+    ensures row { IfOk result (λ way. Runs fixed.now.tables.now fixed.now.shapes.now one frames.old.newest heap.old way frames.new.newest heap.new) }
+    ensures stays { IfOk result (λ way. Stays way frames.old.newest frames.new.newest) }
+    ensures below { OnOk result (frames.new.below ≡ frames.old.below) }
+    ensures built { OnOk result (AreBuilt heap.new.objects) }
+{
+    run_row(alloc, frames, heap, fixed, one)
+}
