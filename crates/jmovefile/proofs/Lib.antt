@@ -8,6 +8,7 @@ pub mod Framing
 pub mod Handling
 pub mod Mapping
 pub mod Measuring
+pub mod Members
 pub mod Methods
 pub mod Naming
 pub mod Pooling

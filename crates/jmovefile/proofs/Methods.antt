@@ -253,7 +253,7 @@ left_of : (c : ClassParts) (m : MemberInfo) (n : ℕ) → n + this_slots m ≤ 2
 unfolding is_static
 left_of c m n h = most_left (parts.is_static m.flags) n h
 
-text_at : (pool : List Entry) (i : ℕ) (text : List ℕ) → slice_get pool i ≡ Some (Utf8 text) → utf8_at pool i ≡ Some text
+pub text_at : (pool : List Entry) (i : ℕ) (text : List ℕ) → slice_get pool i ≡ Some (Utf8 text) → utf8_at pool i ≡ Some text
 unfolding utf8_at
 text_at pool i text h = rw h refl
 
@@ -324,7 +324,7 @@ facts_of p domain c m k there =
       };
     }
 
-movable_of : (p : Program) (domain : ℕ) (c : ClassParts) → CanBeFile p domain c → Movable p c
+pub movable_of : (p : Program) (domain : ℕ) (c : ClassParts) → CanBeFile p domain c → Movable p c
 movable_of p domain c k = record { good = k.good; sound = sound_of c k.good; short = k.short; room = k.room }
 
 method_good : (p : Program) (domain : ℕ) (c : ClassParts) (m : MemberInfo) (pool whole : List Entry) → CanBeFile p domain c → IsIn m c.methods → Grown c.pool pool → length (with_method p c domain m pool).1 ≤ 65535 → IsFront c.pool whole

@@ -160,7 +160,7 @@ good_types text ps ret is =
     let both_good = first_true (list_all is_type ps && is_return ret) (nat_le (slots_of ps) 255) well in
     (first_true (list_all is_type ps) (is_return ret) both_good, second_true (list_all is_type ps) (is_return ret) both_good)
 
-longer_well : (text : List ℕ) (ps : List FieldType) (ret : Option FieldType) → descriptor_of text ≡ Some (descriptors.Method ps ret) → slots_of ps ≤ 254 → descriptor_of (longer ps ret) ≡ Some (descriptors.Method (ps ++ context_type ∷ []) ret)
+pub longer_well : (text : List ℕ) (ps : List FieldType) (ret : Option FieldType) → descriptor_of text ≡ Some (descriptors.Method ps ret) → slots_of ps ≤ 254 → descriptor_of (longer ps ret) ≡ Some (descriptors.Method (ps ++ context_type ∷ []) ret)
 longer_well text ps ret is few =
     let g = good_types text ps ret is in
     let count : slots_of (ps ++ context_type ∷ []) ≡ slots_of ps + slots_of (context_type ∷ []) = slots_append ps (context_type ∷ []) in

@@ -1,7 +1,10 @@
+pub mod Declaring
 pub mod Filed
 pub mod Finding
 pub mod Framed
+pub mod Membering
 pub mod Moving
+pub mod Overriding
 pub mod Plainly
 pub mod Rooming
 pub mod Sides

@@ -74,7 +74,7 @@ tested p i k c before m h =
     let fourth = or_false (is_interface c.flags && has_code m) long third.1 in
     record { short = fourth.1; kept = out.1; here = if_none (text_missing p (member_desc c m)) NoClass d.0 }
 
-members_none : (p : Program) → link_fault p ≡ None → members.members_fault p ≡ None
+pub members_none : (p : Program) → link_fault p ≡ None → members.members_fault p ≡ None
 unfolding link_fault
 members_none p h =
     let inner = or_else (members.members_fault p) (code_fault p) in

@@ -183,7 +183,7 @@ missing_same p (Some (Lib c)) None h = absurd h
 missing_same p (Some (User i c)) (Some (Lib d)) h = absurd h
 missing_same p (Some (Lib c)) (Some (User j d)) h = absurd h
 
-flags_same : (p : Program) (i : ℕ) (c d : ClassParts) → IsMovedClass p i c d → d.flags ≡ c.flags
+pub flags_same : (p : Program) (i : ℕ) (c d : ClassParts) → IsMovedClass p i c d → d.flags ≡ c.flags
 unfolding moved_class
 flags_same p i c d h = ap (λ (x : ClassParts). x.flags) (sym h.there) ∙ ap (λ (x : ClassParts). x.flags) h.here
 
@@ -208,7 +208,7 @@ interface_same p (Some (Lib c)) None h = absurd h
 interface_same p (Some (User i c)) (Some (Lib d)) h = absurd h
 interface_same p (Some (Lib c)) (Some (User j d)) h = absurd h
 
-above_moved : (p : Program) → IsPlain p → (i : ℕ) (c d : ClassParts) → IsMovedClass p i c d → super_name d ≡ super_name c
+pub above_moved : (p : Program) → IsPlain p → (i : ℕ) (c d : ClassParts) → IsMovedClass p i c d → super_name d ≡ super_name c
 above_moved p is i c d h =
     ap super_name (sym h.there) ∙ above_same p h.part.domain h.part.class (named_at p.parts i h.part is.all h.at) ∙ ap super_name h.here
 
@@ -216,7 +216,7 @@ faces_moved : (p : Program) → IsPlain p → (i : ℕ) (c d : ClassParts) → I
 faces_moved p is i c d h =
     ap interface_names (sym h.there) ∙ faces_same p h.part.domain h.part.class (named_at p.parts i h.part is.all h.at) ∙ ap interface_names h.here
 
-above_found : (p : Program) → IsPlain p → (o q : Found) → SameFound p o q → option_and_then above q ≡ option_and_then above o
+pub above_found : (p : Program) → IsPlain p → (o q : Found) → SameFound p o q → option_and_then above q ≡ option_and_then above o
 above_found p is None None h = refl
 above_found p is (Some (User i c)) (Some (User j d)) h = above_moved p is i c d h.1
 above_found p is (Some (Lib c)) (Some (Lib d)) h = ap (λ x. above (Lib x)) (sym h)
@@ -265,7 +265,7 @@ plain_above_if : (b : Bool) (c : ClassParts) → names_reserved c ≡ false → 
 plain_above_if true c kept h = tt
 plain_above_if false c kept h = (text_plain c c.super_class kept h, tt)
 
-plain_above : (c : ClassParts) → Plain c → AllPlain (option_to_list (super_name c))
+pub plain_above : (c : ClassParts) → Plain c → AllPlain (option_to_list (super_name c))
 unfolding names_super
 plain_above c is = plain_above_if (c.super_class == 0) c is.kept is.named.above
 
@@ -326,7 +326,7 @@ known_same p =
 
 -- ---- the second phase
 
-missing_name : (p : Program) → IsPlain p → (name : List ℕ) → is_reserved name ≡ false → is_missing (moved p) name ≡ is_missing p name
+pub missing_name : (p : Program) → IsPlain p → (name : List ℕ) → is_reserved name ≡ false → is_missing (moved p) name ≡ is_missing p name
 missing_name p is name plain = ap not (missing_same p (find p name) (find (moved p) name) (same p is name plain))
 
 above_missing : (p : Program) → IsPlain p → (o : Option (List ℕ)) → AllPlain (option_to_list o) → super_missing (moved p) o ≡ super_missing p o

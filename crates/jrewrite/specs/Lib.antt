@@ -1,3 +1,4 @@
 pub mod Linking
+pub mod Members
 pub mod Parts
 pub mod Program

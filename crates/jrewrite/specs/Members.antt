@@ -1,0 +1,11 @@
+-- What moved programs keep of the third phase of linking.
+use Rattle.std.specs.Prelude.{◌≡◌, None}
+use Rattle.jmembers.specs.Declares.{members_fault}
+use Rattle.jprogram.specs.Classes.{Program}
+use Rattle.jtyping.specs.Typing.{WellTyped}
+use Rattle.jrewrite.specs.Linking.{IsLinked}
+use Rattle.jrewrite.specs.Program.{limits, moved}
+
+-- Each class of the moved program declares what it may, where the program links, is well typed and breaks no limit.
+abbrev pub MembersStay : Type 0
+MembersStay = (p : Program) → IsLinked p → WellTyped p → limits p ≡ None → members_fault (moved p) ≡ None
