@@ -8,7 +8,6 @@ use Rattle.jtypes.specs.declared.vtype.VType.{VType}
 use Rattle.jlib.specs.declared.classes.LibClass.{LibClass}
 use Rattle.jops.specs.declared.value.Value.{Value}
 use Rattle.jprogram.specs.Classes.{Program}
-use Rattle.juses.specs.Instructions.{Instruction}
 use Rattle.jmachine.specs.declared.plan.Plan.{Plan}
 use Rattle.jmachine.specs.Acts.{Act, FrameOf, Goes, Jumps, Leaves, Calls, Raises, Throws, Switches, Makes, Row, State, Outcome, Over, two}
 use Rattle.jmachine.specs.Doing.{Doing, doing}

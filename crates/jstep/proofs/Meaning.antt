@@ -154,7 +154,8 @@ module _ {E : Type 0} (tables : Tables) (shapes : Shapes) (f g : FrameOf ℕ E) 
   pub runs_plain : {F : Type 0} (r : Result Way F) (x : Plain) → IfOk r (λ way. DoesAs (plain_meant tables x) f way g)
       → IfOk r (λ way. Runs tables shapes (instr.Plain x) f h way g h)
   unfolding meant
-  runs_plain (Ok w) x did = λ p class things constants i is r at own entries inherited. did i is r at own (store_by p shapes things constants h) entries inherited
+  runs_plain (Ok w) x did = λ p class things constants i is r at own entries inherited.
+      did i is r at own (store_by p shapes things constants h) entries inherited
   runs_plain (Err e) x did = tt
 
   pub runs_push : {F : Type 0} (r : Result Way F) (x : Push)

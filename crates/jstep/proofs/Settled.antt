@@ -76,7 +76,8 @@ module _ {E : Type 0} (f g : Framed E) where
   may_raise ways.Full is = tt
   may_raise ways.Stuck is = tt
 
-  pub still_stands : (classes : ℕ) (way : Way) → Stays way f.newest g.newest → g.below ≡ f.below → Stand classes (all f) → IsRaising way → Stand classes (all g)
+  pub still_stands : (classes : ℕ) (way : Way) → Stays way f.newest g.newest → g.below ≡ f.below → Stand classes (all f) → IsRaising way
+      → Stand classes (all g)
   still_stands classes ways.Went is below stand raising = absurd raising
   still_stands classes (ways.Raises class) is below stand raising =
       let P : MethodId → Type 0 = λ m. m.class < classes in
