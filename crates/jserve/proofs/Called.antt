@@ -21,19 +21,19 @@ use Rattle.juses.specs.declared.types.TypeRef.TheVariants as types
 use Rattle.juses.specs.Meanings.{CallMeaning}
 use Rattle.juses.specs.Types.{class_named, named}
 use Rattle.jrule.specs.Effects.{Fits, Want}
-use Rattle.jrule.specs.Uses.{arguments, receiver as wanted_receiver}
+use Rattle.jrule.specs.Uses.{arguments}
 use Rattle.jmachine.specs.Calls.{begun_on, init_taken, is_begun, may_begin, receiver}
 use Rattle.jmachine.specs.Objects.{Object, class_of}
 use Rattle.jmachine.specs.Operands.{Taken, taken}
 use Rattle.jmachine.specs.Store.{Store, object_at, object_of}
 use Rattle.jmachine.specs.World.{fits, is_instance, world}
-use Rattle.jstate.specs.Seen.{object_by, store_by}
+use Rattle.jstate.specs.Seen.{object_by}
 use Rattle.jstate.specs.SeenLaws.{SeesEach}
 use Rattle.jcalls.specs.declared.receiver.Receiver.{Receiver}
 use Rattle.jcalls.specs.declared.receiver.Receiver.TheVariants as receivers
-use Rattle.jcalls.specs.Calling.{IsOfInterface, call_taken, found_as, receiver_seen, took}
+use Rattle.jcalls.specs.Calling.{IsOfInterface, found_as, receiver_seen}
 use Rattle.jserve.specs.declared.values.Objects.{Objects}
-use Rattle.jserve.specs.Served.{all_serve, one_serves, serves_in, took_if}
+use Rattle.jserve.specs.Served.{all_serve, serves_in, took_if}
 use Rattle.jserve.specs.Calls.{CallServes, IsCall, begins_as, begins_at, begins_in, count_of}
 use Rattle.jserve.specs.Valued.{IsStore, kind_type}
 use Rattle.jserve.proofs.Wanting.{serves_seen, taken_all}

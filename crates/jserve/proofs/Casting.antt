@@ -1,6 +1,6 @@
 -- References, and objects of types that casts, throws and stores into arrays ask for.
-use Rattle.std.proofs.Common.{◌≡◌, ◌∙◌, ℕ, zero, suc, ◌-◌, ◌<◌, ◌≤◌, Bool, true, false, ◌&&◌, List, [], ◌∷◌, length, Option, Some, None, refl, sym, ap, arith}
-use Rattle.std.specs.Prelude.{is_some, option_map, slice_get, if◌then◌else◌}
+use Rattle.std.proofs.Common.{◌≡◌, ◌∙◌, ℕ, zero, suc, ◌-◌, ◌<◌, ◌≤◌, Bool, false, ◌&&◌, List, [], ◌∷◌, length, Option, Some, None, refl, sym, ap, arith}
+use Rattle.std.specs.Prelude.{is_some, option_map, slice_get}
 use Rattle.jcode.specs.declared.names.CastOp.{CastOp}
 use Rattle.jcode.specs.declared.names.CastOp.TheVariants as casts
 use Rattle.jcode.specs.declared.names.RefTest.{RefTest}

@@ -6,7 +6,7 @@ use Rattle.jtypes.specs.Fitting.{array_fits, class_fits, element_fits, is_above_
 use Rattle.jtypes.specs.Tree.{Tree}
 use Rattle.jtypes.proofs.Dimensions.{as_many_fit, fewer_fail, more_fit}
 use Rattle.jprogram.specs.declared.part.ClassRef.{ClassRef}
-use Rattle.jprogram.specs.Classes.{Program, tree}
+use Rattle.jprogram.specs.Classes.{Program}
 use Rattle.juses.specs.Types.{class_named}
 use Rattle.jlink.specs.Standing.{itself}
 use Rattle.jmachine.specs.World.{world}

@@ -1,6 +1,6 @@
 -- The operands of instructions with fields.
 use Rattle.std.proofs.Common.{◌≡◌, ◌∙◌, ℕ, Bool, true, false, ◌&&◌, ◌||◌, List, [], ◌∷◌, Option, Some, None, refl, sym, ap}
-use Rattle.std.specs.Prelude.{is_some, option_map, slice_get, if◌then◌else◌}
+use Rattle.std.specs.Prelude.{is_some, option_map, slice_get}
 use Rattle.jcode.specs.declared.names.FieldOp.TheVariants as ops
 use Rattle.jops.specs.declared.value.Value.{Value}
 use Rattle.jtypes.specs.declared.vtype.Name.{Name}

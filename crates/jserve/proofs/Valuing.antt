@@ -1,5 +1,5 @@
 -- The types of values by number are those of the machine's definition.
-use Rattle.std.proofs.Common.{◌≡◌, ◌∙◌, ℕ, zero, suc, ◌-◌, ◌<◌, ◌≤◌, Bool, true, false, List, [], ◌++◌, length, map, Option, Some, None, refl, sym, ap, arith, rules, lt-ltb}
+use Rattle.std.proofs.Common.{◌≡◌, ◌∙◌, ℕ, zero, suc, ◌-◌, ◌<◌, ◌≤◌, Bool, true, false, List, [], ◌++◌, map, Option, Some, None, refl, sym, ap, arith, rules, lt-ltb}
 use Rattle.std.specs.Prelude.{get_or, is_some, nat_lt, option_and_then, option_map, slice_get, unwrap_or, if◌then◌else◌}
 use Rattle.std.proofs.lemmas.List.{get_or-append_right, get_or-map, get_or_append_left}
 use Rattle.std.proofs.lemmas.Option.{slice_get-get_or}
@@ -24,7 +24,7 @@ use Rattle.jmachine.specs.Objects as machine
 use Rattle.jmachine.specs.Objects.{class_of}
 use Rattle.jmachine.specs.Operands.{found_type, ready_type, type_of}
 use Rattle.jmachine.specs.Store.{Store}
-use Rattle.jmachine.specs.World.{World, world}
+use Rattle.jmachine.specs.World.{world}
 use Rattle.jstate.specs.declared.shapes.Shape.{Shape}
 use Rattle.jstate.specs.declared.shapes.Shapes.{Shapes}
 use Rattle.jstate.specs.Numbers.{class_numbered, library_at, library_classes, library_count}

@@ -1,5 +1,5 @@
 -- Operands that serve.
-use Rattle.std.proofs.Common.{◌≡◌, ◌∙◌, ℕ, zero, suc, ◌+◌, ◌<◌, ◌≤◌, ◌⊎◌, inl, inr, Bool, true, false, ◌&&◌, List, [], ◌∷◌, ◌++◌, drop, get_or, length, map, take, Option, Some, None, refl, sym, ap}
+use Rattle.std.proofs.Common.{◌≡◌, ◌∙◌, ℕ, suc, ◌+◌, ◌<◌, ◌≤◌, ◌⊎◌, inl, inr, Bool, true, false, ◌&&◌, List, [], ◌∷◌, ◌++◌, drop, get_or, length, map, Option, Some, None, refl, sym, ap}
 use Rattle.std.specs.Prelude.{is_some, option_map, slice_get, if◌then◌else◌}
 use Rattle.std.proofs.lemmas.List.{at_drop_all, at_drop_more, length-map}
 use Rattle.std.proofs.lemmas.Option.{slice_get_cases}
@@ -12,7 +12,6 @@ use Rattle.jmachine.specs.Operands.{Taken, serves, serves_as, taken, with_value}
 use Rattle.jmachine.specs.Store.{Store}
 use Rattle.jmachine.specs.World.{World, fits, world}
 use Rattle.jstate.specs.SeenLaws.{SeesEach}
-use Rattle.jcalls.specs.Calling.{took}
 use Rattle.jserve.specs.declared.values.Objects.{Objects}
 use Rattle.jserve.specs.Served.{all_serve, one_serves, serves_in, took_if}
 use Rattle.jserve.specs.Valued.{IsStore, type_in}

@@ -1,5 +1,5 @@
 -- Operands that serve, by number.
-use Rattle.std.specs.Prelude.{◌≡◌, ℕ, zero, suc, Bool, true, false, ◌&&◌, List, [], ◌∷◌, Option, Some, None, option_map}
+use Rattle.std.specs.Prelude.{ℕ, Bool, true, false, ◌&&◌, List, [], ◌∷◌, Option, Some, None, option_map}
 use Rattle.jops.specs.declared.value.Value.{Value}
 use Rattle.jprogram.specs.Classes.{Program}
 use Rattle.jrule.specs.Effects.{Want}

@@ -1,4 +1,4 @@
-use Rattle.std.proofs.Common.{◌≡◌, ◌<◌, length, rules}
+use Rattle.std.proofs.Common.{◌<◌, length, rules}
 use Rattle.jserve.proofs.Casting.{none_found, one_found}
 use Rattle.jserve.proofs.casts.is_one.Goals as goal
 
