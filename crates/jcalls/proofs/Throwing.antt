@@ -1,6 +1,6 @@
 -- What is raised and thrown.
 use Rattle.std.proofs.Common.{◌≡◌, ◌∙◌, ℕ, suc, ◌+◌, ◌<◌, true, false, List, [], ◌∷◌, ◌++◌, length, Option, Some, None, refl, sym, ap, arith, rules, le-leb}
-use Rattle.std.specs.Prelude.{IfOk, Ok, Err, Result, nat_le, slice_get}
+use Rattle.std.specs.Prelude.{IfOk, OnOk, Ok, Err, Result, nat_le, slice_get}
 use Rattle.std.proofs.lemmas.List.{length-map}
 use Rattle.jheap.specs.declared.cell.Kind.TheVariants as kinds
 use Rattle.jheap.specs.Heaps.{Heaped, Makes as MakesOne, made}
@@ -18,7 +18,7 @@ use Rattle.jstate.specs.Framed.{Framed, all}
 use Rattle.jstate.specs.Numbers.{GivesBack, class_numbered, thrown_number}
 use Rattle.jstate.specs.declared.shapes.Shapes.{Shapes}
 use Rattle.jstate.specs.Seen.{AreBuilt, Things, class_by, object_by, store_by}
-use Rattle.jstate.specs.SeenLaws.{Makes}
+use Rattle.jstate.specs.SeenLaws.{MadeStaysBuilt, Makes}
 use Rattle.jcalls.specs.declared.raising.Raised.{Raised}
 use Rattle.jcalls.specs.declared.raising.Raised.TheVariants as ways
 use Rattle.jcalls.specs.Unwinds.{Unwinds}
@@ -102,3 +102,18 @@ pub one_made : (c : ThrownClass) (number : ℕ) (h k : Heaped) (o : Option ℕ) 
     → (2 < h.left + 1) × (n ≡ length h.objects + 1) × (k ≡ made h (kinds.Object (thrown_number c)) 1)
 one_made c number h k None n is e m = cc
 one_made c number h k (Some x) n is e m = let same : x ≡ n = cc in (m.0, sym same ∙ m.1, m.2 ∙ ap (λ i. made h (kinds.Object i) 1) is)
+
+-- ---- what holds of the pieces of builders stays
+
+pub none_built : (number : ℕ) (h k : Heaped) (o : Option ℕ) → o ≡ None → MakesOne (kinds.Object number) 1 h k o → AreBuilt h.objects → AreBuilt k.objects
+none_built number h k None e m built = rw m.1 built
+none_built number h k (Some n) e m built = cc
+
+pub made_built : MadeStaysBuilt → (number : ℕ) (h k : Heaped) (o : Option ℕ) (n : ℕ) → o ≡ Some n → MakesOne (kinds.Object number) 1 h k o
+    → AreBuilt h.objects → AreBuilt k.objects
+made_built law number h k None n is m built = cc
+made_built law number h k (Some x) n is m built = rw m.2 (law h (kinds.Object number) 1 built)
+
+pub built_on : {F : Type 0} (r : Result Raised F) (k : Heaped) → AreBuilt k.objects → OnOk r (AreBuilt k.objects)
+built_on (Ok w) k built = built
+built_on (Err e) k built = tt

@@ -1,4 +1,4 @@
-ghost use Rattle.std.specs.Prelude.{◌≡◌, IfOk, length};
+ghost use Rattle.std.specs.Prelude.{◌≡◌, IfOk, OnOk, length};
 ghost use Rattle.jmachine.specs.Unwinding.{handler_at};
 ghost use Rattle.jprogram.specs.Classes.{Program};
 ghost use Rattle.jlib.specs.declared.classes.LibClass.TheVariants as lib;
@@ -110,7 +110,8 @@ fn settle_raised<M: Copy, C: Catchers>(
 ) -> Result<Stepped, AllocError>
     requires stand { Stand (length marks.now) (all frames.old) }
     requires built { AreBuilt heap.old.objects }
-    ensures { IfOk result (λ done. Settles marks.now (C.program catchers.now) (ways.Raises (lib.Thrown class)) frames.old heap.old done frames.new heap.new) }
+    ensures row { IfOk result (λ done. Settles marks.now (C.program catchers.now) (ways.Raises (lib.Thrown class)) frames.old heap.old done frames.new heap.new) }
+    ensures built { OnOk result (AreBuilt heap.new.objects) }
 {
     let handlers = Of { class, catchers };
     let number = thrown_number(class);
@@ -142,7 +143,8 @@ pub fn settle<M: Copy, C: Catchers>(
     requires raised { MayRaise way }
     requires stand { IsRaising way → Stand (length marks.now) (all frames.old) }
     requires built { AreBuilt heap.old.objects }
-    ensures { IfOk result (λ done. Settles marks.now (C.program catchers.now) way frames.old heap.old done frames.new heap.new) }
+    ensures row { IfOk result (λ done. Settles marks.now (C.program catchers.now) way frames.old heap.old done frames.new heap.new) }
+    ensures built { OnOk result (AreBuilt heap.new.objects) }
 {
     match way {
         Way::Went => Ok(Stepped::Went),

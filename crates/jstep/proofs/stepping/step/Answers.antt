@@ -13,8 +13,8 @@ settle-requires-clause-stand g c =
     still_stands c.args.frames.now c.run.new.frames (length c.args.fixed.now.marks.now) c.in_ok-way.way c.in_ok-way.ensures.stays c.in_ok-way.ensures.below
     c.requires.stand
 
-pub returns : goal.returns
-returns g c =
+pub returns-clause-row : goal.returns-clause-row
+returns-clause-row g c =
     all_steps c.args.fixed.now.tables.now c.args.fixed.now.shapes.now c.args.fixed.now.marks.now (g.C.Catchers.program c.args.catchers.now) c.args.one
     c.args.frames.now c.run.new.frames c.settle.new.frames c.args.heap.now c.run.new.heap c.settle.new.heap c.settle.result c.in_ok-way.way
-    c.behind_laws.ensures c.requires.here c.requires.within c.in_ok-way.ensures.row c.in_ok-way.ensures.below c.settle.ensures
+    c.behind_laws.ensures c.requires.here c.requires.within c.in_ok-way.ensures.row c.in_ok-way.ensures.below c.settle.ensures.row
