@@ -1,0 +1,62 @@
+-- What is known of a call.
+use Rattle.std.proofs.Common.{◌≡◌, ◌∙◌, Bool, true, false, List, Option, Some, None, sym, ap}
+use Rattle.std.specs.Prelude.{is_some, option_map}
+use Rattle.jclass.specs.declared.class.CodeBody.{CodeBody}
+use Rattle.jcode.specs.declared.form.PoolForm.{PoolForm}
+use Rattle.jpool.specs.declared.entry.Entry.{Entry}
+use Rattle.jprogram.specs.declared.member.MethodId.{MethodId}
+use Rattle.jprogram.specs.declared.member.Selected.{Selected}
+use Rattle.jprogram.specs.declared.member.Selected.TheVariants as selected
+use Rattle.jprogram.specs.Classes.{Program}
+use Rattle.juses.specs.declared.code.CodeRef.{CodeRef}
+use Rattle.juses.specs.declared.meaning.CallUse.{CallUse}
+use Rattle.juses.specs.declared.meaning.Use.{Use}
+use Rattle.juses.specs.declared.types.TypeRef.{TypeRef}
+use Rattle.juses.specs.Instructions.{code_at}
+use Rattle.juses.specs.Meanings.{CallMeaning, call_named, meaning_of, meant}
+use Rattle.juses.specs.Numbered.{seen_code}
+use Rattle.juses.specs.Tables.{pool_at}
+use Rattle.jmachine.specs.World.{world}
+use Rattle.jready.specs.Meant.{call_form}
+use Rattle.jcalls.specs.Calling.{selected_on}
+use Rattle.jinvoke.specs.declared.choosing.Answer.{Answer}
+use Rattle.jinvoke.specs.declared.choosing.CallKey.{CallKey}
+use Rattle.jinvoke.specs.declared.choosing.Chosen.{Chosen}
+use Rattle.jinvoke.specs.declared.choosing.Chosen.TheVariants as chosens
+use Rattle.jinvoke.specs.Answers.{IsCallAt, answer, answer_by, answer_to, chosen, has, hides, id_on, in_meaning, locals_in, nothing}
+
+abbrev by_code : MethodId → Option CodeBody → Chosen
+by_code m body = chosens.Method m (is_some body) (locals_in body)
+
+module _ (p : Program) (m : MethodId) (c : Option CodeRef) (h : option_map seen_code c ≡ code_at p m) where
+  pub bare_is : c ≡ None → chosens.Method m false 0 ≡ chosen p (selected.Method m)
+  bare_is e = ap (by_code m) (sym (ap (option_map seen_code) e) ∙ h)
+
+  pub coded_is : (body : CodeRef) → c ≡ Some body → chosens.Method m true body.max_locals ≡ chosen p (selected.Method m)
+  coded_is body e = ap (by_code m) (sym (ap (option_map seen_code) e) ∙ h)
+
+abbrev made : Chosen → Bool → Bool → Answer
+made what has hidden = record { what = what; has = has; hidden = hidden }
+
+pub answer_made : (p : Program) (k : CallKey) (c : CallMeaning) (s : Selected) (what : Chosen) (face hidden : Bool)
+    → s ≡ selected_on (world p) k.class k.by c (id_on k.on) → what ≡ chosen p s → face ≡ has p k.by c k.on → hidden ≡ hides p k.by s
+    → made what face hidden ≡ answer_by p k c
+answer_made p k c s what face hidden is w f h =
+    ap (λ x. made x face hidden) (w ∙ ap (chosen p) is) ∙ ap (λ x. made (chosen p (selected_on (world p) k.class k.by c (id_on k.on))) x hidden) f
+    ∙ ap (λ x. made (chosen p (selected_on (world p) k.class k.by c (id_on k.on))) (has p k.by c k.on) x) (h ∙ ap (hides p k.by) is)
+
+pub call_there : (p : Program) (k : CallKey) (types : List TypeRef) (form : PoolForm) (u : Option Use) (call : Option CallUse) → form ≡ call_form k.by k.pool
+    → option_map (meaning_of p (pool_at p k.class) types) u ≡ meant p (pool_at p k.class) form
+    → ((q : Program) (pool : List Entry) (ts : List TypeRef) → option_map (call_named q ts) call ≡ in_meaning (option_map (meaning_of q pool ts) u))
+    → IsCallAt p k call
+call_there p k types form u call f is law =
+    (types, law p (pool_at p k.class) types ∙ ap in_meaning (is ∙ ap (meant p (pool_at p k.class)) f))
+
+pub answered : (p : Program) (k : CallKey) (o : Option CallUse) (call : CallUse) (a : Answer) → IsCallAt p k o → o ≡ Some call
+    → ((types : List TypeRef) → a ≡ answer_by p k (call_named p types call)) → a ≡ answer p k
+unfolding answer
+answered p k o call a is e law = law is.0 ∙ ap (answer_to p k) (sym (ap (option_map (call_named p is.0)) e) ∙ is.1)
+
+pub unanswered : (p : Program) (k : CallKey) (o : Option CallUse) → IsCallAt p k o → o ≡ None → nothing ≡ answer p k
+unfolding answer
+unanswered p k o is e = ap (answer_to p k) (sym (ap (option_map (call_named p is.0)) e) ∙ is.1)

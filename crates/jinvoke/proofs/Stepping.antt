@@ -1,0 +1,28 @@
+-- Steps that execute calls.
+use Rattle.std.proofs.Common.{◌≡◌, ◌∙◌, ℕ, Option, Some, sym, ap}
+use Rattle.std.specs.Prelude.{option_map}
+use Rattle.jprogram.specs.Classes.{Program}
+use Rattle.juses.specs.Instructions.{Instruction, Used}
+use Rattle.juses.specs.Meanings.{Call}
+use Rattle.jmachine.specs.declared.plan.Plan.{Plan}
+use Rattle.jmachine.specs.Acts.{State}
+use Rattle.jmachine.specs.Security.{Rules}
+use Rattle.jmachine.specs.Steps.{executed, fetched, step, step_at}
+use Rattle.jready.specs.Meant.{meant}
+use Rattle.jstate.specs.Framed.{Framed, all}
+use Rattle.jinvoke.specs.Laws.{StepsLibrary, StepsUser}
+
+steps_at : {E : Type 0} (r : Rules ℕ E) (p : Program) (plan : Plan) (s : State ℕ E) (f : Framed E) (it : Option Instruction)
+    → s.running.frames ≡ all f → it ≡ fetched p f.newest.method f.newest.place → step r p plan s ≡ executed r p plan s f.newest f.below it
+unfolding step
+steps_at r p plan s f it frames is = ap (step_at r p plan s) frames ∙ ap (executed r p plan s f.newest f.below) (sym is)
+
+pub steps_user : {E : Type 0} → StepsUser E
+unfolding meant
+steps_user r p plan s f t known by pool params k frames is called =
+    steps_at r p plan s f (Some (Used (Call by called.call))) frames (sym (ap (option_map Used) called.means) ∙ is)
+
+pub steps_library : {E : Type 0} → StepsLibrary E
+unfolding meant
+steps_library r p plan s f t known by pool params call frames is called =
+    steps_at r p plan s f (Some (Used (Call by called.call))) frames (sym (ap (option_map Used) called.means) ∙ is)

@@ -1,0 +1,8 @@
+use Rattle.jinvoke.proofs.Stepping.{steps_library, steps_user}
+use Rattle.jinvoke.proofs.laws.step_laws.Goals as goal
+
+pub returns-clause-user : goal.returns-clause-user
+returns-clause-user g c = steps_user
+
+pub returns-clause-library : goal.returns-clause-library
+returns-clause-library g c = steps_library

@@ -1,0 +1,60 @@
+-- Laws of what a machine by number knows of calls and of what is thrown.
+use Rattle.std.specs.Prelude.{◌≡◌, ℕ, List, Some}
+use Rattle.jheap.specs.declared.cell.Kind.TheVariants as kinds
+use Rattle.jheap.specs.Heaps.{Heaped, kind_at}
+use Rattle.jlib.specs.declared.calls.LibCall.{LibCall}
+use Rattle.jtypes.specs.declared.vtype.VType.TheVariants as types
+use Rattle.jprogram.specs.Classes.{Program}
+use Rattle.juses.specs.declared.meaning.How.{How}
+use Rattle.juses.specs.declared.meaning.Span.{Span}
+use Rattle.juses.specs.declared.types.TypeRef.{TypeRef}
+use Rattle.juses.specs.Instructions.{Used}
+use Rattle.juses.specs.Meanings.{Call}
+use Rattle.juses.specs.Tables.{pool_at}
+use Rattle.juses.specs.Types.{class_named}
+use Rattle.jmachine.specs.declared.plan.Plan.{Plan}
+use Rattle.jmachine.specs.Acts.{State}
+use Rattle.jmachine.specs.Objects.{Object, class_of}
+use Rattle.jmachine.specs.Security.{Rules}
+use Rattle.jmachine.specs.Steps.{executed, fetched, step}
+use Rattle.jmachine.specs.Store.{object_at}
+use Rattle.jmachine.specs.World.{world}
+use Rattle.jready.specs.declared.instr.Instr.TheVariants as instr
+use Rattle.jready.specs.declared.tables.Tables.{Tables}
+use Rattle.jready.specs.Exact.{LibraryCalled, UserCalled}
+use Rattle.jready.specs.Meant.{meant}
+use Rattle.jstate.specs.Framed.{Framed, all}
+use Rattle.jstate.specs.declared.shapes.Shapes.{Shapes}
+use Rattle.jstate.specs.Numbers.{class_numbered}
+use Rattle.jstate.specs.Seen.{Things, store_by}
+use Rattle.jinvoke.specs.Invoking.{CallWithin}
+
+-- The class of an object is that of its heap's number.
+abbrev pub HasClass : Type 0
+HasClass = (p : Program) (shapes : Shapes) (things : Things) (constants : List (List ℕ × ℕ)) (h : Heaped) (o n : ℕ) (x : Object ℕ)
+    → kind_at h o ≡ Some (kinds.Object n) → object_at (store_by p shapes things constants h) o ≡ Some x
+    → class_of (world p).named x ≡ types.Object (class_named p (class_numbered n))
+
+-- What an instruction by number names is within the program.
+abbrev pub UserWithin : Type 0
+UserWithin = (p : Program) (known : List TypeRef) (class : ℕ) (by : How) (pool : ℕ) (params : Span) (k : ℕ)
+    → UserCalled p (pool_at p class) known by pool params k → CallWithin p class by pool
+
+abbrev pub LibraryWithin : Type 0
+LibraryWithin = (p : Program) (known : List TypeRef) (class : ℕ) (by : How) (pool : ℕ) (params : Span) (call : LibCall)
+    → LibraryCalled p (pool_at p class) known by pool params call → CallWithin p class by pool
+
+-- A step executes the instruction that stands where the newest frame does, by number a call of a user's method or of the library.
+abbrev pub StepsUser : Type 0 → Type 0
+StepsUser E = (r : Rules ℕ E) (p : Program) (plan : Plan) (s : State ℕ E) (f : Framed E) (t : Tables) (known : List TypeRef)
+    (by : How) (pool : ℕ) (params : Span) (k : ℕ) → let class = f.newest.method.class in
+    s.running.frames ≡ all f → meant p t class (instr.Call by pool params k) ≡ fetched p f.newest.method f.newest.place
+    → (called : UserCalled p (pool_at p class) known by pool params k)
+    → step r p plan s ≡ executed r p plan s f.newest f.below (Some (Used (Call by called.call)))
+
+abbrev pub StepsLibrary : Type 0 → Type 0
+StepsLibrary E = (r : Rules ℕ E) (p : Program) (plan : Plan) (s : State ℕ E) (f : Framed E) (t : Tables) (known : List TypeRef)
+    (by : How) (pool : ℕ) (params : Span) (call : LibCall) → let class = f.newest.method.class in
+    s.running.frames ≡ all f → meant p t class (instr.Library by pool params call) ≡ fetched p f.newest.method f.newest.place
+    → (called : LibraryCalled p (pool_at p class) known by pool params call)
+    → step r p plan s ≡ executed r p plan s f.newest f.below (Some (Used (Call by called.call)))

@@ -1,0 +1,5 @@
+pub mod Answers
+pub mod Invoking
+pub mod Keys
+pub mod Laws
+pub mod Told

@@ -1,0 +1,120 @@
+ghost use Rattle.std.specs.Prelude.{◌≡◌, IfOk};
+ghost use Rattle.jlink.specs.Links.{Links};
+ghost use Rattle.jmachine.specs.Unwinding;
+ghost use Rattle.jmachine.specs.World;
+ghost use Rattle.jmachine.specs.World.{own_tree, world};
+ghost use Rattle.jprogram.specs.Classes;
+ghost use Rattle.jprogram.specs.Classes.{name_at};
+ghost use Rattle.jprogram.specs.Implementing.{AreInterfaces};
+ghost use Rattle.jtypes.specs.Fitting.{class_fits};
+ghost use Rattle.jtypes.specs.declared.vtype.VType.TheVariants as types;
+ghost use Rattle.juses.specs.Meanings.{class_at};
+ghost use Rattle.juses.specs.Tables.{pool_at};
+ghost use Rattle.juses.specs.Types.{class_named, named};
+
+use jlink::LinkedProgram;
+use jprogram::{ClassRef, Interfaces};
+use juses::{TypeRef, stands_below};
+use std::alloc::{AllocError, Global};
+use std::marker::Model;
+
+/// A program, as it is asked where its methods are called and where something is thrown. Contracts see the program.
+#[derive(Drop)]
+pub struct Known<'p> {
+    program: &'p LinkedProgram,
+    /// Which interfaces its classes implement.
+    faces: Interfaces,
+}
+
+impl<'p> Model for Known<'p> {
+    ghost use Rattle.jlink.specs.Links.{Links};
+    ghost use Rattle.jprogram.specs.Classes.{Program};
+    ghost use Rattle.jprogram.specs.Implementing.{AreInterfaces};
+
+    ghost Value = { Program };
+
+    ghost view = { λ k. k.program.now };
+
+    ghost invariant = { λ k. Links k.program.now × AreInterfaces k.program.now k.faces };
+}
+
+/// The table of the interfaces that a program's classes implement.
+#[tactic(auto, using(crate::proofs::Knowing::ordered))]
+fn faces_of(alloc: Global, program: &LinkedProgram) -> Result<Interfaces, AllocError>
+    ensures links { Links program.now }
+    ensures faces { IfOk result (AreInterfaces program.now) }
+{
+    let named = program.named();
+    Interfaces::of(alloc, named)
+}
+
+/// Whether an interface is one of the class of another number.
+#[tactic(auto, using(crate::proofs::Knowing::ordered))]
+fn implements(
+    program: &LinkedProgram,
+    faces: &Interfaces,
+    class: ClassRef,
+    interface: ClassRef,
+) -> bool
+    requires { AreInterfaces program.now faces.now }
+    ensures { result ≡ Classes.implements program.now (name_at program.now class) (name_at program.now interface) }
+{
+    let named = program.named();
+    named.implements(faces, named.name_of(class), named.name_of(interface))
+}
+
+impl<'p> Known<'p> {
+    /// What is known of a program. The table of its interfaces takes memory.
+    pub fn of(alloc: Global, program: &'p LinkedProgram) -> Result<Known<'p>, AllocError>
+        ensures { IfOk result (λ k. k ≡ program.now) }
+    {
+        let faces = faces_of(alloc, program)?;
+        Ok(Known { program, faces })
+    }
+
+    /// The program.
+    pub fn program(&self) -> &'p LinkedProgram
+        ensures { result.now ≡ self.now }
+    {
+        self.program
+    }
+
+    /// Whether an object of the first class is one of the second, which is its class, or one above it, or an interface of one of them.
+    #[tactic(auto, using(crate::proofs::Knowing::below_is, crate::proofs::Knowing::face_is))]
+    pub fn is_of(&self, class: ClassRef, other: ClassRef) -> bool
+        ensures { result ≡ class_fits (own_tree (world self.now)) (class_named self.now class) (class_named self.now other) }
+    {
+        if stands_below(self.program.named(), class, other) {
+            return true;
+        }
+        implements(self.program, &self.faces, class, other)
+    }
+
+    /// Whether an object of a class is one of a type.
+    pub fn is_instance(&self, class: ClassRef, t: TypeRef) -> bool
+        ensures { result ≡ World.is_instance (world self.now) (types.Object (class_named self.now class)) (named self.now t) }
+    {
+        match t {
+            TypeRef::Top => true,
+            TypeRef::Int => false,
+            TypeRef::Long => false,
+            TypeRef::Null => false,
+            TypeRef::UninitThis => false,
+            TypeRef::Uninit(_) => false,
+            TypeRef::Object(other) => self.is_of(class, other),
+            TypeRef::Array(_) => false,
+            TypeRef::Ctx => false,
+        }
+    }
+
+    /// Whether a handler of the class at an index of a part's pool catches an object of a class.
+    #[tactic(auto, using(crate::proofs::Knowing::caught_none, crate::proofs::Knowing::caught_some))]
+    pub fn is_caught(&self, thrown: ClassRef, class: u32, pool: u16) -> bool
+        ensures { result ≡ Unwinding.is_caught self.now (types.Object (class_named self.now thrown)) (class_at self.now (pool_at self.now class) pool) }
+    {
+        match self.program.uses().class_at(class, pool) {
+            None => false,
+            Some(t) => self.is_instance(thrown, t),
+        }
+    }
+}

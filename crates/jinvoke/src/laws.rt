@@ -1,0 +1,25 @@
+ghost use Rattle.jinvoke.specs.Laws.{HasClass, LibraryWithin, StepsLibrary, StepsUser, UserWithin};
+
+use jstate::heap_laws;
+
+/// The law of classes by the heap's numbers. It has no body to run; its contract is the law.
+#[tactic(auto, using(crate::proofs::Classed::has_class))]
+pub fn class_laws()
+    ensures { HasClass }
+{
+    heap_laws();
+}
+
+/// The laws of what instructions by number call: it is of a class of the program. They have no body to run; the contract is the laws.
+#[tactic(auto, using(crate::proofs::Within::user_within, crate::proofs::Within::library_within))]
+pub fn within_laws()
+    ensures user { UserWithin }
+    ensures library { LibraryWithin }
+{}
+
+/// The laws of steps: the machine executes what an instruction by number stands for. They have no body to run; the contract is the laws.
+#[tactic(auto, using(crate::proofs::Stepping::steps_user, crate::proofs::Stepping::steps_library))]
+pub fn step_laws<M>()
+    ensures user { StepsUser M }
+    ensures library { StepsLibrary M }
+{}

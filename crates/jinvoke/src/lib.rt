@@ -1,0 +1,17 @@
+//! What calls and what is thrown ask of a program: which methods are selected, and which handlers handle.
+#![tactic(auto)]
+
+mod answers;
+mod catching;
+mod choosing;
+mod invoking;
+mod known;
+mod laws;
+mod numbers;
+
+pub use answers::Calls;
+pub use catching::{ThrownAs, told_law};
+pub use choosing::{Answer, CallKey, Chosen};
+pub use known::Known;
+pub use laws::{class_laws, step_laws, within_laws};
+pub use numbers::class_numbered;
