@@ -31,7 +31,8 @@ pub fn step<M: Copy, C: Catchers>(
     requires small { (o : ℕ) → length (cells_at heap.old o) < 2 ^ 31 }
     requires built { AreBuilt heap.old.objects }
     requires numbers { AreRows fixed.now.shapes.now fixed.now.numbers }
-    ensures row { IfOk result (λ done. Steps fixed.now.tables.now fixed.now.shapes.now fixed.now.marks.now (C.program catchers.now) one frames.old heap.old done frames.new heap.new) }
+    ensures row { IfOk result (λ done. Steps fixed.now.tables.now fixed.now.shapes.now fixed.now.marks.now (C.program catchers.now)
+        one frames.old heap.old done frames.new heap.new) }
     ensures built { OnOk result (AreBuilt heap.new.objects) }
 {
     behind_laws::<M>();

@@ -133,7 +133,8 @@ pub fn concat<M>(
 ) -> Result<Ran, AllocError>
     requires { AreBuilt heap.old.objects }
     ensures row { IfOk result (λ ran. (p : Program) (shapes : Shapes) (things : Things) (constants : List (List ℕ × ℕ)) →
-        let s = store_by p shapes things constants heap.old in Comes {E = M} s (string s calls.Concat (more ∷ text ∷ [])) (leaves ran [] (store_by p shapes things constants heap.new))) }
+        let s = store_by p shapes things constants heap.old in
+        Comes {E = M} s (string s calls.Concat (more ∷ text ∷ [])) (leaves ran [] (store_by p shapes things constants heap.new))) }
     ensures built { OnOk result (AreBuilt heap.new.objects) }
 {
     heap_laws();
