@@ -12,7 +12,7 @@ use Rattle.jmachine.specs.Acts.{FrameOf}
 use Rattle.jmachine.specs.Frames.{locals_of, onto}
 use Rattle.jmachine.specs.Straight.{places}
 use Rattle.jstate.specs.declared.frames.At.{At}
-use Rattle.jstate.specs.Framed.{Framed, framed, frame_at, frames_at, holding, pushed, shown, starting}
+use Rattle.jstate.specs.Framed.{Framed, all, framed, frame_at, frames_at, holding, pushed, shown, starting}
 
 -- what is ensured where there is no error
 pub not_err : {A E P : Type 0} (r : Result A E) → is_err r ≡ false → OnOk r P → P
@@ -53,6 +53,21 @@ pub one_more : {E : Type 0} (below : List (At E)) (at : At E) (l : List (Option 
     → frames_at (reverse (below ++ at ∷ [])) (l ∷ locals) (o ∷ operands) ≡ frame_at at l o ∷ frames_at (reverse below) locals operands
 unfolding frames_at
 one_more below at l locals o operands = ap (λ ats. frames_at ats (l ∷ locals) (o ∷ operands)) (reverse-append below (at ∷ []))
+
+-- as many frames as stand somewhere
+many : {E : Type 0} (ats : List (At E)) (locals : List (List (Option (Value ℕ)))) (operands : List (List (Value ℕ)))
+    → length ats ≤ length locals → length ats ≤ length operands → length (frames_at ats locals operands) ≡ length ats
+unfolding frames_at
+many [] locals operands some more = refl
+many (at ∷ ats) [] operands some more = absurd (omega (arith, some))
+many (at ∷ ats) (l ∷ locals) [] some more = absurd (omega (arith, more))
+many (at ∷ ats) (l ∷ locals) (o ∷ operands) some more = ap suc (many ats locals operands (omega (arith, some)) (omega (arith, more)))
+
+pub deep : {E : Type 0} (at : At E) (below : List (At E)) (locals : Piled (Option (Value ℕ))) (operands : Piled (Value ℕ))
+    → length locals.below ≡ length below + 1 → length operands.below ≡ length below + 1 → length (all (shown at below locals operands)) ≡ length below + 1
+deep at below locals operands some more =
+    let n = many (reverse below) locals.below operands.below (omega (arith, some, length-reverse below)) (omega (arith, more, length-reverse below)) in
+    omega (arith, n, length-reverse below)
 
 module _ {E : Type 0} where
   abbrev pub begins : MethodId → E → At E

@@ -1,7 +1,7 @@
 ghost use Rattle.std.specs.Prelude.{◌≡◌, ◌<◌, ◌≤◌, ◌+◌, ◌^◌, ◌∷◌, [], IfOk, OnOk, OnErr, None, Some, MatchBool, drop, length, reverse, slice_get, slice_set, take};
 ghost use Rattle.jmachine.specs.Frames.{carrying, standing, with_operands};
 ghost use Rattle.jmachine.specs.Straight.{local_at};
-ghost use Rattle.jstate.specs.Framed.{framed, holding, keeping, pushed, starting, with_newest};
+ghost use Rattle.jstate.specs.Framed.{all, framed, holding, keeping, pushed, starting, with_newest};
 
 use crate::places::Places;
 use jops::Value;
@@ -121,6 +121,14 @@ impl<M: Copy> Frames<M> {
 // ---- where a frame stands
 
 impl<M: Copy> Frames<M> {
+    /// How many frames there are.
+    #[inline]
+    pub fn depth(&self) -> usize
+        ensures { result ≡ length (all self.now) }
+    {
+        self.below.len() + 1
+    }
+
     /// The method of the newest frame.
     #[inline]
     pub fn method(&self) -> MethodId
