@@ -2,7 +2,7 @@ mod Applying
 mod ArrayRows
 mod Asks
 mod CallRows
-mod Courses
+pub mod Courses
 mod Examples
 mod FieldRows
 mod LibraryRows
