@@ -1,5 +1,6 @@
 mod Appending
 mod BuilderRows
+mod ConstantRows
 mod Costs
 mod Gathering
 mod LoadRows
