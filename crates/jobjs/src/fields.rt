@@ -12,6 +12,7 @@ ghost use Rattle.jprogram.specs.declared.member.Member.TheVariants as members;
 ghost use Rattle.juses.specs.Instructions as instructions;
 ghost use Rattle.juses.specs.Meanings as meanings;
 ghost use Rattle.juses.specs.Meanings.{FieldMeaning};
+ghost use Rattle.jstate.specs.Celled.{StayCelled};
 ghost use Rattle.jstate.specs.Seen.{AreBuilt, Things, store_by};
 ghost use Rattle.jstate.specs.declared.shapes.Shapes.{Shapes};
 ghost use Rattle.jstate.specs.Framed.{with_newest};
@@ -25,7 +26,7 @@ use jacts::{Way, narrowed, put_cell, way_laws};
 use jheap::{CellType, Heap, raw_laws};
 use jlib::{LibClass, Thrown};
 use jops::Value;
-use jstate::{Frames, built_laws, cell_laws, heap_laws};
+use jstate::{Frames, built_laws, cell_laws, celled_laws, heap_laws};
 use juses::ElementRef;
 use std::alloc::AllocError;
 
@@ -196,10 +197,12 @@ pub fn put_field<M: Copy>(
         (instructions.Used (meanings.Field ops.PutField f)) frames.old.newest s (leaves result [] frames.new.newest (store_by p shapes things constants heap.new)) }
     ensures below { frames.new.below ≡ frames.old.below }
     ensures built { AreBuilt heap.old.objects → AreBuilt heap.new.objects }
+    ensures celled { StayCelled heap.old.objects heap.new.objects }
 {
     heap_laws();
     cell_laws();
     built_laws();
+    celled_laws();
     way_laws::<M>();
     if !serve {
         return Way::Stuck;

@@ -2,6 +2,7 @@
 #![tactic(auto)]
 
 mod builders;
+mod cells;
 mod loading;
 mod making;
 mod printing;
@@ -12,6 +13,7 @@ mod texts;
 mod thrown;
 
 pub use builders::{append, builder_init, builder_of_text, built_text};
+pub use cells::cells_laws;
 pub use loading::{load_int, load_long, load_text};
 pub use printing::{print, print_end};
 pub use ran::Ran;
