@@ -1,12 +1,13 @@
-ghost use Rattle.std.specs.Prelude.{◌≡◌, ◌<◌, ℕ, Some, IfOk, OnOk, length, slice_get};
+ghost use Rattle.std.specs.Prelude.{◌≡◌, ◌<◌, ℕ, Some, IfOk, OnOk, IsTrue, length, not, slice_get};
+ghost use Rattle.jthreads.specs.Table.{is_started, join_answer, joined, lives_at, table_after_end, table_after_start};
 ghost use Rattle.std.specs.List.{list_any};
 ghost use Rattle.jmachine.specs.Turns.{end_of, guests};
 ghost use Rattle.jmachine.specs.Store.{Store};
-ghost use Rattle.jguests.specs.Guested.{AreGuests, guest_by, guests_of, have_failed, state_by};
+ghost use Rattle.jguests.specs.Guested.{AreGuests, ended_as, guest_by, guests_of, have_failed, state_by, with_running, with_table};
 ghost use Rattle.jguests.specs.Turning.{Turns};
 
 use crate::guests::{Guest, Guests, husk};
-use jthreads::{pick, thread_laws};
+use jthreads::{Joined, pick, thread_laws};
 use jtrace::End;
 use std::alloc::{AllocError, Global};
 
@@ -88,5 +89,45 @@ impl<M: Copy> Guests<M> {
         self.switch(t);
         self.turns = turns;
         Ok(Turned::Goes)
+    }
+
+    /// Starts a thread. False exactly where it was started already, and then nothing changes.
+    #[tactic(auto, using(crate::proofs::Lying::not_there, crate::proofs::Lying::start_none))]
+    pub fn start(&mut self, t: u64) -> bool
+        requires { AreGuests self.old }
+        ensures are { AreGuests self.new }
+        ensures answer { result ≡ not (is_started self.old.table t) }
+        ensures table { self.new ≡ with_table (table_after_start t self.old.table) self.old }
+    {
+        if t >= self.others.len() as u64 {
+            return true;
+        }
+        self.table.start(t as u32)
+    }
+
+    /// Lets the thread that runs wait for another that was started and has not ended. On any other it goes on at once, and nothing changes.
+    #[tactic(auto, using(crate::proofs::Lying::join_none, crate::proofs::Lying::joined_none))]
+    pub fn join(&mut self, t: u64) -> Joined
+        requires { AreGuests self.old }
+        ensures are { AreGuests self.new }
+        ensures answer { result ≡ join_answer t self.old.table }
+        ensures table { self.new ≡ with_table (joined self.old.at t self.old.table) self.old }
+    {
+        if t >= self.others.len() as u64 {
+            return Joined::AtOnce;
+        }
+        self.table.join(self.at, t as u32)
+    }
+
+    /// The thread that runs has ended, by an exception or not. It was started and has not ended.
+    pub fn end_running(&mut self, failed: bool)
+        requires are { AreGuests self.old }
+        requires lives { IsTrue (lives_at self.old.table self.old.at) }
+        ensures are { AreGuests self.new }
+        ensures table { self.new ≡ with_table (table_after_end self.old.at self.old.table) (with_running (ended_as failed self.old.running) self.old) }
+    {
+        self.running.frames = None;
+        self.running.failed = failed;
+        self.table.end(self.at);
     }
 }
