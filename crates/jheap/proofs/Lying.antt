@@ -1,6 +1,6 @@
 -- Objects that lie one behind the other in one list of cells.
 use Rattle.std.proofs.Common.{◌≡◌, ◌∙◌, ℕ, zero, suc, ◌+◌, ◌-◌, ◌<◌, ◌≤◌, List, [], ◌∷◌, ◌++◌, length, replicate, take, drop, Option, Some, refl, sym, ap, ap₂, subst, arith}
-use Rattle.std.specs.Prelude.{slice_set, slice_get, get_or, unwrap_or, is_some, true}
+use Rattle.std.specs.Prelude.{◌^◌, slice_set, slice_get, get_or, unwrap_or, is_some, true}
 use Rattle.std.specs.Option.{option_map}
 use Rattle.std.proofs.Common.{◌≢◌}
 use Rattle.std.proofs.lemmas.Option.{unwrap_or-slice_get, slice_get-map, slice_get_read}
@@ -11,7 +11,7 @@ use Rattle.std.proofs.Math.Seq.{take-set-lt, drop-append_seam, take-length}
 use Rattle.jheap.specs.declared.cell.Header.{Header}
 use Rattle.jheap.specs.declared.cell.Kind.{Kind}
 use Rattle.jheap.specs.declared.cell.Kind.TheVariants as kinds
-use Rattle.jheap.specs.Heaps.{Object, Heaped, HasCell, object_at, kind_at, cells_at, before_at, with_before, fresh, changed, charge}
+use Rattle.jheap.specs.Heaps.{AreSmall, Object, Heaped, HasCell, object_at, kind_at, cells_at, before_at, with_before, fresh, changed, charge}
 use Rattle.jheap.specs.Laid.{object_of, objects_of, end_of, IsLaid}
 
 end_more : (at : ℕ) (hs : List Header) (h : Header) → end_of at (hs ++ h ∷ []) ≡ end_of at hs + h.len
@@ -53,6 +53,24 @@ costs_more (kinds.Object class) len = omega arith
 costs_more (kinds.Array element) len = omega arith
 costs_more kinds.Text len = omega arith
 costs_more kinds.Piece len = omega arith
+
+-- ---- no object has more cells than there are
+
+fewer : (k : ℕ) (xs : List ℕ) → length (take k xs) ≤ length xs
+fewer zero xs = omega arith
+fewer (suc k) [] = omega arith
+fewer (suc k) (x ∷ xs) = let le = fewer k xs in omega (arith, le)
+
+within : (hs : List Header) (cells : List ℕ) (n : ℕ) → length (unwrap_or (option_map (λ (x : Object). x.cells) (slice_get (objects_of hs cells) n)) []) ≤ length cells
+within [] cells n = omega arith
+within (h ∷ hs) cells zero =
+    let less = fewer h.len (drop h.first cells) in
+    omega (arith, less, length-drop h.first cells)
+within (h ∷ hs) cells (suc n) = within hs cells n
+
+pub small : (hs : List Header) (cells statics : List ℕ) (left : ℕ) → length cells < 2 ^ 31 → AreSmall (record { objects = objects_of hs cells; statics = statics; left = left })
+small hs cells statics left few zero = omega arith
+small hs cells statics left few (suc o) = let le = within hs cells o in omega (arith, le, few)
 
 -- ---- where a cell is
 

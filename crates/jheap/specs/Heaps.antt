@@ -1,5 +1,5 @@
 -- The heap: objects by their numbers, which count from 1 in order of making, statics, and the cells that are left.
-use Rattle.std.specs.Prelude.{◌≡◌, ℕ, zero, suc, ◌+◌, ◌-◌, ◌<◌, ◌⊎◌, List, [], ◌∷◌, ◌++◌, length, replicate, Option, Some, None, unwrap_or, slice_get, slice_set}
+use Rattle.std.specs.Prelude.{◌≡◌, ℕ, zero, suc, ◌+◌, ◌-◌, ◌<◌, ◌^◌, ◌⊎◌, List, [], ◌∷◌, ◌++◌, length, replicate, Option, Some, None, unwrap_or, slice_get, slice_set}
 use Rattle.std.specs.Option.{option_map}
 use Rattle.std.proofs.Common.{◌≢◌}
 use Rattle.jheap.specs.declared.cell.Kind.{Kind}
@@ -60,6 +60,10 @@ HasCell h o i = i < length (cells_at h o)
 
 abbrev pub cell_at : Heaped → ℕ → ℕ → ℕ
 cell_at h o i = unwrap_or (slice_get (cells_at h o) i) 0
+
+-- No object has so many cells that an int doesn't count them.
+abbrev pub AreSmall : Heaped → Type 0
+AreSmall h = (o : ℕ) → length (cells_at h o) < 2 ^ 31
 
 -- the object of a number is changed
 abbrev pub changed : (Object → Object) → ℕ → List Object → List Object

@@ -1,6 +1,6 @@
 ghost use Rattle.std.specs.Prelude.{◌≡◌, ◌+◌, ◌<◌, ◌^◌, ◌%◌, ◌∷◌, ◌++◌, [], IfOk, OnErr, OnOk, Some, length, replicate, slice_get, slice_set, get_or, is_some, true};
 ghost use Rattle.jheap.specs.Heaps;
-ghost use Rattle.jheap.specs.Heaps.{HasCell, Makes, before_at, cell_at, cells_at, kind_at, object_at, opened, with_before, with_cell, with_statics};
+ghost use Rattle.jheap.specs.Heaps.{AreSmall, HasCell, Makes, before_at, cell_at, cells_at, kind_at, object_at, opened, with_before, with_cell, with_statics};
 ghost use Rattle.jheap.specs.Raw.{of_raw as raw_value, raw as raw_number};
 
 use crate::cell::{CellType, Header, Kind, charge, of_raw, raw};
@@ -44,12 +44,13 @@ impl Model for Heap {
 
     ghost view = { λ h. record { objects = objects_of h.headers.items h.cells.items; statics = h.kept.items; left = h.unused } };
 
-    ghost invariant = { λ h. IsLaid 0 h.headers.items × (end_of 0 h.headers.items ≡ length h.cells.items) × (length h.cells.items + length h.headers.items + h.unused < 2 ^ 32) };
+    ghost invariant = { λ h. IsLaid 0 h.headers.items × (end_of 0 h.headers.items ≡ length h.cells.items) × (length h.cells.items + length h.headers.items + h.unused < 2 ^ 31) };
 }
 
 impl Heap {
-    /// A heap with so many cells, without objects and statics. It takes no memory.
+    /// A heap with so many cells, fewer than 2 ^ 31, without objects and statics. It takes no memory.
     pub fn open(alloc: Global, cells: u32) -> Result<Heap, AllocError>
+        requires { cells < 2 ^ 31 }
         ensures { IfOk result (λ h. h ≡ opened cells) }
     {
         Ok(Heap {
@@ -58,6 +59,13 @@ impl Heap {
             kept: Vec::new(alloc),
             unused: cells,
         })
+    }
+
+    /// The law of sizes: no object has 2 ^ 31 cells or more. It does nothing; its contract is the law.
+    pub fn small(&self)
+        ensures { AreSmall self.now }
+    {
+        let _ = self.cells.len();
     }
 
     /// The cells that are left.
@@ -204,6 +212,14 @@ impl Heap {
     {
         self.kept = Vec::from_elem(alloc, 0, count as usize)?;
         Ok(())
+    }
+
+    /// How many statics there are.
+    #[inline]
+    pub fn static_count(&self) -> usize
+        ensures { result ≡ length self.now.statics }
+    {
+        self.kept.len()
     }
 
     /// The value of a static, read as a type. It is there.

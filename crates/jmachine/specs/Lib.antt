@@ -27,4 +27,5 @@ pub mod Opening
 pub mod Runs
 pub mod Machine
 pub mod Maps
+pub mod Asked
 pub mod Natural

@@ -1,6 +1,7 @@
-ghost use Rattle.jmachine.specs.Natural.{AppliedAlike, ArrayAlike, CallAlike, CastAlike, FieldAlike, InitTakesAlike, JumpAlike};
-ghost use Rattle.jmachine.specs.Natural.{LibraryAlike, LocalAlike, MakeAlike, MakeArrayAlike, PushAlike, RunAlike, SimpleAlike};
-ghost use Rattle.jmachine.specs.Natural.{StackAlike, StepAlike, SwitchAlike, TakesAlike, ThrowAlike};
+ghost use Rattle.jmachine.specs.Natural.{AnswersAlike, AppliedAlike, ArrayAlike, AsksAlike, CallAlike, CastAlike, FieldAlike};
+ghost use Rattle.jmachine.specs.Natural.{InitTakesAlike, JumpAlike, LibraryAlike, LocalAlike, MakeAlike, MakeArrayAlike, OpeningAlike, PushAlike};
+ghost use Rattle.jmachine.specs.Natural.{RunAlike, SimpleAlike, StackAlike, StepAlike, StepAlikeAt, StepUnasked, SwitchAlike};
+ghost use Rattle.jmachine.specs.Natural.{TakesAlike, ThrowAlike};
 ghost use Rattle.jmachine.specs.Machine.{RunGrows, RunStays};
 ghost use Rattle.jmachine.specs.Runs.{GoesOn, Grows, Stays};
 
@@ -59,4 +60,15 @@ pub fn step_laws<K, L, E, F>()
     ensures applied { AppliedAlike K L E F }
     ensures step { StepAlike K L E F }
     ensures run { RunAlike K L E F }
+{}
+
+/// The laws of what a step asks of access control. What it asks doesn't depend on what is kept. Two machines whose contexts and frames'
+/// entries correspond take the same step where they answer alike what it asks, and where it asks nothing; those that answer alike do so at
+/// each ask. They begin in the same state. It has no body to run; its contract is the laws.
+pub fn asking_laws<K, L, E, F>()
+    ensures asks { AsksAlike K L E F }
+    ensures step { StepAlikeAt K L E F }
+    ensures unasked { StepUnasked K L E F }
+    ensures answers { AnswersAlike K L E F }
+    ensures opening { OpeningAlike K L E F }
 {}

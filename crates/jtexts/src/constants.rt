@@ -5,6 +5,7 @@ ghost use Rattle.juses.specs.Meanings as meanings;
 ghost use Rattle.jmachine.specs.Making.{push, units_of as units_held};
 ghost use Rattle.jmachine.specs.Store.{constant_at};
 ghost use Rattle.jstate.specs.declared.shapes.Shapes.{Shapes};
+ghost use Rattle.jstate.specs.Celled.{StayCelled};
 ghost use Rattle.jstate.specs.Seen.{AreBuilt, Things, store_by};
 ghost use Rattle.jtexts.specs.Constants.{LoadsKnown, MakesText, constants_with, loaded};
 ghost use Rattle.jtexts.specs.HeapTexts.{Puts};
@@ -12,6 +13,7 @@ ghost use Rattle.jtexts.specs.Rans.{Comes, leaves};
 
 use crate::making::put_units;
 use jheap::{Heap, Kind};
+use jstate::piece_laws;
 use std::alloc::{AllocError, Global};
 
 /// A new string of these units: its number. None exactly where the cells for it aren't left, and then nothing changes.
@@ -22,7 +24,9 @@ pub fn make_text(alloc: Global, heap: &mut Heap, units: &[u16]) -> Result<Option
     ensures puts { IfOk result (λ o. Puts kinds.Text units.now heap.old heap.new o) }
     ensures statics { OnOk result (heap.new.statics ≡ heap.old.statics) }
     ensures built { OnOk result (AreBuilt heap.new.objects) }
+    ensures celled { OnOk result (StayCelled heap.old.objects heap.new.objects) }
 {
+    piece_laws();
     let made = put_units(alloc, heap, Kind::Text, units)?;
     Ok(made)
 }
@@ -42,7 +46,9 @@ pub fn make_constant<M>(
     ensures puts { IfOk result (λ o. Puts kinds.Text units.now heap.old heap.new o) }
     ensures statics { OnOk result (heap.new.statics ≡ heap.old.statics) }
     ensures built { OnOk result (AreBuilt heap.new.objects) }
+    ensures celled { OnOk result (StayCelled heap.old.objects heap.new.objects) }
 {
+    piece_laws();
     let made = put_units(alloc, heap, Kind::Text, units)?;
     Ok(made)
 }

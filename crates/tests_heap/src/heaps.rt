@@ -5,7 +5,7 @@ use std::test::Fail;
 /// Charges against cells: an object costs one more than its cells, anything else two more.
 #[test]
 fn charges(rt: HostRuntime) -> Result<(), Fail> {
-    let rows: [(Kind, u32, u32, u32); 5] = [
+    let rows: [(Kind, u32, u16, u16); 5] = [
         (Kind::Object(7), 0, 1, 0),
         (Kind::Object(7), 3, 4, 3),
         (Kind::Array(1), 3, 5, 4),
@@ -13,12 +13,12 @@ fn charges(rt: HostRuntime) -> Result<(), Fail> {
         (Kind::Piece, 9, 11, 10),
     ];
     for (kind, len, cost, short) in rows {
-        let mut heap = Heap::open(rt.alloc(), cost)?;
+        let mut heap = Heap::open(rt.alloc(), u32::from(cost))?;
         assert!(rt; heap.make(rt.alloc(), kind, len)? == Some(1), "{len}");
         assert!(rt; heap.left() == 0, "{len}");
-        let mut less = Heap::open(rt.alloc(), short)?;
+        let mut less = Heap::open(rt.alloc(), u32::from(short))?;
         assert!(rt; less.make(rt.alloc(), kind, len)? == None, "{len}");
-        assert!(rt; less.left() == short, "{len}");
+        assert!(rt; less.left() == u32::from(short), "{len}");
     }
     Ok(())
 }

@@ -4,7 +4,7 @@ use Rattle.jtexts.proofs.constants.make_constant.Goals as goal
 
 pub returns-clause-row : goal.returns-clause-row
 returns-clause-row g c p shapes things constants bytes held none =
-    put_loads p shapes things constants c.args.units.now _ bytes c.args.heap.now c.put_units.new.heap c.in_ok-made.made c.requires (λ i. omega (arith, c.type_inv.units i)) held none
+    put_loads c.piece_laws.ensures.adds p shapes things constants c.args.units.now _ bytes c.args.heap.now c.put_units.new.heap c.in_ok-made.made c.requires (λ i. omega (arith, c.type_inv.units i)) held none
     c.in_ok-made.ensures.puts
 
 pub returns-clause-statics : goal.returns-clause-statics

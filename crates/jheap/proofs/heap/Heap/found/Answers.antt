@@ -1,4 +1,4 @@
-use Rattle.std.proofs.Common.{◌≡◌, ◌∙◌, sym, ap, rules}
+use Rattle.std.proofs.Common.{◌∙◌, ap, rules}
 use Rattle.jheap.specs.Heaps.{Heaped, kind_at}
 use Rattle.jheap.proofs.Lying.{found_is}
 use Rattle.jheap.proofs.heap.Heap.found.Goals as goal
