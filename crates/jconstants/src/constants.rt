@@ -1,5 +1,6 @@
 ghost use Rattle.std.specs.Prelude.{◌≡◌, ◌<◌, ◌+◌, ◌^◌, [], IfOk, OnOk};
 ghost use Rattle.jmachine.specs.Store.{constant_at};
+ghost use Rattle.jstate.specs.Celled.{StayCelled};
 ghost use Rattle.jstate.specs.Seen.{AreBuilt};
 ghost use Rattle.jconstants.specs.Loads.{Loads, Pushes, RaisesNothing, RunsLoad};
 ghost use Rattle.jconstants.specs.Made.{units_at};
@@ -40,6 +41,7 @@ fn give<M: Copy>(frames: &mut Frames<M>, object: Option<u32>) -> Result<Way, All
     ensures pushes { IfOk result (λ way. Pushes object frames.old way frames.new) }
     ensures raises { IfOk result RaisesNothing }
     ensures below { OnOk result (frames.new.below ≡ frames.old.below) }
+    ensures method { OnOk result (frames.new.newest.method ≡ frames.old.newest.method) }
 {
     let Some(o) = object else {
         return Ok(Way::Full);
@@ -86,6 +88,7 @@ impl<'p> Constants<'p> {
         ensures program { self.new.program ≡ self.old.program }
         ensures statics { OnOk result (heap.new.statics ≡ heap.old.statics) }
         ensures built { OnOk result (AreBuilt heap.new.objects) }
+        ensures celled { OnOk result (StayCelled heap.old.objects heap.new.objects) }
     {
         constant_laws::<M>();
         let known = number_at(self.table.known.as_slice(), class, index);
@@ -111,9 +114,11 @@ impl<'p> Constants<'p> {
         ensures row { IfOk result (λ way. RunsLoad class index self.old frames.old heap.old way self.new frames.new heap.new) }
         ensures raises { IfOk result RaisesNothing }
         ensures below { OnOk result (frames.new.below ≡ frames.old.below) }
+        ensures method { OnOk result (frames.new.newest.method ≡ frames.old.newest.method) }
         ensures program { self.new.program ≡ self.old.program }
         ensures statics { OnOk result (heap.new.statics ≡ heap.old.statics) }
         ensures built { OnOk result (AreBuilt heap.new.objects) }
+        ensures celled { OnOk result (StayCelled heap.old.objects heap.new.objects) }
     {
         let object = self.get::<M>(alloc, heap, class, index)?;
         let way = give(frames, object)?;

@@ -1,6 +1,7 @@
 ghost use Rattle.std.specs.Prelude.{◌≡◌, IfOk, None, OnOk};
 ghost use Rattle.jprogram.specs.Names.{place_at};
 ghost use Rattle.jmachine.specs.Store.{constant_at};
+ghost use Rattle.jstate.specs.Celled.{StayCelled};
 ghost use Rattle.jstate.specs.Seen.{AreBuilt};
 ghost use Rattle.jconstants.specs.Loads.{Loads};
 ghost use Rattle.jconstants.specs.Made.{IsObject, IsTable, constants_in, made_in, units_at};
@@ -32,6 +33,7 @@ fn make<M>(
     ensures same { table.new.program.now ≡ table.old.program.now }
     ensures statics { OnOk result (heap.new.statics ≡ heap.old.statics) }
     ensures built { OnOk result (AreBuilt heap.new.objects) }
+    ensures celled { OnOk result (StayCelled heap.old.objects heap.new.objects) }
 {
     let Some(object) = make_constant::<M>(alloc, heap, units.as_slice())? else {
         return Ok(None);
@@ -63,6 +65,7 @@ fn object_for<M>(
     ensures same { table.new.program.now ≡ table.old.program.now }
     ensures statics { OnOk result (heap.new.statics ≡ heap.old.statics) }
     ensures built { OnOk result (AreBuilt heap.new.objects) }
+    ensures celled { OnOk result (StayCelled heap.old.objects heap.new.objects) }
 {
     constant_laws::<M>();
     if let Some(object) = object_of(&table.objects, units.as_slice()) {
@@ -87,6 +90,7 @@ pub(crate) fn first_get<M>(
     ensures same { table.new.program.now ≡ table.old.program.now }
     ensures statics { OnOk result (heap.new.statics ≡ heap.old.statics) }
     ensures built { OnOk result (AreBuilt heap.new.objects) }
+    ensures celled { OnOk result (StayCelled heap.old.objects heap.new.objects) }
 {
     let units = units_of(alloc, table.program, class, index)?;
     let object = object_for::<M>(alloc, table, heap, class, index, units)?;
