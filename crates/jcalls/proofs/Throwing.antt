@@ -1,5 +1,5 @@
 -- What is raised and thrown.
-use Rattle.std.proofs.Common.{◌≡◌, ◌∙◌, ℕ, suc, ◌+◌, ◌<◌, true, false, List, [], ◌∷◌, ◌++◌, length, Option, Some, None, refl, sym, ap, arith, rules, le-leb}
+use Rattle.std.proofs.Common.{◌≡◌, ◌∙◌, ◌⊎◌, inl, inr, ℕ, suc, ◌+◌, ◌<◌, true, false, List, [], ◌∷◌, ◌++◌, length, Option, Some, None, refl, sym, ap, arith, rules, le-leb}
 use Rattle.std.specs.Prelude.{IfOk, OnOk, Ok, Err, Result, nat_le, slice_get}
 use Rattle.std.proofs.lemmas.List.{length-map}
 use Rattle.jheap.specs.declared.cell.Kind.TheVariants as kinds
@@ -23,7 +23,7 @@ use Rattle.jstate.specs.SeenLaws.{MadeStaysBuilt, Makes}
 use Rattle.jcalls.specs.declared.raising.Raised.{Raised}
 use Rattle.jcalls.specs.declared.raising.Raised.TheVariants as ways
 use Rattle.jcalls.specs.Unwinds.{Unwinds}
-use Rattle.jcalls.specs.Throws.{Raises, Throws, raising}
+use Rattle.jcalls.specs.Throws.{RaisedHeap, Raises, Throws, raising}
 
 module _ {E : Type 0} (marks : List E) (goes : MethodId → ℕ → Option ℕ) (n : ℕ) (f g : Framed E) where
   pub handled_so : Unwinds marks goes n f true g → Throws marks goes n f ways.Handled g
@@ -136,3 +136,13 @@ made_celled law wants c number h k (Some x) n same is m shapes all = rw m.2 (law
 pub holds_on : {F Holds : Type 0} (r : Result Raised F) → Holds → OnOk r Holds
 holds_on (Ok w) held = held
 holds_on (Err e) held = tt
+
+-- ---- the heap
+
+pub none_heap : (c : ThrownClass) (number : ℕ) (h k : Heaped) (o : Option ℕ) → o ≡ None → MakesOne (kinds.Object number) 1 h k o → RaisedHeap c h k
+none_heap c number h k None e m = inl m.1
+none_heap c number h k (Some n) e m = absurd cc
+
+pub made_heap : (c : ThrownClass) {F : Type 0} (r : Result Raised F) (h k : Heaped) → k ≡ made h (kinds.Object (thrown_number c)) 1 → OnOk r (RaisedHeap c h k)
+made_heap c (Ok w) h k is = inr is
+made_heap c (Err e) h k is = tt

@@ -5,7 +5,7 @@ ghost use Rattle.jstate.specs.Framed.{all};
 ghost use Rattle.jstate.specs.Numbers.{thrown_number};
 ghost use Rattle.jstate.specs.Seen.{AreBuilt};
 ghost use Rattle.jcalls.specs.Marks.{Stand};
-ghost use Rattle.jcalls.specs.Throws.{Raises, Throws};
+ghost use Rattle.jcalls.specs.Throws.{LeavesStanding, RaisedHeap, Raises, Throws};
 
 use crate::handlers::Handlers;
 use crate::unwinding::unwind;
@@ -34,7 +34,8 @@ pub fn throw_object<M: Copy, H: Handlers>(
     handlers: &H,
 ) -> Result<Raised, AllocError>
     requires { Stand (length marks.now) (all frames.old) }
-    ensures { IfOk result (λ way. Throws marks.now (H.goes handlers.now) object frames.old way frames.new) }
+    ensures row { IfOk result (λ way. Throws marks.now (H.goes handlers.now) object frames.old way frames.new) }
+    ensures stand { OnOk result (LeavesStanding frames.old frames.new) }
 {
     let caught = unwind(frames, object, marks, handlers)?;
     if caught {
@@ -45,6 +46,7 @@ pub fn throw_object<M: Copy, H: Handlers>(
 
 /// Raises an exception of a class of the library, without a message: makes an object of the class, by the heap's number for it, and throws
 /// it. `handlers` say where frames go on that handle its type.
+#[tactic(auto, using(crate::proofs::Standing::same_stands))]
 pub fn raise<M: Copy, H: Handlers>(
     alloc: Global,
     frames: &mut Frames<M>,
@@ -58,6 +60,8 @@ pub fn raise<M: Copy, H: Handlers>(
     requires built { AreBuilt heap.old.objects }
     requires number { number ≡ thrown_number class }
     ensures row { IfOk result (λ way. Raises marks.now (H.goes handlers.now) (lib.Thrown class) frames.old heap.old way frames.new heap.new) }
+    ensures stand { OnOk result (LeavesStanding frames.old frames.new) }
+    ensures heap { OnOk result (RaisedHeap class heap.old heap.new) }
     ensures built { OnOk result (AreBuilt heap.new.objects) }
     ensures celled { OnOk result (StayCelled heap.old.objects heap.new.objects) }
 {

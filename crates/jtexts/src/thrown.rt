@@ -197,7 +197,7 @@ fn tell<M>(heap: &mut Heap, shapes: &Shapes, o: u32, m: u32) -> Ran
 
 /// The object that a value names, where it is a reference.
 #[inline]
-fn reference(value: Value) -> Option<u32>
+pub fn reference(value: Value) -> Option<u32>
     ensures { result ≡ named_as value }
 {
     match value {

@@ -1,0 +1,92 @@
+ghost use Rattle.std.specs.Prelude.{◌≡◌, ◌<◌, ℕ, Some, IfOk, OnOk, length, slice_get};
+ghost use Rattle.std.specs.List.{list_any};
+ghost use Rattle.jmachine.specs.Turns.{end_of, guests};
+ghost use Rattle.jmachine.specs.Store.{Store};
+ghost use Rattle.jguests.specs.Guested.{AreGuests, guest_by, guests_of, have_failed, state_by};
+ghost use Rattle.jguests.specs.Turning.{Turns};
+
+use crate::guests::{Guest, Guests, husk};
+use jthreads::{pick, thread_laws};
+use jtrace::End;
+use std::alloc::{AllocError, Global};
+
+/// What a turn came to.
+#[derive(Clone, Copy, Debug, PartialEq, Eq)]
+pub enum Turned {
+    /// A thread runs.
+    Goes,
+    /// None can run, and the run has ended.
+    Ends(End),
+}
+
+/// Whether one of these threads ended by an exception.
+fn some_failed<M>(all: &[Guest<M>]) -> bool
+    ensures { result ≡ have_failed all.now }
+{
+    all.iter().any(|g| g.failed)
+}
+
+impl<M: Copy> Guests<M> {
+    /// Whether a thread ended by an exception.
+
+    fn has_failed(&self) -> bool
+        requires { AreGuests self.now }
+        ensures { (store : Store ℕ) → result ≡ list_any (λ g. g.failed) (guests (state_by self.now store)) }
+    {
+        if self.running.failed {
+            return true;
+        }
+        some_failed(self.others.as_slice())
+    }
+
+    /// How a run ends in which no thread can run.
+    fn end(&self) -> End
+        requires { AreGuests self.now }
+        ensures { (store : Store ℕ) → result ≡ end_of (state_by self.now store) }
+    {
+        if !self.table.all_ended() {
+            return End::Deadlock;
+        }
+        if self.has_failed() {
+            return End::Uncaught;
+        }
+        End::Finished
+    }
+
+    /// Another thread runs from now on, or the same again.
+    fn switch(&mut self, t: u32)
+        requires are { AreGuests self.old }
+        requires there { t < length self.old.others.items }
+        ensures are { AreGuests self.new }
+        ensures all { guests_of self.new ≡ guests_of self.old }
+        ensures now { slice_get (guests_of self.old) t ≡ Some (guest_by self.new.running) }
+        ensures at { self.new.at ≡ t }
+        ensures table { self.new.table ≡ self.old.table }
+        ensures turns { self.new.turns ≡ self.old.turns }
+    {
+        let own = std::mem::replace(&mut self.running, husk());
+        self.others[self.at as usize] = own;
+        self.running = std::mem::replace(&mut self.others[t as usize], husk());
+        self.at = t;
+    }
+
+    /// Gives the thread its turn that the schedule picks among those that can run. Where none can, the run has ended, and nothing changes.
+    /// After an error nothing is said of the threads.
+    pub fn turn(&mut self, alloc: Global, schedule: &[u32]) -> Result<Turned, AllocError>
+        requires { AreGuests self.old }
+        ensures are { OnOk result (AreGuests self.new) }
+        ensures turn { IfOk result (λ done. Turns schedule.now self.old done self.new) }
+    {
+        thread_laws();
+        let numbers = self.table.runnable(alloc)?;
+        let Some(t) = pick(schedule, self.turns, numbers.as_slice()) else {
+            return Ok(Turned::Ends(self.end()));
+        };
+        let Some(turns) = self.turns.checked_add(1) else {
+            return Err(AllocError);
+        };
+        self.switch(t);
+        self.turns = turns;
+        Ok(Turned::Goes)
+    }
+}
