@@ -14,10 +14,9 @@ use Rattle.jlib.specs.declared.calls.StringCall.{StringCall}
 use Rattle.jlib.specs.declared.calls.ThrownInit.{ThrownInit}
 use Rattle.jlib.specs.declared.calls.ThrownInit.TheVariants as given
 use Rattle.jlib.specs.declared.classes.Thrown.{Thrown as ThrownClass}
-use Rattle.jprogram.specs.Classes.{Program}
 use Rattle.jprogram.specs.declared.member.Member.{Member}
-use Rattle.jmachine.specs.Acts.{FrameOf, Row}
-use Rattle.jmachine.specs.Doing.{run, with_row}
+use Rattle.jmachine.specs.Acts.{Row}
+use Rattle.jmachine.specs.Doing.{run}
 use Rattle.jmachine.specs.Library.{library, object_init}
 use Rattle.jmachine.specs.Permissions as permissions
 use Rattle.jmachine.specs.Security.{Rules}
@@ -26,12 +25,9 @@ use Rattle.jmachine.specs.Store.{Store}
 use Rattle.jmachine.specs.Texts.{builder, print, print_end, string}
 use Rattle.jmachine.specs.Throwables as throwables
 use Rattle.jstate.specs.declared.shapes.Shapes.{Shapes}
-use Rattle.jstate.specs.Seen.{Things, store_by}
-use Rattle.jtexts.specs.Rans as rans
 use Rattle.jtexts.specs.declared.ran.Ran.{Ran}
 use Rattle.jtexts.specs.declared.ran.Ran.TheVariants as ran
 use Rattle.jlibrary.specs.declared.came.Came.{Came}
-use Rattle.jlibrary.specs.Held.{AreHeld, with_permissions}
 use Rattle.jlibrary.specs.Ran.{CallDoes, Constructs, Does, IsAskFree}
 use Rattle.jlibrary.proofs.Keeping.{IsRow, as_call}
 

@@ -1,5 +1,5 @@
 -- What a call of the library left of its frame is what the machine's definition says.
-use Rattle.std.proofs.Common.{◌≡◌, ℕ, Bool, false, List, [], Option, refl, subst, sym}
+use Rattle.std.proofs.Common.{◌≡◌, ℕ, false, List, [], Option, refl, subst, sym}
 use Rattle.std.specs.Option.{option_to_list}
 use Rattle.std.specs.Prelude.{drop, option_map, take}
 use Rattle.jperm.specs.declared.permission.Permission as perms
@@ -7,11 +7,9 @@ use Rattle.jheap.specs.Heaps.{Heaped}
 use Rattle.jlib.specs.declared.calls.LibCall.{LibCall}
 use Rattle.jprogram.specs.Classes.{Program}
 use Rattle.jmachine.specs.Acts.{FrameOf, Row}
-use Rattle.jmachine.specs.Doing.{Doing, run}
 use Rattle.jmachine.specs.Frames.{with_operands}
 use Rattle.jmachine.specs.Library.{library}
 use Rattle.jmachine.specs.Sites.{Site}
-use Rattle.jmachine.specs.Store.{Store}
 use Rattle.jmachine.specs.World.{world}
 use Rattle.jstate.specs.declared.shapes.Shapes.{Shapes}
 use Rattle.jstate.specs.Seen.{Things, store_by}

@@ -1,17 +1,14 @@
 -- What constructors of permissions are given, and what they make of it.
-use Rattle.std.proofs.Common.{◌≡◌, ◌∙◌, ℕ, zero, suc, true, false, List, [], ◌∷◌, Option, Some, None, refl, subst, sym, ap}
+use Rattle.std.proofs.Common.{◌≡◌, ℕ, zero, suc, true, false, List, [], ◌∷◌, Option, Some, None, refl, sym, ap}
 use Rattle.std.specs.Prelude.{Result, Ok, Err, IfOk, option_map}
 use Rattle.jops.specs.declared.value.Value.{Value}
 use Rattle.jops.specs.declared.value.Value.TheVariants.{Ctx, Int, Long, Ref}
-use Rattle.jperm.specs.Made.{made}
-use Rattle.jperm.specs.declared.making.PermError.{PermError}
 use Rattle.jperm.specs.declared.permission.Permission as perms
 use Rattle.jheap.specs.Heaps.{Heaped}
 use Rattle.jlib.specs.declared.calls.PermissionInit.{PermissionInit}
-use Rattle.jlib.specs.declared.classes.LibClass.{LibClass}
 use Rattle.jprogram.specs.Classes.{Program}
 use Rattle.jmachine.specs.Acts.{Row}
-use Rattle.jmachine.specs.Permissions.{Given, bare, class_of, constructed, fault_class, init, made_in, named, named_with, text}
+use Rattle.jmachine.specs.Permissions.{bare, init, made_in, text}
 use Rattle.jmachine.specs.Store.{Store}
 use Rattle.jmachine.specs.Texts.{units}
 use Rattle.jstate.specs.declared.shapes.Shapes.{Shapes}
@@ -21,7 +18,6 @@ use Rattle.jtexts.specs.Messages.{named_as}
 use Rattle.jtexts.specs.Rans as rans
 use Rattle.jtexts.specs.declared.ran.Ran.{Ran}
 use Rattle.jtexts.specs.declared.ran.Ran.TheVariants as ran
-use Rattle.jlibrary.specs.Held.{AreHeld}
 use Rattle.jlibrary.specs.Ran.{Constructs}
 use Rattle.jlibrary.specs.Values.{one_in, three_in, two_in}
 use Rattle.jlibrary.proofs.Keeping.{same_things}

@@ -1,23 +1,21 @@
 -- A permission that an object holds from now on.
-use Rattle.std.proofs.Common.{◌≡◌, ◌∙◌, ℕ, zero, suc, ◌+◌, ◌<◌, Bool, true, false, List, [], ◌∷◌, ◌++◌, length, Option, Some, None, refl, subst, sym, ap, arith, append_assoc}
+use Rattle.std.proofs.Common.{◌≡◌, ◌∙◌, ℕ, suc, ◌+◌, ◌<◌, true, false, List, [], ◌∷◌, ◌++◌, length, Option, Some, None, refl, subst, sym, ap, arith, append_assoc}
 use Rattle.std.proofs.lemmas.List.{append-nil}
-use Rattle.std.specs.Prelude.{Result, Ok, Err, option_map, slice_get, slice_set}
-use Rattle.jops.specs.declared.value.Value.TheVariants.{Ref}
+use Rattle.std.specs.Prelude.{Ok, option_map, slice_get, slice_set}
 use Rattle.jperm.specs.declared.permission.Permission as perms
 use Rattle.jheap.specs.declared.cell.Kind.{Kind}
 use Rattle.jheap.specs.declared.cell.Kind.TheVariants as kinds
 use Rattle.jheap.specs.Heaps as heaps
 use Rattle.jheap.specs.Heaps.{Heaped, HasCell, cells_at, kind_at, with_cell}
-use Rattle.jlib.specs.declared.classes.LibClass.{LibClass}
 use Rattle.jlib.specs.declared.classes.LibClass.TheVariants as lib
 use Rattle.jlib.specs.declared.classes.PermissionClass.{PermissionClass}
 use Rattle.jprogram.specs.declared.part.ClassRef.{ClassRef}
 use Rattle.jprogram.specs.declared.part.ClassRef.TheVariants as refs
 use Rattle.jprogram.specs.Classes.{Program}
-use Rattle.jmachine.specs.Acts.{Row, gives}
-use Rattle.jmachine.specs.Objects.{Object, Permission}
+use Rattle.jmachine.specs.Acts.{gives}
+use Rattle.jmachine.specs.Objects.{Permission}
 use Rattle.jmachine.specs.Permissions.{constructed, with_value}
-use Rattle.jmachine.specs.Store.{Store, object_at, paid, with_object}
+use Rattle.jmachine.specs.Store.{Store, object_at, with_object}
 use Rattle.jstate.specs.declared.shapes.Shape.{Shape}
 use Rattle.jstate.specs.declared.shapes.Shapes.{Shapes}
 use Rattle.jstate.specs.Numbers.{class_numbered}

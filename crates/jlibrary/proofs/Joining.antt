@@ -1,5 +1,5 @@
 -- What a call came to, and what is left of its frame, are what the machine's definition says.
-use Rattle.std.proofs.Common.{◌≡◌, ℕ, Bool, true, false, List, [], ◌∷◌, Option, Some, None, refl, subst, sym, ap}
+use Rattle.std.proofs.Common.{◌≡◌, ℕ, Bool, true, false, List, [], ◌∷◌, Option, Some, None, refl, subst, ap}
 use Rattle.std.specs.Prelude.{⊤, nat_le, option_map, if◌then◌else◌}
 use Rattle.jops.specs.declared.value.Value.{Value}
 use Rattle.jlib.specs.declared.classes.LibClass.{LibClass}
@@ -7,7 +7,6 @@ use Rattle.jlib.specs.declared.classes.LibClass.TheVariants as lib
 use Rattle.jlib.specs.declared.classes.Thrown.{Thrown as ThrownClass}
 use Rattle.jtrace.specs.declared.event.Event.{Event}
 use Rattle.jmachine.specs.Acts.{Act, FrameOf, Goes, Jumps, Leaves as LeavesFrame, Calls, Raises, Throws, Switches, Makes, Row}
-use Rattle.jmachine.specs.Doing.{Doing}
 use Rattle.jmachine.specs.Frames.{onward, with_operands}
 use Rattle.jmachine.specs.Store.{Store, paid}
 use Rattle.jtexts.specs.Rans as rans

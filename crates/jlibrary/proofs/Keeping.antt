@@ -4,7 +4,6 @@ use Rattle.std.specs.Option.{option_to_list}
 use Rattle.std.specs.Prelude.{Result, Ok, Err, IfOk, OnOk}
 use Rattle.jops.specs.declared.value.Value.{Value}
 use Rattle.jperm.specs.declared.permission.Permission as perms
-use Rattle.jheap.specs.Heaps as heaps
 use Rattle.jheap.specs.Heaps.{Heaped}
 use Rattle.jlib.specs.declared.calls.LibCall.{LibCall}
 use Rattle.jtrace.specs.declared.event.Event.{Event}
@@ -15,7 +14,7 @@ use Rattle.jmachine.specs.Objects.{Object}
 use Rattle.jmachine.specs.Sites.{Site}
 use Rattle.jmachine.specs.Store.{Store}
 use Rattle.jstate.specs.declared.shapes.Shapes.{Shapes}
-use Rattle.jstate.specs.Seen.{Things, objects_by, store_by, values_of}
+use Rattle.jstate.specs.Seen.{Things, store_by, values_of}
 use Rattle.jtexts.specs.Rans as rans
 use Rattle.jtexts.specs.declared.ran.Ran.{Ran}
 use Rattle.jlibrary.specs.declared.came.Came.{Came}

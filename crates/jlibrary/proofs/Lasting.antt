@@ -1,5 +1,5 @@
 -- Rows that make no permission.
-use Rattle.std.proofs.Common.{◌≡◌, ◌∙◌, ℕ, zero, suc, List, [], ◌∷◌, ◌++◌, Option, Some, None, refl, subst, sym, ap}
+use Rattle.std.proofs.Common.{◌≡◌, ◌∙◌, ℕ, zero, suc, List, [], ◌++◌, Option, Some, None, refl, subst, sym, ap}
 use Rattle.std.specs.Prelude.{replicate}
 use Rattle.jperm.specs.declared.permission.Permission as perms
 use Rattle.jheap.specs.declared.cell.Kind.{Kind}
@@ -22,7 +22,7 @@ use Rattle.jstate.specs.SeenLaws.{Makes}
 use Rattle.jacts.specs.declared.way.Way.{Way}
 use Rattle.jacts.specs.declared.way.Way.TheVariants as ways
 use Rattle.jacts.specs.Ways.{Acted, Comes, Left, leaves}
-use Rattle.jlibrary.specs.Held.{AreHeld, with_permissions}
+use Rattle.jlibrary.specs.Held.{with_permissions}
 use Rattle.jlibrary.specs.HeldLaws.{MadeStaysHeld, RowsStayHeld}
 use Rattle.jlibrary.proofs.Keeping.{same_store}
 

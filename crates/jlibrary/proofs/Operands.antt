@@ -1,5 +1,5 @@
 -- The operands of calls.
-use Rattle.std.proofs.Common.{◌≡◌, ◌≤◌, ℕ, zero, suc, false, List, [], ◌∷◌, length, Option, Some, None, refl, sym, ap, arith}
+use Rattle.std.proofs.Common.{◌≡◌, ◌≤◌, ℕ, zero, suc, false, List, [], ◌∷◌, length, Some, None, refl, sym, ap, arith}
 use Rattle.std.specs.Prelude.{nat_eq, take}
 use Rattle.jops.specs.declared.value.Value.{Value}
 use Rattle.jlibrary.specs.Values.{one_in, three_in, two_in}

@@ -1,5 +1,5 @@
 -- Rows of the library give one value or none, and raise what can be thrown.
-use Rattle.std.proofs.Common.{◌≡◌, ℕ, zero, suc, ℤ, Bool, true, false, List, [], ◌∷◌, ◌++◌, Option, Some, None, refl}
+use Rattle.std.proofs.Common.{◌≡◌, ℕ, zero, suc, Bool, true, false, List, [], ◌∷◌, ◌++◌, Option, Some, None, refl}
 use Rattle.std.specs.Prelude.{⊤, Result, Ok, Err, option_and_then, option_map, slice_get}
 use Rattle.jops.specs.declared.value.Value.{Value}
 use Rattle.jops.specs.declared.value.Value.TheVariants.{Ctx, Int, Long, Ref}
@@ -24,7 +24,6 @@ use Rattle.jmachine.specs.Acts.{Act, Goes, Raises, Row}
 use Rattle.jmachine.specs.Library.{library, object_init}
 use Rattle.jmachine.specs.Making.{tested, text_made}
 use Rattle.jmachine.specs.Narrowing.{place}
-use Rattle.jmachine.specs.Objects.{Object}
 use Rattle.jmachine.specs.Permissions as permissions
 use Rattle.jmachine.specs.Sites.{Site}
 use Rattle.jmachine.specs.Store.{Store, object_at}

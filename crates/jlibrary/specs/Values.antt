@@ -1,7 +1,6 @@
 -- The values that a call of the library takes, the newest first.
 use Rattle.std.specs.Prelude.{ℕ, List, [], ◌∷◌, Option, Some, None}
 use Rattle.jops.specs.declared.value.Value.{Value}
-use Rattle.jops.specs.declared.value.Value.TheVariants.{Ref}
 
 -- the only one
 abbrev pub one_in : List (Value ℕ) → Option (Value ℕ)

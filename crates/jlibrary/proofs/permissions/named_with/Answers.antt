@@ -1,4 +1,4 @@
-use Rattle.std.proofs.Common.{◌≡◌, ◌∙◌, None, Some}
+use Rattle.std.proofs.Common.{◌∙◌}
 use Rattle.std.specs.Prelude.{[], ◌∷◌}
 use Rattle.jmachine.specs.Permissions.{init, made_in}
 use Rattle.jstate.specs.Seen.{store_by}

@@ -1,4 +1,4 @@
-use Rattle.std.proofs.Common.{◌∙◌, List, ℕ, Option, Some, ap}
+use Rattle.std.proofs.Common.{◌∙◌, List, ℕ, Some, ap}
 use Rattle.std.specs.Prelude.{option_map}
 use Rattle.jstate.specs.Seen.{store_by}
 use Rattle.jlibrary.proofs.Giving.{text_units}

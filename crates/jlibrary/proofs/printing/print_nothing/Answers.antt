@@ -1,4 +1,4 @@
-use Rattle.std.specs.Prelude.{[], take}
+use Rattle.std.specs.Prelude.{take}
 use Rattle.std.proofs.Common.{Some, refl}
 use Rattle.jlibrary.proofs.Operands.{one_is}
 use Rattle.jlibrary.proofs.Dispatch.{prints}

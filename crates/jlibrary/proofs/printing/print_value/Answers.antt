@@ -1,4 +1,4 @@
-use Rattle.std.specs.Prelude.{[], take}
+use Rattle.std.specs.Prelude.{take}
 use Rattle.jmachine.specs.Texts.{print}
 use Rattle.jlibrary.proofs.Dispatch.{none_does, print_does}
 use Rattle.jlibrary.proofs.Missing.{no_print}

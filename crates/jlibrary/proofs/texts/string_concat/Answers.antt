@@ -1,4 +1,4 @@
-use Rattle.std.specs.Prelude.{[], take}
+use Rattle.std.specs.Prelude.{take}
 use Rattle.jlib.specs.declared.calls.StringCall.TheVariants as calls
 use Rattle.jmachine.specs.Texts.{string}
 use Rattle.jlibrary.proofs.Dispatch.{none_does, two_did}

@@ -1,5 +1,5 @@
-use Rattle.std.proofs.Common.{refl, subst, sym}
-use Rattle.std.specs.Prelude.{[], take}
+use Rattle.std.proofs.Common.{refl}
+use Rattle.std.specs.Prelude.{take}
 use Rattle.jlibrary.proofs.Operands.{one_is}
 use Rattle.jlibrary.proofs.Missing.{no_object}
 use Rattle.jlibrary.proofs.thrown.object.Goals as goal
