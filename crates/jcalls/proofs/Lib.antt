@@ -5,4 +5,5 @@ pub mod Outcomes
 pub mod Readying
 pub mod Returning
 pub mod Settling
+pub mod Standing
 pub mod Throwing

@@ -1,12 +1,14 @@
 -- What a step comes to that calls a method (JVMS 6.5: invokevirtual, invokespecial, invokestatic, invokeinterface), from the operands that
 -- it takes and what is selected.
-use Rattle.std.specs.Prelude.{◌≡◌, ⊤, ℕ, zero, suc, Bool, List, [], ◌++◌, length, nat_le, take, drop, Option, Some, None, option_map, if◌then◌else◌}
+use Rattle.std.specs.Prelude.{◌≡◌, ◌<◌, ⊤, ℕ, zero, suc, Bool, List, [], ◌++◌, length, nat_le, take, drop, Option, Some, None, option_map, if◌then◌else◌}
 use Rattle.jops.specs.declared.value.Value.{Value}
 use Rattle.jops.specs.declared.value.Value.TheVariants.{Ref}
 use Rattle.jheap.specs.declared.cell.Kind.{Kind}
 use Rattle.jheap.specs.declared.cell.Kind.TheVariants as kinds
 use Rattle.jheap.specs.Heaps.{Heaped, kind_at}
+use Rattle.jlib.specs.declared.classes.LibClass.{LibClass}
 use Rattle.jlib.specs.declared.classes.LibClass.TheVariants as lib
+use Rattle.jlib.specs.declared.classes.Thrown.{Thrown as ThrownClass}
 use Rattle.jtypes.specs.declared.vtype.Name.{Name}
 use Rattle.jtypes.specs.declared.vtype.VType.TheVariants as types
 use Rattle.jprogram.specs.declared.member.CallKind.TheVariants as call_kinds
@@ -43,6 +45,7 @@ use Rattle.jcalls.specs.declared.calls.Found.{Found}
 use Rattle.jcalls.specs.declared.calls.Found.TheVariants as found
 use Rattle.jcalls.specs.declared.receiver.Receiver.{Receiver}
 use Rattle.jcalls.specs.declared.receiver.Receiver.TheVariants as receivers
+use Rattle.jcalls.specs.Marks.{AreStanding, Stand}
 use Rattle.jcalls.specs.Throws.{raising}
 
 -- ---- what is known of a method
@@ -185,3 +188,29 @@ CallsByInterface {E} on count what has hidden depth f way g =
 abbrev pub Reaches : {E : Type 0} → ℕ → Found E → (depth : ℕ) → Framed E → Called → Framed E → Type 0
 Reaches {E} count what depth f way g = (r : Rules ℕ E) (p : Program) (plan : Plan) (s : State ℕ E) (found : Selected)
     → plan.depth ≡ depth → IsFound r.entry_of p what found → CalledAs r p plan s count f way g (comes r p plan s f count (reached (is_full plan f) found))
+
+-- ---- which frames a call leaves
+
+-- a class of what can be thrown
+abbrev pub IsThrown : LibClass → Type 0
+IsThrown class = (c : ThrownClass) × (class ≡ lib.Thrown c)
+
+-- What a call raises can be thrown, and where the library is to run the frames are as they were.
+abbrev pub CallLeaves : {E : Type 0} → Framed E → Called → Framed E → Type 0
+CallLeaves f (ways.Raises class) g = IsThrown class
+CallLeaves f (ways.Runs call) g = g ≡ f
+CallLeaves f way g = ⊤
+
+-- a user's method is of one of so many classes
+abbrev pub FoundWithin : {E : Type 0} → ℕ → Found E → Type 0
+FoundWithin classes (found.Method c) = c.method.class < classes
+FoundWithin classes what = ⊤
+
+-- Where a frame has begun, the caller stands below it; else all frames stand as they did.
+abbrev pub CallStands : {E : Type 0} → ℕ → Called → Framed E → Type 0
+CallStands classes ways.Begun g = AreStanding classes g
+CallStands classes way g = Stand classes (all g)
+
+-- So do the frames that a call leaves, where those that it found stood.
+abbrev pub CallsStanding : {E : Type 0} → Found E → Framed E → Called → Framed E → Type 0
+CallsStanding what f way g = (classes : ℕ) → FoundWithin classes what → Stand classes (all f) → CallStands classes way g

@@ -19,6 +19,10 @@ pub record Stands {E : Type 0} (classes : ℕ) (f : FrameOf ℕ E) : Type 0 wher
 abbrev pub Stand : {E : Type 0} → ℕ → List (FrameOf ℕ E) → Type 0
 Stand classes frames = AllByRecursion (Stands classes) frames
 
+-- Between steps: the newest frame is of one of so many classes, and those below it may go on behind their calls.
+abbrev pub AreStanding : {E : Type 0} → ℕ → Framed E → Type 0
+AreStanding classes f = (f.newest.method.class < classes) × Stand classes f.below
+
 -- the newest frame goes on at a place with these operands, and carries what those of its class do
 abbrev pub resumed_by : {E : Type 0} → List E → Framed E → ℕ → List (Value ℕ) → Option (Framed E)
 resumed_by marks f place operands =

@@ -19,7 +19,7 @@ use Rattle.jstate.specs.Seen.{Things, store_by}
 use Rattle.jcalls.specs.declared.ready.Counts.{Counts}
 use Rattle.jcalls.specs.declared.returns.Leaving.{Leaving}
 use Rattle.jcalls.specs.declared.returns.Leaving.TheVariants as ways
-use Rattle.jcalls.specs.Marks.{marks_of}
+use Rattle.jcalls.specs.Marks.{AreStanding, marks_of}
 use Rattle.jcalls.specs.Readiness.{AreCounted}
 
 -- the kinds of numbers
@@ -51,3 +51,7 @@ ReturnsRef {E} h counts marks f way g =
     (r : Rules ℕ E) (p : Program) (plan : Plan) (s : State ℕ E) (shapes : Shapes) (things : Things) (constants : List (List ℕ × ℕ))
     → marks ≡ marks_of r.entry_of p → s.store ≡ store_by p shapes things constants h → AreCounted counts things
     → LeftAs r p plan s way g (executed r p plan s f.newest f.below (Some (Return results.Ref)))
+
+-- What a return leaves stands between steps where what it found did.
+abbrev pub StaysStanding : {E : Type 0} → Framed E → Framed E → Type 0
+StaysStanding f g = (classes : ℕ) → AreStanding classes f → AreStanding classes g

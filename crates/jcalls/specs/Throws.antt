@@ -1,8 +1,10 @@
 -- What a step comes to in which something is raised or thrown (JVMS 2.10).
-use Rattle.std.specs.Prelude.{◌≡◌, ℕ, true, List, [], ◌∷◌, ◌++◌, nat_le, Option, Some, None, if◌then◌else◌}
+use Rattle.std.specs.Prelude.{◌≡◌, ◌⊎◌, ℕ, true, List, [], ◌∷◌, ◌++◌, nat_le, Option, Some, None, if◌then◌else◌}
 use Rattle.std.specs.List.{AllByRecursion}
-use Rattle.jheap.specs.Heaps.{Heaped}
+use Rattle.jheap.specs.declared.cell.Kind.TheVariants as kinds
+use Rattle.jheap.specs.Heaps.{Heaped, made}
 use Rattle.jlib.specs.declared.classes.LibClass.{LibClass}
+use Rattle.jlib.specs.declared.classes.Thrown.{Thrown as ThrownClass}
 use Rattle.jtypes.specs.declared.vtype.VType.{VType}
 use Rattle.jtypes.specs.declared.vtype.VType.TheVariants as types
 use Rattle.jtrace.specs.declared.event.Event.{Event}
@@ -21,10 +23,11 @@ use Rattle.jmachine.specs.Unwinding.{told_name, with_raised}
 use Rattle.jmachine.specs.World.{world}
 use Rattle.jstate.specs.Framed.{Framed, all}
 use Rattle.jstate.specs.declared.shapes.Shapes.{Shapes}
+use Rattle.jstate.specs.Numbers.{thrown_number}
 use Rattle.jstate.specs.Seen.{Things, store_by}
 use Rattle.jcalls.specs.declared.raising.Raised.{Raised}
 use Rattle.jcalls.specs.declared.raising.Raised.TheVariants as ways
-use Rattle.jcalls.specs.Marks.{marks_of}
+use Rattle.jcalls.specs.Marks.{AreStanding, Stand, marks_of}
 use Rattle.jcalls.specs.Unwinds.{IsTold}
 
 -- What raising an exception of a class of the library comes to behind these events, without a message: it costs its cells, and where they
@@ -53,3 +56,11 @@ Throws {E} marks goes n f way g = (r : Rules ℕ E) (p : Program) (plan : Plan) 
     → let type = class_of (world p).named x in
     marks ≡ marks_of r.entry_of p → object_at store n ≡ Some x → AllByRecursion (IsTold p type goes) (all f)
     → RaisedAs r p plan s told type store way g (thrown_at r p plan s (all f) store told n)
+
+-- Frames in which something was thrown stood, and those that were left stand between steps.
+abbrev pub LeavesStanding : {E : Type 0} → Framed E → Framed E → Type 0
+LeavesStanding f g = (classes : ℕ) → Stand classes (all f) → AreStanding classes g
+
+-- Where an exception was raised the heap has one more object, of its class, or it is as it was.
+abbrev pub RaisedHeap : ThrownClass → Heaped → Heaped → Type 0
+RaisedHeap class h k = (k ≡ h) ⊎ (k ≡ made h (kinds.Object (thrown_number class)) 1)

@@ -3,7 +3,7 @@ ghost use Rattle.jstate.specs.Framed.{all, holding};
 ghost use Rattle.jlib.specs.declared.classes.LibClass.TheVariants as lib;
 ghost use Rattle.jcalls.specs.declared.calls.Called.TheVariants as ways;
 ghost use Rattle.jcalls.specs.declared.calls.Found.TheVariants as found;
-ghost use Rattle.jcalls.specs.Calling.{CallsByInterface, CallsOn, CallsStatic, Reaches};
+ghost use Rattle.jcalls.specs.Calling.{CallLeaves, CallsByInterface, CallsOn, CallsStanding, CallsStatic, Reaches};
 
 use crate::receiver::Receiver;
 use jlib::{LibCall, LibClass, Thrown};
@@ -36,7 +36,7 @@ pub enum Found<M> {
 /// How many frames a thread has, and how many it may have.
 #[derive(Clone, Copy, Debug, PartialEq, Eq)]
 pub struct Room {
-    pub frames: u32,
+    pub frames: usize,
     pub depth: u32,
 }
 
@@ -57,7 +57,7 @@ pub enum Called {
 fn is_full(room: Room) -> bool
     ensures { result ≡ nat_le room.depth room.frames }
 {
-    room.depth <= room.frames
+    room.depth as usize <= room.frames
 }
 
 /// An exception is to be raised in place of a call.
@@ -73,7 +73,7 @@ fn raise<M: Copy>(frames: &mut Frames<M>, count: usize, class: Thrown) -> Called
 
 /// A frame of a user's method begins, where it has code and there is room.
 #[inline]
-#[tactic(auto, using(crate::proofs::Entering::overflows, crate::proofs::Entering::begins_so, crate::proofs::Entering::codeless))]
+#[tactic(auto, using(crate::proofs::Entering::overflows, crate::proofs::Entering::begins_so, crate::proofs::Entering::codeless, crate::proofs::Standing::raised_thrown, crate::proofs::Standing::raised_stands, crate::proofs::Standing::begun_stands))]
 fn enter<M: Copy>(
     frames: &mut Frames<M>,
     count: usize,
@@ -82,7 +82,9 @@ fn enter<M: Copy>(
 ) -> Result<Called, AllocError>
     requires few { count ≤ length frames.old.newest.operands }
     requires room { room.frames ≡ length (all frames.old) }
-    ensures { IfOk result (λ way. Reaches count (found.Method callee) room.depth frames.old way frames.new) }
+    ensures row { IfOk result (λ way. Reaches count (found.Method callee) room.depth frames.old way frames.new) }
+    ensures leaves { IfOk result (λ way. CallLeaves frames.old way frames.new) }
+    ensures stand { IfOk result (λ way. CallsStanding (found.Method callee) frames.old way frames.new) }
 {
     if is_full(room) {
         return Ok(raise(frames, count, Thrown::StackOverflowError));
@@ -96,7 +98,7 @@ fn enter<M: Copy>(
 
 /// What is selected is reached.
 #[inline]
-#[tactic(auto, using(crate::proofs::Entering::library_runs, crate::proofs::Entering::abstract_fails, crate::proofs::Entering::missing_fails))]
+#[tactic(auto, using(crate::proofs::Entering::library_runs, crate::proofs::Entering::abstract_fails, crate::proofs::Entering::missing_fails, crate::proofs::Standing::raised_thrown, crate::proofs::Standing::raised_stands))]
 fn reach<M: Copy>(
     frames: &mut Frames<M>,
     count: usize,
@@ -105,7 +107,9 @@ fn reach<M: Copy>(
 ) -> Result<Called, AllocError>
     requires few { count ≤ length frames.old.newest.operands }
     requires room { room.frames ≡ length (all frames.old) }
-    ensures { IfOk result (λ way. Reaches count what room.depth frames.old way frames.new) }
+    ensures row { IfOk result (λ way. Reaches count what room.depth frames.old way frames.new) }
+    ensures leaves { IfOk result (λ way. CallLeaves frames.old way frames.new) }
+    ensures stand { IfOk result (λ way. CallsStanding what frames.old way frames.new) }
 {
     match what {
         Found::Method(callee) => enter(frames, count, callee, room),
@@ -126,7 +130,9 @@ pub fn call_static<M: Copy>(
 ) -> Result<Called, AllocError>
     requires few { count ≤ length frames.old.newest.operands }
     requires room { room.frames ≡ length (all frames.old) }
-    ensures { IfOk result (λ way. CallsStatic count what room.depth frames.old way frames.new) }
+    ensures row { IfOk result (λ way. CallsStatic count what room.depth frames.old way frames.new) }
+    ensures leaves { IfOk result (λ way. CallLeaves frames.old way frames.new) }
+    ensures stand { IfOk result (λ way. CallsStanding what frames.old way frames.new) }
 {
     reach(frames, count, what, room)
 }
@@ -134,6 +140,7 @@ pub fn call_static<M: Copy>(
 /// A call on an object (JVMS 6.5: invokevirtual, invokespecial), with so many operands, of which the oldest is the object. Null fails
 /// before all else.
 #[inline]
+#[tactic(auto, using(crate::proofs::Standing::raised_thrown, crate::proofs::Standing::raised_stands))]
 pub fn call_on<M: Copy>(
     frames: &mut Frames<M>,
     receiver: Receiver,
@@ -143,7 +150,9 @@ pub fn call_on<M: Copy>(
 ) -> Result<Called, AllocError>
     requires few { count ≤ length frames.old.newest.operands }
     requires room { room.frames ≡ length (all frames.old) }
-    ensures { IfOk result (λ way. CallsOn receiver count what room.depth frames.old way frames.new) }
+    ensures row { IfOk result (λ way. CallsOn receiver count what room.depth frames.old way frames.new) }
+    ensures leaves { IfOk result (λ way. CallLeaves frames.old way frames.new) }
+    ensures stand { IfOk result (λ way. CallsStanding what frames.old way frames.new) }
 {
     heap_laws();
     match receiver {
@@ -156,6 +165,7 @@ pub fn call_on<M: Copy>(
 /// A call by an interface (JVMS 6.5: invokeinterface), as one on an object, whose class is to have the interface. What is selected is to
 /// be public.
 #[inline]
+#[tactic(auto, using(crate::proofs::Standing::raised_thrown, crate::proofs::Standing::raised_stands))]
 pub fn call_by_interface<M: Copy>(
     frames: &mut Frames<M>,
     receiver: Receiver,
@@ -167,7 +177,9 @@ pub fn call_by_interface<M: Copy>(
 ) -> Result<Called, AllocError>
     requires few { count ≤ length frames.old.newest.operands }
     requires room { room.frames ≡ length (all frames.old) }
-    ensures { IfOk result (λ way. CallsByInterface receiver count what has hidden room.depth frames.old way frames.new) }
+    ensures row { IfOk result (λ way. CallsByInterface receiver count what has hidden room.depth frames.old way frames.new) }
+    ensures leaves { IfOk result (λ way. CallLeaves frames.old way frames.new) }
+    ensures stand { IfOk result (λ way. CallsStanding what frames.old way frames.new) }
 {
     heap_laws();
     match receiver {

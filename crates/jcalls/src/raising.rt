@@ -1,16 +1,17 @@
 ghost use Rattle.std.specs.Prelude.{◌≡◌, IfOk, OnOk, length};
 ghost use Rattle.jlib.specs.declared.classes.LibClass.TheVariants as lib;
+ghost use Rattle.jstate.specs.Celled.{StayCelled};
 ghost use Rattle.jstate.specs.Framed.{all};
 ghost use Rattle.jstate.specs.Numbers.{thrown_number};
 ghost use Rattle.jstate.specs.Seen.{AreBuilt};
 ghost use Rattle.jcalls.specs.Marks.{Stand};
-ghost use Rattle.jcalls.specs.Throws.{Raises, Throws};
+ghost use Rattle.jcalls.specs.Throws.{LeavesStanding, RaisedHeap, Raises, Throws};
 
 use crate::handlers::Handlers;
 use crate::unwinding::unwind;
 use jheap::{Heap, Kind};
 use jlib::Thrown;
-use jstate::{Frames, built_laws, heap_laws, number_laws};
+use jstate::{Frames, built_laws, celled_laws, heap_laws, number_laws};
 use std::alloc::{AllocError, Global};
 
 /// What raising or throwing came to.
@@ -33,7 +34,8 @@ pub fn throw_object<M: Copy, H: Handlers>(
     handlers: &H,
 ) -> Result<Raised, AllocError>
     requires { Stand (length marks.now) (all frames.old) }
-    ensures { IfOk result (λ way. Throws marks.now (H.goes handlers.now) object frames.old way frames.new) }
+    ensures row { IfOk result (λ way. Throws marks.now (H.goes handlers.now) object frames.old way frames.new) }
+    ensures stand { OnOk result (LeavesStanding frames.old frames.new) }
 {
     let caught = unwind(frames, object, marks, handlers)?;
     if caught {
@@ -44,6 +46,7 @@ pub fn throw_object<M: Copy, H: Handlers>(
 
 /// Raises an exception of a class of the library, without a message: makes an object of the class, by the heap's number for it, and throws
 /// it. `handlers` say where frames go on that handle its type.
+#[tactic(auto, using(crate::proofs::Standing::same_stands))]
 pub fn raise<M: Copy, H: Handlers>(
     alloc: Global,
     frames: &mut Frames<M>,
@@ -57,11 +60,15 @@ pub fn raise<M: Copy, H: Handlers>(
     requires built { AreBuilt heap.old.objects }
     requires number { number ≡ thrown_number class }
     ensures row { IfOk result (λ way. Raises marks.now (H.goes handlers.now) (lib.Thrown class) frames.old heap.old way frames.new heap.new) }
+    ensures stand { OnOk result (LeavesStanding frames.old frames.new) }
+    ensures heap { OnOk result (RaisedHeap class heap.old heap.new) }
     ensures built { OnOk result (AreBuilt heap.new.objects) }
+    ensures celled { OnOk result (StayCelled heap.old.objects heap.new.objects) }
 {
     heap_laws();
     number_laws();
     built_laws();
+    celled_laws();
     let Some(object) = heap.make(alloc, Kind::Object(number), 1)? else {
         return Ok(Raised::Full);
     };

@@ -5,7 +5,7 @@ ghost use Rattle.jcode.specs.declared.names.Returned.{Returned};
 ghost use Rattle.jcode.specs.declared.names.Returned.TheVariants as kinds;
 ghost use Rattle.jcode.specs.Forms.{returned};
 ghost use Rattle.jcalls.specs.Marks.{Stand, resumed_by};
-ghost use Rattle.jcalls.specs.Returns.{IsNumber, Leaves, Returns, ReturnsRef};
+ghost use Rattle.jcalls.specs.Returns.{IsNumber, Leaves, Returns, ReturnsRef, StaysStanding};
 
 use crate::marks::unmark;
 use crate::ready::{Counts, is_reference};
@@ -64,14 +64,15 @@ fn resume<M: Copy>(
 
 /// The newest frame goes, and the one below goes on behind its call.
 #[inline]
-#[tactic(auto, using(crate::proofs::Returning::ended_so))]
+#[tactic(auto, using(crate::proofs::Returning::ended_so, crate::proofs::Standing::last_stands, crate::proofs::Standing::resumed_stands))]
 fn leave<M: Copy>(
     frames: &mut Frames<M>,
     marks: &[M],
     value: Option<Value>,
 ) -> Result<Leaving, AllocError>
     requires { Stand (length marks.now) frames.old.below }
-    ensures { IfOk result (λ way. Leaves (option_to_list value) marks.now frames.old way frames.new) }
+    ensures row { IfOk result (λ way. Leaves (option_to_list value) marks.now frames.old way frames.new) }
+    ensures stand { OnOk result (StaysStanding frames.old frames.new) }
 {
     if !frames.leave() {
         return Ok(Leaving::Ends);
@@ -85,7 +86,8 @@ fn leave<M: Copy>(
 #[inline]
 pub fn return_nothing<M: Copy>(frames: &mut Frames<M>, marks: &[M]) -> Result<Leaving, AllocError>
     requires { Stand (length marks.now) frames.old.below }
-    ensures { IfOk result (λ way. Returns kinds.Nothing marks.now frames.old way frames.new) }
+    ensures row { IfOk result (λ way. Returns kinds.Nothing marks.now frames.old way frames.new) }
+    ensures stand { OnOk result (StaysStanding frames.old frames.new) }
 {
     leave(frames, marks, None)
 }
@@ -100,7 +102,8 @@ fn return_number<M: Copy>(
 ) -> Result<Leaving, AllocError>
     requires number { IsNumber kind }
     requires stand { Stand (length marks.now) frames.old.below }
-    ensures { IfOk result (λ way. (what : Returned) → returned what ≡ many.One kind → Returns what marks.now frames.old way frames.new) }
+    ensures row { IfOk result (λ way. (what : Returned) → returned what ≡ many.One kind → Returns what marks.now frames.old way frames.new) }
+    ensures stand { OnOk result (StaysStanding frames.old frames.new) }
 {
     if frames.count() < 1 {
         return Ok(Leaving::Stuck);
@@ -116,7 +119,8 @@ fn return_number<M: Copy>(
 #[inline]
 pub fn return_int<M: Copy>(frames: &mut Frames<M>, marks: &[M]) -> Result<Leaving, AllocError>
     requires { Stand (length marks.now) frames.old.below }
-    ensures { IfOk result (λ way. Returns kinds.Int marks.now frames.old way frames.new) }
+    ensures row { IfOk result (λ way. Returns kinds.Int marks.now frames.old way frames.new) }
+    ensures stand { OnOk result (StaysStanding frames.old frames.new) }
 {
     return_number(frames, marks, Kind::Int)
 }
@@ -125,7 +129,8 @@ pub fn return_int<M: Copy>(frames: &mut Frames<M>, marks: &[M]) -> Result<Leavin
 #[inline]
 pub fn return_long<M: Copy>(frames: &mut Frames<M>, marks: &[M]) -> Result<Leaving, AllocError>
     requires { Stand (length marks.now) frames.old.below }
-    ensures { IfOk result (λ way. Returns kinds.Long marks.now frames.old way frames.new) }
+    ensures row { IfOk result (λ way. Returns kinds.Long marks.now frames.old way frames.new) }
+    ensures stand { OnOk result (StaysStanding frames.old frames.new) }
 {
     return_number(frames, marks, Kind::Long)
 }
@@ -140,7 +145,8 @@ pub fn return_ref<M: Copy>(
     counts: Counts,
 ) -> Result<Leaving, AllocError>
     requires { Stand (length marks.now) frames.old.below }
-    ensures { IfOk result (λ way. ReturnsRef heap.now counts marks.now frames.old way frames.new) }
+    ensures row { IfOk result (λ way. ReturnsRef heap.now counts marks.now frames.old way frames.new) }
+    ensures stand { OnOk result (StaysStanding frames.old frames.new) }
 {
     heap_laws();
     if frames.count() < 1 {

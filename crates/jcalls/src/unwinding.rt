@@ -2,6 +2,7 @@ ghost use Rattle.std.specs.Prelude.{◌≡◌, ◌<◌, ◌∷◌, [], ℕ, IfOk
 ghost use Rattle.jops.specs.declared.value.Value.TheVariants as values;
 ghost use Rattle.jstate.specs.Framed.{all};
 ghost use Rattle.jcalls.specs.Marks.{Stand, resumed_by};
+ghost use Rattle.jcalls.specs.Throws.{LeavesStanding};
 ghost use Rattle.jcalls.specs.Unwinds.{Settles, Unwinds};
 
 use crate::handlers::Handlers;
@@ -51,7 +52,8 @@ pub fn unwind<M: Copy, H: Handlers>(
     handlers: &H,
 ) -> Result<bool, AllocError>
     requires { Stand (length marks.now) (all frames.old) }
-    ensures { IfOk result (λ caught. Unwinds marks.now (H.goes handlers.now) object frames.old caught frames.new) }
+    ensures row { IfOk result (λ caught. Unwinds marks.now (H.goes handlers.now) object frames.old caught frames.new) }
+    ensures stand { OnOk result (LeavesStanding frames.old frames.new) }
 {
     let Some(to) = settle(frames, handlers) else {
         return Ok(false);

@@ -22,6 +22,7 @@ use Rattle.jstate.specs.Numbers.{class_numbered}
 use Rattle.jstate.specs.Seen.{Things, array_at, class_by, kind_by, object_by, store_by, user_by}
 use Rattle.jstate.specs.SeenLaws.{SeesEach}
 use Rattle.jinvoke.specs.Answers.{is_one_of, number_by}
+use Rattle.jinvoke.specs.Laws.{HasType}
 
 -- the type of an object of a kind
 abbrev pub type_by : Program → Shapes → Kind → VType
@@ -95,3 +96,13 @@ pub has_class : SeesEach → (p : Program) (shapes : Shapes) (things : Things) (
     → kind_at h o ≡ Some (kinds.Object n) → object_at (store_by p shapes things constants h) o ≡ Some x
     → class_of (world p).named x ≡ types.Object (class_named p (class_numbered n))
 has_class law p shapes things constants h o n x k at = type_at law p shapes things constants h o (kinds.Object n) x k at
+
+by_number : (p : Program) (shapes : Shapes) (kind : Kind) (n : ℕ) → number_by kind ≡ Some n
+    → type_by p shapes kind ≡ types.Object (class_named p (class_numbered n))
+by_number p shapes (kinds.Object m) n e = let same : m ≡ n = cc in ap (λ (i : ℕ). types.Object (class_named p (class_numbered i))) same
+by_number p shapes (kinds.Array a) n e = cc
+by_number p shapes kinds.Text n e = let same : 32 ≡ n = cc in rw (← same) refl
+by_number p shapes kinds.Piece n e = let same : 33 ≡ n = cc in rw (← same) refl
+
+pub has_type : SeesEach → HasType
+has_type law p shapes things constants h o n kind x k e at = type_at law p shapes things constants h o kind x k at ∙ by_number p shapes kind n e

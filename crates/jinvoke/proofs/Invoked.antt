@@ -1,5 +1,5 @@
 -- What a call comes to.
-use Rattle.std.proofs.Common.{◌≡◌, ◌∙◌, ℕ, zero, suc, List, length, take, Option, Some, None, refl, sym, ap, subst}
+use Rattle.std.proofs.Common.{◌≡◌, ◌∙◌, ◌<◌, ℕ, zero, suc, Bool, List, length, take, Option, Some, None, refl, sym, ap, subst}
 use Rattle.std.specs.Prelude.{IfOk, Ok, Err, Result, is_some, option_map, slice_get, if◌then◌else◌}
 use Rattle.std.proofs.lemmas.Option.{slice_get-map}
 use Rattle.jclass.specs.declared.class.CodeBody.{CodeBody}
@@ -27,7 +27,7 @@ use Rattle.jmachine.specs.Objects.{Object, class_of}
 use Rattle.jmachine.specs.Store.{Store, object_of}
 use Rattle.jmachine.specs.World.{is_instance, world}
 use Rattle.jready.specs.Meant.{call_form}
-use Rattle.jstate.specs.Framed.{Framed}
+use Rattle.jstate.specs.Framed.{Framed, all}
 use Rattle.jstate.specs.declared.shapes.Shapes.{Shapes}
 use Rattle.jstate.specs.Seen.{Things, object_by, store_by}
 use Rattle.jstate.specs.SeenLaws.{SeesEach}
@@ -36,9 +36,11 @@ use Rattle.jcalls.specs.declared.calls.Found.{Found}
 use Rattle.jcalls.specs.declared.calls.Found.TheVariants as found
 use Rattle.jcalls.specs.declared.receiver.Receiver.{Receiver}
 use Rattle.jcalls.specs.declared.receiver.Receiver.TheVariants as receivers
-use Rattle.jcalls.specs.Calling.{CallsByInterface, CallsOn, CallsStatic, IsByClass, IsFound, IsFoundOn, IsHiddenOn, IsOfInterface, found_as, id_by, receiver_seen, selected_on}
-use Rattle.jcalls.specs.Marks.{marks_of}
+use Rattle.jcalls.specs.Calling.{CallStands, CallsByInterface, CallsOn, CallsStanding, CallsStatic, FoundWithin, IsByClass, IsFound, IsFoundOn, IsHiddenOn, IsOfInterface, found_as, id_by, receiver_seen, selected_on}
+use Rattle.jcalls.specs.Marks.{Stand, marks_of}
 use Rattle.jinvoke.specs.declared.choosing.Answer.{Answer}
+use Rattle.jinvoke.specs.declared.choosing.Chosen.{Chosen}
+use Rattle.jinvoke.specs.declared.choosing.Chosen.TheVariants as chosens
 use Rattle.jinvoke.specs.declared.choosing.CallKey.{CallKey}
 use Rattle.jinvoke.specs.Answers.{answer, answer_by, answer_to, chosen, id_on, in_meaning, locals_in, number_by}
 use Rattle.jinvoke.specs.Invoking.{CallWithin, Invokes, IsMarked, answer_at, callee, marked}
@@ -219,3 +221,23 @@ pub invokes_as : {E F : Type 0} (p : Program) (by case : How) (pool : ℕ) (mark
     Result Called F)
     → by ≡ case → IfOk way (λ w. Invokes p case pool marks h count depth f w g) → IfOk way (λ w. Invokes p by pool marks h count depth f w g)
 invokes_as p by case pool marks h count depth f g way e l = subst (λ b. IfOk way (λ w. Invokes p b pool marks h count depth f w g)) (sym e) l
+
+-- ---- the frames that a call leaves
+
+module _ {E : Type 0} (marks : List E) where
+  found_within : (what : Found E) (c : Chosen) → Some what ≡ marked marks c → IsMarked (length marks) c → FoundWithin (length marks) what
+  found_within what (chosens.Method m has_code most) e within = by_mark (slice_get marks m.class) e
+    where
+      by_mark : (o : Option E) → Some what ≡ option_map (λ mark. found.Method (callee m has_code most mark)) o → FoundWithin (length marks) what
+      by_mark None h = absurd cc
+      by_mark (Some mark) h =
+          let same : found.Method (callee m has_code most mark) ≡ what = cc in
+          subst (λ w. FoundWithin (length marks) w) same within
+  found_within what (chosens.Lib call) e within = let same : found.Lib call ≡ what = cc in subst (λ w. FoundWithin (length marks) w) same tt
+  found_within what chosens.Abstract e within = let same : found.Abstract ≡ what = cc in subst (λ w. FoundWithin (length marks) w) same tt
+  found_within what chosens.Missing e within = let same : found.Missing ≡ what = cc in subst (λ w. FoundWithin (length marks) w) same tt
+
+  pub stands_on : {F : Type 0} (r : Result Called F) (what : Found E) (c : Chosen) (f g : Framed E) → Some what ≡ marked marks c → IsMarked (length marks) c
+      → IfOk r (λ way. CallsStanding what f way g) → Stand (length marks) (all f) → IfOk r (λ way. CallStands (length marks) way g)
+  stands_on (Ok way) what c f g e within stands s = stands (length marks) (found_within what c e within) s
+  stands_on (Err e) what c f g is within stands s = tt

@@ -7,6 +7,7 @@ use Rattle.jpool.specs.declared.entry.Entry.{Entry}
 use Rattle.jprogram.specs.declared.member.MethodId.{MethodId}
 use Rattle.jprogram.specs.declared.member.Selected.{Selected}
 use Rattle.jprogram.specs.declared.member.Selected.TheVariants as selected
+use Rattle.jprogram.specs.declared.part.ClassRef.{ClassRef}
 use Rattle.jprogram.specs.Classes.{Program}
 use Rattle.juses.specs.declared.code.CodeRef.{CodeRef}
 use Rattle.juses.specs.declared.meaning.CallUse.{CallUse}
@@ -16,6 +17,7 @@ use Rattle.juses.specs.Instructions.{code_at}
 use Rattle.juses.specs.Meanings.{CallMeaning, call_named, meaning_of, meant}
 use Rattle.juses.specs.Numbered.{seen_code}
 use Rattle.juses.specs.Tables.{pool_at}
+use Rattle.juses.specs.Types.{class_named}
 use Rattle.jmachine.specs.World.{world}
 use Rattle.jready.specs.Meant.{call_form}
 use Rattle.jcalls.specs.Calling.{selected_on}
@@ -23,7 +25,7 @@ use Rattle.jinvoke.specs.declared.choosing.Answer.{Answer}
 use Rattle.jinvoke.specs.declared.choosing.CallKey.{CallKey}
 use Rattle.jinvoke.specs.declared.choosing.Chosen.{Chosen}
 use Rattle.jinvoke.specs.declared.choosing.Chosen.TheVariants as chosens
-use Rattle.jinvoke.specs.Answers.{IsCallAt, answer, answer_by, answer_to, chosen, has, hides, id_on, in_meaning, locals_in, nothing}
+use Rattle.jinvoke.specs.Answers.{IsCallAt, OwnerIs, answer, answer_by, answer_to, chosen, has, hides, id_on, in_meaning, locals_in, nothing}
 
 abbrev by_code : MethodId → Option CodeBody → Chosen
 by_code m body = chosens.Method m (is_some body) (locals_in body)
@@ -60,3 +62,14 @@ answered p k o call a is e law = law is.0 ∙ ap (answer_to p k) (sym (ap (optio
 pub unanswered : (p : Program) (k : CallKey) (o : Option CallUse) → IsCallAt p k o → o ≡ None → nothing ≡ answer p k
 unfolding answer
 unanswered p k o is e = ap (answer_to p k) (sym (ap (option_map (call_named p is.0)) e) ∙ is.1)
+
+pub owner_named : (p : Program) (k : CallKey) (o : Option CallUse) (owner : Option ClassRef) → IsCallAt p k o → owner ≡ option_map (λ (u : CallUse). u.owner) o
+    → OwnerIs p k.class k.by k.pool owner
+owner_named p k o owner is e way c means = by_use o (is.1 ∙ ap in_meaning means) e
+  where
+    by_use : (o : Option CallUse) → option_map (call_named p is.0) o ≡ Some c → owner ≡ option_map (λ (u : CallUse). u.owner) o
+        → (r : ClassRef) × (owner ≡ Some r) × (c.owner ≡ class_named p r)
+    by_use None h e = absurd cc
+    by_use (Some u) h e =
+        let same : call_named p is.0 u ≡ c = cc in
+        (u.owner, e, sym (ap (λ (m : CallMeaning). m.owner) same))

@@ -10,10 +10,9 @@ use Rattle.jmachine.specs.Security.{Rules}
 use Rattle.jmachine.specs.Steps.{executed, fetched, step, step_at}
 use Rattle.jready.specs.Meant.{meant}
 use Rattle.jstate.specs.Framed.{Framed, all}
-use Rattle.jinvoke.specs.Laws.{StepsLibrary, StepsUser}
+use Rattle.jinvoke.specs.Laws.{StepsAt, StepsLibrary, StepsUser}
 
-steps_at : {E : Type 0} (r : Rules ℕ E) (p : Program) (plan : Plan) (s : State ℕ E) (f : Framed E) (it : Option Instruction)
-    → s.running.frames ≡ all f → it ≡ fetched p f.newest.method f.newest.place → step r p plan s ≡ executed r p plan s f.newest f.below it
+pub steps_at : {E : Type 0} → StepsAt E
 unfolding step
 steps_at r p plan s f it frames is = ap (step_at r p plan s) frames ∙ ap (executed r p plan s f.newest f.below) (sym is)
 

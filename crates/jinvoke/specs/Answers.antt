@@ -10,6 +10,7 @@ use Rattle.jprogram.specs.declared.member.ClassId.{ClassId}
 use Rattle.jprogram.specs.declared.member.ClassId.TheVariants as id
 use Rattle.jprogram.specs.declared.member.Selected.{Selected}
 use Rattle.jprogram.specs.declared.member.Selected.TheVariants as selected
+use Rattle.jprogram.specs.declared.part.ClassRef.{ClassRef}
 use Rattle.jprogram.specs.Classes.{Program}
 use Rattle.juses.specs.declared.meaning.CallUse.{CallUse}
 use Rattle.juses.specs.declared.meaning.How.{How}
@@ -100,3 +101,8 @@ answer p k = answer_to p k (called_at p k)
 -- This is what a key's entry names, by the types that parameters have.
 abbrev pub IsCallAt : Program → CallKey → Option CallUse → Type 0
 IsCallAt p k call = (types : List TypeRef) × (option_map (call_named p types) call ≡ called_at p k)
+
+-- This is the class by which the entry at an index of a class's pool names the method of a call, if it names one.
+abbrev pub OwnerIs : Program → (class : ℕ) → How → (pool : ℕ) → Option ClassRef → Type 0
+OwnerIs p class by pool owner = (way : How) (c : CallMeaning) → meant p (pool_at p class) (call_form by pool) ≡ Some (Call way c)
+    → (r : ClassRef) × (owner ≡ Some r) × (c.owner ≡ class_named p r)

@@ -1,5 +1,6 @@
 -- Laws of what a machine by number knows of calls and of what is thrown.
-use Rattle.std.specs.Prelude.{◌≡◌, ℕ, List, Some}
+use Rattle.std.specs.Prelude.{◌≡◌, ℕ, List, Option, Some}
+use Rattle.jheap.specs.declared.cell.Kind.{Kind}
 use Rattle.jheap.specs.declared.cell.Kind.TheVariants as kinds
 use Rattle.jheap.specs.Heaps.{Heaped, kind_at}
 use Rattle.jlib.specs.declared.calls.LibCall.{LibCall}
@@ -8,7 +9,7 @@ use Rattle.jprogram.specs.Classes.{Program}
 use Rattle.juses.specs.declared.meaning.How.{How}
 use Rattle.juses.specs.declared.meaning.Span.{Span}
 use Rattle.juses.specs.declared.types.TypeRef.{TypeRef}
-use Rattle.juses.specs.Instructions.{Used}
+use Rattle.juses.specs.Instructions.{Instruction, Used}
 use Rattle.juses.specs.Meanings.{Call}
 use Rattle.juses.specs.Tables.{pool_at}
 use Rattle.juses.specs.Types.{class_named}
@@ -27,12 +28,19 @@ use Rattle.jstate.specs.Framed.{Framed, all}
 use Rattle.jstate.specs.declared.shapes.Shapes.{Shapes}
 use Rattle.jstate.specs.Numbers.{class_numbered}
 use Rattle.jstate.specs.Seen.{Things, store_by}
+use Rattle.jinvoke.specs.Answers.{number_by}
 use Rattle.jinvoke.specs.Invoking.{CallWithin}
 
 -- The class of an object is that of its heap's number.
 abbrev pub HasClass : Type 0
 HasClass = (p : Program) (shapes : Shapes) (things : Things) (constants : List (List ℕ × ℕ)) (h : Heaped) (o n : ℕ) (x : Object ℕ)
     → kind_at h o ≡ Some (kinds.Object n) → object_at (store_by p shapes things constants h) o ≡ Some x
+    → class_of (world p).named x ≡ types.Object (class_named p (class_numbered n))
+
+-- So is that of any object but an array, by the number for its kind.
+abbrev pub HasType : Type 0
+HasType = (p : Program) (shapes : Shapes) (things : Things) (constants : List (List ℕ × ℕ)) (h : Heaped) (o n : ℕ) (kind : Kind) (x : Object ℕ)
+    → kind_at h o ≡ Some kind → number_by kind ≡ Some n → object_at (store_by p shapes things constants h) o ≡ Some x
     → class_of (world p).named x ≡ types.Object (class_named p (class_numbered n))
 
 -- What an instruction by number names is within the program.
@@ -44,7 +52,12 @@ abbrev pub LibraryWithin : Type 0
 LibraryWithin = (p : Program) (known : List TypeRef) (class : ℕ) (by : How) (pool : ℕ) (params : Span) (call : LibCall)
     → LibraryCalled p (pool_at p class) known by pool params call → CallWithin p class by pool
 
--- A step executes the instruction that stands where the newest frame does, by number a call of a user's method or of the library.
+-- A step executes the instruction that stands where the newest frame does.
+abbrev pub StepsAt : Type 0 → Type 0
+StepsAt E = (r : Rules ℕ E) (p : Program) (plan : Plan) (s : State ℕ E) (f : Framed E) (it : Option Instruction)
+    → s.running.frames ≡ all f → it ≡ fetched p f.newest.method f.newest.place → step r p plan s ≡ executed r p plan s f.newest f.below it
+
+-- It may be by number a call of a user's method or of the library.
 abbrev pub StepsUser : Type 0 → Type 0
 StepsUser E = (r : Rules ℕ E) (p : Program) (plan : Plan) (s : State ℕ E) (f : Framed E) (t : Tables) (known : List TypeRef)
     (by : How) (pool : ℕ) (params : Span) (k : ℕ) → let class = f.newest.method.class in

@@ -14,15 +14,15 @@ ghost use Rattle.juses.specs.declared.types.TypeRef.{TypeRef};
 ghost use Rattle.juses.specs.Meanings.{call_named, meaning_of};
 ghost use Rattle.juses.specs.Types.{class_named};
 ghost use Rattle.jinvoke.specs.Answers;
-ghost use Rattle.jinvoke.specs.Answers.{IsCallAt, id_on, in_meaning, number_by};
+ghost use Rattle.jinvoke.specs.Answers.{IsCallAt, OwnerIs, id_on, in_meaning, number_by};
 
 use crate::known::Known;
-use crate::numbers::class_numbered;
 use jcode::{CallOp, PoolForm};
 use jheap::Kind;
 use jlib::LibCall;
 use jmemo::Key;
 use jprogram::{CallKind, ClassId, ClassRef, Member, MethodId, Reach, Selected};
+use jstate::class_numbered;
 use juses::{CallUse, How, Use, code_at};
 
 /// What is asked about a call: the class in whose code it stands, by its place among the parts, the index of its entry, how it calls, and
@@ -81,9 +81,9 @@ impl Key for CallKey {
 
 // ---- classes of objects
 
-/// The heap's number for the class of an object of a kind.
+/// The heap's number for the class of an object of a kind. Arrays have none.
 #[inline]
-pub(crate) fn number_of(kind: Kind) -> Option<u32>
+pub fn number_of(kind: Kind) -> Option<u32>
     ensures { result ≡ number_by kind }
 {
     match kind {
@@ -326,6 +326,23 @@ impl<'p> Known<'p> {
                 .uses()
                 .use_at(key.class, form_of(key.by, key.pool)),
         )
+    }
+
+    /// The class by which the entry at an index of the pool of a class names the method of such a call.
+    #[inline]
+    #[tactic(auto, using(crate::proofs::Picked::owner_named))]
+    pub fn owner_at(&self, class: u32, by: How, pool: u16) -> Option<ClassRef>
+        ensures { OwnerIs self.now class by pool result }
+    {
+        match self.call_at(CallKey {
+            class,
+            pool,
+            by,
+            on: None,
+        }) {
+            None => None,
+            Some(call) => Some(call.owner),
+        }
     }
 
     /// What is known of a call, by its key.

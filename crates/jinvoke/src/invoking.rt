@@ -1,5 +1,6 @@
 ghost use Rattle.std.specs.Prelude.{◌≡◌, ◌≤◌, IfOk, Some, length};
-ghost use Rattle.jcalls.specs.Calling.{IsByClass};
+ghost use Rattle.jcalls.specs.Calling.{CallLeaves, CallStands, IsByClass};
+ghost use Rattle.jcalls.specs.Marks.{Stand};
 ghost use Rattle.jstate.specs.Framed.{all};
 ghost use Rattle.juses.specs.declared.meaning.How.TheVariants as how;
 ghost use Rattle.jinvoke.specs.Invoking.{CallWithin, answer_at, Invokes, IsMarked, marked};
@@ -65,7 +66,7 @@ impl<'p> Calls<'p> {
 
     /// A call of a static method.
     #[inline]
-    #[tactic(auto, using(crate::proofs::Invoked::static_marked, crate::proofs::Invoked::static_invoked))]
+    #[tactic(auto, using(crate::proofs::Invoked::static_marked, crate::proofs::Invoked::static_invoked, crate::proofs::Invoked::stands_on))]
     fn invoke_static<M: Copy>(
         &mut self,
         frames: &mut Frames<M>,
@@ -80,6 +81,8 @@ impl<'p> Calls<'p> {
         requires marks { length marks.now ≡ length self.old.parts }
         requires within { CallWithin self.old frames.old.newest.method.class how.Static pool }
         ensures call { IfOk result (λ way. Invokes self.old how.Static pool marks.now heap.now count room.depth frames.old way frames.new) }
+        ensures leaves { IfOk result (λ way. CallLeaves frames.old way frames.new) }
+        ensures stand { Stand (length marks.now) (all frames.old) → IfOk result (λ way. CallStands (length marks.now) way frames.new) }
         ensures same { self.new ≡ self.old }
     {
         let class = frames.method().class;
@@ -95,7 +98,7 @@ impl<'p> Calls<'p> {
 
     /// A call on an object, whose class isn't asked for an interface.
     #[inline]
-    #[tactic(auto, using(crate::proofs::Invoked::on_marked, crate::proofs::Invoked::on_invoked))]
+    #[tactic(auto, using(crate::proofs::Invoked::on_marked, crate::proofs::Invoked::on_invoked, crate::proofs::Invoked::stands_on))]
     fn invoke_on<M: Copy>(
         &mut self,
         frames: &mut Frames<M>,
@@ -112,6 +115,8 @@ impl<'p> Calls<'p> {
         requires by { IsByClass by }
         requires within { CallWithin self.old frames.old.newest.method.class by pool }
         ensures call { IfOk result (λ way. Invokes self.old by pool marks.now heap.now count room.depth frames.old way frames.new) }
+        ensures leaves { IfOk result (λ way. CallLeaves frames.old way frames.new) }
+        ensures stand { Stand (length marks.now) (all frames.old) → IfOk result (λ way. CallStands (length marks.now) way frames.new) }
         ensures same { self.new ≡ self.old }
     {
         let class = frames.method().class;
@@ -123,7 +128,7 @@ impl<'p> Calls<'p> {
 
     /// A call by an interface.
     #[inline]
-    #[tactic(auto, using(crate::proofs::Invoked::on_marked, crate::proofs::Invoked::face_invoked))]
+    #[tactic(auto, using(crate::proofs::Invoked::on_marked, crate::proofs::Invoked::face_invoked, crate::proofs::Invoked::stands_on))]
     fn invoke_by_interface<M: Copy>(
         &mut self,
         frames: &mut Frames<M>,
@@ -138,6 +143,8 @@ impl<'p> Calls<'p> {
         requires marks { length marks.now ≡ length self.old.parts }
         requires within { CallWithin self.old frames.old.newest.method.class how.Interface pool }
         ensures call { IfOk result (λ way. Invokes self.old how.Interface pool marks.now heap.now count room.depth frames.old way frames.new) }
+        ensures leaves { IfOk result (λ way. CallLeaves frames.old way frames.new) }
+        ensures stand { Stand (length marks.now) (all frames.old) → IfOk result (λ way. CallStands (length marks.now) way frames.new) }
         ensures same { self.new ≡ self.old }
     {
         heap_laws();
@@ -166,6 +173,8 @@ impl<'p> Calls<'p> {
         requires marks { length marks.now ≡ length self.old.parts }
         requires within { CallWithin self.old frames.old.newest.method.class by pool }
         ensures call { IfOk result (λ way. Invokes self.old by pool marks.now heap.now count room.depth frames.old way frames.new) }
+        ensures leaves { IfOk result (λ way. CallLeaves frames.old way frames.new) }
+        ensures stand { Stand (length marks.now) (all frames.old) → IfOk result (λ way. CallStands (length marks.now) way frames.new) }
         ensures same { self.new ≡ self.old }
     {
         match by {

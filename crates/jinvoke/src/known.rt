@@ -1,19 +1,21 @@
-ghost use Rattle.std.specs.Prelude.{◌≡◌, IfOk};
+ghost use Rattle.std.specs.Prelude.{◌≡◌, IfOk, false};
 ghost use Rattle.jlink.specs.Links.{Links};
 ghost use Rattle.jmachine.specs.Unwinding;
 ghost use Rattle.jmachine.specs.World;
-ghost use Rattle.jmachine.specs.World.{own_tree, world};
+ghost use Rattle.jmachine.specs.World.{fits, own_tree, world};
 ghost use Rattle.jprogram.specs.Classes;
 ghost use Rattle.jprogram.specs.Classes.{name_at};
 ghost use Rattle.jprogram.specs.Implementing.{AreInterfaces};
 ghost use Rattle.jtypes.specs.Fitting.{class_fits};
+ghost use Rattle.jrule.specs.Uses.{throwable};
+ghost use Rattle.jtypes.specs.declared.vtype.ArrayType.{ArrayType};
 ghost use Rattle.jtypes.specs.declared.vtype.VType.TheVariants as types;
 ghost use Rattle.juses.specs.Meanings.{class_at};
 ghost use Rattle.juses.specs.Tables.{pool_at};
 ghost use Rattle.juses.specs.Types.{class_named, named};
 
 use jlink::LinkedProgram;
-use jprogram::{ClassRef, Interfaces};
+use jprogram::{ClassRef, Interfaces, number_laws};
 use juses::{TypeRef, stands_below};
 use std::alloc::{AllocError, Global};
 use std::marker::Model;
@@ -77,6 +79,14 @@ impl<'p> Known<'p> {
         ensures { result.now ≡ self.now }
     {
         self.program
+    }
+
+    /// The law of what is thrown: no array can be. It has no body to run; its contract is the law.
+    pub fn array_law(&self)
+        ensures { (a : ArrayType) → fits (world self.now) (types.Array a) throwable ≡ false }
+    {
+        number_laws();
+        self.program.named();
     }
 
     /// Whether an object of the first class is one of the second, which is its class, or one above it, or an interface of one of them.

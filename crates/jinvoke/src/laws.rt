@@ -1,11 +1,12 @@
-ghost use Rattle.jinvoke.specs.Laws.{HasClass, LibraryWithin, StepsLibrary, StepsUser, UserWithin};
+ghost use Rattle.jinvoke.specs.Laws.{HasClass, HasType, LibraryWithin, StepsAt, StepsLibrary, StepsUser, UserWithin};
 
 use jstate::heap_laws;
 
-/// The law of classes by the heap's numbers. It has no body to run; its contract is the law.
-#[tactic(auto, using(crate::proofs::Classed::has_class))]
+/// The laws of classes by the heap's numbers. They have no body to run; the contract is the laws.
+#[tactic(auto, using(crate::proofs::Classed::has_class, crate::proofs::Classed::has_type))]
 pub fn class_laws()
-    ensures { HasClass }
+    ensures class { HasClass }
+    ensures type_ { HasType }
 {
     heap_laws();
 }
@@ -18,8 +19,9 @@ pub fn within_laws()
 {}
 
 /// The laws of steps: the machine executes what an instruction by number stands for. They have no body to run; the contract is the laws.
-#[tactic(auto, using(crate::proofs::Stepping::steps_user, crate::proofs::Stepping::steps_library))]
+#[tactic(auto, using(crate::proofs::Stepping::steps_at, crate::proofs::Stepping::steps_user, crate::proofs::Stepping::steps_library))]
 pub fn step_laws<M>()
+    ensures at { StepsAt M }
     ensures user { StepsUser M }
     ensures library { StepsLibrary M }
 {}

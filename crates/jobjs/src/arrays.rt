@@ -8,6 +8,7 @@ ghost use Rattle.jstate.specs.Celled.{StayCelled};
 ghost use Rattle.jstate.specs.Seen.{AreBuilt, Things, array_at as shape_at, store_by};
 ghost use Rattle.jstate.specs.declared.shapes.Shapes.{Shapes};
 ghost use Rattle.jacts.specs.Ways.{Acts, leaves};
+ghost use Rattle.jobjs.specs.Staying.{Stays};
 
 use jacts::{Way, count_of, make_array, switch_key};
 use jheap::Heap;
@@ -28,6 +29,7 @@ pub fn new_refs<M: Copy>(
     ensures row { IfOk result (λ way. (p : Program) (shapes : Shapes) (things : Things) (constants : List (List ℕ × ℕ)) →
         Acts (instructions.Used (meanings.MakeArray (types.Array (array_named p (shape_at shapes number))))) frames.old.newest (store_by p shapes things constants heap.old)
         (leaves way [] frames.new.newest (store_by p shapes things constants heap.new))) }
+    ensures stays { IfOk result (λ way. Stays way frames.old.newest frames.new.newest) }
     ensures below { OnOk result (frames.new.below ≡ frames.old.below) }
     ensures built { OnOk result (AreBuilt heap.new.objects) }
     ensures celled { OnOk result (StayCelled heap.old.objects heap.new.objects) }

@@ -7,6 +7,7 @@ ghost use Rattle.jprogram.specs.declared.member.Member.{Member};
 ghost use Rattle.juses.specs.Instructions as instructions;
 ghost use Rattle.jacts.specs.Ways.{ActsWhere, leaves};
 ghost use Rattle.jobjs.specs.Branching.{ServeTest, null_test, ref_in, same_test};
+ghost use Rattle.jobjs.specs.Staying.{Stays};
 
 use jacts::{Way, branch, way_laws};
 use jops::Value;
@@ -57,6 +58,7 @@ pub fn if_null<M: Copy>(frames: &mut Frames<M>, null: bool, to: u32, serve: bool
     ensures row { (s : Store ℕ) →
         ActsWhere (λ (at : Site) (own : Member → Bool). ServeTest at s (null_test null) frames.old.newest.operands serve)
         (instructions.Jump (instructions.IfRef (null_test null)) to) frames.old.newest s (leaves result [] frames.new.newest s) }
+    ensures stays { Stays result frames.old.newest frames.new.newest }
     ensures below { frames.new.below ≡ frames.old.below }
 {
     way_laws::<M>();
@@ -77,6 +79,7 @@ pub fn if_same<M: Copy>(frames: &mut Frames<M>, same: bool, to: u32, serve: bool
     ensures row { (s : Store ℕ) →
         ActsWhere (λ (at : Site) (own : Member → Bool). ServeTest at s (same_test same) frames.old.newest.operands serve)
         (instructions.Jump (instructions.IfRef (same_test same)) to) frames.old.newest s (leaves result [] frames.new.newest s) }
+    ensures stays { Stays result frames.old.newest frames.new.newest }
     ensures below { frames.new.below ≡ frames.old.below }
 {
     way_laws::<M>();

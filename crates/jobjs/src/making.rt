@@ -18,6 +18,7 @@ ghost use Rattle.jacts.specs.Ways.{ActsWhere, leaves};
 ghost use Rattle.jacts.specs.declared.way.Way.TheVariants as ways;
 ghost use Rattle.jobjs.specs.Made.{HasNew, HasShape};
 ghost use Rattle.jstate.specs.declared.shapes.Shape.{Shape as ShapeOf};
+ghost use Rattle.jobjs.specs.Staying.{Stays};
 
 use crate::fields::push_one;
 use jacts::Way;
@@ -70,6 +71,7 @@ pub fn new_library<M: Copy>(
     ensures row { IfOk result (λ way. (p : Program) (shapes : ShapesOf) (things : Things) (constants : List (List ℕ × ℕ)) (c : Name) →
         ActsWhere (λ (at : Site) (own : Member → Bool). at.world.class c ≡ Some (refs.Lib class)) (instructions.Used (meanings.Make c)) frames.old.newest
         (store_by p shapes things constants heap.old) (leaves way [] frames.new.newest (store_by p shapes things constants heap.new))) }
+    ensures stays { IfOk result (λ way. Stays way frames.old.newest frames.new.newest) }
     ensures below { OnOk result (frames.new.below ≡ frames.old.below) }
     ensures built { OnOk result (AreBuilt heap.new.objects) }
     ensures celled { OnOk result (StayCelled heap.old.objects heap.new.objects) }
@@ -122,6 +124,7 @@ pub fn new_object<M: Copy>(
     ensures row { IfOk result (λ way. (p : Program) (things : Things) (constants : List (List ℕ × ℕ)) (c : Name) →
         ActsWhere (λ (at : Site) (own : Member → Bool). (at.world.class c ≡ Some (refs.User class)) × HasShape at.world shapes.now class) (instructions.Used (meanings.Make c)) frames.old.newest
         (store_by p shapes.now things constants heap.old) (leaves way [] frames.new.newest (store_by p shapes.now things constants heap.new))) }
+    ensures stays { IfOk result (λ way. Stays way frames.old.newest frames.new.newest) }
     ensures below { OnOk result (frames.new.below ≡ frames.old.below) }
     ensures built { OnOk result (AreBuilt heap.new.objects) }
     ensures celled { OnOk result (AreCelled shapes.now heap.old.objects → AreCelled shapes.now heap.new.objects) }

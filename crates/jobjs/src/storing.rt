@@ -13,6 +13,7 @@ ghost use Rattle.jstate.specs.Seen.{AreBuilt, Things, store_by};
 ghost use Rattle.jstate.specs.declared.shapes.Shapes.{Shapes};
 ghost use Rattle.jacts.specs.Ways.{ActsWhere, leaves};
 ghost use Rattle.jobjs.specs.Stored.{HasStored, MayStore, ServeStore, held_seen};
+ghost use Rattle.jobjs.specs.Staying.{Stays};
 
 use jacts::{Way, int_at, put_cell, way_laws, within};
 use jheap::{Heap, Kind};
@@ -94,6 +95,7 @@ pub fn store_ref<M: Copy>(frames: &mut Frames<M>, heap: &mut Heap, serve: bool, 
         let s = store_by p shapes things constants heap.old in
         ActsWhere (λ (at : Site) (own : Member → Bool). ServeStore at s frames.old.newest.operands serve × MayStore at.world p shapes s heap.old frames.old.newest.operands is)
         (instructions.Array (forms.Store items.Ref)) frames.old.newest s (leaves result [] frames.new.newest (store_by p shapes things constants heap.new)) }
+    ensures stays { Stays result frames.old.newest frames.new.newest }
     ensures below { frames.new.below ≡ frames.old.below }
     ensures built { AreBuilt heap.old.objects → AreBuilt heap.new.objects }
     ensures celled { StayCelled heap.old.objects heap.new.objects }

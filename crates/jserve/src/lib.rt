@@ -6,7 +6,6 @@ mod calls;
 mod casts;
 mod fields;
 mod fitting;
-mod ready;
 mod serving;
 mod values;
 

@@ -9,13 +9,12 @@ ghost use Rattle.juses.specs.Types.{named};
 ghost use Rattle.jserve.specs.Valued;
 ghost use Rattle.jserve.specs.Valued.{IsStore, type_in};
 
-use crate::ready::{class_numbered, is_ready};
-use jcalls::Counts;
+use jcalls::{Counts, is_ready};
 use jheap::{Heap, Kind};
 use jlib::LibClass;
 use jops::Value;
 use jprogram::ClassRef;
-use jstate::{Shapes, heap_laws};
+use jstate::{Shapes, class_numbered, heap_laws};
 use juses::{ArrayRef, ElementRef, TypeRef};
 
 /// The objects of a machine: the heap, what its numbers stand for, and how many permissions and contexts the machine keeps.

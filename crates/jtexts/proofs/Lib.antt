@@ -1,6 +1,7 @@
 mod Appending
 mod BuilderRows
 mod Celling
+mod ConstantRows
 mod Costs
 mod Gathering
 mod LoadRows

@@ -1,5 +1,8 @@
-use Rattle.jinvoke.proofs.Stepping.{steps_library, steps_user}
+use Rattle.jinvoke.proofs.Stepping.{steps_at, steps_library, steps_user}
 use Rattle.jinvoke.proofs.laws.step_laws.Goals as goal
+
+pub returns-clause-at : goal.returns-clause-at
+returns-clause-at g c = steps_at
 
 pub returns-clause-user : goal.returns-clause-user
 returns-clause-user g c = steps_user

@@ -9,4 +9,4 @@ returns-clause-call g c =
     c.answer_on-answer.result c.found_by-what.result c.found_by-what.ensures
     c.heap_laws.ensures.each c.method-class.result.class c.call_by_interface.result c.receiver_at-on.result (ap (λ (m : MethodId). m.class)
     c.method-class.ensures)
-    c.answer_on-answer.ensures.answer c.receiver_at-on.ensures c.call_by_interface.ensures
+    c.answer_on-answer.ensures.answer c.receiver_at-on.ensures c.call_by_interface.ensures.row

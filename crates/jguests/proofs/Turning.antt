@@ -1,0 +1,48 @@
+-- Turns, by the threads' table and the schedule.
+use Rattle.std.proofs.Common.{◌≡◌, ◌∙◌, ℕ, ◌+◌, List, take, drop, Option, Some, None, sym, ap, ap₂}
+use Rattle.std.specs.Prelude.{slice_get}
+use Rattle.jthreads.specs.declared.thread.Thread.{Thread}
+use Rattle.jthreads.specs.Schedule.{picked}
+use Rattle.jthreads.specs.Table.{runnable_numbers}
+use Rattle.jtrace.specs.declared.event.Event.{Event}
+use Rattle.jtrace.specs.declared.event.End.{End}
+use Rattle.jmachine.specs.Acts.{GuestOf, State, Over, Went}
+use Rattle.jmachine.specs.Store.{Store}
+use Rattle.jmachine.specs.Turns.{end_of, given_to, guests, turn_of, turned}
+use Rattle.jguests.specs.declared.guests.Guests.{Guests}
+use Rattle.jguests.specs.Guested.{AreGuests, guest_by, guests_of, state_by}
+use Rattle.jguests.proofs.Lying.{own, whole}
+
+module _ {E : Type 0} where
+  -- none can run
+  pub over : (schedule numbers : List ℕ) (g : Guests E) (o : Option ℕ) (end : End) (store : Store ℕ) (events : List Event)
+      → o ≡ picked schedule g.turns numbers → numbers ≡ runnable_numbers g.table → o ≡ None → end ≡ end_of (state_by g store)
+      → turned schedule (state_by g store) events ≡ Over (state_by g store) events end
+  unfolding turned
+  over schedule numbers g o end store events is rows none ends =
+      let s = state_by g store in
+      ap (turn_of s events) (sym (sym none ∙ is ∙ ap (picked schedule g.turns) rows)) ∙ ap (Over s events) (sym ends)
+
+  -- all threads, the one of a number running
+  abbrev made : Store ℕ → List (GuestOf ℕ E) → ℕ → GuestOf ℕ E → List Thread → ℕ → State ℕ E
+  made store all t x table turns = record { earlier = take t all; running = x; later = drop (t + 1) all; table = table; store = store; turns = turns }
+
+  pub all_are : (g : Guests E) (store : Store ℕ) → AreGuests g → guests (state_by g store) ≡ guests_of g
+  all_are g store are = whole (guests_of g) g.at (guest_by g.running) (own g are)
+
+  -- one runs
+  pub goes : (schedule numbers : List ℕ) (g h : Guests E) (o : Option ℕ) (t : ℕ) (store : Store ℕ) (events : List Event) → AreGuests g
+      → o ≡ picked schedule g.turns numbers → numbers ≡ runnable_numbers g.table → o ≡ Some t
+      → slice_get (guests_of g) t ≡ Some (guest_by h.running) → guests_of h ≡ guests_of g → h.at ≡ t → h.table ≡ g.table → h.turns ≡ g.turns + 1
+      → turned schedule (state_by g store) events ≡ Went (state_by h store) events
+  unfolding turned
+  goes schedule numbers g h o t store events are is rows some there same at table turns =
+      let s = state_by g store in
+      let all = all_are g store are in
+      let x = guest_by h.running in
+      ap (turn_of s events) (sym (sym some ∙ is ∙ ap (picked schedule g.turns) rows))
+      ∙ ap (given_to s events t) (ap (λ gs. slice_get gs t) all ∙ there)
+      ∙ ap (λ u. Went u events) (
+      ap (λ gs. made store gs t x g.table (g.turns + 1)) (all ∙ sym same)
+      ∙ ap (λ n. made store (guests_of h) n x g.table (g.turns + 1)) (sym at)
+      ∙ ap₂ (λ ts n. made store (guests_of h) h.at x ts n) (sym table) (sym turns))
