@@ -1,10 +1,9 @@
 -- Texts, each once, and the numbers of their strings.
-use Rattle.std.proofs.Common.{◌≡◌, ℕ, zero, suc, ◌+◌, ◌≤◌, Bool, true, false, cond, List, [], ◌∷◌, ◌++◌, length, map, Option, Some, None, refl, sym, ap, subst, ◌∙◌, arith, append_assoc}
+use Rattle.std.proofs.Common.{◌≡◌, ℕ, ◌+◌, Bool, true, false, cond, List, [], ◌∷◌, ◌++◌, length, Option, Some, refl, sym, ap, subst, ◌∙◌, arith, append_assoc}
 use Rattle.std.specs.Prelude.{◌||◌, is_some}
 use Rattle.std.specs.List.{list_any, range_with_len, zip}
 use Rattle.std.specs.Str.{bytes_eq}
 use Rattle.std.specs.Cmp.Lexicographic.{nat_list_eq_equiv}
-use Rattle.std.proofs.lemmas.Bool.{cases_Bool}
 use Rattle.std.proofs.lemmas.List.{append-nil}
 use Rattle.std.proofs.lemmas.Slice.Eq.{bytes_eq-Decides}
 use Rattle.juses.specs.Tables.{Grows}
@@ -73,8 +72,7 @@ distinct_grows xs [] = ([], ap (distinct []) (append-nil xs) ∙ sym (append-nil
 distinct_grows xs (y ∷ ys) =
     let one : Grows (distinct [] xs) (distinct [] (xs ++ y ∷ [])) =
     subst (Grows (distinct [] xs)) (sym (distinct_more xs y)) (grows_unless (among y (distinct [] xs)) (distinct [] xs) y) in
-    let rest = distinct_grows (xs ++ y ∷ []) ys in
-    (
+    let rest = distinct_grows (xs ++ y ∷ []) ys in (
       one.0 ++ rest.0,
       ap (distinct []) (sym (append_assoc xs (y ∷ []) ys)) ∙ rest.1 ∙ ap (λ (l : List (List ℕ)). l ++ rest.0) one.1 ∙ append_assoc (distinct [] xs) one.0 rest.0,
     )

@@ -1,5 +1,5 @@
 -- What the rows of statics say of their texts and values.
-use Rattle.std.proofs.Common.{◌≡◌, ℕ, Bool, true, false, cond, List, [], ◌∷◌, map, Option, Some, None, refl, sym, ap, subst, ◌∙◌}
+use Rattle.std.proofs.Common.{◌≡◌, ℕ, Bool, true, false, cond, List, [], ◌∷◌, map, Option, Some, None, refl, sym, ap, ◌∙◌}
 use Rattle.std.specs.Prelude.{option_map, unwrap_or}
 use Rattle.std.specs.List.{cons_option, filter_map}
 use Rattle.std.specs.Str.{bytes_eq}
@@ -15,7 +15,6 @@ use Rattle.jprogram.specs.declared.part.CodePart.{CodePart}
 use Rattle.jprogram.specs.Classes.{Program}
 use Rattle.jprogram.specs.Parts.{member_desc, text}
 use Rattle.jtypes.specs.declared.vtype.Element.{Element}
-use Rattle.juses.specs.Tables.{pool_at}
 use Rattle.jlayout.specs.Layout.{element, field_type}
 use Rattle.jmachine.specs.Making.{units_of}
 use Rattle.jmachine.specs.Narrowing.{default, narrowed}
@@ -41,6 +40,7 @@ only t n = (t, n) ∷ []
 
 only_at : (t : List ℕ) (n : ℕ) → constant_at (only t n) t ≡ Some n
 only_at t n = ap (λ (b : Bool). cond {A = Option ℕ} b (Some n) None) ((bytes_eq-Decides t t).1 refl)
+
 module _ (c : ClassParts) (e : Option Element) (d : Value ℕ) (cell : CellType) where
   -- what both say, whatever strings were made
   abbrev Alike : Option Entry → First → Type 0

@@ -1,5 +1,5 @@
 -- What the load of a string constant comes to, by whether it was made.
-use Rattle.std.proofs.Common.{◌≡◌, ℕ, zero, suc, ◌+◌, ◌-◌, ◌<◌, ◌≤◌, Bool, true, false, cond, List, [], ◌∷◌, length, Option, Some, None, refl, sym, ap, subst, ◌∙◌, arith}
+use Rattle.std.proofs.Common.{◌≡◌, ℕ, ◌-◌, ◌<◌, Bool, true, false, cond, List, [], length, Option, Some, None, refl, ap, ◌∙◌, arith}
 use Rattle.std.specs.Prelude.{is_some, nat_le}
 use Rattle.std.proofs.lemmas.Bool.{leb-true, leb-false}
 use Rattle.jops.specs.declared.value.Value.TheVariants.{Ref}
@@ -40,9 +40,10 @@ new_loaded s t units n false None le e = leb-false (cells_of (length units)) s.l
 new_loaded s t units n false (Some o) le e = absurd (let no = ran_in (leaves (loaded (Some o)) [] t) (leaves rans.Full [] s) e in cc)
 new_loaded s t units n true None le e =
     absurd (let no = ran_in (leaves (loaded None) [] t) (leaves (rans.Gave (Ref n)) [] (paid (cells_of (length units)) (with_made (with_constant s units) (string units)))) e in cc)
-new_loaded s t units n true (Some o) le e =
-    (leb-true (cells_of (length units)) s.left le,
-      store_in (leaves (loaded (Some o)) [] t) (leaves (rans.Gave (Ref n)) [] (paid (cells_of (length units)) (with_made (with_constant s units) (string units)))) e)
+new_loaded s t units n true (Some o) le e = (
+  leb-true (cells_of (length units)) s.left le,
+  store_in (leaves (loaded (Some o)) [] t) (leaves (rans.Gave (Ref n)) [] (paid (cells_of (length units)) (with_made (with_constant s units) (string units)))) e,
+)
 
 by_known : (E : Type 0) (s t : Store ℕ) (units : List ℕ) (o q : Option ℕ) → Comes {E = E} s (Some (text_loaded s units q)) (leaves (loaded o) [] t)
     → TextMade (is_some q) (is_some o) units s t

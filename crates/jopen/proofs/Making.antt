@@ -1,5 +1,5 @@
 -- The strings that are made, one behind the other.
-use Rattle.std.proofs.Common.{◌≡◌, ℕ, zero, suc, ◌+◌, ◌-◌, ◌<◌, ◌≤◌, Bool, true, false, List, [], ◌∷◌, ◌++◌, length, get_or, map, take, drop, Option, Some, None, refl, sym, ap, subst, ◌∙◌, arith}
+use Rattle.std.proofs.Common.{◌≡◌, ℕ, ◌+◌, ◌-◌, ◌<◌, ◌≤◌, Bool, true, false, List, [], ◌∷◌, ◌++◌, length, get_or, take, drop, Option, Some, None, refl, sym, ap, subst, ◌∙◌, arith}
 use Rattle.std.specs.Prelude.{is_some, sum_by}
 use Rattle.std.specs.List.{cons_option, filter_map}
 use Rattle.std.proofs.lemmas.List.{append-nil, length-map, map-append, take-append-drop, take_all, take_more}
@@ -10,7 +10,7 @@ use Rattle.jprogram.specs.Classes.{Program}
 use Rattle.juses.specs.Tables.{Grows}
 use Rattle.jmachine.specs.Acts as acts
 use Rattle.jmachine.specs.Objects.{Object}
-use Rattle.jmachine.specs.Opening.{constants_of, distinct}
+use Rattle.jmachine.specs.Opening.{distinct}
 use Rattle.jmachine.specs.Store.{Store, constant_at, next_number, paid, with_constant, with_made}
 use Rattle.jready.specs.declared.statics.StaticRow.{StaticRow}
 use Rattle.jstate.specs.declared.shapes.Shapes.{Shapes}

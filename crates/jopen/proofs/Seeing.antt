@@ -34,7 +34,7 @@ use Rattle.jconstants.specs.Made.{Made}
 use Rattle.jopen.specs.Begun.{AreStrings, Begins, IsOut}
 use Rattle.jopen.specs.declared.heap.Begun.{Begun}
 use Rattle.jopen.specs.declared.heap.Strings.{Strings}
-use Rattle.jopen.specs.Rows.{texts_of, values_of}
+use Rattle.jopen.specs.Rows.{row_value, texts_of, values_of}
 use Rattle.jopen.specs.Texts.{HasMade, HasSet, began, seen_by, string, texts_charge}
 use Rattle.jopen.proofs.Firsts.{rows_texts, rows_values}
 use Rattle.jopen.proofs.Flat.{all_strings, all_values}
@@ -100,6 +100,13 @@ set_next types rows f i row t v old h k lt many is value put back =
     subst (λ (l : List (Value ℕ)). HasSet types l (length rows - (i + 1)) old k) (sym next)
     (set_more types (map f (take i rows)) (length rows - i) (length rows - (i + 1)) old h k i (get_or types i t) v is here (omega (arith, lt))
     (slice_get-get_or types i t (omega (arith, lt, many))) put back)
+
+-- as many are there as there are types
+pub set_count : (types : List CellType) (rows : List StaticRow) (f : StaticRow → Value ℕ) (old h : Heaped) → length types ≡ length rows
+    → HasSet types (map f rows) 0 old h → length h.statics ≡ length types
+set_count types rows f old h many is =
+    ap (λ (g : Heaped). length g.statics) is.heap ∙ ap (λ (l : List ℕ). length l) (append-nil (map raw (map f rows)))
+    ∙ length-map (map f rows) raw ∙ length-map rows f ∙ sym many
 
 -- ---- by the rows
 
@@ -236,9 +243,6 @@ few_for_array p cells rows c h statics made few =
     let before = made.left in
     omega (arith, cost, before, few)
 
-pub few_for_out : (cells : ℕ) (texts : List (List ℕ)) → cells < 1 → cells < texts_charge texts
-few_for_out cells texts few = omega (arith, few)
-
 -- ---- all of it
 
 array_suits : (shapes : Shapes) (n : ℕ) → Suits shapes (kinds.Array n) 0
@@ -247,8 +251,8 @@ array_suits shapes n m e = absurd (let none : ◌≡◌ {A = Option ℕ} None (S
 pub begins : (p : Program) (shapes : Shapes) (cells n o : ℕ) (rows : List StaticRow) (s : Strings) (g k : Heaped) (b : Begun) → AreStatics p (all_statics p) rows
     → IsStrings shapes n → laws.Makes → laws.MadeStaysBuilt → MadeStaysCelled → AreStrings p cells rows s → heaps.Makes (kinds.Array n) 0 s.heap g (Some o)
     → HasSet shapes.statics (values_of s.constants.program s.constants.constants rows) 0 g k
-    → b ≡ record { heap = k; constants = s.constants; array = o } → Begins p shapes cells b
-begins p shapes cells n o rows s g k b statics is makes stays stays_celled strings array set here =
+    → length shapes.statics ≡ length rows → b ≡ record { heap = k; constants = s.constants; array = o } → Begins p shapes cells b
+begins p shapes cells n o rows s g k b statics is makes stays stays_celled strings array set many here =
     let made = strings.made in
     let room : 2 ≤ s.heap.left = let enough = array.0 in omega (arith, enough) in
     let objects : k.objects ≡ (heaps.made s.heap (kinds.Array n) 0).objects = ap (λ (x : Heaped). x.objects) set.heap ∙ ap (λ (x : Heaped). x.objects) array.2 in
@@ -258,6 +262,7 @@ begins p shapes cells n o rows s g k b statics is makes stays stays_celled strin
       store = λ things. begins_store p shapes cells rows s.constants s.heap g k n things statics is makes strings.built made room array.2 set;
       built = subst AreBuilt (sym objects) (stays s.heap (kinds.Array n) 0 strings.built);
       celled = subst (AreCelled shapes) (sym objects) (stays_celled shapes s.heap (kinds.Array n) 0 (array_suits shapes n) (strings.celled shapes));
+      statics = set_count shapes.statics rows (row_value s.constants.program s.constants.constants) g k many set;
       array = begins_array p shapes cells rows s.constants s.heap o statics made array.1;
     })
 

@@ -1,5 +1,5 @@
 -- The heap in which a run begins.
-use Rattle.std.specs.Prelude.{◌≡◌, ◌+◌, ◌<◌, ◌≤◌, ℕ, List, [], Option, Some, None}
+use Rattle.std.specs.Prelude.{◌≡◌, ◌<◌, ◌≤◌, ℕ, List, [], length, Option, Some, None}
 use Rattle.jheap.specs.Heaps.{Heaped}
 use Rattle.jprogram.specs.Classes.{Program}
 use Rattle.jmachine.specs.Opening.{arguments_number, opening_charge, opening_store}
@@ -11,7 +11,7 @@ use Rattle.jconstants.specs.Made.{Made}
 use Rattle.jopen.specs.declared.heap.Begun.{Begun}
 use Rattle.jopen.specs.declared.heap.Strings.{Strings}
 use Rattle.jopen.specs.Rows.{texts_of}
-use Rattle.jopen.specs.Texts.{HasMade, began, seen_by, texts_charge}
+use Rattle.jopen.specs.Texts.{HasMade, seen_by, texts_charge}
 
 -- ---- step by step
 
@@ -44,6 +44,7 @@ pub record Begins (p : Program) (shapes : Shapes) (cells : ℕ) (b : Begun) : Ty
   pub store : (things : Things) → seen_by p shapes things b.constants b.heap ≡ opening_store p cells
   pub built : AreBuilt b.heap.objects
   pub celled : AreCelled shapes b.heap.objects
+  pub statics : length b.heap.statics ≡ length shapes.statics
   pub array : b.array ≡ arguments_number p
 
 -- Or they aren't.

@@ -1,5 +1,5 @@
 -- The state in which a run begins, by numbers.
-use Rattle.std.specs.Prelude.{◌≡◌, ◌<◌, ◌≤◌, ℕ, List, [], ◌∷◌, Option, Some, None}
+use Rattle.std.specs.Prelude.{◌≡◌, ◌<◌, ◌≤◌, ℕ, List, [], ◌∷◌, length, Option, Some, None}
 use Rattle.jops.specs.declared.value.Value.{Value}
 use Rattle.jops.specs.declared.value.Value.TheVariants.{Ctx}
 use Rattle.jprogram.specs.Classes.{Program}
@@ -25,6 +25,13 @@ BeginsMain {E} p first f =
     (r : Rules ℕ E) → r.entry_of (domain_of p first.main) ≡ first.mark → security.handed r.side r.first ≡ handed first.context
     → all f ≡ (main_guest r p first.main).frames
 
+-- It has one frame, at the beginning of the method.
+pub record IsAlone {E : Type 0} (first : FirstFrame E) (f : Framed E) : Type 0 where
+  pub method : f.newest.method ≡ first.main
+  pub place : f.newest.place ≡ 0
+  pub mark : f.newest.entry ≡ first.mark
+  pub below : f.below ≡ []
+
 -- The cells that the opening takes are there, and this is the state.
 pub record Opens {E : Type 0} (p : Program) (shapes : Shapes) (first : FirstFrame E) (cells : ℕ) (o : Opened E) : Type 0 where
   pub room : opening_charge p ≤ cells
@@ -32,6 +39,8 @@ pub record Opens {E : Type 0} (p : Program) (shapes : Shapes) (first : FirstFram
   pub store : (things : Things) → store_by p shapes things o.constants.constants o.heap ≡ opening_store p cells
   pub built : AreBuilt o.heap.objects
   pub celled : AreCelled shapes o.heap.objects
+  pub statics : length o.heap.statics ≡ length shapes.statics
+  pub alone : IsAlone first o.frames
   pub frames : BeginsMain p first o.frames
 
 -- Or they aren't.

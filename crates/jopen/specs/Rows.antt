@@ -1,5 +1,5 @@
 -- What the statics of a program hold at first, and the strings that are made for them, by the rows of the statics.
-use Rattle.std.specs.Prelude.{ℕ, List, [], ◌∷◌, Option, Some, None, map}
+use Rattle.std.specs.Prelude.{ℕ, List, [], Option, Some, None, map}
 use Rattle.std.specs.List.{filter_map}
 use Rattle.jops.specs.declared.value.Value.{Value}
 use Rattle.jpool.specs.declared.entry.Entry.{Entry}

@@ -3,7 +3,7 @@ ghost use Rattle.juses.specs.Instructions;
 ghost use Rattle.jmachine.specs.Opening.{arguments_number};
 ghost use Rattle.jshapes.specs.Numbered.{IsStrings};
 ghost use Rattle.jshapes.specs.Tied.{AreTied};
-ghost use Rattle.jopen.specs.Opened.{BeginsMain, OpensOr};
+ghost use Rattle.jopen.specs.Opened.{BeginsMain, IsAlone, OpensOr};
 
 use crate::heap::begin;
 use jconstants::Constants;
@@ -47,7 +47,8 @@ fn first_frames<M: Copy>(
 ) -> Result<Frames<M>, AllocError>
     requires coded { is_some (Instructions.code_at p.now first.main) ≡ true }
     requires array { array ≡ arguments_number p.now }
-    ensures { IfOk result (BeginsMain p.now first) }
+    ensures begins { IfOk result (BeginsMain p.now first) }
+    ensures alone { IfOk result (IsAlone first) }
 {
     let Some(body) = code_at(p.named(), first.main) else {
         unreachable!();
@@ -56,13 +57,7 @@ fn first_frames<M: Copy>(
     let array = Value::Ref(array);
     match first.context {
         None => Frames::open(alloc, first.main, most, &[array], first.mark),
-        Some(k) => Frames::open(
-            alloc,
-            first.main,
-            most,
-            &[array, Value::Ctx(k)],
-            first.mark,
-        ),
+        Some(k) => Frames::open(alloc, first.main, most, &[array, Value::Ctx(k)], first.mark),
     }
 }
 

@@ -35,11 +35,7 @@ fn named(object: Option<u32>, cell: CellType) -> Value
 }
 
 /// What a static holds at first.
-fn value_of(
-    alloc: Global,
-    constants: &Constants<'_>,
-    row: StaticRow,
-) -> Result<Value, AllocError>
+fn value_of(alloc: Global, constants: &Constants<'_>, row: StaticRow) -> Result<Value, AllocError>
     ensures { IfOk result (λ v. v ≡ row_value constants.now.program constants.now.constants row) }
 {
     match row.first {

@@ -42,4 +42,5 @@ returns c =
     c.as_slice-types.ensures c.in_ok-put_statics.ensures in
     begins p c.args.shaped.now.shapes c.args.cells c.args.shaped.now.strings c.in-Some-2.array rows s c.make.new.self c.put_statics.new.heap _
     c.statics-rows.ensures c.requires.strings c.heap_laws.ensures.makes c.built_laws.ensures.made c.celled_laws.ensures.made strings
-    (rw c.in-Some-2.is at c.in_ok-array.ensures.ok) set refl
+    (rw c.in-Some-2.is at c.in_ok-array.ensures.ok) set
+    (types_many p (λ (x : CodePart × MemberInfo). field_cell p x.0 x.1) c.args.shaped.now.shapes.statics rows c.statics-rows.ensures c.requires.tied.statics) refl

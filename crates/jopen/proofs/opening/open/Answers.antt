@@ -13,5 +13,7 @@ returns g c =
       store = b.store;
       built = b.built;
       celled = b.celled;
-      frames = subst (λ (p : Program). BeginsMain {E = g.row.M.Denot} p c.args.first c.in_ok-frames.frames) c.program.ensures c.in_ok-frames.ensures;
+      statics = b.statics;
+      alone = c.in_ok-frames.ensures.alone;
+      frames = subst (λ (p : Program). BeginsMain {E = g.row.M.Denot} p c.args.first c.in_ok-frames.frames) c.program.ensures c.in_ok-frames.ensures.begins;
     }

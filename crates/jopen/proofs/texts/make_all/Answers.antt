@@ -1,6 +1,6 @@
-use Rattle.std.proofs.Common.{List, ℕ, ◌∙◌, sym, subst}
+use Rattle.std.proofs.Common.{List, ℕ, sym, subst}
 use Rattle.jopen.specs.Texts.{HasMade}
-use Rattle.jopen.proofs.Making.{made_all, made_full, made_next, no_texts}
+use Rattle.jopen.proofs.Making.{made_full, made_next, no_texts}
 use Rattle.jopen.proofs.texts.make_all.Goals as goal
 
 pub loop-row-init : goal.loop-row-init
