@@ -6,6 +6,7 @@ mod CallRows
 mod Courses
 mod Examples
 mod FieldRows
+mod LeftOut
 mod LibraryRows
 mod Looking
 mod MakingRows
