@@ -30,6 +30,7 @@ use Rattle.jmachine.specs.Narrowing.{default, place}
 use Rattle.jmachine.specs.Objects.{Object, Array}
 use Rattle.jmachine.specs.Store.{Store, next_number, paid, with_made}
 use Rattle.jstate.specs.declared.shapes.Shapes.{Shapes}
+use Rattle.jstate.specs.Celled.{MadeStaysCelled, StayCelled}
 use Rattle.jstate.specs.Framed.{Framed}
 use Rattle.jstate.specs.Seen.{AreBuilt, Things, array_at, element_type, item_type, object_by, store_by}
 use Rattle.jstate.specs.SeenLaws.{MadeStaysBuilt, Makes}
@@ -121,9 +122,21 @@ pub of_place : (z : ℤ) (k : ℕ) → Some k ≡ place z → z ≡ pos k
 of_place (pos n) k e = let same : k ≡ n = cc in ap pos (sym same)
 of_place (negsuc n) k e = cc
 
--- what holds of the pieces stays
+-- what holds of the heap as it was, and of the heap with one more array, holds of what is left
+pub made_keeps : (Holds : Heaped → Type 0) → {E F : Type 0} (r : Result Way F) (number count : ℕ) (s t : Framed E) (h g : Heaped) → IfOk r (λ way. HasMade (kinds.Array number) count s h way t g)
+    → Holds h → Holds (made h (kinds.Array number) count) → OnOk r (Holds g)
+made_keeps Holds (Ok way) number count s t h g (inl (few, is, same, kept)) old more = rw kept old
+made_keeps Holds (Ok way) number count s t h g (inr (few, is, heap, frames)) old more = rw heap more
+made_keeps Holds (Err e) number count s t h g made old more = tt
+
+-- so what holds of the pieces,
 pub made_stays : MadeStaysBuilt → {E F : Type 0} (r : Result Way F) (number count : ℕ) (s t : Framed E) (h g : Heaped) → IfOk r (λ way. HasMade (kinds.Array number) count s h way t g)
     → AreBuilt h.objects → OnOk r (AreBuilt g.objects)
-made_stays law (Ok way) number count s t h g (inl (few, is, same, kept)) built = rw kept built
-made_stays law (Ok way) number count s t h g (inr (few, is, heap, frames)) built = rw heap (law h (kinds.Array number) count built)
-made_stays law (Err e) number count s t h g made built = tt
+made_stays law r number count s t h g made built =
+    made_keeps (λ k. AreBuilt k.objects) r number count s t h g made built (law h (kinds.Array number) count built)
+
+-- and of the cells
+pub made_celled : MadeStaysCelled → {E F : Type 0} (r : Result Way F) (number count : ℕ) (s t : Framed E) (h g : Heaped) → IfOk r (λ way. HasMade (kinds.Array number) count s h way t g)
+    → OnOk r (StayCelled h.objects g.objects)
+made_celled law r number count s t h g made =
+    made_keeps (λ k. StayCelled h.objects k.objects) r number count s t h g made (λ shapes all. all) (λ shapes all. law shapes h (kinds.Array number) count (λ n wants. cc) all)

@@ -48,6 +48,7 @@ use Rattle.jmachine.specs.Operands.{Taken, serves, taken, type_of, with_value}
 use Rattle.jmachine.specs.Store.{Store, object_at, with_object}
 use Rattle.jmachine.specs.World.{World, is_instance}
 use Rattle.jstate.specs.declared.shapes.Shapes.{Shapes}
+use Rattle.jstate.specs.Celled.{StayCelled, WrittenStaysCelled}
 use Rattle.jstate.specs.Framed.{Framed}
 use Rattle.jstate.specs.Seen.{AreBuilt, Things, array_at, element_type, item_type, kind_by, store_by}
 use Rattle.jstate.specs.SeenLaws.{IsNoPiece, NamesNone, Writes, WritesItem, WrittenStaysBuilt}
@@ -462,6 +463,11 @@ put_stays law s t h g o a v way seen (Some k) is (went, inside, back, heap, fram
     let there = is_there h o a seen is in
     let none : NamesNone there.object.kind = rw there.kind (λ cs. refl) in
     rw heap (law h o k (raw v) there.object there.at none all)
+
+-- and of the cells
+pub put_celled : WrittenStaysCelled → {E : Type 0} (s t : Framed E) (h g : Heaped) (o : ℕ) (v : Value ℕ) (way : Way) (k : Option ℕ) → HasPut o v s h way t g k → StayCelled h.objects g.objects
+put_celled law s t h g o v way None (went, frames, heap) shapes all = rw heap all
+put_celled law s t h g o v way (Some k) (went, inside, back, heap, frames) shapes all = rw heap (law h o k (raw v) shapes all)
 
 pub has_third : (shapes : Shapes) (e : Element) (h : Heaped) (n a : ℕ) (operands : List (Value ℕ)) → found.Array n a ≡ with_items shapes e (array_seen h (slice_get operands 2)) → 3 ≤ length operands
 has_third shapes e h n a [] is = cc

@@ -131,10 +131,10 @@ pub(crate) fn items_at<M: Copy>(
 
 // ---- items
 
-/// The place of an index, where there are so many items.
+/// The place of an index among so many items, where it is one of theirs.
 #[inline]
 #[tactic(auto, using(crate::proofs::NewArrays::counts, crate::proofs::NewArrays::negative))]
-pub(crate) fn within(count: u32, i: i32) -> Option<u32>
+pub fn within(count: u32, i: i32) -> Option<u32>
     ensures place { result ≡ rows.within count (place_of i) }
     ensures inside { IfSome result (λ k. k < count) }
 {

@@ -12,6 +12,7 @@ ghost use Rattle.jops.specs.declared.value.Value.TheVariants as values;
 ghost use Rattle.jprogram.specs.Classes.{Program};
 ghost use Rattle.juses.specs.Instructions as instructions;
 ghost use Rattle.jstate.specs.declared.shapes.Shapes.{Shapes};
+ghost use Rattle.jstate.specs.Celled.{StayCelled};
 ghost use Rattle.jstate.specs.Seen.{AreBuilt, Things, array_at as shape_at, store_by};
 ghost use Rattle.jacts.specs.Items.{HasMade, array_seen, row_of};
 ghost use Rattle.jacts.specs.Ways.{Acts, leaves};
@@ -22,7 +23,7 @@ use crate::way::Way;
 use jheap::{Heap, Kind};
 use jlib::{LibClass, Thrown};
 use jops::Value;
-use jstate::{Frames, built_laws, heap_laws};
+use jstate::{Frames, built_laws, celled_laws, heap_laws};
 use std::alloc::{AllocError, Global};
 
 /// What an operand is that is wanted to be an array.
@@ -97,7 +98,7 @@ pub fn array_length<M: Copy>(frames: &mut Frames<M>, heap: &Heap) -> Way
 /// How many items an array is to have, where the number isn't negative.
 #[inline]
 #[tactic(auto, using(crate::proofs::NewArrays::counts, crate::proofs::NewArrays::negative))]
-fn count_of(n: i32) -> Option<u32>
+pub fn count_of(n: i32) -> Option<u32>
     ensures { result ≡ place_of n }
 {
     if n < 0 {
@@ -122,8 +123,10 @@ fn put_made<M: Copy>(frames: &mut Frames<M>, made: Option<u32>) -> Way
     }
 }
 
+/// A new array of so many items, each 0, of the heap's number for its type, takes the place of its length, the newest operand. Where there
+/// were too few cells nothing changes.
 #[inline]
-fn make_array<M: Copy>(
+pub fn make_array<M: Copy>(
     alloc: Global,
     frames: &mut Frames<M>,
     heap: &mut Heap,
@@ -153,9 +156,11 @@ pub fn new_array<M: Copy>(
         (leaves way [] frames.new.newest (store_by p shapes things constants heap.new))) }
     ensures below { OnOk result (frames.new.below ≡ frames.old.below) }
     ensures built { OnOk result (AreBuilt heap.new.objects) }
+    ensures celled { OnOk result (StayCelled heap.old.objects heap.new.objects) }
 {
     heap_laws();
     built_laws();
+    celled_laws();
     let Some(n) = int_at(frames, 0) else {
         return Ok(Way::Stuck);
     };

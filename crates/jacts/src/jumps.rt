@@ -22,7 +22,7 @@ fn holds(c: Compare, x: i32, y: i32) -> bool
 
 /// The int that stands at a place among the newest frame's operands, counted from the newest, where there is one.
 #[inline]
-pub(crate) fn int_at<M: Copy>(frames: &Frames<M>, i: usize) -> Option<i32>
+pub fn int_at<M: Copy>(frames: &Frames<M>, i: usize) -> Option<i32>
     ensures { result ≡ int_in (slice_get frames.now.newest.operands i) }
 {
     if i >= frames.count() {
@@ -36,9 +36,9 @@ pub(crate) fn int_at<M: Copy>(frames: &Frames<M>, i: usize) -> Option<i32>
     }
 }
 
-/// The frame loses so many operands. It goes on at a number where a test holds, else behind its instruction.
+/// The frame loses so many operands, which are there. It goes on at a number where a test holds, else behind its instruction.
 #[inline]
-fn branch<M: Copy>(frames: &mut Frames<M>, n: usize, holds: bool, to: u32)
+pub fn branch<M: Copy>(frames: &mut Frames<M>, n: usize, holds: bool, to: u32)
     requires place { frames.old.newest.place + 1 < 2 ^ 32 }
     requires few { n ≤ length frames.old.newest.operands }
     ensures { frames.new ≡ with_newest (branched holds to frames.old.newest (drop n frames.old.newest.operands)) frames.old }

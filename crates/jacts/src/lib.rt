@@ -12,9 +12,9 @@ mod storing;
 mod straight;
 mod way;
 
-pub use access::array_load;
-pub use arrays::{array_length, new_array};
-pub use jumps::{goto, jump_if, jump_if_int, switch, switch_key, switch_laws};
+pub use access::{array_load, within};
+pub use arrays::{array_length, count_of, make_array, new_array};
+pub use jumps::{branch, goto, int_at, jump_if, jump_if_int, switch, switch_key, switch_laws};
 pub use locals::local;
 pub use stacks::stack;
 pub use storing::{array_store, narrowed, put_cell};

@@ -11,6 +11,7 @@ ghost use Rattle.jrule.specs.Effects.{same_items};
 ghost use Rattle.juses.specs.Instructions as instructions;
 ghost use Rattle.juses.specs.Types.{element_named, array_named};
 ghost use Rattle.jstate.specs.Framed.{with_newest};
+ghost use Rattle.jstate.specs.Celled.{StayCelled};
 ghost use Rattle.jstate.specs.Seen.{AreBuilt, Things, store_by};
 ghost use Rattle.jmachine.specs.Arrays as rows;
 ghost use Rattle.jacts.specs.Accesses.{HasPut, kept_if};
@@ -25,7 +26,7 @@ use jheap::{Heap, raw_laws};
 use jlib::{LibClass, Thrown};
 use jnames::{Kind, OpOne};
 use jops::{Value, one};
-use jstate::{Frames, Shapes, built_laws, heap_laws};
+use jstate::{Frames, Shapes, built_laws, celled_laws, heap_laws};
 use juses::{ArrayRef, ElementRef};
 
 /// What is left of a value in an array of such elements.
@@ -137,9 +138,11 @@ pub fn array_store<M: Copy>(
         (leaves result [] frames.new.newest (store_by p shapes.now things constants heap.new)) }
     ensures below { frames.new.below ≡ frames.old.below }
     ensures built { AreBuilt heap.old.objects → AreBuilt heap.new.objects }
+    ensures celled { StayCelled heap.old.objects heap.new.objects }
 {
     heap_laws();
     built_laws();
+    celled_laws();
     let Some(value) = stored(frames, e) else {
         return Way::Stuck;
     };

@@ -29,7 +29,7 @@ use Rattle.jcalls.specs.declared.ready.TheConstants.{NEEDS}
 use Rattle.jcalls.specs.declared.ready.Needs.{Needs}
 use Rattle.jcalls.specs.declared.ready.Needs.TheVariants as needs
 use Rattle.jcalls.specs.declared.ready.Counts.{Counts}
-use Rattle.jcalls.specs.Readiness.{AreCounted, holds, is_ready_in, is_reference, is_within, needed, ready_by}
+use Rattle.jcalls.specs.Readiness.{AreCounted, holds, holds_counted, is_ready_in, is_reference, is_within, needed, ready_by, ready_counted}
 
 -- ---- classes by number
 
@@ -149,6 +149,24 @@ module _ (shapes : Shapes) (objects : List heaps.Object) (things : Things) (cell
   kind_ready p (kinds.Array a) = refl
   kind_ready p kinds.Text = refl
   kind_ready p kinds.Piece = refl
+
+-- by how many things there are
+module _ (counts : Counts) (things : Things) (are : AreCounted counts things) (cells : List ℕ) where
+  holds_alike : (n : Needs) → holds_counted counts cells n ≡ holds things cells n
+  holds_alike needs.Nothing = refl
+  holds_alike needs.Units = refl
+  holds_alike needs.Permission = within_so things.permissions counts.permissions (first cells) are.permissions
+  holds_alike needs.Context = within_so things.kept counts.contexts (first cells) are.contexts
+  holds_alike needs.Thread = refl
+
+  ready_alike : (kind : Kind) → ready_counted counts kind cells ≡ ready_by things kind cells
+  ready_alike (kinds.Object n) = holds_alike (needed (class_numbered n))
+  ready_alike (kinds.Array a) = refl
+  ready_alike kinds.Text = refl
+  ready_alike kinds.Piece = refl
+
+  pub seen_ready : (p : Program) (shapes : Shapes) (objects : List heaps.Object) (kind : Kind) → is_ready (kind_by p shapes objects things kind cells) ≡ ready_counted counts kind cells
+  seen_ready p shapes objects kind = kind_ready shapes objects things cells p kind ∙ sym (ready_alike kind)
 
 -- every object's type is a reference's
 is_ref_class : {K : Type 0} (named : ℕ → Name) (x : Object K) → types.is_ref (class_of named x) ≡ true

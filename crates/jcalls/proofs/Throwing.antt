@@ -17,6 +17,7 @@ use Rattle.jmachine.specs.Unwinding.{with_raised}
 use Rattle.jstate.specs.Framed.{Framed, all}
 use Rattle.jstate.specs.Numbers.{GivesBack, class_numbered, thrown_number}
 use Rattle.jstate.specs.declared.shapes.Shapes.{Shapes}
+use Rattle.jstate.specs.Celled.{MadeStaysCelled, StayCelled, Suits, WantsAsClass, kind_cells}
 use Rattle.jstate.specs.Seen.{AreBuilt, Things, class_by, object_by, store_by}
 use Rattle.jstate.specs.SeenLaws.{MadeStaysBuilt, Makes}
 use Rattle.jcalls.specs.declared.raising.Raised.{Raised}
@@ -114,9 +115,27 @@ pub made_built : MadeStaysBuilt → (number : ℕ) (h k : Heaped) (o : Option �
 made_built law number h k None n is m built = cc
 made_built law number h k (Some x) n is m built = rw m.2 (law h (kinds.Object number) 1 built)
 
-pub built_on : {F : Type 0} (r : Result Raised F) (k : Heaped) → AreBuilt k.objects → OnOk r (AreBuilt k.objects)
-built_on (Ok w) k built = built
-built_on (Err e) k built = tt
+-- ---- and of the cells
+
+pub none_celled : (number : ℕ) (h k : Heaped) (o : Option ℕ) → o ≡ None → MakesOne (kinds.Object number) 1 h k o → StayCelled h.objects k.objects
+none_celled number h k None e m shapes all = rw m.1 all
+none_celled number h k (Some n) e m shapes all = cc
+
+-- an exception has one cell, for its message
+one_suits : WantsAsClass → (shapes : Shapes) (c : ThrownClass) (number : ℕ) → number ≡ thrown_number c → Suits shapes (kinds.Object number) 1
+one_suits wants shapes c number is n want =
+    let class : kind_cells shapes (kinds.Object number) ≡ Some 1 = ap (λ k. kind_cells shapes (kinds.Object k)) is ∙ wants shapes (refs.Lib (lib.Thrown c)) in
+    let both : Some 1 ≡ Some n = sym class ∙ want in cc
+
+pub made_celled : MadeStaysCelled → WantsAsClass → (c : ThrownClass) (number : ℕ) (h k : Heaped) (o : Option ℕ) (n : ℕ) → number ≡ thrown_number c → o ≡ Some n
+    → MakesOne (kinds.Object number) 1 h k o → StayCelled h.objects k.objects
+made_celled law wants c number h k None n same is m shapes all = cc
+made_celled law wants c number h k (Some x) n same is m shapes all = rw m.2 (law shapes h (kinds.Object number) 1 (one_suits wants shapes c number same) all)
+
+-- what holds already
+pub holds_on : {F Holds : Type 0} (r : Result Raised F) → Holds → OnOk r Holds
+holds_on (Ok w) held = held
+holds_on (Err e) held = tt
 
 -- ---- the heap
 

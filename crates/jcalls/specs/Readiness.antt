@@ -54,3 +54,17 @@ is_within count (suc n) = nat_lt n count
 pub record AreCounted (counts : Counts) (things : Things) : Type 0 where
   pub permissions : length things.permissions ≡ counts.permissions
   pub contexts : length things.kept ≡ counts.contexts
+
+-- ---- by how many there are
+
+abbrev pub holds_counted : Counts → List ℕ → Needs → Bool
+holds_counted counts cells needs.Nothing = true
+holds_counted counts cells needs.Units = false
+holds_counted counts cells needs.Permission = is_within counts.permissions (first cells)
+holds_counted counts cells needs.Context = is_within counts.contexts (first cells)
+holds_counted counts cells needs.Thread = is_some (number_in (first cells))
+
+-- whether an object of a kind may be used
+abbrev pub ready_counted : Counts → Kind → List ℕ → Bool
+ready_counted counts (kinds.Object n) cells = holds_counted counts cells (needed (class_numbered n))
+ready_counted counts kind cells = true

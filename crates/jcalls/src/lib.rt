@@ -13,7 +13,7 @@ mod unwinding;
 pub use calls::{Called, Callee, Found, Room, call_by_interface, call_on, call_static};
 pub use handlers::{Catches, HandlerRow, Handlers, first_handler};
 pub use raising::{Raised, raise, throw_object};
-pub use ready::{Counts, Needs};
+pub use ready::{Counts, Needs, first_cell, is_ready, needs_of};
 pub use receiver::{Receiver, receiver_at};
 pub use returns::{Leaving, return_int, return_long, return_nothing, return_ref};
 pub use unwinding::unwind;

@@ -1,5 +1,6 @@
 ghost use Rattle.std.specs.Prelude.{◌≡◌, IfOk, OnOk, length};
 ghost use Rattle.jlib.specs.declared.classes.LibClass.TheVariants as lib;
+ghost use Rattle.jstate.specs.Celled.{StayCelled};
 ghost use Rattle.jstate.specs.Framed.{all};
 ghost use Rattle.jstate.specs.Numbers.{thrown_number};
 ghost use Rattle.jstate.specs.Seen.{AreBuilt};
@@ -10,7 +11,7 @@ use crate::handlers::Handlers;
 use crate::unwinding::unwind;
 use jheap::{Heap, Kind};
 use jlib::Thrown;
-use jstate::{Frames, built_laws, heap_laws, number_laws};
+use jstate::{Frames, built_laws, celled_laws, heap_laws, number_laws};
 use std::alloc::{AllocError, Global};
 
 /// What raising or throwing came to.
@@ -62,10 +63,12 @@ pub fn raise<M: Copy, H: Handlers>(
     ensures stand { OnOk result (LeavesStanding frames.old frames.new) }
     ensures heap { OnOk result (RaisedHeap class heap.old heap.new) }
     ensures built { OnOk result (AreBuilt heap.new.objects) }
+    ensures celled { OnOk result (StayCelled heap.old.objects heap.new.objects) }
 {
     heap_laws();
     number_laws();
     built_laws();
+    celled_laws();
     let Some(object) = heap.make(alloc, Kind::Object(number), 1)? else {
         return Ok(Raised::Full);
     };

@@ -3,7 +3,7 @@ ghost use Rattle.jheap.specs.Heaps.{cells_at, object_at};
 ghost use Rattle.jstate.specs.Numbers.{class_numbered};
 ghost use Rattle.jstate.specs.Seen.{Things, first, number_in};
 ghost use Rattle.jcalls.specs.Readiness;
-ghost use Rattle.jcalls.specs.Readiness.{AreCounted, needed, ready_by};
+ghost use Rattle.jcalls.specs.Readiness.{AreCounted, holds_counted, needed, ready_by, ready_counted};
 
 use jheap::{CellType, Heap, Kind};
 use jops::Value;
@@ -82,7 +82,7 @@ const NEEDS: [Needs; 46] = [
 /// What an object of a class has to hold.
 #[inline]
 #[tactic(auto, using(crate::proofs::Readying::users_need, crate::proofs::Readying::library_needs))]
-fn needs_of(class: u32) -> Needs
+pub fn needs_of(class: u32) -> Needs
     ensures { result ≡ needed (class_numbered class) }
 {
     if class >= 46 {
@@ -117,7 +117,7 @@ fn is_number(n: u64) -> bool
 
 /// The number in an object's first cell, 0 where it has none.
 #[inline]
-fn first_cell(heap: &Heap, o: u32) -> u64
+pub fn first_cell(heap: &Heap, o: u32) -> u64
     requires { is_some (object_at heap.now o) ≡ true }
     ensures { result ≡ first (cells_at heap.now o) }
 {
@@ -137,7 +137,8 @@ fn first_cell(heap: &Heap, o: u32) -> u64
 #[tactic(auto, using(crate::proofs::Readying::holds_permission, crate::proofs::Readying::holds_context, crate::proofs::Readying::holds_thread))]
 fn holds(heap: &Heap, o: u32, needs: Needs, counts: Counts) -> bool
     requires { is_some (object_at heap.now o) ≡ true }
-    ensures { (things : Things) → AreCounted counts things → result ≡ Readiness.holds things (cells_at heap.now o) needs }
+    ensures counted { result ≡ holds_counted counts (cells_at heap.now o) needs }
+    ensures holds { (things : Things) → AreCounted counts things → result ≡ Readiness.holds things (cells_at heap.now o) needs }
 {
     match needs {
         Needs::Nothing => true,
@@ -150,9 +151,10 @@ fn holds(heap: &Heap, o: u32, needs: Needs, counts: Counts) -> bool
 
 /// Whether an object of a kind, which is there, may be used.
 #[inline]
-fn is_ready(heap: &Heap, o: u32, kind: Kind, counts: Counts) -> bool
+pub fn is_ready(heap: &Heap, o: u32, kind: Kind, counts: Counts) -> bool
     requires { is_some (object_at heap.now o) ≡ true }
-    ensures { (things : Things) → AreCounted counts things → result ≡ ready_by things kind (cells_at heap.now o) }
+    ensures counted { result ≡ ready_counted counts kind (cells_at heap.now o) }
+    ensures ready { (things : Things) → AreCounted counts things → result ≡ ready_by things kind (cells_at heap.now o) }
 {
     match kind {
         Kind::Object(n) => holds(heap, o, needs_of(n), counts),

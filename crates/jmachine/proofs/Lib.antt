@@ -1,11 +1,14 @@
 mod Applying
 mod ArrayRows
+mod Asking
 mod Asks
 mod CallRows
-mod Courses
+pub mod Courses
 mod Examples
 mod FieldRows
+mod LeftOut
 mod LibraryRows
+mod Looking
 mod MakingRows
 mod Moving
 mod Openings

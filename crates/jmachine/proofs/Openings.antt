@@ -25,7 +25,7 @@ use Rattle.jmachine.specs.Machine.{opening, run}
 use Rattle.jmachine.specs.Making.{units_of}
 use Rattle.jmachine.specs.Maps.{frame_map, frames_map, object_map, outcome_map, run_map, state_map, store_map, value_map, values_map}
 use Rattle.jmachine.specs.Narrowing.{default, narrowed}
-use Rattle.jmachine.specs.Natural.{RulesAgree, RunAlike}
+use Rattle.jmachine.specs.Natural.{EntriesAgree, OpeningAlike, RulesAgree, RunAlike}
 use Rattle.jmachine.specs.Objects.{Object, Array, Bare, Text}
 use Rattle.jmachine.specs.Opening.{arguments_number, arguments_type, constant_of, constants_of, first_objects, first_value, main_frame, only, opening_charge, opening_state, opening_store, strings, value_of, values_in}
 use Rattle.jmachine.specs.Runs.{Run, after, next, next_at, run_from}
@@ -121,18 +121,18 @@ module _ {K L : Type 0} (f : K → L) where
       bare : Object L
       bare = Bare lib.PrintStream
 
-module _ {K L E F : Type 0} (f : K → L) (g : E → F) (r : Rules K E) (q : Rules L F) (agree : RulesAgree f g r q) (p : Program) where
+module _ {K L E F : Type 0} (f : K → L) (g : E → F) (r : Rules K E) (q : Rules L F) (same : r.side ≡ q.side) (agree : EntriesAgree g r q) (first : option_map f r.first ≡ q.first) (p : Program) where
   arguments_alike : values_map f (handed r.side r.first ++ Ref (arguments_number p) ∷ []) ≡ handed q.side q.first ++ Ref (arguments_number p) ∷ []
   arguments_alike =
       map-append (value_map f) (handed r.side r.first) (Ref (arguments_number p) ∷ [])
       ∙ ap (λ (vs : List (Value L)). vs ++ Ref (arguments_number p) ∷ []) (handed_alike f r.side r.first
-      ∙ ap (λ (o : Option L). handed r.side o) agree.first
-      ∙ ap (λ (side : Side). handed side q.first) agree.side)
+      ∙ ap (λ (o : Option L). handed r.side o) first
+      ∙ ap (λ (side : Side). handed side q.first) same)
 
   main_alike : (m : MethodId) → option_map (frame_map f g) (main_frame r p m) ≡ main_frame q p m
   main_alike m =
       begun_alike f g p m (r.entry_of (domain_of p m)) (handed r.side r.first ++ Ref (arguments_number p) ∷ [])
-      ∙ ap (λ (e : F). begun p m e (values_map f (handed r.side r.first ++ Ref (arguments_number p) ∷ []))) (agree.entries (domain_of p m))
+      ∙ ap (λ (e : F). begun p m e (values_map f (handed r.side r.first ++ Ref (arguments_number p) ∷ []))) (agree (domain_of p m))
       ∙ ap (begun p m (q.entry_of (domain_of p m))) arguments_alike
 
   only_alike : (o : Option (FrameOf K E)) → frames_map f g (only o) ≡ only (option_map (frame_map f g) o)
@@ -149,12 +149,13 @@ module _ {K L E F : Type 0} (f : K → L) (g : E → F) (r : Rules K E) (q : Rul
     turns = 0;
   }
 
-  state_alike : (m : MethodId) (heap : ℕ) → state_map f g (opening_state r p m heap) ≡ opening_state q p m heap
+  pub state_alike : (m : MethodId) (heap : ℕ) → state_map f g (opening_state r p m heap) ≡ opening_state q p m heap
   unfolding opening_state
   state_alike m heap =
       ap (λ (frames : List (FrameOf L F)). began heap frames (store_map f (opening_store p heap))) (only_alike (main_frame r p m) ∙ ap only (main_alike m))
       ∙ ap (λ (store : Store L). began heap (only (main_frame q p m)) store) (store_alike f p heap)
 
+module _ {K L E F : Type 0} (f : K → L) (g : E → F) (r : Rules K E) (q : Rules L F) (agree : RulesAgree f g r q) (p : Program) where
   abbrev opened : Plan → State L F → Run (State L F)
   opened plan s = record { state = s; events = []; end = (opening q p plan).end }
 
@@ -162,7 +163,10 @@ module _ {K L E F : Type 0} (f : K → L) (g : E → F) (r : Rules K E) (q : Rul
   unfolding run
   run_alike plan k =
       course_alike (state_map f g) (step r p plan) (step q p plan) (step_alike f g r q agree p plan) k (opening r p plan)
-      ∙ ap (λ (s : State L F). run_from (step q p plan) k (opened plan s)) (state_alike plan.main plan.heap)
+      ∙ ap (λ (s : State L F). run_from (step q p plan) k (opened plan s)) (state_alike f g r q agree.side agree.entries agree.first p plan.main plan.heap)
 
 pub run_law : (K L E F : Type 0) → RunAlike K L E F
 run_law K L E F f g r q agree p plan k = run_alike f g r q agree p plan k
+
+pub opening_law : (K L E F : Type 0) → OpeningAlike K L E F
+opening_law K L E F f g r q same agree first p main heap = state_alike f g r q same agree first p main heap

@@ -27,4 +27,6 @@ pub mod Opening
 pub mod Runs
 pub mod Machine
 pub mod Maps
+pub mod Asked
+pub mod LeftOut
 pub mod Natural

@@ -1,6 +1,6 @@
 -- Laws: what a row does doesn't depend on what is kept, nor on what frames carry. So a machine by numbers, one by stacks and one by
 -- contexts do the same.
-use Rattle.std.specs.Prelude.{◌≡◌, ℕ, ℤ, List, map, Option}
+use Rattle.std.specs.Prelude.{◌≡◌, ℕ, ℤ, List, map, Option, None}
 use Rattle.std.specs.Option.{option_map}
 use Rattle.jnames.specs.declared.names.Shuffle.{Shuffle}
 use Rattle.jops.specs.declared.value.Value.{Value}
@@ -11,9 +11,11 @@ use Rattle.jcode.specs.declared.form.LocalForm.{LocalForm}
 use Rattle.jcode.specs.declared.form.Simple.{Simple}
 use Rattle.jperm.specs.declared.permission.Permission.{Permission}
 use Rattle.jlib.specs.declared.calls.LibCall.{LibCall}
+use Rattle.jlib.specs.declared.side.Side.{Side}
 use Rattle.jtypes.specs.declared.vtype.Name.{Name}
 use Rattle.jtypes.specs.declared.vtype.VType.{VType}
 use Rattle.jprogram.specs.declared.member.Member.{Member}
+use Rattle.jprogram.specs.declared.member.MethodId.{MethodId}
 use Rattle.jprogram.specs.Classes.{Program}
 use Rattle.juses.specs.declared.meaning.How.{How}
 use Rattle.juses.specs.Instructions.{Test}
@@ -22,12 +24,14 @@ use Rattle.jrule.specs.Effects.{Want}
 use Rattle.jmachine.specs.declared.plan.Plan.{Plan}
 use Rattle.jmachine.specs.Acts.{FrameOf, Row, State}
 use Rattle.jmachine.specs.Arrays as arrays
+use Rattle.jmachine.specs.Asked.{Ask, AgreeAt, AgreeWhere, ask_map, asks, carried}
 use Rattle.jmachine.specs.Calls.{init_taken, target}
 use Rattle.jmachine.specs.Fields.{field}
 use Rattle.jmachine.specs.Library.{library}
 use Rattle.jmachine.specs.Machine.{run}
 use Rattle.jmachine.specs.Making.{cast, make, push}
 use Rattle.jmachine.specs.Maps.{frames_map, held_map, outcome_map, privilege_map, row_map, run_map, state_map, store_map, taken_map, values_map}
+use Rattle.jmachine.specs.Opening.{opening_state}
 use Rattle.jmachine.specs.Operands.{taken}
 use Rattle.jmachine.specs.Security.{Rules}
 use Rattle.jmachine.specs.Sites.{Site}
@@ -130,12 +134,39 @@ pub record RulesAgree {K L E F : Type 0} (f : K → L) (g : E → F) (r : Rules 
   pub privileged : (domain : Option ℕ) (ctx given : Option K) (limits : Option (List Permission)) (entries : List E)
       → privilege_map f g (r.privileged domain ctx given limits entries) ≡ q.privileged domain (option_map f ctx) (option_map f given) limits (map g entries)
 
--- Then they take the same steps.
+-- Then they answer each ask alike,
+abbrev pub AnswersAlike : Type 0 → Type 0 → Type 0 → Type 0 → Type 0
+AnswersAlike K L E F = (f : K → L) (g : E → F) (r : Rules K E) (q : Rules L F) → RulesAgree f g r q
+    → (entries : List E) (inherited : Option K) (ask : Ask K) → AgreeAt f g r q entries inherited ask
+
+-- and take the same steps.
 abbrev pub StepAlike : Type 0 → Type 0 → Type 0 → Type 0 → Type 0
 StepAlike K L E F = (f : K → L) (g : E → F) (r : Rules K E) (q : Rules L F) → RulesAgree f g r q
     → (p : Program) (plan : Plan) (s : State K E) → outcome_map (state_map f g) (step r p plan s) ≡ step q p plan (state_map f g s)
 
--- And their runs are the same: they tell the same, and end alike.
+-- For one step it is enough that they answer alike what it asks, if it asks anything,
+abbrev pub StepAlikeAt : Type 0 → Type 0 → Type 0 → Type 0 → Type 0
+StepAlikeAt K L E F = (f : K → L) (g : E → F) (r : Rules K E) (q : Rules L F) → r.side ≡ q.side → EntriesAgree g r q
+    → (p : Program) (plan : Plan) (s : State K E) → AgreeWhere f g r q (carried s) s.running.inherited (asks r.side p plan s)
+    → outcome_map (state_map f g) (step r p plan s) ≡ step q p plan (state_map f g s)
+
+-- and where it asks nothing, that they are of one side and their frames carry what corresponds.
+abbrev pub StepUnasked : Type 0 → Type 0 → Type 0 → Type 0 → Type 0
+StepUnasked K L E F = (f : K → L) (g : E → F) (r : Rules K E) (q : Rules L F) → r.side ≡ q.side → EntriesAgree g r q
+    → (p : Program) (plan : Plan) (s : State K E) → asks r.side p plan s ≡ None
+    → outcome_map (state_map f g) (step r p plan s) ≡ step q p plan (state_map f g s)
+
+-- What a step asks doesn't depend on what is kept, nor on what frames carry.
+abbrev pub AsksAlike : Type 0 → Type 0 → Type 0 → Type 0 → Type 0
+AsksAlike K L E F = (f : K → L) (g : E → F) (side : Side) (p : Program) (plan : Plan) (s : State K E)
+    → option_map (ask_map f) (asks side p plan s) ≡ asks side p plan (state_map f g s)
+
+-- Their runs begin in the same state where what `main` is given corresponds.
+abbrev pub OpeningAlike : Type 0 → Type 0 → Type 0 → Type 0 → Type 0
+OpeningAlike K L E F = (f : K → L) (g : E → F) (r : Rules K E) (q : Rules L F) → r.side ≡ q.side → EntriesAgree g r q → option_map f r.first ≡ q.first
+    → (p : Program) (main : MethodId) (heap : ℕ) → state_map f g (opening_state r p main heap) ≡ opening_state q p main heap
+
+-- The runs of machines that answer alike are the same: they tell the same, and end alike.
 abbrev pub RunAlike : Type 0 → Type 0 → Type 0 → Type 0 → Type 0
 RunAlike K L E F = (f : K → L) (g : E → F) (r : Rules K E) (q : Rules L F) → RulesAgree f g r q
     → (p : Program) (plan : Plan) (k : ℕ) → run_map (state_map f g) (run r p plan k) ≡ run q p plan k

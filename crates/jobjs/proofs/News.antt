@@ -32,6 +32,7 @@ use Rattle.jmachine.specs.Sites.{Site}
 use Rattle.jmachine.specs.Store.{Store, next_number, paid, with_made}
 use Rattle.jmachine.specs.World.{World, can_be_thrown}
 use Rattle.jstate.specs.declared.shapes.Shapes.{Shapes}
+use Rattle.jstate.specs.Celled.{AreCelled, MadeStaysCelled, StayCelled, Suits, WantsAsClass, cells_in, cells_of}
 use Rattle.jstate.specs.Framed.{Framed}
 use Rattle.jstate.specs.Numbers.{GivesBack, library_number}
 use Rattle.jstate.specs.Seen.{AreBuilt, Things, built_by, class_by, kind_by, library_by, message_by, object_by, store_by, user_by, values_of}
@@ -39,7 +40,7 @@ use Rattle.jstate.specs.SeenLaws.{MadeStaysBuilt, Makes}
 use Rattle.jacts.specs.Ways.{ActsWhere, leaves}
 use Rattle.jacts.specs.declared.way.Way.{Way}
 use Rattle.jacts.specs.declared.way.Way.TheVariants as ways
-use Rattle.jobjs.specs.Made.{HasNew, HasShape, cell_of, cells_in, cells_of}
+use Rattle.jobjs.specs.Made.{HasNew, HasShape, cell_of}
 
 -- ---- the row
 
@@ -206,8 +207,39 @@ user_row law back (Ok way) shapes class count is s t h g made built = λ p thing
     made_row law p shapes things constants c (refs.User class) (46 + class) count s t h g way built made r at own entries inherited (told.0, object)
 user_row law back (Err e) shapes class count is s t h g made built = tt
 
+-- ---- what stays
+
+-- what holds of the heap as it was, and of the heap with one more object, holds of what is left
+pub new_keeps : (Holds : Heaped → Type 0) → {E : Type 0} (way : Way) (number count : ℕ) (s t : Framed E) (h g : Heaped) → HasNew (kinds.Object number) count s h way t g
+    → Holds h → Holds (heaps.made h (kinds.Object number) count) → Holds g
+new_keeps Holds way number count s t h g (inl (few, is, same, kept)) old more = rw kept old
+new_keeps Holds way number count s t h g (inr (few, is, heap, frames)) old more = rw heap more
+
 pub new_stays : MadeStaysBuilt → {E F : Type 0} (result : Result Way F) (number count : ℕ) (s t : Framed E) (h g : Heaped) → IfOk result (λ way. HasNew (kinds.Object number) count s h way t g)
     → AreBuilt h.objects → OnOk result (AreBuilt g.objects)
-new_stays law (Ok way) number count s t h g (inl (few, is, same, kept)) built = rw kept built
-new_stays law (Ok way) number count s t h g (inr (few, is, heap, frames)) built = rw heap (law h (kinds.Object number) count built)
+new_stays law (Ok way) number count s t h g made built =
+    new_keeps (λ k. AreBuilt k.objects) way number count s t h g made built (law h (kinds.Object number) count built)
 new_stays law (Err e) number count s t h g made built = tt
+
+-- an object of the library's has the cells that its class wants,
+library_suits : WantsAsClass → (shapes : Shapes) (class : LibClass) → Suits shapes (kinds.Object (library_number class)) (cells_of class)
+library_suits wants shapes class n is = let both : Some (cells_of class) ≡ Some n = sym (wants shapes (refs.Lib class)) ∙ is in cc
+
+pub library_celled : MadeStaysCelled → WantsAsClass → {E F : Type 0} (result : Result Way F) (class : LibClass) (s t : Framed E) (h g : Heaped)
+    → IfOk result (λ way. HasNew (kinds.Object (library_number class)) (cells_of class) s h way t g) → OnOk result (StayCelled h.objects g.objects)
+library_celled law wants (Ok way) class s t h g made =
+    new_keeps (λ k. StayCelled h.objects k.objects) way (library_number class) (cells_of class) s t h g made (λ shapes all. all)
+    (λ shapes all. law shapes h (kinds.Object (library_number class)) (cells_of class) (library_suits wants shapes class) all)
+library_celled law wants (Err e) class s t h g made = tt
+
+-- and so has one of a user's
+user_suits : WantsAsClass → (shapes : Shapes) (class count : ℕ) → Some count ≡ option_map cells_in (slice_get shapes.users class) → Suits shapes (kinds.Object (46 + class)) count
+user_suits wants shapes class count at n is = let both : Some count ≡ Some n = at ∙ sym (wants shapes (refs.User class)) ∙ is in cc
+
+pub user_celled : MadeStaysCelled → WantsAsClass → {E F : Type 0} (result : Result Way F) (shapes : Shapes) (class count : ℕ) → Some count ≡ option_map cells_in (slice_get shapes.users class)
+    → (s t : Framed E) (h g : Heaped) → IfOk result (λ way. HasNew (kinds.Object (46 + class)) count s h way t g)
+    → OnOk result (AreCelled shapes h.objects → AreCelled shapes g.objects)
+user_celled law wants (Ok way) shapes class count at s t h g made =
+    new_keeps (λ k. AreCelled shapes h.objects → AreCelled shapes k.objects) way (46 + class) count s t h g made (λ all. all)
+    (law shapes h (kinds.Object (46 + class)) count (user_suits wants shapes class count at))
+user_celled law wants (Err e) shapes class count at s t h g made = tt

@@ -40,6 +40,7 @@ use Rattle.jmachine.specs.Store.{Store, object_at, with_object}
 use Rattle.jmachine.specs.World.{World}
 use Rattle.jstate.specs.declared.shapes.Shape.{Shape}
 use Rattle.jstate.specs.declared.shapes.Shapes.{Shapes}
+use Rattle.jstate.specs.Celled.{StayCelled, WrittenStaysCelled}
 use Rattle.jstate.specs.Framed.{Framed}
 use Rattle.jstate.specs.Numbers.{class_numbered}
 use Rattle.jstate.specs.Seen.{AreBuilt, Things, array_at, class_by, element_type, item_type, kind_by, object_by, store_by, user_by}
@@ -416,3 +417,10 @@ stored_stays law s t h g o a v way seen true (Some k) is (went, inside, back, he
     let row = is_row h seen o a is in
     let none : NamesNone row.object.kind = rw row.kind (λ cs. refl) in
     rw heap (law h o k (raw v) row.object row.at none built)
+
+-- and of the cells
+pub stored_celled : WrittenStaysCelled → {E : Type 0} (s t : Framed E) (h g : Heaped) (o : ℕ) (v : Value ℕ) (way : Way) (may : Bool) (k : Option ℕ)
+    → HasStored may o v s h way t g k → StayCelled h.objects g.objects
+stored_celled law s t h g o v way may None (went, frames, heap) shapes all = rw heap all
+stored_celled law s t h g o v way false (Some k) (went, frames, heap) shapes all = rw heap all
+stored_celled law s t h g o v way true (Some k) (went, inside, back, heap, frames) shapes all = rw heap (law h o k (raw v) shapes all)

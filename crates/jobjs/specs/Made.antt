@@ -5,12 +5,9 @@ use Rattle.jheap.specs.declared.cell.CellType.TheVariants as cells
 use Rattle.jheap.specs.declared.cell.Kind.{Kind}
 use Rattle.jheap.specs.Heaps.{Heaped, charge, made}
 use Rattle.jops.specs.declared.value.Value.TheVariants.{Ref}
-use Rattle.jlib.specs.declared.classes.LibClass.{LibClass}
-use Rattle.jlib.specs.declared.classes.LibClass.TheVariants as lib
 use Rattle.jtypes.specs.declared.vtype.VType.{VType}
 use Rattle.jtypes.specs.declared.vtype.VType.TheVariants as types
 use Rattle.jmachine.specs.Frames.{onward}
-use Rattle.jmachine.specs.Making.{message_cell}
 use Rattle.jmachine.specs.World.{World, can_be_thrown}
 use Rattle.jstate.specs.declared.shapes.Shape.{Shape}
 use Rattle.jstate.specs.declared.shapes.Shapes.{Shapes}
@@ -24,16 +21,6 @@ HasNew kind count s h way t g =
     ((h.left < charge kind count) × (way ≡ ways.Full) × (t ≡ s) × (g ≡ h))
     ⊎ ((charge kind count < h.left + 1) × (way ≡ ways.Went) × (g ≡ made h kind count) × (t ≡ with_newest (onward s.newest (Ref (length h.objects + 1) ∷ [])) s))
 
--- the cells of an object of the library's
-abbrev pub cells_of : LibClass → ℕ
-cells_of (lib.Thrown c) = 1
-cells_of lib.AccessControlException = 1
-cells_of lib.StringBuilder = 1
-cells_of (lib.Permission c) = 1
-cells_of lib.AccessControlContext = 1
-cells_of lib.Thread = 1
-cells_of c = 0
-
 -- ---- objects of users' classes
 
 -- the type of the cell of a field
@@ -41,10 +28,6 @@ abbrev pub cell_of : VType → CellType
 cell_of types.Int = cells.Int
 cell_of types.Long = cells.Long
 cell_of t = cells.Ref
-
--- the cells of an object of a shape
-abbrev pub cells_in : Shape → ℕ
-cells_in shape = length shape.cells + message_cell shape.message
 
 -- The class of a place has a shape: its fields are those of its objects, and it has a message where these can be thrown.
 pub record HasShape (w : World) (shapes : Shapes) (class : ℕ) : Type 0 where

@@ -1,15 +1,15 @@
-ghost use Rattle.std.specs.Prelude.{◌≡◌, ◌<◌, ◌≤◌, ◌+◌, ◌^◌, ◌∷◌, [], ℕ, Some, Bool, drop, length, slice_get};
+ghost use Rattle.std.specs.Prelude.{◌≡◌, ◌<◌, ◌+◌, ◌^◌, ◌∷◌, [], ℕ, Some, Bool, slice_get};
 ghost use Rattle.jmachine.specs.Sites.{Site};
 ghost use Rattle.jmachine.specs.Store.{Store};
 ghost use Rattle.jmachine.specs.Straight as straight;
 ghost use Rattle.jops.specs.declared.value.Value.TheVariants as values;
 ghost use Rattle.jprogram.specs.declared.member.Member.{Member};
 ghost use Rattle.juses.specs.Instructions as instructions;
-ghost use Rattle.jstate.specs.Framed.{with_newest};
-ghost use Rattle.jacts.specs.Ways.{ActsWhere, branched, leaves};
+ghost use Rattle.jacts.specs.Ways.{ActsWhere, leaves};
 ghost use Rattle.jobjs.specs.Branching.{ServeTest, null_test, ref_in, same_test};
+ghost use Rattle.jobjs.specs.Staying.{Stays};
 
-use jacts::{Way, way_laws};
+use jacts::{Way, branch, way_laws};
 use jops::Value;
 use jstate::Frames;
 
@@ -51,21 +51,6 @@ fn are_same(same: bool, a: u32, b: u32) -> bool
     a != b
 }
 
-/// The frame loses so many operands. It goes on at a number where a test holds, else behind its instruction.
-#[inline]
-fn branch<M: Copy>(frames: &mut Frames<M>, n: usize, holds: bool, to: u32)
-    requires place { frames.old.newest.place + 1 < 2 ^ 32 }
-    requires few { n ≤ length frames.old.newest.operands }
-    ensures { frames.new ≡ with_newest (branched holds to frames.old.newest (drop n frames.old.newest.operands)) frames.old }
-{
-    frames.shrink(n);
-    if holds {
-        frames.go_to(to);
-    } else {
-        frames.go_on();
-    }
-}
-
 /// A branch that tests a reference against null (JVMS 6.5: ifnull, ifnonnull). `serve` says that the operand serves.
 #[inline]
 pub fn if_null<M: Copy>(frames: &mut Frames<M>, null: bool, to: u32, serve: bool) -> Way
@@ -73,6 +58,7 @@ pub fn if_null<M: Copy>(frames: &mut Frames<M>, null: bool, to: u32, serve: bool
     ensures row { (s : Store ℕ) →
         ActsWhere (λ (at : Site) (own : Member → Bool). ServeTest at s (null_test null) frames.old.newest.operands serve)
         (instructions.Jump (instructions.IfRef (null_test null)) to) frames.old.newest s (leaves result [] frames.new.newest s) }
+    ensures stays { Stays result frames.old.newest frames.new.newest }
     ensures below { frames.new.below ≡ frames.old.below }
 {
     way_laws::<M>();
@@ -93,6 +79,7 @@ pub fn if_same<M: Copy>(frames: &mut Frames<M>, same: bool, to: u32, serve: bool
     ensures row { (s : Store ℕ) →
         ActsWhere (λ (at : Site) (own : Member → Bool). ServeTest at s (same_test same) frames.old.newest.operands serve)
         (instructions.Jump (instructions.IfRef (same_test same)) to) frames.old.newest s (leaves result [] frames.new.newest s) }
+    ensures stays { Stays result frames.old.newest frames.new.newest }
     ensures below { frames.new.below ≡ frames.old.below }
 {
     way_laws::<M>();

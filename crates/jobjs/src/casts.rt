@@ -9,6 +9,7 @@ ghost use Rattle.juses.specs.Instructions as instructions;
 ghost use Rattle.juses.specs.Meanings as meanings;
 ghost use Rattle.jacts.specs.Ways.{ActsWhere, leaves};
 ghost use Rattle.jobjs.specs.Serving.{IsOne, Serve, ServeThrown, bit, named_seen};
+ghost use Rattle.jobjs.specs.Staying.{Stays};
 
 use crate::fields::give_one;
 use jacts::{Way, way_laws};
@@ -53,6 +54,7 @@ pub fn check_cast<M: Copy>(frames: &mut Frames<M>, serve: bool, is: bool) -> Way
         ActsWhere (λ (at : Site) (own : Member → Bool). Serve at own s (meanings.Cast ops.CheckCast t) frames.old.newest.operands serve
         × IsOne at.world s t (slice_get frames.old.newest.operands 0) is)
         (instructions.Used (meanings.Cast ops.CheckCast t)) frames.old.newest s (leaves result [] frames.new.newest s) }
+    ensures stays { Stays result frames.old.newest frames.new.newest }
     ensures below { frames.new.below ≡ frames.old.below }
 {
     way_laws::<M>();
@@ -95,6 +97,7 @@ pub fn instance_of<M: Copy>(frames: &mut Frames<M>, serve: bool, is: bool) -> Wa
         ActsWhere (λ (at : Site) (own : Member → Bool). Serve at own s (meanings.Cast ops.InstanceOf t) frames.old.newest.operands serve
         × IsOne at.world s t (slice_get frames.old.newest.operands 0) is)
         (instructions.Used (meanings.Cast ops.InstanceOf t)) frames.old.newest s (leaves result [] frames.new.newest s) }
+    ensures stays { Stays result frames.old.newest frames.new.newest }
     ensures below { frames.new.below ≡ frames.old.below }
 {
     way_laws::<M>();

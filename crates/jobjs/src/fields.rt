@@ -12,6 +12,7 @@ ghost use Rattle.jprogram.specs.declared.member.Member.TheVariants as members;
 ghost use Rattle.juses.specs.Instructions as instructions;
 ghost use Rattle.juses.specs.Meanings as meanings;
 ghost use Rattle.juses.specs.Meanings.{FieldMeaning};
+ghost use Rattle.jstate.specs.Celled.{StayCelled};
 ghost use Rattle.jstate.specs.Seen.{AreBuilt, Things, store_by};
 ghost use Rattle.jstate.specs.declared.shapes.Shapes.{Shapes};
 ghost use Rattle.jstate.specs.Framed.{with_newest};
@@ -19,13 +20,14 @@ ghost use Rattle.jacts.specs.Ways.{Acts, ActsWhere, leaves};
 ghost use Rattle.jacts.specs.declared.way.Way.TheVariants as ways;
 ghost use Rattle.jobjs.specs.Fielded.{HoldsOnly, KeepsAs, StandsAt, StandsStatic};
 ghost use Rattle.jobjs.specs.Serving.{Serve};
+ghost use Rattle.jobjs.specs.Staying.{Stays};
 
 use crate::target::{Target, target_at};
 use jacts::{Way, narrowed, put_cell, way_laws};
 use jheap::{CellType, Heap, raw_laws};
 use jlib::{LibClass, Thrown};
 use jops::Value;
-use jstate::{Frames, built_laws, cell_laws, heap_laws};
+use jstate::{Frames, built_laws, cell_laws, celled_laws, heap_laws};
 use juses::ElementRef;
 use std::alloc::AllocError;
 
@@ -69,6 +71,7 @@ pub fn get_field<M: Copy>(
         ActsWhere (λ (at : Site) (own : Member → Bool). Serve at own s (meanings.Field ops.GetField f) frames.old.newest.operands serve
         × StandsAt at.world shapes heap.now f.member (slice_get frames.old.newest.operands 0) slot of)
         (instructions.Used (meanings.Field ops.GetField f)) frames.old.newest s (leaves result [] frames.new.newest s) }
+    ensures stays { Stays result frames.old.newest frames.new.newest }
     ensures below { frames.new.below ≡ frames.old.below }
 {
     heap_laws();
@@ -113,6 +116,7 @@ pub fn get_static<M: Copy>(
         let s = store_by p shapes things constants heap.now in
         ActsWhere (λ (at : Site) (own : Member → Bool). StandsStatic at.world shapes f.member slot of)
         (instructions.Used (meanings.Field ops.GetStatic f)) frames.old.newest s (leaves way [] frames.new.newest s)) }
+    ensures stays { IfOk result (λ way. Stays way frames.old.newest frames.new.newest) }
     ensures below { OnOk result (frames.new.below ≡ frames.old.below) }
 {
     cell_laws();
@@ -126,6 +130,7 @@ pub fn get_out<M: Copy>(frames: &mut Frames<M>) -> Result<Way, AllocError>
     requires place { frames.old.newest.place + 1 < 2 ^ 32 }
     ensures row { IfOk result (λ way. (f : FieldMeaning) (s : Store ℕ) → f.member ≡ members.LibField
         → Acts (instructions.Used (meanings.Field ops.GetStatic f)) frames.old.newest s (leaves way [] frames.new.newest s)) }
+    ensures stays { IfOk result (λ way. Stays way frames.old.newest frames.new.newest) }
     ensures below { OnOk result (frames.new.below ≡ frames.old.below) }
 {
     way_laws::<M>();
@@ -160,6 +165,7 @@ pub fn put_static<M: Copy>(
         ActsWhere (λ (at : Site) (own : Member → Bool). Serve at own s (meanings.Field ops.PutStatic f) frames.old.newest.operands serve
         × StandsStatic at.world shapes f.member slot of × KeepsAs p at.world f.member narrow × HoldsOnly at.world s f.held of)
         (instructions.Used (meanings.Field ops.PutStatic f)) frames.old.newest s (leaves result [] frames.new.newest (store_by p shapes things constants heap.new)) }
+    ensures stays { Stays result frames.old.newest frames.new.newest }
     ensures below { frames.new.below ≡ frames.old.below }
     ensures objects { heap.new.objects ≡ heap.old.objects }
 {
@@ -194,12 +200,15 @@ pub fn put_field<M: Copy>(
         ActsWhere (λ (at : Site) (own : Member → Bool). Serve at own s (meanings.Field ops.PutField f) frames.old.newest.operands serve
         × StandsAt at.world shapes heap.old f.member (slice_get frames.old.newest.operands 1) slot of × KeepsAs p at.world f.member narrow × HoldsOnly at.world s f.held of)
         (instructions.Used (meanings.Field ops.PutField f)) frames.old.newest s (leaves result [] frames.new.newest (store_by p shapes things constants heap.new)) }
+    ensures stays { Stays result frames.old.newest frames.new.newest }
     ensures below { frames.new.below ≡ frames.old.below }
     ensures built { AreBuilt heap.old.objects → AreBuilt heap.new.objects }
+    ensures celled { StayCelled heap.old.objects heap.new.objects }
 {
     heap_laws();
     cell_laws();
     built_laws();
+    celled_laws();
     way_laws::<M>();
     if !serve {
         return Way::Stuck;

@@ -9,126 +9,27 @@ ghost use Rattle.jprogram.specs.declared.part.ClassRef.TheVariants as refs;
 ghost use Rattle.jtypes.specs.declared.vtype.Name.{Name};
 ghost use Rattle.juses.specs.Instructions as instructions;
 ghost use Rattle.juses.specs.Meanings as meanings;
+ghost use Rattle.jstate.specs.Celled;
+ghost use Rattle.jstate.specs.Celled.{AreCelled, StayCelled};
 ghost use Rattle.jstate.specs.Framed.{with_newest};
-ghost use Rattle.jstate.specs.Numbers;
 ghost use Rattle.jstate.specs.Seen.{AreBuilt, Things, store_by};
 ghost use Rattle.jstate.specs.declared.shapes.Shapes.{Shapes as ShapesOf};
 ghost use Rattle.jacts.specs.Ways.{ActsWhere, leaves};
 ghost use Rattle.jacts.specs.declared.way.Way.TheVariants as ways;
-ghost use Rattle.jobjs.specs.Made;
 ghost use Rattle.jobjs.specs.Made.{HasNew, HasShape};
 ghost use Rattle.jstate.specs.declared.shapes.Shape.{Shape as ShapeOf};
+ghost use Rattle.jobjs.specs.Staying.{Stays};
 
 use crate::fields::push_one;
 use jacts::Way;
 use jheap::{Heap, Kind};
-use jlib::{LibClass, PermissionClass, Thrown};
+use jlib::LibClass;
 use jops::Value;
-use jstate::{Frames, Shape, Shapes, built_laws, heap_laws, number_laws};
+use jstate::{
+    Frames, Shape, Shapes, built_laws, celled_laws, cells_of, heap_laws, library_number,
+    number_laws,
+};
 use std::alloc::{AllocError, Global};
-
-// ---- the heap's numbers for classes of the library
-
-#[inline]
-fn thrown_number(c: Thrown) -> u32
-    ensures { result ≡ Numbers.thrown_number c }
-{
-    match c {
-        Thrown::Throwable => 0,
-        Thrown::Exception => 1,
-        Thrown::Error => 2,
-        Thrown::RuntimeException => 3,
-        Thrown::InterruptedException => 4,
-        Thrown::ArithmeticException => 5,
-        Thrown::NullPointerException => 6,
-        Thrown::ClassCastException => 7,
-        Thrown::NegativeArraySizeException => 8,
-        Thrown::ArrayStoreException => 9,
-        Thrown::IllegalArgumentException => 10,
-        Thrown::IllegalStateException => 11,
-        Thrown::IndexOutOfBoundsException => 12,
-        Thrown::SecurityException => 13,
-        Thrown::IllegalThreadStateException => 14,
-        Thrown::ArrayIndexOutOfBoundsException => 15,
-        Thrown::StringIndexOutOfBoundsException => 16,
-        Thrown::LinkageError => 17,
-        Thrown::VirtualMachineError => 18,
-        Thrown::IncompatibleClassChangeError => 19,
-        Thrown::AbstractMethodError => 20,
-        Thrown::IllegalAccessError => 21,
-        Thrown::StackOverflowError => 22,
-    }
-}
-
-#[inline]
-fn permission_number(c: PermissionClass) -> u32
-    ensures { result ≡ Numbers.permission_number c }
-{
-    match c {
-        PermissionClass::Permission => 23,
-        PermissionClass::BasicPermission => 24,
-        PermissionClass::AllPermission => 25,
-        PermissionClass::RuntimePermission => 26,
-        PermissionClass::SecurityPermission => 27,
-        PermissionClass::PropertyPermission => 28,
-        PermissionClass::FilePermission => 29,
-    }
-}
-
-#[inline]
-fn library_number(c: LibClass) -> u32
-    ensures { result ≡ Numbers.library_number c }
-{
-    match c {
-        LibClass::Thrown(c) => thrown_number(c),
-        LibClass::Permission(c) => permission_number(c),
-        LibClass::Object => 30,
-        LibClass::AccessControlException => 31,
-        LibClass::String => 32,
-        LibClass::StringBuilder => 33,
-        LibClass::System => 34,
-        LibClass::PrintStream => 35,
-        LibClass::Void => 36,
-        LibClass::Cloneable => 37,
-        LibClass::Serializable => 38,
-        LibClass::Runnable => 39,
-        LibClass::Thread => 40,
-        LibClass::PrivilegedAction => 41,
-        LibClass::AccessController => 42,
-        LibClass::AccessControlContext => 43,
-        LibClass::Rt => 44,
-        LibClass::Ctx => 45,
-    }
-}
-
-/// The cells of an object of the library's.
-#[inline]
-fn cells_of(c: LibClass) -> u32
-    ensures { result ≡ Made.cells_of c }
-{
-    match c {
-        LibClass::Thrown(_) => 1,
-        LibClass::Permission(_) => 1,
-        LibClass::Object => 0,
-        LibClass::AccessControlException => 1,
-        LibClass::String => 0,
-        LibClass::StringBuilder => 1,
-        LibClass::System => 0,
-        LibClass::PrintStream => 0,
-        LibClass::Void => 0,
-        LibClass::Cloneable => 0,
-        LibClass::Serializable => 0,
-        LibClass::Runnable => 0,
-        LibClass::Thread => 1,
-        LibClass::PrivilegedAction => 0,
-        LibClass::AccessController => 0,
-        LibClass::AccessControlContext => 1,
-        LibClass::Rt => 0,
-        LibClass::Ctx => 0,
-    }
-}
-
-// ---- new
 
 /// The reference of what was made is one more operand; where there were too few cells nothing changes.
 #[inline]
@@ -170,11 +71,14 @@ pub fn new_library<M: Copy>(
     ensures row { IfOk result (λ way. (p : Program) (shapes : ShapesOf) (things : Things) (constants : List (List ℕ × ℕ)) (c : Name) →
         ActsWhere (λ (at : Site) (own : Member → Bool). at.world.class c ≡ Some (refs.Lib class)) (instructions.Used (meanings.Make c)) frames.old.newest
         (store_by p shapes things constants heap.old) (leaves way [] frames.new.newest (store_by p shapes things constants heap.new))) }
+    ensures stays { IfOk result (λ way. Stays way frames.old.newest frames.new.newest) }
     ensures below { OnOk result (frames.new.below ≡ frames.old.below) }
     ensures built { OnOk result (AreBuilt heap.new.objects) }
+    ensures celled { OnOk result (StayCelled heap.old.objects heap.new.objects) }
 {
     heap_laws();
     built_laws();
+    celled_laws();
     number_laws();
     make_object(alloc, frames, heap, library_number(class), cells_of(class))
 }
@@ -183,7 +87,7 @@ pub fn new_library<M: Copy>(
 #[inline]
 fn cells_in(shape: &Shape) -> u32
     requires { length shape.now.cells + 1 < 2 ^ 32 }
-    ensures { result ≡ Made.cells_in shape.now }
+    ensures { result ≡ Celled.cells_in shape.now }
 {
     let cells = shape.cells.as_slice().len() as u32;
     if shape.message {
@@ -196,7 +100,7 @@ fn cells_in(shape: &Shape) -> u32
 #[inline]
 fn count_at(shapes: &Shapes, class: u32) -> Option<u32>
     requires { (shape : ShapeOf) → slice_get shapes.now.users class ≡ Some shape → length shape.cells + 1 < 2 ^ 32 }
-    ensures { result ≡ option_map Made.cells_in (slice_get shapes.now.users class) }
+    ensures { result ≡ option_map Celled.cells_in (slice_get shapes.now.users class) }
 {
     match shapes.users.as_slice().get(class as usize) {
         None => None,
@@ -220,11 +124,14 @@ pub fn new_object<M: Copy>(
     ensures row { IfOk result (λ way. (p : Program) (things : Things) (constants : List (List ℕ × ℕ)) (c : Name) →
         ActsWhere (λ (at : Site) (own : Member → Bool). (at.world.class c ≡ Some (refs.User class)) × HasShape at.world shapes.now class) (instructions.Used (meanings.Make c)) frames.old.newest
         (store_by p shapes.now things constants heap.old) (leaves way [] frames.new.newest (store_by p shapes.now things constants heap.new))) }
+    ensures stays { IfOk result (λ way. Stays way frames.old.newest frames.new.newest) }
     ensures below { OnOk result (frames.new.below ≡ frames.old.below) }
     ensures built { OnOk result (AreBuilt heap.new.objects) }
+    ensures celled { OnOk result (AreCelled shapes.now heap.old.objects → AreCelled shapes.now heap.new.objects) }
 {
     heap_laws();
     built_laws();
+    celled_laws();
     number_laws();
     match count_at(shapes, class) {
         None => Ok(Way::Stuck),

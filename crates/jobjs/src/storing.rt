@@ -1,4 +1,4 @@
-ghost use Rattle.std.specs.Prelude.{◌≡◌, ◌<◌, ◌≤◌, ◌+◌, ◌^◌, [], ℕ, List, Bool, IfSome, is_some, length, slice_get, true};
+ghost use Rattle.std.specs.Prelude.{◌≡◌, ◌<◌, ◌≤◌, ◌+◌, ◌^◌, [], ℕ, List, Bool, is_some, length, slice_get, true};
 ghost use Rattle.jcode.specs.declared.names.Element.TheVariants as items;
 ghost use Rattle.jcode.specs.declared.form.ArrayForm.TheVariants as forms;
 ghost use Rattle.jheap.specs.Heaps.{cells_at, object_at};
@@ -8,36 +8,22 @@ ghost use Rattle.jmachine.specs.Sites.{Site};
 ghost use Rattle.jprogram.specs.Classes.{Program};
 ghost use Rattle.jprogram.specs.declared.member.Member.{Member};
 ghost use Rattle.juses.specs.Instructions as instructions;
+ghost use Rattle.jstate.specs.Celled.{StayCelled};
 ghost use Rattle.jstate.specs.Seen.{AreBuilt, Things, store_by};
 ghost use Rattle.jstate.specs.declared.shapes.Shapes.{Shapes};
-ghost use Rattle.jacts.specs.Ways.{ActsWhere, int_in, leaves};
+ghost use Rattle.jacts.specs.Ways.{ActsWhere, leaves};
 ghost use Rattle.jobjs.specs.Stored.{HasStored, MayStore, ServeStore, held_seen};
+ghost use Rattle.jobjs.specs.Staying.{Stays};
 
-use jacts::{Way, put_cell, way_laws};
+use jacts::{Way, int_at, put_cell, way_laws, within};
 use jheap::{Heap, Kind};
 use jlib::{LibClass, Thrown};
 use jops::Value;
-use jstate::{Frames, built_laws, heap_laws};
-
-/// The index of a store, which stands below what is stored.
-#[inline]
-fn index_at<M: Copy>(frames: &Frames<M>) -> Option<i32>
-    ensures { result ≡ int_in (slice_get frames.now.newest.operands 1) }
-{
-    if frames.count() <= 1 {
-        return None;
-    }
-    match frames.operand(1) {
-        Value::Int(x) => Some(x),
-        Value::Long(_) => None,
-        Value::Ref(_) => None,
-        Value::Ctx(_) => None,
-    }
-}
+use jstate::{Frames, built_laws, celled_laws, heap_laws};
 
 /// What stands below the index of a store.
 #[derive(Clone, Copy)]
-pub(crate) enum Held {
+pub enum Held {
     /// No array.
     Other,
     Null,
@@ -69,23 +55,6 @@ fn array_at<M: Copy>(frames: &Frames<M>, heap: &Heap) -> Held
             }
         }
     }
-}
-
-/// The place of an index, where there are so many items.
-#[inline]
-#[tactic(auto, using(jacts::proofs::NewArrays::counts, jacts::proofs::NewArrays::negative))]
-fn within(count: u32, i: i32) -> Option<u32>
-    ensures place { result ≡ rows.within count (place_of i) }
-    ensures inside { IfSome result (λ k. k < count) }
-{
-    if i < 0 {
-        return None;
-    }
-    let k = i as u32;
-    if k < count {
-        return Some(k);
-    }
-    None
 }
 
 /// The item of an index is written, where it is there and holds what is stored, and the frame loses what it took. The index comes first.
@@ -126,16 +95,19 @@ pub fn store_ref<M: Copy>(frames: &mut Frames<M>, heap: &mut Heap, serve: bool, 
         let s = store_by p shapes things constants heap.old in
         ActsWhere (λ (at : Site) (own : Member → Bool). ServeStore at s frames.old.newest.operands serve × MayStore at.world p shapes s heap.old frames.old.newest.operands is)
         (instructions.Array (forms.Store items.Ref)) frames.old.newest s (leaves result [] frames.new.newest (store_by p shapes things constants heap.new)) }
+    ensures stays { Stays result frames.old.newest frames.new.newest }
     ensures below { frames.new.below ≡ frames.old.below }
     ensures built { AreBuilt heap.old.objects → AreBuilt heap.new.objects }
+    ensures celled { StayCelled heap.old.objects heap.new.objects }
 {
     heap_laws();
     built_laws();
+    celled_laws();
     way_laws::<M>();
     if !serve {
         return Way::Stuck;
     }
-    let Some(i) = index_at(frames) else {
+    let Some(i) = int_at(frames, 1) else {
         return Way::Stuck;
     };
     match array_at(frames, heap) {

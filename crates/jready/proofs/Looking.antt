@@ -94,6 +94,15 @@ pub fetches : (p : Program) (types : List TypeRef) (t : Tables) (code : List Ins
     → meant p t r.id.class i ≡ fetched p r.id place
 fetches p types t code handlers r place i is le at = fetches_by p types t code handlers r place i (code_at p r.id) refl is.holds is.off le at
 
+-- behind its instructions there is none
+fetched_behind : (p : Program) (types : List TypeRef) (t : Tables) (code : List Instr) (handlers : List HandlerRow) (r : MethodRow) (place : ℕ)
+    (o : Option CodeBody) → code_at p r.id ≡ o → Has p types t code handlers r o → r.count ≤ place → fetched p r.id place ≡ None
+fetched_behind p types t code handlers r place None none is le = fetched_none p r.id place none
+fetched_behind p types t code handlers r place (Some body) some is le =
+    let none : slice_get body.ops place ≡ None = past_end body.ops place (let n = is.count in omega arith) in
+    fetched_at p r.id place body some ∙ ap (option_and_then
+    (λ (one : Placed). followed (nat_lt (place + 1) (length body.ops)) (instruction p (pool_at p r.id.class) body.ops one))) none
+
 -- ---- handlers
 
 handler_part : (p : Program) (thrown : VType) (m i : ℕ) (o : Option CodePart)
@@ -133,6 +142,13 @@ row_is r row ready own = ready.methods own.0 row own.1
 
 pub place_within : (r : Prepared) (row : MethodRow) (place : ℕ) → IsReady r → IsRow r row → place ≤ row.count → row.first + place < length r.methods.code
 place_within r row place ready own le = let lt = within r.methods.code (row.first + row.count) instr.Off (row_is r row ready own).off in omega arith
+
+pub fetches_behind : (r : Prepared) (row : MethodRow) (place : ℕ) → IsReady r → IsRow r row → row.count ≤ place
+    → meant r.program r.methods.tables row.id.class instr.Off ≡ fetched r.program row.id place
+fetches_behind r row place ready own le =
+    let m = row_is r row ready own in
+    off_means r.program r.methods.tables row.id.class instr.Off refl
+    ∙ sym (fetched_behind r.program r.uses.types r.methods.tables r.methods.code r.methods.handlers row place (code_at r.program row.id) refl m.holds le)
 
 pub fetches_row : (r : Prepared) (row : MethodRow) (place : ℕ) (i : Instr) → IsReady r → IsRow r row → place ≤ row.count
     → slice_get r.methods.code (row.first + place) ≡ Some i

@@ -1,4 +1,4 @@
-ghost use Rattle.std.specs.Prelude.{◌≡◌, ◌+◌, ◌^◌, ◌<◌, ◌≤◌, ℕ, IfOk, IfSome, None, OnOk, Some, length, slice_get};
+ghost use Rattle.std.specs.Prelude.{◌⊎◌, ◌≡◌, ◌+◌, ◌^◌, ◌<◌, ◌≤◌, ℕ, IfOk, IfSome, None, OnOk, Some, length, slice_get};
 ghost use Rattle.jtypes.specs.declared.vtype.VType.{VType};
 ghost use Rattle.juses.specs.Instructions;
 ghost use Rattle.juses.specs.Meanings.{spanned};
@@ -264,6 +264,45 @@ impl<'p> Ready<'p> {
         ensures exact { Exact self.now.program self.now.uses.types self.now.methods.tables method.now.id.class result }
     {
         self.methods.code.as_slice()[method.first as usize + place as usize]
+    }
+
+    /// The same at any place: behind the method's instructions there is no step. Where there is one, a number may stand behind it.
+    #[inline]
+    pub fn fetch(&self, method: &MethodRow, place: u32) -> Instr
+        requires { IsRow self.now method.now }
+        ensures means { meant self.now.program self.now.methods.tables method.now.id.class result ≡ fetched self.now.program method.now.id place }
+        ensures within { Within self.now.methods.tables result }
+        ensures exact { Exact self.now.program self.now.uses.types self.now.methods.tables method.now.id.class result }
+        ensures next { (result ≡ Instr.Off) ⊎ (place + 1 < 2 ^ 32) }
+    {
+        if place >= method.count {
+            return self.behind(method, place);
+        }
+        self.instr(method, place)
+    }
+
+    /// There is no step behind a method's instructions.
+    #[inline]
+    fn behind(&self, method: &MethodRow, place: u32) -> Instr
+        requires row { IsRow self.now method.now }
+        requires place { method.now.count ≤ place }
+        ensures off { result ≡ Instr.Off }
+        ensures means { meant self.now.program self.now.methods.tables method.now.id.class result ≡ fetched self.now.program method.now.id place }
+    {
+        let _ = self.methods.code.as_slice();
+        Instr::Off
+    }
+
+    /// The row of a user's method. None only of one that has no code, so that there is no step in it.
+    #[tactic(auto, using(crate::proofs::Fetching::fetched_none))]
+    pub fn row_of(&self, m: MethodId) -> Option<MethodRow>
+        ensures found { IfSome result (λ row. IsRow self.now row × (row.id ≡ m)) }
+        ensures none { result ≡ None → (place : ℕ) → fetched self.now.program m place ≡ None }
+    {
+        match self.number_of(m) {
+            Some(k) => self.called(k),
+            None => None,
+        }
     }
 
     /// The handlers of a method, in their order.

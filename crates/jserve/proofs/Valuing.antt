@@ -1,17 +1,12 @@
 -- The types of values by number are those of the machine's definition.
-use Rattle.std.proofs.Common.{◌≡◌, ◌∙◌, ℕ, zero, suc, ◌-◌, ◌<◌, ◌≤◌, Bool, true, false, List, [], ◌++◌, map, Option, Some, None, refl, sym, ap, arith, rules, lt-ltb}
-use Rattle.std.specs.Prelude.{get_or, is_some, nat_lt, option_and_then, option_map, slice_get, unwrap_or, if◌then◌else◌}
-use Rattle.std.proofs.lemmas.List.{get_or-append_right, get_or-map, get_or_append_left}
-use Rattle.std.proofs.lemmas.Option.{slice_get-get_or}
+use Rattle.std.proofs.Common.{◌≡◌, ◌∙◌, ℕ, zero, suc, Bool, true, false, List, [], Option, Some, None, refl, sym, ap}
+use Rattle.std.specs.Prelude.{is_some, option_and_then, option_map, slice_get, unwrap_or, if◌then◌else◌}
 use Rattle.jops.specs.declared.value.Value.{Value}
 use Rattle.jops.specs.declared.value.Value.TheVariants.{Int, Long, Ref, Ctx}
 use Rattle.jheap.specs.declared.cell.Kind.{Kind}
 use Rattle.jheap.specs.declared.cell.Kind.TheVariants as kinds
 use Rattle.jheap.specs.Heaps as heaps
 use Rattle.jheap.specs.Heaps.{Heaped, cells_at, kind_at}
-use Rattle.jlib.specs.declared.classes.LibClass.{LibClass}
-use Rattle.jlib.specs.declared.classes.PermissionClass.{PermissionClass}
-use Rattle.jlib.specs.declared.classes.Thrown.{Thrown as ThrownClass}
 use Rattle.jlib.specs.declared.classes.LibClass.TheVariants as lib
 use Rattle.jtypes.specs.declared.vtype.VType.{VType}
 use Rattle.jprogram.specs.declared.part.ClassRef.{ClassRef}
@@ -27,63 +22,14 @@ use Rattle.jmachine.specs.Store.{Store}
 use Rattle.jmachine.specs.World.{world}
 use Rattle.jstate.specs.declared.shapes.Shape.{Shape}
 use Rattle.jstate.specs.declared.shapes.Shapes.{Shapes}
-use Rattle.jstate.specs.Numbers.{class_numbered, library_at, library_classes, library_count}
-use Rattle.jstate.specs.Seen.{Things, class_by, first, kind_by, object_by, store_by, user_by}
+use Rattle.jstate.specs.Numbers.{class_numbered}
+use Rattle.jstate.specs.Seen.{Things, class_by, kind_by, object_by, store_by, user_by}
 use Rattle.jstate.specs.SeenLaws.{SeesEach}
-use Rattle.jcalls.specs.declared.ready.Needs.{Needs}
-use Rattle.jcalls.specs.declared.ready.Needs.TheVariants as needs
 use Rattle.jcalls.specs.declared.ready.Counts.{Counts}
-use Rattle.jcalls.specs.Readiness.{AreCounted, needed, ready_by}
-use Rattle.jcalls.specs.Readiness as readiness
-use Rattle.jcalls.proofs.Readying.{holds_context, holds_permission}
-use Rattle.jserve.specs.declared.ready.TheConstants.{OTHERS, PERMISSIONS, THROWN}
+use Rattle.jcalls.specs.Readiness.{AreCounted, ready_counted}
+use Rattle.jcalls.proofs.Readying.{seen_ready}
 use Rattle.jserve.specs.declared.values.Objects.{Objects}
-use Rattle.jserve.specs.Valued.{IsStore, holds, is_ready, kind_type, object_type, type_in}
-
--- ---- classes by number
-
-pub a_users : (n : ℕ) → 46 ≤ n → refs.User (n - 46) ≡ class_numbered n
-a_users n few = let b : nat_lt n library_count ≡ false = search rules in rw b refl
-
-pub a_librarys : (n : ℕ) (c : LibClass) → n < 46 → c ≡ library_at n → refs.Lib c ≡ class_numbered n
-a_librarys n c few h =
-    let b : nat_lt n library_count ≡ true = lt-ltb n library_count few in
-    rw b (ap refs.Lib h)
-
-listed : library_classes ≡ map lib.Thrown THROWN ++ (map lib.Permission PERMISSIONS ++ OTHERS)
-listed = refl
-
-at_number : (n : ℕ) → n < 46 → library_at n ≡ get_or library_classes n lib.Object
-at_number n few = ap (λ (o : Option LibClass). unwrap_or o lib.Object) (slice_get-get_or library_classes n lib.Object few)
-
-abbrev behind : List LibClass
-behind = map lib.Permission PERMISSIONS ++ OTHERS
-
-pub thrown_at : (n : ℕ) (d : ThrownClass) → n < 23 → lib.Thrown (get_or THROWN n d) ≡ library_at n
-thrown_at n d few =
-    sym (at_number n (omega arith) ∙ get_or_append_left (map lib.Thrown THROWN) behind lib.Object n few ∙ get_or-map lib.Thrown THROWN n d lib.Object few)
-
-later : (n : ℕ) → 23 ≤ n → n < 46 → library_at n ≡ get_or behind (n - 23) lib.Object
-later n many few = at_number n few ∙ get_or-append_right (map lib.Thrown THROWN) behind 23 n lib.Object refl many
-
-pub permission_at : (n : ℕ) (d : PermissionClass) → 23 ≤ n → n < 30 → lib.Permission (get_or PERMISSIONS (n - 23) d) ≡ library_at n
-permission_at n d many few =
-    let within : n - 23 < 7 = omega arith in
-    sym (later n many (omega arith) ∙ get_or_append_left (map lib.Permission PERMISSIONS) OTHERS lib.Object (n - 23) within
-    ∙ get_or-map lib.Permission PERMISSIONS (n - 23) d lib.Object within)
-
-pub other_at : (n : ℕ) (d : LibClass) → 30 ≤ n → n < 46 → get_or OTHERS (n - 30) d ≡ library_at n
-other_at n d many few =
-    let within : n - 30 < 16 = omega arith in
-    let place : (n - 23) - 7 ≡ n - 30 = omega arith in
-    sym (later n (omega arith) few ∙ get_or-append_right (map lib.Permission PERMISSIONS) OTHERS 7 (n - 23) lib.Object refl (omega arith)
-    ∙ ap (λ i. get_or OTHERS i lib.Object) place ∙ any_default within)
-  where
-    any_default : n - 30 < 16 → get_or OTHERS (n - 30) lib.Object ≡ get_or OTHERS (n - 30) d
-    any_default within = some_same (sym (slice_get-get_or OTHERS (n - 30) lib.Object within) ∙ slice_get-get_or OTHERS (n - 30) d within)
-      where
-        some_same : {x y : LibClass} → Some x ≡ Some y → x ≡ y
-        some_same e = cc
+use Rattle.jserve.specs.Valued.{IsStore, kind_type, object_type, type_in}
 
 -- ---- objects of the heap
 
@@ -102,24 +48,24 @@ module _ (shapes : Shapes) (counts : Counts) (h : Heaped) (o : ℕ) where
       other None e = cc
       other (Some x) e = refl
 
-  typed : (kind : Kind) (b : Bool) → Some kind ≡ kind_at h o → b ≡ is_ready counts kind (cells_at h o)
+  typed : (kind : Kind) (b : Bool) → Some kind ≡ kind_at h o → b ≡ ready_counted counts kind (cells_at h o)
       → (if b then Some (kind_type shapes kind) else None) ≡ option_and_then (object_type shapes counts) (heaps.object_at h o)
   typed kind b e is = other (heaps.object_at h o) e is
     where
       other : (x : Option heaps.Object) → Some kind ≡ option_map (λ (y : heaps.Object). y.kind) x
-          → b ≡ is_ready counts kind (unwrap_or (option_map (λ (y : heaps.Object). y.cells) x) [])
+          → b ≡ ready_counted counts kind (unwrap_or (option_map (λ (y : heaps.Object). y.cells) x) [])
           → (if b then Some (kind_type shapes kind) else None) ≡ option_and_then (object_type shapes counts) x
       other None e is = cc
       other (Some x) e is =
           let same : kind ≡ x.kind = cc in
           ap (λ (c : Bool). if c then Some (kind_type shapes kind) else None) is
-          ∙ ap (λ (k : Kind). if is_ready counts k x.cells then Some (kind_type shapes k) else None) same
+          ∙ ap (λ (k : Kind). if ready_counted counts k x.cells then Some (kind_type shapes k) else None) same
 
-  pub object_ready : (kind : Kind) (b : Bool) → Some kind ≡ kind_at h o → b ≡ is_ready counts kind (cells_at h o) → b ≡ true
+  pub object_ready : (kind : Kind) (b : Bool) → Some kind ≡ kind_at h o → b ≡ ready_counted counts kind (cells_at h o) → b ≡ true
       → Some (kind_type shapes kind) ≡ option_and_then (object_type shapes counts) (heaps.object_at h o)
   object_ready kind b e is yes-it-is = sym (ap (λ (c : Bool). if c then Some (kind_type shapes kind) else None) yes-it-is) ∙ typed kind b e is
 
-  pub object_bare : (kind : Kind) (b : Bool) → Some kind ≡ kind_at h o → b ≡ is_ready counts kind (cells_at h o) → b ≡ false
+  pub object_bare : (kind : Kind) (b : Bool) → Some kind ≡ kind_at h o → b ≡ ready_counted counts kind (cells_at h o) → b ≡ false
       → None ≡ option_and_then (object_type shapes counts) (heaps.object_at h o)
   object_bare kind b e is it-isnt = sym (ap (λ (c : Bool). if c then Some (kind_type shapes kind) else None) it-isnt) ∙ typed kind b e is
 
@@ -133,52 +79,6 @@ ref_typed x zero t some h = absurd (some refl)
 ref_typed x (suc o) t some h = h
 
 -- ---- as the definition has it
-
-module _ (counts : Counts) (things : Things) (are : AreCounted counts things) (cells : List ℕ) where
-  same_holds : (n : Needs) → holds counts cells n ≡ readiness.holds things cells n
-  same_holds needs.Nothing = refl
-  same_holds needs.Units = refl
-  same_holds needs.Permission = holds_permission counts things cells (holds counts cells needs.Permission) (first cells) are refl refl
-  same_holds needs.Context = holds_context counts things cells (holds counts cells needs.Context) (first cells) are refl refl
-  same_holds needs.Thread = refl
-
-  same_ready : (kind : Kind) → is_ready counts kind cells ≡ ready_by things kind cells
-  same_ready (kinds.Object n) = same_holds (needed (class_numbered n))
-  same_ready (kinds.Array a) = refl
-  same_ready kinds.Text = refl
-  same_ready kinds.Piece = refl
-
-module _ (shapes : Shapes) (objects : List heaps.Object) (things : Things) (cells : List ℕ) where
-  user_ready : (i : ℕ) (shape : Option Shape) → machine.is_ready (user_by i shape cells) ≡ true
-  user_ready i None = refl
-  user_ready i (Some shape) = refl
-
-  class_ready : (c : ClassRef) → machine.is_ready (class_by shapes objects things c cells) ≡ readiness.holds things cells (needed c)
-  class_ready (refs.User i) = user_ready i (slice_get shapes.users i)
-  class_ready (refs.Lib (lib.Thrown c)) = refl
-  class_ready (refs.Lib lib.AccessControlException) = refl
-  class_ready (refs.Lib lib.String) = refl
-  class_ready (refs.Lib lib.StringBuilder) = refl
-  class_ready (refs.Lib (lib.Permission c)) = refl
-  class_ready (refs.Lib lib.AccessControlContext) = refl
-  class_ready (refs.Lib lib.Thread) = refl
-  class_ready (refs.Lib lib.Object) = refl
-  class_ready (refs.Lib lib.System) = refl
-  class_ready (refs.Lib lib.PrintStream) = refl
-  class_ready (refs.Lib lib.Void) = refl
-  class_ready (refs.Lib lib.Cloneable) = refl
-  class_ready (refs.Lib lib.Serializable) = refl
-  class_ready (refs.Lib lib.Runnable) = refl
-  class_ready (refs.Lib lib.PrivilegedAction) = refl
-  class_ready (refs.Lib lib.AccessController) = refl
-  class_ready (refs.Lib lib.Rt) = refl
-  class_ready (refs.Lib lib.Ctx) = refl
-
-  kind_ready : (p : Program) (kind : Kind) → machine.is_ready (kind_by p shapes objects things kind cells) ≡ ready_by things kind cells
-  kind_ready p (kinds.Object n) = class_ready (class_numbered n)
-  kind_ready p (kinds.Array a) = refl
-  kind_ready p kinds.Text = refl
-  kind_ready p kinds.Piece = refl
 
 -- the class of an object that a class made
 module _ (p : Program) (shapes : Shapes) (objects : List heaps.Object) (things : Things) (cells : List ℕ) where
@@ -220,9 +120,9 @@ module _ (law : SeesEach) (p : Program) (x : Objects) (things : Things) (constan
       ≡ option_map (named p) (object_type x.shapes.now x.counts y)
   ready_typed y =
       let seen = object_by p x.shapes.now x.heap.now.objects things y in
-      let ready : machine.is_ready seen ≡ is_ready x.counts y.kind y.cells =
-      kind_ready x.shapes.now x.heap.now.objects things y.cells p y.kind ∙ sym (same_ready x.counts things are y.cells y.kind) in
-      by (machine.is_ready seen) (is_ready x.counts y.kind y.cells) ready (kind_named p x.shapes.now x.heap.now.objects things y.cells y.kind)
+      let ready : machine.is_ready seen ≡ ready_counted x.counts y.kind y.cells =
+      seen_ready x.counts things are y.cells p x.shapes.now x.heap.now.objects y.kind in
+      by (machine.is_ready seen) (ready_counted x.counts y.kind y.cells) ready (kind_named p x.shapes.now x.heap.now.objects things y.cells y.kind)
     where
       by : (a b : Bool) → a ≡ b → class_of (world p).named (object_by p x.shapes.now x.heap.now.objects things y) ≡ named p (kind_type x.shapes.now y.kind)
           → (if a then Some (class_of (world p).named (object_by p x.shapes.now x.heap.now.objects things y)) else None)

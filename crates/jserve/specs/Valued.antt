@@ -1,5 +1,5 @@
 -- The types of values by number.
-use Rattle.std.specs.Prelude.{◌≡◌, ℕ, zero, suc, Bool, true, false, List, Option, Some, None, is_some, option_and_then, if◌then◌else◌}
+use Rattle.std.specs.Prelude.{◌≡◌, ℕ, zero, suc, List, Option, Some, None, option_and_then, if◌then◌else◌}
 use Rattle.jops.specs.declared.value.Value.{Value}
 use Rattle.jops.specs.declared.value.Value.TheVariants.{Int, Long, Ref, Ctx}
 use Rattle.jheap.specs.declared.cell.Kind.{Kind}
@@ -13,11 +13,9 @@ use Rattle.juses.specs.declared.types.TypeRef.TheVariants as types
 use Rattle.jmachine.specs.Store.{Store}
 use Rattle.jstate.specs.declared.shapes.Shapes.{Shapes}
 use Rattle.jstate.specs.Numbers.{class_numbered}
-use Rattle.jstate.specs.Seen.{Things, array_at, first, number_in, store_by}
-use Rattle.jcalls.specs.declared.ready.Needs.{Needs}
-use Rattle.jcalls.specs.declared.ready.Needs.TheVariants as needs
+use Rattle.jstate.specs.Seen.{Things, array_at, store_by}
 use Rattle.jcalls.specs.declared.ready.Counts.{Counts}
-use Rattle.jcalls.specs.Readiness.{AreCounted, is_within, needed}
+use Rattle.jcalls.specs.Readiness.{AreCounted, ready_counted}
 use Rattle.jserve.specs.declared.values.Objects.{Objects}
 
 -- ---- the store
@@ -29,20 +27,6 @@ pub record IsStore (p : Program) (x : Objects) (s : Store ℕ) : Type 0 where
   pub counted : AreCounted x.counts things
   pub seen : s ≡ store_by p x.shapes.now things constants x.heap.now
 
--- ---- objects that may be used
-
--- by how many permissions and contexts there are
-abbrev pub holds : Counts → List ℕ → Needs → Bool
-holds counts cells needs.Nothing = true
-holds counts cells needs.Units = false
-holds counts cells needs.Permission = is_within counts.permissions (first cells)
-holds counts cells needs.Context = is_within counts.contexts (first cells)
-holds counts cells needs.Thread = is_some (number_in (first cells))
-
-abbrev pub is_ready : Counts → Kind → List ℕ → Bool
-is_ready counts (kinds.Object n) cells = holds counts cells (needed (class_numbered n))
-is_ready counts kind cells = true
-
 -- ---- types
 
 -- the class of an object, or the type of an array
@@ -53,7 +37,7 @@ kind_type shapes kinds.Text = types.Object (refs.Lib lib.String)
 kind_type shapes kinds.Piece = types.Object (refs.Lib lib.StringBuilder)
 
 abbrev pub object_type : Shapes → Counts → heaps.Object → Option TypeRef
-object_type shapes counts x = if is_ready counts x.kind x.cells then Some (kind_type shapes x.kind) else None
+object_type shapes counts x = if ready_counted counts x.kind x.cells then Some (kind_type shapes x.kind) else None
 
 -- the type of a value, if it may be used
 abbrev pub type_in : Objects → Value ℕ → Option TypeRef

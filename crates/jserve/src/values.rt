@@ -9,13 +9,12 @@ ghost use Rattle.juses.specs.Types.{named};
 ghost use Rattle.jserve.specs.Valued;
 ghost use Rattle.jserve.specs.Valued.{IsStore, type_in};
 
-use crate::ready::{class_numbered, is_ready};
-use jcalls::Counts;
+use jcalls::{Counts, is_ready};
 use jheap::{Heap, Kind};
 use jlib::LibClass;
 use jops::Value;
 use jprogram::ClassRef;
-use jstate::{Shapes, heap_laws};
+use jstate::{Shapes, class_numbered, heap_laws};
 use juses::{ArrayRef, ElementRef, TypeRef};
 
 /// The objects of a machine: the heap, what its numbers stand for, and how many permissions and contexts the machine keeps.
@@ -28,7 +27,7 @@ pub struct Objects<'a> {
 
 /// The type of the arrays of a number.
 #[inline]
-fn array_type(shapes: &Shapes, number: u32) -> ArrayRef
+pub(crate) fn array_type(shapes: &Shapes, number: u32) -> ArrayRef
     ensures { result ≡ array_at shapes.now number }
 {
     match shapes.arrays.as_slice().get(number as usize) {

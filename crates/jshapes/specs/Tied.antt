@@ -1,21 +1,20 @@
 -- What stands in a machine's cells is what its program lays out.
-use Rattle.std.specs.Prelude.{◌≡◌, ◌<◌, ℕ, List, map, length}
+use Rattle.std.specs.Prelude.{◌≡◌, ◌<◌, ℕ, map, length}
 use Rattle.jclass.specs.declared.class.MemberInfo.{MemberInfo}
 use Rattle.jprogram.specs.declared.part.CodePart.{CodePart}
 use Rattle.jprogram.specs.Classes.{Program}
 use Rattle.juses.specs.Tables.{Grows}
-use Rattle.jlayout.specs.Layout as layout
 use Rattle.jlayout.specs.Numbered.{all_statics}
 use Rattle.jmachine.specs.World.{world}
 use Rattle.jready.specs.declared.tables.Tables.{Tables}
-use Rattle.jready.specs.Exact.{cell_of}
 use Rattle.jstate.specs.declared.shapes.Shapes.{Shapes}
 use Rattle.jobjs.specs.Made.{HasShape}
+use Rattle.jshapes.specs.Fielded.{field_cell}
 
 -- The shapes of a program's objects, of its statics and of its arrays.
 pub record AreTied (p : Program) (t : Tables) (shapes : Shapes) : Type 0 where
   pub users : (i : ℕ) → i < length p.parts → HasShape (world p) shapes i
   pub classes : length shapes.users ≡ length p.parts
-  pub statics : shapes.statics ≡ map (λ (x : CodePart × MemberInfo). cell_of (layout.field_type p x.0.class x.1)) (all_statics p)
+  pub statics : shapes.statics ≡ map (λ (x : CodePart × MemberInfo). field_cell p x.0 x.1) (all_statics p)
   -- arrays that instructions name stand first, by their numbers
   pub arrays : Grows t.arrays shapes.arrays

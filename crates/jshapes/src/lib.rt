@@ -1,4 +1,12 @@
-//! What stands in the cells of a machine's heap, by its program.
+//! What stands in the cells of a program's objects, of its statics and of its arrays.
 #![tactic(auto)]
 
+mod arrays;
+mod fields;
+mod lines;
+mod paths;
 mod shapes;
+mod users;
+
+pub use arrays::NumberArrays;
+pub use shapes::{Shaped, shapes_of};

@@ -1,4 +1,5 @@
 pub mod Building
+pub mod Celling
 pub mod Lying
 pub mod Numbering
 pub mod Seeing

@@ -1,9 +1,9 @@
 -- How frames lie in lists.
 use Rattle.std.proofs.Common.{◌≡◌, ◌∙◌, ℕ, zero, suc, ◌+◌, ◌-◌, ◌<◌, ◌≤◌, List, [], ◌∷◌, ◌++◌, length, drop, take, reverse, replicate, Option, Some, None, refl, sym, ap, ap₂, arith, append_assoc}
-use Rattle.std.specs.Prelude.{slice_set, false, Result, Ok, Err, OnOk, if◌then◌else◌}
+use Rattle.std.specs.Prelude.{map, slice_set, false, Result, Ok, Err, OnOk, if◌then◌else◌}
 use Rattle.std.specs.Result.{is_err, is_ok}
 use Rattle.std.specs.List.{flat_map}
-use Rattle.std.proofs.lemmas.List.{length-reverse, reverse-append, reverse-reverse, append-nil}
+use Rattle.std.proofs.lemmas.List.{length-reverse, map-append, reverse-append, reverse-reverse, append-nil}
 use Rattle.std.proofs.lemmas.Grind.{flat_map-append}
 use Rattle.jops.specs.declared.value.Value.{Value}
 use Rattle.jpile.specs.Piles.{Piled, bare, closed, from_oldest, on_top, padded, with_newest}
@@ -68,6 +68,30 @@ pub deep : {E : Type 0} (at : At E) (below : List (At E)) (locals : Piled (Optio
 deep at below locals operands some more =
     let n = many (reverse below) locals.below operands.below (omega (arith, some, length-reverse below)) (omega (arith, more, length-reverse below)) in
     omega (arith, n, length-reverse below)
+
+map_reverse : {A B : Type 0} (f : A → B) (xs : List A) → map f (reverse xs) ≡ reverse (map f xs)
+map_reverse f [] = refl
+map_reverse f (x ∷ xs) =
+    ap (map f) (reverse-append (x ∷ []) xs) ∙ map-append f (reverse xs) (x ∷ []) ∙ ap (λ ys. ys ++ f x ∷ []) (map_reverse f xs) ∙ sym (reverse-append (f x ∷ []) (map f xs))
+
+-- what frames carry that stand somewhere
+carried : {E : Type 0} (ats : List (At E)) (locals : List (List (Option (Value ℕ)))) (operands : List (List (Value ℕ)))
+    → length ats ≤ length locals → length ats ≤ length operands
+    → map (λ (f : FrameOf ℕ E). f.entry) (frames_at ats locals operands) ≡ map (λ (at : At E). at.mark) ats
+unfolding frames_at
+carried [] locals operands some more = refl
+carried (at ∷ ats) [] operands some more = absurd (omega (arith, some))
+carried (at ∷ ats) (l ∷ locals) [] some more = absurd (omega (arith, more))
+carried (at ∷ ats) (l ∷ locals) (o ∷ operands) some more = ap (λ marks. at.mark ∷ marks) (carried ats locals operands (omega (arith, some)) (omega (arith, more)))
+
+pub all_carried : {E : Type 0} (at : At E) (below : List (At E)) (locals : Piled (Option (Value ℕ))) (operands : Piled (Value ℕ))
+    → length locals.below ≡ length below + 1 → length operands.below ≡ length below + 1
+    → reverse (map (λ (x : At E). x.mark) below ++ at.mark ∷ []) ≡ map (λ (f : FrameOf ℕ E). f.entry) (all (shown at below locals operands))
+all_carried {E} at below locals operands some more =
+    let marks : List E = map (λ (x : At E). x.mark) below in
+    reverse-append marks (at.mark ∷ [])
+    ∙ ap (λ ms. at.mark ∷ ms) (sym (map_reverse (λ (x : At E). x.mark) below)
+    ∙ sym (carried (reverse below) locals.below operands.below (omega (arith, some, length-reverse below)) (omega (arith, more, length-reverse below))))
 
 module _ {E : Type 0} where
   abbrev pub begins : MethodId → E → At E

@@ -12,12 +12,12 @@ use Rattle.jlib.specs.declared.classes.LibClass.TheVariants as lib
 use Rattle.jprogram.specs.declared.part.ClassRef.{ClassRef}
 use Rattle.jprogram.specs.declared.part.ClassRef.TheVariants as refs
 use Rattle.jmachine.specs.Objects.{Object, Builder}
-use Rattle.jmachine.specs.Store.{object_at}
+use Rattle.jmachine.specs.Store.{object_at, paid, with_made}
 use Rattle.jprogram.specs.Classes.{Program}
 use Rattle.jstate.specs.declared.shapes.Shapes.{Shapes}
 use Rattle.jstate.specs.Numbers.{class_numbered}
-use Rattle.jstate.specs.Seen.{NamesWithin, Things, built, built_at, built_by, class_by, first, is_builder, kind_by, last_by, last_of, named_by, object_by, piece_units, store_by, values_of}
-use Rattle.jstate.specs.SeenLaws.{Makes, MakesOne}
+use Rattle.jstate.specs.Seen.{AreBuilt, NamesWithin, Things, built, built_at, built_by, class_by, first, is_builder, kind_by, last_by, last_of, named_by, object_by, piece_units, store_by, values_of}
+use Rattle.jstate.specs.SeenLaws.{AddsOne, IsEnough, KeepsPieces, Makes, MakesOne}
 
 -- the object of a number
 pub seen_at : (p : Program) (shapes : Shapes) (things : Things) (constants : List (List ℕ × ℕ)) (h : Heaped) (o : ℕ)
@@ -38,7 +38,7 @@ pub front_same : (o : Option heaps.Object) (f g : ℕ → List ℕ) → ((before
 front_same o f g h = front_alike o f g (λ x e. h x.before)
 
 -- as many steps as its number are enough
-pub enough : (objects : List heaps.Object) → IsBackward objects → (k m o : ℕ) → o ≤ k → o ≤ m → built_by k objects o ≡ built_by m objects o
+enough : (objects : List heaps.Object) → IsBackward objects → (k m o : ℕ) → o ≤ k → o ≤ m → built_by k objects o ≡ built_by m objects o
 unfolding built_by
 enough objects back zero zero o h g = refl
 enough objects back zero (suc m) zero h g = refl
@@ -123,13 +123,31 @@ module _ (p : Program) (shapes : Shapes) (things : Things) where
   map_more objects more (x ∷ some) back all = ap₂ (λ y ys. y ∷ ys) (kind_more objects more back x.kind x.cells all.0) (map_more objects more some back all.1)
 
   -- one more object is one more, and the others stay as they are
+  pub adds_one : (constants : List (List ℕ × ℕ)) (h : Heaped) (x : heaps.Object) (cost : ℕ) → AreBuilt h.objects
+      → store_by p shapes things constants (record h { objects = h.objects ++ x ∷ []; left = h.left - cost })
+      ≡ paid cost (with_made (store_by p shapes things constants h) (object_by p shapes (h.objects ++ x ∷ []) things x))
+  adds_one constants h x cost all =
+      let before = map_more h.objects (x ∷ []) h.objects all.backward all.within in
+      let both = map-append (object_by p shapes (h.objects ++ x ∷ []) things) h.objects (x ∷ []) in
+      ap (λ (os : List (Object ℕ)). record { objects = os; statics = values_of shapes.statics h.statics; constants = constants; left = h.left - cost })
+      (both ∙ ap (λ xs. xs ++ object_by p shapes (h.objects ++ x ∷ []) things x ∷ []) before)
+
   pub makes_one : MakesOne p shapes things
   makes_one constants h kind len all =
-      let fresh = kind_more h.objects (heaps.fresh kind len ∷ []) all.backward kind (replicate len 0) (names_none kind len (length h.objects)) in
-      let before = map_more h.objects (heaps.fresh kind len ∷ []) h.objects all.backward all.within in
-      let both = map-append (object_by p shapes (h.objects ++ heaps.fresh kind len ∷ []) things) h.objects (heaps.fresh kind len ∷ []) in
-      ap (λ (os : List (Object ℕ)). record { objects = os; statics = values_of shapes.statics h.statics; constants = constants; left = h.left - heaps.charge kind len })
-      (both ∙ ap₂ (λ xs y. xs ++ y ∷ []) before fresh)
+      let one = kind_more h.objects (heaps.fresh kind len ∷ []) all.backward kind (replicate len 0) (names_none kind len (length h.objects)) in
+      adds_one constants h (heaps.fresh kind len) (heaps.charge kind len) all
+      ∙ ap (λ (x : Object ℕ). paid (heaps.charge kind len) (with_made (store_by p shapes things constants h) x)) one
 
 pub makes : Makes
 makes p shapes things = makes_one p shapes things
+
+pub adds : AddsOne
+adds p shapes things = adds_one p shapes things
+
+-- ---- what pieces hold
+
+pub is_enough : IsEnough
+is_enough objects all k o few = enough objects all.backward k o o few (omega arith)
+
+pub keeps_pieces : KeepsPieces
+keeps_pieces objects more all k o few there = built_more objects more all.backward k o there ∙ is_enough objects all k o few

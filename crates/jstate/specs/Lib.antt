@@ -1,3 +1,4 @@
+pub mod Celled
 pub mod Framed
 pub mod Numbers
 pub mod Seen

@@ -1,5 +1,5 @@
 -- Laws of what the heap stands for.
-use Rattle.std.specs.Prelude.{◌≡◌, ◌⊎◌, ⊤, ℕ, List, None, Some, drop, length, map, option_map, replicate, slice_get, slice_set}
+use Rattle.std.specs.Prelude.{◌≡◌, ◌⊎◌, ◌≤◌, ⊤, ℕ, ◌+◌, ◌-◌, List, [], ◌∷◌, ◌++◌, None, Some, drop, length, map, option_map, replicate, slice_get, slice_set}
 use Rattle.jheap.specs.declared.cell.CellType.{CellType}
 use Rattle.jheap.specs.declared.cell.Kind.{Kind}
 use Rattle.jheap.specs.declared.cell.Kind.TheVariants as kinds
@@ -13,7 +13,7 @@ use Rattle.jmachine.specs.Objects.{Instance, Array}
 use Rattle.jmachine.specs.Store.{object_at, paid, with_made, with_object, with_statics}
 use Rattle.jstate.specs.declared.shapes.Shape.{Shape}
 use Rattle.jstate.specs.declared.shapes.Shapes.{Shapes}
-use Rattle.jstate.specs.Seen.{AreBuilt, Things, array_by, item_type, kind_by, last_of, message_by, object_by, store_by, user_by, values_of}
+use Rattle.jstate.specs.Seen.{AreBuilt, NamesWithin, Things, array_by, built, built_by, item_type, kind_by, last_of, message_by, object_by, store_by, user_by, values_of}
 
 -- The object of a number is what the heap holds there.
 abbrev pub SeesEach : Type 0
@@ -88,3 +88,29 @@ NamesNone kind = (cells : List ℕ) → last_of kind cells ≡ 0
 abbrev pub WrittenStaysBuilt : Type 0
 WrittenStaysBuilt = (h : Heaped) (o i n : ℕ) (x : heaps.Object) → heaps.object_at h o ≡ Some x → NamesNone x.kind → AreBuilt h.objects
     → AreBuilt (heaps.with_cell h o i n).objects
+
+-- ---- objects with pieces
+
+-- One more object, whatever its cells hold, is one more, and is paid; the others stay as they are.
+abbrev pub AddsOne : Type 0
+AddsOne = (p : Program) (shapes : Shapes) (things : Things) (constants : List (List ℕ × ℕ)) (h : Heaped) (x : heaps.Object) (cost : ℕ) → AreBuilt h.objects
+    → store_by p shapes things constants (record h { objects = h.objects ++ x ∷ []; left = h.left - cost })
+    ≡ paid cost (with_made (store_by p shapes things constants h) (object_by p shapes (h.objects ++ x ∷ []) things x))
+
+-- It keeps what holds of the pieces, where those are there that it names.
+abbrev pub MoreStaysBuilt : Type 0
+MoreStaysBuilt = (objects : List heaps.Object) (x : heaps.Object) → AreBuilt objects → x.before ≤ length objects → last_of x.kind x.cells ≤ length objects + 1
+    → AreBuilt (objects ++ x ∷ [])
+
+-- So does a cell that is written, where the piece is there that its object names then.
+abbrev pub NamedStaysBuilt : Type 0
+NamedStaysBuilt = (h : Heaped) (o i n : ℕ) (x : heaps.Object) → heaps.object_at h o ≡ Some x → NamesWithin (length h.objects) (with_number i n x) → AreBuilt h.objects
+    → AreBuilt (heaps.with_cell h o i n).objects
+
+-- What a piece and those in front of it hold stays where there are more objects.
+abbrev pub KeepsPieces : Type 0
+KeepsPieces = (objects more : List heaps.Object) → AreBuilt objects → (k o : ℕ) → o ≤ k → o ≤ length objects → built_by k (objects ++ more) o ≡ built objects o
+
+-- As many steps as its number are enough to the first piece.
+abbrev pub IsEnough : Type 0
+IsEnough = (objects : List heaps.Object) → AreBuilt objects → (k o : ℕ) → o ≤ k → built_by k objects o ≡ built objects o

@@ -1,4 +1,5 @@
-ghost use Rattle.std.specs.Prelude.{◌≡◌, ◌<◌, ◌≤◌, ◌+◌, ◌^◌, ◌∷◌, [], IfOk, OnOk, OnErr, None, Some, MatchBool, drop, length, reverse, slice_get, slice_set, take};
+ghost use Rattle.std.specs.Prelude.{◌≡◌, ◌<◌, ◌≤◌, ◌+◌, ◌^◌, ◌∷◌, [], ℕ, IfOk, OnOk, OnErr, None, Some, MatchBool, drop, length, map, reverse, slice_get, slice_set, take};
+ghost use Rattle.jmachine.specs.Acts.{FrameOf};
 ghost use Rattle.jmachine.specs.Frames.{carrying, standing, with_operands};
 ghost use Rattle.jmachine.specs.Straight.{local_at};
 ghost use Rattle.jstate.specs.Framed.{all, framed, holding, keeping, pushed, starting, with_newest};
@@ -151,6 +152,18 @@ impl<M: Copy> Frames<M> {
         ensures { result ≡ self.now.newest.entry }
     {
         self.at.mark
+    }
+
+    /// What all frames carry, the oldest first.
+    pub fn marks(&self, alloc: Global) -> Result<Vec<M>, AllocError>
+        ensures { IfOk result (λ marks. reverse marks.items ≡ map (λ (f : FrameOf ℕ M). f.entry) (all self.now)) }
+    {
+        let mut marks = Vec::new(alloc);
+        for at in self.below.iter() {
+            marks.push(at.mark)?;
+        }
+        marks.push(self.at.mark)?;
+        Ok(marks)
     }
 
     /// The newest frame goes on at a number.

@@ -1,5 +1,6 @@
+ghost use Rattle.jstate.specs.Celled.{BehindStaysCelled, HasWanted, MadeStaysCelled, MoreStayCelled, NoneAreCelled, WantsAsClass, WrittenStaysCelled};
 ghost use Rattle.jstate.specs.Numbers.{GivesBack};
-ghost use Rattle.jstate.specs.SeenLaws.{MadeStaysBuilt, Makes, Reads, ReadsNone, SeesEach, Writes, WritesField, WritesItem, WritesStatic, WrittenStaysBuilt};
+ghost use Rattle.jstate.specs.SeenLaws.{AddsOne, IsEnough, KeepsPieces, MadeStaysBuilt, Makes, MoreStaysBuilt, NamedStaysBuilt, Reads, ReadsNone, SeesEach, Writes, WritesField, WritesItem, WritesStatic, WrittenStaysBuilt};
 
 use jbase::Seq;
 use jheap::CellType;
@@ -53,4 +54,27 @@ pub fn cell_laws()
 pub fn built_laws()
     ensures made { MadeStaysBuilt }
     ensures written { WrittenStaysBuilt }
+{}
+
+/// The laws of builders and their pieces: one more object, with any cells, is one more, and keeps what holds of the pieces where those are
+/// there that it names; so does a cell that is written. What pieces hold stays, and as many steps as its number lead from one to the first.
+/// It has no body to run; its contract is the laws.
+pub fn piece_laws()
+    ensures adds { AddsOne }
+    ensures more { MoreStaysBuilt }
+    ensures named { NamedStaysBuilt }
+    ensures keeps { KeepsPieces }
+    ensures enough { IsEnough }
+{}
+
+/// What holds of the cells that objects have holds behind what rows do: what is made has as many as its class wants, and what is written
+/// changes nothing of that. It has no body to run; its contract is the laws.
+pub fn celled_laws()
+    ensures none { NoneAreCelled }
+    ensures more { MoreStayCelled }
+    ensures made { MadeStaysCelled }
+    ensures written { WrittenStaysCelled }
+    ensures behind { BehindStaysCelled }
+    ensures wants { WantsAsClass }
+    ensures has { HasWanted }
 {}

@@ -7,9 +7,9 @@ use Rattle.jheap.specs.declared.cell.Kind.TheVariants as kinds
 use Rattle.jheap.specs.Heaps as heaps
 use Rattle.jheap.specs.Heaps.{Heaped, before_at, cells_at}
 use Rattle.jstate.specs.Seen.{AreBuilt, built, built_at, built_by, units_of}
+use Rattle.jstate.specs.SeenLaws.{IsEnough}
 use Rattle.jtexts.specs.HeapBuilders.{AreThere, behind, piece_found, piece_number}
 use Rattle.jtexts.proofs.BuilderRows.{no_front}
-use Rattle.jtexts.proofs.OneMore.{enough}
 
 -- a piece that is there
 pub record IsPiece (h : Heaped) (o : ℕ) : Type 0 where
@@ -61,26 +61,26 @@ pub begins : (h : Heaped) (last : ℕ) (next : Option ℕ) (pieces : List ℕ) �
 begins h last next pieces is none = rw none (gathers h last next [] tt last is refl)
 
 -- what a piece holds is what stands in front of it, and its own units
-piece_built : (h : Heaped) (o b : ℕ) → AreBuilt h.objects → IsPiece h o → Some b ≡ before_at h o
+piece_built : IsEnough → (h : Heaped) (o b : ℕ) → AreBuilt h.objects → IsPiece h o → Some b ≡ before_at h o
     → built h.objects o ≡ built h.objects b ++ units_of (cells_at h o)
-piece_built h o b all it is =
+piece_built enough h o b all it is =
     let low = all.backward it.place it.object it.at in
     let named : Some b ≡ Some it.object.before = rw (it.number, it.at) at is in
     let same : b ≡ it.object.before = cc in
     let one : built h.objects (suc it.place) ≡ built_by it.place h.objects it.object.before ++ units_of it.object.cells =
     built_is h.objects it.place (Some it.object) it.at ∙ rw it.kind refl in
-    let front = enough h.objects all.backward it.place it.object.before it.object.before low (omega arith) in
+    let front = enough h.objects all it.place it.object.before low in
     rw (it.number, it.at, same) (one ∙ ap (λ us. us ++ units_of it.object.cells) front)
 
 pub is_there : (h : Heaped) (o : ℕ) → IsPiece h o → is_some (heaps.object_at h o) ≡ true
 is_there h o it = rw (it.number, it.at) refl
 
-pub gathers_on : (h : Heaped) (last o b : ℕ) (next : Option ℕ) (pieces more : List ℕ) → AreBuilt h.objects → Gathers h last (Some o) (reverse pieces)
+pub gathers_on : IsEnough → (h : Heaped) (last o b : ℕ) (next : Option ℕ) (pieces more : List ℕ) → AreBuilt h.objects → Gathers h last (Some o) (reverse pieces)
     → Some b ≡ before_at h o → next ≡ piece_number h b
     → more ≡ pieces ++ o ∷ [] → Gathers h last next (reverse more)
-gathers_on h last o b next pieces more all (it, whole, there) is found pushed =
+gathers_on enough h last o b next pieces more all (it, whole, there) is found pushed =
     let turned : reverse more ≡ o ∷ reverse pieces = ap reverse pushed ∙ reverse-append pieces (o ∷ []) in
-    let front = ap (λ us. behind h us (reverse pieces)) (sym (piece_built h o b all it is)) in
+    let front = ap (λ us. behind h us (reverse pieces)) (sym (piece_built enough h o b all it is)) in
     rw turned (gathers h last next (o ∷ reverse pieces) (is_there h o it, there) b found (front ∙ whole))
 
 pub gathers_fewer : (h : Heaped) (o b : ℕ) (was next : Option ℕ) → AreBuilt h.objects → was ≡ Some o → IsPiece h o → Some b ≡ before_at h o

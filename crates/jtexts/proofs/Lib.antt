@@ -1,13 +1,13 @@
 mod Appending
 mod BuilderRows
+mod Celling
+mod ConstantRows
 mod Costs
 mod Gathering
 mod LoadRows
 mod Numbered
-mod OneMore
 mod PrintRows
 mod Reading
-mod StaysBuilt
 mod StringRows
 mod TellingRows
 mod TextRows

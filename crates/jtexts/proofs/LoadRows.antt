@@ -13,6 +13,7 @@ use Rattle.jmachine.specs.Objects.{Text}
 use Rattle.jmachine.specs.Store.{Store, constant_at, next_number, paid, with_made}
 use Rattle.jstate.specs.declared.shapes.Shapes.{Shapes}
 use Rattle.jstate.specs.Seen.{AreBuilt, Things, object_by, store_by}
+use Rattle.jstate.specs.SeenLaws.{AddsOne}
 use Rattle.jtexts.specs.HeapTexts.{Puts}
 use Rattle.jtexts.specs.Rans.{Comes, leaves}
 use Rattle.jtexts.specs.declared.ran.Ran.TheVariants as rans
@@ -43,11 +44,11 @@ module _ (E : Type 0) (p : Program) (shapes : Shapes) (things : Things) (constan
       let short : nat_le (2 + length us) old.left ≡ false = search rules in
       rw (held, none, short) (ap (λ h. leaves rans.Full [] (at h)) is)
 
-  pub made_row : (old new : Heaped) (o : ℕ) → AreBuilt old.objects → ((i : ℕ) → get_or us i 0 < 2 ^ 16) → units_held bytes ≡ us → constant_at constants us ≡ None → Puts kinds.Text us old new (Some o)
+  pub made_row : AddsOne → (old new : Heaped) (o : ℕ) → AreBuilt old.objects → ((i : ℕ) → get_or us i 0 < 2 ^ 16) → units_held bytes ≡ us → constant_at constants us ≡ None → Puts kinds.Text us old new (Some o)
       → Comes {E = E} (at old) (push (at old) (meanings.Text bytes) []) (leaves (rans.Gave (Ref o)) [] (store_by p shapes things (constants ++ (us, o) ∷ []) new))
   unfolding push
-  made_row old new o built small held none (few, number, is) =
+  made_row adds old new o built small held none (few, number, is) =
       let next : o ≡ next_number (at old) = number ∙ ap (λ k. k + 1) (sym (length-map old.objects (object_by p shapes old.objects things))) in
-      let view = text_view p shapes things (constants ++ (us, o) ∷ []) us old new built small is in
+      let view = text_view adds p shapes things (constants ++ (us, o) ∷ []) us old new built small is in
       let there = ap (λ n. paid (2 + length us) (with_made (store_by p shapes things (constants ++ (us, n) ∷ []) old) (Text (Some us)))) next in
       rw (held, none, le-leb (2 + length us) old.left few) (ap₂ (λ (n : ℕ) (t : Store ℕ). leaves (rans.Gave (Ref n)) [] t) next (view ∙ there))

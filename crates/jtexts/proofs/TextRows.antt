@@ -11,18 +11,18 @@ use Rattle.jmachine.specs.Objects.{Text}
 use Rattle.jmachine.specs.Store.{Store, next_number, paid, with_made}
 use Rattle.jstate.specs.declared.shapes.Shapes.{Shapes}
 use Rattle.jstate.specs.Seen.{AreBuilt, Things, object_by, store_by}
+use Rattle.jstate.specs.SeenLaws.{AddsOne}
 use Rattle.jtexts.specs.HeapTexts.{Puts, with_units}
 use Rattle.jtexts.specs.Rans.{leaves}
 use Rattle.jtexts.specs.declared.ran.Ran.TheVariants as rans
-use Rattle.jtexts.proofs.OneMore.{one_more}
 use Rattle.jtexts.proofs.Units.{units_same}
 
-module _ (p : Program) (shapes : Shapes) (things : Things) (constants : List (List ℕ × ℕ)) where
+module _ (adds : AddsOne) (p : Program) (shapes : Shapes) (things : Things) (constants : List (List ℕ × ℕ)) where
   pub text_view : (us : List ℕ) (old new : Heaped) → AreBuilt old.objects → ((i : ℕ) → get_or us i 0 < 2 ^ 16) → new ≡ with_units kinds.Text us old
       → store_by p shapes things constants new ≡ paid (2 + length us) (with_made (store_by p shapes things constants old) (Text (Some us)))
   text_view us old new built small is =
       ap (store_by p shapes things constants) is
-      ∙ one_more p shapes things constants old (record { kind = kinds.Text; cells = us; before = 0 }) (2 + length us) built
+      ∙ adds p shapes things constants old (record { kind = kinds.Text; cells = us; before = 0 }) (2 + length us) built
       ∙ ap (λ u. paid (2 + length us) (with_made (store_by p shapes things constants old) (Text (Some u)))) (units_same us small)
 
   pub text_row : (us : List ℕ) (old new : Heaped) (o : ℕ) → AreBuilt old.objects → ((i : ℕ) → get_or us i 0 < 2 ^ 16) → Puts kinds.Text us old new (Some o)

@@ -7,9 +7,10 @@ use Rattle.jheap.specs.declared.cell.Kind.{Kind}
 use Rattle.jheap.specs.declared.cell.Kind.TheVariants as kinds
 use Rattle.jheap.specs.Heaps as heaps
 use Rattle.jheap.specs.Heaps.{Heaped, Makes, cells_at, changed, charge, made, with_cell}
+use Rattle.jstate.specs.Celled.{MoreStayCelled, StayCelled}
 use Rattle.jstate.specs.Seen.{AreBuilt}
+use Rattle.jstate.specs.SeenLaws.{MoreStaysBuilt}
 use Rattle.jtexts.specs.HeapTexts.{HoldsUnits, Puts, with_units, written}
-use Rattle.jtexts.proofs.StaysBuilt.{stays_built}
 
 abbrev with_number : ℕ → ℕ → heaps.Object → heaps.Object
 with_number i n x = record x { cells = slice_set x.cells i n }
@@ -80,11 +81,20 @@ pub put_none : (kind : Kind) (us : List ℕ) (old new : Heaped) → HoldsUnits k
 put_none kind us old new holds (few, is) = let cost = two_more kind (length us) holds in (omega (arith, few, cost), is)
 
 -- what is put names no piece
-pub units_stay : (kind : Kind) (us : List ℕ) (old new : Heaped) (o : ℕ) → HoldsUnits kind → AreBuilt old.objects → Puts kind us old new (Some o)
+pub units_stay : MoreStaysBuilt → (kind : Kind) (us : List ℕ) (old new : Heaped) (o : ℕ) → HoldsUnits kind → AreBuilt old.objects → Puts kind us old new (Some o)
     → AreBuilt new.objects
-units_stay (kinds.Object c) us old new o holds all puts = absurd holds
-units_stay (kinds.Array a) us old new o holds all puts = absurd holds
-units_stay kinds.Text us old new o holds all (few, number, is) =
-    rw is (stays_built old.objects (record { kind = kinds.Text; cells = us; before = 0 }) all (omega arith) (omega arith))
-units_stay kinds.Piece us old new o holds all (few, number, is) =
-    rw is (stays_built old.objects (record { kind = kinds.Piece; cells = us; before = 0 }) all (omega arith) (omega arith))
+units_stay law (kinds.Object c) us old new o holds all puts = absurd holds
+units_stay law (kinds.Array a) us old new o holds all puts = absurd holds
+units_stay law kinds.Text us old new o holds all (few, number, is) =
+    rw is (law old.objects (record { kind = kinds.Text; cells = us; before = 0 }) all (omega arith) (omega arith))
+units_stay law kinds.Piece us old new o holds all (few, number, is) =
+    rw is (law old.objects (record { kind = kinds.Piece; cells = us; before = 0 }) all (omega arith) (omega arith))
+
+-- and texts and pieces may have as many cells as they like
+pub units_celled : MoreStayCelled → (kind : Kind) (us : List ℕ) (old new : Heaped) (o : ℕ) → HoldsUnits kind → Puts kind us old new (Some o) → StayCelled old.objects new.objects
+units_celled law (kinds.Object c) us old new o holds puts shapes all = absurd holds
+units_celled law (kinds.Array a) us old new o holds puts shapes all = absurd holds
+units_celled law kinds.Text us old new o holds (few, number, is) shapes all =
+    rw is (law shapes old.objects (record { kind = kinds.Text; cells = us; before = 0 }) (λ n wants. cc) all)
+units_celled law kinds.Piece us old new o holds (few, number, is) shapes all =
+    rw is (law shapes old.objects (record { kind = kinds.Piece; cells = us; before = 0 }) (λ n wants. cc) all)

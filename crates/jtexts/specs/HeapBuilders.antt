@@ -8,6 +8,8 @@ use Rattle.jheap.specs.declared.cell.Kind.TheVariants as kinds
 use Rattle.jheap.specs.Heaps.{Heaped, HasCell, cells_at, kind_at, object_at}
 use Rattle.jlib.specs.declared.classes.LibClass.TheVariants as lib
 use Rattle.jlib.specs.declared.classes.Thrown.TheVariants as thrown
+use Rattle.jstate.specs.declared.shapes.Shapes.{Shapes}
+use Rattle.jstate.specs.Celled.{AreCelled}
 use Rattle.jstate.specs.Numbers.{library_number}
 use Rattle.jstate.specs.Seen.{first, named_by, units_of}
 use Rattle.jtexts.specs.declared.ran.Ran.{Ran}
@@ -25,6 +27,10 @@ builder_number h v = None
 -- What a value names has the cell for its last piece, if it is a builder.
 abbrev pub HasLast : Heaped → Value ℕ → Type 0
 HasLast h v = (b : ℕ) → Some b ≡ builder_number h v → HasCell h b 0
+
+-- It has it where objects have the cells that their classes want.
+abbrev pub LastFollows : Type 0
+LastFollows = (shapes : Shapes) (h : Heaped) (v : Value ℕ) → AreCelled shapes h.objects → HasLast h v
 
 -- the last piece of a builder
 abbrev pub last_piece : Heaped → ℕ → ℕ

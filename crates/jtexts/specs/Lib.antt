@@ -1,3 +1,4 @@
+pub mod Constants
 pub mod HeapBuilders
 pub mod HeapTexts
 pub mod Loaded

@@ -12,6 +12,7 @@ use Rattle.jprogram.specs.declared.part.ClassRef.{ClassRef}
 use Rattle.jprogram.specs.declared.part.ClassRef.TheVariants as refs
 use Rattle.jstate.specs.declared.shapes.Shape.{Shape}
 use Rattle.jstate.specs.declared.shapes.Shapes.{Shapes}
+use Rattle.jstate.specs.Celled.{AreCelled}
 use Rattle.jstate.specs.Numbers.{class_numbered}
 use Rattle.jstate.specs.Seen.{first, message_by, named_by}
 
@@ -74,6 +75,26 @@ CanTell shapes h o = (m : ℕ) → object_told shapes (object_at h o) ≡ Some m
 abbrev pub CanBeTold : Shapes → Heaped → Value ℕ → Type 0
 CanBeTold shapes h (Ref o) = CanTell shapes h o
 CanBeTold shapes h v = ⊤
+
+-- whether objects of a user's class have one, by its shape
+abbrev pub may_tell : Option Shape → Bool
+may_tell None = false
+may_tell (Some shape) = shape.message
+
+-- If the object of a number is of a user's class, objects of this can have a message.
+abbrev pub MayTell : Shapes → Heaped → ℕ → Type 0
+MayTell shapes h o = (n i : ℕ) → kind_at h o ≡ Some (kinds.Object n) → class_numbered n ≡ refs.User i → may_tell (slice_get shapes.users i) ≡ true
+
+abbrev pub MayBeTold : Shapes → Heaped → Value ℕ → Type 0
+MayBeTold shapes h (Ref o) = MayTell shapes h o
+MayBeTold shapes h v = ⊤
+
+-- The cells for messages are there where objects have the cells that their classes want.
+abbrev pub TellFollows : Type 0
+TellFollows = (shapes : Shapes) (h : Heaped) (o : ℕ) → AreCelled shapes h.objects → MayTell shapes h o → CanTell shapes h o
+
+abbrev pub ToldFollows : Type 0
+ToldFollows = (shapes : Shapes) (h : Heaped) (v : Value ℕ) → AreCelled shapes h.objects → MayBeTold shapes h v → CanBeTold shapes h v
 
 -- the object that a value names
 abbrev pub named_as : Value ℕ → Option ℕ

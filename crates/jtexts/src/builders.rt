@@ -6,6 +6,7 @@ ghost use Rattle.jlib.specs.declared.calls.BuilderCall.TheVariants as calls;
 ghost use Rattle.jprogram.specs.Classes.{Program};
 ghost use Rattle.jmachine.specs.Texts.{appended, builder as builder_row};
 ghost use Rattle.jstate.specs.declared.shapes.Shapes.{Shapes};
+ghost use Rattle.jstate.specs.Celled.{StayCelled};
 ghost use Rattle.jstate.specs.Seen.{AreBuilt, Things, built as built_from, store_by};
 ghost use Rattle.jtexts.specs.HeapBuilders.{AreThere, HasLast, behind, builder_number, last_piece, piece_number, without_text};
 ghost use Rattle.jtexts.specs.HeapTexts.{names_nothing};
@@ -19,7 +20,7 @@ use crate::thrown::named_at;
 use jheap::{Heap, Kind};
 use jlib::{LibClass, Piece, Thrown};
 use jops::Value;
-use jstate::heap_laws;
+use jstate::{celled_laws, heap_laws, piece_laws};
 use std::alloc::{AllocError, Global};
 
 /// The heap's number for StringBuilder.
@@ -78,8 +79,11 @@ fn append_units<M>(
         gave results ≡ done → let s = store_by p shapes things constants heap.old in
         Comes {E = M} s (Some (appended s b results (built_from heap.old.objects last) units.now)) (leaves ran [] (store_by p shapes things constants heap.new))) }
     ensures built { OnOk result (AreBuilt heap.new.objects) }
+    ensures celled { OnOk result (StayCelled heap.old.objects heap.new.objects) }
 {
     heap_laws();
+    piece_laws();
+    celled_laws();
     match put_units(alloc, heap, Kind::Piece, units)? {
         None => Ok(Ran::Full),
         Some(o) => {
@@ -111,6 +115,7 @@ fn append_text<M>(alloc: Global, heap: &mut Heap, b: u32, units: &[u16]) -> Resu
         Comes {E = M} s (Some (appended s b (values.Ref b ∷ []) (built_from heap.old.objects (last_piece heap.old b)) units.now))
         (leaves ran [] (store_by p shapes things constants heap.new))) }
     ensures built { OnOk result (AreBuilt heap.new.objects) }
+    ensures celled { OnOk result (StayCelled heap.old.objects heap.new.objects) }
 {
     let last = last_of(heap, b);
     append_units::<M>(alloc, heap, b, last, units, Ran::Gave(Value::Ref(b)))
@@ -130,6 +135,7 @@ pub fn append<M>(
         let s = store_by p shapes things constants heap.old in
         Comes {E = M} s (builder_row s (calls.Append piece) (value ∷ builder ∷ [])) (leaves ran [] (store_by p shapes things constants heap.new))) }
     ensures built { OnOk result (AreBuilt heap.new.objects) }
+    ensures celled { OnOk result (StayCelled heap.old.objects heap.new.objects) }
 {
     heap_laws();
     let Some(b) = builder_of(heap, builder) else {
@@ -150,8 +156,11 @@ pub fn builder_init<M>(heap: &mut Heap, builder: Value) -> Ran
         let s = store_by p shapes things constants heap.old in
         Comes {E = M} s (builder_row s calls.Init (builder ∷ [])) (leaves result [] (store_by p shapes things constants heap.new)) }
     ensures built { AreBuilt heap.new.objects }
+    ensures celled { StayCelled heap.old.objects heap.new.objects }
 {
     heap_laws();
+    piece_laws();
+    celled_laws();
     let Some(b) = builder_of(heap, builder) else {
         return Ran::Stuck;
     };
@@ -173,6 +182,7 @@ fn hold_text<M>(
         let s = store_by p shapes things constants heap.old in
         Comes {E = M} s (builder_row s calls.InitText (text ∷ builder ∷ [])) (leaves ran [] (store_by p shapes things constants heap.new))) }
     ensures built { OnOk result (AreBuilt heap.new.objects) }
+    ensures celled { OnOk result (StayCelled heap.old.objects heap.new.objects) }
 {
     heap_laws();
     let Some(b) = builder_of(heap, builder) else {
@@ -212,6 +222,7 @@ pub fn builder_of_text<M>(
         let s = store_by p shapes things constants heap.old in
         Comes {E = M} s (builder_row s calls.InitText (text ∷ builder ∷ [])) (leaves ran [] (store_by p shapes things constants heap.new))) }
     ensures built { OnOk result (AreBuilt heap.new.objects) }
+    ensures celled { OnOk result (StayCelled heap.old.objects heap.new.objects) }
 {
     if is_null(text) {
         return Ok(no_text(builder));
@@ -239,6 +250,7 @@ fn pieces_of(alloc: Global, heap: &Heap, last: u32) -> Result<Vec<u32>, AllocErr
     ensures units { IfOk result (λ pieces. behind heap.now [] (reverse pieces.items) ≡ built_from heap.now.objects last) }
     ensures there { IfOk result (λ pieces. AreThere heap.now (reverse pieces.items)) }
 {
+    piece_laws();
     let mut pieces = Vec::new(alloc);
     let mut next = piece_at(heap, last);
     while let Some(o) = next {
@@ -282,6 +294,7 @@ pub fn built_text<M>(alloc: Global, heap: &mut Heap, builder: Value) -> Result<R
         let s = store_by p shapes things constants heap.old in
         Comes {E = M} s (builder_row s calls.ToString (builder ∷ [])) (leaves ran [] (store_by p shapes things constants heap.new))) }
     ensures built { OnOk result (AreBuilt heap.new.objects) }
+    ensures celled { OnOk result (StayCelled heap.old.objects heap.new.objects) }
 {
     heap_laws();
     let Some(b) = builder_of(heap, builder) else {

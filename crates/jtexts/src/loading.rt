@@ -4,6 +4,7 @@ ghost use Rattle.juses.specs.Meanings as meanings;
 ghost use Rattle.jmachine.specs.Making.{push, units_of as units_held};
 ghost use Rattle.jmachine.specs.Store.{Store, constant_at};
 ghost use Rattle.jstate.specs.declared.shapes.Shapes.{Shapes};
+ghost use Rattle.jstate.specs.Celled.{StayCelled};
 ghost use Rattle.jstate.specs.Seen.{AreBuilt, Things, store_by};
 ghost use Rattle.jtexts.specs.Loaded.{constants_behind};
 ghost use Rattle.jtexts.specs.Rans.{Comes, leaves};
@@ -12,6 +13,7 @@ use crate::making::put_units;
 use crate::ran::Ran;
 use jheap::{Heap, Kind};
 use jops::Value;
+use jstate::piece_laws;
 use std::alloc::{AllocError, Global};
 
 /// An int constant (JVMS 6.5: ldc). `M` is what frames carry, which no constant looks at.
@@ -38,7 +40,9 @@ fn first_load<M>(alloc: Global, heap: &mut Heap, units: &[u16]) -> Result<Ran, A
         let s = store_by p shapes things constants heap.old in
         Comes {E = M} s (push s (meanings.Text bytes) []) (leaves ran [] (store_by p shapes things (constants_behind None ran units.now constants) heap.new))) }
     ensures built { OnOk result (AreBuilt heap.new.objects) }
+    ensures celled { OnOk result (StayCelled heap.old.objects heap.new.objects) }
 {
+    piece_laws();
     match put_units(alloc, heap, Kind::Text, units)? {
         None => Ok(Ran::Full),
         Some(o) => Ok(Ran::Gave(Value::Ref(o))),
@@ -60,6 +64,7 @@ pub fn load_text<M>(
         let s = store_by p shapes things constants heap.old in
         Comes {E = M} s (push s (meanings.Text bytes) []) (leaves ran [] (store_by p shapes things (constants_behind known ran units.now constants) heap.new))) }
     ensures built { OnOk result (AreBuilt heap.new.objects) }
+    ensures celled { OnOk result (StayCelled heap.old.objects heap.new.objects) }
 {
     match known {
         Some(o) => Ok(Ran::Gave(Value::Ref(o))),

@@ -3,6 +3,7 @@ ghost use Rattle.jheap.specs.Heaps.{cells_at};
 ghost use Rattle.jprogram.specs.Classes.{Program};
 ghost use Rattle.jmachine.specs.Making as making;
 ghost use Rattle.jstate.specs.declared.shapes.Shapes.{Shapes};
+ghost use Rattle.jstate.specs.Celled.{StayCelled};
 ghost use Rattle.jstate.specs.Seen.{AreBuilt, Things, store_by};
 ghost use Rattle.jtexts.specs.HeapTexts.{HoldsUnits, Puts, written};
 ghost use Rattle.jtexts.specs.Rans.{Comes, leaves};
@@ -10,6 +11,7 @@ ghost use Rattle.jtexts.specs.Rans.{Comes, leaves};
 use crate::ran::Ran;
 use jheap::{Heap, Kind};
 use jops::Value;
+use jstate::{celled_laws, piece_laws};
 use std::alloc::{AllocError, Global};
 
 /// Writes units into the cells of a text or a piece, of which there are as many.
@@ -37,7 +39,10 @@ pub(crate) fn put_units(
     requires built { AreBuilt heap.old.objects }
     ensures puts { IfOk result (λ o. Puts kind units.now heap.old heap.new o) }
     ensures built { OnOk result (AreBuilt heap.new.objects) }
+    ensures celled { OnOk result (StayCelled heap.old.objects heap.new.objects) }
 {
+    piece_laws();
+    celled_laws();
     if units.len() >= heap.left() as usize {
         return Ok(None);
     }
@@ -55,7 +60,9 @@ pub(crate) fn text_made<M>(alloc: Global, heap: &mut Heap, units: &[u16]) -> Res
         let s = store_by p shapes things constants heap.old in
         Comes {E = M} s (Some (making.text_made s units.now)) (leaves ran [] (store_by p shapes things constants heap.new))) }
     ensures built { OnOk result (AreBuilt heap.new.objects) }
+    ensures celled { OnOk result (StayCelled heap.old.objects heap.new.objects) }
 {
+    piece_laws();
     match put_units(alloc, heap, Kind::Text, units)? {
         None => Ok(Ran::Full),
         Some(o) => Ok(Ran::Gave(Value::Ref(o))),

@@ -1,3 +1,5 @@
+ghost use Rattle.jtexts.specs.Rans.{GoesFree};
+
 use jlib::LibClass;
 use jops::Value;
 
@@ -15,3 +17,9 @@ pub enum Ran {
     /// The state has no step.
     Stuck,
 }
+
+/// The law of calls that cost nothing. It has no body to run; its contract is the law.
+#[tactic(auto, using(crate::proofs::Costs::at_no_cost))]
+pub fn ran_laws()
+    ensures { GoesFree }
+{}

@@ -7,6 +7,7 @@ ghost use Rattle.jprogram.specs.Classes.{Program};
 ghost use Rattle.jmachine.specs.Narrowing.{place};
 ghost use Rattle.jmachine.specs.Texts.{string};
 ghost use Rattle.jstate.specs.declared.shapes.Shapes.{Shapes};
+ghost use Rattle.jstate.specs.Celled.{StayCelled};
 ghost use Rattle.jstate.specs.Seen.{AreBuilt, Things, store_by, units_of};
 ghost use Rattle.jtexts.specs.Rans.{Comes, flag as flag_value, leaves};
 
@@ -136,6 +137,7 @@ pub fn concat<M>(
         let s = store_by p shapes things constants heap.old in
         Comes {E = M} s (string s calls.Concat (more ∷ text ∷ [])) (leaves ran [] (store_by p shapes things constants heap.new))) }
     ensures built { OnOk result (AreBuilt heap.new.objects) }
+    ensures celled { OnOk result (StayCelled heap.old.objects heap.new.objects) }
 {
     heap_laws();
     if is_null(more) {

@@ -9,7 +9,7 @@ use std::alloc::AllocError;
 
 /// Whether a value is null.
 #[inline]
-pub(crate) fn is_null(value: Value) -> bool
+pub fn is_null(value: Value) -> bool
     ensures { result ≡ names_nothing value }
 {
     match value {

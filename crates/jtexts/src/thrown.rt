@@ -5,6 +5,7 @@ ghost use Rattle.jmachine.specs.Library.{object_init as init_row};
 ghost use Rattle.jmachine.specs.Store.{Store};
 ghost use Rattle.jlib.specs.declared.calls.ThrownInit.TheVariants as given;
 ghost use Rattle.jmachine.specs.Throwables.{init as thrown_init, message as message_row, told as told_row};
+ghost use Rattle.jstate.specs.Celled.{StayCelled};
 ghost use Rattle.jstate.specs.Numbers.{class_numbered, library_at, library_count};
 ghost use Rattle.jstate.specs.Seen.{AreBuilt, Things, first, named_by, store_by};
 ghost use Rattle.jtexts.specs.Messages.{CanBeTold, CanTell, has_message, message_by_shape, message_named, message_place, named_as, place_by, shape_place, told_by};
@@ -13,7 +14,7 @@ ghost use Rattle.jtexts.specs.Rans.{Comes, leaves};
 use crate::ran::Ran;
 use jheap::{CellType, Heap, Kind};
 use jops::Value;
-use jstate::{Shapes, built_laws, heap_laws};
+use jstate::{Shapes, built_laws, celled_laws, heap_laws};
 
 /// The constructor of Object does nothing. `M` is what frames carry, which no call looks at.
 #[inline]
@@ -180,9 +181,11 @@ fn tell<M>(heap: &mut Heap, shapes: &Shapes, o: u32, m: u32) -> Ran
         let s = store_by p shapes.now things constants heap.old in
         Comes {E = M} s (told_row s o m) (leaves result [] (store_by p shapes.now things constants heap.new)) }
     ensures built { AreBuilt heap.new.objects }
+    ensures celled { StayCelled heap.old.objects heap.new.objects }
 {
     heap_laws();
     built_laws();
+    celled_laws();
     match place_in(heap, shapes, o) {
         None => Ran::Stuck,
         Some(i) => {
@@ -194,7 +197,7 @@ fn tell<M>(heap: &mut Heap, shapes: &Shapes, o: u32, m: u32) -> Ran
 
 /// The object that a value names, where it is a reference.
 #[inline]
-fn reference(value: Value) -> Option<u32>
+pub fn reference(value: Value) -> Option<u32>
     ensures { result ≡ named_as value }
 {
     match value {
@@ -213,6 +216,7 @@ pub fn init<M>(heap: &mut Heap, shapes: &Shapes, thrown: Value) -> Ran
         let s = store_by p shapes.now things constants heap.old in
         Comes {E = M} s (thrown_init s given.Nothing (thrown ∷ [])) (leaves result [] (store_by p shapes.now things constants heap.new)) }
     ensures built { AreBuilt heap.new.objects }
+    ensures celled { StayCelled heap.old.objects heap.new.objects }
 {
     match reference(thrown) {
         None => Ran::Stuck,
@@ -228,6 +232,7 @@ pub fn init_message<M>(heap: &mut Heap, shapes: &Shapes, thrown: Value, message:
         let s = store_by p shapes.now things constants heap.old in
         Comes {E = M} s (thrown_init s given.Message (message ∷ thrown ∷ [])) (leaves result [] (store_by p shapes.now things constants heap.new)) }
     ensures built { AreBuilt heap.new.objects }
+    ensures celled { StayCelled heap.old.objects heap.new.objects }
 {
     let Some(o) = reference(thrown) else {
         return Ran::Stuck;

@@ -3,7 +3,7 @@ use Rattle.std.specs.Prelude.{slice_get}
 use Rattle.std.specs.Int.{w32}
 use Rattle.jstate.specs.Seen.{store_by}
 use Rattle.jacts.specs.Ways.{int_in}
-use Rattle.jacts.proofs.NewArrays.{made_all, made_stays, new_negative, new_stuck, of_place}
+use Rattle.jacts.proofs.NewArrays.{made_all, made_celled, made_stays, new_negative, new_stuck, of_place}
 use Rattle.jacts.proofs.arrays.new_array.Goals as goal
 
 pub returns-in_default-clause-row : goal.returns-in_default-clause-row
@@ -29,3 +29,8 @@ pub returns-in-Some-count_of-clause-built : goal.returns-in-Some-count_of-clause
 returns-in-Some-count_of-clause-built g c =
     made_stays c.built_laws.ensures.made c.make_array.result c.args.number c.in-Some-count_of.count c.args.frames.now c.make_array.new.frames c.args.heap.now c.make_array.new.heap
     c.make_array.ensures c.requires.built
+
+pub returns-in-Some-count_of-clause-celled : goal.returns-in-Some-count_of-clause-celled
+returns-in-Some-count_of-clause-celled g c =
+    made_celled c.celled_laws.ensures.made c.make_array.result c.args.number c.in-Some-count_of.count c.args.frames.now c.make_array.new.frames c.args.heap.now c.make_array.new.heap
+    c.make_array.ensures

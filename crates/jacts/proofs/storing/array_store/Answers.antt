@@ -10,7 +10,7 @@ use Rattle.jacts.specs.Accesses.{kept_if}
 use Rattle.jacts.specs.Items.{array_seen}
 use Rattle.jacts.specs.Ways.{int_in}
 use Rattle.jacts.proofs.Accessing.{kept_array, second_there}
-use Rattle.jacts.proofs.Puts.{has_third, is_third, put_row, put_stays, store_no_index, store_no_value, store_null, store_other}
+use Rattle.jacts.proofs.Puts.{has_third, is_third, put_celled, put_row, put_stays, store_no_index, store_no_value, store_null, store_other}
 use Rattle.jacts.proofs.storing.array_store.Goals as goal
 
 pub returns-in_default-clause-row : goal.returns-in_default-clause-row
@@ -54,3 +54,10 @@ returns-in-Array-clause-built g c built =
     put_stays c.built_laws.ensures.written c.args.frames.now c.put_item.new.frames c.args.heap.now c.put_item.new.heap c.in-Array.o c.in-Array.a c.held_by.result c.put_item.result
     (slice_get c.args.frames.now.newest.operands 2) (within (length (cells_at c.args.heap.now c.in-Array.o)) (place c.in-Some-int_at.i))
     (kept_array c.args.shapes.now c.args.e c.in-Array.o c.in-Array.a (array_seen c.args.heap.now (slice_get c.args.frames.now.newest.operands 2)) c.in-Array.ensures).0 put built
+
+pub returns-in-Array-clause-celled : goal.returns-in-Array-clause-celled
+returns-in-Array-clause-celled g c =
+    let i_is : to_z w32 (of_z w32 c.in-Some-int_at.i) ≡ c.in-Some-int_at.i = search rules in
+    let put = rw i_is at c.put_item.ensures in
+    put_celled c.celled_laws.ensures.written c.args.frames.now c.put_item.new.frames c.args.heap.now c.put_item.new.heap c.in-Array.o c.held_by.result c.put_item.result
+    (within (length (cells_at c.args.heap.now c.in-Array.o)) (place c.in-Some-int_at.i)) put

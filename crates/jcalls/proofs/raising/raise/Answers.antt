@@ -1,4 +1,4 @@
-use Rattle.jcalls.proofs.Throwing.{all_raised, built_on, full_so, made_built, made_heap, none_built, none_heap, none_made, one_made}
+use Rattle.jcalls.proofs.Throwing.{all_raised, full_so, holds_on, made_built, made_celled, made_heap, none_built, none_celled, none_heap, none_made, one_made}
 use Rattle.jcalls.proofs.raising.raise.Goals as goal
 
 pub returns-in_default-clause-row : goal.returns-in_default-clause-row
@@ -19,8 +19,17 @@ returns-in_default-clause-built g c =
 
 pub returns-clause-built : goal.returns-clause-built
 returns-clause-built g c =
-    built_on c.throw_object.result c.make.new.self (made_built c.built_laws.ensures.made c.args.number c.args.heap.now c.make.new.self c.in_ok-object.field-0
+    holds_on c.throw_object.result (made_built c.built_laws.ensures.made c.args.number c.args.heap.now c.make.new.self c.in_ok-object.field-0
     c.in-Some.object c.in-Some.is c.in_ok-object.ensures.ok c.requires.built)
+
+pub returns-in_default-clause-celled : goal.returns-in_default-clause-celled
+returns-in_default-clause-celled g c =
+    none_celled c.args.number c.args.heap.now c.make.new.self c.in_ok-object.field-0 c.in_default.is c.in_ok-object.ensures.ok
+
+pub returns-clause-celled : goal.returns-clause-celled
+returns-clause-celled g c =
+    holds_on c.throw_object.result (made_celled c.celled_laws.ensures.made c.celled_laws.ensures.wants c.args.class c.args.number c.args.heap.now c.make.new.self c.in_ok-object.field-0
+    c.in-Some.object c.requires.number c.in-Some.is c.in_ok-object.ensures.ok)
 
 pub returns-in_default-clause-heap : goal.returns-in_default-clause-heap
 returns-in_default-clause-heap g c =

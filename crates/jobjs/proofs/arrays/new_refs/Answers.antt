@@ -5,7 +5,7 @@ use Rattle.juses.specs.Types.{array_named}
 use Rattle.jstate.specs.Seen.{array_at, store_by}
 use Rattle.jacts.specs.Ways.{int_in}
 use Rattle.jacts.proofs.Jumping.{has_one}
-use Rattle.jacts.proofs.NewArrays.{made_stays, of_place}
+use Rattle.jacts.proofs.NewArrays.{made_celled, made_stays, of_place}
 use Rattle.jobjs.proofs.Refs.{all_refs, refs_negative, refs_stuck}
 use Rattle.jobjs.proofs.arrays.new_refs.Goals as goal
 
@@ -35,3 +35,8 @@ pub returns-in-Some-count_of-clause-built : goal.returns-in-Some-count_of-clause
 returns-in-Some-count_of-clause-built g c =
     made_stays c.built_laws.ensures.made c.make_array.result c.args.number c.in-Some-count_of.count c.args.frames.now c.make_array.new.frames c.args.heap.now c.make_array.new.heap
     c.make_array.ensures c.requires.built
+
+pub returns-in-Some-count_of-clause-celled : goal.returns-in-Some-count_of-clause-celled
+returns-in-Some-count_of-clause-celled g c =
+    made_celled c.celled_laws.ensures.made c.make_array.result c.args.number c.in-Some-count_of.count c.args.frames.now c.make_array.new.frames c.args.heap.now c.make_array.new.heap
+    c.make_array.ensures

@@ -52,3 +52,7 @@ returns-else-slot-len-clause-built g c built =
     let high : library_count ≤ c.in-Object.n = search rules in
     rw c.put_cell.ensures.heap
     (put_stays c.built_laws.ensures.written c.args.heap.now c.args.frames.now.newest.operands c.in-Object.o c.in-Object.n c.args.slot (raw c.narrowed-value.result) c.in-Object.ensures high built)
+
+pub returns-else-slot-len-clause-celled : goal.returns-else-slot-len-clause-celled
+returns-else-slot-len-clause-celled g c shapes all =
+    rw c.put_cell.ensures.heap (c.celled_laws.ensures.written c.args.heap.now c.in-Object.o c.args.slot (raw c.narrowed-value.result) shapes all)

@@ -1,4 +1,4 @@
-use Rattle.jobjs.proofs.News.{library_row, new_stays}
+use Rattle.jobjs.proofs.News.{library_celled, library_row, new_stays}
 use Rattle.jobjs.proofs.making.new_library.Goals as goal
 
 pub returns-clause-row : goal.returns-clause-row
@@ -9,3 +9,8 @@ returns-clause-row g c =
 pub returns-clause-built : goal.returns-clause-built
 returns-clause-built g c =
     new_stays c.built_laws.ensures.made c.make_object.result c.library_number.result c.cells_of.result c.args.frames.now c.make_object.new.frames c.args.heap.now c.make_object.new.heap c.make_object.ensures c.requires.built
+
+pub returns-clause-celled : goal.returns-clause-celled
+returns-clause-celled g c =
+    let made = rw (c.library_number.ensures, c.cells_of.ensures) at c.make_object.ensures in
+    library_celled c.celled_laws.ensures.made c.celled_laws.ensures.wants c.make_object.result c.args.class c.args.frames.now c.make_object.new.frames c.args.heap.now c.make_object.new.heap made

@@ -1,5 +1,5 @@
 use Rattle.std.proofs.Common.{◌+◌}
-use Rattle.jobjs.proofs.News.{new_stays, user_none, user_row}
+use Rattle.jobjs.proofs.News.{new_stays, user_celled, user_none, user_row}
 use Rattle.jstate.specs.Seen.{store_by}
 use Rattle.jobjs.proofs.making.new_object.Goals as goal
 
@@ -16,3 +16,8 @@ returns-in-Some-clause-row g c =
 pub returns-in-Some-clause-built : goal.returns-in-Some-clause-built
 returns-in-Some-clause-built g c =
     new_stays c.built_laws.ensures.made c.make_object.result (46 + c.args.class) c.in-Some.count c.args.frames.now c.make_object.new.frames c.args.heap.now c.make_object.new.heap c.make_object.ensures c.requires.built
+
+pub returns-in-Some-clause-celled : goal.returns-in-Some-clause-celled
+returns-in-Some-clause-celled g c =
+    user_celled c.celled_laws.ensures.made c.celled_laws.ensures.wants c.make_object.result c.args.shapes.now c.args.class c.in-Some.count c.in-Some.ensures c.args.frames.now c.make_object.new.frames
+    c.args.heap.now c.make_object.new.heap c.make_object.ensures

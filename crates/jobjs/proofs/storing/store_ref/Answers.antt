@@ -5,7 +5,7 @@ use Rattle.jheap.specs.Heaps.{cells_at}
 use Rattle.jmachine.specs.Arrays.{within}
 use Rattle.jmachine.specs.Narrowing.{place}
 use Rattle.jacts.specs.Ways.{int_in}
-use Rattle.jobjs.proofs.RefStores.{row_there, store_no_index, store_not, store_null, store_other, store_row, stored_stays, three_there}
+use Rattle.jobjs.proofs.RefStores.{row_there, store_no_index, store_not, store_null, store_other, store_row, stored_celled, stored_stays, three_there}
 use Rattle.jobjs.proofs.storing.store_ref.Goals as goal
 
 pub returns-then-not-serve-clause-row : goal.returns-then-not-serve-clause-row
@@ -53,3 +53,10 @@ returns-in-Array-clause-built g c built =
     let put = rw i_is at c.put_item.ensures in
     stored_stays c.built_laws.ensures.written c.args.frames.now c.put_item.new.frames c.args.heap.now c.put_item.new.heap c.in-Array.o c.in-Array.field-1 c.operand-value.result c.put_item.result
     (slice_get c.args.frames.now.newest.operands 2) c.args.is (within (length (cells_at c.args.heap.now c.in-Array.o)) (place c.in-Some.i)) c.in-Array.ensures put built
+
+pub returns-in-Array-clause-celled : goal.returns-in-Array-clause-celled
+returns-in-Array-clause-celled g c =
+    let i_is : to_z w32 (of_z w32 c.in-Some.i) ≡ c.in-Some.i = search rules in
+    let put = rw i_is at c.put_item.ensures in
+    stored_celled c.celled_laws.ensures.written c.args.frames.now c.put_item.new.frames c.args.heap.now c.put_item.new.heap c.in-Array.o c.operand-value.result c.put_item.result
+    c.args.is (within (length (cells_at c.args.heap.now c.in-Array.o)) (place c.in-Some.i)) put

@@ -1,5 +1,5 @@
 use Rattle.std.proofs.Common.{ℕ, arith}
-use Rattle.jtexts.proofs.Appending.{append_stays, cell_there, piece_there, row_full, row_some}
+use Rattle.jtexts.proofs.Appending.{append_stays, cell_there, named_celled, piece_there, row_full, row_some}
 use Rattle.jtexts.proofs.builders.append_units.Goals as goal
 
 pub name_piece-requires-clause-cell : goal.name_piece-requires-clause-cell
@@ -18,7 +18,7 @@ returns-in-None-clause-row g c p shapes things constants results gives =
 
 pub returns-in-Some-clause-row : goal.returns-in-Some-clause-row
 returns-in-Some-clause-row g c =
-    row_some ℕ c.heap_laws.ensures.writes c.args.heap.now c.put_units.new.heap c.name_piece.new.heap c.args.units.now c.args.b c.args.last c.in-Some.o
+    row_some ℕ c.piece_laws.ensures.adds c.piece_laws.ensures.keeps c.heap_laws.ensures.writes c.args.heap.now c.put_units.new.heap c.name_piece.new.heap c.args.units.now c.args.b c.args.last c.in-Some.o
     c.args.done
     c.requires.built c.requires.builder c.requires.cell c.requires.last (omega arith) (λ i. omega (arith, c.type_inv.units i))
     (rw c.in-Some.is at c.in_ok-put_units.ensures.puts)
@@ -26,6 +26,11 @@ returns-in-Some-clause-row g c =
 
 pub returns-in-Some-clause-built : goal.returns-in-Some-clause-built
 returns-in-Some-clause-built g c =
-    append_stays c.args.heap.now c.put_units.new.heap c.name_piece.new.heap c.args.units.now c.args.b c.args.last c.in-Some.o c.requires.built
+    append_stays c.piece_laws.ensures.more c.piece_laws.ensures.named c.args.heap.now c.put_units.new.heap c.name_piece.new.heap c.args.units.now c.args.b c.args.last c.in-Some.o c.requires.built
     c.requires.builder c.requires.cell
     c.requires.last (rw c.in-Some.is at c.in_ok-put_units.ensures.puts) c.name_piece.ensures
+
+pub returns-in-Some-clause-celled : goal.returns-in-Some-clause-celled
+returns-in-Some-clause-celled g c =
+    named_celled c.celled_laws.ensures.behind c.celled_laws.ensures.written c.args.heap.now c.put_units.new.heap c.name_piece.new.heap c.args.b c.args.last c.in-Some.o
+    c.in_ok-put_units.ensures.celled c.name_piece.ensures

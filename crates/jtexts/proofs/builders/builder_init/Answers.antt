@@ -1,4 +1,4 @@
-use Rattle.jtexts.proofs.Appending.{emptied, emptied_stays}
+use Rattle.jtexts.proofs.Appending.{emptied, emptied_stays, written_celled}
 use Rattle.jtexts.proofs.BuilderRows.{init_stuck}
 use Rattle.jtexts.proofs.builders.builder_init.Goals as goal
 
@@ -16,5 +16,8 @@ returns-clause-row g c =
 
 pub returns-clause-built : goal.returns-clause-built
 returns-clause-built g c =
-    emptied_stays c.args.heap.now c.set_cell.new.self c.args.builder c.in-Some.b c.requires.built c.in-Some.ensures
+    emptied_stays c.piece_laws.ensures.named c.args.heap.now c.set_cell.new.self c.args.builder c.in-Some.b c.requires.built c.in-Some.ensures
     (c.requires.cell c.in-Some.b c.in-Some.ensures) c.set_cell.ensures
+
+pub returns-clause-celled : goal.returns-clause-celled
+returns-clause-celled g c = written_celled c.celled_laws.ensures.written c.args.heap.now c.set_cell.new.self c.in-Some.b 0 0 c.set_cell.ensures

@@ -9,7 +9,7 @@ before-front-requires c = let known = rw c.in-Some.is at c.loop-next.invariant i
 
 pub loop-next-preserved : goal.loop-next-preserved
 loop-next-preserved c =
-    gathers_on c.args.heap.now c.args.last c.in-Some.o c.before-front.result c.piece_at-next-in-Some.result c.loop-next.pieces.items c.push.new.self.items
+    gathers_on c.piece_laws.ensures.enough c.args.heap.now c.args.last c.in-Some.o c.before-front.result c.piece_at-next-in-Some.result c.loop-next.pieces.items c.push.new.self.items
     c.requires
     (rw c.in-Some.is at c.loop-next.invariant) c.before-front.ensures c.piece_at-next-in-Some.ensures c.in_ok-push.ensures.items
 

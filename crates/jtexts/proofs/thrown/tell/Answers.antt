@@ -1,4 +1,5 @@
 use Rattle.std.proofs.Common.{arith}
+use Rattle.jtexts.proofs.Appending.{written_celled}
 use Rattle.jtexts.proofs.TellingRows.{cell_told, tell_none, tell_some, tell_stays}
 use Rattle.jtexts.proofs.thrown.tell.Goals as goal
 
@@ -22,3 +23,7 @@ returns-in-Some-clause-built g c =
     c.in-Some.ensures
     (cell_told c.args.shapes.now c.args.heap.now c.args.o c.in-Some.i c.requires.cell c.in-Some.ensures) (omega arith)
     c.put_message.ensures
+
+pub returns-in-Some-clause-celled : goal.returns-in-Some-clause-celled
+returns-in-Some-clause-celled g c =
+    written_celled c.celled_laws.ensures.written c.args.heap.now c.put_message.new.heap c.args.o c.in-Some.i c.args.m c.put_message.ensures

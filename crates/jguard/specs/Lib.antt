@@ -1,0 +1,3 @@
+pub mod Said
+pub mod Standing
+pub mod Guarded

@@ -1,0 +1,22 @@
+-- What asks and answers by numbers say.
+use Rattle.std.specs.Prelude.{ℕ}
+use Rattle.std.specs.Option.{option_copied}
+use Rattle.jguard.specs.declared.ask.Ask.{Ask as AskSaid}
+use Rattle.jguard.specs.declared.ask.Ask.TheVariants as asks
+use Rattle.jguard.specs.declared.ask.Answer.{Answer as AnswerSaid}
+use Rattle.jguard.specs.declared.ask.Answer.TheVariants as answers
+use Rattle.jmachine.specs.Asked.{Ask, Checks, ChecksKept, Snapshots, Inherits, Enters, Privileges, Answer, Decided, Kept, Entered, Allowed}
+
+abbrev pub said : AskSaid → Ask ℕ
+said (asks.Enter ctx domain) = Enters ctx domain
+said (asks.Check asked ctx) = Checks asked.now ctx
+said (asks.CheckKept asked kept) = ChecksKept asked.now kept
+said (asks.Snapshot ctx) = Snapshots ctx
+said (asks.Inherit ctx) = Inherits ctx
+said (asks.Privileged domain ctx given limits) = Privileges domain ctx given (option_copied limits)
+
+abbrev pub given_by : {M : Type 0} → AnswerSaid M → Answer ℕ M
+given_by (answers.Verdict verdict) = Decided verdict
+given_by (answers.Kept n) = Kept n
+given_by (answers.Ctx n) = Entered n
+given_by (answers.Marked caller ctx) = Allowed (record { caller = caller; context = ctx })

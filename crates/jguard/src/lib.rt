@@ -1,0 +1,11 @@
+//! What the machine asks of access control, and who answers: by numbers that stand for what is kept (class documentation of
+//! AccessController).
+#![tactic(auto)]
+
+mod ask;
+mod guard;
+mod laws;
+
+pub use ask::{Answer, Ask};
+pub use guard::{Guard, OnPassing, OnSource, Sided};
+pub use laws::{ByNumbers, ByThings, guard_laws};

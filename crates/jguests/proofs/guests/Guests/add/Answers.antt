@@ -1,0 +1,10 @@
+use Rattle.std.proofs.Common.{◌∙◌, map, ap}
+use Rattle.std.specs.Prelude.{slice_set}
+use Rattle.jguests.specs.Guested.{guest_by}
+use Rattle.jguests.proofs.Lying.{one_more}
+use Rattle.jguests.proofs.guests.Guests.add.Goals as goal
+
+pub returns-clause-one_more : goal.returns-clause-one_more
+returns-clause-one_more g c =
+    ap (λ xs. slice_set (map guest_by xs) c.args.self.now.at (guest_by c.args.self.now.running)) c.in_ok-push.ensures.items
+    ∙ one_more c.args.self.now.others.items c.args.self.now.at c.args.self.now.running _ c.requires.at

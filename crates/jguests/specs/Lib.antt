@@ -1,0 +1,2 @@
+pub mod Guested
+pub mod Turning

@@ -1,0 +1,48 @@
+-- The heap's numbers for types of arrays that the machine makes itself, or that `newarray` makes.
+use Rattle.std.specs.Prelude.{◌≡◌, ℕ, List, Some, slice_get}
+use Rattle.jcode.specs.declared.names.ArrayType.{ArrayType}
+use Rattle.jcode.specs.declared.names.ArrayType.TheVariants as numbers
+use Rattle.jlib.specs.declared.classes.LibClass.TheVariants as lib
+use Rattle.jprogram.specs.declared.part.ClassRef.TheVariants as refs
+use Rattle.juses.specs.declared.types.ArrayRef.{ArrayRef}
+use Rattle.juses.specs.declared.types.ElementRef.{ElementRef}
+use Rattle.juses.specs.declared.types.ElementRef.TheVariants as elements
+use Rattle.jstate.specs.declared.shapes.Shapes.{Shapes}
+use Rattle.jstate.specs.Seen.{array_at}
+use Rattle.jshapes.specs.declared.arrays.NumberArrays.{NumberArrays}
+
+-- the heap's number for the arrays of such numbers
+abbrev pub array_number : NumberArrays → ArrayType → ℕ
+array_number rows numbers.Boolean = rows.boolean
+array_number rows numbers.Char = rows.char
+array_number rows numbers.Byte = rows.byte
+array_number rows numbers.Short = rows.short
+array_number rows numbers.Int = rows.int
+array_number rows numbers.Long = rows.long
+
+abbrev pub element_of : ArrayType → ElementRef
+element_of numbers.Boolean = elements.Boolean
+element_of numbers.Char = elements.Char
+element_of numbers.Byte = elements.Byte
+element_of numbers.Short = elements.Short
+element_of numbers.Int = elements.Int
+element_of numbers.Long = elements.Long
+
+-- the type of the arrays of such elements
+abbrev pub array_of : ElementRef → ArrayRef
+array_of element = record { depth = 1; element = element }
+
+-- The type of such arrays has this number.
+abbrev pub HasArray : List ArrayRef → ElementRef → ℕ → Type 0
+HasArray arrays element n = slice_get arrays n ≡ Some (array_of element)
+
+abbrev pub HasRows : List ArrayRef → NumberArrays → Type 0
+HasRows arrays rows = (kind : ArrayType) → HasArray arrays (element_of kind) (array_number rows kind)
+
+-- These numbers are those of the arrays of numbers.
+abbrev pub AreRows : Shapes → NumberArrays → Type 0
+AreRows shapes rows = (kind : ArrayType) → array_at shapes (array_number rows kind) ≡ record { depth = 1; element = element_of kind }
+
+-- This number is that of the arrays of strings.
+abbrev pub IsStrings : Shapes → ℕ → Type 0
+IsStrings shapes n = array_at shapes n ≡ array_of (elements.Class (refs.Lib lib.String))
