@@ -1,6 +1,7 @@
+pub mod Called
+pub mod Casting
 pub mod Comparing
+pub mod Fielding
+pub mod Stored
 pub mod Valuing
 pub mod Wanting
-pub mod Called
-pub mod Fielding
-pub mod Casting
