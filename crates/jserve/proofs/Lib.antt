@@ -1,6 +1,7 @@
 pub mod Called
 pub mod Casting
 pub mod Comparing
+pub mod Few
 pub mod Fielding
 pub mod Stored
 pub mod Valuing

@@ -25,10 +25,11 @@ use Rattle.jstate.specs.SeenLaws.{SeesEach}
 use Rattle.jobjs.specs.declared.storing.Held.{Held}
 use Rattle.jobjs.specs.declared.storing.Held.TheVariants as helds
 use Rattle.jobjs.specs.Stored.{MayStore, ServeStore, held_found, held_seen}
+use Rattle.jcalls.specs.Readiness.{ready_counted}
 use Rattle.jserve.specs.declared.values.Objects.{Objects}
 use Rattle.jserve.specs.Served.{one_serves, serves_in}
 use Rattle.jserve.specs.Storing.{number_found, number_held}
-use Rattle.jserve.specs.Valued.{IsStore, is_ready, kind_type, object_type, type_in}
+use Rattle.jserve.specs.Valued.{IsStore, kind_type, object_type, type_in}
 use Rattle.jserve.proofs.Wanting.{serves_seen, triple}
 
 -- ---- ints
@@ -47,7 +48,7 @@ ref_is_no_int p x (suc o) = look (heaps.object_at x.heap.now (suc o))
 
     look : (o : Option heaps.Object) → false ≡ serves_as (world p) (Of wanted.Int) (option_map (named p) (option_and_then (object_type x.shapes.now x.counts) o))
     look None = refl
-    look (Some y) = by y.kind (is_ready x.counts y.kind y.cells)
+    look (Some y) = by y.kind (ready_counted x.counts y.kind y.cells)
 
 -- ---- arrays of references
 

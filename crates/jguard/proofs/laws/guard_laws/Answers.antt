@@ -12,4 +12,4 @@ returns-clause-known g c = known_law c.asking_laws.ensures.asks c.asking_laws-2.
 
 pub returns-clause-step : goal.returns-clause-step
 returns-clause-step g c =
-    step_law c.asking_laws.ensures.asks c.asking_laws-2.ensures.asks c.asking_laws-2.ensures.answers c.asking_laws.ensures.step c.step_laws.ensures.step
+    step_law c.asking_laws.ensures.asks c.asking_laws-2.ensures.asks c.asking_laws-2.ensures.answers c.asking_laws.ensures.at c.asking_laws-2.ensures.step

@@ -1,0 +1,4 @@
+mod Nowhere
+mod Numbers
+mod Running
+mod Tables

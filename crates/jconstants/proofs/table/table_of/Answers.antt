@@ -1,0 +1,10 @@
+use Rattle.std.proofs.Common.{rules}
+use Rattle.jconstants.proofs.Numbers.{none_known}
+use Rattle.jconstants.proofs.Tables.{none_made}
+use Rattle.jconstants.proofs.table.table_of.Goals as goal
+
+pub returns-clause-made : goal.returns-clause-made
+returns-clause-made c = search rules
+
+pub returns-clause-table : goal.returns-clause-table
+returns-clause-table c = search (rules, none_made, none_known)

@@ -1,0 +1,11 @@
+mod Calls
+mod Dispatch
+mod Ended
+mod Giving
+mod Holding
+mod Joining
+mod Keeping
+mod Lasting
+mod Missing
+mod Operands
+mod Plain

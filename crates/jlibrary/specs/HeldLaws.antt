@@ -1,0 +1,29 @@
+-- Laws of which permissions objects hold.
+use Rattle.std.specs.Prelude.{◌≡◌, ℕ, List, Option}
+use Rattle.jperm.specs.declared.permission.Permission as perms
+use Rattle.jheap.specs.declared.cell.Kind.{Kind}
+use Rattle.jheap.specs.Heaps as heaps
+use Rattle.jheap.specs.Heaps.{Heaped}
+use Rattle.jtrace.specs.declared.event.Event.{Event}
+use Rattle.jprogram.specs.Classes.{Program}
+use Rattle.jmachine.specs.Acts.{FrameOf}
+use Rattle.jmachine.specs.Doing.{Doing}
+use Rattle.jmachine.specs.Store.{Store}
+use Rattle.jstate.specs.declared.shapes.Shapes.{Shapes}
+use Rattle.jstate.specs.Seen.{AreBuilt, Things, store_by}
+use Rattle.jacts.specs.declared.way.Way.{Way}
+use Rattle.jacts.specs.declared.way.Way.TheVariants as ways
+use Rattle.jacts.specs.Ways.{Comes, leaves}
+use Rattle.jlibrary.specs.Held.{AreHeld}
+
+-- A row that did what the definition says, whatever the permissions are, and isn't stuck, leaves those held that were.
+abbrev pub RowsStayHeld : Type 0 → Type 0
+RowsStayHeld E = (p : Program) (shapes : Shapes) (permissions : List perms.Permission) (h k : Heaped) (f g : FrameOf ℕ E) (way : Way) (told : List Event)
+    (before after : List (List ℕ × ℕ)) (doing : Store ℕ → Option (Doing ℕ E)) → (way ≡ ways.Stuck → ⊥)
+    → ((things : Things) → let s = store_by p shapes things before h in Comes f s (doing s) (leaves way told g (store_by p shapes things after k)))
+    → AreHeld p shapes permissions h.objects → AreHeld p shapes permissions k.objects
+
+-- What is made holds none.
+abbrev pub MadeStaysHeld : Type 0
+MadeStaysHeld = (p : Program) (shapes : Shapes) (permissions : List perms.Permission) (h : Heaped) (kind : Kind) (len : ℕ) → AreBuilt h.objects
+    → AreHeld p shapes permissions h.objects → AreHeld p shapes permissions (heaps.made h kind len).objects
