@@ -1,8 +1,7 @@
 -- What a step came to that executed an instruction.
-use Rattle.std.proofs.Common.{◌≡◌, ◌∙◌, ℕ, zero, suc, Bool, true, false, List, [], ◌∷◌, ◌++◌, length, map, Option, Some, None, refl, sym, ap, subst}
+use Rattle.std.proofs.Common.{◌≡◌, ◌∙◌, ℕ, zero, suc, Bool, true, false, List, [], ◌∷◌, map, Option, Some, None, refl, sym, ap, subst}
 use Rattle.std.specs.Prelude.{IfOk, Ok, Err, Result, is_some, option_and_then, option_map, slice_get, if◌then◌else◌}
 use Rattle.jcode.specs.declared.names.Returned.{Returned}
-use Rattle.jcode.specs.declared.names.Returned.TheVariants as results
 use Rattle.jheap.specs.declared.cell.Kind.{Kind}
 use Rattle.jheap.specs.declared.cell.Kind.TheVariants as kinds
 use Rattle.jheap.specs.Heaps as heaps
@@ -14,11 +13,10 @@ use Rattle.jops.specs.declared.value.Value.{Value}
 use Rattle.jops.specs.declared.value.Value.TheVariants.{Int, Long, Ref, Ctx}
 use Rattle.jprogram.specs.Classes.{Program}
 use Rattle.jrule.specs.Effects.{Fits, Want}
-use Rattle.jrule.specs.Uses.{exchange, throwable}
+use Rattle.jrule.specs.Uses.{throwable}
 use Rattle.jtypes.specs.declared.vtype.ArrayType.{ArrayType}
 use Rattle.jtypes.specs.declared.vtype.VType.TheVariants as types
 use Rattle.juses.specs.declared.meaning.How.{How}
-use Rattle.juses.specs.declared.meaning.How.TheVariants as how
 use Rattle.juses.specs.Instructions.{Instruction, Return, Throw, Used}
 use Rattle.juses.specs.Meanings as meanings
 use Rattle.juses.specs.declared.meaning.Span.{Span}
@@ -26,14 +24,14 @@ use Rattle.juses.specs.Meanings.{CallMeaning, spanned}
 use Rattle.juses.specs.Tables.{pool_at}
 use Rattle.juses.specs.Types.{array_named, named}
 use Rattle.jmachine.specs.declared.plan.Plan.{Plan}
-use Rattle.jmachine.specs.Acts.{FrameOf, NoStep, Outcome, Row, State}
-use Rattle.jmachine.specs.Doing.{Doing, doing, used}
+use Rattle.jmachine.specs.Acts.{FrameOf, Outcome, Row, State}
+use Rattle.jmachine.specs.Doing.{Doing, doing}
 use Rattle.jmachine.specs.Frames.{with_operands}
 use Rattle.jmachine.specs.Objects.{Object}
 use Rattle.jmachine.specs.Operands.{Taken, found_type, serves, serves_as, taken, with_value}
 use Rattle.jmachine.specs.Security.{Rules}
-use Rattle.jmachine.specs.Steps.{entries, executed, fetched, own_fields, site, step, thrown_at, went}
-use Rattle.jmachine.specs.Store.{Store, object_at}
+use Rattle.jmachine.specs.Steps.{entries, executed, fetched, own_fields, site, thrown_at, went}
+use Rattle.jmachine.specs.Store.{Store}
 use Rattle.jmachine.specs.Straight.{throw}
 use Rattle.jmachine.specs.Turns.{ended}
 use Rattle.jmachine.specs.World.{World, fits, world}
@@ -43,18 +41,15 @@ use Rattle.jready.specs.declared.instr.Instr.TheVariants as instr
 use Rattle.jready.specs.Exact.{Exact}
 use Rattle.jready.specs.Laid.{Within}
 use Rattle.jready.specs.Meant.{call_form, flow_meant, meant}
-use Rattle.jstate.specs.declared.shapes.Shapes.{Shapes}
 use Rattle.jstate.specs.Framed.{Framed, all}
 use Rattle.jstate.specs.Seen.{Things, array_at, kind_by, object_by, store_by}
 use Rattle.jstate.specs.SeenLaws.{SeesEach}
 use Rattle.jacts.specs.declared.way.Way.{Way}
 use Rattle.jacts.specs.declared.way.Way.TheVariants as ways
 use Rattle.jacts.specs.Ways.{Comes, leaves}
-use Rattle.jcalls.specs.declared.calls.Called.{Called}
 use Rattle.jcalls.specs.declared.ready.Counts.{Counts}
 use Rattle.jcalls.specs.declared.returns.Leaving.{Leaving}
 use Rattle.jcalls.specs.declared.returns.Leaving.TheVariants as leaving
-use Rattle.jcalls.specs.Calling.{call_taken, took}
 use Rattle.jcalls.specs.Marks.{Stand}
 use Rattle.jcalls.specs.Readiness.{AreCounted}
 use Rattle.jcalls.specs.Returns.{LeftAs, Returns, StaysStanding}

@@ -1,11 +1,10 @@
 -- What a step came to that executed a call.
-use Rattle.std.proofs.Common.{◌≡◌, ◌∙◌, ℕ, Bool, true, false, List, [], ◌∷◌, ◌++◌, length, map, Option, Some, None, refl, sym, ap, subst}
-use Rattle.std.specs.Prelude.{IfOk, Ok, Err, Result, option_and_then, option_map}
+use Rattle.std.proofs.Common.{◌≡◌, ◌∙◌, ℕ, Bool, true, false, List, length, map, Option, Some, None, refl, sym, ap, subst}
+use Rattle.std.specs.Prelude.{IfOk, Ok, Err, Result, option_map}
 use Rattle.jheap.specs.Heaps.{Heaped}
-use Rattle.jops.specs.declared.value.Value.{Value}
 use Rattle.jprogram.specs.declared.part.ClassRef.{ClassRef}
 use Rattle.jprogram.specs.Classes.{Program}
-use Rattle.jrule.specs.Uses.{arguments, exchange, receiver as wanted_receiver}
+use Rattle.jrule.specs.Uses.{exchange}
 use Rattle.juses.specs.declared.meaning.How.{How}
 use Rattle.juses.specs.declared.meaning.How.TheVariants as how
 use Rattle.juses.specs.declared.meaning.Span.{Span}
@@ -15,31 +14,29 @@ use Rattle.juses.specs.Meanings.{Call, CallMeaning, meant, spanned}
 use Rattle.juses.specs.Tables.{pool_at}
 use Rattle.juses.specs.Types.{class_named, named}
 use Rattle.jmachine.specs.declared.plan.Plan.{Plan}
-use Rattle.jmachine.specs.Acts.{NoStep, Outcome, State}
-use Rattle.jmachine.specs.Calls.{init_taken}
+use Rattle.jmachine.specs.Acts.{NoStep, State}
 use Rattle.jmachine.specs.Doing.{doing, used}
-use Rattle.jmachine.specs.Operands.{Taken, taken}
+use Rattle.jmachine.specs.Operands.{taken}
 use Rattle.jmachine.specs.Security.{Rules}
 use Rattle.jmachine.specs.Steps.{executed}
 use Rattle.jmachine.specs.Store.{Store}
 use Rattle.jmachine.specs.World.{world}
 use Rattle.jready.specs.Meant.{call_form}
-use Rattle.jstate.specs.declared.shapes.Shapes.{Shapes}
-use Rattle.jstate.specs.Framed.{Framed, all}
+use Rattle.jstate.specs.Framed.{Framed}
 use Rattle.jstate.specs.Seen.{Things, store_by}
 use Rattle.jcalls.specs.declared.calls.Called.{Called}
 use Rattle.jcalls.specs.declared.ready.Counts.{Counts}
-use Rattle.jcalls.specs.Calling.{CalledAs, Takes, call_taken, took}
+use Rattle.jcalls.specs.Calling.{Takes, call_taken, calls, took}
 use Rattle.jcalls.specs.Readiness.{AreCounted}
 use Rattle.jinvoke.specs.Answers.{OwnerIs}
 use Rattle.jinvoke.specs.Invoking.{Invokes}
-use Rattle.jserve.specs.Calls.{CallServes, IsCall, count_of}
+use Rattle.jserve.specs.Calls.{IsCall, count_of}
 use Rattle.jserve.specs.Served.{took_if}
 use Rattle.jstep.specs.declared.fixed.Fixed.{Fixed}
 use Rattle.jstep.specs.declared.outcomes.Stepped.{Stepped}
 use Rattle.jstep.specs.declared.outcomes.Stepped.TheVariants as steps
 use Rattle.jstep.specs.Serving.{ServesCall, TakesCall}
-use Rattle.jstep.specs.Stepping.{Executes, ExecutesCall, IsFixed, SettlesCall, SteppedAs}
+use Rattle.jstep.specs.Stepping.{ExecutesCall, IsFixed, SettlesCall}
 
 -- ---- operands that don't serve
 
@@ -119,8 +116,7 @@ module _ {E : Type 0} (p : Program) (x : Fixed E) (counts : Counts) (by : How) (
     call_done n way u g k done some invokes settles c means taken r plan s things constants marked depth counted top seen =
         let takes_n : Takes p s by c n f =
         taken_is s.store things constants c counted seen means taken ∙ ap (option_map (λ n. took n f.newest.operands)) some in
-        let o = executed r p plan s f.newest f.below (Some (Used (Call by c))) in
-        settles r plan s x.shapes.now things constants f o marked top seen
+        settles r plan s x.shapes.now things constants f (calls r p plan s f by c) marked top seen
         (invokes r plan s x.shapes.now things constants c means marked seen depth takes_n)
 
     pub all_called : {F : Type 0} (r : Result Stepped F) (n : ℕ) (way : Called) (u g : Framed E) (k : Heaped) → count ≡ Some n

@@ -1,5 +1,5 @@
 -- What a row, a call or a throw left to do is done.
-use Rattle.std.proofs.Common.{◌≡◌, ◌∙◌, ◌+◌, ◌<◌, ◌≤◌, ◌^◌, ℕ, List, [], ◌∷◌, length, Option, Some, None, refl, sym, ap, subst}
+use Rattle.std.proofs.Common.{◌≡◌, ◌∙◌, ◌+◌, ◌<◌, ◌≤◌, ◌^◌, ℕ, List, [], length, Option, Some, None, refl, sym, ap, subst}
 use Rattle.std.specs.Prelude.{IfOk, Ok, Err, Result, nat_le, option_map, if◌then◌else◌}
 use Rattle.std.specs.List.{AllByRecursion}
 use Rattle.jheap.specs.declared.cell.Kind.{Kind}
@@ -22,7 +22,6 @@ use Rattle.jmachine.specs.Objects.{Object, class_of}
 use Rattle.jmachine.specs.Security.{Rules}
 use Rattle.jmachine.specs.Steps.{raised, thrown, thrown_at, went}
 use Rattle.jmachine.specs.Store.{Store, object_at, paid}
-use Rattle.jmachine.specs.Turns.{ended}
 use Rattle.jmachine.specs.Unwinding.{handler_at, with_raised}
 use Rattle.jmachine.specs.World.{world}
 use Rattle.jstate.specs.declared.shapes.Shapes.{Shapes}
@@ -36,8 +35,8 @@ use Rattle.jcalls.specs.declared.calls.Called.{Called}
 use Rattle.jcalls.specs.declared.calls.Called.TheVariants as calls
 use Rattle.jcalls.specs.declared.raising.Raised.{Raised}
 use Rattle.jcalls.specs.declared.raising.Raised.TheVariants as raised_ways
-use Rattle.jcalls.specs.Calling.{CallLeaves}
-use Rattle.jcalls.specs.Marks.{AreStanding, Stand}
+use Rattle.jcalls.specs.Calling.{Came, CallLeaves}
+use Rattle.jcalls.specs.Marks.{Stand}
 use Rattle.jcalls.specs.Throws.{LeavesStanding, RaisedAs, Raises, Throws, raising}
 use Rattle.jcalls.specs.Unwinds.{IsTold}
 use Rattle.jinvoke.specs.Answers.{number_by}
@@ -45,7 +44,7 @@ use Rattle.jinvoke.specs.Laws.{HasType}
 use Rattle.jinvoke.specs.Told.{Told}
 use Rattle.jstep.specs.declared.outcomes.Stepped.{Stepped}
 use Rattle.jstep.specs.declared.outcomes.Stepped.TheVariants as steps
-use Rattle.jstep.specs.Rows.{IsRaising, MayRaise, Stays}
+use Rattle.jstep.specs.Rows.{MayRaise, Stays}
 use Rattle.jstep.specs.Stepping.{CallLeft, RaisesAs, Settles, SettlesCall, StandsFor, SteppedAs, StoodAs, ThrowsAs, stepped_as, type_of}
 
 -- ---- frames that stand
@@ -96,6 +95,10 @@ as_settled r p plan s raised_ways.Full class type g t o e is = is
 as_settled r p plan s raised_ways.Handled class type g t o e is = rw (← e) is
 as_settled r p plan s raised_ways.Uncaught class type g t o e is = rw (← e) is
 
+-- the outcome of what a call came to
+outcome_is : {E : Type 0} (r : Rules ℕ E) (p : Program) (plan : Plan) (s : State ℕ E) (f : Framed E) (came : Came r p plan s f) {x : Came r p plan s f} → came ≡ x → came.0 ≡ x.0
+outcome_is {E} r p plan s f came is = ap (λ (c : Came r p plan s f). c.0) is
+
 module _ {E : Type 0} (marks : List E) (p : Program) (f g : Framed E) (h k : Heaped) where
   pub raises_as : Told E → (class : ThrownClass) (done : Raised) (came : Stepped) → came ≡ stepped_as done (refs.Lib (lib.Thrown class))
       → Raises marks (handler_at p (type_of p (refs.Lib (lib.Thrown class)))) (lib.Thrown class) f h done g k → RaisesAs marks p class f h came g k
@@ -116,9 +119,9 @@ module _ {E : Type 0} (marks : List E) (p : Program) (f g : Framed E) (h k : Hea
 
   pub raises_call : (class : ThrownClass) (count : ℕ) (came : Stepped) → RaisesAs marks p class f h came g k
       → SettlesCall marks p (calls.Raises (lib.Thrown class)) count f h came g k
-  raises_call class count came raises r plan s shapes things constants e outcome marked top seen is =
+  raises_call class count came raises r plan s shapes things constants e both marked top seen is =
       let Q : Outcome (State ℕ E) → Type 0 = λ o. SteppedAs r p plan s came g (store_by p shapes things constants k) o in
-      subst Q (sym is) (raises r plan s shapes things constants marked seen)
+      subst Q (sym (outcome_is r p plan s e both is)) (raises r plan s shapes things constants marked seen)
 
 -- a class that can be thrown is one
 module _ {E F : Type 0} (marks : List E) (p : Program) (f g : Framed E) (h k : Heaped) (class : ThrownClass) (c : LibClass) where
@@ -136,14 +139,14 @@ module _ {E F : Type 0} (marks : List E) (p : Program) (f g : Framed E) (h k : H
 
 module _ {E : Type 0} (marks : List E) (p : Program) (f : Framed E) (h : Heaped) (count : ℕ) where
   pub call_begun : SettlesCall marks p calls.Begun count f h steps.Went f h
-  call_begun r plan s shapes things constants e outcome marked top seen is = is ∙ ap (λ (t : Store ℕ). went r p plan s (all f) t []) seen
+  call_begun r plan s shapes things constants e both marked top seen is = outcome_is r p plan s e both is ∙ ap (λ (t : Store ℕ). went r p plan s (all f) t []) seen
 
   pub call_stuck : SettlesCall marks p calls.Stuck count f h steps.Stuck f h
-  call_stuck r plan s shapes things constants e outcome marked top seen is = is
+  call_stuck r plan s shapes things constants e both marked top seen is = outcome_is r p plan s e both is
 
   pub call_runs : (call : LibCall) → SettlesCall marks p (calls.Runs call) count f h (steps.Asks call count) f h
-  call_runs call r plan s shapes things constants e outcome marked top seen is =
-      rw is.0 (sym top, sym seen, is.1)
+  call_runs call r plan s shapes things constants e both marked top seen is =
+      rw is.0 (sym top, sym seen, outcome_is r p plan s e both is.1)
 
 -- ---- what is thrown
 

@@ -1,5 +1,5 @@
 -- What a step comes to behind a row: what the row left to do is done to the frames, of which it changed the newest.
-use Rattle.std.specs.Prelude.{◌≡◌, ℕ, List, [], ◌∷◌, Option, Some, None, nat_le, if◌then◌else◌}
+use Rattle.std.specs.Prelude.{◌≡◌, ℕ, List, [], ◌∷◌, Option, None, nat_le, if◌then◌else◌}
 use Rattle.jtrace.specs.declared.event.End.TheVariants.{HeapFull}
 use Rattle.jprogram.specs.Classes.{Program}
 use Rattle.jmachine.specs.declared.plan.Plan.{Plan}

@@ -1,5 +1,5 @@
 -- Whether the operands of a throw or of a call serve, where these are the objects of a heap.
-use Rattle.std.specs.Prelude.{◌≡◌, ℕ, Bool, List, [], ◌∷◌, Option, Some, is_some, length, option_map}
+use Rattle.std.specs.Prelude.{◌≡◌, ℕ, Bool, List, [], ◌∷◌, Option, is_some, length, option_map}
 use Rattle.jheap.specs.Heaps.{Heaped}
 use Rattle.jops.specs.declared.value.Value.{Value}
 use Rattle.jprogram.specs.declared.part.ClassRef.{ClassRef}
@@ -11,7 +11,6 @@ use Rattle.juses.specs.declared.meaning.Span.{Span}
 use Rattle.juses.specs.declared.types.TypeRef.{TypeRef}
 use Rattle.juses.specs.Meanings.{CallMeaning, spanned}
 use Rattle.jmachine.specs.Operands.{taken}
-use Rattle.jmachine.specs.Store.{Store}
 use Rattle.jmachine.specs.World.{world}
 use Rattle.jstate.specs.declared.shapes.Shapes.{Shapes}
 use Rattle.jstate.specs.Framed.{Framed}

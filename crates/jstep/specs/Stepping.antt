@@ -15,7 +15,6 @@ use Rattle.jprogram.specs.declared.part.ClassRef.{ClassRef}
 use Rattle.jprogram.specs.Classes.{Program}
 use Rattle.juses.specs.declared.meaning.How.{How}
 use Rattle.juses.specs.declared.meaning.Span.{Span}
-use Rattle.juses.specs.declared.types.TypeRef.{TypeRef}
 use Rattle.juses.specs.Instructions.{Instruction, Return, Used}
 use Rattle.juses.specs.Meanings as meanings
 use Rattle.juses.specs.Meanings.{CallMeaning, spanned}
@@ -47,7 +46,7 @@ use Rattle.jcalls.specs.declared.raising.Raised.TheVariants as raised
 use Rattle.jcalls.specs.declared.ready.Counts.{Counts}
 use Rattle.jcalls.specs.declared.returns.Leaving.{Leaving}
 use Rattle.jcalls.specs.declared.returns.Leaving.TheVariants as leaving
-use Rattle.jcalls.specs.Calling.{CalledAs, IsThrown, stepped}
+use Rattle.jcalls.specs.Calling.{Came, CalledAs, IsThrown, stepped}
 use Rattle.jcalls.specs.Marks.{AreStanding, Stand, marks_of}
 use Rattle.jcalls.specs.Readiness.{AreCounted}
 use Rattle.jcalls.specs.Returns.{LeftAs}
@@ -162,9 +161,9 @@ CallLeft way count f = ⊤
 abbrev pub SettlesCall : {E : Type 0} → List E → Program → Called → (count : ℕ) → Framed E → Heaped → Stepped → Framed E → Heaped → Type 0
 SettlesCall {E} marks p way count f h done g k =
     (r : Rules ℕ E) (plan : Plan) (s : State ℕ E) (shapes : Shapes) (things : Things) (constants : List (List ℕ × ℕ)) (e : Framed E)
-    (outcome : Outcome (State ℕ E))
+    (came : Came r p plan s e)
     → marks ≡ marks_of r.entry_of p → s.running.frames ≡ all e → s.store ≡ store_by p shapes things constants h
-    → CalledAs r p plan s count e way f outcome → SteppedAs r p plan s done g (store_by p shapes things constants k) outcome
+    → CalledAs r p plan s count e way f came → SteppedAs r p plan s done g (store_by p shapes things constants k) came.0
 
 -- A return of a kind did what a step does that executes it, where these are the objects of the heap.
 abbrev pub ReturnsAs : {E : Type 0} → Returned → Heaped → Counts → List E → Framed E → Leaving → Framed E → Type 0

@@ -1,5 +1,5 @@
 use Rattle.std.proofs.Common.{◌∙◌, length, sym}
-use Rattle.jstep.proofs.Settled.{array_thrown, none_thrown, object_thrown, stood}
+use Rattle.jstep.proofs.Settled.{object_thrown, stood}
 use Rattle.jstep.proofs.raising.settle_thrown.Goals as goal
 
 pub returns-clause-row : goal.returns-clause-row

@@ -1,5 +1,3 @@
-use Rattle.std.proofs.Common.{sym}
-use Rattle.jlib.specs.declared.classes.LibClass.TheVariants as lib
 use Rattle.jstep.proofs.Settled.{ok_settles}
 use Rattle.jstep.proofs.settling.settle.Goals as goal
 

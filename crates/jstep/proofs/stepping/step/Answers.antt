@@ -1,4 +1,3 @@
-use Rattle.std.proofs.Common.{refl}
 use Rattle.jready.specs.declared.instr.Instr.TheVariants as instr
 use Rattle.jstep.proofs.Executed.{arm_steps, library_steps, off_steps, row_steps, user_steps}
 use Rattle.jstep.proofs.stepping.step.Goals as goal
