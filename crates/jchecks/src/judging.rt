@@ -1,0 +1,129 @@
+ghost use Rattle.std.specs.Prelude.{◌≡◌, ◌≤◌, ◌<◌, ◌+◌, ◌^◌, [], IfOk, OnOk, drop, length};
+ghost use Rattle.jdomain.specs.declared.verdict.Verdict.TheVariants as verdicts;
+ghost use Rattle.jmachine.specs.Frames.{onward};
+ghost use Rattle.jmachine.specs.Security.{denial_message};
+ghost use Rattle.jlib.specs.declared.classes.LibClass.TheVariants as lib;
+ghost use Rattle.jstate.specs.Celled.{StayCelled};
+ghost use Rattle.jstate.specs.Framed.{all, holding, with_newest};
+ghost use Rattle.jstate.specs.Seen.{AreBuilt};
+ghost use Rattle.jcalls.specs.Marks.{Stand};
+ghost use Rattle.jcalls.specs.Telling.{TellsHeap};
+ghost use Rattle.jcalls.specs.Throws.{LeavesStanding};
+ghost use Rattle.jchecks.specs.Judges.{Judges};
+
+use jcalls::{Handlers, Raised, raise_with};
+use jdomain::Verdict;
+use jheap::Heap;
+use jlib::LibClass;
+use jperm::Permission;
+use jstate::Frames;
+use jtext::Units;
+use std::alloc::{AllocError, Global};
+
+/// What a check came to.
+#[derive(Clone, Copy, Debug, PartialEq, Eq)]
+pub enum Judged {
+    /// It was granted, and the thread goes on.
+    Granted,
+    /// It was denied, and raised an exception.
+    Denied(Raised),
+}
+
+/// `access denied `.
+const DENIED: [u16; 14] = [
+    97, 99, 99, 101, 115, 115, 32, 100, 101, 110, 105, 101, 100, 32,
+];
+
+/// The heap's number for AccessControlException.
+const NUMBER: u32 = 31;
+
+/// The message of the exception of a denied check.
+fn message_of(alloc: Global, asked: &Permission) -> Result<Units, AllocError>
+    ensures { IfOk result (λ units. units ≡ denial_message asked.now) }
+{
+    let text = asked.text(alloc)?;
+    let mut units = Vec::from_slice(alloc, &DENIED)?;
+    units.extend_from_slice(text.as_slice())?;
+    Ok(Units::from_vec(units))
+}
+
+/// The frame goes on behind the call, with so many operands gone.
+fn go_on<M: Copy>(frames: &mut Frames<M>, count: usize)
+    requires few { count ≤ length frames.old.newest.operands }
+    requires place { frames.old.newest.place + 1 < 2 ^ 32 }
+    ensures { frames.new ≡ with_newest (onward (holding (drop count frames.old.newest.operands) frames.old).newest []) frames.old }
+{
+    frames.shrink(count);
+    frames.go_on();
+}
+
+/// A denied check raises an exception with a message.
+fn deny<M: Copy, H: Handlers>(
+    alloc: Global,
+    frames: &mut Frames<M>,
+    heap: &mut Heap,
+    asked: &Permission,
+    domain: u32,
+    count: usize,
+    marks: &[M],
+    handlers: &H,
+) -> Result<Judged, AllocError>
+    requires few { count ≤ length frames.old.newest.operands }
+    requires stand { Stand (length marks.now) (all frames.old) }
+    requires built { AreBuilt heap.old.objects }
+    ensures row { IfOk result (λ way. Judges marks.now (H.goes handlers.now) asked.now (verdicts.Denied domain) count frames.old heap.old way frames.new heap.new) }
+    ensures stand { OnOk result (LeavesStanding frames.old frames.new) }
+    ensures heap { OnOk result (TellsHeap lib.AccessControlException (denial_message asked.now) heap.old heap.new) }
+    ensures built { OnOk result (AreBuilt heap.new.objects) }
+    ensures celled { OnOk result (StayCelled heap.old.objects heap.new.objects) }
+{
+    let units = message_of(alloc, asked)?;
+    frames.shrink(count);
+    let class = LibClass::AccessControlException;
+    let way = raise_with(
+        alloc,
+        frames,
+        heap,
+        class,
+        NUMBER,
+        units.as_slice(),
+        marks,
+        handlers,
+    )?;
+    Ok(Judged::Denied(way))
+}
+
+/// Does what a verdict says where a permission is checked, with so many operands of the call there, which are gone then: a granted check
+/// goes on, and a denied one raises an AccessControlException, whose message has the permission's text. `handlers` say where frames go on
+/// that handle its type.
+pub fn judge<M: Copy, H: Handlers>(
+    alloc: Global,
+    frames: &mut Frames<M>,
+    heap: &mut Heap,
+    asked: &Permission,
+    verdict: Verdict,
+    count: usize,
+    marks: &[M],
+    handlers: &H,
+) -> Result<Judged, AllocError>
+    requires few { count ≤ length frames.old.newest.operands }
+    requires place { frames.old.newest.place + 1 < 2 ^ 32 }
+    requires stand { Stand (length marks.now) (all frames.old) }
+    requires built { AreBuilt heap.old.objects }
+    ensures row { IfOk result (λ way. Judges marks.now (H.goes handlers.now) asked.now verdict count frames.old heap.old way frames.new heap.new) }
+    ensures stand { OnOk result (LeavesStanding frames.old frames.new) }
+    ensures heap { OnOk result (TellsHeap lib.AccessControlException (denial_message asked.now) heap.old heap.new) }
+    ensures built { OnOk result (AreBuilt heap.new.objects) }
+    ensures celled { OnOk result (StayCelled heap.old.objects heap.new.objects) }
+{
+    match verdict {
+        Verdict::Granted => {
+            go_on(frames, count);
+            Ok(Judged::Granted)
+        }
+        Verdict::Denied(domain) => {
+            let way = deny(alloc, frames, heap, asked, domain, count, marks, handlers)?;
+            Ok(way)
+        }
+    }
+}
