@@ -4,6 +4,7 @@
 mod answers;
 mod catching;
 mod choosing;
+mod faces;
 mod invoking;
 mod known;
 mod laws;
@@ -12,6 +13,7 @@ mod numbers;
 pub use answers::Calls;
 pub use catching::{ThrownAs, told_law};
 pub use choosing::{Answer, CallKey, Chosen, number_of};
+pub use faces::Target;
 pub use known::Known;
 pub use laws::{class_laws, step_laws, within_laws};
 pub use numbers::class_numbered;
