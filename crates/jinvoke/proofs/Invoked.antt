@@ -94,7 +94,7 @@ known_answer : (p : Program) (k : CallKey) (way : How) (c : CallMeaning) → mea
 unfolding answer
 known_answer p k way c means = ap (λ (o : Option Meaning). answer_to p k (in_meaning o)) means
 
-kind_on : (kind : Kind) → id_on (number_by kind) ≡ id_by kind
+pub kind_on : (kind : Kind) → id_on (number_by kind) ≡ id_by kind
 kind_on (kinds.Object n) = refl
 kind_on (kinds.Array a) = refl
 kind_on kinds.Text = refl
@@ -225,7 +225,7 @@ invokes_as p by case pool marks h count depth f g way e l = subst (λ b. IfOk wa
 -- ---- the frames that a call leaves
 
 module _ {E : Type 0} (marks : List E) where
-  found_within : (what : Found E) (c : Chosen) → Some what ≡ marked marks c → IsMarked (length marks) c → FoundWithin (length marks) what
+  pub found_within : (what : Found E) (c : Chosen) → Some what ≡ marked marks c → IsMarked (length marks) c → FoundWithin (length marks) what
   found_within what (chosens.Method m has_code most) e within = by_mark (slice_get marks m.class) e
     where
       by_mark : (o : Option E) → Some what ≡ option_map (λ mark. found.Method (callee m has_code most mark)) o → FoundWithin (length marks) what

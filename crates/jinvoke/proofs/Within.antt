@@ -177,6 +177,10 @@ module _ (p : Program) where
   chosen_marked (selected.Abstract m) few = tt
   chosen_marked selected.Missing few = tt
 
+  pub face_chosen : (on : ClassId) (m : Member) → IsMarked (length p.parts) (chosen p ((world p).select on m kinds.Interface))
+  unfolding world
+  face_chosen on m = chosen_marked (select p on m kinds.Interface) (select_within on m kinds.Interface)
+
   -- ---- answers
 
   meaning_marked : (k : CallKey) (o : Option Meaning) → meant p (pool_at p k.class) (call_form k.by k.pool) ≡ o → CallWithin p k.class k.by k.pool

@@ -1,4 +1,5 @@
 pub mod Answers
+pub mod Faces
 pub mod Invoking
 pub mod Keys
 pub mod Laws

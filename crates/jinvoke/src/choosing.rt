@@ -15,11 +15,12 @@ ghost use Rattle.juses.specs.Meanings.{call_named, meaning_of};
 ghost use Rattle.juses.specs.Types.{class_named};
 ghost use Rattle.jinvoke.specs.Answers;
 ghost use Rattle.jinvoke.specs.Answers.{IsCallAt, OwnerIs, id_on, in_meaning, number_by};
+ghost use Rattle.jinvoke.specs.Faces.{face_answer};
 
 use crate::known::Known;
 use jcode::{CallOp, PoolForm};
 use jheap::Kind;
-use jlib::LibCall;
+use jlib::{LibCall, LibClass};
 use jmemo::Key;
 use jprogram::{CallKind, ClassId, ClassRef, Member, MethodId, Reach, Selected};
 use jstate::class_numbered;
@@ -342,6 +343,18 @@ impl<'p> Known<'p> {
         }) {
             None => None,
             Some(call) => Some(call.owner),
+        }
+    }
+
+    /// What is known of a call of a method of an interface of the library, which no entry names, on an object.
+    pub(crate) fn face_answer(&self, face: LibClass, call: LibCall, on: Option<u32>) -> Answer
+        ensures { result ≡ face_answer self.now face call on }
+    {
+        let found = self.select(id_of(on), Member::LibMethod(call), CallKind::Interface);
+        Answer {
+            what: self.chosen(found),
+            has: self.is_one_of(on, ClassRef::Lib(face)),
+            hidden: self.is_hidden(found),
         }
     }
 

@@ -17,7 +17,7 @@ use std::alloc::AllocError;
 
 /// What is selected, with what the frames of its class carry.
 #[inline]
-fn found_by<M: Copy>(what: Chosen, marks: &[M]) -> Found<M>
+pub(crate) fn found_by<M: Copy>(what: Chosen, marks: &[M]) -> Found<M>
     requires { IsMarked (length marks.now) what }
     ensures { Some result ≡ marked marks.now what }
 {

@@ -4,6 +4,7 @@
 mod answers;
 mod catching;
 mod choosing;
+mod faces;
 mod invoking;
 mod known;
 mod laws;
@@ -11,6 +12,7 @@ mod laws;
 pub use answers::Calls;
 pub use catching::{ThrownAs, told_law};
 pub use choosing::{Answer, CallKey, Chosen, number_of};
+pub use faces::Target;
 pub use jstate::class_numbered;
 pub use known::Known;
 pub use laws::{class_laws, step_laws, within_laws};
