@@ -1,3 +1,5 @@
+ghost use Rattle.std.specs.Prelude.{ℕ};
+ghost use Rattle.jguard.specs.Fetched.{AsksAsCalled, AsksAsFetched};
 ghost use Rattle.jguard.specs.Guarded.{GuardedOpening, GuardedStep, StaysStanding, StepKnown};
 
 use crate::guard::Guard;
@@ -41,11 +43,14 @@ impl<G: Guard> TwoMachines for ByThings<G> {
 /// The laws of a machine by a guard's numbers. What a state by numbers stands for stays while numbers keep what they stand for. The first
 /// state by numbers stands for that by what is kept. What a step asks by such numbers was given. And a step by numbers, which is the same
 /// for all rules by numbers that answer as the guard did what the step asks, if it asks anything, stands for the step by the guard's own
-/// rules. It has no body to run but the laws that it stands on; its contract is the laws.
+/// rules. What it asks, its instruction asks, and of calls those alone that run a member of the library. It has no body to run but the
+/// laws that it stands on; its contract is the laws.
 pub fn guard_laws<G: Guard>()
     ensures stays { StaysStanding G.Mark G.Kept G.Entry }
     ensures opening { GuardedOpening G.Mark G.Kept G.Entry }
     ensures known { StepKnown G.Mark G.Kept G.Entry }
+    ensures fetched { AsksAsFetched ℕ G.Mark }
+    ensures called { AsksAsCalled ℕ G.Mark }
     ensures step { GuardedStep G.Mark G.Kept G.Entry }
 {
     asking_laws::<ByNumbers<G>>();

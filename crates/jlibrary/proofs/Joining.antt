@@ -114,8 +114,8 @@ module _ {E : Type 0} (f : FrameOf ℕ E) (s : Store ℕ) (below : List (Value �
   thrown (Some r) class plain is = thrown_act r.act r.charge class plain is
 
   pub stays : (row : Option (Row ℕ E)) (came : Ran) (way : Way) → IsPlain row → rans.Comes s row (rans.leaves came told u) → Leaves f below came way g → Stays way f g
-  stays row ran.Went way plain is left = rw left.0 tt
-  stays row (ran.Gave v) way plain is left = rw left.0 tt
+  stays row ran.Went way plain is left = rw (left.0, left.1) refl
+  stays row (ran.Gave v) way plain is left = rw (left.0, left.1) refl
   stays row (ran.Raises class) way plain is left = rw (left.0, left.1) (thrown row class plain is, refl, refl)
   stays row ran.Full way plain is left = rw left.0 tt
   stays row ran.Stuck way plain is left = rw left.0 tt

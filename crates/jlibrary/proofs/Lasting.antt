@@ -43,14 +43,15 @@ module _ {E : Type 0} (f : FrameOf ℕ E) (s : Store ℕ) where
   comes_alike way told g t u (Some d) not a b = store_alike d.frame d.row.charge d.row.act (leaves way told g t) (leaves way told g u) a b
 
 pub rows_stay : {E : Type 0} → RowsStayHeld E
-rows_stay {E} p shapes permissions h k f g way told before after doing not comes held things more e =
+rows_stay {E} p shapes permissions h k f g way told before after doing not held comes things more e =
     let others = with_permissions (permissions ++ more) things in
     let s = store_by p shapes things before h in
     let t = store_by p shapes others after k in
     let u = store_by p shapes things after k in
+    let same = same_store p shapes permissions h held things before more e in
     let other : Comes f s (doing s) (leaves way told g t) =
-    subst (λ (x : Store ℕ). Comes f x (doing x) (leaves way told g t)) (same_store p shapes permissions h held things before more e) (comes others) in
-    ap (λ (x : Store ℕ). x.objects) (comes_alike f s way told g t u (doing s) not other (comes things))
+    subst (λ (x : Store ℕ). Comes f x (doing x) (leaves way told g t)) same (comes things others e same) in
+    ap (λ (x : Store ℕ). x.objects) (comes_alike f s way told g t u (doing s) not other (comes things things e refl))
 
 -- ---- what is made
 

@@ -7,5 +7,6 @@ mod Joining
 mod Keeping
 mod Lasting
 mod Missing
+mod Numbering
 mod Operands
 mod Plain

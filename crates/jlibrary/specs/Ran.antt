@@ -94,8 +94,10 @@ Runs {E} shapes cwd thread call count f before h done g after k =
     Comes f s (with_row r at own s entries inherited f (run r at own s entries inherited call) (record { values = take count f.operands; below = drop count f.operands }))
     (leaves done.way (option_to_list done.told) g (store_by p shapes (with_permissions after things) constants k))
 
--- Nothing is thrown but what is raised, of a class that can be thrown, and then the frame stands where it stood.
+-- Nothing is thrown but what is raised, of a class that can be thrown, and then the frame stands where it stood; one that goes on is of the
+-- same method.
 abbrev pub Stays : {E : Type 0} → Way → FrameOf ℕ E → FrameOf ℕ E → Type 0
 Stays (ways.Raises class) f g = ((c : ThrownClass) × (class ≡ lib.Thrown c)) × (g.method ≡ f.method) × (g.place ≡ f.place)
+Stays ways.Went f g = g.method ≡ f.method
 Stays (ways.Throws n) f g = ⊥
 Stays way f g = ⊤
