@@ -155,7 +155,7 @@ switch_apart body at s m e =
     let is : Switch found.0 r.0 ≡ Used m = r.2 in
     cc
 
-flow_apart : (body : List Placed) (at : ℕ) (f : Flow SwitchOp) (m : Meaning) → flow body at f ≡ Some (Used m) → ⊥
+pub flow_apart : (body : List Placed) (at : ℕ) (f : Flow SwitchOp) (m : Meaning) → flow body at f ≡ Some (Used m) → ⊥
 flow_apart body at (flows.If test by) m e = jump_apart body at (If test) by m e
 flow_apart body at (flows.IfInt test by) m e = jump_apart body at (IfInt test) by m e
 flow_apart body at (flows.IfRef test by) m e = jump_apart body at (IfRef test) by m e
@@ -572,11 +572,11 @@ module _ (p : Program) (links : Links p) where
         declares = λ i j is static. declares_is f.owner.0 i j (sym (ap (is_static p) is) ∙ static) (field_owned c op f r.n r.entry i j is static);
       }
 
-  record HasBody (m : MethodId) : Type 0 where
-    body : CodeBody
-    is : code_at p m ≡ Some body
+  pub record HasBody (m : MethodId) : Type 0 where
+    pub body : CodeBody
+    pub is : code_at p m ≡ Some body
 
-  has_body : (m : MethodId) (i : ℕ) (one : Instruction) → instruction_at p m i ≡ Some one → HasBody m
+  pub has_body : (m : MethodId) (i : ℕ) (one : Instruction) → instruction_at p m i ≡ Some one → HasBody m
   unfolding instruction_at
   has_body m i one e =
       let c = then_is (λ c. option_and_then (instruction_in p c i) (body_in c m.method)) (part_of p m.class) one e in

@@ -1,4 +1,5 @@
 pub mod Branching
+mod Calling
 pub mod Coded
 pub mod Declared
 pub mod Fielded

@@ -1,3 +1,4 @@
+pub mod Called
 pub mod Coded
 pub mod Fields
 pub mod Links
