@@ -9,7 +9,7 @@ use Rattle.jmachine.specs.Acts.{GuestOf, State}
 use Rattle.jmachine.specs.Store.{Store}
 use Rattle.jguests.specs.declared.guests.Guest.{Guest}
 use Rattle.jguests.specs.declared.guests.Guests.{Guests}
-use Rattle.std.proofs.lemmas.List.{length-map, map-append}
+use Rattle.std.proofs.lemmas.List.{length-map, length-take-le, map-append}
 use Rattle.jtrace.specs.declared.event.End.TheVariants as ends
 use Rattle.jguests.specs.Guested.{AreGuests, guest_by, guests_of, have_failed, state_by, with_running}
 
@@ -154,6 +154,13 @@ module _ {E : Type 0} where
       let all = map guest_by g.others.items in
       ap₂ (beside g x store) (take_set all g.at (guest_by x) ∙ sym (take_set all g.at (guest_by g.running)))
       (drop_set_more all g.at (guest_by x) ∙ sym (drop_set_more all g.at (guest_by g.running)))
+
+-- the number of the thread that runs
+pub at_is : {E : Type 0} (g : Guests E) (store : Store ℕ) → AreGuests g → length (take g.at (guests_of g)) ≡ g.at
+at_is g store are =
+    let some = length-map g.others.items guest_by in
+    let all = length_set (map guest_by g.others.items) g.at (guest_by g.running) in
+    length-take-le g.at (guests_of g) (omega (arith, are.at, some, all))
 
 -- ---- ends
 

@@ -1,7 +1,8 @@
 -- The threads of a machine as its definition's state has them.
-use Rattle.std.specs.Prelude.{◌≡◌, ◌<◌, ◌≤◌, ◌+◌, ◌^◌, ℕ, Bool, false, List, [], map, length, take, drop, Option, Some, None, option_map, slice_get, slice_set}
+use Rattle.std.specs.Prelude.{◌≡◌, ◌<◌, ◌≤◌, ◌+◌, ◌^◌, ℕ, Bool, true, false, List, [], map, length, take, drop, Option, Some, None, option_map, slice_get, slice_set}
 use Rattle.std.specs.List.{list_any}
 use Rattle.jthreads.specs.declared.thread.Thread.{Thread}
+use Rattle.jthreads.specs.Table.{lives_at}
 use Rattle.jmachine.specs.Acts.{FrameOf, GuestOf, State}
 use Rattle.jmachine.specs.Store.{Store}
 use Rattle.jstate.specs.Framed.{Framed, all}
@@ -29,6 +30,10 @@ pub record AreGuests {E : Type 0} (g : Guests E) : Type 0 where
   pub husk : option_map (λ (x : Guest E). x.failed) (slice_get g.others.items g.at) ≡ Some false
   pub table : length g.table ≡ length g.others.items
   pub few : length g.others.items ≤ 2 ^ 32
+
+-- The one that runs was started and has not ended.
+abbrev pub Lives : {E : Type 0} → Guests E → Type 0
+Lives g = lives_at g.table g.at ≡ true
 
 -- one of these ended by an exception
 abbrev pub have_failed : {E : Type 0} → List (Guest E) → Bool

@@ -3,10 +3,11 @@ ghost use Rattle.jthreads.specs.Table.{is_started, join_answer, joined, lives_at
 ghost use Rattle.std.specs.List.{list_any};
 ghost use Rattle.jmachine.specs.Turns.{end_of, guests};
 ghost use Rattle.jmachine.specs.Store.{Store};
-ghost use Rattle.jguests.specs.Guested.{AreGuests, ended_as, guest_by, guests_of, have_failed, state_by, with_running, with_table};
-ghost use Rattle.jguests.specs.Turning.{Turns};
+ghost use Rattle.jguests.specs.Guested.{AreGuests, Lives, ended_as, guest_by, guests_of, have_failed, state_by, with_running, with_table};
+ghost use Rattle.jguests.specs.declared.turns.Turned.TheVariants as turns;
+ghost use Rattle.jguests.specs.Turning.{EndsTurn, Turns};
 
-use crate::guests::{Guest, Guests, husk};
+use crate::guests::{Guest, Guests, guest_laws, husk};
 use jthreads::{Joined, pick, thread_laws};
 use jtrace::End;
 use std::alloc::{AllocError, Global};
@@ -77,6 +78,7 @@ impl<M: Copy> Guests<M> {
         requires { AreGuests self.old }
         ensures are { OnOk result (AreGuests self.new) }
         ensures turn { IfOk result (λ done. Turns schedule.now self.old done self.new) }
+        ensures lives { IfOk result (λ done. done ≡ turns.Goes → Lives self.new) }
     {
         thread_laws();
         let numbers = self.table.runnable(alloc)?;
@@ -122,12 +124,31 @@ impl<M: Copy> Guests<M> {
     /// The thread that runs has ended, by an exception or not. It was started and has not ended.
     pub fn end_running(&mut self, failed: bool)
         requires are { AreGuests self.old }
-        requires lives { IsTrue (lives_at self.old.table self.old.at) }
+        requires lives { Lives self.old }
         ensures are { AreGuests self.new }
         ensures table { self.new ≡ with_table (table_after_end self.old.at self.old.table) (with_running (ended_as failed self.old.running) self.old) }
     {
         self.running.frames = None;
         self.running.failed = failed;
         self.table.end(self.at);
+    }
+
+    /// Ends the thread that runs, by an exception or not, and gives another its turn. Where none can run the run has ended. After an error
+    /// nothing is said of the threads.
+    pub fn end_turn(
+        &mut self,
+        alloc: Global,
+        schedule: &[u32],
+        failed: bool,
+    ) -> Result<Turned, AllocError>
+        requires are { AreGuests self.old }
+        requires lives { Lives self.old }
+        ensures are { OnOk result (AreGuests self.new) }
+        ensures turn { IfOk result (λ done. EndsTurn schedule.now failed self.old done self.new) }
+        ensures lives { IfOk result (λ done. done ≡ turns.Goes → Lives self.new) }
+    {
+        guest_laws::<M>();
+        self.end_running(failed);
+        self.turn(alloc, schedule)
     }
 }

@@ -1,8 +1,7 @@
 -- Lists that grow item by item, as loops make them.
-use Rattle.std.proofs.Common.{◌≡◌, ℕ, zero, suc, ◌+◌, ◌<◌, List, [], ◌∷◌, ◌++◌, length, map, get_or, take, Option, Some, None, refl, sym, ap, subst, ◌∙◌, arith}
+use Rattle.std.proofs.Common.{◌≡◌, ℕ, zero, suc, ◌+◌, ◌<◌, List, [], ◌∷◌, ◌++◌, length, get_or, take, Some, refl, sym, ap, subst, ◌∙◌, arith}
 use Rattle.std.specs.Prelude.{slice_get}
-use Rattle.std.proofs.lemmas.List.{append-nil, map-append, take_all, take_more}
-use Rattle.std.proofs.lemmas.Option.{slice_get-get_or}
+use Rattle.std.proofs.lemmas.List.{take_more}
 use Rattle.juses.specs.Tables.{Grows}
 use Rattle.jlayout.proofs.Lists.{pushed_all}
 
@@ -25,16 +24,8 @@ item_there [] i lt = absurd (omega arith)
 item_there (x ∷ xs) zero lt = (x, refl)
 item_there (x ∷ xs) (suc i) lt = item_there xs i (omega arith)
 
--- the item that a loop looks at
-pub item_at : {A : Type 0} (xs ys : List A) (i : ℕ) (x : A) → ys ≡ xs → i < length ys → x ≡ get_or ys i x → slice_get xs i ≡ Some x
-item_at {A} xs ys i x same lt is =
-    subst (λ (zs : List A). slice_get zs i ≡ Some x) same (slice_get-get_or ys i x lt ∙ ap (λ (z : A). Some z) (sym is))
-
 pub take_next : {A : Type 0} (xs : List A) (i : ℕ) (x : A) → i < length xs → x ≡ get_or xs i x → take (i + 1) xs ≡ take i xs ++ x ∷ []
 take_next {A} xs i x lt is = take_more xs i x lt ∙ ap (λ (z : A). take i xs ++ z ∷ []) (sym is)
-
-pub map_next : {A B : Type 0} (f : A → B) (xs : List A) (i : ℕ) (x : A) → i < length xs → x ≡ get_or xs i x → map f (take (i + 1) xs) ≡ map f (take i xs) ++ f x ∷ []
-map_next f xs i x lt is = ap (map f) (take_next xs i x lt is) ∙ map-append f (take i xs) (x ∷ [])
 
 -- ---- what stands in a list that grows
 
@@ -45,11 +36,3 @@ kept {A} xs ys n x g at = ap (λ (zs : List A). slice_get zs n) g.1 ∙ in_front
     in_front [] more n x at = absurd (none_there n x at)
     in_front (y ∷ xs) more zero x at = at
     in_front (y ∷ xs) more (suc n) x at = in_front xs more n x at
-
-pub last_there : {A : Type 0} (xs ys : List A) (n : ℕ) (x : A) → n ≡ length xs → ys ≡ xs ++ x ∷ [] → slice_get ys n ≡ Some x
-last_there {A} xs ys n x is put =
-    ap (slice_get ys) is ∙ ap (λ (zs : List A). slice_get zs (length xs)) put ∙ at_end xs x
-  where
-    at_end : (xs : List A) (x : A) → slice_get (xs ++ x ∷ []) (length xs) ≡ Some x
-    at_end [] x = refl
-    at_end (y ∷ xs) x = at_end xs x

@@ -8,17 +8,15 @@ use Rattle.std.proofs.lemmas.Option.{slice_get_past}
 use Rattle.jclass.specs.declared.class.ClassParts.{ClassParts}
 use Rattle.jclass.specs.declared.class.MemberInfo.{MemberInfo}
 use Rattle.jheap.specs.declared.cell.CellType.{CellType}
-use Rattle.jprogram.specs.declared.part.ClassRef.TheVariants as refs
 use Rattle.jprogram.specs.declared.part.CodePart.{CodePart}
 use Rattle.jprogram.specs.Parts.{member_desc, super_name, this_name}
-use Rattle.jprogram.specs.Classes.{Class, Program, User, above, above_name, find, named as class_name, ref_of}
+use Rattle.jprogram.specs.Classes.{Class, Program, User, above, find, named as class_name, ref_of}
 use Rattle.jprogram.specs.Standing.{StandsInOrder}
 use Rattle.jprogram.proofs.Rows.{found_part, own_place}
 use Rattle.jprogram.proofs.Standing.{Libs, Nowhere, Stands, Users, stands}
 use Rattle.jtypes.specs.declared.vtype.VType.{VType}
 use Rattle.jtypes.specs.declared.vtype.VType.TheVariants as types
 use Rattle.juses.specs.declared.types.TypeRef.{TypeRef}
-use Rattle.juses.specs.Tables.{Pairs}
 use Rattle.juses.specs.Typed.{typed}
 use Rattle.juses.specs.Types.{named}
 use Rattle.jlayout.specs.Counted.{above_at, user_in}
@@ -29,7 +27,7 @@ use Rattle.jlayout.proofs.Walks.{above_in, from_above, layout_is, lib_layout, no
 use Rattle.jmachine.specs.World.{world}
 use Rattle.jready.specs.declared.statics.StaticRow.{StaticRow}
 use Rattle.jready.specs.Exact as exact
-use Rattle.jready.specs.Statics.{AreStatics, IsStatic}
+use Rattle.jready.specs.Statics.{AreStatics}
 use Rattle.jstate.specs.declared.shapes.Shape.{Shape}
 use Rattle.jstate.specs.declared.shapes.Shapes.{Shapes}
 use Rattle.jobjs.specs.Made.{HasShape, cell_of}

@@ -1,5 +1,5 @@
 -- What stands in a machine's cells is what its program lays out.
-use Rattle.std.specs.Prelude.{◌≡◌, ◌<◌, ℕ, List, map, length}
+use Rattle.std.specs.Prelude.{◌≡◌, ◌<◌, ℕ, map, length}
 use Rattle.jclass.specs.declared.class.MemberInfo.{MemberInfo}
 use Rattle.jprogram.specs.declared.part.CodePart.{CodePart}
 use Rattle.jprogram.specs.Classes.{Program}

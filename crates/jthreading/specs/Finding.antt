@@ -1,5 +1,5 @@
 -- Which thread an object of the heap stands for.
-use Rattle.std.specs.Prelude.{ℕ, List, Option, Some, None}
+use Rattle.std.specs.Prelude.{ℕ, Bool, true, false, List, Option, Some, None, if◌then◌else◌}
 use Rattle.jheap.specs.declared.cell.Kind.{Kind}
 use Rattle.jheap.specs.declared.cell.Kind.TheVariants as kinds
 use Rattle.jheap.specs.Heaps as heaps
@@ -28,3 +28,18 @@ thread_found (Some x) = thread_of_kind x.kind x.cells
 abbrev pub thread_in : Heaped → Value ℕ → Option ℕ
 thread_in h (Ref o) = thread_found (heaps.object_at h o)
 thread_in h v = None
+
+-- ---- objects of Thread
+
+abbrev pub is_thread : ClassRef → Bool
+is_thread (refs.Lib lib.Thread) = true
+is_thread c = false
+
+abbrev pub thread_kind : ℕ → Option Kind → Option ℕ
+thread_kind o (Some (kinds.Object n)) = if is_thread (class_numbered n) then Some o else None
+thread_kind o kind = None
+
+-- the number of an object of Thread that a value names
+abbrev pub thread_object : Heaped → Value ℕ → Option ℕ
+thread_object h (Ref o) = thread_kind o (heaps.kind_at h o)
+thread_object h v = None

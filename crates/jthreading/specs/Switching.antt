@@ -20,6 +20,6 @@ WentOn count g h = h ≡ with_frames (option_map (gone count) g.running.frames) 
 abbrev pub Shrunk : {E : Type 0} → ℕ → Guests E → Guests E → Type 0
 Shrunk count g h = h ≡ with_frames (option_map (lost count) g.running.frames) g
 
--- the newest operand of the running thread's newest frame
-abbrev pub OperandIs : {E : Type 0} → Value ℕ → Guests E → Type 0
-OperandIs {E} v g = (f : Framed E) → g.running.frames ≡ Some f → slice_get f.newest.operands 0 ≡ Some v
+-- an operand of the running thread's newest frame, counted from its newest
+abbrev pub OperandIs : {E : Type 0} → ℕ → Value ℕ → Guests E → Type 0
+OperandIs {E} i v g = (f : Framed E) → g.running.frames ≡ Some f → slice_get f.newest.operands i ≡ Some v

@@ -2,6 +2,8 @@
 #![tactic(auto)]
 
 mod finding;
+mod making;
 mod switching;
 
+pub use making::{Begun, make, named_by};
 pub use switching::{Threaded, join, start, yield_turn};

@@ -1,4 +1,4 @@
-ghost use Rattle.std.specs.Prelude.{◌≡◌, IfOk, OnOk, Some};
+ghost use Rattle.std.specs.Prelude.{◌+◌, ◌≡◌, IfOk, OnOk, Some};
 ghost use Rattle.jlib.specs.declared.calls.ThreadCall.TheVariants as calls;
 ghost use Rattle.jguests.specs.Guested.{AreGuests};
 ghost use Rattle.jthreading.specs.Threading.{CallsThread, MayCall};
@@ -27,7 +27,7 @@ pub enum Threaded {
 }
 
 /// The running thread's newest frame loses its call's operands and goes on behind the call.
-fn go_on<M: Copy>(guests: &mut Guests<M>, count: usize)
+pub(crate) fn go_on<M: Copy>(guests: &mut Guests<M>, count: usize)
     requires { MayCall count guests.old }
     ensures { WentOn count guests.old guests.new }
 {
@@ -74,15 +74,23 @@ pub fn yield_turn<M: Copy>(
     Ok(Threaded::Turned(done))
 }
 
+/// An operand of the running thread's newest frame, counted from its newest. It is there.
+pub(crate) fn operand_at<M: Copy>(guests: &Guests<M>, i: usize) -> Value
+    requires { MayCall (i + 1) guests.now }
+    ensures { OperandIs i result guests.now }
+{
+    match &guests.running.frames {
+        Some(frames) => frames.operand(i),
+        None => unreachable!(),
+    }
+}
+
 /// The newest operand of the running thread, which is there.
 fn operand<M: Copy>(guests: &Guests<M>) -> Value
     requires { MayCall 1 guests.now }
-    ensures { OperandIs result guests.now }
+    ensures { OperandIs 0 result guests.now }
 {
-    match &guests.running.frames {
-        Some(frames) => frames.operand(0),
-        None => unreachable!(),
-    }
+    operand_at(guests, 0)
 }
 
 /// Thread's `start`: the thread of an object may run from now on, and another may at once. One that was started raises an exception.

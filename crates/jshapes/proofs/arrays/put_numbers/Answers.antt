@@ -1,7 +1,5 @@
-use Rattle.std.proofs.Common.{◌≡◌}
 use Rattle.jcode.specs.declared.names.ArrayType.TheVariants as numbers
 use Rattle.juses.proofs.Spans.{grows_on}
-use Rattle.jshapes.specs.Numbered.{HasArray, element_of}
 use Rattle.jshapes.proofs.Growing.{kept}
 use Rattle.jshapes.proofs.arrays.put_numbers.Goals as goal
 

@@ -1,4 +1,4 @@
-use Rattle.std.proofs.Common.{List, subst}
+use Rattle.std.proofs.Common.{subst}
 use Rattle.juses.specs.Tables.{Grows}
 use Rattle.jready.specs.declared.tables.Tables.{Tables}
 use Rattle.jshapes.proofs.Laying.{has_shape}

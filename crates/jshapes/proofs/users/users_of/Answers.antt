@@ -1,4 +1,4 @@
-use Rattle.std.proofs.Common.{subst, ◌∙◌}
+use Rattle.std.proofs.Common.{subst}
 use Rattle.jprogram.specs.Standing.{StandsInOrder}
 use Rattle.jlink.specs.Standing.{in_order}
 use Rattle.jshapes.proofs.Laying.{shapes_more}

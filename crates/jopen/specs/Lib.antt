@@ -1,0 +1,4 @@
+pub mod Begun
+pub mod Opened
+pub mod Rows
+pub mod Texts
