@@ -1,9 +1,8 @@
 -- Permissions that objects hold, by their numbers.
-use Rattle.std.proofs.Common.{◌≡◌, ◌∙◌, ◌⊎◌, inl, inr, ℕ, zero, suc, ◌≤◌, ◌<◌, true, false, List, [], ◌∷◌, ◌++◌, length, Option, Some, None, refl, subst, sym, ap, arith}
+use Rattle.std.proofs.Common.{◌≡◌, ◌∙◌, ◌⊎◌, inl, inr, ℕ, zero, suc, ◌≤◌, ◌<◌, true, false, List, [], ◌∷◌, ◌++◌, length, Option, Some, None, refl, sym, ap, arith}
 use Rattle.std.proofs.Math.Dec.{leb}
 use Rattle.std.proofs.lemmas.Bool.Decides.{leb_tells}
 use Rattle.std.specs.Prelude.{drop, map, replicate, slice_get, if◌then◌else◌}
-use Rattle.std.specs.List.{AllByRecursion}
 use Rattle.jperm.specs.declared.permission.Permission as perms
 use Rattle.jperm.specs.declared.permission.Permission.TheVariants as kept
 use Rattle.jheap.specs.declared.cell.Kind.{Kind}

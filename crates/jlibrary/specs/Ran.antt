@@ -46,7 +46,8 @@ Constructs {E} row before h came after k =
     rans.Comes {E = E} s (row s) (rans.leaves came [] (store_by p shapes (with_permissions after things) constants k))
 
 -- A call of the library with these values did what its row says, where these permissions were there, and has left those.
-abbrev pub CallDoes : Type 0 → Shapes → (cwd : List ℕ) → (thread : ℕ) → LibCall → List (Value ℕ) → List perms.Permission → Heaped → Came → List perms.Permission → Heaped → Type 0
+abbrev pub CallDoes : Type 0 → Shapes → (cwd : List ℕ) → (thread : ℕ) → LibCall → List (Value ℕ)
+    → List perms.Permission → Heaped → Came → List perms.Permission → Heaped → Type 0
 CallDoes E shapes cwd thread call values before h came after k =
     (p : Program) (at : Site) (things : Things) (constants : List (List ℕ × ℕ))
     → at.cwd ≡ cwd → at.thread ≡ thread → things.permissions ≡ before → AreHeld p shapes before h.objects
@@ -86,7 +87,8 @@ IsTelling call = ⊥
 
 -- A call of the library with so many operands of a frame did what the machine's definition says, whatever the rules and the place are, where
 -- these permissions were there, and has left those.
-abbrev pub Runs : {E : Type 0} → Shapes → (cwd : List ℕ) → (thread : ℕ) → LibCall → ℕ → FrameOf ℕ E → List perms.Permission → Heaped → Done → FrameOf ℕ E → List perms.Permission → Heaped → Type 0
+abbrev pub Runs : {E : Type 0} → Shapes → (cwd : List ℕ) → (thread : ℕ) → LibCall → (count : ℕ)
+    → FrameOf ℕ E → List perms.Permission → Heaped → Done → FrameOf ℕ E → List perms.Permission → Heaped → Type 0
 Runs {E} shapes cwd thread call count f before h done g after k =
     (r : Rules ℕ E) (p : Program) (at : Site) (own : Member → Bool) (entries : List E) (inherited : Option ℕ) (things : Things) (constants : List (List ℕ × ℕ))
     → at.cwd ≡ cwd → at.thread ≡ thread → things.permissions ≡ before → AreHeld p shapes before h.objects

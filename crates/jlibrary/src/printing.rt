@@ -43,7 +43,8 @@ pub(crate) fn print_value<M: Copy>(
     count: usize,
 ) -> Result<Came, AllocError>
     requires { count ≤ length frames.now.newest.operands }
-    ensures { IfOk result (λ came. (shapes : Shapes) → Does {E = M} shapes (λ s. print_row s thread piece (take count frames.now.newest.operands)) heap.now came.ran (option_to_list came.told) heap.now) }
+    ensures { IfOk result (λ came. (shapes : Shapes) → Does {E = M} shapes (λ s. print_row s thread piece (take count frames.now.newest.operands))
+        heap.now came.ran (option_to_list came.told) heap.now) }
 {
     match two(frames, count) {
         None => Ok(printed(thread, None)),

@@ -47,7 +47,8 @@ pub(crate) fn row<M: Copy>(
     requires told { IsTelling call → (v : Held ℕ) → receiver (take count frames.now.newest.operands) ≡ Some v → MayBeTold fixed.now.shapes.now heap.old v }
     ensures row { IfOk result (λ came. CallDoes M fixed.now.shapes.now fixed.now.cwd.now fixed.now.thread call (take count frames.now.newest.operands)
         permissions.old heap.old came permissions.new heap.new) }
-    ensures held { OnOk result ((p : Program) → AreHeld p fixed.now.shapes.now permissions.old heap.old.objects → AreHeld p fixed.now.shapes.now permissions.new heap.new.objects) }
+    ensures held { OnOk result ((p : Program) → AreHeld p fixed.now.shapes.now permissions.old heap.old.objects
+        → AreHeld p fixed.now.shapes.now permissions.new heap.new.objects) }
     ensures built { OnOk result (AreBuilt heap.new.objects) }
     ensures celled { OnOk result (StayCelled heap.old.objects heap.new.objects) }
 {

@@ -41,9 +41,10 @@ pub struct Done {
     pub told: Option<Event>,
 }
 
-/// Runs the library with so many operands of the newest frame, which serve for the call. Permissions that are made stand behind the others,
-/// and objects hold them by their numbers, from 1. Where an exception is to be raised and where the state has no step the frame stays as it was. After
-/// an error nothing is said.
+/// Runs the library with so many operands of the newest frame, which serve for the call (class documentation of Object, Throwable, String,
+/// StringBuilder, PrintStream and the permissions). Permissions that are made stand behind the others, and objects hold them by their
+/// numbers, from 1. The operands go where the call goes on; where it raises, is above what the heap has left, or has no step, the frame
+/// stays as it was. After an error nothing is said.
 pub fn run<M: Copy>(
     alloc: Global,
     frames: &mut Frames<M>,
@@ -61,9 +62,11 @@ pub fn run<M: Copy>(
     requires told { IsTelling call → (v : Held ℕ) → receiver (take count frames.old.newest.operands) ≡ Some v → MayBeTold fixed.now.shapes.now heap.old v }
     ensures row { IfOk result (λ done. Runs fixed.now.shapes.now fixed.now.cwd.now fixed.now.thread call count frames.old.newest
         permissions.old heap.old done frames.new.newest permissions.new heap.new) }
-    ensures stays { IfOk result (λ done. (p : Program) → AreHeld p fixed.now.shapes.now permissions.old heap.old.objects → Stays done.way frames.old.newest frames.new.newest) }
+    ensures stays { IfOk result (λ done. (p : Program) → AreHeld p fixed.now.shapes.now permissions.old heap.old.objects
+        → Stays done.way frames.old.newest frames.new.newest) }
     ensures below { OnOk result (frames.new.below ≡ frames.old.below) }
-    ensures held { OnOk result ((p : Program) → AreHeld p fixed.now.shapes.now permissions.old heap.old.objects → AreHeld p fixed.now.shapes.now permissions.new heap.new.objects) }
+    ensures held { OnOk result ((p : Program) → AreHeld p fixed.now.shapes.now permissions.old heap.old.objects
+        → AreHeld p fixed.now.shapes.now permissions.new heap.new.objects) }
     ensures built { OnOk result (AreBuilt heap.new.objects) }
     ensures celled { OnOk result (StayCelled heap.old.objects heap.new.objects) }
 {
