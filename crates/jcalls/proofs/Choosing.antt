@@ -1,5 +1,5 @@
 -- What a call comes to, by its object.
-use Rattle.std.proofs.Common.{◌≡◌, ◌∙◌, ℕ, zero, suc, Bool, not, List, take, Option, Some, None, refl, sym, ap}
+use Rattle.std.proofs.Common.{◌≡◌, ◌∙◌, ℕ, zero, suc, Bool, not, List, take, Option, Some, None, refl, sym, ap, ap₂}
 use Rattle.std.specs.Prelude.{option_map, option_and_then, slice_get}
 use Rattle.jbase.specs.First.{fault_if, or_else}
 use Rattle.jops.specs.declared.value.Value.{Value}
@@ -20,7 +20,8 @@ use Rattle.juses.specs.declared.meaning.How.TheVariants as how
 use Rattle.juses.specs.Instructions.{Used}
 use Rattle.juses.specs.Meanings.{Call, CallMeaning}
 use Rattle.jmachine.specs.declared.plan.Plan.{Plan}
-use Rattle.jmachine.specs.Acts.{NoStep, State}
+use Rattle.jmachine.specs.Acts.{NoStep, Outcome, State}
+use Rattle.jmachine.specs.Asked.{Ask, asked_by, called_asks, used_asks}
 use Rattle.jmachine.specs.Calls.{Target, Fails, is_hidden, no_access, null_pointer, on_object, on_value, reached, receiver, target, unless, wrong_class}
 use Rattle.jmachine.specs.Doing.{call, doing, used}
 use Rattle.jmachine.specs.Objects.{Object, id_of}
@@ -36,7 +37,7 @@ use Rattle.jstate.specs.Numbers.{class_numbered}
 use Rattle.jstate.specs.Seen.{Things, class_by, kind_by, object_by, store_by, user_by}
 use Rattle.jstate.specs.SeenLaws.{SeesEach}
 use Rattle.jcalls.specs.declared.receiver.Receiver.TheVariants as receivers
-use Rattle.jcalls.specs.Calling.{IsByClass, IsOfInterface, Takes, comes, found_as, id_by, is_full, receiver_seen, selected_on, stepped}
+use Rattle.jcalls.specs.Calling.{IsByClass, IsOfInterface, Takes, calls, comes, found_as, id_by, is_full, receiver_seen, selected_on, stepped}
 
 -- ---- the class of an object
 
@@ -152,14 +153,26 @@ module _ {E : Type 0} (r : Rules ℕ E) (p : Program) (plan : Plan) (s : State �
   called_step how.Interface takes = rw takes refl
   called_step how.Init takes = rw takes refl
 
-  -- what the call comes to is known
-  pub comes_so : (by : How) (t : Target) → Takes p s by c count f → target at s.store by c values ≡ Some t
-      → executed r p plan s f.newest f.below (Some (Used (Call by c))) ≡ comes r p plan s f count t
-  comes_so by t takes is = called_step by takes ∙ rw is refl
+  -- and what it asks
+  asked_step : (by : How) → Takes p s by c count f
+      → asked_by r.side p plan s f.newest f.below (Some (Used (Call by c))) ≡ option_and_then (called_asks r.side at s.store values) (target at s.store by c values)
+  unfolding used_asks exchange
+  asked_step how.Virtual takes = rw takes refl
+  asked_step how.Special takes = rw takes refl
+  asked_step how.Static takes = rw takes refl
+  asked_step how.Interface takes = rw takes refl
+  asked_step how.Init takes = rw takes refl
 
-  pub comes_none : (by : How) → Takes p s by c count f → target at s.store by c values ≡ None
-      → executed r p plan s f.newest f.below (Some (Used (Call by c))) ≡ NoStep
-  comes_none by takes is = called_step by takes ∙ rw is refl
+  -- what the call comes to is known
+  pub comes_so : (by : How) (t : Target) → Takes p s by c count f → target at s.store by c values ≡ Some t → calls r p plan s f by c ≡ comes r p plan s f count t
+  comes_so by t takes is =
+      ap₂ (λ (o : Outcome (State ℕ E)) (a : Option (Ask ℕ)). (o, a)) (called_step by takes ∙ rw is refl)
+      (asked_step by takes ∙ ap (option_and_then (called_asks r.side at s.store values)) is)
+
+  pub comes_none : (by : How) → Takes p s by c count f → target at s.store by c values ≡ None → calls r p plan s f by c ≡ (NoStep, None)
+  comes_none by takes is =
+      ap₂ (λ (o : Outcome (State ℕ E)) (a : Option (Ask ℕ)). (o, a)) (called_step by takes ∙ rw is refl)
+      (asked_step by takes ∙ ap (option_and_then (called_asks r.side at s.store values)) is)
 
   pub static_target : target at s.store how.Static c values ≡ Some (reached (is_full plan f) ((world p).itself c.member))
   unfolding target

@@ -7,3 +7,4 @@ pub mod Returning
 pub mod Settling
 pub mod Standing
 pub mod Throwing
+pub mod Told

@@ -1,5 +1,5 @@
 -- Frames that stand stay so, whatever becomes of them.
-use Rattle.std.proofs.Common.{◌≡◌, ◌+◌, ◌<◌, ◌^◌, ℕ, List, [], ◌∷◌, Option, Some, None, refl, sym, ap, subst}
+use Rattle.std.proofs.Common.{◌≡◌, ◌<◌, ℕ, List, [], ◌∷◌, Option, Some, None, refl, sym, ap, subst}
 use Rattle.std.specs.Prelude.{option_map, slice_get}
 use Rattle.jops.specs.declared.value.Value.{Value}
 use Rattle.jlib.specs.declared.classes.LibClass.{LibClass}

@@ -1,5 +1,5 @@
 -- What is raised and thrown.
-use Rattle.std.proofs.Common.{◌≡◌, ◌∙◌, ◌⊎◌, inl, inr, ℕ, suc, ◌+◌, ◌<◌, true, false, List, [], ◌∷◌, ◌++◌, length, Option, Some, None, refl, sym, ap, arith, rules, le-leb}
+use Rattle.std.proofs.Common.{◌≡◌, ◌∙◌, inl, inr, ℕ, suc, ◌+◌, ◌<◌, true, false, List, [], ◌∷◌, ◌++◌, length, Option, Some, None, refl, sym, ap, arith, rules, le-leb}
 use Rattle.std.specs.Prelude.{IfOk, OnOk, Ok, Err, Result, nat_le, slice_get}
 use Rattle.std.proofs.lemmas.List.{length-map}
 use Rattle.jheap.specs.declared.cell.Kind.TheVariants as kinds
@@ -35,7 +35,7 @@ module _ {E : Type 0} (marks : List E) (goes : MethodId → ℕ → Option ℕ) 
 -- ---- an exception that is made
 
 -- the object that was made last
-last_object : {K : Type 0} (s : Store K) (x : Object K) → object_at (with_made s x) (length s.objects + 1) ≡ Some x
+pub last_object : {K : Type 0} (s : Store K) (x : Object K) → object_at (with_made s x) (length s.objects + 1) ≡ Some x
 last_object s x = let e : length s.objects + 1 ≡ suc (length s.objects) = omega arith in ap (object_at (with_made s x)) e ∙ last s.objects
   where
     last : {A : Type 0} {x : A} (xs : List A) → slice_get (xs ++ x ∷ []) (length xs) ≡ Some x
@@ -56,7 +56,7 @@ module _ (numbers : GivesBack) (law : Makes) (p : Program) (shapes : Shapes) (th
       (class_is (class_numbered (thrown_number c)) (numbers (refs.Lib (lib.Thrown c))))
 
 -- so many objects and one more
-one_longer : {A : Type 0} (xs : List A) (x : A) → length (xs ++ x ∷ []) ≡ length xs + 1
+pub one_longer : {A : Type 0} (xs : List A) (x : A) → length (xs ++ x ∷ []) ≡ length xs + 1
 one_longer [] x = refl
 one_longer (y ∷ xs) x = let e : suc (length xs + 1) ≡ suc (length xs) + 1 = omega arith in ap suc (one_longer xs x) ∙ e
 

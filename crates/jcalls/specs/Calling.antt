@@ -6,6 +6,7 @@ use Rattle.jops.specs.declared.value.Value.TheVariants.{Ref}
 use Rattle.jheap.specs.declared.cell.Kind.{Kind}
 use Rattle.jheap.specs.declared.cell.Kind.TheVariants as kinds
 use Rattle.jheap.specs.Heaps.{Heaped, kind_at}
+use Rattle.jlib.specs.declared.calls.LibCall.{LibCall}
 use Rattle.jlib.specs.declared.classes.LibClass.{LibClass}
 use Rattle.jlib.specs.declared.classes.LibClass.TheVariants as lib
 use Rattle.jlib.specs.declared.classes.Thrown.{Thrown as ThrownClass}
@@ -25,6 +26,7 @@ use Rattle.juses.specs.Meanings.{Call, CallMeaning}
 use Rattle.jrule.specs.Uses.{arguments, receiver as wanted_receiver}
 use Rattle.jmachine.specs.declared.plan.Plan.{Plan}
 use Rattle.jmachine.specs.Acts.{NoStep, Outcome, Row, State}
+use Rattle.jmachine.specs.Asked.{Ask, asked_by, called_asks, run_asks}
 use Rattle.jmachine.specs.Calls.{Target, init_taken, is_hidden, reached, receiver, special}
 use Rattle.jmachine.specs.Doing.{called, run, with_row}
 use Rattle.jmachine.specs.Frames.{domain_of}
@@ -110,26 +112,45 @@ module _ {E : Type 0} (r : Rules ℕ E) (p : Program) (plan : Plan) (s : State �
       (with_row r (site r p plan s f.newest f.below) own s.store (entries r p plan s (all f)) s.running.inherited f.newest row
       (took count f.newest.operands))
 
-  -- what it comes to by what a call comes to
-  abbrev pub comes : ℕ → Target → Outcome (State ℕ E)
+  -- what a step comes to, and what it asks of access control
+  abbrev pub Came : Type 0
+  Came = Outcome (State ℕ E) × Option (Ask ℕ)
+
+  -- both, by what a call comes to
+  abbrev pub comes : ℕ → Target → Came
   comes count t =
       let own = own_fields p f.newest.method in
-      stepped count (λ values. called r (site r p plan s f.newest f.below) own s.store (entries r p plan s (all f)) s.running.inherited values t)
+      let at = site r p plan s f.newest f.below in (
+        stepped count (λ values. called r at own s.store (entries r p plan s (all f)) s.running.inherited values t),
+        called_asks r.side at s.store (take count f.newest.operands) t,
+      )
+
+  -- both, by the library's member that runs with so many operands
+  abbrev pub runs : ℕ → LibCall → Came
+  runs count call =
+      let own = own_fields p f.newest.method in
+      let at = site r p plan s f.newest f.below in (
+        stepped count (run r at own s.store (entries r p plan s (all f)) s.running.inherited call),
+        run_asks r.side at s.store call (take count f.newest.operands),
+      )
+
+  -- both, where the step executes a call
+  abbrev pub calls : How → CallMeaning → Came
+  calls by c =
+      let it = Some (Used (Call by c)) in
+      (executed r p plan s f.newest f.below it, asked_by r.side p plan s f.newest f.below it)
 
 -- the thread has all the frames that it may have
 abbrev pub is_full : {E : Type 0} → Plan → Framed E → Bool
 is_full plan f = nat_le plan.depth (length (all f))
 
 -- The thread goes on with these frames, or an exception is to be raised in them, or the library runs with the operands that were there, or
--- it is stuck.
-abbrev pub CalledAs : {E : Type 0} → Rules ℕ E → Program → Plan → State ℕ E → ℕ → Framed E → Called → Framed E → Outcome (State ℕ E) → Type 0
-CalledAs r p plan s count f ways.Begun g outcome = outcome ≡ went r p plan s (all g) s.store []
-CalledAs r p plan s count f (ways.Raises class) g outcome = outcome ≡ raising r p plan s (all g) [] class
-CalledAs r p plan s count f (ways.Runs call) g outcome =
-    let own = own_fields p f.newest.method in
-    (g ≡ f) × (outcome ≡ stepped r p plan s f count
-    (run r (site r p plan s f.newest f.below) own s.store (entries r p plan s (all f)) s.running.inherited call))
-CalledAs r p plan s count f ways.Stuck g outcome = outcome ≡ NoStep
+-- it is stuck. Nothing is asked of access control but by the library.
+abbrev pub CalledAs : {E : Type 0} (r : Rules ℕ E) (p : Program) (plan : Plan) (s : State ℕ E) → ℕ → (f : Framed E) → Called → Framed E → Came r p plan s f → Type 0
+CalledAs r p plan s count f ways.Begun g came = came ≡ (went r p plan s (all g) s.store [], None)
+CalledAs r p plan s count f (ways.Raises class) g came = came ≡ (raising r p plan s (all g) [] class, None)
+CalledAs r p plan s count f (ways.Runs call) g came = (g ≡ f) × (came ≡ runs r p plan s f count call)
+CalledAs r p plan s count f ways.Stuck g came = came ≡ (NoStep, None)
 
 -- ---- calls
 
@@ -141,7 +162,7 @@ Takes p s by c count f = call_taken (world p) s.store ((world p).named f.newest.
 abbrev pub CallsStatic : {E : Type 0} → ℕ → Found E → (depth : ℕ) → Framed E → Called → Framed E → Type 0
 CallsStatic {E} count what depth f way g = (r : Rules ℕ E) (p : Program) (plan : Plan) (s : State ℕ E) (c : CallMeaning)
     → plan.depth ≡ depth → Takes p s how.Static c count f → IsFound r.entry_of p what ((world p).itself c.member)
-    → CalledAs r p plan s count f way g (executed r p plan s f.newest f.below (Some (Used (Call how.Static c))))
+    → CalledAs r p plan s count f way g (calls r p plan s f how.Static c)
 
 -- what is selected is found on the object's class
 abbrev pub IsFoundOn : {E : Type 0} → (ℕ → E) → Program → ℕ → How → CallMeaning → Found E → Receiver → Type 0
@@ -162,7 +183,7 @@ CallsOn {E} on count what depth f way g =
     (h : Heaped) (by : How) (c : CallMeaning)
     → IsByClass by → s.store ≡ store_by p shapes things constants h → on ≡ receiver_seen h (receiver (take count f.newest.operands))
     → plan.depth ≡ depth → Takes p s by c count f → IsFoundOn r.entry_of p f.newest.method.class by c what on
-    → CalledAs r p plan s count f way g (executed r p plan s f.newest f.below (Some (Used (Call by c))))
+    → CalledAs r p plan s count f way g (calls r p plan s f by c)
 
 -- whether the object's class has the interface by which it is called
 abbrev pub IsOfInterface : Program → Store ℕ → CallMeaning → List (Value ℕ) → Bool → Type 0
@@ -182,7 +203,7 @@ CallsByInterface {E} on count what has hidden depth f way g =
     → s.store ≡ store_by p shapes things constants h → on ≡ receiver_seen h (receiver (take count f.newest.operands)) → plan.depth ≡ depth
     → Takes p s how.Interface c count f → IsFoundOn r.entry_of p f.newest.method.class how.Interface c what on
     → IsOfInterface p s.store c (take count f.newest.operands) has → IsHiddenOn p c on hidden
-    → CalledAs r p plan s count f way g (executed r p plan s f.newest f.below (Some (Used (Call how.Interface c))))
+    → CalledAs r p plan s count f way g (calls r p plan s f how.Interface c)
 
 -- what is selected is reached, as the definition has it
 abbrev pub Reaches : {E : Type 0} → ℕ → Found E → (depth : ℕ) → Framed E → Called → Framed E → Type 0

@@ -1,4 +1,5 @@
 mod Answering
+mod Fetching
 mod Keeping
 mod Lifting
 mod Stepping

@@ -1,3 +1,4 @@
 pub mod Said
 pub mod Standing
 pub mod Guarded
+pub mod Fetched

@@ -8,4 +8,4 @@ mod laws;
 
 pub use ask::{Answer, Ask};
 pub use guard::{Guard, OnPassing, OnSource, Sided};
-pub use laws::guard_laws;
+pub use laws::{ByNumbers, ByThings, guard_laws};

@@ -1,13 +1,17 @@
 -- How threads lie in a list, one of them beside it.
-use Rattle.std.proofs.Common.{◌≡◌, ◌∙◌, ℕ, zero, suc, ◌+◌, ◌<◌, Bool, true, false, ◌||◌, List, [], ◌∷◌, ◌++◌, map, length, take, drop, Some, refl, sym, ap, arith}
-use Rattle.std.specs.Prelude.{if◌then◌else◌, option_map, slice_get, slice_index_or, slice_set}
+use Rattle.std.proofs.Common.{◌≡◌, ◌∙◌, ℕ, zero, suc, ◌+◌, ◌<◌, ◌≤◌, Bool, true, false, ◌||◌, List, [], ◌∷◌, ◌++◌, map, length, take, drop, Some, refl, sym, ap, ap₂, arith}
+use Rattle.std.specs.Prelude.{if◌then◌else◌, not, option_map, slice_get, slice_index_or, slice_set}
 use Rattle.std.specs.List.{list_any}
-use Rattle.jmachine.specs.Acts.{GuestOf}
+use Rattle.jthreads.specs.declared.thread.Thread.{Thread}
+use Rattle.jthreads.specs.declared.table.Joined.TheVariants.{AtOnce, Waits}
+use Rattle.jthreads.specs.Table.{is_alive, is_started, join_answer, joined, table_after_start, thread_at, unstarted}
+use Rattle.jmachine.specs.Acts.{GuestOf, State}
+use Rattle.jmachine.specs.Store.{Store}
 use Rattle.jguests.specs.declared.guests.Guest.{Guest}
 use Rattle.jguests.specs.declared.guests.Guests.{Guests}
-use Rattle.std.proofs.lemmas.List.{length-map, map-append}
+use Rattle.std.proofs.lemmas.List.{length-map, length-take-le, map-append}
 use Rattle.jtrace.specs.declared.event.End.TheVariants as ends
-use Rattle.jguests.specs.Guested.{AreGuests, guest_by, guests_of, have_failed}
+use Rattle.jguests.specs.Guested.{AreGuests, guest_by, guests_of, have_failed, state_by, with_running}
 
 -- ---- lists with another item in a place
 
@@ -59,6 +63,19 @@ pub set_more : {A : Type 0} (xs : List A) (i : ℕ) (x y : A) → i < length xs 
 set_more [] i x y lt = absurd (omega (arith, lt))
 set_more (z ∷ xs) zero x y lt = refl
 set_more (z ∷ xs) (suc i) x y lt = ap (λ zs. z ∷ zs) (set_more xs i x y (omega (arith, lt)))
+
+pub take_set : {A : Type 0} (xs : List A) (i : ℕ) (x : A) → take i (slice_set xs i x) ≡ take i xs
+take_set [] i x = refl
+take_set (y ∷ xs) zero x = refl
+take_set (y ∷ xs) (suc i) x = ap (λ ys. y ∷ ys) (take_set xs i x)
+
+drop_set : {A : Type 0} (xs : List A) (i : ℕ) (x : A) → drop (suc i) (slice_set xs i x) ≡ drop (suc i) xs
+drop_set [] i x = refl
+drop_set (y ∷ xs) zero x = refl
+drop_set (y ∷ xs) (suc i) x = drop_set xs i x
+
+pub drop_set_more : {A : Type 0} (xs : List A) (i : ℕ) (x : A) → drop (i + 1) (slice_set xs i x) ≡ drop (i + 1) xs
+drop_set_more xs i x = let n : i + 1 ≡ suc i = omega arith in ap (λ k. drop k (slice_set xs i x)) n ∙ drop_set xs i x ∙ ap (λ k. drop k xs) (sym n)
 
 -- ---- threads
 
@@ -129,6 +146,22 @@ module _ {E : Type 0} where
       ap (λ xs. slice_set xs at (guest_by mine)) (map-append guest_by gs (new ∷ []))
       ∙ set_more (map guest_by gs) at (guest_by mine) (guest_by new) (let e = length-map gs guest_by in omega (arith, lt, e))
 
+  abbrev beside : Guests E → Guest E → Store ℕ → List (GuestOf ℕ E) → List (GuestOf ℕ E) → State ℕ E
+  beside g x store earlier later = record { earlier = earlier; running = guest_by x; later = later; table = g.table; store = store; turns = g.turns }
+
+  pub runs_as : (g : Guests E) (x : Guest E) (store : Store ℕ) → state_by (with_running x g) store ≡ record (state_by g store) { running = guest_by x }
+  runs_as g x store =
+      let all = map guest_by g.others.items in
+      ap₂ (beside g x store) (take_set all g.at (guest_by x) ∙ sym (take_set all g.at (guest_by g.running)))
+      (drop_set_more all g.at (guest_by x) ∙ sym (drop_set_more all g.at (guest_by g.running)))
+
+-- the number of the thread that runs
+pub at_is : {E : Type 0} (g : Guests E) (store : Store ℕ) → AreGuests g → length (take g.at (guests_of g)) ≡ g.at
+at_is g store are =
+    let some = length-map g.others.items guest_by in
+    let all = length_set (map guest_by g.others.items) g.at (guest_by g.running) in
+    length-take-le g.at (guests_of g) (omega (arith, are.at, some, all))
+
 -- ---- ends
 
 pub ended : (all some : Bool) → all ≡ true → some ≡ true → ends.Uncaught ≡ (if all then (if some then ends.Uncaught else ends.Finished) else ends.Deadlock)
@@ -140,3 +173,29 @@ pub finished : (all some : Bool) → all ≡ true → some ≡ false → ends.Fi
 finished true false a b = refl
 finished true true a b = cc
 finished false some a b = cc
+
+-- ---- the table
+
+past : {A : Type 0} (xs : List A) (i : ℕ) (d : A) → length xs ≤ i → slice_index_or xs i d ≡ d
+past [] i d le = refl
+past (x ∷ xs) zero d le = absurd (omega (arith, le))
+past (x ∷ xs) (suc i) d le = past xs i d (omega (arith, le))
+
+set_past : {A : Type 0} (xs : List A) (i : ℕ) (x : A) → length xs ≤ i → slice_set xs i x ≡ xs
+set_past [] i x le = refl
+set_past (y ∷ xs) zero x le = absurd (omega (arith, le))
+set_past (y ∷ xs) (suc i) x le = ap (λ ys. y ∷ ys) (set_past xs i x (omega (arith, le)))
+
+-- a thread that isn't there isn't started, and nothing changes where it is
+pub not_there : (threads : List Thread) (t : ℕ) → length threads ≤ t → true ≡ not (is_started threads t)
+not_there threads t le = ap (λ (x : Thread). not x.started) (sym (past threads t unstarted le))
+
+pub start_none : (threads : List Thread) (t : ℕ) → length threads ≤ t → threads ≡ table_after_start t threads
+start_none threads t le = sym (set_past threads t (record (thread_at threads t) { started = true }) le)
+
+pub join_none : (threads : List Thread) (t : ℕ) → length threads ≤ t → AtOnce ≡ join_answer t threads
+join_none threads t le = ap (λ (x : Thread). if is_alive x then Waits else AtOnce) (sym (past threads t unstarted le))
+
+pub joined_none : (threads : List Thread) (me t : ℕ) → length threads ≤ t → threads ≡ joined me t threads
+joined_none threads me t le =
+    ap (λ (x : Thread). if is_alive x then slice_set threads me (record (thread_at threads me) { waits_for = Some t }) else threads) (sym (past threads t unstarted le))

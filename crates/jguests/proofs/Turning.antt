@@ -1,17 +1,19 @@
 -- Turns, by the threads' table and the schedule.
-use Rattle.std.proofs.Common.{◌≡◌, ◌∙◌, ℕ, ◌+◌, List, take, drop, Option, Some, None, sym, ap, ap₂}
+use Rattle.std.proofs.Common.{◌≡◌, ◌∙◌, Bool, ℕ, ◌+◌, List, take, drop, Option, Some, None, sym, ap, ap₂}
 use Rattle.std.specs.Prelude.{slice_get}
 use Rattle.jthreads.specs.declared.thread.Thread.{Thread}
 use Rattle.jthreads.specs.Schedule.{picked}
-use Rattle.jthreads.specs.Table.{runnable_numbers}
+use Rattle.jthreads.specs.Table.{runnable_numbers, table_after_end}
 use Rattle.jtrace.specs.declared.event.Event.{Event}
 use Rattle.jtrace.specs.declared.event.End.{End}
 use Rattle.jmachine.specs.Acts.{GuestOf, State, Over, Went}
 use Rattle.jmachine.specs.Store.{Store}
-use Rattle.jmachine.specs.Turns.{end_of, given_to, guests, turn_of, turned}
+use Rattle.jmachine.specs.Turns.{with_ended, thread_of, end_of, given_to, guests, turn_of, turned}
 use Rattle.jguests.specs.declared.guests.Guests.{Guests}
-use Rattle.jguests.specs.Guested.{AreGuests, guest_by, guests_of, state_by}
-use Rattle.jguests.proofs.Lying.{own, whole}
+use Rattle.jguests.specs.Guested.{AreGuests, RunsAs, ended_as, guest_by, guests_of, state_by, with_running, with_table}
+use Rattle.jguests.specs.declared.turns.Turned.{Turned}
+use Rattle.jguests.specs.Turning.{EndsTurn, Turns}
+use Rattle.jguests.proofs.Lying.{at_is, own, whole}
 
 module _ {E : Type 0} where
   -- none can run
@@ -46,3 +48,16 @@ module _ {E : Type 0} where
       ap (λ gs. made store gs t x g.table (g.turns + 1)) (all ∙ sym same)
       ∙ ap (λ n. made store (guests_of h) n x g.table (g.turns + 1)) (sym at)
       ∙ ap₂ (λ ts n. made store (guests_of h) h.at x ts n) (sym table) (sym turns))
+
+-- ---- the thread that runs ends
+
+pub ends_turn : {E : Type 0} → RunsAs E → (schedule : List ℕ) (failed : Bool) (g mid h : Guests E) (done : Turned) → AreGuests g
+    → mid ≡ with_table (table_after_end g.at g.table) (with_running (ended_as failed g.running) g) → Turns schedule mid done h → EndsTurn schedule failed g done h
+ends_turn {E} runs schedule failed g mid h done are is turns before store events =
+    let s = state_by g before in
+    let at : thread_of s ≡ g.at = at_is g before are in
+    let same : state_by mid store ≡ with_ended s store failed =
+    ap (λ (x : Guests E). state_by x store) is
+    ∙ ap (λ (x : State ℕ E). record x { table = table_after_end g.at g.table }) (runs g (ended_as failed g.running) store)
+    ∙ ap (λ (n : ℕ). record (record (state_by g store) { running = guest_by (ended_as failed g.running) }) { table = table_after_end n g.table }) (sym at) in
+    ap (λ (x : State ℕ E). turned schedule x events) (sym same) ∙ turns store events

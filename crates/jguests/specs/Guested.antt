@@ -1,6 +1,8 @@
 -- The threads of a machine as its definition's state has them.
-use Rattle.std.specs.Prelude.{◌≡◌, ◌<◌, ◌+◌, ℕ, Bool, false, List, [], map, length, take, drop, Option, Some, None, option_map, slice_get, slice_set}
+use Rattle.std.specs.Prelude.{◌≡◌, ◌<◌, ◌≤◌, ◌+◌, ◌^◌, ℕ, Bool, true, false, List, [], map, length, take, drop, Option, Some, None, option_map, slice_get, slice_set}
 use Rattle.std.specs.List.{list_any}
+use Rattle.jthreads.specs.declared.thread.Thread.{Thread}
+use Rattle.jthreads.specs.Table.{lives_at}
 use Rattle.jmachine.specs.Acts.{FrameOf, GuestOf, State}
 use Rattle.jmachine.specs.Store.{Store}
 use Rattle.jstate.specs.Framed.{Framed, all}
@@ -27,6 +29,11 @@ pub record AreGuests {E : Type 0} (g : Guests E) : Type 0 where
   pub at : g.at < length g.others.items
   pub husk : option_map (λ (x : Guest E). x.failed) (slice_get g.others.items g.at) ≡ Some false
   pub table : length g.table ≡ length g.others.items
+  pub few : length g.others.items ≤ 2 ^ 32
+
+-- The one that runs was started and has not ended.
+abbrev pub Lives : {E : Type 0} → Guests E → Type 0
+Lives g = lives_at g.table g.at ≡ true
 
 -- one of these ended by an exception
 abbrev pub have_failed : {E : Type 0} → List (Guest E) → Bool
@@ -42,3 +49,28 @@ state_by g store = record {
   store = store;
   turns = g.turns;
 }
+
+-- ---- the thread that runs
+
+-- another in the place of the thread that runs
+abbrev pub with_running : {E : Type 0} → Guest E → Guests E → Guests E
+with_running x g = record { running = x; others = g.others; at = g.at; table = g.table; turns = g.turns }
+
+-- with other frames
+abbrev pub framed_as : {E : Type 0} → Option (Framed E) → Guest E → Guest E
+framed_as frames x = record { frames = frames; inherited = x.inherited; runnable = x.runnable; failed = x.failed }
+
+abbrev pub with_frames : {E : Type 0} → Option (Framed E) → Guests E → Guests E
+with_frames frames g = with_running (framed_as frames g.running) g
+
+-- In the state, too, nothing else changes.
+abbrev pub RunsAs : Type 0 → Type 0
+RunsAs E = (g : Guests E) (x : Guest E) (store : Store ℕ) → state_by (with_running x g) store ≡ record (state_by g store) { running = guest_by x }
+
+-- without frames, behind its end
+abbrev pub ended_as : {E : Type 0} → Bool → Guest E → Guest E
+ended_as failed x = record { frames = None; inherited = x.inherited; runnable = x.runnable; failed = failed }
+
+-- another table
+abbrev pub with_table : {E : Type 0} → List Thread → Guests E → Guests E
+with_table table g = record { running = g.running; others = g.others; at = g.at; table = table; turns = g.turns }

@@ -1,10 +1,10 @@
 -- What a turn came to.
-use Rattle.std.specs.Prelude.{◌≡◌, ℕ, List}
+use Rattle.std.specs.Prelude.{◌≡◌, ℕ, Bool, List}
 use Rattle.jtrace.specs.declared.event.Event.{Event}
 use Rattle.jmachine.specs.Acts.{Outcome, Went, Over}
 use Rattle.jmachine.specs.Acts.{State}
 use Rattle.jmachine.specs.Store.{Store}
-use Rattle.jmachine.specs.Turns.{turned}
+use Rattle.jmachine.specs.Turns.{ended, turned}
 use Rattle.jguests.specs.declared.guests.Guests.{Guests}
 use Rattle.jguests.specs.declared.turns.Turned.{Turned}
 use Rattle.jguests.specs.declared.turns.Turned.TheVariants as turns
@@ -18,3 +18,8 @@ outcome_of (turns.Ends end) g store events = Over (state_by g store) events end
 -- A turn was given as the machine's definition does it, whatever the store is and what was told.
 abbrev pub Turns : {E : Type 0} → List ℕ → Guests E → Turned → Guests E → Type 0
 Turns schedule g done h = (store : Store ℕ) (events : List Event) → turned schedule (state_by g store) events ≡ outcome_of done h store events
+
+-- The running thread ended, by an exception or not, as the machine's definition ends it, and another took its turn.
+abbrev pub EndsTurn : {E : Type 0} → List ℕ → Bool → Guests E → Turned → Guests E → Type 0
+EndsTurn schedule failed g done h =
+    (before store : Store ℕ) (events : List Event) → ended schedule (state_by g before) store failed events ≡ outcome_of done h store events

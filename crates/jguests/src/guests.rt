@@ -1,5 +1,5 @@
 ghost use Rattle.std.specs.Prelude.{◌≡◌, ◌∷◌, ◌++◌, [], Some, None, false, IfOk, OnOk, length};
-ghost use Rattle.jguests.specs.Guested.{AreGuests, guest_by, guests_of, nobody};
+ghost use Rattle.jguests.specs.Guested.{AreGuests, RunsAs, guest_by, guests_of, nobody};
 ghost use Rattle.jthreads.specs.Table.{added, opened};
 
 use jstate::Frames;
@@ -99,3 +99,9 @@ impl<M: Copy> Guests<M> {
         Ok(number)
     }
 }
+
+/// The law of the thread that runs: another in its place changes nothing else of the state. It has no body to run; its contract is the law.
+#[tactic(auto, using(crate::proofs::Lying::runs_as))]
+pub fn guest_laws<M>()
+    ensures { RunsAs M }
+{}

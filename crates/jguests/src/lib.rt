@@ -4,5 +4,5 @@
 mod guests;
 mod turns;
 
-pub use guests::{Guest, Guests};
+pub use guests::{Guest, Guests, guest_laws};
 pub use turns::Turned;

@@ -1,12 +1,14 @@
-ghost use Rattle.std.specs.Prelude.{◌≡◌, ◌<◌, ℕ, Some, IfOk, OnOk, length, slice_get};
+ghost use Rattle.std.specs.Prelude.{◌≡◌, ◌<◌, ℕ, Some, IfOk, OnOk, IsTrue, length, not, slice_get};
+ghost use Rattle.jthreads.specs.Table.{is_started, join_answer, joined, lives_at, table_after_end, table_after_start};
 ghost use Rattle.std.specs.List.{list_any};
 ghost use Rattle.jmachine.specs.Turns.{end_of, guests};
 ghost use Rattle.jmachine.specs.Store.{Store};
-ghost use Rattle.jguests.specs.Guested.{AreGuests, guest_by, guests_of, have_failed, state_by};
-ghost use Rattle.jguests.specs.Turning.{Turns};
+ghost use Rattle.jguests.specs.Guested.{AreGuests, Lives, ended_as, guest_by, guests_of, have_failed, state_by, with_running, with_table};
+ghost use Rattle.jguests.specs.declared.turns.Turned.TheVariants as turns;
+ghost use Rattle.jguests.specs.Turning.{EndsTurn, Turns};
 
-use crate::guests::{Guest, Guests, husk};
-use jthreads::{pick, thread_laws};
+use crate::guests::{Guest, Guests, guest_laws, husk};
+use jthreads::{Joined, pick, thread_laws};
 use jtrace::End;
 use std::alloc::{AllocError, Global};
 
@@ -76,6 +78,7 @@ impl<M: Copy> Guests<M> {
         requires { AreGuests self.old }
         ensures are { OnOk result (AreGuests self.new) }
         ensures turn { IfOk result (λ done. Turns schedule.now self.old done self.new) }
+        ensures lives { IfOk result (λ done. done ≡ turns.Goes → Lives self.new) }
     {
         thread_laws();
         let numbers = self.table.runnable(alloc)?;
@@ -88,5 +91,64 @@ impl<M: Copy> Guests<M> {
         self.switch(t);
         self.turns = turns;
         Ok(Turned::Goes)
+    }
+
+    /// Starts a thread. False exactly where it was started already, and then nothing changes.
+    #[tactic(auto, using(crate::proofs::Lying::not_there, crate::proofs::Lying::start_none))]
+    pub fn start(&mut self, t: u64) -> bool
+        requires { AreGuests self.old }
+        ensures are { AreGuests self.new }
+        ensures answer { result ≡ not (is_started self.old.table t) }
+        ensures table { self.new ≡ with_table (table_after_start t self.old.table) self.old }
+    {
+        if t >= self.others.len() as u64 {
+            return true;
+        }
+        self.table.start(t as u32)
+    }
+
+    /// Lets the thread that runs wait for another that was started and has not ended. On any other it goes on at once, and nothing changes.
+    #[tactic(auto, using(crate::proofs::Lying::join_none, crate::proofs::Lying::joined_none))]
+    pub fn join(&mut self, t: u64) -> Joined
+        requires { AreGuests self.old }
+        ensures are { AreGuests self.new }
+        ensures answer { result ≡ join_answer t self.old.table }
+        ensures table { self.new ≡ with_table (joined self.old.at t self.old.table) self.old }
+    {
+        if t >= self.others.len() as u64 {
+            return Joined::AtOnce;
+        }
+        self.table.join(self.at, t as u32)
+    }
+
+    /// The thread that runs has ended, by an exception or not. It was started and has not ended.
+    pub fn end_running(&mut self, failed: bool)
+        requires are { AreGuests self.old }
+        requires lives { Lives self.old }
+        ensures are { AreGuests self.new }
+        ensures table { self.new ≡ with_table (table_after_end self.old.at self.old.table) (with_running (ended_as failed self.old.running) self.old) }
+    {
+        self.running.frames = None;
+        self.running.failed = failed;
+        self.table.end(self.at);
+    }
+
+    /// Ends the thread that runs, by an exception or not, and gives another its turn. Where none can run the run has ended. After an error
+    /// nothing is said of the threads.
+    pub fn end_turn(
+        &mut self,
+        alloc: Global,
+        schedule: &[u32],
+        failed: bool,
+    ) -> Result<Turned, AllocError>
+        requires are { AreGuests self.old }
+        requires lives { Lives self.old }
+        ensures are { OnOk result (AreGuests self.new) }
+        ensures turn { IfOk result (λ done. EndsTurn schedule.now failed self.old done self.new) }
+        ensures lives { IfOk result (λ done. done ≡ turns.Goes → Lives self.new) }
+    {
+        guest_laws::<M>();
+        self.end_running(failed);
+        self.turn(alloc, schedule)
     }
 }

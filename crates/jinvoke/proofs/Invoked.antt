@@ -1,5 +1,5 @@
 -- What a call comes to.
-use Rattle.std.proofs.Common.{◌≡◌, ◌∙◌, ◌<◌, ℕ, zero, suc, Bool, List, length, take, Option, Some, None, refl, sym, ap, subst}
+use Rattle.std.proofs.Common.{◌≡◌, ◌∙◌, ℕ, zero, suc, List, length, take, Option, Some, None, refl, sym, ap, subst}
 use Rattle.std.specs.Prelude.{IfOk, Ok, Err, Result, is_some, option_map, slice_get, if◌then◌else◌}
 use Rattle.std.proofs.lemmas.Option.{slice_get-map}
 use Rattle.jclass.specs.declared.class.CodeBody.{CodeBody}

@@ -3,6 +3,5 @@ mod Caught
 mod Picked
 mod Classed
 mod Invoked
-mod Numbered
 mod Stepping
 mod Within

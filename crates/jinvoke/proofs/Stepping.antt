@@ -1,15 +1,10 @@
 -- Steps that execute calls.
-use Rattle.std.proofs.Common.{◌≡◌, ◌∙◌, ℕ, Option, Some, sym, ap}
+use Rattle.std.proofs.Common.{◌∙◌, Some, sym, ap}
 use Rattle.std.specs.Prelude.{option_map}
-use Rattle.jprogram.specs.Classes.{Program}
-use Rattle.juses.specs.Instructions.{Instruction, Used}
+use Rattle.juses.specs.Instructions.{Used}
 use Rattle.juses.specs.Meanings.{Call}
-use Rattle.jmachine.specs.declared.plan.Plan.{Plan}
-use Rattle.jmachine.specs.Acts.{State}
-use Rattle.jmachine.specs.Security.{Rules}
-use Rattle.jmachine.specs.Steps.{executed, fetched, step, step_at}
+use Rattle.jmachine.specs.Steps.{executed, step, step_at}
 use Rattle.jready.specs.Meant.{meant}
-use Rattle.jstate.specs.Framed.{Framed, all}
 use Rattle.jinvoke.specs.Laws.{StepsAt, StepsLibrary, StepsUser}
 
 pub steps_at : {E : Type 0} → StepsAt E

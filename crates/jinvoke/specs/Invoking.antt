@@ -6,13 +6,11 @@ use Rattle.jprogram.specs.declared.member.Member.TheVariants as members
 use Rattle.jprogram.specs.declared.member.MethodId.{MethodId}
 use Rattle.jprogram.specs.Classes.{Program}
 use Rattle.juses.specs.declared.meaning.How.{How}
-use Rattle.juses.specs.Instructions.{Used}
 use Rattle.juses.specs.Meanings.{Call, CallMeaning, meant}
 use Rattle.juses.specs.Tables.{pool_at}
 use Rattle.jmachine.specs.declared.plan.Plan.{Plan}
 use Rattle.jmachine.specs.Acts.{State}
 use Rattle.jmachine.specs.Security.{Rules}
-use Rattle.jmachine.specs.Steps.{executed}
 use Rattle.jready.specs.Meant.{call_form}
 use Rattle.jstate.specs.Framed.{Framed}
 use Rattle.jstate.specs.declared.shapes.Shapes.{Shapes}
@@ -21,7 +19,7 @@ use Rattle.jcalls.specs.declared.calls.Called.{Called}
 use Rattle.jcalls.specs.declared.calls.Callee.{Callee}
 use Rattle.jcalls.specs.declared.calls.Found.{Found}
 use Rattle.jcalls.specs.declared.calls.Found.TheVariants as found
-use Rattle.jcalls.specs.Calling.{CalledAs, Takes}
+use Rattle.jcalls.specs.Calling.{CalledAs, Takes, calls}
 use Rattle.jcalls.specs.Marks.{marks_of}
 use Rattle.jcalls.specs.declared.receiver.Receiver.{Receiver}
 use Rattle.jcalls.specs.declared.receiver.Receiver.TheVariants as receivers
@@ -73,4 +71,4 @@ Invokes {E} p by pool marks h count depth f way g =
     (r : Rules ℕ E) (plan : Plan) (s : State ℕ E) (shapes : Shapes) (things : Things) (constants : List (List ℕ × ℕ)) (c : CallMeaning)
     → meant p (pool_at p f.newest.method.class) (call_form by pool) ≡ Some (Call by c)
     → marks ≡ marks_of r.entry_of p → s.store ≡ store_by p shapes things constants h → plan.depth ≡ depth → Takes p s by c count f
-    → CalledAs r p plan s count f way g (executed r p plan s f.newest f.below (Some (Used (Call by c))))
+    → CalledAs r p plan s count f way g (calls r p plan s f by c)

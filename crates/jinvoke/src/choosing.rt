@@ -17,12 +17,12 @@ ghost use Rattle.jinvoke.specs.Answers;
 ghost use Rattle.jinvoke.specs.Answers.{IsCallAt, OwnerIs, id_on, in_meaning, number_by};
 
 use crate::known::Known;
-use crate::numbers::class_numbered;
 use jcode::{CallOp, PoolForm};
 use jheap::Kind;
 use jlib::LibCall;
 use jmemo::Key;
 use jprogram::{CallKind, ClassId, ClassRef, Member, MethodId, Reach, Selected};
+use jstate::class_numbered;
 use juses::{CallUse, How, Use, code_at};
 
 /// What is asked about a call: the class in whose code it stands, by its place among the parts, the index of its entry, how it calls, and

@@ -7,11 +7,10 @@ mod choosing;
 mod invoking;
 mod known;
 mod laws;
-mod numbers;
 
 pub use answers::Calls;
 pub use catching::{ThrownAs, told_law};
 pub use choosing::{Answer, CallKey, Chosen, number_of};
+pub use jstate::class_numbered;
 pub use known::Known;
 pub use laws::{class_laws, step_laws, within_laws};
-pub use numbers::class_numbered;

@@ -1,6 +1,7 @@
 pub mod Branching
 pub mod Coded
 pub mod Declared
+pub mod Fielded
 pub mod Filed
 pub mod Having
 pub mod Layered

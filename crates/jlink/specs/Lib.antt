@@ -1,4 +1,5 @@
 pub mod Coded
+pub mod Fields
 pub mod Links
 pub mod Referred
 pub mod Selecting

@@ -7,8 +7,12 @@ ghost use Rattle.jprogram.specs.declared.member.Member.{Member};
 ghost use Rattle.jprogram.specs.declared.member.MethodId.{MethodId};
 ghost use Rattle.jprogram.specs.Classes.{Program};
 ghost use Rattle.jprogram.specs.Members.{select};
-ghost use Rattle.juses.specs.Instructions.{Instruction, code_at, instruction_at};
+ghost use Rattle.jcode.specs.declared.names.FieldOp.{FieldOp};
+ghost use Rattle.juses.specs.Instructions.{Instruction, Used, code_at, instruction_at};
+ghost use Rattle.juses.specs.Meanings as meanings;
+ghost use Rattle.juses.specs.Meanings.{FieldMeaning};
 ghost use Rattle.jlink.specs.Coded.{AreFiles, LeadsWithin};
+ghost use Rattle.jlink.specs.Fields.{IsNamedField};
 ghost use Rattle.jlink.specs.Links.{Links};
 ghost use Rattle.jlink.specs.Selecting.{IsSelectedAs};
 
@@ -24,4 +28,12 @@ pub fn instruction_laws()
         → IsSome (instruction_at p m i) }
     ensures leads { (p : Program) (m : MethodId) (body : CodeBody) (i : ℕ) (one : Instruction) → code_at p m ≡ Some body → instruction_at p m i ≡ Some one
         → LeadsWithin body one }
+{}
+
+/// The law of fields, in a program that links: an instruction names a static field where it takes one, and else one of the objects of a
+/// class which the class extends by which the field is named; none holds a security context (JVMS 5.4.3.2, 6.5: getfield, putfield,
+/// getstatic, putstatic).
+pub fn field_law()
+    ensures { (p : Program) (m : MethodId) (i : ℕ) (op : FieldOp) (f : FieldMeaning) → Links p → instruction_at p m i ≡ Some (Used (meanings.Field op f))
+        → IsNamedField p op f }
 {}

@@ -8,5 +8,5 @@ mod linked;
 mod phases;
 
 pub use error::LinkError;
-pub use laws::{instruction_laws, selection_law};
+pub use laws::{field_law, instruction_laws, selection_law};
 pub use linked::{LinkedProgram, are_parts, link, link_known, link_or_return};

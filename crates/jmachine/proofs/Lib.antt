@@ -6,6 +6,7 @@ mod CallRows
 pub mod Courses
 mod Examples
 mod FieldRows
+mod LeftOut
 mod LibraryRows
 mod Looking
 mod MakingRows

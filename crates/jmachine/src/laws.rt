@@ -2,6 +2,7 @@ ghost use Rattle.jmachine.specs.Natural.{AnswersAlike, AppliedAlike, ArrayAlike,
 ghost use Rattle.jmachine.specs.Natural.{InitTakesAlike, JumpAlike, LibraryAlike, LocalAlike, MakeAlike, MakeArrayAlike, OpeningAlike, PushAlike};
 ghost use Rattle.jmachine.specs.Natural.{RunAlike, SimpleAlike, StackAlike, StepAlike, StepAlikeAt, StepUnasked, SwitchAlike};
 ghost use Rattle.jmachine.specs.Natural.{TakesAlike, ThrowAlike};
+ghost use Rattle.jmachine.specs.LeftOut.{ChecksAlone};
 ghost use Rattle.jmachine.specs.Machine.{RunGrows, RunStays};
 ghost use Rattle.jmachine.specs.Runs.{GoesOn, Grows, Stays};
 
@@ -62,13 +63,32 @@ pub fn step_laws<K, L, E, F>()
     ensures run { RunAlike K L E F }
 {}
 
+/// Two kinds of machines: what each keeps, and what its frames carry. They are types of definitions, so that a law can speak of any.
+pub trait TwoMachines {
+    /// What the one keeps.
+    ghost K: { Type 0 };
+
+    /// What the other keeps.
+    ghost L: { Type 0 };
+
+    /// What frames of the one carry.
+    ghost E: { Type 0 };
+
+    /// What frames of the other carry.
+    ghost F: { Type 0 };
+}
+
 /// The laws of what a step asks of access control. What it asks doesn't depend on what is kept. Two machines whose contexts and frames'
-/// entries correspond take the same step where they answer alike what it asks, and where it asks nothing; those that answer alike do so at
-/// each ask. They begin in the same state. It has no body to run; its contract is the laws.
-pub fn asking_laws<K, L, E, F>()
-    ensures asks { AsksAlike K L E F }
-    ensures step { StepAlikeAt K L E F }
-    ensures unasked { StepUnasked K L E F }
-    ensures answers { AnswersAlike K L E F }
-    ensures opening { OpeningAlike K L E F }
+/// entries correspond take the same step where they answer alike what it asks, and where it asks nothing. Those that answer alike do so
+/// at each ask, at each step, and their runs are the same. They begin in the same state. A step asks no more than the member of the
+/// library does that it runs. It has no body to run; its contract is the laws.
+pub fn asking_laws<P: TwoMachines>()
+    ensures asks { AsksAlike P.K P.L P.E P.F }
+    ensures at { StepAlikeAt P.K P.L P.E P.F }
+    ensures unasked { StepUnasked P.K P.L P.E P.F }
+    ensures answers { AnswersAlike P.K P.L P.E P.F }
+    ensures step { StepAlike P.K P.L P.E P.F }
+    ensures run { RunAlike P.K P.L P.E P.F }
+    ensures opening { OpeningAlike P.K P.L P.E P.F }
+    ensures checks { ChecksAlone P.K P.E }
 {}

@@ -5,7 +5,7 @@ mod laws;
 mod plan;
 
 pub use laws::{
-    asking_laws, call_laws, library_laws, machine_laws, object_laws, run_laws, step_laws,
-    straight_laws,
+    TwoMachines, asking_laws, call_laws, library_laws, machine_laws, object_laws, run_laws,
+    step_laws, straight_laws,
 };
 pub use plan::Plan;

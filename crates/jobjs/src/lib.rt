@@ -14,4 +14,5 @@ pub use branching::{if_null, if_same};
 pub use casts::{check_cast, instance_of, throw};
 pub use fields::{get_field, get_out, get_static, put_field, put_static};
 pub use making::{new_library, new_object};
-pub use storing::store_ref;
+pub use storing::{Held, store_ref};
+pub use target::Target;

@@ -23,7 +23,7 @@ use jstate::{Frames, built_laws, celled_laws, heap_laws};
 
 /// What stands below the index of a store.
 #[derive(Clone, Copy)]
-pub(crate) enum Held {
+pub enum Held {
     /// No array.
     Other,
     Null,

@@ -7,7 +7,7 @@ use jstate::Frames;
 
 /// What an operand is that is wanted to be an object of a class.
 #[derive(Clone, Copy)]
-pub(crate) enum Target {
+pub enum Target {
     /// No object of a class, or nothing that is there.
     Other,
     Null,

@@ -1,6 +1,8 @@
+pub mod Called
+pub mod Casting
 pub mod Comparing
+pub mod Few
+pub mod Fielding
+pub mod Stored
 pub mod Valuing
 pub mod Wanting
-pub mod Called
-pub mod Fielding
-pub mod Casting

@@ -150,6 +150,20 @@ module _ (w : World) (s : Store ℕ) (f : Want → Value ℕ → Bool) (same : (
       by true (Some t) = refl
       by false o = refl
 
+  -- and three
+  pub triple : (a b c : Want) (ops : List (Value ℕ)) → is_some (taken w s (a ∷ b ∷ c ∷ []) ops)
+      ≡ (one_serves f a (slice_get ops 0) && (one_serves f b (slice_get ops 1) && one_serves f c (slice_get ops 2)))
+  unfolding taken
+  triple a b c [] = refl
+  triple a b c (v ∷ ops) =
+      ap (λ (t : Bool). is_some (if t then option_map (with_value v) (taken w s (b ∷ c ∷ []) ops) else None)) (same a v)
+      ∙ by (f a v) (taken w s (b ∷ c ∷ []) ops) ∙ ap (λ (t : Bool). f a v && t) (double b c ops)
+    where
+      by : (t : Bool) (o : Option (Taken ℕ)) → is_some (if t then option_map (with_value v) o else None) ≡ (t && is_some o)
+      by true None = refl
+      by true (Some x) = refl
+      by false o = refl
+
 -- so many operands are there, if they serve
 pub is_took : (n : ℕ) (ops : List (Value ℕ)) (b : Bool) → is_some (took_if n ops b) ≡ b
 is_took n ops true = refl

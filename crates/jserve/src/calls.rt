@@ -1,4 +1,4 @@
-ghost use Rattle.std.specs.Prelude.{◌≡◌, ◌+◌, ℕ, List, length, slice_get};
+ghost use Rattle.std.specs.Prelude.{◌≡◌, ◌≤◌, ◌+◌, ℕ, List, length, slice_get, true};
 ghost use Rattle.jcalls.specs.Calling.{IsOfInterface, receiver_seen};
 ghost use Rattle.jops.specs.declared.value.Value.{Value as ValueOf};
 ghost use Rattle.jheap.specs.Heaps.{kind_at};
@@ -77,8 +77,9 @@ fn init_serves<M: Copy>(
     owner: ClassRef,
     params: &[TypeRef],
 ) -> bool
-    ensures { (s : Store ℕ) (c : CallMeaning) → IsStore a.now x.now s → IsCall a.now owner params.now c
+    ensures serve { (s : Store ℕ) (c : CallMeaning) → IsStore a.now x.now s → IsCall a.now owner params.now c
         → CallServes a.now s frames.now.newest.method.class how.Init c (length params.now + 1) frames.now.newest.operands result }
+    ensures few { result ≡ true → length params.now + 1 ≤ length frames.now.newest.operands }
 {
     heap_laws();
     if !params_serve(a, x, frames, params) {
@@ -112,8 +113,9 @@ pub fn call_serves<M: Copy>(
     owner: ClassRef,
     params: &[TypeRef],
 ) -> bool
-    ensures { (s : Store ℕ) (c : CallMeaning) → IsStore a.now x.now s → IsCall a.now owner params.now c
+    ensures serve { (s : Store ℕ) (c : CallMeaning) → IsStore a.now x.now s → IsCall a.now owner params.now c
         → CallServes a.now s frames.now.newest.method.class by c (count_of by (length params.now)) frames.now.newest.operands result }
+    ensures few { result ≡ true → count_of by (length params.now) ≤ length frames.now.newest.operands }
 {
     heap_laws();
     match by {

@@ -61,7 +61,7 @@ fn is_reference(x: &Objects<'_>, value: Value) -> bool
 
 /// The same of the operand at a place, counted from the newest, if it is there.
 #[inline]
-fn ref_at<M: Copy>(x: &Objects<'_>, frames: &Frames<M>, i: usize) -> bool
+pub(crate) fn ref_at<M: Copy>(x: &Objects<'_>, frames: &Frames<M>, i: usize) -> bool
     ensures { (p : Program) → result ≡ one_serves (serves_in p x.now) (Of wanted.Ref) (slice_get frames.now.newest.operands i) }
 {
     if i >= frames.count() {

@@ -7,6 +7,7 @@ mod casts;
 mod fields;
 mod fitting;
 mod serving;
+mod storing;
 mod values;
 
 pub use ancestors::Ancestors;
@@ -14,4 +15,5 @@ pub use calls::{call_serves, has_interface};
 pub use casts::{is_one, is_stored, ref_serves, refs_serve, thrown_serves};
 pub use fields::{get_field_serves, put_field_serves, put_static_serves};
 pub use fitting::{fits, is_instance};
+pub use storing::{may_store, store_serves};
 pub use values::{Objects, type_at};

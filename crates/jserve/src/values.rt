@@ -27,7 +27,7 @@ pub struct Objects<'a> {
 
 /// The type of the arrays of a number.
 #[inline]
-fn array_type(shapes: &Shapes, number: u32) -> ArrayRef
+pub(crate) fn array_type(shapes: &Shapes, number: u32) -> ArrayRef
     ensures { result ≡ array_at shapes.now number }
 {
     match shapes.arrays.as_slice().get(number as usize) {

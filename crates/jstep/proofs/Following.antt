@@ -10,11 +10,11 @@ use Rattle.jops.specs.declared.value.Value.{Value}
 use Rattle.jprogram.specs.Classes.{Program}
 use Rattle.jmachine.specs.declared.plan.Plan.{Plan}
 use Rattle.jmachine.specs.Acts.{Act, FrameOf, Goes, Jumps, Leaves, Calls, Raises, Throws, Switches, Makes, Row, State, Outcome, Over, two}
-use Rattle.jmachine.specs.Doing.{Doing, doing}
+use Rattle.jmachine.specs.Doing.{Doing}
 use Rattle.jmachine.specs.Frames.{onward, standing, with_operands}
 use Rattle.jmachine.specs.Objects.{Object, class_of}
 use Rattle.jmachine.specs.Security.{Rules}
-use Rattle.jmachine.specs.Steps.{acted, applied, done, entries, executed, own_fields, site, step, step_at, thrown, thrown_at, thrown_to, went}
+use Rattle.jmachine.specs.Steps.{acted, applied, done, thrown, thrown_at, thrown_to, went}
 use Rattle.jmachine.specs.Store.{Store, object_at, paid}
 use Rattle.jmachine.specs.Unwinding.{caught, handler_at, unwound, with_raised}
 use Rattle.jmachine.specs.World.{world}
@@ -104,9 +104,4 @@ module _ {E : Type 0} (r : Rules ℕ E) (p : Program) (plan : Plan) (s : State �
   came (Some d) l is = acts d.row.act d.frame d.row.charge l is
 
 pub follows : {E : Type 0} → Follows E
-unfolding step
-follows r p plan s f below i l top here is =
-    let own = own_fields p f.method in
-    ap (step_at r p plan s) top
-    ∙ ap (executed r p plan s f below) here
-    ∙ came r p plan s f below (doing r (site r p plan s f below) own s.store (entries r p plan s (f ∷ below)) s.running.inherited i f) l is
+follows r p plan s f below o l is = came r p plan s f below o l is

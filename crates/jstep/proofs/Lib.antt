@@ -1,4 +1,6 @@
+pub mod Executed
 pub mod Following
+pub mod Invoked
 pub mod Meaning
 pub mod Numbers
 pub mod Settled

@@ -1,124 +1,190 @@
--- What a row left to do is done, and the whole is a step of the machine.
-use Rattle.std.proofs.Common.{◌≡◌, ◌∙◌, ◌+◌, ◌<◌, ◌^◌, ℕ, List, [], ◌∷◌, Option, Some, None, sym, subst}
-use Rattle.std.specs.Prelude.{IfOk, Ok, Err, Result, nat_le, if◌then◌else◌}
+-- What a row, a call or a throw left to do is done.
+use Rattle.std.proofs.Common.{◌≡◌, ◌∙◌, ◌+◌, ◌<◌, ◌≤◌, ◌^◌, ℕ, List, [], ◌∷◌, length, Option, Some, None, refl, sym, ap, subst}
+use Rattle.std.specs.Prelude.{IfOk, Ok, Err, Result, nat_le, option_map, if◌then◌else◌}
 use Rattle.std.specs.List.{AllByRecursion}
-use Rattle.jheap.specs.Heaps.{Heaped}
+use Rattle.jheap.specs.declared.cell.Kind.{Kind}
+use Rattle.jheap.specs.declared.cell.Kind.TheVariants as kinds
+use Rattle.jheap.specs.Heaps as heaps
+use Rattle.jheap.specs.Heaps.{Heaped, kind_at}
+use Rattle.jlib.specs.declared.calls.LibCall.{LibCall}
+use Rattle.jlib.specs.declared.classes.LibClass.{LibClass}
 use Rattle.jlib.specs.declared.classes.LibClass.TheVariants as lib
 use Rattle.jlib.specs.declared.classes.Thrown.{Thrown as ThrownClass}
 use Rattle.jtrace.specs.declared.event.End.TheVariants.{HeapFull}
 use Rattle.jtypes.specs.declared.vtype.VType.{VType}
 use Rattle.jprogram.specs.declared.member.MethodId.{MethodId}
+use Rattle.jprogram.specs.declared.part.ClassRef.{ClassRef}
+use Rattle.jprogram.specs.declared.part.ClassRef.TheVariants as refs
 use Rattle.jprogram.specs.Classes.{Program}
 use Rattle.jmachine.specs.declared.plan.Plan.{Plan}
 use Rattle.jmachine.specs.Acts.{FrameOf, Outcome, Over, State, two}
-use Rattle.jmachine.specs.Doing.{doing}
+use Rattle.jmachine.specs.Objects.{Object, class_of}
 use Rattle.jmachine.specs.Security.{Rules}
-use Rattle.jmachine.specs.Steps.{entries, fetched, own_fields, raised, site, step}
-use Rattle.jmachine.specs.Store.{Store, paid}
+use Rattle.jmachine.specs.Steps.{raised, thrown, thrown_at, went}
+use Rattle.jmachine.specs.Store.{Store, object_at, paid}
+use Rattle.jmachine.specs.Turns.{ended}
 use Rattle.jmachine.specs.Unwinding.{handler_at, with_raised}
-use Rattle.jready.specs.declared.instr.Instr.{Instr}
-use Rattle.jready.specs.declared.tables.Tables.{Tables}
-use Rattle.jready.specs.Laid.{Within}
-use Rattle.jready.specs.Meant.{meant}
+use Rattle.jmachine.specs.World.{world}
 use Rattle.jstate.specs.declared.shapes.Shapes.{Shapes}
 use Rattle.jstate.specs.Framed.{Framed, all}
-use Rattle.jstate.specs.Seen.{store_by}
+use Rattle.jstate.specs.Numbers.{class_numbered}
+use Rattle.jstate.specs.Seen.{Things, object_by, store_by}
+use Rattle.jstate.specs.SeenLaws.{SeesEach}
 use Rattle.jacts.specs.declared.way.Way.{Way}
 use Rattle.jacts.specs.declared.way.Way.TheVariants as ways
-use Rattle.jacts.specs.Ways.{Comes, Left, leaves}
+use Rattle.jcalls.specs.declared.calls.Called.{Called}
+use Rattle.jcalls.specs.declared.calls.Called.TheVariants as calls
 use Rattle.jcalls.specs.declared.raising.Raised.{Raised}
 use Rattle.jcalls.specs.declared.raising.Raised.TheVariants as raised_ways
-use Rattle.jcalls.specs.Marks.{Stand}
-use Rattle.jcalls.specs.Throws.{RaisedAs, Raises, raising}
+use Rattle.jcalls.specs.Calling.{CallLeaves}
+use Rattle.jcalls.specs.Marks.{AreStanding, Stand}
+use Rattle.jcalls.specs.Throws.{LeavesStanding, RaisedAs, Raises, Throws, raising}
 use Rattle.jcalls.specs.Unwinds.{IsTold}
-use Rattle.jstep.specs.declared.settling.Stepped.{Stepped}
-use Rattle.jstep.specs.Behind.{Follows, behind}
-use Rattle.jstep.specs.Rows.{IsHere, IsRaising, MayRaise, Runs, Stays}
-use Rattle.jstep.specs.Stepping.{Settles, SteppedAs, Steps, stepped_as, type_of}
-use Rattle.jstep.proofs.Meaning.{Means, means}
-use Rattle.jstep.proofs.Staying.{comes_same}
+use Rattle.jinvoke.specs.Answers.{number_by}
+use Rattle.jinvoke.specs.Laws.{HasType}
+use Rattle.jinvoke.specs.Told.{Told}
+use Rattle.jstep.specs.declared.outcomes.Stepped.{Stepped}
+use Rattle.jstep.specs.declared.outcomes.Stepped.TheVariants as steps
+use Rattle.jstep.specs.Rows.{IsRaising, MayRaise, Stays}
+use Rattle.jstep.specs.Stepping.{CallLeft, RaisesAs, Settles, SettlesCall, StandsFor, SteppedAs, StoodAs, ThrowsAs, stepped_as, type_of}
 
--- ---- what is raised
+-- ---- frames that stand
 
-as_settled : {E : Type 0} (r : Rules ℕ E) (p : Program) (plan : Plan) (s : State ℕ E) (done : Raised) (class : ThrownClass) (g : Framed E) (t : Store ℕ)
-    (o : Outcome (State ℕ E)) → RaisedAs r p plan s [] (type_of class) t done g o → SteppedAs r p plan s (stepped_as done class) g t o
-as_settled r p plan s raised_ways.Full class g t o is = is
-as_settled r p plan s raised_ways.Handled class g t o is = is
-as_settled r p plan s raised_ways.Uncaught class g t o is = is
+module _ {E : Type 0} where
+  pub stood : (classes : ℕ) (done : Raised) (came : Stepped) (class : ClassRef) (f g : Framed E) → came ≡ stepped_as done class → LeavesStanding f g
+      → Stand classes (all f) → StoodAs classes came g
+  stood classes raised_ways.Full came class f g is left s = rw is tt
+  stood classes raised_ways.Handled came class f g is left s = rw is (left classes s)
+  stood classes raised_ways.Uncaught came class f g is left s = rw is tt
 
-all_told : {E : Type 0} (p : Program) (type : VType) (goes : MethodId → ℕ → Option ℕ) → ((m : MethodId) (i : ℕ) → goes m i ≡ handler_at p type m i)
-    → (fs : List (FrameOf ℕ E)) → AllByRecursion (IsTold p type goes) fs
-all_told p type goes so [] = tt
-all_told p type goes so (f ∷ fs) = (so f.method f.place, all_told p type goes so fs)
+  -- behind a row
+  pub may_raise : (f g : Framed E) (way : Way) → Stays way f.newest g.newest → MayRaise way
+  may_raise f g ways.Went is = tt
+  may_raise f g (ways.Raises class) is = is.0
+  may_raise f g (ways.Throws n) is = absurd is
+  may_raise f g ways.Full is = tt
+  may_raise f g ways.Stuck is = tt
 
-module _ {E : Type 0} (marks : List E) (p : Program) (goes : MethodId → ℕ → Option ℕ) (class : ThrownClass) (f g : Framed E) (h k : Heaped) where
-  pub raised_settles : (done : Raised) (came : Stepped) → ((m : MethodId) (i : ℕ) → goes m i ≡ handler_at p (type_of class) m i) → came ≡ stepped_as done class
-      → Raises marks goes (lib.Thrown class) f h done g k → Settles marks p (ways.Raises (lib.Thrown class)) f h came g k
-  raised_settles done came so is raises r plan s shapes things constants marked same =
-      let seen : s.store ≡ store_by p shapes things constants h = same tt in
-      let T : Store ℕ = store_by p shapes things constants k in
-      let outcome : RaisedAs r p plan s [] (type_of class) T done g (raising r p plan s (all f) [] (lib.Thrown class)) =
-      raises r p plan s [] shapes things constants marked seen (all_told p (type_of class) goes so (all f)) in
-      let settled : SteppedAs r p plan s (stepped_as done class) g T (raising r p plan s (all f) [] (lib.Thrown class)) =
-      as_settled r p plan s done class g T (raising r p plan s (all f) [] (lib.Thrown class)) outcome in
-      let P : Stepped → Type 0 = λ x. SteppedAs r p plan s x g T (raising r p plan s (all f) [] (lib.Thrown class)) in
-      let Q : Store ℕ → Type 0 = λ t. SteppedAs r p plan s came g T
-      (if nat_le two s.store.left then raised r p plan s (all f) [] (with_raised (paid two t) (lib.Thrown class) None) else Over s [] HeapFull) in
-      subst Q seen (subst P (sym is) settled)
-
--- ---- behind a row
-
-module _ {E : Type 0} (f g : Framed E) where
-  pub may_raise : (way : Way) → Stays way f.newest g.newest → MayRaise way
-  may_raise ways.Went is = tt
-  may_raise (ways.Raises class) is = is.0
-  may_raise (ways.Throws n) is = absurd is
-  may_raise ways.Full is = tt
-  may_raise ways.Stuck is = tt
-
-  pub still_stands : (classes : ℕ) (way : Way) → Stays way f.newest g.newest → g.below ≡ f.below → Stand classes (all f) → IsRaising way
-      → Stand classes (all g)
-  still_stands classes ways.Went is below stand raising = absurd raising
-  still_stands classes (ways.Raises class) is below stand raising =
+  pub stands_for : (f g : Framed E) (classes : ℕ) (way : Way) → Stays way f.newest g.newest → g.below ≡ f.below → Stand classes (all f)
+      → StandsFor classes way g
+  stands_for f g classes ways.Went is below s =
+      let P : MethodId → Type 0 = λ m. m.class < classes in
+      let B : List (FrameOf ℕ E) → Type 0 = λ fs. Stand classes fs in
+      (subst P (sym is) s.0.class, subst B (sym below) s.1)
+  stands_for f g classes (ways.Raises class) is below s =
       let P : MethodId → Type 0 = λ m. m.class < classes in
       let Q : ℕ → Type 0 = λ n. n + 1 < 2 ^ 32 in
       let B : List (FrameOf ℕ E) → Type 0 = λ fs. Stand classes fs in
-      (record { class = subst P (sym is.1) stand.0.class; place = subst Q (sym is.2) stand.0.place }, subst B (sym below) stand.1)
-  still_stands classes (ways.Throws n) is below stand raising = absurd raising
-  still_stands classes ways.Full is below stand raising = absurd raising
-  still_stands classes ways.Stuck is below stand raising = absurd raising
+      (record { class = subst P (sym is.1) s.0.class; place = subst Q (sym is.2) s.0.place }, subst B (sym below) s.1)
+  stands_for f g classes (ways.Throws n) is below s = tt
+  stands_for f g classes ways.Full is below s = tt
+  stands_for f g classes ways.Stuck is below s = tt
 
--- ---- the step
+  -- behind a call
+  pub call_left : (f g : Framed E) (way : Called) (count : ℕ) → CallLeaves f way g → count ≤ length f.newest.operands → CallLeft way count g
+  call_left f g calls.Begun count leaves few = tt
+  call_left f g (calls.Raises class) count leaves few = leaves
+  call_left f g (calls.Runs call) count leaves few = let P : Framed E → Type 0 = λ v. count ≤ length v.newest.operands in subst P (sym leaves) few
+  call_left f g calls.Stuck count leaves few = tt
 
-module _ {E : Type 0} (tables : Tables) (shapes : Shapes) (marks : List E) (p : Program) (one : Instr) (f u g : Framed E) (h v k : Heaped) where
-  steps : (way : Way) (done : Stepped) → Follows E → IsHere one → Within tables one → Runs tables shapes one f.newest h way u.newest v → u.below ≡ f.below
-      → Settles marks p way u v done g k → Steps tables shapes marks p one f h done g k
-  steps way done law here within runs below settles r plan s things constants marked top seen is =
-      by_meaning (means p tables f.newest.method.class one here within)
-    where
-      l : Left E
-      l = leaves way [] u.newest (store_by p shapes things constants v)
+-- ---- what is raised
 
-      T : Store ℕ
-      T = store_by p shapes things constants k
+as_settled : {E : Type 0} (r : Rules ℕ E) (p : Program) (plan : Plan) (s : State ℕ E) (done : Raised) (class : ClassRef) (type : VType) (g : Framed E)
+    (t : Store ℕ) (o : Outcome (State ℕ E)) → type ≡ type_of p class → RaisedAs r p plan s [] type t done g o
+    → SteppedAs r p plan s (stepped_as done class) g t o
+as_settled r p plan s raised_ways.Full class type g t o e is = is
+as_settled r p plan s raised_ways.Handled class type g t o e is = rw (← e) is
+as_settled r p plan s raised_ways.Uncaught class type g t o e is = rw (← e) is
 
-      by_meaning : Means (meant p tables f.newest.method.class one) → SteppedAs r p plan s done g T (step r p plan s)
-      by_meaning (i, stands, basic) =
-          let own = own_fields p f.newest.method in
-          let found : fetched p f.newest.method f.newest.place ≡ Some i = sym is ∙ stands in
-          let P : Store ℕ → Type 0 = λ t.
-          Comes f.newest t (doing r (site r p plan s f.newest f.below) own t (entries r p plan s (all f)) s.running.inherited i f.newest) l in
-          let comes : P s.store = subst P (sym seen)
-          (runs p f.newest.method.class things constants i stands r (site r p plan s f.newest f.below) own (entries r p plan s (all f)) s.running.inherited) in
-          let stepped : step r p plan s ≡ behind r p plan s f.below way l = law r p plan s f.newest f.below i l top found comes in
-          let same : IsRaising way → s.store ≡ store_by p shapes things constants v = λ raising. sym (comes_same f.newest s.store
-          (doing r (site r p plan s f.newest f.below) own s.store (entries r p plan s (all f)) s.running.inherited i f.newest) l raising comes) in
-          let Q : List (FrameOf ℕ E) → Type 0 = λ fs. SteppedAs r p plan s done g T (behind r p plan s fs way l) in
-          let R : Outcome (State ℕ E) → Type 0 = λ o. SteppedAs r p plan s done g T o in
-          subst R (sym stepped) (subst Q below (settles r plan s shapes things constants marked same))
+module _ {E : Type 0} (marks : List E) (p : Program) (f g : Framed E) (h k : Heaped) where
+  pub raises_as : Told E → (class : ThrownClass) (done : Raised) (came : Stepped) → came ≡ stepped_as done (refs.Lib (lib.Thrown class))
+      → Raises marks (handler_at p (type_of p (refs.Lib (lib.Thrown class)))) (lib.Thrown class) f h done g k → RaisesAs marks p class f h came g k
+  raises_as told class done came is raises r plan s shapes things constants marked seen =
+      let type = type_of p (refs.Lib (lib.Thrown class)) in
+      let T : Store ℕ = store_by p shapes things constants k in
+      let o : Outcome (State ℕ E) = raising r p plan s (all f) [] (lib.Thrown class) in
+      let outcome : RaisedAs r p plan s [] type T done g o = raises r p plan s [] shapes things constants marked seen (told p type (all f)) in
+      let P : Stepped → Type 0 = λ x. SteppedAs r p plan s x g T o in
+      subst P (sym is) (as_settled r p plan s done (refs.Lib (lib.Thrown class)) type g T o refl outcome)
 
-  pub all_steps : {F : Type 0} (r : Result Stepped F) (way : Way) → Follows E → IsHere one → Within tables one
-      → Runs tables shapes one f.newest h way u.newest v → u.below ≡ f.below
-      → IfOk r (λ done. Settles marks p way u v done g k) → IfOk r (λ done. Steps tables shapes marks p one f h done g k)
-  all_steps (Ok done) way law here within runs below settles = steps way done law here within runs below settles
-  all_steps (Err e) way law here within runs below settles = tt
+  pub raises_settle : (class : ThrownClass) (came : Stepped) → RaisesAs marks p class f h came g k → Settles marks p (ways.Raises (lib.Thrown class)) f h came g k
+  raises_settle class came raises r plan s shapes things constants marked same =
+      let seen : s.store ≡ store_by p shapes things constants h = same tt in
+      let Q : Store ℕ → Type 0 = λ t. SteppedAs r p plan s came g (store_by p shapes things constants k)
+      (if nat_le two s.store.left then raised r p plan s (all f) [] (with_raised (paid two t) (lib.Thrown class) None) else Over s [] HeapFull) in
+      subst Q seen (raises r plan s shapes things constants marked seen)
+
+  pub raises_call : (class : ThrownClass) (count : ℕ) (came : Stepped) → RaisesAs marks p class f h came g k
+      → SettlesCall marks p (calls.Raises (lib.Thrown class)) count f h came g k
+  raises_call class count came raises r plan s shapes things constants e outcome marked top seen is =
+      let Q : Outcome (State ℕ E) → Type 0 = λ o. SteppedAs r p plan s came g (store_by p shapes things constants k) o in
+      subst Q (sym is) (raises r plan s shapes things constants marked seen)
+
+-- a class that can be thrown is one
+module _ {E F : Type 0} (marks : List E) (p : Program) (f g : Framed E) (h k : Heaped) (class : ThrownClass) (c : LibClass) where
+  pub ok_settles : (way : Way) (r : Result Stepped F) → way ≡ ways.Raises c → c ≡ lib.Thrown class → IfOk r (λ done. RaisesAs marks p class f h done g k)
+      → IfOk r (λ done. Settles marks p way f h done g k)
+  ok_settles way (Ok done) is thrown raises = rw (is, thrown) (raises_settle marks p f g h k class done raises)
+  ok_settles way (Err e) is thrown raises = tt
+
+  pub ok_call : (way : Called) (count : ℕ) (r : Result Stepped F) → way ≡ calls.Raises c → c ≡ lib.Thrown class
+      → IfOk r (λ done. RaisesAs marks p class f h done g k) → IfOk r (λ done. SettlesCall marks p way count f h done g k)
+  ok_call way count (Ok done) is thrown raises = rw (is, thrown) (raises_call marks p f g h k class count done raises)
+  ok_call way count (Err e) is thrown raises = tt
+
+-- ---- a call that raised nothing
+
+module _ {E : Type 0} (marks : List E) (p : Program) (f : Framed E) (h : Heaped) (count : ℕ) where
+  pub call_begun : SettlesCall marks p calls.Begun count f h steps.Went f h
+  call_begun r plan s shapes things constants e outcome marked top seen is = is ∙ ap (λ (t : Store ℕ). went r p plan s (all f) t []) seen
+
+  pub call_stuck : SettlesCall marks p calls.Stuck count f h steps.Stuck f h
+  call_stuck r plan s shapes things constants e outcome marked top seen is = is
+
+  pub call_runs : (call : LibCall) → SettlesCall marks p (calls.Runs call) count f h (steps.Asks call count) f h
+  call_runs call r plan s shapes things constants e outcome marked top seen is =
+      rw is.0 (sym top, sym seen, is.1)
+
+-- ---- what is thrown
+
+module _ {E : Type 0} (marks : List E) (p : Program) (n : ℕ) (f g : Framed E) (h : Heaped) (law : SeesEach) where
+  nothing_there : (o : Option heaps.Object) → option_map (λ (x : heaps.Object). x.kind) o ≡ None → o ≡ None
+  nothing_there None e = refl
+  nothing_there (Some x) e = cc
+
+  pub none_thrown : (kind : Option Kind) → kind ≡ None → kind ≡ kind_at h n → ThrowsAs marks p n f h steps.Stuck g
+  none_thrown kind none is r plan s shapes things constants marked seen object =
+      let gone = nothing_there (heaps.object_at h n) (sym is ∙ none) in
+      let missing : object_at s.store n ≡ None =
+      ap (λ (t : Store ℕ). object_at t n) seen ∙ law p shapes things constants h n ∙ ap (option_map (object_by p shapes h.objects things)) gone in
+      rw missing refl
+
+  an_array : (kind : Kind) → number_by kind ≡ None → (a : ℕ) × (kind ≡ kinds.Array a)
+  an_array (kinds.Object m) e = absurd cc
+  an_array (kinds.Array a) e = (a, refl)
+  an_array kinds.Text e = absurd cc
+  an_array kinds.Piece e = absurd cc
+
+  pub array_thrown : (kind : Kind) → Some kind ≡ kind_at h n → None ≡ number_by kind → ThrowsAs marks p n f h steps.Stuck g
+  array_thrown kind is e r plan s shapes things constants marked seen object =
+      let array = an_array kind (sym e) in absurd (object array.0 (sym is ∙ ap (λ (k : Kind). Some k) array.1))
+
+  there : (shapes : Shapes) (things : Things) (constants : List (List ℕ × ℕ)) (kind : Kind) (o : Option heaps.Object) → heaps.object_at h n ≡ o
+      → option_map (λ (x : heaps.Object). x.kind) o ≡ Some kind → (x : Object ℕ) × (object_at (store_by p shapes things constants h) n ≡ Some x)
+  there shapes things constants kind None at e = absurd cc
+  there shapes things constants kind (Some x) at e =
+      (object_by p shapes h.objects things x, law p shapes things constants h n ∙ ap (option_map (object_by p shapes h.objects things)) at)
+
+  pub object_thrown : Told E → HasType → (kind : Kind) (number : ℕ) (class : ClassRef) (done : Raised) (came : Stepped) → Some kind ≡ kind_at h n
+      → Some number ≡ number_by kind → class ≡ class_numbered number → came ≡ stepped_as done class
+      → Throws marks (handler_at p (type_of p class)) n f done g → ThrowsAs marks p n f h came g
+  object_thrown told typed kind number class done came is numbered named stepped throws r plan s shapes things constants marked seen object =
+      let x = there shapes things constants kind (heaps.object_at h n) refl (sym is) in
+      let held : object_at s.store n ≡ Some x.0 = ap (λ (t : Store ℕ). object_at t n) seen ∙ x.1 in
+      let type : class_of (world p).named x.0 ≡ type_of p class =
+      typed p shapes things constants h n number kind x.0 (sym is) (sym numbered) x.1 ∙ ap (type_of p) (sym named) in
+      let A : VType → Type 0 = λ y. AllByRecursion (IsTold p y (handler_at p (type_of p class))) (all f) in
+      let o : Outcome (State ℕ E) = thrown_at r p plan s (all f) s.store [] n in
+      let outcome = throws r p plan s [] s.store x.0 marked held (subst A (sym type) (told p (type_of p class) (all f))) in
+      let P : Stepped → Type 0 = λ y. SteppedAs r p plan s y g s.store o in
+      subst P (sym stepped) (as_settled r p plan s done class (class_of (world p).named x.0) g s.store o type outcome)

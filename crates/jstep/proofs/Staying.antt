@@ -35,7 +35,8 @@ use Rattle.jmachine.specs.Straight.{Held, branched, gives_one, holding, holds, j
 use Rattle.jmachine.specs.World.{World}
 use Rattle.jacts.specs.declared.way.Way.TheVariants as ways
 use Rattle.jacts.specs.Ways.{Acted, Comes, Left, leaves}
-use Rattle.jstep.specs.Rows.{IsThrown, IsRaising, Stays}
+use Rattle.jcalls.specs.Calling.{IsThrown}
+use Rattle.jstep.specs.Rows.{IsRaising, Stays}
 
 -- ---- rows
 
@@ -252,8 +253,8 @@ module _ {E : Type 0} where
   acted_stays : (f t : FrameOf ℕ E) (s : Store ℕ) (cells : ℕ) (act : Act ℕ E) (l : Left E) → OnlyAct act → t.method ≡ f.method → t.place ≡ f.place
       → Acted f s t cells act l → Stays l.way f l.frame
   acted_stays f t s cells (Goes u values events) l only m p is =
-      one_stays f (nat_le cells s.left) (leaves ways.Went events (onward t values) (paid cells u)) (leaves ways.Full [] f s) l tt tt is
-  acted_stays f t s cells (Jumps to) l only m p is = rw is.1 tt
+      one_stays f (nat_le cells s.left) (leaves ways.Went events (onward t values) (paid cells u)) (leaves ways.Full [] f s) l m tt is
+  acted_stays f t s cells (Jumps to) l only m p is = rw is.1 m
   acted_stays f t s cells (Leaves values) l only m p is = absurd is
   acted_stays f t s cells (Calls c arguments entry) l only m p is = absurd is
   acted_stays f t s cells (Raises events class message) l only m p (none, no_message, way, told, same, store) =

@@ -1,13 +1,12 @@
 -- What a step comes to behind a row: what the row left to do is done to the frames, of which it changed the newest.
-use Rattle.std.specs.Prelude.{◌≡◌, ℕ, List, [], ◌∷◌, Some, None, nat_le, if◌then◌else◌}
+use Rattle.std.specs.Prelude.{◌≡◌, ℕ, List, [], ◌∷◌, Option, Some, None, nat_le, if◌then◌else◌}
 use Rattle.jtrace.specs.declared.event.End.TheVariants.{HeapFull}
 use Rattle.jprogram.specs.Classes.{Program}
-use Rattle.juses.specs.Instructions.{Instruction}
 use Rattle.jmachine.specs.declared.plan.Plan.{Plan}
 use Rattle.jmachine.specs.Acts.{FrameOf, State, Outcome, Over, NoStep, two}
-use Rattle.jmachine.specs.Doing.{doing}
+use Rattle.jmachine.specs.Doing.{Doing}
 use Rattle.jmachine.specs.Security.{Rules}
-use Rattle.jmachine.specs.Steps.{entries, fetched, own_fields, raised, site, step, thrown_at, went}
+use Rattle.jmachine.specs.Steps.{done, raised, thrown_at, went}
 use Rattle.jmachine.specs.Store.{paid}
 use Rattle.jmachine.specs.Unwinding.{with_raised}
 use Rattle.jacts.specs.declared.way.Way.{Way}
@@ -24,9 +23,7 @@ module _ {E : Type 0} (r : Rules ℕ E) (p : Program) (plan : Plan) (s : State �
   behind ways.Full l = Over s [] HeapFull
   behind ways.Stuck l = NoStep
 
--- Where a row did what the instruction of the newest frame does, the step is what is made of what the row left.
+-- Where a row did what is to be done at the newest frame, the step is what is made of what the row left.
 abbrev pub Follows : Type 0 → Type 0
-Follows E = (r : Rules ℕ E) (p : Program) (plan : Plan) (s : State ℕ E) (f : FrameOf ℕ E) (below : List (FrameOf ℕ E)) (i : Instruction) (l : Left E)
-    → s.running.frames ≡ f ∷ below → fetched p f.method f.place ≡ Some i
-    → Comes f s.store (doing r (site r p plan s f below) (own_fields p f.method) s.store (entries r p plan s (f ∷ below)) s.running.inherited i f) l
-    → step r p plan s ≡ behind r p plan s below l.way l
+Follows E = (r : Rules ℕ E) (p : Program) (plan : Plan) (s : State ℕ E) (f : FrameOf ℕ E) (below : List (FrameOf ℕ E)) (o : Option (Doing ℕ E)) (l : Left E)
+    → Comes f s.store o l → done r p plan s below o ≡ behind r p plan s below l.way l

@@ -1,3 +1,4 @@
 pub mod Behind
 pub mod Rows
+pub mod Serving
 pub mod Stepping

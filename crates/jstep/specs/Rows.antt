@@ -4,9 +4,6 @@ use Rattle.jcode.specs.declared.names.ArrayType.{ArrayType}
 use Rattle.jcode.specs.declared.names.ArrayType.TheVariants as numbers
 use Rattle.jcode.specs.declared.names.Element.TheVariants as items
 use Rattle.jheap.specs.Heaps.{Heaped}
-use Rattle.jlib.specs.declared.classes.LibClass.{LibClass}
-use Rattle.jlib.specs.declared.classes.LibClass.TheVariants as lib
-use Rattle.jlib.specs.declared.classes.Thrown.{Thrown as ThrownClass}
 use Rattle.jops.specs.declared.value.Value.{Value}
 use Rattle.jops.specs.declared.value.Value.TheVariants as values
 use Rattle.jprogram.specs.Classes.{Program}
@@ -32,6 +29,7 @@ use Rattle.jstate.specs.Seen.{Things, array_at, store_by}
 use Rattle.jacts.specs.declared.way.Way.{Way}
 use Rattle.jacts.specs.declared.way.Way.TheVariants as ways
 use Rattle.jacts.specs.Ways.{Acts, Does, leaves}
+use Rattle.jcalls.specs.Calling.{IsThrown}
 use Rattle.jstep.specs.declared.arrays.NumberArrays.{NumberArrays}
 
 -- ---- what was done
@@ -104,6 +102,7 @@ StoresNumber f = ⊤
 
 -- ---- all
 
+-- a branch that tests no reference
 abbrev pub IsFlowHere : FlowInstr → Type 0
 IsFlowHere (flow.Jump test to) = IsNumberTest test
 IsFlowHere f = ⊥
@@ -122,10 +121,6 @@ IsHere f = ⊥
 
 -- ---- what is left to do
 
--- a class of what can be thrown
-abbrev pub IsThrown : LibClass → Type 0
-IsThrown class = (c : ThrownClass) × (class ≡ lib.Thrown c)
-
 abbrev pub IsRaising : Way → Type 0
 IsRaising (ways.Raises class) = ⊤
 IsRaising way = ⊥
@@ -136,8 +131,9 @@ MayRaise (ways.Raises class) = IsThrown class
 MayRaise (ways.Throws n) = ⊥
 MayRaise way = ⊤
 
--- So it is, and a frame that raises stands where it stood.
+-- So it is; a frame that raises stands where it stood, and one that goes on is of the same method.
 abbrev pub Stays : {E : Type 0} → Way → FrameOf ℕ E → FrameOf ℕ E → Type 0
 Stays (ways.Raises class) f g = IsThrown class × (g.method ≡ f.method) × (g.place ≡ f.place)
+Stays ways.Went f g = g.method ≡ f.method
 Stays (ways.Throws n) f g = ⊥
 Stays way f g = ⊤

@@ -1,6 +1,9 @@
 -- What a step by number came to, whatever the rules are that it runs under.
-use Rattle.std.specs.Prelude.{◌≡◌, ℕ, true, List, [], ◌∷◌}
-use Rattle.jheap.specs.Heaps.{Heaped}
+use Rattle.std.specs.Prelude.{◌≡◌, ◌≤◌, ⊤, ℕ, true, false, List, [], ◌∷◌, length, map, Option, Some}
+use Rattle.jheap.specs.declared.cell.Kind.TheVariants as kinds
+use Rattle.jheap.specs.Heaps.{Heaped, kind_at}
+use Rattle.jcode.specs.declared.names.Returned.{Returned}
+use Rattle.jlib.specs.declared.calls.LibCall.{LibCall}
 use Rattle.jlib.specs.declared.classes.LibClass.TheVariants as lib
 use Rattle.jlib.specs.declared.classes.Thrown.{Thrown as ThrownClass}
 use Rattle.jtypes.specs.declared.vtype.VType.{VType}
@@ -8,60 +11,134 @@ use Rattle.jtypes.specs.declared.vtype.VType.TheVariants as types
 use Rattle.jtrace.specs.declared.event.Event.{Event}
 use Rattle.jtrace.specs.declared.event.Event.TheVariants.{Throw, Uncaught}
 use Rattle.jtrace.specs.declared.event.End.TheVariants.{HeapFull}
+use Rattle.jprogram.specs.declared.part.ClassRef.{ClassRef}
 use Rattle.jprogram.specs.Classes.{Program}
+use Rattle.juses.specs.declared.meaning.How.{How}
+use Rattle.juses.specs.declared.meaning.Span.{Span}
+use Rattle.juses.specs.declared.types.TypeRef.{TypeRef}
+use Rattle.juses.specs.Instructions.{Instruction, Return, Used}
+use Rattle.juses.specs.Meanings as meanings
+use Rattle.juses.specs.Meanings.{CallMeaning, spanned}
+use Rattle.juses.specs.Tables.{pool_at}
+use Rattle.juses.specs.Types.{class_named, named}
 use Rattle.jmachine.specs.declared.plan.Plan.{Plan}
 use Rattle.jmachine.specs.Acts.{NoStep, Outcome, Over, State}
-use Rattle.jmachine.specs.Objects.{library_name}
+use Rattle.jmachine.specs.Doing.{run}
 use Rattle.jmachine.specs.Security.{Rules}
-use Rattle.jmachine.specs.Steps.{fetched, step, went}
+use Rattle.jmachine.specs.Steps.{entries, executed, own_fields, site, step, thrown_at, went}
 use Rattle.jmachine.specs.Store.{Store}
 use Rattle.jmachine.specs.Turns.{ended, thread_of}
 use Rattle.jmachine.specs.Unwinding.{told_name}
+use Rattle.jready.specs.declared.instr.FlowInstr.{FlowInstr}
+use Rattle.jready.specs.declared.instr.FlowInstr.TheVariants as flow
 use Rattle.jready.specs.declared.instr.Instr.{Instr}
-use Rattle.jready.specs.declared.tables.Tables.{Tables}
-use Rattle.jready.specs.Meant.{meant}
+use Rattle.jready.specs.declared.instr.Instr.TheVariants as instr
+use Rattle.jready.specs.Meant.{call_form}
 use Rattle.jstate.specs.declared.shapes.Shapes.{Shapes}
 use Rattle.jstate.specs.Framed.{Framed, all}
 use Rattle.jstate.specs.Seen.{Things, store_by}
 use Rattle.jacts.specs.declared.way.Way.{Way}
+use Rattle.jacts.specs.declared.way.Way.TheVariants as ways
 use Rattle.jacts.specs.Ways.{leaves}
+use Rattle.jcalls.specs.declared.calls.Called.{Called}
+use Rattle.jcalls.specs.declared.calls.Called.TheVariants as calls
 use Rattle.jcalls.specs.declared.raising.Raised.{Raised}
 use Rattle.jcalls.specs.declared.raising.Raised.TheVariants as raised
-use Rattle.jcalls.specs.Marks.{marks_of}
-use Rattle.jstep.specs.declared.settling.Stepped.{Stepped}
-use Rattle.jstep.specs.declared.settling.Stepped.TheVariants as stepped
+use Rattle.jcalls.specs.declared.ready.Counts.{Counts}
+use Rattle.jcalls.specs.declared.returns.Leaving.{Leaving}
+use Rattle.jcalls.specs.declared.returns.Leaving.TheVariants as leaving
+use Rattle.jcalls.specs.Calling.{CalledAs, IsThrown, stepped}
+use Rattle.jcalls.specs.Marks.{AreStanding, Stand, marks_of}
+use Rattle.jcalls.specs.Readiness.{AreCounted}
+use Rattle.jcalls.specs.Returns.{LeftAs}
+use Rattle.jcalls.specs.Throws.{raising}
+use Rattle.jstep.specs.declared.fixed.Fixed.{Fixed}
+use Rattle.jstep.specs.declared.outcomes.Stepped.{Stepped}
+use Rattle.jstep.specs.declared.outcomes.Stepped.TheVariants as steps
 use Rattle.jstep.specs.Behind.{behind}
-use Rattle.jstep.specs.Rows.{IsRaising}
+use Rattle.jstep.specs.Rows.{AreRows, IsHere, IsRaising}
 
--- the type of what is thrown
-abbrev pub type_of : ThrownClass → VType
-type_of class = types.Object (library_name (lib.Thrown class))
+-- ---- what stands while a program runs
 
--- what is told where an exception of a class is handled
-abbrev pub told_of : {E : Type 0} → State ℕ E → ThrownClass → List Event
-told_of s class = Throw (thread_of s) (told_name (type_of class)) ∷ []
+-- It is that of the program.
+pub record IsFixed {E : Type 0} (p : Program) (x : Fixed E) : Type 0 where
+  pub ready : x.ready.now.program ≡ p
+  pub tables : x.tables.now ≡ x.ready.now.methods.tables
+  pub ancestors : x.ancestors.now ≡ p
+  pub marks : length x.marks.now ≡ length p.parts
+  pub numbers : AreRows x.shapes.now x.numbers
+
+-- ---- what is told
+
+-- the type of an object of a class
+abbrev pub type_of : Program → ClassRef → VType
+type_of p class = types.Object (class_named p class)
+
+-- what is told where what is thrown is handled
+abbrev pub told_of : {E : Type 0} → State ℕ E → VType → List Event
+told_of s type = Throw (thread_of s) (told_name type) ∷ []
 
 -- where none handles it
-abbrev pub told_last : {E : Type 0} → State ℕ E → ThrownClass → List Event
-told_last s class = Throw (thread_of s) (told_name (type_of class)) ∷ Uncaught (thread_of s) (told_name (type_of class)) ∷ []
+abbrev pub told_last : {E : Type 0} → State ℕ E → VType → List Event
+told_last s type = Throw (thread_of s) (told_name type) ∷ Uncaught (thread_of s) (told_name type) ∷ []
 
--- The thread goes on with these frames and this store, or has ended by an exception, or the run is over and nothing has changed, or there
--- is no step.
+-- ---- what a step came to
+
+-- what a call of the library comes to, with so many operands
+abbrev pub asking : {E : Type 0} → Rules ℕ E → Program → Plan → State ℕ E → Framed E → ℕ → LibCall → Outcome (State ℕ E)
+asking r p plan s f count call =
+    stepped r p plan s f count
+    (run r (site r p plan s f.newest f.below) (own_fields p f.newest.method) s.store (entries r p plan s (all f)) s.running.inherited call)
+
+-- The thread goes on with these frames and this store, or has ended, or nothing has changed: the library is to be asked, or the run is
+-- over, or there is no step.
 abbrev pub SteppedAs : {E : Type 0} → Rules ℕ E → Program → Plan → State ℕ E → Stepped → Framed E → Store ℕ → Outcome (State ℕ E) → Type 0
-SteppedAs r p plan s stepped.Went g t outcome = outcome ≡ went r p plan s (all g) t []
-SteppedAs r p plan s (stepped.Handled class) g t outcome = outcome ≡ went r p plan s (all g) t (told_of s class)
-SteppedAs r p plan s (stepped.Uncaught class) g t outcome = outcome ≡ ended plan.schedule s t true (told_last s class)
-SteppedAs r p plan s stepped.Full g t outcome = outcome ≡ Over s [] HeapFull
-SteppedAs r p plan s stepped.Stuck g t outcome = outcome ≡ NoStep
+SteppedAs r p plan s steps.Went g t outcome = outcome ≡ went r p plan s (all g) t []
+SteppedAs r p plan s steps.Ended g t outcome = outcome ≡ ended plan.schedule s t false []
+SteppedAs r p plan s (steps.Handled class) g t outcome = outcome ≡ went r p plan s (all g) t (told_of s (type_of p class))
+SteppedAs r p plan s (steps.Uncaught class) g t outcome = outcome ≡ ended plan.schedule s t true (told_last s (type_of p class))
+SteppedAs r p plan s (steps.Asks call count) g t outcome =
+    (all g ≡ s.running.frames) × (t ≡ s.store) × (outcome ≡ asking r p plan s g count call)
+SteppedAs r p plan s steps.Full g t outcome = outcome ≡ Over s [] HeapFull
+SteppedAs r p plan s steps.Stuck g t outcome = outcome ≡ NoStep
 
--- what a step came to that raised an exception of a class
-abbrev pub stepped_as : Raised → ThrownClass → Stepped
-stepped_as raised.Full class = stepped.Full
-stepped_as raised.Handled class = stepped.Handled class
-stepped_as raised.Uncaught class = stepped.Uncaught class
+-- Where the thread goes on its frames stand, and the operands of a call of the library are there.
+abbrev pub StoodAs : {E : Type 0} → (classes : ℕ) → Stepped → Framed E → Type 0
+StoodAs classes steps.Went g = AreStanding classes g
+StoodAs classes (steps.Handled class) g = AreStanding classes g
+StoodAs classes (steps.Asks call count) g = Stand classes (all g) × (count ≤ length g.newest.operands)
+StoodAs classes done g = ⊤
 
--- What a row left to do, behind these frames and this heap, was done. `marks` are what the rules give to frames of each class. What
--- raises has left the store as it was.
+-- ---- behind what was done
+
+-- what a step came to that raised or threw an object of a class
+abbrev pub stepped_as : Raised → ClassRef → Stepped
+stepped_as raised.Full class = steps.Full
+stepped_as raised.Handled class = steps.Handled class
+stepped_as raised.Uncaught class = steps.Uncaught class
+
+-- what it came to by what a return came to
+abbrev pub left_as : Leaving → Stepped
+left_as leaving.Resumed = steps.Went
+left_as leaving.Ends = steps.Ended
+left_as leaving.Stuck = steps.Stuck
+
+-- An exception of a class was raised in these frames, and the step came to what the machine's definition has for that. `marks` are what
+-- the rules give to frames of each class.
+abbrev pub RaisesAs : {E : Type 0} → List E → Program → ThrownClass → Framed E → Heaped → Stepped → Framed E → Heaped → Type 0
+RaisesAs {E} marks p class f h done g k =
+    (r : Rules ℕ E) (plan : Plan) (s : State ℕ E) (shapes : Shapes) (things : Things) (constants : List (List ℕ × ℕ))
+    → marks ≡ marks_of r.entry_of p → s.store ≡ store_by p shapes things constants h
+    → SteppedAs r p plan s done g (store_by p shapes things constants k) (raising r p plan s (all f) [] (lib.Thrown class))
+
+-- So did the object of a number that was thrown, which is no array.
+abbrev pub ThrowsAs : {E : Type 0} → List E → Program → ℕ → Framed E → Heaped → Stepped → Framed E → Type 0
+ThrowsAs {E} marks p n f h done g =
+    (r : Rules ℕ E) (plan : Plan) (s : State ℕ E) (shapes : Shapes) (things : Things) (constants : List (List ℕ × ℕ))
+    → marks ≡ marks_of r.entry_of p → s.store ≡ store_by p shapes things constants h → ((a : ℕ) → kind_at h n ≡ Some (kinds.Array a) → ⊥)
+    → SteppedAs r p plan s done g s.store (thrown_at r p plan s (all f) s.store [] n)
+
+-- What a row left to do, behind these frames and this heap, was done. What raises has left the store as it was.
 abbrev pub Settles : {E : Type 0} → List E → Program → Way → Framed E → Heaped → Stepped → Framed E → Heaped → Type 0
 Settles {E} marks p way f h done g k =
     (r : Rules ℕ E) (plan : Plan) (s : State ℕ E) (shapes : Shapes) (things : Things) (constants : List (List ℕ × ℕ))
@@ -69,11 +146,68 @@ Settles {E} marks p way f h done g k =
     → SteppedAs r p plan s done g (store_by p shapes things constants k)
     (behind r p plan s f.below way (leaves way [] f.newest (store_by p shapes things constants h)))
 
--- A step by number came to what the machine's step comes to, where the frames and the store are the running thread's, and the instruction
--- stands for the one that the machine finds there.
-abbrev pub Steps : {E : Type 0} → Tables → Shapes → List E → Program → Instr → Framed E → Heaped → Stepped → Framed E → Heaped → Type 0
-Steps {E} tables shapes marks p one f h done g k =
+-- the frames that a row left stand as they are to
+abbrev pub StandsFor : {E : Type 0} → (classes : ℕ) → Way → Framed E → Type 0
+StandsFor classes ways.Went f = AreStanding classes f
+StandsFor classes (ways.Raises class) f = Stand classes (all f)
+StandsFor classes way f = ⊤
+
+-- what a call of so many operands raised can be thrown, and where the library is to run they are there
+abbrev pub CallLeft : {E : Type 0} → Called → (count : ℕ) → Framed E → Type 0
+CallLeft (calls.Raises class) count f = IsThrown class
+CallLeft (calls.Runs call) count f = count ≤ length f.newest.operands
+CallLeft way count f = ⊤
+
+-- What a call of so many operands came to, which found these frames and this heap, was done.
+abbrev pub SettlesCall : {E : Type 0} → List E → Program → Called → (count : ℕ) → Framed E → Heaped → Stepped → Framed E → Heaped → Type 0
+SettlesCall {E} marks p way count f h done g k =
+    (r : Rules ℕ E) (plan : Plan) (s : State ℕ E) (shapes : Shapes) (things : Things) (constants : List (List ℕ × ℕ)) (e : Framed E)
+    (outcome : Outcome (State ℕ E))
+    → marks ≡ marks_of r.entry_of p → s.running.frames ≡ all e → s.store ≡ store_by p shapes things constants h
+    → CalledAs r p plan s count e way f outcome → SteppedAs r p plan s done g (store_by p shapes things constants k) outcome
+
+-- A return of a kind did what a step does that executes it, where these are the objects of the heap.
+abbrev pub ReturnsAs : {E : Type 0} → Returned → Heaped → Counts → List E → Framed E → Leaving → Framed E → Type 0
+ReturnsAs {E} kind h counts marks f way g =
+    (r : Rules ℕ E) (p : Program) (plan : Plan) (s : State ℕ E) (shapes : Shapes) (things : Things) (constants : List (List ℕ × ℕ))
+    → marks ≡ marks_of r.entry_of p → s.store ≡ store_by p shapes things constants h → AreCounted counts things
+    → LeftAs r p plan s way g (executed r p plan s f.newest f.below (Some (Return kind)))
+
+-- ---- a step
+
+-- A step by number came to what executing an instruction comes to, where the frames and the store are the running thread's.
+abbrev pub Executes : {E : Type 0} → Program → Fixed E → Counts → Option Instruction → Framed E → Heaped → Stepped → Framed E → Heaped → Type 0
+Executes {E} p x counts it f h done g k =
     (r : Rules ℕ E) (plan : Plan) (s : State ℕ E) (things : Things) (constants : List (List ℕ × ℕ))
-    → marks ≡ marks_of r.entry_of p → s.running.frames ≡ all f → s.store ≡ store_by p shapes things constants h
-    → meant p tables f.newest.method.class one ≡ fetched p f.newest.method f.newest.place
-    → SteppedAs r p plan s done g (store_by p shapes things constants k) (step r p plan s)
+    → x.marks.now ≡ marks_of r.entry_of p → plan.depth ≡ x.depth → AreCounted counts things → s.running.frames ≡ all f
+    → s.store ≡ store_by p x.shapes.now things constants h
+    → SteppedAs r p plan s done g (store_by p x.shapes.now things constants k) (executed r p plan s f.newest f.below it)
+
+-- It executed the call that the entry at an index of the pool of the newest frame's class means.
+abbrev pub ExecutesCall : {E : Type 0} → Program → Fixed E → Counts → How → (pool : ℕ) → Span → Framed E → Heaped → Stepped → Framed E → Heaped → Type 0
+ExecutesCall p x counts by pool params f h done g k =
+    (c : CallMeaning) → meanings.meant p (pool_at p f.newest.method.class) (call_form by pool) ≡ Some (meanings.Call by c)
+    → c.params ≡ map (named p) (spanned x.ready.now.uses.types params) → Executes p x counts (Some (Used (meanings.Call by c))) f h done g k
+
+-- It came to what the machine's step comes to.
+abbrev pub Steps : {E : Type 0} → Program → Fixed E → Counts → Framed E → Heaped → Stepped → Framed E → Heaped → Type 0
+Steps {E} p x counts f h done g k =
+    (r : Rules ℕ E) (plan : Plan) (s : State ℕ E) (things : Things) (constants : List (List ℕ × ℕ))
+    → x.marks.now ≡ marks_of r.entry_of p → plan.depth ≡ x.depth → AreCounted counts things → s.running.frames ≡ all f
+    → s.store ≡ store_by p x.shapes.now things constants h
+    → SteppedAs r p plan s done g (store_by p x.shapes.now things constants k) (step r p plan s)
+
+-- ---- instructions that are here
+
+abbrev pub IsFlowStep : FlowInstr → Type 0
+IsFlowStep (flow.Return kind) = ⊤
+IsFlowStep flow.Throw = ⊤
+IsFlowStep f = IsHere (instr.Flow f)
+
+-- one of those with a row, a return, a throw or a call
+abbrev pub IsStep : Instr → Type 0
+IsStep instr.Off = ⊤
+IsStep (instr.Flow f) = IsFlowStep f
+IsStep (instr.Call by pool params method) = ⊤
+IsStep (instr.Library by pool params call) = ⊤
+IsStep one = IsHere one

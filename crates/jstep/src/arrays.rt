@@ -1,5 +1,4 @@
 ghost use Rattle.std.specs.Prelude.{◌≡◌, ◌<◌, ◌+◌, ◌^◌, [], ℕ, IfOk, List, OnOk, length};
-ghost use Rattle.jheap.specs.Heaps.{cells_at};
 ghost use Rattle.jprogram.specs.Classes.{Program};
 ghost use Rattle.jready.specs.Meant.{array_instr};
 ghost use Rattle.jstate.specs.Seen.{AreBuilt, Things, store_by};
@@ -53,7 +52,6 @@ pub fn array<M: Copy>(
     f: ArrayInstr,
 ) -> Result<Way, AllocError>
     requires place { frames.old.newest.place + 1 < 2 ^ 32 }
-    requires small { (o : ℕ) → length (cells_at heap.old o) < 2 ^ 31 }
     requires built { AreBuilt heap.old.objects }
     requires numbers { AreRows shapes.now numbers }
     requires number { StoresNumber f }
@@ -67,6 +65,9 @@ pub fn array<M: Copy>(
         ArrayInstr::New(kind) => new_array(alloc, frames, heap, numbers.of(kind)),
         ArrayInstr::Load(e) => Ok(array_load(frames, heap, shapes, e)),
         ArrayInstr::Store(e) => Ok(array_store(frames, heap, shapes, e)),
-        ArrayInstr::Length => Ok(array_length(frames, heap)),
+        ArrayInstr::Length => {
+            heap.small();
+            Ok(array_length(frames, heap))
+        }
     }
 }

@@ -1,29 +1,17 @@
-ghost use Rattle.std.specs.Prelude.{◌≡◌, ◌<◌, ◌+◌, ◌^◌, ℕ, IfOk, OnOk, length};
-ghost use Rattle.jheap.specs.Heaps.{cells_at};
+ghost use Rattle.std.specs.Prelude.{◌≡◌, ◌<◌, ◌+◌, ◌^◌, IfOk, OnOk};
 ghost use Rattle.jready.specs.Laid.{Within};
 ghost use Rattle.jstate.specs.Seen.{AreBuilt};
 ghost use Rattle.jstep.specs.Rows.{AreRows, IsHere, Runs, Stays};
 
-use crate::arrays::{NumberArrays, array};
+use crate::arrays::array;
 use crate::computing::{plain, push};
+use crate::fixed::Fixed;
 use crate::jumps::{flow, lookup, table};
 use jacts::{Way, local, stack};
 use jheap::Heap;
-use jready::{Instr, Tables};
-use jstate::{Frames, Shapes};
+use jready::Instr;
+use jstate::Frames;
 use std::alloc::{AllocError, Global};
-
-/// What stands as long as a program runs.
-#[derive(Drop)]
-pub struct Fixed<'p, M> {
-    /// What its instructions name by number.
-    pub tables: &'p Tables,
-    /// What stands in the heap's cells.
-    pub shapes: &'p Shapes,
-    pub numbers: NumberArrays,
-    /// What frames carry of the methods of each class, where nothing else marks them.
-    pub marks: &'p [M],
-}
 
 /// The row of an instruction by number that is here.
 #[inline]
@@ -31,11 +19,10 @@ fn run_row<M: Copy>(
     alloc: Global,
     frames: &mut Frames<M>,
     heap: &mut Heap,
-    fixed: &Fixed<'_, M>,
+    fixed: &Fixed<'_, '_, M>,
     one: Instr,
 ) -> Result<Way, AllocError>
     requires place { frames.old.newest.place + 1 < 2 ^ 32 }
-    requires small { (o : ℕ) → length (cells_at heap.old o) < 2 ^ 31 }
     requires built { AreBuilt heap.old.objects }
     requires numbers { AreRows fixed.now.shapes.now fixed.now.numbers }
     requires here { IsHere one }
@@ -64,11 +51,10 @@ pub fn run<M: Copy>(
     alloc: Global,
     frames: &mut Frames<M>,
     heap: &mut Heap,
-    fixed: &Fixed<'_, M>,
+    fixed: &Fixed<'_, '_, M>,
     one: Instr,
 ) -> Result<Way, AllocError>
     requires place { frames.old.newest.place + 1 < 2 ^ 32 }
-    requires small { (o : ℕ) → length (cells_at heap.old o) < 2 ^ 31 }
     requires built { AreBuilt heap.old.objects }
     requires numbers { AreRows fixed.now.shapes.now fixed.now.numbers }
     requires here { IsHere one }

@@ -1,41 +1,132 @@
-ghost use Rattle.std.specs.Prelude.{◌<◌, ◌^◌, ℕ, IfOk, OnOk, length};
-ghost use Rattle.jheap.specs.Heaps.{cells_at};
+ghost use Rattle.std.specs.Prelude.{◌≡◌, IfOk, OnOk, length};
+ghost use Rattle.jready.specs.Exact.{Exact};
 ghost use Rattle.jready.specs.Laid.{Within};
+ghost use Rattle.jready.specs.Meant.{meant};
+ghost use Rattle.jready.specs.declared.instr.Instr.TheVariants as instrs;
+ghost use Rattle.jmachine.specs.Steps.{fetched};
 ghost use Rattle.jstate.specs.Framed.{all};
 ghost use Rattle.jstate.specs.Seen.{AreBuilt};
+ghost use Rattle.jcalls.specs.declared.ready.Counts.{Counts as CountsOf};
 ghost use Rattle.jcalls.specs.Marks.{Stand};
-ghost use Rattle.jstep.specs.Rows.{AreRows, IsHere};
-ghost use Rattle.jstep.specs.Stepping.{Steps};
+ghost use Rattle.jstep.specs.Rows.{IsHere};
+ghost use Rattle.jstep.specs.Stepping.{Executes, IsFixed, IsFlowStep, IsStep, Steps, StoodAs};
 
+use crate::calling::step_call;
+use crate::fixed::Fixed;
 use crate::laws::behind_laws;
-use crate::rows::{Fixed, run};
-use crate::settling::{Catchers, Stepped, settle};
+use crate::outcomes::Stepped;
+use crate::returning::step_return;
+use crate::rows::run;
+use crate::settling::settle;
+use crate::throwing::step_throw;
+use jcalls::Counts;
 use jheap::Heap;
-use jready::Instr;
+use jinvoke::{Calls, Known, step_laws, within_laws};
+use jready::{FlowInstr, Instr};
 use jstate::Frames;
 use std::alloc::{AllocError, Global};
 
-/// A step of a thread, whose newest frame stands at an instruction that is here.
+/// A step with a row.
 #[inline]
-pub fn step<M: Copy, C: Catchers>(
+fn step_row<M: Copy>(
     alloc: Global,
     frames: &mut Frames<M>,
     heap: &mut Heap,
-    fixed: &Fixed<'_, M>,
-    catchers: &C,
+    fixed: &Fixed<'_, '_, M>,
+    known: &Known<'_>,
     one: Instr,
 ) -> Result<Stepped, AllocError>
+    requires fixed { IsFixed known.now fixed.now }
     requires here { IsHere one }
     requires within { Within fixed.now.tables.now one }
     requires stand { Stand (length fixed.now.marks.now) (all frames.old) }
-    requires small { (o : ℕ) → length (cells_at heap.old o) < 2 ^ 31 }
     requires built { AreBuilt heap.old.objects }
-    requires numbers { AreRows fixed.now.shapes.now fixed.now.numbers }
-    ensures row { IfOk result (λ done. Steps fixed.now.tables.now fixed.now.shapes.now fixed.now.marks.now (C.program catchers.now)
-        one frames.old heap.old done frames.new heap.new) }
+    ensures row { IfOk result (λ done. (counts : CountsOf) → Executes known.now fixed.now counts (meant known.now fixed.now.tables.now frames.old.newest.method.class one)
+        frames.old heap.old done frames.new heap.new) }
     ensures built { OnOk result (AreBuilt heap.new.objects) }
+    ensures stand { IfOk result (λ done. StoodAs (length fixed.now.marks.now) done frames.new) }
 {
     behind_laws::<M>();
     let way = run(alloc, frames, heap, fixed, one)?;
-    settle(alloc, frames, heap, way, fixed.marks, catchers)
+    settle(alloc, frames, heap, way, fixed.marks, known)
+}
+
+/// A step that says where the method goes on.
+#[inline]
+fn step_flow<M: Copy>(
+    alloc: Global,
+    frames: &mut Frames<M>,
+    heap: &mut Heap,
+    fixed: &Fixed<'_, '_, M>,
+    known: &Known<'_>,
+    counts: Counts,
+    f: FlowInstr,
+) -> Result<Stepped, AllocError>
+    requires fixed { IsFixed known.now fixed.now }
+    requires here { IsFlowStep f }
+    requires stand { Stand (length fixed.now.marks.now) (all frames.old) }
+    requires built { AreBuilt heap.old.objects }
+    ensures row { IfOk result (λ done. Executes known.now fixed.now counts (meant known.now fixed.now.tables.now frames.old.newest.method.class (instrs.Flow f))
+        frames.old heap.old done frames.new heap.new) }
+    ensures built { OnOk result (AreBuilt heap.new.objects) }
+    ensures stand { IfOk result (λ done. StoodAs (length fixed.now.marks.now) done frames.new) }
+{
+    match f {
+        FlowInstr::Jump(_, _) => step_row(alloc, frames, heap, fixed, known, Instr::Flow(f)),
+        FlowInstr::Return(kind) => step_return(frames, heap, fixed, counts, kind),
+        FlowInstr::Throw => step_throw(alloc, frames, heap, fixed, known, counts),
+    }
+}
+
+/// A step of a thread, whose newest frame stands at an instruction that is here.
+#[inline]
+pub fn step<M: Copy>(
+    alloc: Global,
+    frames: &mut Frames<M>,
+    heap: &mut Heap,
+    fixed: &Fixed<'_, '_, M>,
+    calls: &mut Calls<'_>,
+    counts: Counts,
+    one: Instr,
+) -> Result<Stepped, AllocError>
+    requires fixed { IsFixed calls.old fixed.now }
+    requires here { IsStep one }
+    requires means { meant calls.old fixed.now.tables.now frames.old.newest.method.class one
+        ≡ fetched calls.old frames.old.newest.method frames.old.newest.place }
+    requires within { Within fixed.now.tables.now one }
+    requires exact { Exact calls.old fixed.now.ready.now.uses.types fixed.now.tables.now frames.old.newest.method.class one }
+    requires stand { Stand (length fixed.now.marks.now) (all frames.old) }
+    requires built { AreBuilt heap.old.objects }
+    ensures row { IfOk result (λ done. Steps calls.old fixed.now counts frames.old heap.old done frames.new heap.new) }
+    ensures built { OnOk result (AreBuilt heap.new.objects) }
+    ensures stand { IfOk result (λ done. StoodAs (length fixed.now.marks.now) done frames.new) }
+    ensures same { calls.new ≡ calls.old }
+{
+    step_laws::<M>();
+    within_laws();
+    match one {
+        Instr::Off => Ok(Stepped::Stuck),
+        Instr::Plain(_) => step_row(alloc, frames, heap, fixed, calls.known(), one),
+        Instr::Push(_) => step_row(alloc, frames, heap, fixed, calls.known(), one),
+        Instr::Local(_) => step_row(alloc, frames, heap, fixed, calls.known(), one),
+        Instr::Stack(_) => step_row(alloc, frames, heap, fixed, calls.known(), one),
+        Instr::Flow(f) => step_flow(alloc, frames, heap, fixed, calls.known(), counts, f),
+        Instr::Table(_) => step_row(alloc, frames, heap, fixed, calls.known(), one),
+        Instr::Lookup(_) => step_row(alloc, frames, heap, fixed, calls.known(), one),
+        Instr::Array(_) => step_row(alloc, frames, heap, fixed, calls.known(), one),
+        Instr::Object(_) => step_row(alloc, frames, heap, fixed, calls.known(), one),
+        Instr::Field { .. } => step_row(alloc, frames, heap, fixed, calls.known(), one),
+        Instr::Call {
+            how,
+            pool,
+            params,
+            ..
+        } => step_call(alloc, frames, heap, fixed, calls, counts, how, pool, params),
+        Instr::Library {
+            how,
+            pool,
+            params,
+            ..
+        } => step_call(alloc, frames, heap, fixed, calls, counts, how, pool, params),
+    }
 }

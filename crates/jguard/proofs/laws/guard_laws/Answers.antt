@@ -1,4 +1,5 @@
 use Rattle.jguard.proofs.Answering.{known_law, opening_law, stays_law, step_law}
+use Rattle.jguard.proofs.Fetching.{called_law, fetched_law}
 use Rattle.jguard.proofs.laws.guard_laws.Goals as goal
 
 pub returns-clause-stays : goal.returns-clause-stays
@@ -12,4 +13,10 @@ returns-clause-known g c = known_law c.asking_laws.ensures.asks c.asking_laws-2.
 
 pub returns-clause-step : goal.returns-clause-step
 returns-clause-step g c =
-    step_law c.asking_laws.ensures.asks c.asking_laws-2.ensures.asks c.asking_laws-2.ensures.answers c.asking_laws.ensures.step c.step_laws.ensures.step
+    step_law c.asking_laws.ensures.asks c.asking_laws-2.ensures.asks c.asking_laws-2.ensures.answers c.asking_laws.ensures.at c.asking_laws-2.ensures.step
+
+pub returns-clause-fetched : goal.returns-clause-fetched
+returns-clause-fetched g c = fetched_law _ _
+
+pub returns-clause-called : goal.returns-clause-called
+returns-clause-called g c = called_law _ _

@@ -1,20 +1,62 @@
-use Rattle.std.specs.Prelude.{length}
-use Rattle.jstep.proofs.Settled.{all_steps, may_raise, still_stands}
+use Rattle.std.proofs.Common.{refl}
+use Rattle.jready.specs.declared.instr.Instr.TheVariants as instr
+use Rattle.jstep.proofs.Executed.{arm_steps, library_steps, off_steps, row_steps, user_steps}
 use Rattle.jstep.proofs.stepping.step.Goals as goal
 
-pub run-requires-clause-place : goal.run-requires-clause-place
-run-requires-clause-place g c = c.requires.stand.0.place
+pub returns-in-Off-clause-row : goal.returns-in-Off-clause-row
+returns-in-Off-clause-row g c =
+    off_steps c.step_laws.ensures.at c.args.calls.now c.args.fixed.now c.args.counts c.args.frames.now c.args.heap.now c.args.one c.in-Off.is
+    c.requires.means
 
-pub settle-requires-clause-raised : goal.settle-requires-clause-raised
-settle-requires-clause-raised g c = may_raise c.args.frames.now c.run.new.frames c.in_ok-way.way c.in_ok-way.ensures.stays
+pub returns-in-Plain-clause-row : goal.returns-in-Plain-clause-row
+returns-in-Plain-clause-row g c =
+    row_steps c.step_laws.ensures.at c.args.calls.now c.args.fixed.now c.args.counts c.args.frames.now c.step_row.new.frames c.args.heap.now
+    c.step_row.new.heap c.step_row.result c.known.result.now c.known.ensures c.args.one c.requires.means c.step_row.ensures.row
 
-pub settle-requires-clause-stand : goal.settle-requires-clause-stand
-settle-requires-clause-stand g c =
-    still_stands c.args.frames.now c.run.new.frames (length c.args.fixed.now.marks.now) c.in_ok-way.way c.in_ok-way.ensures.stays c.in_ok-way.ensures.below
-    c.requires.stand
+pub returns-in-Push-clause-row : goal.returns-in-Push-clause-row
+returns-in-Push-clause-row g c =
+    row_steps c.step_laws.ensures.at c.args.calls.now c.args.fixed.now c.args.counts c.args.frames.now c.step_row-in-Push.new.frames c.args.heap.now
+    c.step_row-in-Push.new.heap c.step_row-in-Push.result c.known-in-Push.result.now c.known-in-Push.ensures c.args.one c.requires.means c.step_row-in-Push.ensures.row
 
-pub returns-clause-row : goal.returns-clause-row
-returns-clause-row g c =
-    all_steps c.args.fixed.now.tables.now c.args.fixed.now.shapes.now c.args.fixed.now.marks.now (g.C.Catchers.program c.args.catchers.now) c.args.one
-    c.args.frames.now c.run.new.frames c.settle.new.frames c.args.heap.now c.run.new.heap c.settle.new.heap c.settle.result c.in_ok-way.way
-    c.behind_laws.ensures c.requires.here c.requires.within c.in_ok-way.ensures.row c.in_ok-way.ensures.below c.settle.ensures.row
+pub returns-in-Local-clause-row : goal.returns-in-Local-clause-row
+returns-in-Local-clause-row g c =
+    row_steps c.step_laws.ensures.at c.args.calls.now c.args.fixed.now c.args.counts c.args.frames.now c.step_row-in-Local.new.frames c.args.heap.now
+    c.step_row-in-Local.new.heap c.step_row-in-Local.result c.known-in-Local.result.now c.known-in-Local.ensures c.args.one c.requires.means c.step_row-in-Local.ensures.row
+
+pub returns-in-Stack-clause-row : goal.returns-in-Stack-clause-row
+returns-in-Stack-clause-row g c =
+    row_steps c.step_laws.ensures.at c.args.calls.now c.args.fixed.now c.args.counts c.args.frames.now c.step_row-in-Stack.new.frames c.args.heap.now
+    c.step_row-in-Stack.new.heap c.step_row-in-Stack.result c.known-in-Stack.result.now c.known-in-Stack.ensures c.args.one c.requires.means c.step_row-in-Stack.ensures.row
+
+pub returns-in-Table-clause-row : goal.returns-in-Table-clause-row
+returns-in-Table-clause-row g c =
+    row_steps c.step_laws.ensures.at c.args.calls.now c.args.fixed.now c.args.counts c.args.frames.now c.step_row-in-Table.new.frames c.args.heap.now
+    c.step_row-in-Table.new.heap c.step_row-in-Table.result c.known-in-Table.result.now c.known-in-Table.ensures c.args.one c.requires.means c.step_row-in-Table.ensures.row
+
+pub returns-in-Lookup-clause-row : goal.returns-in-Lookup-clause-row
+returns-in-Lookup-clause-row g c =
+    row_steps c.step_laws.ensures.at c.args.calls.now c.args.fixed.now c.args.counts c.args.frames.now c.step_row-in-Lookup.new.frames c.args.heap.now
+    c.step_row-in-Lookup.new.heap c.step_row-in-Lookup.result c.known-in-Lookup.result.now c.known-in-Lookup.ensures c.args.one c.requires.means c.step_row-in-Lookup.ensures.row
+
+pub returns-in-Array-clause-row : goal.returns-in-Array-clause-row
+returns-in-Array-clause-row g c =
+    row_steps c.step_laws.ensures.at c.args.calls.now c.args.fixed.now c.args.counts c.args.frames.now c.step_row-in-Array.new.frames c.args.heap.now
+    c.step_row-in-Array.new.heap c.step_row-in-Array.result c.known-in-Array.result.now c.known-in-Array.ensures c.args.one c.requires.means c.step_row-in-Array.ensures.row
+
+pub returns-in-Flow-clause-row : goal.returns-in-Flow-clause-row
+returns-in-Flow-clause-row g c =
+    arm_steps c.step_laws.ensures.at c.args.calls.now c.args.fixed.now c.args.counts c.args.frames.now c.step_flow.new.frames c.args.heap.now
+    c.step_flow.new.heap c.step_flow.result c.known-in-Flow.result.now c.known-in-Flow.ensures c.args.one c.requires.means (instr.Flow c.in-Flow.f) c.in-Flow.is
+    c.step_flow.ensures.row
+
+pub returns-in-Call-clause-row : goal.returns-in-Call-clause-row
+returns-in-Call-clause-row g c =
+    user_steps c.step_laws.ensures.at c.args.calls.now c.args.fixed.now c.args.counts c.args.frames.now c.step_call.new.frames c.args.heap.now
+    c.step_call.new.heap c.in-Call.how c.in-Call.pool c.in-Call.params c.args.one c.requires.means c.step_call.result c.in-Call.method c.in-Call.is
+    c.requires.exact c.step_call.ensures.row
+
+pub returns-in-Library-clause-row : goal.returns-in-Library-clause-row
+returns-in-Library-clause-row g c =
+    library_steps c.step_laws.ensures.at c.args.calls.now c.args.fixed.now c.args.counts c.args.frames.now c.step_call-in-Library.new.frames c.args.heap.now
+    c.step_call-in-Library.new.heap c.in-Library.how c.in-Library.pool c.in-Library.params c.args.one c.requires.means c.step_call-in-Library.result
+    c.in-Library.call c.in-Library.is c.requires.exact c.step_call-in-Library.ensures.row

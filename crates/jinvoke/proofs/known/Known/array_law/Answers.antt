@@ -1,4 +1,4 @@
-use Rattle.std.proofs.Common.{subst, sym}
+use Rattle.std.proofs.Common.{subst}
 use Rattle.jlink.specs.Links.{Links}
 use Rattle.jinvoke.proofs.Knowing.{no_array}
 use Rattle.jinvoke.proofs.known.Known.array_law.Goals as goal

@@ -1,0 +1,5 @@
+mod Holding
+mod Keeping
+mod Limiting
+mod Making
+mod Snapping

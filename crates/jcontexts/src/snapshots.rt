@@ -1,0 +1,107 @@
+ghost use Rattle.std.specs.Prelude.{◌≡◌, ◌≤◌, ◌<◌, ◌+◌, ◌^◌, ◌∷◌, [], Some, IfOk, OnOk, drop, length, true};
+ghost use Rattle.jops.specs.declared.value.Value.TheVariants.{Ref};
+ghost use Rattle.jmachine.specs.Frames.{onward};
+ghost use Rattle.jprogram.specs.Classes.{Program};
+ghost use Rattle.jstate.specs.declared.shapes.Shapes.{Shapes};
+ghost use Rattle.jstate.specs.Celled.{StayCelled};
+ghost use Rattle.jstate.specs.Framed.{holding, with_newest};
+ghost use Rattle.jstate.specs.Seen.{AreBuilt, Things, place_in};
+ghost use Rattle.jcalls.specs.Throws.{LeavesStanding};
+ghost use Rattle.jcontexts.specs.Kept.{AreKept, IsKeptAt, with_kept};
+ghost use Rattle.jcontexts.specs.Snapshots.{MakesContext, Snapshots};
+
+use jbase::Seq;
+use jheap::{Heap, Kind};
+use jops::Value;
+use jstate::{Frames, built_laws, celled_laws, heap_laws};
+use std::alloc::{AllocError, Global};
+
+/// Whether a number is the last of those that are kept.
+#[tactic(auto, using(crate::proofs::Keeping::last_is))]
+fn is_last(kept: &[u64], number: u64) -> bool
+    ensures { result ≡ true → place_in kept.now (length kept.now) ≡ Some number }
+{
+    let count = kept.len();
+    if count == 0 {
+        return false;
+    }
+    kept[count - 1] == number
+}
+
+/// The place, from 1, of a number among those that are kept, which it is put behind if it isn't the last of them.
+#[tactic(auto, using(crate::proofs::Keeping::stays_there, crate::proofs::Keeping::stands_behind))]
+fn keep(kept: &mut Seq<u64>, number: u64) -> Result<u32, AllocError>
+    ensures { IfOk result (λ place. IsKeptAt number kept.old place kept.new) }
+{
+    let count = kept.as_slice().len();
+    if count >= 0xffff_ffff {
+        return Err(AllocError);
+    }
+    if is_last(kept.as_slice(), number) {
+        return Ok(count as u32);
+    }
+    kept.push(number)?;
+    Ok(count as u32 + 1)
+}
+
+/// Makes an AccessControlContext that holds a place. The cells for it are left.
+#[tactic(auto, using(crate::proofs::Making::last_cell, crate::proofs::Making::no_room, crate::proofs::Making::one_made, crate::proofs::Making::makes_context, crate::proofs::Making::context_built, crate::proofs::Making::context_celled))]
+fn make_context(alloc: Global, heap: &mut Heap, place: u32) -> Result<u32, AllocError>
+    requires built { AreBuilt heap.old.objects }
+    requires room { 2 ≤ heap.old.left }
+    ensures made { IfOk result (λ o. MakesContext place heap.old o heap.new) }
+    ensures built { OnOk result (AreBuilt heap.new.objects) }
+    ensures celled { OnOk result (StayCelled heap.old.objects heap.new.objects) }
+{
+    heap_laws();
+    built_laws();
+    celled_laws();
+    let Some(object) = heap.make(alloc, Kind::Object(43), 1)? else {
+        unreachable!()
+    };
+    heap.set_cell(object, 0, Value::Ref(place));
+    Ok(object)
+}
+
+/// The frame goes on behind its call with an object in the place of so many operands.
+fn give<M: Copy>(frames: &mut Frames<M>, count: usize, object: u32) -> Result<(), AllocError>
+    requires few { count ≤ length frames.old.newest.operands }
+    requires place { frames.old.newest.place + 1 < 2 ^ 32 }
+    ensures { OnOk result (frames.new ≡ with_newest (onward (holding (drop count frames.old.newest.operands) frames.old).newest (Ref object ∷ [])) frames.old) }
+{
+    frames.shrink(count);
+    frames.push(Value::Ref(object))?;
+    frames.go_on();
+    Ok(())
+}
+
+/// Makes an AccessControlContext that keeps a number, as getContext does, in the place of so many operands of its call. The answer is no
+/// where the heap has too few cells for it, and then nothing has changed. After an error nothing is said.
+#[tactic(auto, using(crate::proofs::Keeping::stay_kept, crate::proofs::Snapping::snaps, crate::proofs::Snapping::snaps_kept, crate::proofs::Snapping::snaps_full, crate::proofs::Snapping::given_stands, crate::proofs::Snapping::same_stands))]
+pub fn snapshot<M: Copy>(
+    alloc: Global,
+    frames: &mut Frames<M>,
+    heap: &mut Heap,
+    kept: &mut Seq<u64>,
+    number: u64,
+    count: usize,
+) -> Result<bool, AllocError>
+    requires few { count ≤ length frames.old.newest.operands }
+    requires place { frames.old.newest.place + 1 < 2 ^ 32 }
+    requires built { AreBuilt heap.old.objects }
+    ensures row { IfOk result (λ room. Snapshots number count frames.old kept.old heap.old room frames.new kept.new heap.new) }
+    ensures kept { OnOk result ((p : Program) (shapes : Shapes) (things : Things) → things.kept ≡ kept.old → AreKept p shapes things heap.old.objects
+        → AreKept p shapes (with_kept kept.new things) heap.new.objects) }
+    ensures below { OnOk result (frames.new.below ≡ frames.old.below) }
+    ensures stand { OnOk result (LeavesStanding frames.old frames.new) }
+    ensures built { OnOk result (AreBuilt heap.new.objects) }
+    ensures celled { OnOk result (StayCelled heap.old.objects heap.new.objects) }
+{
+    if heap.left() < 2 {
+        return Ok(false);
+    }
+    let place = keep(kept, number)?;
+    let object = make_context(alloc, heap, place)?;
+    give(frames, count, object)?;
+    Ok(true)
+}

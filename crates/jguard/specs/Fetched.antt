@@ -1,0 +1,26 @@
+-- Laws: what a step asks, by its instruction, and by what its call comes to.
+use Rattle.std.specs.Prelude.{◌≡◌, List, ◌∷◌, Option, Some, option_and_then}
+use Rattle.jlib.specs.declared.side.Side.{Side}
+use Rattle.jprogram.specs.Classes.{Program}
+use Rattle.juses.specs.declared.meaning.How.{How}
+use Rattle.juses.specs.Instructions.{Instruction, Used}
+use Rattle.juses.specs.Meanings.{Call, CallMeaning}
+use Rattle.jmachine.specs.declared.plan.Plan.{Plan}
+use Rattle.jmachine.specs.Acts.{FrameOf, State}
+use Rattle.jmachine.specs.Asked.{asked_by, asking_site, asks, call_taken, called_asks}
+use Rattle.jmachine.specs.Calls.{Target, target}
+use Rattle.jmachine.specs.Operands.{Taken}
+use Rattle.jmachine.specs.Steps.{fetched}
+
+-- A step asks what its instruction asks,
+abbrev pub AsksAsFetched : Type 0 → Type 0 → Type 0
+AsksAsFetched K E = (side : Side) (p : Program) (plan : Plan) (s : State K E) (f : FrameOf K E) (below : List (FrameOf K E)) (i : Option Instruction)
+    → s.running.frames ≡ f ∷ below → fetched p f.method f.place ≡ i → asks side p plan s ≡ asked_by side p plan s f below i
+
+-- and a call what the member of the library asks to which it comes, with the operands that it takes.
+abbrev pub AsksAsCalled : Type 0 → Type 0 → Type 0
+AsksAsCalled K E = (side : Side) (p : Program) (plan : Plan) (s : State K E) (f : FrameOf K E) (below : List (FrameOf K E)) (by : How) (c : CallMeaning)
+    → s.running.frames ≡ f ∷ below → fetched p f.method f.place ≡ Some (Used (Call by c))
+    → (t : Taken K) → call_taken side (asking_site side p plan s f below) s.store by c f.operands ≡ Some t
+    → (to : Option Target) → target (asking_site side p plan s f below) s.store by c t.values ≡ to
+    → asks side p plan s ≡ option_and_then (called_asks side (asking_site side p plan s f below) s.store t.values) to

@@ -1,0 +1,12 @@
+mod Calls
+mod Dispatch
+mod Ended
+mod Giving
+mod Holding
+mod Joining
+mod Keeping
+mod Lasting
+mod Missing
+mod Numbering
+mod Operands
+mod Plain

@@ -1,0 +1,16 @@
+-- The array into which a reference is stored.
+use Rattle.std.specs.Prelude.{ℕ, Option, Some, None}
+use Rattle.jheap.specs.declared.cell.Kind.{Kind}
+use Rattle.jheap.specs.declared.cell.Kind.TheVariants as kinds
+use Rattle.jobjs.specs.declared.storing.Held.{Held}
+use Rattle.jobjs.specs.declared.storing.Held.TheVariants as helds
+
+-- the heap's number for its type, where there is one
+abbrev pub number_held : Held → Option ℕ
+number_held (helds.Array o a) = Some a
+number_held h = None
+
+-- the same of what an object is
+abbrev pub number_found : Option Kind → Option ℕ
+number_found (Some (kinds.Array a)) = Some a
+number_found k = None

@@ -1,0 +1,115 @@
+ghost use Rattle.std.specs.Prelude.{◌≡◌, IfOk, OnOk, length};
+ghost use Rattle.jlib.specs.declared.classes.LibClass.TheVariants as lib;
+ghost use Rattle.jstate.specs.Framed.{all};
+ghost use Rattle.jstate.specs.Numbers;
+ghost use Rattle.jstate.specs.Seen.{AreBuilt};
+ghost use Rattle.jcalls.specs.Calling.{IsThrown};
+ghost use Rattle.jcalls.specs.Marks.{Stand};
+ghost use Rattle.jstep.specs.Stepping.{RaisesAs, StoodAs, ThrowsAs};
+
+use crate::outcomes::{Stepped, stepped_of};
+use jcalls::{raise, throw_object};
+use jheap::Heap;
+use jinvoke::{Known, ThrownAs, class_laws, class_numbered, number_of, told_law};
+use jlib::{LibClass, Thrown};
+use jprogram::ClassRef;
+use jstate::{Frames, heap_laws};
+use std::alloc::{AllocError, Global};
+
+/// The heap's number for a class of what can be thrown.
+fn thrown_number(c: Thrown) -> u32
+    ensures { result ≡ Numbers.thrown_number c }
+{
+    match c {
+        Thrown::Throwable => 0,
+        Thrown::Exception => 1,
+        Thrown::Error => 2,
+        Thrown::RuntimeException => 3,
+        Thrown::InterruptedException => 4,
+        Thrown::ArithmeticException => 5,
+        Thrown::NullPointerException => 6,
+        Thrown::ClassCastException => 7,
+        Thrown::NegativeArraySizeException => 8,
+        Thrown::ArrayStoreException => 9,
+        Thrown::IllegalArgumentException => 10,
+        Thrown::IllegalStateException => 11,
+        Thrown::IndexOutOfBoundsException => 12,
+        Thrown::SecurityException => 13,
+        Thrown::IllegalThreadStateException => 14,
+        Thrown::ArrayIndexOutOfBoundsException => 15,
+        Thrown::StringIndexOutOfBoundsException => 16,
+        Thrown::LinkageError => 17,
+        Thrown::VirtualMachineError => 18,
+        Thrown::IncompatibleClassChangeError => 19,
+        Thrown::AbstractMethodError => 20,
+        Thrown::IllegalAccessError => 21,
+        Thrown::StackOverflowError => 22,
+    }
+}
+
+/// A class of what can be thrown, as one.
+#[inline]
+pub(crate) fn thrown_class(class: LibClass) -> Thrown
+    requires { IsThrown class }
+    ensures { class ≡ lib.Thrown result }
+{
+    match class {
+        LibClass::Thrown(c) => c,
+        _ => unreachable!(),
+    }
+}
+
+/// Raises an exception of a class of the library, without a message.
+#[tactic(auto, using(crate::proofs::Settled::stood))]
+pub fn settle_raised<M: Copy>(
+    alloc: Global,
+    frames: &mut Frames<M>,
+    heap: &mut Heap,
+    class: Thrown,
+    marks: &[M],
+    known: &Known<'_>,
+) -> Result<Stepped, AllocError>
+    requires stand { Stand (length marks.now) (all frames.old) }
+    requires built { AreBuilt heap.old.objects }
+    ensures row { IfOk result (λ done. RaisesAs marks.now known.now class frames.old heap.old done frames.new heap.new) }
+    ensures built { OnOk result (AreBuilt heap.new.objects) }
+    ensures stand { IfOk result (λ done. StoodAs (length marks.now) done frames.new) }
+{
+    told_law::<M>();
+    let thrown = ClassRef::Lib(LibClass::Thrown(class));
+    let handlers = ThrownAs {
+        known,
+        class: thrown,
+    };
+    let number = thrown_number(class);
+    let done = raise(alloc, frames, heap, class, number, marks, &handlers)?;
+    Ok(stepped_of(done, thrown))
+}
+
+/// Throws the object of a number (JVMS 2.10), which is no array.
+#[tactic(auto, using(crate::proofs::Settled::stood, crate::proofs::Settled::none_thrown, crate::proofs::Settled::array_thrown))]
+pub fn settle_thrown<M: Copy>(
+    frames: &mut Frames<M>,
+    heap: &Heap,
+    object: u32,
+    marks: &[M],
+    known: &Known<'_>,
+) -> Result<Stepped, AllocError>
+    requires stand { Stand (length marks.now) (all frames.old) }
+    ensures row { IfOk result (λ done. ThrowsAs marks.now known.now object frames.old heap.now done frames.new) }
+    ensures stand { IfOk result (λ done. StoodAs (length marks.now) done frames.new) }
+{
+    told_law::<M>();
+    heap_laws();
+    class_laws();
+    let Some(kind) = heap.found(object) else {
+        return Ok(Stepped::Stuck);
+    };
+    let Some(number) = number_of(kind) else {
+        return Ok(Stepped::Stuck);
+    };
+    let class = class_numbered(number);
+    let handlers = ThrownAs { known, class };
+    let done = throw_object(frames, object, marks, &handlers)?;
+    Ok(stepped_of(done, class))
+}

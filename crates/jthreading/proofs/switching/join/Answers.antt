@@ -1,0 +1,50 @@
+use Rattle.std.proofs.Common.{◌≡◌, ◌∙◌, ℕ, ap, sym, subst}
+use Rattle.std.specs.Prelude.{option_map}
+use Rattle.jlib.specs.declared.calls.ThreadCall.TheVariants as threads
+use Rattle.jthreads.specs.declared.table.Joined.TheVariants.{AtOnce, Waits}
+use Rattle.jthreads.specs.Table.{join_answer, joined}
+use Rattle.jmachine.specs.Turns.{thread_of}
+use Rattle.jstate.specs.Seen.{store_by}
+use Rattle.jguests.specs.declared.guests.Guests.{Guests}
+use Rattle.jguests.specs.Guested.{state_by, with_frames, with_table}
+use Rattle.jthreading.specs.Switching.{WentOn, gone}
+use Rattle.jthreading.specs.Threading.{thread_called}
+use Rattle.jthreading.proofs.Rows.{at_is, join_goes, join_nobody, join_so, join_stuck, joined_same}
+use Rattle.jthreading.proofs.switching.join.Goals as goal
+
+pub returns-then-count-ne1-clause-row : goal.returns-then-count-ne1-clause-row
+returns-then-count-ne1-clause-row g c r p plan shapes things constants f frames sched =
+    join_stuck c.heap_laws.ensures.each c.guest_laws.ensures r p plan shapes things constants c.args.heap.now c.args.guests.now f c.args.count c.requires.may frames c.if-count-ne1.true
+
+pub returns-in_default-clause-row : goal.returns-in_default-clause-row
+returns-in_default-clause-row g c r p plan shapes things constants f frames sched =
+    ap (λ (n : ℕ). thread_called r p plan (state_by c.args.guests.now (store_by p shapes things constants c.args.heap.now)) f n threads.Join) c.if-count-ne1.false
+    ∙ join_nobody c.heap_laws.ensures.each c.guest_laws.ensures r p plan shapes things constants c.args.heap.now c.args.guests.now f c.operand.result
+    (c.operand.ensures f frames) (sym c.thread_in.ensures ∙ c.in_default.is)
+
+pub returns-in-AtOnce-clause-row : goal.returns-in-AtOnce-clause-row
+returns-in-AtOnce-clause-row g c r p plan shapes things constants f frames sched =
+    let E = g.row.M.Denot in
+    let old = c.args.guests.now in
+    let behind = subst (λ (n : ℕ). WentOn n old c.go_on.new.guests) c.if-count-ne1.false c.go_on.ensures in
+    let once : join_answer c.in-Some.t old.table ≡ AtOnce = ap (λ (x : Guests E). join_answer c.in-Some.t x.table) (sym behind) ∙ sym c.join.ensures.answer ∙ c.in-AtOnce.is in
+    let mid : c.join.new.self ≡ with_frames (option_map (gone 1) old.running.frames) old =
+    c.join.ensures.table ∙ ap (λ (x : Guests E). with_table (joined x.at c.in-Some.t x.table) x) behind
+    ∙ ap (λ ts. with_table ts (with_frames (option_map (gone 1) old.running.frames) old)) (joined_same old.table old.at c.in-Some.t once) in
+    ap (λ (n : ℕ). thread_called r p plan (state_by old (store_by p shapes things constants c.args.heap.now)) f n threads.Join) c.if-count-ne1.false
+    ∙ join_goes c.heap_laws.ensures.each c.guest_laws.ensures r p plan shapes things constants c.args.heap.now old f c.operand.result c.in-Some.t c.join.new.self
+    (c.operand.ensures f frames) (sym c.thread_in.ensures ∙ c.in-Some.is) once frames mid
+
+pub returns-in_ok-done-in-Waits-clause-row : goal.returns-in_ok-done-in-Waits-clause-row
+returns-in_ok-done-in-Waits-clause-row g c r p plan shapes things constants f frames sched =
+    let E = g.row.M.Denot in
+    let old = c.args.guests.now in
+    let store = store_by p shapes things constants c.args.heap.now in
+    let behind = subst (λ (n : ℕ). WentOn n old c.go_on.new.guests) c.if-count-ne1.false c.go_on.ensures in
+    let waits : join_answer c.in-Some.t old.table ≡ Waits = ap (λ (x : Guests E). join_answer c.in-Some.t x.table) (sym behind) ∙ sym c.join.ensures.answer ∙ c.in-Waits.is in
+    let mid : c.join.new.self ≡ with_table (joined (thread_of (state_by old store)) c.in-Some.t old.table) (with_frames (option_map (gone 1) old.running.frames) old) =
+    c.join.ensures.table ∙ ap (λ (x : Guests E). with_table (joined x.at c.in-Some.t x.table) x) behind
+    ∙ ap (λ (n : ℕ). with_table (joined n c.in-Some.t old.table) (with_frames (option_map (gone 1) old.running.frames) old)) (sym (at_is old store c.requires.are)) in
+    ap (λ (n : ℕ). thread_called r p plan (state_by old store) f n threads.Join) c.if-count-ne1.false
+    ∙ join_so c.heap_laws.ensures.each c.guest_laws.ensures r p plan shapes things constants c.args.heap.now old f c.operand.result c.in-Some.t c.args.schedule.now
+    c.join.new.self c.turn.new.self c.in_ok-done-in-Waits.done (c.operand.ensures f frames) (sym c.thread_in.ensures ∙ c.in-Some.is) waits frames sched mid c.in_ok-done-in-Waits.ensures.turn

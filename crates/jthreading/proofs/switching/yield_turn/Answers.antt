@@ -1,0 +1,19 @@
+use Rattle.std.proofs.Common.{◌∙◌, ℕ, ap, subst}
+use Rattle.jlib.specs.declared.calls.ThreadCall.TheVariants as threads
+use Rattle.jguests.specs.Guested.{state_by}
+use Rattle.jstate.specs.Seen.{store_by}
+use Rattle.jthreading.specs.Threading.{thread_called}
+use Rattle.jthreading.specs.Switching.{WentOn}
+use Rattle.jthreading.proofs.Rows.{yield_so, yield_stuck}
+use Rattle.jthreading.proofs.switching.yield_turn.Goals as goal
+
+pub returns-then-count-ne0-clause-row : goal.returns-then-count-ne0-clause-row
+returns-then-count-ne0-clause-row g c r p plan shapes things constants f frames sched =
+    yield_stuck c.heap_laws.ensures.each c.guest_laws.ensures r p plan shapes things constants c.args.heap.now c.args.guests.now f c.args.count c.requires.may frames c.if-count-ne0.true
+
+pub returns-clause-row : goal.returns-clause-row
+returns-clause-row g c r p plan shapes things constants f frames sched =
+    let mid = subst (λ (n : ℕ). WentOn n c.args.guests.now c.go_on.new.guests) c.if-count-ne0.false c.go_on.ensures in
+    ap (λ (n : ℕ). thread_called r p plan (state_by c.args.guests.now (store_by p shapes things constants c.args.heap.now)) f n threads.Yield) c.if-count-ne0.false
+    ∙ yield_so c.heap_laws.ensures.each c.guest_laws.ensures r p plan shapes things constants c.args.heap.now c.args.guests.now f c.args.schedule.now c.go_on.new.guests c.turn.new.self
+    c.in_ok-done.done frames sched mid c.in_ok-done.ensures.turn

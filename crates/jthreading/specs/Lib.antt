@@ -1,0 +1,4 @@
+pub mod Finding
+pub mod Making
+pub mod Switching
+pub mod Threading

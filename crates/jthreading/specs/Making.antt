@@ -1,0 +1,52 @@
+-- What a step comes to that calls the constructor of Thread.
+use Rattle.std.specs.Prelude.{◌≡◌, ⊤, ℕ, ◌+◌, ◌++◌, List, [], ◌∷◌, Option, Some, None, slice_get, take}
+use Rattle.jheap.specs.Heaps.{Heaped}
+use Rattle.jlib.specs.declared.calls.ThreadCall.TheVariants as threads
+use Rattle.jlib.specs.declared.side.Side.{Side}
+use Rattle.jlib.specs.declared.side.Side.TheVariants.{Passing, Source}
+use Rattle.jops.specs.declared.value.Value.{Value}
+use Rattle.jops.specs.declared.value.Value.TheVariants.{Ref}
+use Rattle.jprogram.specs.Classes.{Program}
+use Rattle.jmachine.specs.declared.plan.Plan.{Plan}
+use Rattle.jmachine.specs.Acts.{Went}
+use Rattle.jmachine.specs.Security.{Rules, handed}
+use Rattle.jmachine.specs.Steps.{entries}
+use Rattle.jstate.specs.declared.shapes.Shapes.{Shapes}
+use Rattle.jstate.specs.Framed.{Framed, all}
+use Rattle.jstate.specs.Seen.{Things, store_by}
+use Rattle.jguests.specs.declared.guests.Guests.{Guests}
+use Rattle.jguests.specs.Guested.{state_by}
+use Rattle.jthreading.specs.declared.making.Begun.{Begun}
+use Rattle.jthreading.specs.Finding.{thread_object}
+use Rattle.jthreading.specs.Threading.{thread_called}
+
+-- the object that is a Thread, and the one whose `run` it begins with, as operands, the newest first
+abbrev pub begun_values : Begun → List (Value ℕ)
+begun_values b = Ref b.runnable ∷ Ref b.thread ∷ []
+
+-- What stands behind so many operands, where the object is a Thread; else either isn't a reference, or the object is no Thread.
+pub record IsBegun {E : Type 0} (first : ℕ) (f : Framed E) (h : Heaped) (b : Begun) : Type 0 where
+  pub runnable : slice_get f.newest.operands first ≡ Some (Ref b.runnable)
+  pub named : slice_get f.newest.operands (first + 1) ≡ Some (Ref b.thread)
+  pub thread : thread_object h (Ref b.thread) ≡ Some b.thread
+
+abbrev pub Named : {E : Type 0} → (first : ℕ) → Guests E → Heaped → Option Begun → Type 0
+Named {E} first g h None = (f : Framed E) → g.running.frames ≡ Some f → (b : Begun) → IsBegun first f h b → ⊥
+Named {E} first g h (Some b) = (f : Framed E) → g.running.frames ≡ Some f → IsBegun first f h b
+
+-- A context is handed on the passing side alone.
+abbrev pub IsHanded : Side → Option ℕ → Type 0
+IsHanded Source None = ⊤
+IsHanded Passing (Some k) = ⊤
+IsHanded side context = ⊥
+
+-- The constructor made a thread, which keeps what rules say that it inherits, whatever the rules are and the store is that the heap stands
+-- for.
+abbrev pub MakesThread : {E : Type 0} → (kept : ℕ) (context : Option ℕ) (count : ℕ) → Begun → Guests E → Heaped → Guests E → Heaped → Type 0
+MakesThread {E} kept context count b g heap h after =
+    (r : Rules ℕ E) (p : Program) (plan : Plan) (shapes : Shapes) (things : Things) (constants : List (List ℕ × ℕ)) (side : Side) (f : Framed E)
+    → g.running.frames ≡ Some f → thread_object heap (Ref b.thread) ≡ Some b.thread → IsHanded side context
+    → take count f.newest.operands ≡ handed side context ++ begun_values b
+    → let store = store_by p shapes things constants heap in let s = state_by g store in
+    r.inherit context (entries r p plan s (all f)) s.running.inherited ≡ kept
+    → thread_called r p plan s f count (threads.Init side) ≡ Went (state_by h (store_by p shapes things constants after)) []

@@ -1,0 +1,25 @@
+-- The frames of the running thread behind a call.
+use Rattle.std.specs.Prelude.{◌≡◌, ℕ, [], Some, drop, option_map, slice_get}
+use Rattle.jops.specs.declared.value.Value.{Value}
+use Rattle.jmachine.specs.Frames.{onward, with_operands}
+use Rattle.jstate.specs.Framed.{Framed, with_newest}
+use Rattle.jguests.specs.declared.guests.Guests.{Guests}
+use Rattle.jguests.specs.Guested.{with_frames}
+
+-- the newest frame without so many operands
+abbrev pub lost : {E : Type 0} → ℕ → Framed E → Framed E
+lost count f = with_newest (with_operands f.newest (drop count f.newest.operands)) f
+
+-- and behind its call
+abbrev pub gone : {E : Type 0} → ℕ → Framed E → Framed E
+gone count f = with_newest (onward (with_operands f.newest (drop count f.newest.operands)) []) f
+
+abbrev pub WentOn : {E : Type 0} → ℕ → Guests E → Guests E → Type 0
+WentOn count g h = h ≡ with_frames (option_map (gone count) g.running.frames) g
+
+abbrev pub Shrunk : {E : Type 0} → ℕ → Guests E → Guests E → Type 0
+Shrunk count g h = h ≡ with_frames (option_map (lost count) g.running.frames) g
+
+-- an operand of the running thread's newest frame, counted from its newest
+abbrev pub OperandIs : {E : Type 0} → ℕ → Value ℕ → Guests E → Type 0
+OperandIs {E} i v g = (f : Framed E) → g.running.frames ≡ Some f → slice_get f.newest.operands i ≡ Some v
