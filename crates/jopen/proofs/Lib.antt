@@ -4,3 +4,4 @@ pub mod Firsts
 pub mod Loading
 pub mod Making
 pub mod Seeing
+pub mod Suiting

@@ -4,16 +4,13 @@ use Rattle.std.specs.Prelude.{slice_get, slice_set}
 use Rattle.std.specs.List.{flat_map}
 use Rattle.std.proofs.Math.Seq.{set-append_seam}
 use Rattle.std.proofs.lemmas.List.{append-nil, length-map, map-append, take_more}
-use Rattle.std.proofs.lemmas.Option.{slice_get-get_or}
 use Rattle.jheap.specs.declared.cell.CellType.{CellType}
 use Rattle.jheap.specs.declared.cell.Kind.TheVariants as kinds
 use Rattle.jheap.specs.Heaps as heaps
 use Rattle.jheap.specs.Heaps.{Heaped, with_statics}
-use Rattle.jheap.specs.Raw.{of_raw, raw}
+use Rattle.jheap.specs.Raw.{of_raw, raw, type_of}
 use Rattle.jlib.specs.declared.classes.LibClass.TheVariants as lib
 use Rattle.jops.specs.declared.value.Value.{Value}
-use Rattle.jclass.specs.declared.class.MemberInfo.{MemberInfo}
-use Rattle.jprogram.specs.declared.part.CodePart.{CodePart}
 use Rattle.jprogram.specs.Classes.{Program}
 use Rattle.juses.specs.Types.{array_named}
 use Rattle.juses.specs.declared.types.ArrayRef.{ArrayRef}
@@ -32,13 +29,15 @@ use Rattle.jstate.specs.SeenLaws as laws
 use Rattle.jshapes.specs.Numbered.{IsStrings}
 use Rattle.jconstants.specs.Made.{Made}
 use Rattle.jopen.specs.Begun.{AreStrings, Begins, IsOut}
+use Rattle.jopen.specs.Files.{AreFiles}
 use Rattle.jopen.specs.declared.heap.Begun.{Begun}
 use Rattle.jopen.specs.declared.heap.Strings.{Strings}
-use Rattle.jopen.specs.Rows.{row_value, texts_of, values_of}
+use Rattle.jopen.specs.Rows.{texts_of, values_of}
 use Rattle.jopen.specs.Texts.{HasMade, HasSet, began, seen_by, string, texts_charge}
 use Rattle.jopen.proofs.Firsts.{rows_texts, rows_values}
-use Rattle.jopen.proofs.Flat.{all_strings, all_values}
+use Rattle.jopen.proofs.Flat.{all_strings, all_values, value_of}
 use Rattle.jopen.proofs.Making.{store_is}
+use Rattle.jopen.proofs.Suiting.{all_hold, cell_at}
 
 -- ---- statics
 
@@ -48,25 +47,22 @@ no_values [] = refl
 no_values (t ∷ types) = refl
 
 -- one more cell, which gives its value back
-cells_more : (types : List CellType) (values : List (Value ℕ)) (t : CellType) (v : Value ℕ) → slice_get types (length values) ≡ Some t
-    → seen.values_of types (map raw values) ≡ values → of_raw t (raw v) ≡ v → seen.values_of types (map raw (values ++ v ∷ [])) ≡ values ++ v ∷ []
+cells_more : (values : List (Value ℕ)) (v : Value ℕ) → seen.values_of (map type_of values) (map raw values) ≡ values → of_raw (type_of v) (raw v) ≡ v
+    → seen.values_of (map type_of (values ++ v ∷ [])) (map raw (values ++ v ∷ [])) ≡ values ++ v ∷ []
 unfolding seen.values_of
-cells_more [] values t v at is back = absurd cc
-cells_more (u ∷ types) [] t v at is back =
-    let same : u ≡ t = cc in
-    ap (λ (l : List (Value ℕ)). of_raw u (raw v) ∷ l) (no_values types) ∙ ap (λ (x : Value ℕ). x ∷ []) (ap (λ (c : CellType). of_raw c (raw v)) same ∙ back)
-cells_more (u ∷ types) (w ∷ values) t v at is back =
-    let first : of_raw u (raw w) ≡ w = cc in
-    let rest : seen.values_of types (map raw values) ≡ values = cc in
-    ap (λ (x : Value ℕ). x ∷ seen.values_of types (map raw (values ++ v ∷ []))) first ∙ ap (λ (l : List (Value ℕ)). w ∷ l) (cells_more types values t v at rest back)
+cells_more [] v is back = ap (λ (x : Value ℕ). x ∷ []) back
+cells_more (w ∷ values) v is back =
+    let first : of_raw (type_of w) (raw w) ≡ w = cc in
+    let rest : seen.values_of (map type_of values) (map raw values) ≡ values = cc in
+    ap (λ (x : Value ℕ). x ∷ seen.values_of (map type_of (values ++ v ∷ [])) (map raw (values ++ v ∷ []))) first
+    ∙ ap (λ (l : List (Value ℕ)). w ∷ l) (cells_more values v rest back)
 
-pub set_begin : (types : List CellType) (n : ℕ) (h : Heaped) → h.statics ≡ replicate n 0 → HasSet types [] n h h
-set_begin types n h none = record { heap = ap (with_statics h) none; back = no_values types }
+pub set_begin : (n : ℕ) (h : Heaped) → h.statics ≡ replicate n 0 → HasSet [] n h h
+set_begin n h none = record { heap = ap (with_statics h) none; back = no_values [] }
 
-pub set_more : (types : List CellType) (values : List (Value ℕ)) (others rest : ℕ) (old h k : Heaped) (i : ℕ) (t : CellType) (v : Value ℕ)
-    → HasSet types values others old h → i ≡ length values → others ≡ suc rest → slice_get types i ≡ Some t → k ≡ with_statics h (slice_set h.statics i (raw v))
-    → of_raw t (raw v) ≡ v → HasSet types (values ++ v ∷ []) rest old k
-set_more types values others rest old h k i t v is here more at put back = record {
+pub set_more : (values : List (Value ℕ)) (others rest : ℕ) (old h k : Heaped) (i : ℕ) (v : Value ℕ) → HasSet values others old h → i ≡ length values
+    → others ≡ suc rest → k ≡ with_statics h (slice_set h.statics i (raw v)) → of_raw (type_of v) (raw v) ≡ v → HasSet (values ++ v ∷ []) rest old k
+set_more values others rest old h k i v is here more put back = record {
   heap =
       let zeros : replicate others 0 ≡ 0 ∷ replicate rest 0 = ap (λ (n : ℕ). replicate n 0) more in
       let place : i ≡ length (map raw values) = here ∙ sym (length-map values raw) in
@@ -77,36 +73,43 @@ set_more types values others rest old h k i t v is here more at put back = recor
       ∙ sym (append_assoc (map raw values) (raw v ∷ []) (replicate rest 0))
       ∙ ap (λ (l : List ℕ). l ++ replicate rest 0) (sym (map-append raw values (v ∷ []))) in
       put ∙ ap (λ (g : Heaped). with_statics g (slice_set h.statics i (raw v))) is.heap ∙ ap (with_statics old) set;
-  back = cells_more types values t v (ap (slice_get types) (sym here) ∙ at) is.back back;
+  back = cells_more values v is.back back;
 }
 
--- one more row of a loop
 take_count : {A : Type 0} (xs : List A) (i : ℕ) → i ≤ length xs → length (take i xs) ≡ i
 take_count xs zero le = refl
 take_count [] (suc i) le = absurd (omega (arith, le))
 take_count (x ∷ xs) (suc i) le = ap (λ (n : ℕ). suc n) (take_count xs i (omega (arith, le)))
 
-pub set_next : (types : List CellType) (rows : List StaticRow) (f : StaticRow → Value ℕ) (i : ℕ) (row : StaticRow) (t : CellType) (v : Value ℕ) (old h k : Heaped)
-    → i < length rows → length types ≡ length rows → HasSet types (map f (take i rows)) (length rows - i) old h → v ≡ f (get_or rows i row)
-    → k ≡ with_statics h (slice_set h.statics i (raw v)) → of_raw (get_or types i t) (raw v) ≡ v
-    → HasSet types (map f (take (i + 1) rows)) (length rows - (i + 1)) old k
-set_next types rows f i row t v old h k lt many is value put back =
+-- one more row of a loop
+pub set_next : (rows : List StaticRow) (f : StaticRow → Value ℕ) (i : ℕ) (row : StaticRow) (v : Value ℕ) (old h k : Heaped) → i < length rows
+    → HasSet (map f (take i rows)) (length rows - i) old h → v ≡ f (get_or rows i row) → k ≡ with_statics h (slice_set h.statics i (raw v))
+    → of_raw (type_of v) (raw v) ≡ v → HasSet (map f (take (i + 1) rows)) (length rows - (i + 1)) old k
+set_next rows f i row v old h k lt is value put back =
     let here : i ≡ length (map f (take i rows)) =
     let a = length-map (take i rows) f in
     let b = take_count rows i (omega (arith, lt)) in
     omega (arith, a, b) in
     let next : map f (take (i + 1) rows) ≡ map f (take i rows) ++ v ∷ [] =
     ap (map f) (take_more rows i row lt) ∙ map-append f (take i rows) (get_or rows i row ∷ []) ∙ ap (λ (x : Value ℕ). map f (take i rows) ++ x ∷ []) (sym value) in
-    subst (λ (l : List (Value ℕ)). HasSet types l (length rows - (i + 1)) old k) (sym next)
-    (set_more types (map f (take i rows)) (length rows - i) (length rows - (i + 1)) old h k i (get_or types i t) v is here (omega (arith, lt))
-    (slice_get-get_or types i t (omega (arith, lt, many))) put back)
+    subst (λ (l : List (Value ℕ)). HasSet l (length rows - (i + 1)) old k) (sym next)
+    (set_more (map f (take i rows)) (length rows - i) (length rows - (i + 1)) old h k i v is here (omega (arith, lt)) put back)
 
--- as many are there as there are types
-pub set_count : (types : List CellType) (rows : List StaticRow) (f : StaticRow → Value ℕ) (old h : Heaped) → length types ≡ length rows
-    → HasSet types (map f rows) 0 old h → length h.statics ≡ length types
-set_count types rows f old h many is =
-    ap (λ (g : Heaped). length g.statics) is.heap ∙ ap (λ (l : List ℕ). length l) (append-nil (map raw (map f rows)))
-    ∙ length-map (map f rows) raw ∙ length-map rows f ∙ sym many
+-- as many are there
+pub set_count : (values : List (Value ℕ)) (old h : Heaped) → HasSet values 0 old h → length h.statics ≡ length values
+set_count values old h is =
+    ap (λ (g : Heaped). length g.statics) is.heap ∙ ap (λ (l : List ℕ). length l) (append-nil (map raw values)) ∙ length-map values raw
+
+-- they are of the types of their cells
+map_map : {A B C : Type 0} (f : B → C) (g : A → B) (xs : List A) → map f (map g xs) ≡ map (λ x. f (g x)) xs
+map_map f g [] = refl
+map_map {C = C} f g (x ∷ xs) = ap (λ (l : List C). f (g x) ∷ l) (map_map f g xs)
+
+types_are : (p : Program) (made : List (List ℕ × ℕ)) (types : List CellType) (rows : List StaticRow) → AreFiles p → AreStatics p (all_statics p) rows
+    → types ≡ map (cell_at p) (all_statics p) → map type_of (values_of p made rows) ≡ types
+types_are p made types rows files statics is =
+    ap (map type_of) (sym (rows_values p made (all_statics p) rows statics)) ∙ map_map type_of (value_of p made) (all_statics p)
+    ∙ all_hold p made files ∙ sym is
 
 -- ---- by the rows
 
@@ -189,9 +192,9 @@ array_made p shapes cells texts c h g n things is makes built made array =
 
 pub begins_store : (p : Program) (shapes : Shapes) (cells : ℕ) (rows : List StaticRow) (c : Made) (h g k : Heaped) (n : ℕ) (things : Things)
     → AreStatics p (all_statics p) rows → IsStrings shapes n → laws.Makes → AreBuilt h.objects → HasMade p cells (texts_of p rows) c h → 2 ≤ h.left
-    → g ≡ heaps.made h (kinds.Array n) 0 → HasSet shapes.statics (values_of c.program c.constants rows) 0 g k
-    → seen_by p shapes things c k ≡ opening_store p cells
-begins_store p shapes cells rows c h g k n things statics is makes built made room array set =
+    → g ≡ heaps.made h (kinds.Array n) 0 → map type_of (values_of c.program c.constants rows) ≡ shapes.statics
+    → HasSet (values_of c.program c.constants rows) 0 g k → seen_by p shapes things c k ≡ opening_store p cells
+begins_store p shapes cells rows c h g k n things statics is makes built made room array types set =
     let same = strings_are p rows statics in
     let cs : c.constants ≡ constants_of (strings p) = made.constants ∙ ap constants_of same in
     let whole = array_made p shapes cells (texts_of p rows) c h g n things is makes built made array in
@@ -199,7 +202,8 @@ begins_store p shapes cells rows c h g k n things statics is makes built made ro
     ap (λ (x : Heaped). seen.objects_by p shapes things x.objects) set.heap ∙ ap (λ (s : Store ℕ). s.objects) whole ∙ ap first_objects same in
     let held : (seen_by p shapes things c k).statics ≡ values_of c.program c.constants rows =
     ap (λ (x : Heaped). seen.values_of shapes.statics x.statics) set.heap
-    ∙ ap (seen.values_of shapes.statics) (append-nil (map raw (values_of c.program c.constants rows))) ∙ set.back in
+    ∙ ap (seen.values_of shapes.statics) (append-nil (map raw (values_of c.program c.constants rows)))
+    ∙ ap (λ (l : List CellType). seen.values_of l (map raw (values_of c.program c.constants rows))) (sym types) ∙ set.back in
     let values : values_of c.program c.constants rows ≡ flat_map (values_in p (constants_of (strings p))) p.parts =
     ap (λ (q : Program). values_of q c.constants rows) made.program ∙ values_are p c.constants rows statics
     ∙ ap (λ (l : List (List ℕ × ℕ)). flat_map (values_in p l) p.parts) cs in
@@ -250,28 +254,22 @@ array_suits shapes n m e = absurd (let none : ◌≡◌ {A = Option ℕ} None (S
 
 pub begins : (p : Program) (shapes : Shapes) (cells n o : ℕ) (rows : List StaticRow) (s : Strings) (g k : Heaped) (b : Begun) → AreStatics p (all_statics p) rows
     → IsStrings shapes n → laws.Makes → laws.MadeStaysBuilt → MadeStaysCelled → AreStrings p cells rows s → heaps.Makes (kinds.Array n) 0 s.heap g (Some o)
-    → HasSet shapes.statics (values_of s.constants.program s.constants.constants rows) 0 g k
-    → length shapes.statics ≡ length rows → b ≡ record { heap = k; constants = s.constants; array = o } → Begins p shapes cells b
-begins p shapes cells n o rows s g k b statics is makes stays stays_celled strings array set many here =
+    → HasSet (values_of s.constants.program s.constants.constants rows) 0 g k
+    → AreFiles p → shapes.statics ≡ map (cell_at p) (all_statics p) → b ≡ record { heap = k; constants = s.constants; array = o } → Begins p shapes cells b
+begins p shapes cells n o rows s g k b statics is makes stays stays_celled strings array set files tied here =
     let made = strings.made in
     let room : 2 ≤ s.heap.left = let enough = array.0 in omega (arith, enough) in
+    let values = values_of s.constants.program s.constants.constants rows in
+    let types : map type_of values ≡ shapes.statics =
+    ap (λ (q : Program). map type_of (values_of q s.constants.constants rows)) made.program
+    ∙ types_are p s.constants.constants shapes.statics rows files statics tied in
     let objects : k.objects ≡ (heaps.made s.heap (kinds.Array n) 0).objects = ap (λ (x : Heaped). x.objects) set.heap ∙ ap (λ (x : Heaped). x.objects) array.2 in
     subst (Begins p shapes cells) (sym here) (record {
       room = begins_room p cells rows s.constants s.heap statics made room;
       program = made.program;
-      store = λ things. begins_store p shapes cells rows s.constants s.heap g k n things statics is makes strings.built made room array.2 set;
+      store = λ things. begins_store p shapes cells rows s.constants s.heap g k n things statics is makes strings.built made room array.2 types set;
       built = subst AreBuilt (sym objects) (stays s.heap (kinds.Array n) 0 strings.built);
       celled = subst (AreCelled shapes) (sym objects) (stays_celled shapes s.heap (kinds.Array n) 0 (array_suits shapes n) (strings.celled shapes));
-      statics = set_count shapes.statics rows (row_value s.constants.program s.constants.constants) g k many set;
+      statics = set_count values g k set ∙ sym (length-map values type_of) ∙ ap length types;
       array = begins_array p shapes cells rows s.constants s.heap o statics made array.1;
     })
-
-pub as_many : (p : Program) (all : List (CodePart × MemberInfo)) (rows : List StaticRow) → AreStatics p all rows → length all ≡ length rows
-as_many p [] [] h = refl
-as_many p [] (row ∷ rows) h = absurd h
-as_many p (x ∷ all) [] h = absurd h
-as_many p (x ∷ all) (row ∷ rows) h = ap (λ (n : ℕ). suc n) (as_many p all rows h.1)
-
-pub types_many : (p : Program) (f : CodePart × MemberInfo → CellType) (types : List CellType) (rows : List StaticRow) → AreStatics p (all_statics p) rows
-    → types ≡ map f (all_statics p) → length types ≡ length rows
-types_many p f types rows h is = ap length is ∙ length-map (all_statics p) f ∙ as_many p (all_statics p) rows h

@@ -1,4 +1,5 @@
 pub mod Begun
+pub mod Files
 pub mod Opened
 pub mod Rows
 pub mod Texts

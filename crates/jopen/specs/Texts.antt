@@ -1,10 +1,9 @@
 -- The strings that the opening makes, one behind the other.
 use Rattle.std.specs.Prelude.{◌≡◌, ◌+◌, ◌<◌, ◌≤◌, ◌++◌, ℕ, Bool, true, false, List, [], ◌∷◌, length, map, Option, Some, None, is_some, replicate, sum_by}
 use Rattle.jops.specs.declared.value.Value.{Value}
-use Rattle.jheap.specs.declared.cell.CellType.{CellType}
 use Rattle.jheap.specs.Heaps as heaps
 use Rattle.jheap.specs.Heaps.{Heaped}
-use Rattle.jheap.specs.Raw.{raw}
+use Rattle.jheap.specs.Raw.{raw, type_of}
 use Rattle.jlib.specs.declared.classes.LibClass.TheVariants as lib
 use Rattle.jprogram.specs.Classes.{Program}
 use Rattle.jmachine.specs.Acts as acts
@@ -64,7 +63,7 @@ pub record HasMade (p : Program) (cells : ℕ) (texts : List (List ℕ)) (c : Ma
 
 -- ---- statics
 
--- The first statics of these types hold these values, and give them back; so many others hold 0.
-pub record HasSet (types : List CellType) (values : List (Value ℕ)) (others : ℕ) (old h : Heaped) : Type 0 where
+-- The first statics hold these values, and give them back as their types; so many others hold 0.
+pub record HasSet (values : List (Value ℕ)) (others : ℕ) (old h : Heaped) : Type 0 where
   pub heap : h ≡ heaps.with_statics old (map raw values ++ replicate others 0)
-  pub back : seen.values_of types (map raw values) ≡ values
+  pub back : seen.values_of (map type_of values) (map raw values) ≡ values

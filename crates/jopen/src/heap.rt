@@ -3,6 +3,7 @@ ghost use Rattle.jshapes.specs.Numbered.{IsStrings};
 ghost use Rattle.jshapes.specs.Tied.{AreTied};
 ghost use Rattle.jopen.specs.Begun.{BeginsOr, HasOut, HasStrings};
 
+use crate::files::are_files;
 use crate::statics::put_statics;
 use crate::texts::make_all;
 use jconstants::Constants;
@@ -87,16 +88,17 @@ pub(crate) fn begin<'p>(
     heap_laws();
     built_laws();
     celled_laws();
+    let p = ready.program();
+    are_files(p);
     let rows = ready.statics();
-    let Some(strings) = with_strings(alloc, ready.program(), cells, rows)? else {
+    let Some(strings) = with_strings(alloc, p, cells, rows)? else {
         return Ok(None);
     };
     let mut heap = strings.heap;
     let Some(array) = heap.make(alloc, Kind::Array(shaped.strings), 0)? else {
         return Ok(None);
     };
-    let types = shaped.shapes.statics.as_slice();
-    put_statics(alloc, &strings.constants, types, rows, &mut heap)?;
+    put_statics(alloc, &strings.constants, rows, &mut heap)?;
     Ok(Some(Begun {
         heap,
         constants: strings.constants,

@@ -47,49 +47,30 @@ fn value_of(alloc: Global, constants: &Constants<'_>, row: StaticRow) -> Result<
     }
 }
 
-/// How a cell holds a value.
-fn cell_of(value: Value) -> CellType
-    ensures { result ≡ Raw.type_of value }
-{
-    match value {
-        Value::Int(_) => CellType::Int,
-        Value::Long(_) => CellType::Long,
-        Value::Ref(_) => CellType::Ref,
-        Value::Ctx(_) => CellType::Ctx,
-    }
-}
-
-/// Puts a value into a static of a type. It gives it back. An error says that it is of another type, as no constant is: a class file is
-/// read only where its constants suit their fields (JVMS 4.7.2).
-fn put(heap: &mut Heap, i: u32, cell: CellType, value: Value) -> Result<(), AllocError>
+/// Puts a value into a static. Its cell gives it back.
+fn put(heap: &mut Heap, i: u32, value: Value)
     requires { i < length heap.old.statics }
-    ensures sets { OnOk result (heap.new ≡ with_statics heap.old (slice_set heap.old.statics i (Raw.raw value))) }
-    ensures back { OnOk result (Raw.of_raw cell (Raw.raw value) ≡ value) }
+    ensures sets { heap.new ≡ with_statics heap.old (slice_set heap.old.statics i (Raw.raw value)) }
+    ensures back { Raw.of_raw (Raw.type_of value) (Raw.raw value) ≡ value }
 {
     raw_laws();
-    if cell_of(value) != cell {
-        return Err(AllocError);
-    }
     heap.set_static(i, value);
-    Ok(())
 }
 
 /// Puts into the statics, of which there are as many, what they hold at first.
 fn put_each(
     alloc: Global,
     constants: &Constants<'_>,
-    cells: &[CellType],
     rows: &[StaticRow],
     heap: &mut Heap,
 ) -> Result<(), AllocError>
-    requires cells { length cells.now ≡ length rows.now }
     requires few { length rows.now < 2 ^ 32 }
     requires none { heap.old.statics ≡ replicate (length rows.now) 0 }
-    ensures { OnOk result (HasSet cells.now (values_of constants.now.program constants.now.constants rows.now) 0 heap.old heap.new) }
+    ensures { OnOk result (HasSet (values_of constants.now.program constants.now.constants rows.now) 0 heap.old heap.new) }
 {
     for (i, row) in rows.iter().enumerate() {
         let value = value_of(alloc, constants, *row)?;
-        put(heap, i as u32, cells[i], value)?;
+        put(heap, i as u32, value);
     }
     Ok(())
 }
@@ -98,17 +79,15 @@ fn put_each(
 pub(crate) fn put_statics(
     alloc: Global,
     constants: &Constants<'_>,
-    cells: &[CellType],
     rows: &[StaticRow],
     heap: &mut Heap,
 ) -> Result<(), AllocError>
-    requires cells { length cells.now ≡ length rows.now }
-    requires none { heap.old.statics ≡ [] }
-    ensures { OnOk result (HasSet cells.now (values_of constants.now.program constants.now.constants rows.now) 0 heap.old heap.new) }
+    requires { heap.old.statics ≡ [] }
+    ensures { OnOk result (HasSet (values_of constants.now.program constants.now.constants rows.now) 0 heap.old heap.new) }
 {
     if rows.len() > u32::MAX as usize {
         return Err(AllocError);
     }
     heap.add_statics(alloc, rows.len() as u32)?;
-    put_each(alloc, constants, cells, rows, heap)
+    put_each(alloc, constants, rows, heap)
 }

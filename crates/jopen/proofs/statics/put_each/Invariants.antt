@@ -5,4 +5,4 @@ use Rattle.jopen.proofs.statics.put_each.Given as goal
 
 abbrev pub invariant-loop-i : goal.invariant-loop-i
 invariant-loop-i l =
-    HasSet l.cells (values_of l.constants.program l.constants.constants (take l.i l.rows)) (length l.rows - l.i) l.initial.heap l.heap
+    HasSet (values_of l.constants.program l.constants.constants (take l.i l.rows)) (length l.rows - l.i) l.initial.heap l.heap
