@@ -12,26 +12,13 @@ use Rattle.jmachine.specs.Natural.{AnswersAlike, AsksAlike, OpeningAlike, StepAl
 use Rattle.jmachine.specs.Security.{Privilege, Rules}
 use Rattle.jmachine.specs.Steps.{step}
 use Rattle.jguard.specs.Guarded.{AnswersSo, AreMarked, GuardedOpening, GuardedStep, MarksStand, StaysStanding, StepKnown}
+use Rattle.jguard.specs.Said.{answer_kind, kind}
 use Rattle.jguard.specs.Standing.{Answers, AnswersFor, ComesTo, Keeps, StandsFor}
 use Rattle.jguard.proofs.Keeping.{stays}
 use Rattle.jguard.proofs.Lifting.{agrees, lifted}
 use Rattle.jguard.proofs.Stepping.{ask_stands, asks_stand, comes, entries_stand, found_ask, inherited_stands, known}
 
 -- ---- kinds of asks and of answers
-
-abbrev kind : {K : Type 0} → Ask K → ℕ
-kind (Checks asked ctx) = 0
-kind (ChecksKept asked k) = 0
-kind (Snapshots ctx) = 1
-kind (Inherits ctx) = 1
-kind (Enters k domain) = 2
-kind (Privileges domain ctx given limits) = 3
-
-abbrev answer_kind : {K E : Type 0} → Answer K E → ℕ
-answer_kind (Decided v) = 0
-answer_kind (Kept k) = 1
-answer_kind (Entered k) = 2
-answer_kind (Allowed p) = 3
 
 kind_map : {K L : Type 0} (f : K → L) (ask : Ask K) → kind (ask_map f ask) ≡ kind ask
 kind_map f (Checks asked ctx) = refl

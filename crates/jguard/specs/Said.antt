@@ -20,3 +20,19 @@ given_by (answers.Verdict verdict) = Decided verdict
 given_by (answers.Kept n) = Kept n
 given_by (answers.Ctx n) = Entered n
 given_by (answers.Marked caller ctx) = Allowed (record { caller = caller; context = ctx })
+
+-- ---- kinds: a verdict, what is kept, a context, a privilege
+
+abbrev pub kind : {K : Type 0} → Ask K → ℕ
+kind (Checks asked ctx) = 0
+kind (ChecksKept asked k) = 0
+kind (Snapshots ctx) = 1
+kind (Inherits ctx) = 1
+kind (Enters k domain) = 2
+kind (Privileges domain ctx given limits) = 3
+
+abbrev pub answer_kind : {K E : Type 0} → Answer K E → ℕ
+answer_kind (Decided v) = 0
+answer_kind (Kept k) = 1
+answer_kind (Entered k) = 2
+answer_kind (Allowed p) = 3

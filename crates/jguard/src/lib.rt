@@ -3,9 +3,13 @@
 #![tactic(auto)]
 
 mod ask;
+mod asking;
 mod guard;
 mod laws;
 
 pub use ask::{Answer, Ask};
+pub use asking::{
+    Marked, ask_check, ask_enter, ask_inherit, ask_kept_check, ask_privilege, ask_snapshot,
+};
 pub use guard::{Guard, OnPassing, OnSource, Sided};
 pub use laws::{ByNumbers, ByThings, guard_laws};
