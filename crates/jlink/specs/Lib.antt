@@ -1,6 +1,4 @@
-pub mod Called
 pub mod Coded
-pub mod Fields
 pub mod Links
 pub mod Referred
 pub mod Selecting
