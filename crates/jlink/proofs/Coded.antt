@@ -1,5 +1,5 @@
 -- In a program that links each instruction of a method's code has a meaning, and leads to instructions of its method.
-use Rattle.std.proofs.Common.{◌≡◌, ℕ, ◌<◌, Bool, true, false, ◌||◌, List, [], ◌∷◌, length, get_or, map, Option, Some, None, refl, sym, ap, subst, ◌∙◌, arith}
+use Rattle.std.proofs.Common.{◌≡◌, ℕ, ◌<◌, Bool, true, false, ◌||◌, List, [], ◌∷◌, length, get_or, Option, Some, None, refl, sym, ap, subst, ◌∙◌, arith}
 use Rattle.std.specs.Prelude.{IsTrue, is_some, option_and_then, option_map, slice_get}
 use Rattle.std.specs.List.{AllByRecursion, list_all}
 use Rattle.std.specs.Option.{IsSome}
@@ -11,7 +11,6 @@ use Rattle.jcode.specs.declared.form.ArrayForm.TheVariants as arrays
 use Rattle.jcode.specs.declared.form.Form.{Form}
 use Rattle.jcode.specs.declared.form.Form.TheVariants as forms
 use Rattle.jcode.specs.declared.form.Flow.TheVariants as flows
-use Rattle.jcode.specs.declared.form.PoolForm.{PoolForm}
 use Rattle.jcode.specs.declared.form.PoolForm.TheVariants as pool
 use Rattle.jcode.specs.declared.names.CallOp.{CallOp}
 use Rattle.jcode.specs.declared.names.CallOp.TheVariants as calls
@@ -32,9 +31,9 @@ use Rattle.jprogram.specs.declared.member.MethodId.{MethodId}
 use Rattle.jprogram.specs.declared.part.CodePart.{CodePart}
 use Rattle.jprogram.specs.Parts.{code_of, this_name}
 use Rattle.jprogram.specs.Classes.{Program}
-use Rattle.juses.specs.Instructions.{Array, Instruction, Local, Simple, Stack, Used, array, body_in, by_form, code_at, flow, instruction, instruction_at, instruction_in, targets}
+use Rattle.juses.specs.Instructions.{Array, Instruction, Local, Simple, Stack, Used, array, body_in, by_form, code_at, instruction, instruction_at, instruction_in, targets}
 use Rattle.juses.specs.Meanings.{array_meant, meant}
-use Rattle.jreferring.specs.Entries.{judge, judge_pool}
+use Rattle.jreferring.specs.Entries.{judge_pool}
 use Rattle.jreferring.specs.Units.{form_test}
 use Rattle.jlink.specs.Coded.{AreFiles, LeadsWithin}
 use Rattle.jlink.specs.Links.{Links}
@@ -104,25 +103,25 @@ placed_means p links files c fit body one well none lead = op_means p links file
 -- ---- a method's code
 
 -- where the code of a method stands
-record IsCoded (p : Program) (m : MethodId) (body : CodeBody) : Type 0 where
-  part : CodePart
-  stands : slice_get p.parts m.class ≡ Some part
-  method : MemberInfo
-  declared : slice_get part.class.methods m.method ≡ Some method
-  coded : code_of method ≡ Some body
+pub record IsCoded (p : Program) (m : MethodId) (body : CodeBody) : Type 0 where
+  pub part : CodePart
+  pub stands : slice_get p.parts m.class ≡ Some part
+  pub method : MemberInfo
+  pub declared : slice_get part.class.methods m.method ≡ Some method
+  pub coded : code_of method ≡ Some body
 
 coded_in : (p : Program) (m : MethodId) (body : CodeBody) (part : CodePart) (c : ClassParts) → slice_get p.parts m.class ≡ Some part → part.class ≡ c → body_in c m.method ≡ Some body → IsCoded p m body
 coded_in p m body part c stands same is =
     let b = then_is code_of (slice_get c.methods m.method) body is in
     record { part = part; stands = stands; method = b.0; declared = ap (λ (d : ClassParts). slice_get d.methods m.method) same ∙ b.1; coded = b.2 }
 
-coded : (p : Program) (m : MethodId) (body : CodeBody) → code_at p m ≡ Some body → IsCoded p m body
+pub coded : (p : Program) (m : MethodId) (body : CodeBody) → code_at p m ≡ Some body → IsCoded p m body
 coded p m body is =
     let c = then_is (λ c. body_in c m.method) (option_map (λ part. part.class) (slice_get p.parts m.class)) body is in
     let part = map_is (λ part. part.class) (slice_get p.parts m.class) c.0 c.1 in
     coded_in p m body part.0 c.0 part.1 part.2 c.2
 
-at_code : (p : Program) (m : MethodId) (body : CodeBody) (i : ℕ) (r : IsCoded p m body) → instruction_at p m i ≡ option_and_then (instruction p r.part.class.pool body.ops) (slice_get body.ops i)
+pub at_code : (p : Program) (m : MethodId) (body : CodeBody) (i : ℕ) (r : IsCoded p m body) → instruction_at p m i ≡ option_and_then (instruction p r.part.class.pool body.ops) (slice_get body.ops i)
 unfolding instruction_at
 at_code p m body i r =
     ap (λ (o : Option CodePart). option_and_then (λ c. option_and_then (instruction_in p c i) (body_in c m.method)) (option_map (λ part. part.class) o)) r.stands

@@ -1,27 +1,23 @@
 -- The members of a program that links and whose parts are class files have descriptors of their kinds, without float and double.
 use Rattle.std.proofs.Common.{◌≡◌, ℕ, Bool, true, false, ◌||◌, not, List, [], ◌∷◌, take, length, ◌+◌, Option, Some, None, refl, sym, ap, subst, ◌∙◌}
-use Rattle.std.specs.Prelude.{IsTrue, option_and_then, option_map, slice_get, if◌then◌else◌}
+use Rattle.std.specs.Prelude.{option_and_then, option_map, slice_get, if◌then◌else◌}
 use Rattle.std.specs.List.{list_any, position}
 use Rattle.std.specs.Option.{IsSome}
 use Rattle.std.specs.Str.{bytes_eq}
 use Rattle.std.proofs.lemmas.Bool.{and_parts, or_parts}
 use Rattle.std.proofs.lemmas.Slice.Eq.{bytes_eq-Decides}
-use Rattle.jbase.specs.First.{fault_if, first_some, or_else}
+use Rattle.jbase.specs.First.{first_some, or_else}
 use Rattle.jbase.proofs.Firsts.{none_fails, none_of}
 use Rattle.jpool.specs.declared.descriptor.Descriptor.{Descriptor}
-use Rattle.jpool.specs.declared.descriptor.Descriptor.TheVariants as descriptors
 use Rattle.jpool.specs.declared.descriptor.FieldType.{FieldType}
-use Rattle.jpool.specs.Descriptors.{descriptor_of, descriptor_text, ended, field, field_of, is_opening, is_well_formed, method, method_of, params_at, returned}
+use Rattle.jpool.specs.Descriptors.{descriptor_of, descriptor_text, field, field_of, is_opening, is_well_formed, method, method_of, params_at, returned}
 use Rattle.jpool.proofs.Spelled.{descriptor_again, field_take}
 use Rattle.jclass.specs.declared.class.ClassParts.{ClassParts}
 use Rattle.jclass.specs.declared.class.MemberInfo.{MemberInfo}
-use Rattle.jclass.specs.Stored.{IsIn}
 use Rattle.jlib.specs.declared.calls.LibCall.{LibCall}
-use Rattle.jlib.specs.declared.classes.LibClass.{LibClass}
 use Rattle.jlib.specs.Calls as library_calls
 use Rattle.jlib.specs.Classes as library
 use Rattle.jlib.proofs.Found.{call_found}
-use Rattle.jprogram.specs.declared.fault.LinkFault.{LinkFault}
 use Rattle.jprogram.specs.declared.fault.LinkKind.{LinkKind}
 use Rattle.jprogram.specs.declared.fault.LinkKind.TheVariants.{LeftOut}
 use Rattle.jprogram.specs.declared.member.Member.{Member}
@@ -32,7 +28,7 @@ use Rattle.jprogram.specs.Classes.{Class, Lib, Program, User, find, found_at, pl
 use Rattle.jprogram.specs.Members.{field_at, field_in, init, lib_field, lib_method, method_at, method_id, method_in, resolve_field, resolve_method}
 use Rattle.jprogram.specs.Naming.{naming_fault}
 use Rattle.jprogram.specs.Supers.{supers_fault}
-use Rattle.jmembers.specs.Declares.{again_test, at_member, class_fault, desc_left_out, field_left_out, field_left_out_test, field_test, fields_fault, is_context, is_floating, members_fault, method_left_out, method_left_out_test, method_test, methods_fault, param_left_out, return_left_out, text_left_out, type_left_out, types_test}
+use Rattle.jmembers.specs.Declares.{again_test, at_member, class_fault, desc_left_out, field_left_out, field_left_out_test, field_test, fields_fault, is_context, is_floating, members_fault, method_left_out, method_left_out_test, method_test, methods_fault, param_left_out, return_left_out, text_left_out, types_test}
 use Rattle.jreferring.specs.Code.{code_fault}
 use Rattle.jreferring.specs.Operands.{is_float}
 use Rattle.jlink.specs.Coded.{AreFiles}
@@ -127,13 +123,21 @@ method_kept p i c k m none at =
     let left = second_none (again_test c (take k c.methods) m) (method_left_out_test p.side c m) _ one in
     (or_parts (method_left_out p.side c m) (text_left_out (member_desc c m)) (no_fault (method_left_out p.side c m || text_left_out (member_desc c m)) LeftOut left)).1
 
-field_kept : (p : Program) (i : ℕ) (c : ClassParts) (k : ℕ) (m : MemberInfo) → class_fault p i c ≡ None → slice_get c.fields k ≡ Some m → text_left_out (member_desc c m) ≡ false
+field_out : (p : Program) (i : ℕ) (c : ClassParts) (k : ℕ) (m : MemberInfo) → class_fault p i c ≡ None → slice_get c.fields k ≡ Some m → (field_left_out c m || text_left_out (member_desc c m)) ≡ false
 unfolding fields_fault field_left_out_test
-field_kept p i c k m none at =
+field_out p i c k m none at =
     let all = (none_of (methods_fault p i c) (fields_fault p i c) none).1 in
     let one = at_none i (length c.methods + k) (field_test p c (take k c.fields) m) (none_fails (λ (k : ℕ) (m : MemberInfo). at_member i (length c.methods + k) (field_test p c (take k c.fields) m)) c.fields k m all at) in
     let left = second_none (again_test c (take k c.fields) m) (field_left_out_test c m) (types_test p c m) one in
-    (or_parts (field_left_out c m) (text_left_out (member_desc c m)) (no_fault (field_left_out c m || text_left_out (member_desc c m)) LeftOut left)).1
+    no_fault (field_left_out c m || text_left_out (member_desc c m)) LeftOut left
+
+field_kept : (p : Program) (i : ℕ) (c : ClassParts) (k : ℕ) (m : MemberInfo) → class_fault p i c ≡ None → slice_get c.fields k ≡ Some m → text_left_out (member_desc c m) ≡ false
+field_kept p i c k m none at = (or_parts (field_left_out c m) (text_left_out (member_desc c m)) (field_out p i c k m none at)).1
+
+-- an interface has no field of objects
+pub field_placed : (p : Program) → Links p → (i : ℕ) (part : CodePart) (k : ℕ) (m : MemberInfo) → slice_get p.parts i ≡ Some part → slice_get part.class.fields k ≡ Some m → field_left_out part.class m ≡ false
+field_placed p links i part k m stands at =
+    (or_parts (field_left_out part.class m) (text_left_out (member_desc part.class m)) (field_out p i part.class k m (class_none p i part links stands) at)).0
 
 user_method : (p : Program) → Links p → AreFiles p → (i : ℕ) (part : CodePart) (k : ℕ) (m : MemberInfo) → slice_get p.parts i ≡ Some part → slice_get part.class.methods k ≡ Some m → IsMethodText (member_desc part.class m)
 user_method p links files i part k m stands at =

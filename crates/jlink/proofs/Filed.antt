@@ -1,10 +1,9 @@
 -- What fits as a class file: the entries that its instructions and its classes name, and the descriptors of its members.
-use Rattle.std.proofs.Common.{◌≡◌, ℕ, zero, suc, ◌≤◌, ◌⊎◌, Bool, true, false, ◌&&◌, List, [], ◌∷◌, length, Option, Some, None, refl, subst, ◌∙◌, inl, inr}
+use Rattle.std.proofs.Common.{◌≡◌, ℕ, ◌≤◌, ◌⊎◌, Bool, true, false, List, [], length, Option, Some, None, refl, sym, ap, subst, ◌∙◌, inl, inr}
 use Rattle.std.specs.Prelude.{IsTrue, is_some, option_map, slice_get}
 use Rattle.std.specs.List.{list_all}
 use Rattle.std.specs.Option.{IsSome}
 use Rattle.std.proofs.lemmas.Bool.{leb-true}
-use Rattle.jbase.specs.First.{first_some, or_else}
 use Rattle.jformat.specs.Format.{Format, ◌·◌, ◌▹◌, is_good, unless}
 use Rattle.jformat.specs.Bodies.{block, counted}
 use Rattle.jformat.proofs.Steps.{first_true, second_true}
@@ -14,7 +13,8 @@ use Rattle.jpool.specs.declared.entry.Entry.TheVariants as entries
 use Rattle.jpool.specs.Descriptors.{field_of, is_field_descriptor, method_of, method_slots, slots_of}
 use Rattle.jpool.specs.Entries as pools
 use Rattle.jpool.specs.Pools
-use Rattle.jpool.specs.Pools.{text_in, utf8_at}
+use Rattle.jpool.specs.Names.{is_class_name}
+use Rattle.jpool.specs.Pools.{class_name_at, text_in, utf8_at}
 use Rattle.jpool.proofs.Grown.{each_is, laid_slots}
 use Rattle.jpool.proofs.PoolLaws.{at_index}
 use Rattle.jpool.proofs.Spelling.{fits_spelling}
@@ -29,7 +29,7 @@ use Rattle.jclass.specs.declared.class.MemberInfo.{MemberInfo}
 use Rattle.jclass.specs.declared.fault.ClassFault.{ClassFault}
 use Rattle.jclass.specs.declared.fault.ClassFault.TheVariants as kinds
 use Rattle.jclass.specs.Basics.{access, index, pool_fault, u2}
-use Rattle.jclass.specs.Rules.{descriptor_fault, field_descriptor, method_descriptor, most_slots, names_class, names_super, within}
+use Rattle.jclass.specs.Rules.{descriptor_fault, field_descriptor, is_plain_class, method_descriptor, most_slots, names_class, names_super, within}
 use Rattle.jclass.specs.Shapes
 use Rattle.jclass.specs.Judging
 use Rattle.jclass.specs.Judging.{entry_fault, no_fault}
@@ -42,8 +42,8 @@ use Rattle.jclass.specs.Class.{TailParts, class_file, class_parts, strict, tail}
 use Rattle.jclass.specs.Stored.{HasCode, IsIn}
 use Rattle.jclass.proofs.ClassLaws.{tail_methods}
 use Rattle.jclass.proofs.Stored.{code_branches, code_fits, code_items}
-use Rattle.jprogram.specs.Parts.{code_of, member_desc, text}
-use Rattle.jlink.proofs.Having.{first_in, map_has}
+use Rattle.jprogram.specs.Parts.{code_of, member_desc, or_empty, text, this_name}
+use Rattle.jlink.proofs.Having.{first_in}
 
 -- ---- instructions
 
@@ -203,3 +203,30 @@ pub field_desc : (c : ClassParts) (m : MemberInfo) → IsTrue (class_file.fits c
 field_desc c m fit is =
     let good = at_index (field c.pool).fits c.fields is.0 m (fields_fit c fit) is.1 in
     field_reads m.desc c.pool (utf8_at c.pool m.desc) refl (field_good c.pool m good)
+
+-- ---- the class's own name
+
+tail_named : (pool : List Entry) (t : TailParts) → IsTrue ((tail pool).fits t) → IsTrue ((index (names_class pool)).fits t.1.0)
+unfolding tail
+tail_named pool t fit =
+    let a = second_true (access.fits t.0) ((index (names_class pool) · index (names_super pool) · counted u2 (index (names_class pool)) · counted u2 (field pool) · counted u2 (method pool) · counted u2 (class_attribute pool)).fits t.1) fit in
+    first_true ((index (names_class pool)).fits t.1.0) ((index (names_super pool) · counted u2 (index (names_class pool)) · counted u2 (field pool) · counted u2 (method pool) · counted u2 (class_attribute pool)).fits t.1.1) a
+
+passed : (b : Bool) → is_good (unless b kinds.Index) ≡ true → b ≡ true
+passed true e = refl
+passed false e = absurd cc
+
+index_named : (pool : List Entry) (i : ℕ) → IsTrue ((index (names_class pool)).fits i) → names_class pool i ≡ true
+index_named pool i fit = passed (names_class pool i) (second_true (u2.fits i) (is_good (unless (names_class pool i) kinds.Index)) fit)
+
+empty_barred : (o : Option (List ℕ)) → is_plain_class o ≡ true → or_empty o ≡ [] → ⊥
+unfolding is_class_name
+empty_barred None named e = cc
+empty_barred (Some text) named e =
+    let never : is_class_name [] ≡ true = sym (ap is_class_name e) ∙ named in
+    cc
+
+-- a class file's class has a name
+pub has_name : (c : ClassParts) → IsTrue (class_file.fits c) → this_name c ≡ [] → ⊥
+unfolding names_class
+has_name c fit e = empty_barred (class_name_at c.pool c.this_class) (index_named c.pool c.this_class (tail_named c.pool (class_parts c).1 (tail_fits c fit))) e

@@ -1,6 +1,8 @@
 pub mod Branching
+mod Calling
 pub mod Coded
 pub mod Declared
+pub mod Fielded
 pub mod Filed
 pub mod Having
 pub mod Layered

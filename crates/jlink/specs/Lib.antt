@@ -1,4 +1,6 @@
+pub mod Called
 pub mod Coded
+pub mod Fields
 pub mod Links
 pub mod Referred
 pub mod Selecting

@@ -1,14 +1,22 @@
-ghost use Rattle.std.specs.Prelude.{◌≡◌, ◌<◌, ℕ, Some, length};
+ghost use Rattle.std.specs.Prelude.{◌≡◌, ◌<◌, ℕ, [], Some, length, slice_get};
 ghost use Rattle.std.specs.Option.{IsSome};
 ghost use Rattle.jclass.specs.declared.class.CodeBody.{CodeBody};
 ghost use Rattle.jprogram.specs.declared.member.CallKind.{CallKind};
 ghost use Rattle.jprogram.specs.declared.member.ClassId.{ClassId};
 ghost use Rattle.jprogram.specs.declared.member.Member.{Member};
 ghost use Rattle.jprogram.specs.declared.member.MethodId.{MethodId};
+ghost use Rattle.jprogram.specs.declared.part.CodePart.{CodePart};
 ghost use Rattle.jprogram.specs.Classes.{Program};
 ghost use Rattle.jprogram.specs.Members.{select};
-ghost use Rattle.juses.specs.Instructions.{Instruction, code_at, instruction_at};
+ghost use Rattle.jprogram.specs.Parts.{this_name};
+ghost use Rattle.jcode.specs.declared.names.FieldOp.{FieldOp};
+ghost use Rattle.juses.specs.Instructions.{Instruction, Used, code_at, instruction_at};
+ghost use Rattle.juses.specs.Meanings as meanings;
+ghost use Rattle.juses.specs.declared.meaning.How.{How};
+ghost use Rattle.juses.specs.Meanings.{CallMeaning, FieldMeaning};
+ghost use Rattle.jlink.specs.Called.{IsNamedCall};
 ghost use Rattle.jlink.specs.Coded.{AreFiles, LeadsWithin};
+ghost use Rattle.jlink.specs.Fields.{IsNamedField};
 ghost use Rattle.jlink.specs.Links.{Links};
 ghost use Rattle.jlink.specs.Selecting.{IsSelectedAs};
 
@@ -24,4 +32,24 @@ pub fn instruction_laws()
         → IsSome (instruction_at p m i) }
     ensures leads { (p : Program) (m : MethodId) (body : CodeBody) (i : ℕ) (one : Instruction) → code_at p m ≡ Some body → instruction_at p m i ≡ Some one
         → LeadsWithin body one }
+{}
+
+/// The law of fields, in a program that links: an instruction names a static field where it takes one, and else one of the objects of a
+/// class which the class extends by which the field is named; none holds a security context (JVMS 5.4.3.2, 6.5: getfield, putfield,
+/// getstatic, putstatic).
+pub fn field_law()
+    ensures { (p : Program) (m : MethodId) (i : ℕ) (op : FieldOp) (f : FieldMeaning) → Links p → instruction_at p m i ≡ Some (Used (meanings.Field op f))
+        → IsNamedField p op f }
+{}
+
+/// The law of calls, in a program that links: an instruction that doesn't call a constructor names none, and where it calls one of the
+/// library's, this is that of the class by which it is named (JVMS 5.4.3.3, 6.5: invokespecial).
+pub fn call_law()
+    ensures { (p : Program) (m : MethodId) (i : ℕ) (by : How) (c : CallMeaning) → Links p → instruction_at p m i ≡ Some (Used (meanings.Call by c))
+        → IsNamedCall p by c }
+{}
+
+/// The law of names, where each part is a class file: no class has the empty name (JVMS 4.2.1).
+pub fn name_law()
+    ensures { (p : Program) (i : ℕ) (part : CodePart) → AreFiles p → slice_get p.parts i ≡ Some part → this_name part.class ≡ [] → ⊥ }
 {}

@@ -8,5 +8,5 @@ mod linked;
 mod phases;
 
 pub use error::LinkError;
-pub use laws::{instruction_laws, selection_law};
+pub use laws::{call_law, field_law, instruction_laws, name_law, selection_law};
 pub use linked::{LinkedProgram, are_parts, link, link_known, link_or_return};

@@ -1,0 +1,4 @@
+mod Below
+mod Receiving
+mod Reached
+mod Told

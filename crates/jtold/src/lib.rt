@@ -1,0 +1,19 @@
+//! Which objects of a machine's heap may be told a message.
+#![tactic(auto)]
+
+ghost use Rattle.jtold.specs.Telling.{TellsWhatMay};
+
+use jlink::{call_law, name_law, selection_law};
+use jstate::heap_laws;
+
+/// The law of objects that are told a message, in a program that links: where the operands of a call serve that comes to a constructor of
+/// what can be thrown, its object is one of a class below the constructor's, so that it has a place for the message (JVMS 6.5:
+/// invokespecial). It has no body to run; its contract is the law.
+pub fn told_law()
+    ensures { TellsWhatMay }
+{
+    call_law();
+    name_law();
+    selection_law();
+    heap_laws();
+}
