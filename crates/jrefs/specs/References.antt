@@ -1,0 +1,113 @@
+-- What an instruction by number with references did that the machine's definition has a row for.
+use Rattle.std.specs.Prelude.{◌≡◌, ◌<◌, ◌+◌, ◌^◌, ⊤, ℕ, Bool, List, [], Some, length, slice_get}
+use Rattle.jcode.specs.declared.names.Element.TheVariants as items
+use Rattle.jcode.specs.declared.names.FieldOp.TheVariants as ops
+use Rattle.jheap.specs.Heaps.{Heaped}
+use Rattle.jops.specs.declared.value.Value.{Value}
+use Rattle.jprogram.specs.declared.member.Member.{Member}
+use Rattle.jprogram.specs.declared.member.MethodId.{MethodId}
+use Rattle.jprogram.specs.Classes.{Program}
+use Rattle.juses.specs.declared.numbered.When.{When}
+use Rattle.juses.specs.declared.numbered.When.TheVariants as when
+use Rattle.juses.specs.Instructions.{Instruction}
+use Rattle.juses.specs.Meanings as meanings
+use Rattle.juses.specs.Meanings.{FieldMeaning, Meaning}
+use Rattle.jlink.specs.Coded.{AreFiles}
+use Rattle.jlink.specs.Links.{Links}
+use Rattle.jmachine.specs.Acts.{FrameOf}
+use Rattle.jmachine.specs.Sites.{Site}
+use Rattle.jmachine.specs.Steps.{fetched, own_fields}
+use Rattle.jmachine.specs.World.{world}
+use Rattle.jready.specs.declared.instr.ArrayInstr.{ArrayInstr}
+use Rattle.jready.specs.declared.instr.ArrayInstr.TheVariants as array
+use Rattle.jready.specs.declared.instr.FlowInstr.{FlowInstr}
+use Rattle.jready.specs.declared.instr.FlowInstr.TheVariants as flow
+use Rattle.jready.specs.declared.instr.Instr.{Instr}
+use Rattle.jready.specs.declared.instr.Instr.TheVariants as instr
+use Rattle.jready.specs.Exact.{Exact}
+use Rattle.jready.specs.Meant.{meant}
+use Rattle.jstate.specs.declared.shapes.Shape.{Shape}
+use Rattle.jstate.specs.Seen.{Things, store_by}
+use Rattle.jacts.specs.declared.way.Way.{Way}
+use Rattle.jacts.specs.Ways.{ActsWhere, leaves}
+use Rattle.jcalls.specs.declared.ready.Counts.{Counts}
+use Rattle.jcalls.specs.Readiness.{AreCounted}
+use Rattle.jobjs.specs.Serving.{Serve}
+use Rattle.jshapes.specs.Tied.{AreTied}
+use Rattle.jrefs.specs.declared.lasting.Lasting.{Lasting}
+
+-- ---- instructions that are here
+
+abbrev pub IsRefTest : When → Type 0
+IsRefTest (when.IfRef test) = ⊤
+IsRefTest test = ⊥
+
+-- a branch that tests references
+abbrev pub IsFlowHere : FlowInstr → Type 0
+IsFlowHere (flow.Jump test to) = IsRefTest test
+IsFlowHere f = ⊥
+
+abbrev pub StoresRef : ArrayInstr → Type 0
+StoresRef (array.Store items.Ref) = ⊤
+StoresRef f = ⊥
+
+-- an instruction with a class or a field, a store of a reference into an array, or a branch that tests references
+abbrev pub IsHere : Instr → Type 0
+IsHere (instr.Flow f) = IsFlowHere f
+IsHere (instr.Array f) = StoresRef f
+IsHere (instr.Object f) = ⊤
+IsHere (instr.Field op cell narrow i slot owner) = ⊤
+IsHere f = ⊥
+
+-- ---- what lasts
+
+-- It is of one program, which links and whose parts are class files; what stands in cells is what the program lays out, and can be counted.
+pub record IsLasting (x : Lasting) : Type 0 where
+  pub ready : x.ready.now.program ≡ x.ancestors.now
+  pub links : Links x.ancestors.now
+  pub files : AreFiles x.ancestors.now
+  pub tied : AreTied x.ancestors.now x.ready.now.methods.tables x.shapes.now
+  pub small : (i : ℕ) (shape : Shape) → slice_get x.shapes.now.users i ≡ Some shape → length shape.cells + 1 < 2 ^ 32
+
+-- ---- the place of an instruction
+
+-- An instruction by number is that for which the machine looks where the frame stands,
+abbrev pub IsFetched : {E : Type 0} → Lasting → Instr → FrameOf ℕ E → Type 0
+IsFetched x one f = meant x.ancestors.now x.ready.now.methods.tables f.method.class one ≡ fetched x.ancestors.now f.method f.place
+
+-- and holds what its entry stands for.
+abbrev pub IsExact : {E : Type 0} → Lasting → Instr → FrameOf ℕ E → Type 0
+IsExact x one f = Exact x.ancestors.now x.ready.now.uses.types x.ready.now.methods.tables f.method.class one
+
+-- what a row knows of the place of an instruction of a method
+pub record IsSite (p : Program) (m : MethodId) (at : Site) (own : Member → Bool) : Type 0 where
+  pub world : at.world ≡ world p
+  pub class : at.class ≡ m.class
+  pub own : (field : Member) → own field ≡ own_fields p m field
+
+-- ---- what was done
+
+-- The operands of an instruction of a method serve, or they don't, where there are so many permissions and contexts.
+abbrev pub ServesAs : Lasting → Counts → MethodId → Meaning → Heaped → List (Value ℕ) → Bool → Type 0
+ServesAs x counts m meaning h operands serve =
+    (things : Things) (constants : List (List ℕ × ℕ)) (at : Site) (own : Member → Bool) → AreCounted counts things → IsSite x.ancestors.now m at own
+    → Serve at own (store_by x.ancestors.now x.shapes.now things constants h) meaning operands serve
+
+-- The same of a write of a field, where this says whether it is one of those that an `<init>` writes before another is called on `this`.
+abbrev pub ServesOwn : Lasting → Counts → MethodId → Bool → FieldMeaning → Heaped → List (Value ℕ) → Bool → Type 0
+ServesOwn x counts m own f h operands serve =
+    (things : Things) (constants : List (List ℕ × ℕ)) (at : Site) (own_of : Member → Bool) → AreCounted counts things → at.world ≡ world x.ancestors.now
+    → at.class ≡ m.class → own_of f.member ≡ own
+    → Serve at own_of (store_by x.ancestors.now x.shapes.now things constants h) (meanings.Field ops.PutField f) operands serve
+
+-- An instruction was done at the newest frame, with the store that the heap stands for.
+abbrev pub ActsAs : {E : Type 0} → Lasting → Counts → Instruction → FrameOf ℕ E → Heaped → Way → FrameOf ℕ E → Heaped → Type 0
+ActsAs x counts i f h way g k =
+    (things : Things) (constants : List (List ℕ × ℕ)) → AreCounted counts things
+    → ActsWhere (IsSite x.ancestors.now f.method) i f (store_by x.ancestors.now x.shapes.now things constants h)
+    (leaves way [] g (store_by x.ancestors.now x.shapes.now things constants k))
+
+-- So was what an instruction by number stands for.
+abbrev pub Runs : {E : Type 0} → Lasting → Counts → Instr → FrameOf ℕ E → Heaped → Way → FrameOf ℕ E → Heaped → Type 0
+Runs x counts one f h way g k =
+    (i : Instruction) → meant x.ancestors.now x.ready.now.methods.tables f.method.class one ≡ Some i → ActsAs x counts i f h way g k

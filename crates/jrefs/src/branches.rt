@@ -1,0 +1,37 @@
+ghost use Rattle.std.specs.Prelude.{◌≡◌, ◌<◌, ◌+◌, ◌^◌};
+ghost use Rattle.juses.specs.Instructions as instructions;
+ghost use Rattle.jobjs.specs.Staying.{Stays};
+ghost use Rattle.jrefs.specs.References.{ActsAs};
+
+use crate::lasting::Lasting;
+use crate::serving::serves_test;
+use jacts::Way;
+use jcalls::Counts;
+use jcode::RefTest;
+use jheap::Heap;
+use jobjs::{if_null, if_same};
+use jstate::Frames;
+
+/// A branch that tests references (JVMS 6.5: ifnull, ifnonnull, if_acmpeq, if_acmpne).
+#[inline]
+pub(crate) fn branch<M: Copy>(
+    frames: &mut Frames<M>,
+    heap: &Heap,
+    x: &Lasting<'_, '_>,
+    counts: Counts,
+    test: RefTest,
+    to: u32,
+) -> Way
+    requires place { frames.old.newest.place + 1 < 2 ^ 32 }
+    ensures row { ActsAs x.now counts (instructions.Jump (instructions.IfRef test) to) frames.old.newest heap.now result frames.new.newest heap.now }
+    ensures stays { Stays result frames.old.newest frames.new.newest }
+    ensures below { frames.new.below ≡ frames.old.below }
+{
+    let serve = serves_test(frames, heap, x, counts, test);
+    match test {
+        RefTest::Null => if_null(frames, true, to, serve),
+        RefTest::NonNull => if_null(frames, false, to, serve),
+        RefTest::Same => if_same(frames, true, to, serve),
+        RefTest::Other => if_same(frames, false, to, serve),
+    }
+}

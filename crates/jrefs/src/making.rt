@@ -1,0 +1,99 @@
+ghost use Rattle.std.specs.Prelude.{◌≡◌, ◌<◌, ◌+◌, ◌^◌, IfOk, OnOk, Some};
+ghost use Rattle.jcode.specs.declared.form.PoolForm.TheVariants as forms;
+ghost use Rattle.jprogram.specs.declared.part.ClassRef.TheVariants as refs;
+ghost use Rattle.juses.specs.Instructions as instructions;
+ghost use Rattle.juses.specs.Meanings as meanings;
+ghost use Rattle.juses.specs.Tables.{pool_at};
+ghost use Rattle.juses.specs.Types.{class_named};
+ghost use Rattle.jtypes.specs.declared.vtype.VType.{VType};
+ghost use Rattle.jready.specs.Exact.{MakesArray};
+ghost use Rattle.jstate.specs.Celled.{AreCelled};
+ghost use Rattle.jstate.specs.Seen.{AreBuilt};
+ghost use Rattle.jcalls.specs.declared.ready.Counts.{Counts as CountsOf};
+ghost use Rattle.jobjs.specs.Staying.{Stays};
+ghost use Rattle.jrefs.specs.References.{ActsAs, IsLasting};
+
+use crate::lasting::Lasting;
+use jacts::Way;
+use jheap::Heap;
+use jlib::LibClass;
+use jlink::name_law;
+use jobjs::{new_library, new_object, new_refs};
+use jstate::Frames;
+use std::alloc::{AllocError, Global};
+
+/// A new object of a user's class (JVMS 6.5: new).
+#[inline]
+pub(crate) fn make_user<M: Copy>(
+    alloc: Global,
+    frames: &mut Frames<M>,
+    heap: &mut Heap,
+    x: &Lasting<'_, '_>,
+    pool: u16,
+    class: u32,
+) -> Result<Way, AllocError>
+    requires place { frames.old.newest.place + 1 < 2 ^ 32 }
+    requires lasting { IsLasting x.now }
+    requires exact { meanings.meant x.now.ancestors.now (pool_at x.now.ancestors.now frames.old.newest.method.class) (forms.New pool)
+        ≡ Some (meanings.Make (class_named x.now.ancestors.now (refs.User class))) }
+    requires built { AreBuilt heap.old.objects }
+    requires celled { AreCelled x.now.shapes.now heap.old.objects }
+    ensures row { IfOk result (λ way. (counts : CountsOf) → ActsAs x.now counts (instructions.Used (meanings.Make (class_named x.now.ancestors.now (refs.User class))))
+        frames.old.newest heap.old way frames.new.newest heap.new) }
+    ensures stays { IfOk result (λ way. Stays way frames.old.newest frames.new.newest) }
+    ensures below { OnOk result (frames.new.below ≡ frames.old.below) }
+    ensures built { OnOk result (AreBuilt heap.new.objects) }
+    ensures celled { OnOk result (AreCelled x.now.shapes.now heap.new.objects) }
+{
+    name_law();
+    new_object(alloc, frames, heap, x.shapes, class)
+}
+
+/// A new object of a class of the library.
+#[inline]
+pub(crate) fn make_library<M: Copy>(
+    alloc: Global,
+    frames: &mut Frames<M>,
+    heap: &mut Heap,
+    x: &Lasting<'_, '_>,
+    pool: u16,
+    class: LibClass,
+) -> Result<Way, AllocError>
+    requires place { frames.old.newest.place + 1 < 2 ^ 32 }
+    requires lasting { IsLasting x.now }
+    requires exact { meanings.meant x.now.ancestors.now (pool_at x.now.ancestors.now frames.old.newest.method.class) (forms.New pool)
+        ≡ Some (meanings.Make (class_named x.now.ancestors.now (refs.Lib class))) }
+    requires built { AreBuilt heap.old.objects }
+    requires celled { AreCelled x.now.shapes.now heap.old.objects }
+    ensures row { IfOk result (λ way. (counts : CountsOf) → ActsAs x.now counts (instructions.Used (meanings.Make (class_named x.now.ancestors.now (refs.Lib class))))
+        frames.old.newest heap.old way frames.new.newest heap.new) }
+    ensures stays { IfOk result (λ way. Stays way frames.old.newest frames.new.newest) }
+    ensures below { OnOk result (frames.new.below ≡ frames.old.below) }
+    ensures built { OnOk result (AreBuilt heap.new.objects) }
+    ensures celled { OnOk result (AreCelled x.now.shapes.now heap.new.objects) }
+{
+    new_library(alloc, frames, heap, class)
+}
+
+/// A new array of references (JVMS 6.5: anewarray), of the type of a number.
+#[inline]
+pub(crate) fn make_array<M: Copy>(
+    alloc: Global,
+    frames: &mut Frames<M>,
+    heap: &mut Heap,
+    x: &Lasting<'_, '_>,
+    array: u32,
+) -> Result<Way, AllocError>
+    requires place { frames.old.newest.place + 1 < 2 ^ 32 }
+    requires lasting { IsLasting x.now }
+    requires built { AreBuilt heap.old.objects }
+    requires celled { AreCelled x.now.shapes.now heap.old.objects }
+    ensures row { IfOk result (λ way. (counts : CountsOf) (t : VType) → MakesArray x.now.ancestors.now x.now.ready.now.methods.tables t array
+        → ActsAs x.now counts (instructions.Used (meanings.MakeArray t)) frames.old.newest heap.old way frames.new.newest heap.new) }
+    ensures stays { IfOk result (λ way. Stays way frames.old.newest frames.new.newest) }
+    ensures below { OnOk result (frames.new.below ≡ frames.old.below) }
+    ensures built { OnOk result (AreBuilt heap.new.objects) }
+    ensures celled { OnOk result (AreCelled x.now.shapes.now heap.new.objects) }
+{
+    new_refs(alloc, frames, heap, array)
+}

@@ -1,0 +1,118 @@
+ghost use Rattle.std.specs.Prelude.{◌≡◌, ◌<◌, ◌+◌, ◌^◌, IfOk, OnOk};
+ghost use Rattle.jready.specs.declared.instr.Instr.TheVariants as instrs;
+ghost use Rattle.jstate.specs.Celled.{AreCelled};
+ghost use Rattle.jstate.specs.Seen.{AreBuilt};
+ghost use Rattle.jobjs.specs.Staying.{Stays};
+ghost use Rattle.jrefs.specs.References.{IsExact, IsFetched, IsFlowHere, IsHere, IsLasting, Runs, StoresRef};
+
+use crate::arrays::store;
+use crate::branches::branch;
+use crate::lasting::Lasting;
+use crate::looking::FieldAt;
+use crate::objects::{field, object};
+use jacts::Way;
+use jcalls::Counts;
+use jcode::Element;
+use jheap::Heap;
+use jlink::field_law;
+use jready::{ArrayInstr, FlowInstr, Instr};
+use jstate::Frames;
+use juses::When;
+use std::alloc::{AllocError, Global};
+
+/// What says where the method goes on, where that is a branch that tests references.
+#[inline]
+fn flow<M: Copy>(
+    frames: &mut Frames<M>,
+    heap: &Heap,
+    x: &Lasting<'_, '_>,
+    counts: Counts,
+    f: FlowInstr,
+) -> Way
+    requires place { frames.old.newest.place + 1 < 2 ^ 32 }
+    requires here { IsFlowHere f }
+    ensures row { Runs x.now counts (instrs.Flow f) frames.old.newest heap.now result frames.new.newest heap.now }
+    ensures stays { Stays result frames.old.newest frames.new.newest }
+    ensures below { frames.new.below ≡ frames.old.below }
+{
+    match f {
+        FlowInstr::Jump(When::IfRef(test), to) => branch(frames, heap, x, counts, test, to),
+        _ => unreachable!(),
+    }
+}
+
+/// An instruction with an array, where that is a store of a reference.
+#[inline]
+fn array<M: Copy>(
+    frames: &mut Frames<M>,
+    heap: &mut Heap,
+    x: &Lasting<'_, '_>,
+    counts: Counts,
+    f: ArrayInstr,
+) -> Way
+    requires place { frames.old.newest.place + 1 < 2 ^ 32 }
+    requires here { StoresRef f }
+    requires built { AreBuilt heap.old.objects }
+    requires celled { AreCelled x.now.shapes.now heap.old.objects }
+    ensures row { Runs x.now counts (instrs.Array f) frames.old.newest heap.old result frames.new.newest heap.new }
+    ensures stays { Stays result frames.old.newest frames.new.newest }
+    ensures below { frames.new.below ≡ frames.old.below }
+    ensures built { AreBuilt heap.new.objects }
+    ensures celled { AreCelled x.now.shapes.now heap.new.objects }
+{
+    match f {
+        ArrayInstr::Store(Element::Ref) => store(frames, heap, x, counts),
+        _ => unreachable!(),
+    }
+}
+
+/// Does what an instruction by number does that is here: one with a class or a field, a store of a reference into an array, or a branch that
+/// tests references. What is left to do behind it is answered. `counts` says how many permissions and contexts the machine keeps.
+#[inline]
+pub fn run<M: Copy>(
+    alloc: Global,
+    frames: &mut Frames<M>,
+    heap: &mut Heap,
+    x: &Lasting<'_, '_>,
+    counts: Counts,
+    one: Instr,
+) -> Result<Way, AllocError>
+    requires place { frames.old.newest.place + 1 < 2 ^ 32 }
+    requires lasting { IsLasting x.now }
+    requires here { IsHere one }
+    requires means { IsFetched x.now one frames.old.newest }
+    requires exact { IsExact x.now one frames.old.newest }
+    requires built { AreBuilt heap.old.objects }
+    requires celled { AreCelled x.now.shapes.now heap.old.objects }
+    ensures row { IfOk result (λ way. Runs x.now counts one frames.old.newest heap.old way frames.new.newest heap.new) }
+    ensures stays { IfOk result (λ way. Stays way frames.old.newest frames.new.newest) }
+    ensures below { OnOk result (frames.new.below ≡ frames.old.below) }
+    ensures built { OnOk result (AreBuilt heap.new.objects) }
+    ensures celled { OnOk result (AreCelled x.now.shapes.now heap.new.objects) }
+{
+    field_law();
+    match one {
+        Instr::Flow(f) => Ok(flow(frames, heap, x, counts, f)),
+        Instr::Array(f) => Ok(array(frames, heap, x, counts, f)),
+        Instr::Object(f) => object(alloc, frames, heap, x, counts, f),
+        Instr::Field {
+            op,
+            cell,
+            narrow,
+            pool,
+            slot,
+            owner,
+        } => {
+            let a = FieldAt {
+                op,
+                cell,
+                narrow,
+                pool,
+                slot,
+                owner,
+            };
+            field(frames, heap, x, counts, a)
+        }
+        _ => unreachable!(),
+    }
+}

@@ -1,0 +1,72 @@
+ghost use Rattle.std.specs.Prelude.{◌≡◌, ◌<◌, ◌+◌, ◌^◌, IfOk, OnOk};
+ghost use Rattle.jcode.specs.declared.names.FieldOp.TheVariants as ops;
+ghost use Rattle.juses.specs.Instructions as instructions;
+ghost use Rattle.juses.specs.Meanings as meanings;
+ghost use Rattle.juses.specs.Meanings.{FieldMeaning};
+ghost use Rattle.jcalls.specs.declared.ready.Counts.{Counts as CountsOf};
+ghost use Rattle.jobjs.specs.Staying.{Stays};
+ghost use Rattle.jrefs.specs.Naming.{NamesField};
+ghost use Rattle.jrefs.specs.References.{ActsAs, IsLasting};
+
+use crate::fields::element_of;
+use crate::lasting::Lasting;
+use crate::looking::{FieldAt, held_of};
+use crate::serving::serves_static;
+use jacts::Way;
+use jcalls::Counts;
+use jheap::Heap;
+use jobjs::{get_static, put_static};
+use jstate::{Frames, cell_laws};
+use std::alloc::AllocError;
+
+/// A read of a user's static (JVMS 6.5: getstatic).
+#[inline]
+pub(crate) fn read_static<M: Copy>(
+    frames: &mut Frames<M>,
+    heap: &Heap,
+    x: &Lasting<'_, '_>,
+    a: FieldAt,
+) -> Result<Way, AllocError>
+    requires place { frames.old.newest.place + 1 < 2 ^ 32 }
+    requires lasting { IsLasting x.now }
+    requires op { a.op ≡ ops.GetStatic }
+    ensures row { IfOk result (λ way. (counts : CountsOf) (f : FieldMeaning) → NamesField x.now.ancestors.now frames.old.newest.method.class a f
+        → ActsAs x.now counts (instructions.Used (meanings.Field a.op f)) frames.old.newest heap.now way frames.new.newest heap.now) }
+    ensures stays { IfOk result (λ way. Stays way frames.old.newest frames.new.newest) }
+    ensures below { OnOk result (frames.new.below ≡ frames.old.below) }
+{
+    cell_laws();
+    if a.slot as usize >= heap.static_count() {
+        return Ok(Way::Stuck);
+    }
+    get_static(frames, heap, a.slot, a.cell)
+}
+
+/// A write of a user's static (JVMS 6.5: putstatic).
+#[inline]
+pub(crate) fn write_static<M: Copy>(
+    frames: &mut Frames<M>,
+    heap: &mut Heap,
+    x: &Lasting<'_, '_>,
+    counts: Counts,
+    a: FieldAt,
+) -> Way
+    requires place { frames.old.newest.place + 1 < 2 ^ 32 }
+    requires lasting { IsLasting x.now }
+    requires op { a.op ≡ ops.PutStatic }
+    ensures row { (f : FieldMeaning) → NamesField x.now.ancestors.now frames.old.newest.method.class a f
+        → ActsAs x.now counts (instructions.Used (meanings.Field a.op f)) frames.old.newest heap.old result frames.new.newest heap.new }
+    ensures stays { Stays result frames.old.newest frames.new.newest }
+    ensures below { frames.new.below ≡ frames.old.below }
+    ensures objects { heap.new.objects ≡ heap.old.objects }
+{
+    cell_laws();
+    let Some(held) = held_of(x, frames.method().class, a) else {
+        return Way::Stuck;
+    };
+    if a.slot as usize >= heap.static_count() {
+        return Way::Stuck;
+    }
+    let serve = serves_static(frames, heap, x, counts, held);
+    put_static(frames, heap, a.slot, element_of(a.narrow), serve)
+}
