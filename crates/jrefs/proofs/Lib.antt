@@ -1,0 +1,6 @@
+pub mod Kept
+pub mod Below
+pub mod Placed
+pub mod Serving
+pub mod Fielding
+pub mod Making

@@ -1,0 +1,225 @@
+-- Rows of instructions with users' fields.
+use Rattle.std.proofs.Common.{◌≡◌, ◌∙◌, inr, ℕ, zero, suc, ◌<◌, ◌≤◌, ◌&&◌, Bool, true, false, List, [], ◌∷◌, drop, length, Option, Some, None, refl, sym, ap, subst, arith, rules}
+use Rattle.std.specs.Prelude.{is_some, nat_lt, option_and_then, option_map, slice_get, if◌then◌else◌}
+use Rattle.std.specs.Str.{bytes_eq}
+use Rattle.std.proofs.lemmas.Bool.{and_parts}
+use Rattle.std.proofs.lemmas.Option.{slice_get_past}
+use Rattle.jcode.specs.declared.names.FieldOp.{FieldOp}
+use Rattle.jcode.specs.declared.names.FieldOp.TheVariants as ops
+use Rattle.jclass.specs.declared.class.ClassParts.{ClassParts}
+use Rattle.jclass.specs.declared.class.MemberInfo.{MemberInfo}
+use Rattle.jheap.specs.declared.cell.CellType.{CellType}
+use Rattle.jheap.specs.Heaps.{Heaped}
+use Rattle.jops.specs.declared.value.Value.{Value}
+use Rattle.jprogram.specs.declared.member.Member.{Member}
+use Rattle.jprogram.specs.declared.member.Member.TheVariants as members
+use Rattle.jprogram.specs.declared.member.MethodId.{MethodId}
+use Rattle.jprogram.specs.declared.part.ClassRef.{ClassRef}
+use Rattle.jprogram.specs.declared.part.ClassRef.TheVariants as refs
+use Rattle.jprogram.specs.declared.part.CodePart.{CodePart}
+use Rattle.jprogram.specs.Classes.{Program, extends, holds, is_interface, find, name_at}
+use Rattle.jprogram.specs.Parts.{this_name}
+use Rattle.jprogram.specs.Members.{desc_of, info_of, is_static, owner_in, owner_of}
+use Rattle.jprogram.proofs.Extending.{extends_chain}
+use Rattle.jprogram.proofs.Settling.{name_is}
+use Rattle.jreferring.specs.References.{takes_static}
+use Rattle.jrule.specs.Effects.{Fits, Want}
+use Rattle.jrule.specs.Uses.{exchange, written}
+use Rattle.jtypes.specs.declared.vtype.Name.{Name}
+use Rattle.jtypes.specs.declared.vtype.VType.TheVariants as types
+use Rattle.juses.specs.declared.types.ElementRef.{ElementRef}
+use Rattle.juses.specs.Instructions as instructions
+use Rattle.juses.specs.Meanings as meanings
+use Rattle.juses.specs.Meanings.{FieldMeaning}
+use Rattle.juses.specs.Types.{class_named, element_named}
+use Rattle.jlayout.specs.Layout as layout
+use Rattle.jmachine.specs.Acts.{FrameOf}
+use Rattle.jmachine.specs.Doing.{doing, used}
+use Rattle.jmachine.specs.Fields.{field, get_static}
+use Rattle.jmachine.specs.Frames.{with_operands}
+use Rattle.jmachine.specs.Narrowing.{narrowed}
+use Rattle.jmachine.specs.Operands.{meets, serves, taken}
+use Rattle.jmachine.specs.Sites.{Site}
+use Rattle.jmachine.specs.Steps.{is_init, own_fields}
+use Rattle.jmachine.specs.Store.{Store}
+use Rattle.jmachine.specs.World.{World, fits, world}
+use Rattle.jready.specs.Exact as exact
+use Rattle.jstate.specs.Numbers.{class_numbered}
+use Rattle.jstate.specs.Seen.{Things, store_by, values_of}
+use Rattle.jstate.specs.SeenLaws.{ReadsNone, SeesEach}
+use Rattle.jacts.specs.Ways.{Comes, leaves}
+use Rattle.jacts.specs.declared.way.Way.TheVariants as ways
+use Rattle.jcalls.specs.declared.ready.Counts.{Counts}
+use Rattle.jcalls.specs.Readiness.{AreCounted}
+use Rattle.jobjs.specs.Fielded.{HoldsOnly, KeepsAs, StandsAt, StandsStatic, cell_type, is_users}
+use Rattle.jobjs.specs.Serving.{Serve, target_seen}
+use Rattle.jobjs.specs.declared.target.Target.TheVariants as targets
+use Rattle.jobjs.proofs.Putting.{next}
+use Rattle.jobjs.proofs.Served.{not_served}
+use Rattle.jrefs.specs.declared.lasting.Lasting.{Lasting}
+use Rattle.jrefs.specs.declared.looking.FieldAt.{FieldAt}
+use Rattle.jrefs.specs.Naming.{NamesField}
+use Rattle.jrefs.specs.References.{ActsAs, IsLasting, IsSite, ServesAs}
+use Rattle.jrefs.proofs.Placed.{HasField, cell_below, good, has_field, numbered, static_cell, user_name}
+use Rattle.jrefs.proofs.Serving.{class_extends, holds_only, newest_meets, second_meets, written_either}
+
+world_slot : (p : Program) (m : Member) → (world p).slot m ≡ layout.slot p m
+unfolding world
+world_slot p m = refl
+
+world_element : (p : Program) (m : Member) → (world p).element m ≡ layout.element (desc_of p m)
+unfolding world
+world_element p m = refl
+
+world_named : (p : Program) (i : ℕ) → (world p).named i ≡ class_named p (refs.User i)
+unfolding world
+world_named p i = refl
+
+users_static : (w : World) (s : Store ℕ) (m : Member) → is_users m ≡ true → get_static w s m ≡ option_and_then (slice_get s.statics) (w.slot m)
+users_static w s (members.Field class number) h = refl
+users_static w s (members.Method m) h = refl
+users_static w s members.LibField h = cc
+users_static w s (members.LibMethod call) h = cc
+
+none_past : {A : Type 0} (xs : List A) (i : ℕ) → slice_get xs i ≡ None → length xs ≤ i
+none_past [] i none = omega arith
+none_past (x ∷ xs) zero none = cc
+none_past (x ∷ xs) (suc i) none = let rest = none_past xs i none in omega (arith, rest)
+
+none_lt : {A : Type 0} (xs : List A) (i : ℕ) → slice_get xs i ≡ None → nat_lt i (length xs) ≡ false
+none_lt xs i none = let high = none_past xs i none in search rules
+
+module _ (x : Lasting) (l : IsLasting x) (counts : Counts) {E : Type 0} (fr : FrameOf ℕ E) (h : Heaped) where
+  abbrev p : Program
+  p = x.ancestors.now
+
+  abbrev seen : Things → List (List ℕ × ℕ) → Store ℕ
+  seen things constants = store_by p x.shapes.now things constants h
+
+  -- operands that don't serve
+  pub unserved : (op : FieldOp) (f : FieldMeaning) (g : FrameOf ℕ E) (k : Heaped) → ServesAs x counts fr.method (meanings.Field op f) h fr.operands false
+      → ActsAs x counts (instructions.Used (meanings.Field op f)) fr h ways.Stuck g k
+  unfolding doing used
+  unserved op f g k serve things constants counted r at own entries inherited site =
+      rw (not_served (taken at.world (seen things constants) (exchange own (at.world.named at.class) (meanings.Field op f)).takes fr.operands)
+      (serve things constants at own counted site)) refl
+
+  module _ (f : FieldMeaning) (a : FieldAt) (n : NamesField p fr.method.class a f) where
+    abbrev has : HasField p f a.cell a.slot
+    has = has_field p f a.cell a.narrow a.slot a.owner n.holds n.named.plain
+
+    slot_is : (at : Site) (own : Member → Bool) → IsSite p fr.method at own → at.world.slot f.member ≡ Some a.slot
+    slot_is at own site = ap (λ (w : World). w.slot f.member) site.world ∙ world_slot p f.member ∙ n.holds.placed
+
+    keeps : (e : ElementRef) → ((v : Value ℕ) → exact.narrow a.narrow v ≡ narrowed (Some (element_named p e)) v)
+        → (at : Site) (own : Member → Bool) → IsSite p fr.method at own → KeepsAs p at.world f.member e
+    keeps e same at own site v =
+        ap (λ (w : World). narrowed (w.element f.member) v) site.world ∙ ap (λ o. narrowed o v) (world_element p f.member) ∙ n.holds.keeps v ∙ same v
+
+    -- ---- fields of objects
+
+    module _ (plain : is_static p f.member ≡ false) where
+      -- an object of a class that extends the one by which the field is named has its cell
+      below_owner : (c : ℕ) → fits (world p) (types.Object (class_named p (class_numbered c))) (types.Object f.owner) ≡ true
+          → extends p (name_at p (class_numbered c)) (name_at p (refs.User has.class)) ≡ true
+      below_owner c fit =
+          extends_chain p (good x l) (name_at p (class_numbered c)) f.owner.0 (name_at p (refs.User has.class))
+          (class_extends p (class_numbered c) f.owner fit (n.named.class has.class has.number has.member plain)) (n.named.owned has.class has.number has.member plain)
+
+      celled : (c : ℕ) → extends p (name_at p (class_numbered c)) (name_at p (refs.User has.class)) ≡ true → cell_type x.shapes.now c a.slot ≡ Some a.cell
+      celled c below = numbered x c a.slot a.cell (cell_below x l f a.cell a.slot has (class_numbered c) plain below)
+
+      pub get_stands : SeesEach → (things : Things) (constants : List (List ℕ × ℕ)) (at : Site) (own : Member → Bool) → IsSite p fr.method at own
+          → Serve at own (seen things constants) (meanings.Field ops.GetField f) fr.operands true
+          → StandsAt at.world x.shapes.now h f.member (slice_get fr.operands 0) a.slot a.cell
+      unfolding exchange
+      get_stands each things constants at own site serve = record {
+        stands = slot_is at own site;
+        cell = λ o c e. celled c (below_owner c (newest_meets each p x.shapes.now things constants h (Fits (types.Object f.owner)) fr.operands o c (sym e)
+            (subst (λ (w : World). is_some (taken w (seen things constants) (Fits (types.Object f.owner) ∷ []) fr.operands) ≡ true) site.world serve)));
+      }
+
+      -- ---- the object whose field is written
+
+      owner_is : owner_of p f.member ≡ name_at p (refs.User has.class)
+      unfolding owner_of
+      owner_is =
+          let there : info_of p (members.Field has.class has.number) ≡ Some (has.part.class, has.info) =
+          ap (λ (o : Option CodePart). option_and_then (λ (c : ClassParts). option_map (λ (m : MemberInfo). (c, m)) (slice_get c.fields has.number)) (option_map (λ (q : CodePart). q.class) o)) has.own.stands
+          ∙ ap (option_map (λ (m : MemberInfo). (has.part.class, m))) has.own.declared in
+          ap (owner_of p) has.member ∙ ap owner_in there ∙ sym (user_name p has.class has.part has.own.stands)
+
+      -- the class of the method, where that may write it before another `<init>` is called
+      own_named : own_fields p fr.method f.member ≡ true → name_at p (refs.User fr.method.class) ≡ name_at p (refs.User has.class)
+      own_named is =
+          let parts = and_parts (is_init p fr.method) (bytes_eq (owner_of p f.member) ((world p).named fr.method.class).0) is in
+          let named : owner_of p f.member ≡ ((world p).named fr.method.class).0 = name_is (owner_of p f.member) ((world p).named fr.method.class).0 parts.1 in
+          ap (λ (m : Name). m.0) (sym (world_named p fr.method.class)) ∙ sym named ∙ owner_is
+
+      below_this : (c : ℕ) (this : Name) → this.0 ≡ name_at p (refs.User has.class)
+          → fits (world p) (types.Object (class_named p (class_numbered c))) (types.Object this) ≡ true
+          → extends p (name_at p (class_numbered c)) (name_at p (refs.User has.class)) ≡ true
+      below_this c this is fit =
+          ap (extends p (name_at p (class_numbered c))) (sym is)
+          ∙ class_extends p (class_numbered c) this fit (ap (λ (d : List ℕ). holds is_interface (find p d)) is ∙ n.named.declares has.class has.number has.member plain)
+
+      pub put_stands : SeesEach → (things : Things) (constants : List (List ℕ × ℕ)) (at : Site) (own : Member → Bool) → IsSite p fr.method at own
+          → Serve at own (seen things constants) (meanings.Field ops.PutField f) fr.operands true
+          → StandsAt at.world x.shapes.now h f.member (slice_get fr.operands 1) a.slot a.cell
+      unfolding exchange
+      put_stands each things constants at own site serve =
+          let this : at.world.named at.class ≡ class_named p (refs.User fr.method.class) =
+          ap (λ (w : World). w.named at.class) site.world ∙ ap (world p).named site.class ∙ world_named p fr.method.class in
+          record {
+            stands = slot_is at own site;
+            cell = λ o c e.
+                let fit = second_meets each p x.shapes.now things constants h (Fits f.held) (written (own f.member) (at.world.named at.class) f.owner) fr.operands o c
+                (sym e ∙ ap (target_seen h) (next fr.operands))
+                (subst (λ (w : World). is_some (taken w (seen things constants) (Fits f.held ∷ written (own f.member) (at.world.named at.class) f.owner ∷ []) fr.operands) ≡ true) site.world serve) in
+                celled c (written_either p (class_numbered c) (own f.member) (at.world.named at.class) f.owner fit (below_owner c)
+                (λ is one. below_this c (at.world.named at.class) (ap (λ (m : Name). m.0) this ∙ own_named (sym (site.own f.member) ∙ is)) one));
+          }
+
+    -- what else a write is told
+    pub put_keeps : (e : ElementRef) → ((q : Program) (v : Value ℕ) → exact.narrow a.narrow v ≡ narrowed (Some (element_named q e)) v)
+        → (things : Things) (constants : List (List ℕ × ℕ)) (at : Site) (own : Member → Bool) → IsSite p fr.method at own
+        → KeepsAs p at.world f.member e × HoldsOnly at.world (seen things constants) f.held a.cell
+    put_keeps e same things constants at own site =
+        (keeps e (same p) at own site, holds_only at.world (seen things constants) f.held a.cell n.named.plain n.holds.celled)
+
+    -- ---- statics
+
+    module _ (static : is_static p f.member ≡ true) where
+      pub stands_static : (at : Site) (own : Member → Bool) → IsSite p fr.method at own → StandsStatic at.world x.shapes.now f.member a.slot a.cell
+      stands_static at own site = (ap is_users has.member, slot_is at own site, static_cell x l f a.cell a.slot has static)
+
+      module _ (none : ReadsNone) (high : length h.statics ≤ a.slot) where
+        past_all : slice_get (values_of x.shapes.now.statics h.statics) a.slot ≡ None
+        past_all = none x.shapes.now.statics h.statics a.slot (inr (slice_get_past h.statics a.slot high))
+
+        pub get_past : (g : FrameOf ℕ E) (k : Heaped) → ActsAs x counts (instructions.Used (meanings.Field ops.GetStatic f)) fr h ways.Stuck g k
+        unfolding doing used exchange taken field
+        get_past g k things constants counted r at own entries inherited site =
+            rw (users_static at.world (seen things constants) f.member (ap is_users has.member), slot_is at own site, past_all) refl
+
+        pub put_past : (g : FrameOf ℕ E) (k : Heaped) → ActsAs x counts (instructions.Used (meanings.Field ops.PutStatic f)) fr h ways.Stuck g k
+        unfolding doing used exchange taken field
+        put_past g k things constants counted r at own entries inherited site = by fr.operands
+          where
+            abbrev s : Store ℕ
+            s = seen things constants
+
+            inside : nat_lt a.slot (length s.statics) ≡ false
+            inside = none_lt s.statics a.slot past_all
+
+            by : (xs : List (Value ℕ))
+                → Comes fr s (option_and_then (λ t. option_map (λ row. record { frame = with_operands fr t.below; row = row }) (field at.world s ops.PutStatic f.member t.values))
+                (taken at.world s (Fits f.held ∷ []) xs)) (leaves ways.Stuck [] g (store_by p x.shapes.now things constants k))
+            by [] = refl
+            by (v ∷ rest) = both (serves at.world s (Fits f.held) v)
+              where
+                both : (b : Bool)
+                    → Comes fr s (option_and_then (λ t. option_map (λ row. record { frame = with_operands fr t.below; row = row }) (field at.world s ops.PutStatic f.member t.values))
+                    (if b then Some (record { values = v ∷ []; below = rest }) else None)) (leaves ways.Stuck [] g (store_by p x.shapes.now things constants k))
+                both false = refl
+                both true = rw (slot_is at own site, inside) refl
