@@ -50,7 +50,6 @@ use Rattle.jstate.specs.SeenLaws.{ReadsNone, SeesEach}
 use Rattle.jacts.specs.Ways.{Comes, leaves}
 use Rattle.jacts.specs.declared.way.Way.TheVariants as ways
 use Rattle.jcalls.specs.declared.ready.Counts.{Counts}
-use Rattle.jcalls.specs.Readiness.{AreCounted}
 use Rattle.jobjs.specs.Fielded.{HoldsOnly, KeepsAs, StandsAt, StandsStatic, cell_type, is_users}
 use Rattle.jobjs.specs.Serving.{Serve, target_seen}
 use Rattle.jobjs.specs.declared.target.Target.TheVariants as targets
@@ -59,7 +58,8 @@ use Rattle.jobjs.proofs.Served.{not_served}
 use Rattle.jrefs.specs.declared.lasting.Lasting.{Lasting}
 use Rattle.jrefs.specs.declared.looking.FieldAt.{FieldAt}
 use Rattle.jrefs.specs.Naming.{NamesField}
-use Rattle.jrefs.specs.References.{ActsAs, IsLasting, IsSite, ServesAs}
+use Rattle.jrefs.specs.References.{IsLasting, IsSite}
+use Rattle.jrefs.specs.Seen.{SeenActs, ServesAs}
 use Rattle.jrefs.proofs.Placed.{HasField, cell_below, good, has_field, numbered, static_cell, user_name}
 use Rattle.jrefs.proofs.Serving.{class_extends, holds_only, newest_meets, second_meets, written_either}
 
@@ -98,7 +98,7 @@ module _ (x : Lasting) (l : IsLasting x) (counts : Counts) {E : Type 0} (fr : Fr
 
   -- operands that don't serve
   pub unserved : (op : FieldOp) (f : FieldMeaning) (g : FrameOf ℕ E) (k : Heaped) → ServesAs x counts fr.method (meanings.Field op f) h fr.operands false
-      → ActsAs x counts (instructions.Used (meanings.Field op f)) fr h ways.Stuck g k
+      → SeenActs x counts (instructions.Used (meanings.Field op f)) fr h ways.Stuck g k
   unfolding doing used
   unserved op f g k serve things constants counted r at own entries inherited site =
       rw (not_served (taken at.world (seen things constants) (exchange own (at.world.named at.class) (meanings.Field op f)).takes fr.operands)
@@ -197,12 +197,12 @@ module _ (x : Lasting) (l : IsLasting x) (counts : Counts) {E : Type 0} (fr : Fr
         past_all : slice_get (values_of x.shapes.now.statics h.statics) a.slot ≡ None
         past_all = none x.shapes.now.statics h.statics a.slot (inr (slice_get_past h.statics a.slot high))
 
-        pub get_past : (g : FrameOf ℕ E) (k : Heaped) → ActsAs x counts (instructions.Used (meanings.Field ops.GetStatic f)) fr h ways.Stuck g k
+        pub get_past : (g : FrameOf ℕ E) (k : Heaped) → SeenActs x counts (instructions.Used (meanings.Field ops.GetStatic f)) fr h ways.Stuck g k
         unfolding doing used exchange taken field
         get_past g k things constants counted r at own entries inherited site =
             rw (users_static at.world (seen things constants) f.member (ap is_users has.member), slot_is at own site, past_all) refl
 
-        pub put_past : (g : FrameOf ℕ E) (k : Heaped) → ActsAs x counts (instructions.Used (meanings.Field ops.PutStatic f)) fr h ways.Stuck g k
+        pub put_past : (g : FrameOf ℕ E) (k : Heaped) → SeenActs x counts (instructions.Used (meanings.Field ops.PutStatic f)) fr h ways.Stuck g k
         unfolding doing used exchange taken field
         put_past g k things constants counted r at own entries inherited site = by fr.operands
           where

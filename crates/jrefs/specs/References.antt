@@ -1,17 +1,14 @@
 -- What an instruction by number with references did that the machine's definition has a row for.
-use Rattle.std.specs.Prelude.{◌≡◌, ◌<◌, ◌+◌, ◌^◌, ⊤, ℕ, Bool, List, [], Some, length, slice_get}
+use Rattle.std.specs.Prelude.{◌≡◌, ◌<◌, ◌+◌, ◌^◌, ⊤, ℕ, List, [], Some, None, length, slice_get}
 use Rattle.jcode.specs.declared.names.Element.TheVariants as items
-use Rattle.jcode.specs.declared.names.FieldOp.TheVariants as ops
+use Rattle.jheap.specs.Heaps as heaps
 use Rattle.jheap.specs.Heaps.{Heaped}
-use Rattle.jops.specs.declared.value.Value.{Value}
 use Rattle.jprogram.specs.declared.member.Member.{Member}
 use Rattle.jprogram.specs.declared.member.MethodId.{MethodId}
 use Rattle.jprogram.specs.Classes.{Program}
 use Rattle.juses.specs.declared.numbered.When.{When}
 use Rattle.juses.specs.declared.numbered.When.TheVariants as when
 use Rattle.juses.specs.Instructions.{Instruction}
-use Rattle.juses.specs.Meanings as meanings
-use Rattle.juses.specs.Meanings.{FieldMeaning, Meaning}
 use Rattle.jlink.specs.Coded.{AreFiles}
 use Rattle.jlink.specs.Links.{Links}
 use Rattle.jmachine.specs.Acts.{FrameOf}
@@ -29,10 +26,11 @@ use Rattle.jready.specs.Meant.{meant}
 use Rattle.jstate.specs.declared.shapes.Shape.{Shape}
 use Rattle.jstate.specs.Seen.{Things, store_by}
 use Rattle.jacts.specs.declared.way.Way.{Way}
+use Rattle.jacts.specs.declared.way.Way.TheVariants as ways
 use Rattle.jacts.specs.Ways.{ActsWhere, leaves}
 use Rattle.jcalls.specs.declared.ready.Counts.{Counts}
 use Rattle.jcalls.specs.Readiness.{AreCounted}
-use Rattle.jobjs.specs.Serving.{Serve}
+use Rattle.jshapes.specs.Alike.{LeavesAlike}
 use Rattle.jshapes.specs.Tied.{AreTied}
 use Rattle.jrefs.specs.declared.lasting.Lasting.{Lasting}
 
@@ -87,20 +85,7 @@ pub record IsSite (p : Program) (m : MethodId) (at : Site) (own : Member → Boo
 
 -- ---- what was done
 
--- The operands of an instruction of a method serve, or they don't, where there are so many permissions and contexts.
-abbrev pub ServesAs : Lasting → Counts → MethodId → Meaning → Heaped → List (Value ℕ) → Bool → Type 0
-ServesAs x counts m meaning h operands serve =
-    (things : Things) (constants : List (List ℕ × ℕ)) (at : Site) (own : Member → Bool) → AreCounted counts things → IsSite x.ancestors.now m at own
-    → Serve at own (store_by x.ancestors.now x.shapes.now things constants h) meaning operands serve
-
--- The same of a write of a field, where this says whether it is one of those that an `<init>` writes before another is called on `this`.
-abbrev pub ServesOwn : Lasting → Counts → MethodId → Bool → FieldMeaning → Heaped → List (Value ℕ) → Bool → Type 0
-ServesOwn x counts m own f h operands serve =
-    (things : Things) (constants : List (List ℕ × ℕ)) (at : Site) (own_of : Member → Bool) → AreCounted counts things → at.world ≡ world x.ancestors.now
-    → at.class ≡ m.class → own_of f.member ≡ own
-    → Serve at own_of (store_by x.ancestors.now x.shapes.now things constants h) (meanings.Field ops.PutField f) operands serve
-
--- An instruction was done at the newest frame, with the store that the heap stands for.
+-- An instruction was done at the newest frame, with the store that the heap stands for, where there are so many permissions and contexts.
 abbrev pub ActsAs : {E : Type 0} → Lasting → Counts → Instruction → FrameOf ℕ E → Heaped → Way → FrameOf ℕ E → Heaped → Type 0
 ActsAs x counts i f h way g k =
     (things : Things) (constants : List (List ℕ × ℕ)) → AreCounted counts things
@@ -111,3 +96,11 @@ ActsAs x counts i f h way g k =
 abbrev pub Runs : {E : Type 0} → Lasting → Counts → Instr → FrameOf ℕ E → Heaped → Way → FrameOf ℕ E → Heaped → Type 0
 Runs x counts one f h way g k =
     (i : Instruction) → meant x.ancestors.now x.ready.now.methods.tables f.method.class one ≡ Some i → ActsAs x counts i f h way g k
+
+-- Where it stands for nothing there is no step.
+abbrev pub StaysStuck : {E : Type 0} → Lasting → Instr → FrameOf ℕ E → Way → Type 0
+StaysStuck x one f way = meant x.ancestors.now x.ready.now.methods.tables f.method.class one ≡ None → way ≡ ways.Stuck
+
+-- What made the same of the objects as so many permissions and contexts makes the same of those that are, but where there is no step.
+abbrev pub RunsAlike : Lasting → Counts → Way → (before after : List heaps.Object) → Type 0
+RunsAlike x counts way before after = (things : Things) → AreCounted counts things → LeavesAlike x.ancestors.now x.shapes.now things way before after

@@ -5,7 +5,7 @@ ghost use Rattle.juses.specs.Instructions as instructions;
 ghost use Rattle.jstate.specs.Celled.{AreCelled};
 ghost use Rattle.jstate.specs.Seen.{AreBuilt};
 ghost use Rattle.jobjs.specs.Staying.{Stays};
-ghost use Rattle.jrefs.specs.References.{ActsAs};
+ghost use Rattle.jrefs.specs.Seen.{SeenActs};
 
 use crate::lasting::Lasting;
 use crate::serving::{holds_stored, serves_store};
@@ -26,7 +26,7 @@ pub(crate) fn store<M: Copy>(
     requires place { frames.old.newest.place + 1 < 2 ^ 32 }
     requires built { AreBuilt heap.old.objects }
     requires celled { AreCelled x.now.shapes.now heap.old.objects }
-    ensures row { ActsAs x.now counts (instructions.Array (forms.Store items.Ref)) frames.old.newest heap.old result frames.new.newest heap.new }
+    ensures row { SeenActs x.now counts (instructions.Array (forms.Store items.Ref)) frames.old.newest heap.old result frames.new.newest heap.new }
     ensures stays { Stays result frames.old.newest frames.new.newest }
     ensures below { frames.new.below ≡ frames.old.below }
     ensures built { AreBuilt heap.new.objects }

@@ -1,7 +1,7 @@
 ghost use Rattle.std.specs.Prelude.{◌≡◌, ◌<◌, ◌+◌, ◌^◌};
 ghost use Rattle.juses.specs.Instructions as instructions;
 ghost use Rattle.jobjs.specs.Staying.{Stays};
-ghost use Rattle.jrefs.specs.References.{ActsAs};
+ghost use Rattle.jrefs.specs.Seen.{SeenActs};
 
 use crate::lasting::Lasting;
 use crate::serving::serves_test;
@@ -23,7 +23,7 @@ pub(crate) fn branch<M: Copy>(
     to: u32,
 ) -> Way
     requires place { frames.old.newest.place + 1 < 2 ^ 32 }
-    ensures row { ActsAs x.now counts (instructions.Jump (instructions.IfRef test) to) frames.old.newest heap.now result frames.new.newest heap.now }
+    ensures row { SeenActs x.now counts (instructions.Jump (instructions.IfRef test) to) frames.old.newest heap.now result frames.new.newest heap.now }
     ensures stays { Stays result frames.old.newest frames.new.newest }
     ensures below { frames.new.below ≡ frames.old.below }
 {

@@ -1,12 +1,14 @@
-ghost use Rattle.std.specs.Prelude.{◌≡◌, ◌<◌, ◌+◌, ◌^◌, Some};
+ghost use Rattle.std.specs.Prelude.{◌≡◌, ◌<◌, ◌+◌, ◌^◌, None, Some};
 ghost use Rattle.jcode.specs.declared.form.PoolForm.TheVariants as forms;
 ghost use Rattle.juses.specs.Instructions as instructions;
 ghost use Rattle.juses.specs.Meanings as meanings;
 ghost use Rattle.juses.specs.Tables.{pool_at};
 ghost use Rattle.juses.specs.Types.{named};
 ghost use Rattle.jtypes.specs.declared.vtype.VType.{VType};
+ghost use Rattle.jacts.specs.declared.way.Way.TheVariants as ways;
 ghost use Rattle.jobjs.specs.Staying.{Stays};
-ghost use Rattle.jrefs.specs.References.{ActsAs, IsLasting};
+ghost use Rattle.jrefs.specs.References.{IsLasting};
+ghost use Rattle.jrefs.specs.Seen.{SeenActs};
 
 use crate::lasting::Lasting;
 use crate::looking::cast_used;
@@ -30,7 +32,7 @@ pub(crate) fn cast<M: Copy>(
     t: TypeRef,
 ) -> Way
     requires place { frames.old.newest.place + 1 < 2 ^ 32 }
-    ensures row { ActsAs x.now counts (instructions.Used (meanings.Cast op (named x.now.ancestors.now t))) frames.old.newest heap.now result frames.new.newest heap.now }
+    ensures row { SeenActs x.now counts (instructions.Used (meanings.Cast op (named x.now.ancestors.now t))) frames.old.newest heap.now result frames.new.newest heap.now }
     ensures stays { Stays result frames.old.newest frames.new.newest }
     ensures below { frames.new.below ≡ frames.old.below }
 {
@@ -54,7 +56,8 @@ pub(crate) fn cast_named<M: Copy>(
     requires place { frames.old.newest.place + 1 < 2 ^ 32 }
     requires lasting { IsLasting x.now }
     ensures row { (t : VType) → meanings.meant x.now.ancestors.now (pool_at x.now.ancestors.now frames.old.newest.method.class) (forms.Cast op pool) ≡ Some (meanings.Cast op t)
-        → ActsAs x.now counts (instructions.Used (meanings.Cast op t)) frames.old.newest heap.now result frames.new.newest heap.now }
+        → SeenActs x.now counts (instructions.Used (meanings.Cast op t)) frames.old.newest heap.now result frames.new.newest heap.now }
+    ensures missing { meanings.meant x.now.ancestors.now (pool_at x.now.ancestors.now frames.old.newest.method.class) (forms.Cast op pool) ≡ None → result ≡ ways.Stuck }
     ensures stays { Stays result frames.old.newest frames.new.newest }
     ensures below { frames.new.below ≡ frames.old.below }
 {

@@ -12,7 +12,8 @@ ghost use Rattle.jstate.specs.Celled.{AreCelled};
 ghost use Rattle.jstate.specs.Seen.{AreBuilt};
 ghost use Rattle.jobjs.specs.Staying.{Stays};
 ghost use Rattle.jrefs.specs.Naming.{NamesField};
-ghost use Rattle.jrefs.specs.References.{ActsAs, IsLasting};
+ghost use Rattle.jrefs.specs.References.{IsLasting};
+ghost use Rattle.jrefs.specs.Seen.{SeenActs};
 
 use crate::lasting::Lasting;
 use crate::looking::{FieldAt, held_of, owner_of};
@@ -52,7 +53,7 @@ pub(crate) fn read<M: Copy>(
     requires lasting { IsLasting x.now }
     requires op { a.op ≡ ops.GetField }
     ensures row { (f : FieldMeaning) → NamesField x.now.ancestors.now frames.old.newest.method.class a f
-        → ActsAs x.now counts (instructions.Used (meanings.Field a.op f)) frames.old.newest heap.now result frames.new.newest heap.now }
+        → SeenActs x.now counts (instructions.Used (meanings.Field a.op f)) frames.old.newest heap.now result frames.new.newest heap.now }
     ensures stays { Stays result frames.old.newest frames.new.newest }
     ensures below { frames.new.below ≡ frames.old.below }
 {
@@ -81,7 +82,7 @@ pub(crate) fn write<M: Copy>(
     requires built { AreBuilt heap.old.objects }
     requires celled { AreCelled x.now.shapes.now heap.old.objects }
     ensures row { (f : FieldMeaning) → NamesField x.now.ancestors.now frames.old.newest.method.class a f
-        → ActsAs x.now counts (instructions.Used (meanings.Field a.op f)) frames.old.newest heap.old result frames.new.newest heap.new }
+        → SeenActs x.now counts (instructions.Used (meanings.Field a.op f)) frames.old.newest heap.old result frames.new.newest heap.new }
     ensures stays { Stays result frames.old.newest frames.new.newest }
     ensures below { frames.new.below ≡ frames.old.below }
     ensures built { AreBuilt heap.new.objects }

@@ -11,7 +11,8 @@ ghost use Rattle.jstate.specs.Celled.{AreCelled};
 ghost use Rattle.jstate.specs.Seen.{AreBuilt};
 ghost use Rattle.jcalls.specs.declared.ready.Counts.{Counts as CountsOf};
 ghost use Rattle.jobjs.specs.Staying.{Stays};
-ghost use Rattle.jrefs.specs.References.{ActsAs, IsLasting};
+ghost use Rattle.jrefs.specs.References.{IsLasting};
+ghost use Rattle.jrefs.specs.Seen.{SeenActs};
 
 use crate::lasting::Lasting;
 use jacts::Way;
@@ -38,7 +39,7 @@ pub(crate) fn make_user<M: Copy>(
         ≡ Some (meanings.Make (class_named x.now.ancestors.now (refs.User class))) }
     requires built { AreBuilt heap.old.objects }
     requires celled { AreCelled x.now.shapes.now heap.old.objects }
-    ensures row { IfOk result (λ way. (counts : CountsOf) → ActsAs x.now counts (instructions.Used (meanings.Make (class_named x.now.ancestors.now (refs.User class))))
+    ensures row { IfOk result (λ way. (counts : CountsOf) → SeenActs x.now counts (instructions.Used (meanings.Make (class_named x.now.ancestors.now (refs.User class))))
         frames.old.newest heap.old way frames.new.newest heap.new) }
     ensures stays { IfOk result (λ way. Stays way frames.old.newest frames.new.newest) }
     ensures below { OnOk result (frames.new.below ≡ frames.old.below) }
@@ -65,7 +66,7 @@ pub(crate) fn make_library<M: Copy>(
         ≡ Some (meanings.Make (class_named x.now.ancestors.now (refs.Lib class))) }
     requires built { AreBuilt heap.old.objects }
     requires celled { AreCelled x.now.shapes.now heap.old.objects }
-    ensures row { IfOk result (λ way. (counts : CountsOf) → ActsAs x.now counts (instructions.Used (meanings.Make (class_named x.now.ancestors.now (refs.Lib class))))
+    ensures row { IfOk result (λ way. (counts : CountsOf) → SeenActs x.now counts (instructions.Used (meanings.Make (class_named x.now.ancestors.now (refs.Lib class))))
         frames.old.newest heap.old way frames.new.newest heap.new) }
     ensures stays { IfOk result (λ way. Stays way frames.old.newest frames.new.newest) }
     ensures below { OnOk result (frames.new.below ≡ frames.old.below) }
@@ -89,7 +90,7 @@ pub(crate) fn make_array<M: Copy>(
     requires built { AreBuilt heap.old.objects }
     requires celled { AreCelled x.now.shapes.now heap.old.objects }
     ensures row { IfOk result (λ way. (counts : CountsOf) (t : VType) → MakesArray x.now.ancestors.now x.now.ready.now.methods.tables t array
-        → ActsAs x.now counts (instructions.Used (meanings.MakeArray t)) frames.old.newest heap.old way frames.new.newest heap.new) }
+        → SeenActs x.now counts (instructions.Used (meanings.MakeArray t)) frames.old.newest heap.old way frames.new.newest heap.new) }
     ensures stays { IfOk result (λ way. Stays way frames.old.newest frames.new.newest) }
     ensures below { OnOk result (frames.new.below ≡ frames.old.below) }
     ensures built { OnOk result (AreBuilt heap.new.objects) }

@@ -10,7 +10,8 @@ ghost use Rattle.jstate.specs.Seen.{AreBuilt};
 ghost use Rattle.jobjs.specs.Staying.{Stays};
 ghost use Rattle.jcalls.specs.declared.ready.Counts.{Counts as CountsOf};
 ghost use Rattle.jrefs.specs.Naming.{NamesField};
-ghost use Rattle.jrefs.specs.References.{ActsAs, IsExact, IsFetched, IsLasting, Runs};
+ghost use Rattle.jrefs.specs.References.{IsExact, IsFetched, IsLasting, StaysStuck};
+ghost use Rattle.jrefs.specs.Seen.{SeenActs, SeenRuns};
 
 use crate::casts::{cast, cast_named};
 use crate::fields::{read, write};
@@ -44,7 +45,7 @@ pub(crate) fn field<M: Copy>(
     requires built { AreBuilt heap.old.objects }
     requires celled { AreCelled x.now.shapes.now heap.old.objects }
     ensures row { IfOk result (λ way. (f : FieldMeaning) → NamesField x.now.ancestors.now frames.old.newest.method.class a f
-        → ActsAs x.now counts (instructions.Used (meanings.Field a.op f)) frames.old.newest heap.old way frames.new.newest heap.new) }
+        → SeenActs x.now counts (instructions.Used (meanings.Field a.op f)) frames.old.newest heap.old way frames.new.newest heap.new) }
     ensures stays { IfOk result (λ way. Stays way frames.old.newest frames.new.newest) }
     ensures below { OnOk result (frames.new.below ≡ frames.old.below) }
     ensures built { OnOk result (AreBuilt heap.new.objects) }
@@ -68,7 +69,7 @@ pub(crate) fn out<M: Copy>(
 ) -> Result<Way, AllocError>
     requires place { frames.old.newest.place + 1 < 2 ^ 32 }
     ensures row { IfOk result (λ way. (counts : CountsOf) (f : FieldMeaning) → f.member ≡ members.LibField → IsNamedField x.now.ancestors.now op f
-        → ActsAs x.now counts (instructions.Used (meanings.Field op f)) frames.old.newest heap.now way frames.new.newest heap.now) }
+        → SeenActs x.now counts (instructions.Used (meanings.Field op f)) frames.old.newest heap.now way frames.new.newest heap.now) }
     ensures stays { IfOk result (λ way. Stays way frames.old.newest frames.new.newest) }
     ensures below { OnOk result (frames.new.below ≡ frames.old.below) }
 {
@@ -96,7 +97,8 @@ pub(crate) fn object<M: Copy>(
     requires exact { IsExact x.now (instrs.Object f) frames.old.newest }
     requires built { AreBuilt heap.old.objects }
     requires celled { AreCelled x.now.shapes.now heap.old.objects }
-    ensures row { IfOk result (λ way. Runs x.now counts (instrs.Object f) frames.old.newest heap.old way frames.new.newest heap.new) }
+    ensures row { IfOk result (λ way. SeenRuns x.now counts (instrs.Object f) frames.old.newest heap.old way frames.new.newest heap.new) }
+    ensures missing { IfOk result (λ way. StaysStuck x.now (instrs.Object f) frames.old.newest way) }
     ensures stays { IfOk result (λ way. Stays way frames.old.newest frames.new.newest) }
     ensures below { OnOk result (frames.new.below ≡ frames.old.below) }
     ensures built { OnOk result (AreBuilt heap.new.objects) }

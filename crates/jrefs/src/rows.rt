@@ -3,7 +3,8 @@ ghost use Rattle.jready.specs.declared.instr.Instr.TheVariants as instrs;
 ghost use Rattle.jstate.specs.Celled.{AreCelled};
 ghost use Rattle.jstate.specs.Seen.{AreBuilt};
 ghost use Rattle.jobjs.specs.Staying.{Stays};
-ghost use Rattle.jrefs.specs.References.{IsExact, IsFetched, IsFlowHere, IsHere, IsLasting, Runs, StoresRef};
+ghost use Rattle.jrefs.specs.References.{IsExact, IsFetched, IsFlowHere, IsHere, IsLasting, Runs, RunsAlike, StaysStuck, StoresRef};
+ghost use Rattle.jrefs.specs.Seen.{SeenRuns};
 
 use crate::arrays::store;
 use crate::branches::branch;
@@ -16,6 +17,7 @@ use jcode::Element;
 use jheap::Heap;
 use jlink::field_law;
 use jready::{ArrayInstr, FlowInstr, Instr};
+use jshapes::alike_laws;
 use jstate::Frames;
 use juses::When;
 use std::alloc::{AllocError, Global};
@@ -31,7 +33,7 @@ fn flow<M: Copy>(
 ) -> Way
     requires place { frames.old.newest.place + 1 < 2 ^ 32 }
     requires here { IsFlowHere f }
-    ensures row { Runs x.now counts (instrs.Flow f) frames.old.newest heap.now result frames.new.newest heap.now }
+    ensures row { SeenRuns x.now counts (instrs.Flow f) frames.old.newest heap.now result frames.new.newest heap.now }
     ensures stays { Stays result frames.old.newest frames.new.newest }
     ensures below { frames.new.below ≡ frames.old.below }
 {
@@ -54,7 +56,7 @@ fn array<M: Copy>(
     requires here { StoresRef f }
     requires built { AreBuilt heap.old.objects }
     requires celled { AreCelled x.now.shapes.now heap.old.objects }
-    ensures row { Runs x.now counts (instrs.Array f) frames.old.newest heap.old result frames.new.newest heap.new }
+    ensures row { SeenRuns x.now counts (instrs.Array f) frames.old.newest heap.old result frames.new.newest heap.new }
     ensures stays { Stays result frames.old.newest frames.new.newest }
     ensures below { frames.new.below ≡ frames.old.below }
     ensures built { AreBuilt heap.new.objects }
@@ -66,10 +68,9 @@ fn array<M: Copy>(
     }
 }
 
-/// Does what an instruction by number does that is here: one with a class or a field, a store of a reference into an array, or a branch that
-/// tests references. What is left to do behind it is answered. `counts` says how many permissions and contexts the machine keeps.
+/// The row of an instruction by number that is here.
 #[inline]
-pub fn run<M: Copy>(
+fn run_row<M: Copy>(
     alloc: Global,
     frames: &mut Frames<M>,
     heap: &mut Heap,
@@ -84,7 +85,8 @@ pub fn run<M: Copy>(
     requires exact { IsExact x.now one frames.old.newest }
     requires built { AreBuilt heap.old.objects }
     requires celled { AreCelled x.now.shapes.now heap.old.objects }
-    ensures row { IfOk result (λ way. Runs x.now counts one frames.old.newest heap.old way frames.new.newest heap.new) }
+    ensures row { IfOk result (λ way. SeenRuns x.now counts one frames.old.newest heap.old way frames.new.newest heap.new) }
+    ensures missing { IfOk result (λ way. StaysStuck x.now one frames.old.newest way) }
     ensures stays { IfOk result (λ way. Stays way frames.old.newest frames.new.newest) }
     ensures below { OnOk result (frames.new.below ≡ frames.old.below) }
     ensures built { OnOk result (AreBuilt heap.new.objects) }
@@ -115,4 +117,34 @@ pub fn run<M: Copy>(
         }
         _ => unreachable!(),
     }
+}
+
+/// Does what an instruction by number does that is here: one with a class or a field, a store of a reference into an array, or a branch that
+/// tests references. What is left to do behind it is answered. `counts` says how many permissions and contexts the machine keeps.
+#[inline]
+pub fn run<M: Copy>(
+    alloc: Global,
+    frames: &mut Frames<M>,
+    heap: &mut Heap,
+    x: &Lasting<'_, '_>,
+    counts: Counts,
+    one: Instr,
+) -> Result<Way, AllocError>
+    requires place { frames.old.newest.place + 1 < 2 ^ 32 }
+    requires lasting { IsLasting x.now }
+    requires here { IsHere one }
+    requires means { IsFetched x.now one frames.old.newest }
+    requires exact { IsExact x.now one frames.old.newest }
+    requires built { AreBuilt heap.old.objects }
+    requires celled { AreCelled x.now.shapes.now heap.old.objects }
+    ensures row { IfOk result (λ way. Runs x.now counts one frames.old.newest heap.old way frames.new.newest heap.new) }
+    ensures missing { IfOk result (λ way. StaysStuck x.now one frames.old.newest way) }
+    ensures alike { IfOk result (λ way. RunsAlike x.now counts way heap.old.objects heap.new.objects) }
+    ensures stays { IfOk result (λ way. Stays way frames.old.newest frames.new.newest) }
+    ensures below { OnOk result (frames.new.below ≡ frames.old.below) }
+    ensures built { OnOk result (AreBuilt heap.new.objects) }
+    ensures celled { OnOk result (AreCelled x.now.shapes.now heap.new.objects) }
+{
+    alike_laws::<M>();
+    run_row(alloc, frames, heap, x, counts, one)
 }

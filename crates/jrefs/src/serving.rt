@@ -6,14 +6,14 @@ ghost use Rattle.jmachine.specs.World.{world};
 ghost use Rattle.jobjs.specs.Branching.{ServeTest};
 ghost use Rattle.jobjs.specs.Serving.{IsOne};
 ghost use Rattle.jobjs.specs.Stored.{MayStore, ServeStore};
-ghost use Rattle.jcalls.specs.Readiness.{AreCounted};
 ghost use Rattle.jtypes.specs.declared.vtype.VType.{VType};
 ghost use Rattle.juses.specs.Meanings as meanings;
 ghost use Rattle.juses.specs.Meanings.{FieldMeaning};
 ghost use Rattle.juses.specs.Types.{class_named, named};
 ghost use Rattle.jstate.specs.Seen.{Things, store_by};
 ghost use Rattle.jrefs.specs.Naming.{NamesField};
-ghost use Rattle.jrefs.specs.References.{IsLasting, ServesAs, ServesOwn};
+ghost use Rattle.jrefs.specs.References.{IsLasting};
+ghost use Rattle.jrefs.specs.Seen.{AreSeen, ServesAs, ServesOwn};
 
 use crate::lasting::Lasting;
 use crate::looking::{FieldAt, writes_own};
@@ -146,8 +146,8 @@ pub(crate) fn is_of<M: Copy>(
     counts: Counts,
     t: TypeRef,
 ) -> bool
-    ensures { (things : Things) (constants : List (List ℕ × ℕ)) → AreCounted counts things
-        → IsOne (world x.now.ancestors.now) (store_by x.now.ancestors.now x.now.shapes.now things constants heap.now) (named x.now.ancestors.now t)
+    ensures { (others : Things) (constants : List (List ℕ × ℕ)) → AreSeen x.now counts heap.now.objects others
+        → IsOne (world x.now.ancestors.now) (store_by x.now.ancestors.now x.now.shapes.now others constants heap.now) (named x.now.ancestors.now t)
         (slice_get frames.now.newest.operands 0) result }
 {
     let objects = Objects {
@@ -167,8 +167,8 @@ pub(crate) fn serves_test<M: Copy>(
     counts: Counts,
     test: RefTest,
 ) -> bool
-    ensures { (things : Things) (constants : List (List ℕ × ℕ)) (at : Site) → AreCounted counts things → at.world ≡ world x.now.ancestors.now
-        → ServeTest at (store_by x.now.ancestors.now x.now.shapes.now things constants heap.now) test frames.now.newest.operands result }
+    ensures { (others : Things) (constants : List (List ℕ × ℕ)) (at : Site) → AreSeen x.now counts heap.now.objects others → at.world ≡ world x.now.ancestors.now
+        → ServeTest at (store_by x.now.ancestors.now x.now.shapes.now others constants heap.now) test frames.now.newest.operands result }
 {
     let objects = Objects {
         shapes: x.shapes,
@@ -186,8 +186,8 @@ pub(crate) fn serves_store<M: Copy>(
     x: &Lasting<'_, '_>,
     counts: Counts,
 ) -> bool
-    ensures { (things : Things) (constants : List (List ℕ × ℕ)) (at : Site) → AreCounted counts things → at.world ≡ world x.now.ancestors.now
-        → ServeStore at (store_by x.now.ancestors.now x.now.shapes.now things constants heap.now) frames.now.newest.operands result }
+    ensures { (others : Things) (constants : List (List ℕ × ℕ)) (at : Site) → AreSeen x.now counts heap.now.objects others → at.world ≡ world x.now.ancestors.now
+        → ServeStore at (store_by x.now.ancestors.now x.now.shapes.now others constants heap.now) frames.now.newest.operands result }
 {
     let objects = Objects {
         shapes: x.shapes,
@@ -205,9 +205,9 @@ pub(crate) fn holds_stored<M: Copy>(
     x: &Lasting<'_, '_>,
     counts: Counts,
 ) -> bool
-    ensures { (things : Things) (constants : List (List ℕ × ℕ)) → AreCounted counts things
+    ensures { (others : Things) (constants : List (List ℕ × ℕ)) → AreSeen x.now counts heap.now.objects others
         → MayStore (world x.now.ancestors.now) x.now.ancestors.now x.now.shapes.now
-        (store_by x.now.ancestors.now x.now.shapes.now things constants heap.now) heap.now frames.now.newest.operands result }
+        (store_by x.now.ancestors.now x.now.shapes.now others constants heap.now) heap.now frames.now.newest.operands result }
 {
     let objects = Objects {
         shapes: x.shapes,

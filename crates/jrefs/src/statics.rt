@@ -6,7 +6,8 @@ ghost use Rattle.juses.specs.Meanings.{FieldMeaning};
 ghost use Rattle.jcalls.specs.declared.ready.Counts.{Counts as CountsOf};
 ghost use Rattle.jobjs.specs.Staying.{Stays};
 ghost use Rattle.jrefs.specs.Naming.{NamesField};
-ghost use Rattle.jrefs.specs.References.{ActsAs, IsLasting};
+ghost use Rattle.jrefs.specs.References.{IsLasting};
+ghost use Rattle.jrefs.specs.Seen.{SeenActs};
 
 use crate::fields::element_of;
 use crate::lasting::Lasting;
@@ -31,7 +32,7 @@ pub(crate) fn read_static<M: Copy>(
     requires lasting { IsLasting x.now }
     requires op { a.op ≡ ops.GetStatic }
     ensures row { IfOk result (λ way. (counts : CountsOf) (f : FieldMeaning) → NamesField x.now.ancestors.now frames.old.newest.method.class a f
-        → ActsAs x.now counts (instructions.Used (meanings.Field a.op f)) frames.old.newest heap.now way frames.new.newest heap.now) }
+        → SeenActs x.now counts (instructions.Used (meanings.Field a.op f)) frames.old.newest heap.now way frames.new.newest heap.now) }
     ensures stays { IfOk result (λ way. Stays way frames.old.newest frames.new.newest) }
     ensures below { OnOk result (frames.new.below ≡ frames.old.below) }
 {
@@ -55,7 +56,7 @@ pub(crate) fn write_static<M: Copy>(
     requires lasting { IsLasting x.now }
     requires op { a.op ≡ ops.PutStatic }
     ensures row { (f : FieldMeaning) → NamesField x.now.ancestors.now frames.old.newest.method.class a f
-        → ActsAs x.now counts (instructions.Used (meanings.Field a.op f)) frames.old.newest heap.old result frames.new.newest heap.new }
+        → SeenActs x.now counts (instructions.Used (meanings.Field a.op f)) frames.old.newest heap.old result frames.new.newest heap.new }
     ensures stays { Stays result frames.old.newest frames.new.newest }
     ensures below { frames.new.below ≡ frames.old.below }
     ensures objects { heap.new.objects ≡ heap.old.objects }

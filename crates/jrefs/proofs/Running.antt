@@ -1,0 +1,45 @@
+-- Rows that were done for all that makes the same of the objects were done for what the machine keeps, and leave them alike.
+use Rattle.std.proofs.Common.{◌≡◌, ◌∙◌, ℕ, List, [], Option, Some, None, refl, sym, ap, subst}
+use Rattle.std.specs.Prelude.{Result, Ok, Err, IfOk, false}
+use Rattle.jheap.specs.Heaps.{Heaped}
+use Rattle.jmachine.specs.Acts.{FrameOf}
+use Rattle.jmachine.specs.Sites.{Site}
+use Rattle.jmachine.specs.Steps.{own_fields}
+use Rattle.jmachine.specs.World.{world}
+use Rattle.juses.specs.Instructions.{Instruction}
+use Rattle.jready.specs.declared.instr.Instr.{Instr}
+use Rattle.jready.specs.Meant.{meant}
+use Rattle.jstate.specs.Seen.{Things}
+use Rattle.jacts.specs.declared.way.Way.{Way}
+use Rattle.jacts.specs.declared.way.Way.TheVariants as ways
+use Rattle.jcalls.specs.declared.ready.Counts.{Counts}
+use Rattle.jcalls.specs.Readiness.{AreCounted}
+use Rattle.jshapes.specs.Alike.{LeavesAlike, RowsStayAlike}
+use Rattle.jrefs.specs.declared.lasting.Lasting.{Lasting}
+use Rattle.jrefs.specs.References.{Runs, RunsAlike, StaysStuck}
+use Rattle.jrefs.specs.Seen.{SeenRuns}
+
+module _ (x : Lasting) (counts : Counts) (one : Instr) {E : Type 0} (f g : FrameOf ℕ E) (h k : Heaped) where
+  pub runs : {F : Type 0} (r : Result Way F) → IfOk r (λ way. SeenRuns x counts one f h way g k) → IfOk r (λ way. Runs x counts one f h way g k)
+  runs (Ok way) did = λ i is things constants counted. did i is things constants (record { things = things; counted = counted; alike = refl })
+  runs (Err e) did = tt
+
+  site : Site
+  site = record { world = world x.ancestors.now; class = f.method.class; thread = 0; full = false; cwd = []; table = [] }
+
+  alike_by : RowsStayAlike E → (way : Way) → SeenRuns x counts one f h way g k → StaysStuck x one f way → RunsAlike x counts way h.objects k.objects
+  alike_by rows way did missing things counted = by (meant x.ancestors.now x.ready.now.methods.tables f.method.class one) refl
+    where
+      by : (o : Option Instruction) → meant x.ancestors.now x.ready.now.methods.tables f.method.class one ≡ o
+          → LeavesAlike x.ancestors.now x.shapes.now things way h.objects k.objects
+      by None none = subst (λ (w : Way). LeavesAlike x.ancestors.now x.shapes.now things w h.objects k.objects) (sym (missing none)) tt
+      by (Some i) is =
+          rows x.ancestors.now x.shapes.now things h k f g way [] [] [] i site (own_fields x.ancestors.now f.method)
+          (λ others alike r entries inherited.
+          did i is others [] (record { things = things; counted = counted; alike = alike }) r site (own_fields x.ancestors.now f.method) entries inherited
+          (record { world = refl; class = refl; own = λ field. refl }))
+
+  pub runs_alike : {F : Type 0} → RowsStayAlike E → (r : Result Way F) → IfOk r (λ way. SeenRuns x counts one f h way g k) → IfOk r (λ way. StaysStuck x one f way)
+      → IfOk r (λ way. RunsAlike x counts way h.objects k.objects)
+  runs_alike rows (Ok way) did missing = alike_by rows way did missing
+  runs_alike rows (Err e) did missing = tt
