@@ -1,6 +1,6 @@
 -- Rows of instructions with users' fields.
 use Rattle.std.proofs.Common.{◌≡◌, ◌∙◌, inr, ℕ, zero, suc, ◌<◌, ◌≤◌, ◌&&◌, Bool, true, false, List, [], ◌∷◌, drop, length, Option, Some, None, refl, sym, ap, subst, arith, rules}
-use Rattle.std.specs.Prelude.{is_some, nat_lt, option_and_then, option_map, slice_get, if◌then◌else◌}
+use Rattle.std.specs.Prelude.{Err, IfOk, Ok, Result, is_some, nat_lt, option_and_then, option_map, slice_get, if◌then◌else◌}
 use Rattle.std.specs.Str.{bytes_eq}
 use Rattle.std.proofs.lemmas.Bool.{and_parts}
 use Rattle.std.proofs.lemmas.Option.{slice_get_past}
@@ -44,10 +44,12 @@ use Rattle.jmachine.specs.Steps.{is_init, own_fields}
 use Rattle.jmachine.specs.Store.{Store}
 use Rattle.jmachine.specs.World.{World, fits, world}
 use Rattle.jready.specs.Exact as exact
+use Rattle.jstate.specs.declared.shapes.Shapes.{Shapes}
 use Rattle.jstate.specs.Numbers.{class_numbered}
 use Rattle.jstate.specs.Seen.{Things, store_by, values_of}
 use Rattle.jstate.specs.SeenLaws.{ReadsNone, SeesEach}
-use Rattle.jacts.specs.Ways.{Comes, leaves}
+use Rattle.jacts.specs.Ways.{ActsWhere, Comes, leaves}
+use Rattle.jacts.specs.declared.way.Way.{Way}
 use Rattle.jacts.specs.declared.way.Way.TheVariants as ways
 use Rattle.jcalls.specs.declared.ready.Counts.{Counts}
 use Rattle.jobjs.specs.Fielded.{HoldsOnly, KeepsAs, StandsAt, StandsStatic, cell_type, is_users}
@@ -223,3 +225,107 @@ module _ (x : Lasting) (l : IsLasting x) (counts : Counts) {E : Type 0} (fr : Fr
                     (if b then Some (record { values = v ∷ []; below = rest }) else None)) (leaves ways.Stuck [] g (store_by p x.shapes.now things constants k))
                 both false = refl
                 both true = rw (slot_is at own site, inside) refl
+
+-- ---- what functions answer
+
+pub no_some : {A B : Type 0} (g : A → B) (o : Option A) (b : B) {C : Type 0} → o ≡ None → option_map g o ≡ Some b → C
+no_some g o b none e = let both : None ≡ Some b = sym (ap (option_map g) none) ∙ e in absurd cc
+
+pub the_some : {A B : Type 0} (g : A → B) (o : Option A) (y : A) (b : B) → o ≡ Some y → option_map g o ≡ Some b → b ≡ g y
+the_some g o y b some e = let both : Some (g y) ≡ Some b = sym (ap (option_map g) some) ∙ e in cc
+
+pub names_at : (p : Program) (m n : MethodId) (a : FieldAt) (f : FieldMeaning) → n ≡ m → NamesField p m.class a f → NamesField p n.class a f
+names_at p m n a f same named = subst (λ (k : MethodId). NamesField p k.class a f) (sym same) named
+
+module _ (x : Lasting) (l : IsLasting x) (counts : Counts) {E : Type 0} (fr g : FrameOf ℕ E) (h k : Heaped) (way : Way) (a : FieldAt) (f : FieldMeaning)
+    (n : NamesField x.ancestors.now fr.method.class a f) where
+  abbrev Did : FieldOp → Type 0
+  Did op = SeenActs x counts (instructions.Used (meanings.Field op f)) fr h way g k
+
+  as_op : (op : FieldOp) → a.op ≡ op → Did op → Did a.op
+  as_op op is did = subst Did (sym is) did
+
+  serves_is : (op : FieldOp) (b c : Bool) → b ≡ c → ServesAs x counts fr.method (meanings.Field op f) h fr.operands b → ServesAs x counts fr.method (meanings.Field op f) h fr.operands c
+  serves_is op b c same serve = subst (ServesAs x counts fr.method (meanings.Field op f) h fr.operands) same serve
+
+  is_static_as : (op : FieldOp) → a.op ≡ op → is_static x.ancestors.now f.member ≡ takes_static op
+  is_static_as op is = n.named.static ∙ ap takes_static is
+
+  pub read_row : a.op ≡ ops.GetField → (b : Bool) → b ≡ true → ServesAs x counts fr.method (meanings.Field ops.GetField f) h fr.operands b → SeesEach
+      → ((p : Program) (shapes : Shapes) (things : Things) (constants : List (List ℕ × ℕ)) (f : FieldMeaning) →
+      ActsWhere (λ (at : Site) (own : Member → Bool). Serve at own (store_by p shapes things constants h) (meanings.Field ops.GetField f) fr.operands true
+      × StandsAt at.world shapes h f.member (slice_get fr.operands 0) a.slot a.cell)
+      (instructions.Used (meanings.Field ops.GetField f)) fr (store_by p shapes things constants h) (leaves way [] g (store_by p shapes things constants k)))
+      → Did a.op
+  read_row is b yes-it-does serve each did =
+      as_op ops.GetField is (λ others constants seen r at own entries inherited site.
+      let served = serves_is ops.GetField b true yes-it-does serve others constants at own seen site in
+      did x.ancestors.now x.shapes.now others constants f r at own entries inherited
+      (served, get_stands x l counts fr h f a n (is_static_as ops.GetField is) each others constants at own site served))
+
+  pub write_row : a.op ≡ ops.PutField → (b : Bool) → b ≡ true → ServesAs x counts fr.method (meanings.Field ops.PutField f) h fr.operands b → SeesEach
+      → (e : ElementRef) → ((q : Program) (v : Value ℕ) → exact.narrow a.narrow v ≡ narrowed (Some (element_named q e)) v)
+      → ((p : Program) (shapes : Shapes) (things : Things) (constants : List (List ℕ × ℕ)) (f : FieldMeaning) (of : CellType) →
+      ActsWhere (λ (at : Site) (own : Member → Bool). Serve at own (store_by p shapes things constants h) (meanings.Field ops.PutField f) fr.operands true
+      × StandsAt at.world shapes h f.member (slice_get fr.operands 1) a.slot of × KeepsAs p at.world f.member e × HoldsOnly at.world (store_by p shapes things constants h) f.held of)
+      (instructions.Used (meanings.Field ops.PutField f)) fr (store_by p shapes things constants h) (leaves way [] g (store_by p shapes things constants k)))
+      → Did a.op
+  write_row is b yes-it-does serve each e same did =
+      as_op ops.PutField is (λ others constants seen r at own entries inherited site.
+      let served = serves_is ops.PutField b true yes-it-does serve others constants at own seen site in
+      did x.ancestors.now x.shapes.now others constants f a.cell r at own entries inherited
+      (served, (put_stands x l counts fr h f a n (is_static_as ops.PutField is) each others constants at own site served,
+      put_keeps x l counts fr h f a n e same others constants at own site)))
+
+  pub static_row : a.op ≡ ops.GetStatic
+      → ((p : Program) (shapes : Shapes) (things : Things) (constants : List (List ℕ × ℕ)) (f : FieldMeaning) →
+      ActsWhere (λ (at : Site) (own : Member → Bool). StandsStatic at.world shapes f.member a.slot a.cell)
+      (instructions.Used (meanings.Field ops.GetStatic f)) fr (store_by p shapes things constants h) (leaves way [] g (store_by p shapes things constants k)))
+      → Did a.op
+  static_row is did =
+      as_op ops.GetStatic is (λ others constants seen r at own entries inherited site.
+      did x.ancestors.now x.shapes.now others constants f r at own entries inherited
+      (stands_static x l counts fr h f a n (is_static_as ops.GetStatic is) at own site))
+
+  pub put_row : a.op ≡ ops.PutStatic → (b : Bool) → ServesAs x counts fr.method (meanings.Field ops.PutStatic f) h fr.operands b
+      → (e : ElementRef) → ((q : Program) (v : Value ℕ) → exact.narrow a.narrow v ≡ narrowed (Some (element_named q e)) v)
+      → ((p : Program) (shapes : Shapes) (things : Things) (constants : List (List ℕ × ℕ)) (f : FieldMeaning) (of : CellType) →
+      ActsWhere (λ (at : Site) (own : Member → Bool). Serve at own (store_by p shapes things constants h) (meanings.Field ops.PutStatic f) fr.operands b
+      × StandsStatic at.world shapes f.member a.slot of × KeepsAs p at.world f.member e × HoldsOnly at.world (store_by p shapes things constants h) f.held of)
+      (instructions.Used (meanings.Field ops.PutStatic f)) fr (store_by p shapes things constants h) (leaves way [] g (store_by p shapes things constants k)))
+      → Did a.op
+  put_row is b serve e same did =
+      as_op ops.PutStatic is (λ others constants seen r at own entries inherited site.
+      did x.ancestors.now x.shapes.now others constants f a.cell r at own entries inherited
+      (serve others constants at own seen site, (stands_static x l counts fr h f a n (is_static_as ops.PutStatic is) at own site,
+      put_keeps x l counts fr h f a n e same others constants at own site)))
+
+module _ (x : Lasting) (l : IsLasting x) (counts : Counts) {E : Type 0} (fr g : FrameOf ℕ E) (h k : Heaped) (a : FieldAt) (f : FieldMeaning)
+    (n : NamesField x.ancestors.now fr.method.class a f) where
+  -- operands that don't serve
+  pub not_row : (op : FieldOp) → a.op ≡ op → (b : Bool) → b ≡ false → ServesAs x counts fr.method (meanings.Field op f) h fr.operands b
+      → SeenActs x counts (instructions.Used (meanings.Field a.op f)) fr h ways.Stuck g k
+  not_row op is b not-so serve =
+      as_op x l counts fr g h k ways.Stuck a f n op is (unserved x l counts fr h op f g k (serves_is x l counts fr g h k ways.Stuck a f n op b false not-so serve))
+
+  -- statics that aren't there
+  pub read_past : a.op ≡ ops.GetStatic → ReadsNone → length h.statics ≤ a.slot → SeenActs x counts (instructions.Used (meanings.Field a.op f)) fr h ways.Stuck g k
+  read_past is none high =
+      as_op x l counts fr g h k ways.Stuck a f n ops.GetStatic is
+      (get_past x l counts fr h f a n (is_static_as x l counts fr g h k ways.Stuck a f n ops.GetStatic is) none high g k)
+
+  pub write_past : a.op ≡ ops.PutStatic → ReadsNone → length h.statics ≤ a.slot → SeenActs x counts (instructions.Used (meanings.Field a.op f)) fr h ways.Stuck g k
+  write_past is none high =
+      as_op x l counts fr g h k ways.Stuck a f n ops.PutStatic is
+      (put_past x l counts fr h f a n (is_static_as x l counts fr g h k ways.Stuck a f n ops.PutStatic is) none high g k)
+
+-- a static that was read, if there was memory
+pub got_static : (x : Lasting) (l : IsLasting x) {E : Type 0} (fr g : FrameOf ℕ E) (h : Heaped) (a : FieldAt) → a.op ≡ ops.GetStatic
+    → {F : Type 0} (result : Result Way F)
+    → IfOk result (λ way. (p : Program) (shapes : Shapes) (things : Things) (constants : List (List ℕ × ℕ)) (f : FieldMeaning) →
+    ActsWhere (λ (at : Site) (own : Member → Bool). StandsStatic at.world shapes f.member a.slot a.cell)
+    (instructions.Used (meanings.Field ops.GetStatic f)) fr (store_by p shapes things constants h) (leaves way [] g (store_by p shapes things constants h)))
+    → IfOk result (λ way. (counts : Counts) (f : FieldMeaning) → NamesField x.ancestors.now fr.method.class a f
+    → SeenActs x counts (instructions.Used (meanings.Field a.op f)) fr h way g h)
+got_static x l fr g h a is (Ok way) did counts f n = static_row x l counts fr g h h way a f n is did
+got_static x l fr g h a is (Err e) did = tt

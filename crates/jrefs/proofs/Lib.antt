@@ -6,3 +6,5 @@ pub mod Serving
 pub mod Fielding
 pub mod Making
 pub mod Running
+pub mod Stores
+pub mod Using

@@ -1,24 +1,29 @@
 -- What a served operand's object is, and what values of a type are held by.
 use Rattle.std.proofs.Common.{◌≡◌, ◌∙◌, ℕ, zero, suc, ◌||◌, Bool, true, false, List, [], ◌∷◌, drop, Option, Some, None, refl, sym, ap, subst}
 use Rattle.std.specs.Prelude.{is_some, option_map, slice_get, if◌then◌else◌}
+use Rattle.jcode.specs.declared.names.FieldOp.TheVariants as ops
 use Rattle.jheap.specs.declared.cell.CellType.{CellType}
 use Rattle.jheap.specs.declared.cell.Kind.TheVariants as kinds
 use Rattle.jheap.specs.Heaps.{Heaped}
 use Rattle.jheap.specs.Raw as numbers
 use Rattle.jops.specs.declared.value.Value.{Value}
 use Rattle.jops.specs.declared.value.Value.TheVariants.{Int, Long, Ref, Ctx}
+use Rattle.jprogram.specs.declared.member.Member.{Member}
 use Rattle.jprogram.specs.declared.part.ClassRef.{ClassRef}
 use Rattle.jprogram.specs.Classes.{Program, extends, find, holds, is_interface, name_at}
 use Rattle.jrule.specs.Effects.{Fits, OrThis, Want}
-use Rattle.jrule.specs.Uses.{written}
+use Rattle.jrule.specs.Uses.{exchange, written}
 use Rattle.jtypes.specs.declared.vtype.Name.{Name}
 use Rattle.jtypes.specs.declared.vtype.VType.{VType}
 use Rattle.jtypes.specs.declared.vtype.VType.TheVariants as types
+use Rattle.juses.specs.Meanings as meanings
+use Rattle.juses.specs.Meanings.{FieldMeaning}
 use Rattle.juses.specs.Types.{class_named}
 use Rattle.jlink.specs.Fields.{is_plain}
 use Rattle.jmachine.specs.Objects as objects
 use Rattle.jmachine.specs.Objects.{Object, class_of}
 use Rattle.jmachine.specs.Operands.{Taken, found_type, meets, ready_type, reference_type, serves, serves_as, taken, type_of, with_value}
+use Rattle.jmachine.specs.Sites.{Site}
 use Rattle.jmachine.specs.Store.{Store, object_at}
 use Rattle.jmachine.specs.World.{World, fits, world}
 use Rattle.jready.specs.Exact as exact
@@ -27,7 +32,7 @@ use Rattle.jstate.specs.Numbers.{class_numbered}
 use Rattle.jstate.specs.Seen.{Things, kind_by, store_by}
 use Rattle.jstate.specs.SeenLaws.{SeesEach}
 use Rattle.jobjs.specs.Fielded.{HoldsOnly}
-use Rattle.jobjs.specs.Serving.{target_seen}
+use Rattle.jobjs.specs.Serving.{Serve, target_seen}
 use Rattle.jobjs.specs.declared.target.Target.TheVariants as targets
 use Rattle.jobjs.proofs.Served.{IsTarget, is_target, serves_one, target_is}
 use Rattle.jserve.proofs.Valuing.{kind_named}
@@ -196,3 +201,8 @@ serves_either w s a true this owner operands e = by operands e
         both true true is h = let also = or_left (type_of w s u) is in rw also refl
         both true false is h = cc
         both false r is h = cc
+
+pub write_either : (at : Site) (own : Member → Bool) (s : Store ℕ) (f : FieldMeaning) (operands : List (Value ℕ)) → Serve at (λ m. false) s (meanings.Field ops.PutField f) operands true
+    → Serve at own s (meanings.Field ops.PutField f) operands true
+unfolding exchange
+write_either at own s f operands e = serves_either at.world s (Fits f.held) (own f.member) (at.world.named at.class) f.owner operands e

@@ -18,7 +18,6 @@ use crate::lasting::Lasting;
 use jacts::Way;
 use jheap::Heap;
 use jlib::LibClass;
-use jlink::name_law;
 use jobjs::{new_library, new_object, new_refs};
 use jstate::Frames;
 use std::alloc::{AllocError, Global};
@@ -46,7 +45,6 @@ pub(crate) fn make_user<M: Copy>(
     ensures built { OnOk result (AreBuilt heap.new.objects) }
     ensures celled { OnOk result (AreCelled x.now.shapes.now heap.new.objects) }
 {
-    name_law();
     new_object(alloc, frames, heap, x.shapes, class)
 }
 

@@ -1,0 +1,16 @@
+-- Stores that are the same, whatever else is kept.
+use Rattle.std.proofs.Common.{◌≡◌, ◌∙◌, ℕ, List, refl, sym, ap, subst}
+use Rattle.jheap.specs.Heaps.{Heaped}
+use Rattle.jmachine.specs.Objects.{Object}
+use Rattle.jmachine.specs.Store.{Store}
+use Rattle.jstate.specs.Seen.{Things, store_by, values_of}
+use Rattle.jcalls.specs.declared.ready.Counts.{Counts}
+use Rattle.jserve.specs.declared.values.Objects.{Objects}
+use Rattle.jserve.specs.Valued.{IsStore}
+use Rattle.jrefs.specs.declared.lasting.Lasting.{Lasting}
+use Rattle.jrefs.specs.Seen.{AreSeen}
+
+module _ (x : Lasting) (counts : Counts) (h : Heaped) (others : Things) (constants : List (List ℕ × ℕ)) (seen : AreSeen x counts h.objects others) where
+  pub store_is : store_by x.ancestors.now x.shapes.now others constants h ≡ store_by x.ancestors.now x.shapes.now seen.things constants h
+  store_is =
+      ap (λ (os : List (Object ℕ)). record { objects = os; statics = values_of x.shapes.now.statics h.statics; constants = constants; left = h.left }) seen.alike

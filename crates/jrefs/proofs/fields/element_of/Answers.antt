@@ -1,0 +1,5 @@
+use Rattle.jrefs.proofs.Looking.{whole}
+use Rattle.jrefs.proofs.fields.element_of.Goals as goal
+
+pub returns-in-Whole : goal.returns-in-Whole
+returns-in-Whole c p v = whole v

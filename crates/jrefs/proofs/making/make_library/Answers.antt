@@ -1,0 +1,8 @@
+use Rattle.juses.specs.Tables.{pool_at}
+use Rattle.jrefs.proofs.Using.{made_library}
+use Rattle.jrefs.proofs.making.make_library.Goals as goal
+
+pub returns-clause-row : goal.returns-clause-row
+returns-clause-row g c =
+    made_library c.args.x.now c.args.frames.now.newest c.new_library.new.frames.newest c.args.heap.now c.new_library.new.heap c.requires.lasting c.new_library.result
+    (pool_at c.args.x.now.ancestors.now c.args.frames.now.newest.method.class) c.args.pool c.args.class c.requires.exact c.new_library.ensures.row
