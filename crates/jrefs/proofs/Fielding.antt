@@ -234,6 +234,9 @@ no_some g o b none e = let both : None ≡ Some b = sym (ap (option_map g) none)
 pub the_some : {A B : Type 0} (g : A → B) (o : Option A) (y : A) (b : B) → o ≡ Some y → option_map g o ≡ Some b → b ≡ g y
 the_some g o y b some e = let both : Some (g y) ≡ Some b = sym (ap (option_map g) some) ∙ e in cc
 
+pub never_some : {A B : Type 0} (o : Option A) (a : A) → o ≡ Some a → o ≡ None → B
+never_some o a some none = let both : Some a ≡ None = sym some ∙ none in absurd cc
+
 pub names_at : (p : Program) (m n : MethodId) (a : FieldAt) (f : FieldMeaning) → n ≡ m → NamesField p m.class a f → NamesField p n.class a f
 names_at p m n a f same named = subst (λ (k : MethodId). NamesField p k.class a f) (sym same) named
 

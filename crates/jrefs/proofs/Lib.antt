@@ -5,6 +5,7 @@ pub mod Placed
 pub mod Serving
 pub mod Fielding
 pub mod Making
+pub mod Meaning
 pub mod Running
 pub mod Stores
 pub mod Using

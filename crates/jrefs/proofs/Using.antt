@@ -1,6 +1,6 @@
 -- Rows of the other instructions, as they are told what their operands are.
 use Rattle.std.proofs.Common.{◌≡◌, ◌∙◌, ℕ, Bool, true, false, List, [], ◌∷◌, Option, Some, None, refl, sym, ap, subst}
-use Rattle.std.specs.Prelude.{Err, IfOk, Ok, Result, slice_get}
+use Rattle.std.specs.Prelude.{Err, IfOk, Ok, Result, option_and_then, option_map, slice_get, if◌then◌else◌}
 use Rattle.jcode.specs.declared.form.ArrayForm.TheVariants as arrays
 use Rattle.jcode.specs.declared.form.PoolForm.TheVariants as forms
 use Rattle.jcode.specs.declared.names.CastOp.{CastOp}
@@ -16,7 +16,12 @@ use Rattle.jpool.specs.declared.entry.Entry.{Entry}
 use Rattle.jprogram.specs.declared.member.Member.{Member}
 use Rattle.jprogram.specs.declared.member.Member.TheVariants as members
 use Rattle.jprogram.specs.declared.part.ClassRef.TheVariants as refs
+use Rattle.jprogram.specs.declared.member.MethodId.{MethodId}
 use Rattle.jprogram.specs.Classes.{Program}
+use Rattle.jprogram.specs.Members.{is_static}
+use Rattle.jreferring.specs.References.{takes_static}
+use Rattle.jrule.specs.Effects.{Fits}
+use Rattle.jrule.specs.Uses.{exchange}
 use Rattle.jtypes.specs.declared.vtype.Name.{Name}
 use Rattle.jtypes.specs.declared.vtype.VType.{VType}
 use Rattle.jtypes.specs.declared.vtype.VType.TheVariants as types
@@ -24,16 +29,26 @@ use Rattle.juses.specs.Instructions as instructions
 use Rattle.juses.specs.Instructions.{Instruction}
 use Rattle.juses.specs.Meanings as meanings
 use Rattle.juses.specs.Meanings.{FieldMeaning, Make, meant}
-use Rattle.juses.specs.Types.{array_named, class_named}
+use Rattle.juses.specs.declared.types.TypeRef.{TypeRef}
+use Rattle.juses.specs.Tables.{pool_at}
+use Rattle.juses.specs.Types.{array_named, class_named, named}
+use Rattle.jlayout.specs.Layout.{slot}
+use Rattle.jlink.specs.Fields.{IsNamedField}
 use Rattle.jmachine.specs.Acts.{FrameOf}
+use Rattle.jmachine.specs.Doing.{doing, used}
+use Rattle.jmachine.specs.Fields.{field}
+use Rattle.jmachine.specs.Frames.{with_operands}
+use Rattle.jmachine.specs.Operands.{serves, taken}
 use Rattle.jmachine.specs.Sites.{Site}
 use Rattle.jmachine.specs.Store.{Store}
 use Rattle.jmachine.specs.World.{World, world}
 use Rattle.jready.specs.Exact.{MakesArray}
+use Rattle.jready.specs.Only.{only_cast}
 use Rattle.jstate.specs.declared.shapes.Shapes.{Shapes}
 use Rattle.jstate.specs.Seen.{Things, array_at, store_by}
-use Rattle.jacts.specs.Ways.{Acts, ActsWhere, leaves}
+use Rattle.jacts.specs.Ways.{Acts, ActsWhere, Comes, leaves}
 use Rattle.jacts.specs.declared.way.Way.{Way}
+use Rattle.jacts.specs.declared.way.Way.TheVariants as ways
 use Rattle.jcalls.specs.declared.ready.Counts.{Counts}
 use Rattle.jobjs.specs.Branching.{ServeTest}
 use Rattle.jobjs.specs.Made.{HasShape}
@@ -141,3 +156,95 @@ module _ (x : Lasting) {E : Type 0} (fr g : FrameOf ℕ E) (h k : Heaped) where
         → SeenActs x counts (instructions.Jump (instructions.IfRef test) to) fr h way g h
     branch_row test to serve serves did others constants seen r at own entries inherited site =
         did (seen_in others constants) r at own entries inherited (serves others constants at seen site.world)
+
+    -- a branch by its test, as it is known
+    pub branch_as : (test other : RefTest) → test ≡ other → (to : ℕ) (serve : Bool)
+        → ((others : Things) (constants : List (List ℕ × ℕ)) (at : Site) → AreSeen x counts h.objects others → at.world ≡ world p → ServeTest at (seen_in others constants) test fr.operands serve)
+        → ((s : Store ℕ) → ActsWhere (λ (at : Site) (own : Member → Bool). ServeTest at s other fr.operands serve)
+        (instructions.Jump (instructions.IfRef other) to) fr s (leaves way [] g s))
+        → SeenActs x counts (instructions.Jump (instructions.IfRef test) to) fr h way g h
+    branch_as test other is to serve serves did =
+        subst (λ (t : RefTest). SeenActs x counts (instructions.Jump (instructions.IfRef t) to) fr h way g h) (sym is)
+        (branch_row other to serve
+        (subst (λ (t : RefTest). (others : Things) (constants : List (List ℕ × ℕ)) (at : Site) → AreSeen x counts h.objects others → at.world ≡ world p
+        → ServeTest at (seen_in others constants) t fr.operands serve) is serves) did)
+
+-- ---- the library's field
+
+not_static : (op : FieldOp) → true ≡ takes_static op → op ≡ ops.GetField → ⊥
+not_static op e is = let both : true ≡ false = e ∙ ap takes_static is in cc
+
+not_put : (op : FieldOp) → true ≡ takes_static op → op ≡ ops.PutField → ⊥
+not_put op e is = let both : true ≡ false = e ∙ ap takes_static is in cc
+
+out_static : (p : Program) (op : FieldOp) (f : FieldMeaning) → f.member ≡ members.LibField → IsNamedField p op f → true ≡ takes_static op
+unfolding is_static
+out_static p op f member n = sym (ap (is_static p) member) ∙ n.static
+
+module _ (x : Lasting) (counts : Counts) {E : Type 0} (fr g : FrameOf ℕ E) (h k : Heaped) (op : FieldOp) (f : FieldMeaning) (member : f.member ≡ members.LibField)
+    (n : IsNamedField x.ancestors.now op f) where
+  pub no_get : {A : Type 0} → op ≡ ops.GetField → A
+  no_get is = absurd (not_static op (out_static x.ancestors.now op f member n) is)
+
+  pub no_put : {A : Type 0} → op ≡ ops.PutField → A
+  no_put is = absurd (not_put op (out_static x.ancestors.now op f member n) is)
+
+  world_out : (p : Program) → (world p).slot members.LibField ≡ None
+  unfolding world slot
+  world_out p = refl
+
+  -- it isn't written
+  pub out_put : op ≡ ops.PutStatic → SeenActs x counts (instructions.Used (meanings.Field op f)) fr h ways.Stuck g k
+  out_put is = subst (λ (o : FieldOp). SeenActs x counts (instructions.Used (meanings.Field o f)) fr h ways.Stuck g k) (sym is) stuck
+    where
+      abbrev s : Things → List (List ℕ × ℕ) → Store ℕ
+      s others constants = store_by x.ancestors.now x.shapes.now others constants h
+
+      stuck : SeenActs x counts (instructions.Used (meanings.Field ops.PutStatic f)) fr h ways.Stuck g k
+      unfolding doing used exchange taken field
+      stuck others constants seen r at own entries inherited site = by fr.operands
+        where
+          slot_none : at.world.slot f.member ≡ None
+          slot_none = ap (λ (w : World). w.slot f.member) site.world ∙ ap (world x.ancestors.now).slot member ∙ world_out x.ancestors.now
+
+          by : (xs : List (Value ℕ))
+              → Comes fr (s others constants) (option_and_then (λ t. option_map (λ row. record { frame = with_operands fr t.below; row = row })
+              (field at.world (s others constants) ops.PutStatic f.member t.values)) (taken at.world (s others constants) (Fits f.held ∷ []) xs))
+              (leaves ways.Stuck [] g (store_by x.ancestors.now x.shapes.now others constants k))
+          by [] = refl
+          by (v ∷ rest) = both (serves at.world (s others constants) (Fits f.held) v)
+            where
+              both : (b : Bool)
+                  → Comes fr (s others constants) (option_and_then (λ t. option_map (λ row. record { frame = with_operands fr t.below; row = row })
+                  (field at.world (s others constants) ops.PutStatic f.member t.values)) (if b then Some (record { values = v ∷ []; below = rest }) else None))
+                  (leaves ways.Stuck [] g (store_by x.ancestors.now x.shapes.now others constants k))
+              both false = refl
+              both true = rw slot_none refl
+
+-- `System.out` was pushed, if there was memory
+pub out_got : (x : Lasting) {E : Type 0} (fr g : FrameOf ℕ E) (h : Heaped) (op : FieldOp) → op ≡ ops.GetStatic → {F : Type 0} (result : Result Way F)
+    → IfOk result (λ way. (f : FieldMeaning) (s : Store ℕ) → f.member ≡ members.LibField → Acts (instructions.Used (meanings.Field ops.GetStatic f)) fr s (leaves way [] g s))
+    → IfOk result (λ way. (counts : Counts) (f : FieldMeaning) → f.member ≡ members.LibField → IsNamedField x.ancestors.now op f
+    → SeenActs x counts (instructions.Used (meanings.Field op f)) fr h way g h)
+out_got x fr g h op is (Ok way) did counts f member n =
+    subst (λ (o : FieldOp). SeenActs x counts (instructions.Used (meanings.Field o f)) fr h way g h) (sym is)
+    (λ others constants seen r at own entries inherited site. did f (store_by x.ancestors.now x.shapes.now others constants h) member r at own entries inherited)
+out_got x fr g h op is (Err e) did = tt
+
+-- ---- what was found of a type
+
+pub type_at : (p : Program) (m n : MethodId) (op : CastOp) (i : ℕ) (t : VType) (o : Option TypeRef) → n ≡ m
+    → option_map (named p) o ≡ only_cast (meant p (pool_at p n.class) (forms.Cast op i))
+    → meant p (pool_at p m.class) (forms.Cast op i) ≡ Some (meanings.Cast op t) → option_map (named p) o ≡ Some t
+type_at p m n op i t o same found e =
+    found ∙ ap (λ (k : MethodId). only_cast (meant p (pool_at p k.class) (forms.Cast op i))) same ∙ ap only_cast e
+
+none_of_map : {A B : Type 0} (f : A → B) (o : Option A) → option_map f o ≡ None → o ≡ None
+none_of_map f None e = refl
+none_of_map f (Some a) e = absurd cc
+
+pub none_at : (p : Program) (m n : MethodId) (op : CastOp) (i : ℕ) (o : Option TypeRef) → n ≡ m
+    → option_map (named p) o ≡ only_cast (meant p (pool_at p n.class) (forms.Cast op i))
+    → meant p (pool_at p m.class) (forms.Cast op i) ≡ None → o ≡ None
+none_at p m n op i o same found e =
+    none_of_map (named p) o (found ∙ ap (λ (k : MethodId). only_cast (meant p (pool_at p k.class) (forms.Cast op i))) same ∙ ap only_cast e)
