@@ -8,4 +8,5 @@ pub mod Making
 pub mod Meaning
 pub mod Running
 pub mod Stores
+pub mod Told
 pub mod Using

@@ -1,10 +1,13 @@
 ghost use Rattle.std.specs.Prelude.{◌≡◌, ◌<◌, ◌+◌, ◌^◌, IfOk, OnOk};
-ghost use Rattle.jready.specs.declared.instr.Instr.TheVariants as instrs;
+ghost use Rattle.juses.specs.Instructions as instructions;
+ghost use Rattle.juses.specs.Numbered.{test_of};
+ghost use Rattle.jready.specs.declared.instr.ArrayInstr.TheVariants as arrays;
+ghost use Rattle.jready.specs.Meant.{array_instr, flow_meant};
 ghost use Rattle.jstate.specs.Celled.{AreCelled};
 ghost use Rattle.jstate.specs.Seen.{AreBuilt};
 ghost use Rattle.jobjs.specs.Staying.{Stays};
-ghost use Rattle.jrefs.specs.References.{IsExact, IsFetched, IsFlowHere, IsHere, IsLasting, Runs, RunsAlike, StaysStuck, StoresRef};
-ghost use Rattle.jrefs.specs.Seen.{SeenRuns};
+ghost use Rattle.jrefs.specs.References.{IsExact, IsFetched, IsFlowHere, IsHere, IsLasting, IsRefTest, Runs, RunsAlike, StaysStuck, StoresRef};
+ghost use Rattle.jrefs.specs.Seen.{SeenActs, SeenRuns};
 
 use crate::arrays::store;
 use crate::branches::branch;
@@ -22,7 +25,31 @@ use jstate::Frames;
 use juses::When;
 use std::alloc::{AllocError, Global};
 
-/// What says where the method goes on, where that is a branch that tests references.
+/// A branch that tests references.
+#[inline]
+fn jump<M: Copy>(
+    frames: &mut Frames<M>,
+    heap: &Heap,
+    x: &Lasting<'_, '_>,
+    counts: Counts,
+    when: When,
+    to: u32,
+) -> Way
+    requires place { frames.old.newest.place + 1 < 2 ^ 32 }
+    requires here { IsRefTest when }
+    ensures row { SeenActs x.now counts (instructions.Jump (test_of when) to) frames.old.newest heap.now result frames.new.newest heap.now }
+    ensures stays { Stays result frames.old.newest frames.new.newest }
+    ensures below { frames.new.below ≡ frames.old.below }
+{
+    match when {
+        When::IfRef(test) => branch(frames, heap, x, counts, test, to),
+        When::Always => unreachable!(),
+        When::If(_) => unreachable!(),
+        When::IfInt(_) => unreachable!(),
+    }
+}
+
+/// What says where the method goes on, where that is such a branch.
 #[inline]
 fn flow<M: Copy>(
     frames: &mut Frames<M>,
@@ -33,17 +60,47 @@ fn flow<M: Copy>(
 ) -> Way
     requires place { frames.old.newest.place + 1 < 2 ^ 32 }
     requires here { IsFlowHere f }
-    ensures row { SeenRuns x.now counts (instrs.Flow f) frames.old.newest heap.now result frames.new.newest heap.now }
+    ensures row { SeenActs x.now counts (flow_meant f) frames.old.newest heap.now result frames.new.newest heap.now }
     ensures stays { Stays result frames.old.newest frames.new.newest }
     ensures below { frames.new.below ≡ frames.old.below }
 {
     match f {
-        FlowInstr::Jump(When::IfRef(test), to) => branch(frames, heap, x, counts, test, to),
-        _ => unreachable!(),
+        FlowInstr::Jump(when, to) => jump(frames, heap, x, counts, when, to),
+        FlowInstr::Return(_) => unreachable!(),
+        FlowInstr::Throw => unreachable!(),
     }
 }
 
-/// An instruction with an array, where that is a store of a reference.
+/// A store into an array of references.
+#[inline]
+fn store_of<M: Copy>(
+    frames: &mut Frames<M>,
+    heap: &mut Heap,
+    x: &Lasting<'_, '_>,
+    counts: Counts,
+    element: Element,
+) -> Way
+    requires place { frames.old.newest.place + 1 < 2 ^ 32 }
+    requires here { StoresRef (arrays.Store element) }
+    requires built { AreBuilt heap.old.objects }
+    requires celled { AreCelled x.now.shapes.now heap.old.objects }
+    ensures row { SeenActs x.now counts (array_instr (arrays.Store element)) frames.old.newest heap.old result frames.new.newest heap.new }
+    ensures stays { Stays result frames.old.newest frames.new.newest }
+    ensures below { frames.new.below ≡ frames.old.below }
+    ensures built { AreBuilt heap.new.objects }
+    ensures celled { AreCelled x.now.shapes.now heap.new.objects }
+{
+    match element {
+        Element::Ref => store(frames, heap, x, counts),
+        Element::Int => unreachable!(),
+        Element::Long => unreachable!(),
+        Element::Byte => unreachable!(),
+        Element::Char => unreachable!(),
+        Element::Short => unreachable!(),
+    }
+}
+
+/// An instruction with an array, where that is such a store.
 #[inline]
 fn array<M: Copy>(
     frames: &mut Frames<M>,
@@ -56,15 +113,17 @@ fn array<M: Copy>(
     requires here { StoresRef f }
     requires built { AreBuilt heap.old.objects }
     requires celled { AreCelled x.now.shapes.now heap.old.objects }
-    ensures row { SeenRuns x.now counts (instrs.Array f) frames.old.newest heap.old result frames.new.newest heap.new }
+    ensures row { SeenActs x.now counts (array_instr f) frames.old.newest heap.old result frames.new.newest heap.new }
     ensures stays { Stays result frames.old.newest frames.new.newest }
     ensures below { frames.new.below ≡ frames.old.below }
     ensures built { AreBuilt heap.new.objects }
     ensures celled { AreCelled x.now.shapes.now heap.new.objects }
 {
     match f {
-        ArrayInstr::Store(Element::Ref) => store(frames, heap, x, counts),
-        _ => unreachable!(),
+        ArrayInstr::Store(element) => store_of(frames, heap, x, counts, element),
+        ArrayInstr::New(_) => unreachable!(),
+        ArrayInstr::Load(_) => unreachable!(),
+        ArrayInstr::Length => unreachable!(),
     }
 }
 
