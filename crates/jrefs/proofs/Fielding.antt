@@ -63,7 +63,7 @@ use Rattle.jrefs.specs.Naming.{NamesField}
 use Rattle.jrefs.specs.References.{IsLasting, IsSite}
 use Rattle.jrefs.specs.Seen.{SeenActs, ServesAs}
 use Rattle.jrefs.proofs.Placed.{HasField, cell_below, good, has_field, numbered, static_cell, user_name}
-use Rattle.jrefs.proofs.Serving.{class_extends, holds_only, newest_meets, second_meets, written_either}
+use Rattle.jrefs.proofs.Meets.{class_extends, holds_only, newest_meets, second_meets, written_either}
 
 world_slot : (p : Program) (m : Member) → (world p).slot m ≡ layout.slot p m
 unfolding world

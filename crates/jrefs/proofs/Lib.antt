@@ -1,10 +1,10 @@
-pub mod Looking
+pub mod Finding
 pub mod Kept
 pub mod Below
 pub mod Placed
-pub mod Serving
+pub mod Meets
 pub mod Fielding
-pub mod Making
+pub mod News
 pub mod Meaning
 pub mod Running
 pub mod Stores

@@ -14,7 +14,7 @@ use Rattle.jprogram.specs.Classes.{Program}
 use Rattle.jtypes.specs.declared.vtype.VType.{VType}
 use Rattle.juses.specs.Instructions.{Instruction, Used, instruction_at}
 use Rattle.juses.specs.Meanings as meanings
-use Rattle.juses.specs.Meanings.{AClass, AConstant, AField, AMethod, EntryMeaning, FieldMeaning, Meaning, array_meant, cast_by, entry_meant}
+use Rattle.juses.specs.Meanings.{FieldMeaning, Meaning, array_meant}
 use Rattle.juses.specs.Tables.{pool_at}
 use Rattle.juses.specs.Types.{class_named}
 use Rattle.jlink.specs.Fields.{IsNamedField}
@@ -35,6 +35,7 @@ use Rattle.jrefs.specs.declared.looking.FieldAt.{FieldAt}
 use Rattle.jrefs.specs.Naming.{NamesField}
 use Rattle.jrefs.specs.References.{IsFetched, IsLasting, StaysStuck}
 use Rattle.jrefs.specs.Seen.{SeenActs, SeenRuns}
+use Rattle.jrefs.proofs.News.{cast_meaning}
 
 -- ---- answers, if there was memory
 
@@ -129,18 +130,6 @@ module _ (x : Lasting) (class : ℕ) where
   cast_means op i = refl
 
 -- ---- casts
-
-cast_form : (op : CastOp) (y : EntryMeaning) (m : Meaning) → cast_by op y ≡ Some m → (v : VType) × (m ≡ meanings.Cast op v)
-cast_form op (AConstant c) m e = absurd cc
-cast_form op (AField f) m e = absurd cc
-cast_form op (AMethod b c) m e = absurd cc
-cast_form op (AClass t) m e = (t, cc)
-
-pub cast_meaning : (p : Program) (es : List Entry) (op : CastOp) (i : ℕ) (m : Meaning) → meanings.meant p es (forms.Cast op i) ≡ Some m → (v : VType) × (m ≡ meanings.Cast op v)
-unfolding meanings.meant
-cast_meaning p es op i m e =
-    let y = then_is (cast_by op) (entry_meant p es (slice_get es i)) m e in
-    cast_form op y.0 m y.2
 
 module _ (x : Lasting) (counts : Counts) {E : Type 0} (fr g : FrameOf ℕ E) (h k : Heaped) (op : CastOp) (i : ℕ) where
   pub cast_runs : (way : Way)

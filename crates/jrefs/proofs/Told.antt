@@ -41,6 +41,12 @@ module _ (x : Lasting) (counts : Counts) {E : Type 0} (fr g : FrameOf ℕ E) (h 
       → IfOk result (λ way. StaysStuck x (instrs.Object one) fr way) → IfOk result (λ way. StaysStuck x (instrs.Object f) fr way)
   missing_as f one is result did = subst (λ (o : ObjectInstr). IfOk result (λ way. StaysStuck x (instrs.Object o) fr way)) (sym is) did
 
+  pub as_one : (f one : Instr) → f ≡ one → (way : Way) → SeenRuns x counts one fr h way g k → SeenRuns x counts f fr h way g k
+  as_one f one is way did = subst (λ (o : Instr). SeenRuns x counts o fr h way g k) (sym is) did
+
+  pub missing_one : (f one : Instr) → f ≡ one → (way : Way) → StaysStuck x one fr way → StaysStuck x f fr way
+  missing_one f one is way did = subst (λ (o : Instr). StaysStuck x o fr way) (sym is) did
+
   module _ {F : Type 0} (result : Result Way F) where
     pub runs_all : (one : Instr) (j : Instruction) → meant x.ancestors.now x.ready.now.methods.tables fr.method.class one ≡ Some j
         → IfOk result (λ way. (counts : Counts) → SeenActs x counts j fr h way g k) → IfOk result (λ way. SeenRuns x counts one fr h way g k)

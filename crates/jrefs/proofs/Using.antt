@@ -57,7 +57,7 @@ use Rattle.jobjs.specs.Stored.{MayStore, ServeStore}
 use Rattle.jrefs.specs.declared.lasting.Lasting.{Lasting}
 use Rattle.jrefs.specs.References.{IsLasting, IsSite}
 use Rattle.jrefs.specs.Seen.{AreSeen, SeenActs, ServesAs}
-use Rattle.jrefs.proofs.Making.{array_is, is_part, library_class, user_class, user_shape}
+use Rattle.jrefs.proofs.News.{array_is, is_part, library_class, user_class, user_shape}
 
 module _ (x : Lasting) {E : Type 0} (fr g : FrameOf ℕ E) (h k : Heaped) where
   abbrev p : Program

@@ -97,6 +97,7 @@ fn is_place(x: &Lasting<'_, '_>, class: u32) -> bool
 
 /// The class by which a field is named that an instruction of a class names.
 #[inline]
+#[tactic(auto, using(crate::proofs::Finding::owner_place, crate::proofs::Finding::owner_used, crate::proofs::Finding::never_none))]
 pub(crate) fn owner_of(x: &Lasting<'_, '_>, class: u32, a: FieldAt) -> Option<ClassRef>
     requires { IsLasting x.now }
     ensures { (f : FieldMeaning) → NamesField x.now.ancestors.now class a f → option_map (class_named x.now.ancestors.now) result ≡ Some f.owner }
@@ -111,6 +112,7 @@ pub(crate) fn owner_of(x: &Lasting<'_, '_>, class: u32, a: FieldAt) -> Option<Cl
 }
 
 /// The type by which it is named, at its entry.
+#[tactic(auto, using(crate::proofs::Finding::held_used, crate::proofs::Finding::never_none))]
 fn held_at(x: &Lasting<'_, '_>, class: u32, a: FieldAt) -> Option<TypeRef>
     requires { IsLasting x.now }
     ensures { (f : FieldMeaning) → NamesField x.now.ancestors.now class a f → option_map (named x.now.ancestors.now) result ≡ Some f.held }
@@ -123,6 +125,7 @@ fn held_at(x: &Lasting<'_, '_>, class: u32, a: FieldAt) -> Option<TypeRef>
 
 /// The same, which its cell tells of a number.
 #[inline]
+#[tactic(auto, using(crate::proofs::Finding::held_int, crate::proofs::Finding::held_long))]
 pub(crate) fn held_of(x: &Lasting<'_, '_>, class: u32, a: FieldAt) -> Option<TypeRef>
     requires { IsLasting x.now }
     ensures { (f : FieldMeaning) → NamesField x.now.ancestors.now class a f → option_map (named x.now.ancestors.now) result ≡ Some f.held }
@@ -163,6 +166,7 @@ fn is_own(x: &Lasting<'_, '_>, m: MethodId, field: Member) -> bool
 }
 
 /// The same of the field that an instruction of a method names.
+#[tactic(auto, using(crate::proofs::Finding::own_used, crate::proofs::Finding::never_none))]
 pub(crate) fn writes_own(x: &Lasting<'_, '_>, m: MethodId, a: FieldAt) -> bool
     requires { IsLasting x.now }
     ensures { (f : FieldMeaning) → NamesField x.now.ancestors.now m.class a f → result ≡ own_fields x.now.ancestors.now m f.member }

@@ -1,4 +1,4 @@
-use Rattle.jrefs.proofs.Looking.{whole}
+use Rattle.jrefs.proofs.Finding.{whole}
 use Rattle.jrefs.proofs.fields.element_of.Goals as goal
 
 pub returns-in-Whole : goal.returns-in-Whole

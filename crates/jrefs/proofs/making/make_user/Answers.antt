@@ -1,5 +1,5 @@
 use Rattle.juses.specs.Tables.{pool_at}
-use Rattle.jrefs.proofs.Making.{few, is_part}
+use Rattle.jrefs.proofs.News.{few, is_part}
 use Rattle.jrefs.proofs.Using.{made_user}
 use Rattle.jrefs.proofs.making.make_user.Goals as goal
 

@@ -1,4 +1,4 @@
-use Rattle.std.proofs.Common.{subst}
+use Rattle.std.proofs.Common.{ap, subst}
 use Rattle.juses.specs.Instructions.{Used}
 use Rattle.juses.specs.Meanings as meanings
 use Rattle.juses.specs.Types.{class_named, named}
@@ -9,7 +9,7 @@ use Rattle.jready.specs.declared.instr.ObjectInstr.{ObjectInstr}
 use Rattle.jready.specs.declared.instr.ObjectInstr.TheVariants as object
 use Rattle.jrefs.specs.References.{IsExact, IsFetched}
 use Rattle.jrefs.proofs.Meaning.{array_means, cast_missing, cast_runs, class_means, library_means, new_means, not_missing, out_means, runs_by}
-use Rattle.jrefs.proofs.Told.{array_runs, as_it, missing_as, never_missing, out_runs, runs_all}
+use Rattle.jrefs.proofs.Told.{array_runs, as_it, as_one, missing_as, missing_one, never_missing, out_runs, runs_all}
 use Rattle.jrefs.proofs.objects.object.Goals as goal
 
 pub make_user-requires-clause-exact : goal.make_user-requires-clause-exact
@@ -82,7 +82,8 @@ returns-in-CastClass-clause-row g c =
     let exact = subst (λ (o : ObjectInstr). IsExact x (instrs.Object o) f) c.in-CastClass.is c.requires.exact in
     let one = object.CastClass c.in-CastClass.op c.in-CastClass.pool c.in-CastClass.class in
     let m = meanings.Cast c.in-CastClass.op (named x.ancestors.now (types.Object (refs.User c.in-CastClass.class))) in
-    as_it x c.args.counts f c.cast.new.frames.newest c.args.heap.now c.args.heap.now c.args.f one c.in-CastClass.is _
+    as_one x c.args.counts f c.cast.new.frames.newest c.args.heap.now c.args.heap.now (instrs.Object c.args.f) (instrs.Object one)
+    (ap (λ (o : ObjectInstr). instrs.Object o) c.in-CastClass.is) c.cast.result
     (runs_by x c.args.counts (instrs.Object one) f c.cast.new.frames.newest c.args.heap.now c.args.heap.now (Used m)
     (class_means x f.method.class c.in-CastClass.op c.in-CastClass.pool c.in-CastClass.class m exact) c.cast.result c.cast.ensures.row)
 
@@ -93,7 +94,8 @@ returns-in-CastClass-clause-missing g c =
     let exact = subst (λ (o : ObjectInstr). IsExact x (instrs.Object o) f) c.in-CastClass.is c.requires.exact in
     let one = object.CastClass c.in-CastClass.op c.in-CastClass.pool c.in-CastClass.class in
     let m = meanings.Cast c.in-CastClass.op (named x.ancestors.now (types.Object (refs.User c.in-CastClass.class))) in
-    missing_as x c.args.counts f f c.args.heap.now c.args.heap.now c.args.f one c.in-CastClass.is _
+    missing_one x c.args.counts f f c.args.heap.now c.args.heap.now (instrs.Object c.args.f) (instrs.Object one)
+    (ap (λ (o : ObjectInstr). instrs.Object o) c.in-CastClass.is) c.cast.result
     (not_missing x c.args.counts (instrs.Object one) f f c.args.heap.now c.args.heap.now (Used m)
     (class_means x f.method.class c.in-CastClass.op c.in-CastClass.pool c.in-CastClass.class m exact) c.cast.result)
 
@@ -101,14 +103,16 @@ pub returns-in-Cast-clause-row : goal.returns-in-Cast-clause-row
 returns-in-Cast-clause-row g c =
     let x = c.args.x.now in
     let f = c.args.frames.now.newest in
-    as_it x c.args.counts f c.cast_named.new.frames.newest c.args.heap.now c.args.heap.now c.args.f (object.Cast c.in-Cast.op c.in-Cast.pool) c.in-Cast.is _
+    as_one x c.args.counts f c.cast_named.new.frames.newest c.args.heap.now c.args.heap.now (instrs.Object c.args.f)
+    (instrs.Object (object.Cast c.in-Cast.op c.in-Cast.pool)) (ap (λ (o : ObjectInstr). instrs.Object o) c.in-Cast.is) c.cast_named.result
     (cast_runs x c.args.counts f c.cast_named.new.frames.newest c.args.heap.now c.args.heap.now c.in-Cast.op c.in-Cast.pool c.cast_named.result c.cast_named.ensures.row)
 
 pub returns-in-Cast-clause-missing : goal.returns-in-Cast-clause-missing
 returns-in-Cast-clause-missing g c =
     let x = c.args.x.now in
     let f = c.args.frames.now.newest in
-    missing_as x c.args.counts f f c.args.heap.now c.args.heap.now c.args.f (object.Cast c.in-Cast.op c.in-Cast.pool) c.in-Cast.is _
+    missing_one x c.args.counts f f c.args.heap.now c.args.heap.now (instrs.Object c.args.f)
+    (instrs.Object (object.Cast c.in-Cast.op c.in-Cast.pool)) (ap (λ (o : ObjectInstr). instrs.Object o) c.in-Cast.is) c.cast_named.result
     (cast_missing x c.args.counts f f c.args.heap.now c.args.heap.now c.in-Cast.op c.in-Cast.pool c.cast_named.result c.cast_named.ensures.missing)
 
 pub returns-in-Out-clause-row : goal.returns-in-Out-clause-row

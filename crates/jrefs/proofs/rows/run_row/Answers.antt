@@ -5,14 +5,14 @@ use Rattle.jready.specs.Meant.{array_instr, flow_meant}
 use Rattle.jrefs.specs.declared.looking.FieldAt.{FieldAt}
 use Rattle.jrefs.specs.References.{IsExact, IsFetched}
 use Rattle.jrefs.proofs.Meaning.{not_missing, runs_by}
-use Rattle.jrefs.proofs.Told.{field_missing, field_runs, flow_means, missing_is, row_as, row_means}
+use Rattle.jrefs.proofs.Told.{as_one, field_missing, field_runs, flow_means, missing_is, missing_one, row_as, row_means}
 use Rattle.jrefs.proofs.rows.run_row.Goals as goal
 
 pub returns-in-Flow-clause-row : goal.returns-in-Flow-clause-row
 returns-in-Flow-clause-row g c =
     let x = c.args.x.now in
     let f = c.args.frames.now.newest in
-    row_as x c.args.counts f c.flow.new.frames.newest c.args.heap.now c.args.heap.now _ c.args.one (instrs.Flow c.in-Flow.f) c.in-Flow.is
+    as_one x c.args.counts f c.flow.new.frames.newest c.args.heap.now c.args.heap.now c.args.one (instrs.Flow c.in-Flow.f) c.in-Flow.is c.flow.result
     (runs_by x c.args.counts (instrs.Flow c.in-Flow.f) f c.flow.new.frames.newest c.args.heap.now c.args.heap.now (flow_meant c.in-Flow.f)
     (flow_means x f.method.class c.in-Flow.f) c.flow.result c.flow.ensures.row)
 
@@ -20,14 +20,14 @@ pub returns-in-Flow-clause-missing : goal.returns-in-Flow-clause-missing
 returns-in-Flow-clause-missing g c =
     let x = c.args.x.now in
     let f = c.args.frames.now.newest in
-    missing_is x c.args.counts f f c.args.heap.now c.args.heap.now _ c.args.one (instrs.Flow c.in-Flow.f) c.in-Flow.is
+    missing_one x c.args.counts f f c.args.heap.now c.args.heap.now c.args.one (instrs.Flow c.in-Flow.f) c.in-Flow.is c.flow.result
     (not_missing x c.args.counts (instrs.Flow c.in-Flow.f) f f c.args.heap.now c.args.heap.now (flow_meant c.in-Flow.f) (flow_means x f.method.class c.in-Flow.f) c.flow.result)
 
 pub returns-in-Array-clause-row : goal.returns-in-Array-clause-row
 returns-in-Array-clause-row g c =
     let x = c.args.x.now in
     let f = c.args.frames.now.newest in
-    row_as x c.args.counts f c.array.new.frames.newest c.args.heap.now c.array.new.heap _ c.args.one (instrs.Array c.in-Array.f) c.in-Array.is
+    as_one x c.args.counts f c.array.new.frames.newest c.args.heap.now c.array.new.heap c.args.one (instrs.Array c.in-Array.f) c.in-Array.is c.array.result
     (runs_by x c.args.counts (instrs.Array c.in-Array.f) f c.array.new.frames.newest c.args.heap.now c.array.new.heap (array_instr c.in-Array.f)
     (row_means x f.method.class c.in-Array.f) c.array.result c.array.ensures.row)
 
@@ -35,7 +35,7 @@ pub returns-in-Array-clause-missing : goal.returns-in-Array-clause-missing
 returns-in-Array-clause-missing g c =
     let x = c.args.x.now in
     let f = c.args.frames.now.newest in
-    missing_is x c.args.counts f f c.args.heap.now c.args.heap.now _ c.args.one (instrs.Array c.in-Array.f) c.in-Array.is
+    missing_one x c.args.counts f f c.args.heap.now c.args.heap.now c.args.one (instrs.Array c.in-Array.f) c.in-Array.is c.array.result
     (not_missing x c.args.counts (instrs.Array c.in-Array.f) f f c.args.heap.now c.args.heap.now (array_instr c.in-Array.f) (row_means x f.method.class c.in-Array.f) c.array.result)
 
 pub returns-in-Field-clause-row : goal.returns-in-Field-clause-row

@@ -7,7 +7,7 @@ use Rattle.jmachine.specs.Steps.{own_fields}
 use Rattle.jstate.specs.Seen.{store_by}
 use Rattle.jobjs.specs.Serving.{Serve}
 use Rattle.jrefs.proofs.Fielding.{names_at}
-use Rattle.jrefs.proofs.Serving.{write_either}
+use Rattle.jrefs.proofs.Meets.{write_either}
 use Rattle.jrefs.proofs.serving.serves_write.Goals as goal
 
 pub returns-then-serves_by : goal.returns-then-serves_by

@@ -4,6 +4,7 @@ use Rattle.std.specs.Prelude.{is_some, nat_lt, option_and_then, option_map, slic
 use Rattle.std.specs.Str.{bytes_eq}
 use Rattle.std.proofs.lemmas.Option.{slice_get_within}
 use Rattle.jcode.specs.declared.form.PoolForm.TheVariants as forms
+use Rattle.jcode.specs.declared.names.CastOp.{CastOp}
 use Rattle.jlib.specs.declared.classes.LibClass.{LibClass}
 use Rattle.jlib.specs.Classes as library
 use Rattle.jpool.specs.declared.descriptor.Descriptor.{Descriptor}
@@ -29,7 +30,7 @@ use Rattle.jtypes.specs.Described.{in_brackets}
 use Rattle.juses.specs.declared.types.ArrayRef.{ArrayRef}
 use Rattle.juses.specs.declared.types.ElementRef.TheVariants as held
 use Rattle.juses.specs.Meanings as meanings
-use Rattle.juses.specs.Meanings.{AClass, AConstant, AField, AMethod, EntryMeaning, Make, class_meant, entry_meant, field_entry, made, meant, method_entry, reference, used}
+use Rattle.juses.specs.Meanings.{AClass, AConstant, AField, AMethod, Cast, EntryMeaning, Make, Meaning, cast_by, class_meant, entry_meant, field_entry, made, meant, method_entry, reference, used}
 use Rattle.juses.specs.Tables.{Grows}
 use Rattle.juses.specs.Typed.{class_by, class_of, class_type, element_in, is_context, name, there, type_in, type_of}
 use Rattle.juses.specs.Types.{array_named, class_named}
@@ -134,6 +135,20 @@ unfolding meant
 made_there p es i c e =
     let x = then_is (used (forms.New i)) (entry_meant p es (slice_get es i)) (Make c) e in
     entry_there p es (slice_get es i) c (x.1 ∙ ap (λ (y : EntryMeaning). Some y) (made_is x.0 c x.2))
+
+-- ---- casts
+
+cast_form : (op : CastOp) (y : EntryMeaning) (m : Meaning) → cast_by op y ≡ Some m → (v : VType) × (m ≡ Cast op v)
+cast_form op (AConstant c) m e = absurd cc
+cast_form op (AField f) m e = absurd cc
+cast_form op (AMethod b c) m e = absurd cc
+cast_form op (AClass t) m e = (t, cc)
+
+pub cast_meaning : (p : Program) (es : List Entry) (op : CastOp) (i : ℕ) (m : Meaning) → meant p es (forms.Cast op i) ≡ Some m → (v : VType) × (m ≡ Cast op v)
+unfolding meant
+cast_meaning p es op i m e =
+    let y = then_is (used (forms.Cast op i)) (entry_meant p es (slice_get es i)) m e in
+    cast_form op y.0 m y.2
 
 -- ---- its number
 
