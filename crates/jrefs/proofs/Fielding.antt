@@ -179,7 +179,7 @@ module _ (x : Lasting) (l : IsLasting x) (counts : Counts) {E : Type 0} (fr : Fr
                 (sym e ∙ ap (target_seen h) (next fr.operands))
                 (subst (λ (w : World). is_some (taken w (seen things constants) (Fits f.held ∷ written (own f.member) (at.world.named at.class) f.owner ∷ []) fr.operands) ≡ true) site.world serve) in
                 celled c (written_either p (class_numbered c) (own f.member) (at.world.named at.class) f.owner fit (below_owner c)
-                (λ is one. below_this c (at.world.named at.class) (ap (λ (m : Name). m.0) this ∙ own_named (sym (site.own f.member) ∙ is)) one));
+                (λ is one. below_this c (at.world.named at.class) (ap (λ (m : Name). m.0) this ∙ own_named (sym (site.owns f.member) ∙ is)) one));
           }
 
     -- what else a write is told

@@ -1,6 +1,6 @@
 -- What instructions by number stand for that are here.
 use Rattle.std.proofs.Common.{◌≡◌, ◌∙◌, ℕ, Bool, true, false, List, Option, Some, None, refl, sym, ap, subst}
-use Rattle.std.specs.Prelude.{Err, IfOk, Ok, Result, option_and_then, option_map, slice_get, if◌then◌else◌}
+use Rattle.std.specs.Prelude.{Err, IfOk, Ok, OnOk, Result, option_and_then, option_map, slice_get, if◌then◌else◌}
 use Rattle.jcode.specs.declared.form.PoolForm.TheVariants as forms
 use Rattle.jcode.specs.declared.names.CastOp.{CastOp}
 use Rattle.jcode.specs.declared.names.FieldOp.{FieldOp}
@@ -46,6 +46,10 @@ map_ok (Err e) f h = tt
 pub all_ok : {A F : Type 0} {Q : A → Type 0} (r : Result A F) → ((a : A) → Q a) → IfOk r Q
 all_ok (Ok a) f = f a
 all_ok (Err e) f = tt
+
+pub on_ok : {A F P Q : Type 0} (r : Result A F) → (P → Q) → OnOk r P → OnOk r Q
+on_ok (Ok a) f h = f h
+on_ok (Err e) f h = tt
 
 -- ---- one instruction
 

@@ -37,7 +37,7 @@ module _ (x : Lasting) (counts : Counts) (one : Instr) {E : Type 0} (f g : Frame
           rows x.ancestors.now x.shapes.now things h k f g way [] [] [] i site (own_fields x.ancestors.now f.method)
           (λ others alike r entries inherited.
           did i is others [] (record { things = things; counted = counted; alike = alike }) r site (own_fields x.ancestors.now f.method) entries inherited
-          (record { world = refl; class = refl; own = λ field. refl }))
+          (record { world = refl; class = refl; owns = λ field. refl }))
 
   pub runs_alike : {F : Type 0} → RowsStayAlike E → (r : Result Way F) → IfOk r (λ way. SeenRuns x counts one f h way g k) → IfOk r (λ way. StaysStuck x one f way)
       → IfOk r (λ way. RunsAlike x counts way h.objects k.objects)

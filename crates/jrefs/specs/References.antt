@@ -81,7 +81,7 @@ IsExact x one f = Exact x.ancestors.now x.ready.now.uses.types x.ready.now.metho
 pub record IsSite (p : Program) (m : MethodId) (at : Site) (own : Member → Bool) : Type 0 where
   pub world : at.world ≡ world p
   pub class : at.class ≡ m.class
-  pub own : (field : Member) → own field ≡ own_fields p m field
+  pub owns : (field : Member) → own field ≡ own_fields p m field
 
 -- ---- what was done
 

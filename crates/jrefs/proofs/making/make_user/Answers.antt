@@ -1,5 +1,6 @@
 use Rattle.juses.specs.Tables.{pool_at}
 use Rattle.jrefs.proofs.News.{few, is_part}
+use Rattle.jrefs.proofs.Meaning.{on_ok}
 use Rattle.jrefs.proofs.Using.{made_user}
 use Rattle.jrefs.proofs.making.make_user.Goals as goal
 
@@ -15,3 +16,6 @@ pub returns-clause-row : goal.returns-clause-row
 returns-clause-row g c =
     made_user c.args.x.now c.args.frames.now.newest c.new_object.new.frames.newest c.args.heap.now c.new_object.new.heap c.requires.lasting c.new_object.result
     (pool_at c.args.x.now.ancestors.now c.args.frames.now.newest.method.class) c.args.pool c.args.class c.requires.exact c.new_object.ensures.row
+
+pub returns-clause-celled : goal.returns-clause-celled
+returns-clause-celled g c = on_ok c.new_object.result (λ keeps. keeps c.requires.celled) c.new_object.ensures.celled

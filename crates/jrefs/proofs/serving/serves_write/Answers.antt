@@ -21,5 +21,5 @@ pub returns : goal.returns
 returns g c f n owned holds others constants at own seen site =
     let p = c.args.x.now.ancestors.now in
     c.serves_by-2.ensures f owned holds others constants at own seen site.world site.class
-    (site.own f.member ∙ ap (λ (m : MethodId). own_fields p m f.member) (sym c.method-m.ensures)
+    (site.owns f.member ∙ ap (λ (m : MethodId). own_fields p m f.member) (sym c.method-m.ensures)
     ∙ sym (c.writes_own-own.ensures f (names_at p c.args.frames.now.newest.method c.method-m.result c.args.a f c.method-m.ensures n)))
