@@ -1,5 +1,5 @@
 -- What an instruction by number with references did that the machine's definition has a row for.
-use Rattle.std.specs.Prelude.{◌≡◌, ◌<◌, ◌+◌, ◌^◌, ⊤, ℕ, List, [], Some, None, length, slice_get}
+use Rattle.std.specs.Prelude.{◌≡◌, ◌<◌, ◌+◌, ◌^◌, ⊤, ℕ, Bool, List, [], Some, None, length, slice_get}
 use Rattle.jcode.specs.declared.names.Element.TheVariants as items
 use Rattle.jheap.specs.Heaps as heaps
 use Rattle.jheap.specs.Heaps.{Heaped}
