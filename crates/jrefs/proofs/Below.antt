@@ -31,10 +31,10 @@ module _ (p : Program) (good : StandsInOrder p) where
   IsNoUser c = (i : ℕ) → option_map ref_of (find p c) ≡ Some (refs.User i) → ⊥
 
   above_no_user : (c a : List ℕ) → IsNoUser c → above_name p c ≡ Some a → IsNoUser a
-  above_no_user c a no is = by (stands p c)
+  above_no_user c a not-one is = by (stands p c)
     where
       by : Stands p c → IsNoUser a
-      by (Users i part at own found) = absurd (no i (ap (option_map ref_of) found))
+      by (Users i part at own found) = absurd (not-one i (ap (option_map ref_of) found))
       by (Nowhere none) = let never : None ≡ Some a = sym (ap (option_and_then above) none) ∙ is in absurd cc
       by (Libs l called found) =
           let all = subst (λ (o : Option (List ℕ)). AllByRecursion (LibStep p (not_taken p good) l) (option_to_list o ++ face_names p c)) is (lib_steps p (not_taken p good) l c found) in
@@ -46,15 +46,15 @@ module _ (p : Program) (good : StandsInOrder p) where
   onward_no_user : (n : ℕ) (c d : List ℕ) (o : Option (List ℕ)) → above_name p c ≡ o → IsNoUser c
       → ((a : List ℕ) → IsNoUser a → list_any (bytes_eq d) (chain p n a) ≡ true → IsNoUser d)
       → list_any (bytes_eq d) (onward (chain p n) o) ≡ true → IsNoUser d
-  onward_no_user n c d None is no more e = absurd cc
-  onward_no_user n c d (Some a) is no more e = more a (above_no_user c a no is) e
+  onward_no_user n c d None is not-one more e = absurd cc
+  onward_no_user n c d (Some a) is not-one more e = more a (above_no_user c a not-one is) e
 
   chain_no_user : (n : ℕ) (c d : List ℕ) → IsNoUser c → list_any (bytes_eq d) (chain p n c) ≡ true → IsNoUser d
   unfolding chain
-  chain_no_user zero c d no e = absurd cc
-  chain_no_user (suc n) c d no e = elim (or_split (bytes_eq d c) (list_any (bytes_eq d) (onward (chain p n) (above_name p c))) e) [
-    | inl same ↦ subst IsNoUser (sym (name_is d c same)) no
-    | inr far ↦ onward_no_user n c d (above_name p c) refl no (λ a none h. chain_no_user n a d none h) far
+  chain_no_user zero c d not-one e = absurd cc
+  chain_no_user (suc n) c d not-one e = elim (or_split (bytes_eq d c) (list_any (bytes_eq d) (onward (chain p n) (above_name p c))) e) [
+    | inl same ↦ subst IsNoUser (sym (name_is d c same)) not-one
+    | inr far ↦ onward_no_user n c d (above_name p c) refl not-one (λ a none h. chain_no_user n a d none h) far
   ]
 
   object_no_user : IsNoUser object
@@ -65,9 +65,9 @@ module _ (p : Program) (good : StandsInOrder p) where
   -- what stands above one that isn't a user's isn't either
   pub above_is_no_user : (c d : List ℕ) → extends p c d ≡ true → IsNoUser c → IsNoUser d
   unfolding extends
-  above_is_no_user c d e no = elim (or_split (bytes_eq d object) (list_any (bytes_eq d) (up p c)) e) [
+  above_is_no_user c d e not-one = elim (or_split (bytes_eq d object) (list_any (bytes_eq d) (up p c)) e) [
     | inl top ↦ subst IsNoUser (sym (name_is d object top)) object_no_user
-    | inr far ↦ chain_no_user (length (known p) + 1) c d no far
+    | inr far ↦ chain_no_user (length (known p) + 1) c d not-one far
   ]
 
   pub lib_no_user : (l : LibClass) → IsNoUser (library.name_of l)

@@ -208,20 +208,17 @@ module _ (x : Lasting) (l : IsLasting x) (counts : Counts) {E : Type 0} (fr : Fr
         unfolding doing used exchange taken field
         put_past g k things constants counted r at own entries inherited site = by fr.operands
           where
-            abbrev s : Store ℕ
-            s = seen things constants
-
-            inside : nat_lt a.slot (length s.statics) ≡ false
-            inside = none_lt s.statics a.slot past_all
+            inside : nat_lt a.slot (length (seen things constants).statics) ≡ false
+            inside = none_lt (seen things constants).statics a.slot past_all
 
             by : (xs : List (Value ℕ))
-                → Comes fr s (option_and_then (λ t. option_map (λ row. record { frame = with_operands fr t.below; row = row }) (field at.world s ops.PutStatic f.member t.values))
-                (taken at.world s (Fits f.held ∷ []) xs)) (leaves ways.Stuck [] g (store_by p x.shapes.now things constants k))
+                → Comes fr (seen things constants) (option_and_then (λ t. option_map (λ row. record { frame = with_operands fr t.below; row = row }) (field at.world (seen things constants) ops.PutStatic f.member t.values))
+                (taken at.world (seen things constants) (Fits f.held ∷ []) xs)) (leaves ways.Stuck [] g (store_by p x.shapes.now things constants k))
             by [] = refl
-            by (v ∷ rest) = both (serves at.world s (Fits f.held) v)
+            by (v ∷ rest) = both (serves at.world (seen things constants) (Fits f.held) v)
               where
                 both : (b : Bool)
-                    → Comes fr s (option_and_then (λ t. option_map (λ row. record { frame = with_operands fr t.below; row = row }) (field at.world s ops.PutStatic f.member t.values))
+                    → Comes fr (seen things constants) (option_and_then (λ t. option_map (λ row. record { frame = with_operands fr t.below; row = row }) (field at.world (seen things constants) ops.PutStatic f.member t.values))
                     (if b then Some (record { values = v ∷ []; below = rest }) else None)) (leaves ways.Stuck [] g (store_by p x.shapes.now things constants k))
                 both false = refl
                 both true = rw (slot_is at own site, inside) refl

@@ -70,8 +70,8 @@ module _ (w : World) where
   ready_meets want false t e = cc
 
   never_found : (want : Want) → ((y : Object ℕ) → meets w want (class_of w.named y) ≡ false) → (o : Option (Object ℕ)) → serves_as w want (found_type w o) ≡ true → ⊥
-  never_found want no None e = cc
-  never_found want no (Some y) e = let both : true ≡ false = sym (ready_meets want (objects.is_ready y) (class_of w.named y) e) ∙ no y in cc
+  never_found want not-so None e = cc
+  never_found want not-so (Some y) e = let both : true ≡ false = sym (ready_meets want (objects.is_ready y) (class_of w.named y) e) ∙ not-so y in cc
 
   module _ (s : Store ℕ) where
     ref_no_int : (n : ℕ) → serves_as w (Fits types.Int) (reference_type w s n) ≡ true → ⊥
@@ -145,7 +145,7 @@ module _ (p : Program) (r : ClassRef) where
       → (fits (world p) (types.Object (class_named p r)) (types.Object owner) ≡ true → A)
       → (own ≡ true → fits (world p) (types.Object (class_named p r)) (types.Object this) ≡ true → A) → A
   written_either false this owner e one two = one e
-  written_either true this owner e one two =
+  written_either {A = A} true this owner e one two =
       by (fits (world p) (types.Object (class_named p r)) (types.Object owner)) refl
     where
       by : (b : Bool) → fits (world p) (types.Object (class_named p r)) (types.Object owner) ≡ b → A

@@ -160,7 +160,7 @@ module _ (x : Lasting) (l : IsLasting x) where
       where
         by : (o : Option CodePart) → slice_get p.parts j ≡ o → CellAt x (refs.User j) s cell
         by None none =
-            let nobody : IsNoUser p [] = λ i is.
+            let nobody : IsNoUser p good [] = λ i is.
             let never : None ≡ Some (refs.User i) = sym (ap (option_map ref_of) (find_unnamed p good names)) ∙ is in
             cc in
             absurd (above_is_no_user p good [] (name_at p (refs.User h.class))

@@ -24,7 +24,7 @@ module _ (x : Lasting) (counts : Counts) (one : Instr) {E : Type 0} (f g : Frame
   runs (Ok way) did = λ i is things constants counted. did i is things constants (record { things = things; counted = counted; alike = refl })
   runs (Err e) did = tt
 
-  site : Site
+  abbrev site : Site
   site = record { world = world x.ancestors.now; class = f.method.class; thread = 0; full = false; cwd = []; table = [] }
 
   alike_by : RowsStayAlike E → (way : Way) → SeenRuns x counts one f h way g k → StaysStuck x one f way → RunsAlike x counts way h.objects k.objects

@@ -193,13 +193,13 @@ module _ (x : Lasting) (counts : Counts) {E : Type 0} (fr g : FrameOf ℕ E) (h 
   unfolding world slot
   world_out p = refl
 
+  abbrev known : Things → List (List ℕ × ℕ) → Store ℕ
+  known others constants = store_by x.ancestors.now x.shapes.now others constants h
+
   -- it isn't written
   pub out_put : op ≡ ops.PutStatic → SeenActs x counts (instructions.Used (meanings.Field op f)) fr h ways.Stuck g k
   out_put is = subst (λ (o : FieldOp). SeenActs x counts (instructions.Used (meanings.Field o f)) fr h ways.Stuck g k) (sym is) stuck
     where
-      abbrev s : Things → List (List ℕ × ℕ) → Store ℕ
-      s others constants = store_by x.ancestors.now x.shapes.now others constants h
-
       stuck : SeenActs x counts (instructions.Used (meanings.Field ops.PutStatic f)) fr h ways.Stuck g k
       unfolding doing used exchange taken field
       stuck others constants seen r at own entries inherited site = by fr.operands
@@ -208,15 +208,15 @@ module _ (x : Lasting) (counts : Counts) {E : Type 0} (fr g : FrameOf ℕ E) (h 
           slot_none = ap (λ (w : World). w.slot f.member) site.world ∙ ap (world x.ancestors.now).slot member ∙ world_out x.ancestors.now
 
           by : (xs : List (Value ℕ))
-              → Comes fr (s others constants) (option_and_then (λ t. option_map (λ row. record { frame = with_operands fr t.below; row = row })
-              (field at.world (s others constants) ops.PutStatic f.member t.values)) (taken at.world (s others constants) (Fits f.held ∷ []) xs))
+              → Comes fr (known others constants) (option_and_then (λ t. option_map (λ row. record { frame = with_operands fr t.below; row = row })
+              (field at.world (known others constants) ops.PutStatic f.member t.values)) (taken at.world (known others constants) (Fits f.held ∷ []) xs))
               (leaves ways.Stuck [] g (store_by x.ancestors.now x.shapes.now others constants k))
           by [] = refl
-          by (v ∷ rest) = both (serves at.world (s others constants) (Fits f.held) v)
+          by (v ∷ rest) = both (serves at.world (known others constants) (Fits f.held) v)
             where
               both : (b : Bool)
-                  → Comes fr (s others constants) (option_and_then (λ t. option_map (λ row. record { frame = with_operands fr t.below; row = row })
-                  (field at.world (s others constants) ops.PutStatic f.member t.values)) (if b then Some (record { values = v ∷ []; below = rest }) else None))
+                  → Comes fr (known others constants) (option_and_then (λ t. option_map (λ row. record { frame = with_operands fr t.below; row = row })
+                  (field at.world (known others constants) ops.PutStatic f.member t.values)) (if b then Some (record { values = v ∷ []; below = rest }) else None))
                   (leaves ways.Stuck [] g (store_by x.ancestors.now x.shapes.now others constants k))
               both false = refl
               both true = rw slot_none refl

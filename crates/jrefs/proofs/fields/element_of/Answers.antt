@@ -2,4 +2,4 @@ use Rattle.jrefs.proofs.Finding.{whole}
 use Rattle.jrefs.proofs.fields.element_of.Goals as goal
 
 pub returns-in-Whole : goal.returns-in-Whole
-returns-in-Whole c p v = whole v
+returns-in-Whole c p v = rw c.in-Whole.is (whole v)
