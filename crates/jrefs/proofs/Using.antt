@@ -196,30 +196,30 @@ module _ (x : Lasting) (counts : Counts) {E : Type 0} (fr g : FrameOf ℕ E) (h 
   abbrev known : Things → List (List ℕ × ℕ) → Store ℕ
   known others constants = store_by x.ancestors.now x.shapes.now others constants h
 
+  put_stuck : SeenActs x counts (instructions.Used (meanings.Field ops.PutStatic f)) fr h ways.Stuck g k
+  unfolding doing used exchange taken field
+  put_stuck others constants seen r at own entries inherited site = by fr.operands
+    where
+      slot_none : at.world.slot f.member ≡ None
+      slot_none = ap (λ (w : World). w.slot f.member) site.world ∙ ap (world x.ancestors.now).slot member ∙ world_out x.ancestors.now
+
+      by : (xs : List (Value ℕ))
+          → Comes fr (known others constants) (option_and_then (λ t. option_map (λ row. record { frame = with_operands fr t.below; row = row })
+          (field at.world (known others constants) ops.PutStatic f.member t.values)) (taken at.world (known others constants) (Fits f.held ∷ []) xs))
+          (leaves ways.Stuck [] g (store_by x.ancestors.now x.shapes.now others constants k))
+      by [] = refl
+      by (v ∷ rest) = both (serves at.world (known others constants) (Fits f.held) v)
+        where
+          both : (b : Bool)
+              → Comes fr (known others constants) (option_and_then (λ t. option_map (λ row. record { frame = with_operands fr t.below; row = row })
+              (field at.world (known others constants) ops.PutStatic f.member t.values)) (if b then Some (record { values = v ∷ []; below = rest }) else None))
+              (leaves ways.Stuck [] g (store_by x.ancestors.now x.shapes.now others constants k))
+          both false = refl
+          both true = rw slot_none refl
+
   -- it isn't written
   pub out_put : op ≡ ops.PutStatic → SeenActs x counts (instructions.Used (meanings.Field op f)) fr h ways.Stuck g k
-  out_put is = subst (λ (o : FieldOp). SeenActs x counts (instructions.Used (meanings.Field o f)) fr h ways.Stuck g k) (sym is) stuck
-    where
-      stuck : SeenActs x counts (instructions.Used (meanings.Field ops.PutStatic f)) fr h ways.Stuck g k
-      unfolding doing used exchange taken field
-      stuck others constants seen r at own entries inherited site = by fr.operands
-        where
-          slot_none : at.world.slot f.member ≡ None
-          slot_none = ap (λ (w : World). w.slot f.member) site.world ∙ ap (world x.ancestors.now).slot member ∙ world_out x.ancestors.now
-
-          by : (xs : List (Value ℕ))
-              → Comes fr (known others constants) (option_and_then (λ t. option_map (λ row. record { frame = with_operands fr t.below; row = row })
-              (field at.world (known others constants) ops.PutStatic f.member t.values)) (taken at.world (known others constants) (Fits f.held ∷ []) xs))
-              (leaves ways.Stuck [] g (store_by x.ancestors.now x.shapes.now others constants k))
-          by [] = refl
-          by (v ∷ rest) = both (serves at.world (known others constants) (Fits f.held) v)
-            where
-              both : (b : Bool)
-                  → Comes fr (known others constants) (option_and_then (λ t. option_map (λ row. record { frame = with_operands fr t.below; row = row })
-                  (field at.world (known others constants) ops.PutStatic f.member t.values)) (if b then Some (record { values = v ∷ []; below = rest }) else None))
-                  (leaves ways.Stuck [] g (store_by x.ancestors.now x.shapes.now others constants k))
-              both false = refl
-              both true = rw slot_none refl
+  out_put is = subst (λ (o : FieldOp). SeenActs x counts (instructions.Used (meanings.Field o f)) fr h ways.Stuck g k) (sym is) put_stuck
 
 -- `System.out` was pushed, if there was memory
 pub out_got : (x : Lasting) {E : Type 0} (fr g : FrameOf ℕ E) (h : Heaped) (op : FieldOp) → op ≡ ops.GetStatic → {F : Type 0} (result : Result Way F)
