@@ -137,10 +137,10 @@ module _ (law : SeesEach) (p : Program) (shapes : Shapes) (things : Things) (con
 
 -- ---- a step that calls
 
-abbrev came : {E : Type 0} → Outcome (State ℕ E) → Option (Ask ℕ) → Option Target → Came E
-came o a t = record { outcome = o; asked = a; reached = t }
+abbrev made : {E : Type 0} → Outcome (State ℕ E) → Option (Ask ℕ) → Option Target → Came E
+made o a t = record { outcome = o; asked = a; reached = t }
 
-alike : {E : Type 0} {o q : Outcome (State ℕ E)} {a b : Option (Ask ℕ)} {t u : Option Target} → o ≡ q → a ≡ b → t ≡ u → came o a t ≡ came q b u
+alike : {E : Type 0} {o q : Outcome (State ℕ E)} {a b : Option (Ask ℕ)} {t u : Option Target} → o ≡ q → a ≡ b → t ≡ u → made o a t ≡ made q b u
 alike e f g = rw (e, f, g) refl
 
 module _ {E : Type 0} (r : Rules ℕ E) (p : Program) (plan : Plan) (s : State ℕ E) (f : Framed E) (count : ℕ) (c : CallMeaning) where
