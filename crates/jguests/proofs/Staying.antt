@@ -4,7 +4,7 @@ use Rattle.std.specs.Prelude.{Result, Ok, Err, OnOk, slice_get, slice_index_or, 
 use Rattle.jthreads.specs.declared.thread.Thread.{Thread}
 use Rattle.jguests.specs.declared.guests.Guest.{Guest}
 use Rattle.jguests.specs.declared.guests.Guests.{Guests}
-use Rattle.jguests.specs.Guested.{HaveStayed, IsOf, ended_as, with_running, with_table}
+use Rattle.jguests.specs.Guested.{HaveStayed, IsOf, NoneWait, ended_as, nobody, with_running, with_table}
 use Rattle.jguests.proofs.Lying.{index_get, length_set}
 
 -- an item of a list
@@ -83,3 +83,13 @@ module _ {E : Type 0} where
       → OnOk r (HaveStayed mid h) → OnOk r (HaveStayed (with_running (ended_as failed g.running) g) h)
   ended_stay (Ok done) failed table g mid h is stay = subst (λ (y : Guests E). HaveStayed y h) is stay
   ended_stay (Err e) failed table g mid h is stay = tt
+
+-- ---- the first thread
+
+at_one : {E : Type 0} (x : Guest E) (i : ℕ) → slice_get (nobody ∷ []) i ≡ Some x → x.frames ≡ None
+at_one x zero e = let same : nobody ≡ x = cc in ap (λ y. y.frames) (sym same)
+at_one x (suc i) e = absurd cc
+
+-- where one without frames stands in its place alone, none waits that has frames
+pub husk_waits : {E : Type 0} (g : Guests E) → g.others.items ≡ nobody ∷ [] → NoneWait g
+husk_waits g is x i at = at_one x i (ap (λ ys. slice_get ys i) (sym is) ∙ at)

@@ -84,3 +84,7 @@ IsOf x g = (x ≡ g.running) ⊎ ((i : ℕ) × (slice_get g.others.items i ≡ S
 -- Each thread with frames was one.
 abbrev pub HaveStayed : {E : Type 0} → Guests E → Guests E → Type 0
 HaveStayed {E} old new = (x : Guest E) → IsOf x new → (x.frames ≡ None) ⊎ IsOf x old
+
+-- None waits but threads without frames.
+abbrev pub NoneWait : {E : Type 0} → Guests E → Type 0
+NoneWait {E} g = (x : Guest E) (i : ℕ) → slice_get g.others.items i ≡ Some x → x.frames ≡ None
