@@ -1,5 +1,5 @@
 ghost use Rattle.std.specs.Prelude.{◌≡◌, ◌∷◌, ◌++◌, [], Some, None, false, IfOk, OnOk, length};
-ghost use Rattle.jguests.specs.Guested.{AreGuests, RunsAs, guest_by, guests_of, nobody};
+ghost use Rattle.jguests.specs.Guested.{AreGuests, HaveStayed, RunsAs, guest_by, guests_of, nobody};
 ghost use Rattle.jthreads.specs.Table.{added, opened};
 
 use jstate::Frames;
@@ -88,6 +88,7 @@ impl<M: Copy> Guests<M> {
         ensures turns { OnOk result (self.new.turns ≡ self.old.turns) }
         ensures at { OnOk result (self.new.at ≡ self.old.at) }
         ensures now { OnOk result (self.new.running ≡ self.old.running) }
+        ensures stay { OnOk result (HaveStayed self.old self.new) }
     {
         let number = self.table.add(alloc)?;
         self.others.push(Guest {

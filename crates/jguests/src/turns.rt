@@ -3,7 +3,7 @@ ghost use Rattle.jthreads.specs.Table.{is_started, join_answer, joined, lives_at
 ghost use Rattle.std.specs.List.{list_any};
 ghost use Rattle.jmachine.specs.Turns.{end_of, guests};
 ghost use Rattle.jmachine.specs.Store.{Store};
-ghost use Rattle.jguests.specs.Guested.{AreGuests, Lives, ended_as, guest_by, guests_of, have_failed, state_by, with_running, with_table};
+ghost use Rattle.jguests.specs.Guested.{AreGuests, HaveStayed, Lives, ended_as, guest_by, guests_of, have_failed, state_by, with_running, with_table};
 ghost use Rattle.jguests.specs.declared.turns.Turned.TheVariants as turns;
 ghost use Rattle.jguests.specs.Turning.{EndsTurn, Turns};
 
@@ -65,6 +65,7 @@ impl<M: Copy> Guests<M> {
         ensures at { self.new.at ≡ t }
         ensures table { self.new.table ≡ self.old.table }
         ensures turns { self.new.turns ≡ self.old.turns }
+        ensures stay { HaveStayed self.old self.new }
     {
         let own = std::mem::replace(&mut self.running, husk());
         self.others[self.at as usize] = own;
@@ -79,6 +80,7 @@ impl<M: Copy> Guests<M> {
         ensures are { OnOk result (AreGuests self.new) }
         ensures turn { IfOk result (λ done. Turns schedule.now self.old done self.new) }
         ensures lives { IfOk result (λ done. done ≡ turns.Goes → Lives self.new) }
+        ensures stay { OnOk result (HaveStayed self.old self.new) }
     {
         thread_laws();
         let numbers = self.table.runnable(alloc)?;
@@ -146,6 +148,7 @@ impl<M: Copy> Guests<M> {
         ensures are { OnOk result (AreGuests self.new) }
         ensures turn { IfOk result (λ done. EndsTurn schedule.now failed self.old done self.new) }
         ensures lives { IfOk result (λ done. done ≡ turns.Goes → Lives self.new) }
+        ensures stay { OnOk result (HaveStayed (with_running (ended_as failed self.old.running) self.old) self.new) }
     {
         guest_laws::<M>();
         self.end_running(failed);

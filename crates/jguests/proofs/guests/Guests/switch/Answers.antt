@@ -16,3 +16,8 @@ returns-clause-now g c =
     ap (λ (x : Guest g.row.M.Denot). slice_get (slice_set (map guest_by c.args.self.now.others.items) c.args.self.now.at (guest_by x)) c.args.t) (sym c.replace-own.ensures.value)
     ∙ found c.args.self.now.others.items c.args.self.now.at c.args.t c.replace-own.result c.replace.result _
     (c.replace.ensures.value ∙ c.index_mut-2.ensures.value) c.requires.there
+
+pub returns-clause-stay : goal.returns-clause-stay
+returns-clause-stay g c =
+    switched_stay c.args.self.now _ c.args.t c.replace-own.result c.replace.result _ _ c.replace-own.ensures.value refl c.requires.there
+    (c.replace.ensures.value ∙ c.index_mut-2.ensures.value) refl
