@@ -42,34 +42,40 @@ module _ {E : Type 0} where
   pub same_stay : (g : Guests E) → HaveStayed g g
   same_stay g x is = inr is
 
-  -- another runs, and its husk stands in its place
-  pub switched_stay : (g h : Guests E) (t : ℕ) (mine husk d : Guest E) → mine ≡ g.running → husk.frames ≡ None → t < length g.others.items
-      → h.running ≡ slice_index_or (slice_set g.others.items g.at mine) t d → h.others.items ≡ slice_set (slice_set g.others.items g.at mine) t husk → HaveStayed g h
-  switched_stay g h t mine husk d own none lt now are x (inl e) =
-      was (set_in g.others.items g.at mine x t (index_get (slice_set g.others.items g.at mine) t d long ∙ ap Some (sym (e ∙ now))))
+  -- the one that runs and the others are these
+  abbrev StayOf : Guest E → List (Guest E) → Guests E → Type 0
+  StayOf now others g = (x : Guest E) → (x ≡ now) ⊎ IsIn x others → (x.frames ≡ None) ⊎ IsOf x g
+
+  -- another runs, and in its place is a thread without frames
+  pub switched_stay : (g : Guests E) (now : Guest E) (others : List (Guest E)) (t : ℕ) (mine husk d : Guest E) → mine ≡ g.running → husk.frames ≡ None → t < length g.others.items
+      → now ≡ slice_index_or (slice_set g.others.items g.at mine) t d → others ≡ slice_set (slice_set g.others.items g.at mine) t husk → StayOf now others g
+  switched_stay g now others t mine husk d own none lt next are x (inl e) =
+      was (set_in g.others.items g.at mine x t (index_get (slice_set g.others.items g.at mine) t d long ∙ ap Some (sym (e ∙ next))))
     where
       long : t < length (slice_set g.others.items g.at mine)
       long = let n = length_set g.others.items g.at mine in omega (arith, lt, n)
+
       was : (x ≡ mine) ⊎ IsIn x g.others.items → (x.frames ≡ None) ⊎ IsOf x g
       was (inl same) = inr (inl (same ∙ own))
       was (inr is) = inr (inr is)
-  switched_stay g h t mine husk d own none lt now are x (inr (i, at)) =
+  switched_stay g now others t mine husk d own none lt next are x (inr (i, at)) =
       by (set_in (slice_set g.others.items g.at mine) t husk x i (subst (λ (xs : List (Guest E)). slice_get xs i ≡ Some x) are at))
     where
       was : (x ≡ mine) ⊎ IsIn x g.others.items → (x.frames ≡ None) ⊎ IsOf x g
       was (inl same) = inr (inl (same ∙ own))
       was (inr is) = inr (inr is)
+
       by : (x ≡ husk) ⊎ IsIn x (slice_set g.others.items g.at mine) → (x.frames ≡ None) ⊎ IsOf x g
       by (inl same) = inl (ap (λ (y : Guest E). y.frames) same ∙ none)
       by (inr (j, there)) = was (set_in g.others.items g.at mine x j there)
 
   -- one more, without frames
-  pub more_stay : (g h : Guests E) (new : Guest E) → new.frames ≡ None → h.running ≡ g.running → h.others.items ≡ g.others.items ++ new ∷ [] → HaveStayed g h
-  more_stay g h new none now are x (inl e) = inr (inl (e ∙ now))
-  more_stay g h new none now are x (inr (i, at)) = by (more_in g.others.items new x i (subst (λ (xs : List (Guest E)). slice_get xs i ≡ Some x) are at))
+  pub more_stay : (g : Guests E) (now new : Guest E) (others : List (Guest E)) → new.frames ≡ None → now ≡ g.running → others ≡ g.others.items ++ new ∷ [] → StayOf now others g
+  more_stay g now new others none same are x (inl e) = inr (inl (e ∙ same))
+  more_stay g now new others none same are x (inr (i, at)) = by (more_in g.others.items new x i (subst (λ (xs : List (Guest E)). slice_get xs i ≡ Some x) are at))
     where
       by : (x ≡ new) ⊎ IsIn x g.others.items → (x.frames ≡ None) ⊎ IsOf x g
-      by (inl same) = inl (ap (λ (y : Guest E). y.frames) same ∙ none)
+      by (inl e) = inl (ap (λ (y : Guest E). y.frames) e ∙ none)
       by (inr is) = inr (inr is)
 
   -- the one that ran has ended

@@ -75,6 +75,7 @@ impl<M: Copy> Guests<M> {
 
     /// Gives the thread its turn that the schedule picks among those that can run. Where none can, the run has ended, and nothing changes.
     /// After an error nothing is said of the threads.
+    #[tactic(auto, using(crate::proofs::Staying::same_stay))]
     pub fn turn(&mut self, alloc: Global, schedule: &[u32]) -> Result<Turned, AllocError>
         requires { AreGuests self.old }
         ensures are { OnOk result (AreGuests self.new) }
@@ -137,6 +138,7 @@ impl<M: Copy> Guests<M> {
 
     /// Ends the thread that runs, by an exception or not, and gives another its turn. Where none can run the run has ended. After an error
     /// nothing is said of the threads.
+    #[tactic(auto, using(crate::proofs::Staying::ended_stay))]
     pub fn end_turn(
         &mut self,
         alloc: Global,

@@ -93,15 +93,15 @@ found_names n (Some x) is = kind_names n x.kind is
 
 -- ---- what is done with them
 
+-- these are what it could be given
+abbrev IsGivenSo : Side → List (Value ℕ) → Type 0
+IsGivenSo side values = (runnable : ℕ) × (n : ℕ) × (context : Option ℕ) × IsHanded side context × (values ≡ handed side context ++ Ref runnable ∷ Ref n ∷ [])
+
 module _ {E : Type 0} (own : Side) (at : Site) (s : Store ℕ) where
   -- the constructor has no row, and asks nothing
   abbrev IsNothing : Side → List (Value ℕ) → Type 0
   IsNothing side values = ((r : Rules ℕ E) (es : List E) (inherited : Option ℕ) → thread_row r at s es inherited (threads.Init side) values ≡ None)
       × (thread_asks own at s (threads.Init side) values ≡ None)
-
-  -- these are what it could be given
-  abbrev IsGivenSo : Side → List (Value ℕ) → Type 0
-  IsGivenSo side values = (runnable : ℕ) × (n : ℕ) × (context : Option ℕ) × IsHanded side context × (values ≡ handed side context ++ Ref runnable ∷ Ref n ∷ [])
 
   source_values : (values : List (Value ℕ)) → IsGivenSo Source values ⊎ IsNothing Source values
   unfolding thread_row thread_asks thread
@@ -109,12 +109,12 @@ module _ {E : Type 0} (own : Side) (at : Site) (s : Store ℕ) where
   source_values (Int x ∷ values) = inr ((λ r es inherited. refl), refl)
   source_values (Long x ∷ values) = inr ((λ r es inherited. refl), refl)
   source_values (Ctx x ∷ values) = inr ((λ r es inherited. refl), refl)
-  source_values (Ref r ∷ []) = inr ((λ r es inherited. refl), refl)
-  source_values (Ref r ∷ Int x ∷ values) = inr ((λ r es inherited. refl), refl)
-  source_values (Ref r ∷ Long x ∷ values) = inr ((λ r es inherited. refl), refl)
-  source_values (Ref r ∷ Ctx x ∷ values) = inr ((λ r es inherited. refl), refl)
-  source_values (Ref r ∷ Ref n ∷ v ∷ values) = inr ((λ r es inherited. refl), refl)
-  source_values (Ref r ∷ Ref n ∷ []) = inl (r, n, None, tt, refl)
+  source_values (Ref b ∷ []) = inr ((λ r es inherited. refl), refl)
+  source_values (Ref b ∷ Int x ∷ values) = inr ((λ r es inherited. refl), refl)
+  source_values (Ref b ∷ Long x ∷ values) = inr ((λ r es inherited. refl), refl)
+  source_values (Ref b ∷ Ctx x ∷ values) = inr ((λ r es inherited. refl), refl)
+  source_values (Ref b ∷ Ref n ∷ v ∷ values) = inr ((λ r es inherited. refl), refl)
+  source_values (Ref b ∷ Ref n ∷ []) = inl (b, n, None, tt, refl)
 
   passing_values : (values : List (Value ℕ)) → IsGivenSo Passing values ⊎ IsNothing Passing values
   unfolding thread_row thread_asks thread
@@ -126,12 +126,12 @@ module _ {E : Type 0} (own : Side) (at : Site) (s : Store ℕ) where
   passing_values (Ctx k ∷ Int x ∷ values) = inr ((λ r es inherited. refl), refl)
   passing_values (Ctx k ∷ Long x ∷ values) = inr ((λ r es inherited. refl), refl)
   passing_values (Ctx k ∷ Ctx x ∷ values) = inr ((λ r es inherited. refl), refl)
-  passing_values (Ctx k ∷ Ref r ∷ []) = inr ((λ r es inherited. refl), refl)
-  passing_values (Ctx k ∷ Ref r ∷ Int x ∷ values) = inr ((λ r es inherited. refl), refl)
-  passing_values (Ctx k ∷ Ref r ∷ Long x ∷ values) = inr ((λ r es inherited. refl), refl)
-  passing_values (Ctx k ∷ Ref r ∷ Ctx x ∷ values) = inr ((λ r es inherited. refl), refl)
-  passing_values (Ctx k ∷ Ref r ∷ Ref n ∷ v ∷ values) = inr ((λ r es inherited. refl), refl)
-  passing_values (Ctx k ∷ Ref r ∷ Ref n ∷ []) = inl (r, n, Some k, tt, refl)
+  passing_values (Ctx k ∷ Ref b ∷ []) = inr ((λ r es inherited. refl), refl)
+  passing_values (Ctx k ∷ Ref b ∷ Int x ∷ values) = inr ((λ r es inherited. refl), refl)
+  passing_values (Ctx k ∷ Ref b ∷ Long x ∷ values) = inr ((λ r es inherited. refl), refl)
+  passing_values (Ctx k ∷ Ref b ∷ Ctx x ∷ values) = inr ((λ r es inherited. refl), refl)
+  passing_values (Ctx k ∷ Ref b ∷ Ref n ∷ v ∷ values) = inr ((λ r es inherited. refl), refl)
+  passing_values (Ctx k ∷ Ref b ∷ Ref n ∷ []) = inl (b, n, Some k, tt, refl)
 
   some_values : (side : Side) (values : List (Value ℕ)) → IsGivenSo side values ⊎ IsNothing side values
   some_values Source values = source_values values
@@ -156,37 +156,36 @@ module _ {E : Type 0} (own : Side) (at : Site) (s : Store ℕ) where
       → IsNothing side (handed side context ++ Ref runnable ∷ Ref n ∷ [])
   unfolding thread_row thread_asks
   others_nothing Source None runnable n is other =
-      let (row, asks) = other_none n runnable None (object_at s n) other in
-      ((λ r es inherited. row (r.inherit None es inherited)), asks)
+      let none = other_none n runnable None (object_at s n) other in
+      ((λ r es inherited. none.1 (r.inherit None es inherited)), none.2)
   others_nothing Source (Some k) runnable n is other = absurd is
   others_nothing Passing None runnable n is other = absurd is
   others_nothing Passing (Some k) runnable n is other =
-      let (row, asks) = other_none n runnable (Some k) (object_at s n) other in
-      ((λ r es inherited. row (r.inherit (Some k) es inherited)), asks)
+      let none = other_none n runnable (Some k) (object_at s n) other in
+      ((λ r es inherited. none.1 (r.inherit (Some k) es inherited)), none.2)
 
 -- with operands that aren't such
-module _ {E : Type 0} (sees : SeesEach) (own : Side) (at : Site) (p : Program) (shapes : Shapes) (things : Things) (constants : List (List ℕ × ℕ)) (h : Heaped) where
-  abbrev store : Store ℕ
-  store = store_by p shapes things constants h
+nothing_so : {E : Type 0} (sees : SeesEach) (own : Side) (at : Site) (p : Program) (shapes : Shapes) (things : Things) (constants : List (List ℕ × ℕ)) (h : Heaped)
+    (side : Side) (values : List (Value ℕ)) → IsNotGiven side values h → IsNothing {E = E} own at (store_by p shapes things constants h) side values
+nothing_so {E} sees own at p shapes things constants h side values none = by (some_values {E = E} own at (store_by p shapes things constants h) side values)
+  where
+    by_object : (runnable n : ℕ) (context : Option ℕ) → IsHanded side context → values ≡ handed side context ++ Ref runnable ∷ Ref n ∷ [] → (b : Bool)
+        → is_found (heaps.object_at h n) ≡ b → IsNothing {E = E} own at (store_by p shapes things constants h) side values
+    by_object runnable n context is e true found =
+        absurd (none (record { begun = record { thread = n; runnable = runnable }; context = context }) (record {
+          context = is;
+          values = e;
+          thread = found_names n (heaps.object_at h n) found;
+        }))
+    by_object runnable n context is e false found =
+        subst (λ (vs : List (Value ℕ)). IsNothing {E = E} own at (store_by p shapes things constants h) side vs) (sym e)
+        (others_nothing {E = E} own at (store_by p shapes things constants h) side context runnable n is
+        (ap is_one (sees p shapes things constants h n) ∙ found_is p shapes h.objects things (heaps.object_at h n) ∙ found))
 
-  nothing_so : (side : Side) (values : List (Value ℕ)) → IsNotGiven side values h → IsNothing {E = E} own at store side values
-  nothing_so side values none = by (some_values {E = E} own at store side values)
-    where
-      by_object : (runnable n : ℕ) (context : Option ℕ) → IsHanded side context → values ≡ handed side context ++ Ref runnable ∷ Ref n ∷ [] → (b : Bool) → is_found (heaps.object_at h n) ≡ b
-          → IsNothing {E = E} own at store side values
-      by_object runnable n context is e true found =
-          absurd (none (record { begun = record { thread = n; runnable = runnable }; context = context }) (record {
-            context = is;
-            values = e;
-            thread = found_names n (heaps.object_at h n) found;
-          }))
-      by_object runnable n context is e false found =
-          subst (λ (vs : List (Value ℕ)). IsNothing {E = E} own at store side vs) (sym e)
-          (others_nothing {E = E} own at store side context runnable n is
-          (ap is_one (sees p shapes things constants h n) ∙ found_is p shapes h.objects things (heaps.object_at h n) ∙ found))
-      by : IsGivenSo {E = E} own at store side values ⊎ IsNothing {E = E} own at store side values → IsNothing {E = E} own at store side values
-      by (inr is) = is
-      by (inl (runnable, n, context, is, e)) = by_object runnable n context is e (is_found (heaps.object_at h n)) refl
+    by : IsGivenSo side values ⊎ IsNothing {E = E} own at (store_by p shapes things constants h) side values
+        → IsNothing {E = E} own at (store_by p shapes things constants h) side values
+    by (inr is) = is
+    by (inl (runnable, n, context, is, e)) = by_object runnable n context is e (is_found (heaps.object_at h n)) refl
 
 -- ---- the laws
 

@@ -1,19 +1,25 @@
 -- Which threads and which frames a call leaves.
-use Rattle.std.proofs.Common.{◌≡◌, ◌∙◌, ℕ, zero, suc, List, [], ◌∷◌, ◌++◌, Option, Some, None, refl, sym, ap, subst, inr}
+use Rattle.std.proofs.Common.{◌≡◌, ◌∙◌, ℕ, zero, suc, List, [], ◌∷◌, ◌++◌, Option, Some, None, refl, sym, ap, ap₂, subst, inr}
 use Rattle.std.specs.Prelude.{option_map, slice_index_or, true}
 use Rattle.jthreads.specs.declared.thread.Thread.{Thread}
 use Rattle.jthreads.specs.declared.table.Joined.TheVariants.{AtOnce}
-use Rattle.jthreads.specs.Table.{added, is_alive, is_started, join_answer, joined, table_after_start, unstarted}
+use Rattle.jthreads.specs.Table.{added, is_alive, is_started, join_answer, joined, lives_at, table_after_start, unstarted}
 use Rattle.jstate.specs.Framed.{Framed}
 use Rattle.jguests.specs.declared.guests.Guest.{Guest}
 use Rattle.jguests.specs.declared.guests.Guests.{Guests}
 use Rattle.jguests.specs.declared.turns.Turned.{Turned}
 use Rattle.jguests.specs.declared.turns.Turned.TheVariants as turns
-use Rattle.jguests.specs.Guested.{HaveStayed, Lives, with_table}
+use Rattle.jguests.specs.Guested.{AreGuests, HaveStayed, Lives, with_table}
 use Rattle.jthreading.specs.declared.switching.Threaded.TheVariants as threaded
 use Rattle.jthreading.specs.Lasting.{LivesOn}
 use Rattle.jthreading.specs.Switching.{behind, gone, lost, without}
 use Rattle.jthreading.proofs.Rows.{joined_same, started_same}
+
+index_more : {A : Type 0} (xs : List A) (i : ℕ) (d : A) → slice_index_or (xs ++ d ∷ []) i d ≡ slice_index_or xs i d
+index_more [] zero d = refl
+index_more [] (suc i) d = refl
+index_more (x ∷ xs) zero d = refl
+index_more (x ∷ xs) (suc i) d = index_more xs i d
 
 module _ {E : Type 0} where
   -- nothing has changed
@@ -69,15 +75,12 @@ module _ {E : Type 0} where
 
   -- ---- one more thread
 
+  pub are_behind : (count : ℕ) (g h : Guests E) → h ≡ behind count g → AreGuests g → AreGuests h
+  are_behind count g h is are = subst (λ (x : Guests E). AreGuests x) (sym is) (record { at = are.at; husk = are.husk; table = are.table; few = are.few })
+
   pub more_frames : (count : ℕ) (g mid h : Guests E) → mid ≡ behind count g → h.running ≡ mid.running → h.running.frames ≡ option_map (gone count) g.running.frames
   more_frames count g mid h goes same = ap (λ (x : Guest E). x.frames) same ∙ behind_frames count g mid goes
 
-  index_more : {A : Type 0} (xs : List A) (i : ℕ) (d : A) → slice_index_or (xs ++ d ∷ []) i d ≡ slice_index_or xs i d
-  index_more [] zero d = refl
-  index_more [] (suc i) d = refl
-  index_more (x ∷ xs) zero d = refl
-  index_more (x ∷ xs) (suc i) d = index_more xs i d
-
   pub more_lives : (count : ℕ) (g mid h : Guests E) → mid ≡ behind count g → h.table ≡ added mid.table → h.at ≡ mid.at → Lives g → Lives h
   more_lives count g mid h goes table at lives =
-      rw (table, at, index_more mid.table mid.at unstarted) (behind_lives count g mid goes lives)
+      ap₂ lives_at table at ∙ ap is_alive (index_more mid.table mid.at unstarted) ∙ behind_lives count g mid goes lives

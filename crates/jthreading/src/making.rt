@@ -64,7 +64,7 @@ fn named_behind<M: Copy>(guests: &Guests<M>, heap: &Heap, first: usize) -> Optio
     }
 }
 
-/// What the constructor is given where there are contexts nowhere.
+/// What the constructor is given on the source side, where no contexts are handed on.
 fn named_alone<M: Copy>(guests: &Guests<M>, heap: &Heap, count: usize) -> Option<Given>
     requires may { MayCall count guests.now }
     ensures { Named sides.Source count guests.now heap.now result }
@@ -79,7 +79,7 @@ fn named_alone<M: Copy>(guests: &Guests<M>, heap: &Heap, count: usize) -> Option
     })
 }
 
-/// What it is given with a context.
+/// What it is given on the passing side, with a context.
 fn named_within<M: Copy>(guests: &Guests<M>, heap: &Heap, count: usize) -> Option<Given>
     requires may { MayCall count guests.now }
     ensures { Named sides.Passing count guests.now heap.now result }
@@ -99,12 +99,7 @@ fn named_within<M: Copy>(guests: &Guests<M>, heap: &Heap, count: usize) -> Optio
 
 /// What a call of Thread's constructor is given on a side by its operands, of which there are so many; none where there is no step. Its step
 /// asks what the thread inherits, with the context.
-pub fn named_by<M: Copy>(
-    guests: &Guests<M>,
-    heap: &Heap,
-    side: Side,
-    count: usize,
-) -> Option<Given>
+pub fn named_by<M: Copy>(guests: &Guests<M>, heap: &Heap, side: Side, count: usize) -> Option<Given>
     requires may { MayCall count guests.now }
     ensures { Named side count guests.now heap.now result }
 {

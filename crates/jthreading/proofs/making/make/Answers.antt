@@ -1,4 +1,4 @@
-use Rattle.std.proofs.Common.{◌≡◌, ◌∙◌, ◌+◌, ℕ, suc, Some, length, sym, ap, arith}
+use Rattle.std.proofs.Common.{◌≡◌, ◌∙◌, ◌+◌, ℕ, [], suc, Option, Some, length, sym, ap, arith}
 use Rattle.std.specs.Prelude.{option_map}
 use Rattle.jheap.specs.Heaps as heaps
 use Rattle.jlib.specs.declared.calls.ThreadCall.TheVariants as threads
@@ -7,10 +7,12 @@ use Rattle.jmachine.specs.Objects.{Thread}
 use Rattle.jmachine.specs.Store.{with_object}
 use Rattle.jmachine.specs.Steps.{entries, guest, site}
 use Rattle.jmachine.specs.Turns.{with_guest}
-use Rattle.jstate.specs.Framed.{all}
+use Rattle.jstate.specs.Framed.{Framed, all}
 use Rattle.jstate.specs.Seen.{first, number_in, store_by}
+use Rattle.jguests.specs.declared.guests.Guests.{Guests}
 use Rattle.jguests.specs.Guested.{state_by, with_frames}
 use Rattle.jthreading.specs.Switching.{gone}
+use Rattle.jthreading.proofs.Lasting.{are_behind, more_frames, more_lives, turned_stay}
 use Rattle.jthreading.proofs.Made.{has_cell, held_there, makes_row, makes_so, one_more_state, some_cells, thread_there, written, written_alike}
 use Rattle.jthreading.proofs.Rows.{framed_state}
 use Rattle.jthreading.proofs.making.make.Goals as goal
@@ -31,9 +33,9 @@ returns-clause-row g c r p plan shapes things constants side f frames is inherit
     let s : State ℕ E = state_by old store in
     let t = thread_there heap o c.requires.thread in
     let some = some_cells heap o t (has_cell c.celled_laws.ensures.has c.args.shapes.now heap o c.requires.celled t) in
-    let behind : c.go_on.new.guests ≡ with_frames (Some (gone c.args.count f)) old = c.go_on.ensures ∙ ap (λ o. with_frames (option_map (gone c.args.count) o) old) frames in
-    let number : c.from.result + 1 ≡ suc (length old.table) =
-    omega (arith, c.from.ensures, c.in_ok-number.ensures.number, ap (λ x. length x.table) behind) in
+    let behind : c.go_on.new.guests ≡ with_frames (Some (gone c.args.count f)) old = c.go_on.ensures ∙ ap (λ (x : Option (Framed E)). with_frames (option_map (gone c.args.count) x) old) frames in
+    let same : length c.go_on.new.guests.table ≡ length old.table = ap (λ (x : Guests E). length x.table) behind in
+    let number : c.from.result + 1 ≡ suc (length old.table) = omega (arith, c.from.ensures, c.in_ok-number.ensures.number, same) in
     let put = c.set_cell.ensures ∙ ap (λ n. heaps.with_cell heap o 0 n) number in
     let made = with_object store o (Thread (Some (length old.table))) in
     let after : store_by p shapes things constants c.set_cell.new.self ≡ made =
@@ -42,9 +44,9 @@ returns-clause-row g c r p plan shapes things constants side f frames is inherit
     (number_in (first t.object.cells)) is inherits (held_there c.heap_laws.ensures.each p shapes things constants heap o t) in
     makes_so r p plan s f c.args.count side made runnable c.args.kept row
     ∙ ap (λ (u : State ℕ E). Went (with_guest u (guest r p plan s runnable c.args.kept)) [])
-    (framed_state c.guest_laws.ensures old (gone c.args.count f) made ∙ ap (λ x. state_by x made) (sym behind))
+    (framed_state c.guest_laws.ensures old (gone c.args.count f) made ∙ ap (λ (x : Guests E). state_by x made) (sym behind))
     ∙ ap (λ (u : State ℕ E). Went u [])
-    (sym (one_more_state c.go_on.new.guests c.add.new.self (guest r p plan s runnable c.args.kept) made _
+    (sym (one_more_state c.go_on.new.guests c.add.new.self (guest r p plan s runnable c.args.kept) made (are_behind c.args.count old c.go_on.new.guests c.go_on.ensures c.requires.are)
     c.in_ok-number.ensures.one_more c.in_ok-number.ensures.table c.in_ok-number.ensures.turns c.in_ok-number.ensures.at c.in_ok-number.ensures.now)
     ∙ ap (state_by c.add.new.self) (sym after))
 
@@ -56,3 +58,12 @@ returns-clause-alike g c =
     let some = some_cells heap o t (has_cell c.celled_laws.ensures.has c.args.shapes.now heap o c.requires.celled t) in
     let number : c.from.result + 1 ≡ suc c.from.result = omega arith in
     written_alike c.heap_laws.ensures.writes heap c.set_cell.new.self o c.from.result t some (c.set_cell.ensures ∙ ap (λ n. heaps.with_cell heap o 0 n) number)
+
+pub returns-clause-stay : goal.returns-clause-stay
+returns-clause-stay g c = turned_stay c.args.count c.args.guests.now c.go_on.new.guests c.add.new.self c.go_on.ensures c.in_ok-number.ensures.stay
+
+pub returns-clause-framed : goal.returns-clause-framed
+returns-clause-framed g c = more_frames c.args.count c.args.guests.now c.go_on.new.guests c.add.new.self c.go_on.ensures c.in_ok-number.ensures.now
+
+pub returns-clause-lives : goal.returns-clause-lives
+returns-clause-lives g c = more_lives c.args.count c.args.guests.now c.go_on.new.guests c.add.new.self c.go_on.ensures c.in_ok-number.ensures.table c.in_ok-number.ensures.at

@@ -11,4 +11,4 @@ returns-clause-one_more g c =
     ∙ one_more c.args.self.now.others.items c.args.self.now.at c.args.self.now.running _ c.requires.at
 
 pub returns-clause-stay : goal.returns-clause-stay
-returns-clause-stay g c = more_stay c.args.self.now _ _ refl refl c.in_ok-push.ensures.items
+returns-clause-stay g c = more_stay c.args.self.now _ _ _ refl refl c.in_ok-push.ensures.items
