@@ -1,6 +1,6 @@
 -- Which threads there are behind a turn, and behind one more.
 use Rattle.std.proofs.Common.{◌≡◌, ◌∙◌, ℕ, zero, suc, ◌<◌, Bool, false, List, [], ◌∷◌, ◌++◌, length, Option, Some, None, refl, sym, ap, subst, arith, inl, inr, ◌⊎◌}
-use Rattle.std.specs.Prelude.{slice_get, slice_index_or, slice_set}
+use Rattle.std.specs.Prelude.{Result, Ok, Err, OnOk, slice_get, slice_index_or, slice_set}
 use Rattle.jthreads.specs.declared.thread.Thread.{Thread}
 use Rattle.jguests.specs.declared.guests.Guest.{Guest}
 use Rattle.jguests.specs.declared.guests.Guests.{Guests}
@@ -79,6 +79,7 @@ module _ {E : Type 0} where
       by (inr is) = inr (inr is)
 
   -- the one that ran has ended
-  pub ended_stay : (failed : Bool) (table : List Thread) (g mid h : Guests E) → mid ≡ with_table table (with_running (ended_as failed g.running) g) → HaveStayed mid h
-      → HaveStayed (with_running (ended_as failed g.running) g) h
-  ended_stay failed table g mid h is stay = subst (λ (y : Guests E). HaveStayed y h) is stay
+  pub ended_stay : {A B : Type 0} (r : Result A B) (failed : Bool) (table : List Thread) (g mid h : Guests E) → mid ≡ with_table table (with_running (ended_as failed g.running) g)
+      → OnOk r (HaveStayed mid h) → OnOk r (HaveStayed (with_running (ended_as failed g.running) g) h)
+  ended_stay (Ok done) failed table g mid h is stay = subst (λ (y : Guests E). HaveStayed y h) is stay
+  ended_stay (Err e) failed table g mid h is stay = tt

@@ -138,7 +138,6 @@ impl<M: Copy> Guests<M> {
 
     /// Ends the thread that runs, by an exception or not, and gives another its turn. Where none can run the run has ended. After an error
     /// nothing is said of the threads.
-    #[tactic(auto, using(crate::proofs::Staying::ended_stay))]
     pub fn end_turn(
         &mut self,
         alloc: Global,

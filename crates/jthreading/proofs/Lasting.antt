@@ -12,7 +12,7 @@ use Rattle.jguests.specs.declared.turns.Turned.TheVariants as turns
 use Rattle.jguests.specs.Guested.{AreGuests, HaveStayed, Lives, with_table}
 use Rattle.jthreading.specs.declared.switching.Threaded.TheVariants as threaded
 use Rattle.jthreading.specs.Lasting.{LivesOn}
-use Rattle.jthreading.specs.Switching.{behind, gone, lost, without}
+use Rattle.jthreading.specs.Switching.{behind, gone, without}
 use Rattle.jthreading.proofs.Rows.{joined_same, started_same}
 
 index_more : {A : Type 0} (xs : List A) (i : ℕ) (d : A) → slice_index_or (xs ++ d ∷ []) i d ≡ slice_index_or xs i d
@@ -54,9 +54,6 @@ module _ {E : Type 0} where
   raised_is count t g mid h starts before is =
       is ∙ ap (without count) (starts ∙ ap (λ ts. with_table ts g) (started_same g.table t before))
 
-  pub raised_frames : (count : ℕ) (g h : Guests E) → h ≡ without count g → h.running.frames ≡ option_map (lost count) g.running.frames
-  raised_frames count g h is = ap (λ (x : Guests E). x.running.frames) is
-
   pub raised_lives : (count : ℕ) (g h : Guests E) → h ≡ without count g → Lives g → Lives h
   raised_lives count g h is lives = subst (λ (x : Guests E). Lives x) (sym is) lives
 
@@ -67,9 +64,6 @@ module _ {E : Type 0} where
       is ∙ ap (λ (x : Guests E). with_table (joined x.at t x.table) x) goes
       ∙ ap (λ ts. with_table ts (behind count g)) (joined_same g.table g.at t (ap (λ (x : Guests E). join_answer t x.table) (sym goes) ∙ once))
 
-  pub behind_frames : (count : ℕ) (g h : Guests E) → h ≡ behind count g → h.running.frames ≡ option_map (gone count) g.running.frames
-  behind_frames count g h is = ap (λ (x : Guests E). x.running.frames) is
-
   pub behind_lives : (count : ℕ) (g h : Guests E) → h ≡ behind count g → Lives g → Lives h
   behind_lives count g h is lives = subst (λ (x : Guests E). Lives x) (sym is) lives
 
@@ -79,7 +73,7 @@ module _ {E : Type 0} where
   are_behind count g h is are = subst (λ (x : Guests E). AreGuests x) (sym is) (record { at = are.at; husk = are.husk; table = are.table; few = are.few })
 
   pub more_frames : (count : ℕ) (g mid h : Guests E) → mid ≡ behind count g → h.running ≡ mid.running → h.running.frames ≡ option_map (gone count) g.running.frames
-  more_frames count g mid h goes same = ap (λ (x : Guest E). x.frames) same ∙ behind_frames count g mid goes
+  more_frames count g mid h goes same = ap (λ (x : Guest E). x.frames) same ∙ ap (λ (x : Guests E). x.running.frames) goes
 
   pub more_lives : (count : ℕ) (g mid h : Guests E) → mid ≡ behind count g → h.table ≡ added mid.table → h.at ≡ mid.at → Lives g → Lives h
   more_lives count g mid h goes table at lives =

@@ -32,7 +32,7 @@ use Rattle.jstate.specs.declared.shapes.Shapes.{Shapes}
 use Rattle.jstate.specs.Celled.{AreCelled, HasWanted, class_cells}
 use Rattle.jstate.specs.Framed.{Framed, all}
 use Rattle.jstate.specs.Numbers.{class_numbered}
-use Rattle.jstate.specs.Seen.{Things, kind_by, number_in, first, object_by, store_by}
+use Rattle.jstate.specs.Seen.{Things, kind_by, number_in, first, object_by, store_by, values_of}
 use Rattle.jstate.specs.SeenLaws.{IsNoPiece, SeesEach, Writes}
 use Rattle.jacts.proofs.Costs.{unpaid}
 use Rattle.jguests.specs.declared.guests.Guests.{Guests}
@@ -41,7 +41,7 @@ use Rattle.jguests.specs.Guested.{AreGuests, RunsAs, framed_as, guest_by, guests
 use Rattle.jthreading.specs.declared.making.Begun.{Begun}
 use Rattle.jthreading.specs.declared.making.Given.{Given}
 use Rattle.jthreading.specs.Finding.{is_thread, thread_kind, thread_object}
-use Rattle.jthreading.specs.Making.{IsGiven, IsHanded, StayAlike, begun_values}
+use Rattle.jthreading.specs.Making.{IsGiven, IsHanded, NamesNoMore, begun_values}
 use Rattle.jthreading.specs.Switching.{gone}
 use Rattle.jthreading.specs.Threading.{MayCall, thread_called}
 use Rattle.jthreading.proofs.Rows.{row}
@@ -118,13 +118,16 @@ written writes p shapes things constants h o n t some =
     (seen_as p shapes h.objects things t.object t.class (slice_set t.object.cells 0 (suc n)) t.kind t.named
     ∙ ap (λ c. Thread (number_in c)) (first_set t.object.cells (suc n) some))
 
--- Nothing else changes of what the objects are.
-pub written_alike : Writes → (h k : Heaped) (o n : ℕ) (t : IsThreadAt h o) → 0 < length t.object.cells → k ≡ heaps.with_cell h o 0 (suc n) → StayAlike h k
-written_alike writes h k o n t some is =
-    subst (λ (x : Heaped). StayAlike h x) (sym is) (λ p shapes things others constants same.
-    written writes p shapes things constants h o n t some
-    ∙ ap (λ (s : Store ℕ). with_object s o (Thread (Some n))) same
-    ∙ sym (written writes p shapes others constants h o n t some))
+-- It names nothing that is kept.
+pub written_alike : Writes → (h k : Heaped) (o n : ℕ) (t : IsThreadAt h o) → 0 < length t.object.cells → k ≡ heaps.with_cell h o 0 (suc n) → NamesNoMore h.objects k.objects
+written_alike writes h k o n t some is p shapes things others same =
+    let stores : store_by p shapes others [] h ≡ store_by p shapes things [] h =
+    ap (λ (os : List (Object ℕ)). record { objects = os; statics = values_of shapes.statics h.statics; constants = []; left = h.left }) same in
+    let all : store_by p shapes others [] k ≡ store_by p shapes things [] k =
+    ap (store_by p shapes others []) is ∙ written writes p shapes others [] h o n t some
+    ∙ ap (λ (s : Store ℕ). with_object s o (Thread (Some n))) stores
+    ∙ sym (written writes p shapes things [] h o n t some) ∙ ap (store_by p shapes things []) (sym is) in
+    ap (λ (s : Store ℕ). s.objects) all
 
 -- ---- what a call names
 

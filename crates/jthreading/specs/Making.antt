@@ -1,5 +1,6 @@
 -- What a step comes to that calls the constructor of Thread.
 use Rattle.std.specs.Prelude.{◌≡◌, ⊤, ℕ, ◌+◌, ◌++◌, List, [], ◌∷◌, Option, Some, None, slice_get, take}
+use Rattle.jheap.specs.Heaps as heaps
 use Rattle.jheap.specs.Heaps.{Heaped}
 use Rattle.jlib.specs.declared.calls.ThreadCall.TheVariants as threads
 use Rattle.jlib.specs.declared.side.Side.{Side}
@@ -13,7 +14,7 @@ use Rattle.jmachine.specs.Security.{Rules, handed}
 use Rattle.jmachine.specs.Steps.{entries}
 use Rattle.jstate.specs.declared.shapes.Shapes.{Shapes}
 use Rattle.jstate.specs.Framed.{Framed, all}
-use Rattle.jstate.specs.Seen.{Things, store_by}
+use Rattle.jstate.specs.Seen.{Things, objects_by, store_by}
 use Rattle.jguests.specs.declared.guests.Guests.{Guests}
 use Rattle.jguests.specs.Guested.{state_by}
 use Rattle.jthreading.specs.declared.making.Begun.{Begun}
@@ -68,9 +69,7 @@ MakesThread {E} kept count x g heap h after =
     r.inherit x.context (entries r p plan s (all f)) s.running.inherited ≡ kept
     → thread_called r p plan s f count (threads.Init side) ≡ Went (state_by h (store_by p shapes things constants after)) []
 
--- What the objects are depends on nothing else behind it: where other permissions and other kept contexts made the same store, they make the
--- same.
-abbrev pub StayAlike : Heaped → Heaped → Type 0
-StayAlike heap after = (p : Program) (shapes : Shapes) (things others : Things) (constants : List (List ℕ × ℕ))
-    → store_by p shapes things constants heap ≡ store_by p shapes others constants heap
-    → store_by p shapes things constants after ≡ store_by p shapes others constants after
+-- The objects that are name no permission and no kept number that those before didn't: what made the same of those makes the same of these.
+abbrev pub NamesNoMore : (before after : List heaps.Object) → Type 0
+NamesNoMore before after = (p : Program) (shapes : Shapes) (things others : Things) → objects_by p shapes others before ≡ objects_by p shapes things before
+    → objects_by p shapes others after ≡ objects_by p shapes things after

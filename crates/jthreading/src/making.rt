@@ -5,7 +5,7 @@ ghost use Rattle.jstate.specs.Celled.{AreCelled, StayCelled};
 ghost use Rattle.jstate.specs.Seen.{AreBuilt};
 ghost use Rattle.jguests.specs.Guested.{AreGuests, HaveStayed, Lives};
 ghost use Rattle.jthreading.specs.Finding;
-ghost use Rattle.jthreading.specs.Making.{MakesThread, Named, NamedBehind, StayAlike};
+ghost use Rattle.jthreading.specs.Making.{MakesThread, Named, NamedBehind, NamesNoMore};
 ghost use Rattle.jthreading.specs.Switching.{behind, gone};
 ghost use Rattle.jthreading.specs.Threading.{MayCall};
 
@@ -132,7 +132,7 @@ pub fn make<M: Copy>(
     ensures lives { OnOk result (Lives guests.old → Lives guests.new) }
     ensures built { OnOk result (AreBuilt heap.new.objects) }
     ensures celled { OnOk result (StayCelled heap.old.objects heap.new.objects) }
-    ensures alike { OnOk result (StayAlike heap.old heap.new) }
+    ensures alike { OnOk result (NamesNoMore heap.old.objects heap.new.objects) }
 {
     heap_laws();
     guest_laws::<M>();

@@ -9,7 +9,7 @@ use Rattle.jguests.specs.declared.guests.Guests.{Guests}
 use Rattle.jguests.specs.Guested.{state_by, with_frames, with_table}
 use Rattle.jthreading.specs.Switching.{WentOn, behind, gone}
 use Rattle.jthreading.specs.Threading.{thread_called}
-use Rattle.jthreading.proofs.Lasting.{behind_frames, behind_lives, joined_is, same_stay, those_stay, turned_lives, waiting_stay}
+use Rattle.jthreading.proofs.Lasting.{behind_lives, joined_is, same_stay, those_stay, turned_lives, waiting_stay}
 use Rattle.jthreading.proofs.Rows.{at_is, join_goes, join_nobody, join_so, join_stuck, joined_same}
 use Rattle.jthreading.proofs.switching.join.Goals as goal
 
@@ -65,8 +65,7 @@ returns-in-AtOnce-clause-stay g c =
 pub returns-in-AtOnce-clause-framed : goal.returns-in-AtOnce-clause-framed
 returns-in-AtOnce-clause-framed g c =
     let old = c.args.guests.now in
-    behind_frames c.args.count old c.join.new.self
-    (joined_is c.args.count c.in-Some.t old c.go_on.new.guests c.join.new.self c.go_on.ensures c.join.ensures.table (sym c.join.ensures.answer ∙ c.in-AtOnce.is))
+    joined_is c.args.count c.in-Some.t old c.go_on.new.guests c.join.new.self c.go_on.ensures c.join.ensures.table (sym c.join.ensures.answer ∙ c.in-AtOnce.is)
 
 pub returns-in-AtOnce-clause-lives : goal.returns-in-AtOnce-clause-lives
 returns-in-AtOnce-clause-lives g c =

@@ -8,7 +8,7 @@ use Rattle.jguests.specs.declared.guests.Guests.{Guests}
 use Rattle.jguests.specs.Guested.{state_by, with_frames, with_table}
 use Rattle.jthreading.specs.Switching.{Shrunk, WentOn, gone, lost, without}
 use Rattle.jthreading.specs.Threading.{thread_called}
-use Rattle.jthreading.proofs.Lasting.{raised_frames, raised_is, raised_lives, same_stay, started_stay, those_stay, turned_lives}
+use Rattle.jthreading.proofs.Lasting.{raised_is, raised_lives, same_stay, started_stay, those_stay, turned_lives}
 use Rattle.jthreading.proofs.Rows.{is_false, is_true, may_behind, start_nobody, start_raises, start_so, start_stuck, started_same}
 use Rattle.jthreading.proofs.switching.start.Goals as goal
 
@@ -74,8 +74,7 @@ pub returns-then-not-start-clause-framed : goal.returns-then-not-start-clause-fr
 returns-then-not-start-clause-framed g c =
     let old = c.args.guests.now in
     let before = is_false c.start.result (is_started old.table c.in-Some.t) c.start.ensures.answer c.if-not-start.true in
-    raised_frames c.args.count old c.lose.new.guests
-    (raised_is c.args.count c.in-Some.t old c.start.new.self c.lose.new.guests c.start.ensures.table before c.lose.ensures)
+    raised_is c.args.count c.in-Some.t old c.start.new.self c.lose.new.guests c.start.ensures.table before c.lose.ensures
 
 pub returns-then-not-start-clause-lives : goal.returns-then-not-start-clause-lives
 returns-then-not-start-clause-lives g c =
