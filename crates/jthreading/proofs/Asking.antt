@@ -157,12 +157,12 @@ module _ {E : Type 0} (own : Side) (at : Site) (s : Store ℕ) where
   unfolding thread_row thread_asks
   others_nothing Source None runnable n is other =
       let none = other_none n runnable None (object_at s n) other in
-      ((λ r es inherited. none.1 (r.inherit None es inherited)), none.2)
+      ((λ r es inherited. none.0 (r.inherit None es inherited)), none.1)
   others_nothing Source (Some k) runnable n is other = absurd is
   others_nothing Passing None runnable n is other = absurd is
   others_nothing Passing (Some k) runnable n is other =
       let none = other_none n runnable (Some k) (object_at s n) other in
-      ((λ r es inherited. none.1 (r.inherit (Some k) es inherited)), none.2)
+      ((λ r es inherited. none.0 (r.inherit (Some k) es inherited)), none.1)
 
 -- with operands that aren't such
 nothing_so : {E : Type 0} (sees : SeesEach) (own : Side) (at : Site) (p : Program) (shapes : Shapes) (things : Things) (constants : List (List ℕ × ℕ)) (h : Heaped)
@@ -206,7 +206,7 @@ init_asks sees own at p shapes things constants h side values x is =
     ∙ ap (inherits own at s x.context) (held_there sees p shapes things constants h x.begun.thread t)
 
 pub init_asks_nothing : SeesEach → InitAsksNothing
-init_asks_nothing sees own at p shapes things constants h side values none = (nothing_so {E = ⊤} sees own at p shapes things constants h side values none).2
+init_asks_nothing sees own at p shapes things constants h side values none = (nothing_so {E = ⊤} sees own at p shapes things constants h side values none).1
 
 pub init_stuck : {E : Type 0} → SeesEach → InitIsStuck E
 init_stuck {E} sees r p plan s f count side shapes things constants h is none =
@@ -214,7 +214,7 @@ init_stuck {E} sees r p plan s f count side shapes things constants h is none =
     let es = entries r p plan s (all f) in
     none_so r p plan s f count (threads.Init side)
     (ap (λ (x : Store ℕ). thread_row r at x es s.running.inherited (threads.Init side) (take count f.newest.operands)) is
-    ∙ (nothing_so {E = E} sees side at p shapes things constants h side (take count f.newest.operands) none).1 r es s.running.inherited)
+    ∙ (nothing_so {E = E} sees side at p shapes things constants h side (take count f.newest.operands) none).0 r es s.running.inherited)
 
 pub others_ask_nothing : OthersAskNothing
 unfolding thread_asks

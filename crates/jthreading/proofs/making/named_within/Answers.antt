@@ -1,4 +1,4 @@
-use Rattle.jthreading.proofs.Given.{given_within, within_few, within_nobody, within_other}
+use Rattle.jthreading.proofs.Operands.{given_within, within_few, within_nobody, within_other}
 use Rattle.jthreading.proofs.Rows.{few_are}
 use Rattle.jthreading.proofs.making.named_within.Goals as goal
 
