@@ -1,5 +1,5 @@
 -- Threads behind a call of Thread stand between steps.
-use Rattle.std.proofs.Common.{◌≡◌, ◌∙◌, ℕ, List, Option, Some, None, refl, sym, ap, subst, absurd, inl, inr}
+use Rattle.std.proofs.Common.{◌≡◌, ◌∙◌, ℕ, List, Option, Some, None, refl, sym, ap, subst, inl, inr}
 use Rattle.std.specs.Prelude.{◌⊎◌, option_map, slice_get}
 use Rattle.jheap.specs.Heaps.{Heaped}
 use Rattle.jstate.specs.Framed.{Framed, all}

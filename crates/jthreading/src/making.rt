@@ -65,6 +65,7 @@ fn named_behind<M: Copy>(guests: &Guests<M>, heap: &Heap, first: usize) -> Optio
 }
 
 /// What the constructor is given on the source side, where no contexts are handed on.
+#[tactic(auto, using(crate::proofs::Made::may_less, crate::proofs::Operands::alone_nobody))]
 fn named_alone<M: Copy>(guests: &Guests<M>, heap: &Heap, count: usize) -> Option<Given>
     requires may { MayCall count guests.now }
     ensures { Named sides.Source count guests.now heap.now result }
@@ -80,6 +81,7 @@ fn named_alone<M: Copy>(guests: &Guests<M>, heap: &Heap, count: usize) -> Option
 }
 
 /// What it is given on the passing side, with a context.
+#[tactic(auto, using(crate::proofs::Made::may_less, crate::proofs::Operands::given_within, crate::proofs::Operands::within_nobody, crate::proofs::Operands::within_other))]
 fn named_within<M: Copy>(guests: &Guests<M>, heap: &Heap, count: usize) -> Option<Given>
     requires may { MayCall count guests.now }
     ensures { Named sides.Passing count guests.now heap.now result }
