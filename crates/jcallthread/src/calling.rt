@@ -17,6 +17,7 @@ use std::alloc::{AllocError, Global};
 
 /// A step of the running thread that stands at a call of Thread with so many operands. The constructor asks what the new thread inherits, and
 /// the step is the machine's by any rules that answer so; the others ask nothing.
+#[tactic(auto, using(crate::proofs::Made::none_answered))]
 pub fn call_thread<G: Guard>(
     alloc: Global,
     m: &mut Machine<'_, '_, G::Mark>,

@@ -47,6 +47,7 @@ fn ask<G: Guard>(
 }
 
 /// Makes a thread of what the constructor is given, which keeps this.
+#[tactic(auto, using(crate::proofs::Standing::may_call, crate::proofs::Made::makes_in))]
 fn make_thread<M: Copy>(
     alloc: Global,
     m: &mut Machine<'_, '_, M>,
@@ -73,6 +74,7 @@ fn make_thread<M: Copy>(
 }
 
 /// A step of the running thread that stands at a call of Thread's constructor with so many operands.
+#[tactic(auto, using(crate::proofs::Made::init_asked, crate::proofs::Made::made_answered, crate::proofs::Made::made_ready, crate::proofs::Made::stuck_answered))]
 pub(crate) fn call_init<G: Guard>(
     alloc: Global,
     m: &mut Machine<'_, '_, G::Mark>,

@@ -21,6 +21,7 @@ use jtrace::End;
 use std::alloc::{AllocError, Global};
 
 /// Does a call of Thread that makes none, by the threads of the machine.
+#[tactic(auto, using(crate::proofs::Standing::may_call, crate::proofs::Turned::turns_on))]
 fn turn_threads<M: Copy>(
     alloc: Global,
     m: &mut Machine<'_, '_, M>,
@@ -70,6 +71,7 @@ fn ended(alloc: Global, end: End) -> Stepped
 }
 
 /// A step of the running thread that stands at a call of Thread with so many operands, one that makes no thread. It asks nothing.
+#[tactic(auto, using(crate::proofs::Turned::turned_comes, crate::proofs::Turned::turned_ready, crate::proofs::Turned::raised_machine, crate::proofs::Turned::raised_lives, crate::proofs::Turned::raised_stands, crate::proofs::Turned::raised_comes))]
 pub(crate) fn call_turn<M: Copy>(
     alloc: Global,
     m: &mut Machine<'_, '_, M>,
