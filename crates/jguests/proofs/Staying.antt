@@ -1,5 +1,5 @@
 -- Which threads there are behind a turn, and behind one more.
-use Rattle.std.proofs.Common.{◌≡◌, ◌∙◌, ℕ, zero, suc, ◌<◌, Bool, false, List, [], ◌∷◌, ◌++◌, length, Option, Some, None, refl, sym, ap, subst, arith, inl, inr, ◌⊎◌}
+use Rattle.std.proofs.Common.{◌≡◌, ◌∙◌, ℕ, zero, suc, ◌<◌, Bool, List, [], ◌∷◌, ◌++◌, length, Some, None, sym, ap, subst, arith, inl, inr, ◌⊎◌}
 use Rattle.std.specs.Prelude.{Result, Ok, Err, OnOk, slice_get, slice_index_or, slice_set}
 use Rattle.jthreads.specs.declared.thread.Thread.{Thread}
 use Rattle.jguests.specs.declared.guests.Guest.{Guest}

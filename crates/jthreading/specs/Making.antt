@@ -45,9 +45,9 @@ IsHanded Passing (Some k) = ⊤
 IsHanded side context = ⊥
 
 -- These are the operands of a call of the constructor, of which the object is a Thread.
-pub record IsGiven (side : Side) (values : List (Value ℕ)) (h : Heaped) (x : Given) : Type 0 where
+pub record IsGiven (side : Side) (operands : List (Value ℕ)) (h : Heaped) (x : Given) : Type 0 where
   pub context : IsHanded side x.context
-  pub values : values ≡ handed side x.context ++ begun_values x.begun
+  pub values : operands ≡ handed side x.context ++ begun_values x.begun
   pub thread : thread_object h (Ref x.begun.thread) ≡ Some x.begun.thread
 
 -- nothing that the constructor could be given
