@@ -92,7 +92,7 @@ module _ {E : Type 0} (m : Machine E) (side : Side) (count : ℕ) where
   pub init_asked : InitAsks → (x : Given) → IsGivenIn m side count x → (f : Framed E) → m.guests.running.frames ≡ Some f
       → asked_of m f (calls.Thread call) count ≡ Some (Inherits x.context)
   init_asked asks x given f frames =
-      asks m.side (asking_site m.side m.calls m.plan.now (state_of m) f.newest f.below) m.calls m.fixed.shapes.now (things_of m) m.constants.constants m.heap
+      asks m.side side (asking_site m.side m.calls m.plan.now (state_of m) f.newest f.below) m.calls m.fixed.shapes.now (things_of m) m.constants.constants m.heap
       (take count f.newest.operands) x (given f frames)
 
   pub made_answered : {K F : Type 0} (old new : ℕ → Option K) (old_marks new_marks : E → Option F) (rules : Rules K F) → InitAsks → (kept : ℕ) (x : Given) (n : Machine E) (came : Stepped)
@@ -127,7 +127,7 @@ module _ {E : Type 0} (m : Machine E) (side : Side) (count : ℕ) where
   stuck_answered {K} {F} old new old_marks new_marks rules nothing stuck none f frames =
       let s = state_of m in
       let asked : asked_of m f (calls.Thread call) count ≡ None =
-      nothing m.side (asking_site m.side m.calls m.plan.now s f.newest f.below) m.calls m.fixed.shapes.now (things_of m) m.constants.constants m.heap
+      nothing m.side side (asking_site m.side m.calls m.plan.now s f.newest f.below) m.calls m.fixed.shapes.now (things_of m) m.constants.constants m.heap
       (take count f.newest.operands) (none f frames) in
       record {
         given = Kept 0;

@@ -97,7 +97,7 @@ found_names n (Some x) is = kind_names n x.kind is
 abbrev IsGivenSo : Side → List (Value ℕ) → Type 0
 IsGivenSo side values = (runnable : ℕ) × (n : ℕ) × (context : Option ℕ) × IsHanded side context × (values ≡ handed side context ++ Ref runnable ∷ Ref n ∷ [])
 
-module _ {E : Type 0} (own : Side) (at : Site) (s : Store ℕ) where
+module _ (E : Type 0) (own : Side) (at : Site) (s : Store ℕ) where
   -- the constructor has no row, and asks nothing
   abbrev IsNothing : Side → List (Value ℕ) → Type 0
   IsNothing side values = ((r : Rules ℕ E) (es : List E) (inherited : Option ℕ) → thread_row r at s es inherited (threads.Init side) values ≡ None)
@@ -165,12 +165,12 @@ module _ {E : Type 0} (own : Side) (at : Site) (s : Store ℕ) where
       ((λ r es inherited. none.0 (r.inherit (Some k) es inherited)), none.1)
 
 -- with operands that aren't such
-nothing_so : {E : Type 0} (sees : SeesEach) (own : Side) (at : Site) (p : Program) (shapes : Shapes) (things : Things) (constants : List (List ℕ × ℕ)) (h : Heaped)
-    (side : Side) (values : List (Value ℕ)) → IsNotGiven side values h → IsNothing {E = E} own at (store_by p shapes things constants h) side values
-nothing_so {E} sees own at p shapes things constants h side values none = by (some_values {E = E} own at (store_by p shapes things constants h) side values)
+nothing_so : (E : Type 0) (sees : SeesEach) (own : Side) (at : Site) (p : Program) (shapes : Shapes) (things : Things) (constants : List (List ℕ × ℕ)) (h : Heaped)
+    (side : Side) (values : List (Value ℕ)) → IsNotGiven side values h → IsNothing E own at (store_by p shapes things constants h) side values
+nothing_so E sees own at p shapes things constants h side values none = by (some_values E own at (store_by p shapes things constants h) side values)
   where
     by_object : (runnable n : ℕ) (context : Option ℕ) → IsHanded side context → values ≡ handed side context ++ Ref runnable ∷ Ref n ∷ [] → (b : Bool)
-        → is_found (heaps.object_at h n) ≡ b → IsNothing {E = E} own at (store_by p shapes things constants h) side values
+        → is_found (heaps.object_at h n) ≡ b → IsNothing E own at (store_by p shapes things constants h) side values
     by_object runnable n context is e true found =
         absurd (none (record { begun = record { thread = n; runnable = runnable }; context = context }) (record {
           context = is;
@@ -178,12 +178,12 @@ nothing_so {E} sees own at p shapes things constants h side values none = by (so
           thread = found_names n (heaps.object_at h n) found;
         }))
     by_object runnable n context is e false found =
-        subst (λ (vs : List (Value ℕ)). IsNothing {E = E} own at (store_by p shapes things constants h) side vs) (sym e)
-        (others_nothing {E = E} own at (store_by p shapes things constants h) side context runnable n is
+        subst (λ (vs : List (Value ℕ)). IsNothing E own at (store_by p shapes things constants h) side vs) (sym e)
+        (others_nothing E own at (store_by p shapes things constants h) side context runnable n is
         (ap is_one (sees p shapes things constants h n) ∙ found_is p shapes h.objects things (heaps.object_at h n) ∙ found))
 
-    by : IsGivenSo side values ⊎ IsNothing {E = E} own at (store_by p shapes things constants h) side values
-        → IsNothing {E = E} own at (store_by p shapes things constants h) side values
+    by : IsGivenSo side values ⊎ IsNothing E own at (store_by p shapes things constants h) side values
+        → IsNothing E own at (store_by p shapes things constants h) side values
     by (inr is) = is
     by (inl (runnable, n, context, is, e)) = by_object runnable n context is e (is_found (heaps.object_at h n)) refl
 
@@ -198,7 +198,7 @@ given_asks own at s Passing None b is = absurd is
 given_asks own at s Passing (Some k) b is = refl
 
 pub init_asks : SeesEach → InitAsks
-init_asks sees own at p shapes things constants h side values x is =
+init_asks sees own side at p shapes things constants h values x is =
     let s = store_by p shapes things constants h in
     let t = thread_there h x.begun.thread is.thread in
     ap (thread_asks own at s (threads.Init side)) is.values
@@ -206,7 +206,7 @@ init_asks sees own at p shapes things constants h side values x is =
     ∙ ap (inherits own at s x.context) (held_there sees p shapes things constants h x.begun.thread t)
 
 pub init_asks_nothing : SeesEach → InitAsksNothing
-init_asks_nothing sees own at p shapes things constants h side values none = (nothing_so {E = ⊤} sees own at p shapes things constants h side values none).1
+init_asks_nothing sees own side at p shapes things constants h values none = (nothing_so ⊤ sees own at p shapes things constants h side values none).1
 
 pub init_stuck : {E : Type 0} → SeesEach → InitIsStuck E
 init_stuck {E} sees r p plan s f count side shapes things constants h is none =
@@ -214,11 +214,11 @@ init_stuck {E} sees r p plan s f count side shapes things constants h is none =
     let es = entries r p plan s (all f) in
     none_so r p plan s f count (threads.Init side)
     (ap (λ (x : Store ℕ). thread_row r at x es s.running.inherited (threads.Init side) (take count f.newest.operands)) is
-    ∙ (nothing_so {E = E} sees side at p shapes things constants h side (take count f.newest.operands) none).0 r es s.running.inherited)
+    ∙ (nothing_so E sees side at p shapes things constants h side (take count f.newest.operands) none).0 r es s.running.inherited)
 
 pub others_ask_nothing : OthersAskNothing
 unfolding thread_asks
-others_ask_nothing own at s threads.Start values no = refl
-others_ask_nothing own at s threads.Join values no = refl
-others_ask_nothing own at s threads.Yield values no = refl
-others_ask_nothing own at s (threads.Init side) values no = absurd no
+others_ask_nothing own at s threads.Start values none = refl
+others_ask_nothing own at s threads.Join values none = refl
+others_ask_nothing own at s threads.Yield values none = refl
+others_ask_nothing own at s (threads.Init side) values none = absurd none

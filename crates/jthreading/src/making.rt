@@ -81,7 +81,7 @@ fn named_alone<M: Copy>(guests: &Guests<M>, heap: &Heap, count: usize) -> Option
 }
 
 /// What it is given on the passing side, with a context.
-#[tactic(auto, using(crate::proofs::Made::may_less, crate::proofs::Operands::given_within, crate::proofs::Operands::within_nobody, crate::proofs::Operands::within_other))]
+#[tactic(auto, using(crate::proofs::Made::may_less, crate::proofs::Operands::within_nobody))]
 fn named_within<M: Copy>(guests: &Guests<M>, heap: &Heap, count: usize) -> Option<Given>
     requires may { MayCall count guests.now }
     ensures { Named sides.Passing count guests.now heap.now result }
