@@ -5,8 +5,6 @@ use Rattle.jheap.specs.declared.cell.Kind.{Kind}
 use Rattle.jheap.specs.declared.cell.Kind.TheVariants as kinds
 use Rattle.jheap.specs.Heaps as heaps
 use Rattle.jheap.specs.Heaps.{Heaped}
-use Rattle.jlib.specs.declared.calls.LibCall.TheVariants as calls
-use Rattle.jlib.specs.declared.calls.ThreadCall.{ThreadCall}
 use Rattle.jlib.specs.declared.calls.ThreadCall.TheVariants as threads
 use Rattle.jlib.specs.declared.classes.LibClass.{LibClass}
 use Rattle.jlib.specs.declared.classes.LibClass.TheVariants as lib
@@ -17,9 +15,7 @@ use Rattle.jops.specs.declared.value.Value.TheVariants.{Int, Long, Ref, Ctx}
 use Rattle.jprogram.specs.declared.part.ClassRef.{ClassRef}
 use Rattle.jprogram.specs.declared.part.ClassRef.TheVariants as refs
 use Rattle.jprogram.specs.Classes.{Program}
-use Rattle.jmachine.specs.declared.plan.Plan.{Plan}
-use Rattle.jmachine.specs.Acts.{Row, State}
-use Rattle.jmachine.specs.Asked.{Ask, Inherits, inherits, run_asks, thread_asks}
+use Rattle.jmachine.specs.Asked.{inherits, thread_asks}
 use Rattle.jmachine.specs.Asking.{thread_made, thread_row}
 use Rattle.jmachine.specs.Objects.{Object, Instance, Thrown, Text, Builder, Piece, Permission, Context, Thread, Bare, Array}
 use Rattle.jmachine.specs.Security.{Rules, handed}
@@ -29,16 +25,15 @@ use Rattle.jmachine.specs.Store.{Store, object_at}
 use Rattle.jmachine.specs.Threads.{thread}
 use Rattle.jstate.specs.declared.shapes.Shape.{Shape}
 use Rattle.jstate.specs.declared.shapes.Shapes.{Shapes}
-use Rattle.jstate.specs.Framed.{Framed, all}
+use Rattle.jstate.specs.Framed.{all}
 use Rattle.jstate.specs.Numbers.{class_numbered}
 use Rattle.jstate.specs.Seen as seen
-use Rattle.jstate.specs.Seen.{Things, class_by, first, kind_by, library_by, number_in, object_by, store_by}
+use Rattle.jstate.specs.Seen.{Things, class_by, kind_by, library_by, object_by, store_by}
 use Rattle.jstate.specs.SeenLaws.{SeesEach}
 use Rattle.jthreading.specs.declared.making.Begun.{Begun}
-use Rattle.jthreading.specs.declared.making.Given.{Given}
-use Rattle.jthreading.specs.Finding.{is_thread, thread_kind, thread_object}
-use Rattle.jthreading.specs.Laws.{InitAsks, InitAsksNothing, InitIsStuck, IsNoInit, OthersAskNothing}
-use Rattle.jthreading.specs.Making.{IsGiven, IsHanded, IsNotGiven, begun_values}
+use Rattle.jthreading.specs.Finding.{is_thread, thread_kind}
+use Rattle.jthreading.specs.Laws.{InitAsks, InitAsksNothing, InitIsStuck, OthersAskNothing}
+use Rattle.jthreading.specs.Making.{IsHanded, IsNotGiven, begun_values}
 use Rattle.jthreading.proofs.Made.{held_there, thread_there}
 use Rattle.jthreading.proofs.Rows.{none_so}
 

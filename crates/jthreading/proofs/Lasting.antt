@@ -1,10 +1,9 @@
 -- Which threads and which frames a call leaves.
-use Rattle.std.proofs.Common.{◌≡◌, ◌∙◌, ℕ, zero, suc, List, [], ◌∷◌, ◌++◌, Option, Some, None, refl, sym, ap, ap₂, subst, inr}
+use Rattle.std.proofs.Common.{◌≡◌, ◌∙◌, ℕ, zero, suc, List, [], ◌∷◌, ◌++◌, refl, sym, ap, ap₂, subst, inr}
 use Rattle.std.specs.Prelude.{option_map, slice_index_or, true}
 use Rattle.jthreads.specs.declared.thread.Thread.{Thread}
 use Rattle.jthreads.specs.declared.table.Joined.TheVariants.{AtOnce}
 use Rattle.jthreads.specs.Table.{added, is_alive, is_started, join_answer, joined, lives_at, table_after_start, unstarted}
-use Rattle.jstate.specs.Framed.{Framed}
 use Rattle.jguests.specs.declared.guests.Guest.{Guest}
 use Rattle.jguests.specs.declared.guests.Guests.{Guests}
 use Rattle.jguests.specs.declared.turns.Turned.{Turned}

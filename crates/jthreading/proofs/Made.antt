@@ -37,7 +37,7 @@ use Rattle.jstate.specs.SeenLaws.{IsNoPiece, SeesEach, Writes}
 use Rattle.jacts.proofs.Costs.{unpaid}
 use Rattle.jguests.specs.declared.guests.Guests.{Guests}
 use Rattle.jguests.specs.declared.guests.Guest.{Guest}
-use Rattle.jguests.specs.Guested.{AreGuests, RunsAs, framed_as, guest_by, guests_of, state_by, with_frames}
+use Rattle.jguests.specs.Guested.{AreGuests, guest_by, guests_of, state_by}
 use Rattle.jthreading.specs.declared.making.Begun.{Begun}
 use Rattle.jthreading.specs.declared.making.Given.{Given}
 use Rattle.jthreading.specs.Finding.{is_thread, thread_kind, thread_object}

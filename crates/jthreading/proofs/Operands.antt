@@ -8,7 +8,6 @@ use Rattle.jops.specs.declared.value.Value.TheVariants.{Ref, Ctx}
 use Rattle.jmachine.specs.Security.{handed}
 use Rattle.jstate.specs.Framed.{Framed}
 use Rattle.jthreading.specs.declared.making.Begun.{Begun}
-use Rattle.jthreading.specs.declared.making.Given.{Given}
 use Rattle.jthreading.specs.Making.{IsBegun, IsGiven, IsHanded, IsNotGiven, begun_values}
 use Rattle.jthreading.proofs.Rows.{taken_many}
 

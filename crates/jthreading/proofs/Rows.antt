@@ -38,7 +38,6 @@ use Rattle.jstate.specs.Seen.{Things, class_by, first, kind_by, library_by, obje
 use Rattle.jstate.specs.SeenLaws.{SeesEach}
 use Rattle.jacts.proofs.Costs.{unpaid}
 use Rattle.jcalls.specs.Throws.{raising}
-use Rattle.jguests.specs.declared.guests.Guest.{Guest}
 use Rattle.jguests.specs.declared.guests.Guests.{Guests}
 use Rattle.jguests.specs.declared.turns.Turned.{Turned}
 use Rattle.jguests.specs.Turning.{Turns, outcome_of}

@@ -1,5 +1,5 @@
 -- Laws: what calls of Thread ask of access control, and which constructors have no step.
-use Rattle.std.specs.Prelude.{◌≡◌, ⊤, ℕ, List, Option, Some, None, take}
+use Rattle.std.specs.Prelude.{◌≡◌, ⊤, ℕ, List, Some, None, take}
 use Rattle.jheap.specs.Heaps.{Heaped}
 use Rattle.jlib.specs.declared.calls.LibCall.TheVariants as calls
 use Rattle.jlib.specs.declared.calls.ThreadCall.{ThreadCall}
@@ -9,7 +9,7 @@ use Rattle.jops.specs.declared.value.Value.{Value}
 use Rattle.jprogram.specs.Classes.{Program}
 use Rattle.jmachine.specs.declared.plan.Plan.{Plan}
 use Rattle.jmachine.specs.Acts.{NoStep, State}
-use Rattle.jmachine.specs.Asked.{Ask, Inherits, run_asks}
+use Rattle.jmachine.specs.Asked.{Inherits, run_asks}
 use Rattle.jmachine.specs.Security.{Rules}
 use Rattle.jmachine.specs.Sites.{Site}
 use Rattle.jmachine.specs.Store.{Store}

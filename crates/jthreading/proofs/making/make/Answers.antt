@@ -1,7 +1,6 @@
 use Rattle.std.proofs.Common.{◌≡◌, ◌∙◌, ◌+◌, ℕ, [], suc, Option, Some, length, sym, ap, arith}
 use Rattle.std.specs.Prelude.{option_map}
 use Rattle.jheap.specs.Heaps as heaps
-use Rattle.jlib.specs.declared.calls.ThreadCall.TheVariants as threads
 use Rattle.jmachine.specs.Acts.{State, Went}
 use Rattle.jmachine.specs.Objects.{Thread}
 use Rattle.jmachine.specs.Store.{with_object}

@@ -1,4 +1,4 @@
-use Rattle.jthreading.proofs.Operands.{alone_few, alone_nobody, given_alone}
+use Rattle.jthreading.proofs.Operands.{alone_few, given_alone}
 use Rattle.jthreading.proofs.Rows.{few_are}
 use Rattle.jthreading.proofs.making.named_alone.Goals as goal
 
