@@ -95,10 +95,6 @@ as_settled r p plan s raised_ways.Full class type g t o e is = is
 as_settled r p plan s raised_ways.Handled class type g t o e is = rw (← e) is
 as_settled r p plan s raised_ways.Uncaught class type g t o e is = rw (← e) is
 
--- the outcome of what a call came to
-outcome_is : {E : Type 0} (r : Rules ℕ E) (p : Program) (plan : Plan) (s : State ℕ E) (f : Framed E) (came : Came r p plan s f) {x : Came r p plan s f} → came ≡ x → came.0 ≡ x.0
-outcome_is {E} r p plan s f came is = ap (λ (c : Came r p plan s f). c.0) is
-
 module _ {E : Type 0} (marks : List E) (p : Program) (f g : Framed E) (h k : Heaped) where
   pub raises_as : Told E → (class : ThrownClass) (done : Raised) (came : Stepped) → came ≡ stepped_as done (refs.Lib (lib.Thrown class))
       → Raises marks (handler_at p (type_of p (refs.Lib (lib.Thrown class)))) (lib.Thrown class) f h done g k → RaisesAs marks p class f h came g k
@@ -121,7 +117,7 @@ module _ {E : Type 0} (marks : List E) (p : Program) (f g : Framed E) (h k : Hea
       → SettlesCall marks p (calls.Raises (lib.Thrown class)) count f h came g k
   raises_call class count came raises r plan s shapes things constants e both marked top seen is =
       let Q : Outcome (State ℕ E) → Type 0 = λ o. SteppedAs r p plan s came g (store_by p shapes things constants k) o in
-      subst Q (sym (outcome_is r p plan s e both is)) (raises r plan s shapes things constants marked seen)
+      subst Q (sym is.0) (raises r plan s shapes things constants marked seen)
 
 -- a class that can be thrown is one
 module _ {E F : Type 0} (marks : List E) (p : Program) (f g : Framed E) (h k : Heaped) (class : ThrownClass) (c : LibClass) where
@@ -139,14 +135,14 @@ module _ {E F : Type 0} (marks : List E) (p : Program) (f g : Framed E) (h k : H
 
 module _ {E : Type 0} (marks : List E) (p : Program) (f : Framed E) (h : Heaped) (count : ℕ) where
   pub call_begun : SettlesCall marks p calls.Begun count f h steps.Went f h
-  call_begun r plan s shapes things constants e both marked top seen is = outcome_is r p plan s e both is ∙ ap (λ (t : Store ℕ). went r p plan s (all f) t []) seen
+  call_begun r plan s shapes things constants e both marked top seen is = is.0 ∙ ap (λ (t : Store ℕ). went r p plan s (all f) t []) seen
 
   pub call_stuck : SettlesCall marks p calls.Stuck count f h steps.Stuck f h
-  call_stuck r plan s shapes things constants e both marked top seen is = outcome_is r p plan s e both is
+  call_stuck r plan s shapes things constants e both marked top seen is = is.0
 
   pub call_runs : (call : LibCall) → SettlesCall marks p (calls.Runs call) count f h (steps.Asks call count) f h
   call_runs call r plan s shapes things constants e both marked top seen is =
-      rw is.0 (sym top, sym seen, outcome_is r p plan s e both is.1)
+      rw is.0 (sym top, sym seen, ap (λ (c : Came E). c.outcome) is.1)
 
 -- ---- what is thrown
 

@@ -161,9 +161,9 @@ CallLeft way count f = ⊤
 abbrev pub SettlesCall : {E : Type 0} → List E → Program → Called → (count : ℕ) → Framed E → Heaped → Stepped → Framed E → Heaped → Type 0
 SettlesCall {E} marks p way count f h done g k =
     (r : Rules ℕ E) (plan : Plan) (s : State ℕ E) (shapes : Shapes) (things : Things) (constants : List (List ℕ × ℕ)) (e : Framed E)
-    (came : Came r p plan s e)
+    (came : Came E)
     → marks ≡ marks_of r.entry_of p → s.running.frames ≡ all e → s.store ≡ store_by p shapes things constants h
-    → CalledAs r p plan s count e way f came → SteppedAs r p plan s done g (store_by p shapes things constants k) came.0
+    → CalledAs r p plan s count e way f came → SteppedAs r p plan s done g (store_by p shapes things constants k) came.outcome
 
 -- A return of a kind did what a step does that executes it, where these are the objects of the heap.
 abbrev pub ReturnsAs : {E : Type 0} → Returned → Heaped → Counts → List E → Framed E → Leaving → Framed E → Type 0
