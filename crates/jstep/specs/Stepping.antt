@@ -51,11 +51,12 @@ use Rattle.jcalls.specs.Marks.{AreStanding, Stand, marks_of}
 use Rattle.jcalls.specs.Readiness.{AreCounted}
 use Rattle.jcalls.specs.Returns.{LeftAs}
 use Rattle.jcalls.specs.Throws.{raising}
+use Rattle.jshapes.specs.Numbered.{AreRows}
 use Rattle.jstep.specs.declared.fixed.Fixed.{Fixed}
 use Rattle.jstep.specs.declared.outcomes.Stepped.{Stepped}
 use Rattle.jstep.specs.declared.outcomes.Stepped.TheVariants as steps
 use Rattle.jstep.specs.Behind.{behind}
-use Rattle.jstep.specs.Rows.{AreRows, IsHere, IsRaising}
+use Rattle.jstep.specs.Rows.{IsHere, IsRaising}
 
 -- ---- what stands while a program runs
 

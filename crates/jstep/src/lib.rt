@@ -15,7 +15,7 @@ mod settling;
 mod stepping;
 mod throwing;
 
-pub use arrays::{NumberArrays, array};
+pub use arrays::array;
 pub use computing::{plain, push};
 pub use fixed::Fixed;
 pub use jumps::{flow, jump, lookup, table};

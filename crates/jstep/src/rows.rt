@@ -1,7 +1,8 @@
 ghost use Rattle.std.specs.Prelude.{◌≡◌, ◌<◌, ◌+◌, ◌^◌, IfOk, OnOk};
 ghost use Rattle.jready.specs.Laid.{Within};
 ghost use Rattle.jstate.specs.Seen.{AreBuilt};
-ghost use Rattle.jstep.specs.Rows.{AreRows, IsHere, Runs, Stays};
+ghost use Rattle.jshapes.specs.Numbered.{AreRows};
+ghost use Rattle.jstep.specs.Rows.{IsHere, Runs, Stays};
 
 use crate::arrays::array;
 use crate::computing::{plain, push};
