@@ -149,7 +149,7 @@ module _ (p : Program) (shapes : Shapes) (things others : Things) where
   same_nothing x none objects = kind_nothing objects x.kind x.cells none
 
 pub more_stay : MoreStayAlike
-more_stay p shapes things objects x none others e =
+more_stay objects x none p shapes things others e =
     all_same p shapes things others (objects ++ x ∷ [])
     (all_more (Same p shapes things others) objects x (each_same p shapes things others objects e) (same_nothing p shapes things others x none))
 
@@ -158,15 +158,15 @@ first_zero zero = refl
 first_zero (suc len) = refl
 
 pub made_stays : MadeStaysAlike
-made_stays p shapes things h kind len = more_stay p shapes things h.objects (heaps.fresh kind len) (λ holder. first_zero len)
+made_stays h kind len = more_stay h.objects (heaps.fresh kind len) (λ holder. first_zero len)
 
 not_both : (b : Bool) → b ≡ false → b ≡ true → ⊥
 not_both true is e = cc
 not_both false is e = cc
 
 pub written_stays : WrittenStaysAlike
-written_stays p shapes things h zero i n x at none others e = e
-written_stays p shapes things h (suc o) i n x at none others e =
+written_stays h zero i n x at none p shapes things others e = e
+written_stays h (suc o) i n x at none p shapes things others e =
     let f : heaps.Object → heaps.Object = λ y. record y { cells = slice_set y.cells i n } in
     all_same p shapes things others (heaps.changed f o h.objects)
     (all_changed (Same p shapes things others) f o h.objects x at (each_same p shapes things others h.objects e)

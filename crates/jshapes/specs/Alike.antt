@@ -33,6 +33,10 @@ AreAlike p shapes things others objects = objects_by p shapes others objects ≡
 abbrev pub StayAlike : Program → Shapes → Things → (before after : List heaps.Object) → Type 0
 StayAlike p shapes things before after = (others : Things) → AreAlike p shapes things others before → AreAlike p shapes things others after
 
+-- So it is whatever the program, the shapes and what is kept are: the objects that are name nothing of it that those before didn't.
+abbrev pub NamesNoMore : (before after : List heaps.Object) → Type 0
+NamesNoMore before after = (p : Program) (shapes : Shapes) (things : Things) → StayAlike p shapes things before after
+
 -- So it is behind a row, but where there is no step.
 abbrev pub LeavesAlike : Program → Shapes → Things → Way → (before after : List heaps.Object) → Type 0
 LeavesAlike p shapes things ways.Stuck before after = ⊤
@@ -73,18 +77,16 @@ RowsStayAlike E = (p : Program) (shapes : Shapes) (things : Things) (h k : Heape
 
 -- One more object that names nothing leaves them alike,
 abbrev pub MoreStayAlike : Type 0
-MoreStayAlike = (p : Program) (shapes : Shapes) (things : Things) (objects : List heaps.Object) (x : heaps.Object) → NamesNothing x
-    → StayAlike p shapes things objects (objects ++ x ∷ [])
+MoreStayAlike = (objects : List heaps.Object) (x : heaps.Object) → NamesNothing x → NamesNoMore objects (objects ++ x ∷ [])
 
 -- and so does one that is made;
 abbrev pub MadeStaysAlike : Type 0
-MadeStaysAlike = (p : Program) (shapes : Shapes) (things : Things) (h : Heaped) (kind : Kind) (len : ℕ)
-    → StayAlike p shapes things h.objects (heaps.made h kind len).objects
+MadeStaysAlike = (h : Heaped) (kind : Kind) (len : ℕ) → NamesNoMore h.objects (heaps.made h kind len).objects
 
 -- a cell that is written does, in an object that holds none of those numbers.
 abbrev pub WrittenStaysAlike : Type 0
-WrittenStaysAlike = (p : Program) (shapes : Shapes) (things : Things) (h : Heaped) (o i n : ℕ) (x : heaps.Object) → heaps.object_at h o ≡ Some x
-    → is_holder_kind x.kind ≡ false → StayAlike p shapes things h.objects (heaps.with_cell h o i n).objects
+WrittenStaysAlike = (h : Heaped) (o i n : ℕ) (x : heaps.Object) → heaps.object_at h o ≡ Some x → is_holder_kind x.kind ≡ false
+    → NamesNoMore h.objects (heaps.with_cell h o i n).objects
 
 -- ---- what lasts
 

@@ -1,6 +1,7 @@
 ghost use Rattle.std.specs.Prelude.{◌≡◌, ◌<◌, ◌+◌, ◌^◌, [], ℕ, IfOk, List, OnOk, length};
 ghost use Rattle.jprogram.specs.Classes.{Program};
 ghost use Rattle.jready.specs.Meant.{array_instr};
+ghost use Rattle.jstate.specs.Celled.{StayCelled};
 ghost use Rattle.jstate.specs.Seen.{AreBuilt, Things, store_by};
 ghost use Rattle.jacts.specs.Ways.{Acts, leaves};
 ghost use Rattle.jshapes.specs.Numbered.{AreRows};
@@ -15,6 +16,7 @@ use std::alloc::{AllocError, Global};
 
 /// An instruction with an array, but a store of a reference (JVMS 6.5).
 #[inline]
+#[tactic(auto, using(crate::proofs::Leaving::same_celled))]
 pub fn array<M: Copy>(
     alloc: Global,
     frames: &mut Frames<M>,
@@ -32,6 +34,7 @@ pub fn array<M: Copy>(
         (leaves way [] frames.new.newest (store_by p shapes.now things constants heap.new))) }
     ensures below { OnOk result (frames.new.below ≡ frames.old.below) }
     ensures built { OnOk result (AreBuilt heap.new.objects) }
+    ensures celled { OnOk result (StayCelled heap.old.objects heap.new.objects) }
 {
     match f {
         ArrayInstr::New(kind) => new_array(alloc, frames, heap, numbers.of(kind)),
