@@ -52,7 +52,7 @@ fn thrown_number(c: Thrown) -> u32
 
 /// A class of what can be thrown, as one.
 #[inline]
-pub(crate) fn thrown_class(class: LibClass) -> Thrown
+pub fn thrown_class(class: LibClass) -> Thrown
     requires { IsThrown class }
     ensures { class ≡ lib.Thrown result }
 {
