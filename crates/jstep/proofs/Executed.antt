@@ -148,7 +148,7 @@ module _ {E : Type 0} (law : StepsAt E) (p : Program) (x : Fixed E) (counts : Co
       let A : Option (Ask ℕ) → Type 0 = λ a. AsksAs r p plan s f done a in
       record {
         outcome = subst P (sym (law r p plan s f it top is)) came.outcome;
-        asked = subst A (sym (asks_there r.side p plan s f it top is)) came.asked;
+        asked = subst A (sym (asks_there p plan s f r.side it top is)) came.asked;
         reached = reached_there r p plan s f it is done came.reached;
       }
 

@@ -4,6 +4,7 @@ use Rattle.std.specs.Prelude.{IfOk, Ok, Err, OnOk, Result}
 use Rattle.jheap.specs.declared.cell.Kind.TheVariants as kinds
 use Rattle.jheap.specs.Heaps as heaps
 use Rattle.jheap.specs.Heaps.{Heaped}
+use Rattle.jlib.specs.declared.classes.LibClass.{LibClass}
 use Rattle.jlib.specs.declared.classes.Thrown.{Thrown as ThrownClass}
 use Rattle.jprogram.specs.Classes.{Program}
 use Rattle.jstate.specs.declared.shapes.Shapes.{Shapes}
@@ -23,6 +24,10 @@ use Rattle.jstep.specs.Stepping.{StaysStuck, StepsAlike}
 pub same_celled : (objects : List heaps.Object) → StayCelled objects objects
 same_celled objects shapes celled = celled
 
+pub same_celled_if : {A F : Type 0} (r : Result A F) (objects : List heaps.Object) → OnOk r (StayCelled objects objects)
+same_celled_if (Ok x) objects = same_celled objects
+same_celled_if (Err e) objects = tt
+
 pub celled_behind : {A F : Type 0} (r : Result A F) (before between after : List heaps.Object) → StayCelled before between → OnOk r (StayCelled between after)
     → OnOk r (StayCelled before after)
 celled_behind (Ok x) before between after first second shapes celled = second shapes (first shapes celled)
@@ -32,6 +37,10 @@ celled_behind (Err e) before between after first second = tt
 
 pub same_names : (objects : List heaps.Object) → NamesNoMore objects objects
 same_names objects p shapes things others e = e
+
+pub same_names_if : {A F : Type 0} (r : Result A F) (objects : List heaps.Object) → OnOk r (NamesNoMore objects objects)
+same_names_if (Ok x) objects = same_names objects
+same_names_if (Err e) objects = tt
 
 pub raised_names : MadeStaysAlike → (class : ThrownClass) (h k : Heaped) → RaisedHeap class h k → NamesNoMore h.objects k.objects
 raised_names made class h k (inl same) =
@@ -75,6 +84,11 @@ module _ (p : Program) (shapes : Shapes) (before between after : List heaps.Obje
       → OnOk r (NamesNoMore between after) → IfOk r (StaysStuck way) → IfOk r (λ done. (things : Things) → StepsAlike p shapes things done before after)
   row_alike (Ok done) way first second stuck things = behind_row things way done (first p things) second stuck
   row_alike (Err e) way first second stuck = tt
+
+-- what raises isn't stuck
+pub never_stuck : {F : Type 0} (r : Result Stepped F) (class : LibClass) (way : Way) → way ≡ ways.Raises class → IfOk r (StaysStuck way)
+never_stuck (Ok done) class way is = rw is tt
+never_stuck (Err e) class way is = tt
 
 -- the program of what is known is that of the calls
 pub alike_by : {F : Type 0} (r : Result Stepped F) (q p : Program) → q ≡ p → (shapes : Shapes) (before after : List heaps.Object)

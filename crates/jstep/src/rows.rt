@@ -20,7 +20,7 @@ use std::alloc::{AllocError, Global};
 
 /// The row of an instruction by number that is here.
 #[inline]
-#[tactic(auto, using(crate::proofs::Leaving::same_celled))]
+#[tactic(auto, using(crate::proofs::Leaving::same_celled, crate::proofs::Leaving::same_celled_if))]
 fn run_row<M: Copy>(
     alloc: Global,
     frames: &mut Frames<M>,

@@ -57,7 +57,7 @@ fn step_row<M: Copy>(
 
 /// A step that says where the method goes on.
 #[inline]
-#[tactic(auto, using(crate::proofs::Leaving::same_celled))]
+#[tactic(auto, using(crate::proofs::Leaving::same_celled, crate::proofs::Leaving::same_celled_if))]
 fn step_flow<M: Copy>(
     alloc: Global,
     frames: &mut Frames<M>,
@@ -88,7 +88,7 @@ fn step_flow<M: Copy>(
 
 /// A step of a thread, whose newest frame stands at an instruction that is here.
 #[inline]
-#[tactic(auto, using(crate::proofs::Leaving::same_celled))]
+#[tactic(auto, using(crate::proofs::Leaving::same_celled, crate::proofs::Leaving::same_celled_if))]
 pub fn step<M: Copy>(
     alloc: Global,
     frames: &mut Frames<M>,

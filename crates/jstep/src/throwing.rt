@@ -57,7 +57,7 @@ fn serves<M: Copy>(
 }
 
 /// A step that throws (JVMS 6.5: athrow).
-#[tactic(auto, using(crate::proofs::Leaving::same_celled, crate::proofs::Leaving::same_names))]
+#[tactic(auto, using(crate::proofs::Leaving::same_celled, crate::proofs::Leaving::same_names, crate::proofs::Leaving::same_celled_if, crate::proofs::Leaving::same_names_if))]
 pub(crate) fn step_throw<M: Copy>(
     alloc: Global,
     frames: &mut Frames<M>,
