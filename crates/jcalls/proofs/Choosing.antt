@@ -25,6 +25,7 @@ use Rattle.jmachine.specs.Asked.{Ask, asked_by, called_asks, used_asks}
 use Rattle.jmachine.specs.Calls.{Target, Fails, is_hidden, no_access, null_pointer, on_object, on_value, reached, receiver, target, unless, wrong_class}
 use Rattle.jmachine.specs.Doing.{call, doing, used}
 use Rattle.jmachine.specs.Objects.{Object, id_of}
+use Rattle.jmachine.specs.Operands.{Taken}
 use Rattle.jmachine.specs.Security.{Rules}
 use Rattle.jmachine.specs.Sites.{Site}
 use Rattle.jmachine.specs.Steps.{entries, executed, own_fields, site}
@@ -37,7 +38,7 @@ use Rattle.jstate.specs.Numbers.{class_numbered}
 use Rattle.jstate.specs.Seen.{Things, class_by, kind_by, object_by, store_by, user_by}
 use Rattle.jstate.specs.SeenLaws.{SeesEach}
 use Rattle.jcalls.specs.declared.receiver.Receiver.TheVariants as receivers
-use Rattle.jcalls.specs.Calling.{IsByClass, IsOfInterface, IsQuietly, Takes, calls, comes, found_as, id_by, is_full, receiver_seen, selected_on, stepped}
+use Rattle.jcalls.specs.Calling.{Came, IsByClass, IsOfInterface, IsQuietly, Takes, calls, comes, found_as, id_by, is_full, receiver_seen, selected_on, stepped}
 
 -- ---- the class of an object
 
@@ -136,8 +137,10 @@ module _ (law : SeesEach) (p : Program) (shapes : Shapes) (things : Things) (con
 
 -- ---- a step that calls
 
-alike : {E : Type 0} {o q : Outcome (State ℕ E)} {a b : Option (Ask ℕ)} {t u : Option Target} → o ≡ q → a ≡ b → t ≡ u
-    → record { outcome = o; asked = a; reached = t } ≡ record { outcome = q; asked = b; reached = u }
+abbrev made : {E : Type 0} → Outcome (State ℕ E) → Option (Ask ℕ) → Option Target → Came E
+made o a t = record { outcome = o; asked = a; reached = t }
+
+alike : {E : Type 0} {o q : Outcome (State ℕ E)} {a b : Option (Ask ℕ)} {t u : Option Target} → o ≡ q → a ≡ b → t ≡ u → made o a t ≡ made q b u
 alike e f g = rw (e, f, g) refl
 
 module _ {E : Type 0} (r : Rules ℕ E) (p : Program) (plan : Plan) (s : State ℕ E) (f : Framed E) (count : ℕ) (c : CallMeaning) where
@@ -169,7 +172,7 @@ module _ {E : Type 0} (r : Rules ℕ E) (p : Program) (plan : Plan) (s : State �
 
   -- and what is reached
   reached_step : (by : How) (to : Option Target) → Takes p s by c count f → target at s.store by c values ≡ to → (calls r p plan s f by c).reached ≡ to
-  reached_step by to takes is = rw takes is
+  reached_step by to takes is = ap (λ (o : Option (Taken ℕ)). option_and_then (λ t. target at s.store by c t.values) o) takes ∙ is
 
   -- what the call comes to is known
   pub comes_so : (by : How) (t : Target) → Takes p s by c count f → target at s.store by c values ≡ Some t → calls r p plan s f by c ≡ comes r p plan s f count t

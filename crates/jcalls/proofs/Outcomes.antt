@@ -116,10 +116,10 @@ module _ {E : Type 0} (count : ℕ) (what : Found E) (depth : ℕ) (f g : Framed
         subst P (sym e) (subst Q (sym h) (subst R (sym k) (all_faces way kind l)))
 
 module _ {E : Type 0} (count : ℕ) (what : Found E) (depth : ℕ) (f g : Framed E) (way : Called) (dropped : g ≡ holding (drop count f.newest.operands) f) where
-  raised_as : (class : LibClass) → way ≡ ways.Raises class → (r : Rules ℕ E) (p : Program) (plan : Plan) (s : State ℕ E) (came : Came E)
-      → came ≡ comes r p plan s f count (Fails class)
-      → CalledAs r p plan s count f way g came
-  raised_as class w r p plan s came is = rw (w, dropped, is) (fails_so count f r p plan s class)
+  raised_as : (class : LibClass) → way ≡ ways.Raises class → (r : Rules ℕ E) (p : Program) (plan : Plan) (s : State ℕ E) (did : Came E)
+      → did ≡ comes r p plan s f count (Fails class)
+      → CalledAs r p plan s count f way g did
+  raised_as class w r p plan s did is = rw (w, dropped, is) (fails_so count f r p plan s class)
 
   pub on_null : way ≡ ways.Raises null_pointer → CallsOn receivers.Null count what depth f way g
   on_null w r p plan s shapes things constants h by c is seen on d takes found =
