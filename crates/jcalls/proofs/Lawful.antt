@@ -1,5 +1,5 @@
 -- What a step reaches and asks that executes a call.
-use Rattle.std.proofs.Common.{◌≡◌, ◌∙◌, ℕ, take, Option, Some, sym, ap}
+use Rattle.std.proofs.Common.{◌∙◌, ℕ, Option, sym, ap}
 use Rattle.std.specs.Prelude.{option_and_then}
 use Rattle.jmachine.specs.Calls.{Target, target}
 use Rattle.jmachine.specs.Operands.{Taken}
