@@ -1,2 +1,3 @@
 pub mod Growing
+pub mod Lasting
 pub mod Laying

@@ -1,3 +1,4 @@
+pub mod Alike
 pub mod Fielded
 pub mod Numbered
 pub mod Tied

@@ -3,10 +3,12 @@
 
 mod arrays;
 mod fields;
+mod laws;
 mod lines;
 mod paths;
 mod shapes;
 mod users;
 
 pub use arrays::NumberArrays;
+pub use laws::alike_laws;
 pub use shapes::{Shaped, shapes_of};
