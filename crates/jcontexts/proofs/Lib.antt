@@ -1,5 +1,10 @@
+mod Acting
+mod Beginning
+mod Entering
 mod Holding
 mod Keeping
 mod Limiting
 mod Making
+mod Requesting
 mod Snapping
+mod Wanting
