@@ -25,10 +25,15 @@ fn handed_on(side: Side, inherited: Option<u64>) -> Option<u64>
 }
 
 /// The one frame of a thread that begins with a method, with a context, if there is one, and its object.
-fn first_frame<M: Copy>(alloc: Global, callee: Callee<M>, object: u32, ctx: Option<u64>) -> Result<Frames<M>, AllocError>
+fn first_frame<M: Copy>(
+    alloc: Global,
+    callee: Callee<M>,
+    object: u32,
+    ctx: Option<u64>,
+) -> Result<Frames<M>, AllocError>
     ensures { IfOk result (λ f. f ≡ record {
-        newest = starting callee.method callee.most (option_to_list (option_map values.Ctx ctx) ++ values.Ref object ∷ []) callee.mark;
-        below = [];
+      newest = starting callee.method callee.most (option_to_list (option_map values.Ctx ctx) ++ values.Ref object ∷ []) callee.mark;
+      below = [];
     }) }
 {
     match ctx {
@@ -68,6 +73,7 @@ pub fn begin<M: Copy>(
 
 /// Raises an exception of a class where a thread was to begin with the `run` of its Runnable. No frame handles it, so that the thread has
 /// ended by it. The answer is no where the heap has too few cells for it, and then nothing has changed.
+#[tactic(auto, using(crate::proofs::Beginning::made_first, crate::proofs::Beginning::made_heap, crate::proofs::Beginning::made_built, crate::proofs::Beginning::made_celled))]
 pub fn fail_beginning<M>(alloc: Global, heap: &mut Heap, class: Thrown) -> Result<bool, AllocError>
     requires built { AreBuilt heap.old.objects }
     ensures row { IfOk result (λ room. FailsFirst M class heap.old room heap.new) }
@@ -80,10 +86,8 @@ pub fn fail_beginning<M>(alloc: Global, heap: &mut Heap, class: Thrown) -> Resul
     built_laws();
     celled_laws();
     let number = thrown_number(class);
-    let Some(_) = heap.make(alloc, Kind::Object(number), 1)? else {
-        return Ok(false);
-    };
-    Ok(true)
+    let made = heap.make(alloc, Kind::Object(number), 1)?;
+    Ok(made.is_some())
 }
 
 /// The laws of threads that begin without a frame: one without a Runnable ends, and one is stuck whose Runnable is no object, or has its
