@@ -18,4 +18,4 @@ pub use contexts::{given, kept_of};
 pub use entering::{Entering, enter, entering, snapshotting};
 pub use requests::Form;
 pub use snapshots::snapshot;
-pub use wanting::{Privileging, Wanted, privileging};
+pub use wanting::{Privileging, Wanted, find_privilege};

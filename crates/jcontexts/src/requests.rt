@@ -167,7 +167,7 @@ fn passing_limited<M: Copy>(frames: &Frames<M>) -> Option<Request>
 
 /// What a call of doPrivileged is given with so many operands, where they are such.
 #[tactic(auto, using(crate::proofs::Requesting::other_count))]
-pub(crate) fn request<M: Copy>(
+pub(crate) fn request_by<M: Copy>(
     frames: &Frames<M>,
     side: Side,
     form: Form,

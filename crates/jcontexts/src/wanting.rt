@@ -7,7 +7,7 @@ ghost use Rattle.jcontexts.specs.Privileging.{FindsBy, WantsAction, WantsBy, Wan
 
 use crate::arrays::limits;
 use crate::contexts::given;
-use crate::requests::{Besides, Form, Request, request};
+use crate::requests::{Besides, Form, Request, request_by};
 use jbase::Seq;
 use jheap::Heap;
 use jlib::Side;
@@ -149,7 +149,7 @@ fn by_request<M>(
 /// What a call of doPrivileged wants, of a form on a side, with so many operands. A privilege is to be asked for where the action's
 /// `run` is called.
 #[tactic(auto, using(crate::proofs::Wanting::nothing_found, crate::proofs::Wanting::found_so))]
-pub fn privileging<M: Copy>(
+pub fn find_privilege<M: Copy>(
     alloc: Global,
     frames: &Frames<M>,
     heap: &Heap,
@@ -163,7 +163,7 @@ pub fn privileging<M: Copy>(
     requires { count ≤ length frames.now.newest.operands }
     ensures { IfOk result (λ w. FindsBy M side form permissions.now kept.now shapes.now heap.now (take count frames.now.newest.operands) w) }
 {
-    match request(frames, side, form, count) {
+    match request_by(frames, side, form, count) {
         None => Ok(Privileging::Stuck),
         Some(request) => by_request::<M>(alloc, heap, shapes, permissions, kept, request),
     }
