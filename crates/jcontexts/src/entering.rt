@@ -48,7 +48,7 @@ fn entering_told<M: Copy>(frames: &Frames<M>, count: usize) -> Option<Entering>
 
 /// What a call with so many operands asks by which a method of a domain is entered; none where there is no step.
 #[tactic(auto, using(crate::proofs::Entering::enters_with))]
-pub fn entering<M: Copy>(frames: &Frames<M>, count: usize) -> Option<Entering>
+pub fn find_entering<M: Copy>(frames: &Frames<M>, count: usize) -> Option<Entering>
     requires { count ≤ length frames.now.newest.operands }
     ensures { EntersWith M (take count frames.now.newest.operands) result }
 {

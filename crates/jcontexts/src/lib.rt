@@ -15,7 +15,7 @@ pub use acting::{Acted, act, fail, fail_law};
 pub use arrays::limits;
 pub use beginning::{begin, begin_laws, fail_beginning};
 pub use contexts::{given, kept_of};
-pub use entering::{Entering, enter, entering, snapshotting};
+pub use entering::{Entering, enter, find_entering, snapshotting};
 pub use requests::Form;
 pub use snapshots::snapshot;
 pub use wanting::{Privileging, Wanted, find_privilege};
