@@ -80,9 +80,9 @@ module _ {E : Type 0} (c : Callee E) (n : ℕ) (inherited : Option ℕ) (side : 
 
   pub without_code : c.has_code ≡ false → Begins c n inherited side None
   unfolding applied acted
-  without_code has r p plan s u kept on is begins_so =
+  without_code has r p plan s u kept on is begins_at =
       let code : option_map (λ (body : CodeBody). body.max_locals) (code_at p c.method) ≡ None = is.code ∙ rw has refl in
-      calls_so r p plan s u on begins_so
+      calls_so r p plan s u on begins_at
       ∙ rw (leb-zero s.store.left, begun_none c.method (r.entry_of (domain_of p c.method)) (handed r.side s.running.inherited ++ Ref n ∷ []) (code_at p c.method) code) refl
 
   pub begins_so : (g : Framed E) (hs : List (Value ℕ)) → c.has_code ≡ true → hs ≡ handed side inherited

@@ -88,10 +88,14 @@ passing_others (x ∷ values) (suc zero) few other = absurd (other refl)
 passing_others (x ∷ []) (suc (suc n)) few other = absurd (omega (arith, few))
 passing_others (x ∷ y ∷ values) (suc (suc n)) few other = refl
 
-pub one_operand : (values : List (Value ℕ)) (k : Value ℕ) (found : Option ℕ) → Some k ≡ slice_get values 0 → found ≡ context_in k
-    → option_map Some found ≡ snapshot_with Passing (take 1 values)
-one_operand [] k found at is = cc
-one_operand (x ∷ values) k found at is = let same : x ≡ k = cc in rw (same, is) refl
+pub some_operand : (values : List (Value ℕ)) (k : Value ℕ) (n : ℕ) → Some k ≡ slice_get values 0 → Some n ≡ context_in k
+    → Some (Some n) ≡ snapshot_with Passing (take 1 values)
+some_operand [] k n at is = cc
+some_operand (x ∷ values) k n at is = let same : x ≡ k = cc in rw (same, ← is) refl
+
+pub no_context : (values : List (Value ℕ)) (k : Value ℕ) → Some k ≡ slice_get values 0 → None ≡ context_in k → None ≡ snapshot_with Passing (take 1 values)
+no_context [] k at is = cc
+no_context (x ∷ values) k at is = let same : x ≡ k = cc in rw (same, ← is) refl
 
 snapshots_so : (E : Type 0) (side : Side) (values : List (Value ℕ)) → SnapshotsWith E side values (snapshot_with side values)
 unfolding controller_row rt_row controller_asks rt_asks

@@ -1,11 +1,11 @@
 -- What calls of doPrivileged want.
 use Rattle.std.proofs.Common.{◌≡◌, ◌∙◌, ℕ, zero, suc, List, Option, Some, None, refl, sym, ap, subst}
-use Rattle.std.specs.Prelude.{IfOk, Ok, Err, Result, option_and_then, option_map}
+use Rattle.std.specs.Prelude.{ℤ, IfOk, Ok, Err, Result, option_and_then, option_map}
 use Rattle.jperm.specs.declared.permission.Permission as perms
 use Rattle.jheap.specs.Heaps.{Heaped}
 use Rattle.jlib.specs.declared.side.Side.{Side}
 use Rattle.jops.specs.declared.value.Value.{Value}
-use Rattle.jops.specs.declared.value.Value.TheVariants.{Ref}
+use Rattle.jops.specs.declared.value.Value.TheVariants.{Int, Long, Ref, Ctx}
 use Rattle.jprogram.specs.Classes.{Program}
 use Rattle.jmachine.specs.Calls.{by_interface}
 use Rattle.jmachine.specs.Objects.{Object}
@@ -30,7 +30,17 @@ use Rattle.jcontexts.proofs.Requesting.{is_requested}
 
 module _ (E : Type 0) (domain ctx context : Option ℕ) (limited : Option (List perms.Permission)) where
   pub null_action : (o : ℕ) → o ≡ 0 → (s : Store ℕ) → WantsAction E s domain ctx limited (Ref o) context found.Null
-  null_action o is s = rw is (record { row = λ r at entries. refl; asked = λ side at. refl })
+  null_action zero is s = record { row = λ r at entries. refl; asked = λ side at. refl }
+  null_action (suc n) is s = cc
+
+  pub int_action : (n : ℤ) (s : Store ℕ) → WantsAction E s domain ctx limited (Int n) context found.Stuck
+  int_action n s = record { row = λ r at entries. refl; asked = λ side at. refl }
+
+  pub long_action : (n : ℤ) (s : Store ℕ) → WantsAction E s domain ctx limited (Long n) context found.Stuck
+  long_action n s = record { row = λ r at entries. refl; asked = λ side at. refl }
+
+  pub ctx_action : (k : ℕ) (s : Store ℕ) → WantsAction E s domain ctx limited (Ctx k) context found.Stuck
+  ctx_action k s = record { row = λ r at entries. refl; asked = λ side at. refl }
 
   acts_on : (at : Site) (side : Side) (n : ℕ) (p : Privilege ℕ E) (x : Option (Object ℕ))
       → acting_on at side n p x ≡ option_and_then (acting n p) (option_map (by_interface at.world at.full (run_action side)) x)

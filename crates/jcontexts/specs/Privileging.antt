@@ -43,9 +43,9 @@ wanted_asks side at s found.Stuck = None
 wanted_asks side at s (found.Asks w) = where_run (Privileges w.domain w.ctx w.given w.limits) (run_on at s side w.action)
 
 -- This was found of what has such a row and asks this.
-pub record Wants (E : Type 0) (s : Store ℕ) (row : Rules ℕ E → Site → List E → Option (Row ℕ E)) (asked : Side → Site → Option (Ask ℕ)) (w : Privileging) : Type 0 where
-  pub row : (r : Rules ℕ E) (at : Site) (entries : List E) → row r at entries ≡ wanted_row r at s entries w
-  pub asked : (side : Side) (at : Site) → asked side at ≡ wanted_asks side at s w
+pub record Wants (E : Type 0) (s : Store ℕ) (rows : Rules ℕ E → Site → List E → Option (Row ℕ E)) (asks : Side → Site → Option (Ask ℕ)) (w : Privileging) : Type 0 where
+  pub row : (r : Rules ℕ E) (at : Site) (entries : List E) → rows r at entries ≡ wanted_row r at s entries w
+  pub asked : (side : Side) (at : Site) → asks side at ≡ wanted_asks side at s w
 
 -- ---- what is asked for, from the action to the request
 

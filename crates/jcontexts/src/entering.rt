@@ -68,7 +68,7 @@ pub fn enter<M: Copy>(frames: &mut Frames<M>, count: usize, number: u64) -> Resu
 }
 
 /// The context that a call of getContext was given on the passing side, with one operand.
-#[tactic(auto, using(crate::proofs::Entering::one_operand))]
+#[tactic(auto, using(crate::proofs::Entering::some_operand, crate::proofs::Entering::no_context))]
 fn snapshot_ctx<M: Copy>(frames: &Frames<M>) -> Option<Option<u64>>
     requires { 1 ≤ length frames.now.newest.operands }
     ensures { result ≡ snapshot_with sides.Passing (take 1 frames.now.newest.operands) }

@@ -42,7 +42,7 @@ pub enum Privileging {
 }
 
 /// What is wanted with an action, by what is given with it and what limits it.
-#[tactic(auto, using(crate::proofs::Wanting::null_action, crate::proofs::Wanting::some_action))]
+#[tactic(auto, using(crate::proofs::Wanting::int_action, crate::proofs::Wanting::long_action, crate::proofs::Wanting::ctx_action, crate::proofs::Wanting::null_action, crate::proofs::Wanting::some_action))]
 fn by_action<M>(
     domain: Option<u32>,
     ctx: Option<u64>,
