@@ -1,10 +1,10 @@
-mod Acting
-mod Beginning
-mod Entering
+mod Calling
+mod Finding
 mod Holding
 mod Keeping
 mod Limiting
 mod Making
 mod Requesting
 mod Snapping
-mod Wanting
+mod Starting
+mod Telling

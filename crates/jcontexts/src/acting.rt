@@ -57,7 +57,7 @@ fn leave_call<M: Copy>(
 
 /// Calls an action with a privilege, where its `run` is a user's method: the frame that calls loses so many operands and carries `caller`
 /// from now on, and a frame of the method begins, with the context, if there is one, and the action.
-#[tactic(auto, using(crate::proofs::Acting::without_code, crate::proofs::Acting::begun_so, crate::proofs::Acting::begun_stands))]
+#[tactic(auto, using(crate::proofs::Calling::without_code, crate::proofs::Calling::begun_so, crate::proofs::Calling::begun_stands))]
 pub fn act<M: Copy>(
     frames: &mut Frames<M>,
     callee: Callee<M>,
@@ -81,7 +81,7 @@ pub fn act<M: Copy>(
 
 /// Raises an exception of a class in place of a call with so many operands, which are gone then. `handlers` say where frames go on that
 /// handle its type.
-#[tactic(auto, using(crate::proofs::Acting::fails_so, crate::proofs::Acting::shrunk_stands, crate::proofs::Acting::failed_stands))]
+#[tactic(auto, using(crate::proofs::Calling::fails_so, crate::proofs::Calling::shrunk_stands, crate::proofs::Calling::failed_stands))]
 pub fn fail<M: Copy, H: Handlers>(
     alloc: Global,
     frames: &mut Frames<M>,
@@ -108,7 +108,7 @@ pub fn fail<M: Copy, H: Handlers>(
 
 /// The law of calls that raise an exception: it is raised in frames whose operands of the call are gone. It has no body to run; its
 /// contract is the law.
-#[tactic(auto, using(crate::proofs::Acting::raises_steps))]
+#[tactic(auto, using(crate::proofs::Calling::raises_steps))]
 pub fn fail_law<M>()
     ensures { RaisesSteps M }
 {}

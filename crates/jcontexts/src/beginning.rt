@@ -52,7 +52,7 @@ fn first_frame<M: Copy>(
 
 /// The frames of a thread that begins with a user's method as the `run` of its Runnable, which isn't null: what it inherited is handed on
 /// on the passing side. None where there is no step.
-#[tactic(auto, using(crate::proofs::Beginning::without_code, crate::proofs::Beginning::begins_so, crate::proofs::Beginning::begun_stands))]
+#[tactic(auto, using(crate::proofs::Starting::without_code, crate::proofs::Starting::begins_so, crate::proofs::Starting::begun_stands))]
 pub fn begin<M: Copy>(
     alloc: Global,
     callee: Callee<M>,
@@ -73,7 +73,7 @@ pub fn begin<M: Copy>(
 
 /// Raises an exception of a class where a thread was to begin with the `run` of its Runnable. No frame handles it, so that the thread has
 /// ended by it. The answer is no where the heap has too few cells for it, and then nothing has changed.
-#[tactic(auto, using(crate::proofs::Beginning::made_first, crate::proofs::Beginning::made_heap, crate::proofs::Beginning::made_built, crate::proofs::Beginning::made_celled))]
+#[tactic(auto, using(crate::proofs::Starting::made_first, crate::proofs::Starting::made_heap, crate::proofs::Starting::made_built, crate::proofs::Starting::made_celled))]
 pub fn fail_beginning<M>(alloc: Global, heap: &mut Heap, class: Thrown) -> Result<bool, AllocError>
     requires built { AreBuilt heap.old.objects }
     ensures row { IfOk result (λ room. FailsFirst M class heap.old room heap.new) }
@@ -92,7 +92,7 @@ pub fn fail_beginning<M>(alloc: Global, heap: &mut Heap, class: Thrown) -> Resul
 
 /// The laws of threads that begin without a frame: one without a Runnable ends, and one is stuck whose Runnable is no object, or has its
 /// `run` from the library. They have no body to run; the contract is the laws.
-#[tactic(auto, using(crate::proofs::Beginning::ends_unbegun, crate::proofs::Beginning::stuck_unbegun))]
+#[tactic(auto, using(crate::proofs::Starting::ends_unbegun, crate::proofs::Starting::stuck_unbegun))]
 pub fn begin_laws<M>()
     ensures ends { EndsUnbegun M }
     ensures stuck { StuckUnbegun M }

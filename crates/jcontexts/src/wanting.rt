@@ -42,7 +42,7 @@ pub enum Privileging {
 }
 
 /// What is wanted with an action, by what is given with it and what limits it.
-#[tactic(auto, using(crate::proofs::Wanting::int_action, crate::proofs::Wanting::long_action, crate::proofs::Wanting::ctx_action, crate::proofs::Wanting::null_action, crate::proofs::Wanting::some_action))]
+#[tactic(auto, using(crate::proofs::Finding::int_action, crate::proofs::Finding::long_action, crate::proofs::Finding::ctx_action, crate::proofs::Finding::null_action, crate::proofs::Finding::some_action))]
 fn by_action<M>(
     domain: Option<u32>,
     ctx: Option<u64>,
@@ -72,7 +72,7 @@ fn by_action<M>(
 }
 
 /// The same, by the operand that is the context.
-#[tactic(auto, using(crate::proofs::Wanting::no_context, crate::proofs::Wanting::some_context))]
+#[tactic(auto, using(crate::proofs::Finding::no_context, crate::proofs::Finding::some_context))]
 fn by_context<M>(
     heap: &Heap,
     kept: &[u64],
@@ -92,7 +92,7 @@ fn by_context<M>(
 }
 
 /// The same, by what the array of permissions is.
-#[tactic(auto, using(crate::proofs::Wanting::no_limits, crate::proofs::Wanting::null_limits, crate::proofs::Wanting::some_limits))]
+#[tactic(auto, using(crate::proofs::Finding::no_limits, crate::proofs::Finding::null_limits, crate::proofs::Finding::some_limits))]
 fn by_limits<M>(
     heap: &Heap,
     kept: &[u64],
@@ -115,7 +115,7 @@ fn by_limits<M>(
 }
 
 /// What a request wants.
-#[tactic(auto, using(crate::proofs::Wanting::alone_wants, crate::proofs::Wanting::within_wants, crate::proofs::Wanting::limited_wants))]
+#[tactic(auto, using(crate::proofs::Finding::alone_wants, crate::proofs::Finding::within_wants, crate::proofs::Finding::limited_wants))]
 fn by_request<M>(
     alloc: Global,
     heap: &Heap,
@@ -148,7 +148,7 @@ fn by_request<M>(
 
 /// What a call of doPrivileged wants, of a form on a side, with so many operands. A privilege is to be asked for where the action's
 /// `run` is called.
-#[tactic(auto, using(crate::proofs::Wanting::nothing_found, crate::proofs::Wanting::found_so))]
+#[tactic(auto, using(crate::proofs::Finding::nothing_found, crate::proofs::Finding::found_so))]
 pub fn find_privilege<M: Copy>(
     alloc: Global,
     frames: &Frames<M>,

@@ -37,7 +37,7 @@ use Rattle.jcalls.specs.Throws.{RaisedHeap, raising}
 use Rattle.jcalls.proofs.Throwing as throwing
 use Rattle.jcalls.proofs.Throwing.{last_object, one_longer, raised_store}
 use Rattle.jcontexts.specs.Beginning.{Begins, BeginsStanding, EndsUnbegun, FailsFirst, IsUnbegun, StuckUnbegun, begins_by, run_of}
-use Rattle.jcontexts.proofs.Acting.{begun_none, begun_some}
+use Rattle.jcontexts.proofs.Calling.{begun_none, begun_some}
 
 -- ---- where a thread begins
 
