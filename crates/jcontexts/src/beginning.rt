@@ -36,17 +36,16 @@ fn first_frame<M: Copy>(
       below = [];
     }) }
 {
+    let object = Value::Ref(object);
     match ctx {
-        None => {
-            let arguments = [Value::Ref(object)];
-            let frames = Frames::open(alloc, callee.method, callee.most, &arguments, callee.mark)?;
-            Ok(frames)
-        }
-        Some(k) => {
-            let arguments = [Value::Ref(object), Value::Ctx(k)];
-            let frames = Frames::open(alloc, callee.method, callee.most, &arguments, callee.mark)?;
-            Ok(frames)
-        }
+        None => Frames::open(alloc, callee.method, callee.most, &[object], callee.mark),
+        Some(k) => Frames::open(
+            alloc,
+            callee.method,
+            callee.most,
+            &[object, Value::Ctx(k)],
+            callee.mark,
+        ),
     }
 }
 
