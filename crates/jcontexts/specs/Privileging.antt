@@ -40,7 +40,7 @@ wanted_row r at s entries (found.Asks w) = option_and_then (acting w.action (r.p
 abbrev pub wanted_asks : Side → Site → Store ℕ → Privileging → Option (Ask ℕ)
 wanted_asks side at s found.Null = None
 wanted_asks side at s found.Stuck = None
-wanted_asks side at s (found.Asks w) = where_run (Privileges w.domain w.ctx w.given w.limits) (run_on at s side w.action)
+wanted_asks side at s (found.Asks w) = where_run side at s (Privileges w.domain w.ctx w.given w.limits) (run_on at s side w.action)
 
 -- This was found of what has such a row and asks this.
 pub record Wants (E : Type 0) (s : Store ℕ) (rows : Rules ℕ E → Site → List E → Option (Row ℕ E)) (asks : Side → Site → Option (Ask ℕ)) (w : Privileging) : Type 0 where
