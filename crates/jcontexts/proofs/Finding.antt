@@ -98,6 +98,10 @@ module _ (E : Type 0) (h : Heaped) (kept : List ℕ) (domain ctx : Option ℕ) (
   some_limits ps w wants p shapes things constants are =
       let x = wants p shapes things constants are in record { row = λ r at entries. x.row r at entries; asked = λ side at. x.asked side at }
 
+  pub limits_at : (ps : List perms.Permission) (limited : Option (Option (List perms.Permission))) (w : Privileging) → limited ≡ Some (Some ps)
+      → WithinAs E h kept domain ctx (Some ps) context v w → ByAs limited w
+  limits_at ps limited w is wants = subst (λ l. ByAs l w) (sym is) (some_limits ps w wants)
+
 -- ---- requests
 
 module _ (E : Type 0) (permissions : List perms.Permission) (kept : List ℕ) (shapes : Shapes) (h : Heaped) where
