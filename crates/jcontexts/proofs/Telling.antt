@@ -1,6 +1,6 @@
 -- What calls ask of which the operands tell a context.
 use Rattle.std.proofs.Common.{◌≡◌, ◌∙◌, ℕ, zero, suc, ◌≤◌, ◌+◌, true, List, [], ◌∷◌, length, drop, take, Option, Some, None, refl, sym, ap, subst, arith}
-use Rattle.std.specs.Prelude.{⊤, OnOk, Ok, Err, Result, nat_le, option_and_then, option_map, slice_get}
+use Rattle.std.specs.Prelude.{OnOk, Ok, Err, Result, nat_le, option_and_then, option_map, slice_get}
 use Rattle.std.proofs.Math.Dec.{leb-zero}
 use Rattle.jlib.specs.declared.side.Side.{Side}
 use Rattle.jlib.specs.declared.side.Side.TheVariants.{Source, Passing}
@@ -123,7 +123,7 @@ unfolding applied acted
 gives_one v count f g on r p plan s row is =
     rw (is, leb-zero s.store.left, on) (ap (λ t. went r p plan s (onward (holding (drop count f.newest.operands) f).newest (v ∷ []) ∷ f.below) t []) (sym (unpaid s.store)))
 
-pub all_give : {E F : Type 0} (v : Value ℕ) (count : ℕ) (f g : Framed E) (r : Result ⊤ F)
+pub all_give : {E A F : Type 0} (v : Value ℕ) (count : ℕ) (f g : Framed E) (r : Result A F)
     → OnOk r (g ≡ with_newest (onward (holding (drop count f.newest.operands) f).newest (v ∷ [])) f) → OnOk r (GivesOne v count f g)
 all_give v count f g (Ok w) on = gives_one v count f g on
 all_give v count f g (Err e) on = tt
