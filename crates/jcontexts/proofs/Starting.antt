@@ -16,6 +16,7 @@ use Rattle.jprogram.specs.Classes.{Program}
 use Rattle.juses.specs.Instructions.{code_at}
 use Rattle.jmachine.specs.declared.plan.Plan.{Plan}
 use Rattle.jmachine.specs.Acts.{NoStep, Outcome, State}
+use Rattle.jmachine.specs.Asked.{asked_on, asks}
 use Rattle.jmachine.specs.Calls.{Fails, Pushes, Runs, Target, by_interface}
 use Rattle.jmachine.specs.Frames.{domain_of}
 use Rattle.jmachine.specs.Objects.{Object, Thrown}
@@ -36,8 +37,10 @@ use Rattle.jcalls.specs.Calling.{IsCallee}
 use Rattle.jcalls.specs.Throws.{RaisedHeap, raising}
 use Rattle.jcalls.proofs.Throwing as throwing
 use Rattle.jcalls.proofs.Throwing.{last_object, one_longer, raised_store}
-use Rattle.jcontexts.specs.Beginning.{Begins, BeginsStanding, EndsUnbegun, FailsFirst, IsUnbegun, StuckUnbegun, begins_by, run_of}
+use Rattle.jcontexts.specs.Kept.{StayKept}
+use Rattle.jcontexts.specs.Beginning.{AsksNothing, Begins, BeginsStanding, EndsUnbegun, FailsFirst, IsUnbegun, StuckUnbegun, begins_by, run_of}
 use Rattle.jcontexts.proofs.Calling.{begun_none, begun_some}
+use Rattle.jcontexts.proofs.Keeping.{raised_kept}
 
 -- ---- where a thread begins
 
@@ -69,6 +72,10 @@ ends_unbegun r p plan s none zero_is = at_none r p plan s none ∙ ap (begins r 
 pub stuck_unbegun : {E : Type 0} → StuckUnbegun E
 stuck_unbegun r p plan s n u (inl none) = step_after r p plan s n None u none
 stuck_unbegun r p plan s n u (inr (call, runs)) = step_after r p plan s n (Some (Runs call)) u runs
+
+pub asks_nothing : {E : Type 0} → AsksNothing E
+unfolding asks
+asks_nothing side p plan s none = ap (asked_on side p plan s) none
 
 -- ---- a frame of `run`
 
@@ -153,6 +160,9 @@ module _ (class : ThrownClass) (number : ℕ) (same : number ≡ thrown_number c
   pub made_heap : (o : Option ℕ) → MakesOne (kinds.Object number) 1 h k o → RaisedHeap class h k
   made_heap None m = inl m.1
   made_heap (Some o) m = inr (so_many o m).2
+
+  pub made_kept : GivesBack → Makes → AreBuilt h.objects → (o : Option ℕ) → MakesOne (kinds.Object number) 1 h k o → StayKept h.objects k.objects
+  made_kept numbers law built o m = raised_kept numbers law class h k built (made_heap o m)
 
   pub made_celled : MadeStaysCelled → WantsAsClass → (o : Option ℕ) → MakesOne (kinds.Object number) 1 h k o → StayCelled h.objects k.objects
   made_celled law wants None m = throwing.none_celled number h k None refl m

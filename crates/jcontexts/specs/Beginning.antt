@@ -14,6 +14,7 @@ use Rattle.jtypes.specs.declared.vtype.VType.TheVariants as types
 use Rattle.juses.specs.Meanings.{CallMeaning}
 use Rattle.jmachine.specs.declared.plan.Plan.{Plan}
 use Rattle.jmachine.specs.Acts.{NoStep, Outcome, Over, State}
+use Rattle.jmachine.specs.Asked.{asks}
 use Rattle.jmachine.specs.Calls.{Fails, Pushes, Runs, Target, by_interface}
 use Rattle.jmachine.specs.Objects.{library_name}
 use Rattle.jmachine.specs.Security.{Rules}
@@ -88,3 +89,7 @@ abbrev pub StuckUnbegun : Type 0 → Type 0
 StuckUnbegun E = (r : Rules ℕ E) (p : Program) (plan : Plan) (s : State ℕ E) (n : ℕ) → IsUnbegun n s
     → (begins_by r.side p s.store n ≡ None) ⊎ ((call : LibCall) × (begins_by r.side p s.store n ≡ Some (Runs call)))
     → step r p plan s ≡ NoStep
+
+-- A thread that begins asks nothing of access control.
+abbrev pub AsksNothing : Type 0 → Type 0
+AsksNothing E = (side : Side) (p : Program) (plan : Plan) (s : State ℕ E) → s.running.frames ≡ [] → asks side p plan s ≡ None

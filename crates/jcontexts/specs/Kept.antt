@@ -20,6 +20,10 @@ with_kept kept things = record { permissions = things.permissions; kept = kept }
 abbrev pub AreKept : Program → Shapes → Things → List heaps.Object → Type 0
 AreKept p shapes things objects = (more : List ℕ) → objects_by p shapes (with_kept (things.kept ++ more) things) objects ≡ objects_by p shapes things objects
 
+-- Where that is so of these objects, it is so of those behind.
+abbrev pub StayKept : List heaps.Object → List heaps.Object → Type 0
+StayKept before after = (p : Program) (shapes : Shapes) (things : Things) → AreKept p shapes things before → AreKept p shapes things after
+
 -- The number stands at a place, from 1, among those that are kept now, and those that were kept stand where they stood.
 abbrev pub IsKeptAt : ℕ → List ℕ → ℕ → List ℕ → Type 0
 IsKeptAt number before place after = (place_in after place ≡ Some number) × (place < 2 ^ 32) × ((more : List ℕ) × (after ≡ before ++ more))

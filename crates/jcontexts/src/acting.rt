@@ -7,13 +7,14 @@ ghost use Rattle.jstate.specs.Framed.{all, holding, with_newest};
 ghost use Rattle.jstate.specs.Seen.{AreBuilt};
 ghost use Rattle.jcalls.specs.Marks.{Stand};
 ghost use Rattle.jcalls.specs.Throws.{LeavesStanding, RaisedHeap};
+ghost use Rattle.jcontexts.specs.Kept.{StayKept};
 ghost use Rattle.jcontexts.specs.Acting.{ActsStanding, CallsAction, Fails, RaisesSteps};
 
 use jcalls::{Callee, Handlers, Raised, raise};
 use jheap::Heap;
 use jlib::Thrown;
 use jops::Value;
-use jstate::{Frames, thrown_number};
+use jstate::{Frames, heap_laws, number_laws, thrown_number};
 use std::alloc::{AllocError, Global};
 
 /// What the call of an action came to.
@@ -97,9 +98,12 @@ pub fn fail<M: Copy, H: Handlers>(
     ensures row { IfOk result (λ way. Fails marks.now (H.goes handlers.now) class count frames.old heap.old way frames.new heap.new) }
     ensures stand { OnOk result (LeavesStanding frames.old frames.new) }
     ensures heap { OnOk result (RaisedHeap class heap.old heap.new) }
+    ensures kept { OnOk result (StayKept heap.old.objects heap.new.objects) }
     ensures built { OnOk result (AreBuilt heap.new.objects) }
     ensures celled { OnOk result (StayCelled heap.old.objects heap.new.objects) }
 {
+    heap_laws();
+    number_laws();
     frames.shrink(count);
     let number = thrown_number(class);
     let way = raise(alloc, frames, heap, class, number, marks, handlers)?;

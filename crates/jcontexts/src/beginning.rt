@@ -5,7 +5,8 @@ ghost use Rattle.jstate.specs.Celled.{StayCelled};
 ghost use Rattle.jstate.specs.Framed.{starting};
 ghost use Rattle.jstate.specs.Seen.{AreBuilt};
 ghost use Rattle.jcalls.specs.Throws.{RaisedHeap};
-ghost use Rattle.jcontexts.specs.Beginning.{Begins, BeginsStanding, EndsUnbegun, FailsFirst, StuckUnbegun};
+ghost use Rattle.jcontexts.specs.Kept.{StayKept};
+ghost use Rattle.jcontexts.specs.Beginning.{AsksNothing, Begins, BeginsStanding, EndsUnbegun, FailsFirst, StuckUnbegun};
 
 use jcalls::Callee;
 use jheap::{Heap, Kind};
@@ -72,11 +73,12 @@ pub fn begin<M: Copy>(
 
 /// Raises an exception of a class where a thread was to begin with the `run` of its Runnable. No frame handles it, so that the thread has
 /// ended by it. The answer is no where the heap has too few cells for it, and then nothing has changed.
-#[tactic(auto, using(crate::proofs::Starting::made_first, crate::proofs::Starting::made_heap, crate::proofs::Starting::made_built, crate::proofs::Starting::made_celled))]
+#[tactic(auto, using(crate::proofs::Starting::made_first, crate::proofs::Starting::made_heap, crate::proofs::Starting::made_kept, crate::proofs::Starting::made_built, crate::proofs::Starting::made_celled))]
 pub fn fail_beginning<M>(alloc: Global, heap: &mut Heap, class: Thrown) -> Result<bool, AllocError>
     requires built { AreBuilt heap.old.objects }
     ensures row { IfOk result (λ room. FailsFirst M class heap.old room heap.new) }
     ensures heap { OnOk result (RaisedHeap class heap.old heap.new) }
+    ensures kept { OnOk result (StayKept heap.old.objects heap.new.objects) }
     ensures built { OnOk result (AreBuilt heap.new.objects) }
     ensures celled { OnOk result (StayCelled heap.old.objects heap.new.objects) }
 {
@@ -89,10 +91,11 @@ pub fn fail_beginning<M>(alloc: Global, heap: &mut Heap, class: Thrown) -> Resul
     Ok(made.is_some())
 }
 
-/// The laws of threads that begin without a frame: one without a Runnable ends, and one is stuck whose Runnable is no object, or has its
-/// `run` from the library. They have no body to run; the contract is the laws.
-#[tactic(auto, using(crate::proofs::Starting::ends_unbegun, crate::proofs::Starting::stuck_unbegun))]
+/// The laws of threads that begin: one without a Runnable ends, one is stuck whose Runnable is no object, or has its `run` from the
+/// library, and none asks anything of access control. They have no body to run; the contract is the laws.
+#[tactic(auto, using(crate::proofs::Starting::ends_unbegun, crate::proofs::Starting::stuck_unbegun, crate::proofs::Starting::asks_nothing))]
 pub fn begin_laws<M>()
     ensures ends { EndsUnbegun M }
     ensures stuck { StuckUnbegun M }
+    ensures asks { AsksNothing M }
 {}
