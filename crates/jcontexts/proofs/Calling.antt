@@ -1,5 +1,5 @@
 -- What the call of an action comes to, and what raises an exception in place of it.
-use Rattle.std.proofs.Common.{◌≡◌, ◌∙◌, ◌+◌, ◌<◌, ℕ, true, false, List, [], ◌∷◌, ◌++◌, length, drop, take, Option, Some, None, refl, sym, ap, subst}
+use Rattle.std.proofs.Common.{◌≡◌, ◌∙◌, ◌+◌, ℕ, true, false, List, [], ◌∷◌, ◌++◌, length, drop, take, Option, Some, None, refl, sym, ap, subst}
 use Rattle.std.specs.Prelude.{option_map, option_to_list}
 use Rattle.std.proofs.Math.Dec.{leb-zero}
 use Rattle.jheap.specs.Heaps.{Heaped}
@@ -10,22 +10,16 @@ use Rattle.jops.specs.declared.value.Value.TheVariants.{Ref, Ctx}
 use Rattle.jtypes.specs.declared.vtype.VType.TheVariants as types
 use Rattle.jclass.specs.declared.class.CodeBody.{CodeBody}
 use Rattle.jprogram.specs.declared.member.MethodId.{MethodId}
-use Rattle.jprogram.specs.Classes.{Program}
 use Rattle.juses.specs.Instructions.{code_at}
-use Rattle.jmachine.specs.declared.plan.Plan.{Plan}
-use Rattle.jmachine.specs.Acts.{Outcome, Row, State, raises}
-use Rattle.jmachine.specs.Calls.{Pushes}
+use Rattle.jmachine.specs.Acts.{Outcome, State}
 use Rattle.jmachine.specs.Frames.{carrying, domain_of, frame_of, with_operands}
 use Rattle.jmachine.specs.Objects.{library_name}
-use Rattle.jmachine.specs.Privileges.{acting}
-use Rattle.jmachine.specs.Security.{Rules}
 use Rattle.jmachine.specs.Steps.{acted, applied}
 use Rattle.jstate.specs.Framed.{Framed, all, holding, pushed, starting, with_newest}
 use Rattle.jstate.specs.Seen.{store_by}
 use Rattle.jacts.proofs.Costs.{unpaid}
 use Rattle.jcalls.specs.declared.calls.Callee.{Callee}
 use Rattle.jcalls.specs.declared.raising.Raised.{Raised}
-use Rattle.jcalls.specs.Calling.{IsCallee, stepped}
 use Rattle.jcalls.specs.Marks.{Stand}
 use Rattle.jcalls.specs.Throws.{LeavesStanding, RaisedAs, Raises}
 use Rattle.jcontexts.specs.declared.acting.Acted.TheVariants as ways

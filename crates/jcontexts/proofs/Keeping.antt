@@ -1,8 +1,7 @@
 -- What is kept stays where it stands.
-use Rattle.std.proofs.Common.{◌≡◌, ◌∙◌, ◌⊎◌, inl, inr, ℕ, zero, suc, ◌+◌, ◌-◌, ◌<◌, ◌^◌, List, [], ◌∷◌, ◌++◌, length, Option, Some, None, refl, subst, sym, ap, arith, append_assoc}
+use Rattle.std.proofs.Common.{◌≡◌, ◌∙◌, inl, inr, ℕ, zero, suc, ◌+◌, ◌-◌, ◌<◌, ◌^◌, List, [], ◌∷◌, ◌++◌, length, Some, refl, subst, sym, ap, arith, append_assoc}
 use Rattle.std.proofs.lemmas.List.{append-nil}
 use Rattle.std.specs.Prelude.{slice_get}
-use Rattle.jheap.specs.Heaps as heaps
 use Rattle.jheap.specs.declared.cell.Kind.TheVariants as kinds
 use Rattle.jheap.specs.Heaps.{Heaped, made}
 use Rattle.jlib.specs.declared.classes.LibClass.TheVariants as lib

@@ -1,11 +1,10 @@
 -- How a thread begins.
-use Rattle.std.proofs.Common.{◌≡◌, ◌∙◌, ◌⊎◌, inl, inr, ◌+◌, ◌<◌, ℕ, zero, suc, true, false, List, [], ◌∷◌, ◌++◌, length, Option, Some, None, refl, sym, ap, ap₂, subst, arith, rules, le-leb}
+use Rattle.std.proofs.Common.{◌≡◌, ◌∙◌, inl, inr, ◌+◌, ◌<◌, ℕ, zero, suc, true, false, List, [], ◌∷◌, ◌++◌, length, Option, Some, None, refl, sym, ap, ap₂, arith, rules, le-leb}
 use Rattle.std.specs.Prelude.{is_some, nat_le, option_map}
 use Rattle.std.proofs.Math.Dec.{leb-zero}
 use Rattle.std.proofs.lemmas.List.{length-map}
 use Rattle.jheap.specs.declared.cell.Kind.TheVariants as kinds
 use Rattle.jheap.specs.Heaps.{Heaped, Makes as MakesOne, made}
-use Rattle.jlib.specs.declared.calls.LibCall.{LibCall}
 use Rattle.jlib.specs.declared.classes.LibClass.TheVariants as lib
 use Rattle.jlib.specs.declared.classes.Thrown.{Thrown as ThrownClass}
 use Rattle.jlib.specs.declared.side.Side.{Side}
@@ -25,15 +24,13 @@ use Rattle.jmachine.specs.Steps.{acted, applied, begins, begun_on, first_done, f
 use Rattle.jmachine.specs.Store.{Store, object_at, paid, with_made}
 use Rattle.jmachine.specs.Unwinding.{unwound, with_raised}
 use Rattle.jmachine.specs.World.{world}
-use Rattle.jstate.specs.declared.shapes.Shapes.{Shapes}
 use Rattle.jstate.specs.Celled.{MadeStaysCelled, StayCelled, WantsAsClass}
 use Rattle.jstate.specs.Framed.{Framed, starting}
 use Rattle.jstate.specs.Numbers.{GivesBack, thrown_number}
-use Rattle.jstate.specs.Seen.{AreBuilt, Things, object_by, store_by}
+use Rattle.jstate.specs.Seen.{AreBuilt, object_by, store_by}
 use Rattle.jstate.specs.SeenLaws.{MadeStaysBuilt, Makes}
 use Rattle.jacts.proofs.Costs.{unpaid}
 use Rattle.jcalls.specs.declared.calls.Callee.{Callee}
-use Rattle.jcalls.specs.Calling.{IsCallee}
 use Rattle.jcalls.specs.Throws.{RaisedHeap, raising}
 use Rattle.jcalls.proofs.Throwing as throwing
 use Rattle.jcalls.proofs.Throwing.{last_object, one_longer, raised_store}

@@ -1,6 +1,6 @@
 -- What calls ask of which the operands tell a context.
-use Rattle.std.proofs.Common.{◌≡◌, ◌∙◌, ℕ, zero, suc, ◌≤◌, ◌+◌, true, List, [], ◌∷◌, length, drop, take, Option, Some, None, refl, sym, ap, subst, arith}
-use Rattle.std.specs.Prelude.{OnOk, Ok, Err, Result, nat_le, option_and_then, option_map, slice_get}
+use Rattle.std.proofs.Common.{◌≡◌, ℕ, zero, suc, ◌≤◌, List, [], ◌∷◌, length, drop, take, Option, Some, None, refl, sym, ap, subst, arith}
+use Rattle.std.specs.Prelude.{OnOk, Ok, Err, Result, slice_get}
 use Rattle.std.proofs.Math.Dec.{leb-zero}
 use Rattle.jlib.specs.declared.side.Side.{Side}
 use Rattle.jlib.specs.declared.side.Side.TheVariants.{Source, Passing}

@@ -1,6 +1,6 @@
 -- What a step comes to that calls an action with a privilege, and one that raises an exception in place of that (class documentation of
 -- AccessController).
-use Rattle.std.specs.Prelude.{◌≡◌, ◌<◌, ◌++◌, ⊤, ℕ, List, [], ◌∷◌, drop, take, Option, Some, None, option_map, option_to_list}
+use Rattle.std.specs.Prelude.{◌≡◌, ◌<◌, ◌++◌, ⊤, ℕ, List, [], ◌∷◌, drop, take, Option, Some, option_map, option_to_list}
 use Rattle.std.specs.List.{AllByRecursion}
 use Rattle.jheap.specs.Heaps.{Heaped}
 use Rattle.jlib.specs.declared.classes.LibClass.TheVariants as lib

@@ -1,6 +1,6 @@
 -- What a call of doPrivileged is given (class documentation of AccessController); on the passing side the domain is told in front, and a
 -- context where permissions limit the privilege.
-use Rattle.std.specs.Prelude.{◌≡◌, ℕ, List, [], ◌∷◌, Option, Some, None, option_map, option_and_then}
+use Rattle.std.specs.Prelude.{ℕ, List, [], ◌∷◌, Option, Some, None, option_map, option_and_then}
 use Rattle.std.specs.Int.{w32, cast_unsigned}
 use Rattle.jlib.specs.declared.calls.ControllerCall.TheVariants as controller
 use Rattle.jlib.specs.declared.calls.LibCall.{LibCall}

@@ -41,7 +41,7 @@ fn hand<M: Copy>(frames: &mut Frames<M>, ctx: Option<u64>) -> Result<usize, Allo
     }
 }
 
-/// The operands of a call are gone, and the frame carries something else from now on.
+/// The frame has the action in the place of the operands of its call, and carries something else from now on.
 fn leave_call<M: Copy>(
     frames: &mut Frames<M>,
     count: usize,
@@ -49,7 +49,8 @@ fn leave_call<M: Copy>(
     action: u32,
 ) -> Result<(), AllocError>
     requires few { count ≤ length frames.old.newest.operands }
-    ensures { OnOk result (frames.new ≡ with_newest (carrying caller (with_operands frames.old.newest (values.Ref action ∷ drop count frames.old.newest.operands))) frames.old) }
+    ensures { OnOk result (frames.new
+        ≡ with_newest (carrying caller (with_operands frames.old.newest (values.Ref action ∷ drop count frames.old.newest.operands))) frames.old) }
 {
     frames.shrink(count);
     frames.carry(caller);

@@ -1,4 +1,3 @@
-use Rattle.std.proofs.Common.{arith}
 use Rattle.std.specs.Prelude.{option_map, option_to_list}
 use Rattle.jops.specs.declared.value.Value.TheVariants as values
 use Rattle.jcontexts.proofs.Starting.{begins_so}
