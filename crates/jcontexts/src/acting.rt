@@ -18,7 +18,7 @@ use jstate::{Frames, heap_laws, number_laws, thrown_number};
 use std::alloc::{AllocError, Global};
 
 /// What the call of an action came to.
-#[derive(Clone, Copy, Debug, PartialEq, Eq)]
+#[derive(Clone, Copy)]
 pub enum Acted {
     /// A frame of its `run` has begun.
     Begun,

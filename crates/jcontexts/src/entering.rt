@@ -13,7 +13,7 @@ use jstate::Frames;
 use std::alloc::AllocError;
 
 /// A method of a domain that was called with a context.
-#[derive(Clone, Copy, Debug, PartialEq, Eq)]
+#[derive(Clone, Copy)]
 pub struct Entering {
     pub ctx: u64,
     pub domain: u32,

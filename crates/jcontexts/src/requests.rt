@@ -9,7 +9,7 @@ use jops::Value;
 use jstate::Frames;
 
 /// A form of doPrivileged.
-#[derive(Clone, Copy, Debug, PartialEq, Eq)]
+#[derive(Clone, Copy)]
 pub enum Form {
     /// Of an action.
     Alone,
