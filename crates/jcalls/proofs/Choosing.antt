@@ -1,5 +1,5 @@
 -- What a call comes to, by its object.
-use Rattle.std.proofs.Common.{◌≡◌, ◌∙◌, ℕ, zero, suc, Bool, not, List, take, Option, Some, None, refl, sym, ap, ap₂}
+use Rattle.std.proofs.Common.{◌≡◌, ◌∙◌, ℕ, zero, suc, Bool, not, List, take, Option, Some, None, refl, sym, ap}
 use Rattle.std.specs.Prelude.{option_map, option_and_then, slice_get}
 use Rattle.jbase.specs.First.{fault_if, or_else}
 use Rattle.jops.specs.declared.value.Value.{Value}
@@ -25,6 +25,7 @@ use Rattle.jmachine.specs.Asked.{Ask, asked_by, called_asks, used_asks}
 use Rattle.jmachine.specs.Calls.{Target, Fails, is_hidden, no_access, null_pointer, on_object, on_value, reached, receiver, target, unless, wrong_class}
 use Rattle.jmachine.specs.Doing.{call, doing, used}
 use Rattle.jmachine.specs.Objects.{Object, id_of}
+use Rattle.jmachine.specs.Operands.{Taken}
 use Rattle.jmachine.specs.Security.{Rules}
 use Rattle.jmachine.specs.Sites.{Site}
 use Rattle.jmachine.specs.Steps.{entries, executed, own_fields, site}
@@ -37,7 +38,7 @@ use Rattle.jstate.specs.Numbers.{class_numbered}
 use Rattle.jstate.specs.Seen.{Things, class_by, kind_by, object_by, store_by, user_by}
 use Rattle.jstate.specs.SeenLaws.{SeesEach}
 use Rattle.jcalls.specs.declared.receiver.Receiver.TheVariants as receivers
-use Rattle.jcalls.specs.Calling.{IsByClass, IsOfInterface, Takes, calls, comes, found_as, id_by, is_full, receiver_seen, selected_on, stepped}
+use Rattle.jcalls.specs.Calling.{Came, IsByClass, IsOfInterface, IsQuietly, Takes, calls, comes, found_as, id_by, is_full, receiver_seen, selected_on, stepped}
 
 -- ---- the class of an object
 
@@ -136,6 +137,12 @@ module _ (law : SeesEach) (p : Program) (shapes : Shapes) (things : Things) (con
 
 -- ---- a step that calls
 
+abbrev made : {E : Type 0} → Outcome (State ℕ E) → Option (Ask ℕ) → Option Target → Came E
+made o a t = record { outcome = o; asked = a; reached = t }
+
+alike : {E : Type 0} {o q : Outcome (State ℕ E)} {a b : Option (Ask ℕ)} {t u : Option Target} → o ≡ q → a ≡ b → t ≡ u → made o a t ≡ made q b u
+alike e f g = rw (e, f, g) refl
+
 module _ {E : Type 0} (r : Rules ℕ E) (p : Program) (plan : Plan) (s : State ℕ E) (f : Framed E) (count : ℕ) (c : CallMeaning) where
   abbrev at : Site
   at = site r p plan s f.newest f.below
@@ -163,16 +170,18 @@ module _ {E : Type 0} (r : Rules ℕ E) (p : Program) (plan : Plan) (s : State �
   asked_step how.Interface takes = rw takes refl
   asked_step how.Init takes = rw takes refl
 
+  -- and what is reached
+  reached_step : (by : How) (to : Option Target) → Takes p s by c count f → target at s.store by c values ≡ to → (calls r p plan s f by c).reached ≡ to
+  reached_step by to takes is = ap (λ (o : Option (Taken ℕ)). option_and_then (λ t. target at s.store by c t.values) o) takes ∙ is
+
   -- what the call comes to is known
   pub comes_so : (by : How) (t : Target) → Takes p s by c count f → target at s.store by c values ≡ Some t → calls r p plan s f by c ≡ comes r p plan s f count t
   comes_so by t takes is =
-      ap₂ (λ (o : Outcome (State ℕ E)) (a : Option (Ask ℕ)). (o, a)) (called_step by takes ∙ rw is refl)
-      (asked_step by takes ∙ ap (option_and_then (called_asks r.side at s.store values)) is)
+      alike (called_step by takes ∙ rw is refl) (asked_step by takes ∙ ap (option_and_then (called_asks r.side at s.store values)) is)
+      (reached_step by (Some t) takes is)
 
-  pub comes_none : (by : How) → Takes p s by c count f → target at s.store by c values ≡ None → calls r p plan s f by c ≡ (NoStep, None)
-  comes_none by takes is =
-      ap₂ (λ (o : Outcome (State ℕ E)) (a : Option (Ask ℕ)). (o, a)) (called_step by takes ∙ rw is refl)
-      (asked_step by takes ∙ ap (option_and_then (called_asks r.side at s.store values)) is)
+  pub comes_none : (by : How) → Takes p s by c count f → target at s.store by c values ≡ None → IsQuietly NoStep (calls r p plan s f by c)
+  comes_none by takes is = (called_step by takes ∙ rw is refl, asked_step by takes ∙ ap (option_and_then (called_asks r.side at s.store values)) is)
 
   pub static_target : target at s.store how.Static c values ≡ Some (reached (is_full plan f) ((world p).itself c.member))
   unfolding target

@@ -43,7 +43,7 @@ module _ {E : Type 0} (count : ℕ) (f : Framed E) where
   pub fails_so : (r : Rules ℕ E) (p : Program) (plan : Plan) (s : State ℕ E) (class : LibClass)
       → CalledAs r p plan s count f (ways.Raises class) (holding (drop count f.newest.operands) f) (comes r p plan s f count (Fails class))
   unfolding applied acted
-  fails_so r p plan s class = refl
+  fails_so r p plan s class = (refl, refl)
 
   pub runs_so : (r : Rules ℕ E) (p : Program) (plan : Plan) (s : State ℕ E) (call : LibCall)
       → CalledAs r p plan s count f (ways.Runs call) f (comes r p plan s f count (Runs call))
@@ -63,14 +63,14 @@ module _ {E : Type 0} (count : ℕ) (f : Framed E) where
         begun_some c.method (r.entry_of (domain_of p c.method)) (take count f.newest.operands) c.most (code_at p c.method) code,
         ← is.mark,
         ← unpaid s.store,
-      ) refl
+      ) (refl, refl)
 
   pushes_none : (r : Rules ℕ E) (p : Program) (plan : Plan) (s : State ℕ E) (c : Callee E) (g : Framed E) → c.has_code ≡ false → IsCallee r.entry_of p c
       → CalledAs r p plan s count f ways.Stuck g (comes r p plan s f count (Pushes c.method))
   unfolding applied acted
   pushes_none r p plan s c g has is =
       let code : option_map (λ (body : CodeBody). body.max_locals) (code_at p c.method) ≡ None = is.code ∙ rw has refl in
-      rw (leb-zero s.store.left, begun_none c.method (r.entry_of (domain_of p c.method)) (take count f.newest.operands) (code_at p c.method) code) refl
+      rw (leb-zero s.store.left, begun_none c.method (r.entry_of (domain_of p c.method)) (take count f.newest.operands) (code_at p c.method) code) (refl, refl)
 
   -- ---- what is selected
 
@@ -80,8 +80,7 @@ module _ {E : Type 0} (count : ℕ) (f : Framed E) where
 
   pub overflows : (depth frames : ℕ) (c : Callee E) (way : Called) (g : Framed E) → frames ≡ length (all f) → true ≡ nat_le depth frames
       → way ≡ ways.Raises overflow → g ≡ holding (drop count f.newest.operands) f → Reaches count (found.Method c) depth f way g
-  unfolding applied acted
-  overflows depth frames c way g n full w e r p plan s selected d is = rw (w, e, is.0, full_so plan depth frames true d n full) refl
+  overflows depth frames c way g n full w e r p plan s selected d is = rw (w, e, is.0, full_so plan depth frames true d n full) (fails_so r p plan s overflow)
 
   pub begins_so : (depth frames : ℕ) (c : Callee E) (g : Framed E) → frames ≡ length (all f) → false ≡ nat_le depth frames → c.has_code ≡ true
       → g ≡ entered c → Reaches count (found.Method c) depth f ways.Begun g
@@ -96,10 +95,8 @@ module _ {E : Type 0} (count : ℕ) (f : Framed E) where
 
   pub abstract_fails : (depth : ℕ) (way : Called) (g : Framed E) → way ≡ ways.Raises no_code → g ≡ holding (drop count f.newest.operands) f
       → Reaches count found.Abstract depth f way g
-  unfolding applied acted
-  abstract_fails depth way g w e r p plan s selected d is = rw (w, e, is.1) refl
+  abstract_fails depth way g w e r p plan s selected d is = rw (w, e, is.1) (fails_so r p plan s no_code)
 
   pub missing_fails : (depth : ℕ) (way : Called) (g : Framed E) → way ≡ ways.Raises no_code → g ≡ holding (drop count f.newest.operands) f
       → Reaches count found.Missing depth f way g
-  unfolding applied acted
-  missing_fails depth way g w e r p plan s selected d is = rw (w, e, is) refl
+  missing_fails depth way g w e r p plan s selected d is = rw (w, e, is) (fails_so r p plan s no_code)

@@ -1,5 +1,6 @@
 pub mod Choosing
 pub mod Entering
+pub mod Lawful
 pub mod Marking
 pub mod Outcomes
 pub mod Readying

@@ -3,10 +3,15 @@ use Rattle.std.proofs.Common.{◌≡◌, ◌∙◌, ℕ, zero, suc, ◌-◌, ◌
 use Rattle.std.specs.Prelude.{IfOk, Ok, Err, Result, slice_get}
 use Rattle.jops.specs.declared.value.Value.{Value}
 use Rattle.jheap.specs.declared.cell.Kind.{Kind}
+use Rattle.jlib.specs.declared.classes.LibClass.{LibClass}
 use Rattle.jprogram.specs.declared.member.CallKind.TheVariants as call_kinds
+use Rattle.jprogram.specs.Classes.{Program}
 use Rattle.juses.specs.declared.meaning.How.TheVariants as how
+use Rattle.jmachine.specs.declared.plan.Plan.{Plan}
+use Rattle.jmachine.specs.Acts.{State}
 use Rattle.jmachine.specs.Calls.{Fails, no_access, null_pointer, reached, receiver, wrong_class}
-use Rattle.jmachine.specs.Steps.{acted, applied, site}
+use Rattle.jmachine.specs.Security.{Rules}
+use Rattle.jmachine.specs.Steps.{site}
 use Rattle.jmachine.specs.World.{world}
 use Rattle.jstate.specs.Framed.{Framed, holding}
 use Rattle.jstate.specs.SeenLaws.{SeesEach}
@@ -15,8 +20,9 @@ use Rattle.jcalls.specs.declared.calls.Called.TheVariants as ways
 use Rattle.jcalls.specs.declared.calls.Found.{Found}
 use Rattle.jcalls.specs.declared.receiver.Receiver.{Receiver}
 use Rattle.jcalls.specs.declared.receiver.Receiver.TheVariants as receivers
-use Rattle.jcalls.specs.Calling.{CallsByInterface, CallsOn, CallsStatic, Reaches, id_by, is_full, selected_on}
+use Rattle.jcalls.specs.Calling.{CalledAs, Came, CallsByInterface, CallsOn, CallsStatic, Reaches, calls, comes, id_by, is_full, selected_on}
 use Rattle.jcalls.proofs.Choosing.{IsThere, class_target, comes_none, comes_so, face_target, interface_null, interface_target, is_there, nothing_called, null_is, null_target, on_target, static_target}
+use Rattle.jcalls.proofs.Entering.{fails_so}
 
 -- ---- the oldest of some operands
 
@@ -110,32 +116,35 @@ module _ {E : Type 0} (count : ℕ) (what : Found E) (depth : ℕ) (f g : Framed
         subst P (sym e) (subst Q (sym h) (subst R (sym k) (all_faces way kind l)))
 
 module _ {E : Type 0} (count : ℕ) (what : Found E) (depth : ℕ) (f g : Framed E) (way : Called) (dropped : g ≡ holding (drop count f.newest.operands) f) where
+  raised_as : (class : LibClass) → way ≡ ways.Raises class → (r : Rules ℕ E) (p : Program) (plan : Plan) (s : State ℕ E) (did : Came E)
+      → did ≡ comes r p plan s f count (Fails class)
+      → CalledAs r p plan s count f way g did
+  raised_as class w r p plan s did is = rw (w, dropped, is) (fails_so count f r p plan s class)
+
   pub on_null : way ≡ ways.Raises null_pointer → CallsOn receivers.Null count what depth f way g
-  unfolding applied acted
   on_null w r p plan s shapes things constants h by c is seen on d takes found =
-      rw (w, dropped) (comes_so r p plan s f count c by (Fails null_pointer) takes
+      raised_as null_pointer w r p plan s (calls r p plan s f by c) (comes_so r p plan s f count c by (Fails null_pointer) takes
       (null_target r p plan s f count c by is (null_is h (receiver (take count f.newest.operands)) on)))
 
   pub face_null : (has hidden : Bool) → way ≡ ways.Raises null_pointer → CallsByInterface receivers.Null count what has hidden depth f way g
-  unfolding applied acted
   face_null has hidden w r p plan s shapes things constants h c seen on d takes found of hid =
-      rw (w, dropped) (comes_so r p plan s f count c how.Interface (Fails null_pointer) takes
+      raised_as null_pointer w r p plan s (calls r p plan s f how.Interface c) (comes_so r p plan s f count c how.Interface (Fails null_pointer) takes
       (interface_null r p plan s f count c (null_is h (receiver (take count f.newest.operands)) on)))
 
   pub without_face : SeesEach → (hidden : Bool) (kind : Kind) → way ≡ ways.Raises wrong_class
       → CallsByInterface (receivers.Object kind) count what false hidden depth f way g
-  unfolding applied acted
   without_face law hidden kind w r p plan s shapes things constants h c seen on d takes found of hid =
       let there : IsThere s.store (receiver (take count f.newest.operands)) kind =
       rw seen (is_there law p shapes things constants h kind (receiver (take count f.newest.operands)) on) in
-      rw (w, dropped) (comes_so r p plan s f count c how.Interface (Fails wrong_class) takes (face_target r p plan s f count c kind false hidden there of hid))
+      raised_as wrong_class w r p plan s (calls r p plan s f how.Interface c)
+      (comes_so r p plan s f count c how.Interface (Fails wrong_class) takes (face_target r p plan s f count c kind false hidden there of hid))
 
   pub hidden_fails : SeesEach → (kind : Kind) → way ≡ ways.Raises no_access → CallsByInterface (receivers.Object kind) count what true true depth f way g
-  unfolding applied acted
   hidden_fails law kind w r p plan s shapes things constants h c seen on d takes found of hid =
       let there : IsThere s.store (receiver (take count f.newest.operands)) kind =
       rw seen (is_there law p shapes things constants h kind (receiver (take count f.newest.operands)) on) in
-      rw (w, dropped) (comes_so r p plan s f count c how.Interface (Fails no_access) takes (face_target r p plan s f count c kind true true there of hid))
+      raised_as no_access w r p plan s (calls r p plan s f how.Interface c)
+      (comes_so r p plan s f count c how.Interface (Fails no_access) takes (face_target r p plan s f count c kind true true there of hid))
 
   pub on_null_at : (on : Receiver) → on ≡ receivers.Null → way ≡ ways.Raises null_pointer → CallsOn on count what depth f way g
   on_null_at on e w = let P : Receiver → Type 0 = λ o. CallsOn o count what depth f way g in subst P (sym e) (on_null w)

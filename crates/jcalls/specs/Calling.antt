@@ -1,6 +1,6 @@
 -- What a step comes to that calls a method (JVMS 6.5: invokevirtual, invokespecial, invokestatic, invokeinterface), from the operands that
 -- it takes and what is selected.
-use Rattle.std.specs.Prelude.{◌≡◌, ◌<◌, ⊤, ℕ, zero, suc, Bool, List, [], ◌++◌, length, nat_le, take, drop, Option, Some, None, option_map, if◌then◌else◌}
+use Rattle.std.specs.Prelude.{◌≡◌, ◌<◌, ⊤, ℕ, zero, suc, Bool, List, [], ◌++◌, length, nat_le, take, drop, Option, Some, None, option_map, option_and_then, if◌then◌else◌}
 use Rattle.jops.specs.declared.value.Value.{Value}
 use Rattle.jops.specs.declared.value.Value.TheVariants.{Ref}
 use Rattle.jheap.specs.declared.cell.Kind.{Kind}
@@ -27,7 +27,7 @@ use Rattle.jrule.specs.Uses.{arguments, receiver as wanted_receiver}
 use Rattle.jmachine.specs.declared.plan.Plan.{Plan}
 use Rattle.jmachine.specs.Acts.{NoStep, Outcome, Row, State}
 use Rattle.jmachine.specs.Asked.{Ask, asked_by, called_asks, run_asks}
-use Rattle.jmachine.specs.Calls.{Target, init_taken, is_hidden, reached, receiver, special}
+use Rattle.jmachine.specs.Calls.{Target, Runs, init_taken, is_hidden, reached, receiver, special, target}
 use Rattle.jmachine.specs.Doing.{called, run, with_row}
 use Rattle.jmachine.specs.Frames.{domain_of}
 use Rattle.jmachine.specs.Objects.{Object, class_of}
@@ -103,6 +103,12 @@ took count operands = record { values = take count operands; below = drop count 
 
 -- ---- what a step comes to
 
+-- what it comes to, what it asks of access control, and what a call of it reaches
+pub record Came (E : Type 0) : Type 0 where
+  pub outcome : Outcome (State ℕ E)
+  pub asked : Option (Ask ℕ)
+  pub reached : Option Target
+
 module _ {E : Type 0} (r : Rules ℕ E) (p : Program) (plan : Plan) (s : State ℕ E) (f : Framed E) where
   -- what a step comes to by what is done with so many operands
   abbrev pub stepped : ℕ → (List (Value ℕ) → Option (Row ℕ E)) → Outcome (State ℕ E)
@@ -112,45 +118,54 @@ module _ {E : Type 0} (r : Rules ℕ E) (p : Program) (plan : Plan) (s : State �
       (with_row r (site r p plan s f.newest f.below) own s.store (entries r p plan s (all f)) s.running.inherited f.newest row
       (took count f.newest.operands))
 
-  -- what a step comes to, and what it asks of access control
-  abbrev pub Came : Type 0
-  Came = Outcome (State ℕ E) × Option (Ask ℕ)
-
-  -- both, by what a call comes to
-  abbrev pub comes : ℕ → Target → Came
+  -- by what a call comes to
+  abbrev pub comes : ℕ → Target → Came E
   comes count t =
       let own = own_fields p f.newest.method in
-      let at = site r p plan s f.newest f.below in (
-        stepped count (λ values. called r at own s.store (entries r p plan s (all f)) s.running.inherited values t),
-        called_asks r.side at s.store (take count f.newest.operands) t,
-      )
+      let at = site r p plan s f.newest f.below in
+      record {
+        outcome = stepped count (λ values. called r at own s.store (entries r p plan s (all f)) s.running.inherited values t);
+        asked = called_asks r.side at s.store (take count f.newest.operands) t;
+        reached = Some t;
+      }
 
-  -- both, by the library's member that runs with so many operands
-  abbrev pub runs : ℕ → LibCall → Came
+  -- by the library's member that runs with so many operands
+  abbrev pub runs : ℕ → LibCall → Came E
   runs count call =
       let own = own_fields p f.newest.method in
-      let at = site r p plan s f.newest f.below in (
-        stepped count (run r at own s.store (entries r p plan s (all f)) s.running.inherited call),
-        run_asks r.side at s.store call (take count f.newest.operands),
-      )
+      let at = site r p plan s f.newest f.below in
+      record {
+        outcome = stepped count (run r at own s.store (entries r p plan s (all f)) s.running.inherited call);
+        asked = run_asks r.side at s.store call (take count f.newest.operands);
+        reached = Some (Runs call);
+      }
 
-  -- both, where the step executes a call
-  abbrev pub calls : How → CallMeaning → Came
+  -- where the step executes a call
+  abbrev pub calls : How → CallMeaning → Came E
   calls by c =
       let it = Some (Used (Call by c)) in
-      (executed r p plan s f.newest f.below it, asked_by r.side p plan s f.newest f.below it)
+      let at = site r p plan s f.newest f.below in
+      record {
+        outcome = executed r p plan s f.newest f.below it;
+        asked = asked_by r.side p plan s f.newest f.below it;
+        reached = option_and_then (λ t. target at s.store by c t.values) (call_taken at.world s.store (at.world.named at.class) by c f.newest.operands);
+      }
 
 -- the thread has all the frames that it may have
 abbrev pub is_full : {E : Type 0} → Plan → Framed E → Bool
 is_full plan f = nat_le plan.depth (length (all f))
 
+-- it came to this, and asks nothing
+abbrev pub IsQuietly : {E : Type 0} → Outcome (State ℕ E) → Came E → Type 0
+IsQuietly outcome came = (came.outcome ≡ outcome) × (came.asked ≡ None)
+
 -- The thread goes on with these frames, or an exception is to be raised in them, or the library runs with the operands that were there, or
 -- it is stuck. Nothing is asked of access control but by the library.
-abbrev pub CalledAs : {E : Type 0} (r : Rules ℕ E) (p : Program) (plan : Plan) (s : State ℕ E) → ℕ → (f : Framed E) → Called → Framed E → Came r p plan s f → Type 0
-CalledAs r p plan s count f ways.Begun g came = came ≡ (went r p plan s (all g) s.store [], None)
-CalledAs r p plan s count f (ways.Raises class) g came = came ≡ (raising r p plan s (all g) [] class, None)
+abbrev pub CalledAs : {E : Type 0} → Rules ℕ E → Program → Plan → State ℕ E → ℕ → Framed E → Called → Framed E → Came E → Type 0
+CalledAs r p plan s count f ways.Begun g came = IsQuietly (went r p plan s (all g) s.store []) came
+CalledAs r p plan s count f (ways.Raises class) g came = IsQuietly (raising r p plan s (all g) [] class) came
 CalledAs r p plan s count f (ways.Runs call) g came = (g ≡ f) × (came ≡ runs r p plan s f count call)
-CalledAs r p plan s count f ways.Stuck g came = came ≡ (NoStep, None)
+CalledAs r p plan s count f ways.Stuck g came = IsQuietly NoStep came
 
 -- ---- calls
 

@@ -1,3 +1,4 @@
+pub mod CallLaws
 pub mod Calling
 pub mod Marks
 pub mod Readiness

@@ -3,6 +3,7 @@
 
 mod calls;
 mod handlers;
+mod laws;
 mod marks;
 mod raising;
 mod ready;
@@ -13,6 +14,7 @@ mod unwinding;
 
 pub use calls::{Called, Callee, Found, Room, call_by_interface, call_on, call_static};
 pub use handlers::{Catches, HandlerRow, Handlers, first_handler};
+pub use laws::call_laws;
 pub use raising::{Raised, raise, throw_object};
 pub use ready::{Counts, Needs, first_cell, is_ready, needs_of};
 pub use receiver::{Receiver, receiver_at};

@@ -1,15 +1,21 @@
 -- What is kept stays where it stands.
-use Rattle.std.proofs.Common.{◌≡◌, ◌∙◌, ℕ, zero, suc, ◌+◌, ◌-◌, ◌<◌, ◌^◌, List, [], ◌∷◌, ◌++◌, length, Option, Some, None, refl, subst, sym, ap, arith, append_assoc}
+use Rattle.std.proofs.Common.{◌≡◌, ◌∙◌, inl, inr, ℕ, zero, suc, ◌+◌, ◌-◌, ◌<◌, ◌^◌, List, [], ◌∷◌, ◌++◌, length, Some, refl, subst, sym, ap, arith, append_assoc}
 use Rattle.std.proofs.lemmas.List.{append-nil}
 use Rattle.std.specs.Prelude.{slice_get}
-use Rattle.jheap.specs.Heaps as heaps
-use Rattle.jheap.specs.Heaps.{Heaped}
+use Rattle.jheap.specs.declared.cell.Kind.TheVariants as kinds
+use Rattle.jheap.specs.Heaps.{Heaped, made}
+use Rattle.jlib.specs.declared.classes.LibClass.TheVariants as lib
+use Rattle.jlib.specs.declared.classes.Thrown.{Thrown as ThrownClass}
 use Rattle.jprogram.specs.Classes.{Program}
-use Rattle.jmachine.specs.Objects.{Object}
+use Rattle.jmachine.specs.Objects.{Object, Thrown}
 use Rattle.jmachine.specs.Store.{Store}
 use Rattle.jstate.specs.declared.shapes.Shapes.{Shapes}
-use Rattle.jstate.specs.Seen.{Things, objects_by, place_in, store_by, values_of}
-use Rattle.jcontexts.specs.Kept.{AreKept, IsKeptAt, with_kept}
+use Rattle.jstate.specs.Numbers.{GivesBack, thrown_number}
+use Rattle.jstate.specs.Seen.{AreBuilt, Things, objects_by, place_in, store_by, values_of}
+use Rattle.jstate.specs.SeenLaws.{Makes}
+use Rattle.jcalls.specs.Throws.{RaisedHeap}
+use Rattle.jcalls.proofs.Throwing.{raised_store}
+use Rattle.jcontexts.specs.Kept.{AreKept, IsKeptAt, StayKept, with_kept}
 
 -- ---- places
 
@@ -66,3 +72,19 @@ module _ (p : Program) (shapes : Shapes) (things : Things) (before : List ℕ) (
 pub stay_kept : (kept : List ℕ) (h : Heaped) (p : Program) (shapes : Shapes) (things : Things) → things.kept ≡ kept → AreKept p shapes things h.objects
     → AreKept p shapes (with_kept kept things) h.objects
 stay_kept kept h p shapes things is held = subst (λ (t : Things). AreKept p shapes t h.objects) (sym (same_things things kept is)) held
+
+-- ---- an exception that is made
+
+module _ (numbers : GivesBack) (law : Makes) (class : ThrownClass) (h k : Heaped) (built : AreBuilt h.objects) where
+  -- it is one more object, whatever is kept
+  one_more : k ≡ made h (kinds.Object (thrown_number class)) 1 → (p : Program) (shapes : Shapes) (things : Things)
+      → objects_by p shapes things k.objects ≡ objects_by p shapes things h.objects ++ Thrown (lib.Thrown class) 0 ∷ []
+  one_more is p shapes things =
+      ap (λ (x : Heaped). objects_by p shapes things x.objects) is
+      ∙ ap (λ (t : Store ℕ). t.objects) (raised_store numbers law p shapes things [] h built class)
+
+  pub raised_kept : RaisedHeap class h k → StayKept h.objects k.objects
+  raised_kept (inl same) p shapes things held more = subst (λ (x : Heaped). AreKept p shapes things x.objects) (sym same) held more
+  raised_kept (inr is) p shapes things held more =
+      one_more is p shapes (with_kept (things.kept ++ more) things) ∙ ap (λ os. os ++ Thrown (lib.Thrown class) 0 ∷ []) (held more)
+      ∙ sym (one_more is p shapes things)

@@ -1,5 +1,10 @@
+mod Calling
+mod Finding
 mod Holding
 mod Keeping
 mod Limiting
 mod Making
+mod Requesting
 mod Snapping
+mod Starting
+mod Telling

@@ -1,11 +1,10 @@
 -- Permissions that limit a privilege.
-use Rattle.std.proofs.Common.{◌≡◌, ◌∙◌, ◌⊎◌, inl, inr, ℕ, zero, suc, ◌+◌, ◌<◌, ◌≤◌, Bool, true, false, List, [], ◌∷◌, ◌++◌, length, drop, map, Option, Some, None, refl, subst, sym, ap, arith, append_assoc}
+use Rattle.std.proofs.Common.{◌≡◌, ◌∙◌, ℕ, zero, suc, ◌+◌, ◌<◌, ◌≤◌, List, [], ◌∷◌, ◌++◌, length, drop, map, Option, Some, None, refl, sym, ap, arith, append_assoc}
 use Rattle.std.proofs.lemmas.List.{append-nil}
-use Rattle.std.proofs.lemmas.Option.{slice_get_cases}
-use Rattle.std.specs.Prelude.{is_some, get_or, option_map, slice_get, unwrap_or}
+use Rattle.std.specs.Prelude.{option_map, slice_get, unwrap_or}
 use Rattle.jperm.specs.declared.permission.Permission as perms
 use Rattle.jops.specs.declared.value.Value.{Value}
-use Rattle.jops.specs.declared.value.Value.TheVariants.{Int, Long, Ref, Ctx}
+use Rattle.jops.specs.declared.value.Value.TheVariants.{Ref}
 use Rattle.jheap.specs.declared.cell.CellType.{CellType}
 use Rattle.jheap.specs.declared.cell.CellType.TheVariants as cell_types
 use Rattle.jheap.specs.declared.cell.Kind.{Kind}
@@ -18,7 +17,7 @@ use Rattle.jprogram.specs.declared.part.ClassRef.{ClassRef}
 use Rattle.jprogram.specs.declared.part.ClassRef.TheVariants as refs
 use Rattle.jprogram.specs.Classes.{Program}
 use Rattle.juses.specs.declared.types.ArrayRef.{ArrayRef}
-use Rattle.jmachine.specs.Arrays.{Items, items_in}
+use Rattle.jmachine.specs.Arrays.{items_in}
 use Rattle.jmachine.specs.Objects.{Object}
 use Rattle.jmachine.specs.Privileges.{all_limits, limit, limits, limits_in, with_limit}
 use Rattle.jmachine.specs.Security.{permission_in}

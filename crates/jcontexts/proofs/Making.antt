@@ -1,5 +1,5 @@
 -- An AccessControlContext that is made.
-use Rattle.std.proofs.Common.{◌≡◌, ◌∙◌, ℕ, zero, suc, ◌+◌, ◌<◌, ◌≤◌, List, [], ◌∷◌, ◌++◌, length, Option, Some, None, refl, sym, ap, arith}
+use Rattle.std.proofs.Common.{◌≡◌, ◌∙◌, ℕ, suc, ◌+◌, ◌≤◌, List, [], ◌∷◌, ◌++◌, length, Option, Some, None, refl, sym, ap, arith}
 use Rattle.std.specs.Prelude.{option_map, slice_get, slice_set, unwrap_or}
 use Rattle.std.proofs.lemmas.List.{length-map}
 use Rattle.jheap.specs.declared.cell.Kind.TheVariants as kinds
@@ -11,7 +11,7 @@ use Rattle.jmachine.specs.Store.{Store, paid, with_made, with_object}
 use Rattle.jstate.specs.declared.shapes.Shapes.{Shapes}
 use Rattle.jstate.specs.Celled.{MadeStaysCelled, StayCelled, Suits, WrittenStaysCelled}
 use Rattle.jstate.specs.Seen.{AreBuilt, Things, object_by, place_in, store_by}
-use Rattle.jstate.specs.SeenLaws.{MadeStaysBuilt, Makes, NamesNone, Writes, WrittenStaysBuilt, with_number}
+use Rattle.jstate.specs.SeenLaws.{MadeStaysBuilt, Makes, NamesNone, Writes, WrittenStaysBuilt}
 use Rattle.jcontexts.specs.Snapshots.{MakesContext}
 
 abbrev context : heaps.Object

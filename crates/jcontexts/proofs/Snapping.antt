@@ -1,17 +1,17 @@
 -- What a snapshot comes to.
-use Rattle.std.proofs.Common.{◌≡◌, ◌∙◌, ℕ, ◌+◌, ◌<◌, ◌≤◌, true, false, List, [], ◌∷◌, ◌++◌, length, drop, take, Option, Some, None, refl, subst, sym, ap, ap₂, rules, le-leb}
+use Rattle.std.proofs.Common.{◌≡◌, ◌∙◌, ℕ, ◌+◌, ◌<◌, ◌≤◌, true, false, List, [], ◌∷◌, ◌++◌, drop, Option, Some, refl, sym, ap, ap₂, rules, le-leb}
 use Rattle.std.specs.Prelude.{nat_le}
 use Rattle.std.proofs.lemmas.List.{length-map}
 use Rattle.jops.specs.declared.value.Value.TheVariants.{Ref}
 use Rattle.jheap.specs.Heaps.{Heaped}
 use Rattle.jprogram.specs.Classes.{Program}
 use Rattle.jmachine.specs.Frames.{onward, with_operands}
-use Rattle.jmachine.specs.Objects.{Object, Context}
+use Rattle.jmachine.specs.Objects.{Context}
 use Rattle.jmachine.specs.Steps.{acted, applied, went}
 use Rattle.jmachine.specs.Store.{Store, next_number, paid, with_made}
 use Rattle.jstate.specs.declared.shapes.Shapes.{Shapes}
-use Rattle.jstate.specs.Framed.{Framed, all, holding, with_newest}
-use Rattle.jstate.specs.Seen.{Things, object_by, place_in, store_by}
+use Rattle.jstate.specs.Framed.{Framed, holding, with_newest}
+use Rattle.jstate.specs.Seen.{Things, object_by, store_by}
 use Rattle.jcalls.specs.Throws.{LeavesStanding}
 use Rattle.jcontexts.specs.Kept.{AreKept, IsKeptAt, with_kept}
 use Rattle.jcontexts.specs.Snapshots.{MakesContext, Snapshots}

@@ -1,5 +1,5 @@
 -- What AccessControlContexts keep, by number.
-use Rattle.std.specs.Prelude.{◌≡◌, ◌<◌, ◌^◌, ◌++◌, ℕ, Bool, true, false, List, Option, Some, None, if◌then◌else◌}
+use Rattle.std.specs.Prelude.{◌≡◌, ◌<◌, ◌^◌, ◌++◌, ℕ, Bool, true, false, List, Option, Some, if◌then◌else◌}
 use Rattle.jheap.specs.declared.cell.Kind.{Kind}
 use Rattle.jheap.specs.declared.cell.Kind.TheVariants as kinds
 use Rattle.jheap.specs.Heaps as heaps
@@ -19,6 +19,10 @@ with_kept kept things = record { permissions = things.permissions; kept = kept }
 -- No object names what is kept behind these: more of it changes nothing of what the objects are.
 abbrev pub AreKept : Program → Shapes → Things → List heaps.Object → Type 0
 AreKept p shapes things objects = (more : List ℕ) → objects_by p shapes (with_kept (things.kept ++ more) things) objects ≡ objects_by p shapes things objects
+
+-- Where these objects name nothing behind what is kept, those that were left of them don't either.
+abbrev pub StayKept : List heaps.Object → List heaps.Object → Type 0
+StayKept before after = (p : Program) (shapes : Shapes) (things : Things) → AreKept p shapes things before → AreKept p shapes things after
 
 -- The number stands at a place, from 1, among those that are kept now, and those that were kept stand where they stood.
 abbrev pub IsKeptAt : ℕ → List ℕ → ℕ → List ℕ → Type 0

@@ -1,5 +1,4 @@
 ghost use Rattle.std.specs.Prelude.{◌≡◌, ◌≤◌, ◌<◌, ◌+◌, ◌^◌, ◌∷◌, [], Some, IfOk, OnOk, drop, length, true};
-ghost use Rattle.jops.specs.declared.value.Value.TheVariants.{Ref};
 ghost use Rattle.jmachine.specs.Frames.{onward};
 ghost use Rattle.jprogram.specs.Classes.{Program};
 ghost use Rattle.jstate.specs.declared.shapes.Shapes.{Shapes};
@@ -63,14 +62,18 @@ fn make_context(alloc: Global, heap: &mut Heap, place: u32) -> Result<u32, Alloc
     Ok(object)
 }
 
-/// The frame goes on behind its call with an object in the place of so many operands.
-fn give<M: Copy>(frames: &mut Frames<M>, count: usize, object: u32) -> Result<(), AllocError>
+/// The frame goes on behind its call with a value in the place of so many operands.
+pub(crate) fn give<M: Copy>(
+    frames: &mut Frames<M>,
+    count: usize,
+    value: Value,
+) -> Result<(), AllocError>
     requires few { count ≤ length frames.old.newest.operands }
     requires place { frames.old.newest.place + 1 < 2 ^ 32 }
-    ensures { OnOk result (frames.new ≡ with_newest (onward (holding (drop count frames.old.newest.operands) frames.old).newest (Ref object ∷ [])) frames.old) }
+    ensures { OnOk result (frames.new ≡ with_newest (onward (holding (drop count frames.old.newest.operands) frames.old).newest (value ∷ [])) frames.old) }
 {
     frames.shrink(count);
-    frames.push(Value::Ref(object))?;
+    frames.push(value)?;
     frames.go_on();
     Ok(())
 }
@@ -102,6 +105,6 @@ pub fn snapshot<M: Copy>(
     }
     let place = keep(kept, number)?;
     let object = make_context(alloc, heap, place)?;
-    give(frames, count, object)?;
+    give(frames, count, Value::Ref(object))?;
     Ok(true)
 }

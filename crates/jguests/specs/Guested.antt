@@ -1,5 +1,5 @@
 -- The threads of a machine as its definition's state has them.
-use Rattle.std.specs.Prelude.{◌≡◌, ◌<◌, ◌≤◌, ◌+◌, ◌^◌, ℕ, Bool, true, false, List, [], map, length, take, drop, Option, Some, None, option_map, slice_get, slice_set}
+use Rattle.std.specs.Prelude.{◌≡◌, ◌⊎◌, ◌<◌, ◌≤◌, ◌+◌, ◌^◌, ℕ, Bool, true, false, List, [], map, length, take, drop, Option, Some, None, option_map, slice_get, slice_set}
 use Rattle.std.specs.List.{list_any}
 use Rattle.jthreads.specs.declared.thread.Thread.{Thread}
 use Rattle.jthreads.specs.Table.{lives_at}
@@ -74,3 +74,17 @@ ended_as failed x = record { frames = None; inherited = x.inherited; runnable = 
 -- another table
 abbrev pub with_table : {E : Type 0} → List Thread → Guests E → Guests E
 with_table table g = record { running = g.running; others = g.others; at = g.at; table = table; turns = g.turns }
+
+-- ---- which threads there are
+
+-- the thread that runs, or one of the others
+abbrev pub IsOf : {E : Type 0} → Guest E → Guests E → Type 0
+IsOf x g = (x ≡ g.running) ⊎ ((i : ℕ) × (slice_get g.others.items i ≡ Some x))
+
+-- Each thread with frames was one.
+abbrev pub HaveStayed : {E : Type 0} → Guests E → Guests E → Type 0
+HaveStayed {E} old new = (x : Guest E) → IsOf x new → (x.frames ≡ None) ⊎ IsOf x old
+
+-- None waits but threads without frames.
+abbrev pub NoneWait : {E : Type 0} → Guests E → Type 0
+NoneWait {E} g = (x : Guest E) (i : ℕ) → slice_get g.others.items i ≡ Some x → x.frames ≡ None

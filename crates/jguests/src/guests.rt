@@ -1,5 +1,5 @@
 ghost use Rattle.std.specs.Prelude.{◌≡◌, ◌∷◌, ◌++◌, [], Some, None, false, IfOk, OnOk, length};
-ghost use Rattle.jguests.specs.Guested.{AreGuests, RunsAs, guest_by, guests_of, nobody};
+ghost use Rattle.jguests.specs.Guested.{AreGuests, HaveStayed, NoneWait, RunsAs, guest_by, guests_of, nobody};
 ghost use Rattle.jthreads.specs.Table.{added, opened};
 
 use jstate::Frames;
@@ -48,9 +48,12 @@ pub(crate) fn husk<M>() -> Guest<M>
 
 impl<M: Copy> Guests<M> {
     /// The first thread alone, with its frames.
+    #[tactic(auto, using(crate::proofs::Staying::husk_waits))]
     pub fn open(alloc: Global, frames: Frames<M>) -> Result<Guests<M>, AllocError>
         ensures are { IfOk result AreGuests }
         ensures one { IfOk result (λ g. guests_of g ≡ guest_by (record { frames = Some frames; inherited = None; runnable = 0; failed = false }) ∷ []) }
+        ensures now { IfOk result (λ g. g.running ≡ record { frames = Some frames; inherited = None; runnable = 0; failed = false }) }
+        ensures alone { IfOk result NoneWait }
         ensures table { IfOk result (λ g. g.table ≡ opened) }
         ensures turns { IfOk result (λ g. g.turns ≡ 0) }
         ensures at { IfOk result (λ g. g.at ≡ 0) }
@@ -88,6 +91,7 @@ impl<M: Copy> Guests<M> {
         ensures turns { OnOk result (self.new.turns ≡ self.old.turns) }
         ensures at { OnOk result (self.new.at ≡ self.old.at) }
         ensures now { OnOk result (self.new.running ≡ self.old.running) }
+        ensures stay { OnOk result (HaveStayed self.old self.new) }
     {
         let number = self.table.add(alloc)?;
         self.others.push(Guest {

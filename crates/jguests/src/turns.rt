@@ -3,7 +3,7 @@ ghost use Rattle.jthreads.specs.Table.{is_started, join_answer, joined, lives_at
 ghost use Rattle.std.specs.List.{list_any};
 ghost use Rattle.jmachine.specs.Turns.{end_of, guests};
 ghost use Rattle.jmachine.specs.Store.{Store};
-ghost use Rattle.jguests.specs.Guested.{AreGuests, Lives, ended_as, guest_by, guests_of, have_failed, state_by, with_running, with_table};
+ghost use Rattle.jguests.specs.Guested.{AreGuests, HaveStayed, Lives, ended_as, guest_by, guests_of, have_failed, state_by, with_running, with_table};
 ghost use Rattle.jguests.specs.declared.turns.Turned.TheVariants as turns;
 ghost use Rattle.jguests.specs.Turning.{EndsTurn, Turns};
 
@@ -65,6 +65,7 @@ impl<M: Copy> Guests<M> {
         ensures at { self.new.at ≡ t }
         ensures table { self.new.table ≡ self.old.table }
         ensures turns { self.new.turns ≡ self.old.turns }
+        ensures stay { HaveStayed self.old self.new }
     {
         let own = std::mem::replace(&mut self.running, husk());
         self.others[self.at as usize] = own;
@@ -74,11 +75,13 @@ impl<M: Copy> Guests<M> {
 
     /// Gives the thread its turn that the schedule picks among those that can run. Where none can, the run has ended, and nothing changes.
     /// After an error nothing is said of the threads.
+    #[tactic(auto, using(crate::proofs::Staying::same_stay))]
     pub fn turn(&mut self, alloc: Global, schedule: &[u32]) -> Result<Turned, AllocError>
         requires { AreGuests self.old }
         ensures are { OnOk result (AreGuests self.new) }
         ensures turn { IfOk result (λ done. Turns schedule.now self.old done self.new) }
         ensures lives { IfOk result (λ done. done ≡ turns.Goes → Lives self.new) }
+        ensures stay { OnOk result (HaveStayed self.old self.new) }
     {
         thread_laws();
         let numbers = self.table.runnable(alloc)?;
@@ -146,6 +149,7 @@ impl<M: Copy> Guests<M> {
         ensures are { OnOk result (AreGuests self.new) }
         ensures turn { IfOk result (λ done. EndsTurn schedule.now failed self.old done self.new) }
         ensures lives { IfOk result (λ done. done ≡ turns.Goes → Lives self.new) }
+        ensures stay { OnOk result (HaveStayed (with_running (ended_as failed self.old.running) self.old) self.new) }
     {
         guest_laws::<M>();
         self.end_running(failed);

@@ -7,4 +7,4 @@ mod opening;
 mod statics;
 mod texts;
 
-pub use opening::{Opened, open};
+pub use opening::{FirstFrame, Opened, open};

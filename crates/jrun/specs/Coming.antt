@@ -1,5 +1,5 @@
 -- What a step of a machine came to, by what a step of the definition comes to; and runs that begin somewhere.
-use Rattle.std.specs.Prelude.{◌≡◌, [], None}
+use Rattle.std.specs.Prelude.{◌≡◌, ⊤, [], None}
 use Rattle.jmachine.specs.Acts.{Outcome, Went, Over, NoStep}
 use Rattle.jmachine.specs.Runs.{Run}
 use Rattle.jrun.specs.declared.stepping.Stepped.{Stepped}
@@ -10,6 +10,11 @@ abbrev pub ComesTo : {S : Type 0} → (S → Type 0) → Outcome S → Stepped �
 ComesTo {S} stands o (done.Went events) = (s : S) × (o ≡ Went s events) × stands s
 ComesTo {S} stands o (done.Ended events end) = (s : S) × (o ≡ Over s events end)
 ComesTo {S} stands o done.Stuck = o ≡ NoStep
+
+-- Where the run goes on, this holds.
+abbrev pub WhereWent : Type 0 → Stepped → Type 0
+WhereWent P (done.Went events) = P
+WhereWent P came = ⊤
 
 -- A run that has not begun: nothing was told, and it has not ended.
 pub record Begins {S : Type 0} (stands : S → Type 0) (r : Run S) : Type 0 where

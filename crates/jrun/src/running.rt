@@ -18,10 +18,12 @@ fn advance<E: Stepping, K: Sink>(
     engine: &mut E,
     out: &mut K,
 ) -> Result<Option<End>, RunFault>
+    requires { E.ready engine.old }
     ensures step { IfOk result (λ end. (s : E.State) → E.stands engine.old s → Advances (E.stands engine.new) s (E.steps engine.old s) end) }
     ensures ok { OnOk result ((s : E.State) → E.stands engine.old s → K.out out.new ≡ appended (K.out out.old) (lines (told_by (E.steps engine.old s)))) }
     ensures err { OnErr result ((s : E.State) → E.stands engine.old s → IsCut (K.out out.old) (K.out out.new) (lines (told_by (E.steps engine.old s)))) }
-    ensures same { E.steps engine.new ≡ E.steps engine.old }
+    ensures ready { IfOk result (λ end. end ≡ None → E.ready engine.new) }
+    ensures same { OnOk result (E.steps engine.new ≡ E.steps engine.old) }
     ensures later { K.faults out.old ≤ K.faults out.new }
     ensures cause { result ≡ Err SinkFault → Rose (K.faults out.old) (K.faults out.new) }
 {
@@ -59,6 +61,7 @@ pub fn run<E: Stepping, K: Sink>(
     steps: u64,
     out: &mut K,
 ) -> Result<End, RunFault>
+    requires { E.ready engine.old }
     ensures written { OnOk result ((first : Run E.State) → Begins (E.stands engine.old) first
         → K.out out.new ≡ appended (K.out out.old) (run_text (run_from (E.steps engine.old) steps first))) }
     ensures end { IfOk result (λ end. (first : Run E.State) → Begins (E.stands engine.old) first → end ≡ ending (run_from (E.steps engine.old) steps first)) }

@@ -1,6 +1,6 @@
-ghost use Rattle.std.specs.Prelude.{◌≡◌, IfOk};
+ghost use Rattle.std.specs.Prelude.{◌≡◌, IfOk, OnOk};
 ghost use Rattle.jmachine.specs.Acts.{Outcome};
-ghost use Rattle.jrun.specs.Coming.{ComesTo};
+ghost use Rattle.jrun.specs.Coming.{ComesTo, WhereWent};
 
 use jbase::Seq;
 use jtrace::{End, Event};
@@ -28,8 +28,13 @@ pub trait Stepping {
     /// It stands for a state.
     ghost stands: { Self → State → Type 0 };
 
-    /// One step. After an error nothing is said of what it stands for.
+    /// What holds of it between steps.
+    ghost ready: { Self → Type 0 };
+
+    /// One step. After an error nothing is said of it.
     fn step(&mut self, alloc: Global) -> Result<Stepped, AllocError>
+        requires ready { ready self.old }
         ensures comes { IfOk result (λ done. (s : State) → stands self.old s → ComesTo (stands self.new) (steps self.old s) done) }
-        ensures same { steps self.new ≡ steps self.old };
+        ensures ready { IfOk result (WhereWent (ready self.new)) }
+        ensures same { OnOk result (steps self.new ≡ steps self.old) };
 }

@@ -1,5 +1,5 @@
 -- What makes the same of the objects of a heap goes on to do so.
-use Rattle.std.proofs.Common.{◌≡◌, ◌∙◌, ℕ, zero, suc, Bool, true, false, List, [], ◌∷◌, ◌++◌, Option, Some, None, refl, subst, sym, ap, map}
+use Rattle.std.proofs.Common.{◌≡◌, ◌∙◌, ℕ, zero, suc, Bool, true, false, List, [], ◌∷◌, ◌++◌, Some, None, refl, subst, sym, ap, map}
 use Rattle.std.specs.Prelude.{replicate, slice_get, slice_set}
 use Rattle.std.specs.List.{AllByRecursion}
 use Rattle.jperm.specs.declared.permission.Permission as perms
@@ -11,17 +11,13 @@ use Rattle.jheap.specs.Heaps.{Heaped}
 use Rattle.jlib.specs.declared.classes.LibClass.{LibClass}
 use Rattle.jlib.specs.declared.classes.LibClass.TheVariants as lib
 use Rattle.jlib.specs.declared.side.Side.TheVariants.{Passing}
-use Rattle.jtrace.specs.declared.event.Event.{Event}
-use Rattle.jprogram.specs.declared.member.Member.{Member}
 use Rattle.jprogram.specs.declared.part.ClassRef.{ClassRef}
 use Rattle.jprogram.specs.declared.part.ClassRef.TheVariants as refs
 use Rattle.jprogram.specs.Classes.{Program}
-use Rattle.juses.specs.Instructions.{Instruction}
 use Rattle.jmachine.specs.Acts.{Act, FrameOf, Goes, Jumps, Leaves, Calls, Raises, Throws, Switches, Makes}
-use Rattle.jmachine.specs.Doing.{Doing, doing}
+use Rattle.jmachine.specs.Doing.{doing}
 use Rattle.jmachine.specs.Objects.{Object}
 use Rattle.jmachine.specs.Security.{Rules}
-use Rattle.jmachine.specs.Sites.{Site}
 use Rattle.jmachine.specs.Store.{Store}
 use Rattle.jstate.specs.declared.shapes.Shapes.{Shapes}
 use Rattle.jstate.specs.Numbers.{class_numbered}

@@ -7,17 +7,19 @@ use Rattle.jheap.specs.declared.cell.Kind.TheVariants as kinds
 use Rattle.jheap.specs.Heaps as heaps
 use Rattle.jheap.specs.Heaps.{Heaped, kind_at}
 use Rattle.jlib.specs.declared.calls.LibCall.{LibCall}
+use Rattle.jlib.specs.declared.side.Side.{Side}
 use Rattle.jlib.specs.declared.classes.LibClass.TheVariants as lib
 use Rattle.jlib.specs.declared.classes.Thrown.TheVariants as thrown_classes
 use Rattle.jops.specs.declared.value.Value.{Value}
 use Rattle.jops.specs.declared.value.Value.TheVariants.{Int, Long, Ref, Ctx}
+use Rattle.jprogram.specs.declared.member.MethodId.{MethodId}
 use Rattle.jprogram.specs.Classes.{Program}
 use Rattle.jrule.specs.Effects.{Fits, Want}
 use Rattle.jrule.specs.Uses.{throwable}
 use Rattle.jtypes.specs.declared.vtype.ArrayType.{ArrayType}
 use Rattle.jtypes.specs.declared.vtype.VType.TheVariants as types
 use Rattle.juses.specs.declared.meaning.How.{How}
-use Rattle.juses.specs.Instructions.{Instruction, Return, Throw, Used}
+use Rattle.juses.specs.Instructions.{Instruction, Simple, Local, Stack, Jump, Switch, Return, Throw, Array, Used, instruction_at}
 use Rattle.juses.specs.Meanings as meanings
 use Rattle.juses.specs.declared.meaning.Span.{Span}
 use Rattle.juses.specs.Meanings.{CallMeaning, spanned}
@@ -25,12 +27,13 @@ use Rattle.juses.specs.Tables.{pool_at}
 use Rattle.juses.specs.Types.{array_named, named}
 use Rattle.jmachine.specs.declared.plan.Plan.{Plan}
 use Rattle.jmachine.specs.Acts.{FrameOf, Outcome, Row, State}
+use Rattle.jmachine.specs.Asked.{Ask, asked_by, asked_on, asks}
 use Rattle.jmachine.specs.Doing.{Doing, doing}
 use Rattle.jmachine.specs.Frames.{with_operands}
 use Rattle.jmachine.specs.Objects.{Object}
 use Rattle.jmachine.specs.Operands.{Taken, found_type, serves, serves_as, taken, with_value}
 use Rattle.jmachine.specs.Security.{Rules}
-use Rattle.jmachine.specs.Steps.{entries, executed, fetched, own_fields, site, thrown_at, went}
+use Rattle.jmachine.specs.Steps.{entries, executed, fetched, is_followed, own_fields, site, thrown_at, unless_last, went}
 use Rattle.jmachine.specs.Store.{Store}
 use Rattle.jmachine.specs.Straight.{throw}
 use Rattle.jmachine.specs.Turns.{ended}
@@ -61,9 +64,77 @@ use Rattle.jstep.specs.declared.outcomes.Stepped.TheVariants as steps
 use Rattle.jstep.specs.Behind.{Follows, behind}
 use Rattle.jstep.specs.Rows.{IsHere, IsRaising, Runs}
 use Rattle.jstep.specs.Serving.{ServesThrown}
-use Rattle.jstep.specs.Stepping.{Executes, ExecutesCall, RaisesAs, ReturnsAs, Settles, SteppedAs, Steps, StoodAs, ThrowsAs, left_as}
+use Rattle.jstep.specs.Stepping.{AsksAs, CameTo, Executes, ExecutesCall, IsQuiet, RaisesAs, ReachesAs, ReturnsAs, Settles, SteppedAs, Steps, StoodAs, ThrowsAs, left_as}
 use Rattle.jstep.proofs.Meaning.{Means, means}
-use Rattle.jstep.proofs.Staying.{comes_same}
+use Rattle.jstep.proofs.Staying.{IsBasic, comes_same}
+
+-- ---- what a step asks
+
+module _ {E : Type 0} (p : Program) (plan : Plan) (s : State ℕ E) (f : Framed E) where
+  asks_there : (side : Side) (it : Option Instruction) → s.running.frames ≡ all f → it ≡ fetched p f.newest.method f.newest.place
+      → asks side p plan s ≡ asked_by side p plan s f.newest f.below it
+  unfolding asks
+  asks_there side it top is = ap (asked_on side p plan s) top ∙ ap (asked_by side p plan s f.newest f.below) (sym is)
+
+  -- nothing, where the instruction is no call
+  basic_asks : (side : Side) (i : Instruction) → IsBasic i → asked_by side p plan s f.newest f.below (Some i) ≡ None
+  basic_asks side (Simple form) basic = refl
+  basic_asks side (Local form) basic = refl
+  basic_asks side (Stack op) basic = refl
+  basic_asks side (Jump test to) basic = refl
+  basic_asks side (Switch cases other) basic = refl
+  basic_asks side (Return kind) basic = refl
+  basic_asks side Throw basic = refl
+  basic_asks side (Array form) basic = refl
+  basic_asks side (Used (meanings.Push c)) basic = refl
+  basic_asks side (Used (meanings.Field op m)) basic = absurd basic
+  basic_asks side (Used (meanings.Call by c)) basic = absurd basic
+  basic_asks side (Used (meanings.Make c)) basic = absurd basic
+  basic_asks side (Used (meanings.MakeArray t)) basic = absurd basic
+  basic_asks side (Used (meanings.Cast op t)) basic = absurd basic
+
+-- ---- which instruction stands there
+
+stands_there : (p : Program) (m : MethodId) (i : ℕ) (it : Instruction) → fetched p m i ≡ Some it → instruction_at p m i ≡ Some it
+unfolding fetched
+stands_there p m i it e = found (instruction_at p m i) e
+  where
+    chosen : (b : Bool) (x : Instruction) → (if b then Some x else None) ≡ Some it → Some x ≡ Some it
+    chosen true x e = e
+    chosen false x e = cc
+
+    found : (o : Option Instruction) → option_and_then (unless_last p m i) o ≡ Some it → o ≡ Some it
+    found None e = cc
+    found (Some x) e = chosen (is_followed p m i x) x e
+
+module _ {E : Type 0} (r : Rules ℕ E) (p : Program) (plan : Plan) (s : State ℕ E) (f : Framed E) where
+  reached_there : (it : Option Instruction) → it ≡ fetched p f.newest.method f.newest.place → (done : Stepped) → ReachesAs r p plan s f done it
+      → ReachesAs r p plan s f done (instruction_at p f.newest.method f.newest.place)
+  reached_there it is steps.Went reached = tt
+  reached_there it is steps.Ended reached = tt
+  reached_there it is (steps.Handled class) reached = tt
+  reached_there it is (steps.Uncaught class) reached = tt
+  reached_there it is (steps.Asks call count) reached =
+      record {
+        by = reached.by;
+        called = reached.called;
+        is = stands_there p f.newest.method f.newest.place (Used (meanings.Call reached.by reached.called)) (sym is ∙ reached.is);
+        takes = reached.takes;
+        comes = reached.comes;
+      }
+  reached_there it is steps.Full reached = tt
+  reached_there it is steps.Stuck reached = tt
+
+  -- what asks nothing
+  quiet_came : (done : Stepped) (g : Framed E) (t : Store ℕ) (o : Outcome (State ℕ E)) (a : Option (Ask ℕ)) (it : Option Instruction) → IsQuiet done
+      → SteppedAs r p plan s done g t o → a ≡ None → CameTo r p plan s f done g t o a it
+  quiet_came steps.Went g t o a it quiet came none = record { outcome = came; asked = none; reached = tt }
+  quiet_came steps.Ended g t o a it quiet came none = record { outcome = came; asked = none; reached = tt }
+  quiet_came (steps.Handled class) g t o a it quiet came none = record { outcome = came; asked = none; reached = tt }
+  quiet_came (steps.Uncaught class) g t o a it quiet came none = record { outcome = came; asked = none; reached = tt }
+  quiet_came (steps.Asks call count) g t o a it quiet came none = absurd quiet
+  quiet_came steps.Full g t o a it quiet came none = record { outcome = came; asked = none; reached = tt }
+  quiet_came steps.Stuck g t o a it quiet came none = record { outcome = came; asked = none; reached = tt }
 
 -- ---- the step
 
@@ -72,8 +143,14 @@ module _ {E : Type 0} (law : StepsAt E) (p : Program) (x : Fixed E) (counts : Co
   one_steps : (it : Option Instruction) (done : Stepped) → it ≡ fetched p f.newest.method f.newest.place → Executes p x counts it f h done g k
       → Steps p x counts f h done g k
   one_steps it done is executes r plan s things constants marked depth counted top seen =
+      let came = executes r plan s things constants marked depth counted top seen in
       let P : Outcome (State ℕ E) → Type 0 = λ o. SteppedAs r p plan s done g (store_by p x.shapes.now things constants k) o in
-      subst P (sym (law r p plan s f it top is)) (executes r plan s things constants marked depth counted top seen)
+      let A : Option (Ask ℕ) → Type 0 = λ a. AsksAs r p plan s f done a in
+      record {
+        outcome = subst P (sym (law r p plan s f it top is)) came.outcome;
+        asked = subst A (sym (asks_there p plan s f r.side it top is)) came.asked;
+        reached = reached_there r p plan s f it is done came.reached;
+      }
 
   module _ {F : Type 0} (r : Result Stepped F) (q : Program) (same : q ≡ p) (one : Instr)
       (means : meant p x.tables.now f.newest.method.class one ≡ fetched p f.newest.method f.newest.place) where
@@ -140,7 +217,8 @@ pub off_steps : {E : Type 0} (law : StepsAt E) (p : Program) (x : Fixed E) (coun
 unfolding meant
 off_steps law p x counts f h one is means =
     let Q : Instr → Type 0 = λ i. meant p x.tables.now f.newest.method.class i ≡ fetched p f.newest.method f.newest.place in
-    one_steps law p x counts f f h h None steps.Stuck (subst Q is means) (λ r plan s things constants marked depth counted top seen. refl)
+    one_steps law p x counts f f h h None steps.Stuck (subst Q is means)
+    (λ r plan s things constants marked depth counted top seen. record { outcome = refl; asked = refl; reached = tt })
 
 -- what says where the method goes on
 module _ {E : Type 0} (p : Program) (x : Fixed E) (counts : Counts) (f g : Framed E) (h k : Heaped) {F : Type 0} (r : Result Stepped F) where
@@ -164,15 +242,16 @@ module _ {E : Type 0} (p : Program) (x : Fixed E) (counts : Counts) (f g : Frame
 module _ {E : Type 0} (p : Program) (x : Fixed E) (one : Instr) (f u g : Framed E) (h v k : Heaped) where
   row_done : (way : Way) (done : Stepped) → Follows E → IsHere one → Within x.tables.now one
       → Runs x.tables.now x.shapes.now one f.newest h way u.newest v → u.below ≡ f.below
-      → Settles x.marks.now p way u v done g k → (counts : Counts) → Executes p x counts (meant p x.tables.now f.newest.method.class one) f h done g k
-  row_done way done law here within runs below settles counts r plan s things constants marked depth counted top seen =
+      → IsQuiet done → Settles x.marks.now p way u v done g k → (counts : Counts) → Executes p x counts (meant p x.tables.now f.newest.method.class one) f h done g k
+  row_done way done law here within runs below quiet settles counts r plan s things constants marked depth counted top seen =
       by_meaning (means p x.tables.now f.newest.method.class one here within)
     where
       T : Store ℕ
       T = store_by p x.shapes.now things constants k
 
       by_meaning : Means (meant p x.tables.now f.newest.method.class one)
-          → SteppedAs r p plan s done g T (executed r p plan s f.newest f.below (meant p x.tables.now f.newest.method.class one))
+          → CameTo r p plan s f done g T (executed r p plan s f.newest f.below (meant p x.tables.now f.newest.method.class one))
+          (asked_by r.side p plan s f.newest f.below (meant p x.tables.now f.newest.method.class one)) (meant p x.tables.now f.newest.method.class one)
       by_meaning (i, stands, basic) =
           let l = leaves way [] u.newest (store_by p x.shapes.now things constants v) in
           let own = own_fields p f.newest.method in
@@ -185,15 +264,18 @@ module _ {E : Type 0} (p : Program) (x : Fixed E) (one : Instr) (f u g : Framed 
           let same : IsRaising way → s.store ≡ store_by p x.shapes.now things constants v = λ raising. sym (comes_same f.newest s.store made l raising comes) in
           let Q : List (FrameOf ℕ E) → Type 0 = λ fs. SteppedAs r p plan s done g T (behind r p plan s fs way l) in
           let R : Outcome (State ℕ E) → Type 0 = λ o. SteppedAs r p plan s done g T o in
-          let O : Option Instruction → Type 0 = λ o. SteppedAs r p plan s done g T (executed r p plan s f.newest f.below o) in
-          subst O (sym stands) (subst R (sym came) (subst Q below (settles r plan s x.shapes.now things constants marked same)))
+          let O : Option Instruction → Type 0 = λ o. CameTo r p plan s f done g T (executed r p plan s f.newest f.below o)
+          (asked_by r.side p plan s f.newest f.below o) o in
+          subst O (sym stands)
+          (quiet_came r p plan s f done g T (executed r p plan s f.newest f.below (Some i)) (asked_by r.side p plan s f.newest f.below (Some i)) (Some i) quiet
+          (subst R (sym came) (subst Q below (settles r plan s x.shapes.now things constants marked same))) (basic_asks p plan s f r.side i basic))
 
   pub all_done : {F : Type 0} (r : Result Stepped F) (way : Way) → Follows E → IsHere one → Within x.tables.now one
       → Runs x.tables.now x.shapes.now one f.newest h way u.newest v → u.below ≡ f.below
-      → IfOk r (λ done. Settles x.marks.now p way u v done g k)
+      → IfOk r IsQuiet → IfOk r (λ done. Settles x.marks.now p way u v done g k)
       → IfOk r (λ done. (counts : Counts) → Executes p x counts (meant p x.tables.now f.newest.method.class one) f h done g k)
-  all_done (Ok done) way law here within runs below settles = row_done way done law here within runs below settles
-  all_done (Err e) way law here within runs below settles = tt
+  all_done (Ok done) way law here within runs below quiet settles = row_done way done law here within runs below quiet settles
+  all_done (Err e) way law here within runs below quiet settles = tt
 
 -- ---- returns
 
@@ -213,12 +295,18 @@ module _ {E : Type 0} where
   left_settles r p plan s leaving.Ends g t o e is = is ∙ ap (λ (u : Store ℕ). ended plan.schedule s u false []) e
   left_settles r p plan s leaving.Stuck g t o e is = is
 
+  quiet_left : (way : Leaving) → IsQuiet (left_as way)
+  quiet_left leaving.Resumed = tt
+  quiet_left leaving.Ends = tt
+  quiet_left leaving.Stuck = tt
+
   pub return_done : (x : Fixed E) (counts : Counts) (kind : Returned) (f g : Framed E) (h : Heaped) (way : Leaving) (done : Stepped) → done ≡ left_as way
       → ReturnsAs kind h counts x.marks.now f way g → (p : Program) → Executes p x counts (Some (Return kind)) f h done g h
   return_done x counts kind f g h way done e is p r plan s things constants marked depth counted top seen =
       let t = store_by p x.shapes.now things constants h in
-      rw e (left_settles r p plan s way g t (executed r p plan s f.newest f.below (Some (Return kind))) seen
-      (is r p plan s x.shapes.now things constants marked seen counted))
+      let o = executed r p plan s f.newest f.below (Some (Return kind)) in
+      rw e (quiet_came r p plan s f (left_as way) g t o None (Some (Return kind)) (quiet_left way)
+      (left_settles r p plan s way g t o seen (is r p plan s x.shapes.now things constants marked seen counted)) refl)
 
   pub return_stood : (classes : ℕ) (f g : Framed E) (way : Leaving) (done : Stepped) → done ≡ left_as way → StaysStanding f g → Stand classes (all f)
       → StoodAs classes done g
@@ -314,12 +402,16 @@ module _ {E : Type 0} (law : Follows E) (p : Program) (x : Fixed E) (counts : Co
   throw_unserved b isnt serve r plan s things constants marked depth counted top seen =
       let none : is_some (taken (world p) s.store wanted f.newest.operands) ≡ false =
       ap (λ (t : Store ℕ). is_some (taken (world p) t wanted f.newest.operands)) seen ∙ serve things constants counted ∙ isnt in
-      thrown_executes ways.Stuck r plan s
-      (unserved (world p) s.store f.newest (taken (world p) s.store wanted f.newest.operands) ways.Stuck ways.Stuck none)
+      record {
+        outcome = thrown_executes ways.Stuck r plan s
+            (unserved (world p) s.store f.newest (taken (world p) s.store wanted f.newest.operands) ways.Stuck ways.Stuck none);
+        asked = refl;
+        reached = tt;
+      }
 
   pub throw_no_ref : (n : Option ℕ) → n ≡ None → n ≡ ref_in (slice_get f.newest.operands 0) → Executes p x counts (Some Throw) f h steps.Stuck f h
   throw_no_ref n none is r plan s things constants marked depth counted top seen =
-      thrown_executes ways.Stuck r plan s (no_ref (world p) s.store f.newest f.newest.operands (sym is ∙ none))
+      record { outcome = thrown_executes ways.Stuck r plan s (no_ref (world p) s.store f.newest f.newest.operands (sym is ∙ none)); asked = refl; reached = tt }
 
   served : (b : Bool) → b ≡ true → ServesThrown p x.shapes.now counts h f.newest.operands b → (s : Store ℕ) (things : Things) (constants : List (List ℕ × ℕ))
       → AreCounted counts things → s ≡ store_by p x.shapes.now things constants h → is_some (taken (world p) s wanted f.newest.operands) ≡ true
@@ -327,19 +419,21 @@ module _ {E : Type 0} (law : Follows E) (p : Program) (x : Fixed E) (counts : Co
       ap (λ (t : Store ℕ). is_some (taken (world p) t wanted f.newest.operands)) seen ∙ serve things constants counted ∙ so
 
   module _ (b : Bool) (so : b ≡ true) (serve : ServesThrown p x.shapes.now counts h f.newest.operands b) where
-    null_done : (n : ℕ) (g : Framed E) (k : Heaped) (done : Stepped) → Some n ≡ ref_in (slice_get f.newest.operands 0) → n ≡ 0
+    null_done : (n : ℕ) (g : Framed E) (k : Heaped) (done : Stepped) → Some n ≡ ref_in (slice_get f.newest.operands 0) → n ≡ 0 → IsQuiet done
         → RaisesAs x.marks.now p thrown_classes.NullPointerException f h done g k → Executes p x counts (Some Throw) f h done g k
-    null_done n g k done is null raises r plan s things constants marked depth counted top seen =
+    null_done n g k done is null quiet raises r plan s things constants marked depth counted top seen =
         let first : ref_in (slice_get f.newest.operands 0) ≡ Some 0 = sym is ∙ ap (λ (m : ℕ). Some m) null in
         let P : Outcome (State ℕ E) → Type 0 = λ o. SteppedAs r p plan s done g (store_by p x.shapes.now things constants k) o in
-        subst P (sym (thrown_executes (ways.Raises (lib.Thrown thrown_classes.NullPointerException)) r plan s
+        quiet_came r p plan s f done g (store_by p x.shapes.now things constants k) (executed r p plan s f.newest f.below (Some Throw)) None (Some Throw) quiet
+        (subst P (sym (thrown_executes (ways.Raises (lib.Thrown thrown_classes.NullPointerException)) r plan s
         (null_ref (world p) s.store f.newest f.newest.operands first (served b so serve s.store things constants counted seen))))
-        (raises r plan s x.shapes.now things constants marked seen)
+        (raises r plan s x.shapes.now things constants marked seen)) refl
 
     pub throw_null : {F : Type 0} (r : Result Stepped F) (n : ℕ) (g : Framed E) (k : Heaped) → Some n ≡ ref_in (slice_get f.newest.operands 0) → n ≡ 0
-        → IfOk r (λ done. RaisesAs x.marks.now p thrown_classes.NullPointerException f h done g k) → IfOk r (λ done. Executes p x counts (Some Throw) f h done g k)
-    throw_null (Ok done) n g k is null raises = null_done n g k done is null raises
-    throw_null (Err e) n g k is null raises = tt
+        → IfOk r IsQuiet → IfOk r (λ done. RaisesAs x.marks.now p thrown_classes.NullPointerException f h done g k)
+        → IfOk r (λ done. Executes p x counts (Some Throw) f h done g k)
+    throw_null (Ok done) n g k is null quiet raises = null_done n g k done is null quiet raises
+    throw_null (Err e) n g k is null quiet raises = tt
 
     false_true : false ≡ true → ⊥
     false_true e = cc
@@ -360,25 +454,26 @@ module _ {E : Type 0} (law : Follows E) (p : Program) (x : Fixed E) (counts : Co
             false_true (sym (law (array_named p (array_at x.shapes.now a))) ∙ subst Q kind (subst P found serves))
 
     suc_done : SeesEach → ((a : ArrayType) → fits (world p) (types.Array a) throwable ≡ false) → (n : ℕ) (g : Framed E) (done : Stepped)
-        → Some (suc n) ≡ ref_in (slice_get f.newest.operands 0)
+        → Some (suc n) ≡ ref_in (slice_get f.newest.operands 0) → IsQuiet done
         → ThrowsAs x.marks.now p (suc n) f h done g → Executes p x counts (Some Throw) f h done g h
-    suc_done sees arrays n g done is throws r plan s things constants marked depth counted top seen =
+    suc_done sees arrays n g done is quiet throws r plan s things constants marked depth counted top seen =
         let both = some_ref (world p) s.store f.newest f.newest.operands n (sym is) (served b so serve s.store things constants counted seen) in
         let P : Store ℕ → Type 0 = λ t. serves (world p) t (Fits throwable) (Ref (suc n)) ≡ true in
         let object : (a : ℕ) → kind_at h (suc n) ≡ Some (kinds.Array a) → ⊥ = λ a. no_array sees arrays n a things constants (subst P seen both.0) in
         let settled = throws r plan s x.shapes.now things constants marked seen object in
         let Q : Store ℕ → Type 0 = λ t. SteppedAs r p plan s done g t (thrown_at r p plan s (all f) s.store [] (suc n)) in
         let R : Outcome (State ℕ E) → Type 0 = λ o. SteppedAs r p plan s done g (store_by p x.shapes.now things constants h) o in
-        subst R (sym (thrown_executes (ways.Throws (suc n)) r plan s both.1)) (subst Q seen settled)
+        quiet_came r p plan s f done g (store_by p x.shapes.now things constants h) (executed r p plan s f.newest f.below (Some Throw)) None (Some Throw) quiet
+        (subst R (sym (thrown_executes (ways.Throws (suc n)) r plan s both.1)) (subst Q seen settled)) refl
 
     object_done : SeesEach → ((a : ArrayType) → fits (world p) (types.Array a) throwable ≡ false) → (n : ℕ) (g : Framed E) (done : Stepped)
-        → Some n ≡ ref_in (slice_get f.newest.operands 0) → (n ≡ 0 → ⊥)
+        → Some n ≡ ref_in (slice_get f.newest.operands 0) → (n ≡ 0 → ⊥) → IsQuiet done
         → ThrowsAs x.marks.now p n f h done g → Executes p x counts (Some Throw) f h done g h
-    object_done sees arrays zero g done is some throws = absurd (some refl)
-    object_done sees arrays (suc n) g done is some throws = suc_done sees arrays n g done is throws
+    object_done sees arrays zero g done is some quiet throws = absurd (some refl)
+    object_done sees arrays (suc n) g done is some quiet throws = suc_done sees arrays n g done is quiet throws
 
     pub throw_object : {F : Type 0} → SeesEach → ((a : ArrayType) → fits (world p) (types.Array a) throwable ≡ false) → (r : Result Stepped F) (n : ℕ)
         (g : Framed E) → Some n ≡ ref_in (slice_get f.newest.operands 0) → (n ≡ 0 → ⊥)
-        → IfOk r (λ done. ThrowsAs x.marks.now p n f h done g) → IfOk r (λ done. Executes p x counts (Some Throw) f h done g h)
-    throw_object sees arrays (Ok done) n g is some throws = object_done sees arrays n g done is some throws
-    throw_object sees arrays (Err e) n g is some throws = tt
+        → IfOk r IsQuiet → IfOk r (λ done. ThrowsAs x.marks.now p n f h done g) → IfOk r (λ done. Executes p x counts (Some Throw) f h done g h)
+    throw_object sees arrays (Ok done) n g is some quiet throws = object_done sees arrays n g done is some quiet throws
+    throw_object sees arrays (Err e) n g is some quiet throws = tt

@@ -1,6 +1,6 @@
 -- What a step came to that executed a call.
 use Rattle.std.proofs.Common.{◌≡◌, ◌∙◌, ℕ, Bool, true, false, List, length, map, Option, Some, None, refl, sym, ap, subst}
-use Rattle.std.specs.Prelude.{IfOk, Ok, Err, Result, option_map}
+use Rattle.std.specs.Prelude.{IfOk, Ok, Err, Result, option_and_then, option_map}
 use Rattle.jheap.specs.Heaps.{Heaped}
 use Rattle.jprogram.specs.declared.part.ClassRef.{ClassRef}
 use Rattle.jprogram.specs.Classes.{Program}
@@ -15,10 +15,12 @@ use Rattle.juses.specs.Tables.{pool_at}
 use Rattle.juses.specs.Types.{class_named, named}
 use Rattle.jmachine.specs.declared.plan.Plan.{Plan}
 use Rattle.jmachine.specs.Acts.{NoStep, State}
+use Rattle.jmachine.specs.Asked.{asked_by, used_asks}
+use Rattle.jmachine.specs.Calls.{Target, target}
 use Rattle.jmachine.specs.Doing.{doing, used}
-use Rattle.jmachine.specs.Operands.{taken}
+use Rattle.jmachine.specs.Operands.{Taken, taken}
 use Rattle.jmachine.specs.Security.{Rules}
-use Rattle.jmachine.specs.Steps.{executed}
+use Rattle.jmachine.specs.Steps.{executed, site}
 use Rattle.jmachine.specs.Store.{Store}
 use Rattle.jmachine.specs.World.{world}
 use Rattle.jready.specs.Meant.{call_form}
@@ -36,7 +38,7 @@ use Rattle.jstep.specs.declared.fixed.Fixed.{Fixed}
 use Rattle.jstep.specs.declared.outcomes.Stepped.{Stepped}
 use Rattle.jstep.specs.declared.outcomes.Stepped.TheVariants as steps
 use Rattle.jstep.specs.Serving.{ServesCall, TakesCall}
-use Rattle.jstep.specs.Stepping.{ExecutesCall, IsFixed, SettlesCall}
+use Rattle.jstep.specs.Stepping.{CallCameTo, CallsLibrary, CameTo, ExecutesCall, IsFixed, ReachesAs, RunsAs, SettlesCall}
 
 -- ---- operands that don't serve
 
@@ -49,6 +51,35 @@ module _ {E : Type 0} (r : Rules ℕ E) (p : Program) (plan : Plan) (s : State �
   untaken how.Static none = rw none refl
   untaken how.Interface none = rw none refl
   untaken how.Init none = rw none refl
+
+  untaken_asks : (by : How) → call_taken (world p) s.store ((world p).named f.newest.method.class) by c f.newest.operands ≡ None
+      → asked_by r.side p plan s f.newest f.below (Some (Used (Call by c))) ≡ None
+  unfolding used_asks exchange
+  untaken_asks how.Virtual none = rw none refl
+  untaken_asks how.Special none = rw none refl
+  untaken_asks how.Static none = rw none refl
+  untaken_asks how.Interface none = rw none refl
+  untaken_asks how.Init none = rw none refl
+
+  -- a call whose operands serve came to what it reaches
+  came_to : (by : How) (n : ℕ) (done : Stepped) (g : Framed E) (t : Store ℕ) → Takes p s by c n f → CallCameTo r p plan s f n done g t (calls r p plan s f by c)
+      → CameTo r p plan s f done g t (executed r p plan s f.newest f.below (Some (Used (Call by c))))
+      (asked_by r.side p plan s f.newest f.below (Some (Used (Call by c)))) (Some (Used (Call by c)))
+  came_to by n done g t takes came = record { outcome = came.outcome; asked = came.asked; reached = reached done came.reached }
+    where
+      reaches : Option (Taken ℕ) → Option Target
+      reaches o = option_and_then (λ (u : Taken ℕ). target (site r p plan s f.newest f.below) s.store by c u.values) o
+
+      reached : (done : Stepped) → RunsAs done n (calls r p plan s f by c).reached → ReachesAs r p plan s f done (Some (Used (Call by c)))
+      reached steps.Went runs = tt
+      reached steps.Ended runs = tt
+      reached (steps.Handled class) runs = tt
+      reached (steps.Uncaught class) runs = tt
+      reached (steps.Asks call m) runs =
+          let P : ℕ → Type 0 = λ k. CallsLibrary r p plan s f call k (Some (Used (Call by c))) in
+          subst P (sym runs.0) (record { by = by; called = c; is = refl; takes = takes; comes = sym (ap reaches takes) ∙ runs.1 })
+      reached steps.Full runs = tt
+      reached steps.Stuck runs = tt
 
 -- ---- how many are taken
 
@@ -107,8 +138,9 @@ module _ {E : Type 0} (p : Program) (x : Fixed E) (counts : Counts) (by : How) (
 
     pub call_untaken : (g : Framed E) → count ≡ None → ExecutesCall p x counts by pool params f h steps.Stuck g h
     call_untaken g none c means taken r plan s things constants marked depth counted top seen =
-        untaken r p plan s f c by
-        (taken_is s.store things constants c counted seen means taken ∙ ap (option_map (λ n. took n f.newest.operands)) none)
+        let nothing : call_taken (world p) s.store ((world p).named f.newest.method.class) by c f.newest.operands ≡ None =
+        taken_is s.store things constants c counted seen means taken ∙ ap (option_map (λ n. took n f.newest.operands)) none in
+        record { outcome = untaken r p plan s f c by nothing; asked = untaken_asks r p plan s f c by nothing; reached = tt }
 
     call_done : (n : ℕ) (way : Called) (u g : Framed E) (k : Heaped) (done : Stepped) → count ≡ Some n
         → Invokes p by pool x.marks.now h n x.depth f way u → SettlesCall x.marks.now p way n u h done g k
@@ -116,8 +148,9 @@ module _ {E : Type 0} (p : Program) (x : Fixed E) (counts : Counts) (by : How) (
     call_done n way u g k done some invokes settles c means taken r plan s things constants marked depth counted top seen =
         let takes_n : Takes p s by c n f =
         taken_is s.store things constants c counted seen means taken ∙ ap (option_map (λ n. took n f.newest.operands)) some in
-        settles r plan s x.shapes.now things constants f (calls r p plan s f by c) marked top seen
-        (invokes r plan s x.shapes.now things constants c means marked seen depth takes_n)
+        came_to r p plan s f c by n done g (store_by p x.shapes.now things constants k) takes_n
+        (settles r plan s x.shapes.now things constants f (calls r p plan s f by c) marked top seen
+        (invokes r plan s x.shapes.now things constants c means marked seen depth takes_n))
 
     pub all_called : {F : Type 0} (r : Result Stepped F) (n : ℕ) (way : Called) (u g : Framed E) (k : Heaped) → count ≡ Some n
         → Invokes p by pool x.marks.now h n x.depth f way u → IfOk r (λ done. SettlesCall x.marks.now p way n u h done g k)

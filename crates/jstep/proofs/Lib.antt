@@ -1,6 +1,7 @@
 pub mod Executed
 pub mod Following
 pub mod Invoked
+pub mod Leaving
 pub mod Meaning
 pub mod Numbers
 pub mod Settled

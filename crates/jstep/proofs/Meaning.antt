@@ -40,6 +40,7 @@ use Rattle.jstate.specs.declared.shapes.Shapes.{Shapes}
 use Rattle.jstate.specs.Seen.{Things, store_by}
 use Rattle.jacts.specs.Ways.{Acts, Does, leaves}
 use Rattle.jacts.specs.declared.way.Way.{Way}
+use Rattle.jshapes.specs.Alike.{LeavesAlike, RowsStayAlike}
 use Rattle.jstep.specs.Rows.{DoesAs, IsHere, Runs, Stays}
 use Rattle.jstep.proofs.Staying.{IsBasic, comes_stays, doing_only}
 
@@ -147,6 +148,23 @@ pub ok_stays : {E F : Type 0} (r : Result Way F) (tables : Tables) (shapes : Sha
     → IsHere one → Within tables one → IfOk r (λ way. Runs tables shapes one f h way g k) → IfOk r (λ way. Stays way f g)
 ok_stays (Ok w) tables shapes one f g h k here within runs = stays tables shapes one f h w g k here within runs
 ok_stays (Err e) tables shapes one f g h k here within runs = tt
+
+-- ---- what a row names
+
+module _ {E : Type 0} (law : RowsStayAlike E) (tables : Tables) (shapes : Shapes) (one : Instr) (f g : FrameOf ℕ E) (h k : Heaped) where
+  runs_alike : (way : Way) → IsHere one → Within tables one → Runs tables shapes one f h way g k → (p : Program) (things : Things)
+      → LeavesAlike p shapes things way h.objects k.objects
+  runs_alike way here within runs p things = by_meaning (means p tables 0 one here within)
+    where
+      by_meaning : Means (meant p tables 0 one) → LeavesAlike p shapes things way h.objects k.objects
+      by_meaning (i, is, basic) =
+          law p shapes things h k f g way [] [] [] i site (λ m. false) (λ others e r entries inherited.
+          runs p 0 others [] i is r site (λ m. false) entries inherited)
+
+  pub ok_alike : {F : Type 0} (r : Result Way F) → IsHere one → Within tables one → IfOk r (λ way. Runs tables shapes one f h way g k)
+      → IfOk r (λ way. (p : Program) (things : Things) → LeavesAlike p shapes things way h.objects k.objects)
+  ok_alike (Ok way) here within runs = runs_alike way here within runs
+  ok_alike (Err e) here within runs = tt
 
 -- ---- the rows
 

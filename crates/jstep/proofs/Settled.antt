@@ -45,7 +45,7 @@ use Rattle.jinvoke.specs.Told.{Told}
 use Rattle.jstep.specs.declared.outcomes.Stepped.{Stepped}
 use Rattle.jstep.specs.declared.outcomes.Stepped.TheVariants as steps
 use Rattle.jstep.specs.Rows.{MayRaise, Stays}
-use Rattle.jstep.specs.Stepping.{CallLeft, RaisesAs, Settles, SettlesCall, StandsFor, SteppedAs, StoodAs, ThrowsAs, stepped_as, type_of}
+use Rattle.jstep.specs.Stepping.{CallCameTo, CallLeft, IsQuiet, RaisesAs, Settles, SettlesCall, StandsFor, SteppedAs, StoodAs, ThrowsAs, stepped_as, type_of}
 
 -- ---- frames that stand
 
@@ -86,6 +86,24 @@ module _ {E : Type 0} where
   call_left f g (calls.Runs call) count leaves few = let P : Framed E → Type 0 = λ v. count ≤ length v.newest.operands in subst P (sym leaves) few
   call_left f g calls.Stuck count leaves few = tt
 
+-- ---- what asks nothing
+
+pub quiet_raised : (done : Raised) (class : ClassRef) (came : Stepped) → came ≡ stepped_as done class → IsQuiet came
+quiet_raised raised_ways.Full class came is = rw is tt
+quiet_raised raised_ways.Handled class came is = rw is tt
+quiet_raised raised_ways.Uncaught class came is = rw is tt
+
+module _ {E : Type 0} (r : Rules ℕ E) (p : Program) (plan : Plan) (s : State ℕ E) (f : Framed E) (count : ℕ) where
+  quiet_call : (done : Stepped) (g : Framed E) (t : Store ℕ) (came : Came E) → IsQuiet done → SteppedAs r p plan s done g t came.outcome → came.asked ≡ None
+      → CallCameTo r p plan s f count done g t came
+  quiet_call steps.Went g t came quiet is none = record { outcome = is; asked = none; reached = tt }
+  quiet_call steps.Ended g t came quiet is none = record { outcome = is; asked = none; reached = tt }
+  quiet_call (steps.Handled class) g t came quiet is none = record { outcome = is; asked = none; reached = tt }
+  quiet_call (steps.Uncaught class) g t came quiet is none = record { outcome = is; asked = none; reached = tt }
+  quiet_call (steps.Asks call n) g t came quiet is none = absurd quiet
+  quiet_call steps.Full g t came quiet is none = record { outcome = is; asked = none; reached = tt }
+  quiet_call steps.Stuck g t came quiet is none = record { outcome = is; asked = none; reached = tt }
+
 -- ---- what is raised
 
 as_settled : {E : Type 0} (r : Rules ℕ E) (p : Program) (plan : Plan) (s : State ℕ E) (done : Raised) (class : ClassRef) (type : VType) (g : Framed E)
@@ -94,10 +112,6 @@ as_settled : {E : Type 0} (r : Rules ℕ E) (p : Program) (plan : Plan) (s : Sta
 as_settled r p plan s raised_ways.Full class type g t o e is = is
 as_settled r p plan s raised_ways.Handled class type g t o e is = rw (← e) is
 as_settled r p plan s raised_ways.Uncaught class type g t o e is = rw (← e) is
-
--- the outcome of what a call came to
-outcome_is : {E : Type 0} (r : Rules ℕ E) (p : Program) (plan : Plan) (s : State ℕ E) (f : Framed E) (came : Came r p plan s f) {x : Came r p plan s f} → came ≡ x → came.0 ≡ x.0
-outcome_is {E} r p plan s f came is = ap (λ (c : Came r p plan s f). c.0) is
 
 module _ {E : Type 0} (marks : List E) (p : Program) (f g : Framed E) (h k : Heaped) where
   pub raises_as : Told E → (class : ThrownClass) (done : Raised) (came : Stepped) → came ≡ stepped_as done (refs.Lib (lib.Thrown class))
@@ -117,11 +131,12 @@ module _ {E : Type 0} (marks : List E) (p : Program) (f g : Framed E) (h k : Hea
       (if nat_le two s.store.left then raised r p plan s (all f) [] (with_raised (paid two t) (lib.Thrown class) None) else Over s [] HeapFull) in
       subst Q seen (raises r plan s shapes things constants marked seen)
 
-  pub raises_call : (class : ThrownClass) (count : ℕ) (came : Stepped) → RaisesAs marks p class f h came g k
+  pub raises_call : (class : ThrownClass) (count : ℕ) (came : Stepped) → IsQuiet came → RaisesAs marks p class f h came g k
       → SettlesCall marks p (calls.Raises (lib.Thrown class)) count f h came g k
-  raises_call class count came raises r plan s shapes things constants e both marked top seen is =
+  raises_call class count came quiet raises r plan s shapes things constants e both marked top seen is =
       let Q : Outcome (State ℕ E) → Type 0 = λ o. SteppedAs r p plan s came g (store_by p shapes things constants k) o in
-      subst Q (sym (outcome_is r p plan s e both is)) (raises r plan s shapes things constants marked seen)
+      quiet_call r p plan s e count came g (store_by p shapes things constants k) both quiet
+      (subst Q (sym is.0) (raises r plan s shapes things constants marked seen)) is.1
 
 -- a class that can be thrown is one
 module _ {E F : Type 0} (marks : List E) (p : Program) (f g : Framed E) (h k : Heaped) (class : ThrownClass) (c : LibClass) where
@@ -131,22 +146,27 @@ module _ {E F : Type 0} (marks : List E) (p : Program) (f g : Framed E) (h k : H
   ok_settles way (Err e) is thrown raises = tt
 
   pub ok_call : (way : Called) (count : ℕ) (r : Result Stepped F) → way ≡ calls.Raises c → c ≡ lib.Thrown class
-      → IfOk r (λ done. RaisesAs marks p class f h done g k) → IfOk r (λ done. SettlesCall marks p way count f h done g k)
-  ok_call way count (Ok done) is thrown raises = rw (is, thrown) (raises_call marks p f g h k class count done raises)
-  ok_call way count (Err e) is thrown raises = tt
+      → IfOk r IsQuiet → IfOk r (λ done. RaisesAs marks p class f h done g k) → IfOk r (λ done. SettlesCall marks p way count f h done g k)
+  ok_call way count (Ok done) is thrown quiet raises = rw (is, thrown) (raises_call marks p f g h k class count done quiet raises)
+  ok_call way count (Err e) is thrown quiet raises = tt
 
 -- ---- a call that raised nothing
 
 module _ {E : Type 0} (marks : List E) (p : Program) (f : Framed E) (h : Heaped) (count : ℕ) where
   pub call_begun : SettlesCall marks p calls.Begun count f h steps.Went f h
-  call_begun r plan s shapes things constants e both marked top seen is = outcome_is r p plan s e both is ∙ ap (λ (t : Store ℕ). went r p plan s (all f) t []) seen
+  call_begun r plan s shapes things constants e both marked top seen is =
+      record { outcome = is.0 ∙ ap (λ (t : Store ℕ). went r p plan s (all f) t []) seen; asked = is.1; reached = tt }
 
   pub call_stuck : SettlesCall marks p calls.Stuck count f h steps.Stuck f h
-  call_stuck r plan s shapes things constants e both marked top seen is = outcome_is r p plan s e both is
+  call_stuck r plan s shapes things constants e both marked top seen is = record { outcome = is.0; asked = is.1; reached = tt }
 
   pub call_runs : (call : LibCall) → SettlesCall marks p (calls.Runs call) count f h (steps.Asks call count) f h
   call_runs call r plan s shapes things constants e both marked top seen is =
-      rw is.0 (sym top, sym seen, outcome_is r p plan s e both is.1)
+      record {
+        outcome = rw is.0 (sym top, sym seen, ap (λ (c : Came E). c.outcome) is.1);
+        asked = ap (λ (c : Came E). c.asked) is.1;
+        reached = (refl, ap (λ (c : Came E). c.reached) is.1);
+      }
 
 -- ---- what is thrown
 

@@ -1,7 +1,5 @@
 -- What an instruction by number did that the machine's definition has a row for.
 use Rattle.std.specs.Prelude.{◌≡◌, ⊤, ℕ, List, [], Option, Some}
-use Rattle.jcode.specs.declared.names.ArrayType.{ArrayType}
-use Rattle.jcode.specs.declared.names.ArrayType.TheVariants as numbers
 use Rattle.jcode.specs.declared.names.Element.TheVariants as items
 use Rattle.jheap.specs.Heaps.{Heaped}
 use Rattle.jops.specs.declared.value.Value.{Value}
@@ -9,8 +7,6 @@ use Rattle.jops.specs.declared.value.Value.TheVariants as values
 use Rattle.jprogram.specs.Classes.{Program}
 use Rattle.juses.specs.declared.numbered.When.{When}
 use Rattle.juses.specs.declared.numbered.When.TheVariants as when
-use Rattle.juses.specs.declared.types.ElementRef.{ElementRef}
-use Rattle.juses.specs.declared.types.ElementRef.TheVariants as elements
 use Rattle.juses.specs.Instructions.{Instruction, Used}
 use Rattle.juses.specs.Meanings as meanings
 use Rattle.jmachine.specs.Acts.{FrameOf}
@@ -25,12 +21,11 @@ use Rattle.jready.specs.declared.instr.Push.TheVariants as push
 use Rattle.jready.specs.declared.tables.Tables.{Tables}
 use Rattle.jready.specs.Meant.{meant}
 use Rattle.jstate.specs.declared.shapes.Shapes.{Shapes}
-use Rattle.jstate.specs.Seen.{Things, array_at, store_by}
+use Rattle.jstate.specs.Seen.{Things, store_by}
 use Rattle.jacts.specs.declared.way.Way.{Way}
 use Rattle.jacts.specs.declared.way.Way.TheVariants as ways
 use Rattle.jacts.specs.Ways.{Acts, Does, leaves}
 use Rattle.jcalls.specs.Calling.{IsThrown}
-use Rattle.jstep.specs.declared.arrays.NumberArrays.{NumberArrays}
 
 -- ---- what was done
 
@@ -73,27 +68,6 @@ IsNumberTest (when.IfRef test) = ⊥
 IsNumberTest test = ⊤
 
 -- ---- arrays
-
--- the heap's number for the arrays of such numbers
-abbrev pub array_number : NumberArrays → ArrayType → ℕ
-array_number rows numbers.Boolean = rows.boolean
-array_number rows numbers.Char = rows.char
-array_number rows numbers.Byte = rows.byte
-array_number rows numbers.Short = rows.short
-array_number rows numbers.Int = rows.int
-array_number rows numbers.Long = rows.long
-
-abbrev pub element_of : ArrayType → ElementRef
-element_of numbers.Boolean = elements.Boolean
-element_of numbers.Char = elements.Char
-element_of numbers.Byte = elements.Byte
-element_of numbers.Short = elements.Short
-element_of numbers.Int = elements.Int
-element_of numbers.Long = elements.Long
-
--- These numbers are those of the arrays of numbers.
-abbrev pub AreRows : Shapes → NumberArrays → Type 0
-AreRows shapes rows = (kind : ArrayType) → array_at shapes (array_number rows kind) ≡ record { depth = 1; element = element_of kind }
 
 -- it stores no reference
 abbrev pub StoresNumber : ArrayInstr → Type 0

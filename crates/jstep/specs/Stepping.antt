@@ -1,7 +1,7 @@
 -- What a step by number came to, whatever the rules are that it runs under.
-use Rattle.std.specs.Prelude.{◌≡◌, ◌≤◌, ⊤, ℕ, true, false, List, [], ◌∷◌, length, map, Option, Some}
+use Rattle.std.specs.Prelude.{◌≡◌, ◌≤◌, ⊤, ℕ, true, false, List, [], ◌∷◌, length, map, take, Option, Some, None}
 use Rattle.jheap.specs.declared.cell.Kind.TheVariants as kinds
-use Rattle.jheap.specs.Heaps.{Heaped, kind_at}
+use Rattle.jheap.specs.Heaps.{Heaped, Object, kind_at}
 use Rattle.jcode.specs.declared.names.Returned.{Returned}
 use Rattle.jlib.specs.declared.calls.LibCall.{LibCall}
 use Rattle.jlib.specs.declared.classes.LibClass.TheVariants as lib
@@ -15,13 +15,15 @@ use Rattle.jprogram.specs.declared.part.ClassRef.{ClassRef}
 use Rattle.jprogram.specs.Classes.{Program}
 use Rattle.juses.specs.declared.meaning.How.{How}
 use Rattle.juses.specs.declared.meaning.Span.{Span}
-use Rattle.juses.specs.Instructions.{Instruction, Return, Used}
+use Rattle.juses.specs.Instructions.{Instruction, Return, Used, instruction_at}
 use Rattle.juses.specs.Meanings as meanings
 use Rattle.juses.specs.Meanings.{CallMeaning, spanned}
 use Rattle.juses.specs.Tables.{pool_at}
 use Rattle.juses.specs.Types.{class_named, named}
 use Rattle.jmachine.specs.declared.plan.Plan.{Plan}
 use Rattle.jmachine.specs.Acts.{NoStep, Outcome, Over, State}
+use Rattle.jmachine.specs.Asked.{Ask, asked_by, asks, run_asks}
+use Rattle.jmachine.specs.Calls.{Runs, Target, target}
 use Rattle.jmachine.specs.Doing.{run}
 use Rattle.jmachine.specs.Security.{Rules}
 use Rattle.jmachine.specs.Steps.{entries, executed, own_fields, site, step, thrown_at, went}
@@ -46,16 +48,18 @@ use Rattle.jcalls.specs.declared.raising.Raised.TheVariants as raised
 use Rattle.jcalls.specs.declared.ready.Counts.{Counts}
 use Rattle.jcalls.specs.declared.returns.Leaving.{Leaving}
 use Rattle.jcalls.specs.declared.returns.Leaving.TheVariants as leaving
-use Rattle.jcalls.specs.Calling.{Came, CalledAs, IsThrown, stepped}
+use Rattle.jcalls.specs.Calling.{Came, CalledAs, IsThrown, Takes, stepped}
 use Rattle.jcalls.specs.Marks.{AreStanding, Stand, marks_of}
 use Rattle.jcalls.specs.Readiness.{AreCounted}
 use Rattle.jcalls.specs.Returns.{LeftAs}
 use Rattle.jcalls.specs.Throws.{raising}
+use Rattle.jshapes.specs.Alike.{StayAlike}
+use Rattle.jshapes.specs.Numbered.{AreRows}
 use Rattle.jstep.specs.declared.fixed.Fixed.{Fixed}
 use Rattle.jstep.specs.declared.outcomes.Stepped.{Stepped}
 use Rattle.jstep.specs.declared.outcomes.Stepped.TheVariants as steps
 use Rattle.jstep.specs.Behind.{behind}
-use Rattle.jstep.specs.Rows.{AreRows, IsHere, IsRaising}
+use Rattle.jstep.specs.Rows.{IsHere, IsRaising}
 
 -- ---- what stands while a program runs
 
@@ -101,6 +105,43 @@ SteppedAs r p plan s (steps.Asks call count) g t outcome =
 SteppedAs r p plan s steps.Full g t outcome = outcome ≡ Over s [] HeapFull
 SteppedAs r p plan s steps.Stuck g t outcome = outcome ≡ NoStep
 
+-- What a step at these frames asks of access control: nothing, but where the library is to be asked, what that member of it asks.
+abbrev pub AsksAs : {E : Type 0} → Rules ℕ E → Program → Plan → State ℕ E → Framed E → Stepped → Option (Ask ℕ) → Type 0
+AsksAs r p plan s f (steps.Asks call count) asked =
+    asked ≡ run_asks r.side (site r p plan s f.newest f.below) s.store call (take count f.newest.operands)
+AsksAs r p plan s f done asked = asked ≡ None
+
+-- An instruction is a call, so many operands of the newest frame serve for it, and it comes to this member of the library.
+pub record CallsLibrary {E : Type 0} (r : Rules ℕ E) (p : Program) (plan : Plan) (s : State ℕ E) (f : Framed E) (call : LibCall) (count : ℕ)
+    (it : Option Instruction) : Type 0 where
+  pub by : How
+  pub called : CallMeaning
+  pub is : it ≡ Some (Used (meanings.Call by called))
+  pub takes : Takes p s by called count f
+  pub comes : target (site r p plan s f.newest f.below) s.store by called (take count f.newest.operands) ≡ Some (Runs call)
+
+-- So it is where the library is to be asked.
+abbrev pub ReachesAs : {E : Type 0} → Rules ℕ E → Program → Plan → State ℕ E → Framed E → Stepped → Option Instruction → Type 0
+ReachesAs r p plan s f (steps.Asks call count) it = CallsLibrary r p plan s f call count it
+ReachesAs r p plan s f done it = ⊤
+
+-- A step at the frames `f` whose outcome, whose ask and whose instruction these are came to this, and has left the frames `g` and a store.
+pub record CameTo {E : Type 0} (r : Rules ℕ E) (p : Program) (plan : Plan) (s : State ℕ E) (f : Framed E) (done : Stepped) (g : Framed E) (t : Store ℕ)
+    (o : Outcome (State ℕ E)) (a : Option (Ask ℕ)) (it : Option Instruction) : Type 0 where
+  pub outcome : SteppedAs r p plan s done g t o
+  pub asked : AsksAs r p plan s f done a
+  pub reached : ReachesAs r p plan s f done it
+
+-- It doesn't ask the library.
+abbrev pub IsQuiet : Stepped → Type 0
+IsQuiet (steps.Asks call count) = ⊥
+IsQuiet done = ⊤
+
+-- What made the same of the objects that were as these things makes the same of those that are, but where there is no step.
+abbrev pub StepsAlike : Program → Shapes → Things → Stepped → (before after : List Object) → Type 0
+StepsAlike p shapes things steps.Stuck before after = ⊤
+StepsAlike p shapes things done before after = StayAlike p shapes things before after
+
 -- Where the thread goes on its frames stand, and the operands of a call of the library are there.
 abbrev pub StoodAs : {E : Type 0} → (classes : ℕ) → Stepped → Framed E → Type 0
 StoodAs classes steps.Went g = AreStanding classes g
@@ -145,6 +186,11 @@ Settles {E} marks p way f h done g k =
     → SteppedAs r p plan s done g (store_by p shapes things constants k)
     (behind r p plan s f.below way (leaves way [] f.newest (store_by p shapes things constants h)))
 
+-- a row without a step leads to none
+abbrev pub StaysStuck : Way → Stepped → Type 0
+StaysStuck ways.Stuck done = done ≡ steps.Stuck
+StaysStuck way done = ⊤
+
 -- the frames that a row left stand as they are to
 abbrev pub StandsFor : {E : Type 0} → (classes : ℕ) → Way → Framed E → Type 0
 StandsFor classes ways.Went f = AreStanding classes f
@@ -157,13 +203,25 @@ CallLeft (calls.Raises class) count f = IsThrown class
 CallLeft (calls.Runs call) count f = count ≤ length f.newest.operands
 CallLeft way count f = ⊤
 
+-- Where the library is to be asked, a call of so many operands has reached that member of it.
+abbrev pub RunsAs : Stepped → (count : ℕ) → Option Target → Type 0
+RunsAs (steps.Asks call n) count reached = (n ≡ count) × (reached ≡ Some (Runs call))
+RunsAs done count reached = ⊤
+
+-- So a step came to what a call of so many operands at the frames `f` came to.
+pub record CallCameTo {E : Type 0} (r : Rules ℕ E) (p : Program) (plan : Plan) (s : State ℕ E) (f : Framed E) (count : ℕ) (done : Stepped) (g : Framed E)
+    (t : Store ℕ) (came : Came E) : Type 0 where
+  pub outcome : SteppedAs r p plan s done g t came.outcome
+  pub asked : AsksAs r p plan s f done came.asked
+  pub reached : RunsAs done count came.reached
+
 -- What a call of so many operands came to, which found these frames and this heap, was done.
 abbrev pub SettlesCall : {E : Type 0} → List E → Program → Called → (count : ℕ) → Framed E → Heaped → Stepped → Framed E → Heaped → Type 0
 SettlesCall {E} marks p way count f h done g k =
     (r : Rules ℕ E) (plan : Plan) (s : State ℕ E) (shapes : Shapes) (things : Things) (constants : List (List ℕ × ℕ)) (e : Framed E)
-    (came : Came r p plan s e)
+    (came : Came E)
     → marks ≡ marks_of r.entry_of p → s.running.frames ≡ all e → s.store ≡ store_by p shapes things constants h
-    → CalledAs r p plan s count e way f came → SteppedAs r p plan s done g (store_by p shapes things constants k) came.0
+    → CalledAs r p plan s count e way f came → CallCameTo r p plan s e count done g (store_by p shapes things constants k) came
 
 -- A return of a kind did what a step does that executes it, where these are the objects of the heap.
 abbrev pub ReturnsAs : {E : Type 0} → Returned → Heaped → Counts → List E → Framed E → Leaving → Framed E → Type 0
@@ -180,7 +238,8 @@ Executes {E} p x counts it f h done g k =
     (r : Rules ℕ E) (plan : Plan) (s : State ℕ E) (things : Things) (constants : List (List ℕ × ℕ))
     → x.marks.now ≡ marks_of r.entry_of p → plan.depth ≡ x.depth → AreCounted counts things → s.running.frames ≡ all f
     → s.store ≡ store_by p x.shapes.now things constants h
-    → SteppedAs r p plan s done g (store_by p x.shapes.now things constants k) (executed r p plan s f.newest f.below it)
+    → CameTo r p plan s f done g (store_by p x.shapes.now things constants k)
+    (executed r p plan s f.newest f.below it) (asked_by r.side p plan s f.newest f.below it) it
 
 -- It executed the call that the entry at an index of the pool of the newest frame's class means.
 abbrev pub ExecutesCall : {E : Type 0} → Program → Fixed E → Counts → How → (pool : ℕ) → Span → Framed E → Heaped → Stepped → Framed E → Heaped → Type 0
@@ -188,13 +247,14 @@ ExecutesCall p x counts by pool params f h done g k =
     (c : CallMeaning) → meanings.meant p (pool_at p f.newest.method.class) (call_form by pool) ≡ Some (meanings.Call by c)
     → c.params ≡ map (named p) (spanned x.ready.now.uses.types params) → Executes p x counts (Some (Used (meanings.Call by c))) f h done g k
 
--- It came to what the machine's step comes to.
+-- It came to what the machine's step comes to, and asks what that asks.
 abbrev pub Steps : {E : Type 0} → Program → Fixed E → Counts → Framed E → Heaped → Stepped → Framed E → Heaped → Type 0
 Steps {E} p x counts f h done g k =
     (r : Rules ℕ E) (plan : Plan) (s : State ℕ E) (things : Things) (constants : List (List ℕ × ℕ))
     → x.marks.now ≡ marks_of r.entry_of p → plan.depth ≡ x.depth → AreCounted counts things → s.running.frames ≡ all f
     → s.store ≡ store_by p x.shapes.now things constants h
-    → SteppedAs r p plan s done g (store_by p x.shapes.now things constants k) (step r p plan s)
+    → CameTo r p plan s f done g (store_by p x.shapes.now things constants k)
+    (step r p plan s) (asks r.side p plan s) (instruction_at p f.newest.method f.newest.place)
 
 -- ---- instructions that are here
 

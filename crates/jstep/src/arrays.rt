@@ -1,48 +1,22 @@
 ghost use Rattle.std.specs.Prelude.{◌≡◌, ◌<◌, ◌+◌, ◌^◌, [], ℕ, IfOk, List, OnOk, length};
 ghost use Rattle.jprogram.specs.Classes.{Program};
 ghost use Rattle.jready.specs.Meant.{array_instr};
+ghost use Rattle.jstate.specs.Celled.{StayCelled};
 ghost use Rattle.jstate.specs.Seen.{AreBuilt, Things, store_by};
 ghost use Rattle.jacts.specs.Ways.{Acts, leaves};
-ghost use Rattle.jstep.specs.Rows.{AreRows, StoresNumber};
-ghost use Rattle.jstep.specs.Rows;
+ghost use Rattle.jshapes.specs.Numbered.{AreRows};
+ghost use Rattle.jstep.specs.Rows.{StoresNumber};
 
 use jacts::{Way, array_length, array_load, array_store, new_array};
-use jcode::ArrayType;
 use jheap::Heap;
 use jready::ArrayInstr;
+use jshapes::NumberArrays;
 use jstate::{Frames, Shapes};
 use std::alloc::{AllocError, Global};
 
-/// The heap's numbers for the types of arrays of numbers.
-#[derive(Clone, Copy, Debug)]
-pub struct NumberArrays {
-    pub boolean: u32,
-    pub char: u32,
-    pub byte: u32,
-    pub short: u32,
-    pub int: u32,
-    pub long: u32,
-}
-
-impl NumberArrays {
-    /// That for the arrays of such numbers.
-    #[inline]
-    fn of(self, kind: ArrayType) -> u32
-        ensures { result ≡ Rows.array_number self kind }
-    {
-        match kind {
-            ArrayType::Boolean => self.boolean,
-            ArrayType::Char => self.char,
-            ArrayType::Byte => self.byte,
-            ArrayType::Short => self.short,
-            ArrayType::Int => self.int,
-            ArrayType::Long => self.long,
-        }
-    }
-}
-
 /// An instruction with an array, but a store of a reference (JVMS 6.5).
 #[inline]
+#[tactic(auto, using(crate::proofs::Leaving::same_celled))]
 pub fn array<M: Copy>(
     alloc: Global,
     frames: &mut Frames<M>,
@@ -60,6 +34,7 @@ pub fn array<M: Copy>(
         (leaves way [] frames.new.newest (store_by p shapes.now things constants heap.new))) }
     ensures below { OnOk result (frames.new.below ≡ frames.old.below) }
     ensures built { OnOk result (AreBuilt heap.new.objects) }
+    ensures celled { OnOk result (StayCelled heap.old.objects heap.new.objects) }
 {
     match f {
         ArrayInstr::New(kind) => new_array(alloc, frames, heap, numbers.of(kind)),

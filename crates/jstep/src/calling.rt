@@ -1,9 +1,11 @@
 ghost use Rattle.std.specs.Prelude.{◌≡◌, ◌≤◌, ◌<◌, ◌^◌, IfOk, IfSome, OnOk, length, true};
 ghost use Rattle.jinvoke.specs.Invoking.{CallWithin};
 ghost use Rattle.jserve.specs.Calls as counting;
+ghost use Rattle.jstate.specs.Celled.{StayCelled};
 ghost use Rattle.jstate.specs.Framed.{all};
 ghost use Rattle.jstate.specs.Seen.{AreBuilt};
 ghost use Rattle.jcalls.specs.Marks.{Stand};
+ghost use Rattle.jshapes.specs.Alike.{NamesNoMore};
 ghost use Rattle.jstep.specs.Stepping.{ExecutesCall, IsFixed, StoodAs};
 ghost use Rattle.jstep.specs.Serving.{ServesCall, TakesCall};
 
@@ -78,6 +80,7 @@ fn taken<M: Copy>(
 }
 
 /// A step that calls a method, or comes to one of the library.
+#[tactic(auto, using(crate::proofs::Leaving::same_celled, crate::proofs::Leaving::same_names))]
 pub(crate) fn step_call<M: Copy>(
     alloc: Global,
     frames: &mut Frames<M>,
@@ -95,6 +98,8 @@ pub(crate) fn step_call<M: Copy>(
     requires built { AreBuilt heap.old.objects }
     ensures row { IfOk result (λ done. ExecutesCall calls.old fixed.now counts by pool params frames.old heap.old done frames.new heap.new) }
     ensures built { OnOk result (AreBuilt heap.new.objects) }
+    ensures celled { OnOk result (StayCelled heap.old.objects heap.new.objects) }
+    ensures alike { OnOk result (NamesNoMore heap.old.objects heap.new.objects) }
     ensures stand { IfOk result (λ done. StoodAs (length fixed.now.marks.now) done frames.new) }
     ensures same { calls.new ≡ calls.old }
 {

@@ -1,6 +1,6 @@
-use crate::arrays::NumberArrays;
 use jready::{Ready, Tables};
 use jserve::Ancestors;
+use jshapes::NumberArrays;
 use jstate::Shapes;
 
 /// What stands as long as a program runs.

@@ -15,13 +15,13 @@ mod settling;
 mod stepping;
 mod throwing;
 
-pub use arrays::{NumberArrays, array};
+pub use arrays::array;
 pub use computing::{plain, push};
 pub use fixed::Fixed;
 pub use jumps::{flow, jump, lookup, table};
 pub use laws::behind_laws;
 pub use outcomes::Stepped;
-pub use raising::{settle_raised, settle_thrown};
+pub use raising::{settle_raised, settle_thrown, thrown_class};
 pub use rows::run;
 pub use settling::{settle, settle_call};
 pub use stepping::step;

@@ -1,11 +1,13 @@
 ghost use Rattle.std.specs.Prelude.{◌≡◌, IfOk, OnOk, length};
 ghost use Rattle.jlib.specs.declared.classes.LibClass.TheVariants as lib;
+ghost use Rattle.jstate.specs.Celled.{StayCelled};
 ghost use Rattle.jstate.specs.Framed.{all};
 ghost use Rattle.jstate.specs.Numbers;
 ghost use Rattle.jstate.specs.Seen.{AreBuilt};
 ghost use Rattle.jcalls.specs.Calling.{IsThrown};
 ghost use Rattle.jcalls.specs.Marks.{Stand};
-ghost use Rattle.jstep.specs.Stepping.{RaisesAs, StoodAs, ThrowsAs};
+ghost use Rattle.jshapes.specs.Alike.{NamesNoMore};
+ghost use Rattle.jstep.specs.Stepping.{IsQuiet, RaisesAs, StoodAs, ThrowsAs};
 
 use crate::outcomes::{Stepped, stepped_of};
 use jcalls::{raise, throw_object};
@@ -13,6 +15,7 @@ use jheap::Heap;
 use jinvoke::{Known, ThrownAs, class_laws, class_numbered, number_of, told_law};
 use jlib::{LibClass, Thrown};
 use jprogram::ClassRef;
+use jshapes::alike_laws;
 use jstate::{Frames, heap_laws};
 use std::alloc::{AllocError, Global};
 
@@ -49,7 +52,7 @@ fn thrown_number(c: Thrown) -> u32
 
 /// A class of what can be thrown, as one.
 #[inline]
-pub(crate) fn thrown_class(class: LibClass) -> Thrown
+pub fn thrown_class(class: LibClass) -> Thrown
     requires { IsThrown class }
     ensures { class ≡ lib.Thrown result }
 {
@@ -60,7 +63,7 @@ pub(crate) fn thrown_class(class: LibClass) -> Thrown
 }
 
 /// Raises an exception of a class of the library, without a message.
-#[tactic(auto, using(crate::proofs::Settled::stood))]
+#[tactic(auto, using(crate::proofs::Settled::stood, crate::proofs::Settled::quiet_raised, crate::proofs::Leaving::raised_names))]
 pub fn settle_raised<M: Copy>(
     alloc: Global,
     frames: &mut Frames<M>,
@@ -72,10 +75,14 @@ pub fn settle_raised<M: Copy>(
     requires stand { Stand (length marks.now) (all frames.old) }
     requires built { AreBuilt heap.old.objects }
     ensures row { IfOk result (λ done. RaisesAs marks.now known.now class frames.old heap.old done frames.new heap.new) }
+    ensures quiet { IfOk result IsQuiet }
     ensures built { OnOk result (AreBuilt heap.new.objects) }
+    ensures celled { OnOk result (StayCelled heap.old.objects heap.new.objects) }
+    ensures alike { OnOk result (NamesNoMore heap.old.objects heap.new.objects) }
     ensures stand { IfOk result (λ done. StoodAs (length marks.now) done frames.new) }
 {
     told_law::<M>();
+    alike_laws::<M>();
     let thrown = ClassRef::Lib(LibClass::Thrown(class));
     let handlers = ThrownAs {
         known,
@@ -87,7 +94,7 @@ pub fn settle_raised<M: Copy>(
 }
 
 /// Throws the object of a number (JVMS 2.10), which is no array.
-#[tactic(auto, using(crate::proofs::Settled::stood, crate::proofs::Settled::none_thrown, crate::proofs::Settled::array_thrown))]
+#[tactic(auto, using(crate::proofs::Settled::stood, crate::proofs::Settled::quiet_raised, crate::proofs::Settled::none_thrown, crate::proofs::Settled::array_thrown))]
 pub fn settle_thrown<M: Copy>(
     frames: &mut Frames<M>,
     heap: &Heap,
@@ -97,6 +104,7 @@ pub fn settle_thrown<M: Copy>(
 ) -> Result<Stepped, AllocError>
     requires stand { Stand (length marks.now) (all frames.old) }
     ensures row { IfOk result (λ done. ThrowsAs marks.now known.now object frames.old heap.now done frames.new) }
+    ensures quiet { IfOk result IsQuiet }
     ensures stand { IfOk result (λ done. StoodAs (length marks.now) done frames.new) }
 {
     told_law::<M>();

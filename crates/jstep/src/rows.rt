@@ -1,7 +1,11 @@
 ghost use Rattle.std.specs.Prelude.{◌≡◌, ◌<◌, ◌+◌, ◌^◌, IfOk, OnOk};
+ghost use Rattle.jprogram.specs.Classes.{Program};
 ghost use Rattle.jready.specs.Laid.{Within};
-ghost use Rattle.jstate.specs.Seen.{AreBuilt};
-ghost use Rattle.jstep.specs.Rows.{AreRows, IsHere, Runs, Stays};
+ghost use Rattle.jstate.specs.Celled.{StayCelled};
+ghost use Rattle.jstate.specs.Seen.{AreBuilt, Things};
+ghost use Rattle.jshapes.specs.Alike.{LeavesAlike};
+ghost use Rattle.jshapes.specs.Numbered.{AreRows};
+ghost use Rattle.jstep.specs.Rows.{IsHere, Runs, Stays};
 
 use crate::arrays::array;
 use crate::computing::{plain, push};
@@ -10,11 +14,13 @@ use crate::jumps::{flow, lookup, table};
 use jacts::{Way, local, stack};
 use jheap::Heap;
 use jready::Instr;
+use jshapes::alike_laws;
 use jstate::Frames;
 use std::alloc::{AllocError, Global};
 
 /// The row of an instruction by number that is here.
 #[inline]
+#[tactic(auto, using(crate::proofs::Leaving::same_celled, crate::proofs::Leaving::same_celled_if))]
 fn run_row<M: Copy>(
     alloc: Global,
     frames: &mut Frames<M>,
@@ -30,6 +36,7 @@ fn run_row<M: Copy>(
     ensures row { IfOk result (λ way. Runs fixed.now.tables.now fixed.now.shapes.now one frames.old.newest heap.old way frames.new.newest heap.new) }
     ensures below { OnOk result (frames.new.below ≡ frames.old.below) }
     ensures built { OnOk result (AreBuilt heap.new.objects) }
+    ensures celled { OnOk result (StayCelled heap.old.objects heap.new.objects) }
 {
     match one {
         Instr::Plain(f) => plain(frames, fixed.tables, f),
@@ -63,6 +70,9 @@ pub fn run<M: Copy>(
     ensures stays { IfOk result (λ way. Stays way frames.old.newest frames.new.newest) }
     ensures below { OnOk result (frames.new.below ≡ frames.old.below) }
     ensures built { OnOk result (AreBuilt heap.new.objects) }
+    ensures celled { OnOk result (StayCelled heap.old.objects heap.new.objects) }
+    ensures alike { IfOk result (λ way. (p : Program) (things : Things) → LeavesAlike p fixed.now.shapes.now things way heap.old.objects heap.new.objects) }
 {
+    alike_laws::<M>();
     run_row(alloc, frames, heap, fixed, one)
 }

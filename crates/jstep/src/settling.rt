@@ -1,8 +1,10 @@
 ghost use Rattle.std.specs.Prelude.{IfOk, OnOk, length};
+ghost use Rattle.jstate.specs.Celled.{StayCelled};
 ghost use Rattle.jstate.specs.Seen.{AreBuilt};
+ghost use Rattle.jshapes.specs.Alike.{NamesNoMore};
 ghost use Rattle.jcalls.specs.Calling.{CallStands};
 ghost use Rattle.jstep.specs.Rows.{MayRaise};
-ghost use Rattle.jstep.specs.Stepping.{CallLeft, Settles, SettlesCall, StandsFor, StoodAs};
+ghost use Rattle.jstep.specs.Stepping.{CallLeft, IsQuiet, Settles, SettlesCall, StandsFor, StaysStuck, StoodAs};
 
 use crate::outcomes::Stepped;
 use crate::raising::{settle_raised, thrown_class};
@@ -15,6 +17,7 @@ use std::alloc::{AllocError, Global};
 
 /// Does what a row left to do.
 #[inline]
+#[tactic(auto, using(crate::proofs::Leaving::same_celled, crate::proofs::Leaving::same_names))]
 pub fn settle<M: Copy>(
     alloc: Global,
     frames: &mut Frames<M>,
@@ -27,7 +30,11 @@ pub fn settle<M: Copy>(
     requires stand { StandsFor (length marks.now) way frames.old }
     requires built { AreBuilt heap.old.objects }
     ensures row { IfOk result (λ done. Settles marks.now known.now way frames.old heap.old done frames.new heap.new) }
+    ensures quiet { IfOk result IsQuiet }
+    ensures stuck { IfOk result (StaysStuck way) }
     ensures built { OnOk result (AreBuilt heap.new.objects) }
+    ensures celled { OnOk result (StayCelled heap.old.objects heap.new.objects) }
+    ensures alike { OnOk result (NamesNoMore heap.old.objects heap.new.objects) }
     ensures stand { IfOk result (λ done. StoodAs (length marks.now) done frames.new) }
 {
     match way {
@@ -43,6 +50,7 @@ pub fn settle<M: Copy>(
 
 /// Does what a call of so many operands left to do.
 #[inline]
+#[tactic(auto, using(crate::proofs::Leaving::same_celled, crate::proofs::Leaving::same_names))]
 pub fn settle_call<M: Copy>(
     alloc: Global,
     frames: &mut Frames<M>,
@@ -57,6 +65,8 @@ pub fn settle_call<M: Copy>(
     requires built { AreBuilt heap.old.objects }
     ensures row { IfOk result (λ done. SettlesCall marks.now known.now called count frames.old heap.old done frames.new heap.new) }
     ensures built { OnOk result (AreBuilt heap.new.objects) }
+    ensures celled { OnOk result (StayCelled heap.old.objects heap.new.objects) }
+    ensures alike { OnOk result (NamesNoMore heap.old.objects heap.new.objects) }
     ensures stand { IfOk result (λ done. StoodAs (length marks.now) done frames.new) }
 {
     match called {

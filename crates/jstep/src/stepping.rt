@@ -5,11 +5,12 @@ ghost use Rattle.jready.specs.Meant.{meant};
 ghost use Rattle.jready.specs.declared.instr.Instr.TheVariants as instrs;
 ghost use Rattle.jmachine.specs.Steps.{fetched};
 ghost use Rattle.jstate.specs.Framed.{all};
-ghost use Rattle.jstate.specs.Seen.{AreBuilt};
+ghost use Rattle.jstate.specs.Celled.{StayCelled};
+ghost use Rattle.jstate.specs.Seen.{AreBuilt, Things};
 ghost use Rattle.jcalls.specs.declared.ready.Counts.{Counts as CountsOf};
 ghost use Rattle.jcalls.specs.Marks.{Stand};
 ghost use Rattle.jstep.specs.Rows.{IsHere};
-ghost use Rattle.jstep.specs.Stepping.{Executes, IsFixed, IsFlowStep, IsStep, Steps, StoodAs};
+ghost use Rattle.jstep.specs.Stepping.{Executes, IsFixed, IsFlowStep, IsStep, Steps, StepsAlike, StoodAs};
 
 use crate::calling::step_call;
 use crate::fixed::Fixed;
@@ -44,6 +45,9 @@ fn step_row<M: Copy>(
     ensures row { IfOk result (λ done. (counts : CountsOf) → Executes known.now fixed.now counts (meant known.now fixed.now.tables.now frames.old.newest.method.class one)
         frames.old heap.old done frames.new heap.new) }
     ensures built { OnOk result (AreBuilt heap.new.objects) }
+    ensures celled { OnOk result (StayCelled heap.old.objects heap.new.objects) }
+    ensures alike { IfOk result (λ done. (things : Things) →
+        StepsAlike known.now fixed.now.shapes.now things done heap.old.objects heap.new.objects) }
     ensures stand { IfOk result (λ done. StoodAs (length fixed.now.marks.now) done frames.new) }
 {
     behind_laws::<M>();
@@ -53,6 +57,7 @@ fn step_row<M: Copy>(
 
 /// A step that says where the method goes on.
 #[inline]
+#[tactic(auto, using(crate::proofs::Leaving::same_celled, crate::proofs::Leaving::same_celled_if))]
 fn step_flow<M: Copy>(
     alloc: Global,
     frames: &mut Frames<M>,
@@ -69,6 +74,9 @@ fn step_flow<M: Copy>(
     ensures row { IfOk result (λ done. Executes known.now fixed.now counts (meant known.now fixed.now.tables.now frames.old.newest.method.class (instrs.Flow f))
         frames.old heap.old done frames.new heap.new) }
     ensures built { OnOk result (AreBuilt heap.new.objects) }
+    ensures celled { OnOk result (StayCelled heap.old.objects heap.new.objects) }
+    ensures alike { IfOk result (λ done. (things : Things) →
+        StepsAlike known.now fixed.now.shapes.now things done heap.old.objects heap.new.objects) }
     ensures stand { IfOk result (λ done. StoodAs (length fixed.now.marks.now) done frames.new) }
 {
     match f {
@@ -80,6 +88,7 @@ fn step_flow<M: Copy>(
 
 /// A step of a thread, whose newest frame stands at an instruction that is here.
 #[inline]
+#[tactic(auto, using(crate::proofs::Leaving::same_celled, crate::proofs::Leaving::same_celled_if))]
 pub fn step<M: Copy>(
     alloc: Global,
     frames: &mut Frames<M>,
@@ -99,6 +108,9 @@ pub fn step<M: Copy>(
     requires built { AreBuilt heap.old.objects }
     ensures row { IfOk result (λ done. Steps calls.old fixed.now counts frames.old heap.old done frames.new heap.new) }
     ensures built { OnOk result (AreBuilt heap.new.objects) }
+    ensures celled { OnOk result (StayCelled heap.old.objects heap.new.objects) }
+    ensures alike { IfOk result (λ done. (things : Things) →
+        StepsAlike calls.old fixed.now.shapes.now things done heap.old.objects heap.new.objects) }
     ensures stand { IfOk result (λ done. StoodAs (length fixed.now.marks.now) done frames.new) }
     ensures same { calls.new ≡ calls.old }
 {

@@ -1,9 +1,11 @@
 ghost use Rattle.std.specs.Prelude.{◌≡◌, IfOk, OnOk, Some, length, slice_get};
 ghost use Rattle.juses.specs.Instructions as instructions;
 ghost use Rattle.jobjs.specs.Branching.{ref_in};
+ghost use Rattle.jstate.specs.Celled.{StayCelled};
 ghost use Rattle.jstate.specs.Framed.{all};
 ghost use Rattle.jstate.specs.Seen.{AreBuilt};
 ghost use Rattle.jcalls.specs.Marks.{Stand};
+ghost use Rattle.jshapes.specs.Alike.{NamesNoMore};
 ghost use Rattle.jstep.specs.Stepping.{Executes, IsFixed, StoodAs};
 ghost use Rattle.jstep.specs.Serving.{ServesThrown};
 
@@ -55,6 +57,7 @@ fn serves<M: Copy>(
 }
 
 /// A step that throws (JVMS 6.5: athrow).
+#[tactic(auto, using(crate::proofs::Leaving::same_celled, crate::proofs::Leaving::same_names, crate::proofs::Leaving::same_celled_if, crate::proofs::Leaving::same_names_if))]
 pub(crate) fn step_throw<M: Copy>(
     alloc: Global,
     frames: &mut Frames<M>,
@@ -68,6 +71,8 @@ pub(crate) fn step_throw<M: Copy>(
     requires built { AreBuilt heap.old.objects }
     ensures row { IfOk result (λ done. Executes known.now fixed.now counts (Some instructions.Throw) frames.old heap.old done frames.new heap.new) }
     ensures built { OnOk result (AreBuilt heap.new.objects) }
+    ensures celled { OnOk result (StayCelled heap.old.objects heap.new.objects) }
+    ensures alike { OnOk result (NamesNoMore heap.old.objects heap.new.objects) }
     ensures stand { IfOk result (λ done. StoodAs (length fixed.now.marks.now) done frames.new) }
 {
     behind_laws::<M>();

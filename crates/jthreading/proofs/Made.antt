@@ -32,15 +32,16 @@ use Rattle.jstate.specs.declared.shapes.Shapes.{Shapes}
 use Rattle.jstate.specs.Celled.{AreCelled, HasWanted, class_cells}
 use Rattle.jstate.specs.Framed.{Framed, all}
 use Rattle.jstate.specs.Numbers.{class_numbered}
-use Rattle.jstate.specs.Seen.{Things, kind_by, number_in, first, object_by, store_by}
+use Rattle.jstate.specs.Seen.{Things, kind_by, number_in, first, object_by, store_by, values_of}
 use Rattle.jstate.specs.SeenLaws.{IsNoPiece, SeesEach, Writes}
 use Rattle.jacts.proofs.Costs.{unpaid}
 use Rattle.jguests.specs.declared.guests.Guests.{Guests}
 use Rattle.jguests.specs.declared.guests.Guest.{Guest}
-use Rattle.jguests.specs.Guested.{AreGuests, RunsAs, framed_as, guest_by, guests_of, state_by, with_frames}
+use Rattle.jguests.specs.Guested.{AreGuests, guest_by, guests_of, state_by}
 use Rattle.jthreading.specs.declared.making.Begun.{Begun}
+use Rattle.jthreading.specs.declared.making.Given.{Given}
 use Rattle.jthreading.specs.Finding.{is_thread, thread_kind, thread_object}
-use Rattle.jthreading.specs.Making.{IsHanded, begun_values}
+use Rattle.jthreading.specs.Making.{IsGiven, IsHanded, NamesNoMore, begun_values}
 use Rattle.jthreading.specs.Switching.{gone}
 use Rattle.jthreading.specs.Threading.{MayCall, thread_called}
 use Rattle.jthreading.proofs.Rows.{row}
@@ -117,6 +118,17 @@ written writes p shapes things constants h o n t some =
     (seen_as p shapes h.objects things t.object t.class (slice_set t.object.cells 0 (suc n)) t.kind t.named
     ∙ ap (λ c. Thread (number_in c)) (first_set t.object.cells (suc n) some))
 
+-- It names nothing that is kept.
+pub written_alike : Writes → (h k : Heaped) (o n : ℕ) (t : IsThreadAt h o) → 0 < length t.object.cells → k ≡ heaps.with_cell h o 0 (suc n) → NamesNoMore h.objects k.objects
+written_alike writes h k o n t some is p shapes things others same =
+    let stores : store_by p shapes others [] h ≡ store_by p shapes things [] h =
+    ap (λ (os : List (Object ℕ)). record { objects = os; statics = values_of shapes.statics h.statics; constants = []; left = h.left }) same in
+    let all : store_by p shapes others [] k ≡ store_by p shapes things [] k =
+    ap (store_by p shapes others []) is ∙ written writes p shapes others [] h o n t some
+    ∙ ap (λ (s : Store ℕ). with_object s o (Thread (Some n))) stores
+    ∙ sym (written writes p shapes things [] h o n t some) ∙ ap (store_by p shapes things []) (sym is) in
+    ap (λ (s : Store ℕ). s.objects) all
+
 -- ---- what a call names
 
 kind_same : (o : ℕ) (k : Option Kind) (n : ℕ) → thread_kind o k ≡ Some n → o ≡ n
@@ -159,12 +171,13 @@ module _ {E : Type 0} (r : Rules ℕ E) (at : Site) (s : Store ℕ) (es : List E
   init_row Passing None b is = absurd is
   init_row Passing (Some k) b is = refl
 
-  pub makes_row : (side : Side) (context : Option ℕ) (b : Begun) (kept : ℕ) (number : Option ℕ) → IsHanded side context → r.inherit context es inherited ≡ kept
-      → object_at s b.thread ≡ Some (Thread number)
-      → thread_row r at s es inherited (threads.Init side) (handed side context ++ begun_values b)
-      ≡ Some (free (Makes (with_object s b.thread (Thread (Some (length at.table)))) b.runnable kept))
-  makes_row side context b kept number is inherits there =
-      init_row side context b is
+  pub makes_row : (side : Side) (values : List (Value ℕ)) (heap : Heaped) (x : Given) (kept : ℕ) (number : Option ℕ) → IsGiven side values heap x
+      → r.inherit x.context es inherited ≡ kept → object_at s x.begun.thread ≡ Some (Thread number)
+      → thread_row r at s es inherited (threads.Init side) values
+      ≡ Some (free (Makes (with_object s x.begun.thread (Thread (Some (length at.table)))) x.begun.runnable kept))
+  makes_row side values heap x kept number is inherits there =
+      let b = x.begun in
+      ap (thread_row r at s es inherited (threads.Init side)) is.values ∙ init_row side x.context b is.context
       ∙ ap₂ (λ k (o : Option (Object ℕ)). thread_made {E = E} at s b.thread b.runnable k o) inherits there
 
 pub makes_so : {E : Type 0} (r : Rules ℕ E) (p : Program) (plan : Plan) (s : State ℕ E) (f : Framed E) (count : ℕ) (side : Side) (store : Store ℕ) (runnable kept : ℕ)
@@ -181,19 +194,15 @@ module _ {E : Type 0} where
   abbrev stood : Store ℕ → ℕ → List (GuestOf ℕ E) → GuestOf ℕ E → List ThreadOf → ℕ → State ℕ E
   stood store at all x table turns = record { earlier = take at all; running = x; later = drop (at + 1) all; table = table; store = store; turns = turns }
 
-  pub one_more_state : RunsAs E → (g more h : Guests E) (f : Framed E) (x : GuestOf ℕ E) (before store : Store ℕ) → AreGuests g
-      → guests_of more ≡ guests_of g ++ x ∷ [] → more.table ≡ added g.table → more.turns ≡ g.turns → more.at ≡ g.at → more.running ≡ g.running
-      → h ≡ with_frames (Some f) more
-      → state_by h store ≡ with_guest (state_running (state_by g before) (all f) store) x
-  one_more_state runs g more h f x before store are all_are table turns at running is =
+  pub one_more_state : (g h : Guests E) (x : GuestOf ℕ E) (store : Store ℕ) → AreGuests g
+      → guests_of h ≡ guests_of g ++ x ∷ [] → h.table ≡ added g.table → h.turns ≡ g.turns → h.at ≡ g.at → h.running ≡ g.running
+      → state_by h store ≡ with_guest (state_by g store) x
+  one_more_state g h x store are all_are table turns at running =
       let some = length-map g.others.items guest_by in
       let long = length-set (map guest_by g.others.items) g.at (guest_by g.running) in
       let fits : g.at + 1 ≤ length (guests_of g) = omega (arith, are.at, some, long) in
-      let y = guest_by (framed_as (Some f) g.running) in
-      ap (λ (z : Guests E). state_by z store) is
-      ∙ runs more (framed_as (Some f) more.running) store
-      ∙ ap₂ (λ n (gs : List (GuestOf ℕ E)). stood store n gs (guest_by (framed_as (Some f) more.running)) more.table more.turns) at all_are
-      ∙ ap (λ (z : Guest E). stood store g.at (guests_of g ++ x ∷ []) (guest_by (framed_as (Some f) z)) more.table more.turns) running
-      ∙ ap₂ (λ ts n. stood store g.at (guests_of g ++ x ∷ []) y ts n) table turns
-      ∙ ap₂ (λ (e l : List (GuestOf ℕ E)). record { earlier = e; running = y; later = l; table = added g.table; store = store; turns = g.turns })
+      ap₂ (λ n (gs : List (GuestOf ℕ E)). stood store n gs (guest_by h.running) h.table h.turns) at all_are
+      ∙ ap (λ (z : Guest E). stood store g.at (guests_of g ++ x ∷ []) (guest_by z) h.table h.turns) running
+      ∙ ap₂ (λ ts n. stood store g.at (guests_of g ++ x ∷ []) (guest_by g.running) ts n) table turns
+      ∙ ap₂ (λ (e l : List (GuestOf ℕ E)). record { earlier = e; running = guest_by g.running; later = l; table = added g.table; store = store; turns = g.turns })
       (take-append-le g.at (guests_of g) (x ∷ []) (omega (arith, fits))) (drop-append-le (g.at + 1) (guests_of g) (x ∷ []) fits)

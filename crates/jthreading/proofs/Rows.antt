@@ -38,7 +38,6 @@ use Rattle.jstate.specs.Seen.{Things, class_by, first, kind_by, library_by, obje
 use Rattle.jstate.specs.SeenLaws.{SeesEach}
 use Rattle.jacts.proofs.Costs.{unpaid}
 use Rattle.jcalls.specs.Throws.{raising}
-use Rattle.jguests.specs.declared.guests.Guest.{Guest}
 use Rattle.jguests.specs.declared.guests.Guests.{Guests}
 use Rattle.jguests.specs.declared.turns.Turned.{Turned}
 use Rattle.jguests.specs.Turning.{Turns, outcome_of}
@@ -133,7 +132,7 @@ one_taken [] v at = absurd cc
 one_taken (x ∷ values) v at = let e : x ≡ v = cc in ap (λ y. y ∷ []) e
 
 -- so many operands are taken
-taken_many : (count : ℕ) (values : List (Value ℕ)) → count ≤ length values → length (take count values) ≡ count
+pub taken_many : (count : ℕ) (values : List (Value ℕ)) → count ≤ length values → length (take count values) ≡ count
 taken_many zero values le = refl
 taken_many (suc n) [] le = absurd (omega (arith, le))
 taken_many (suc n) (v ∷ values) le = ap suc (taken_many n values (omega (arith, le)))
@@ -321,7 +320,3 @@ joined_same table me t once = by_life (lives_at table t) once
         → (if b then slice_set table me (record (thread_at table me) { waits_for = Some t }) else table) ≡ table
     by_life true e = cc
     by_life false e = refl
-
-pub may_as : {E : Type 0} (count : ℕ) (g h : Guests E) → h.running ≡ g.running → MayCall count g → MayCall count h
-may_as {E} count g h same may =
-    record { frames = may.frames; runs = ap (λ (x : Guest E). x.frames) same ∙ may.runs; few = may.few; place = may.place }

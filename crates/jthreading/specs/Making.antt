@@ -1,5 +1,6 @@
 -- What a step comes to that calls the constructor of Thread.
 use Rattle.std.specs.Prelude.{◌≡◌, ⊤, ℕ, ◌+◌, ◌++◌, List, [], ◌∷◌, Option, Some, None, slice_get, take}
+use Rattle.jheap.specs.Heaps as heaps
 use Rattle.jheap.specs.Heaps.{Heaped}
 use Rattle.jlib.specs.declared.calls.ThreadCall.TheVariants as threads
 use Rattle.jlib.specs.declared.side.Side.{Side}
@@ -13,10 +14,11 @@ use Rattle.jmachine.specs.Security.{Rules, handed}
 use Rattle.jmachine.specs.Steps.{entries}
 use Rattle.jstate.specs.declared.shapes.Shapes.{Shapes}
 use Rattle.jstate.specs.Framed.{Framed, all}
-use Rattle.jstate.specs.Seen.{Things, store_by}
+use Rattle.jstate.specs.Seen.{Things, objects_by, store_by}
 use Rattle.jguests.specs.declared.guests.Guests.{Guests}
 use Rattle.jguests.specs.Guested.{state_by}
 use Rattle.jthreading.specs.declared.making.Begun.{Begun}
+use Rattle.jthreading.specs.declared.making.Given.{Given}
 use Rattle.jthreading.specs.Finding.{thread_object}
 use Rattle.jthreading.specs.Threading.{thread_called}
 
@@ -30,9 +32,11 @@ pub record IsBegun {E : Type 0} (first : ℕ) (f : Framed E) (h : Heaped) (b : B
   pub named : slice_get f.newest.operands (first + 1) ≡ Some (Ref b.thread)
   pub thread : thread_object h (Ref b.thread) ≡ Some b.thread
 
-abbrev pub Named : {E : Type 0} → (first : ℕ) → Guests E → Heaped → Option Begun → Type 0
-Named {E} first g h None = (f : Framed E) → g.running.frames ≡ Some f → (b : Begun) → IsBegun first f h b → ⊥
-Named {E} first g h (Some b) = (f : Framed E) → g.running.frames ≡ Some f → IsBegun first f h b
+abbrev pub NamedBehind : {E : Type 0} → (first : ℕ) → Guests E → Heaped → Option Begun → Type 0
+NamedBehind {E} first g h None = (f : Framed E) → g.running.frames ≡ Some f → (b : Begun) → IsBegun first f h b → ⊥
+NamedBehind {E} first g h (Some b) = (f : Framed E) → g.running.frames ≡ Some f → IsBegun first f h b
+
+-- ---- what a constructor is given
 
 -- A context is handed on the passing side alone.
 abbrev pub IsHanded : Side → Option ℕ → Type 0
@@ -40,13 +44,32 @@ IsHanded Source None = ⊤
 IsHanded Passing (Some k) = ⊤
 IsHanded side context = ⊥
 
+-- These are the operands of a call of the constructor, of which the object is a Thread.
+pub record IsGiven (side : Side) (operands : List (Value ℕ)) (h : Heaped) (x : Given) : Type 0 where
+  pub context : IsHanded side x.context
+  pub values : operands ≡ handed side x.context ++ begun_values x.begun
+  pub thread : thread_object h (Ref x.begun.thread) ≡ Some x.begun.thread
+
+-- nothing that the constructor could be given
+abbrev pub IsNotGiven : Side → List (Value ℕ) → Heaped → Type 0
+IsNotGiven side values h = (x : Given) → IsGiven side values h x → ⊥
+
+-- what the newest of these frames gives with so many operands
+abbrev pub Named : {E : Type 0} → Side → (count : ℕ) → Guests E → Heaped → Option Given → Type 0
+Named {E} side count g h None = (f : Framed E) → g.running.frames ≡ Some f → IsNotGiven side (take count f.newest.operands) h
+Named {E} side count g h (Some x) = (f : Framed E) → g.running.frames ≡ Some f → IsGiven side (take count f.newest.operands) h x
+
 -- The constructor made a thread, which keeps what rules say that it inherits, whatever the rules are and the store is that the heap stands
 -- for.
-abbrev pub MakesThread : {E : Type 0} → (kept : ℕ) (context : Option ℕ) (count : ℕ) → Begun → Guests E → Heaped → Guests E → Heaped → Type 0
-MakesThread {E} kept context count b g heap h after =
+abbrev pub MakesThread : {E : Type 0} → (kept count : ℕ) → Given → Guests E → Heaped → Guests E → Heaped → Type 0
+MakesThread {E} kept count x g heap h after =
     (r : Rules ℕ E) (p : Program) (plan : Plan) (shapes : Shapes) (things : Things) (constants : List (List ℕ × ℕ)) (side : Side) (f : Framed E)
-    → g.running.frames ≡ Some f → thread_object heap (Ref b.thread) ≡ Some b.thread → IsHanded side context
-    → take count f.newest.operands ≡ handed side context ++ begun_values b
+    → g.running.frames ≡ Some f → IsGiven side (take count f.newest.operands) heap x
     → let store = store_by p shapes things constants heap in let s = state_by g store in
-    r.inherit context (entries r p plan s (all f)) s.running.inherited ≡ kept
+    r.inherit x.context (entries r p plan s (all f)) s.running.inherited ≡ kept
     → thread_called r p plan s f count (threads.Init side) ≡ Went (state_by h (store_by p shapes things constants after)) []
+
+-- The objects that are name no permission and no kept number that those before didn't: what made the same of those makes the same of these.
+abbrev pub NamesNoMore : (before after : List heaps.Object) → Type 0
+NamesNoMore before after = (p : Program) (shapes : Shapes) (things others : Things) → objects_by p shapes others before ≡ objects_by p shapes things before
+    → objects_by p shapes others after ≡ objects_by p shapes things after

@@ -2,8 +2,10 @@
 #![tactic(auto)]
 
 mod finding;
+mod laws;
 mod making;
 mod switching;
 
-pub use making::{Begun, make, named_by};
+pub use laws::init_laws;
+pub use making::{Begun, Given, make, named_by};
 pub use switching::{Threaded, join, start, yield_turn};

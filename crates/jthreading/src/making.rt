@@ -1,16 +1,18 @@
-ghost use Rattle.std.specs.Prelude.{◌≡◌, ◌+◌, ◌≤◌, ℕ, OnOk, Option, Some};
+ghost use Rattle.std.specs.Prelude.{◌≡◌, ◌+◌, ◌≤◌, ℕ, OnOk, Option, Some, option_map};
+ghost use Rattle.jlib.specs.declared.side.Side.TheVariants as sides;
 ghost use Rattle.jops.specs.declared.value.Value.TheVariants.{Ref};
 ghost use Rattle.jstate.specs.Celled.{AreCelled, StayCelled};
 ghost use Rattle.jstate.specs.Seen.{AreBuilt};
-ghost use Rattle.jguests.specs.Guested.{AreGuests};
+ghost use Rattle.jguests.specs.Guested.{AreGuests, HaveStayed, Lives};
 ghost use Rattle.jthreading.specs.Finding;
-ghost use Rattle.jthreading.specs.Making.{MakesThread, Named};
+ghost use Rattle.jthreading.specs.Making.{MakesThread, Named, NamedBehind, NamesNoMore};
+ghost use Rattle.jthreading.specs.Switching.{behind, gone};
 ghost use Rattle.jthreading.specs.Threading.{MayCall};
 
 use crate::switching::{go_on, operand_at};
 use jguests::{Guests, guest_laws};
 use jheap::{Heap, Kind};
-use jlib::LibClass;
+use jlib::{LibClass, Side};
 use jops::Value;
 use jprogram::ClassRef;
 use jstate::{Shapes, built_laws, celled_laws, class_numbered, heap_laws};
@@ -41,17 +43,71 @@ pub struct Begun {
     pub runnable: u32,
 }
 
-/// What a call of Thread's constructor names by its operands, of which so many stand in front (a context, on the passing side); none where
-/// there is no step.
-pub fn named_by<M: Copy>(guests: &Guests<M>, heap: &Heap, first: usize) -> Option<Begun>
+/// What the constructor is given.
+#[derive(Clone, Copy, Debug, PartialEq, Eq)]
+pub struct Given {
+    pub begun: Begun,
+    /// The number of the context, on the passing side.
+    pub context: Option<u64>,
+}
+
+/// What a call of the constructor names behind so many operands; none where these are others.
+fn named_behind<M: Copy>(guests: &Guests<M>, heap: &Heap, first: usize) -> Option<Begun>
     requires first { first ≤ 1 }
     requires may { MayCall (first + 2) guests.now }
-    ensures { Named first guests.now heap.now result }
+    ensures { NamedBehind first guests.now heap.now result }
 {
     let thread = thread_object(heap, operand_at(guests, first + 1))?;
     match operand_at(guests, first) {
         Value::Ref(runnable) => Some(Begun { thread, runnable }),
         _ => None,
+    }
+}
+
+/// What the constructor is given on the source side, where no contexts are handed on.
+#[tactic(auto, using(crate::proofs::Made::may_less, crate::proofs::Operands::alone_nobody))]
+fn named_alone<M: Copy>(guests: &Guests<M>, heap: &Heap, count: usize) -> Option<Given>
+    requires may { MayCall count guests.now }
+    ensures { Named sides.Source count guests.now heap.now result }
+{
+    if count != 2 {
+        return None;
+    }
+    let begun = named_behind(guests, heap, 0)?;
+    Some(Given {
+        begun,
+        context: None,
+    })
+}
+
+/// What it is given on the passing side, with a context.
+#[tactic(auto, using(crate::proofs::Made::may_less, crate::proofs::Operands::within_nobody))]
+fn named_within<M: Copy>(guests: &Guests<M>, heap: &Heap, count: usize) -> Option<Given>
+    requires may { MayCall count guests.now }
+    ensures { Named sides.Passing count guests.now heap.now result }
+{
+    if count != 3 {
+        return None;
+    }
+    let Value::Ctx(context) = operand_at(guests, 0) else {
+        return None;
+    };
+    let begun = named_behind(guests, heap, 1)?;
+    Some(Given {
+        begun,
+        context: Some(context),
+    })
+}
+
+/// What a call of Thread's constructor is given on a side by its operands, of which there are so many; none where there is no step. Its step
+/// asks what the thread inherits, with the context.
+pub fn named_by<M: Copy>(guests: &Guests<M>, heap: &Heap, side: Side, count: usize) -> Option<Given>
+    requires may { MayCall count guests.now }
+    ensures { Named side count guests.now heap.now result }
+{
+    match side {
+        Side::Source => named_alone(guests, heap, count),
+        Side::Passing => named_within(guests, heap, count),
     }
 }
 
@@ -62,26 +118,30 @@ pub fn make<M: Copy>(
     guests: &mut Guests<M>,
     heap: &mut Heap,
     shapes: &Shapes,
-    new: Begun,
+    new: Given,
     kept: u64,
     count: usize,
 ) -> Result<(), AllocError>
     requires are { AreGuests guests.old }
     requires may { MayCall count guests.old }
-    requires thread { Finding.thread_object heap.old (Ref new.thread) ≡ Some new.thread }
+    requires thread { Finding.thread_object heap.old (Ref new.begun.thread) ≡ Some new.begun.thread }
     requires built { AreBuilt heap.old.objects }
     requires celled { AreCelled shapes.now heap.old.objects }
-    ensures row { OnOk result ((context : Option ℕ) → MakesThread kept context count new guests.old heap.old guests.new heap.new) }
+    ensures row { OnOk result (MakesThread kept count new guests.old heap.old guests.new heap.new) }
     ensures are { OnOk result (AreGuests guests.new) }
+    ensures stay { OnOk result (HaveStayed (behind count guests.old) guests.new) }
+    ensures framed { OnOk result (guests.new.running.frames ≡ option_map (gone count) guests.old.running.frames) }
+    ensures lives { OnOk result (Lives guests.old → Lives guests.new) }
     ensures built { OnOk result (AreBuilt heap.new.objects) }
     ensures celled { OnOk result (StayCelled heap.old.objects heap.new.objects) }
+    ensures alike { OnOk result (NamesNoMore heap.old.objects heap.new.objects) }
 {
     heap_laws();
     guest_laws::<M>();
     built_laws();
     celled_laws();
-    let number = guests.add(alloc, new.runnable, Some(kept))?;
-    heap.set_cell(new.thread, 0, Value::Ctx(u64::from(number) + 1));
     go_on(guests, count);
+    let number = guests.add(alloc, new.begun.runnable, Some(kept))?;
+    heap.set_cell(new.begun.thread, 0, Value::Ctx(u64::from(number) + 1));
     Ok(())
 }

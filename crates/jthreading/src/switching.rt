@@ -1,6 +1,7 @@
 ghost use Rattle.std.specs.Prelude.{◌+◌, ◌≡◌, IfOk, OnOk, Some};
 ghost use Rattle.jlib.specs.declared.calls.ThreadCall.TheVariants as calls;
-ghost use Rattle.jguests.specs.Guested.{AreGuests};
+ghost use Rattle.jguests.specs.Guested.{AreGuests, Lives};
+ghost use Rattle.jthreading.specs.Lasting.{LivesOn, StayBehind, StaysFramed};
 ghost use Rattle.jthreading.specs.Threading.{CallsThread, MayCall};
 ghost use Rattle.jthreading.specs.Switching.{OperandIs, Shrunk, WentOn};
 
@@ -63,6 +64,9 @@ pub fn yield_turn<M: Copy>(
     requires may { MayCall count guests.old }
     ensures row { IfOk result (λ done. CallsThread calls.Yield count schedule.now heap.now guests.old done guests.new) }
     ensures are { OnOk result (AreGuests guests.new) }
+    ensures stay { IfOk result (λ done. StayBehind count done guests.old guests.new) }
+    ensures framed { IfOk result (λ done. StaysFramed count done guests.old guests.new) }
+    ensures lives { IfOk result (λ done. Lives guests.old → LivesOn done guests.new) }
 {
     heap_laws();
     guest_laws::<M>();
@@ -105,6 +109,9 @@ pub fn start<M: Copy>(
     requires may { MayCall count guests.old }
     ensures row { IfOk result (λ done. CallsThread calls.Start count schedule.now heap.now guests.old done guests.new) }
     ensures are { OnOk result (AreGuests guests.new) }
+    ensures stay { IfOk result (λ done. StayBehind count done guests.old guests.new) }
+    ensures framed { IfOk result (λ done. StaysFramed count done guests.old guests.new) }
+    ensures lives { IfOk result (λ done. Lives guests.old → LivesOn done guests.new) }
 {
     heap_laws();
     guest_laws::<M>();
@@ -135,6 +142,9 @@ pub fn join<M: Copy>(
     requires may { MayCall count guests.old }
     ensures row { IfOk result (λ done. CallsThread calls.Join count schedule.now heap.now guests.old done guests.new) }
     ensures are { OnOk result (AreGuests guests.new) }
+    ensures stay { IfOk result (λ done. StayBehind count done guests.old guests.new) }
+    ensures framed { IfOk result (λ done. StaysFramed count done guests.old guests.new) }
+    ensures lives { IfOk result (λ done. Lives guests.old → LivesOn done guests.new) }
 {
     heap_laws();
     guest_laws::<M>();

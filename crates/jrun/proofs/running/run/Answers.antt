@@ -9,6 +9,7 @@ pub loop-init : goal.loop-init
 loop-init g c = record {
   at = begun (g.E.Stepping.steps c.args.engine.now) (g.E.Stepping.stands c.args.engine.now) (g.K.Sink.out c.args.out.now);
   same = refl;
+  ready = c.requires;
   later = omega arith;
 }
 
@@ -29,7 +30,8 @@ loop-preserved g c =
       at = more step (g.E.Stepping.stands c.args.engine.now) (g.E.Stepping.stands c.loop.engine) (g.E.Stepping.stands c.advance.new.engine) c.loop.counter _ _ _ c.loop.invariant.at
           (rw (c.loop.invariant.same, c.in-None.is) at c.in_ok-end.ensures.step)
           (rw c.loop.invariant.same at c.in_ok-end.ensures.ok);
-      same = c.advance.ensures.same ∙ c.loop.invariant.same;
+      same = c.in_ok-end.ensures.same ∙ c.loop.invariant.same;
+      ready = rw c.in-None.is at c.in_ok-end.ensures.ready refl;
       later = omega (arith, c.loop.invariant.later, c.advance.ensures.later);
     }
 
@@ -90,3 +92,6 @@ returns-clause-cut g c =
     let step = g.E.Stepping.steps c.args.engine.now in
     let same : c.args.steps ≡ c.loop.counter = omega arith in
     courses.cut_ended step first c.loop.counter c.args.steps None _ _ _ (ap (λ k. run_from step k first) same) at.goes at.written puts) c.put_end-2.ensures.err
+
+pub advance-requires : goal.advance-requires
+advance-requires g c = c.loop.invariant.ready

@@ -6,5 +6,6 @@ abbrev pub invariant-loop : goal.invariant-loop
 invariant-loop g l = record {
   at : AreAt (g.E.Stepping.steps l.initial.engine) (g.E.Stepping.stands l.initial.engine) l.counter (g.E.Stepping.stands l.engine) (g.K.Sink.out l.initial.out) (g.K.Sink.out l.out);
   same : g.E.Stepping.steps l.engine ≡ g.E.Stepping.steps l.initial.engine;
+  ready : g.E.Stepping.ready l.engine;
   later : g.K.Sink.faults l.initial.out ≤ g.K.Sink.faults l.out;
 }

@@ -1,3 +1,4 @@
+use Rattle.jstep.proofs.Leaving.{never_stuck}
 use Rattle.jstep.proofs.Settled.{ok_settles}
 use Rattle.jstep.proofs.settling.settle.Goals as goal
 
@@ -11,3 +12,6 @@ pub returns-in-Raises-clause-row : goal.returns-in-Raises-clause-row
 returns-in-Raises-clause-row g c =
     ok_settles c.args.marks.now c.args.known.now c.args.frames.now c.settle_raised.new.frames c.args.heap.now c.settle_raised.new.heap c.thrown_class.result
     c.in-Raises.class c.args.way c.settle_raised.result c.in-Raises.is c.thrown_class.ensures c.settle_raised.ensures.row
+
+pub returns-in-Raises-clause-stuck : goal.returns-in-Raises-clause-stuck
+returns-in-Raises-clause-stuck g c = never_stuck c.settle_raised.result c.in-Raises.class c.args.way c.in-Raises.is

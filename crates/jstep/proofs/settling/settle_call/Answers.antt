@@ -20,7 +20,8 @@ returns-in-Runs-clause-row g c =
 pub returns-in-Raises-clause-row : goal.returns-in-Raises-clause-row
 returns-in-Raises-clause-row g c =
     ok_call c.args.marks.now c.args.known.now c.args.frames.now c.settle_raised.new.frames c.args.heap.now c.settle_raised.new.heap c.thrown_class.result
-    c.in-Raises.class c.args.called c.args.count c.settle_raised.result c.in-Raises.is c.thrown_class.ensures c.settle_raised.ensures.row
+    c.in-Raises.class c.args.called c.args.count c.settle_raised.result c.in-Raises.is c.thrown_class.ensures c.settle_raised.ensures.quiet
+    c.settle_raised.ensures.row
 
 pub returns-in-Begun-clause-stand : goal.returns-in-Begun-clause-stand
 returns-in-Begun-clause-stand g c = rw c.in-Begun.is at c.requires.stand

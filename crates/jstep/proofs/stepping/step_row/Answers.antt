@@ -1,5 +1,6 @@
 use Rattle.std.specs.Prelude.{length}
 use Rattle.jstep.proofs.Executed.{all_done}
+use Rattle.jstep.proofs.Leaving.{celled_behind, row_alike}
 use Rattle.jstep.proofs.Settled.{may_raise, stands_for}
 use Rattle.jstep.proofs.stepping.step_row.Goals as goal
 
@@ -21,4 +22,13 @@ pub returns-clause-row : goal.returns-clause-row
 returns-clause-row g c =
     all_done c.args.known.now c.args.fixed.now c.args.one c.args.frames.now c.run.new.frames c.settle.new.frames c.args.heap.now c.run.new.heap
     c.settle.new.heap c.settle.result c.in_ok-way.way c.behind_laws.ensures c.requires.here c.requires.within c.in_ok-way.ensures.row
-    c.in_ok-way.ensures.below c.settle.ensures.row
+    c.in_ok-way.ensures.below c.settle.ensures.quiet c.settle.ensures.row
+
+pub returns-clause-celled : goal.returns-clause-celled
+returns-clause-celled g c =
+    celled_behind c.settle.result c.args.heap.now.objects c.run.new.heap.objects c.settle.new.heap.objects c.in_ok-way.ensures.celled c.settle.ensures.celled
+
+pub returns-clause-alike : goal.returns-clause-alike
+returns-clause-alike g c =
+    row_alike c.args.known.now c.args.fixed.now.shapes.now c.args.heap.now.objects c.run.new.heap.objects c.settle.new.heap.objects c.settle.result
+    c.in_ok-way.way c.in_ok-way.ensures.alike c.settle.ensures.alike c.settle.ensures.stuck

@@ -7,8 +7,9 @@ use Rattle.jmachine.specs.Turns.{thread_of}
 use Rattle.jstate.specs.Seen.{store_by}
 use Rattle.jguests.specs.declared.guests.Guests.{Guests}
 use Rattle.jguests.specs.Guested.{state_by, with_frames, with_table}
-use Rattle.jthreading.specs.Switching.{WentOn, gone}
+use Rattle.jthreading.specs.Switching.{WentOn, behind, gone}
 use Rattle.jthreading.specs.Threading.{thread_called}
+use Rattle.jthreading.proofs.Lasting.{behind_lives, joined_is, same_stay, those_stay, turned_lives, waiting_stay}
 use Rattle.jthreading.proofs.Rows.{at_is, join_goes, join_nobody, join_so, join_stuck, joined_same}
 use Rattle.jthreading.proofs.switching.join.Goals as goal
 
@@ -48,3 +49,34 @@ returns-in_ok-done-in-Waits-clause-row g c r p plan shapes things constants f fr
     ap (λ (n : ℕ). thread_called r p plan (state_by old store) f n threads.Join) c.if-count-ne1.false
     ∙ join_so c.heap_laws.ensures.each c.guest_laws.ensures r p plan shapes things constants c.args.heap.now old f c.operand.result c.in-Some.t c.args.schedule.now
     c.join.new.self c.turn.new.self c.in_ok-done-in-Waits.done (c.operand.ensures f frames) (sym c.thread_in.ensures ∙ c.in-Some.is) waits frames sched mid c.in_ok-done-in-Waits.ensures.turn
+
+pub returns-then-count-ne1-clause-stay : goal.returns-then-count-ne1-clause-stay
+returns-then-count-ne1-clause-stay g c = same_stay c.args.guests.now
+
+pub returns-in_default-clause-stay : goal.returns-in_default-clause-stay
+returns-in_default-clause-stay g c = same_stay c.args.guests.now
+
+pub returns-in-AtOnce-clause-stay : goal.returns-in-AtOnce-clause-stay
+returns-in-AtOnce-clause-stay g c =
+    let old = c.args.guests.now in
+    those_stay (behind c.args.count old) c.join.new.self
+    (joined_is c.args.count c.in-Some.t old c.go_on.new.guests c.join.new.self c.go_on.ensures c.join.ensures.table (sym c.join.ensures.answer ∙ c.in-AtOnce.is))
+
+pub returns-in-AtOnce-clause-framed : goal.returns-in-AtOnce-clause-framed
+returns-in-AtOnce-clause-framed g c =
+    let old = c.args.guests.now in
+    joined_is c.args.count c.in-Some.t old c.go_on.new.guests c.join.new.self c.go_on.ensures c.join.ensures.table (sym c.join.ensures.answer ∙ c.in-AtOnce.is)
+
+pub returns-in-AtOnce-clause-lives : goal.returns-in-AtOnce-clause-lives
+returns-in-AtOnce-clause-lives g c =
+    let old = c.args.guests.now in
+    behind_lives c.args.count old c.join.new.self
+    (joined_is c.args.count c.in-Some.t old c.go_on.new.guests c.join.new.self c.go_on.ensures c.join.ensures.table (sym c.join.ensures.answer ∙ c.in-AtOnce.is))
+
+pub returns-in_ok-done-in-Waits-clause-stay : goal.returns-in_ok-done-in-Waits-clause-stay
+returns-in_ok-done-in-Waits-clause-stay g c =
+    waiting_stay c.args.count c.args.guests.now c.go_on.new.guests c.join.new.self c.turn.new.self (λ x. joined x.at c.in-Some.t x.table)
+    c.go_on.ensures c.join.ensures.table c.in_ok-done-in-Waits.ensures.stay
+
+pub returns-in_ok-done-in-Waits-clause-lives : goal.returns-in_ok-done-in-Waits-clause-lives
+returns-in_ok-done-in-Waits-clause-lives g c alive = turned_lives c.in_ok-done-in-Waits.done c.turn.new.self c.in_ok-done-in-Waits.ensures.lives

@@ -6,8 +6,9 @@ use Rattle.jstate.specs.Framed.{Framed}
 use Rattle.jstate.specs.Seen.{store_by}
 use Rattle.jguests.specs.declared.guests.Guests.{Guests}
 use Rattle.jguests.specs.Guested.{state_by, with_frames, with_table}
-use Rattle.jthreading.specs.Switching.{Shrunk, WentOn, gone, lost}
+use Rattle.jthreading.specs.Switching.{Shrunk, WentOn, gone, lost, without}
 use Rattle.jthreading.specs.Threading.{thread_called}
+use Rattle.jthreading.proofs.Lasting.{raised_is, raised_lives, same_stay, started_stay, those_stay, turned_lives}
 use Rattle.jthreading.proofs.Rows.{is_false, is_true, may_behind, start_nobody, start_raises, start_so, start_stuck, started_same}
 use Rattle.jthreading.proofs.switching.start.Goals as goal
 
@@ -55,3 +56,37 @@ returns-clause-row g c r p plan shapes things constants f frames sched =
     ap (λ (n : ℕ). thread_called r p plan (state_by old (store_by p shapes things constants c.args.heap.now)) f n threads.Start) c.if-count-ne1.false
     ∙ start_so c.heap_laws.ensures.each c.guest_laws.ensures r p plan shapes things constants c.args.heap.now old f c.operand.result c.in-Some.t c.args.schedule.now
     c.go_on.new.guests c.turn.new.self c.in_ok-done.done (c.operand.ensures f frames) (sym c.thread_in.ensures ∙ c.in-Some.is) first frames sched mid c.in_ok-done.ensures.turn
+
+pub returns-then-count-ne1-clause-stay : goal.returns-then-count-ne1-clause-stay
+returns-then-count-ne1-clause-stay g c = same_stay c.args.guests.now
+
+pub returns-in_default-clause-stay : goal.returns-in_default-clause-stay
+returns-in_default-clause-stay g c = same_stay c.args.guests.now
+
+pub returns-then-not-start-clause-stay : goal.returns-then-not-start-clause-stay
+returns-then-not-start-clause-stay g c =
+    let old = c.args.guests.now in
+    let before = is_false c.start.result (is_started old.table c.in-Some.t) c.start.ensures.answer c.if-not-start.true in
+    those_stay (without c.args.count old) c.lose.new.guests
+    (raised_is c.args.count c.in-Some.t old c.start.new.self c.lose.new.guests c.start.ensures.table before c.lose.ensures)
+
+pub returns-then-not-start-clause-framed : goal.returns-then-not-start-clause-framed
+returns-then-not-start-clause-framed g c =
+    let old = c.args.guests.now in
+    let before = is_false c.start.result (is_started old.table c.in-Some.t) c.start.ensures.answer c.if-not-start.true in
+    raised_is c.args.count c.in-Some.t old c.start.new.self c.lose.new.guests c.start.ensures.table before c.lose.ensures
+
+pub returns-then-not-start-clause-lives : goal.returns-then-not-start-clause-lives
+returns-then-not-start-clause-lives g c =
+    let old = c.args.guests.now in
+    let before = is_false c.start.result (is_started old.table c.in-Some.t) c.start.ensures.answer c.if-not-start.true in
+    raised_lives c.args.count old c.lose.new.guests
+    (raised_is c.args.count c.in-Some.t old c.start.new.self c.lose.new.guests c.start.ensures.table before c.lose.ensures)
+
+pub returns-clause-stay : goal.returns-clause-stay
+returns-clause-stay g c =
+    started_stay c.args.count (table_after_start c.in-Some.t c.args.guests.now.table) c.args.guests.now c.start.new.self c.go_on.new.guests c.turn.new.self
+    c.start.ensures.table c.go_on.ensures c.in_ok-done.ensures.stay
+
+pub returns-clause-lives : goal.returns-clause-lives
+returns-clause-lives g c alive = turned_lives c.in_ok-done.done c.turn.new.self c.in_ok-done.ensures.lives

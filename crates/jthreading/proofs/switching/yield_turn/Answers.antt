@@ -4,6 +4,7 @@ use Rattle.jguests.specs.Guested.{state_by}
 use Rattle.jstate.specs.Seen.{store_by}
 use Rattle.jthreading.specs.Threading.{thread_called}
 use Rattle.jthreading.specs.Switching.{WentOn}
+use Rattle.jthreading.proofs.Lasting.{same_stay, turned_lives, turned_stay}
 use Rattle.jthreading.proofs.Rows.{yield_so, yield_stuck}
 use Rattle.jthreading.proofs.switching.yield_turn.Goals as goal
 
@@ -17,3 +18,12 @@ returns-clause-row g c r p plan shapes things constants f frames sched =
     ap (λ (n : ℕ). thread_called r p plan (state_by c.args.guests.now (store_by p shapes things constants c.args.heap.now)) f n threads.Yield) c.if-count-ne0.false
     ∙ yield_so c.heap_laws.ensures.each c.guest_laws.ensures r p plan shapes things constants c.args.heap.now c.args.guests.now f c.args.schedule.now c.go_on.new.guests c.turn.new.self
     c.in_ok-done.done frames sched mid c.in_ok-done.ensures.turn
+
+pub returns-then-count-ne0-clause-stay : goal.returns-then-count-ne0-clause-stay
+returns-then-count-ne0-clause-stay g c = same_stay c.args.guests.now
+
+pub returns-clause-stay : goal.returns-clause-stay
+returns-clause-stay g c = turned_stay c.args.count c.args.guests.now c.go_on.new.guests c.turn.new.self c.go_on.ensures c.in_ok-done.ensures.stay
+
+pub returns-clause-lives : goal.returns-clause-lives
+returns-clause-lives g c alive = turned_lives c.in_ok-done.done c.turn.new.self c.in_ok-done.ensures.lives

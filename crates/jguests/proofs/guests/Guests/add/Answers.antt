@@ -1,10 +1,14 @@
-use Rattle.std.proofs.Common.{◌∙◌, map, ap}
+use Rattle.std.proofs.Common.{◌∙◌, map, refl, ap}
 use Rattle.std.specs.Prelude.{slice_set}
 use Rattle.jguests.specs.Guested.{guest_by}
 use Rattle.jguests.proofs.Lying.{one_more}
+use Rattle.jguests.proofs.Staying.{more_stay}
 use Rattle.jguests.proofs.guests.Guests.add.Goals as goal
 
 pub returns-clause-one_more : goal.returns-clause-one_more
 returns-clause-one_more g c =
     ap (λ xs. slice_set (map guest_by xs) c.args.self.now.at (guest_by c.args.self.now.running)) c.in_ok-push.ensures.items
     ∙ one_more c.args.self.now.others.items c.args.self.now.at c.args.self.now.running _ c.requires.at
+
+pub returns-clause-stay : goal.returns-clause-stay
+returns-clause-stay g c = more_stay c.args.self.now _ _ _ refl refl c.in_ok-push.ensures.items

@@ -1,6 +1,6 @@
 use Rattle.std.proofs.Common.{◌∙◌, ◌+◌, Some, sym, ap, arith}
 use Rattle.jthreading.proofs.Made.{may_less, object_is, object_same}
-use Rattle.jthreading.proofs.making.named_by.Goals as goal
+use Rattle.jthreading.proofs.making.named_behind.Goals as goal
 
 pub operand_at-requires : goal.operand_at-requires
 operand_at-requires g c = may_less (c.args.first + 2) (c.args.first + 1 + 1) c.args.guests.now (omega arith) c.requires.may
