@@ -38,7 +38,7 @@ use Rattle.jmachine.specs.Doing.{doing, used}
 use Rattle.jmachine.specs.Fields.{field, get_static}
 use Rattle.jmachine.specs.Frames.{with_operands}
 use Rattle.jmachine.specs.Narrowing.{narrowed}
-use Rattle.jmachine.specs.Operands.{meets, serves, taken}
+use Rattle.jmachine.specs.Operands.{Taken, meets, serves, taken}
 use Rattle.jmachine.specs.Sites.{Site}
 use Rattle.jmachine.specs.Steps.{is_init, own_fields}
 use Rattle.jmachine.specs.Store.{Store}
@@ -212,13 +212,13 @@ module _ (x : Lasting) (l : IsLasting x) (counts : Counts) {E : Type 0} (fr : Fr
             inside = none_lt (seen things constants).statics a.slot past_all
 
             by : (xs : List (Value ℕ))
-                → Comes fr (seen things constants) (option_and_then (λ t. option_map (λ row. record { frame = with_operands fr t.below; row = row }) (field at.world (seen things constants) ops.PutStatic f.member t.values))
+                → Comes fr (seen things constants) (option_and_then (λ (t : Taken ℕ). option_map (λ row. record { frame = with_operands fr t.below; row = row }) (field at.world (seen things constants) ops.PutStatic f.member t.values))
                 (taken at.world (seen things constants) (Fits f.held ∷ []) xs)) (leaves ways.Stuck [] g (store_by p x.shapes.now things constants k))
             by [] = refl
             by (v ∷ rest) = both (serves at.world (seen things constants) (Fits f.held) v)
               where
                 both : (b : Bool)
-                    → Comes fr (seen things constants) (option_and_then (λ t. option_map (λ row. record { frame = with_operands fr t.below; row = row }) (field at.world (seen things constants) ops.PutStatic f.member t.values))
+                    → Comes fr (seen things constants) (option_and_then (λ (t : Taken ℕ). option_map (λ row. record { frame = with_operands fr t.below; row = row }) (field at.world (seen things constants) ops.PutStatic f.member t.values))
                     (if b then Some (record { values = v ∷ []; below = rest }) else None)) (leaves ways.Stuck [] g (store_by p x.shapes.now things constants k))
                 both false = refl
                 both true = rw (slot_is at own site, inside) refl
@@ -273,9 +273,9 @@ module _ (x : Lasting) (l : IsLasting x) (counts : Counts) {E : Type 0} (fr g : 
   write_row is b yes-it-does serve each e same did =
       as_op ops.PutField is (λ others constants seen r at own entries inherited site.
       let served = serves_is ops.PutField b true yes-it-does serve others constants at own seen site in
+      let kept = put_keeps x l counts fr h f a n e same others constants at own site in
       did x.ancestors.now x.shapes.now others constants f a.cell r at own entries inherited
-      (served, (put_stands x l counts fr h f a n (is_static_as ops.PutField is) each others constants at own site served,
-      put_keeps x l counts fr h f a n e same others constants at own site)))
+      (served, put_stands x l counts fr h f a n (is_static_as ops.PutField is) each others constants at own site served, kept.0, kept.1))
 
   pub static_row : a.op ≡ ops.GetStatic
       → ((p : Program) (shapes : Shapes) (things : Things) (constants : List (List ℕ × ℕ)) (f : FieldMeaning) →
@@ -296,9 +296,9 @@ module _ (x : Lasting) (l : IsLasting x) (counts : Counts) {E : Type 0} (fr g : 
       → Did a.op
   put_row is b serve e same did =
       as_op ops.PutStatic is (λ others constants seen r at own entries inherited site.
+      let kept = put_keeps x l counts fr h f a n e same others constants at own site in
       did x.ancestors.now x.shapes.now others constants f a.cell r at own entries inherited
-      (serve others constants at own seen site, (stands_static x l counts fr h f a n (is_static_as ops.PutStatic is) at own site,
-      put_keeps x l counts fr h f a n e same others constants at own site)))
+      (serve others constants at own seen site, stands_static x l counts fr h f a n (is_static_as ops.PutStatic is) at own site, kept.0, kept.1))
 
 module _ (x : Lasting) (l : IsLasting x) (counts : Counts) {E : Type 0} (fr g : FrameOf ℕ E) (h k : Heaped) (a : FieldAt) (f : FieldMeaning)
     (n : NamesField x.ancestors.now fr.method.class a f) where
@@ -327,5 +327,13 @@ pub got_static : (x : Lasting) (l : IsLasting x) {E : Type 0} (fr g : FrameOf �
     (instructions.Used (meanings.Field ops.GetStatic f)) fr (store_by p shapes things constants h) (leaves way [] g (store_by p shapes things constants h)))
     → IfOk result (λ way. (counts : Counts) (f : FieldMeaning) → NamesField x.ancestors.now fr.method.class a f
     → SeenActs x counts (instructions.Used (meanings.Field a.op f)) fr h way g h)
-got_static x l fr g h a is (Ok way) did counts f n = static_row x l counts fr g h h way a f n is did
+got_static x l fr g h a is (Ok way) did = λ counts f n. static_row x l counts fr g h h way a f n is did
 got_static x l fr g h a is (Err e) did = tt
+
+-- the same where there are so many permissions and contexts
+pub got_by : (x : Lasting) {E : Type 0} (fr g : FrameOf ℕ E) (h : Heaped) (a : FieldAt) (counts : Counts) {F : Type 0} (result : Result Way F)
+    → IfOk result (λ way. (counts : Counts) (f : FieldMeaning) → NamesField x.ancestors.now fr.method.class a f
+    → SeenActs x counts (instructions.Used (meanings.Field a.op f)) fr h way g h)
+    → IfOk result (λ way. (f : FieldMeaning) → NamesField x.ancestors.now fr.method.class a f → SeenActs x counts (instructions.Used (meanings.Field a.op f)) fr h way g h)
+got_by x fr g h a counts (Ok way) did = did counts
+got_by x fr g h a counts (Err e) did = tt

@@ -38,7 +38,7 @@ use Rattle.jmachine.specs.Acts.{FrameOf}
 use Rattle.jmachine.specs.Doing.{doing, used}
 use Rattle.jmachine.specs.Fields.{field}
 use Rattle.jmachine.specs.Frames.{with_operands}
-use Rattle.jmachine.specs.Operands.{serves, taken}
+use Rattle.jmachine.specs.Operands.{Taken, serves, taken}
 use Rattle.jmachine.specs.Sites.{Site}
 use Rattle.jmachine.specs.Store.{Store}
 use Rattle.jmachine.specs.World.{World, world}
@@ -81,7 +81,7 @@ module _ (x : Lasting) {E : Type 0} (fr g : FrameOf ℕ E) (h k : Heaped) where
             ActsWhere (λ (at : Site) (own : Member → Bool). (at.world.class c ≡ Some (refs.User class)) × HasShape at.world x.shapes.now class)
             (instructions.Used (meanings.Make c)) fr (store_by p x.shapes.now things constants h) (leaves way [] g (store_by p x.shapes.now things constants k)))
             → IfOk r (λ way. (counts : Counts) → SeenActs x counts (instructions.Used (meanings.Make (class_named p (refs.User class)))) fr h way g k)
-        by (Ok way) did counts others constants seen r at own entries inherited site =
+        by (Ok way) did = λ counts others constants seen r at own entries inherited site.
             did p others constants (class_named p (refs.User class)) r at own entries inherited
             (user_class x l class (is_part x l es i class e) at.world site.world, user_shape x l class (is_part x l es i class e) at.world site.world)
         by (Err e) did = tt
@@ -98,7 +98,7 @@ module _ (x : Lasting) {E : Type 0} (fr g : FrameOf ℕ E) (h k : Heaped) where
             ActsWhere (λ (at : Site) (own : Member → Bool). at.world.class c ≡ Some (refs.Lib class))
             (instructions.Used (meanings.Make c)) fr (store_by p shapes things constants h) (leaves way [] g (store_by p shapes things constants k)))
             → IfOk r (λ way. (counts : Counts) → SeenActs x counts (instructions.Used (meanings.Make (class_named p (refs.Lib class)))) fr h way g k)
-        by (Ok way) did counts others constants seen r at own entries inherited site =
+        by (Ok way) did = λ counts others constants seen r at own entries inherited site.
             did p x.shapes.now others constants (class_named p (refs.Lib class)) r at own entries inherited
             (library_class x l es i class e at.world site.world)
         by (Err e) did = tt
@@ -117,7 +117,7 @@ module _ (x : Lasting) {E : Type 0} (fr g : FrameOf ℕ E) (h k : Heaped) where
             (leaves way [] g (store_by p shapes things constants k)))
             → IfOk r (λ way. (counts : Counts) (t : VType) → MakesArray p x.ready.now.methods.tables t n
             → SeenActs x counts (instructions.Used (meanings.MakeArray t)) fr h way g k)
-        by (Ok way) did counts t makes =
+        by (Ok way) did = λ counts t makes.
             subst (λ (v : VType). SeenActs x counts (instructions.Used (meanings.MakeArray v)) fr h way g k) (array_is x l t n makes)
             (λ others constants seen r at own entries inherited site. did p x.shapes.now others constants r at own entries inherited)
         by (Err e) did = tt
@@ -125,7 +125,7 @@ module _ (x : Lasting) {E : Type 0} (fr g : FrameOf ℕ E) (h k : Heaped) where
   -- ---- casts, stores and branches
 
   module _ (counts : Counts) (way : Way) where
-    pub cast_row : (op : CastOp) (t : VType) (serve is : Bool) → ServesAs x counts fr.method (meanings.Cast op t) h fr.operands serve
+    cast_row : (op : CastOp) (t : VType) (serve is : Bool) → ServesAs x counts fr.method (meanings.Cast op t) h fr.operands serve
         → ((others : Things) (constants : List (List ℕ × ℕ)) → AreSeen x counts h.objects others → IsOne (world p) (seen_in others constants) t (slice_get fr.operands 0) is)
         → ((t : VType) (s : Store ℕ) →
         ActsWhere (λ (at : Site) (own : Member → Bool). Serve at own s (meanings.Cast op t) fr.operands serve × IsOne at.world s t (slice_get fr.operands 0) is)
@@ -135,6 +135,17 @@ module _ (x : Lasting) {E : Type 0} (fr g : FrameOf ℕ E) (h k : Heaped) where
         did t (seen_in others constants) r at own entries inherited
         (serves others constants at own seen site,
         subst (λ (w : World). IsOne w (seen_in others constants) t (slice_get fr.operands 0) is) (sym site.world) (ones others constants seen))
+
+    -- the same by its kind, as it is known
+    pub cast_as : (op other : CastOp) → op ≡ other → (t : VType) (serve is : Bool)
+        → ServesAs x counts fr.method (meanings.Cast other t) h fr.operands serve
+        → ((others : Things) (constants : List (List ℕ × ℕ)) → AreSeen x counts h.objects others → IsOne (world p) (seen_in others constants) t (slice_get fr.operands 0) is)
+        → ((t : VType) (s : Store ℕ) →
+        ActsWhere (λ (at : Site) (own : Member → Bool). Serve at own s (meanings.Cast other t) fr.operands serve × IsOne at.world s t (slice_get fr.operands 0) is)
+        (instructions.Used (meanings.Cast other t)) fr s (leaves way [] g s))
+        → SeenActs x counts (instructions.Used (meanings.Cast op t)) fr h way g h
+    cast_as op other same t serve is serves ones did =
+        subst (λ (o : CastOp). SeenActs x counts (instructions.Used (meanings.Cast o t)) fr h way g h) (sym same) (cast_row other t serve is serves ones did)
 
     pub store_row : (serve is : Bool)
         → ((others : Things) (constants : List (List ℕ × ℕ)) (at : Site) → AreSeen x counts h.objects others → at.world ≡ world p → ServeStore at (seen_in others constants) fr.operands serve)
@@ -204,14 +215,14 @@ module _ (x : Lasting) (counts : Counts) {E : Type 0} (fr g : FrameOf ℕ E) (h 
       slot_none = ap (λ (w : World). w.slot f.member) site.world ∙ ap (world x.ancestors.now).slot member ∙ world_out x.ancestors.now
 
       by : (xs : List (Value ℕ))
-          → Comes fr (known others constants) (option_and_then (λ t. option_map (λ row. record { frame = with_operands fr t.below; row = row })
+          → Comes fr (known others constants) (option_and_then (λ (t : Taken ℕ). option_map (λ row. record { frame = with_operands fr t.below; row = row })
           (field at.world (known others constants) ops.PutStatic f.member t.values)) (taken at.world (known others constants) (Fits f.held ∷ []) xs))
           (leaves ways.Stuck [] g (store_by x.ancestors.now x.shapes.now others constants k))
       by [] = refl
       by (v ∷ rest) = both (serves at.world (known others constants) (Fits f.held) v)
         where
           both : (b : Bool)
-              → Comes fr (known others constants) (option_and_then (λ t. option_map (λ row. record { frame = with_operands fr t.below; row = row })
+              → Comes fr (known others constants) (option_and_then (λ (t : Taken ℕ). option_map (λ row. record { frame = with_operands fr t.below; row = row })
               (field at.world (known others constants) ops.PutStatic f.member t.values)) (if b then Some (record { values = v ∷ []; below = rest }) else None))
               (leaves ways.Stuck [] g (store_by x.ancestors.now x.shapes.now others constants k))
           both false = refl
@@ -226,7 +237,7 @@ pub out_got : (x : Lasting) {E : Type 0} (fr g : FrameOf ℕ E) (h : Heaped) (op
     → IfOk result (λ way. (f : FieldMeaning) (s : Store ℕ) → f.member ≡ members.LibField → Acts (instructions.Used (meanings.Field ops.GetStatic f)) fr s (leaves way [] g s))
     → IfOk result (λ way. (counts : Counts) (f : FieldMeaning) → f.member ≡ members.LibField → IsNamedField x.ancestors.now op f
     → SeenActs x counts (instructions.Used (meanings.Field op f)) fr h way g h)
-out_got x fr g h op is (Ok way) did counts f member n =
+out_got x fr g h op is (Ok way) did = λ counts f member n.
     subst (λ (o : FieldOp). SeenActs x counts (instructions.Used (meanings.Field o f)) fr h way g h) (sym is)
     (λ others constants seen r at own entries inherited site. did f (store_by x.ancestors.now x.shapes.now others constants h) member r at own entries inherited)
 out_got x fr g h op is (Err e) did = tt

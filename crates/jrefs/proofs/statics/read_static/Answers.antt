@@ -3,8 +3,8 @@ use Rattle.std.specs.Prelude.{length}
 use Rattle.jrefs.proofs.Fielding.{got_static, read_past}
 use Rattle.jrefs.proofs.statics.read_static.Goals as goal
 
-pub returns-then-slot-static_count-clause-row : goal.returns-then-slot-static_count-clause-row
-returns-then-slot-static_count-clause-row g c counts f n =
+pub returns-then-a-static_count-clause-row : goal.returns-then-a-static_count-clause-row
+returns-then-a-static_count-clause-row g c counts f n =
     let high : length c.args.heap.now.statics ≤ c.args.a.slot = search rules in
     read_past c.args.x.now c.requires.lasting counts c.args.frames.now.newest c.args.frames.now.newest c.args.heap.now c.args.heap.now c.args.a f n
     c.requires.op c.cell_laws.ensures.none high

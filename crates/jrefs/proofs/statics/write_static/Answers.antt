@@ -9,8 +9,8 @@ returns-in_default-clause-row g c f n =
     no_some (named c.args.x.now.ancestors.now) c.held_of.result f.held c.in_default.is
     (c.held_of.ensures f (names_at c.args.x.now.ancestors.now c.args.frames.now.newest.method c.method.result c.args.a f c.method.ensures n))
 
-pub returns-then-slot-static_count-clause-row : goal.returns-then-slot-static_count-clause-row
-returns-then-slot-static_count-clause-row g c f n =
+pub returns-then-a-static_count-clause-row : goal.returns-then-a-static_count-clause-row
+returns-then-a-static_count-clause-row g c f n =
     let high : length c.args.heap.now.statics ≤ c.args.a.slot = search rules in
     write_past c.args.x.now c.requires.lasting c.args.counts c.args.frames.now.newest c.args.frames.now.newest c.args.heap.now c.args.heap.now c.args.a f n
     c.requires.op c.cell_laws.ensures.none high
