@@ -1,5 +1,5 @@
 -- Rows of instructions with users' fields.
-use Rattle.std.proofs.Common.{◌≡◌, ◌∙◌, inr, ℕ, zero, suc, ◌<◌, ◌≤◌, ◌&&◌, Bool, true, false, List, [], ◌∷◌, drop, length, Option, Some, None, refl, sym, ap, subst, arith, rules}
+use Rattle.std.proofs.Common.{◌≡◌, ◌∙◌, inr, ℕ, zero, suc, ◌≤◌, Bool, true, false, List, [], ◌∷◌, length, Option, Some, None, refl, sym, ap, subst, arith, rules}
 use Rattle.std.specs.Prelude.{Err, IfOk, Ok, Result, is_some, nat_lt, option_and_then, option_map, slice_get, if◌then◌else◌}
 use Rattle.std.specs.Str.{bytes_eq}
 use Rattle.std.proofs.lemmas.Bool.{and_parts}
@@ -14,16 +14,14 @@ use Rattle.jops.specs.declared.value.Value.{Value}
 use Rattle.jprogram.specs.declared.member.Member.{Member}
 use Rattle.jprogram.specs.declared.member.Member.TheVariants as members
 use Rattle.jprogram.specs.declared.member.MethodId.{MethodId}
-use Rattle.jprogram.specs.declared.part.ClassRef.{ClassRef}
 use Rattle.jprogram.specs.declared.part.ClassRef.TheVariants as refs
 use Rattle.jprogram.specs.declared.part.CodePart.{CodePart}
 use Rattle.jprogram.specs.Classes.{Program, extends, holds, is_interface, find, name_at}
-use Rattle.jprogram.specs.Parts.{this_name}
 use Rattle.jprogram.specs.Members.{desc_of, info_of, is_static, owner_in, owner_of}
 use Rattle.jprogram.proofs.Extending.{extends_chain}
 use Rattle.jprogram.proofs.Settling.{name_is}
 use Rattle.jreferring.specs.References.{takes_static}
-use Rattle.jrule.specs.Effects.{Fits, Want}
+use Rattle.jrule.specs.Effects.{Fits}
 use Rattle.jrule.specs.Uses.{exchange, written}
 use Rattle.jtypes.specs.declared.vtype.Name.{Name}
 use Rattle.jtypes.specs.declared.vtype.VType.TheVariants as types
@@ -38,7 +36,7 @@ use Rattle.jmachine.specs.Doing.{doing, used}
 use Rattle.jmachine.specs.Fields.{field, get_static}
 use Rattle.jmachine.specs.Frames.{with_operands}
 use Rattle.jmachine.specs.Narrowing.{narrowed}
-use Rattle.jmachine.specs.Operands.{Taken, meets, serves, taken}
+use Rattle.jmachine.specs.Operands.{Taken, serves, taken}
 use Rattle.jmachine.specs.Sites.{Site}
 use Rattle.jmachine.specs.Steps.{is_init, own_fields}
 use Rattle.jmachine.specs.Store.{Store}
@@ -54,7 +52,6 @@ use Rattle.jacts.specs.declared.way.Way.TheVariants as ways
 use Rattle.jcalls.specs.declared.ready.Counts.{Counts}
 use Rattle.jobjs.specs.Fielded.{HoldsOnly, KeepsAs, StandsAt, StandsStatic, cell_type, is_users}
 use Rattle.jobjs.specs.Serving.{Serve, target_seen}
-use Rattle.jobjs.specs.declared.target.Target.TheVariants as targets
 use Rattle.jobjs.proofs.Putting.{next}
 use Rattle.jobjs.proofs.Served.{not_served}
 use Rattle.jrefs.specs.declared.lasting.Lasting.{Lasting}

@@ -1,6 +1,5 @@
 -- What was found of an entry is what an instruction names.
-use Rattle.std.proofs.Common.{◌≡◌, ◌∙◌, ℕ, ◌<◌, Bool, true, false, List, length, Option, Some, None, refl, sym, ap}
-use Rattle.std.specs.Prelude.{option_map}
+use Rattle.std.proofs.Common.{◌≡◌, ◌∙◌, ℕ, ◌<◌, Bool, List, length, Option, Some, None, refl, sym, ap}
 use Rattle.jcode.specs.declared.form.PoolForm.TheVariants as forms
 use Rattle.jcode.specs.declared.names.CastOp.{CastOp}
 use Rattle.jheap.specs.declared.cell.CellType.{CellType}

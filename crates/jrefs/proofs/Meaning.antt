@@ -1,22 +1,19 @@
 -- What instructions by number stand for that are here.
 use Rattle.std.proofs.Common.{◌≡◌, ◌∙◌, ℕ, Bool, true, false, List, Option, Some, None, refl, sym, ap, subst}
-use Rattle.std.specs.Prelude.{Err, IfOk, Ok, OnOk, Result, option_and_then, option_map, slice_get, if◌then◌else◌}
+use Rattle.std.specs.Prelude.{Err, IfOk, Ok, OnOk, Result, option_map, if◌then◌else◌}
 use Rattle.jcode.specs.declared.form.PoolForm.TheVariants as forms
 use Rattle.jcode.specs.declared.names.CastOp.{CastOp}
 use Rattle.jcode.specs.declared.names.FieldOp.{FieldOp}
 use Rattle.jheap.specs.Heaps.{Heaped}
 use Rattle.jlib.specs.declared.classes.LibClass.{LibClass}
 use Rattle.jpool.specs.declared.entry.Entry.{Entry}
-use Rattle.jprogram.specs.declared.member.Member.TheVariants as members
 use Rattle.jprogram.specs.declared.member.MethodId.{MethodId}
-use Rattle.jprogram.specs.declared.part.ClassRef.TheVariants as refs
 use Rattle.jprogram.specs.Classes.{Program}
 use Rattle.jtypes.specs.declared.vtype.VType.{VType}
 use Rattle.juses.specs.Instructions.{Instruction, Used, instruction_at}
 use Rattle.juses.specs.Meanings as meanings
 use Rattle.juses.specs.Meanings.{FieldMeaning, Meaning, array_meant}
 use Rattle.juses.specs.Tables.{pool_at}
-use Rattle.juses.specs.Types.{class_named}
 use Rattle.jlink.specs.Fields.{IsNamedField}
 use Rattle.jlink.specs.Links.{Links}
 use Rattle.jlink.proofs.Having.{map_is, then_is}
@@ -25,14 +22,12 @@ use Rattle.jmachine.specs.Steps.{fetched, is_followed, unless_last}
 use Rattle.jready.specs.declared.instr.Instr.{Instr}
 use Rattle.jready.specs.declared.instr.Instr.TheVariants as instrs
 use Rattle.jready.specs.declared.instr.ObjectInstr.TheVariants as object
-use Rattle.jready.specs.Exact.{ArrayMade, FieldHeld, OutHeld}
 use Rattle.jready.specs.Meant.{meant}
 use Rattle.jacts.specs.declared.way.Way.{Way}
 use Rattle.jacts.specs.declared.way.Way.TheVariants as ways
 use Rattle.jcalls.specs.declared.ready.Counts.{Counts}
 use Rattle.jrefs.specs.declared.lasting.Lasting.{Lasting}
 use Rattle.jrefs.specs.declared.looking.FieldAt.{FieldAt}
-use Rattle.jrefs.specs.Naming.{NamesField}
 use Rattle.jrefs.specs.References.{IsFetched, IsLasting, StaysStuck}
 use Rattle.jrefs.specs.Seen.{SeenActs, SeenRuns}
 use Rattle.jrefs.proofs.News.{cast_meaning}

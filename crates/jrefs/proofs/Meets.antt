@@ -1,11 +1,10 @@
 -- What a served operand's object is, and what values of a type are held by.
-use Rattle.std.proofs.Common.{◌≡◌, ◌∙◌, ℕ, zero, suc, ◌||◌, Bool, true, false, List, [], ◌∷◌, drop, Option, Some, None, refl, sym, ap, subst}
+use Rattle.std.proofs.Common.{◌≡◌, ◌∙◌, ℕ, zero, suc, ◌||◌, Bool, true, false, List, [], ◌∷◌, drop, Option, Some, None, refl, sym, ap}
 use Rattle.std.specs.Prelude.{is_some, option_map, slice_get, if◌then◌else◌}
 use Rattle.jcode.specs.declared.names.FieldOp.TheVariants as ops
 use Rattle.jheap.specs.declared.cell.CellType.{CellType}
 use Rattle.jheap.specs.declared.cell.Kind.TheVariants as kinds
 use Rattle.jheap.specs.Heaps.{Heaped}
-use Rattle.jheap.specs.Raw as numbers
 use Rattle.jops.specs.declared.value.Value.{Value}
 use Rattle.jops.specs.declared.value.Value.TheVariants.{Int, Long, Ref, Ctx}
 use Rattle.jprogram.specs.declared.member.Member.{Member}
@@ -22,7 +21,7 @@ use Rattle.juses.specs.Types.{class_named}
 use Rattle.jlink.specs.Fields.{is_plain}
 use Rattle.jmachine.specs.Objects as objects
 use Rattle.jmachine.specs.Objects.{Object, class_of}
-use Rattle.jmachine.specs.Operands.{Taken, found_type, meets, ready_type, reference_type, serves, serves_as, taken, type_of, with_value}
+use Rattle.jmachine.specs.Operands.{found_type, meets, reference_type, serves, serves_as, taken, type_of, with_value}
 use Rattle.jmachine.specs.Sites.{Site}
 use Rattle.jmachine.specs.Store.{Store, object_at}
 use Rattle.jmachine.specs.World.{World, fits, world}

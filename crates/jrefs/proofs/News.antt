@@ -1,5 +1,5 @@
 -- What `new` and `anewarray` make.
-use Rattle.std.proofs.Common.{◌≡◌, ◌∙◌, ℕ, zero, suc, ◌+◌, ◌<◌, ◌≤◌, ◌^◌, ◌&&◌, Bool, true, false, List, [], length, Option, Some, None, refl, sym, ap, subst, arith}
+use Rattle.std.proofs.Common.{◌≡◌, ◌∙◌, ℕ, zero, suc, ◌+◌, ◌<◌, ◌^◌, ◌&&◌, Bool, true, false, List, Option, Some, None, refl, sym, ap, subst, arith}
 use Rattle.std.specs.Prelude.{is_some, nat_lt, option_and_then, option_map, slice_get, unwrap_or, ◌==◌, if◌then◌else◌}
 use Rattle.std.specs.Str.{bytes_eq}
 use Rattle.std.proofs.lemmas.Option.{slice_get_within}
@@ -14,10 +14,9 @@ use Rattle.jpool.specs.declared.entry.Entry.{Entry}
 use Rattle.jpool.specs.declared.entry.Entry.TheVariants as entries
 use Rattle.jpool.specs.Descriptors.{descriptor_of}
 use Rattle.jpool.specs.Pools.{name_and_type_at, utf8_at}
-use Rattle.jprogram.specs.declared.part.ClassRef.{ClassRef}
 use Rattle.jprogram.specs.declared.part.ClassRef.TheVariants as refs
 use Rattle.jprogram.specs.declared.part.CodePart.{CodePart}
-use Rattle.jprogram.specs.Classes.{Class, Program, find, name_at, ref_of}
+use Rattle.jprogram.specs.Classes.{Program, find, name_at, ref_of}
 use Rattle.jprogram.specs.Members.{init}
 use Rattle.jprogram.proofs.Numbers.{own_number}
 use Rattle.jprogram.proofs.Standing.{Libs, Nowhere, Stands, Users, stands}
@@ -31,7 +30,6 @@ use Rattle.juses.specs.declared.types.ArrayRef.{ArrayRef}
 use Rattle.juses.specs.declared.types.ElementRef.TheVariants as held
 use Rattle.juses.specs.Meanings as meanings
 use Rattle.juses.specs.Meanings.{AClass, AConstant, AField, AMethod, Cast, EntryMeaning, Make, Meaning, cast_by, class_meant, entry_meant, field_entry, made, meant, method_entry, reference, used}
-use Rattle.juses.specs.Tables.{Grows}
 use Rattle.juses.specs.Typed.{class_by, class_of, class_type, element_in, is_context, name, there, type_in, type_of}
 use Rattle.juses.specs.Types.{array_named, class_named}
 use Rattle.jlink.proofs.Having.{map_is, then_is}

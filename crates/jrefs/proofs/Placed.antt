@@ -1,18 +1,17 @@
 -- Where fields stand that instructions name, by the classes of objects and among the statics.
-use Rattle.std.proofs.Common.{◌≡◌, ◌∙◌, ℕ, ◌-◌, ◌<◌, Bool, true, false, List, [], length, Option, Some, None, refl, sym, ap, subst}
+use Rattle.std.proofs.Common.{◌≡◌, ◌∙◌, ℕ, ◌-◌, Bool, true, false, List, [], Option, Some, None, refl, sym, ap}
 use Rattle.std.specs.Prelude.{map, nat_lt, option_and_then, option_map, slice_get, if◌then◌else◌}
 use Rattle.std.proofs.lemmas.Option.{slice_get-map, slice_get_within}
 use Rattle.jclass.specs.declared.class.ClassParts.{ClassParts}
 use Rattle.jclass.specs.declared.class.MemberInfo.{MemberInfo}
 use Rattle.jheap.specs.declared.cell.CellType.{CellType}
-use Rattle.jlib.specs.declared.classes.LibClass.{LibClass}
 use Rattle.jprogram.specs.declared.member.Member.TheVariants as members
 use Rattle.jprogram.specs.declared.part.ClassRef.{ClassRef}
 use Rattle.jprogram.specs.declared.part.ClassRef.TheVariants as refs
 use Rattle.jprogram.specs.declared.part.CodePart.{CodePart}
 use Rattle.jprogram.specs.Parts as parts
 use Rattle.jprogram.specs.Parts.{this_name}
-use Rattle.jprogram.specs.Classes.{Class, Program, User, extends, find, name_at, named, ref_of}
+use Rattle.jprogram.specs.Classes.{Program, User, extends, find, name_at, named, ref_of}
 use Rattle.jprogram.specs.Members.{info_of, is_static, part_of, user_is}
 use Rattle.jprogram.specs.Standing.{StandsInOrder}
 use Rattle.jprogram.proofs.Numbers.{own_number}
@@ -23,7 +22,6 @@ use Rattle.jlayout.specs.Layout as fields
 use Rattle.jlayout.specs.Layout.{field_type, layout, slot}
 use Rattle.jlayout.specs.Numbered.{IsFieldOf, all_statics}
 use Rattle.jlayout.proofs.Standings.{field_stands, layout_grows, static_stands}
-use Rattle.jlink.specs.Coded.{AreFiles}
 use Rattle.jlink.specs.Fields.{is_plain}
 use Rattle.jlink.specs.Standing.{in_order}
 use Rattle.jlink.proofs.Filed.{has_name}

@@ -1,5 +1,5 @@
 -- Rows that were done for all that makes the same of the objects were done for what the machine keeps, and leave them alike.
-use Rattle.std.proofs.Common.{◌≡◌, ◌∙◌, ℕ, List, [], Option, Some, None, refl, sym, ap, subst}
+use Rattle.std.proofs.Common.{◌≡◌, ℕ, [], Option, Some, None, refl, sym, subst}
 use Rattle.std.specs.Prelude.{Result, Ok, Err, IfOk, false}
 use Rattle.jheap.specs.Heaps.{Heaped}
 use Rattle.jmachine.specs.Acts.{FrameOf}
@@ -9,11 +9,8 @@ use Rattle.jmachine.specs.World.{world}
 use Rattle.juses.specs.Instructions.{Instruction}
 use Rattle.jready.specs.declared.instr.Instr.{Instr}
 use Rattle.jready.specs.Meant.{meant}
-use Rattle.jstate.specs.Seen.{Things}
 use Rattle.jacts.specs.declared.way.Way.{Way}
-use Rattle.jacts.specs.declared.way.Way.TheVariants as ways
 use Rattle.jcalls.specs.declared.ready.Counts.{Counts}
-use Rattle.jcalls.specs.Readiness.{AreCounted}
 use Rattle.jshapes.specs.Alike.{LeavesAlike, RowsStayAlike}
 use Rattle.jrefs.specs.declared.lasting.Lasting.{Lasting}
 use Rattle.jrefs.specs.References.{Runs, RunsAlike, StaysStuck}

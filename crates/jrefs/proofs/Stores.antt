@@ -1,12 +1,9 @@
 -- Stores that are the same, whatever else is kept.
-use Rattle.std.proofs.Common.{◌≡◌, ◌∙◌, ℕ, List, refl, sym, ap, subst}
+use Rattle.std.proofs.Common.{◌≡◌, ℕ, List, ap}
 use Rattle.jheap.specs.Heaps.{Heaped}
 use Rattle.jmachine.specs.Objects.{Object}
-use Rattle.jmachine.specs.Store.{Store}
 use Rattle.jstate.specs.Seen.{Things, store_by, values_of}
 use Rattle.jcalls.specs.declared.ready.Counts.{Counts}
-use Rattle.jserve.specs.declared.values.Objects.{Objects}
-use Rattle.jserve.specs.Valued.{IsStore}
 use Rattle.jrefs.specs.declared.lasting.Lasting.{Lasting}
 use Rattle.jrefs.specs.Seen.{AreSeen}
 

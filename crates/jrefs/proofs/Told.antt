@@ -1,8 +1,6 @@
 -- What each instruction with a class did is what it stands for.
-use Rattle.std.proofs.Common.{◌≡◌, ◌∙◌, ℕ, Option, Some, None, refl, sym, ap, subst}
+use Rattle.std.proofs.Common.{◌≡◌, ℕ, Some, refl, sym, subst}
 use Rattle.std.specs.Prelude.{IfOk, Result}
-use Rattle.jcode.specs.declared.form.PoolForm.TheVariants as forms
-use Rattle.jcode.specs.declared.names.CastOp.{CastOp}
 use Rattle.jcode.specs.declared.names.FieldOp.{FieldOp}
 use Rattle.jheap.specs.Heaps.{Heaped}
 use Rattle.jprogram.specs.declared.member.Member.TheVariants as members
@@ -10,7 +8,6 @@ use Rattle.jtypes.specs.declared.vtype.VType.{VType}
 use Rattle.juses.specs.Instructions.{Instruction, Used}
 use Rattle.juses.specs.Meanings as meanings
 use Rattle.juses.specs.Meanings.{FieldMeaning, Meaning}
-use Rattle.juses.specs.Tables.{pool_at}
 use Rattle.jlink.specs.Fields.{IsNamedField}
 use Rattle.jmachine.specs.Acts.{FrameOf}
 use Rattle.jready.specs.declared.instr.ArrayInstr.{ArrayInstr}
@@ -19,17 +16,16 @@ use Rattle.jready.specs.declared.instr.Instr.{Instr}
 use Rattle.jready.specs.declared.instr.Instr.TheVariants as instrs
 use Rattle.jready.specs.declared.instr.ObjectInstr.{ObjectInstr}
 use Rattle.jready.specs.declared.instr.ObjectInstr.TheVariants as object
-use Rattle.jready.specs.Exact.{ArrayMade, MakesArray, OutHeld}
+use Rattle.jready.specs.Exact.{MakesArray}
 use Rattle.jready.specs.Meant.{array_instr, flow_meant, meant}
 use Rattle.jacts.specs.declared.way.Way.{Way}
-use Rattle.jacts.specs.declared.way.Way.TheVariants as ways
 use Rattle.jcalls.specs.declared.ready.Counts.{Counts}
 use Rattle.jrefs.specs.declared.lasting.Lasting.{Lasting}
 use Rattle.jrefs.specs.declared.looking.FieldAt.{FieldAt}
 use Rattle.jrefs.specs.Naming.{NamesField}
 use Rattle.jrefs.specs.References.{IsExact, IsFetched, IsLasting, StaysStuck}
 use Rattle.jrefs.specs.Seen.{SeenActs, SeenRuns}
-use Rattle.jrefs.proofs.Meaning.{FieldLaw, all_ok, array_means, cast_missing, cast_runs, class_means, field_means, field_named, library_means, map_ok, new_means, not_missing, out_means, runs_by}
+use Rattle.jrefs.proofs.Meaning.{FieldLaw, all_ok, array_means, field_means, field_named, map_ok, not_missing, out_means, runs_by}
 
 module _ (x : Lasting) (counts : Counts) {E : Type 0} (fr g : FrameOf ℕ E) (h k : Heaped) where
   -- where an instruction is this one

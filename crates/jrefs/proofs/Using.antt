@@ -4,7 +4,6 @@ use Rattle.std.specs.Prelude.{Err, IfOk, Ok, Result, option_and_then, option_map
 use Rattle.jcode.specs.declared.form.ArrayForm.TheVariants as arrays
 use Rattle.jcode.specs.declared.form.PoolForm.TheVariants as forms
 use Rattle.jcode.specs.declared.names.CastOp.{CastOp}
-use Rattle.jcode.specs.declared.names.CastOp.TheVariants as casts
 use Rattle.jcode.specs.declared.names.Element.TheVariants as items
 use Rattle.jcode.specs.declared.names.FieldOp.{FieldOp}
 use Rattle.jcode.specs.declared.names.FieldOp.TheVariants as ops
@@ -55,7 +54,7 @@ use Rattle.jobjs.specs.Made.{HasShape}
 use Rattle.jobjs.specs.Serving.{IsOne, Serve}
 use Rattle.jobjs.specs.Stored.{MayStore, ServeStore}
 use Rattle.jrefs.specs.declared.lasting.Lasting.{Lasting}
-use Rattle.jrefs.specs.References.{IsLasting, IsSite}
+use Rattle.jrefs.specs.References.{IsLasting}
 use Rattle.jrefs.specs.Seen.{AreSeen, SeenActs, ServesAs}
 use Rattle.jrefs.proofs.News.{array_is, is_part, library_class, user_class, user_shape}
 

@@ -1,11 +1,7 @@
-use Rattle.std.proofs.Common.{subst, sym, ap, ◌∙◌}
-use Rattle.jprogram.specs.declared.member.MethodId.{MethodId}
-use Rattle.jcode.specs.declared.form.PoolForm.TheVariants as forms
-use Rattle.jready.specs.Only.{only_cast}
+use Rattle.std.proofs.Common.{subst, sym}
 use Rattle.jtypes.specs.declared.vtype.VType.{VType}
 use Rattle.juses.specs.Instructions as instructions
 use Rattle.juses.specs.Meanings as meanings
-use Rattle.juses.specs.Tables.{pool_at}
 use Rattle.juses.specs.Types.{named}
 use Rattle.jrefs.specs.Seen.{SeenActs}
 use Rattle.jrefs.proofs.Fielding.{never_some, no_some, the_some}

@@ -1,4 +1,3 @@
-use Rattle.std.proofs.Common.{sym}
 use Rattle.juses.specs.Types.{class_named}
 use Rattle.jcode.specs.declared.names.FieldOp.TheVariants as ops
 use Rattle.jrefs.proofs.Fielding.{names_at, no_some, not_row, read_row, the_some}

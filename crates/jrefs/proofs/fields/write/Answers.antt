@@ -1,5 +1,3 @@
-use Rattle.std.proofs.Common.{ap, ◌∙◌}
-use Rattle.jprogram.specs.declared.member.MethodId.{MethodId}
 use Rattle.juses.specs.Types.{class_named, named}
 use Rattle.jcode.specs.declared.names.FieldOp.TheVariants as ops
 use Rattle.jrefs.proofs.Fielding.{names_at, no_some, not_row, the_some, write_row}

@@ -1,5 +1,4 @@
-use Rattle.std.proofs.Common.{refl, false, true, sym, ap, subst, ◌∙◌}
-use Rattle.std.specs.Prelude.{Bool}
+use Rattle.std.proofs.Common.{refl, false, sym, ap, subst, ◌∙◌}
 use Rattle.jcode.specs.declared.names.FieldOp.TheVariants as ops
 use Rattle.jprogram.specs.declared.member.MethodId.{MethodId}
 use Rattle.juses.specs.Meanings as meanings
