@@ -279,6 +279,11 @@ module _ {E : Type 0} (p : Program) (x : Fixed E) (one : Instr) (f u g : Framed 
 
 -- ---- returns
 
+quiet_left : (way : Leaving) → IsQuiet (left_as way)
+quiet_left leaving.Resumed = tt
+quiet_left leaving.Ends = tt
+quiet_left leaving.Stuck = tt
+
 module _ {E : Type 0} where
   one_returns : (case kind : Returned) (h : Heaped) (counts : Counts) (marks : List E) (f g : Framed E) (way : Leaving) → kind ≡ case
       → Returns case marks f way g → ReturnsAs kind h counts marks f way g
@@ -294,11 +299,6 @@ module _ {E : Type 0} where
   left_settles r p plan s leaving.Resumed g t o e is = is ∙ ap (λ (u : Store ℕ). went r p plan s (all g) u []) e
   left_settles r p plan s leaving.Ends g t o e is = is ∙ ap (λ (u : Store ℕ). ended plan.schedule s u false []) e
   left_settles r p plan s leaving.Stuck g t o e is = is
-
-  quiet_left : (way : Leaving) → IsQuiet (left_as way)
-  quiet_left leaving.Resumed = tt
-  quiet_left leaving.Ends = tt
-  quiet_left leaving.Stuck = tt
 
   pub return_done : (x : Fixed E) (counts : Counts) (kind : Returned) (f g : Framed E) (h : Heaped) (way : Leaving) (done : Stepped) → done ≡ left_as way
       → ReturnsAs kind h counts x.marks.now f way g → (p : Program) → Executes p x counts (Some (Return kind)) f h done g h

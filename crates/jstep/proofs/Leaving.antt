@@ -30,7 +30,7 @@ same_celled_if (Err e) objects = tt
 
 pub celled_behind : {A F : Type 0} (r : Result A F) (before between after : List heaps.Object) → StayCelled before between → OnOk r (StayCelled between after)
     → OnOk r (StayCelled before after)
-celled_behind (Ok x) before between after first second shapes celled = second shapes (first shapes celled)
+celled_behind (Ok x) before between after first second = λ shapes celled. second shapes (first shapes celled)
 celled_behind (Err e) before between after first second = tt
 
 -- ---- names
@@ -61,12 +61,12 @@ module _ (p : Program) (shapes : Shapes) (before after : List heaps.Object) wher
   by_step things steps.Stuck stay = tt
 
   pub names_alike : {F : Type 0} (r : Result Stepped F) → OnOk r (NamesNoMore before after) → IfOk r (λ done. (things : Things) → StepsAlike p shapes things done before after)
-  names_alike (Ok done) names things = by_step things done (names p shapes things)
+  names_alike (Ok done) names = λ things. by_step things done (names p shapes things)
   names_alike (Err e) names = tt
 
 pub same_alike : {F : Type 0} (r : Result Stepped F) (p : Program) (shapes : Shapes) (objects : List heaps.Object)
     → IfOk r (λ done. (things : Things) → StepsAlike p shapes things done objects objects)
-same_alike (Ok done) p shapes objects things = by_step p shapes objects objects things done (λ others e. e)
+same_alike (Ok done) p shapes objects = λ things. by_step p shapes objects objects things done (λ others e. e)
 same_alike (Err e) p shapes objects = tt
 
 -- ---- a row, and what it left to do
@@ -82,7 +82,7 @@ module _ (p : Program) (shapes : Shapes) (before between after : List heaps.Obje
 
   pub row_alike : {F : Type 0} (r : Result Stepped F) (way : Way) → ((q : Program) (things : Things) → LeavesAlike q shapes things way before between)
       → OnOk r (NamesNoMore between after) → IfOk r (StaysStuck way) → IfOk r (λ done. (things : Things) → StepsAlike p shapes things done before after)
-  row_alike (Ok done) way first second stuck things = behind_row things way done (first p things) second stuck
+  row_alike (Ok done) way first second stuck = λ things. behind_row things way done (first p things) second stuck
   row_alike (Err e) way first second stuck = tt
 
 -- what raises isn't stuck
