@@ -131,9 +131,10 @@ module _ (x : Lasting) {E : Type 0} (fr g : FrameOf ℕ E) (h k : Heaped) where
         (instructions.Used (meanings.Cast op t)) fr s (leaves way [] g s))
         → SeenActs x counts (instructions.Used (meanings.Cast op t)) fr h way g h
     cast_row op t serve is serves ones did others constants seen r at own entries inherited site =
-        did t (seen_in others constants) r at own entries inherited
-        (serves others constants at own seen site,
-        subst (λ (w : World). IsOne w (seen_in others constants) t (slice_get fr.operands 0) is) (sym site.world) (ones others constants seen))
+        did t (seen_in others constants) r at own entries inherited (
+          serves others constants at own seen site,
+          subst (λ (w : World). IsOne w (seen_in others constants) t (slice_get fr.operands 0) is) (sym site.world) (ones others constants seen),
+        )
 
     -- the same by its kind, as it is known
     pub cast_as : (op other : CastOp) → op ≡ other → (t : VType) (serve is : Bool)
@@ -155,9 +156,10 @@ module _ (x : Lasting) {E : Type 0} (fr g : FrameOf ℕ E) (h k : Heaped) where
         (instructions.Array (arrays.Store items.Ref)) fr (store_by p shapes things constants h) (leaves way [] g (store_by p shapes things constants k)))
         → SeenActs x counts (instructions.Array (arrays.Store items.Ref)) fr h way g k
     store_row serve is serves holds did others constants seen r at own entries inherited site =
-        did p x.shapes.now others constants r at own entries inherited
-        (serves others constants at seen site.world,
-        subst (λ (w : World). MayStore w p x.shapes.now (seen_in others constants) h fr.operands is) (sym site.world) (holds others constants seen))
+        did p x.shapes.now others constants r at own entries inherited (
+          serves others constants at seen site.world,
+          subst (λ (w : World). MayStore w p x.shapes.now (seen_in others constants) h fr.operands is) (sym site.world) (holds others constants seen),
+        )
 
     pub branch_row : (test : RefTest) (to : ℕ) (serve : Bool)
         → ((others : Things) (constants : List (List ℕ × ℕ)) (at : Site) → AreSeen x counts h.objects others → at.world ≡ world p → ServeTest at (seen_in others constants) test fr.operands serve)

@@ -73,12 +73,7 @@ fn field_used(x: &Lasting<'_, '_>, class: u32, op: FieldOp, pool: u16) -> Option
 }
 
 /// The type for which an instruction of a class tests.
-pub(crate) fn cast_used(
-    x: &Lasting<'_, '_>,
-    class: u32,
-    op: CastOp,
-    pool: u16,
-) -> Option<TypeRef>
+pub(crate) fn cast_used(x: &Lasting<'_, '_>, class: u32, op: CastOp, pool: u16) -> Option<TypeRef>
     requires { IsLasting x.now }
     ensures { option_map (named x.now.ancestors.now) result ≡ only_cast (meant x.now.ancestors.now (pool_at x.now.ancestors.now class) (forms.Cast op pool)) }
 {

@@ -16,7 +16,7 @@ returns-in_default-clause-row g c t e =
 pub returns-clause-row : goal.returns-clause-row
 returns-clause-row g c t e =
     let is = the_some (named c.args.x.now.ancestors.now) c.cast_used.result c.in-Some.t t c.in-Some.is
-        (type_at c.args.x.now.ancestors.now c.args.frames.now.newest.method c.method.result c.args.op c.args.pool t c.cast_used.result c.method.ensures c.cast_used.ensures e) in
+    (type_at c.args.x.now.ancestors.now c.args.frames.now.newest.method c.method.result c.args.op c.args.pool t c.cast_used.result c.method.ensures c.cast_used.ensures e) in
     subst (λ (v : VType). SeenActs c.args.x.now c.args.counts (instructions.Used (meanings.Cast c.args.op v)) c.args.frames.now.newest c.args.heap.now c.cast.result
     c.cast.new.frames.newest c.args.heap.now) (sym is) c.cast.ensures.row
 
