@@ -6,14 +6,14 @@ use Rattle.jops.specs.declared.value.Value.TheVariants.{Ref}
 use Rattle.jheap.specs.Heaps.{Heaped}
 use Rattle.jprogram.specs.Classes.{Program}
 use Rattle.jmachine.specs.Frames.{onward, with_operands}
-use Rattle.jmachine.specs.Objects.{Context}
+use Rattle.jmachine.specs.Objects.{Context, Object}
 use Rattle.jmachine.specs.Steps.{acted, applied, went}
 use Rattle.jmachine.specs.Store.{Store, next_number, paid, with_made}
 use Rattle.jstate.specs.declared.shapes.Shapes.{Shapes}
 use Rattle.jstate.specs.Framed.{Framed, holding, with_newest}
-use Rattle.jstate.specs.Seen.{Things, object_by, store_by}
+use Rattle.jstate.specs.Seen.{Things, object_by, place_in, store_by}
 use Rattle.jcalls.specs.Throws.{LeavesStanding}
-use Rattle.jcontexts.specs.Kept.{AreKept, IsKeptAt, with_kept}
+use Rattle.jcontexts.specs.Kept.{AreKept, IsKeptAt, StayHeld, with_kept}
 use Rattle.jcontexts.specs.Snapshots.{MakesContext, Snapshots}
 use Rattle.jcontexts.proofs.Keeping.{same_after, same_behind, still_there}
 
@@ -48,6 +48,16 @@ module _ (number place o : ℕ) (before after : List ℕ) (h k : Heaped) (at : I
         let there : paid 2 (with_made s.store (Context (Some number))) ≡ store_by p shapes (with_kept after things) constants k =
         ap (λ (t : Store ℕ). paid 2 (with_made t (Context (Some number)))) seen ∙ sym (store_is p shapes things constants is held) in
         rw (does, enough, on) (ap₂ (λ (n : ℕ) (t : Store ℕ). went r p plan s (onward (with_operands f.newest (drop count f.newest.operands)) (Ref n ∷ []) ∷ f.below) t []) here there)
+
+-- the new object is made of the numbers that are kept alone
+pub snaps_held : (place o : ℕ) (h k : Heaped) → MakesContext place h o k → StayHeld h.objects k.objects
+snaps_held place o h k made p shapes things others same alike =
+    ap (λ (t : Store ℕ). t.objects) (made.store p shapes others [])
+    ∙ ap₂ (λ (objects : List (Object ℕ)) (kept : List ℕ). objects ++ Context (place_in kept place) ∷ []) alike same
+    ∙ sym (ap (λ (t : Store ℕ). t.objects) (made.store p shapes things []))
+
+pub same_held : (h : Heaped) → StayHeld h.objects h.objects
+same_held h p shapes things others same alike = alike
 
 pub snaps_full : {E : Type 0} (number count : ℕ) (f g : Framed E) (before after : List ℕ) (h k : Heaped) → h.left < 2 → Snapshots number count f before h false g after k
 unfolding applied acted

@@ -24,6 +24,11 @@ AreKept p shapes things objects = (more : List ℕ) → objects_by p shapes (wit
 abbrev pub StayKept : List heaps.Object → List heaps.Object → Type 0
 StayKept before after = (p : Program) (shapes : Shapes) (things : Things) → AreKept p shapes things before → AreKept p shapes things after
 
+-- Where what keeps the same numbers made the same of these objects, it makes the same of those that were left of them, whatever permissions are kept.
+abbrev pub StayHeld : List heaps.Object → List heaps.Object → Type 0
+StayHeld before after = (p : Program) (shapes : Shapes) (things others : Things) → others.kept ≡ things.kept
+    → objects_by p shapes others before ≡ objects_by p shapes things before → objects_by p shapes others after ≡ objects_by p shapes things after
+
 -- The number stands at a place, from 1, among those that are kept now, and those that were kept stand where they stood.
 abbrev pub IsKeptAt : ℕ → List ℕ → ℕ → List ℕ → Type 0
 IsKeptAt number before place after = (place_in after place ≡ Some number) × (place < 2 ^ 32) × ((more : List ℕ) × (after ≡ before ++ more))

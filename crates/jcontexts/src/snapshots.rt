@@ -6,7 +6,7 @@ ghost use Rattle.jstate.specs.Celled.{StayCelled};
 ghost use Rattle.jstate.specs.Framed.{holding, with_newest};
 ghost use Rattle.jstate.specs.Seen.{AreBuilt, Things, place_in};
 ghost use Rattle.jcalls.specs.Throws.{LeavesStanding};
-ghost use Rattle.jcontexts.specs.Kept.{AreKept, IsKeptAt, with_kept};
+ghost use Rattle.jcontexts.specs.Kept.{AreKept, IsKeptAt, StayHeld, with_kept};
 ghost use Rattle.jcontexts.specs.Snapshots.{MakesContext, Snapshots};
 
 use jbase::Seq;
@@ -95,6 +95,7 @@ pub fn snapshot<M: Copy>(
     ensures row { IfOk result (λ room. Snapshots number count frames.old kept.old heap.old room frames.new kept.new heap.new) }
     ensures kept { OnOk result ((p : Program) (shapes : Shapes) (things : Things) → things.kept ≡ kept.old → AreKept p shapes things heap.old.objects
         → AreKept p shapes (with_kept kept.new things) heap.new.objects) }
+    ensures held { OnOk result (StayHeld heap.old.objects heap.new.objects) }
     ensures below { OnOk result (frames.new.below ≡ frames.old.below) }
     ensures stand { OnOk result (LeavesStanding frames.old frames.new) }
     ensures built { OnOk result (AreBuilt heap.new.objects) }
