@@ -1,0 +1,5 @@
+pub mod Standing
+pub mod Settled
+pub mod Left
+pub mod Raised
+pub mod Ready

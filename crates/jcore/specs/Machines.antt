@@ -1,0 +1,82 @@
+-- What a machine by numbers stands for, and what holds of it between steps.
+use Rattle.std.specs.Prelude.{◌≡◌, ◌<◌, ◌+◌, ◌^◌, ℕ, List, Some, length, slice_get}
+use Rattle.jlink.specs.Coded.{AreFiles}
+use Rattle.jmachine.specs.Acts.{State}
+use Rattle.jmachine.specs.Security.{Rules}
+use Rattle.jmachine.specs.Store.{Store}
+use Rattle.jshapes.specs.Tied.{AreTied}
+use Rattle.jstate.specs.declared.shapes.Shape.{Shape}
+use Rattle.jstate.specs.Celled.{AreCelled}
+use Rattle.jstate.specs.Framed.{Framed}
+use Rattle.jstate.specs.Seen.{AreBuilt, Things, store_by}
+use Rattle.jcalls.specs.declared.ready.Counts.{Counts}
+use Rattle.jcalls.specs.Marks.{AreStanding, marks_of}
+use Rattle.jstep.specs.Stepping.{IsFixed}
+use Rattle.jguests.specs.declared.guests.Guest.{Guest}
+use Rattle.jguests.specs.Guested.{AreGuests, Lives, state_by}
+use Rattle.jlibrary.specs.Held.{AreHeld}
+use Rattle.jcontexts.specs.Kept.{AreKept}
+use Rattle.jcore.specs.declared.machine.Machine.{Machine}
+
+-- ---- what it stands for
+
+abbrev pub things_of : {E : Type 0} → Machine E → Things
+things_of m = record { permissions = m.permissions; kept = m.kept }
+
+abbrev pub store_of : {E : Type 0} → Machine E → Store ℕ
+store_of m = store_by m.calls m.fixed.shapes.now (things_of m) m.constants.constants m.heap
+
+abbrev pub state_of : {E : Type 0} → Machine E → State ℕ E
+state_of m = state_by m.guests (store_of m)
+
+-- how many permissions and contexts it keeps
+abbrev pub counts_of : {E : Type 0} → Machine E → Counts
+counts_of m = record { permissions = length m.permissions; contexts = length m.kept }
+
+-- how many classes there are of users
+abbrev pub classes_of : {E : Type 0} → Machine E → ℕ
+classes_of m = length m.fixed.marks.now
+
+-- ---- what holds
+
+-- the frames of a thread, where it has any, may go on
+abbrev pub GuestStands : {E : Type 0} → ℕ → Guest E → Type 0
+GuestStands {E} classes x = (f : Framed E) → x.frames ≡ Some f → AreStanding classes f
+
+-- so do those of all threads that wait
+abbrev pub OthersStand : {E : Type 0} → ℕ → List (Guest E) → Type 0
+OthersStand {E} classes others = (x : Guest E) (i : ℕ) → slice_get others i ≡ Some x → GuestStands classes x
+
+-- What holds whenever nothing is half done to its heap.
+pub record IsMachine {E : Type 0} (m : Machine E) : Type 0 where
+  pub fixed : IsFixed m.calls m.fixed
+  pub files : AreFiles m.calls
+  pub depth : m.plan.now.depth ≡ m.fixed.depth
+  pub tied : AreTied m.calls m.fixed.tables.now m.fixed.shapes.now
+  pub small : (i : ℕ) (shape : Shape) → slice_get m.fixed.shapes.now.users i ≡ Some shape → length shape.cells + 1 < 2 ^ 32
+  pub constants : m.constants.program ≡ m.calls
+  pub guests : AreGuests m.guests
+  pub others : OthersStand (classes_of m) m.guests.others.items
+  pub built : AreBuilt m.heap.objects
+  pub celled : AreCelled m.fixed.shapes.now m.heap.objects
+  -- no object names a permission or a context that isn't kept
+  pub held : AreHeld m.calls m.fixed.shapes.now m.permissions m.heap.objects
+  pub kept : AreKept m.calls m.fixed.shapes.now (things_of m) m.heap.objects
+
+-- What holds between steps.
+pub record IsReady {E : Type 0} (m : Machine E) : Type 0 where
+  pub machine : IsMachine m
+  pub lives : Lives m.guests
+  pub running : GuestStands (classes_of m) m.guests.running
+
+-- Its program and its plan stay.
+pub record StaysFixed {E : Type 0} (m n : Machine E) : Type 0 where
+  pub fixed : n.fixed ≡ m.fixed
+  pub plan : n.plan ≡ m.plan
+  pub side : n.side ≡ m.side
+  pub calls : n.calls ≡ m.calls
+
+-- Rules of its side, whose frames carry what its frames carry.
+pub record AreRules {E : Type 0} (m : Machine E) (r : Rules ℕ E) : Type 0 where
+  pub marks : m.fixed.marks.now ≡ marks_of r.entry_of m.calls
+  pub side : r.side ≡ m.side

@@ -1,0 +1,31 @@
+use jbase::Seq;
+use jconstants::Constants;
+use jguests::Guests;
+use jheap::Heap;
+use jinvoke::Calls;
+use jlib::Side;
+use jmachine::Plan;
+use jperm::Permission;
+use jstep::Fixed;
+
+/// A machine by numbers. `M` is what a frame carries.
+#[derive(Drop)]
+pub struct Machine<'a, 'p, M> {
+    /// What stands as long as the program runs.
+    pub fixed: Fixed<'a, 'p, M>,
+    /// What the run is given besides its program.
+    pub plan: &'a Plan,
+    /// The library that the program is written for.
+    pub side: Side,
+    /// The threads.
+    pub guests: Guests<M>,
+    pub heap: Heap,
+    /// The string constants that were made.
+    pub constants: Constants<'p>,
+    /// What objects of permissions hold, by number.
+    pub permissions: Seq<Permission>,
+    /// What contexts keep, by number: numbers that the guard gave.
+    pub kept: Seq<u64>,
+    /// What was asked about calls.
+    pub calls: Calls<'p>,
+}

@@ -1,0 +1,153 @@
+ghost use Rattle.std.specs.Prelude.{◌≡◌, ◌∷◌, ◌++◌, [], IfOk, OnOk};
+ghost use Rattle.jtrace.specs.declared.event.End.TheVariants.{HeapFull};
+ghost use Rattle.jtrace.specs.declared.event.Event.TheVariants.{Throw, Uncaught};
+ghost use Rattle.jmachine.specs.Unwinding.{told_name as name_told};
+ghost use Rattle.jrun.specs.declared.stepping.Stepped.TheVariants as stepped;
+ghost use Rattle.jstep.specs.Stepping.{type_of};
+ghost use Rattle.jguests.specs.Guested.{Lives};
+ghost use Rattle.jcore.specs.Comings.{EndsThread, GoesOn, HandledStand, IsOwn, LeftStand, Settles, SettlesRaised};
+ghost use Rattle.jcore.specs.Machines.{IsMachine, StaysFixed};
+
+use crate::machine::Machine;
+use crate::telling::told_name;
+use jbase::Seq;
+use jcalls::Raised;
+use jguests::Turned;
+use jprogram::ClassRef;
+use jrun::Stepped;
+use jtrace::{End, Event};
+use std::alloc::{AllocError, Global};
+
+/// Ends the running thread, by an exception or not, behind these events, and gives another its turn.
+#[tactic(auto, using(crate::proofs::Settled::ends_goes, crate::proofs::Settled::ends_over))]
+pub fn end_thread<M: Copy>(
+    alloc: Global,
+    m: &mut Machine<'_, '_, M>,
+    failed: bool,
+    told: Seq<Event>,
+) -> Result<Stepped, AllocError>
+    requires machine { IsMachine m.old }
+    requires lives { Lives m.old.guests }
+    ensures comes { IfOk result (λ came. EndsThread m.old failed told came m.new) }
+    ensures ready { IfOk result (GoesOn m.new) }
+    ensures fixed { OnOk result (StaysFixed m.old m.new) }
+{
+    match m
+        .guests
+        .end_turn(alloc, m.plan.schedule.as_slice(), failed)?
+    {
+        Turned::Goes => Ok(Stepped::Went { events: told }),
+        Turned::Ends(end) => Ok(Stepped::Ended { events: told, end }),
+    }
+}
+
+/// What is told of an object of a class that was thrown in the running thread, behind these events.
+fn tell_thrown<M: Copy>(
+    alloc: Global,
+    m: &Machine<'_, '_, M>,
+    class: ClassRef,
+    told: &mut Seq<Event>,
+) -> Result<(), AllocError>
+    ensures { OnOk result (told.new ≡ told.old ++ Throw m.now.guests.at (name_told (type_of m.now.calls class)) ∷ []) }
+{
+    let class = told_name(alloc, m.calls.known().program(), class)?;
+    told.push(Event::Throw {
+        thread: m.guests.at,
+        class,
+    })
+}
+
+/// The same, where none of its frames handles it.
+pub fn tell_uncaught<M: Copy>(
+    alloc: Global,
+    m: &Machine<'_, '_, M>,
+    class: ClassRef,
+    told: &mut Seq<Event>,
+) -> Result<(), AllocError>
+    ensures { OnOk result (told.new ≡ told.old ++ Throw m.now.guests.at (name_told (type_of m.now.calls class)) ∷ Uncaught m.now.guests.at (name_told (type_of m.now.calls class)) ∷ []) }
+{
+    tell_thrown(alloc, m, class, told)?;
+    let class = told_name(alloc, m.calls.known().program(), class)?;
+    told.push(Event::Uncaught {
+        thread: m.guests.at,
+        class,
+    })
+}
+
+/// Goes on behind an object of a class that was raised or thrown in the running thread: it is told, behind these events, and where none of its frames
+/// handles it the thread ends.
+#[tactic(auto, using(crate::proofs::Ready::handled_ready, crate::proofs::Settled::raised_full, crate::proofs::Settled::raised_handled, crate::proofs::Settled::raised_uncaught))]
+pub fn settle_raised<M: Copy>(
+    alloc: Global,
+    m: &mut Machine<'_, '_, M>,
+    done: Raised,
+    class: ClassRef,
+    told: Seq<Event>,
+) -> Result<Stepped, AllocError>
+    requires machine { IsMachine m.old }
+    requires lives { Lives m.old.guests }
+    requires stand { HandledStand m.old done }
+    ensures comes { IfOk result (λ came. SettlesRaised m.old done class told came m.new) }
+    ensures ready { IfOk result (GoesOn m.new) }
+    ensures fixed { OnOk result (StaysFixed m.old m.new) }
+{
+    let mut told = told;
+    match done {
+        Raised::Full => Ok(full(alloc)),
+        Raised::Handled => {
+            tell_thrown(alloc, m, class, &mut told)?;
+            Ok(Stepped::Went { events: told })
+        }
+        Raised::Uncaught => {
+            tell_uncaught(alloc, m, class, &mut told)?;
+            let came = end_thread(alloc, m, true, told)?;
+            Ok(came)
+        }
+    }
+}
+
+/// The run is over, since the heap has too few cells.
+pub fn full(alloc: Global) -> Stepped
+    ensures { result ≡ stepped.Ended [] HeapFull }
+{
+    Stepped::Ended {
+        events: Seq::new(alloc),
+        end: End::HeapFull,
+    }
+}
+
+/// Goes on behind a step of the running thread, which needn't ask the library.
+#[tactic(auto, using(crate::proofs::Ready::went_ready, crate::proofs::Ready::left_handled, crate::proofs::Settled::settled_went, crate::proofs::Settled::settled_full, crate::proofs::Settled::settled_stuck, crate::proofs::Settled::settled_ended, crate::proofs::Settled::settled_handled, crate::proofs::Settled::settled_uncaught))]
+pub fn settle<M: Copy>(
+    alloc: Global,
+    m: &mut Machine<'_, '_, M>,
+    came: jstep::Stepped,
+) -> Result<Stepped, AllocError>
+    requires own { IsOwn came }
+    requires machine { IsMachine m.old }
+    requires lives { Lives m.old.guests }
+    requires stand { LeftStand m.old came }
+    ensures comes { IfOk result (λ done. Settles m.old came done m.new) }
+    ensures ready { IfOk result (GoesOn m.new) }
+    ensures fixed { OnOk result (StaysFixed m.old m.new) }
+{
+    let told = Seq::new(alloc);
+    match came {
+        jstep::Stepped::Went => Ok(Stepped::Went { events: told }),
+        jstep::Stepped::Ended => {
+            let done = end_thread(alloc, m, false, told)?;
+            Ok(done)
+        }
+        jstep::Stepped::Handled(class) => {
+            let done = settle_raised(alloc, m, Raised::Handled, class, told)?;
+            Ok(done)
+        }
+        jstep::Stepped::Uncaught(class) => {
+            let done = settle_raised(alloc, m, Raised::Uncaught, class, told)?;
+            Ok(done)
+        }
+        jstep::Stepped::Full => Ok(full(alloc)),
+        jstep::Stepped::Stuck => Ok(Stepped::Stuck),
+        jstep::Stepped::Asks { .. } => unreachable!(),
+    }
+}

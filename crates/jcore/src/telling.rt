@@ -1,0 +1,59 @@
+ghost use Rattle.std.specs.Prelude.{◌≡◌, IfOk, map};
+ghost use Rattle.jprogram.specs.Classes.{name_at};
+ghost use Rattle.jtypes.specs.declared.vtype.VType.TheVariants as types;
+ghost use Rattle.juses.specs.Types.{class_named};
+ghost use Rattle.jmachine.specs.Making;
+ghost use Rattle.jmachine.specs.Unwinding;
+ghost use Rattle.jmachine.specs.Unwinding.{told_name};
+
+use jbase::Stop;
+use jlink::LinkedProgram;
+use jprogram::ClassRef;
+use jtext::Units;
+use std::alloc::{AllocError, Global};
+
+/// A dot for a slash.
+fn dotted(unit: u16) -> u16
+    ensures { result ≡ Unwinding.dotted unit }
+{
+    if unit == u16::from(b'/') {
+        return u16::from(b'.');
+    }
+    unit
+}
+
+/// The units that bytes of a class file hold, none where they are no text.
+#[tactic(auto, unfolding(jmachine::specs::Making::units_of))]
+fn units_held(alloc: Global, bytes: &[u8]) -> Result<Units, AllocError>
+    ensures { IfOk result (λ units. units ≡ Making.units_of bytes.now) }
+{
+    match jtext::units_of(alloc, bytes) {
+        Ok(units) => Ok(units),
+        Err(Stop::Memory) => Err(AllocError),
+        Err(Stop::Fault(_)) => Ok(Units::new(alloc)),
+    }
+}
+
+/// A text with dots for its slashes.
+fn with_dots(alloc: Global, units: &Units) -> Result<Units, AllocError>
+    ensures { IfOk result (λ told. told ≡ map Unwinding.dotted units.now) }
+{
+    let mut told = Vec::new(alloc);
+    for unit in units.as_slice() {
+        told.push(dotted(*unit))?;
+    }
+    Ok(Units::from_vec(told))
+}
+
+/// The name of a class as it is told, with dots.
+#[tactic(auto, unfolding(jmachine::specs::Unwinding::told_name))]
+pub(crate) fn told_name(
+    alloc: Global,
+    program: &LinkedProgram,
+    class: ClassRef,
+) -> Result<Units, AllocError>
+    ensures { IfOk result (λ units. units ≡ told_name (types.Object (class_named program.now class))) }
+{
+    let units = units_held(alloc, program.name_of(class))?;
+    with_dots(alloc, &units)
+}
