@@ -1,0 +1,48 @@
+-- What stands behind a row of a call, of which it is told what is to be done.
+use Rattle.std.specs.Prelude.{◌≡◌, ⊤, ℕ, List, [], Some}
+use Rattle.jtrace.specs.declared.event.End.TheVariants.{HeapFull}
+use Rattle.jtrace.specs.declared.event.Event.{Event}
+use Rattle.jprogram.specs.Classes.{Program}
+use Rattle.jmachine.specs.declared.plan.Plan.{Plan}
+use Rattle.jmachine.specs.Acts.{NoStep, Outcome, Over, State}
+use Rattle.jmachine.specs.Security.{Rules}
+use Rattle.jmachine.specs.Steps.{went}
+use Rattle.jmachine.specs.Store.{Store}
+use Rattle.jrun.specs.declared.stepping.Stepped.{Stepped}
+use Rattle.jstate.specs.Framed.{Framed, all}
+use Rattle.jacts.specs.declared.way.Way.{Way}
+use Rattle.jacts.specs.declared.way.Way.TheVariants as ways
+use Rattle.jcalls.specs.Calling.{IsThrown}
+use Rattle.jcalls.specs.Throws.{raising}
+use Rattle.jguests.specs.Guested.{Lives}
+use Rattle.jcore.specs.declared.machine.Machine.{Machine}
+use Rattle.jcore.specs.Comings.{IsBehind, Leads}
+use Rattle.jcore.specs.Left.{RunsStanding}
+use Rattle.jcore.specs.Machines.{IsMachine, IsReady, store_of}
+
+-- What a step comes to of which this is to be done, and that has told this and left these frames and this store.
+abbrev pub WentAs : {E : Type 0} → Rules ℕ E → Program → Plan → State ℕ E → Way → List Event → Framed E → Store ℕ → Outcome (State ℕ E) → Type 0
+WentAs r p plan s ways.Went told g t outcome = outcome ≡ went r p plan s (all g) t told
+WentAs r p plan s (ways.Raises class) told g t outcome = (s.store ≡ t) × (outcome ≡ raising r p plan s (all g) told class)
+WentAs r p plan s (ways.Throws n) told g t outcome = ⊥
+WentAs r p plan s ways.Full told g t outcome = outcome ≡ Over s [] HeapFull
+WentAs r p plan s ways.Stuck told g t outcome = outcome ≡ NoStep
+
+-- Such a step came to this.
+abbrev pub Settles : {E : Type 0} → Machine E → Way → List Event → Stepped → Machine E → Type 0
+Settles {E} m way told came n = (s : State ℕ E) (g : Framed E) → IsBehind m s → m.guests.running.frames ≡ Some g
+    → Leads m (λ r outcome. WentAs r m.calls m.plan.now s way told g (store_of m) outcome) came n
+
+-- An exception may be raised in the running thread, of a class of what can be thrown.
+pub record MayRaise {E : Type 0} (m : Machine E) : Type 0 where
+  pub machine : IsMachine m
+  pub lives : Lives m.guests
+  pub runs : RunsStanding m
+
+-- What the row left is such that this can be done.
+abbrev pub IsLeft : {E : Type 0} → Machine E → Way → Type 0
+IsLeft m ways.Went = IsReady m
+IsLeft m (ways.Raises class) = IsThrown class × MayRaise m
+IsLeft m (ways.Throws n) = ⊥
+IsLeft m ways.Full = ⊤
+IsLeft m ways.Stuck = ⊤
