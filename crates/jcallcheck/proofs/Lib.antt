@@ -1,0 +1,4 @@
+mod Came
+mod Deciding
+mod Lasting
+mod Operands

@@ -1,0 +1,12 @@
+use Rattle.std.proofs.Common.{None, Some}
+use Rattle.jcallcheck.proofs.Deciding.{found_as, nothing_answered}
+use Rattle.jcallcheck.proofs.calling.call_check.Goals as goal
+
+pub returns-in-None-clause-answered : goal.returns-in-None-clause-answered
+returns-in-None-clause-answered g c f runs =
+    let m = c.args.m.now in
+    let found = found_as m c.args.call c.args.count c.checked_by.result None c.in-None.is c.checked_by.ensures in
+    nothing_answered _ _ _ _ _ m f c.args.call c.args.count runs c.check_laws.ensures.nothing (found f runs)
+
+pub check_for-requires-clause-found : goal.check_for-requires-clause-found
+check_for-requires-clause-found g c = found_as c.args.m.now c.args.call c.args.count c.checked_by.result (Some c.in-Some.one) c.in-Some.is c.checked_by.ensures

@@ -1,0 +1,51 @@
+ghost use Rattle.std.specs.Prelude.{◌≡◌, IfOk, reverse};
+ghost use Rattle.jmachine.specs.Asked.{Decided, carried};
+ghost use Rattle.jguard.specs.Standing.{AnswersFor, IsKnownIn, Keeps};
+ghost use Rattle.jcore.specs.Machines.{state_of};
+ghost use Rattle.jcallcheck.specs.Finding.{ask_by};
+
+use crate::finding::Whom;
+use jcore::Machine;
+use jdomain::Verdict;
+use jguard::{Guard, ask_check, ask_kept_check};
+use jperm::Permission;
+use std::alloc::{AllocError, Global};
+
+/// What the frames of the running thread carry, the oldest first.
+fn marks_of<M: Copy>(alloc: Global, m: &Machine<'_, '_, M>) -> Result<Vec<M>, AllocError>
+    ensures { IfOk result (λ marks. reverse marks.items ≡ carried (state_of m.now)) }
+{
+    match &m.guests.running.frames {
+        Some(frames) => frames.marks(alloc),
+        None => Ok(Vec::new(alloc)),
+    }
+}
+
+/// Asks whether a permission is granted.
+pub(crate) fn ask<G: Guard>(
+    alloc: Global,
+    m: &Machine<'_, '_, G::Mark>,
+    guard: &mut G,
+    whom: Whom,
+    asked: &Permission,
+) -> Result<Verdict, AllocError>
+    requires { IsKnownIn (G.kept guard.old) (G.entry guard.old) (state_of m.now) (ask_by whom asked.now) }
+    ensures answer { IfOk result (λ v. AnswersFor (G.kept guard.old) (G.kept guard.new) (G.entry guard.old) (G.entry guard.new) (G.rules guard.old)
+        (ask_by whom asked.now) (carried (state_of m.now)) m.now.guests.running.inherited (Decided v)) }
+    ensures rules { G.rules guard.new ≡ G.rules guard.old }
+    ensures keeps { Keeps (G.kept guard.old) (G.kept guard.new) }
+    ensures marks { Keeps (G.entry guard.old) (G.entry guard.new) }
+{
+    let marks = marks_of(alloc, m)?;
+    let inherited = m.guests.running.inherited;
+    match whom {
+        Whom::Thread(ctx) => {
+            let verdict = ask_check(alloc, guard, asked, ctx, marks.as_slice(), inherited)?;
+            Ok(verdict)
+        }
+        Whom::Kept(number) => {
+            let verdict = ask_kept_check(alloc, guard, asked, number, marks.as_slice(), inherited)?;
+            Ok(verdict)
+        }
+    }
+}

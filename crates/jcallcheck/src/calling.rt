@@ -1,0 +1,128 @@
+ghost use Rattle.std.specs.Prelude.{◌≡◌, Some, IfOk, OnOk};
+ghost use Rattle.jlib.specs.declared.calls.LibCall.TheVariants as calls;
+ghost use Rattle.jguard.specs.Standing.{Keeps};
+ghost use Rattle.jstate.specs.Framed.{Framed};
+ghost use Rattle.jcore.specs.Answering.{Answered, AsksKnown, Calling, asked_of, outcome_of};
+ghost use Rattle.jcore.specs.Comings.{GoesOn};
+ghost use Rattle.jcore.specs.Machines.{StaysFixed};
+ghost use Rattle.jcallcheck.specs.Finding.{Found, IsCheck};
+
+use crate::asking::ask;
+use crate::finding::{Check, check_of, kept_check_of, passing_check_of};
+use crate::judging::{check_null, decide};
+use jchecks::{Asked, asks_for, check_laws};
+use jcore::Machine;
+use jguard::Guard;
+use jlib::{ControllerCall, LibCall, RtCall};
+use jrun::Stepped;
+use std::alloc::{AllocError, Global};
+
+/// What a call of checkPermission of AccessController checks.
+fn checked_by<M: Copy>(m: &Machine<'_, '_, M>, call: LibCall, count: usize) -> Option<Check>
+    requires check { IsCheck call }
+    requires calling { Calling m.now count }
+    ensures { Found m.now call count result }
+{
+    match call {
+        LibCall::Controller(ControllerCall::Check) => check_of(m, count),
+        LibCall::Rt(RtCall::Check) => passing_check_of(m, count),
+        _ => unreachable!(),
+    }
+}
+
+/// Checks a permission, if it is there: null raises an exception, and what holds no permission has no step; neither asks anything.
+fn check_for<G: Guard>(
+    alloc: Global,
+    m: &mut Machine<'_, '_, G::Mark>,
+    guard: &mut G,
+    call: LibCall,
+    count: usize,
+    wanted: Check,
+) -> Result<Stepped, AllocError>
+    requires calling { Calling m.old count }
+    requires found { Found m.old call count (Some wanted) }
+    requires known { (f : Framed G.Mark) → m.old.guests.running.frames ≡ Some f → AsksKnown (G.kept guard.old) (G.entry guard.old) m.old (asked_of m.old f call count) }
+    ensures answered { IfOk result (λ done. (f : Framed G.Mark) → m.old.guests.running.frames ≡ Some f
+        → Answered (G.kept guard.old) (G.kept guard.new) (G.entry guard.old) (G.entry guard.new) (G.rules guard.old) m.old (asked_of m.old f call count)
+        (outcome_of m.old f call count) done m.new) }
+    ensures ready { IfOk result (GoesOn m.new) }
+    ensures fixed { OnOk result (StaysFixed m.old m.new) }
+    ensures rules { G.rules guard.new ≡ G.rules guard.old }
+    ensures keeps { Keeps (G.kept guard.old) (G.kept guard.new) }
+    ensures marks { Keeps (G.entry guard.old) (G.entry guard.new) }
+{
+    check_laws::<G::Mark>();
+    match asks_for::<G::Mark>(&m.heap, m.permissions.as_slice(), wanted.operand) {
+        Asked::Stuck => Ok(Stepped::Stuck),
+        Asked::Null => {
+            let done = check_null(alloc, m, count)?;
+            Ok(done)
+        }
+        Asked::Permission(one) => {
+            let asked = one.copy(alloc)?;
+            let verdict = ask(alloc, m, guard, wanted.whom, &asked)?;
+            let done = decide(alloc, m, asked, verdict, count)?;
+            Ok(done)
+        }
+    }
+}
+
+/// A call of AccessController's checkPermission, with so many operands: whether the thread that runs has the permission is asked, and the
+/// step is the machine's by any rules that answer so.
+pub fn call_check<G: Guard>(
+    alloc: Global,
+    m: &mut Machine<'_, '_, G::Mark>,
+    guard: &mut G,
+    call: LibCall,
+    count: usize,
+) -> Result<Stepped, AllocError>
+    requires check { IsCheck call }
+    requires calling { Calling m.old count }
+    requires known { (f : Framed G.Mark) → m.old.guests.running.frames ≡ Some f → AsksKnown (G.kept guard.old) (G.entry guard.old) m.old (asked_of m.old f call count) }
+    ensures answered { IfOk result (λ done. (f : Framed G.Mark) → m.old.guests.running.frames ≡ Some f
+        → Answered (G.kept guard.old) (G.kept guard.new) (G.entry guard.old) (G.entry guard.new) (G.rules guard.old) m.old (asked_of m.old f call count)
+        (outcome_of m.old f call count) done m.new) }
+    ensures ready { IfOk result (GoesOn m.new) }
+    ensures fixed { OnOk result (StaysFixed m.old m.new) }
+    ensures rules { G.rules guard.new ≡ G.rules guard.old }
+    ensures keeps { Keeps (G.kept guard.old) (G.kept guard.new) }
+    ensures marks { Keeps (G.entry guard.old) (G.entry guard.new) }
+{
+    check_laws::<G::Mark>();
+    match checked_by(m, call, count) {
+        None => Ok(Stepped::Stuck),
+        Some(one) => {
+            let done = check_for(alloc, m, guard, call, count, one)?;
+            Ok(done)
+        }
+    }
+}
+
+/// A call of AccessControlContext's checkPermission, with so many operands: whether what the context keeps has the permission is asked.
+pub fn call_kept_check<G: Guard>(
+    alloc: Global,
+    m: &mut Machine<'_, '_, G::Mark>,
+    guard: &mut G,
+    count: usize,
+) -> Result<Stepped, AllocError>
+    requires calling { Calling m.old count }
+    requires known { (f : Framed G.Mark) → m.old.guests.running.frames ≡ Some f
+        → AsksKnown (G.kept guard.old) (G.entry guard.old) m.old (asked_of m.old f calls.ContextCheck count) }
+    ensures answered { IfOk result (λ done. (f : Framed G.Mark) → m.old.guests.running.frames ≡ Some f
+        → Answered (G.kept guard.old) (G.kept guard.new) (G.entry guard.old) (G.entry guard.new) (G.rules guard.old) m.old (asked_of m.old f calls.ContextCheck count)
+        (outcome_of m.old f calls.ContextCheck count) done m.new) }
+    ensures ready { IfOk result (GoesOn m.new) }
+    ensures fixed { OnOk result (StaysFixed m.old m.new) }
+    ensures rules { G.rules guard.new ≡ G.rules guard.old }
+    ensures keeps { Keeps (G.kept guard.old) (G.kept guard.new) }
+    ensures marks { Keeps (G.entry guard.old) (G.entry guard.new) }
+{
+    check_laws::<G::Mark>();
+    match kept_check_of(m, count) {
+        None => Ok(Stepped::Stuck),
+        Some(one) => {
+            let done = check_for(alloc, m, guard, LibCall::ContextCheck, count, one)?;
+            Ok(done)
+        }
+    }
+}
