@@ -1,0 +1,20 @@
+use Rattle.jcontexts.specs.declared.wanting.Privileging.TheVariants as wants
+use Rattle.jcallcontext.proofs.Answered.{none_answered}
+use Rattle.jcallcontext.proofs.Found.{null_answered, wanted_as}
+use Rattle.jcallcontext.proofs.privileging.call_privileged.Goals as goal
+
+pub returns-in-Stuck-clause-answered : goal.returns-in-Stuck-clause-answered
+returns-in-Stuck-clause-answered g c =
+    let m = c.args.m.now in
+    none_answered _ _ _ _ _ m c.args.call c.args.count c.check_laws.ensures.nothing
+    (wanted_as m c.args.call c.args.count c.in_ok-found.found wants.Stuck c.in-Stuck.is c.in_ok-found.ensures)
+
+pub returns-in_ok-came-in-Null-clause-answered : goal.returns-in_ok-came-in-Null-clause-answered
+returns-in_ok-came-in-Null-clause-answered g c =
+    let m = c.args.m.now in
+    null_answered _ _ _ _ _ m c.fail_call.new.m c.args.call c.args.count c.in_ok-came-in-Null.came
+    (wanted_as m c.args.call c.args.count c.in_ok-found.found wants.Null c.in-Null.is c.in_ok-found.ensures) c.in_ok-came-in-Null.ensures.comes
+
+pub run_wanted-requires-clause-found : goal.run_wanted-requires-clause-found
+run_wanted-requires-clause-found g c =
+    wanted_as c.args.m.now c.args.call c.args.count c.in_ok-found.found (wants.Asks c.in-Asks.wanted) c.in-Asks.is c.in_ok-found.ensures

@@ -1,0 +1,55 @@
+-- What a call of the library that asks something of access control does in a machine by numbers: its row, and what the step comes to by it.
+use Rattle.std.specs.Prelude.{◌≡◌, ℕ, List, Option, Some, take}
+use Rattle.jops.specs.declared.value.Value.{Value}
+use Rattle.jlib.specs.declared.calls.LibCall.{LibCall}
+use Rattle.jmachine.specs.Acts.{Row, State}
+use Rattle.jmachine.specs.Asked.{Ask, asking_site}
+use Rattle.jmachine.specs.Doing.{run}
+use Rattle.jmachine.specs.Security.{Rules}
+use Rattle.jmachine.specs.Sites.{Site}
+use Rattle.jmachine.specs.Steps.{entries, own_fields, site}
+use Rattle.jrun.specs.declared.stepping.Stepped.{Stepped}
+use Rattle.jstate.specs.Framed.{Framed, all}
+use Rattle.jcalls.specs.Calling.{stepped}
+use Rattle.jcore.specs.declared.machine.Machine.{Machine}
+use Rattle.jcore.specs.Answering.{Answered, AsksKnown, asked_of, outcome_of}
+use Rattle.jcore.specs.Comings.{outcome_by}
+use Rattle.jcore.specs.Machines.{AreRules, state_of, store_of}
+
+-- ---- a call
+
+module _ {E : Type 0} (m : Machine E) (f : Framed E) where
+  -- where it stands
+  abbrev pub here : Site
+  here = asking_site m.side m.calls m.plan.now (state_of m) f.newest f.below
+
+  -- its row
+  abbrev pub row_of : LibCall → Rules ℕ E → List (Value ℕ) → Option (Row ℕ E)
+  row_of call r =
+      run r (site r m.calls m.plan.now (state_of m) f.newest f.below) (own_fields m.calls f.newest.method) (store_of m)
+      (entries r m.calls m.plan.now (state_of m) (all f)) m.guests.running.inherited call
+
+-- A call with so many operands asks this, if anything, and its row does this by any rules.
+pub record IsAsking {E : Type 0} (m : Machine E) (f : Framed E) (call : LibCall) (count : ℕ) (ask : Option (Ask ℕ)) (does : Rules ℕ E → Option (Row ℕ E)) : Type 0 where
+  pub asked : asked_of m f call count ≡ ask
+  pub row : (r : Rules ℕ E) → AreRules m r → row_of m f call r (take count f.newest.operands) ≡ does r
+
+-- ---- a step
+
+-- A step comes to this by rules that are like these, whose row does this with so many operands of the running thread's newest frame.
+abbrev pub ComesBy : {E : Type 0} → Machine E → (count : ℕ) → (like : Rules ℕ E → Type 0) → Option (Row ℕ E) → Stepped → Machine E → Type 0
+ComesBy {E} m count like does came n = (f : Framed E) → m.guests.running.frames ≡ Some f
+    → (over : State ℕ E) × ((r : Rules ℕ E) (row : List (Value ℕ) → Option (Row ℕ E)) → AreRules m r → like r → row (take count f.newest.operands) ≡ does
+    → stepped r m.calls m.plan.now (state_of m) f count row ≡ outcome_by over n came)
+
+-- ---- whoever is asked
+
+-- What the call asks was given by whoever is asked.
+abbrev pub CallKnown : {M K E : Type 0} → (ℕ → Option K) → (M → Option E) → Machine M → LibCall → (count : ℕ) → Type 0
+CallKnown {M} kept marks m call count = (f : Framed M) → m.guests.running.frames ≡ Some f → AsksKnown kept marks m (asked_of m f call count)
+
+-- The call was answered what it asks, and the step came to this by all rules that answer so.
+abbrev pub CallAnswered : {M K E : Type 0} → (old new : ℕ → Option K) (old_marks new_marks : M → Option E) → Rules K E → Machine M → LibCall → (count : ℕ)
+    → Stepped → Machine M → Type 0
+CallAnswered {M} old new old_marks new_marks rules m call count came n = (f : Framed M) → m.guests.running.frames ≡ Some f
+    → Answered old new old_marks new_marks rules m (asked_of m f call count) (outcome_of m f call count) came n

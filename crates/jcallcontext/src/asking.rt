@@ -1,0 +1,107 @@
+ghost use Rattle.std.specs.Prelude.{◌≡◌, IfOk, reverse};
+ghost use Rattle.std.specs.Option.{option_copied};
+ghost use Rattle.jmachine.specs.Asked.{Allowed, Entered, Enters, Kept, Snapshots, carried};
+ghost use Rattle.jguard.specs.Standing.{AnswersFor, IsKnownIn, Keeps};
+ghost use Rattle.jcore.specs.Machines.{state_of};
+ghost use Rattle.jcallcontext.specs.Finding.{privilege_of};
+
+use jbase::Seq;
+use jcontexts::{Entering, Wanted};
+use jcore::Machine;
+use jguard::{Guard, Marked, ask_enter, ask_privilege, ask_snapshot};
+use jperm::Permission;
+use std::alloc::{AllocError, Global};
+
+/// What the frames of the running thread carry, the oldest first.
+fn marks_carried<M: Copy>(alloc: Global, m: &Machine<'_, '_, M>) -> Result<Vec<M>, AllocError>
+    ensures { IfOk result (λ marks. reverse marks.items ≡ carried (state_of m.now)) }
+{
+    match &m.guests.running.frames {
+        Some(frames) => frames.marks(alloc),
+        None => Ok(Vec::new(alloc)),
+    }
+}
+
+/// The number of what getContext keeps in the running thread.
+pub(crate) fn ask_kept<G: Guard>(
+    alloc: Global,
+    m: &Machine<'_, '_, G::Mark>,
+    guard: &mut G,
+    ctx: Option<u64>,
+) -> Result<u64, AllocError>
+    requires known { IsKnownIn (G.kept guard.old) (G.entry guard.old) (state_of m.now) (Snapshots ctx) }
+    ensures answer { IfOk result (λ n. AnswersFor (G.kept guard.old) (G.kept guard.new) (G.entry guard.old) (G.entry guard.new) (G.rules guard.old)
+        (Snapshots ctx) (carried (state_of m.now)) m.now.guests.running.inherited (Kept n)) }
+    ensures rules { G.rules guard.new ≡ G.rules guard.old }
+    ensures keeps { Keeps (G.kept guard.old) (G.kept guard.new) }
+    ensures marks { Keeps (G.entry guard.old) (G.entry guard.new) }
+{
+    let marks = marks_carried(alloc, m)?;
+    let inherited = m.guests.running.inherited;
+    ask_snapshot(alloc, guard, ctx, marks.as_slice(), inherited)
+}
+
+/// The number of the context of a method of a domain that the running thread enters.
+pub(crate) fn ask_entered<G: Guard>(
+    alloc: Global,
+    m: &Machine<'_, '_, G::Mark>,
+    guard: &mut G,
+    one: Entering,
+) -> Result<u64, AllocError>
+    requires known { IsKnownIn (G.kept guard.old) (G.entry guard.old) (state_of m.now) (Enters one.ctx one.domain) }
+    ensures answer { IfOk result (λ n. AnswersFor (G.kept guard.old) (G.kept guard.new) (G.entry guard.old) (G.entry guard.new) (G.rules guard.old)
+        (Enters one.ctx one.domain) (carried (state_of m.now)) m.now.guests.running.inherited (Entered n)) }
+    ensures rules { G.rules guard.new ≡ G.rules guard.old }
+    ensures keeps { Keeps (G.kept guard.old) (G.kept guard.new) }
+    ensures marks { Keeps (G.entry guard.old) (G.entry guard.new) }
+{
+    let marks = marks_carried(alloc, m)?;
+    let inherited = m.guests.running.inherited;
+    ask_enter(
+        alloc,
+        guard,
+        one.ctx,
+        one.domain,
+        marks.as_slice(),
+        inherited,
+    )
+}
+
+/// Limits as a slice, where there are any.
+fn limits_of(limits: &Option<Seq<Permission>>) -> Option<&[Permission]>
+    ensures { option_copied result ≡ limits.now }
+{
+    match limits {
+        None => None,
+        Some(limits) => Some(limits.as_slice()),
+    }
+}
+
+/// What becomes of a privilege of the running thread's newest frame.
+pub(crate) fn ask_allowed<G: Guard>(
+    alloc: Global,
+    m: &Machine<'_, '_, G::Mark>,
+    guard: &mut G,
+    wanted: &Wanted,
+) -> Result<Marked<G::Mark>, AllocError>
+    requires known { IsKnownIn (G.kept guard.old) (G.entry guard.old) (state_of m.now) (privilege_of wanted.now) }
+    ensures answer { IfOk result (λ x. AnswersFor (G.kept guard.old) (G.kept guard.new) (G.entry guard.old) (G.entry guard.new) (G.rules guard.old)
+        (privilege_of wanted.now) (carried (state_of m.now)) m.now.guests.running.inherited (Allowed (record { caller = x.caller; context = x.ctx }))) }
+    ensures rules { G.rules guard.new ≡ G.rules guard.old }
+    ensures keeps { Keeps (G.kept guard.old) (G.kept guard.new) }
+    ensures marks { Keeps (G.entry guard.old) (G.entry guard.new) }
+{
+    let marks = marks_carried(alloc, m)?;
+    let inherited = m.guests.running.inherited;
+    let limits = limits_of(&wanted.limits);
+    ask_privilege(
+        alloc,
+        guard,
+        wanted.domain,
+        wanted.ctx,
+        wanted.given,
+        limits,
+        marks.as_slice(),
+        inherited,
+    )
+}
