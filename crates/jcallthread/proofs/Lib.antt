@@ -1,0 +1,3 @@
+pub mod Made
+pub mod Standing
+pub mod Turned

@@ -1,0 +1,50 @@
+ghost use Rattle.std.specs.Prelude.{◌≡◌, IfOk, OnOk, Some};
+ghost use Rattle.jlib.specs.declared.calls.LibCall.TheVariants as calls;
+ghost use Rattle.jguard.specs.Standing.{Keeps};
+ghost use Rattle.jstate.specs.Framed.{Framed};
+ghost use Rattle.jcore.specs.Answering.{Answered, AsksKnown, Calling, asked_of, outcome_of};
+ghost use Rattle.jcore.specs.Comings.{GoesOn};
+ghost use Rattle.jcore.specs.Machines.{StaysFixed};
+
+use crate::making::call_init;
+use crate::turning::call_turn;
+use jcore::Machine;
+use jguard::Guard;
+use jlib::ThreadCall;
+use jrun::Stepped;
+use jthreading::init_laws;
+use std::alloc::{AllocError, Global};
+
+/// A step of the running thread that stands at a call of Thread with so many operands. The constructor asks what the new thread inherits, and
+/// the step is the machine's by any rules that answer so; the others ask nothing.
+pub fn call_thread<G: Guard>(
+    alloc: Global,
+    m: &mut Machine<'_, '_, G::Mark>,
+    guard: &mut G,
+    call: ThreadCall,
+    count: usize,
+) -> Result<Stepped, AllocError>
+    requires calling { Calling m.old count }
+    requires known { (f : Framed G.Mark) → m.old.guests.running.frames ≡ Some f
+        → AsksKnown (G.kept guard.old) (G.entry guard.old) m.old (asked_of m.old f (calls.Thread call) count) }
+    ensures answered { IfOk result (λ done. (f : Framed G.Mark) → m.old.guests.running.frames ≡ Some f
+        → Answered (G.kept guard.old) (G.kept guard.new) (G.entry guard.old) (G.entry guard.new) (G.rules guard.old) m.old
+        (asked_of m.old f (calls.Thread call) count) (outcome_of m.old f (calls.Thread call) count) done m.new) }
+    ensures ready { IfOk result (GoesOn m.new) }
+    ensures fixed { OnOk result (StaysFixed m.old m.new) }
+    ensures rules { G.rules guard.new ≡ G.rules guard.old }
+    ensures keeps { Keeps (G.kept guard.old) (G.kept guard.new) }
+    ensures marks { Keeps (G.entry guard.old) (G.entry guard.new) }
+{
+    init_laws::<G::Mark>();
+    match call {
+        ThreadCall::Init(side) => {
+            let done = call_init(alloc, m, guard, side, count)?;
+            Ok(done)
+        }
+        _ => {
+            let done = call_turn(alloc, m, call, count)?;
+            Ok(done)
+        }
+    }
+}

@@ -1,0 +1,107 @@
+ghost use Rattle.std.specs.Prelude.{◌≡◌, IfOk, OnOk, Some, reverse};
+ghost use Rattle.jlib.specs.declared.calls.LibCall.TheVariants as calls;
+ghost use Rattle.jlib.specs.declared.calls.ThreadCall.TheVariants as threads;
+ghost use Rattle.jmachine.specs.Asked.{Inherits, Kept, carried};
+ghost use Rattle.jguard.specs.Standing.{AnswersFor, IsKnownIn, Keeps};
+ghost use Rattle.jstate.specs.Framed.{Framed};
+ghost use Rattle.jcore.specs.Answering.{Answered, AsksKnown, Calling, asked_of, outcome_of};
+ghost use Rattle.jcore.specs.Comings.{GoesOn};
+ghost use Rattle.jcore.specs.Machines.{StaysFixed, state_of};
+ghost use Rattle.jcallthread.specs.Threads.{IsGivenIn, MakesIn};
+
+use crate::turning::went;
+use jcore::Machine;
+use jguard::{Guard, ask_inherit};
+use jlib::Side;
+use jrun::Stepped;
+use jthreading::{Given, init_laws, make, named_by};
+use std::alloc::{AllocError, Global};
+
+/// What the frames of the running thread carry, the oldest first.
+fn marks_of<M: Copy>(alloc: Global, m: &Machine<'_, '_, M>) -> Result<Vec<M>, AllocError>
+    ensures { IfOk result (λ marks. reverse marks.items ≡ carried (state_of m.now)) }
+{
+    match &m.guests.running.frames {
+        Some(frames) => frames.marks(alloc),
+        None => Ok(Vec::new(alloc)),
+    }
+}
+
+/// Asks what a thread keeps that is made with a context.
+fn ask<G: Guard>(
+    alloc: Global,
+    m: &Machine<'_, '_, G::Mark>,
+    guard: &mut G,
+    context: Option<u64>,
+) -> Result<u64, AllocError>
+    requires known { IsKnownIn (G.kept guard.old) (G.entry guard.old) (state_of m.now) (Inherits context) }
+    ensures answer { IfOk result (λ n. AnswersFor (G.kept guard.old) (G.kept guard.new) (G.entry guard.old) (G.entry guard.new) (G.rules guard.old)
+        (Inherits context) (carried (state_of m.now)) m.now.guests.running.inherited (Kept n)) }
+    ensures rules { G.rules guard.new ≡ G.rules guard.old }
+    ensures keeps { Keeps (G.kept guard.old) (G.kept guard.new) }
+    ensures marks { Keeps (G.entry guard.old) (G.entry guard.new) }
+{
+    let marks = marks_of(alloc, m)?;
+    ask_inherit(
+        alloc,
+        guard,
+        context,
+        marks.as_slice(),
+        m.guests.running.inherited,
+    )
+}
+
+/// Makes a thread of what the constructor is given, which keeps this.
+fn make_thread<M: Copy>(
+    alloc: Global,
+    m: &mut Machine<'_, '_, M>,
+    side: Side,
+    given: Given,
+    kept: u64,
+    count: usize,
+) -> Result<(), AllocError>
+    requires calling { Calling m.old count }
+    requires given { IsGivenIn m.old side count given }
+    ensures made { OnOk result (MakesIn m.old kept count given m.new) }
+    ensures fixed { OnOk result (StaysFixed m.old m.new) }
+{
+    make(
+        alloc,
+        &mut m.guests,
+        &mut m.heap,
+        m.fixed.shapes,
+        given,
+        kept,
+        count,
+    )?;
+    Ok(())
+}
+
+/// A step of the running thread that stands at a call of Thread's constructor with so many operands.
+pub(crate) fn call_init<G: Guard>(
+    alloc: Global,
+    m: &mut Machine<'_, '_, G::Mark>,
+    guard: &mut G,
+    side: Side,
+    count: usize,
+) -> Result<Stepped, AllocError>
+    requires calling { Calling m.old count }
+    requires known { (f : Framed G.Mark) → m.old.guests.running.frames ≡ Some f
+        → AsksKnown (G.kept guard.old) (G.entry guard.old) m.old (asked_of m.old f (calls.Thread (threads.Init side)) count) }
+    ensures answered { IfOk result (λ done. (f : Framed G.Mark) → m.old.guests.running.frames ≡ Some f
+        → Answered (G.kept guard.old) (G.kept guard.new) (G.entry guard.old) (G.entry guard.new) (G.rules guard.old) m.old
+        (asked_of m.old f (calls.Thread (threads.Init side)) count) (outcome_of m.old f (calls.Thread (threads.Init side)) count) done m.new) }
+    ensures ready { IfOk result (GoesOn m.new) }
+    ensures fixed { OnOk result (StaysFixed m.old m.new) }
+    ensures rules { G.rules guard.new ≡ G.rules guard.old }
+    ensures keeps { Keeps (G.kept guard.old) (G.kept guard.new) }
+    ensures marks { Keeps (G.entry guard.old) (G.entry guard.new) }
+{
+    init_laws::<G::Mark>();
+    let Some(given) = named_by(&m.guests, &m.heap, side, count) else {
+        return Ok(Stepped::Stuck);
+    };
+    let kept = ask(alloc, m, guard, given.context)?;
+    make_thread(alloc, m, side, given, kept, count)?;
+    Ok(went(alloc))
+}
