@@ -1,0 +1,129 @@
+ghost use Rattle.std.specs.Prelude.{◌≡◌, IfOk, OnOk};
+ghost use Rattle.jguests.specs.Guested.{Lives};
+ghost use Rattle.jlink.specs.Links.{Links};
+ghost use Rattle.jcore.specs.Comings.{IsOwn, LeftStand};
+ghost use Rattle.jcore.specs.Machines.{IsMachine, IsReady, StaysFixed, counts_of};
+ghost use Rattle.jexecute.specs.Executing.{Ends, Executes, Finishes, HasFrames, HasRules, Moves, StaysMachine};
+
+use crate::advancing::advance;
+use jcalls::Counts;
+use jcore::{Machine, settle};
+use jguests::guest_laws;
+use jlib::LibCall;
+use jrun::Stepped;
+use jshapes::alike_laws;
+use jtold::told_law;
+use std::alloc::{AllocError, Global};
+
+/// What a step of the running thread came to.
+#[derive(Debug, Drop)]
+pub enum Executed {
+    /// It is done.
+    Done(Stepped),
+    /// The library is to run with so many operands, which are there. Nothing has changed.
+    Asks { call: LibCall, count: usize },
+}
+
+/// How many permissions and contexts a machine keeps.
+#[inline]
+fn kept_counts<M>(m: &Machine<'_, '_, M>) -> Counts
+    ensures { result ≡ counts_of m.now }
+{
+    Counts {
+        permissions: m.permissions.as_slice().len(),
+        contexts: m.kept.as_slice().len(),
+    }
+}
+
+/// Its program links.
+#[inline]
+fn linked<M>(m: &Machine<'_, '_, M>)
+    ensures { Links m.now.calls }
+{
+    let _ = m.calls.known().program().parts();
+}
+
+/// A step of the running thread's frames. What is left of it, behind them, is answered.
+#[inline]
+fn move_on<M: Copy>(alloc: Global, m: &mut Machine<'_, '_, M>) -> Result<jstep::Stepped, AllocError>
+    requires ready { IsReady m.old }
+    requires frames { HasFrames m.old }
+    ensures moves { IfOk result (λ came. Moves m.old came m.new) }
+    ensures fixed { OnOk result (StaysFixed m.old m.new) }
+{
+    guest_laws::<M>();
+    alike_laws::<M>();
+    linked(m);
+    let counts = kept_counts(m);
+    match &mut m.guests.running.frames {
+        Some(frames) => advance(
+            alloc,
+            frames,
+            &mut m.heap,
+            &mut m.constants,
+            &m.fixed,
+            &mut m.calls,
+            counts,
+        ),
+        None => unreachable!(),
+    }
+}
+
+/// Goes on behind a step that needn't ask the library.
+#[inline]
+fn end_step<M: Copy>(
+    alloc: Global,
+    m: &mut Machine<'_, '_, M>,
+    came: jstep::Stepped,
+) -> Result<Executed, AllocError>
+    requires own { IsOwn came }
+    requires machine { IsMachine m.old }
+    requires lives { Lives m.old.guests }
+    requires stand { LeftStand m.old came }
+    ensures done { IfOk result (λ done. Ends m.old came done m.new) }
+    ensures fixed { OnOk result (StaysFixed m.old m.new) }
+{
+    let done = settle(alloc, m, came)?;
+    Ok(Executed::Done(done))
+}
+
+/// Does what is left of a step behind the running thread's frames.
+#[inline]
+fn finish<M: Copy>(
+    alloc: Global,
+    m: &mut Machine<'_, '_, M>,
+    came: jstep::Stepped,
+) -> Result<Executed, AllocError>
+    requires machine { StaysMachine came m.old }
+    requires lives { Lives m.old.guests }
+    requires stand { LeftStand m.old came }
+    ensures done { IfOk result (λ done. Finishes m.old came done m.new) }
+    ensures fixed { OnOk result (StaysFixed m.old m.new) }
+{
+    match came {
+        jstep::Stepped::Went => end_step(alloc, m, came),
+        jstep::Stepped::Ended => end_step(alloc, m, came),
+        jstep::Stepped::Handled(_) => end_step(alloc, m, came),
+        jstep::Stepped::Uncaught(_) => end_step(alloc, m, came),
+        jstep::Stepped::Asks { call, count } => Ok(Executed::Asks { call, count }),
+        jstep::Stepped::Full => end_step(alloc, m, came),
+        jstep::Stepped::Stuck => Ok(Executed::Done(Stepped::Stuck)),
+    }
+}
+
+/// One step of the running thread, which has frames, but for what the library does: where the thread stands at a call of the library, that
+/// is left to the caller. After an error nothing is said of the machine.
+pub fn execute<M: Copy>(alloc: Global, m: &mut Machine<'_, '_, M>) -> Result<Executed, AllocError>
+    requires ready { IsReady m.old }
+    requires frames { HasFrames m.old }
+    requires rules { HasRules m.old }
+    ensures done { IfOk result (λ done. Executes m.old done m.new) }
+    ensures fixed { OnOk result (StaysFixed m.old m.new) }
+{
+    told_law();
+    guest_laws::<M>();
+    linked(m);
+    let came = move_on(alloc, m)?;
+    let done = finish(alloc, m, came)?;
+    Ok(done)
+}
