@@ -1,0 +1,109 @@
+-- A step by numbers, answered by a guard, comes to what the step by the guard's rules comes to.
+use Rattle.std.proofs.Common.{◌≡◌, ◌∙◌, ℕ, List, [], ◌∷◌, map, Option, Some, refl, sym, ap₂, subst}
+use Rattle.jlib.specs.declared.side.Side.{Side}
+use Rattle.jprogram.specs.declared.part.CodePart.{CodePart}
+use Rattle.jmachine.specs.Acts.{NoStep, Outcome, Over, State, Went}
+use Rattle.jmachine.specs.Asked.{Ask, answer_in, asks, carried}
+use Rattle.jmachine.specs.Maps.{outcome_map, state_map}
+use Rattle.jmachine.specs.Security.{Rules}
+use Rattle.jmachine.specs.Steps.{step}
+use Rattle.jcalls.specs.Marks.{marks_of}
+use Rattle.jguard.specs.Guarded.{AreMarked, GuardedStep, MarksStand, StepKnown}
+use Rattle.jguard.specs.Standing.{AnswersFor, Keeps, StandsFor}
+use Rattle.jrun.specs.Coming.{ComesTo, WhereWent}
+use Rattle.jrun.specs.declared.stepping.Stepped.{Stepped}
+use Rattle.jrun.specs.declared.stepping.Stepped.TheVariants as done
+use Rattle.jcore.specs.declared.machine.Machine.{Machine}
+use Rattle.jcore.specs.Answering.{Answered, AsksKnown}
+use Rattle.jcore.specs.Comings.{GoesOn, outcome_by}
+use Rattle.jcore.specs.Machines.{AreRules, StaysFixed, state_of}
+use Rattle.jwhole.specs.Engines.{IsEngine, asks_next, next_of}
+use Rattle.jwhole.proofs.Asking.{carry_then}
+
+-- ---- marks
+
+same_marks : {M : Type 0} (f g : ℕ → M) → ((d : ℕ) → f d ≡ g d) → (parts : List CodePart) → map (λ (part : CodePart). f part.domain) parts ≡ map (λ (part : CodePart). g part.domain) parts
+same_marks f g same [] = refl
+same_marks f g same (part ∷ parts) = ap₂ (λ m ms. m ∷ ms) (same part.domain) (same_marks f g same parts)
+
+-- rules whose frames carry these marks are the machine's
+pub rules_are : {M K E : Type 0} (mark : ℕ → M) (rules : Rules K E) (m : Machine M) (r : Rules ℕ M) → m.side ≡ rules.side → m.fixed.marks.now ≡ marks_of mark m.calls
+    → AreMarked mark rules r → AreRules m r
+rules_are mark rules m r side carry are = record {
+  marks = carry ∙ sym (same_marks r.entry_of mark are.marks m.calls.parts);
+  side = are.side ∙ sym side;
+}
+
+-- ---- outcomes
+
+-- what a step came to whose outcome stands for another
+arrives : {M K E : Type 0} (f : ℕ → Option K) (g : M → Option E) (over : State ℕ M) (n : Machine M) (came : Stepped) (x : Outcome (State K E))
+    → outcome_map (state_map f g) (outcome_by over n came) ≡ outcome_map (state_map Some Some) x → ComesTo (λ s. StandsFor f g (state_of n) s) x came
+arrives f g over n (done.Went events) (Went s told) e = (s, let d = e in cc, let d = e in cc)
+arrives f g over n (done.Went events) (Over s told end) e = absurd (let d = e in cc)
+arrives f g over n (done.Went events) NoStep e = absurd (let d = e in cc)
+arrives f g over n (done.Ended events end) (Went s told) e = absurd (let d = e in cc)
+arrives f g over n (done.Ended events end) (Over s told other) e = (s, let d = e in cc)
+arrives f g over n (done.Ended events end) NoStep e = absurd (let d = e in cc)
+arrives f g over n done.Stuck (Went s told) e = absurd (let d = e in cc)
+arrives f g over n done.Stuck (Over s told end) e = absurd (let d = e in cc)
+arrives f g over n done.Stuck NoStep e = refl
+
+-- the same of a step that was answered
+steps_so : {M K E : Type 0} (old new : ℕ → Option K) (old_marks new_marks : M → Option E) (mark : ℕ → M) (rules : Rules K E) (m n : Machine M) (came : Stepped)
+    → GuardedStep M K E → Keeps old new → Keeps old_marks new_marks → m.side ≡ rules.side → m.fixed.marks.now ≡ marks_of mark m.calls → MarksStand old_marks mark rules
+    → Answered old new old_marks new_marks rules m (asks_next m) (next_of m) came n
+    → (s : State K E) → StandsFor old old_marks (state_of m) s
+    → ComesTo (λ t. StandsFor new new_marks (state_of n) t) (step rules m.calls m.plan.now s) came
+steps_so {M} {K} {E} old new old_marks new_marks mark rules m n came law keeps keeps_marks side carry marks a s stands =
+    let p = m.calls in
+    let plan = m.plan.now in
+    arrives new new_marks a.comes.over n came (step rules p plan s)
+    (law old new old_marks new_marks keeps keeps_marks mark rules (λ d. keeps_marks (mark d) (rules.entry_of d) (marks d)) p plan (state_of m) s stands
+    a.given
+    (subst (λ (x : Side). (ask : Ask ℕ) → asks x p plan (state_of m) ≡ Some ask
+    → AnswersFor old new old_marks new_marks rules ask (carried (state_of m)) m.guests.running.inherited a.given) side a.answers)
+    (outcome_by a.comes.over n came)
+    (λ r are so. a.comes.comes r (rules_are mark rules m r side carry are)
+    (subst (λ (x : Side). (ask : Ask ℕ) → asks x p plan (state_of m) ≡ Some ask → answer_in r (state_of m) ask ≡ a.given) (sym side) so)))
+
+-- ---- an engine
+
+-- what its next step asks was given
+pub knows : {M K E : Type 0} (kept : ℕ → Option K) (entry : M → Option E) (mark : ℕ → M) (rules : Rules K E) (m : Machine M)
+    → StepKnown M K E → IsEngine kept entry mark rules m → AsksKnown kept entry m (asks_next m)
+knows kept entry mark rules m law e = law kept entry m.side m.calls m.plan.now (state_of m) e.stands.0 e.stands.1
+
+-- its step comes to what the step by the guard's rules comes to, whatever its numbers stand for,
+pub engine_steps : {M K E : Type 0} (old new : ℕ → Option K) (old_marks new_marks : M → Option E) (mark : ℕ → M) (rules : Rules K E) (m n : Machine M) (came : Stepped)
+    → GuardedStep M K E → Keeps old new → Keeps old_marks new_marks → IsEngine old old_marks mark rules m
+    → Answered old new old_marks new_marks rules m (asks_next m) (next_of m) came n
+    → (s : State K E) → StandsFor old old_marks (state_of m) s → ComesTo (λ t. StandsFor new new_marks (state_of n) t) (step rules m.calls m.plan.now s) came
+engine_steps old new old_marks new_marks mark rules m n came law keeps keeps_marks e a s stands =
+    steps_so old new old_marks new_marks mark rules m n came law keeps keeps_marks e.side e.carry e.marks a s stands
+
+-- and where it went on it is one again
+goes_again : {M K E : Type 0} (new : ℕ → Option K) (old_marks new_marks : M → Option E) (mark : ℕ → M) (rules : Rules K E) (m n : Machine M) (came : Stepped) (x : Outcome (State K E))
+    → Keeps old_marks new_marks → m.side ≡ rules.side → m.fixed.marks.now ≡ marks_of mark m.calls → MarksStand old_marks mark rules → StaysFixed m n → GoesOn n came
+    → ComesTo (λ t. StandsFor new new_marks (state_of n) t) x came → WhereWent (IsEngine new new_marks mark rules n) came
+goes_again new old_marks new_marks mark rules m n (done.Went events) x keeps side carry marks fixed ready came = record {
+  ready = ready;
+  side = fixed.side ∙ side;
+  carry = carry_then mark m n fixed carry;
+  marks = λ d. keeps (mark d) (rules.entry_of d) (marks d);
+  stands = (came.0, came.2);
+}
+goes_again new old_marks new_marks mark rules m n (done.Ended events end) x keeps side carry marks fixed ready came = tt
+goes_again new old_marks new_marks mark rules m n done.Stuck x keeps side carry marks fixed ready came = tt
+
+pub engine_again : {M K E : Type 0} (old new : ℕ → Option K) (old_marks new_marks : M → Option E) (mark : ℕ → M) (rules : Rules K E) (m n : Machine M) (came : Stepped)
+    → GuardedStep M K E → Keeps old new → Keeps old_marks new_marks → IsEngine old old_marks mark rules m
+    → Answered old new old_marks new_marks rules m (asks_next m) (next_of m) came n → StaysFixed m n → GoesOn n came
+    → WhereWent (IsEngine new new_marks mark rules n) came
+engine_again old new old_marks new_marks mark rules m n came law keeps keeps_marks e a fixed ready =
+    goes_again new old_marks new_marks mark rules m n came _ keeps_marks e.side e.carry e.marks fixed ready
+    (engine_steps old new old_marks new_marks mark rules m n came law keeps keeps_marks e a e.stands.0 e.stands.1)
+
+-- its rules, its program and its plan stay
+pub same_steps : {M K E : Type 0} (rules after : Rules K E) (m n : Machine M) → after ≡ rules → StaysFixed m n → step after n.calls n.plan.now ≡ step rules m.calls m.plan.now
+same_steps rules after m n same fixed = rw (same, fixed.calls, fixed.plan) refl

@@ -1,0 +1,96 @@
+-- How the run of an engine begins, and where a step leaves it.
+use Rattle.std.proofs.Common.{◌≡◌, ℕ, Bool, false, Option, Some, None, refl, sym, ap, subst, rules}
+use Rattle.std.specs.Prelude.{nat_le, if◌then◌else◌}
+use Rattle.jtrace.specs.declared.event.End.TheVariants as ends
+use Rattle.jprogram.specs.Classes.{Program}
+use Rattle.jmachine.specs.declared.plan.Plan.{Plan}
+use Rattle.jmachine.specs.Acts.{Outcome, State}
+use Rattle.jmachine.specs.Machine.{opening}
+use Rattle.jmachine.specs.Opening.{opening_charge, opening_state}
+use Rattle.jmachine.specs.Security.{Rules}
+use Rattle.jmachine.specs.Steps.{step}
+use Rattle.jguard.specs.Standing.{StandsFor}
+use Rattle.jrun.specs.Coming.{ComesTo, WhereWent}
+use Rattle.jrun.specs.declared.stepping.Stepped.{Stepped}
+use Rattle.jrun.specs.declared.stepping.Stepped.TheVariants as done
+use Rattle.jcore.specs.declared.machine.Machine.{Machine}
+use Rattle.jcore.specs.Machines.{state_of}
+use Rattle.jwhole.specs.declared.engine.Course.{Course}
+use Rattle.jwhole.specs.declared.engine.Course.TheVariants as course
+use Rattle.jwhole.specs.Courses.{Holds, Runs, Stands, course_of, end_in, end_of, is_lost, left_by, steps}
+use Rattle.jwhole.specs.Grounds.{StartsOr}
+
+-- ---- the beginning
+
+module _ {M K E : Type 0} (kept : ℕ → Option K) (entry : M → Option E) (mark : ℕ → M) (rules_by : Rules K E) (p : Program) (plan : Plan) where
+  pub holds_first : (o : Option (Machine M)) → StartsOr kept entry mark rules_by p plan o → Holds kept entry mark rules_by (course_of o)
+  holds_first None few = tt
+  holds_first (Some m) starts = starts.engine
+
+  pub stands_first : (o : Option (Machine M)) → StartsOr kept entry mark rules_by p plan o → end_of (course_of o) ≡ None
+      → Stands kept entry (course_of o) (opening_state rules_by p plan.main plan.heap)
+  stands_first None few goes = absurd (let a = goes in cc)
+  stands_first (Some m) starts goes = starts.begins.state
+
+  pub steps_first : (o : Option (Machine M)) → StartsOr kept entry mark rules_by p plan o → end_of (course_of o) ≡ None
+      → steps rules_by (course_of o) ≡ step rules_by p plan
+  steps_first None few goes = absurd (let a = goes in cc)
+  steps_first (Some m) starts goes = starts.steps
+
+  pub ended_first : (o : Option (Machine M)) → StartsOr kept entry mark rules_by p plan o → end_of (course_of o) ≡ (opening rules_by p plan).end
+  ended_first None few =
+      let short : nat_le (opening_charge p) plan.heap ≡ false = search rules in
+      sym (ap (λ (b : Bool). if b then None else Some ends.HeapFull) short)
+  ended_first (Some m) starts = sym starts.begins.end
+
+pub found_first : {M : Type 0} (o : Option (Machine M)) → is_lost (course_of o) ≡ false
+found_first None = refl
+found_first (Some m) = refl
+
+-- ---- a step
+
+pub comes_left : {M K E : Type 0} (kept : ℕ → Option K) (entry : M → Option E) (c : Course M) (o : Outcome (State K E)) (came : Stepped)
+    → ComesTo (λ t. Stands kept entry c t) o came → ComesTo (λ t. Stands kept entry (left_by c came) t) o came
+comes_left kept entry c o (done.Went events) comes = comes
+comes_left kept entry c o (done.Ended events end) comes = comes
+comes_left kept entry c o done.Stuck comes = comes
+
+pub holds_left : {M K E : Type 0} (kept : ℕ → Option K) (entry : M → Option E) (mark : ℕ → M) (rules_by : Rules K E) (c : Course M) (came : Stepped)
+    → WhereWent (Holds kept entry mark rules_by c) came → Holds kept entry mark rules_by (left_by c came)
+holds_left kept entry mark rules_by c (done.Went events) holds = holds
+holds_left kept entry mark rules_by c (done.Ended events end) holds = tt
+holds_left kept entry mark rules_by c done.Stuck holds = tt
+
+pub same_left : {M K E : Type 0} (rules_by : Rules K E) (c : Course M) (came : Stepped) (before : State K E → Outcome (State K E))
+    → steps rules_by c ≡ before → WhereWent (steps rules_by (left_by c came) ≡ before) came
+same_left rules_by c (done.Went events) before same = same
+same_left rules_by c (done.Ended events end) before same = tt
+same_left rules_by c done.Stuck before same = tt
+
+goes_on : {M : Type 0} (c : Course M) → Runs c → end_of c ≡ None
+goes_on (course.Runs m) runs = refl
+goes_on (course.Ended end) runs = absurd runs
+goes_on course.Lost runs = absurd runs
+
+is_found : {M : Type 0} (c : Course M) → Runs c → is_lost c ≡ false
+is_found (course.Runs m) runs = refl
+is_found (course.Ended end) runs = absurd runs
+is_found course.Lost runs = absurd runs
+
+pub ended_left : {M : Type 0} (c : Course M) (came : Stepped) → Runs c → end_of (left_by c came) ≡ end_in came
+ended_left c (done.Went events) runs = goes_on c runs
+ended_left c (done.Ended events end) runs = refl
+ended_left c done.Stuck runs = refl
+
+pub found_left : {M : Type 0} (c : Course M) (came : Stepped) → Runs c → is_lost (left_by c came) ≡ false
+found_left c (done.Went events) runs = is_found c runs
+found_left c (done.Ended events end) runs = refl
+found_left c done.Stuck runs = refl
+
+-- the step of one that goes on is its machine's
+pub comes_on : {M K E : Type 0} (kept later : ℕ → Option K) (entry afterwards : M → Option E) (rules_by : Rules K E) (c : Course M) (m n : Machine M) (came : Stepped)
+    → c ≡ course.Runs m
+    → ((s : State K E) → StandsFor kept entry (state_of m) s → ComesTo (λ t. StandsFor later afterwards (state_of n) t) (step rules_by m.calls m.plan.now s) came)
+    → (s : State K E) → Stands kept entry c s → ComesTo (λ t. Stands later afterwards (course.Runs n) t) (steps rules_by c s) came
+comes_on {M} kept later entry afterwards rules_by c m n came is comes s =
+    subst (λ (x : Course M). Stands kept entry x s → ComesTo (λ t. Stands later afterwards (course.Runs n) t) (steps rules_by x s) came) (sym is) (comes s)

@@ -1,0 +1,41 @@
+use Rattle.jwhole.proofs.Coursing.{ended_first, found_first, holds_first, stands_first, steps_first}
+use Rattle.jwhole.proofs.engine.Engine+G+Mark+G.open.Goals as goal
+
+pub returns-clause-stands : goal.returns-clause-stands
+returns-clause-stands g c =
+    let kept = g.G.Guard.kept c.start.new.guard in
+    let entry = g.G.Guard.entry c.start.new.guard in
+    let rules = g.G.Guard.rules c.args.guard in
+    let p = c.args.program.now in
+    let plan = c.args.plan.now in
+    rw c.course_of.ensures (stands_first kept entry g.G.Guard.mark rules p plan c.in_ok-begun.begun c.in_ok-begun.ensures.starts)
+
+pub returns-clause-steps : goal.returns-clause-steps
+returns-clause-steps g c =
+    let kept = g.G.Guard.kept c.start.new.guard in
+    let entry = g.G.Guard.entry c.start.new.guard in
+    let rules = g.G.Guard.rules c.args.guard in
+    let p = c.args.program.now in
+    let plan = c.args.plan.now in
+    rw (c.course_of.ensures, c.start.ensures.rules) (steps_first kept entry g.G.Guard.mark rules p plan c.in_ok-begun.begun c.in_ok-begun.ensures.starts)
+
+pub returns-clause-ended : goal.returns-clause-ended
+returns-clause-ended g c =
+    let kept = g.G.Guard.kept c.start.new.guard in
+    let entry = g.G.Guard.entry c.start.new.guard in
+    let rules = g.G.Guard.rules c.args.guard in
+    let p = c.args.program.now in
+    let plan = c.args.plan.now in
+    rw c.course_of.ensures (ended_first kept entry g.G.Guard.mark rules p plan c.in_ok-begun.begun c.in_ok-begun.ensures.starts)
+
+pub returns-clause-found : goal.returns-clause-found
+returns-clause-found g c = rw c.course_of.ensures (found_first c.in_ok-begun.begun)
+
+pub returns-clause-holds : goal.returns-clause-holds
+returns-clause-holds g c =
+    let kept = g.G.Guard.kept c.start.new.guard in
+    let entry = g.G.Guard.entry c.start.new.guard in
+    let rules = g.G.Guard.rules c.args.guard in
+    let p = c.args.program.now in
+    let plan = c.args.plan.now in
+    rw (c.course_of.ensures, c.start.ensures.rules) (holds_first kept entry g.G.Guard.mark rules p plan c.in_ok-begun.begun c.in_ok-begun.ensures.starts)

@@ -1,0 +1,27 @@
+use Rattle.jwhole.proofs.Coursing.{comes_left, ended_left, found_left, holds_left, same_left}
+use Rattle.jwhole.proofs.engine.Engine+G+Mark+G.step.Goals as goal
+
+pub returns-in-Ok-clause-comes : goal.returns-in-Ok-clause-comes
+returns-in-Ok-clause-comes g c s stands =
+    let comes = rw c.in-Ok.is at c.go_on-gone.ensures.comes in
+    rw c.leave.ensures (comes_left _ _ c.go_on-gone.new.course _ c.in-Ok.came (comes s stands))
+
+pub returns-in-Ok-clause-same : goal.returns-in-Ok-clause-same
+returns-in-Ok-clause-same g c =
+    let same = rw c.in-Ok.is at c.go_on-gone.ensures.same in
+    rw c.leave.ensures (same_left _ c.go_on-gone.new.course c.in-Ok.came _ same)
+
+pub returns-in-Ok-clause-ended : goal.returns-in-Ok-clause-ended
+returns-in-Ok-clause-ended g c =
+    let runs = rw c.in-Ok.is at c.go_on-gone.ensures.runs in
+    rw c.leave.ensures (ended_left c.go_on-gone.new.course c.in-Ok.came runs)
+
+pub returns-in-Ok-clause-found : goal.returns-in-Ok-clause-found
+returns-in-Ok-clause-found g c =
+    let runs = rw c.in-Ok.is at c.go_on-gone.ensures.runs in
+    rw c.leave.ensures (found_left c.go_on-gone.new.course c.in-Ok.came runs)
+
+pub returns-in-Ok-clause-holds : goal.returns-in-Ok-clause-holds
+returns-in-Ok-clause-holds g c =
+    let holds = rw c.in-Ok.is at c.go_on-gone.ensures.holds in
+    rw c.leave.ensures (holds_left _ _ g.G.Guard.mark _ c.go_on-gone.new.course c.in-Ok.came holds)

@@ -1,0 +1,70 @@
+-- Where the run of an engine is, by what its guard's numbers and marks stand for.
+use Rattle.std.specs.Prelude.{⊤, ℕ, Bool, true, false, Option, Some, None}
+use Rattle.jtrace.specs.declared.event.End.{End}
+use Rattle.jtrace.specs.declared.event.End.TheVariants as ends
+use Rattle.jmachine.specs.Acts.{NoStep, Outcome, State}
+use Rattle.jmachine.specs.Security.{Rules}
+use Rattle.jmachine.specs.Steps.{step}
+use Rattle.jguard.specs.Standing.{StandsFor}
+use Rattle.jrun.specs.declared.stepping.Stepped.{Stepped}
+use Rattle.jrun.specs.declared.stepping.Stepped.TheVariants as done
+use Rattle.jcore.specs.declared.machine.Machine.{Machine}
+use Rattle.jcore.specs.Machines.{state_of}
+use Rattle.jwhole.specs.declared.engine.Course.{Course}
+use Rattle.jwhole.specs.declared.engine.Course.TheVariants as course
+use Rattle.jwhole.specs.Engines.{IsEngine}
+
+-- the end of a run, if it has ended
+abbrev pub end_of : {M : Type 0} → Course M → Option End
+end_of (course.Runs m) = None
+end_of (course.Ended end) = Some end
+end_of course.Lost = None
+
+-- whether a step found no memory
+abbrev pub is_lost : {M : Type 0} → Course M → Bool
+is_lost (course.Runs m) = false
+is_lost (course.Ended end) = false
+is_lost course.Lost = true
+
+-- a run that goes on
+abbrev pub Runs : {M : Type 0} → Course M → Type 0
+Runs (course.Runs m) = ⊤
+Runs (course.Ended end) = ⊥
+Runs course.Lost = ⊥
+
+-- the states for which it stands
+abbrev pub Stands : {M K E : Type 0} → (ℕ → Option K) → (M → Option E) → Course M → State K E → Type 0
+Stands kept entry (course.Runs m) s = StandsFor kept entry (state_of m) s
+Stands kept entry (course.Ended end) s = ⊥
+Stands kept entry course.Lost s = ⊥
+
+-- what a step of it comes to
+abbrev pub steps : {M K E : Type 0} → Rules K E → Course M → State K E → Outcome (State K E)
+steps rules (course.Runs m) = step rules m.calls m.plan.now
+steps rules (course.Ended end) = λ s. NoStep
+steps rules course.Lost = λ s. NoStep
+
+-- What holds of it between steps: where it goes on, the machine and its guard are such as can be run.
+abbrev pub Holds : {M K E : Type 0} → (ℕ → Option K) → (M → Option E) → (ℕ → M) → Rules K E → Course M → Type 0
+Holds kept entry mark rules (course.Runs m) = IsEngine kept entry mark rules m
+Holds kept entry mark rules (course.Ended end) = ⊤
+Holds kept entry mark rules course.Lost = ⊤
+
+-- ---- how it begins and goes on
+
+-- where there is no machine, the heap had too few cells
+abbrev pub course_of : {M : Type 0} → Option (Machine M) → Course M
+course_of None = course.Ended ends.HeapFull
+course_of (Some m) = course.Runs m
+
+-- the end that a step was, if it was one
+abbrev pub end_in : Stepped → Option End
+end_in (done.Went events) = None
+end_in (done.Ended events end) = Some end
+end_in done.Stuck = Some ends.Stuck
+
+-- where it leaves a run
+abbrev pub left_by : {M : Type 0} → Course M → Stepped → Course M
+left_by c (done.Went events) = c
+left_by c (done.Ended events end) = course.Ended end
+left_by c done.Stuck = course.Ended ends.Stuck

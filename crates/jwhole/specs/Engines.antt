@@ -1,0 +1,29 @@
+-- An engine: a machine by numbers, and a guard whose numbers stand for what is kept.
+use Rattle.std.specs.Prelude.{◌≡◌, ℕ, Option}
+use Rattle.jmachine.specs.Acts.{Outcome, State}
+use Rattle.jmachine.specs.Asked.{Ask, asks}
+use Rattle.jmachine.specs.Security.{Rules}
+use Rattle.jmachine.specs.Steps.{step}
+use Rattle.jcalls.specs.Marks.{marks_of}
+use Rattle.jguard.specs.Guarded.{MarksStand}
+use Rattle.jguard.specs.Standing.{StandsFor}
+use Rattle.jcore.specs.declared.machine.Machine.{Machine}
+use Rattle.jcore.specs.Machines.{IsReady, state_of}
+
+-- What holds between steps, by what numbers and marks stand for.
+pub record IsEngine {M K E : Type 0} (kept : ℕ → Option K) (entry : M → Option E) (mark : ℕ → M) (rules : Rules K E) (m : Machine M) : Type 0 where
+  pub ready : IsReady m
+  pub side : m.side ≡ rules.side
+  -- frames of the methods of each class carry the mark of its domain
+  pub carry : m.fixed.marks.now ≡ marks_of mark m.calls
+  pub marks : MarksStand entry mark rules
+  -- there is a state for which its own stands
+  pub stands : (s : State K E) × StandsFor kept entry (state_of m) s
+
+-- what its next step asks
+abbrev pub asks_next : {M : Type 0} → Machine M → Option (Ask ℕ)
+asks_next m = asks m.side m.calls m.plan.now (state_of m)
+
+-- what that comes to
+abbrev pub next_of : {M : Type 0} → Machine M → Rules ℕ M → Outcome (State ℕ M)
+next_of m r = step r m.calls m.plan.now (state_of m)

@@ -1,0 +1,81 @@
+ghost use Rattle.std.specs.Prelude.{◌≡◌, ◌<◌, ◌^◌, ℕ, IfOk, is_some, true};
+ghost use Rattle.juses.specs.Instructions.{code_at};
+ghost use Rattle.jprogram.specs.Classes.{Program};
+ghost use Rattle.jlink.specs.Coded.{AreFiles};
+ghost use Rattle.jshapes.specs.Tied.{AreTied};
+ghost use Rattle.jstep.specs.Stepping.{IsFixed};
+ghost use Rattle.jwhole.specs.Grounds.{BegunOr, IsGround};
+
+use crate::grounds::Ground;
+use jbase::Seq;
+use jcore::Machine;
+use jguests::Guests;
+use jinvoke::Calls;
+use jlib::Side;
+use jlink::LinkedProgram;
+use jmachine::Plan;
+use jopen::{FirstFrame, open};
+use jstep::Fixed;
+use std::alloc::{AllocError, Global};
+
+/// What stands as long as a program runs, lent to its machine.
+fn fixed_by<'a, 'p, M>(base: &'a Ground<'p, M>, depth: u32) -> Fixed<'a, 'p, M>
+    ensures fixed { (p : Program) (mark : ℕ → M) → IsGround p mark base.now → IsFixed p result }
+    ensures tied { (p : Program) (mark : ℕ → M) → IsGround p mark base.now → AreTied p result.tables.now result.shapes.now }
+    ensures shapes { result.shapes.now ≡ base.now.shaped.shapes }
+    ensures marks { result.marks.now ≡ base.now.marks }
+    ensures depth { result.depth ≡ depth }
+{
+    Fixed {
+        ready: &base.ready,
+        tables: base.ready.tables(),
+        shapes: &base.shaped.shapes,
+        numbers: base.shaped.numbers,
+        ancestors: &base.ancestors,
+        marks: base.marks.as_slice(),
+        depth,
+    }
+}
+
+/// Each part of a program is a class file: it was read as one.
+fn are_files(p: &LinkedProgram)
+    ensures { AreFiles p.now }
+{
+    for part in p.parts() {
+        let _parts = part.class.parts();
+    }
+}
+
+/// The machine at the beginning of a run, none exactly where the heap has too few cells for what is made then.
+pub(crate) fn begin<'a, 'p, M: Copy>(
+    alloc: Global,
+    base: &'a Ground<'p, M>,
+    program: &'p LinkedProgram,
+    plan: &'a Plan,
+    side: Side,
+    first: FirstFrame<M>,
+) -> Result<Option<Machine<'a, 'p, M>>, AllocError>
+    requires base { (mark : ℕ → M) × IsGround program.now mark base.now }
+    requires main { first.main ≡ plan.now.main }
+    requires most { plan.now.heap < 2 ^ 31 }
+    requires coded { is_some (code_at program.now plan.now.main) ≡ true }
+    ensures { IfOk result (BegunOr program.now plan.now side base.now.marks first) }
+{
+    let Some(opened) = open(alloc, &base.ready, &base.shaped, first, plan.heap)? else {
+        return Ok(None);
+    };
+    are_files(program);
+    let calls = Calls::of(alloc, program)?;
+    let guests = Guests::open(alloc, opened.frames)?;
+    Ok(Some(Machine {
+        fixed: fixed_by(base, plan.depth),
+        plan,
+        side,
+        guests,
+        heap: opened.heap,
+        constants: opened.constants,
+        permissions: Seq::new(alloc),
+        kept: Seq::new(alloc),
+        calls,
+    }))
+}

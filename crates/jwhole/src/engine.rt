@@ -1,0 +1,166 @@
+ghost use Rattle.std.specs.Prelude.{◌≡◌, None, IfOk, OnErr, OnOk, false, is_err, is_some, true};
+ghost use Rattle.juses.specs.Instructions.{code_at};
+ghost use Rattle.jmachine.specs.Acts.{State};
+ghost use Rattle.jmachine.specs.Machine.{opening};
+ghost use Rattle.jmachine.specs.Opening.{opening_state};
+ghost use Rattle.jmachine.specs.Steps.{step as steps_by};
+ghost use Rattle.jrun.specs.Coming.{ComesTo, WhereWent};
+ghost use Rattle.jwhole.specs.Courses;
+ghost use Rattle.jwhole.specs.Courses.{Holds, Runs, Stands, end_in, end_of, is_lost, left_by, steps};
+ghost use Rattle.jwhole.specs.Grounds.{IsGround};
+
+use crate::grounds::Ground;
+use crate::moving::move_on;
+use crate::running::start;
+use jcore::Machine;
+use jguard::Guard;
+use jlink::LinkedProgram;
+use jmachine::Plan;
+use jrun::Stepped;
+use jtrace::End;
+use std::alloc::{AllocError, Global};
+
+/// Where the run of an engine is.
+#[derive(Drop)]
+enum Course<'a, 'p, M> {
+    /// It goes on.
+    Runs { machine: Machine<'a, 'p, M> },
+    /// It has ended.
+    Ended { end: End },
+    /// A step found no memory.
+    Lost,
+}
+
+/// The run of a program, step by step, by the rules of a guard that answers what its steps ask (class documentation of AccessController). `M` is
+/// what a frame carries. Contracts see the states that its numbers and marks stand for, by what its guard gave.
+#[derive(Drop)]
+pub struct Engine<'a, 'p, M, G> {
+    guard: G,
+    course: Course<'a, 'p, M>,
+}
+
+/// A course begins with a machine; where there is none, the heap had too few cells.
+fn course_of<'a, 'p, M>(begun: Option<Machine<'a, 'p, M>>) -> Course<'a, 'p, M>
+    ensures { result ≡ Courses.course_of begun.entry }
+{
+    match begun {
+        None => Course::Ended { end: End::HeapFull },
+        Some(machine) => Course::Runs { machine },
+    }
+}
+
+/// One step of a course. After an error nothing is said of it.
+fn go_on<G: Guard>(
+    alloc: Global,
+    course: &mut Course<'_, '_, G::Mark>,
+    guard: &mut G,
+) -> Result<Stepped, AllocError>
+    requires holds { Holds (G.kept guard.old) (G.entry guard.old) G.mark (G.rules guard.old) course.old }
+    requires goes { end_of course.old ≡ None }
+    ensures comes { IfOk result (λ came. (s : State G.Kept G.Entry) → Stands (G.kept guard.old) (G.entry guard.old) course.old s
+        → ComesTo (λ t. Stands (G.kept guard.new) (G.entry guard.new) course.new t) (steps (G.rules guard.old) course.old s) came) }
+    ensures holds { IfOk result (WhereWent (Holds (G.kept guard.new) (G.entry guard.new) G.mark (G.rules guard.new) course.new)) }
+    ensures same { OnOk result (steps (G.rules guard.new) course.new ≡ steps (G.rules guard.old) course.old) }
+    ensures runs { OnOk result (Runs course.new) }
+    ensures again { is_lost course.old ≡ true → is_err result ≡ true }
+    ensures rules { G.rules guard.new ≡ G.rules guard.old }
+{
+    match course {
+        Course::Runs { machine } => {
+            let came = move_on(alloc, machine, guard)?;
+            Ok(came)
+        }
+        Course::Ended { .. } => unreachable!(),
+        Course::Lost => Err(AllocError),
+    }
+}
+
+/// Where a step leaves a course: one that ended the run, and a state without a step, are its end.
+fn leave<M: Copy>(course: &mut Course<'_, '_, M>, came: &Stepped)
+    ensures { course.new ≡ left_by course.old came.now }
+{
+    match came {
+        Stepped::Went { .. } => {}
+        Stepped::Ended { end, .. } => *course = Course::Ended { end: *end },
+        Stepped::Stuck => *course = Course::Ended { end: End::Stuck },
+    }
+}
+
+impl<'a, 'p, G: Guard + Drop> Engine<'a, 'p, G::Mark, G> {
+    /// The engine that stands at the beginning of a run of a program that links, by a guard's rules. The method with which the run begins has code.
+    /// Where the heap has too few cells for what is made then (`System.out`, the strings of ConstantValue attributes and the array that `main` is
+    /// given: JVMS 4.7.2, 5.2), the run has ended as `HeapFull`. A plan of 2,147,483,648 cells or more finds no memory, and want of memory may
+    /// come at any time.
+    pub fn open(
+        alloc: Global,
+        base: &'a Ground<'p, G::Mark>,
+        program: &'p LinkedProgram,
+        plan: &'a Plan,
+        guard: G,
+    ) -> Result<Engine<'a, 'p, G::Mark, G>, AllocError>
+        requires base { IsGround program.now G.mark base.now }
+        requires coded { is_some (code_at program.now plan.now.main) ≡ true }
+        ensures stands { IfOk result (λ e. end_of e.course ≡ None
+            → Stands (G.kept e.guard) (G.entry e.guard) e.course (opening_state (G.rules guard) program.now plan.now.main plan.now.heap)) }
+        ensures steps { IfOk result (λ e. end_of e.course ≡ None → steps (G.rules e.guard) e.course ≡ steps_by (G.rules guard) program.now plan.now) }
+        ensures ended { IfOk result (λ e. end_of e.course ≡ (opening (G.rules guard) program.now plan.now).end) }
+        ensures found { IfOk result (λ e. is_lost e.course ≡ false) }
+        ensures holds { IfOk result (λ e. Holds (G.kept e.guard) (G.entry e.guard) G.mark (G.rules e.guard) e.course) }
+        ensures rules { IfOk result (λ e. G.rules e.guard ≡ G.rules guard) }
+    {
+        let mut guard = guard;
+        if plan.heap >= 0x8000_0000 {
+            return Err(AllocError);
+        }
+        let begun = start(alloc, base, program, plan, &mut guard)?;
+        Ok(Engine {
+            guard,
+            course: course_of(begun),
+        })
+    }
+
+    /// One step of a run that has not ended. What it tells is answered; where it ends the run, that is its end, and so is a state without a
+    /// step. Where it found no memory, each later step finds none.
+    pub fn step(&mut self, alloc: Global) -> Result<Stepped, AllocError>
+        requires holds { Holds (G.kept self.old.guard) (G.entry self.old.guard) G.mark (G.rules self.old.guard) self.old.course }
+        requires goes { end_of self.old.course ≡ None }
+        ensures comes { IfOk result (λ came. (s : State G.Kept G.Entry) → Stands (G.kept self.old.guard) (G.entry self.old.guard) self.old.course s
+            → ComesTo (λ t. Stands (G.kept self.new.guard) (G.entry self.new.guard) self.new.course t) (steps (G.rules self.old.guard) self.old.course s) came) }
+        ensures same { IfOk result (WhereWent (steps (G.rules self.new.guard) self.new.course ≡ steps (G.rules self.old.guard) self.old.course)) }
+        ensures ended { IfOk result (λ came. end_of self.new.course ≡ end_in came) }
+        ensures found { OnOk result (is_lost self.new.course ≡ false) }
+        ensures lost { OnErr result (is_lost self.new.course ≡ true) }
+        ensures again { is_lost self.old.course ≡ true → is_err result ≡ true }
+        ensures holds { Holds (G.kept self.new.guard) (G.entry self.new.guard) G.mark (G.rules self.new.guard) self.new.course }
+        ensures rules { G.rules self.new.guard ≡ G.rules self.old.guard }
+    {
+        let gone = go_on(alloc, &mut self.course, &mut self.guard);
+        match gone {
+            Ok(came) => {
+                leave(&mut self.course, &came);
+                Ok(came)
+            }
+            Err(fault) => {
+                self.course = Course::Lost;
+                Err(fault)
+            }
+        }
+    }
+
+    /// The guard as it stands.
+    pub fn guard(&self) -> &G
+        ensures { result.now ≡ self.now.guard }
+    {
+        &self.guard
+    }
+
+    /// The end of the run, if it has ended.
+    pub fn ended(&self) -> Option<End>
+        ensures { result ≡ end_of self.now.course }
+    {
+        match self.course {
+            Course::Ended { end } => Some(end),
+            _ => None,
+        }
+    }
+}

@@ -1,0 +1,60 @@
+ghost use Rattle.std.specs.Prelude.{◌≡◌, IfOk, OnOk};
+ghost use Rattle.jmachine.specs.Acts.{State as StateOf};
+ghost use Rattle.jmachine.specs.Steps.{step as steps_by};
+ghost use Rattle.jguard.specs.Standing.{StandsFor};
+ghost use Rattle.jrun.specs.Coming.{ComesTo, WhereWent};
+ghost use Rattle.jcore.specs.Machines.{state_of};
+ghost use Rattle.jwhole.specs.Engines.{IsEngine};
+
+use crate::advancing::advance;
+use jcore::Machine;
+use jguard::{Guard, guard_laws};
+use jrun::{Stepped, Stepping};
+use std::alloc::{AllocError, Global};
+
+/// A step of a machine, by the rules of the guard that answers what it asks of access control. After an error nothing is said of the machine.
+pub(crate) fn move_on<G: Guard>(
+    alloc: Global,
+    machine: &mut Machine<'_, '_, G::Mark>,
+    guard: &mut G,
+) -> Result<Stepped, AllocError>
+    requires ready { IsEngine (G.kept guard.old) (G.entry guard.old) G.mark (G.rules guard.old) machine.old }
+    ensures comes { IfOk result (λ came. (s : StateOf G.Kept G.Entry) → StandsFor (G.kept guard.old) (G.entry guard.old) (state_of machine.old) s
+        → ComesTo (λ t. StandsFor (G.kept guard.new) (G.entry guard.new) (state_of machine.new) t)
+        (steps_by (G.rules guard.old) machine.old.calls machine.old.plan.now s) came) }
+    ensures ready { IfOk result (WhereWent (IsEngine (G.kept guard.new) (G.entry guard.new) G.mark (G.rules guard.new) machine.new)) }
+    ensures same { OnOk result (steps_by (G.rules guard.new) machine.new.calls machine.new.plan.now ≡ steps_by (G.rules guard.old) machine.old.calls machine.old.plan.now) }
+    ensures rules { G.rules guard.new ≡ G.rules guard.old }
+{
+    guard_laws::<G>();
+    let came = advance(alloc, machine, guard)?;
+    Ok(came)
+}
+
+/// A machine by numbers, and the guard that answers what it asks of access control.
+#[derive(Drop)]
+pub(crate) struct Moving<'a, 'p, M, G> {
+    pub machine: Machine<'a, 'p, M>,
+    pub guard: G,
+}
+
+impl<'a, 'p, G: Guard> Stepping for Moving<'a, 'p, G::Mark, G> {
+    ghost use Rattle.jmachine.specs.Acts.{State as StateOf};
+    ghost use Rattle.jmachine.specs.Steps.{step as steps_by};
+    ghost use Rattle.jguard.specs.Standing.{StandsFor};
+    ghost use Rattle.jcore.specs.Machines.{state_of};
+    ghost use Rattle.jwhole.specs.Engines.{IsEngine};
+
+    ghost State = { StateOf G.Kept G.Entry };
+
+    ghost steps = { λ e. steps_by (G.rules e.guard) e.machine.calls e.machine.plan.now };
+
+    ghost stands = { λ e s. StandsFor (G.kept e.guard) (G.entry e.guard) (state_of e.machine) s };
+
+    ghost ready = { λ e. IsEngine (G.kept e.guard) (G.entry e.guard) G.mark (G.rules e.guard) e.machine };
+
+    fn step(&mut self, alloc: Global) -> Result<Stepped, AllocError> {
+        let came = move_on(alloc, &mut self.machine, &mut self.guard)?;
+        Ok(came)
+    }
+}
