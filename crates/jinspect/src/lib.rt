@@ -3,5 +3,7 @@
 #![tactic(auto)]
 
 mod inspector;
+mod running;
 
 pub use inspector::Inspector;
+pub use running::run_inspect;
