@@ -5,12 +5,12 @@ use Rattle.jbase.proofs.Cuts.{cut_at}
 use Rattle.jio.specs.Puts.{IsCutAt}
 use Rattle.jtrace.specs.declared.event.End.{End}
 use Rattle.jtrace.specs.declared.event.End.TheVariants as ends
-use Rattle.jengine.specs.Runs.{Run, run_text, ending}
+use Rattle.jmachine.specs.Runs.{Run, run_text, ending}
 use Rattle.jdriver.specs.declared.status.Status.{Status}
 use Rattle.jdriver.specs.Answers.{Answers, ran}
 use Rattle.jdriver.specs.Statuses.{status_of}
 
-of_end : (r : Run) (e : End) (old new : Option (List ℕ)) → e ≡ ending r → new ≡ appended old (run_text r) → Answers (ran r) (status_of e) old new
+of_end : {S : Type 0} (r : Run S) (e : End) (old new : Option (List ℕ)) → e ≡ ending r → new ≡ appended old (run_text r) → Answers (ran r) (status_of e) old new
 of_end r ends.Finished old new is h = (ap (λ (x : End). Some (status_of x)) (sym is), h)
 of_end r ends.Uncaught old new is h = (ap (λ (x : End). Some (status_of x)) (sym is), h)
 of_end r ends.Deadlock old new is h = (ap (λ (x : End). Some (status_of x)) (sym is), h)
@@ -18,7 +18,7 @@ of_end r ends.HeapFull old new is h = (ap (λ (x : End). Some (status_of x)) (sy
 of_end r ends.Bound old new is h = (ap (λ (x : End). Some (status_of x)) (sym is), h)
 of_end r ends.Stuck old new is h = (ap (λ (x : End). Some (status_of x)) (sym is), h)
 
-pub answers_run : (r : Run) (e : End) (s : Status) (old new : Option (List ℕ)) → s ≡ status_of e → e ≡ ending r → new ≡ appended old (run_text r) → Answers (ran r) s old new
+pub answers_run : {S : Type 0} (r : Run S) (e : End) (s : Status) (old new : Option (List ℕ)) → s ≡ status_of e → e ≡ ending r → new ≡ appended old (run_text r) → Answers (ran r) s old new
 answers_run r e s old new es is h = subst (λ (x : Status). Answers (ran r) x old new) (sym es) (of_end r e old new is h)
 
 -- a line that was cut

@@ -1,6 +1,6 @@
 pub mod Domains
 pub mod Ends
-pub mod Formed
+pub mod Mains
 pub mod Halting
 pub mod Items
 pub mod Members

@@ -3,7 +3,10 @@ use Rattle.std.specs.Prelude.{◌≡◌, ◌⊎◌, ℕ, List, [], ◌++◌, len
 use Rattle.std.specs.declared.alloc.Global.{Global}
 use Rattle.jbase.specs.Causes.{Rose, appended, IsCut}
 use Rattle.jio.specs.Held.{File}
-use Rattle.jengine.specs.Runs.{Run, run, run_text, ending}
+use Rattle.jdomain.specs.Domains.{has}
+use Rattle.jmachine.specs.Machine.{run}
+use Rattle.jmachine.specs.Runs.{Run, run_text, ending}
+use Rattle.jrules.specs.Inspecting.{rules as inspecting}
 use Rattle.jjob.specs.declared.command.Command.{Command}
 use Rattle.jjob.specs.Words.{Word, command, words_of}
 use Rattle.jdriver.specs.declared.task.Task.{Task}
@@ -31,7 +34,7 @@ usage_answer = record { text = usage_line; status = Some statuses.Usage }
 abbrev pub refused_answer : List ℕ → Answer
 refused_answer line = record { text = line; status = Some statuses.Refused }
 
-abbrev pub ran : Run → Answer
+abbrev pub ran : {S : Type 0} → Run S → Answer
 ran r = record { text = run_text r; status = Some (status_of (ending r)) }
 
 abbrev pub listed : List ℕ → Answer
@@ -43,7 +46,7 @@ checked_line classes methods = codes "checked " ++ (decimal classes ++ (codes " 
 
 -- what is told when a task is done
 unfoldable pub shown : Task → Answer
-shown (tasks.Run program domains plan) = ran (run program domains plan plan.steps)
+shown (tasks.Run program domains plan) = ran (run (inspecting (has domains)) program plan plan.steps)
 shown (tasks.Policy sources domains) = listed (listing 0 sources domains)
 shown (tasks.Check program) = listed (checked_line (length program.parts) (methods_of program.parts))
 

@@ -5,8 +5,11 @@ use Rattle.jdomain.specs.Domains.{granted}
 use Rattle.jpolicy.specs.declared.grant.Grant.{Grant}
 use Rattle.jjob.specs.declared.job.Job.{Job}
 use Rattle.jjob.specs.declared.job.JobSource.{JobSource}
+use Rattle.jmachine.specs.declared.plan.Plan.{Plan}
+use Rattle.jprogram.specs.declared.member.MethodId.{MethodId}
 use Rattle.jdriver.specs.declared.ground.ClassPath.{ClassPath}
 use Rattle.jdriver.specs.declared.ground.Ground.{Ground}
+use Rattle.jdriver.specs.declared.ground.Setting.{Setting}
 
 -- the URLs of a job's code sources
 abbrev pub urls_of : List JobSource → List Parts
@@ -28,5 +31,9 @@ ground_of job grants = record {
   domains = map (granted job.cwd grants) (urls_of job.sources);
   classes = paths_from 0 job.sources;
   main = job.main;
-  plan = record { heap = job.heap; depth = job.depth; steps = job.steps };
+  setting = record { schedule = job.schedule; cwd = job.cwd; heap = job.heap; depth = job.depth; steps = job.steps };
 }
+
+-- the plan of a run that begins with a method
+abbrev pub plan_of : Setting → MethodId → Plan
+plan_of it main = record { main = main; schedule = it.schedule; cwd = it.cwd; heap = it.heap; depth = it.depth; steps = it.steps }

@@ -1,6 +1,5 @@
 pub mod Answers
 pub mod Checking
-pub mod Forming
 pub mod Grounds
 pub mod Linking
 pub mod Listings

@@ -9,7 +9,7 @@ use Rattle.jprogram.specs.declared.fault.LinkKind.TheVariants as links
 use Rattle.jpolicy.specs.declared.fault.PolicyFault.{PolicyFault}
 use Rattle.jpolicy.specs.declared.fault.PolicyFault.TheVariants as policies
 use Rattle.jdriver.specs.declared.refusal.Refusal.{Refusal}
-use Rattle.jdriver.specs.declared.refusal.Refusal.TheVariants.{BadJob, BadPolicy, BadClass, BadLink, BadCheck, Unbuilt, NoMain}
+use Rattle.jdriver.specs.declared.refusal.Refusal.TheVariants.{BadJob, BadPolicy, BadClass, BadLink, BadCheck, NoMain}
 
 -- some words and a text, which is written as texts are in lines
 abbrev pub text_line : List ℕ → List ℕ → List ℕ
@@ -109,5 +109,4 @@ refusal_line (BadPolicy at kind) = policy_line at kind
 refusal_line (BadClass path at kind) = class_line path at kind
 refusal_line (BadLink class member kind) = link_line class member kind
 refusal_line (BadCheck class member at) = check_line class member at
-refusal_line (Unbuilt path) = text_line (codes "refused unbuilt ") (units_of_text path)
 refusal_line (NoMain name) = text_line (codes "refused main ") name

@@ -1,6 +1,6 @@
 -- What is to be done at a command with the files that are held: they are read in the order job, policy, class files, and each is
 -- judged before the next is read; then the classes link, then `main` is looked for where they are to be run, and then they are checked.
-use Rattle.std.specs.Prelude.{◌≡◌, ℕ, ◌-◌, Bool, true, false, List, [], length, Option, Some, None, Result, Ok, Err}
+use Rattle.std.specs.Prelude.{◌≡◌, ℕ, ◌-◌, Bool, true, false, List, [], length, Option, Some, None, Result, Ok, Err, is_some}
 use Rattle.std.specs.List.{flat_map}
 use Rattle.jbase.specs.Each.{each}
 use Rattle.jbase.specs.Stops.{◌>>=◌}
@@ -25,14 +25,14 @@ use Rattle.jlib.specs.declared.side.Side.TheVariants.{Source, Passing}
 use Rattle.jprogram.specs.declared.part.CodePart.{CodePart}
 use Rattle.jprogram.specs.Classes.{program}
 use Rattle.jprogram.specs.Members.{main_of}
-use Rattle.jdriver.specs.declared.refusal.Refusal.TheVariants.{BadJob, BadPolicy, BadClass, Unbuilt, NoMain}
+use Rattle.juses.specs.Instructions.{code_at}
+use Rattle.jdriver.specs.declared.refusal.Refusal.TheVariants.{BadJob, BadPolicy, BadClass, NoMain}
 use Rattle.jdriver.specs.declared.ground.ClassPath.{ClassPath}
 use Rattle.jdriver.specs.declared.ground.Ground.{Ground}
 use Rattle.jdriver.specs.declared.task.Task.{Task}
 use Rattle.jdriver.specs.declared.task.Task.TheVariants as tasks
 use Rattle.jdriver.specs.Checking.{checked}
-use Rattle.jdriver.specs.Forming.{first_form}
-use Rattle.jdriver.specs.Grounds.{ground_of}
+use Rattle.jdriver.specs.Grounds.{ground_of, plan_of}
 use Rattle.jdriver.specs.Linking.{linked}
 use Rattle.jdriver.specs.Stages.{Stopped, Missing, Refused, judged, bytes_at}
 
@@ -81,21 +81,19 @@ part_at files one = class_at files one.path >>= λ class. Ok (record { domain = 
 
 -- ---- a run
 
--- the run of these classes of the job at a path: they link, the main class has a `main`, they are well typed, and the machine runs such
--- programs
-abbrev pub run_of_parts : List ℕ → Ground → List CodePart → Result Task Stopped
-run_of_parts path g parts =
+-- the run of these classes: they link, the main class has a `main`, and they are well typed
+abbrev pub run_of_parts : Ground → List CodePart → Result Task Stopped
+run_of_parts g parts =
     linked (program Source parts) >>= λ p.
     judged (NoMain g.main) (main_of p (flat_map group g.main)) >>= λ main.
     checked p >>= λ q.
-    judged (Unbuilt path) (first_form q.parts (flat_map group g.main)) >>= λ made.
-    Ok (tasks.Run made g.domains g.plan)
+    Ok (tasks.Run q g.domains (plan_of g.setting main))
 
-unfoldable pub run_of_ground : List File → List ℕ → Ground → Result Task Stopped
-run_of_ground files path g = each (part_at files) g.classes >>= λ parts. run_of_parts path g parts
+unfoldable pub run_of_ground : List File → Ground → Result Task Stopped
+run_of_ground files g = each (part_at files) g.classes >>= λ parts. run_of_parts g parts
 
 unfoldable pub run_at : List File → List ℕ → Result Task Stopped
-run_at files path = ground_at files path >>= λ g. run_of_ground files path g
+run_at files path = ground_at files path >>= λ g. run_of_ground files g
 
 -- ---- a check
 
@@ -136,8 +134,8 @@ task _ files = Err Missing
 
 -- ---- tasks
 
--- each code source has its permissions
+-- a program is run from a method with code, and each code source has its permissions
 abbrev pub IsWhole : Task → Type 0
-IsWhole (tasks.Run program domains plan) = Unit {0}
+IsWhole (tasks.Run program domains plan) = is_some (code_at program plan.main) ≡ true
 IsWhole (tasks.Check program) = Unit {0}
 IsWhole (tasks.Policy sources domains) = length domains ≡ length sources

@@ -1,11 +1,12 @@
 ghost use Rattle.std.specs.Prelude.{◌≡◌, ◌++◌, IfOk, OnOk, map};
-ghost use Rattle.jdriver.specs.Grounds.{ground_of, paths_from, paths_with, urls_of};
+ghost use Rattle.jdriver.specs.Grounds.{ground_of, paths_from, paths_with, plan_of, urls_of};
 
 use jbase::Seq;
 use jdomain::{CodeSource, Domains};
-use jengine::Plan;
 use jjob::{Job, JobSource, Text};
+use jmachine::Plan;
 use jpolicy::Policy;
+use jprogram::MethodId;
 use jtext::Units;
 use std::alloc::{AllocError, Global};
 
@@ -14,6 +15,37 @@ use std::alloc::{AllocError, Global};
 pub struct ClassPath {
     pub domain: u32,
     pub path: Text,
+}
+
+/// What a job says of its run, besides the program and the method that it begins with.
+#[derive(Drop)]
+pub struct Setting {
+    /// Which of the threads that may run comes next, at each turn.
+    pub schedule: Seq<u32>,
+    /// The folder in which the job runs.
+    pub cwd: Units,
+    /// The cells of the heap.
+    pub heap: u32,
+    /// The frames of a thread.
+    pub depth: u32,
+    /// The steps of the run.
+    pub steps: u64,
+}
+
+impl Setting {
+    /// The plan of a run that begins with a method.
+    pub fn plan(self, main: MethodId) -> Plan
+        ensures { result ≡ plan_of self main }
+    {
+        Plan {
+            main,
+            schedule: self.schedule,
+            cwd: self.cwd,
+            heap: self.heap,
+            depth: self.depth,
+            steps: self.steps,
+        }
+    }
 }
 
 /// What a job and its policy say: the ground on which each verb stands that reads a job.
@@ -27,7 +59,7 @@ pub struct Ground {
     pub classes: Seq<ClassPath>,
     /// The name of the main class.
     pub main: Units,
-    pub plan: Plan,
+    pub setting: Setting,
 }
 
 /// Puts the paths of a code source's class files behind others.
@@ -74,7 +106,9 @@ pub fn ground_of(alloc: Global, job: Job, grants: &Policy) -> Result<Ground, All
         domains,
         classes,
         main: job.main,
-        plan: Plan {
+        setting: Setting {
+            schedule: job.schedule,
+            cwd: job.cwd,
             heap: job.heap,
             depth: job.depth,
             steps: job.steps,

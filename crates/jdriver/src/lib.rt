@@ -3,7 +3,6 @@
 
 mod checking;
 mod counting;
-mod forming;
 mod ground;
 mod halt;
 mod linking;

@@ -34,8 +34,6 @@ pub enum Refusal {
         member: Units,
         at: u32,
     },
-    /// The program of the job at this path is well typed, and isn't of the form that the machine runs.
-    Unbuilt(Text),
     /// There is no class of this name with a `main`.
     NoMain(Units),
 }

@@ -358,7 +358,6 @@ pub fn show_refusal<K: Sink>(alloc: Global, refusal: &Refusal, out: &mut K) -> S
             kind,
         } => show_link(class, member, *kind, out),
         Refusal::BadCheck { class, member, at } => show_check(class, member, *at, out),
-        Refusal::Unbuilt(path) => show_path(alloc, "refused unbuilt ", path, out),
         Refusal::NoMain(name) => show_text("refused main ", name.as_slice(), out),
     }
 }

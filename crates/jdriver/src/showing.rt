@@ -1,6 +1,9 @@
-ghost use Rattle.std.specs.Prelude.{◌≡◌, ◌≤◌, ◌⊎◌, length};
+ghost use Rattle.std.specs.Prelude.{◌≡◌, ◌≤◌, ◌⊎◌, is_some, length, true};
 ghost use Rattle.jbase.specs.Causes.{Rose};
-ghost use Rattle.jengine.specs.Runs.{run};
+ghost use Rattle.jdomain.specs.Domains.{has};
+ghost use Rattle.jmachine.specs.Machine.{run};
+ghost use Rattle.jrules.specs.Inspecting.{rules as inspecting};
+ghost use Rattle.juses.specs.Instructions.{code_at};
 ghost use Rattle.jdriver.specs.declared.status.Status.TheVariants.{ReadFault, Usage, WriteFault};
 ghost use Rattle.jdriver.specs.Answers.{Answers, listed, ran, shown, usage_answer};
 ghost use Rattle.jdriver.specs.Listings.{listing};
@@ -10,9 +13,11 @@ use crate::counting::show_checked;
 use crate::listing::put_listing;
 use crate::status::{Status, status_of};
 use crate::task::Task;
+use jcheck::CheckedProgram;
 use jdomain::{CodeSource, Domains};
-use jengine::{Plan, Program, run_inspect};
+use jinspect::run_inspect;
 use jio::{Sink, put_all};
+use jmachine::Plan;
 use jtrace::RunFault;
 use std::alloc::Global;
 
@@ -34,12 +39,13 @@ pub fn show_usage<K: Sink>(out: &mut K) -> Status
 #[tactic(auto, using(crate::proofs::Ends::answers_run))]
 fn show_run<K: Sink>(
     alloc: Global,
-    program: &Program,
+    program: &CheckedProgram,
     domains: &Domains,
     plan: &Plan,
     out: &mut K,
 ) -> Status
-    ensures answer { Answers (ran (run program.now domains.now plan.now plan.now.steps)) result (K.out out.old) (K.out out.new) }
+    requires coded { is_some (code_at program.now plan.now.main) ≡ true }
+    ensures answer { Answers (ran (run (inspecting (has domains.now)) program.now plan.now plan.now.steps)) result (K.out out.old) (K.out out.new) }
     ensures later { K.faults out.old ≤ K.faults out.new }
     ensures cause { result ≡ WriteFault → Rose (K.faults out.old) (K.faults out.new) }
     ensures read { result ≡ ReadFault → ⊥ }

@@ -1,14 +1,14 @@
 use jbase::Seq;
 use jcheck::CheckedProgram;
 use jdomain::{CodeSource, Domains};
-use jengine::{Plan, Program};
+use jmachine::Plan;
 
 /// What is to be done, when all files are read and judged.
 #[derive(Drop)]
 pub enum Task {
     /// A program is to be run.
     Run {
-        program: Program,
+        program: CheckedProgram,
         domains: Domains,
         plan: Plan,
     },

@@ -5,12 +5,10 @@ ghost use Rattle.jio.specs.Held.{File};
 ghost use Rattle.jtext.specs.Modified.{group};
 ghost use Rattle.jprogram.specs.Members.{main_of};
 ghost use Rattle.jdriver.specs.declared.halt.Halt.TheVariants.{Read};
-ghost use Rattle.jdriver.specs.Forming.{first_form};
 ghost use Rattle.jdriver.specs.Stages.{Excused, Follows, judged};
 ghost use Rattle.jdriver.specs.Tasks.{IsWhole, built, check_at, check_of_ground, check_of_parts, policy_at, run_at, run_of_ground, run_of_parts, side_of, task};
 
 use crate::checking::checked;
-use crate::forming::first_form;
 use crate::ground::Ground;
 use crate::halt::Halt;
 use crate::linking::linked;
@@ -18,9 +16,8 @@ use crate::reading::{ground_at, parts_at};
 use crate::refusal::Refusal;
 use crate::task::Task;
 use jbase::Seq;
-use jengine::Program;
 use jio::Shelf;
-use jjob::{Command, Form, Text};
+use jjob::{Command, Form};
 use jlib::Side;
 use jlink::LinkedProgram;
 use jprogram::{CodePart, MethodId};
@@ -63,69 +60,34 @@ fn main_named(alloc: Global, program: &LinkedProgram, name: &Units) -> Result<Me
     }
 }
 
-fn unbuilt<T>(alloc: Global, path: &str) -> Result<T, Halt>
-    ensures value { Follows (λ x. x) result (judged (Refusal.Unbuilt path.now) None) }
-    ensures unread { result ≡ Err Read → ⊥ }
-{
-    let path = Text::from_str(alloc, path)?;
-    Err(Halt::Refused(Refusal::Unbuilt(path)))
-}
-
-/// What the machine runs of the program of the job at a path.
-fn made_of(
-    alloc: Global,
-    path: &str,
-    program: &LinkedProgram,
-    name: &Units,
-) -> Result<Program, Halt>
-    ensures value { Follows (λ x. x) result (judged (Refusal.Unbuilt path.now) (first_form program.now.parts (flat_map group name.now))) }
-    ensures unread { result ≡ Err Read → ⊥ }
-{
-    let bytes = bytes_of(alloc, name)?;
-    match first_form(alloc, program, bytes.as_slice()) {
-        Ok(Some(made)) => Ok(made),
-        Ok(None) => unbuilt(alloc, path),
-        Err(_) => Err(Halt::Memory),
-    }
-}
-
-fn run_of_parts(
-    alloc: Global,
-    path: &str,
-    ground: Ground,
-    parts: Seq<CodePart>,
-) -> Result<Task, Halt>
-    ensures value { Follows (λ x. x) result (run_of_parts path.now ground parts) }
+/// The run of the classes that were read for a job.
+#[tactic(auto, using(crate::proofs::Mains::run_coded))]
+fn run_of_parts(alloc: Global, ground: Ground, parts: Seq<CodePart>) -> Result<Task, Halt>
+    ensures value { Follows (λ x. x) result (run_of_parts ground parts) }
     ensures whole { IfOk result IsWhole }
     ensures unread { result ≡ Err Read → ⊥ }
 {
     let program = linked(alloc, parts, Side::Source)?;
-    main_named(alloc, &program, &ground.main)?;
+    let main = main_named(alloc, &program, &ground.main)?;
     let program = checked(alloc, program)?;
-    let made = made_of(alloc, path, program.linked(), &ground.main)?;
     Ok(Task::Run {
-        program: made,
+        program,
         domains: ground.domains,
-        plan: ground.plan,
+        plan: ground.setting.plan(main),
     })
 }
 
 #[tactic(auto, unfolding(crate::specs::Tasks::run_of_ground))]
-fn run_of_ground<S: Shelf>(
-    alloc: Global,
-    path: &str,
-    ground: Ground,
-    shelf: &mut S,
-) -> Result<Task, Halt>
-    ensures value { (files : List File) → S.held shelf.old ≡ Some files → Follows (λ x. x) result (run_of_ground files path.now ground) }
+fn run_of_ground<S: Shelf>(alloc: Global, ground: Ground, shelf: &mut S) -> Result<Task, Halt>
+    ensures value { (files : List File) → S.held shelf.old ≡ Some files → Follows (λ x. x) result (run_of_ground files ground) }
     ensures whole { IfOk result IsWhole }
     ensures held { S.held shelf.new ≡ S.held shelf.old }
     ensures stored { S.write_faults shelf.new ≡ S.write_faults shelf.old }
     ensures later { S.read_faults shelf.old ≤ S.read_faults shelf.new }
-    ensures cause { Excused result (S.read_faults shelf.old) (S.read_faults shelf.new) (S.held shelf.old) (λ files. run_of_ground files path.now ground) }
+    ensures cause { Excused result (S.read_faults shelf.old) (S.read_faults shelf.new) (S.held shelf.old) (λ files. run_of_ground files ground) }
 {
     let parts = parts_at(alloc, ground.classes.as_slice(), shelf)?;
-    run_of_parts(alloc, path, ground, parts)
+    run_of_parts(alloc, ground, parts)
 }
 
 #[tactic(auto, unfolding(crate::specs::Tasks::run_at))]
@@ -138,7 +100,7 @@ fn run_at<S: Shelf>(alloc: Global, path: &str, shelf: &mut S) -> Result<Task, Ha
     ensures cause { Excused result (S.read_faults shelf.old) (S.read_faults shelf.new) (S.held shelf.old) (λ files. run_at files path.now) }
 {
     let ground = ground_at(alloc, path, shelf)?;
-    run_of_ground(alloc, path, ground, shelf)
+    run_of_ground(alloc, ground, shelf)
 }
 
 // ---- a check
