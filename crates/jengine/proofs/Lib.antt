@@ -1,5 +1,0 @@
-pub mod Walking
-pub mod Raises
-pub mod Checks
-pub mod Lines
-pub mod Courses

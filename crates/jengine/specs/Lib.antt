@@ -1,9 +1,0 @@
-pub mod Programs
-pub mod Turns
-pub mod Straight
-pub mod Raising
-pub mod Making
-pub mod Checking
-pub mod Calling
-pub mod Steps
-pub mod Runs
