@@ -6,6 +6,8 @@ mod checks;
 #[cfg(test)]
 mod classes;
 #[cfg(test)]
+mod fronts;
+#[cfg(test)]
 mod job;
 #[cfg(test)]
 mod policies;

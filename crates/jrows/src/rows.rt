@@ -1,7 +1,7 @@
 use crate::classes::{
     A_OVER_B, ADDS_FLOATS, B_OVER_A, BAD_TAG, BARE, CALLER, EMPTY, FILLS, LIB, LOOPS, NO_NAME,
     NOT_STATIC, OBJECT, OVER_GONE, OVER_ITSELF, OVERRIDES, PASSES, ROW_ONE, RUNS_ON, SHUFFLES,
-    TAKES_FLOAT, TAKES_NOTHING, TELLS_ITSELF, WRITES,
+    TAKES_FLOAT, TAKES_NOTHING, WRITES,
 };
 use crate::job::Content::{Bytes, Hex, Text};
 use crate::job::{Content, Faults, NONE, Outcome, answered};
@@ -221,7 +221,7 @@ fn classes_by_source(rt: HostRuntime) -> Result<(), AllocError> {
 }
 
 /// A job, its policy and its class file, and in which words they are refused.
-const REFUSED: [(Content<'static>, Content<'static>, Content<'static>, &str); 20] = [
+const REFUSED: [(Content<'static>, Content<'static>, Content<'static>, &str); 19] = [
     (
         Text("policy app.policy\ncode file:/a/\nclass Main.class\nmain Mein\n"),
         Text(TO_A),
@@ -332,12 +332,6 @@ const REFUSED: [(Content<'static>, Content<'static>, Content<'static>, &str); 20
         Text(TO_A),
         Hex(TAKES_NOTHING),
         "refused main Main\n",
-    ),
-    (
-        Text(ONE),
-        Text(TO_A),
-        Hex(TELLS_ITSELF),
-        "refused unbuilt job\n",
     ),
 ];
 
