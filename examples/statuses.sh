@@ -3,7 +3,7 @@
 # Usage: examples/statuses.sh PROGRAM, with the program that `rt ci` built (crates/javasec/out/javasec).
 set -u
 program=$(realpath "$1") || exit 1
-cd "$(dirname "$0")/../crates/audit/data" || exit 1
+cd "$(dirname "$0")/../crates/tests_runs/data" || exit 1
 failed=0
 
 # check STATUS SENTENCE WORD..: standard output is left alone
@@ -22,14 +22,14 @@ check() {
 
 commands='javasec: the commands are `run --form=inspect JOB`, `check JOB`, `check --form=plain JOB` and `policy JOB`'
 out=/dev/null
-check 0 '' policy job
+check 0 '' policy audit.job
 check 2 "$commands"
 check 2 "$commands" rewrite job out
 check 7 'javasec: nowhere could not be read' policy nowhere
 check 7 'javasec: nowhere could not be read' run --form=inspect -- nowhere
 check 7 'javasec: nowhere could not be read' check nowhere
 out=/dev/full
-check 8 'javasec: the output could not be written' policy job
+check 8 'javasec: the output could not be written' policy audit.job
 
 # a closed standard error changes no status
 "$program" policy nowhere 2>&-
