@@ -125,7 +125,8 @@ fn lay<M: Copy>(frames: &mut Frames<M>, laid: Laid) -> Result<Way, AllocError>
     requires some { 0 < (move_of laid).taken }
     requires few { (move_of laid).taken ≤ length frames.old.newest.operands }
     ensures way { IfOk result (λ way. way ≡ ways.Went) }
-    ensures frames { OnOk result (frames.new ≡ with_newest (standing frames.old.newest (frames.old.newest.place + 1) (moved frames.old.newest.operands (move_of laid))) frames.old) }
+    ensures frames { OnOk result (frames.new ≡ with_newest (standing frames.old.newest (frames.old.newest.place + 1)
+        (moved frames.old.newest.operands (move_of laid))) frames.old) }
 {
     lay_all(frames, laid)?;
     frames.go_on();

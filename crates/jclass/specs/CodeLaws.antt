@@ -63,7 +63,8 @@ attribute_forth (code.Raw name bytes) = refl
 pub attribute_law : (pool : List Entry) (seen : Bool) → IsFormat (attribute pool seen)
 unfolding attribute
 attribute_law pool seen =
-    via_law attribute_from attribute_parts (name_once pool (is_maps pool) kinds.Maps seen ▹ λ i. content (is_maps pool i) (maps pool)) (λ a fit. attribute_back a) (λ a fit. attribute_forth a)
+    via_law attribute_from attribute_parts (name_once pool (is_maps pool) kinds.Maps seen
+    ▹ λ i. content (is_maps pool i) (maps pool)) (λ a fit. attribute_back a) (λ a fit. attribute_forth a)
     (then_law (name_once pool (is_maps pool) kinds.Maps seen) (λ i. content (is_maps pool i) (maps pool))
     (name_once_law pool (is_maps pool) kinds.Maps seen) (λ i. content_law (is_maps pool i) (maps pool) (maps_law pool)))
 

@@ -43,7 +43,8 @@ pub(crate) fn number_at(rows: &[Seq<u32>], class: u32, index: u16) -> u32
 
 /// Puts a number, where rows have a place for it.
 fn put_number(rows: &mut Vec<Seq<u32>>, class: u32, index: u16, number: u32)
-    ensures { (p : Program) (constants : List (List ℕ × ℕ)) → AreKnown p constants rows.old.items → IsObject p constants class index (Some number) → AreKnown p constants rows.new.items }
+    ensures { (p : Program) (constants : List (List ℕ × ℕ)) → AreKnown p constants rows.old.items → IsObject p constants class index (Some number)
+        → AreKnown p constants rows.new.items }
 {
     if class as usize >= rows.len() {
         return;

@@ -13,7 +13,7 @@ use jheap::Heap;
 use jlib::Side;
 use jops::Value;
 use jperm::Permission;
-use jstate::{Frames, Shapes, heap_laws};
+use jstate::{Frames, Shapes};
 use std::alloc::{AllocError, Global};
 
 /// A privilege that is asked for, where the action's `run` is called.

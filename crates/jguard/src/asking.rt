@@ -73,7 +73,8 @@ pub fn ask_check<G: Guard>(
     requires ask { IsAskKnown (G.kept guard.old) (Checks asked.now ctx) }
     requires marks { AreKnown (G.entry guard.old) (reverse marks.now) }
     requires inherited { IsKnown (G.kept guard.old) inherited }
-    ensures answer { IfOk result (λ v. AnswersFor (G.kept guard.old) (G.kept guard.new) (G.entry guard.old) (G.entry guard.new) (G.rules guard.old) (Checks asked.now ctx) (reverse marks.now) inherited (Decided v)) }
+    ensures answer { IfOk result (λ v. AnswersFor (G.kept guard.old) (G.kept guard.new) (G.entry guard.old) (G.entry guard.new) (G.rules guard.old)
+        (Checks asked.now ctx) (reverse marks.now) inherited (Decided v)) }
     ensures rules { G.rules guard.new ≡ G.rules guard.old }
     ensures keeps { Keeps (G.kept guard.old) (G.kept guard.new) }
     ensures marks { Keeps (G.entry guard.old) (G.entry guard.new) }
@@ -93,7 +94,8 @@ pub fn ask_snapshot<G: Guard>(
     requires ask { IsAskKnown (G.kept guard.old) (Snapshots ctx) }
     requires marks { AreKnown (G.entry guard.old) (reverse marks.now) }
     requires inherited { IsKnown (G.kept guard.old) inherited }
-    ensures answer { IfOk result (λ n. AnswersFor (G.kept guard.old) (G.kept guard.new) (G.entry guard.old) (G.entry guard.new) (G.rules guard.old) (Snapshots ctx) (reverse marks.now) inherited (Kept n)) }
+    ensures answer { IfOk result (λ n. AnswersFor (G.kept guard.old) (G.kept guard.new) (G.entry guard.old) (G.entry guard.new) (G.rules guard.old) (Snapshots ctx)
+        (reverse marks.now) inherited (Kept n)) }
     ensures rules { G.rules guard.new ≡ G.rules guard.old }
     ensures keeps { Keeps (G.kept guard.old) (G.kept guard.new) }
     ensures marks { Keeps (G.entry guard.old) (G.entry guard.new) }
@@ -114,7 +116,8 @@ pub fn ask_kept_check<G: Guard>(
     requires ask { IsAskKnown (G.kept guard.old) (ChecksKept asked.now kept) }
     requires marks { AreKnown (G.entry guard.old) (reverse marks.now) }
     requires inherited { IsKnown (G.kept guard.old) inherited }
-    ensures answer { IfOk result (λ v. AnswersFor (G.kept guard.old) (G.kept guard.new) (G.entry guard.old) (G.entry guard.new) (G.rules guard.old) (ChecksKept asked.now kept) (reverse marks.now) inherited (Decided v)) }
+    ensures answer { IfOk result (λ v. AnswersFor (G.kept guard.old) (G.kept guard.new) (G.entry guard.old) (G.entry guard.new) (G.rules guard.old)
+        (ChecksKept asked.now kept) (reverse marks.now) inherited (Decided v)) }
     ensures rules { G.rules guard.new ≡ G.rules guard.old }
     ensures keeps { Keeps (G.kept guard.old) (G.kept guard.new) }
     ensures marks { Keeps (G.entry guard.old) (G.entry guard.new) }
@@ -134,7 +137,8 @@ pub fn ask_inherit<G: Guard>(
     requires ask { IsAskKnown (G.kept guard.old) (Inherits ctx) }
     requires marks { AreKnown (G.entry guard.old) (reverse marks.now) }
     requires inherited { IsKnown (G.kept guard.old) inherited }
-    ensures answer { IfOk result (λ n. AnswersFor (G.kept guard.old) (G.kept guard.new) (G.entry guard.old) (G.entry guard.new) (G.rules guard.old) (Inherits ctx) (reverse marks.now) inherited (Kept n)) }
+    ensures answer { IfOk result (λ n. AnswersFor (G.kept guard.old) (G.kept guard.new) (G.entry guard.old) (G.entry guard.new) (G.rules guard.old) (Inherits ctx)
+        (reverse marks.now) inherited (Kept n)) }
     ensures rules { G.rules guard.new ≡ G.rules guard.old }
     ensures keeps { Keeps (G.kept guard.old) (G.kept guard.new) }
     ensures marks { Keeps (G.entry guard.old) (G.entry guard.new) }
@@ -155,7 +159,8 @@ pub fn ask_enter<G: Guard>(
     requires ask { IsAskKnown (G.kept guard.old) (Enters ctx domain) }
     requires marks { AreKnown (G.entry guard.old) (reverse marks.now) }
     requires inherited { IsKnown (G.kept guard.old) inherited }
-    ensures answer { IfOk result (λ n. AnswersFor (G.kept guard.old) (G.kept guard.new) (G.entry guard.old) (G.entry guard.new) (G.rules guard.old) (Enters ctx domain) (reverse marks.now) inherited (Entered n)) }
+    ensures answer { IfOk result (λ n. AnswersFor (G.kept guard.old) (G.kept guard.new) (G.entry guard.old) (G.entry guard.new) (G.rules guard.old)
+        (Enters ctx domain) (reverse marks.now) inherited (Entered n)) }
     ensures rules { G.rules guard.new ≡ G.rules guard.old }
     ensures keeps { Keeps (G.kept guard.old) (G.kept guard.new) }
     ensures marks { Keeps (G.entry guard.old) (G.entry guard.new) }
@@ -178,7 +183,8 @@ pub fn ask_privilege<G: Guard>(
     requires ask { IsAskKnown (G.kept guard.old) (Privileges domain ctx given (option_copied limits)) }
     requires marks { AreKnown (G.entry guard.old) (reverse marks.now) }
     requires inherited { IsKnown (G.kept guard.old) inherited }
-    ensures answer { IfOk result (λ m. AnswersFor (G.kept guard.old) (G.kept guard.new) (G.entry guard.old) (G.entry guard.new) (G.rules guard.old) (Privileges domain ctx given (option_copied limits.entry)) (reverse marks.now) inherited (Allowed (record { caller = m.caller; context = m.ctx }))) }
+    ensures answer { IfOk result (λ m. AnswersFor (G.kept guard.old) (G.kept guard.new) (G.entry guard.old) (G.entry guard.new) (G.rules guard.old)
+        (Privileges domain ctx given (option_copied limits.entry)) (reverse marks.now) inherited (Allowed (record { caller = m.caller; context = m.ctx }))) }
     ensures rules { G.rules guard.new ≡ G.rules guard.old }
     ensures keeps { Keeps (G.kept guard.old) (G.kept guard.new) }
     ensures marks { Keeps (G.entry guard.old) (G.entry guard.new) }

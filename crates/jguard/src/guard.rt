@@ -92,7 +92,8 @@ pub trait Guard {
         requires ask { IsAskKnown (kept self.old) (said ask) }
         requires marks { AreKnown (entry self.old) (reverse marks.now) }
         requires inherited { IsKnown (kept self.old) inherited }
-        ensures answer { IfOk result (λ a. AnswersFor (kept self.old) (kept self.new) (entry self.old) (entry self.new) (rules self.old) (said ask.entry) (reverse marks.now) inherited (given_by a)) }
+        ensures answer { IfOk result (λ a. AnswersFor (kept self.old) (kept self.new) (entry self.old) (entry self.new) (rules self.old) (said ask.entry)
+            (reverse marks.now) inherited (given_by a)) }
         ensures rules { rules self.new ≡ rules self.old }
         ensures keeps { Keeps (kept self.old) (kept self.new) }
         ensures marks { Keeps (entry self.old) (entry self.new) };

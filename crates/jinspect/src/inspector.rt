@@ -107,7 +107,8 @@ impl<'d> Inspector<'d> {
         marks: &[InspectMark],
     ) -> Result<Answer<InspectMark>, AllocError>
         requires { Below (length self.old.entries) given }
-        ensures marked { IfOk result (IsMarked self.new.entries (newest_domain (slice_get marks.now (length marks.now - 1))) (Privileged (given_at (things self.old.entries) given) (option_copied limits.entry))) }
+        ensures marked { IfOk result (IsMarked self.new.entries (newest_domain (slice_get marks.now (length marks.now - 1)))
+            (Privileged (given_at (things self.old.entries) given) (option_copied limits.entry))) }
         ensures earlier { Stays self.old.entries self.new.entries }
         ensures domains { self.new.domains ≡ self.old.domains }
     {

@@ -122,7 +122,8 @@ pub(crate) fn construct<M>(
 ) -> Result<Ran, AllocError>
     requires built { AreBuilt heap.old.objects }
     requires cell { HasHolder heap.old o }
-    ensures row { IfOk result (λ ran. Constructs {E = M} (λ s. made_in s cwd.now init (record { name = name; actions = actions; object = o })) permissions.old heap.old ran permissions.new heap.new) }
+    ensures row { IfOk result (λ ran. Constructs {E = M} (λ s. made_in s cwd.now init
+        (record { name = name; actions = actions; object = o })) permissions.old heap.old ran permissions.new heap.new) }
     ensures held { OnOk result ((p : Program) (shapes : Shapes) → AreHeld p shapes permissions.old heap.old.objects → AreHeld p shapes permissions.new heap.new.objects) }
     ensures built { OnOk result (AreBuilt heap.new.objects) }
     ensures celled { OnOk result (StayCelled heap.old.objects heap.new.objects) }

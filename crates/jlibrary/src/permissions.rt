@@ -129,7 +129,8 @@ fn with_name<M: Copy>(
     requires more { one_in (take count frames.now.newest.operands) ≡ None }
     requires built { AreBuilt heap.old.objects }
     requires cell { (o : ℕ) → HasHolder heap.old o }
-    ensures row { IfOk result (λ ran. Constructs {E = M} (λ s. init_row s cwd.now init (take count frames.now.newest.operands)) permissions.old heap.old ran permissions.new heap.new) }
+    ensures row { IfOk result (λ ran. Constructs {E = M} (λ s. init_row s cwd.now init
+        (take count frames.now.newest.operands)) permissions.old heap.old ran permissions.new heap.new) }
     ensures held { OnOk result ((p : Program) (shapes : Shapes) → AreHeld p shapes permissions.old heap.old.objects → AreHeld p shapes permissions.new heap.new.objects) }
     ensures built { OnOk result (AreBuilt heap.new.objects) }
     ensures celled { OnOk result (StayCelled heap.old.objects heap.new.objects) }
@@ -158,7 +159,8 @@ pub(crate) fn permission_init<M: Copy>(
     requires few { count ≤ length frames.now.newest.operands }
     requires built { AreBuilt heap.old.objects }
     requires cell { (o : ℕ) → HasHolder heap.old o }
-    ensures row { IfOk result (λ ran. Constructs {E = M} (λ s. init_row s cwd.now init (take count frames.now.newest.operands)) permissions.old heap.old ran permissions.new heap.new) }
+    ensures row { IfOk result (λ ran. Constructs {E = M} (λ s. init_row s cwd.now init
+        (take count frames.now.newest.operands)) permissions.old heap.old ran permissions.new heap.new) }
     ensures held { OnOk result ((p : Program) (shapes : Shapes) → AreHeld p shapes permissions.old heap.old.objects → AreHeld p shapes permissions.new heap.new.objects) }
     ensures built { OnOk result (AreBuilt heap.new.objects) }
     ensures celled { OnOk result (StayCelled heap.old.objects heap.new.objects) }

@@ -137,7 +137,8 @@ fn builder_holding<M: Copy>(
     requires few { count ≤ len frames.now.newest.operands }
     requires built { AreBuilt heap.old.objects }
     requires cells { (v : Held ℕ) → HasLast heap.old v }
-    ensures row { IfOk result (λ ran. (shapes : Shapes) → Does {E = M} shapes (λ s. builder_row s builders.InitText (take count frames.now.newest.operands)) heap.old ran [] heap.new) }
+    ensures row { IfOk result (λ ran. (shapes : Shapes) → Does {E = M} shapes
+        (λ s. builder_row s builders.InitText (take count frames.now.newest.operands)) heap.old ran [] heap.new) }
     ensures built { OnOk result (AreBuilt heap.new.objects) }
     ensures celled { OnOk result (StayCelled heap.old.objects heap.new.objects) }
 {
@@ -158,7 +159,8 @@ fn builder_append<M: Copy>(
     requires few { count ≤ len frames.now.newest.operands }
     requires built { AreBuilt heap.old.objects }
     requires cells { (v : Held ℕ) → HasLast heap.old v }
-    ensures row { IfOk result (λ ran. (shapes : Shapes) → Does {E = M} shapes (λ s. builder_row s (builders.Append piece) (take count frames.now.newest.operands)) heap.old ran [] heap.new) }
+    ensures row { IfOk result (λ ran. (shapes : Shapes) → Does {E = M} shapes
+        (λ s. builder_row s (builders.Append piece) (take count frames.now.newest.operands)) heap.old ran [] heap.new) }
     ensures built { OnOk result (AreBuilt heap.new.objects) }
     ensures celled { OnOk result (StayCelled heap.old.objects heap.new.objects) }
 {
@@ -178,7 +180,8 @@ fn builder_text<M: Copy>(
     requires few { count ≤ len frames.now.newest.operands }
     requires built { AreBuilt heap.old.objects }
     requires cells { (v : Held ℕ) → HasLast heap.old v }
-    ensures row { IfOk result (λ ran. (shapes : Shapes) → Does {E = M} shapes (λ s. builder_row s builders.ToString (take count frames.now.newest.operands)) heap.old ran [] heap.new) }
+    ensures row { IfOk result (λ ran. (shapes : Shapes) → Does {E = M} shapes
+        (λ s. builder_row s builders.ToString (take count frames.now.newest.operands)) heap.old ran [] heap.new) }
     ensures built { OnOk result (AreBuilt heap.new.objects) }
     ensures celled { OnOk result (StayCelled heap.old.objects heap.new.objects) }
 {

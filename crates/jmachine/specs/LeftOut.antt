@@ -119,4 +119,5 @@ IsCheck ask = ⊥
 
 -- A step that runs a member of the library which asks nothing but checks, or runs none, asks nothing but a check.
 abbrev pub ChecksAlone : Type 0 → Type 0 → Type 0
-ChecksAlone K E = (side : Side) (p : Program) (plan : Plan) (s : State K E) → IfSome (running side p plan s) (λ x. asks_checks_alone x.call ≡ true) → IfSome (asks side p plan s) IsCheck
+ChecksAlone K E = (side : Side) (p : Program) (plan : Plan) (s : State K E) → IfSome (running side p plan s) (λ x. asks_checks_alone x.call ≡ true)
+    → IfSome (asks side p plan s) IsCheck

@@ -115,7 +115,8 @@ pub fn instance_of<M: Copy>(frames: &mut Frames<M>, serve: bool, is: bool) -> Wa
 #[inline]
 pub fn throw<M: Copy>(frames: &Frames<M>, serve: bool) -> Way
     ensures row { (s : Store ℕ) →
-        ActsWhere (λ (at : Site) (own : Member → Bool). ServeThrown at s frames.now.newest.operands serve) instructions.Throw frames.now.newest s (leaves result [] frames.now.newest s) }
+        ActsWhere (λ (at : Site) (own : Member → Bool). ServeThrown at s frames.now.newest.operands serve) instructions.Throw frames.now.newest s
+        (leaves result [] frames.now.newest s) }
 {
     if !serve {
         return Way::Stuck;

@@ -35,7 +35,8 @@ use std::alloc::{AllocError, Global};
 #[inline]
 fn push_made<M: Copy>(frames: &mut Frames<M>, made: Option<u32>) -> Result<Way, AllocError>
     requires place { frames.old.newest.place + 1 < 2 ^ 32 }
-    ensures { IfOk result (λ way. MatchOption made ((way ≡ ways.Full) × (frames.new ≡ frames.old)) (λ o. (way ≡ ways.Went) × (frames.new ≡ with_newest (onward frames.old.newest (values.Ref o ∷ [])) frames.old))) }
+    ensures { IfOk result (λ way. MatchOption made ((way ≡ ways.Full) × (frames.new ≡ frames.old)) (λ o. (way ≡ ways.Went)
+        × (frames.new ≡ with_newest (onward frames.old.newest (values.Ref o ∷ [])) frames.old))) }
 {
     match made {
         None => Ok(Way::Full),
@@ -122,7 +123,8 @@ pub fn new_object<M: Copy>(
     requires numbered { 46 + class < 2 ^ 32 }
     requires small { (shape : ShapeOf) → slice_get shapes.now.users class ≡ Some shape → length shape.cells + 1 < 2 ^ 32 }
     ensures row { IfOk result (λ way. (p : Program) (things : Things) (constants : List (List ℕ × ℕ)) (c : Name) →
-        ActsWhere (λ (at : Site) (own : Member → Bool). (at.world.class c ≡ Some (refs.User class)) × HasShape at.world shapes.now class) (instructions.Used (meanings.Make c)) frames.old.newest
+        ActsWhere (λ (at : Site) (own : Member → Bool). (at.world.class c ≡ Some (refs.User class))
+        × HasShape at.world shapes.now class) (instructions.Used (meanings.Make c)) frames.old.newest
         (store_by p shapes.now things constants heap.old) (leaves way [] frames.new.newest (store_by p shapes.now things constants heap.new))) }
     ensures stays { IfOk result (λ way. Stays way frames.old.newest frames.new.newest) }
     ensures below { OnOk result (frames.new.below ≡ frames.old.below) }

@@ -44,7 +44,8 @@ pub(crate) fn make_all(
 ) -> Result<bool, AllocError>
     requires built { AreBuilt heap.old.objects }
     requires none { HasMade constants.old.program cells [] constants.old heap.old }
-    ensures made { IfOk result (λ went. MatchBool went (HasMade constants.old.program cells (texts_of constants.old.program rows.now) constants.new heap.new) (cells < texts_charge (texts_of constants.old.program rows.now))) }
+    ensures made { IfOk result (λ went. MatchBool went (HasMade constants.old.program cells (texts_of constants.old.program rows.now) constants.new heap.new)
+        (cells < texts_charge (texts_of constants.old.program rows.now))) }
     ensures built { OnOk result (AreBuilt heap.new.objects) }
     ensures celled { OnOk result (StayCelled heap.old.objects heap.new.objects) }
 {

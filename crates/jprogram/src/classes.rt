@@ -55,7 +55,8 @@ impl Model for NamedProgram {
 
     ghost view = { λ p. program p.side p.parts.items };
 
-    ghost invariant = { λ p. ArePlaces p.parts.items p.places × (AreSlots p.parts.items p.slots × (AreFaces p.parts.items p.faces × (AreTold p.parts.items p.firsts.items × (length p.parts.items ≤ 0xffff)))) };
+    ghost invariant = { λ p. ArePlaces p.parts.items p.places
+        × (AreSlots p.parts.items p.slots × (AreFaces p.parts.items p.faces × (AreTold p.parts.items p.firsts.items × (length p.parts.items ≤ 0xffff)))) };
 }
 
 impl NamedProgram {

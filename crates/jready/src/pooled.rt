@@ -21,7 +21,7 @@ use crate::fields::narrow_at;
 use crate::instr::{Instr, ObjectInstr, Push};
 use crate::known::{Known, number_at};
 use crate::tables::Tables;
-use jcode::{CallOp, CastOp, FieldOp, PoolForm};
+use jcode::{CastOp, FieldOp, PoolForm};
 use jheap::CellType;
 use jprogram::{ClassRef, Member};
 use juses::{CallUse, Constant, FieldUse, How, Span, TypeRef, Use};
@@ -31,7 +31,8 @@ use std::alloc::AllocError;
 
 /// The constant that is pushed, if one is.
 fn constant_in(found: Option<Use>) -> Option<Constant>
-    ensures { (p : Program) (pool : List Entry) (types : List Ref) → option_map (λ c. Meanings.Push (pushed_named pool c)) result ≡ only_push (option_map (meaning_of p pool types) found) }
+    ensures { (p : Program) (pool : List Entry) (types : List Ref)
+        → option_map (λ c. Meanings.Push (pushed_named pool c)) result ≡ only_push (option_map (meaning_of p pool types) found) }
 {
     match found {
         Some(Use::Push(constant)) => Some(constant),
@@ -41,7 +42,8 @@ fn constant_in(found: Option<Use>) -> Option<Constant>
 
 fn constant_of(known: &Known<'_>, class: u32, form: PoolForm) -> Option<Constant>
     requires { IsKnown known.now }
-    ensures { option_map (λ c. Meanings.Push (pushed_named (pool_at known.now.p.now class) c)) result ≡ only_push (Meanings.meant known.now.p.now (pool_at known.now.p.now class) form) }
+    ensures { option_map (λ c. Meanings.Push (pushed_named (pool_at known.now.p.now class) c)) result ≡ only_push
+        (Meanings.meant known.now.p.now (pool_at known.now.p.now class) form) }
 {
     let found = known.uses.use_at(class, form);
     constant_in(found)
@@ -165,7 +167,8 @@ fn field_of(known: &Known<'_>, class: u32, op: FieldOp, pool: u16) -> Instr
 // ---- calls
 
 fn call_in(found: Option<Use>) -> Option<(How, CallUse)>
-    ensures { (p : Program) (pool : List Entry) (types : List Ref) → option_map (λ x. (x.0, call_named p types x.1)) result ≡ only_call (option_map (meaning_of p pool types) found) }
+    ensures { (p : Program) (pool : List Entry) (types : List Ref)
+        → option_map (λ x. (x.0, call_named p types x.1)) result ≡ only_call (option_map (meaning_of p pool types) found) }
 {
     match found {
         Some(Use::Call(how, call)) => Some((how, call)),
@@ -176,7 +179,8 @@ fn call_in(found: Option<Use>) -> Option<(How, CallUse)>
 /// How a method is called by an instruction of a class, and which.
 fn call_used(known: &Known<'_>, class: u32, form: PoolForm) -> Option<(How, CallUse)>
     requires { IsKnown known.now }
-    ensures { option_map (λ x. (x.0, call_named known.now.p.now known.now.uses.now.types x.1)) result ≡ only_call (Meanings.meant known.now.p.now (pool_at known.now.p.now class) form) }
+    ensures { option_map (λ x. (x.0, call_named known.now.p.now known.now.uses.now.types x.1)) result ≡ only_call
+        (Meanings.meant known.now.p.now (pool_at known.now.p.now class) form) }
 {
     let found = known.uses.use_at(class, form);
     call_in(found)

@@ -52,9 +52,25 @@ impl<'p> Model for Ready<'p> {
 
     ghost Value = { Prepared };
 
-    ghost view = { λ r. record { program = r.program.now; uses = r.uses.now; layouts = r.layouts; shapes = r.shapes; statics = r.statics; firsts = r.firsts; methods = r.methods } };
+    ghost view = { λ r. record {
+      program = r.program.now;
+      uses = r.uses.now;
+      layouts = r.layouts;
+      shapes = r.shapes;
+      statics = r.statics;
+      firsts = r.firsts;
+      methods = r.methods;
+    } };
 
-    ghost invariant = { λ r. IsReady (record { program = r.program.now; uses = r.uses.now; layouts = r.layouts; shapes = r.shapes; statics = r.statics; firsts = r.firsts; methods = r.methods }) };
+    ghost invariant = { λ r. IsReady (record {
+      program = r.program.now;
+      uses = r.uses.now;
+      layouts = r.layouts;
+      shapes = r.shapes;
+      statics = r.statics;
+      firsts = r.firsts;
+      methods = r.methods;
+    }) };
 }
 
 /// Where the fields of a program stand.
@@ -308,7 +324,8 @@ impl<'p> Ready<'p> {
     /// The handlers of a method, in their order.
     pub fn handlers(&self, method: &MethodRow) -> &[HandlerRow]
         requires { IsRow self.now method.now }
-        ensures { (thrown : VType) (place : ℕ) → place < method.now.count → handler_at self.now.program thrown method.now.id place ≡ handled self.now.program (pool_at self.now.program method.now.id.class) thrown place result.now }
+        ensures { (thrown : VType) (place : ℕ) → place < method.now.count
+            → handler_at self.now.program thrown method.now.id place ≡ handled self.now.program (pool_at self.now.program method.now.id.class) thrown place result.now }
     {
         let rows = self.methods.handlers.as_slice();
         let (_, behind) = rows.split_at(method.handlers.first as usize);

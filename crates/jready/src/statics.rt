@@ -82,7 +82,8 @@ fn cell_in(held: Option<TypeRef>) -> CellType
 
 /// What a cell holds at first, by its field's constant.
 fn first_of(class: &ClassParts, cell: CellType, narrow: Narrow, constant: Option<u16>) -> First
-    ensures { (made : List (List ℕ × ℕ)) → Statics.first_in made class.now.pool cell result ≡ Exact.narrow narrow (unwrap_or (Opening.value_of made class.now (option_and_then (slice_get class.now.pool) constant)) (nothing cell)) }
+    ensures { (made : List (List ℕ × ℕ)) → Statics.first_in made class.now.pool cell result ≡ Exact.narrow narrow
+        (unwrap_or (Opening.value_of made class.now (option_and_then (slice_get class.now.pool) constant)) (nothing cell)) }
 {
     let Some(i) = constant else {
         return First::Known(nothing_in(cell));

@@ -1,6 +1,7 @@
 ghost use Rattle.jstate.specs.Celled.{BehindStaysCelled, HasWanted, MadeStaysCelled, MoreStayCelled, NoneAreCelled, WantsAsClass, WrittenStaysCelled};
 ghost use Rattle.jstate.specs.Numbers.{GivesBack};
-ghost use Rattle.jstate.specs.SeenLaws.{AddsOne, IsEnough, KeepsPieces, MadeStaysBuilt, Makes, MoreStaysBuilt, NamedStaysBuilt, Reads, ReadsNone, SeesEach, Writes, WritesField, WritesItem, WritesStatic, WrittenStaysBuilt};
+ghost use Rattle.jstate.specs.SeenLaws.{AddsOne, IsEnough, Makes, Reads, ReadsNone, SeesEach, Writes, WritesField, WritesItem, WritesStatic};
+ghost use Rattle.jstate.specs.SeenLaws.{KeepsPieces, MadeStaysBuilt, MoreStaysBuilt, NamedStaysBuilt, WrittenStaysBuilt};
 
 use jbase::Seq;
 use jheap::CellType;
