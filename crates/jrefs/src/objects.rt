@@ -61,7 +61,7 @@ pub(crate) fn field<M: Copy>(
 
 /// An instruction with the library's field, `System.out`, which no class may write.
 #[inline]
-pub(crate) fn out<M: Copy>(
+pub(crate) fn system_out<M: Copy>(
     frames: &mut Frames<M>,
     heap: &Heap,
     x: &Lasting<'_, '_>,
@@ -116,6 +116,6 @@ pub(crate) fn object<M: Copy>(
             Ok(cast(frames, heap, x, counts, op, t))
         }
         ObjectInstr::Cast { op, pool } => Ok(cast_named(frames, heap, x, counts, op, pool)),
-        ObjectInstr::Out { op, .. } => out(frames, heap, x, op),
+        ObjectInstr::Out { op, .. } => system_out(frames, heap, x, op),
     }
 }

@@ -121,14 +121,14 @@ returns-in-Out-clause-row g c =
     let f = c.args.frames.now.newest in
     let exact = subst (λ (o : ObjectInstr). IsExact x (instrs.Object o) f) c.in-Out.is c.requires.exact in
     let here = subst (λ (o : ObjectInstr). IsFetched x (instrs.Object o) f) c.in-Out.is c.requires.means in
-    as_it x c.args.counts f c.out.new.frames.newest c.args.heap.now c.args.heap.now c.args.f (object.Out c.in-Out.op c.in-Out.pool) c.in-Out.is c.out.result
-    (out_runs x c.args.counts f c.out.new.frames.newest c.args.heap.now c.args.heap.now c.out.result c.field_law.ensures c.requires.lasting c.in-Out.op c.in-Out.pool exact here c.out.ensures.row)
+    as_it x c.args.counts f c.system_out.new.frames.newest c.args.heap.now c.args.heap.now c.args.f (object.Out c.in-Out.op c.in-Out.pool) c.in-Out.is c.system_out.result
+    (out_runs x c.args.counts f c.system_out.new.frames.newest c.args.heap.now c.args.heap.now c.system_out.result c.field_law.ensures c.requires.lasting c.in-Out.op c.in-Out.pool exact here c.system_out.ensures.row)
 
 pub returns-in-Out-clause-missing : goal.returns-in-Out-clause-missing
 returns-in-Out-clause-missing g c =
     let x = c.args.x.now in
     let f = c.args.frames.now.newest in
     let exact = subst (λ (o : ObjectInstr). IsExact x (instrs.Object o) f) c.in-Out.is c.requires.exact in
-    missing_as x c.args.counts f f c.args.heap.now c.args.heap.now c.args.f (object.Out c.in-Out.op c.in-Out.pool) c.in-Out.is c.out.result
-    (never_missing x c.args.counts f f c.args.heap.now c.args.heap.now c.out.result (instrs.Object (object.Out c.in-Out.op c.in-Out.pool))
+    missing_as x c.args.counts f f c.args.heap.now c.args.heap.now c.args.f (object.Out c.in-Out.op c.in-Out.pool) c.in-Out.is c.system_out.result
+    (never_missing x c.args.counts f f c.args.heap.now c.args.heap.now c.system_out.result (instrs.Object (object.Out c.in-Out.op c.in-Out.pool))
     (Used (meanings.Field c.in-Out.op exact.field)) (out_means x f.method.class c.in-Out.op c.in-Out.pool (meanings.Field c.in-Out.op exact.field) exact.means))

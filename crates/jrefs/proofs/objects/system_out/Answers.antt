@@ -1,5 +1,5 @@
 use Rattle.jrefs.proofs.Using.{no_get, no_put, out_got, out_put}
-use Rattle.jrefs.proofs.objects.out.Goals as goal
+use Rattle.jrefs.proofs.objects.system_out.Goals as goal
 
 pub returns-in-GetStatic-clause-row : goal.returns-in-GetStatic-clause-row
 returns-in-GetStatic-clause-row g c =
