@@ -122,6 +122,17 @@ pub settles_none : (has : ℕ → Permission → Bool) (p : Permission) (done : 
 settles_none has p done m older s r stands end is =
     sym (ap (walk has p) stands ∙ walk-entry has p m.domain (mark_at done m.privileged) older ∙ ap (λ o. unwrap_or o (walk has p older)) (sym end ∙ is))
 
+-- the domain of such a frame has the permission
+pub granted_none : (has : ℕ → Permission → Bool) (p : Permission) (done : List Thing) (m : InspectMark) (r : Option Verdict)
+    → r ≡ settled_frame has p m.domain (mark_at done m.privileged) → r ≡ None → has m.domain p ≡ true
+granted_none has p done m r end is = passes (sym end ∙ is)
+  where
+    passes : settled_frame has p m.domain (mark_at done m.privileged) ≡ None → has m.domain p ≡ true
+    passes = elim (has m.domain p) as (λ b. cond b (settled_mark has p (mark_at done m.privileged)) (Some (Denied m.domain)) ≡ None → b ≡ true) [
+      | true ↦ λ e. refl
+      | false ↦ λ e. cc
+    ]
+
 pushed-append : (done : List Thing) (a b : List InspectMark) (s : Stack) → pushed done (a ++ b) s ≡ pushed done b (pushed done a s)
 pushed-append done [] b s = refl
 pushed-append done (m ∷ a) b s = pushed-append done a b (framed done m s)

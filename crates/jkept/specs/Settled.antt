@@ -1,5 +1,5 @@
 -- Where a walk ends, by one frame.
-use Rattle.std.specs.Prelude.{ℕ, ◌+◌, ◌≡◌, ◌<◌, Bool, List, Option, Some, None, unwrap_or, length, slice_get, if◌then◌else◌}
+use Rattle.std.specs.Prelude.{ℕ, ◌+◌, ◌≡◌, ◌<◌, ⊤, Bool, true, List, Option, Some, None, unwrap_or, length, slice_get, if◌then◌else◌}
 use Rattle.jperm.specs.declared.permission.Permission.{Permission}
 use Rattle.jdomain.specs.declared.verdict.Verdict.{Verdict}
 use Rattle.jdomain.specs.declared.verdict.Verdict.TheVariants.{Granted, Denied}
@@ -23,6 +23,11 @@ settled_mark has asked (Privileged given limits) = settled (walk_given has asked
 -- what a frame settles
 abbrev pub settled_frame : (ℕ → Permission → Bool) → Permission → ℕ → Mark → Option Verdict
 settled_frame has asked domain mark = if has domain asked then settled_mark has asked mark else Some (Denied domain)
+
+-- the domain, if there is one, has the permission
+abbrev pub Grants : (ℕ → Permission → Bool) → Permission → Option ℕ → Type 0
+Grants has asked None = ⊤
+Grants has asked (Some domain) = has domain asked ≡ true
 
 -- the verdicts of the stacks of the first numbers
 abbrev pub Knows : (ℕ → Permission → Bool) → Permission → List Thing → List Verdict → Type 0

@@ -3,7 +3,7 @@ ghost use Rattle.jperm.specs.declared.permission.Permission.{Permission};
 ghost use Rattle.jdomain.specs.Domains.{has};
 ghost use Rattle.jdomain.specs.Stacks.{some_implies, walk, walk_given};
 ghost use Rattle.jkept.specs.Entries.{AllBelow, Below};
-ghost use Rattle.jkept.specs.Settled.{Knows, given_in, given_of, known, settled, settled_frame, settled_mark, stack_from};
+ghost use Rattle.jkept.specs.Settled.{Grants, Knows, given_in, given_of, known, settled, settled_frame, settled_mark, stack_from};
 ghost use Rattle.jkept.specs.Things.{mark_at, stack_at, stack_of, things};
 
 use crate::entry::{KeptEntry, KeptFrame};
@@ -62,6 +62,19 @@ fn known(decided: &[Verdict], number: Option<u64>) -> Verdict
     }
 }
 
+/// Whether a domain has a permission, where one that has it may be known: that one isn't asked again.
+fn implies_too(domains: &Domains, asked: &Permission, granted: Option<u32>, domain: u32) -> bool
+    requires { Grants (has domains.now) asked.now granted }
+    ensures { result ≡ has domains.now domain asked.now }
+{
+    if let Some(known) = granted {
+        if known == domain {
+            return true;
+        }
+    }
+    domains.implies(domain, asked)
+}
+
 // ---- what a frame settles
 
 impl Table {
@@ -102,20 +115,41 @@ impl Table {
         }
     }
 
-    /// What a frame settles, where the stacks of earlier numbers than the privilege's are decided.
+    /// The domain of the newest frame of a number's stack, where the stack is granted: it has the permission.
+    fn granted_at(&self, decided: &[Verdict], number: Option<u64>) -> Option<u32>
+        requires within { length decided.now ≤ length self.now }
+        requires back { Below (length decided.now) number }
+        ensures { (h : ℕ → Permission → Bool) (p : Permission) → Knows h p (things self.now) decided.now → Grants h p result }
+    {
+        let Some(n) = number else {
+            return None;
+        };
+        let Verdict::Granted = decided[n as usize] else {
+            return None;
+        };
+        let Some(frame) = self.frame(n) else {
+            return None;
+        };
+        Some(frame.mark.domain)
+    }
+
+    /// What a frame settles, where the stacks of earlier numbers than the privilege's are decided. A domain that has the permission
+    /// may be known.
     fn frame_end(
         &self,
         decided: &[Verdict],
         domains: &Domains,
         asked: &Permission,
+        granted: Option<u32>,
         mark: InspectMark,
     ) -> Option<Verdict>
         requires knows { Knows (has domains.now) asked.now (things self.now) decided.now }
+        requires granted { Grants (has domains.now) asked.now granted }
         requires within { length decided.now ≤ length self.now }
         requires back { Below (length decided.now) mark.privileged }
         ensures { result ≡ settled_frame (has domains.now) asked.now mark.domain (mark_at (things self.now) mark.privileged) }
     {
-        if !domains.implies(mark.domain, asked) {
+        if !implies_too(domains, asked, granted, mark.domain) {
             return Some(Verdict::Denied(mark.domain));
         }
         let Some(k) = mark.privileged else {
@@ -136,7 +170,8 @@ impl Table {
         let Some(frame) = self.frame(decided.len() as u64) else {
             return Verdict::Granted;
         };
-        match self.frame_end(decided, domains, asked, frame.mark) {
+        let granted = self.granted_at(decided, frame.older);
+        match self.frame_end(decided, domains, asked, granted, frame.mark) {
             Some(verdict) => verdict,
             None => known(decided, frame.older),
         }
@@ -188,14 +223,17 @@ impl Table {
 
     // ---- the walk
 
-    /// What a frame settles. The stack that its privilege was given is decided, where it isn't yet.
+    /// What a frame settles, where a domain that has the permission may be known. The stack that its privilege was given is decided,
+    /// where it isn't yet.
     fn settle(
         &self,
         decided: &mut Vec<Verdict>,
         domains: &Domains,
         asked: &Permission,
+        granted: Option<u32>,
         mark: InspectMark,
     ) -> Result<Option<Verdict>, AllocError>
+        requires granted { Grants (has domains.now) asked.now granted }
         requires knows { Knows (has domains.now) asked.now (things self.now) decided.old.items }
         requires within { length decided.old.items ≤ length self.now }
         requires back { Below (length self.now) mark.privileged }
@@ -203,7 +241,7 @@ impl Table {
         ensures knows { OnOk result (Knows (has domains.now) asked.now (things self.now) decided.new.items) }
         ensures within { OnOk result (length decided.new.items ≤ length self.now) }
     {
-        if !domains.implies(mark.domain, asked) {
+        if !implies_too(domains, asked, granted, mark.domain) {
             return Ok(Some(Verdict::Denied(mark.domain)));
         }
         let Some(k) = mark.privileged else {
@@ -213,19 +251,23 @@ impl Table {
         Ok(self.mark_end(given, asked, k))
     }
 
-    /// The walk of the stack of a number, along older frames down to what is decided.
+    /// The walk of the stack of a number, along older frames down to what is decided. The domain of the frame before, if there is
+    /// one, has the permission.
     fn walk_older(
         &self,
         decided: &mut Vec<Verdict>,
         domains: &Domains,
         asked: &Permission,
+        before: Option<u32>,
         number: Option<u64>,
     ) -> Result<Verdict, AllocError>
+        requires before { Grants (has domains.now) asked.now before }
         requires knows { Knows (has domains.now) asked.now (things self.now) decided.old.items }
         requires within { length decided.old.items ≤ length self.now }
         requires back { Below (length self.now) number }
         ensures { IfOk result (λ v. v ≡ walk (has domains.now) asked.now (stack_at (things self.now) number)) }
     {
+        let mut granted = before;
         let mut older = number;
         while let Some(n) = older {
             if n < decided.len() as u64 {
@@ -234,15 +276,17 @@ impl Table {
             let Some(frame) = self.frame(n) else {
                 return Ok(Verdict::Granted);
             };
-            if let Some(verdict) = self.settle(decided, domains, asked, frame.mark)? {
+            if let Some(verdict) = self.settle(decided, domains, asked, granted, frame.mark)? {
                 return Ok(verdict);
             }
+            granted = Some(frame.mark.domain);
             older = frame.older;
         }
         Ok(Verdict::Granted)
     }
 
-    /// The walk of the stack of marks, the oldest first, on the inherited one.
+    /// The walk of the stack of marks, the oldest first, on the inherited one. A domain that was just asked isn't asked again for the
+    /// next frame.
     pub fn walk(
         &self,
         alloc: Global,
@@ -256,13 +300,16 @@ impl Table {
         ensures { IfOk result (λ v. v ≡ walk (has domains.now) asked.now (stack_of (things self.now) marks.now inherited)) }
     {
         let mut decided = Vec::new(alloc);
+        let mut granted = None;
         let mut i = marks.len();
         while i > 0 {
             i -= 1;
-            if let Some(verdict) = self.settle(&mut decided, domains, asked, marks[i])? {
+            let mark = marks[i];
+            if let Some(verdict) = self.settle(&mut decided, domains, asked, granted, mark)? {
                 return Ok(verdict);
             }
+            granted = Some(mark.domain);
         }
-        self.walk_older(&mut decided, domains, asked, inherited)
+        self.walk_older(&mut decided, domains, asked, granted, inherited)
     }
 }

@@ -1,7 +1,7 @@
 use Rattle.std.proofs.Common.{◌∙◌, arith}
 use Rattle.jdomain.specs.Domains.{has}
 use Rattle.jkept.specs.Things.{things, stack_at}
-use Rattle.jkept.proofs.Ends.{pushed_last, settles_some, settles_none}
+use Rattle.jkept.proofs.Ends.{granted_none, pushed_last, settles_some, settles_none}
 use Rattle.jkept.proofs.table.Table.walk.Goals as goal
 
 pub returns-in-Some : goal.returns-in-Some
@@ -18,6 +18,9 @@ loop-i-preserved c =
     record {
       knows = c.in_ok-verdict.ensures.knows;
       within = c.in_ok-verdict.ensures.within;
+      granted =
+          granted_none (has c.args.domains.now) c.args.asked.now (things c.args.self.now) _ c.in_ok-verdict.field-0
+          c.in_ok-verdict.ensures.end c.in_default.is;
       in_range = omega arith;
       same =
           settles_none (has c.args.domains.now) c.args.asked.now (things c.args.self.now) _ _ _ c.in_ok-verdict.field-0

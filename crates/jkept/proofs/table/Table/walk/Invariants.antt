@@ -1,7 +1,7 @@
 use Rattle.std.proofs.Common.{◌≡◌, ◌≤◌, length, take}
 use Rattle.jdomain.specs.Domains.{has}
 use Rattle.jdomain.specs.Stacks.{walk}
-use Rattle.jkept.specs.Settled.{Knows}
+use Rattle.jkept.specs.Settled.{Grants, Knows}
 use Rattle.jkept.specs.Things.{pushed, things, stack_at, stack_of}
 use Rattle.jkept.proofs.table.Table.walk.Given as goal
 
@@ -10,6 +10,7 @@ abbrev pub invariant-loop-i : goal.invariant-loop-i
 invariant-loop-i l = record {
   knows : Knows (has l.domains) l.asked (things l.self) l.decided.items;
   within : length l.decided.items ≤ length l.self;
+  granted : Grants (has l.domains) l.asked l.granted;
   in_range : l.i ≤ length l.marks;
   same : walk (has l.domains) l.asked (pushed (things l.self) (take l.i l.marks) (stack_at (things l.self) l.inherited)) ≡ walk (has l.domains) l.asked (stack_of (things l.self) l.marks l.inherited);
 }

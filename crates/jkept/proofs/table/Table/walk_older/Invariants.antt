@@ -2,7 +2,7 @@ use Rattle.std.proofs.Common.{◌≡◌, ◌≤◌, length}
 use Rattle.jdomain.specs.Domains.{has}
 use Rattle.jdomain.specs.Stacks.{walk}
 use Rattle.jkept.specs.Entries.{Below}
-use Rattle.jkept.specs.Settled.{Knows, place}
+use Rattle.jkept.specs.Settled.{Grants, Knows, place}
 use Rattle.jkept.specs.Things.{things, stack_at}
 use Rattle.jkept.proofs.table.Table.walk_older.Given as goal
 
@@ -11,6 +11,7 @@ abbrev pub invariant-loop-older : goal.invariant-loop-older
 invariant-loop-older l = record {
   knows : Knows (has l.domains) l.asked (things l.self) l.decided.items;
   within : length l.decided.items ≤ length l.self;
+  granted : Grants (has l.domains) l.asked l.granted;
   back : Below (length l.self) l.older;
   same : walk (has l.domains) l.asked (stack_at (things l.self) l.older) ≡ walk (has l.domains) l.asked (stack_at (things l.self) l.fn.number);
 }
