@@ -1,5 +1,5 @@
 -- Reading the lines of a job one by one.
-use Rattle.std.proofs.Common.{◌≡◌, ℕ, ◌+◌, ◌==◌, ◌||◌, ◌&&◌, Bool, true, false, not, cond, List, [], ◌∷◌, ◌++◌, length, take, filter, Option, Some, None, refl, sym, ap, ◌∙◌, subst, append_assoc, arith}
+use Rattle.std.proofs.Common.{◌≡◌, ℕ, ◌+◌, ◌==◌, ◌||◌, Bool, true, false, not, cond, List, [], ◌∷◌, ◌++◌, length, take, filter, Option, Some, None, refl, sym, ap, ◌∙◌, subst, append_assoc, arith}
 use Rattle.std.specs.Prelude.{Result, Ok, Err, nat_le, nat_lt}
 use Rattle.std.specs.List.{after_first, before_first, filter_map, cons_option, list_any}
 use Rattle.std.specs.Option.{is_some}
@@ -23,7 +23,7 @@ use Rattle.std.proofs.lemmas.Slice.Eq.{bytes_eq-Decides}
 use Rattle.std.proofs.lemmas.List.{append-nil, length-append}
 use Rattle.std.proofs.lemmas.List.Elements.{filter_map-append, filter-append}
 use Rattle.std.proofs.lemmas.List.Folds.{list_any-append}
-use Rattle.jbase.specs.First.{fault_if, first_along, first_some, or_else}
+use Rattle.jbase.specs.First.{fault_if, first_along, or_else}
 use Rattle.jjob.specs.declared.job.JobError.{JobError}
 use Rattle.jjob.specs.declared.job.JobError.TheVariants.{Line, Memory}
 use Rattle.jjob.specs.declared.job.TheConstants.{MOST_CODES, MOST_CLASSES, MOST_PICKS}
@@ -33,10 +33,10 @@ use Rattle.jjob.specs.declared.reader.Reader.{Reader}
 use Rattle.jjob.specs.declared.told.Told.{Told}
 use Rattle.jjob.specs.declared.line.TheConstants.{MOST_HEAP, MOST_DEPTH, MOST_STEPS, MOST_PICK}
 use Rattle.jjob.specs.JobNumbers.{number_up_to}
-use Rattle.jjob.specs.JobLines.{code_said, counted, cwd_said, depth_said, frames_said, is_kept, keyed, place_of_equals, prop_said, said_of, schedule_said}
-use Rattle.jjob.specs.Jobs.{bad_behind, clashes, first_bad, is_bad, name_in, said_by}
+use Rattle.jjob.specs.JobLines.{SaysNoProp, code_said, counted, cwd_said, depth_said, frames_said, is_kept, keyed, prop_said, said_of, schedule_said}
+use Rattle.jjob.specs.Jobs.{bad_behind, clashes, first_bad, name_in, said_by}
 use Rattle.jjob.specs.JobTold.{IsTold, is_too_much}
-use Rattle.jjob.specs.JobReading.{HasNames, IsRead, TakesAll, TakesLine, digest, is_named_again, name_cmp, name_of}
+use Rattle.jjob.specs.JobReading.{HasNames, IsRead, TakesAll, TakesLine, digest, is_named_again, name_cmp}
 
 -- ---- what may not be said
 
@@ -171,32 +171,35 @@ not_cwd : (b : Bool) (text name value : List ℕ) → cond b (Some (Cwd text)) N
 not_cwd true text name value e = cc
 not_cwd false text name value e = cc
 
-prop_name : (b : Bool) (text name value : List ℕ) → cond b (Some (Prop (before_first (λ b. b == 61) text) (after_first (λ b. b == 61) text))) None ≡ Some (Prop name value) → before_first (λ b. b == 61) text ≡ name
-prop_name true text name value e = cc
-prop_name false text name value e = cc
-
-keyed_name : (key text name value : List ℕ) → keyed key text ≡ Some (Prop name value) → before_first (λ b. b == 61) text ≡ name
-unfolding keyed prop_said cwd_said code_said
-keyed_name key text name value e =
-    go (bytes_eq key (codes "policy")) (bytes_eq key (codes "prop")) (bytes_eq key (codes "cwd")) (bytes_eq key (codes "code")) (bytes_eq key (codes "class")) (bytes_eq key (codes "main")) e
+keyed_other : (key text name value : List ℕ) → bytes_eq key (codes "prop") ≡ false → keyed key text ≡ Some (Prop name value) → ⊥
+unfolding keyed cwd_said code_said
+keyed_other key text name value is e =
+    go (bytes_eq key (codes "policy")) (bytes_eq key (codes "prop")) (bytes_eq key (codes "cwd")) (bytes_eq key (codes "code"))
+    (bytes_eq key (codes "class")) (bytes_eq key (codes "main")) is e
   where
-    go : (a b c d f g : Bool) → cond a (Some (Policy text)) (cond b (prop_said text) (cond c (cwd_said text) (cond d (code_said text) (cond f (Some (Class text)) (cond g (Some (Main text)) (counted key text)))))) ≡ Some (Prop name value) → before_first (λ b. b == 61) text ≡ name
-    go true b c d f g e = cc
-    go false true c d f g e = prop_name (nat_lt 0 (place_of_equals text) && nat_lt (place_of_equals text) (length text)) text name value e
-    go false false true d f g e = absurd (not_cwd (slice_index text 0 == 47) text name value e)
-    go false false false true f g e = absurd (not_code (result_ok (source_of text)) name value e)
-    go false false false false true g e = cc
-    go false false false false false true e = cc
-    go false false false false false false e = absurd (not_counted key text name value e)
+    go : (a b c d f g : Bool) → b ≡ false → cond a (Some (Policy text)) (cond b (prop_said text) (cond c (cwd_said text)
+        (cond d (code_said text) (cond f (Some (Class text)) (cond g (Some (Main text)) (counted key text)))))) ≡ Some (Prop name value) → ⊥
+    go true b c d f g is e = cc
+    go false true c d f g is e = cc
+    go false false true d f g is e = not_cwd (slice_index text 0 == 47) text name value e
+    go false false false true f g is e = not_code (result_ok (source_of text)) name value e
+    go false false false false true g is e = cc
+    go false false false false false true is e = cc
+    go false false false false false false is e = not_counted key text name value e
 
-line_keyed : (b : Bool) (line name value : List ℕ) → cond b None (keyed (before_first (λ b. b == 32) line) (after_first (λ b. b == 32) line)) ≡ Some (Prop name value) → before_first (λ b. b == 61) (after_first (λ b. b == 32) line) ≡ name
-line_keyed true line name value e = cc
-line_keyed false line name value e = keyed_name (before_first (λ b. b == 32) line) (after_first (λ b. b == 32) line) name value e
-
--- a line that says a property has its name between the first space and the `=`
-pub line_name : (line name value : List ℕ) → said_of line ≡ Some (Prop name value) → name_of line ≡ name
+-- a line that has another key says no property
+pub says_other : (line key : List ℕ) → key ≡ before_first (λ b. b == 32) line → bytes_eq key (codes "prop") ≡ false → SaysNoProp line
 unfolding said_of
-line_name line name value e = line_keyed (length (after_first (λ b. b == 32) line) == 0) line name value e
+says_other line key first is name value e = go (length (after_first (λ b. b == 32) line) == 0) e
+  where
+    go : (b : Bool) → cond b None (keyed (before_first (λ b. b == 32) line) (after_first (λ b. b == 32) line)) ≡ Some (Prop name value) → ⊥
+    go true e = cc
+    go false e = keyed_other (before_first (λ b. b == 32) line) (after_first (λ b. b == 32) line) name value (ap (λ (k : List ℕ). bytes_eq k (codes "prop")) (sym first) ∙ is) e
+
+-- a property is never too much
+pub prop_fits : (told : Told) (name value : List ℕ) → is_too_much told (Prop name value) ≡ false
+unfolding is_too_much
+prop_fits told name value = refl
 
 -- ---- one line
 

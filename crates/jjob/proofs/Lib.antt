@@ -9,3 +9,4 @@ pub mod Parts
 pub mod RowLaws
 pub mod Rows
 pub mod Steps
+pub mod Units

@@ -1,5 +1,5 @@
 -- What a line of a job says by itself: a key, a space and a value.
-use Rattle.std.specs.Prelude.{ℕ, Bool, ◌&&◌, not, ◌==◌, List, length, slice_index, nat_lt, Option, Some, None, option_map, if◌then◌else◌, codes}
+use Rattle.std.specs.Prelude.{◌≡◌, ℕ, Bool, ◌&&◌, not, ◌==◌, List, length, slice_index, nat_lt, Option, Some, None, option_map, if◌then◌else◌, codes}
 use Rattle.std.specs.List.{after_first, before_first, position_or_len, slice_split}
 use Rattle.std.specs.Result.{result_ok}
 use Rattle.std.specs.Str.{byte, bytes_eq}
@@ -72,3 +72,7 @@ unfoldable pub said_of : List ℕ → Option Said
 said_of line =
     if length (after_first (λ b. b == byte " ") line) == 0 then None
     else keyed (before_first (λ b. b == byte " ") line) (after_first (λ b. b == byte " ") line)
+
+-- a line says no property
+abbrev pub SaysNoProp : List ℕ → Type 0
+SaysNoProp line = (name value : List ℕ) → ¬ (said_of line ≡ Some (Prop name value))

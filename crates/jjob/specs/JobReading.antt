@@ -1,7 +1,7 @@
 -- What a reader of a job holds, and what it answers to the lines.
-use Rattle.std.specs.Prelude.{◌≡◌, ℕ, ◌+◌, ◌*◌, ◌%◌, ◌^◌, ◌==◌, Bool, true, false, not, List, [], ◌∷◌, ◌++◌, Result, Ok, Err, Option, Some, None}
-use Rattle.std.specs.List.{after_first, before_first, filter_map, list_any}
-use Rattle.std.specs.Str.{byte, bytes_eq}
+use Rattle.std.specs.Prelude.{◌≡◌, ℕ, ◌+◌, ◌*◌, ◌%◌, ◌^◌, Bool, true, false, not, List, [], ◌∷◌, ◌++◌, Result, Ok, Err, Some, None}
+use Rattle.std.specs.List.{filter_map, list_any}
+use Rattle.std.specs.Str.{bytes_eq}
 use denote.Ref.{Bor}
 use Rattle.std.specs.Cmp.Lexicographic.{slice_cmp}
 use Rattle.std.specs.declared.cmp.Ordering.{Ordering}
@@ -24,10 +24,6 @@ digest_from sum (b ∷ name) = digest_from ((sum * 257 % 2 ^ 64 + b) % 2 ^ 64) n
 
 abbrev pub digest : List ℕ → ℕ
 digest name = digest_from 0 name
-
--- what stands in a line between its first space and the first `=` behind that
-abbrev pub name_of : List ℕ → List ℕ
-name_of line = before_first (λ b. b == byte "=") (after_first (λ b. b == byte " ") line)
 
 -- names by their digests, and then by their bytes
 abbrev pub name_cmp : ℕ × Bor (List ℕ) → ℕ × Bor (List ℕ) → Ordering

@@ -1,5 +1,6 @@
-ghost use Rattle.std.specs.Prelude.{◌≡◌, IfOk};
-ghost use Rattle.jjob.specs.JobLines.{code_said, counted, cwd_said, depth_said, is_kept, keyed, prop_said, said_of, schedule_said};
+ghost use Rattle.std.specs.Prelude.{◌≡◌, ◌<◌, IfNone, IfOk, IfSome, None, Some, length};
+ghost use Rattle.jjob.specs.declared.line.Said.TheVariants.{Prop};
+ghost use Rattle.jjob.specs.JobLines.{SaysNoProp, code_said, counted, cwd_said, depth_said, is_kept, keyed, prop_said, said_of, schedule_said};
 
 use crate::number::{number_up_to, numbers_up_to, small_up_to};
 use crate::text::Text;
@@ -138,6 +139,37 @@ fn prop_said(alloc: Global, text: &str) -> Result<Option<Said>, AllocError>
     let name = Text::from_str(alloc, name)?;
     let value = Text::from_str(alloc, value)?;
     Ok(Some(Said::Prop(name, value)))
+}
+
+/// The name and the value of a property, where a line says one. Nothing is copied.
+#[tactic(auto, unfolding(crate::specs::JobLines::said_of, crate::specs::JobLines::keyed))]
+pub fn prop_of(line: &str) -> Option<(&str, &str)>
+    ensures some { IfSome result (λ x. said_of line.now ≡ Some (Prop x.0.now x.1.now)) }
+    ensures none { IfNone result (SaysNoProp line.now) }
+{
+    let Some((key, text)) = line.split_once(' ') else {
+        return None;
+    };
+    if key != "prop" {
+        return None;
+    }
+    pair_of(text)
+}
+
+/// The name and the value that a property's text has.
+#[tactic(auto, unfolding(crate::specs::JobLines::prop_said))]
+fn pair_of(text: &str) -> Option<(&str, &str)>
+    ensures some { IfSome result (λ x. prop_said text.now ≡ Some (Prop x.0.now x.1.now)) }
+    ensures none { IfNone result (prop_said text.now ≡ None) }
+    ensures filled { IfSome result (λ x. 0 < length text.now) }
+{
+    let Some((name, value)) = text.split_once('=') else {
+        return None;
+    };
+    if name.is_empty() {
+        return None;
+    }
+    Some((name, value))
 }
 
 /// A folder: its path begins with `/`.

@@ -81,6 +81,7 @@ fn lines_read<'a>(alloc: Global, text: &'a str) -> Result<Reader<'a>, JobError>
 }
 
 /// The first line of a text, and what stands behind the line feed that ends it.
+#[inline(always)]
 fn first_line(text: &str) -> Option<(&str, &str)>
     ensures none { IfNone result (lines_of text.now ≡ text.now ∷ []) }
     ensures some { IfSome result (λ x. lines_of text.now ≡ x.0.now ∷ lines_of x.1.now) }

@@ -1,4 +1,5 @@
 ghost use Rattle.std.specs.Prelude.{◌≡◌, IfOk};
+ghost use Rattle.jtext.specs.Texts.{units_of_text};
 
 use jtext::Units;
 use std::alloc::{AllocError, Global};
@@ -50,11 +51,22 @@ impl Text {
     }
 }
 
+/// The UTF-16 units of a text.
+#[tactic(auto, using(crate::proofs::Units::ascii_units))]
+pub fn units_of(alloc: Global, text: &str) -> Result<Units, AllocError>
+    ensures { IfOk result (λ units. units ≡ units_of_text text.now) }
+{
+    if text.is_ascii() {
+        return widened(alloc, text.as_bytes());
+    }
+    Units::from_text(alloc, text)
+}
+
 /// A unit for each byte of a text, with its number: the units of a text of ASCII.
 pub fn widened(alloc: Global, text: &[u8]) -> Result<Units, AllocError>
     ensures { IfOk result (λ units. units ≡ text.now) }
 {
-    let mut units = Vec::new(alloc);
+    let mut units = Vec::with_capacity(alloc, text.len())?;
     for b in text {
         units.push(u16::from(*b))?;
     }

@@ -11,7 +11,7 @@ use crate::job::{
     MOST_PICKS,
 };
 use crate::line::Said;
-use crate::text::{Text, widened};
+use crate::text::{Text, units_of, widened};
 use jbase::Seq;
 use jdomain::CodeSource;
 use jtext::Units;
@@ -87,6 +87,14 @@ impl Told {
         self.put(alloc, said)
     }
 
+    /// Adds a property.
+    #[tactic(auto, using(crate::proofs::JobTold::told_more), unfolding(crate::specs::JobTold::is_too_much))]
+    pub fn add_prop(&mut self, alloc: Global, name: &str, value: &str) -> Result<(), AllocError>
+        ensures { (before : List SaidValue) → IsTold before self.old → OnOk result (IsTold (before ++ Prop name.now value.now ∷ []) self.new) }
+    {
+        self.put_prop(alloc, name, value)
+    }
+
     /// The job of what all lines say, where they name a main class.
     #[tactic(auto, unfolding(crate::specs::Jobs::job_of))]
     pub fn into_job(self, alloc: Global) -> Result<Option<Job>, AllocError>
@@ -131,11 +139,11 @@ impl Told {
     {
         match said {
             Said::Policy(path) => self.policy = Some(path),
-            Said::Prop(name, value) => return self.add_prop(alloc, &name, &value),
-            Said::Cwd(path) => self.cwd = Some(Units::from_text(alloc, path.as_str())?),
+            Said::Prop(name, value) => return self.put_prop(alloc, name.as_str(), value.as_str()),
+            Said::Cwd(path) => self.cwd = Some(units_of(alloc, path.as_str())?),
             Said::Code(source) => return self.add_code(alloc, source),
             Said::Class(path) => return self.add_class(path),
-            Said::Main(name) => self.main = Some(Units::from_text(alloc, name.as_str())?),
+            Said::Main(name) => self.main = Some(units_of(alloc, name.as_str())?),
             Said::Schedule(numbers) => self.schedule.extend(numbers.as_slice())?,
             Said::Heap(cells) => self.heap = Some(cells),
             Said::Depth(frames) => self.depth = Some(frames),
@@ -144,13 +152,13 @@ impl Told {
         Ok(())
     }
 
-    /// Adds a property.
+    /// Puts a property to the others.
     #[tactic(auto, unfolding(crate::specs::JobTold::after))]
-    fn add_prop(&mut self, alloc: Global, name: &Text, value: &Text) -> Result<(), AllocError>
+    fn put_prop(&mut self, alloc: Global, name: &str, value: &str) -> Result<(), AllocError>
         ensures { OnOk result (self.new ≡ after self.old (Prop name.now value.now)) }
     {
-        let name = Units::from_text(alloc, name.as_str())?;
-        let value = Units::from_text(alloc, value.as_str())?;
+        let name = units_of(alloc, name)?;
+        let value = units_of(alloc, value)?;
         self.props.push((name, value))
     }
 
