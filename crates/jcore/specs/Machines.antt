@@ -66,6 +66,7 @@ pub record IsMachine {E : Type 0} (m : Machine E) : Type 0 where
 -- What holds between steps.
 pub record IsReady {E : Type 0} (m : Machine E) : Type 0 where
   pub machine : IsMachine m
+  -- the running thread is runnable, and none waits for one that has ended
   pub lives : Lives m.guests
   pub running : GuestStands (classes_of m) m.guests.running
 

@@ -64,7 +64,8 @@ pub fn tell_uncaught<M: Copy>(
     class: ClassRef,
     told: &mut Seq<Event>,
 ) -> Result<(), AllocError>
-    ensures { OnOk result (told.new ≡ told.old ++ Throw m.now.guests.at (name_told (type_of m.now.calls class)) ∷ Uncaught m.now.guests.at (name_told (type_of m.now.calls class)) ∷ []) }
+    ensures { OnOk result (told.new ≡ told.old ++ Throw m.now.guests.at (name_told (type_of m.now.calls class))
+        ∷ Uncaught m.now.guests.at (name_told (type_of m.now.calls class)) ∷ []) }
 {
     tell_thrown(alloc, m, class, told)?;
     let class = told_name(alloc, m.calls.known().program(), class)?;

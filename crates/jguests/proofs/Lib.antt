@@ -1,3 +1,4 @@
 pub mod Lying
 pub mod Staying
 pub mod Turning
+pub mod Waiting

@@ -2,7 +2,7 @@
 use Rattle.std.specs.Prelude.{◌≡◌, ◌⊎◌, ◌<◌, ◌≤◌, ◌+◌, ◌^◌, ℕ, Bool, true, false, List, [], map, length, take, drop, Option, Some, None, option_map, slice_get, slice_set}
 use Rattle.std.specs.List.{list_any}
 use Rattle.jthreads.specs.declared.thread.Thread.{Thread}
-use Rattle.jthreads.specs.Table.{lives_at}
+use Rattle.jthreads.specs.Table.{is_runnable, lives_at, thread_at}
 use Rattle.jmachine.specs.Acts.{FrameOf, GuestOf, State}
 use Rattle.jmachine.specs.Store.{Store}
 use Rattle.jstate.specs.Framed.{Framed, all}
@@ -31,10 +31,6 @@ pub record AreGuests {E : Type 0} (g : Guests E) : Type 0 where
   pub table : length g.table ≡ length g.others.items
   pub few : length g.others.items ≤ 2 ^ 32
 
--- The one that runs was started and has not ended.
-abbrev pub Lives : {E : Type 0} → Guests E → Type 0
-Lives g = lives_at g.table g.at ≡ true
-
 -- one of these ended by an exception
 abbrev pub have_failed : {E : Type 0} → List (Guest E) → Bool
 have_failed gs = list_any (λ g. g.failed) gs
@@ -49,6 +45,21 @@ state_by g store = record {
   store = store;
   turns = g.turns;
 }
+
+-- ---- which may go on
+
+-- Each thread that waits, waits for one that was started and has not ended.
+abbrev pub AwaitLiving : List Thread → Type 0
+AwaitLiving threads = (n t : ℕ) → (thread_at threads n).waits_for ≡ Some t → lives_at threads t ≡ true
+
+-- A thread is runnable, and none waits for one that has ended.
+pub record IsLive (threads : List Thread) (at : ℕ) : Type 0 where
+  pub runs : is_runnable (thread_at threads at) ≡ true
+  pub wait : AwaitLiving threads
+
+-- The one that runs is runnable, and none waits for one that has ended: so it is between steps.
+abbrev pub Lives : {E : Type 0} → Guests E → Type 0
+Lives g = IsLive g.table g.at
 
 -- ---- the thread that runs
 

@@ -1,5 +1,5 @@
 ghost use Rattle.std.specs.Prelude.{◌≡◌, ◌∷◌, ◌++◌, [], Some, None, false, IfOk, OnOk, length};
-ghost use Rattle.jguests.specs.Guested.{AreGuests, HaveStayed, NoneWait, RunsAs, guest_by, guests_of, nobody};
+ghost use Rattle.jguests.specs.Guested.{AreGuests, HaveStayed, Lives, NoneWait, RunsAs, guest_by, guests_of, nobody};
 ghost use Rattle.jthreads.specs.Table.{added, opened};
 
 use jstate::Frames;
@@ -54,6 +54,7 @@ impl<M: Copy> Guests<M> {
         ensures one { IfOk result (λ g. guests_of g ≡ guest_by (record { frames = Some frames; inherited = None; runnable = 0; failed = false }) ∷ []) }
         ensures now { IfOk result (λ g. g.running ≡ record { frames = Some frames; inherited = None; runnable = 0; failed = false }) }
         ensures alone { IfOk result NoneWait }
+        ensures lives { IfOk result Lives }
         ensures table { IfOk result (λ g. g.table ≡ opened) }
         ensures turns { IfOk result (λ g. g.turns ≡ 0) }
         ensures at { IfOk result (λ g. g.at ≡ 0) }
@@ -91,6 +92,7 @@ impl<M: Copy> Guests<M> {
         ensures turns { OnOk result (self.new.turns ≡ self.old.turns) }
         ensures at { OnOk result (self.new.at ≡ self.old.at) }
         ensures now { OnOk result (self.new.running ≡ self.old.running) }
+        ensures lives { OnOk result (Lives self.old → Lives self.new) }
         ensures stay { OnOk result (HaveStayed self.old self.new) }
     {
         let number = self.table.add(alloc)?;

@@ -1,9 +1,9 @@
-ghost use Rattle.std.specs.Prelude.{◌≡◌, ◌<◌, ℕ, Some, IfOk, OnOk, IsTrue, length, not, slice_get};
-ghost use Rattle.jthreads.specs.Table.{is_started, join_answer, joined, lives_at, table_after_end, table_after_start};
+ghost use Rattle.std.specs.Prelude.{◌≡◌, ◌<◌, ℕ, Some, IfOk, OnOk, length, not, slice_get, true};
+ghost use Rattle.jthreads.specs.Table.{is_runnable, is_started, join_answer, joined, table_after_end, table_after_start, thread_at};
 ghost use Rattle.std.specs.List.{list_any};
 ghost use Rattle.jmachine.specs.Turns.{end_of, guests};
 ghost use Rattle.jmachine.specs.Store.{Store};
-ghost use Rattle.jguests.specs.Guested.{AreGuests, HaveStayed, Lives, ended_as, guest_by, guests_of, have_failed, state_by, with_running, with_table};
+ghost use Rattle.jguests.specs.Guested.{AreGuests, AwaitLiving, HaveStayed, Lives, ended_as, guest_by, guests_of, have_failed, state_by, with_running, with_table};
 ghost use Rattle.jguests.specs.declared.turns.Turned.TheVariants as turns;
 ghost use Rattle.jguests.specs.Turning.{EndsTurn, Turns};
 
@@ -80,7 +80,8 @@ impl<M: Copy> Guests<M> {
         requires { AreGuests self.old }
         ensures are { OnOk result (AreGuests self.new) }
         ensures turn { IfOk result (λ done. Turns schedule.now self.old done self.new) }
-        ensures lives { IfOk result (λ done. done ≡ turns.Goes → Lives self.new) }
+        ensures runs { IfOk result (λ done. done ≡ turns.Goes → is_runnable (thread_at self.new.table self.new.at) ≡ true) }
+        ensures wait { OnOk result (AwaitLiving self.old.table → AwaitLiving self.new.table) }
         ensures stay { OnOk result (HaveStayed self.old self.new) }
     {
         thread_laws();
@@ -103,6 +104,7 @@ impl<M: Copy> Guests<M> {
         ensures are { AreGuests self.new }
         ensures answer { result ≡ not (is_started self.old.table t) }
         ensures table { self.new ≡ with_table (table_after_start t self.old.table) self.old }
+        ensures wait { AwaitLiving self.old.table → AwaitLiving self.new.table }
     {
         if t >= self.others.len() as u64 {
             return true;
@@ -117,6 +119,7 @@ impl<M: Copy> Guests<M> {
         ensures are { AreGuests self.new }
         ensures answer { result ≡ join_answer t self.old.table }
         ensures table { self.new ≡ with_table (joined self.old.at t self.old.table) self.old }
+        ensures wait { AwaitLiving self.old.table → AwaitLiving self.new.table }
     {
         if t >= self.others.len() as u64 {
             return Joined::AtOnce;
@@ -124,12 +127,13 @@ impl<M: Copy> Guests<M> {
         self.table.join(self.at, t as u32)
     }
 
-    /// The thread that runs has ended, by an exception or not. It was started and has not ended.
+    /// The thread that runs has ended, by an exception or not. It was runnable; none waits for it from now on.
     pub fn end_running(&mut self, failed: bool)
         requires are { AreGuests self.old }
         requires lives { Lives self.old }
         ensures are { AreGuests self.new }
         ensures table { self.new ≡ with_table (table_after_end self.old.at self.old.table) (with_running (ended_as failed self.old.running) self.old) }
+        ensures wait { AwaitLiving self.new.table }
     {
         self.running.frames = None;
         self.running.failed = failed;

@@ -1,24 +1,18 @@
 -- Which threads and which frames a call leaves.
-use Rattle.std.proofs.Common.{◌≡◌, ◌∙◌, ℕ, zero, suc, List, [], ◌∷◌, ◌++◌, refl, sym, ap, ap₂, subst, inr}
-use Rattle.std.specs.Prelude.{option_map, slice_index_or, true}
+use Rattle.std.proofs.Common.{◌≡◌, ◌∙◌, ℕ, List, refl, sym, ap, subst, inr}
+use Rattle.std.specs.Prelude.{option_map, true}
 use Rattle.jthreads.specs.declared.thread.Thread.{Thread}
 use Rattle.jthreads.specs.declared.table.Joined.TheVariants.{AtOnce}
-use Rattle.jthreads.specs.Table.{added, is_alive, is_started, join_answer, joined, lives_at, table_after_start, unstarted}
+use Rattle.jthreads.specs.Table.{is_runnable, is_started, join_answer, joined, table_after_start, thread_at}
 use Rattle.jguests.specs.declared.guests.Guest.{Guest}
 use Rattle.jguests.specs.declared.guests.Guests.{Guests}
 use Rattle.jguests.specs.declared.turns.Turned.{Turned}
 use Rattle.jguests.specs.declared.turns.Turned.TheVariants as turns
-use Rattle.jguests.specs.Guested.{AreGuests, HaveStayed, Lives, with_table}
+use Rattle.jguests.specs.Guested.{AreGuests, AwaitLiving, HaveStayed, Lives, with_table}
 use Rattle.jthreading.specs.declared.switching.Threaded.TheVariants as threaded
 use Rattle.jthreading.specs.Lasting.{LivesOn}
 use Rattle.jthreading.specs.Switching.{behind, gone, without}
 use Rattle.jthreading.proofs.Rows.{joined_same, started_same}
-
-index_more : {A : Type 0} (xs : List A) (i : ℕ) (d : A) → slice_index_or (xs ++ d ∷ []) i d ≡ slice_index_or xs i d
-index_more [] zero d = refl
-index_more [] (suc i) d = refl
-index_more (x ∷ xs) zero d = refl
-index_more (x ∷ xs) (suc i) d = index_more xs i d
 
 module _ {E : Type 0} where
   -- nothing has changed
@@ -43,9 +37,13 @@ module _ {E : Type 0} where
   waiting_stay count g first mid h table goes is stay =
       subst (λ (x : Guests E). HaveStayed x h) (is ∙ ap (λ (x : Guests E). with_table (table x) x) goes) stay
 
-  pub turned_lives : (done : Turned) (h : Guests E) → (done ≡ turns.Goes → Lives h) → LivesOn (threaded.Turned done) h
-  turned_lives turns.Goes h lives = lives refl
-  turned_lives (turns.Ends end) h lives = tt
+  pub turned_lives : (done : Turned) (h : Guests E) → (done ≡ turns.Goes → is_runnable (thread_at h.table h.at) ≡ true) → AwaitLiving h.table → LivesOn (threaded.Turned done) h
+  turned_lives turns.Goes h runs wait = record { runs = runs refl; wait = wait }
+  turned_lives (turns.Ends end) h runs wait = tt
+
+  -- none waits in vain where the one that called goes on behind its call
+  pub behind_waits : (count : ℕ) (g h : Guests E) → h ≡ behind count g → AwaitLiving g.table → AwaitLiving h.table
+  behind_waits count g h is wait = subst (λ (x : Guests E). AwaitLiving x.table) (sym is) wait
 
   -- ---- a thread that had been started
 
@@ -73,7 +71,3 @@ module _ {E : Type 0} where
 
   pub more_frames : (count : ℕ) (g mid h : Guests E) → mid ≡ behind count g → h.running ≡ mid.running → h.running.frames ≡ option_map (gone count) g.running.frames
   more_frames count g mid h goes same = ap (λ (x : Guest E). x.frames) same ∙ ap (λ (x : Guests E). x.running.frames) goes
-
-  pub more_lives : (count : ℕ) (g mid h : Guests E) → mid ≡ behind count g → h.table ≡ added mid.table → h.at ≡ mid.at → Lives g → Lives h
-  more_lives count g mid h goes table at lives =
-      ap₂ lives_at table at ∙ ap is_alive (index_more mid.table mid.at unstarted) ∙ behind_lives count g mid goes lives

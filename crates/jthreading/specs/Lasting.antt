@@ -25,7 +25,7 @@ StaysFramed count (threaded.Turned done) g h = ⊤
 StaysFramed count (threaded.Raises class) g h = h ≡ without count g
 StaysFramed count threaded.Stuck g h = h ≡ g
 
--- The one that runs was started and has not ended, unless the run is over.
+-- The one that runs is runnable, and none waits for one that has ended, unless the run is over.
 abbrev pub LivesOn : {E : Type 0} → Threaded → Guests E → Type 0
 LivesOn threaded.Went h = Lives h
 LivesOn (threaded.Turned turns.Goes) h = Lives h

@@ -11,7 +11,7 @@ use Rattle.jstate.specs.Seen.{first, number_in, store_by}
 use Rattle.jguests.specs.declared.guests.Guests.{Guests}
 use Rattle.jguests.specs.Guested.{state_by, with_frames}
 use Rattle.jthreading.specs.Switching.{gone}
-use Rattle.jthreading.proofs.Lasting.{are_behind, more_frames, more_lives, turned_stay}
+use Rattle.jthreading.proofs.Lasting.{are_behind, behind_lives, more_frames, turned_stay}
 use Rattle.jthreading.proofs.Made.{has_cell, held_there, makes_row, makes_so, one_more_state, some_cells, thread_there, written, written_alike}
 use Rattle.jthreading.proofs.Rows.{framed_state}
 use Rattle.jthreading.proofs.making.make.Goals as goal
@@ -65,4 +65,4 @@ pub returns-clause-framed : goal.returns-clause-framed
 returns-clause-framed g c = more_frames c.args.count c.args.guests.now c.go_on.new.guests c.add.new.self c.go_on.ensures c.in_ok-number.ensures.now
 
 pub returns-clause-lives : goal.returns-clause-lives
-returns-clause-lives g c = more_lives c.args.count c.args.guests.now c.go_on.new.guests c.add.new.self c.go_on.ensures c.in_ok-number.ensures.table c.in_ok-number.ensures.at
+returns-clause-lives g c alive = c.in_ok-number.ensures.lives (behind_lives c.args.count c.args.guests.now c.go_on.new.guests c.go_on.ensures alive)

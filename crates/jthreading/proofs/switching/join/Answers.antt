@@ -9,7 +9,7 @@ use Rattle.jguests.specs.declared.guests.Guests.{Guests}
 use Rattle.jguests.specs.Guested.{state_by, with_frames, with_table}
 use Rattle.jthreading.specs.Switching.{WentOn, behind, gone}
 use Rattle.jthreading.specs.Threading.{thread_called}
-use Rattle.jthreading.proofs.Lasting.{behind_lives, joined_is, same_stay, those_stay, turned_lives, waiting_stay}
+use Rattle.jthreading.proofs.Lasting.{behind_lives, behind_waits, joined_is, same_stay, those_stay, turned_lives, waiting_stay}
 use Rattle.jthreading.proofs.Rows.{at_is, join_goes, join_nobody, join_so, join_stuck, joined_same}
 use Rattle.jthreading.proofs.switching.join.Goals as goal
 
@@ -79,4 +79,6 @@ returns-in_ok-done-in-Waits-clause-stay g c =
     c.go_on.ensures c.join.ensures.table c.in_ok-done-in-Waits.ensures.stay
 
 pub returns-in_ok-done-in-Waits-clause-lives : goal.returns-in_ok-done-in-Waits-clause-lives
-returns-in_ok-done-in-Waits-clause-lives g c alive = turned_lives c.in_ok-done-in-Waits.done c.turn.new.self c.in_ok-done-in-Waits.ensures.lives
+returns-in_ok-done-in-Waits-clause-lives g c alive =
+    turned_lives c.in_ok-done-in-Waits.done c.turn.new.self c.in_ok-done-in-Waits.ensures.runs
+    (c.in_ok-done-in-Waits.ensures.wait (c.join.ensures.wait (behind_waits c.args.count c.args.guests.now c.go_on.new.guests c.go_on.ensures alive.wait)))

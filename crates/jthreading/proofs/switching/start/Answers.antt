@@ -8,7 +8,7 @@ use Rattle.jguests.specs.declared.guests.Guests.{Guests}
 use Rattle.jguests.specs.Guested.{state_by, with_frames, with_table}
 use Rattle.jthreading.specs.Switching.{Shrunk, WentOn, gone, lost, without}
 use Rattle.jthreading.specs.Threading.{thread_called}
-use Rattle.jthreading.proofs.Lasting.{raised_is, raised_lives, same_stay, started_stay, those_stay, turned_lives}
+use Rattle.jthreading.proofs.Lasting.{behind_waits, raised_is, raised_lives, same_stay, started_stay, those_stay, turned_lives}
 use Rattle.jthreading.proofs.Rows.{is_false, is_true, may_behind, start_nobody, start_raises, start_so, start_stuck, started_same}
 use Rattle.jthreading.proofs.switching.start.Goals as goal
 
@@ -89,4 +89,6 @@ returns-clause-stay g c =
     c.start.ensures.table c.go_on.ensures c.in_ok-done.ensures.stay
 
 pub returns-clause-lives : goal.returns-clause-lives
-returns-clause-lives g c alive = turned_lives c.in_ok-done.done c.turn.new.self c.in_ok-done.ensures.lives
+returns-clause-lives g c alive =
+    turned_lives c.in_ok-done.done c.turn.new.self c.in_ok-done.ensures.runs
+    (c.in_ok-done.ensures.wait (behind_waits c.args.count c.start.new.self c.go_on.new.guests c.go_on.ensures (c.start.ensures.wait alive.wait)))

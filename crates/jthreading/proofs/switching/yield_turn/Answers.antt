@@ -4,7 +4,7 @@ use Rattle.jguests.specs.Guested.{state_by}
 use Rattle.jstate.specs.Seen.{store_by}
 use Rattle.jthreading.specs.Threading.{thread_called}
 use Rattle.jthreading.specs.Switching.{WentOn}
-use Rattle.jthreading.proofs.Lasting.{same_stay, turned_lives, turned_stay}
+use Rattle.jthreading.proofs.Lasting.{behind_waits, same_stay, turned_lives, turned_stay}
 use Rattle.jthreading.proofs.Rows.{yield_so, yield_stuck}
 use Rattle.jthreading.proofs.switching.yield_turn.Goals as goal
 
@@ -26,4 +26,6 @@ pub returns-clause-stay : goal.returns-clause-stay
 returns-clause-stay g c = turned_stay c.args.count c.args.guests.now c.go_on.new.guests c.turn.new.self c.go_on.ensures c.in_ok-done.ensures.stay
 
 pub returns-clause-lives : goal.returns-clause-lives
-returns-clause-lives g c alive = turned_lives c.in_ok-done.done c.turn.new.self c.in_ok-done.ensures.lives
+returns-clause-lives g c alive =
+    turned_lives c.in_ok-done.done c.turn.new.self c.in_ok-done.ensures.runs
+    (c.in_ok-done.ensures.wait (behind_waits c.args.count c.args.guests.now c.go_on.new.guests c.go_on.ensures alive.wait))

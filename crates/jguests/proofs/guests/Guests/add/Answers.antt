@@ -1,8 +1,10 @@
-use Rattle.std.proofs.Common.{◌∙◌, map, refl, ap}
+use Rattle.std.proofs.Common.{◌∙◌, List, map, refl, sym, ap, subst}
 use Rattle.std.specs.Prelude.{slice_set}
-use Rattle.jguests.specs.Guested.{guest_by}
+use Rattle.jthreads.specs.declared.thread.Thread.{Thread}
+use Rattle.jguests.specs.Guested.{IsLive, guest_by}
 use Rattle.jguests.proofs.Lying.{one_more}
 use Rattle.jguests.proofs.Staying.{more_stay}
+use Rattle.jguests.proofs.Waiting.{more_live}
 use Rattle.jguests.proofs.guests.Guests.add.Goals as goal
 
 pub returns-clause-one_more : goal.returns-clause-one_more
@@ -12,3 +14,8 @@ returns-clause-one_more g c =
 
 pub returns-clause-stay : goal.returns-clause-stay
 returns-clause-stay g c = more_stay c.args.self.now _ _ _ refl refl c.in_ok-push.ensures.items
+
+pub returns-clause-lives : goal.returns-clause-lives
+returns-clause-lives g c live =
+    let at = c.args.self.now.at in
+    subst (λ (ts : List Thread). IsLive ts at) (sym c.in_ok-number.ensures.ok) (more_live c.args.self.now.table at live)

@@ -1,4 +1,6 @@
-use Rattle.std.proofs.Common.{◌∙◌, Contains, List, ℕ, subst, arith}
+use Rattle.std.proofs.Common.{◌∙◌, Contains, List, ℕ, sym, ap₂, subst, arith}
+use Rattle.jthreads.specs.Table.{is_runnable, thread_at}
+use Rattle.jguests.specs.Guested.{AwaitLiving}
 use Rattle.jguests.proofs.Turning.{goes, over}
 use Rattle.jguests.proofs.guests.Guests.turn.Goals as goal
 
@@ -20,3 +22,12 @@ returns-clause-turn g c store events =
     (record { running = h.running; others = h.others; at = h.at; table = h.table; turns = c.in-Some-checked_add.turns }) c.pick.result c.in-Some.t store events c.requires
     c.pick.ensures.value (c.as_slice.ensures.value ∙ c.in_ok-numbers.ensures) c.in-Some.is
     c.switch.ensures.now c.switch.ensures.all c.switch.ensures.at c.switch.ensures.table c.in-Some-checked_add.ensures.1
+
+pub returns-clause-runs : goal.returns-clause-runs
+returns-clause-runs g c goes =
+    let rows = c.as_slice.ensures.value ∙ c.in_ok-numbers.ensures in
+    let runs = c.thread_laws.ensures.only c.args.self.now.table c.in-Some.t (subst (λ (ns : List ℕ). Contains ns c.in-Some.t) rows c.in-Some.ensures.member) in
+    ap₂ (λ ts t. is_runnable (thread_at ts t)) c.switch.ensures.table c.switch.ensures.at ∙ runs
+
+pub returns-clause-wait : goal.returns-clause-wait
+returns-clause-wait g c wait = subst AwaitLiving (sym c.switch.ensures.table) wait
