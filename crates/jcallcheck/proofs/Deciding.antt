@@ -85,6 +85,11 @@ module _ {E : Type 0} (m : Machine E) (f : Framed E) (call : LibCall) (count : �
       → held_as one ≡ Some asked → AsksKnown kept marks m (asked_of m f call count) → IsKnownIn kept marks (state_of m) (ask_by c.whom asked)
   known_ask kept marks one asked is held known = known (ask_by c.whom asked) (asked_is one is ∙ ap (option_map (ask_by c.whom)) held)
 
+  -- where a permission is found, something is asked
+  pub asks_some : (one : Asked) (asked : perms.Permission) → Asks E (store_of m) c.operand one → held_as one ≡ Some asked → asked_of m f call count ≡ None → ⊥
+  asks_some one asked is held none =
+      let e : Some (ask_by c.whom asked) ≡ None = sym (ap (option_map (ask_by c.whom)) held) ∙ sym (asked_is one is) ∙ none in cc
+
   abbrev verdict : Rules ℕ E → perms.Permission → Verdict
   verdict r one = verdict_by r (entries r m.calls m.plan.now (state_of m) (all f)) m.guests.running.inherited c.whom one
 

@@ -1,4 +1,4 @@
-ghost use Rattle.std.specs.Prelude.{◌≡◌, Some, IfOk, OnOk};
+ghost use Rattle.std.specs.Prelude.{◌≡◌, Some, None, IfOk, OnOk};
 ghost use Rattle.jlib.specs.declared.calls.LibCall.TheVariants as calls;
 ghost use Rattle.jguard.specs.Standing.{Keeps};
 ghost use Rattle.jstate.specs.Framed.{Framed};
@@ -50,6 +50,7 @@ fn check_for<G: Guard>(
     ensures rules { G.rules guard.new ≡ G.rules guard.old }
     ensures keeps { Keeps (G.kept guard.old) (G.kept guard.new) }
     ensures marks { Keeps (G.entry guard.old) (G.entry guard.new) }
+    ensures quiet { (f : Framed G.Mark) → m.old.guests.running.frames ≡ Some f → asked_of m.old f call count ≡ None → guard.new ≡ guard.old }
 {
     check_laws::<G::Mark>();
     match asks_for::<G::Mark>(&m.heap, m.permissions.as_slice(), wanted.operand) {
@@ -87,6 +88,7 @@ pub fn call_check<G: Guard>(
     ensures rules { G.rules guard.new ≡ G.rules guard.old }
     ensures keeps { Keeps (G.kept guard.old) (G.kept guard.new) }
     ensures marks { Keeps (G.entry guard.old) (G.entry guard.new) }
+    ensures quiet { (f : Framed G.Mark) → m.old.guests.running.frames ≡ Some f → asked_of m.old f call count ≡ None → guard.new ≡ guard.old }
 {
     check_laws::<G::Mark>();
     match checked_by(m, call, count) {
@@ -116,6 +118,7 @@ pub fn call_kept_check<G: Guard>(
     ensures rules { G.rules guard.new ≡ G.rules guard.old }
     ensures keeps { Keeps (G.kept guard.old) (G.kept guard.new) }
     ensures marks { Keeps (G.entry guard.old) (G.entry guard.new) }
+    ensures quiet { (f : Framed G.Mark) → m.old.guests.running.frames ≡ Some f → asked_of m.old f calls.ContextCheck count ≡ None → guard.new ≡ guard.old }
 {
     check_laws::<G::Mark>();
     match kept_check_of(m, count) {

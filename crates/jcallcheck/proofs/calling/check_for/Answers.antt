@@ -1,7 +1,7 @@
 use Rattle.std.proofs.Common.{◌∙◌, ap, sym, Some}
 use Rattle.jchecks.specs.declared.asking.Asked.TheVariants as asks
 use Rattle.jcore.specs.Machines.{store_of, things_of}
-use Rattle.jcallcheck.proofs.Deciding.{asked_is, asks_as, decided, held_as, known_ask, none_row, null_row, quiet, stuck_comes}
+use Rattle.jcallcheck.proofs.Deciding.{asked_is, asks_as, asks_some, decided, held_as, known_ask, none_row, null_row, quiet, stuck_comes}
 use Rattle.jcallcheck.proofs.calling.check_for.Goals as goal
 
 pub ask-requires : goal.ask-requires
@@ -38,3 +38,27 @@ returns-in_ok-done-in-Permission-clause-answered g c f runs =
     decided _ _ _ _ _ m c.decide.new.m f c.args.call c.args.count _ runs c.args.wanted finds c.in_ok-asked-in-Permission.asked c.in_ok-verdict-in-Permission.verdict
     c.asks_for.result asks (ap held_as c.in-Permission.is ∙ ap (λ x. Some x) (sym c.in_ok-asked-in-Permission.ensures)) c.in_ok-verdict-in-Permission.ensures.answer
     c.in_ok-done-in-Permission.ensures.comes
+
+pub returns-in_err-verdict-in-Permission-clause-quiet : goal.returns-in_err-verdict-in-Permission-clause-quiet
+returns-in_err-verdict-in-Permission-clause-quiet g c f runs none =
+    let m = c.args.m.now in
+    let asks = c.asks_for.ensures m.calls m.fixed.shapes.now (things_of m) m.constants.constants (sym c.as_slice.ensures) in
+    absurd
+    (asks_some m f c.args.call c.args.count c.args.wanted (c.requires.found f runs) c.asks_for.result c.in_ok-asked-in-Permission.asked asks
+    (ap held_as c.in-Permission.is ∙ ap (λ x. Some x) (sym c.in_ok-asked-in-Permission.ensures)) none)
+
+pub returns-in_err-done-in-Permission-clause-quiet : goal.returns-in_err-done-in-Permission-clause-quiet
+returns-in_err-done-in-Permission-clause-quiet g c f runs none =
+    let m = c.args.m.now in
+    let asks = c.asks_for.ensures m.calls m.fixed.shapes.now (things_of m) m.constants.constants (sym c.as_slice.ensures) in
+    absurd
+    (asks_some m f c.args.call c.args.count c.args.wanted (c.requires.found f runs) c.asks_for.result c.in_ok-asked-in-Permission.asked asks
+    (ap held_as c.in-Permission.is ∙ ap (λ x. Some x) (sym c.in_ok-asked-in-Permission.ensures)) none)
+
+pub returns-in_ok-done-in-Permission-clause-quiet : goal.returns-in_ok-done-in-Permission-clause-quiet
+returns-in_ok-done-in-Permission-clause-quiet g c f runs none =
+    let m = c.args.m.now in
+    let asks = c.asks_for.ensures m.calls m.fixed.shapes.now (things_of m) m.constants.constants (sym c.as_slice.ensures) in
+    absurd
+    (asks_some m f c.args.call c.args.count c.args.wanted (c.requires.found f runs) c.asks_for.result c.in_ok-asked-in-Permission.asked asks
+    (ap held_as c.in-Permission.is ∙ ap (λ x. Some x) (sym c.in_ok-asked-in-Permission.ensures)) none)
