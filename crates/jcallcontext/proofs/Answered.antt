@@ -20,7 +20,7 @@ use Rattle.jcore.specs.Answering.{Answered, Calling, asked_of, outcome_of}
 use Rattle.jcore.specs.Comings.{any}
 use Rattle.jcore.specs.Machines.{AreRules, state_of, store_of}
 use Rattle.jcallcontext.specs.Finding.{FoundEntering, FoundSnapshot}
-use Rattle.jcallcontext.specs.Rows.{CallAnswered, CallKnown, ComesBy, IsAsking, row_of}
+use Rattle.jcallcontext.specs.Rows.{CallAnswered, CallKnown, CallQuiet, ComesBy, IsAsking, row_of}
 
 -- a call without a row has no step
 pub stuck_comes : {E : Type 0} → NothingSteps E → (m : Machine E) (count : ℕ) → ComesBy m count any None done.Stuck m
@@ -111,3 +111,15 @@ module _ {M K E : Type 0} (kept : ℕ → Option K) (entry : M → Option E) (m 
   pub known_entering : (one : Entering) → FoundEntering m count (Some one) → CallKnown kept entry m (calls.Rt rt.Enter) count
       → IsKnownIn kept entry (state_of m) (Enters one.ctx one.domain)
   known_entering one found known = known calling.frames calling.runs (Enters one.ctx one.domain) (found calling.frames calling.runs).asked
+
+-- a call that asks something is none of those that ask nothing
+pub some_quiet : {M S : Type 0} (m : Machine M) (call : LibCall) (count : ℕ) (ask : Ask ℕ) (old new : S)
+    → ((f : Framed M) → m.guests.running.frames ≡ Some f → asked_of m f call count ≡ Some ask) → CallQuiet m call count old new
+some_quiet m call count ask old new is f runs none = absurd (let e : Some ask ≡ None = sym (is f runs) ∙ none in cc)
+
+module _ {M S : Type 0} (m : Machine M) (count : ℕ) (old new : S) where
+  pub snapshot_quiet : (call : LibCall) (ctx : Option ℕ) → FoundSnapshot m call count (Some ctx) → CallQuiet m call count old new
+  snapshot_quiet call ctx found = some_quiet m call count (Snapshots ctx) old new (λ f runs. (found f runs).asked)
+
+  pub entering_quiet : (one : Entering) → FoundEntering m count (Some one) → CallQuiet m (calls.Rt rt.Enter) count old new
+  entering_quiet one found = some_quiet m (calls.Rt rt.Enter) count (Enters one.ctx one.domain) old new (λ f runs. (found f runs).asked)

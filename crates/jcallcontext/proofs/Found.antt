@@ -42,8 +42,8 @@ use Rattle.jcore.specs.Answering.{Calling}
 use Rattle.jcore.specs.Comings.{any}
 use Rattle.jcore.specs.Machines.{state_of, store_of, things_of}
 use Rattle.jcallcontext.specs.Finding.{ActionTarget, FoundEntering, FoundPrivilege, FoundSnapshot, RunTarget, is_full, privilege_of}
-use Rattle.jcallcontext.specs.Rows.{CallAnswered, CallKnown, ComesBy, IsAsking, here, row_of}
-use Rattle.jcallcontext.proofs.Answered.{answered, quiet, stuck_comes}
+use Rattle.jcallcontext.specs.Rows.{CallAnswered, CallKnown, CallQuiet, ComesBy, IsAsking, here, row_of}
+use Rattle.jcallcontext.proofs.Answered.{answered, quiet, some_quiet, stuck_comes}
 
 -- ---- what was found in the running thread's frames
 
@@ -166,6 +166,12 @@ known_privilege kept entry m call count w entry_of c found marks on calling know
     let f = calling.frames in
     let runs = calling.runs in
     known f runs (privilege_of w) (pushes_is m call count w found f runs entry_of marks c (on f runs)).asked
+
+-- a privilege is asked for
+pub privilege_quiet : {M S : Type 0} (m : Machine M) (call : LibCall) (count : ℕ) (old new : S) (w : Wanted) (entry_of : ℕ → M) (c : Callee M)
+    → FoundPrivilege m call count (wants.Asks w) → m.fixed.marks.now ≡ marks_of entry_of m.calls → RunTarget m w.action (ways.Pushes c) → CallQuiet m call count old new
+privilege_quiet m call count old new w entry_of c found marks on =
+    some_quiet m call count (privilege_of w) old new (λ f runs. (pushes_is m call count w found f runs entry_of marks c (on f runs)).asked)
 
 -- ---- what a call of doPrivileged is answered
 

@@ -1,5 +1,5 @@
 -- What a call of the library that asks something of access control does in a machine by numbers: its row, and what the step comes to by it.
-use Rattle.std.specs.Prelude.{◌≡◌, ℕ, List, Option, Some, take}
+use Rattle.std.specs.Prelude.{◌≡◌, ℕ, List, Option, Some, None, take}
 use Rattle.jops.specs.declared.value.Value.{Value}
 use Rattle.jlib.specs.declared.calls.LibCall.{LibCall}
 use Rattle.jmachine.specs.Acts.{Row, State}
@@ -53,3 +53,7 @@ abbrev pub CallAnswered : {M K E : Type 0} → (old new : ℕ → Option K) (old
     → Stepped → Machine M → Type 0
 CallAnswered {M} old new old_marks new_marks rules m call count came n = (f : Framed M) → m.guests.running.frames ≡ Some f
     → Answered old new old_marks new_marks rules m (asked_of m f call count) (outcome_of m f call count) came n
+
+-- Where the call asks nothing, whoever is asked is as before.
+abbrev pub CallQuiet : {M S : Type 0} → Machine M → LibCall → (count : ℕ) → (old new : S) → Type 0
+CallQuiet {M} m call count old new = (f : Framed M) → m.guests.running.frames ≡ Some f → asked_of m f call count ≡ None → new ≡ old

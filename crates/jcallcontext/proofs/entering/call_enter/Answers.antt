@@ -1,7 +1,7 @@
 use Rattle.std.proofs.Common.{None, Some}
 use Rattle.jlib.specs.declared.calls.LibCall.TheVariants as calls
 use Rattle.jlib.specs.declared.calls.RtCall.TheVariants as rt
-use Rattle.jcallcontext.proofs.Answered.{entering_answered, entering_as, known_entering, none_answered}
+use Rattle.jcallcontext.proofs.Answered.{entering_answered, entering_as, entering_quiet, known_entering, none_answered}
 use Rattle.jcallcontext.proofs.entering.call_enter.Goals as goal
 
 pub returns-in-None-clause-answered : goal.returns-in-None-clause-answered
@@ -22,3 +22,21 @@ returns-in_ok-came-in-Some-clause-answered g c =
     let found = entering_as m c.args.count c.entering_found.result (Some c.in-Some.one) c.in-Some.is c.entering_found.ensures in
     entering_answered _ _ _ _ _ m c.give_context.new.m c.args.count c.in_ok-came-in-Some.came c.in-Some.one c.in_ok-number-in-Some.number found
     c.in_ok-number-in-Some.ensures.answer c.in_ok-came-in-Some.ensures.comes
+
+pub returns-in_err-number-in-Some-clause-quiet : goal.returns-in_err-number-in-Some-clause-quiet
+returns-in_err-number-in-Some-clause-quiet g c =
+    let m = c.args.m.now in
+    let found = entering_as m c.args.count c.entering_found.result (Some c.in-Some.one) c.in-Some.is c.entering_found.ensures in
+    entering_quiet m c.args.count _ _ c.in-Some.one found
+
+pub returns-in_err-came-in-Some-clause-quiet : goal.returns-in_err-came-in-Some-clause-quiet
+returns-in_err-came-in-Some-clause-quiet g c =
+    let m = c.args.m.now in
+    let found = entering_as m c.args.count c.entering_found.result (Some c.in-Some.one) c.in-Some.is c.entering_found.ensures in
+    entering_quiet m c.args.count _ _ c.in-Some.one found
+
+pub returns-in_ok-came-in-Some-clause-quiet : goal.returns-in_ok-came-in-Some-clause-quiet
+returns-in_ok-came-in-Some-clause-quiet g c =
+    let m = c.args.m.now in
+    let found = entering_as m c.args.count c.entering_found.result (Some c.in-Some.one) c.in-Some.is c.entering_found.ensures in
+    entering_quiet m c.args.count _ _ c.in-Some.one found

@@ -1,6 +1,6 @@
 use Rattle.jinvoke.specs.declared.faces.Target.TheVariants as ways
 use Rattle.jcore.specs.Machines.{classes_of}
-use Rattle.jcallcontext.proofs.Found.{fails_answered, known_privilege, on_as, pushes_answered, stuck_answered, within_as}
+use Rattle.jcallcontext.proofs.Found.{fails_answered, known_privilege, on_as, privilege_quiet, pushes_answered, stuck_answered, within_as}
 use Rattle.jcallcontext.proofs.privileging.act_by.Goals as goal
 
 pub returns-in-Stuck-clause-answered : goal.returns-in-Stuck-clause-answered
@@ -34,3 +34,21 @@ returns-clause-answered g c =
     pushes_answered _ _ _ _ _ m c.push_action.new.m c.args.call c.args.count c.in_ok-came-in-Pushes.came c.args.wanted _ c.requires.found c.requires.marks
     c.in-Pushes.callee x.caller x.ctx (on_as m c.args.wanted.action c.args.target (ways.Pushes c.in-Pushes.callee) c.in-Pushes.is c.requires.target)
     c.in_ok-marked-in-Pushes.ensures.answer c.in_ok-came-in-Pushes.ensures.comes
+
+pub returns-in_err-marked-in-Pushes-clause-quiet : goal.returns-in_err-marked-in-Pushes-clause-quiet
+returns-in_err-marked-in-Pushes-clause-quiet g c =
+    let m = c.args.m.now in
+    privilege_quiet m c.args.call c.args.count _ _ c.args.wanted _ c.in-Pushes.callee c.requires.found c.requires.marks
+    (on_as m c.args.wanted.action c.args.target (ways.Pushes c.in-Pushes.callee) c.in-Pushes.is c.requires.target)
+
+pub returns-in_err-came-in-Pushes-clause-quiet : goal.returns-in_err-came-in-Pushes-clause-quiet
+returns-in_err-came-in-Pushes-clause-quiet g c =
+    let m = c.args.m.now in
+    privilege_quiet m c.args.call c.args.count _ _ c.args.wanted _ c.in-Pushes.callee c.requires.found c.requires.marks
+    (on_as m c.args.wanted.action c.args.target (ways.Pushes c.in-Pushes.callee) c.in-Pushes.is c.requires.target)
+
+pub returns-clause-quiet : goal.returns-clause-quiet
+returns-clause-quiet g c =
+    let m = c.args.m.now in
+    privilege_quiet m c.args.call c.args.count _ _ c.args.wanted _ c.in-Pushes.callee c.requires.found c.requires.marks
+    (on_as m c.args.wanted.action c.args.target (ways.Pushes c.in-Pushes.callee) c.in-Pushes.is c.requires.target)

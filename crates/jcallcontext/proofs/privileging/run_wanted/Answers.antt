@@ -29,3 +29,11 @@ returns-clause-answered g c = rw c.action_target-target.ensures.same at c.in_ok-
 
 pub returns-clause-fixed : goal.returns-clause-fixed
 returns-clause-fixed g c = rw c.action_target-target.ensures.same at c.in_ok-came.ensures.fixed
+
+pub returns-in_err-came-clause-quiet : goal.returns-in_err-came-clause-quiet
+returns-in_err-came-clause-quiet g c =
+    rw c.action_target-target.ensures.same at c.act_by.ensures.quiet
+
+pub returns-clause-quiet : goal.returns-clause-quiet
+returns-clause-quiet g c =
+    rw c.action_target-target.ensures.same at c.act_by.ensures.quiet

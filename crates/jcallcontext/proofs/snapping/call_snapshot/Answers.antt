@@ -1,5 +1,5 @@
 use Rattle.std.proofs.Common.{None, Some}
-use Rattle.jcallcontext.proofs.Answered.{known_snapshot, none_answered, snapshot_answered, snapshot_as}
+use Rattle.jcallcontext.proofs.Answered.{known_snapshot, none_answered, snapshot_answered, snapshot_as, snapshot_quiet}
 use Rattle.jcallcontext.proofs.snapping.call_snapshot.Goals as goal
 
 pub returns-in-None-clause-answered : goal.returns-in-None-clause-answered
@@ -20,3 +20,21 @@ returns-in_ok-came-in-Some-clause-answered g c =
     let found = snapshot_as m c.args.call c.args.count c.snapshot_found.result (Some c.in-Some.ctx) c.in-Some.is c.snapshot_found.ensures in
     snapshot_answered _ _ _ _ _ m c.give_snapshot.new.m c.args.call c.args.count c.in_ok-came-in-Some.came c.in-Some.ctx c.in_ok-number-in-Some.number found
     c.in_ok-number-in-Some.ensures.answer c.in_ok-came-in-Some.ensures.comes
+
+pub returns-in_err-number-in-Some-clause-quiet : goal.returns-in_err-number-in-Some-clause-quiet
+returns-in_err-number-in-Some-clause-quiet g c =
+    let m = c.args.m.now in
+    let found = snapshot_as m c.args.call c.args.count c.snapshot_found.result (Some c.in-Some.ctx) c.in-Some.is c.snapshot_found.ensures in
+    snapshot_quiet m c.args.count _ _ c.args.call c.in-Some.ctx found
+
+pub returns-in_err-came-in-Some-clause-quiet : goal.returns-in_err-came-in-Some-clause-quiet
+returns-in_err-came-in-Some-clause-quiet g c =
+    let m = c.args.m.now in
+    let found = snapshot_as m c.args.call c.args.count c.snapshot_found.result (Some c.in-Some.ctx) c.in-Some.is c.snapshot_found.ensures in
+    snapshot_quiet m c.args.count _ _ c.args.call c.in-Some.ctx found
+
+pub returns-in_ok-came-in-Some-clause-quiet : goal.returns-in_ok-came-in-Some-clause-quiet
+returns-in_ok-came-in-Some-clause-quiet g c =
+    let m = c.args.m.now in
+    let found = snapshot_as m c.args.call c.args.count c.snapshot_found.result (Some c.in-Some.ctx) c.in-Some.is c.snapshot_found.ensures in
+    snapshot_quiet m c.args.count _ _ c.args.call c.in-Some.ctx found
