@@ -97,6 +97,10 @@ module _ {E : Type 0} (m : Machine E) (side : Side) (count : ℕ) where
       asks m.side side (asking_site m.side m.calls m.plan.now (state_of m) f.newest f.below) m.calls m.fixed.shapes.now (things_of m) m.constants.constants m.heap
       (take count f.newest.operands) x (given f frames)
 
+  -- where it is given what it needs it asks something
+  pub init_asks : InitAsks → (x : Given) → IsGivenIn m side count x → (f : Framed E) → m.guests.running.frames ≡ Some f → asked_of m f (calls.Thread call) count ≡ None → ⊥
+  init_asks asks x given f frames none = let e : Some (Inherits x.context) ≡ None = sym (init_asked asks x given f frames) ∙ none in cc
+
   pub made_answered : {K F : Type 0} (old new : ℕ → Option K) (old_marks new_marks : E → Option F) (rules : Rules K F) → InitAsks → (kept : ℕ) (x : Given) (n : Machine E) (came : Stepped)
       → IsGivenIn m side count x → MakesIn m kept count x n → came ≡ stepped.Went []
       → AnswersFor old new old_marks new_marks rules (Inherits x.context) (carried (state_of m)) m.guests.running.inherited (Kept kept)

@@ -1,4 +1,4 @@
-ghost use Rattle.std.specs.Prelude.{◌≡◌, IfOk, OnOk, Some, reverse};
+ghost use Rattle.std.specs.Prelude.{◌≡◌, IfOk, None, OnOk, Some, reverse};
 ghost use Rattle.jlib.specs.declared.calls.LibCall.TheVariants as calls;
 ghost use Rattle.jlib.specs.declared.calls.ThreadCall.TheVariants as threads;
 ghost use Rattle.jmachine.specs.Asked.{Inherits, Kept, carried};
@@ -96,6 +96,7 @@ pub(crate) fn call_init<G: Guard>(
     ensures rules { G.rules guard.new ≡ G.rules guard.old }
     ensures keeps { Keeps (G.kept guard.old) (G.kept guard.new) }
     ensures marks { Keeps (G.entry guard.old) (G.entry guard.new) }
+    ensures quiet { (f : Framed G.Mark) → m.old.guests.running.frames ≡ Some f → asked_of m.old f (calls.Thread (threads.Init side)) count ≡ None → guard.new ≡ guard.old }
 {
     init_laws::<G::Mark>();
     let Some(given) = named_by(&m.guests, &m.heap, side, count) else {

@@ -1,5 +1,5 @@
 use Rattle.jmachine.specs.Asked.{Inherits}
-use Rattle.jcallthread.proofs.Made.{init_asked, made_answered, made_ready, stuck_answered}
+use Rattle.jcallthread.proofs.Made.{init_asked, init_asks, made_answered, made_ready, stuck_answered}
 use Rattle.jcallthread.proofs.Standing.{may_call}
 use Rattle.jcallthread.proofs.making.call_init.Goals as goal
 
@@ -32,3 +32,18 @@ pub returns-clause-ready : goal.returns-clause-ready
 returns-clause-ready g c =
     made_ready c.args.m.now c.args.side c.args.count c.requires.calling c.in_ok-kept.kept c.in-Some.given c.make_thread.new.m c.went.result
     c.in_ok-make_thread.ensures.made c.went.ensures
+
+pub returns-in_err-kept-clause-quiet : goal.returns-in_err-kept-clause-quiet
+returns-in_err-kept-clause-quiet g c f frames none =
+    let given = rw c.in-Some.is at c.named_by.ensures in
+    absurd (init_asks c.args.m.now c.args.side c.args.count c.init_laws.ensures.asks c.in-Some.given given f frames none)
+
+pub returns-in_err-make_thread-clause-quiet : goal.returns-in_err-make_thread-clause-quiet
+returns-in_err-make_thread-clause-quiet g c f frames none =
+    let given = rw c.in-Some.is at c.named_by.ensures in
+    absurd (init_asks c.args.m.now c.args.side c.args.count c.init_laws.ensures.asks c.in-Some.given given f frames none)
+
+pub returns-clause-quiet : goal.returns-clause-quiet
+returns-clause-quiet g c f frames none =
+    let given = rw c.in-Some.is at c.named_by.ensures in
+    absurd (init_asks c.args.m.now c.args.side c.args.count c.init_laws.ensures.asks c.in-Some.given given f frames none)
