@@ -1,23 +1,29 @@
 -- How the run of an engine begins, and where a step leaves it.
-use Rattle.std.proofs.Common.{◌≡◌, ℕ, Bool, false, Option, Some, None, refl, sym, ap, subst, rules}
+use Rattle.std.proofs.Common.{◌≡◌, ◌∙◌, ℕ, Bool, false, map, length, Option, Some, None, refl, sym, ap, subst, arith, rules}
 use Rattle.std.specs.Prelude.{nat_le, if◌then◌else◌}
+use Rattle.std.proofs.lemmas.List.{length-map, length-set, length-take-le}
 use Rattle.jtrace.specs.declared.event.End.TheVariants as ends
 use Rattle.jprogram.specs.Classes.{Program}
 use Rattle.jmachine.specs.declared.plan.Plan.{Plan}
 use Rattle.jmachine.specs.Acts.{Outcome, State}
 use Rattle.jmachine.specs.Machine.{opening}
+use Rattle.jmachine.specs.Maps.{guest_map}
 use Rattle.jmachine.specs.Opening.{opening_charge, opening_state}
 use Rattle.jmachine.specs.Security.{Rules}
 use Rattle.jmachine.specs.Steps.{step}
+use Rattle.jmachine.specs.Store.{Store}
+use Rattle.jmachine.specs.Turns.{thread_of}
+use Rattle.jguests.specs.declared.guests.Guests.{Guests}
+use Rattle.jguests.specs.Guested.{AreGuests, IsLive, Lives, guest_by, guests_of, state_by}
 use Rattle.jguard.specs.Standing.{StandsFor}
 use Rattle.jrun.specs.Coming.{ComesTo, WhereWent}
 use Rattle.jrun.specs.declared.stepping.Stepped.{Stepped}
 use Rattle.jrun.specs.declared.stepping.Stepped.TheVariants as done
 use Rattle.jcore.specs.declared.machine.Machine.{Machine}
-use Rattle.jcore.specs.Machines.{state_of}
+use Rattle.jcore.specs.Machines.{state_of, store_of}
 use Rattle.jwhole.specs.declared.engine.Course.{Course}
 use Rattle.jwhole.specs.declared.engine.Course.TheVariants as course
-use Rattle.jwhole.specs.Courses.{Holds, Runs, Stands, course_of, end_in, end_of, is_lost, left_by, steps}
+use Rattle.jwhole.specs.Courses.{AreLive, Holds, Runs, Stands, course_of, end_in, end_of, is_lost, left_by, steps}
 use Rattle.jwhole.specs.Grounds.{StartsOr}
 
 -- ---- the beginning
@@ -46,6 +52,30 @@ module _ {M K E : Type 0} (kept : ℕ → Option K) (entry : M → Option E) (ma
 pub found_first : {M : Type 0} (o : Option (Machine M)) → is_lost (course_of o) ≡ false
 found_first None = refl
 found_first (Some m) = refl
+
+-- ---- its threads
+
+at_of : {M : Type 0} (g : Guests M) (store : Store ℕ) → AreGuests g → thread_of (state_by g store) ≡ g.at
+at_of g store are =
+    let some = length-map g.others.items guest_by in
+    let all = length-set (map guest_by g.others.items) g.at (guest_by g.running) in
+    length-take-le g.at (guests_of g) (omega (arith, are.at, some, all))
+
+live_by : {M K E : Type 0} (kept : ℕ → Option K) (entry : M → Option E) (g : Guests M) (store : Store ℕ) (s : State K E) → AreGuests g → Lives g
+    → StandsFor kept entry (state_by g store) s → IsLive s.table (thread_of s)
+live_by {M} {K} {E} kept entry g store s are lives stands =
+    let table : s.table ≡ g.table = ap (λ (x : State (Option K) (Option E)). x.table) (sym stands) in
+    let at : thread_of s ≡ g.at =
+    sym (length-map s.earlier (guest_map Some Some)) ∙ ap (λ (x : State (Option K) (Option E)). length x.earlier) (sym stands)
+    ∙ length-map (state_by g store).earlier (guest_map kept entry) ∙ at_of g store are in
+    subst (λ ts. IsLive ts (thread_of s)) (sym table) (subst (λ n. IsLive g.table n) (sym at) lives)
+
+-- in each state for which it stands they are as those of its machine
+pub live_in : {M K E : Type 0} (kept : ℕ → Option K) (entry : M → Option E) (mark : ℕ → M) (rules_by : Rules K E) (c : Course M) → Holds kept entry mark rules_by c
+    → AreLive kept entry c
+live_in kept entry mark rules_by (course.Runs m) holds = λ s stands. live_by kept entry m.guests (store_of m) s holds.ready.machine.guests holds.ready.lives stands
+live_in kept entry mark rules_by (course.Ended end) holds = λ s stands. absurd stands
+live_in kept entry mark rules_by course.Lost holds = λ s stands. absurd stands
 
 -- ---- a step
 

@@ -97,11 +97,7 @@ opening_is {E} r p m heap g f store one at table turns frames same =
     state_same store (opening_store p heap) (guests_of g) (main_guest r p m ∷ []) g.at (guest_by g.running) (main_guest r p m) g.table opened g.turns
     same guests at running table turns
 
--- It was started and has not ended,
-pub lives_first : {E : Type 0} (g : Guests E) → g.at ≡ 0 → g.table ≡ opened → Lives g
-lives_first g at table = rw (at, table) refl
-
--- and its frame may go on.
+-- its frame may go on
 class_within : (p : Program) (m : MethodId) → is_some (code_at p m) ≡ true → m.class < length p.parts
 class_within p m coded = elim (slice_get_cases p.parts m.class).1 [
   | inl found ↦ found.1
@@ -123,11 +119,11 @@ pub begun_by : {M : Type 0} (p : Program) (mark : ℕ → M) (base : Ground M) (
     → IsGround p mark base → is_some (code_at p plan.main) ≡ true → first.main ≡ plan.main → Opens base.ready.program base.shaped.shapes first plan.heap o
     → IsFixed p m.fixed → AreTied p m.fixed.tables.now m.fixed.shapes.now → m.fixed.shapes.now ≡ base.shaped.shapes → m.fixed.marks.now ≡ base.marks
     → m.fixed.depth ≡ plan.depth → AreFiles p
-    → AreGuests m.guests → guests_of m.guests ≡ guest_by (only o.frames) ∷ [] → m.guests.running ≡ only o.frames → NoneWait m.guests
+    → AreGuests m.guests → guests_of m.guests ≡ guest_by (only o.frames) ∷ [] → m.guests.running ≡ only o.frames → NoneWait m.guests → Lives m.guests
     → m.guests.table ≡ opened → m.guests.turns ≡ 0 → m.guests.at ≡ 0
     → m.calls ≡ p → m.plan.now ≡ plan → m.side ≡ side → m.heap ≡ o.heap → m.constants ≡ o.constants → m.permissions ≡ [] → m.kept ≡ []
     → IsBegun p plan side base.marks first m
-begun_by {M} p mark base first plan side o m f coded main opens fixed tied shapes marks depth files guests one now waits table turns at calls planned sided heap constants permissions kept =
+begun_by {M} p mark base first plan side o m f coded main opens fixed tied shapes marks depth files guests one now waits lives table turns at calls planned sided heap constants permissions kept =
     let is = f.ready in
     let store = λ (things : Things). subst (λ (q : Program). store_by q base.shaped.shapes things o.constants.constants o.heap ≡ opening_store q plan.heap) is (opens.store things) in
     let lone = ap (λ (x : Guest M). x.frames) now in
@@ -149,7 +145,7 @@ begun_by {M} p mark base first plan side o m f coded main opens fixed tied shape
     record {
       ready = record {
         machine = machine;
-        lives = lives_first m.guests at table;
+        lives = lives;
         running = first_stands p (classes_of m) first o.frames m.guests.running fixed.marks here opens.alone lone;
       };
       calls = calls;

@@ -3,8 +3,11 @@ use Rattle.std.specs.Prelude.{⊤, ℕ, Bool, true, false, Option, Some, None}
 use Rattle.jtrace.specs.declared.event.End.{End}
 use Rattle.jtrace.specs.declared.event.End.TheVariants as ends
 use Rattle.jmachine.specs.Acts.{NoStep, Outcome, State}
+use Rattle.jmachine.specs.Asked.{Ask}
 use Rattle.jmachine.specs.Security.{Rules}
 use Rattle.jmachine.specs.Steps.{step}
+use Rattle.jmachine.specs.Turns.{thread_of}
+use Rattle.jguests.specs.Guested.{IsLive}
 use Rattle.jguard.specs.Standing.{StandsFor}
 use Rattle.jrun.specs.declared.stepping.Stepped.{Stepped}
 use Rattle.jrun.specs.declared.stepping.Stepped.TheVariants as done
@@ -12,7 +15,7 @@ use Rattle.jcore.specs.declared.machine.Machine.{Machine}
 use Rattle.jcore.specs.Machines.{state_of}
 use Rattle.jwhole.specs.declared.engine.Course.{Course}
 use Rattle.jwhole.specs.declared.engine.Course.TheVariants as course
-use Rattle.jwhole.specs.Engines.{IsEngine}
+use Rattle.jwhole.specs.Engines.{IsEngine, asks_next}
 
 -- the end of a run, if it has ended
 abbrev pub end_of : {M : Type 0} → Course M → Option End
@@ -44,11 +47,21 @@ steps rules (course.Runs m) = step rules m.calls m.plan.now
 steps rules (course.Ended end) = λ s. NoStep
 steps rules course.Lost = λ s. NoStep
 
+-- what its next step asks
+abbrev pub asks_of : {M : Type 0} → Course M → Option (Ask ℕ)
+asks_of (course.Runs m) = asks_next m
+asks_of (course.Ended end) = None
+asks_of course.Lost = None
+
 -- What holds of it between steps: where it goes on, the machine and its guard are such as can be run.
 abbrev pub Holds : {M K E : Type 0} → (ℕ → Option K) → (M → Option E) → (ℕ → M) → Rules K E → Course M → Type 0
 Holds kept entry mark rules (course.Runs m) = IsEngine kept entry mark rules m
 Holds kept entry mark rules (course.Ended end) = ⊤
 Holds kept entry mark rules course.Lost = ⊤
+
+-- In each state for which it stands the running thread is runnable, and no thread waits for one that has ended.
+abbrev pub AreLive : {M K E : Type 0} → (ℕ → Option K) → (M → Option E) → Course M → Type 0
+AreLive {M} {K} {E} kept entry c = (s : State K E) → Stands kept entry c s → IsLive s.table (thread_of s)
 
 -- ---- how it begins and goes on
 

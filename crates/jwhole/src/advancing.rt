@@ -1,4 +1,4 @@
-ghost use Rattle.std.specs.Prelude.{◌≡◌, Some, IfOk, OnOk};
+ghost use Rattle.std.specs.Prelude.{◌≡◌, Some, None, IfOk, OnOk};
 ghost use Rattle.jlib.specs.declared.calls.LibCall.TheVariants as calls;
 ghost use Rattle.jguard.specs.Standing.{Keeps};
 ghost use Rattle.jstate.specs.Framed.{Framed};
@@ -43,6 +43,7 @@ fn call_controller<G: Guard>(
     ensures rules { G.rules guard.new ≡ G.rules guard.old }
     ensures keeps { Keeps (G.kept guard.old) (G.kept guard.new) }
     ensures marks { Keeps (G.entry guard.old) (G.entry guard.new) }
+    ensures quiet { (f : Framed G.Mark) → m.old.guests.running.frames ≡ Some f → asked_of m.old f (calls.Controller call) count ≡ None → guard.new ≡ guard.old }
 {
     let whole = LibCall::Controller(call);
     match call {
@@ -82,6 +83,7 @@ fn call_rt<G: Guard>(
     ensures rules { G.rules guard.new ≡ G.rules guard.old }
     ensures keeps { Keeps (G.kept guard.old) (G.kept guard.new) }
     ensures marks { Keeps (G.entry guard.old) (G.entry guard.new) }
+    ensures quiet { (f : Framed G.Mark) → m.old.guests.running.frames ≡ Some f → asked_of m.old f (calls.Rt call) count ≡ None → guard.new ≡ guard.old }
 {
     let whole = LibCall::Rt(call);
     match call {
@@ -147,6 +149,7 @@ fn call_library<G: Guard>(
     ensures rules { G.rules guard.new ≡ G.rules guard.old }
     ensures keeps { Keeps (G.kept guard.old) (G.kept guard.new) }
     ensures marks { Keeps (G.entry guard.old) (G.entry guard.new) }
+    ensures quiet { (f : Framed G.Mark) → m.old.guests.running.frames ≡ Some f → asked_of m.old f call count ≡ None → guard.new ≡ guard.old }
 {
     match call {
         LibCall::Controller(c) => {
@@ -190,6 +193,7 @@ pub(crate) fn advance<G: Guard>(
     ensures rules { G.rules guard.new ≡ G.rules guard.old }
     ensures keeps { Keeps (G.kept guard.old) (G.kept guard.new) }
     ensures marks { Keeps (G.entry guard.old) (G.entry guard.new) }
+    ensures quiet { asks_next m.old ≡ None → guard.new ≡ guard.old }
 {
     if m.guests.running.frames.is_none() {
         let came = begin_thread(alloc, m)?;

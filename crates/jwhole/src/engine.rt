@@ -4,9 +4,10 @@ ghost use Rattle.jmachine.specs.Acts.{State};
 ghost use Rattle.jmachine.specs.Machine.{opening};
 ghost use Rattle.jmachine.specs.Opening.{opening_state};
 ghost use Rattle.jmachine.specs.Steps.{step as steps_by};
+ghost use Rattle.jguard.specs.Standing.{Keeps};
 ghost use Rattle.jrun.specs.Coming.{ComesTo, WhereWent};
 ghost use Rattle.jwhole.specs.Courses;
-ghost use Rattle.jwhole.specs.Courses.{Holds, Runs, Stands, end_in, end_of, is_lost, left_by, steps};
+ghost use Rattle.jwhole.specs.Courses.{AreLive, Holds, Runs, Stands, asks_of, end_in, end_of, is_lost, left_by, steps};
 ghost use Rattle.jwhole.specs.Grounds.{IsGround};
 
 use crate::grounds::Ground;
@@ -64,6 +65,9 @@ fn go_on<G: Guard>(
     ensures runs { OnOk result (Runs course.new) }
     ensures again { is_lost course.old ≡ true → is_err result ≡ true }
     ensures rules { G.rules guard.new ≡ G.rules guard.old }
+    ensures keeps { Keeps (G.kept guard.old) (G.kept guard.new) }
+    ensures marks { Keeps (G.entry guard.old) (G.entry guard.new) }
+    ensures quiet { asks_of course.old ≡ None → guard.new ≡ guard.old }
 {
     match course {
         Course::Runs { machine } => {
@@ -106,6 +110,7 @@ impl<'a, 'p, G: Guard + Drop> Engine<'a, 'p, G::Mark, G> {
         ensures ended { IfOk result (λ e. end_of e.course ≡ (opening (G.rules guard) program.now plan.now).end) }
         ensures found { IfOk result (λ e. is_lost e.course ≡ false) }
         ensures holds { IfOk result (λ e. Holds (G.kept e.guard) (G.entry e.guard) G.mark (G.rules e.guard) e.course) }
+        ensures threads { IfOk result (λ e. AreLive (G.kept e.guard) (G.entry e.guard) e.course) }
         ensures rules { IfOk result (λ e. G.rules e.guard ≡ G.rules guard) }
     {
         let mut guard = guard;
@@ -120,7 +125,8 @@ impl<'a, 'p, G: Guard + Drop> Engine<'a, 'p, G::Mark, G> {
     }
 
     /// One step of a run that has not ended. What it tells is answered; where it ends the run, that is its end, and so is a state without a
-    /// step. Where it found no memory, each later step finds none.
+    /// step. Where it found no memory, each later step finds none. What was given keeps what it stands for, and a step that asks nothing leaves
+    /// the guard as it is. Behind each step the running thread is runnable, and no thread waits for one that has ended.
     pub fn step(&mut self, alloc: Global) -> Result<Stepped, AllocError>
         requires holds { Holds (G.kept self.old.guard) (G.entry self.old.guard) G.mark (G.rules self.old.guard) self.old.course }
         requires goes { end_of self.old.course ≡ None }
@@ -132,7 +138,11 @@ impl<'a, 'p, G: Guard + Drop> Engine<'a, 'p, G::Mark, G> {
         ensures lost { OnErr result (is_lost self.new.course ≡ true) }
         ensures again { is_lost self.old.course ≡ true → is_err result ≡ true }
         ensures holds { Holds (G.kept self.new.guard) (G.entry self.new.guard) G.mark (G.rules self.new.guard) self.new.course }
+        ensures threads { AreLive (G.kept self.new.guard) (G.entry self.new.guard) self.new.course }
         ensures rules { G.rules self.new.guard ≡ G.rules self.old.guard }
+        ensures keeps { Keeps (G.kept self.old.guard) (G.kept self.new.guard) }
+        ensures marks { Keeps (G.entry self.old.guard) (G.entry self.new.guard) }
+        ensures quiet { asks_of self.old.course ≡ None → self.new.guard ≡ self.old.guard }
     {
         let gone = go_on(alloc, &mut self.course, &mut self.guard);
         match gone {

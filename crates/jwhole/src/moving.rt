@@ -1,10 +1,10 @@
-ghost use Rattle.std.specs.Prelude.{◌≡◌, IfOk, OnOk};
+ghost use Rattle.std.specs.Prelude.{◌≡◌, None, IfOk, OnOk};
 ghost use Rattle.jmachine.specs.Acts.{State as StateOf};
 ghost use Rattle.jmachine.specs.Steps.{step as steps_by};
-ghost use Rattle.jguard.specs.Standing.{StandsFor};
+ghost use Rattle.jguard.specs.Standing.{Keeps, StandsFor};
 ghost use Rattle.jrun.specs.Coming.{ComesTo, WhereWent};
 ghost use Rattle.jcore.specs.Machines.{state_of};
-ghost use Rattle.jwhole.specs.Engines.{IsEngine};
+ghost use Rattle.jwhole.specs.Engines.{IsEngine, asks_next};
 
 use crate::advancing::advance;
 use jcore::Machine;
@@ -25,6 +25,9 @@ pub(crate) fn move_on<G: Guard>(
     ensures ready { IfOk result (WhereWent (IsEngine (G.kept guard.new) (G.entry guard.new) G.mark (G.rules guard.new) machine.new)) }
     ensures same { OnOk result (steps_by (G.rules guard.new) machine.new.calls machine.new.plan.now ≡ steps_by (G.rules guard.old) machine.old.calls machine.old.plan.now) }
     ensures rules { G.rules guard.new ≡ G.rules guard.old }
+    ensures keeps { Keeps (G.kept guard.old) (G.kept guard.new) }
+    ensures marks { Keeps (G.entry guard.old) (G.entry guard.new) }
+    ensures quiet { asks_next machine.old ≡ None → guard.new ≡ guard.old }
 {
     guard_laws::<G>();
     let came = advance(alloc, machine, guard)?;

@@ -60,3 +60,13 @@ returns-in_ok-came-in-Asks-clause-answered g c =
 pub returns-in_ok-came-in-Asks-clause-fixed : goal.returns-in_ok-came-in-Asks-clause-fixed
 returns-in_ok-came-in-Asks-clause-fixed g c =
     fixed_then c.args.m.now c.execute.new.m c.call_library.new.m c.in_ok-found.ensures.fixed c.in_ok-came-in-Asks.ensures.fixed
+
+pub returns-in_err-came-in-Asks-clause-quiet : goal.returns-in_err-came-in-Asks-clause-quiet
+returns-in_err-came-in-Asks-clause-quiet g c none =
+    let at : StandsAt c.args.m.now c.in-Asks.call c.in-Asks.count c.execute.new.m = rw c.in-Asks.is at c.in_ok-found.ensures.done in
+    c.call_library.ensures.quiet at.calling.frames at.calling.runs (sym at.asked ∙ none)
+
+pub returns-in_ok-came-in-Asks-clause-quiet : goal.returns-in_ok-came-in-Asks-clause-quiet
+returns-in_ok-came-in-Asks-clause-quiet g c none =
+    let at : StandsAt c.args.m.now c.in-Asks.call c.in-Asks.count c.execute.new.m = rw c.in-Asks.is at c.in_ok-found.ensures.done in
+    c.call_library.ensures.quiet at.calling.frames at.calling.runs (sym at.asked ∙ none)

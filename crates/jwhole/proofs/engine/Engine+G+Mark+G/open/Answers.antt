@@ -1,4 +1,5 @@
-use Rattle.jwhole.proofs.Coursing.{ended_first, found_first, holds_first, stands_first, steps_first}
+use Rattle.jwhole.specs.Courses.{course_of}
+use Rattle.jwhole.proofs.Coursing.{ended_first, found_first, holds_first, live_in, stands_first, steps_first}
 use Rattle.jwhole.proofs.engine.Engine+G+Mark+G.open.Goals as goal
 
 pub returns-clause-stands : goal.returns-clause-stands
@@ -39,3 +40,13 @@ returns-clause-holds g c =
     let p = c.args.program.now in
     let plan = c.args.plan.now in
     rw (c.course_of.ensures, c.start.ensures.rules) (holds_first kept entry g.G.Guard.mark rules p plan c.in_ok-begun.begun c.in_ok-begun.ensures.starts)
+
+pub returns-clause-threads : goal.returns-clause-threads
+returns-clause-threads g c =
+    let kept = g.G.Guard.kept c.start.new.guard in
+    let entry = g.G.Guard.entry c.start.new.guard in
+    let rules = g.G.Guard.rules c.args.guard in
+    let p = c.args.program.now in
+    let plan = c.args.plan.now in
+    let begun = c.in_ok-begun.begun in
+    rw c.course_of.ensures (live_in kept entry g.G.Guard.mark rules (course_of begun) (holds_first kept entry g.G.Guard.mark rules p plan begun c.in_ok-begun.ensures.starts))

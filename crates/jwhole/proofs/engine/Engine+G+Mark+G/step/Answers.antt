@@ -1,4 +1,5 @@
-use Rattle.jwhole.proofs.Coursing.{comes_left, ended_left, found_left, holds_left, same_left}
+use Rattle.jwhole.specs.Courses.{left_by}
+use Rattle.jwhole.proofs.Coursing.{comes_left, ended_left, found_left, holds_left, live_in, same_left}
 use Rattle.jwhole.proofs.engine.Engine+G+Mark+G.step.Goals as goal
 
 pub returns-in-Ok-clause-comes : goal.returns-in-Ok-clause-comes
@@ -25,3 +26,15 @@ pub returns-in-Ok-clause-holds : goal.returns-in-Ok-clause-holds
 returns-in-Ok-clause-holds g c =
     let holds = rw c.in-Ok.is at c.go_on-gone.ensures.holds in
     rw c.leave.ensures (holds_left _ _ g.G.Guard.mark _ c.go_on-gone.new.course c.in-Ok.came holds)
+
+pub returns-in-Ok-clause-threads : goal.returns-in-Ok-clause-threads
+returns-in-Ok-clause-threads g c =
+    let kept = g.G.Guard.kept c.go_on-gone.new.guard in
+    let entry = g.G.Guard.entry c.go_on-gone.new.guard in
+    let rules = g.G.Guard.rules c.go_on-gone.new.guard in
+    let course = c.go_on-gone.new.course in
+    let holds = rw c.in-Ok.is at c.go_on-gone.ensures.holds in
+    rw c.leave.ensures (live_in kept entry g.G.Guard.mark rules (left_by course c.in-Ok.came) (holds_left kept entry g.G.Guard.mark rules course c.in-Ok.came holds))
+
+pub returns-in-Err-clause-threads : goal.returns-in-Err-clause-threads
+returns-in-Err-clause-threads g c = λ s stands. absurd stands
