@@ -37,7 +37,7 @@ use Rattle.jprogram.specs.declared.part.CodePart.{CodePart}
 use Rattle.jprogram.specs.Classes.{Lib, Program, User, find, found_at, place_of}
 use Rattle.jprogram.specs.Members.{init, method_id}
 use Rattle.jprogram.specs.Naming.{desc_reserved, entry_reserved, member_reserved, names_reserved, return_reserved, text_reserved, type_reserved}
-use Rattle.jprogram.specs.Parts.{is_called, is_interface, is_static, member_desc, member_name, or_empty, super_name, text, this_name}
+use Rattle.jprogram.specs.Parts.{is_called, is_interface, is_static, member_desc, member_name, or_empty, super_name, this_name}
 use Rattle.jprogram.specs.Supers.{is_missing}
 use Rattle.jtyping.specs.Typing.{WellTyped}
 use Rattle.jmoveclass.specs.Beginning.{params_in, params_of, slots, this_slots}
@@ -98,7 +98,7 @@ all_moving p is typed none i c d h =
 
 -- ---- contexts are there
 
-place_there : (ps : List CodePart) (name : List ℕ) (i : ℕ) → place_of ps name ≡ Some i → (part : CodePart) × (slice_get ps i ≡ Some part)
+pub place_there : (ps : List CodePart) (name : List ℕ) (i : ℕ) → place_of ps name ≡ Some i → (part : CodePart) × (slice_get ps i ≡ Some part)
 unfolding place_of
 place_there [] name i e = absurd cc
 place_there (x ∷ ps) name i e =
@@ -112,7 +112,7 @@ context_by p (Some i) e =
     let r = place_there p.parts context_type.class i e in
     ap (λ o. is_some (option_map (λ part. User i part.class) o)) (moved_at p i r.0 r.1)
 
-context_there : (p : Program) → IsPlain p → is_missing (moved p) context_type.class ≡ false
+pub context_there : (p : Program) → IsPlain p → is_missing (moved p) context_type.class ≡ false
 unfolding find moved
 context_there p is = ap not (ap (λ o. is_some (found_at (moved p) context_type.class o)) (place_same p context_type.class p.parts is.all) ∙ context_by p (place_of p.parts context_type.class) refl)
 
@@ -126,7 +126,7 @@ none_at : (i k : ℕ) (o : Option LinkKind) → o ≡ None → at_member i k o �
 none_at i k None h = refl
 none_at i k (Some kind) h = absurd cc
 
-none_or : {F : Type 0} (a b : Option F) → a ≡ None → b ≡ None → or_else a b ≡ None
+pub none_or : {F : Type 0} (a b : Option F) → a ≡ None → b ≡ None → or_else a b ≡ None
 none_or None b h k = k
 none_or (Some x) b h k = absurd cc
 
@@ -154,7 +154,7 @@ take_in [] (suc k) i x h = absurd cc
 take_in (y ∷ ys) (suc k) zero x h = h
 take_in (y ∷ ys) (suc k) (suc i) x h = take_in ys k i x h
 
-any_at : {A : Type 0} (f : A → Bool) (xs : List A) (i : ℕ) (x : A) → list_any f xs ≡ false → slice_get xs i ≡ Some x → f x ≡ false
+pub any_at : {A : Type 0} (f : A → Bool) (xs : List A) (i : ℕ) (x : A) → list_any f xs ≡ false → slice_get xs i ≡ Some x → f x ≡ false
 any_at f [] i x h at = absurd cc
 any_at f (y ∷ ys) zero x h at = let same : y ≡ x = cc in subst (λ z. f z ≡ false) same (first_false (f y) (list_any f ys) h)
 any_at f (y ∷ ys) (suc i) x h at = any_at f ys i x (second_false (f y) (list_any f ys) h) at
@@ -213,7 +213,7 @@ desc_there p is (Some (descriptors.Method ps ret)) plain h =
     (return_there p is ret (second_false (list_any type_reserved ps) (return_reserved ret) plain) (second_false (list_any (type_missing p) ps) (return_missing p ret) h))
 
 -- the texts of a field
-record Texts (c d : ClassParts) (m : MemberInfo) : Type 0 where
+pub record Texts (c d : ClassParts) (m : MemberInfo) : Type 0 where
   pub name : member_name d m ≡ member_name c m
   pub desc : member_desc d m ≡ member_desc c m
 
@@ -221,7 +221,7 @@ utf8_some : (pool : List Entry) (i : ℕ) (o : Option (List ℕ)) → utf8_at po
 utf8_some pool i None e h = absurd cc
 utf8_some pool i (Some t) e h = text_utf8 pool i t e
 
-field_texts : (c d : ClassParts) (m : MemberInfo) → IsFront c.pool d.pool → IsTrue ((formats.field c.pool).fits m) → Texts c d m
+pub field_texts : (c d : ClassParts) (m : MemberInfo) → IsFront c.pool d.pool → IsTrue ((formats.field c.pool).fits m) → Texts c d m
 unfolding formats.field field_descriptor
 field_texts c d m front fit =
     let a = second_true (access.fits m.flags) _ fit in
@@ -232,7 +232,7 @@ field_texts c d m front fit =
       desc = text_same c.pool d.pool front m.desc (utf8_some c.pool m.desc (utf8_at c.pool m.desc) refl (second_true (u2.fits m.desc) (is_good (descriptor_fault is_field_descriptor (utf8_at c.pool m.desc))) desc));
     }
 
-class_fields : (c : ClassParts) → IsTrue (class_file.fits c) → IsTrue (list_all (formats.field c.pool).fits c.fields)
+pub class_fields : (c : ClassParts) → IsTrue (class_file.fits c) → IsTrue (list_all (formats.field c.pool).fits c.fields)
 unfolding tail
 class_fields c fit =
     let a = second_true (access.fits c.flags) _ (class_tail c fit) in
@@ -268,11 +268,11 @@ field_good p is part d flags texts kept k m at old =
 
 -- ---- the phase
 
-fields_same : (p : Program) (domain : ℕ) (c : ClassParts) → (moved_class p domain c).fields ≡ c.fields
+pub fields_same : (p : Program) (domain : ℕ) (c : ClassParts) → (moved_class p domain c).fields ≡ c.fields
 unfolding moved_class
 fields_same p domain c = refl
 
-flags_kept : (p : Program) (domain : ℕ) (c : ClassParts) → (moved_class p domain c).flags ≡ c.flags
+pub flags_kept : (p : Program) (domain : ℕ) (c : ClassParts) → (moved_class p domain c).flags ≡ c.flags
 unfolding moved_class
 flags_kept p domain c = refl
 

@@ -145,22 +145,22 @@ none_final p rs ss sub x y a h = true_or (overrides_final (moved p) y [] ss) (λ
 
 -- ---- what stands above
 
-plain_front : (ns ms : List (List ℕ)) → AllPlain (ns ++ ms) → AllPlain ns
+pub plain_front : (ns ms : List (List ℕ)) → AllPlain (ns ++ ms) → AllPlain ns
 plain_front [] ms h = tt
 plain_front (n ∷ ns) ms h = (h.0, plain_front ns ms h.1)
 
 above_plain : (p : Program) → IsPlain p → (name : List ℕ) → is_reserved name ≡ false → AllPlain (option_to_list (above_name p name))
 above_plain p is name plain = plain_front (option_to_list (above_name p name)) _ (supers_plain p is name plain)
 
-record SameChain (p : Program) (xs ys : List (List ℕ)) : Type 0 where
+pub record SameChain (p : Program) (xs ys : List (List ℕ)) : Type 0 where
   pub same : ys ≡ xs
   pub plain : AllPlain xs
 
-onward_same : (p : Program) (f g : List ℕ → List (List ℕ)) (o : Option (List ℕ)) → AllPlain (option_to_list o) → ((n : List ℕ) → is_reserved n ≡ false → SameChain p (f n) (g n)) → SameChain p (onward f o) (onward g o)
+pub onward_same : (p : Program) (f g : List ℕ → List (List ℕ)) (o : Option (List ℕ)) → AllPlain (option_to_list o) → ((n : List ℕ) → is_reserved n ≡ false → SameChain p (f n) (g n)) → SameChain p (onward f o) (onward g o)
 onward_same p f g None plain h = record { same = refl; plain = tt }
 onward_same p f g (Some n) plain h = h n plain.0
 
-chain_same : (p : Program) → IsPlain p → (n : ℕ) (name : List ℕ) → is_reserved name ≡ false → SameChain p (chain p n name) (chain (moved p) n name)
+pub chain_same : (p : Program) → IsPlain p → (n : ℕ) (name : List ℕ) → is_reserved name ≡ false → SameChain p (chain p n name) (chain (moved p) n name)
 unfolding chain
 chain_same p is zero name plain = record { same = refl; plain = tt }
 chain_same p is (suc n) name plain =
@@ -187,16 +187,16 @@ from_same c d o m name i [] (y ∷ ys) k sub all f = absurd all
 from_same c d o m name i (x ∷ xs) [] k sub all f = absurd all
 from_same c d o m name i (x ∷ xs) (y ∷ ys) k sub all f = rw (called_there c d o x y m name k (sub 0 x refl) all.0 f, from_same c d o m name (i + 1) xs ys k (λ j z at. sub (suc j) z at) all.1 f) refl
 
-position_same : (c d o : ClassParts) (m : MemberInfo) (name : List ℕ) → Moving c d → Alike c d.pool c.methods d.methods → Facts o m → position (is_called d name (new_desc o m)) d.methods ≡ position (is_called c name (member_desc o m)) c.methods
+pub position_same : (c d o : ClassParts) (m : MemberInfo) (name : List ℕ) → Moving c d → Alike c d.pool c.methods d.methods → Facts o m → position (is_called d name (new_desc o m)) d.methods ≡ position (is_called c name (member_desc o m)) c.methods
 position_same c d o m name k all f =
     position_from-zero (is_called d name (new_desc o m)) d.methods ∙ from_same c d o m name 0 c.methods d.methods k (λ j x at. (j, at)) all f ∙ sym (position_from-zero (is_called c name (member_desc o m)) c.methods)
 
-info_is : (p : Program) (i j : ℕ) (part : CodePart) (m : MemberInfo) → slice_get p.parts i ≡ Some part → slice_get part.class.methods j ≡ Some m → info_of p (Method (method_id i j)) ≡ Some (part.class, m)
+pub info_is : (p : Program) (i j : ℕ) (part : CodePart) (m : MemberInfo) → slice_get p.parts i ≡ Some part → slice_get part.class.methods j ≡ Some m → info_of p (Method (method_id i j)) ≡ Some (part.class, m)
 info_is p i j part m at there =
     ap (λ (q : Option CodePart). option_and_then (λ c. option_map (λ x. (c, x)) (slice_get c.methods j)) (option_map (λ y. y.class) q)) at
     ∙ ap (option_map (λ x. (part.class, x))) there
 
-user_likewise : (p : Program) (i j : ℕ) (c d : ClassParts) (x y : MemberInfo) → info_of p (Method (method_id i j)) ≡ Some (c, x) → info_of (moved p) (Method (method_id i j)) ≡ Some (d, y) → y.flags ≡ x.flags → this_name d ≡ this_name c
+pub user_likewise : (p : Program) (i j : ℕ) (c d : ClassParts) (x y : MemberInfo) → info_of p (Method (method_id i j)) ≡ Some (c, x) → info_of (moved p) (Method (method_id i j)) ≡ Some (d, y) → y.flags ≡ x.flags → this_name d ≡ this_name c
     → Likewise p (Method (method_id i j)) (Method (method_id i j))
 unfolding is_static is_final reach_of owner_of
 user_likewise p i j c d x y old new flags named = record {
@@ -225,7 +225,7 @@ along_sub p f g [] plain h = tt
 along_sub p f g (n ∷ names) plain h = cons_sub p (f n) (g n) (filter_map f names) (filter_map g names) (h n plain.0) (along_sub p f g names plain.1 h)
 
 -- a method of the library that is found by a moved descriptor: the one of the other side
-lib_likewise : (p : Program) (m n : LibCall) → library.is_static m ≡ library.is_static n → library_classes.name_of (library.owner m) ≡ library_classes.name_of (library.owner n) → Likewise p (LibMethod n) (LibMethod m)
+pub lib_likewise : (p : Program) (m n : LibCall) → library.is_static m ≡ library.is_static n → library_classes.name_of (library.owner m) ≡ library_classes.name_of (library.owner n) → Likewise p (LibMethod n) (LibMethod m)
 unfolding is_static is_final reach_of owner_of
 lib_likewise p m n static owner = record { static = static; final = refl; reach = refl; owner = owner }
 
@@ -243,7 +243,7 @@ there_sub : (p : Program) (m n : LibCall) (class name desc : List ℕ) → libra
     → OptSub p (option_and_then lib_method (library.member_named Source class name desc)) (lib_method m)
 there_sub p m n class name desc none none_too like at = rw (at, none, none_too) like
 
-call_at : (n : LibCall) (class name desc : List ℕ) → library.call_stands_on Source n ≡ true → library_classes.name_of (library.owner n) ≡ class → library.name_of_call n ≡ name → library.desc_of n ≡ desc → library.member_named Source class name desc ≡ Some n
+pub call_at : (n : LibCall) (class name desc : List ℕ) → library.call_stands_on Source n ≡ true → library_classes.name_of (library.owner n) ≡ class → library.name_of_call n ≡ name → library.desc_of n ≡ desc → library.member_named Source class name desc ≡ Some n
 call_at n class name desc on c s d = rw (sym c, sym s, sym d) (call_only Source n on)
 
 -- what the library is handed a context by
@@ -359,7 +359,7 @@ lib_sub p o x class name f plain (Some m) at =
 
 -- ---- what the class of a name declares
 
-pair_at : (c d : ClassParts) (xs ys : List MemberInfo) (j : ℕ) → Alike c d.pool xs ys → (x : MemberInfo) → slice_get xs j ≡ Some x → (y : MemberInfo) × ((slice_get ys j ≡ Some y) × Like c d.pool x y)
+pub pair_at : (c d : ClassParts) (xs ys : List MemberInfo) (j : ℕ) → Alike c d.pool xs ys → (x : MemberInfo) → slice_get xs j ≡ Some x → (y : MemberInfo) × ((slice_get ys j ≡ Some y) × Like c d.pool x y)
 pair_at c d [] [] j all x at = absurd cc
 pair_at c d [] (y ∷ ys) j all x at = absurd all
 pair_at c d (z ∷ xs) [] j all x at = absurd all
@@ -396,7 +396,7 @@ in_user p is all o x name f i j c d e h =
     (same_sub p (λ k. Method (method_id i k)) (position (is_called c name (member_desc o x)) c.methods) (position (is_called d name (new_desc o x)) d.methods) (position_same c d o x name k.0 k.1 f)
     (user_sub p is all i h.part c name (member_desc o x) (position (is_called c name (member_desc o x)) c.methods) h.at h.here refl))
 
-moved_side : (p : Program) → (moved p).side ≡ Passing
+pub moved_side : (p : Program) → (moved p).side ≡ Passing
 unfolding moved
 moved_side p = refl
 
@@ -419,7 +419,7 @@ found_sub p is all o x name f (Some (Lib c)) None h plain = absurd h
 found_sub p is all o x name f (Some (User i c)) (Some (Lib d)) h plain = absurd h
 found_sub p is all o x name f (Some (Lib c)) (Some (User j d)) h plain = absurd h
 
-lib_in : (q : Option LibClass) (c : LibClass) → option_map Lib q ≡ Some (Lib c) → q ≡ Some c
+pub lib_in : (q : Option LibClass) (c : LibClass) → option_map Lib q ≡ Some (Lib c) → q ≡ Some c
 lib_in None c e = absurd cc
 lib_in (Some d) c e = let same : d ≡ c = cc in ap (λ (y : LibClass). Some y) same
 
@@ -431,11 +431,11 @@ place_lib : (p : Program) (name : List ℕ) (q : Option ℕ) (c : LibClass) → 
 place_lib p name None c e = (class_found p.side name c (lib_in (library_classes.class_named p.side name) c e)).0
 place_lib p name (Some i) c e = let no = no_user i (slice_get p.parts i) c e in absurd cc
 
-lib_named : (p : Program) (name : List ℕ) (c : LibClass) → find p name ≡ Some (Lib c) → library_classes.name_of c ≡ name
+pub lib_named : (p : Program) (name : List ℕ) (c : LibClass) → find p name ≡ Some (Lib c) → library_classes.name_of c ≡ name
 unfolding find
 lib_named p name c e = place_lib p name (place_of p.parts name) c e
 
-at_sub : (p : Program) → IsPlain p → AllMoving p → (o : ClassParts) (x : MemberInfo) (name : List ℕ) → Facts o x → (class : List ℕ) → is_reserved class ≡ false → OptSub p (method_at p name (member_desc o x) class) (method_at (moved p) name (new_desc o x) class)
+pub at_sub : (p : Program) → IsPlain p → AllMoving p → (o : ClassParts) (x : MemberInfo) (name : List ℕ) → Facts o x → (class : List ℕ) → is_reserved class ≡ false → OptSub p (method_at p name (member_desc o x) class) (method_at (moved p) name (new_desc o x) class)
 at_sub p is all o x name f class plain = found_sub p is all o x name f (find p class) (find (moved p) class) (same p is class plain) (λ c e. ap is_reserved (lib_named p class c e) ∙ plain)
 
 -- the methods above

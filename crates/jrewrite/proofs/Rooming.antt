@@ -58,7 +58,7 @@ along f names x e h =
     let r = first_in f names x e in
     h r.0 r.2
 
-resolved_desc : (p : Program) (class name desc : List ℕ) (x : Member) → resolve_method p class name desc ≡ Some x → desc_of p x ≡ desc
+pub resolved_desc : (p : Program) (class name desc : List ℕ) (x : Member) → resolve_method p class name desc ≡ Some x → desc_of p x ≡ desc
 unfolding resolve_method
 resolved_desc p class name desc x e =
     let here : (c : List ℕ) → method_at p name desc c ≡ Some x → desc_of p x ≡ desc = λ c at. (method_called p name desc c x at).1 in
@@ -89,7 +89,7 @@ empty_none : {P : Type 0} (d : Descriptor) → descriptor_of [] ≡ Some d → P
 unfolding descriptor_of
 empty_none d h = absurd cc
 
-of_empty : {P : Type 0} (t : List ℕ) (d : Descriptor) → [] ≡ t → descriptor_of t ≡ Some d → P
+pub of_empty : {P : Type 0} (t : List ℕ) (d : Descriptor) → [] ≡ t → descriptor_of t ≡ Some d → P
 of_empty t d e h = empty_none d (ap descriptor_of e ∙ h)
 
 user_in : (p : Program) → AllFew p → (i j : ℕ) (part : CodePart) (o : Option MemberInfo) (t : List ℕ) (ps : List FieldType) (ret : Option FieldType) → slice_get p.parts i ≡ Some part → slice_get part.class.methods j ≡ o
@@ -149,13 +149,13 @@ library_few n calls.ContextCheck h = absurd cc
 library_few n (calls.PermissionInit one) h = absurd cc
 library_few n (calls.Rt one) h = absurd cc
 
-library_desc : (p : Program) (m : LibCall) → desc_of p (members.LibMethod m) ≡ library.desc_of m
+pub library_desc : (p : Program) (m : LibCall) → desc_of p (members.LibMethod m) ≡ library.desc_of m
 unfolding desc_of
 library_desc p m = refl
 
 -- ---- what is called
 
-called_room : (p : Program) → AllFew p → (n : ℕ) (x : Member) (t : List ℕ) (ps : List FieldType) (ret : Option FieldType) → calling n (Some x) ≡ kinds.Call n → desc_of p x ≡ t → descriptor_of t ≡ Some (descriptors.Method ps ret) → slots_of ps ≤ 254
+pub called_room : (p : Program) → AllFew p → (n : ℕ) (x : Member) (t : List ℕ) (ps : List FieldType) (ret : Option FieldType) → calling n (Some x) ≡ kinds.Call n → desc_of p x ≡ t → descriptor_of t ≡ Some (descriptors.Method ps ret) → slots_of ps ≤ 254
 called_room p few n (members.Method m) t ps ret h e is = user_room p few m t ps ret e is
 called_room p few n (members.LibMethod m) t ps ret h e is =
     few_is (descriptor_of (library.desc_of m)) ps ret (ap descriptor_of (sym (library_desc p m) ∙ e) ∙ is) (library_few n m h)

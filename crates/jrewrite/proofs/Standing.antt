@@ -52,12 +52,12 @@ class_none i (Some kind) h = absurd cc
 none_class : (i : ℕ) (o : Option LinkKind) → o ≡ None → in_class i o ≡ None
 none_class i o h = ap (in_class i) h
 
-any_false : {A : Type 0} (f : A → Bool) (xs : List A) (i : ℕ) (x : A) → list_any f xs ≡ false → slice_get xs i ≡ Some x → f x ≡ false
+pub any_false : {A : Type 0} (f : A → Bool) (xs : List A) (i : ℕ) (x : A) → list_any f xs ≡ false → slice_get xs i ≡ Some x → f x ≡ false
 any_false f [] i x h at = absurd cc
 any_false f (y ∷ ys) zero x h at = let same : y ≡ x = cc in subst (λ z. f z ≡ false) same (or_false (f y) (list_any f ys) h).0
 any_false f (y ∷ ys) (suc i) x h at = any_false f ys i x (or_false (f y) (list_any f ys) h).1 at
 
-false_or : (a b : Bool) → a ≡ false → b ≡ false → (a || b) ≡ false
+pub false_or : (a b : Bool) → a ≡ false → b ≡ false → (a || b) ≡ false
 false_or true b h k = absurd cc
 false_or false b h k = k
 
@@ -226,7 +226,7 @@ above_found p is (Some (Lib c)) None h = absurd h
 above_found p is (Some (User i c)) (Some (Lib d)) h = absurd h
 above_found p is (Some (Lib c)) (Some (User j d)) h = absurd h
 
-faces_found : (p : Program) → IsPlain p → (o q : Found) → SameFound p o q → faces_of q ≡ faces_of o
+pub faces_found : (p : Program) → IsPlain p → (o q : Found) → SameFound p o q → faces_of q ≡ faces_of o
 faces_found p is None None h = refl
 faces_found p is (Some (User i c)) (Some (User j d)) h = faces_moved p is i c d h.1
 faces_found p is (Some (Lib c)) (Some (Lib d)) h = ap (λ x. faces (Lib x)) (sym h)
@@ -251,7 +251,7 @@ abbrev pub AllPlain : List (List ℕ) → Type 0
 AllPlain [] = Unit {0}
 AllPlain (n ∷ ns) = (is_reserved n ≡ false) × AllPlain ns
 
-plain_append : (ns ms : List (List ℕ)) → AllPlain ns → AllPlain ms → AllPlain (ns ++ ms)
+pub plain_append : (ns ms : List (List ℕ)) → AllPlain ns → AllPlain ms → AllPlain (ns ++ ms)
 plain_append [] ms h k = k
 plain_append (n ∷ ns) ms h k = (h.0, plain_append ns ms h.1 k)
 
@@ -304,7 +304,7 @@ supers_plain p is name plain = found_supers p is (find p name) (find (moved p) n
 
 -- ---- circles
 
-any_same : (f g : List ℕ → Bool) (ns : List (List ℕ)) → AllPlain ns → ((n : List ℕ) → is_reserved n ≡ false → f n ≡ g n) → list_any f ns ≡ list_any g ns
+pub any_same : (f g : List ℕ → Bool) (ns : List (List ℕ)) → AllPlain ns → ((n : List ℕ) → is_reserved n ≡ false → f n ≡ g n) → list_any f ns ≡ list_any g ns
 any_same f g [] all h = refl
 any_same f g (n ∷ ns) all h = rw (h n all.0, any_same f g ns all.1 h) refl
 

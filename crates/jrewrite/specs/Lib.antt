@@ -2,3 +2,4 @@ pub mod Linking
 pub mod Members
 pub mod Parts
 pub mod Program
+pub mod References

@@ -1,6 +1,7 @@
 ghost use Rattle.jrewrite.specs.Linking.{NamesStay, SupersStay};
 ghost use Rattle.jrewrite.specs.Members.{MembersStay};
 ghost use Rattle.jrewrite.specs.Parts.{PartsAreFiles};
+ghost use Rattle.jrewrite.specs.References.{CodeStays, LinksStay};
 
 /// The laws of linking that moved programs keep: the first two of its phases find nothing.
 pub fn standing_laws()
@@ -18,4 +19,15 @@ pub fn part_laws()
 /// are there, and no method is one that the library fixes, or overrides a final one (JVMS 4.5, 4.6, 5.4.5).
 pub fn member_law()
     ensures { MembersStay }
+{}
+
+/// The law of references. In the moved program the fourth phase of linking finds nothing: instructions, handlers and frames name classes and
+/// members that are there, may be used, and are used as they may be (JVMS 5.4.3, 5.4.4, 6.5).
+pub fn code_law()
+    ensures { CodeStays }
+{}
+
+/// The law of linking. The moved program links.
+pub fn link_law()
+    ensures { LinksStay }
 {}

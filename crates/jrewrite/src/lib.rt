@@ -8,6 +8,6 @@ mod part;
 
 pub use error::RewriteError;
 pub use jmoveclass::RewriteKind;
-pub use laws::{member_law, part_laws, standing_laws};
+pub use laws::{code_law, link_law, member_law, part_laws, standing_laws};
 pub use moved::moved_parts;
 pub use part::MovedPart;

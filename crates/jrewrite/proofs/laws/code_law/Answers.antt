@@ -1,0 +1,5 @@
+use Rattle.jrewrite.proofs.Referring.{code_stays}
+use Rattle.jrewrite.proofs.laws.code_law.Goals as goal
+
+pub returns : goal.returns
+returns g p is typed none may = code_stays p is typed none may
