@@ -1,4 +1,4 @@
-//! Checks the types of methods and of programs from the input, and tells which answers aren't those that the input says.
+//! Links programs from the input, checks the types of their methods, and tells which answers aren't those that the input says.
 //!
 //! The fields of a line are parted by ` | `, and bytes are words of hexadecimal text.
 //!
@@ -9,17 +9,23 @@
 //! - `method SHOWS | NAME | MAXIMA | CODE | HANDLERS | FRAMES | ANSWER`: that class with a last method. ANSWER is `ok`, `plain` where it is
 //!   on the passing side, or `at PLACE` in the last method, `at CLASS METHOD PLACE` in another.
 //! - `program SHOWS | NAME .. | ANSWER`: the classes of these names.
+//! - `over CLASS .. | SHOWS`: the classes that the lines behind it ask about, by their names or their bytes, and maybe what they show.
+//! - `ask QUESTION | ANSWER`: what is asked of the program of those classes, by its word and the words behind it.
 //! - `# ..` and empty lines say nothing.
 #![tactic(auto)]
 
+mod asked;
 mod judging;
+mod layered;
+mod linked;
+mod question;
 mod reading;
 mod rows;
+mod used;
 mod words;
 
-use judging::Verdict;
-use reading::{Line, Table};
-use std::io;
+use reading::{Group, Line, Table};
+use std::{fmt, io};
 
 /// How many rows were asked, and how many were answered as they say.
 #[derive(Clone, Copy)]
@@ -39,37 +45,56 @@ impl Count {
     }
 }
 
+impl fmt::Display for Count {
+    fn fmt<W: fmt::Write>(&self, f: &mut fmt::Formatter<W>) -> fmt::Result {
+        write!(f, "{} of {} as they say", self.right, self.asked)
+    }
+}
+
+/// The counts of the rows that are accepted, refused, and questions.
+#[derive(Clone, Copy)]
+struct Counts {
+    accepted: Count,
+    refused: Count,
+    answered: Count,
+}
+
+impl Counts {
+    const NONE: Counts = Counts {
+        accepted: Count::NONE,
+        refused: Count::NONE,
+        answered: Count::NONE,
+    };
+
+    fn count(&mut self, group: Group, right: bool) {
+        match group {
+            Group::Accepted => self.accepted = self.accepted.with(right),
+            Group::Refused => self.refused = self.refused.with(right),
+            Group::Answered => self.answered = self.answered.with(right),
+        }
+    }
+}
+
 fn main(rt: HostRuntime) -> io::Result<()> {
     let alloc = rt.alloc();
     let mut table = Table::new(alloc);
-    let mut accepted = Count::NONE;
-    let mut refused = Count::NONE;
+    let mut counts = Counts::NONE;
     for (i, line) in rt.lines(alloc).enumerate() {
         let line = line?;
-        let (shows, wanted, found) = match table.read(alloc, line.as_str()) {
-            Ok(Line::Row(shows, wanted, found)) => (shows, wanted, found),
-            Ok(Line::Known) => continue,
-            Err(why) => {
-                println!(rt; "line {}: {why}", i.saturating_add(1))?;
-                continue;
+        let place = i.saturating_add(1);
+        match table.read(alloc, line.as_str()) {
+            Ok(Line::Known) => {}
+            Ok(Line::Row(group, shows, wanted, found)) => {
+                let right = found.as_str() == wanted;
+                if !right {
+                    println!(rt; "line {place}: {shows}: {}", found.as_str())?;
+                }
+                counts.count(group, right);
             }
-        };
-        let said = found.to_string(alloc)?;
-        let right = said.as_str() == wanted;
-        if !right {
-            println!(rt; "line {}: {shows}: {said}", i.saturating_add(1))?;
-        }
-        match found {
-            Verdict::Typed | Verdict::Plain => accepted = accepted.with(right),
-            _ => refused = refused.with(right),
+            Err(why) => println!(rt; "line {place}: {why}")?,
         }
     }
-    println!(rt;
-        "accepted: {} of {} as they say",
-        accepted.right, accepted.asked
-    )?;
-    println!(rt;
-        "refused: {} of {} as they say",
-        refused.right, refused.asked
-    )
+    println!(rt; "accepted: {}", counts.accepted)?;
+    println!(rt; "refused: {}", counts.refused)?;
+    println!(rt; "answered: {}", counts.answered)
 }

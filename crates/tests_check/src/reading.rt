@@ -1,6 +1,7 @@
+use crate::asked::answer;
 use crate::judging::{Verdict, judged, part_of};
 use crate::rows::Row;
-use crate::words::{Unread, put_hex, put_u16};
+use crate::words::{Unread, bytes_of, put_hex, put_u16};
 use jlib::Side;
 use jprogram::CodePart;
 use std::alloc::{AllocError, Global};
@@ -21,14 +22,39 @@ pub struct Table {
     beside: String,
     /// The class of the rows, up to its last method.
     class: Vec<u8>,
+    /// The classes of which something is asked.
+    over: String,
 }
 
 /// What a line is.
 pub enum Line<'a> {
     /// One that later lines are read by.
     Known,
-    /// What it shows, the answer that it wants, and the one that was found.
-    Row(&'a str, &'a str, Verdict),
+    /// In which group it counts, what it shows, the answer that it wants, and the one that was found.
+    Row(Group, &'a str, &'a str, String),
+}
+
+/// Which rows are counted together: those whose methods or programs are accepted, those that are refused, and questions.
+#[derive(Clone, Copy)]
+pub enum Group {
+    Accepted,
+    Refused,
+    Answered,
+}
+
+/// The row on a verdict.
+fn judged_row<'a>(
+    alloc: Global,
+    shows: &'a str,
+    wanted: &'a str,
+    found: Verdict,
+) -> Result<Line<'a>, Unread> {
+    let said = found.to_string(alloc)?;
+    let group = match found {
+        Verdict::Typed | Verdict::Plain => Group::Accepted,
+        _ => Group::Refused,
+    };
+    Ok(Line::Row(group, shows, wanted, said))
 }
 
 impl Table {
@@ -38,6 +64,7 @@ impl Table {
             named: Vec::new(alloc),
             beside: String::new(alloc),
             class: Vec::new(alloc),
+            over: String::new(alloc),
         }
     }
 
@@ -50,12 +77,21 @@ impl Table {
         Err(Unread::Line)
     }
 
+    /// The class of a name, or of bytes that begin as each class file does.
+    fn part(&self, alloc: Global, name: &str) -> Result<CodePart, Unread> {
+        if name.starts_with("cafebabe") {
+            let bytes = bytes_of(alloc, name)?;
+            return part_of(alloc, bytes.as_slice());
+        }
+        let bytes = self.find(name)?;
+        part_of(alloc, bytes)
+    }
+
     /// The classes of these names.
     fn parts(&self, alloc: Global, names: &str) -> Result<Vec<CodePart>, Unread> {
         let mut parts = Vec::new(alloc);
         for name in names.split(' ') {
-            let bytes = self.find(name)?;
-            let part = part_of(alloc, bytes)?;
+            let part = self.part(alloc, name)?;
             parts.push(part).map_err(AllocError::from)?;
         }
         Ok(parts)
@@ -85,7 +121,7 @@ impl Table {
             return Err(Unread::Line);
         };
         let found = self.on_row(alloc, &row)?;
-        Ok(Line::Row(row.shows, row.answer, found))
+        judged_row(alloc, row.shows, row.answer, found)
     }
 
     fn program<'a>(&self, alloc: Global, line: &'a str) -> Result<Line<'a>, Unread> {
@@ -97,7 +133,26 @@ impl Table {
         };
         let parts = self.parts(alloc, names)?;
         let found = judged(alloc, parts, self.side)?;
-        Ok(Line::Row(shows, answer, found))
+        judged_row(alloc, shows, answer, found)
+    }
+
+    fn ask<'a>(&self, alloc: Global, line: &'a str) -> Result<Line<'a>, Unread> {
+        let Some((question, wanted)) = line.split_once(" | ") else {
+            return Err(Unread::Line);
+        };
+        let parts = self.parts(alloc, self.over.as_str())?;
+        let found = answer(alloc, parts, self.side, question)?;
+        Ok(Line::Row(Group::Answered, question, wanted, found))
+    }
+
+    /// The classes of which the lines behind ask something. What they show stands behind them.
+    fn put_over(&mut self, alloc: Global, line: &str) -> Result<(), Unread> {
+        let names = match line.split_once(" | ") {
+            Some((names, _)) => names,
+            None => line,
+        };
+        self.over = String::from_str(alloc, names)?;
+        Ok(())
     }
 
     fn put_name(&mut self, alloc: Global, line: &str) -> Result<(), Unread> {
@@ -143,6 +198,7 @@ impl Table {
             "name" => self.put_name(alloc, rest),
             "beside" => self.begin(alloc, rest),
             "bytes" => self.put_bytes(alloc, rest),
+            "over" => self.put_over(alloc, rest),
             _ => Err(Unread::Line),
         }
     }
@@ -158,6 +214,7 @@ impl Table {
         match kind {
             "method" => self.method(alloc, rest),
             "program" => self.program(alloc, rest),
+            "ask" => self.ask(alloc, rest),
             _ => {
                 self.known(alloc, kind, rest)?;
                 Ok(Line::Known)

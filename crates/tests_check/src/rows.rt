@@ -1,6 +1,11 @@
 use crate::words::{Unread, bytes_of, put_hex, put_run, put_u16};
 use std::alloc::Global;
 
+/// A field, and what stands behind it.
+fn first(line: &str) -> Option<(&str, &str)> {
+    line.split_once(" | ")
+}
+
 /// A method with code, each field as the line has it.
 #[derive(Clone, Copy)]
 pub struct Row<'a> {
@@ -20,15 +25,20 @@ pub struct Row<'a> {
 impl<'a> Row<'a> {
     /// The row that a line spells.
     pub fn of(line: &'a str) -> Option<Row<'a>> {
-        let mut fields = line.split(" | ");
+        let (shows, rest) = first(line)?;
+        let (head, rest) = first(rest)?;
+        let (most, rest) = first(rest)?;
+        let (code, rest) = first(rest)?;
+        let (handlers, rest) = first(rest)?;
+        let (frames, answer) = first(rest)?;
         Some(Row {
-            shows: fields.next()?,
-            head: fields.next()?,
-            most: fields.next()?,
-            code: fields.next()?,
-            handlers: fields.next()?,
-            frames: fields.next()?,
-            answer: fields.next()?,
+            shows,
+            head,
+            most,
+            code,
+            handlers,
+            frames,
+            answer,
         })
     }
 

@@ -24,16 +24,28 @@ impl From<AllocError> for Unread {
     }
 }
 
+/// Puts the bytes of a word behind others: hexadecimal text, maybe behind how often it stands and a `*`.
+fn put_word(alloc: Global, word: &str, bytes: &mut Vec<u8>) -> Result<(), Unread> {
+    let (times, digits) = word.split_once('*').unwrap_or(("1", word));
+    let Ok(times) = times.parse::<u32>() else {
+        return Err(Unread::Line);
+    };
+    let Ok(more) = hex::decode(alloc, digits) else {
+        return Err(Unread::Line);
+    };
+    for _ in 0..times {
+        bytes.extend_from_slice(more.as_slice())?;
+    }
+    Ok(())
+}
+
 /// Puts the bytes of words of hexadecimal text behind others.
 pub fn put_hex(alloc: Global, words: &str, bytes: &mut Vec<u8>) -> Result<(), Unread> {
     for word in words.split(' ') {
         if word.is_empty() {
             continue;
         }
-        match hex::decode(alloc, word) {
-            Ok(more) => bytes.extend_from_slice(more.as_slice())?,
-            Err(_) => return Err(Unread::Line),
-        }
+        put_word(alloc, word, bytes)?;
     }
     Ok(())
 }

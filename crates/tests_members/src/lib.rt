@@ -1,5 +1,0 @@
-//! The tests of what members a class may declare.
-#![tactic(auto)]
-
-#[cfg(test)]
-mod members;
