@@ -1,2 +1,3 @@
 pub mod Beginning
 pub mod Found
+pub mod Placed

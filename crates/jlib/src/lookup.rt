@@ -1,12 +1,14 @@
-ghost use Rattle.std.specs.Prelude.{◌≡◌};
+ghost use Rattle.std.specs.Prelude.{◌≡◌, ◌&&◌, get_or};
+ghost use Rattle.std.specs.Str.{bytes_eq};
 ghost use Rattle.jlib.specs.Beginnings;
 ghost use Rattle.jlib.specs.Classes;
+ghost use Rattle.jlib.specs.Places;
 
 use crate::classes::{LibClass, PermissionClass, Thrown};
 use crate::side::Side;
 
-/// All classes of both sides, the open ones first.
-const CLASSES: [LibClass; 46] = [
+/// The classes that users may extend.
+const OPEN: [LibClass; 25] = [
     LibClass::Object,
     LibClass::Thrown(Thrown::Throwable),
     LibClass::Thrown(Thrown::Exception),
@@ -32,31 +34,139 @@ const CLASSES: [LibClass; 46] = [
     LibClass::Thrown(Thrown::IllegalAccessError),
     LibClass::Thrown(Thrown::StackOverflowError),
     LibClass::AccessControlException,
-    LibClass::String,
-    LibClass::StringBuilder,
-    LibClass::System,
-    LibClass::PrintStream,
-    LibClass::Void,
-    LibClass::Cloneable,
-    LibClass::Serializable,
-    LibClass::Runnable,
-    LibClass::Thread,
-    LibClass::PrivilegedAction,
-    LibClass::AccessController,
-    LibClass::AccessControlContext,
-    LibClass::Permission(PermissionClass::Permission),
-    LibClass::Permission(PermissionClass::BasicPermission),
-    LibClass::Permission(PermissionClass::AllPermission),
-    LibClass::Permission(PermissionClass::RuntimePermission),
-    LibClass::Permission(PermissionClass::SecurityPermission),
-    LibClass::Permission(PermissionClass::PropertyPermission),
-    LibClass::Permission(PermissionClass::FilePermission),
-    LibClass::Rt,
-    LibClass::Ctx,
 ];
 
-/// How many of them are open.
-const OPEN: usize = 25;
+/// The classes by the places of their names.
+static PLACES: [Option<LibClass>; 128] = [
+    Some(LibClass::Thread),
+    None,
+    Some(LibClass::Permission(PermissionClass::SecurityPermission)),
+    None,
+    Some(LibClass::AccessControlContext),
+    None,
+    Some(LibClass::Thrown(Thrown::InterruptedException)),
+    None,
+    None,
+    Some(LibClass::PrintStream),
+    Some(LibClass::Permission(PermissionClass::PropertyPermission)),
+    None,
+    None,
+    None,
+    Some(LibClass::Rt),
+    None,
+    Some(LibClass::Object),
+    None,
+    Some(LibClass::Runnable),
+    Some(LibClass::Thrown(Thrown::Exception)),
+    Some(LibClass::Permission(PermissionClass::FilePermission)),
+    Some(LibClass::Thrown(Thrown::VirtualMachineError)),
+    Some(LibClass::AccessControlException),
+    Some(LibClass::Ctx),
+    Some(LibClass::Thrown(Thrown::ArrayIndexOutOfBoundsException)),
+    None,
+    Some(LibClass::Thrown(Thrown::RuntimeException)),
+    None,
+    Some(LibClass::Thrown(Thrown::IllegalAccessError)),
+    None,
+    None,
+    None,
+    Some(LibClass::System),
+    None,
+    Some(LibClass::Permission(PermissionClass::Permission)),
+    Some(LibClass::Permission(PermissionClass::RuntimePermission)),
+    None,
+    None,
+    Some(LibClass::Thrown(Thrown::IncompatibleClassChangeError)),
+    Some(LibClass::StringBuilder),
+    None,
+    None,
+    None,
+    None,
+    None,
+    Some(LibClass::Thrown(Thrown::ArithmeticException)),
+    None,
+    None,
+    None,
+    None,
+    None,
+    None,
+    None,
+    Some(LibClass::Thrown(Thrown::ArrayStoreException)),
+    Some(LibClass::Thrown(Thrown::LinkageError)),
+    Some(LibClass::Thrown(Thrown::IllegalStateException)),
+    None,
+    None,
+    Some(LibClass::Serializable),
+    Some(LibClass::Cloneable),
+    Some(LibClass::Thrown(Thrown::StackOverflowError)),
+    None,
+    None,
+    None,
+    None,
+    None,
+    None,
+    None,
+    None,
+    Some(LibClass::Permission(PermissionClass::AllPermission)),
+    None,
+    None,
+    None,
+    Some(LibClass::Thrown(Thrown::StringIndexOutOfBoundsException)),
+    None,
+    Some(LibClass::Thrown(Thrown::Throwable)),
+    Some(LibClass::Thrown(Thrown::NegativeArraySizeException)),
+    None,
+    None,
+    None,
+    None,
+    None,
+    Some(LibClass::Thrown(Thrown::IllegalArgumentException)),
+    None,
+    None,
+    None,
+    None,
+    None,
+    Some(LibClass::PrivilegedAction),
+    None,
+    None,
+    None,
+    None,
+    None,
+    None,
+    Some(LibClass::Permission(PermissionClass::BasicPermission)),
+    Some(LibClass::AccessController),
+    None,
+    None,
+    Some(LibClass::Thrown(Thrown::IndexOutOfBoundsException)),
+    None,
+    None,
+    Some(LibClass::Void),
+    None,
+    Some(LibClass::String),
+    None,
+    None,
+    Some(LibClass::Thrown(Thrown::SecurityException)),
+    None,
+    Some(LibClass::Thrown(Thrown::IllegalThreadStateException)),
+    None,
+    None,
+    None,
+    None,
+    None,
+    None,
+    None,
+    None,
+    Some(LibClass::Thrown(Thrown::NullPointerException)),
+    None,
+    None,
+    None,
+    None,
+    None,
+    Some(LibClass::Thrown(Thrown::ClassCastException)),
+    Some(LibClass::Thrown(Thrown::AbstractMethodError)),
+    None,
+    Some(LibClass::Thrown(Thrown::Error)),
+];
 
 /// Whether a name begins as the names of the library's classes do.
 fn begins_so(name: &[u8]) -> bool
@@ -65,25 +175,59 @@ fn begins_so(name: &[u8]) -> bool
     name.starts_with(b"java/") || name.starts_with(b"sps/")
 }
 
+/// A byte of a name, and 0 past its end.
+fn byte_at(name: &[u8], at: usize) -> u8
+    ensures { result ≡ get_or name.now at 0 }
+{
+    match name.get(at) {
+        Some(byte) => *byte,
+        None => 0,
+    }
+}
+
+/// The place that a name has in the table, below 128: by its length and two of its bytes, so that no two classes share one.
+fn place(name: &[u8]) -> usize
+    ensures { result ≡ Places.place name.now }
+{
+    let fifth = usize::from(byte_at(name, 5));
+    let later = usize::from(byte_at(name, 14));
+    (9 * (name.len() % 128) + 14 * fifth + 8 * later) % 128
+}
+
+/// The only class of either side that may have this name.
+#[tactic(auto, using(crate::proofs::Placed::table_at))]
+fn candidate(name: &[u8]) -> Option<LibClass>
+    ensures { result ≡ Places.candidate name.now }
+{
+    PLACES[place(name)]
+}
+
+/// Whether a side's library has a class, and by this name.
+fn is_named(class: LibClass, side: Side, name: &[u8]) -> bool
+    ensures { result ≡ (Classes.stands_on side class && bytes_eq name.now (Classes.name_of class)) }
+{
+    class.stands_on(side) && name == class.name()
+}
+
 /// The class of a side's library that has this name, with `/` between packages (JVMS 4.2.1); None exactly where the side has
 /// none.
-#[tactic(auto, using(crate::proofs::Beginning::none_named))]
+#[tactic(auto, using(crate::proofs::Beginning::none_named, crate::proofs::Placed::none_else, crate::proofs::Placed::this_one, crate::proofs::Placed::not_this))]
 pub fn class(side: Side, name: &[u8]) -> Option<LibClass>
     ensures { result ≡ Classes.class_named side name.now }
 {
     if !begins_so(name) {
         return None;
     }
-    CLASSES
-        .iter()
-        .copied()
-        .find(|class| class.stands_on(side) && name == class.name())
+    let class = candidate(name)?;
+    if is_named(class, side, name) {
+        return Some(class);
+    }
+    None
 }
 
 /// The classes that users may extend, which both sides have.
 pub fn open_classes() -> &'static [LibClass]
     ensures { result.now ≡ Classes.open_classes }
 {
-    let (open, _) = CLASSES.split_at(OPEN);
-    open
+    &OPEN
 }

@@ -10,7 +10,6 @@ pub mod Going
 pub mod Implementing
 pub mod Marked
 pub mod Marks
-pub mod Named
 pub mod Numbers
 pub mod Order
 pub mod Overriding
