@@ -1,8 +1,8 @@
 -- In a program that links each reference that an instruction names has a member.
-use Rattle.std.proofs.Common.{◌≡◌, ℕ, zero, suc, ◌||◌, ◌&&◌, not, Bool, true, false, List, [], ◌∷◌, map, Option, Some, None, refl, sym, ap, subst, ◌∙◌}
+use Rattle.std.proofs.Common.{◌≡◌, ℕ, zero, suc, true, List, [], ◌∷◌, map, Option, Some, None, refl, sym, ap, subst, ◌∙◌}
 use Rattle.std.specs.Prelude.{is_some, option_and_then, option_map, slice_get}
 use Rattle.std.proofs.lemmas.Option.{slice_get-map}
-use Rattle.jbase.specs.First.{fault_if, first_along, first_some, or_else}
+use Rattle.jbase.specs.First.{fault_if, first_some, or_else}
 use Rattle.jbase.proofs.Firsts.{none_fails, none_of}
 use Rattle.jpool.specs.declared.entry.Entry.{Entry}
 use Rattle.jpool.specs.declared.entry.Entry.TheVariants as entries
@@ -16,27 +16,25 @@ use Rattle.jcode.specs.Forms.{form}
 use Rattle.jclass.specs.declared.class.ClassParts.{ClassParts}
 use Rattle.jclass.specs.declared.class.CodeBody.{CodeBody}
 use Rattle.jclass.specs.declared.class.MemberInfo.{MemberInfo}
-use Rattle.jprogram.specs.declared.fault.LinkFault.{LinkFault}
 use Rattle.jprogram.specs.declared.fault.LinkKind.{LinkKind}
-use Rattle.jprogram.specs.declared.fault.LinkKind.TheVariants.{LeftOut, NoMember}
+use Rattle.jprogram.specs.declared.fault.LinkKind.TheVariants.{LeftOut}
 use Rattle.jprogram.specs.declared.member.Member.{Member}
 use Rattle.jprogram.specs.declared.part.CodePart.{CodePart}
-use Rattle.jprogram.specs.Parts.{code_of, this_name}
+use Rattle.jprogram.specs.Parts.{code_of, member_desc, text, this_name}
 use Rattle.jprogram.specs.Classes.{Program}
 use Rattle.jprogram.specs.Members.{referred, resolved}
 use Rattle.jprogram.specs.Naming.{naming_fault}
 use Rattle.jprogram.specs.Supers.{supers_fault}
 use Rattle.jmembers.specs.Declares.{members_fault}
 use Rattle.jreferring.specs.declared.judged.Judged.{Judged}
-use Rattle.jreferring.specs.declared.judged.Judged.TheVariants as judged
 use Rattle.jreferring.specs.declared.judged.MemberFacts.{MemberFacts}
 use Rattle.jreferring.specs.declared.judged.MemberUse.{MemberUse}
 use Rattle.jreferring.specs.declared.judged.Sort.{Sort}
 use Rattle.jreferring.specs.declared.judged.Sort.TheVariants as sort
-use Rattle.jreferring.specs.References.{call_left_out_test, called_by_interface_test, call_test, called_test, facts_of, field_member_test, field_test, interface_test, member_use}
+use Rattle.jreferring.specs.References.{call_left_out_test, called_by_interface_test, call_test, called_test, facts_of, field_member_test, field_test, interface_test}
 use Rattle.jreferring.specs.Entries.{entry_of, judge, judge_pool, reference}
-use Rattle.jreferring.specs.Units.{call_at, field_at, form_test, interface_call_at, member_at, member_in, op_test, or_no_member}
-use Rattle.jreferring.specs.Code.{body_test, class_fault, code_fault, in_method, method_test, methods_fault, parts_test}
+use Rattle.jreferring.specs.Units.{form_test, member_at, member_in, op_test, or_no_member}
+use Rattle.jreferring.specs.Code.{body_test, class_fault, code_fault, in_method, method_test}
 use Rattle.jlink.specs.Links.{Links, link_fault}
 use Rattle.jlink.specs.Referred.{IsReferred, reference_of}
 
@@ -146,17 +144,23 @@ in_method_none : (i j : ℕ) (o : Option LinkKind) → in_method i j o ≡ None 
 in_method_none i j None e = refl
 in_method_none i j (Some kind) e = absurd cc
 
-body_none : (table : List Judged) (m : MemberInfo) (b : CodeBody) → method_test table m ≡ None → code_of m ≡ Some b → body_test table b ≡ None
+body_none : (p : Program) (from : List ℕ) (pool : List Entry) (table : List Judged) (m : MemberInfo) (b : CodeBody) → method_test p from pool table m ≡ None → code_of m ≡ Some b → body_test p from (text pool m.desc) table b ≡ None
 unfolding method_test
-body_none table m b none is = sym (ap (option_and_then (body_test table)) is) ∙ none
+body_none p from pool table m b none is = sym (ap (option_and_then (body_test p from (text pool m.desc) table)) is) ∙ none
+
+-- nothing of a code of a class without a fault is at fault
+pub code_good : (p : Program) (i : ℕ) (c : ClassParts) (j : ℕ) (m : MemberInfo) (b : CodeBody) → class_fault p i c ≡ None → slice_get c.methods j ≡ Some m → code_of m ≡ Some b → body_test p (this_name c) (member_desc c m) (judge_pool p c) b ≡ None
+unfolding class_fault
+code_good p i c j m b none at coded =
+    let test : MemberInfo → Option LinkKind = method_test p (this_name c) c.pool (judge_pool p c) in
+    let method = none_fails (λ (j : ℕ) (m : MemberInfo). in_method i j (test m)) c.methods j m none at in
+    body_none p (this_name c) c.pool (judge_pool p c) m b (in_method_none i j (test m) method) coded
 
 -- no instruction of a class without a fault is at fault
 pub op_none : (p : Program) (i : ℕ) (c : ClassParts) (j : ℕ) (m : MemberInfo) (b : CodeBody) (k : ℕ) (one : Placed) → class_fault p i c ≡ None → slice_get c.methods j ≡ Some m → code_of m ≡ Some b → slice_get b.ops k ≡ Some one → op_test (judge_pool p c) one ≡ None
-unfolding class_fault
 op_none p i c j m b k one none at coded placed =
-    let method = none_fails (λ (j : ℕ) (m : MemberInfo). in_method i j (method_test (judge_pool p c) m)) c.methods j m none at in
-    let body = body_none (judge_pool p c) m b (in_method_none i j (method_test (judge_pool p c) m) method) coded in
-    some_none (op_test (judge_pool p c)) b.ops k one ((none_of _ _ body).0) placed
+    let body = code_good p i c j m b none at coded in
+    some_none (op_test (judge_pool p c)) b.ops k one ((none_of _ _ (none_of _ _ body).0).0) placed
 
 pub class_none : (p : Program) (i : ℕ) (part : CodePart) → code_fault p ≡ None → slice_get p.parts i ≡ Some part → class_fault p i part.class ≡ None
 unfolding code_fault

@@ -1,6 +1,7 @@
 -- The fourth phase of linking: what the code of methods names.
 use Rattle.std.specs.Prelude.{ℕ, List, Option, Some, None, option_and_then}
 use Rattle.jbase.specs.First.{first_along, first_some, or_else}
+use Rattle.jpool.specs.declared.entry.Entry.{Entry}
 use Rattle.jcode.specs.declared.op.Handler.{Handler}
 use Rattle.jcode.specs.declared.op.Placed.{Placed}
 use Rattle.jclass.specs.declared.class.ClassParts.{ClassParts}
@@ -10,21 +11,27 @@ use Rattle.jclass.specs.declared.class.MemberInfo.{MemberInfo}
 use Rattle.jprogram.specs.declared.fault.LinkFault.{LinkFault}
 use Rattle.jprogram.specs.declared.fault.LinkKind.{LinkKind}
 use Rattle.jprogram.specs.Classes.{Program}
-use Rattle.jprogram.specs.Parts.{code_of}
+use Rattle.jprogram.specs.Parts.{code_of, text, this_name}
 use Rattle.jreferring.specs.declared.judged.Judged.{Judged}
+use Rattle.jreferring.specs.Beginning.{first_frame_test}
 use Rattle.jreferring.specs.Entries.{judge_pool}
 use Rattle.jreferring.specs.Units.{attribute_test, handler_test, op_test}
 
--- instructions first, then handlers, then frames
-abbrev pub parts_test : List Judged → List Placed → List Handler → List CodeAttribute → Option LinkKind
-parts_test table ops handlers attributes =
-    or_else (first_some (op_test table) ops) (or_else (first_some (handler_test table) handlers) (first_some (attribute_test table) attributes))
+-- instructions first, then handlers
+abbrev pub units_test : List Judged → List Placed → List Handler → Option LinkKind
+units_test table ops handlers = or_else (first_some (op_test table) ops) (first_some (handler_test table) handlers)
 
-abbrev pub body_test : List Judged → CodeBody → Option LinkKind
-body_test table b = parts_test table b.ops b.handlers b.attributes
+-- the frame that a method begins with, then those that are written
+abbrev pub frames_test : Program → List ℕ → List ℕ → List Judged → List CodeAttribute → Option LinkKind
+frames_test p from desc table attributes = or_else (first_frame_test p from desc attributes) (first_some (attribute_test table) attributes)
 
-unfoldable pub method_test : List Judged → MemberInfo → Option LinkKind
-method_test table m = option_and_then (body_test table) (code_of m)
+-- `from` is the name of the class, and `desc` the method's descriptor
+abbrev pub body_test : Program → List ℕ → List ℕ → List Judged → CodeBody → Option LinkKind
+body_test p from desc table b = or_else (units_test table b.ops b.handlers) (frames_test p from desc table b.attributes)
+
+-- `pool` is the class's, and `table` is what its entries stand for
+unfoldable pub method_test : Program → List ℕ → List Entry → List Judged → MemberInfo → Option LinkKind
+method_test p from pool table m = option_and_then (body_test p from (text pool m.desc) table) (code_of m)
 
 -- ---- the phase
 
@@ -33,11 +40,11 @@ abbrev pub in_method : ℕ → ℕ → Option LinkKind → Option LinkFault
 in_method i j None = None
 in_method i j (Some kind) = Some (record { class = i; member = Some j; kind = kind })
 
-abbrev pub methods_fault : ℕ → List Judged → List MemberInfo → Option LinkFault
-methods_fault i table ms = first_along (λ j m. in_method i j (method_test table m)) 0 ms
+abbrev pub methods_fault : Program → ℕ → List ℕ → List Entry → List Judged → List MemberInfo → Option LinkFault
+methods_fault p i from pool table ms = first_along (λ j m. in_method i j (method_test p from pool table m)) 0 ms
 
 unfoldable pub class_fault : Program → ℕ → ClassParts → Option LinkFault
-class_fault p i c = methods_fault i (judge_pool p c) c.methods
+class_fault p i c = methods_fault p i (this_name c) c.pool (judge_pool p c) c.methods
 
 -- class by class, in each method by method
 unfoldable pub code_fault : Program → Option LinkFault

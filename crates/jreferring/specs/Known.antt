@@ -1,7 +1,9 @@
 -- What is noted of the texts of a pool while its entries are looked at, so that each text is looked at once.
-use Rattle.std.specs.Prelude.{◌≡◌, ℕ, List}
+use Rattle.std.specs.Prelude.{◌≡◌, ℕ, List, Option}
 use Rattle.std.specs.BTreeMap.{BTreeMap}
 use Rattle.jpool.specs.declared.entry.Entry.{Entry}
+use Rattle.jpool.specs.Descriptors.{descriptor_of}
+use Rattle.jprogram.specs.declared.fault.LinkKind.{LinkKind}
 use Rattle.jprogram.specs.Classes.{Program}
 use Rattle.jprogram.specs.Parts.{text}
 use Rattle.juses.specs.declared.indices.Indices.{Indices}
@@ -14,6 +16,7 @@ use Rattle.jreferring.specs.declared.judged.Sort.{Sort}
 use Rattle.jreferring.specs.declared.known.Known.{Known}
 use Rattle.jreferring.specs.declared.known.Noted.{Noted}
 use Rattle.jreferring.specs.Looking.{named_use}
+use Rattle.jreferring.specs.Names.{params_test}
 use Rattle.jreferring.specs.Operands.{class_use}
 use Rattle.jreferring.specs.References.{desc_use, owner_use}
 
@@ -44,3 +47,7 @@ pub record AreKnown (p : Program) (from : List ℕ) (pool : List Entry) (k : Kno
   pub owners : AreOwners p from pool k.owners
   pub descs : AreDescs p from pool k.descs
   pub references : AreNoted p from pool k.references
+
+-- by the index of a method's descriptor, the first fault of the types of its parameters
+abbrev pub AreHanded : Program → List ℕ → List Entry → BTreeMap ℕ (Option LinkKind) → Type 0
+AreHanded p from pool noted = AllAre (λ i o. o ≡ params_test p from (descriptor_of (text pool i))) noted

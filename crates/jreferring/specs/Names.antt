@@ -42,6 +42,11 @@ abbrev pub return_test : Program → List ℕ → Option FieldType → Option Li
 return_test p from None = None
 return_test p from (Some t) = type_test p from t
 
+-- the types of a method's parameters, from left to right
+abbrev pub params_test : Program → List ℕ → Option Descriptor → Option LinkKind
+params_test p from (Some (descriptors.Method params ret)) = first_some (type_test p from) params
+params_test p from _ = None
+
 -- from left to right
 abbrev pub desc_test : Program → List ℕ → Option Descriptor → Option LinkKind
 desc_test p from None = None

@@ -1,6 +1,7 @@
 //! The fourth phase of linking: what the code of methods names.
 #![tactic(auto)]
 
+mod beginning;
 mod code;
 mod entries;
 mod judged;

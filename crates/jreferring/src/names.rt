@@ -92,15 +92,29 @@ pub fn type_test(program: &NamedProgram, from: &[u8], one: &FieldType) -> Option
 }
 
 #[tactic(auto, unfolding(jbase::specs::First::first_some))]
-fn params_test(program: &NamedProgram, from: &[u8], params: &[FieldType]) -> Option<LinkKind>
-    ensures { result ≡ first_some (Names.type_test program.now from.now) params.now }
+fn types_test(program: &NamedProgram, from: &[u8], types: &[FieldType]) -> Option<LinkKind>
+    ensures { result ≡ first_some (Names.type_test program.now from.now) types.now }
 {
-    for one in params {
+    for one in types {
         if let Some(kind) = type_test(program, from, one) {
             return Some(kind);
         }
     }
     None
+}
+
+/// The first fault of the classes of a method's parameters, from left to right.
+pub fn params_test(
+    program: &NamedProgram,
+    from: &[u8],
+    desc: &Option<Descriptor>,
+) -> Option<LinkKind>
+    ensures { result ≡ Names.params_test program.now from.now desc.now }
+{
+    match desc {
+        Some(Descriptor::Method { params, .. }) => types_test(program, from, params.as_slice()),
+        _ => None,
+    }
 }
 
 fn return_test(program: &NamedProgram, from: &[u8], ret: &Option<FieldType>) -> Option<LinkKind>
@@ -119,7 +133,7 @@ pub fn desc_test(program: &NamedProgram, from: &[u8], desc: &Option<Descriptor>)
     match desc {
         Some(Descriptor::Field(one)) => type_test(program, from, one),
         Some(Descriptor::Method { params, ret }) => {
-            if let Some(kind) = params_test(program, from, params.as_slice()) {
+            if let Some(kind) = types_test(program, from, params.as_slice()) {
                 return Some(kind);
             }
             return_test(program, from, ret)

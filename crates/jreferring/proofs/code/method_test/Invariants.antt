@@ -2,8 +2,13 @@ use Rattle.std.proofs.Common.{◌≡◌, drop}
 use Rattle.std.specs.Prelude.{option_and_then}
 use Rattle.jbase.specs.First.{first_some}
 use Rattle.jclass.specs.Members.{body_of}
+use Rattle.jprogram.specs.Parts.{text}
 use Rattle.jreferring.specs.Code.{body_test, method_test}
+use Rattle.jreferring.specs.Known.{AreHanded}
 use Rattle.jreferring.proofs.code.method_test.Given as goal
 
 abbrev pub invariant-loop-attribute : goal.invariant-loop-attribute
-invariant-loop-attribute l = option_and_then (body_test l.table) (first_some body_of (drop l.attribute-index l.method.attributes)) ≡ method_test l.table l.method
+invariant-loop-attribute l =
+    (option_and_then (body_test l.home.program.now l.home.from.now (text l.home.pool.now l.method.desc) l.table) (first_some body_of (drop l.attribute-index l.method.attributes))
+    ≡ method_test l.home.program.now l.home.from.now l.home.pool.now l.table l.method)
+    × AreHanded l.home.program.now l.home.from.now l.home.pool.now l.handed
