@@ -29,7 +29,7 @@ use Rattle.jmaps.specs.declared.types.MapType.{MapType}
 use Rattle.jmaps.specs.declared.types.MapType.TheVariants as items
 use Rattle.jmaps.specs.declared.types.RawFrame.{RawFrame}
 use Rattle.jmaps.specs.Frames.{map_type}
-use Rattle.jmaps.specs.Full.{full_forms}
+use Rattle.jmaps.specs.Full.{expand_from, full_forms}
 use Rattle.jmove.specs.declared.method.Expand.{Expand}
 use Rattle.jmove.specs.declared.naming.Security.TheVariants as security
 use Rattle.jmove.specs.Additions.{IsFront, with_body, ◌>>◌}
@@ -39,10 +39,10 @@ use Rattle.jmove.specs.Moved.{context_local, lines, moved_by, moved_handler, pro
 use Rattle.jmove.proofs.Growing.{body_grows, front_on}
 use Rattle.jprogram.specs.declared.fault.LinkKind.TheVariants.{LeftOut}
 use Rattle.jprogram.specs.Classes.{Program}
-use Rattle.jprogram.specs.Parts.{or_empty, this_name}
+use Rattle.jprogram.specs.Parts.{member_desc, or_empty, this_name}
 use Rattle.jmoveclass.specs.Beginning.{slots}
 use Rattle.jmoveclass.specs.Calls.{expands}
-use Rattle.jmoveclass.specs.Methods.{frames_in, frames_of, maps_name, maps_of, method_in, moved_maps, or_no_frames, with_code, with_first}
+use Rattle.jmoveclass.specs.Methods.{frames_in, frames_of, maps_name, maps_of, method_in, moved_maps, new_desc, or_no_frames, or_none, with_code, with_first}
 use Rattle.jmoveclass.proofs.Keeping.{good_is}
 use Rattle.jmovefile.proofs.Bodying.{code_parts_of}
 use Rattle.jmovefile.proofs.Calling.{named_in}
@@ -52,7 +52,8 @@ use Rattle.jmovefile.proofs.Pooling.{ops_named}
 use Rattle.jlink.proofs.Having.{then_is}
 use Rattle.jreferring.specs.declared.judged.ClassUse.{ClassUse}
 use Rattle.jreferring.specs.declared.judged.Judged.{Judged}
-use Rattle.jreferring.specs.Code.{body_test}
+use Rattle.jreferring.specs.Beginning.{first_frame_test}
+use Rattle.jreferring.specs.Code.{body_test, frames_test, units_test}
 use Rattle.jreferring.specs.Entries.{judge, judge_pool}
 use Rattle.jreferring.specs.Operands.{class_use, operand_test}
 use Rattle.jreferring.specs.Units.{attribute_test, class_at, class_in, frame_test, handler_test, is_barred, is_barred_at, item_names, op_test}
@@ -60,6 +61,7 @@ use Rattle.jrewrite.specs.Program.{moved}
 use Rattle.jrewrite.proofs.Calls.{Known}
 use Rattle.jrewrite.proofs.Coding.{class_stays, moved_good}
 use Rattle.jrewrite.proofs.Declaring.{first_false, no_again, no_fault, or_join, second_false}
+use Rattle.jrewrite.proofs.Handed.{Handed, first_good}
 use Rattle.jrewrite.proofs.Items.{AllFull, AllName, AllRaw, Names, full_names, moved_full, names_on, raw_on, written_full}
 use Rattle.jrewrite.proofs.Judging.{class_entry, class_kept, judged_at}
 use Rattle.jrewrite.proofs.Membering.{none_or}
@@ -235,8 +237,14 @@ maps_good p c d k (g ∷ gs) (Some name) h =
 abbrev new_place : ClassParts → MemberInfo → CodeBody → ℕ → List MapType → ℕ → List Expand → ℕ → ℕ
 new_place c m b domain first enter ms old = place_of old 0 (lines (prologue (slots c m) (setting (method_in c m b first) domain) enter) (setting (method_in c m b first) domain) ms b.ops)
 
-code_good : (p : Program) (c d : ClassParts) → Known p c d → (m : MemberInfo) (b : CodeBody) → HasCode c b → body_test (judge_pool p c) b ≡ None → (domain : ℕ) (first : List MapType) (enter : ℕ) (ms : List Expand) (context : ℕ) → Setup p c d b first enter ms context
-    → body_test (judge_pool (moved p) d) (record {
+-- where a code has no frames, the moved one has none
+no_frames : (first : List MapType) (b : CodeBody) (to : ℕ → ℕ) (local context : ℕ) → frames_in b ≡ [] → map (moved_frame to local context) (frames_of first b) ≡ []
+unfolding frames_of expand_from
+no_frames first b to local context e = ap (λ (fs : List RawFrame). map (moved_frame to local context) (or_none (expand_from first 0 None fs))) e
+
+code_good : (p : Program) (c d : ClassParts) → Known p c d → (m : MemberInfo) (b : CodeBody) → HasCode c b → body_test p (this_name c) (member_desc c m) (judge_pool p c) b ≡ None → Handed (moved p) (this_name c) (new_desc c m) (frames_in b)
+    → (domain : ℕ) (first : List MapType) (enter : ℕ) (ms : List Expand) (context : ℕ) → Setup p c d b first enter ms context
+    → body_test (moved p) (this_name c) (new_desc c m) (judge_pool (moved p) d) (record {
       max_stack = (moved_by (method_in c m b first) domain enter context ms).max_stack;
       max_locals = (moved_by (method_in c m b first) domain enter context ms).max_locals;
       ops = (moved_by (method_in c m b first) domain enter context ms).ops;
@@ -244,40 +252,46 @@ code_good : (p : Program) (c d : ClassParts) → Known p c d → (m : MemberInfo
       attributes = moved_maps (moved_by (method_in c m b first) domain enter context ms).frames (first_some maps_name b.attributes);
     }) ≡ None
 unfolding moved_by expands
-code_good p c d k m b has old domain first enter ms context u =
+code_good p c d k m b has old begins domain first enter ms context u =
     let table = judge_pool p c in
     let now = judge_pool (moved p) d in
+    let from = this_name c in
     let s = setting (method_in c m b first) domain in
     let to = new_place c m b domain first enter ms in
     let fit = code_fits c b has in
     let parts = code_parts_of c.pool b fit in
-    let a = none_of (first_some (op_test table) b.ops) _ old in
-    let e = none_of (first_some (handler_test table) b.handlers) (first_some (attribute_test table) b.attributes) a.1 in
+    let a = none_of (units_test table b.ops b.handlers) (frames_test p from (member_desc c m) table b.attributes) old in
+    let e = none_of (first_some (op_test table) b.ops) (first_some (handler_test table) b.handlers) a.0 in
+    let g = none_of (first_frame_test p from (member_desc c m) b.attributes) (first_some (attribute_test table) b.attributes) a.1 in
     let frames = frames_of first b in
-    let raw = old_frames p c d k (frames_in b) (raw_items c.pool (frames_in b) (frames_there c.pool b.attributes parts.attributes)) (maps_none table b.attributes e.1) in
-    let full = full_names (Fits (moved p) (this_name c)) d.pool first b u.items (raw_on (Fits (moved p) (this_name c)) c.pool d.pool k.pair.front (frames_in b) raw) in
-    let gs = map (moved_frame to (context_local (method_in c m b first)) context) frames in
-    none_or (first_some (op_test now) _) _ (moved_good p c d k (slots c m) enter s b.ops ms u.enters u.numbers (ops_named c.pool b fit) a.0 to)
-    (none_or (first_some (handler_test now) (map (moved_handler to) b.handlers)) (first_some (attribute_test now) (moved_maps gs (first_some maps_name b.attributes)))
-    (handlers_good p c d k b.ops to b.handlers (first_true (list_all (handler c.pool b.ops).fits b.handlers) (u2.fits (length b.handlers)) parts.handlers) e.0)
-    (maps_good p c d k gs (first_some maps_name b.attributes) (full_good p c d k to (context_local (method_in c m b first)) context frames u.contexts full)))
+    let raw = old_frames p c d k (frames_in b) (raw_items c.pool (frames_in b) (frames_there c.pool b.attributes parts.attributes)) (maps_none table b.attributes g.1) in
+    let full = full_names (Fits (moved p) from) d.pool first b u.items (raw_on (Fits (moved p) from) c.pool d.pool k.pair.front (frames_in b) raw) in
+    let local = context_local (method_in c m b first) in
+    let gs = map (moved_frame to local context) frames in
+    let maps = moved_maps gs (first_some maps_name b.attributes) in
+    let ops = (moved_by (method_in c m b first) domain enter context ms).ops in
+    let units = none_or (first_some (op_test now) ops) (first_some (handler_test now) (map (moved_handler to) b.handlers)) (moved_good p c d k (slots c m) enter s b.ops ms u.enters u.numbers (ops_named c.pool b fit) e.0 to)
+    (handlers_good p c d k b.ops to b.handlers (first_true (list_all (handler c.pool b.ops).fits b.handlers) (u2.fits (length b.handlers)) parts.handlers) e.1) in
+    let written = none_or (first_frame_test (moved p) from (new_desc c m) maps) (first_some (attribute_test now) maps) (first_good (moved p) from (new_desc c m) (frames_in b) gs (first_some maps_name b.attributes) (no_frames first b to local context) begins)
+    (maps_good p c d k gs (first_some maps_name b.attributes) (full_good p c d k to local context frames u.contexts full)) in
+    none_or (units_test now ops (map (moved_handler to) b.handlers)) (frames_test (moved p) from (new_desc c m) now maps) units written
 
 -- what an attribute's code names breaks no rule
-abbrev pub AttributeGood : List Judged → Attribute → Type 0
-AttributeGood table (Code name stack locals ops handlers others) = body_test table (record { max_stack = stack; max_locals = locals; ops = ops; handlers = handlers; attributes = others }) ≡ None
-AttributeGood table (ConstantValue name value) = Unit {0}
-AttributeGood table (Raw name bytes) = Unit {0}
+abbrev pub AttributeGood : Program → List ℕ → List ℕ → List Judged → Attribute → Type 0
+AttributeGood q from desc table (Code name stack locals ops handlers others) = body_test q from desc table (record { max_stack = stack; max_locals = locals; ops = ops; handlers = handlers; attributes = others }) ≡ None
+AttributeGood q from desc table (ConstantValue name value) = Unit {0}
+AttributeGood q from desc table (Raw name bytes) = Unit {0}
 
-pub code_put_good : (p : Program) (c d : ClassParts) → Known p c d → (m : MemberInfo) (b : CodeBody) → HasCode c b → body_test (judge_pool p c) b ≡ None → (domain name : ℕ) (pool : List Entry) → IsCodePut p c m b pool → IsFront (with_code p c domain m name b pool).1 d.pool
-    → AttributeGood (judge_pool (moved p) d) (with_code p c domain m name b pool).0
+pub code_put_good : (p : Program) (c d : ClassParts) → Known p c d → (m : MemberInfo) (b : CodeBody) → HasCode c b → body_test p (this_name c) (member_desc c m) (judge_pool p c) b ≡ None → Handed (moved p) (this_name c) (new_desc c m) (frames_in b)
+    → (domain name : ℕ) (pool : List Entry) → IsCodePut p c m b pool → IsFront (with_code p c domain m name b pool).1 d.pool → AttributeGood (moved p) (this_name c) (new_desc c m) (judge_pool (moved p) d) (with_code p c domain m name b pool).0
 unfolding with_code ◌>>◌
-code_put_good p c d k m b has old domain name pool put later =
+code_put_good p c d k m b has old begins domain name pool put later =
     let ks = expands p c.pool b.ops in
     let x = with_first c m (frames_in b) pool in
     let fs = frames_of x.0 b in
     let y = with_body ks fs x.1 in
     let grown : IsFront x.1 d.pool = front_on x.1 y.1 d.pool ((body_grows ks fs).on x.1) later in
-    code_good p c d k m b has old domain x.0 y.0.enter y.0.kinds y.0.context (record {
+    code_good p c d k m b has old begins domain x.0 y.0.enter y.0.kinds y.0.context (record {
       items = names_on (Fits (moved p) (this_name c)) x.1 d.pool grown x.0 put.items;
       enters = security_on security.Enter y.1 d.pool later y.0.enter put.body.enter;
       numbers = numbers_on p c y.1 d.pool later ks y.0.kinds put.body.kinds;

@@ -7,6 +7,7 @@ pub mod Fielding
 pub mod Filed
 pub mod Finding
 pub mod Framed
+pub mod Handed
 pub mod Items
 pub mod Judging
 pub mod Keeping
@@ -18,6 +19,7 @@ pub mod Plainly
 pub mod Putting
 pub mod Referring
 pub mod Resolving
+pub mod Rewriting
 pub mod Rooming
 pub mod Security
 pub mod Sided

@@ -77,7 +77,7 @@ method_name pool m fit =
     let b = second_true (access.fits m.flags) ((text_index pool · method_descriptor pool m.flags · counted u2 (method_attribute pool)).fits (m.name, (m.desc, m.attributes))) a in
     text_of_index pool m.name (first_true ((text_index pool).fits m.name) ((method_descriptor pool m.flags · counted u2 (method_attribute pool)).fits (m.desc, m.attributes)) b)
 
-moving_of : (p : Program) → IsLinked p → WellTyped p → limits p ≡ None → (i : ℕ) (part : CodePart) → slice_get p.parts i ≡ Some part
+pub moving_of : (p : Program) → IsLinked p → WellTyped p → limits p ≡ None → (i : ℕ) (part : CodePart) → slice_get p.parts i ≡ Some part
     → Moving part.class (moved_class p part.domain part.class) × Alike part.class (moved_class p part.domain part.class).pool part.class.methods (moved_class p part.domain part.class).methods
 moving_of p is typed none i part at =
     let c = part.class in

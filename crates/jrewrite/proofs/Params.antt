@@ -35,9 +35,9 @@ use Rattle.jmoveclass.proofs.Stored.{is_method_of}
 use Rattle.jmovefile.proofs.Texts.{good_types}
 use Rattle.jrewrite.specs.Linking.{IsLinked}
 use Rattle.jrewrite.specs.Program.{moved}
-use Rattle.jrewrite.specs.References.{may_name_type}
 use Rattle.jrewrite.proofs.Declaring.{differ, first_false, no_fault, second_false}
 use Rattle.jrewrite.proofs.Finding.{Named}
+use Rattle.jrewrite.proofs.Handed.{may_name_type}
 use Rattle.jrewrite.proofs.Items.{Holds}
 use Rattle.jrewrite.proofs.Membering.{any_at, none_or, place_there}
 use Rattle.jrewrite.proofs.Moving.{tested_at}
@@ -199,15 +199,21 @@ method_by p is from text ts ps ret same e kept here plain may =
     (params_fit p is from ps (good_types text ps ret e).0 (first_false (list_any param_left_out ps) (return_left_out ret) out) (first_false (list_any (type_missing p) ps) (return_missing p ret) there)
     (first_false (list_any type_reserved ps) (return_reserved ret) free) (subst (λ (us : List FieldType). IsTrue (list_all (may_name_type p from) us)) same may))
 
+-- no name in a method's descriptor is reserved
+pub desc_free : (p : Program) → IsLinked p → (i : ℕ) (part : CodePart) (m : MemberInfo) → slice_get p.parts i ≡ Some part → IsIn m part.class.methods → text_reserved (member_desc part.class m) ≡ false
+desc_free p is i part m at there =
+    let c = part.class in
+    let plain = plain_at p (is_plain p is) i part at in
+    any_at (member_reserved c) c.methods there.0 m (first_false (list_any (member_reserved c) c.methods) _ (second_false _ _ plain.kept)) there.1
+
 -- the classes of a method's parameters may stand in its moved frames, where its class may name them
 pub method_fits : (p : Program) → IsLinked p → (i : ℕ) (part : CodePart) (m : MemberInfo) → slice_get p.parts i ≡ Some part → IsIn m part.class.methods → IsTrue (list_all (may_name_type p (this_name part.class)) (params_of part.class m))
     → Holds (Fits (moved p) (this_name part.class)) (params_of part.class m)
 method_fits p is i part m at there may =
     let c = part.class in
-    let plain = plain_at p (is_plain p is) i part at in
     let d = is_method_of c m (is.files i part at) there in
     let t = tested_at p i there.0 part m is.links at there.1 in
-    let free : text_reserved (member_desc c m) ≡ false = any_at (member_reserved c) c.methods there.0 m (first_false (list_any (member_reserved c) c.methods) _ (second_false _ _ plain.kept)) there.1 in
+    let free = desc_free p is i part m at there in
     method_by p (is_plain p is) (this_name c) (member_desc c m) (params_of c m) d.params d.ret (ap params_in d.is) d.is t.kept t.here free may
 
 -- ---- `this`

@@ -1,3 +1,4 @@
+pub mod Files
 pub mod Linking
 pub mod Members
 pub mod Parts
