@@ -113,6 +113,7 @@ impl Chains {
         ensures count { result ≡ slot_count (chain self.now end) }
         ensures few { result + 2 < 2 ^ 64 }
     {
+        // What the proof needs: the invariant of the nodes.
         let _nodes = &self.nodes;
         match self.node(end) {
             None => 0,
