@@ -1,3 +1,7 @@
+ghost use Rattle.std.specs.Prelude.{◌≡◌, reverse};
+ghost use Rattle.jmachine.specs.Asked.{carried};
+ghost use Rattle.jcore.specs.Machines.{state_of};
+
 use jbase::Seq;
 use jconstants::Constants;
 use jguests::Guests;
@@ -28,4 +32,16 @@ pub struct Machine<'a, 'p, M> {
     pub kept: Seq<u64>,
     /// What was asked about calls.
     pub calls: Calls<'p>,
+}
+
+impl<M: Copy> Machine<'_, '_, M> {
+    /// What the frames of the running thread carry, the oldest first, lent.
+    pub fn marks(&self) -> &[M]
+        ensures { reverse result.now ≡ carried (state_of self.now) }
+    {
+        match &self.guests.running.frames {
+            Some(frames) => frames.marks(),
+            None => &[],
+        }
+    }
 }

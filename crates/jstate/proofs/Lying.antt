@@ -1,18 +1,18 @@
 -- How frames lie in lists.
 use Rattle.std.proofs.Common.{◌≡◌, ◌∙◌, ℕ, zero, suc, ◌+◌, ◌-◌, ◌<◌, ◌≤◌, List, [], ◌∷◌, ◌++◌, length, drop, take, reverse, replicate, Option, Some, None, refl, sym, ap, ap₂, arith, append_assoc}
-use Rattle.std.specs.Prelude.{map, slice_set, false, Result, Ok, Err, OnOk, if◌then◌else◌}
+use Rattle.std.specs.Prelude.{get_or, map, set, slice_set, false, Result, Ok, Err, OnOk, if◌then◌else◌}
 use Rattle.std.specs.Result.{is_err, is_ok}
 use Rattle.std.specs.List.{flat_map}
-use Rattle.std.proofs.lemmas.List.{length-reverse, map-append, reverse-append, reverse-reverse, append-nil}
+use Rattle.std.proofs.lemmas.List.{append-nil, get_or-set_same, length-reverse, length-set, length-take-le, length_push, reverse-append, reverse-reverse, take-set-le, take_all, take_more}
 use Rattle.std.proofs.lemmas.Grind.{flat_map-append}
 use Rattle.jops.specs.declared.value.Value.{Value}
 use Rattle.jpile.specs.Piles.{Piled, bare, closed, from_oldest, on_top, padded, with_newest}
 use Rattle.jprogram.specs.declared.member.MethodId.{MethodId}
 use Rattle.jmachine.specs.Acts.{FrameOf}
-use Rattle.jmachine.specs.Frames.{locals_of, onto}
+use Rattle.jmachine.specs.Frames.{carrying, locals_of, onto}
 use Rattle.jmachine.specs.Straight.{places}
 use Rattle.jstate.specs.declared.frames.At.{At}
-use Rattle.jstate.specs.Framed.{Framed, all, framed, frame_at, frames_at, holding, pushed, shown, starting}
+use Rattle.jstate.specs.Framed.{Framed, Lies, all, framed, frame_at, frames_at, holding, older, pushed, shown, starting}
 
 -- what is ensured where there is no error
 pub not_err : {A E P : Type 0} (r : Result A E) → is_err r ≡ false → OnOk r P → P
@@ -48,100 +48,182 @@ locals_are most arguments =
     ap (λ n. flat_map places (reverse arguments) ++ replicate (most - n) None) (ap length (sym (append-nil (flat_map places (reverse arguments))) ∙ sym (onto_is arguments [])))
     ∙ sym (onto_is arguments _)
 
--- one more stands on those below
-pub one_more : {E : Type 0} (below : List (At E)) (at : At E) (l : List (Option (Value ℕ))) (locals : List (List (Option (Value ℕ)))) (o : List (Value ℕ)) (operands : List (List (Value ℕ)))
-    → frames_at (reverse (below ++ at ∷ [])) (l ∷ locals) (o ∷ operands) ≡ frame_at at l o ∷ frames_at (reverse below) locals operands
-unfolding frames_at
-one_more below at l locals o operands = ap (λ ats. frames_at ats (l ∷ locals) (o ∷ operands)) (reverse-append below (at ∷ []))
-
--- as many frames as stand somewhere
-many : {E : Type 0} (ats : List (At E)) (locals : List (List (Option (Value ℕ)))) (operands : List (List (Value ℕ)))
-    → length ats ≤ length locals → length ats ≤ length operands → length (frames_at ats locals operands) ≡ length ats
-unfolding frames_at
-many [] locals operands some more = refl
-many (at ∷ ats) [] operands some more = absurd (omega (arith, some))
-many (at ∷ ats) (l ∷ locals) [] some more = absurd (omega (arith, more))
-many (at ∷ ats) (l ∷ locals) (o ∷ operands) some more = ap suc (many ats locals operands (omega (arith, some)) (omega (arith, more)))
-
-pub deep : {E : Type 0} (at : At E) (below : List (At E)) (locals : Piled (Option (Value ℕ))) (operands : Piled (Value ℕ))
-    → length locals.below ≡ length below + 1 → length operands.below ≡ length below + 1 → length (all (shown at below locals operands)) ≡ length below + 1
-deep at below locals operands some more =
-    let n = many (reverse below) locals.below operands.below (omega (arith, some, length-reverse below)) (omega (arith, more, length-reverse below)) in
-    omega (arith, n, length-reverse below)
-
-map_reverse : {A B : Type 0} (f : A → B) (xs : List A) → map f (reverse xs) ≡ reverse (map f xs)
-map_reverse f [] = refl
-map_reverse f (x ∷ xs) =
-    ap (map f) (reverse-append (x ∷ []) xs) ∙ map-append f (reverse xs) (x ∷ []) ∙ ap (λ ys. ys ++ f x ∷ []) (map_reverse f xs) ∙ sym (reverse-append (f x ∷ []) (map f xs))
-
--- what frames carry that stand somewhere
-carried : {E : Type 0} (ats : List (At E)) (locals : List (List (Option (Value ℕ)))) (operands : List (List (Value ℕ)))
-    → length ats ≤ length locals → length ats ≤ length operands
-    → map (λ (f : FrameOf ℕ E). f.entry) (frames_at ats locals operands) ≡ map (λ (at : At E). at.mark) ats
-unfolding frames_at
-carried [] locals operands some more = refl
-carried (at ∷ ats) [] operands some more = absurd (omega (arith, some))
-carried (at ∷ ats) (l ∷ locals) [] some more = absurd (omega (arith, more))
-carried (at ∷ ats) (l ∷ locals) (o ∷ operands) some more = ap (λ marks. at.mark ∷ marks) (carried ats locals operands (omega (arith, some)) (omega (arith, more)))
-
-pub all_carried : {E : Type 0} (at : At E) (below : List (At E)) (locals : Piled (Option (Value ℕ))) (operands : Piled (Value ℕ))
-    → length locals.below ≡ length below + 1 → length operands.below ≡ length below + 1
-    → reverse (map (λ (x : At E). x.mark) below ++ at.mark ∷ []) ≡ map (λ (f : FrameOf ℕ E). f.entry) (all (shown at below locals operands))
-all_carried {E} at below locals operands some more =
-    let marks : List E = map (λ (x : At E). x.mark) below in
-    reverse-append marks (at.mark ∷ [])
-    ∙ ap (λ ms. at.mark ∷ ms) (sym (map_reverse (λ (x : At E). x.mark) below)
-    ∙ sym (carried (reverse below) locals.below operands.below (omega (arith, some, length-reverse below)) (omega (arith, more, length-reverse below))))
+-- ---- what is carried
 
 module _ {E : Type 0} where
-  abbrev pub begins : MethodId → E → At E
-  begins m mark = record { method = m; place = 0; mark = mark }
+  -- what stands last comes first the other way round
+  turned : (n : ℕ) (xs : List E) (x : E) → length xs ≡ n + 1 → reverse xs ≡ get_or xs n x ∷ reverse (take n xs)
+  turned n xs x long =
+      ap reverse (sym (take_all (n + 1) xs (omega (arith, long))) ∙ take_more xs n x (omega (arith, long)))
+      ∙ reverse-append (take n xs) (get_or xs n x ∷ [])
 
+  pub first_is : (xs : List E) (x : E) (rest : List E) → reverse xs ≡ x ∷ rest → reverse xs ≡ x ∷ older xs
+  first_is xs x rest e = e ∙ ap (λ (ys : List E). x ∷ drop 1 ys) (sym e)
+
+  -- one more is carried
+  pub more_carried : (marks : List E) (mark : E) → reverse (marks ++ mark ∷ []) ≡ mark ∷ reverse marks
+  more_carried marks mark = reverse-append marks (mark ∷ [])
+
+  pub more_last : (marks : List E) (mark : E) → reverse (marks ++ mark ∷ []) ≡ mark ∷ older (marks ++ mark ∷ [])
+  more_last marks mark = first_is (marks ++ mark ∷ []) mark (reverse marks) (more_carried marks mark)
+
+  -- what the newest carries goes, and what stands last is read
+  pub fewer_last : (n : ℕ) (marks rest : List E) (mark : E) → length marks ≡ n + 2 → rest ≡ take (n + 1) marks → mark ≡ get_or rest n mark → reverse rest ≡ mark ∷ older rest
+  fewer_last n marks rest mark long is read =
+      let less = ap length is ∙ length-take-le (n + 1) marks (omega (arith, long)) in
+      first_is rest mark (reverse (take n rest)) (turned n rest mark less ∙ ap (λ (x : E). x ∷ reverse (take n rest)) (sym read))
+
+  pub fewer : (n : ℕ) (marks rest : List E) (mark : E) → length marks ≡ n + 2 → rest ≡ take (n + 1) marks → older marks ≡ reverse rest
+  fewer n marks rest mark long is = ap (drop 1) (turned (n + 1) marks mark (omega (arith, long))) ∙ ap reverse (sym is)
+
+  -- the newest carries something else
+  turned_set : (n : ℕ) (marks : List E) (mark : E) → length marks ≡ n + 1 → reverse (set marks n mark) ≡ mark ∷ reverse (take n marks)
+  turned_set n marks mark long =
+      turned n (set marks n mark) mark (length-set marks n mark ∙ long)
+      ∙ ap₂ (λ (x : E) (xs : List E). x ∷ reverse xs) (get_or-set_same marks n mark mark (omega (arith, long))) (take-set-le n marks n mark (omega arith))
+
+  pub set_last : (n : ℕ) (marks : List E) (mark : E) → length marks ≡ n + 1 → reverse (set marks n mark) ≡ mark ∷ older (set marks n mark)
+  set_last n marks mark long = first_is (set marks n mark) mark (reverse (take n marks)) (turned_set n marks mark long)
+
+  pub set_older : (n : ℕ) (marks : List E) (mark : E) → length marks ≡ n + 1 → older (set marks n mark) ≡ older marks
+  set_older n marks mark long = ap (drop 1) (turned_set n marks mark long) ∙ sym (ap (drop 1) (turned n marks mark long))
+
+  pub as_many_older : (marks : List E) (mark : E) → reverse marks ≡ mark ∷ older marks → length marks ≡ length (older marks) + 1
+  as_many_older marks mark last = sym (length-reverse marks) ∙ ap length last ∙ omega arith
+
+-- ---- frames
+
+-- one more stands on those below
+pub one_more : {E : Type 0} (below : List At) (at : At) (mark : E) (marks : List E) (l : List (Option (Value ℕ))) (locals : List (List (Option (Value ℕ)))) (o : List (Value ℕ)) (operands : List (List (Value ℕ)))
+    → frames_at (reverse (below ++ at ∷ [])) (mark ∷ marks) (l ∷ locals) (o ∷ operands) ≡ frame_at at mark l o ∷ frames_at (reverse below) marks locals operands
+unfolding frames_at
+one_more below at mark marks l locals o operands = ap (λ ats. frames_at ats (mark ∷ marks) (l ∷ locals) (o ∷ operands)) (reverse-append below (at ∷ []))
+
+-- as many frames as stand somewhere
+many : {E : Type 0} (ats : List At) (marks : List E) (locals : List (List (Option (Value ℕ)))) (operands : List (List (Value ℕ)))
+    → length ats ≤ length marks → length ats ≤ length locals → length ats ≤ length operands → length (frames_at ats marks locals operands) ≡ length ats
+unfolding frames_at
+many [] marks locals operands told some more = refl
+many (at ∷ ats) [] locals operands told some more = absurd (omega (arith, told))
+many (at ∷ ats) (m ∷ marks) [] operands told some more = absurd (omega (arith, some))
+many (at ∷ ats) (m ∷ marks) (l ∷ locals) [] told some more = absurd (omega (arith, more))
+many (at ∷ ats) (m ∷ marks) (l ∷ locals) (o ∷ operands) told some more = ap suc (many ats marks locals operands (omega (arith, told)) (omega (arith, some)) (omega (arith, more)))
+
+pub deep : {E : Type 0} (at : At) (mark : E) (below : List At) (marks : List E) (locals : Piled (Option (Value ℕ))) (operands : Piled (Value ℕ))
+    → Lies mark below marks locals operands → length (all (shown at mark below marks locals operands)) ≡ length below + 1
+deep at mark below marks locals operands lies =
+    let told = as_many_older marks mark lies.0 in
+    let each = lies.1 in
+    let some = lies.2 in
+    let more = lies.3 in
+    let turn = length-reverse below in
+    let n = many (reverse below) (older marks) locals.below operands.below (omega (arith, told, each, turn)) (omega (arith, some, turn)) (omega (arith, more, turn)) in
+    omega (arith, n, turn)
+
+-- what frames carry that stand somewhere
+carried : {E : Type 0} (ats : List At) (marks : List E) (locals : List (List (Option (Value ℕ)))) (operands : List (List (Value ℕ)))
+    → length ats ≡ length marks → length ats ≤ length locals → length ats ≤ length operands
+    → map (λ (f : FrameOf ℕ E). f.entry) (frames_at ats marks locals operands) ≡ marks
+unfolding frames_at
+carried [] [] locals operands told some more = refl
+carried [] (m ∷ marks) locals operands told some more = absurd (omega (arith, told))
+carried (at ∷ ats) [] locals operands told some more = absurd (omega (arith, told))
+carried (at ∷ ats) (m ∷ marks) [] operands told some more = absurd (omega (arith, some))
+carried (at ∷ ats) (m ∷ marks) (l ∷ locals) [] told some more = absurd (omega (arith, more))
+carried (at ∷ ats) (m ∷ marks) (l ∷ locals) (o ∷ operands) told some more =
+    ap (λ ms. m ∷ ms) (carried ats marks locals operands (omega (arith, told)) (omega (arith, some)) (omega (arith, more)))
+
+pub all_carried : {E : Type 0} (at : At) (mark : E) (below : List At) (marks : List E) (locals : Piled (Option (Value ℕ))) (operands : Piled (Value ℕ))
+    → Lies mark below marks locals operands → reverse marks ≡ map (λ (f : FrameOf ℕ E). f.entry) (all (shown at mark below marks locals operands))
+all_carried at mark below marks locals operands lies =
+    let told = as_many_older marks mark lies.0 in
+    let each = lies.1 in
+    let some = lies.2 in
+    let more = lies.3 in
+    let turn = length-reverse below in
+    lies.0
+    ∙ ap (λ ms. mark ∷ ms)
+    (sym (carried (reverse below) (older marks) locals.below operands.below (omega (arith, told, each, turn)) (omega (arith, some, turn)) (omega (arith, more, turn))))
+
+abbrev pub begins : MethodId → At
+begins m = record { method = m; place = 0 }
+
+module _ {E : Type 0} where
   abbrev pub one : MethodId → E → List (Option (Value ℕ)) → List (FrameOf ℕ E) → Framed E
   one m mark locals below = record { newest = record { method = m; place = 0; locals = locals; operands = []; entry = mark }; below = below }
 
+  abbrev shown_by : At → E → List At → List E → Piled (Option (Value ℕ)) → Piled (Value ℕ) → Framed E
+  shown_by at mark below rests locals operands = record { newest = frame_at at mark locals.newest operands.newest; below = frames_at (reverse below) rests locals.below operands.below }
+
+  abbrev carrying_newest : E → Framed E → Framed E
+  carrying_newest mark s = record { newest = carrying mark s.newest; below = s.below }
+
   -- the first frame
-  pub opened : (m : MethodId) (most : ℕ) (mark : E) (given : List (Value ℕ)) (below : List (At E)) (locals : Piled (Option (Value ℕ))) (operands : Piled (Value ℕ))
+  pub opened : (m : MethodId) (most : ℕ) (mark : E) (given : List (Value ℕ)) (below : List At) (marks : List E) (locals : Piled (Option (Value ℕ))) (operands : Piled (Value ℕ))
       → from_oldest locals ≡ padded most None (flat_map places given) → operands ≡ on_top [] bare → below ≡ []
-      → shown (begins m mark) below locals operands ≡ record { newest = starting m most (reverse given) mark; below = [] }
+      → shown (begins m) mark below marks locals operands ≡ record { newest = starting m most (reverse given) mark; below = [] }
   unfolding frames_at
-  opened m most mark given below locals operands first empty none =
-      ap₂ (λ ats (os : Piled (Value ℕ)). shown (begins m mark) ats locals os) none empty
+  opened m most mark given below marks locals operands first empty none =
+      ap₂ (λ ats (os : Piled (Value ℕ)). shown (begins m) mark ats marks locals os) none empty
       ∙ ap (λ ls. one m mark ls []) (first ∙ ap (λ vs. padded most None (flat_map places vs)) (sym (reverse-reverse given)) ∙ locals_are most (reverse given))
 
   -- one more
-  pub begun : (at : At E) (m : MethodId) (most n : ℕ) (mark : E) (below : List (At E)) (locals next : Piled (Option (Value ℕ))) (operands empty : Piled (Value ℕ)) (s : Framed E)
-      → shown at below locals operands ≡ s
+  pub begun : (at : At) (was : E) (m : MethodId) (most n : ℕ) (mark : E) (below : List At) (marks : List E) (locals next : Piled (Option (Value ℕ))) (operands empty : Piled (Value ℕ)) (s : Framed E)
+      → shown at was below marks locals operands ≡ s → reverse marks ≡ was ∷ older marks
       → from_oldest next ≡ padded most None (flat_map places (reverse (take n operands.newest))) → next.below ≡ locals.newest ∷ locals.below
       → empty ≡ on_top [] (with_newest (drop n operands.newest) operands)
-      → shown (begins m mark) (below ++ at ∷ []) next empty ≡ pushed (starting m most (take n s.newest.operands) mark) (holding (drop n s.newest.operands) s)
-  begun at m most n mark below locals next operands empty s is first under none =
-      ap (λ (os : Piled (Value ℕ)). shown (begins m mark) (below ++ at ∷ []) next os) none
-      ∙ ap₂ (λ ls ks. one m mark ls (frames_at (reverse (below ++ at ∷ [])) ks (drop n operands.newest ∷ operands.below))) (first ∙ locals_are most (take n operands.newest)) under
-      ∙ ap (one m mark (locals_of most (take n operands.newest))) (one_more below at locals.newest locals.below (drop n operands.newest) operands.below)
+      → shown (begins m) mark (below ++ at ∷ []) (marks ++ mark ∷ []) next empty ≡ pushed (starting m most (take n s.newest.operands) mark) (holding (drop n s.newest.operands) s)
+  begun at was m most n mark below marks locals next operands empty s is last first under none =
+      ap (λ (os : Piled (Value ℕ)). shown (begins m) mark (below ++ at ∷ []) (marks ++ mark ∷ []) next os) none
+      ∙ ap₂ (λ ls ks. one m mark ls (frames_at (reverse (below ++ at ∷ [])) (older (marks ++ mark ∷ [])) ks (drop n operands.newest ∷ operands.below))) (first ∙ locals_are most (take n operands.newest)) under
+      ∙ ap (λ ms. one m mark (locals_of most (take n operands.newest)) (frames_at (reverse (below ++ at ∷ [])) ms (locals.newest ∷ locals.below) (drop n operands.newest ∷ operands.below)))
+      (ap (drop 1) (more_carried marks mark) ∙ last)
+      ∙ ap (one m mark (locals_of most (take n operands.newest))) (one_more below at was (older marks) locals.newest locals.below (drop n operands.newest) operands.below)
       ∙ ap (λ (t : Framed E). pushed (starting m most (take n t.newest.operands) mark) (holding (drop n t.newest.operands) t)) is
 
   -- there is none below
-  pub alone : (at : At E) (old below : List (At E)) (locals : Piled (Option (Value ℕ))) (operands : Piled (Value ℕ)) (s : Framed E)
-      → shown at old locals operands ≡ s → length old ≡ 0 → old ≡ below ++ [] → (s.below ≡ []) × (shown at below locals operands ≡ s)
+  pub alone : (at : At) (mark : E) (old below : List At) (marks : List E) (locals : Piled (Option (Value ℕ))) (operands : Piled (Value ℕ)) (s : Framed E)
+      → shown at mark old marks locals operands ≡ s → length old ≡ 0 → old ≡ below ++ [] → (s.below ≡ []) × (shown at mark below marks locals operands ≡ s)
   unfolding frames_at
-  alone at [] below locals operands s is none same =
-      (ap (λ (t : Framed E). t.below) (sym is), ap (λ ats. shown at ats locals operands) (sym (append-nil below) ∙ sym same) ∙ is)
-  alone at (x ∷ old) below locals operands s is none same = absurd (omega (arith, none))
+  alone at mark [] below marks locals operands s is none same =
+      (ap (λ (t : Framed E). t.below) (sym is), ap (λ ats. shown at mark ats marks locals operands) (sym (append-nil below) ∙ sym same) ∙ is)
+  alone at mark (x ∷ old) below marks locals operands s is none same = absurd (omega (arith, none))
 
-  left_by : (at : At E) (below : List (At E)) (n : ℕ) (locals : List (List (Option (Value ℕ)))) (operands : List (List (Value ℕ))) (l : List (Option (Value ℕ))) (o : List (Value ℕ))
+  left_by : (at : At) (mark : E) (below : List At) (marks : List E) (n : ℕ) (locals : List (List (Option (Value ℕ)))) (operands : List (List (Value ℕ))) (l : List (Option (Value ℕ))) (o : List (Value ℕ))
       → length locals ≡ n + 1 → length operands ≡ n + 1
-      → framed (frames_at (reverse (below ++ at ∷ [])) locals operands) ≡ Some (shown at below (closed (record { newest = l; below = locals })) (closed (record { newest = o; below = operands })))
-  left_by at below n [] operands l o some more = absurd (omega (arith, some))
-  left_by at below n (k ∷ locals) [] l o some more = absurd (omega (arith, more))
-  left_by at below n (k ∷ locals) (p ∷ operands) l o some more = ap framed (one_more below at k locals p operands)
+      → framed (frames_at (reverse (below ++ at ∷ [])) (mark ∷ older marks) locals operands)
+      ≡ Some (shown at mark below marks (closed (record { newest = l; below = locals })) (closed (record { newest = o; below = operands })))
+  left_by at mark below marks n [] operands l o some more = absurd (omega (arith, some))
+  left_by at mark below marks n (k ∷ locals) [] l o some more = absurd (omega (arith, more))
+  left_by at mark below marks n (k ∷ locals) (p ∷ operands) l o some more = ap framed (one_more below at mark (older marks) k locals p operands)
 
   -- the one below is the newest now
-  pub left_to : (at was : At E) (old below : List (At E)) (locals rest : Piled (Option (Value ℕ))) (operands others : Piled (Value ℕ)) (s : Framed E)
-      → shown was old locals operands ≡ s → old ≡ below ++ at ∷ [] → rest ≡ closed locals → others ≡ closed operands
-      → length locals.below ≡ length old + 1 → length operands.below ≡ length old + 1 → framed s.below ≡ Some (shown at below rest others)
-  left_to at was old below locals rest operands others s is last closes empties some more =
-      ap (λ (t : Framed E). framed t.below) (sym is)
-      ∙ ap (λ ats. framed (frames_at (reverse ats) locals.below operands.below)) last
-      ∙ left_by at below (length old) locals.below operands.below locals.newest operands.newest some more
-      ∙ sym (ap₂ (λ ls (os : Piled (Value ℕ)). Some (shown at below ls os)) closes empties)
+  pub left_to : (at was : At) (mark gone : E) (old below : List At) (marks rests : List E) (locals rest : Piled (Option (Value ℕ))) (operands others : Piled (Value ℕ)) (s : Framed E)
+      → shown was gone old marks locals operands ≡ s → Lies gone old marks locals operands → old ≡ below ++ at ∷ []
+      → (n k : ℕ) → n ≡ length marks → rests ≡ take (n - 1) marks → k ≡ length below → mark ≡ get_or rests k mark
+      → rest ≡ closed locals → others ≡ closed operands → framed s.below ≡ Some (shown at mark below rests rest others)
+  left_to at was mark gone old below marks rests locals rest operands others s shows lies last n k many is here read closes empties =
+      let each = lies.1 in
+      let deeper : length old ≡ length below + 1 = ap length last ∙ length_push below at in
+      let long : length marks ≡ k + 2 = omega (arith, each, deeper, here) in
+      let front : n - 1 ≡ k + 1 = omega (arith, many, long) in
+      let rests_are = is ∙ ap (λ i. take i marks) front in
+      ap (λ (t : Framed E). framed t.below) (sym shows)
+      ∙ ap₂ (λ ats ms. framed (frames_at (reverse ats) ms locals.below operands.below)) last (fewer k marks rests mark long rests_are ∙ fewer_last k marks rests mark long rests_are read)
+      ∙ left_by at mark below rests (length old) locals.below operands.below locals.newest operands.newest lies.2 lies.3
+      ∙ sym (ap₂ (λ ls (os : Piled (Value ℕ)). Some (shown at mark below rests ls os)) closes empties)
+
+  -- the newest carries something else
+  pub carries : (at : At) (was mark : E) (below : List At) (marks : List E) (locals : Piled (Option (Value ℕ))) (operands : Piled (Value ℕ)) (s : Framed E) (n : ℕ)
+      → shown at was below marks locals operands ≡ s → Lies was below marks locals operands → n ≡ length below
+      → shown at mark below (slice_set marks n mark) locals operands ≡ carrying_newest mark s
+  carries at was mark below marks locals operands s n shows lies here =
+      let each = lies.1 in
+      ap (λ ms. shown_by at mark below ms locals operands) (set_older n marks mark (omega (arith, each, here)))
+      ∙ ap (carrying_newest mark) shows
+
+  pub carries_lies : (was mark : E) (below : List At) (marks : List E) (locals : Piled (Option (Value ℕ))) (operands : Piled (Value ℕ)) (n : ℕ)
+      → Lies was below marks locals operands → n ≡ length below → Lies mark below (slice_set marks n mark) locals operands
+  carries_lies was mark below marks locals operands n lies here =
+      let each = lies.1 in
+      (set_last n marks mark (omega (arith, each, here)), length-set marks n mark ∙ lies.1, lies.2, lies.3)

@@ -1,5 +1,5 @@
 -- The frames of a thread that has one, and how they lie in lists.
-use Rattle.std.specs.Prelude.{ℕ, List, [], ◌∷◌, Option, Some, None, reverse}
+use Rattle.std.specs.Prelude.{◌≡◌, ℕ, ◌+◌, List, [], ◌∷◌, Option, Some, None, drop, length, reverse}
 use Rattle.jops.specs.declared.value.Value.{Value}
 use Rattle.jpile.specs.Piles.{Piled}
 use Rattle.jprogram.specs.declared.member.MethodId.{MethodId}
@@ -46,15 +46,27 @@ framed (f ∷ below) = Some (record { newest = f; below = below })
 
 -- ---- how they lie
 
--- a frame that stands somewhere, with lists of locals and of operands, the newest first
-abbrev pub frame_at : {E : Type 0} → At E → List (Option (Value ℕ)) → List (Value ℕ) → FrameOf ℕ E
-frame_at at locals operands = record { method = at.method; place = at.place; locals = reverse locals; operands = operands; entry = at.mark }
+-- a frame that stands somewhere and carries this, with lists of locals and of operands, the newest first
+abbrev pub frame_at : {E : Type 0} → At → E → List (Option (Value ℕ)) → List (Value ℕ) → FrameOf ℕ E
+frame_at at mark locals operands = record { method = at.method; place = at.place; locals = reverse locals; operands = operands; entry = mark }
 
--- the frames that stand there, each with its list of locals and of operands
-unfoldable pub frames_at : {E : Type 0} → List (At E) → List (List (Option (Value ℕ))) → List (List (Value ℕ)) → List (FrameOf ℕ E)
-frames_at (at ∷ rest) (l ∷ locals) (o ∷ operands) = frame_at at l o ∷ frames_at rest locals operands
-frames_at ats locals operands = []
+-- the frames that stand there, each with what it carries and its list of locals and of operands
+unfoldable pub frames_at : {E : Type 0} → List At → List E → List (List (Option (Value ℕ))) → List (List (Value ℕ)) → List (FrameOf ℕ E)
+frames_at (at ∷ rest) (mark ∷ marks) (l ∷ locals) (o ∷ operands) = frame_at at mark l o ∷ frames_at rest marks locals operands
+frames_at ats marks locals operands = []
 
--- all, where those below stand so, the oldest first
-abbrev pub shown : {E : Type 0} → At E → List (At E) → Piled (Option (Value ℕ)) → Piled (Value ℕ) → Framed E
-shown at below locals operands = record { newest = frame_at at locals.newest operands.newest; below = frames_at (reverse below) locals.below operands.below }
+-- what those below the newest carry, the newest of them first, by what all carry, the oldest first
+abbrev pub older : {E : Type 0} → List E → List E
+older marks = drop 1 (reverse marks)
+
+-- all, where those below stand so, the oldest first, and all carry this, the oldest first
+abbrev pub shown : {E : Type 0} → At → E → List At → List E → Piled (Option (Value ℕ)) → Piled (Value ℕ) → Framed E
+shown at mark below marks locals operands = record {
+  newest = frame_at at mark locals.newest operands.newest;
+  below = frames_at (reverse below) (older marks) locals.below operands.below;
+}
+
+-- What the newest carries stands last, and each frame has what it carries and its lists. Below the lists of the newest there is always one more, with which a pile begins.
+abbrev pub Lies : {E : Type 0} → E → List At → List E → Piled (Option (Value ℕ)) → Piled (Value ℕ) → Type 0
+Lies mark below marks locals operands =
+    (reverse marks ≡ mark ∷ older marks) × (length marks ≡ length below + 1) × (length locals.below ≡ length below + 1) × (length operands.below ≡ length below + 1)

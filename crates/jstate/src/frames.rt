@@ -1,4 +1,4 @@
-ghost use Rattle.std.specs.Prelude.{◌≡◌, ◌<◌, ◌≤◌, ◌+◌, ◌^◌, ◌∷◌, [], ℕ, IfOk, OnOk, OnErr, None, Some, MatchBool, drop, length, map, reverse, slice_get, slice_set, take};
+ghost use Rattle.std.specs.Prelude.{◌≡◌, ◌<◌, ◌≤◌, ◌+◌, ◌^◌, ◌∷◌, ◌++◌, [], ℕ, IfOk, OnOk, OnErr, None, Some, MatchBool, drop, length, map, reverse, slice_get, slice_set, take};
 ghost use Rattle.jmachine.specs.Acts.{FrameOf};
 ghost use Rattle.jmachine.specs.Frames.{carrying, standing, with_operands};
 ghost use Rattle.jmachine.specs.Straight.{local_at};
@@ -11,36 +11,55 @@ use jprogram::MethodId;
 use std::alloc::{AllocError, Global};
 use std::marker::Model;
 
-/// Where a frame stands, and what it carries.
+/// Where a frame stands.
 #[derive(Clone, Copy)]
-struct At<M> {
+struct At {
     method: MethodId,
     place: u32,
-    mark: M,
 }
 
 /// The frames of a thread that has one. Contracts see the newest, and those below it, the newest of them first, as the machine's
-/// definition has them.
+/// definition has them. What the frames carry lies side by side, so that it can be lent.
 #[derive(Drop)]
 pub struct Frames<M> {
-    at: At<M>,
-    below: Vec<At<M>>,
+    at: At,
+    mark: M,
+    below: Vec<At>,
+    marks: Vec<M>,
     locals: Pile<Option<Value>>,
     operands: Pile<Value>,
 }
 
 impl<M> Model for Frames<M> {
-    ghost use Rattle.std.specs.Prelude.{◌≡◌, ◌+◌, length};
-    ghost use Rattle.jstate.specs.Framed.{Framed, shown};
+    ghost use Rattle.jstate.specs.Framed.{Framed, Lies, shown};
 
     ghost Value = { Framed M };
 
-    ghost view = { λ f. shown f.at f.below.items f.locals f.operands };
+    ghost view = { λ f. shown f.at f.mark f.below.items f.marks.items f.locals f.operands };
 
-    ghost invariant = { λ f. (length f.locals.below ≡ length f.below.items + 1) × (length f.operands.below ≡ length f.below.items + 1) };
+    ghost invariant = { λ f. Lies f.mark f.below.items f.marks.items f.locals f.operands };
 }
 
 // ---- how frames begin and go
+
+/// Puts one more place below, and what one more frame carries behind what the others do. After an error nothing has changed.
+fn stand<M: Copy>(
+    below: &mut Vec<At>,
+    marks: &mut Vec<M>,
+    at: At,
+    mark: M,
+) -> Result<(), AllocError>
+    ensures below { OnOk result (below.new.items ≡ below.old.items ++ at ∷ []) }
+    ensures marks { OnOk result (marks.new.items ≡ marks.old.items ++ mark ∷ []) }
+    ensures err { OnErr result ((below.new.items ≡ below.old.items) × (marks.new.items ≡ marks.old.items)) }
+{
+    marks.push(mark)?;
+    if below.push(at).is_err() {
+        marks.pop();
+        return Err(AllocError);
+    }
+    Ok(())
+}
 
 impl<M: Copy> Frames<M> {
     /// The one frame of a thread that begins: of a method with so many locals, with arguments, the newest last.
@@ -57,13 +76,13 @@ impl<M: Copy> Frames<M> {
         locals.open_from::<Value, Places>(arguments, most, None)?;
         let mut operands = Pile::new(alloc);
         operands.open()?;
+        let mut marks = Vec::new(alloc);
+        marks.push(mark)?;
         Ok(Frames {
-            at: At {
-                method,
-                place: 0,
-                mark,
-            },
+            at: At { method, place: 0 },
+            mark,
             below: Vec::new(alloc),
+            marks,
             locals,
             operands,
         })
@@ -90,16 +109,13 @@ impl<M: Copy> Frames<M> {
             self.locals.close();
             return Err(AllocError);
         }
-        if self.below.push(self.at).is_err() {
+        if stand(&mut self.below, &mut self.marks, self.at, mark).is_err() {
             self.operands.close();
             self.locals.close();
             return Err(AllocError);
         }
-        self.at = At {
-            method,
-            place: 0,
-            mark,
-        };
+        self.at = At { method, place: 0 };
+        self.mark = mark;
         Ok(())
     }
 
@@ -110,7 +126,9 @@ impl<M: Copy> Frames<M> {
         match self.below.pop() {
             None => false,
             Some(at) => {
+                self.marks.pop();
                 self.at = at;
+                self.mark = self.marks[self.below.len()];
                 self.locals.close();
                 self.operands.close();
                 true
@@ -151,19 +169,15 @@ impl<M: Copy> Frames<M> {
     pub fn mark(&self) -> M
         ensures { result ≡ self.now.newest.entry }
     {
-        self.at.mark
+        self.mark
     }
 
-    /// What all frames carry, the oldest first.
-    pub fn marks(&self, alloc: Global) -> Result<Vec<M>, AllocError>
-        ensures { IfOk result (λ marks. reverse marks.items ≡ map (λ (f : FrameOf ℕ M). f.entry) (all self.now)) }
+    /// What all frames carry, the oldest first, lent.
+    #[inline]
+    pub fn marks(&self) -> &[M]
+        ensures { reverse result.now ≡ map (λ (f : FrameOf ℕ M). f.entry) (all self.now) }
     {
-        let mut marks = Vec::new(alloc);
-        for at in self.below.iter() {
-            marks.push(at.mark)?;
-        }
-        marks.push(self.at.mark)?;
-        Ok(marks)
+        self.marks.as_slice()
     }
 
     /// The newest frame goes on at a number.
@@ -188,7 +202,9 @@ impl<M: Copy> Frames<M> {
     pub fn carry(&mut self, mark: M)
         ensures { self.new ≡ with_newest (carrying mark self.old.newest) self.old }
     {
-        self.at.mark = mark;
+        let n = self.below.len();
+        self.marks[n] = mark;
+        self.mark = mark;
     }
 }
 

@@ -1,16 +1,18 @@
-use Rattle.std.proofs.Common.{◌∙◌, ◌∷◌, ◌++◌, [], None, ap, sym}
+use Rattle.std.proofs.Common.{◌∙◌, [], None, ap, ap₂, sym}
 use Rattle.std.specs.List.{flat_map}
 use Rattle.jpile.specs.Piles.{on_top, padded}
 use Rattle.jmachine.specs.Straight.{places}
 use Rattle.jstate.specs.Framed.{shown}
-use Rattle.jstate.proofs.Lying.{begins, begun, grown, not_err}
+use Rattle.jstate.proofs.Lying.{begins, begun, not_err}
 use Rattle.jstate.proofs.frames.Frames.begin.Goals as goal
 
 pub returns : goal.returns
 returns g c =
-    let pushed = grown c.push.result c.push.new.self.items c.self.inside.below.items (c.self.inside.below.items ++ c.self.inside.at ∷ []) (sym c.is_err-2.ensures.value ∙ c.if-is_err-2.false) c.push.ensures.items in
+    let none = sym c.is_err-2.ensures.value ∙ c.if-is_err-2.false in
     let opened = not_err c.open.result (sym c.is_err.ensures.value ∙ c.if-is_err.false) c.open.ensures.ok in
-    ap (λ ats. shown (begins c.args.method c.args.mark) ats c.open_from.new.self c.open.new.self) pushed
-    ∙ begun c.self.inside.at c.args.method c.args.most c.args.arguments c.args.mark c.self.inside.below.items c.self.inside.locals c.open_from.new.self c.self.inside.operands c.open.new.self
-    c.args.self.now c.self.view_is (c.in_ok-open_from.ensures.newest ∙ ap (λ vs. padded c.args.most None (flat_map places vs)) c.top-given.ensures) c.in_ok-open_from.ensures.below
+    ap₂ (λ ats ms. shown (begins c.args.method) c.args.mark ats ms c.open_from.new.self c.open.new.self)
+    (not_err c.stand.result none c.stand.ensures.below) (not_err c.stand.result none c.stand.ensures.marks)
+    ∙ begun c.self.inside.at c.self.inside.mark c.args.method c.args.most c.args.arguments c.args.mark c.self.inside.below.items c.self.inside.marks.items
+    c.self.inside.locals c.open_from.new.self c.self.inside.operands c.open.new.self
+    c.args.self.now c.self.view_is c.self.invariant.0 (c.in_ok-open_from.ensures.newest ∙ ap (λ vs. padded c.args.most None (flat_map places vs)) c.top-given.ensures) c.in_ok-open_from.ensures.below
     (opened ∙ ap (on_top []) c.shrink.ensures)
