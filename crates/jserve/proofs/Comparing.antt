@@ -6,7 +6,9 @@ use Rattle.jtypes.specs.Fitting.{array_fits, class_fits, element_fits, is_above_
 use Rattle.jtypes.specs.Tree.{Tree}
 use Rattle.jtypes.proofs.Dimensions.{as_many_fit, fewer_fail, more_fit}
 use Rattle.jprogram.specs.declared.part.ClassRef.{ClassRef}
-use Rattle.jprogram.specs.Classes.{Program}
+use Rattle.jprogram.specs.declared.part.ClassRef.TheVariants as refs
+use Rattle.jprogram.specs.Classes.{Program, extends}
+use Rattle.jlib.specs.declared.classes.LibClass.TheVariants as lib
 use Rattle.juses.specs.Types.{class_named}
 use Rattle.jlink.specs.Standing.{itself}
 use Rattle.jmachine.specs.World.{world}
@@ -30,6 +32,15 @@ same_fits p asked.IsOne c = true_or _ _ (itself p (class_named p c))
 -- a class fits itself
 pub one_fits : (p : Program) (a : Asked) (c d : ClassRef) → c ≡ d → true ≡ class_fits (tree_by (world p) a) (class_named p c) (class_named p d)
 one_fits p a c d e = sym (ap (λ (x : ClassRef). class_fits (tree_by (world p) a) (class_named p c) (class_named p x)) (sym e) ∙ same_fits p a c)
+
+top_fits : (p : Program) (a : Asked) (c : Name) → class_fits (tree_by (world p) a) c (class_named p (refs.Lib lib.Object)) ≡ true
+unfolding world extends
+top_fits p asked.Fits c = or_true _ _ refl
+top_fits p asked.IsOne c = refl
+
+-- every class fits Object
+pub under_object : (p : Program) (a : Asked) (c d : ClassRef) → d ≡ refs.Lib lib.Object → true ≡ class_fits (tree_by (world p) a) (class_named p c) (class_named p d)
+under_object p a c d e = sym (ap (λ (x : ClassRef). class_fits (tree_by (world p) a) (class_named p c) (class_named p x)) e ∙ top_fits p a (class_named p c))
 
 -- ---- arrays by their numbers of dimensions
 

@@ -3,6 +3,9 @@ pub mod Casting
 pub mod Comparing
 pub mod Few
 pub mod Fielding
+pub mod Kinded
+pub mod Lining
 pub mod Stored
+pub mod Upward
 pub mod Valuing
 pub mod Wanting

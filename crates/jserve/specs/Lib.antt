@@ -3,3 +3,4 @@ pub mod Valued
 pub mod Served
 pub mod Calls
 pub mod Storing
+pub mod Lined

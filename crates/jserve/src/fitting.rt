@@ -3,13 +3,15 @@ ghost use Rattle.jmachine.specs.World;
 ghost use Rattle.jmachine.specs.World.{world};
 ghost use Rattle.jtypes.specs.declared.vtype.VType.TheVariants as types;
 ghost use Rattle.jtypes.specs.Fitting;
+ghost use Rattle.jprogram.specs.Classes.{tree};
+ghost use Rattle.jprogram.specs.Implementing.{IsNumber};
 ghost use Rattle.juses.specs.Types.{class_named, element_named, named};
 ghost use Rattle.jserve.specs.Asked.{above_by, tree_by};
 
 use crate::ancestors::Ancestors;
 use jlib::LibClass;
 use jprogram::{ClassRef, NamedProgram};
-use juses::{ArrayRef, ElementRef, TypeRef};
+use juses::{ArrayRef, ElementRef, TypeRef, stands_below};
 
 /// How types are compared.
 #[derive(Clone, Copy)]
@@ -20,10 +22,9 @@ pub(crate) enum Asked {
     IsOne,
 }
 
-// ---- classes
+// ---- numbers that stand for no class of the program, which no machine meets: by their names
 
-/// Whether every array fits a class or an interface, in each program.
-fn is_above_arrays(p: &NamedProgram, d: ClassRef) -> bool
+fn stranger_above_arrays(p: &NamedProgram, d: ClassRef) -> bool
     ensures { result ≡ Fitting.is_above_arrays (class_named p.now d) }
 {
     let name = p.name_of(d);
@@ -32,12 +33,55 @@ fn is_above_arrays(p: &NamedProgram, d: ClassRef) -> bool
         || name == b"java/io/Serializable".as_slice()
 }
 
+fn stranger_is_interface(p: &NamedProgram, d: ClassRef) -> bool
+    ensures { result ≡ (tree p.now).is_interface (class_named p.now d) }
+{
+    p.is_interface(p.name_of(d))
+}
+
+#[tactic(auto, unfolding(jmachine::specs::World::world))]
+fn stranger_is_above(a: &Ancestors<'_>, asked: Asked, d: ClassRef) -> bool
+    ensures { result ≡ above_by (world a.now) asked (class_named a.now d) }
+{
+    let above = stranger_above_arrays(a.named(), d);
+    match asked {
+        Asked::Fits => above || stranger_is_interface(a.named(), d),
+        Asked::IsOne => above,
+    }
+}
+
+#[tactic(auto, unfolding(jmachine::specs::World::world))]
+fn stranger_fits(a: &Ancestors<'_>, asked: Asked, c: ClassRef, d: ClassRef) -> bool
+    ensures { result ≡ Fitting.class_fits (tree_by (world a.now) asked) (class_named a.now c) (class_named a.now d) }
+{
+    let p = a.named();
+    match asked {
+        Asked::Fits => stranger_is_interface(p, d) || stands_below(p, c, d),
+        Asked::IsOne => stands_below(p, c, d) || a.implements_named(c, d),
+    }
+}
+
+// ---- classes
+
+/// Whether every array fits a class or an interface, in each program.
+fn is_above_arrays(a: &Ancestors<'_>, d: ClassRef) -> bool
+    requires { IsNumber a.now d }
+    ensures { result ≡ Fitting.is_above_arrays (class_named a.now d) }
+{
+    a.is_lib(d, LibClass::Object)
+        || a.is_lib(d, LibClass::Cloneable)
+        || a.is_lib(d, LibClass::Serializable)
+}
+
 /// Whether every array fits a class or an interface.
 #[tactic(auto, unfolding(jmachine::specs::World::world))]
 fn is_above(a: &Ancestors<'_>, asked: Asked, d: ClassRef) -> bool
     ensures { result ≡ above_by (world a.now) asked (class_named a.now d) }
 {
-    let above = is_above_arrays(a.named(), d);
+    if !a.is_known(d) {
+        return stranger_is_above(a, asked, d);
+    }
+    let above = is_above_arrays(a, d);
     match asked {
         Asked::Fits => above || a.is_interface(d),
         Asked::IsOne => above,
@@ -46,7 +90,9 @@ fn is_above(a: &Ancestors<'_>, asked: Asked, d: ClassRef) -> bool
 
 /// Whether an object of the first class fits the second one.
 #[tactic(auto, unfolding(jmachine::specs::World::world))]
-fn class_fits(a: &Ancestors<'_>, asked: Asked, c: ClassRef, d: ClassRef) -> bool
+fn known_fits(a: &Ancestors<'_>, asked: Asked, c: ClassRef, d: ClassRef) -> bool
+    requires first { IsNumber a.now c }
+    requires second { IsNumber a.now d }
     ensures { result ≡ Fitting.class_fits (tree_by (world a.now) asked) (class_named a.now c) (class_named a.now d) }
 {
     match asked {
@@ -55,18 +101,25 @@ fn class_fits(a: &Ancestors<'_>, asked: Asked, c: ClassRef, d: ClassRef) -> bool
     }
 }
 
-/// The two are one class of the library, of those that are often seen.
+/// The same of any two numbers.
+fn class_fits(a: &Ancestors<'_>, asked: Asked, c: ClassRef, d: ClassRef) -> bool
+    ensures { result ≡ Fitting.class_fits (tree_by (world a.now) asked) (class_named a.now c) (class_named a.now d) }
+{
+    if !a.is_known(c) {
+        return stranger_fits(a, asked, c, d);
+    }
+    if !a.is_known(d) {
+        return stranger_fits(a, asked, c, d);
+    }
+    known_fits(a, asked, c, d)
+}
+
+/// The two are one class of the library.
 #[inline]
 fn are_one_librarys(c: LibClass, d: LibClass) -> bool
     ensures { result ≡ true → c ≡ d }
 {
-    match c {
-        LibClass::String => matches!(d, LibClass::String),
-        LibClass::StringBuilder => matches!(d, LibClass::StringBuilder),
-        LibClass::PrintStream => matches!(d, LibClass::PrintStream),
-        LibClass::Thread => matches!(d, LibClass::Thread),
-        _ => false,
-    }
+    c == d
 }
 
 /// The two are one class, which is seen without a look at names.
@@ -86,12 +139,26 @@ fn are_one(c: ClassRef, d: ClassRef) -> bool
     }
 }
 
-/// The same, where the two are mostly one.
+/// A class is Object, which is seen without a look at names.
+#[inline]
+fn is_object(d: ClassRef) -> bool
+    ensures { result ≡ true → d ≡ ClassRef.Lib LibClass.Object }
+{
+    match d {
+        ClassRef::User(_) => false,
+        ClassRef::Lib(d) => matches!(d, LibClass::Object),
+    }
+}
+
+/// The same, where the two are mostly one, or the second is Object.
 #[inline]
 fn class_fits_soon(a: &Ancestors<'_>, asked: Asked, c: ClassRef, d: ClassRef) -> bool
     ensures { result ≡ Fitting.class_fits (tree_by (world a.now) asked) (class_named a.now c) (class_named a.now d) }
 {
     if are_one(c, d) {
+        return true;
+    }
+    if is_object(d) {
         return true;
     }
     class_fits(a, asked, c, d)

@@ -4,8 +4,10 @@
 mod ancestors;
 mod calls;
 mod casts;
+mod columns;
 mod fields;
 mod fitting;
+mod lines;
 mod serving;
 mod storing;
 mod values;
