@@ -94,7 +94,7 @@ module _ {E : Type 0} (m : Machine E) (f g : Framed E) (h : Heaped) (made : Made
   SteppedSo came = (r : Rules ℕ E) → AreRules m r
       → stepped.CameTo r m.calls m.plan.now s f came g (store_of n) (steps_of r) asked (instruction_at m.calls f.newest.method f.newest.place)
 
-  settled : (came : Stepped) (end : run.Stepped) (o : Machine E) → SteppedSo came → Settles n came end o → Comes m any steps_of end o
+  pub settled : (came : Stepped) (end : run.Stepped) (o : Machine E) → SteppedSo came → Settles n came end o → Comes m any steps_of end o
   settled came end o so settles =
       let both = settles s g is_behind refl in
       record { over = both.over; comes = λ r are like. both.comes r (steps_of r) (same_rules r are) (so r are).outcome }

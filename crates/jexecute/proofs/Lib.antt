@@ -5,3 +5,5 @@ pub mod Fetched
 pub mod Loaded
 pub mod Moved
 pub mod Referred
+pub mod Calm
+pub mod Hastened

@@ -69,7 +69,7 @@ module _ {E : Type 0} (m : Machine E) (f g : Framed E) (k : Heaped) (made : Made
         (row : Advances m.calls m.fixed (counts_of m) m.constants.constants f m.heap done made.constants g k)
         (stand : StoodAs (classes_of m) done g)
         (alike : (things : Things) → AreCounted (counts_of m) things → StepsAlike m.calls m.fixed.shapes.now things done m.heap.objects k.objects) where
-      one_moves : Moves m done left
+      pub one_moves : Moves m done left
       one_moves = record {
         before = f;
         runs = runs;

@@ -26,7 +26,7 @@ pub enum Executed {
 
 /// How many permissions and contexts a machine keeps.
 #[inline]
-fn kept_counts<M>(m: &Machine<'_, '_, M>) -> Counts
+pub(crate) fn kept_counts<M>(m: &Machine<'_, '_, M>) -> Counts
     ensures { result ≡ counts_of m.now }
 {
     Counts {
@@ -37,7 +37,7 @@ fn kept_counts<M>(m: &Machine<'_, '_, M>) -> Counts
 
 /// Its program links.
 #[inline]
-fn linked<M>(m: &Machine<'_, '_, M>)
+pub(crate) fn linked<M>(m: &Machine<'_, '_, M>)
     ensures { Links m.now.calls }
 {
     let _ = m.calls.known().program().parts();

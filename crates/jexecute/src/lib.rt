@@ -4,7 +4,9 @@
 mod advancing;
 mod executing;
 mod grouping;
+mod hastening;
 mod loading;
 mod referring;
 
 pub use executing::{Executed, execute};
+pub use hastening::{Hasty, hasten};

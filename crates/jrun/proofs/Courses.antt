@@ -27,7 +27,7 @@ module _ {S : Type 0} (step : S → Outcome S) (first : Run S) where
   -- ---- what has been written
 
   -- a front of the lines of a run is a front of the text of a later one
-  cut_later : (i n : ℕ) (old new : Option (List ℕ)) → i ≤ n → IsCut old new (lines (run i).events) → IsCut old new (run_text (run n))
+  pub cut_later : (i n : ℕ) (old new : Option (List ℕ)) → i ≤ n → IsCut old new (lines (run i).events) → IsCut old new (run_text (run n))
   cut_later i n old new le h =
       let r = run i in
       let s = run n in

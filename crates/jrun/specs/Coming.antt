@@ -1,9 +1,12 @@
--- What a step of a machine came to, by what a step of the definition comes to; and runs that begin somewhere.
-use Rattle.std.specs.Prelude.{◌≡◌, ⊤, [], None}
+-- What steps of a machine came to, by what steps of the definition come to; and runs that begin somewhere.
+use Rattle.std.specs.Prelude.{◌≡◌, ◌<◌, ◌≤◌, ◌+◌, ⊤, ℕ, zero, suc, [], Option, Some, None}
 use Rattle.jmachine.specs.Acts.{Outcome, Went, Over, NoStep}
 use Rattle.jmachine.specs.Runs.{Run}
 use Rattle.jrun.specs.declared.stepping.Stepped.{Stepped}
 use Rattle.jrun.specs.declared.stepping.Stepped.TheVariants as done
+use Rattle.jrun.specs.declared.stepping.Stretch.{Stretch}
+
+-- ---- one step
 
 -- The state behind it stands for what the definition's step leaves, and the same was told.
 abbrev pub ComesTo : {S : Type 0} → (S → Type 0) → Outcome S → Stepped → Type 0
@@ -15,6 +18,40 @@ ComesTo {S} stands o done.Stuck = o ≡ NoStep
 abbrev pub WhereWent : Type 0 → Stepped → Type 0
 WhereWent P (done.Went events) = P
 WhereWent P came = ⊤
+
+-- ---- some steps
+
+-- So many steps from a state to another went on and told nothing.
+unfoldable pub Quietly : {S : Type 0} → (S → Outcome S) → ℕ → S → S → Type 0
+Quietly step zero s t = t ≡ s
+Quietly {S} step (suc k) s t = (u : S) × Quietly step k s u × (step u ≡ Went t [])
+
+-- The one behind them, if there was one, came to this.
+abbrev pub LastCame : {S : Type 0} → (S → Type 0) → (S → Outcome S) → S → Option Stepped → Type 0
+LastCame stands step t None = stands t
+LastCame stands step t (Some came) = ComesTo stands (step t) came
+
+-- Some steps from a state were made.
+abbrev pub Goes : {S : Type 0} → (S → Type 0) → (S → Outcome S) → S → Stretch → Type 0
+Goes {S} stands step s made = (t : S) × Quietly step made.quiet s t × LastCame stands step t made.last
+
+abbrev pub count_of : Option Stepped → ℕ
+count_of None = 0
+count_of (Some came) = 1
+
+-- how many they were
+abbrev pub steps_in : Stretch → ℕ
+steps_in made = made.quiet + count_of made.last
+
+-- They are at least one, and at most so many.
+abbrev pub AreFew : ℕ → Stretch → Type 0
+AreFew most made = (0 < steps_in made) × (steps_in made ≤ most)
+
+abbrev pub WhereGoes : Type 0 → Option Stepped → Type 0
+WhereGoes P None = P
+WhereGoes P (Some came) = WhereWent P came
+
+-- ---- runs
 
 -- A run that has not begun: nothing was told, and it has not ended.
 pub record Begins {S : Type 0} (stands : S → Type 0) (r : Run S) : Type 0 where

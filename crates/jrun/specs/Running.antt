@@ -1,10 +1,31 @@
--- One step of a run.
-use Rattle.std.specs.Prelude.{◌≡◌, Option, None}
+-- Some steps of a run.
+use Rattle.std.specs.Prelude.{◌≡◌, List, [], Option, None, Some}
+use Rattle.jtrace.specs.declared.event.Event.{Event}
 use Rattle.jtrace.specs.declared.event.End.{End}
+use Rattle.jtrace.specs.declared.event.End.TheVariants as ends
 use Rattle.jmachine.specs.Acts.{Outcome}
-use Rattle.jmachine.specs.Runs.{ended_by, state_behind}
+use Rattle.jmachine.specs.Runs.{Run, run_from}
+use Rattle.jrun.specs.declared.running.Written.{Written}
+use Rattle.jrun.specs.declared.stepping.Stepped.{Stepped}
+use Rattle.jrun.specs.declared.stepping.Stepped.TheVariants as done
 
--- The step ended the run so, or the machine stands for the state that it left.
-pub record Advances {S : Type 0} (stands : S → Type 0) (s : S) (o : Outcome S) (end : Option End) : Type 0 where
-  pub ends : end ≡ ended_by o
-  pub state : end ≡ None → stands (state_behind s o)
+-- the run that begins at a state
+abbrev pub run_at : {S : Type 0} → S → Run S
+run_at s = record { state = s; events = []; end = None }
+
+-- The run that begins at the state ended so within these steps, or the machine stands for the state behind them.
+pub record Advances {S : Type 0} (stands : S → Type 0) (step : S → Outcome S) (s : S) (done : Written) : Type 0 where
+  pub ends : (run_from step done.steps (run_at s)).end ≡ done.end
+  pub state : done.end ≡ None → stands (run_from step done.steps (run_at s)).state
+
+-- what a step told
+abbrev pub told_in : Stepped → List Event
+told_in (done.Went events) = events
+told_in (done.Ended events end) = events
+told_in done.Stuck = []
+
+-- the end, if it ended the run
+abbrev pub end_by : Stepped → Option End
+end_by (done.Went events) = None
+end_by (done.Ended events end) = Some end
+end_by done.Stuck = Some ends.Stuck

@@ -6,4 +6,4 @@ mod stepping;
 mod writing;
 
 pub use running::{close, run};
-pub use stepping::{Stepped, Stepping};
+pub use stepping::{Stepped, Stepping, Stretch};

@@ -1,10 +1,10 @@
-ghost use Rattle.std.specs.Prelude.{◌≡◌, ◌≤◌, None, IfOk, OnOk, OnErr};
+ghost use Rattle.std.specs.Prelude.{◌≡◌, ◌≤◌, ◌<◌, ℕ, None, IfOk, OnOk, OnErr};
 ghost use Rattle.jbase.specs.Causes.{Rose, HasCause, appended, IsCut};
 ghost use Rattle.jtrace.specs.declared.fault.RunFault.TheVariants.{Sink as SinkFault};
 ghost use Rattle.jtrace.specs.Lines.{end_line, lines};
-ghost use Rattle.jmachine.specs.Runs.{Run, ended_by, ending, run_from, run_text, told_by};
+ghost use Rattle.jmachine.specs.Runs.{Run, ending, run_from, run_text};
 ghost use Rattle.jrun.specs.Coming.{Begins};
-ghost use Rattle.jrun.specs.Running.{Advances};
+ghost use Rattle.jrun.specs.Running.{Advances, end_by, run_at, told_in};
 
 use crate::stepping::{Stepped, Stepping};
 use crate::writing::{put_end, put_events};
@@ -12,22 +12,15 @@ use jio::Sink;
 use jtrace::{End, RunFault};
 use std::alloc::Global;
 
-/// One step, and the lines of what it tells. It answers the end, if the step ends the run.
-fn advance<E: Stepping, K: Sink>(
-    alloc: Global,
-    engine: &mut E,
-    out: &mut K,
-) -> Result<Option<End>, RunFault>
-    requires { E.ready engine.old }
-    ensures step { IfOk result (λ end. (s : E.State) → E.stands engine.old s → Advances (E.stands engine.new) s (E.steps engine.old s) end) }
-    ensures ok { OnOk result ((s : E.State) → E.stands engine.old s → K.out out.new ≡ appended (K.out out.old) (lines (told_by (E.steps engine.old s)))) }
-    ensures err { OnErr result ((s : E.State) → E.stands engine.old s → IsCut (K.out out.old) (K.out out.new) (lines (told_by (E.steps engine.old s)))) }
-    ensures ready { IfOk result (λ end. end ≡ None → E.ready engine.new) }
-    ensures same { OnOk result (E.steps engine.new ≡ E.steps engine.old) }
+/// Writes the lines of what a step told. It answers the end, if the step ended the run.
+fn tell<K: Sink>(out: &mut K, came: Stepped) -> Result<Option<End>, RunFault>
+    ensures end { IfOk result (λ end. end ≡ end_by came) }
+    ensures ok { OnOk result (K.out out.new ≡ appended (K.out out.old) (lines (told_in came))) }
+    ensures err { OnErr result (IsCut (K.out out.old) (K.out out.new) (lines (told_in came))) }
     ensures later { K.faults out.old ≤ K.faults out.new }
     ensures cause { result ≡ Err SinkFault → Rose (K.faults out.old) (K.faults out.new) }
 {
-    match engine.step(alloc)? {
+    match came {
         Stepped::Went { events } => {
             put_events(out, events.as_slice())?;
             Ok(None)
@@ -37,6 +30,50 @@ fn advance<E: Stepping, K: Sink>(
             Ok(Some(end))
         }
         Stepped::Stuck => Ok(Some(End::Stuck)),
+    }
+}
+
+/// How many steps were made, and the end, if the last of them ended the run.
+#[derive(Clone, Copy)]
+struct Written {
+    steps: u64,
+    end: Option<End>,
+}
+
+/// Some steps, at least one and at most so many, and the lines of what they told.
+fn advance<E: Stepping, K: Sink>(
+    alloc: Global,
+    engine: &mut E,
+    out: &mut K,
+    most: u64,
+) -> Result<Written, RunFault>
+    requires ready { E.ready engine.old }
+    requires some { 0 < most }
+    ensures few { IfOk result (λ done. (0 < done.steps) × (done.steps ≤ most)) }
+    ensures steps { IfOk result (λ done. (s : E.State) → E.stands engine.old s → Advances (E.stands engine.new) (E.steps engine.old) s done) }
+    ensures ok { IfOk result (λ done. (s : E.State) → E.stands engine.old s
+        → K.out out.new ≡ appended (K.out out.old) (lines (run_from (E.steps engine.old) done.steps (run_at s)).events)) }
+    ensures err { OnErr result ((s : E.State) → E.stands engine.old s
+        → (n : ℕ) × (n ≤ most) × IsCut (K.out out.old) (K.out out.new) (lines (run_from (E.steps engine.old) n (run_at s)).events)) }
+    ensures ready { IfOk result (λ done. done.end ≡ None → E.ready engine.new) }
+    ensures same { OnOk result (E.steps engine.new ≡ E.steps engine.old) }
+    ensures later { K.faults out.old ≤ K.faults out.new }
+    ensures cause { result ≡ Err SinkFault → Rose (K.faults out.old) (K.faults out.new) }
+{
+    let made = engine.go(alloc, most)?;
+    let quiet = made.quiet;
+    match made.last {
+        None => Ok(Written {
+            steps: quiet,
+            end: None,
+        }),
+        Some(came) => {
+            let end = tell(out, came)?;
+            Ok(Written {
+                steps: quiet + 1,
+                end,
+            })
+        }
     }
 }
 
@@ -70,8 +107,11 @@ pub fn run<E: Stepping, K: Sink>(
     ensures later { K.faults out.old ≤ K.faults out.new }
     ensures cause { result ≡ Err SinkFault → Rose (K.faults out.old) (K.faults out.new) }
 {
-    for _ in 0..steps {
-        match advance(alloc, engine, out)? {
+    let mut made = 0u64;
+    while made < steps {
+        let done = advance(alloc, engine, out, steps - made)?;
+        made += done.steps;
+        match done.end {
             Some(end) => return put_end(out, end),
             None => {}
         }

@@ -1,6 +1,6 @@
-ghost use Rattle.std.specs.Prelude.{◌≡◌, IfOk, OnOk};
+ghost use Rattle.std.specs.Prelude.{◌≡◌, ◌<◌, IfOk, OnOk};
 ghost use Rattle.jmachine.specs.Acts.{Outcome};
-ghost use Rattle.jrun.specs.Coming.{ComesTo, WhereWent};
+ghost use Rattle.jrun.specs.Coming.{AreFew, Goes, WhereGoes};
 
 use jbase::Seq;
 use jtrace::{End, Event};
@@ -17,6 +17,15 @@ pub enum Stepped {
     Stuck,
 }
 
+/// What some steps came to.
+#[derive(Debug, Drop)]
+pub struct Stretch {
+    /// So many went on and told nothing.
+    pub quiet: u64,
+    /// What the one behind them came to, if there was one.
+    pub last: Option<Stepped>,
+}
+
 /// A machine that is run step by step. Contracts see the states that it may stand for, and what the definition's step makes of them.
 pub trait Stepping {
     /// A state of the definition.
@@ -31,10 +40,12 @@ pub trait Stepping {
     /// What holds of it between steps.
     ghost ready: { Self → Type 0 };
 
-    /// One step. After an error nothing is said of it.
-    fn step(&mut self, alloc: Global) -> Result<Stepped, AllocError>
+    /// Some steps: at least one, and at most so many. After an error nothing is said of it.
+    fn go(&mut self, alloc: Global, most: u64) -> Result<Stretch, AllocError>
         requires ready { ready self.old }
-        ensures comes { IfOk result (λ done. (s : State) → stands self.old s → ComesTo (stands self.new) (steps self.old s) done) }
-        ensures ready { IfOk result (WhereWent (ready self.new)) }
+        requires some { 0 < most }
+        ensures goes { IfOk result (λ made. (s : State) → stands self.old s → Goes (stands self.new) (steps self.old) s made) }
+        ensures few { IfOk result (AreFew most) }
+        ensures ready { IfOk result (λ made. WhereGoes (ready self.new) made.last) }
         ensures same { OnOk result (steps self.new ≡ steps self.old) };
 }

@@ -1,0 +1,335 @@
+ghost use Rattle.std.specs.Prelude.{◌≡◌, ℕ, IfOk, OnOk, length};
+ghost use Rattle.jready.specs.declared.instr.FlowInstr.TheVariants as flows;
+ghost use Rattle.jready.specs.declared.instr.Instr.TheVariants as instrs;
+ghost use Rattle.jready.specs.Prepared.{IsRow};
+ghost use Rattle.jstate.specs.Celled.{AreCelled};
+ghost use Rattle.jstate.specs.Framed.{all};
+ghost use Rattle.jstate.specs.Seen.{AreBuilt};
+ghost use Rattle.jcalls.specs.Marks.{AreStanding, Stand};
+ghost use Rattle.jrefs.specs.References.{IsLasting};
+ghost use Rattle.jstep.specs.Stepping.{IsFixed};
+ghost use Rattle.jcore.specs.Machines.{IsReady, StaysFixed};
+ghost use Rattle.jexecute.specs.Advancing.{Fetches, lasting_by};
+ghost use Rattle.jexecute.specs.Executing.{HasRules};
+ghost use Rattle.jexecute.specs.Hastening.{HasThings, Hastens, IsCalm, IsQuick, IsQuickOf, IsQuickOfField, IsQuickRef, Tries, WereMade, program_of, quick_as};
+
+use crate::executing::{kept_counts, linked};
+use jacts::Way;
+use jcalls::Counts;
+use jcode::FieldOp;
+use jcore::Machine;
+use jguests::guest_laws;
+use jheap::Heap;
+use jinvoke::step_laws;
+use jready::{FlowInstr, Instr, MethodRow, Plain, Push};
+use jrefs::Lasting;
+use jshapes::alike_laws;
+use jstate::Frames;
+use jstep::{Fixed, behind_laws};
+use juses::When;
+use std::alloc::{AllocError, Global};
+
+/// What a quick try to make a step came to.
+#[derive(Clone, Copy, Debug, PartialEq, Eq)]
+enum Quick {
+    /// It was made: the run goes on, and nothing is told.
+    Went,
+    /// There is no step.
+    Stuck,
+    /// It is left to be made.
+    Left,
+}
+
+/// Which rows have an instruction whose step is made quickly.
+#[derive(Clone, Copy, Debug, PartialEq, Eq)]
+enum Haste {
+    /// Those with numbers, a local, or the newest items of the stack.
+    Row,
+    /// Those with a static or with references.
+    Reference,
+    /// None.
+    None,
+}
+
+// ---- which instructions
+
+#[inline]
+fn haste_of_plain(f: Plain) -> Haste
+    ensures { IsQuickOf (instrs.Plain f) result }
+{
+    match f {
+        Plain::Nothing => Haste::Row,
+        Plain::Null => Haste::Row,
+        Plain::Int(_) => Haste::Row,
+        Plain::Long(_) => Haste::Row,
+        Plain::Two(_) => Haste::Row,
+        Plain::Divide(_) => Haste::None,
+        Plain::One(_) => Haste::Row,
+    }
+}
+
+#[inline]
+fn haste_of_push(f: Push) -> Haste
+    ensures { IsQuickOf (instrs.Push f) result }
+{
+    match f {
+        Push::Int(_) => Haste::Row,
+        Push::Long(_) => Haste::Row,
+        Push::Text(_) => Haste::None,
+    }
+}
+
+#[inline]
+fn haste_of_jump(when: When) -> Haste
+    ensures { (to : ℕ) → IsQuickOf (instrs.Flow (flows.Jump when to)) result }
+{
+    match when {
+        When::Always => Haste::Row,
+        When::If(_) => Haste::Row,
+        When::IfInt(_) => Haste::Row,
+        When::IfRef(_) => Haste::Reference,
+    }
+}
+
+#[inline]
+fn haste_of_flow(f: FlowInstr) -> Haste
+    ensures { IsQuickOf (instrs.Flow f) result }
+{
+    match f {
+        FlowInstr::Jump(when, _) => haste_of_jump(when),
+        FlowInstr::Return(_) => Haste::None,
+        FlowInstr::Throw => Haste::None,
+    }
+}
+
+#[inline]
+fn haste_of_field(op: FieldOp) -> Haste
+    ensures { IsQuickOfField op result }
+{
+    match op {
+        FieldOp::GetStatic => Haste::Reference,
+        FieldOp::PutStatic => Haste::Reference,
+        FieldOp::GetField => Haste::None,
+        FieldOp::PutField => Haste::None,
+    }
+}
+
+/// Which rows have an instruction.
+#[inline]
+fn haste_of(one: Instr) -> Haste
+    ensures { IsQuickOf one result }
+{
+    match one {
+        Instr::Off => Haste::None,
+        Instr::Plain(f) => haste_of_plain(f),
+        Instr::Push(f) => haste_of_push(f),
+        Instr::Local(_) => Haste::Row,
+        Instr::Stack(_) => Haste::Row,
+        Instr::Flow(f) => haste_of_flow(f),
+        Instr::Table(_) => Haste::Row,
+        Instr::Lookup(_) => Haste::Row,
+        Instr::Array(_) => Haste::None,
+        Instr::Object(_) => Haste::None,
+        Instr::Field { op, .. } => haste_of_field(op),
+        Instr::Call { .. } => Haste::None,
+        Instr::Library { .. } => Haste::None,
+    }
+}
+
+// ---- their rows
+
+/// What a step came to whose row neither raises, throws nor costs.
+#[inline]
+fn quick_of(way: Way) -> Quick
+    requires { IsCalm way }
+    ensures { result ≡ quick_as way }
+{
+    match way {
+        Way::Went => Quick::Went,
+        Way::Stuck => Quick::Stuck,
+        Way::Raises(_) => unreachable!(),
+        Way::Throws(_) => unreachable!(),
+        Way::Full => unreachable!(),
+    }
+}
+
+/// A step with numbers, a local, or the newest items of the stack.
+#[inline]
+fn hasten_row<M: Copy>(
+    alloc: Global,
+    frames: &mut Frames<M>,
+    heap: &mut Heap,
+    fixed: &Fixed<'_, '_, M>,
+    counts: Counts,
+    one: Instr,
+) -> Result<Quick, AllocError>
+    requires fixed { IsFixed (program_of fixed.now) fixed.now }
+    requires here { IsQuick one }
+    requires fetches { Fetches (program_of fixed.now) fixed.now frames.old.newest one }
+    requires stand { Stand (length fixed.now.marks.now) (all frames.old) }
+    requires built { AreBuilt heap.old.objects }
+    requires celled { AreCelled fixed.now.shapes.now heap.old.objects }
+    ensures { IfOk result (λ quick. Hastens fixed.now counts frames.old heap.old quick frames.new heap.new) }
+{
+    step_laws::<M>();
+    behind_laws::<M>();
+    let way = jstep::run(alloc, frames, heap, fixed, one)?;
+    Ok(quick_of(way))
+}
+
+/// A step with a static, or with a branch that tests references.
+#[inline]
+fn hasten_reference<M: Copy>(
+    alloc: Global,
+    frames: &mut Frames<M>,
+    heap: &mut Heap,
+    fixed: &Fixed<'_, '_, M>,
+    counts: Counts,
+    one: Instr,
+) -> Result<Quick, AllocError>
+    requires fixed { IsFixed (program_of fixed.now) fixed.now }
+    requires lasting { IsLasting (lasting_by fixed.now) }
+    requires here { IsQuickRef one }
+    requires fetches { Fetches (program_of fixed.now) fixed.now frames.old.newest one }
+    requires stand { Stand (length fixed.now.marks.now) (all frames.old) }
+    requires built { AreBuilt heap.old.objects }
+    requires celled { AreCelled fixed.now.shapes.now heap.old.objects }
+    requires things { HasThings counts }
+    ensures { IfOk result (λ quick. Hastens fixed.now counts frames.old heap.old quick frames.new heap.new) }
+{
+    step_laws::<M>();
+    behind_laws::<M>();
+    let x = Lasting {
+        ready: fixed.ready,
+        shapes: fixed.shapes,
+        ancestors: fixed.ancestors,
+    };
+    let way = jrefs::run(alloc, frames, heap, &x, counts, one)?;
+    Ok(quick_of(way))
+}
+
+/// A step of a thread, whose newest frame stands at this instruction, if it is quick to make.
+#[inline]
+fn hasten_at<M: Copy>(
+    alloc: Global,
+    frames: &mut Frames<M>,
+    heap: &mut Heap,
+    fixed: &Fixed<'_, '_, M>,
+    counts: Counts,
+    one: Instr,
+) -> Result<Quick, AllocError>
+    requires fixed { IsFixed (program_of fixed.now) fixed.now }
+    requires lasting { IsLasting (lasting_by fixed.now) }
+    requires fetches { Fetches (program_of fixed.now) fixed.now frames.old.newest one }
+    requires stand { AreStanding (length fixed.now.marks.now) frames.old }
+    requires built { AreBuilt heap.old.objects }
+    requires celled { AreCelled fixed.now.shapes.now heap.old.objects }
+    requires things { HasThings counts }
+    ensures { IfOk result (λ quick. Hastens fixed.now counts frames.old heap.old quick frames.new heap.new) }
+{
+    match haste_of(one) {
+        Haste::Row => hasten_row(alloc, frames, heap, fixed, counts, one),
+        Haste::Reference => hasten_reference(alloc, frames, heap, fixed, counts, one),
+        Haste::None => Ok(Quick::Left),
+    }
+}
+
+/// Steps that were made, one after the other, each quick to make.
+#[derive(Clone, Copy, Debug, PartialEq, Eq)]
+pub struct Hasty {
+    /// So many went on and told nothing.
+    pub steps: u64,
+    /// Behind them there is no step.
+    pub stuck: bool,
+}
+
+/// At most so many steps of a thread within the method of its newest frame, as long as they are quick to make.
+fn hasten_within<M: Copy>(
+    alloc: Global,
+    frames: &mut Frames<M>,
+    heap: &mut Heap,
+    fixed: &Fixed<'_, '_, M>,
+    counts: Counts,
+    row: MethodRow,
+    most: u64,
+) -> Result<Hasty, AllocError>
+    requires fixed { IsFixed (program_of fixed.now) fixed.now }
+    requires lasting { IsLasting (lasting_by fixed.now) }
+    requires row { IsRow fixed.now.ready.now row }
+    requires method { row.id ≡ frames.old.newest.method }
+    requires stand { AreStanding (length fixed.now.marks.now) frames.old }
+    requires built { AreBuilt heap.old.objects }
+    requires celled { AreCelled fixed.now.shapes.now heap.old.objects }
+    requires things { HasThings counts }
+    ensures { IfOk result (λ made. WereMade fixed.now counts most frames.old heap.old made frames.new heap.new) }
+{
+    let mut steps = 0u64;
+    while steps < most {
+        let one = fixed.ready.fetch(&row, frames.place());
+        match hasten_at(alloc, frames, heap, fixed, counts, one)? {
+            Quick::Went => steps += 1,
+            Quick::Stuck => return Ok(Hasty { steps, stuck: true }),
+            Quick::Left => {
+                return Ok(Hasty {
+                    steps,
+                    stuck: false,
+                });
+            }
+        }
+    }
+    Ok(Hasty {
+        steps,
+        stuck: false,
+    })
+}
+
+/// None was made.
+const NONE: Hasty = Hasty {
+    steps: 0,
+    stuck: false,
+};
+
+/// The same of a thread that has frames.
+fn hasten_frames<M: Copy>(
+    alloc: Global,
+    frames: &mut Frames<M>,
+    heap: &mut Heap,
+    fixed: &Fixed<'_, '_, M>,
+    counts: Counts,
+    most: u64,
+) -> Result<Hasty, AllocError>
+    requires fixed { IsFixed (program_of fixed.now) fixed.now }
+    requires lasting { IsLasting (lasting_by fixed.now) }
+    requires stand { AreStanding (length fixed.now.marks.now) frames.old }
+    requires built { AreBuilt heap.old.objects }
+    requires celled { AreCelled fixed.now.shapes.now heap.old.objects }
+    requires things { HasThings counts }
+    ensures { IfOk result (λ made. WereMade fixed.now counts most frames.old heap.old made frames.new heap.new) }
+{
+    match fixed.ready.row_of(frames.method()) {
+        None => Ok(NONE),
+        Some(row) => hasten_within(alloc, frames, heap, fixed, counts, row, most),
+    }
+}
+
+/// At most so many steps of the running thread, as long as they are quick to make: they go on and tell nothing. The first that isn't is
+/// left to be made. After an error nothing is said of the machine.
+pub fn hasten<M: Copy>(
+    alloc: Global,
+    m: &mut Machine<'_, '_, M>,
+    most: u64,
+) -> Result<Hasty, AllocError>
+    requires ready { IsReady m.old }
+    requires rules { HasRules m.old }
+    ensures tries { IfOk result (λ made. Tries most m.old made m.new) }
+    ensures fixed { OnOk result (StaysFixed m.old m.new) }
+{
+    guest_laws::<M>();
+    alike_laws::<M>();
+    linked(m);
+    let counts = kept_counts(m);
+    match &mut m.guests.running.frames {
+        Some(frames) => hasten_frames(alloc, frames, &mut m.heap, &m.fixed, counts, most),
+        None => Ok(NONE),
+    }
+}
