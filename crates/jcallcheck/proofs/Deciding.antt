@@ -80,15 +80,19 @@ module _ {E : Type 0} (m : Machine E) (f : Framed E) (call : LibCall) (count : �
   asked_is one is =
       finds.asked ∙ ap (option_map (ask_by c.whom)) (of_checked E (here m f) (store_of m) c.operand ∙ of_asked E (here m f) (store_of m) c.operand one is)
 
+  -- a permission that is found is asked for
+  pub asks_it : (one : Asked) (asked : perms.Permission) → Asks E (store_of m) c.operand one → held_as one ≡ Some asked
+      → asked_of m f call count ≡ Some (ask_by c.whom asked)
+  asks_it one asked is held = asked_is one is ∙ ap (option_map (ask_by c.whom)) held
+
   -- what is asked for was given by whoever is asked, where that is so of what the call asks
   pub known_ask : {M K : Type 0} (kept : ℕ → Option K) (marks : E → Option M) (one : Asked) (asked : perms.Permission) → Asks E (store_of m) c.operand one
       → held_as one ≡ Some asked → AsksKnown kept marks m (asked_of m f call count) → IsKnownIn kept marks (state_of m) (ask_by c.whom asked)
-  known_ask kept marks one asked is held known = known (ask_by c.whom asked) (asked_is one is ∙ ap (option_map (ask_by c.whom)) held)
+  known_ask kept marks one asked is held known = known (ask_by c.whom asked) (asks_it one asked is held)
 
   -- where a permission is found, something is asked
   pub asks_some : (one : Asked) (asked : perms.Permission) → Asks E (store_of m) c.operand one → held_as one ≡ Some asked → asked_of m f call count ≡ None → ⊥
-  asks_some one asked is held none =
-      let e : Some (ask_by c.whom asked) ≡ None = sym (ap (option_map (ask_by c.whom)) held) ∙ sym (asked_is one is) ∙ none in cc
+  asks_some one asked is held none = let e : Some (ask_by c.whom asked) ≡ None = sym (asks_it one asked is held) ∙ none in cc
 
   abbrev verdict : Rules ℕ E → perms.Permission → Verdict
   verdict r one = verdict_by r (entries r m.calls m.plan.now (state_of m) (all f)) m.guests.running.inherited c.whom one

@@ -1,4 +1,4 @@
-ghost use Rattle.std.specs.Prelude.{◌≡◌, IfOk, reverse};
+ghost use Rattle.std.specs.Prelude.{◌≡◌, IfOk, OnOk};
 ghost use Rattle.jmachine.specs.Asked.{Decided, carried};
 ghost use Rattle.jguard.specs.Standing.{AnswersFor, IsKnownIn, Keeps};
 ghost use Rattle.jcore.specs.Machines.{state_of};
@@ -11,16 +11,6 @@ use jguard::{Guard, ask_check, ask_kept_check};
 use jperm::Permission;
 use std::alloc::{AllocError, Global};
 
-/// What the frames of the running thread carry, the oldest first.
-fn marks_of<M: Copy>(alloc: Global, m: &Machine<'_, '_, M>) -> Result<Vec<M>, AllocError>
-    ensures { IfOk result (λ marks. reverse marks.items ≡ carried (state_of m.now)) }
-{
-    match &m.guests.running.frames {
-        Some(frames) => frames.marks(alloc),
-        None => Ok(Vec::new(alloc)),
-    }
-}
-
 /// Asks whether a permission is granted.
 pub(crate) fn ask<G: Guard>(
     alloc: Global,
@@ -32,19 +22,20 @@ pub(crate) fn ask<G: Guard>(
     requires { IsKnownIn (G.kept guard.old) (G.entry guard.old) (state_of m.now) (ask_by whom asked.now) }
     ensures answer { IfOk result (λ v. AnswersFor (G.kept guard.old) (G.kept guard.new) (G.entry guard.old) (G.entry guard.new) (G.rules guard.old)
         (ask_by whom asked.now) (carried (state_of m.now)) m.now.guests.running.inherited (Decided v)) }
+    ensures once { OnOk result (G.asked guard.old (ask_by whom asked.now) guard.new) }
     ensures rules { G.rules guard.new ≡ G.rules guard.old }
     ensures keeps { Keeps (G.kept guard.old) (G.kept guard.new) }
     ensures marks { Keeps (G.entry guard.old) (G.entry guard.new) }
 {
-    let marks = marks_of(alloc, m)?;
+    let marks = m.marks();
     let inherited = m.guests.running.inherited;
     match whom {
         Whom::Thread(ctx) => {
-            let verdict = ask_check(alloc, guard, asked, ctx, marks.as_slice(), inherited)?;
+            let verdict = ask_check(alloc, guard, asked, ctx, marks, inherited)?;
             Ok(verdict)
         }
         Whom::Kept(number) => {
-            let verdict = ask_kept_check(alloc, guard, asked, number, marks.as_slice(), inherited)?;
+            let verdict = ask_kept_check(alloc, guard, asked, number, marks, inherited)?;
             Ok(verdict)
         }
     }

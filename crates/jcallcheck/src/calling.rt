@@ -1,6 +1,6 @@
 ghost use Rattle.std.specs.Prelude.{◌≡◌, Some, None, IfOk, OnOk};
 ghost use Rattle.jlib.specs.declared.calls.LibCall.TheVariants as calls;
-ghost use Rattle.jguard.specs.Standing.{Keeps};
+ghost use Rattle.jguard.specs.Standing.{AskedOnce, Keeps};
 ghost use Rattle.jstate.specs.Framed.{Framed};
 ghost use Rattle.jcore.specs.Answering.{Answered, AsksKnown, Calling, asked_of, outcome_of};
 ghost use Rattle.jcore.specs.Comings.{GoesOn};
@@ -51,6 +51,8 @@ fn check_for<G: Guard>(
     ensures keeps { Keeps (G.kept guard.old) (G.kept guard.new) }
     ensures marks { Keeps (G.entry guard.old) (G.entry guard.new) }
     ensures quiet { (f : Framed G.Mark) → m.old.guests.running.frames ≡ Some f → asked_of m.old f call count ≡ None → guard.new ≡ guard.old }
+    ensures once { OnOk result ((f : Framed G.Mark) → m.old.guests.running.frames ≡ Some f
+        → AskedOnce G.asked guard.old guard.new (asked_of m.old f call count)) }
 {
     check_laws::<G::Mark>();
     match asks_for::<G::Mark>(&m.heap, m.permissions.as_slice(), wanted.operand) {
@@ -89,6 +91,8 @@ pub fn call_check<G: Guard>(
     ensures keeps { Keeps (G.kept guard.old) (G.kept guard.new) }
     ensures marks { Keeps (G.entry guard.old) (G.entry guard.new) }
     ensures quiet { (f : Framed G.Mark) → m.old.guests.running.frames ≡ Some f → asked_of m.old f call count ≡ None → guard.new ≡ guard.old }
+    ensures once { OnOk result ((f : Framed G.Mark) → m.old.guests.running.frames ≡ Some f
+        → AskedOnce G.asked guard.old guard.new (asked_of m.old f call count)) }
 {
     check_laws::<G::Mark>();
     match checked_by(m, call, count) {
@@ -119,6 +123,8 @@ pub fn call_kept_check<G: Guard>(
     ensures keeps { Keeps (G.kept guard.old) (G.kept guard.new) }
     ensures marks { Keeps (G.entry guard.old) (G.entry guard.new) }
     ensures quiet { (f : Framed G.Mark) → m.old.guests.running.frames ≡ Some f → asked_of m.old f calls.ContextCheck count ≡ None → guard.new ≡ guard.old }
+    ensures once { OnOk result ((f : Framed G.Mark) → m.old.guests.running.frames ≡ Some f
+        → AskedOnce G.asked guard.old guard.new (asked_of m.old f calls.ContextCheck count)) }
 {
     check_laws::<G::Mark>();
     match kept_check_of(m, count) {

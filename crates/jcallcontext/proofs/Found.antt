@@ -38,7 +38,7 @@ use Rattle.jcontexts.specs.Entering.{EntersWith, SnapshotsWith, snapshot_call}
 use Rattle.jcontexts.specs.Privileging.{FindsBy, run_on, wanted_asks, wanted_row}
 use Rattle.jcontexts.specs.Requests.{call_of}
 use Rattle.jcore.specs.declared.machine.Machine.{Machine}
-use Rattle.jcore.specs.Answering.{Calling}
+use Rattle.jcore.specs.Answering.{Calling, asked_of}
 use Rattle.jcore.specs.Comings.{any}
 use Rattle.jcore.specs.Machines.{state_of, store_of, things_of}
 use Rattle.jcallcontext.specs.Finding.{ActionTarget, FoundEntering, FoundPrivilege, FoundSnapshot, RunTarget, is_full, privilege_of}
@@ -158,20 +158,31 @@ within_as {E} classes t u is = subst (λ (x : Target E). TargetWithin classes x)
 pub wanted_as : {E : Type 0} (m : Machine E) (call : LibCall) (count : ℕ) (w v : Privileging) → w ≡ v → FoundPrivilege m call count w → FoundPrivilege m call count v
 wanted_as m call count w v is = subst (λ (x : Privileging). FoundPrivilege m call count x) is
 
+-- what a call of doPrivileged asks, by what a call of the action's `run` comes to
+module _ {M : Type 0} (m : Machine M) (call : LibCall) (count : ℕ) (w : Wanted) (entry_of : ℕ → M) (found : FoundPrivilege m call count (wants.Asks w))
+    (marks : m.fixed.marks.now ≡ marks_of entry_of m.calls) where
+  pub stuck_silent : RunTarget m w.action ways.Stuck → (f : Framed M) → m.guests.running.frames ≡ Some f → asked_of m f call count ≡ None
+  stuck_silent on f runs = (stuck_is m call count w found f runs entry_of marks (on f runs)).asked
+
+  pub fails_silent : (class : ThrownClass) → RunTarget m w.action (ways.Fails class) → (f : Framed M) → m.guests.running.frames ≡ Some f → asked_of m f call count ≡ None
+  fails_silent class on f runs = (fails_is m call count w found f runs entry_of marks class (on f runs)).asked
+
+  pub privilege_asked : (c : Callee M) → RunTarget m w.action (ways.Pushes c) → (f : Framed M) → m.guests.running.frames ≡ Some f
+      → asked_of m f call count ≡ Some (privilege_of w)
+  privilege_asked c on f runs = (pushes_is m call count w found f runs entry_of marks c (on f runs)).asked
+
 -- what is asked was given by whoever is asked
 pub known_privilege : {M K E : Type 0} (kept : ℕ → Option K) (entry : M → Option E) (m : Machine M) (call : LibCall) (count : ℕ) (w : Wanted) (entry_of : ℕ → M) (c : Callee M)
     → FoundPrivilege m call count (wants.Asks w) → m.fixed.marks.now ≡ marks_of entry_of m.calls → RunTarget m w.action (ways.Pushes c) → Calling m count
     → CallKnown kept entry m call count → IsKnownIn kept entry (state_of m) (privilege_of w)
 known_privilege kept entry m call count w entry_of c found marks on calling known =
-    let f = calling.frames in
-    let runs = calling.runs in
-    known f runs (privilege_of w) (pushes_is m call count w found f runs entry_of marks c (on f runs)).asked
+    known calling.frames calling.runs (privilege_of w) (privilege_asked m call count w entry_of found marks c on calling.frames calling.runs)
 
 -- a privilege is asked for
 pub privilege_quiet : {M S : Type 0} (m : Machine M) (call : LibCall) (count : ℕ) (old new : S) (w : Wanted) (entry_of : ℕ → M) (c : Callee M)
     → FoundPrivilege m call count (wants.Asks w) → m.fixed.marks.now ≡ marks_of entry_of m.calls → RunTarget m w.action (ways.Pushes c) → CallQuiet m call count old new
 privilege_quiet m call count old new w entry_of c found marks on =
-    some_quiet m call count (privilege_of w) old new (λ f runs. (pushes_is m call count w found f runs entry_of marks c (on f runs)).asked)
+    some_quiet m call count (privilege_of w) old new (privilege_asked m call count w entry_of found marks c on)
 
 -- ---- what a call of doPrivileged is answered
 

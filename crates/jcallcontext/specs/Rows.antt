@@ -8,6 +8,7 @@ use Rattle.jmachine.specs.Doing.{run}
 use Rattle.jmachine.specs.Security.{Rules}
 use Rattle.jmachine.specs.Sites.{Site}
 use Rattle.jmachine.specs.Steps.{entries, own_fields, site}
+use Rattle.jguard.specs.Standing.{AskedOnce}
 use Rattle.jrun.specs.declared.stepping.Stepped.{Stepped}
 use Rattle.jstate.specs.Framed.{Framed, all}
 use Rattle.jcalls.specs.Calling.{stepped}
@@ -57,3 +58,7 @@ CallAnswered {M} old new old_marks new_marks rules m call count came n = (f : Fr
 -- Where the call asks nothing, whoever is asked is as before.
 abbrev pub CallQuiet : {M S : Type 0} → Machine M → LibCall → (count : ℕ) → (old new : S) → Type 0
 CallQuiet {M} m call count old new = (f : Framed M) → m.guests.running.frames ≡ Some f → asked_of m f call count ≡ None → new ≡ old
+
+-- Whoever is asked was asked once what the call asks, if it asks anything, by what an ask makes of whoever is asked.
+abbrev pub CallOnce : {M S : Type 0} → Machine M → LibCall → (count : ℕ) → (S → Ask ℕ → S → Type 0) → (old new : S) → Type 0
+CallOnce {M} m call count asked old new = (f : Framed M) → m.guests.running.frames ≡ Some f → AskedOnce asked old new (asked_of m f call count)

@@ -1,4 +1,4 @@
-ghost use Rattle.std.specs.Prelude.{◌≡◌, IfOk, reverse};
+ghost use Rattle.std.specs.Prelude.{◌≡◌, IfOk, OnOk};
 ghost use Rattle.std.specs.Option.{option_copied};
 ghost use Rattle.jmachine.specs.Asked.{Allowed, Entered, Enters, Kept, Snapshots, carried};
 ghost use Rattle.jguard.specs.Standing.{AnswersFor, IsKnownIn, Keeps};
@@ -12,16 +12,6 @@ use jguard::{Guard, Marked, ask_enter, ask_privilege, ask_snapshot};
 use jperm::Permission;
 use std::alloc::{AllocError, Global};
 
-/// What the frames of the running thread carry, the oldest first.
-fn marks_carried<M: Copy>(alloc: Global, m: &Machine<'_, '_, M>) -> Result<Vec<M>, AllocError>
-    ensures { IfOk result (λ marks. reverse marks.items ≡ carried (state_of m.now)) }
-{
-    match &m.guests.running.frames {
-        Some(frames) => frames.marks(alloc),
-        None => Ok(Vec::new(alloc)),
-    }
-}
-
 /// The number of what getContext keeps in the running thread.
 pub(crate) fn ask_kept<G: Guard>(
     alloc: Global,
@@ -32,13 +22,14 @@ pub(crate) fn ask_kept<G: Guard>(
     requires known { IsKnownIn (G.kept guard.old) (G.entry guard.old) (state_of m.now) (Snapshots ctx) }
     ensures answer { IfOk result (λ n. AnswersFor (G.kept guard.old) (G.kept guard.new) (G.entry guard.old) (G.entry guard.new) (G.rules guard.old)
         (Snapshots ctx) (carried (state_of m.now)) m.now.guests.running.inherited (Kept n)) }
+    ensures once { OnOk result (G.asked guard.old (Snapshots ctx) guard.new) }
     ensures rules { G.rules guard.new ≡ G.rules guard.old }
     ensures keeps { Keeps (G.kept guard.old) (G.kept guard.new) }
     ensures marks { Keeps (G.entry guard.old) (G.entry guard.new) }
 {
-    let marks = marks_carried(alloc, m)?;
+    let marks = m.marks();
     let inherited = m.guests.running.inherited;
-    ask_snapshot(alloc, guard, ctx, marks.as_slice(), inherited)
+    ask_snapshot(alloc, guard, ctx, marks, inherited)
 }
 
 /// The number of the context of a method of a domain that the running thread enters.
@@ -51,20 +42,14 @@ pub(crate) fn ask_entered<G: Guard>(
     requires known { IsKnownIn (G.kept guard.old) (G.entry guard.old) (state_of m.now) (Enters one.ctx one.domain) }
     ensures answer { IfOk result (λ n. AnswersFor (G.kept guard.old) (G.kept guard.new) (G.entry guard.old) (G.entry guard.new) (G.rules guard.old)
         (Enters one.ctx one.domain) (carried (state_of m.now)) m.now.guests.running.inherited (Entered n)) }
+    ensures once { OnOk result (G.asked guard.old (Enters one.ctx one.domain) guard.new) }
     ensures rules { G.rules guard.new ≡ G.rules guard.old }
     ensures keeps { Keeps (G.kept guard.old) (G.kept guard.new) }
     ensures marks { Keeps (G.entry guard.old) (G.entry guard.new) }
 {
-    let marks = marks_carried(alloc, m)?;
+    let marks = m.marks();
     let inherited = m.guests.running.inherited;
-    ask_enter(
-        alloc,
-        guard,
-        one.ctx,
-        one.domain,
-        marks.as_slice(),
-        inherited,
-    )
+    ask_enter(alloc, guard, one.ctx, one.domain, marks, inherited)
 }
 
 /// Limits as a slice, where there are any.
@@ -87,11 +72,12 @@ pub(crate) fn ask_allowed<G: Guard>(
     requires known { IsKnownIn (G.kept guard.old) (G.entry guard.old) (state_of m.now) (privilege_of wanted.now) }
     ensures answer { IfOk result (λ x. AnswersFor (G.kept guard.old) (G.kept guard.new) (G.entry guard.old) (G.entry guard.new) (G.rules guard.old)
         (privilege_of wanted.now) (carried (state_of m.now)) m.now.guests.running.inherited (Allowed (record { caller = x.caller; context = x.ctx }))) }
+    ensures once { OnOk result (G.asked guard.old (privilege_of wanted.now) guard.new) }
     ensures rules { G.rules guard.new ≡ G.rules guard.old }
     ensures keeps { Keeps (G.kept guard.old) (G.kept guard.new) }
     ensures marks { Keeps (G.entry guard.old) (G.entry guard.new) }
 {
-    let marks = marks_carried(alloc, m)?;
+    let marks = m.marks();
     let inherited = m.guests.running.inherited;
     let limits = limits_of(&wanted.limits);
     ask_privilege(
@@ -101,7 +87,7 @@ pub(crate) fn ask_allowed<G: Guard>(
         wanted.ctx,
         wanted.given,
         limits,
-        marks.as_slice(),
+        marks,
         inherited,
     )
 }

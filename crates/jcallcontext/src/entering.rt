@@ -7,7 +7,7 @@ ghost use Rattle.jguard.specs.Standing.{Keeps};
 ghost use Rattle.jcore.specs.Answering.{Calling};
 ghost use Rattle.jcore.specs.Comings.{GoesOn, any};
 ghost use Rattle.jcore.specs.Machines.{StaysFixed, store_of};
-ghost use Rattle.jcallcontext.specs.Rows.{CallAnswered, CallKnown, CallQuiet, ComesBy};
+ghost use Rattle.jcallcontext.specs.Rows.{CallAnswered, CallKnown, CallOnce, CallQuiet, ComesBy};
 
 use crate::asking::ask_entered;
 use crate::finding::entering_found;
@@ -60,6 +60,7 @@ pub fn call_enter<G: Guard>(
     ensures keeps { Keeps (G.kept guard.old) (G.kept guard.new) }
     ensures marks { Keeps (G.entry guard.old) (G.entry guard.new) }
     ensures quiet { CallQuiet m.old (calls.Rt rt.Enter) count guard.old guard.new }
+    ensures once { OnOk result (CallOnce m.old (calls.Rt rt.Enter) count G.asked guard.old guard.new) }
 {
     check_laws::<G::Mark>();
     match entering_found(m, count) {

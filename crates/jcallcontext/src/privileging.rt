@@ -10,7 +10,7 @@ ghost use Rattle.jcore.specs.Answering.{Calling};
 ghost use Rattle.jcore.specs.Comings.{GoesOn};
 ghost use Rattle.jcore.specs.Machines.{StaysFixed, classes_of};
 ghost use Rattle.jcallcontext.specs.Finding.{FoundPrivilege, IsPrivileged, RunTarget};
-ghost use Rattle.jcallcontext.specs.Rows.{CallAnswered, CallKnown, CallQuiet, ComesBy};
+ghost use Rattle.jcallcontext.specs.Rows.{CallAnswered, CallKnown, CallOnce, CallQuiet, ComesBy};
 
 use crate::asking::ask_allowed;
 use crate::failing::fail_call;
@@ -81,6 +81,7 @@ fn act_by<G: Guard>(
     ensures keeps { Keeps (G.kept guard.old) (G.kept guard.new) }
     ensures marks { Keeps (G.entry guard.old) (G.entry guard.new) }
     ensures quiet { CallQuiet m.old call count guard.old guard.new }
+    ensures once { OnOk result (CallOnce m.old call count G.asked guard.old guard.new) }
 {
     check_laws::<G::Mark>();
     match target {
@@ -118,6 +119,7 @@ fn run_wanted<G: Guard>(
     ensures keeps { Keeps (G.kept guard.old) (G.kept guard.new) }
     ensures marks { Keeps (G.entry guard.old) (G.entry guard.new) }
     ensures quiet { CallQuiet m.old call count guard.old guard.new }
+    ensures once { OnOk result (CallOnce m.old call count G.asked guard.old guard.new) }
 {
     let full = has_all(m, count);
     let target = action_target(m, wanted.action, full);
@@ -146,6 +148,7 @@ pub fn call_privileged<G: Guard>(
     ensures keeps { Keeps (G.kept guard.old) (G.kept guard.new) }
     ensures marks { Keeps (G.entry guard.old) (G.entry guard.new) }
     ensures quiet { CallQuiet m.old call count guard.old guard.new }
+    ensures once { OnOk result (CallOnce m.old call count G.asked guard.old guard.new) }
 {
     check_laws::<G::Mark>();
     let found = privilege_found(alloc, m, call, count)?;

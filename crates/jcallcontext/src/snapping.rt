@@ -5,7 +5,7 @@ ghost use Rattle.jcore.specs.Answering.{Calling};
 ghost use Rattle.jcore.specs.Comings.{GoesOn, any};
 ghost use Rattle.jcore.specs.Machines.{StaysFixed, store_of};
 ghost use Rattle.jcallcontext.specs.Finding.{IsSnapshot};
-ghost use Rattle.jcallcontext.specs.Rows.{CallAnswered, CallKnown, CallQuiet, ComesBy};
+ghost use Rattle.jcallcontext.specs.Rows.{CallAnswered, CallKnown, CallOnce, CallQuiet, ComesBy};
 
 use crate::asking::ask_kept;
 use crate::finding::snapshot_found;
@@ -64,6 +64,7 @@ pub fn call_snapshot<G: Guard>(
     ensures keeps { Keeps (G.kept guard.old) (G.kept guard.new) }
     ensures marks { Keeps (G.entry guard.old) (G.entry guard.new) }
     ensures quiet { CallQuiet m.old call count guard.old guard.new }
+    ensures once { OnOk result (CallOnce m.old call count G.asked guard.old guard.new) }
 {
     check_laws::<G::Mark>();
     match snapshot_found(m, call, count) {

@@ -127,14 +127,18 @@ module _ {E : Type 0} (m : Machine E) (side : Side) (count : ℕ) where
 
   -- ---- there is no step
 
+  pub init_silent : InitAsksNothing → Named side count m.guests m.heap None → (f : Framed E) → m.guests.running.frames ≡ Some f
+      → asked_of m f (calls.Thread call) count ≡ None
+  init_silent nothing none f frames =
+      nothing m.side side (asking_site m.side m.calls m.plan.now (state_of m) f.newest f.below) m.calls m.fixed.shapes.now (things_of m) m.constants.constants m.heap
+      (take count f.newest.operands) (none f frames)
+
   pub stuck_answered : {K F : Type 0} (old new : ℕ → Option K) (old_marks new_marks : E → Option F) (rules : Rules K F) → InitAsksNothing → InitIsStuck E
       → Named side count m.guests m.heap None → (f : Framed E) → m.guests.running.frames ≡ Some f
       → Answered old new old_marks new_marks rules m (asked_of m f (calls.Thread call) count) (outcome_of m f (calls.Thread call) count) stepped.Stuck m
   stuck_answered {K} {F} old new old_marks new_marks rules nothing stuck none f frames =
       let s = state_of m in
-      let asked : asked_of m f (calls.Thread call) count ≡ None =
-      nothing m.side side (asking_site m.side m.calls m.plan.now s f.newest f.below) m.calls m.fixed.shapes.now (things_of m) m.constants.constants m.heap
-      (take count f.newest.operands) (none f frames) in
+      let asked = init_silent nothing none f frames in
       record {
         given = Kept 0;
         answers = λ ask e. absurd (let a = asked in let b = e in cc);

@@ -1,6 +1,6 @@
 ghost use Rattle.std.specs.Prelude.{◌≡◌, IfOk, None, OnOk, Some};
 ghost use Rattle.jlib.specs.declared.calls.LibCall.TheVariants as calls;
-ghost use Rattle.jguard.specs.Standing.{Keeps};
+ghost use Rattle.jguard.specs.Standing.{AskedOnce, Keeps};
 ghost use Rattle.jstate.specs.Framed.{Framed};
 ghost use Rattle.jcore.specs.Answering.{Answered, AsksKnown, Calling, asked_of, outcome_of};
 ghost use Rattle.jcore.specs.Comings.{GoesOn};
@@ -36,6 +36,8 @@ pub fn call_thread<G: Guard>(
     ensures keeps { Keeps (G.kept guard.old) (G.kept guard.new) }
     ensures marks { Keeps (G.entry guard.old) (G.entry guard.new) }
     ensures quiet { (f : Framed G.Mark) → m.old.guests.running.frames ≡ Some f → asked_of m.old f (calls.Thread call) count ≡ None → guard.new ≡ guard.old }
+    ensures once { OnOk result ((f : Framed G.Mark) → m.old.guests.running.frames ≡ Some f
+        → AskedOnce G.asked guard.old guard.new (asked_of m.old f (calls.Thread call) count)) }
 {
     init_laws::<G::Mark>();
     match call {

@@ -1,8 +1,8 @@
-ghost use Rattle.std.specs.Prelude.{◌≡◌, IfOk, None, OnOk, Some, reverse};
+ghost use Rattle.std.specs.Prelude.{◌≡◌, IfOk, None, OnOk, Some};
 ghost use Rattle.jlib.specs.declared.calls.LibCall.TheVariants as calls;
 ghost use Rattle.jlib.specs.declared.calls.ThreadCall.TheVariants as threads;
 ghost use Rattle.jmachine.specs.Asked.{Inherits, Kept, carried};
-ghost use Rattle.jguard.specs.Standing.{AnswersFor, IsKnownIn, Keeps};
+ghost use Rattle.jguard.specs.Standing.{AnswersFor, AskedOnce, IsKnownIn, Keeps};
 ghost use Rattle.jstate.specs.Framed.{Framed};
 ghost use Rattle.jcore.specs.Answering.{Answered, AsksKnown, Calling, asked_of, outcome_of};
 ghost use Rattle.jcore.specs.Comings.{GoesOn};
@@ -17,16 +17,6 @@ use jrun::Stepped;
 use jthreading::{Given, init_laws, make, named_by};
 use std::alloc::{AllocError, Global};
 
-/// What the frames of the running thread carry, the oldest first.
-fn marks_of<M: Copy>(alloc: Global, m: &Machine<'_, '_, M>) -> Result<Vec<M>, AllocError>
-    ensures { IfOk result (λ marks. reverse marks.items ≡ carried (state_of m.now)) }
-{
-    match &m.guests.running.frames {
-        Some(frames) => frames.marks(alloc),
-        None => Ok(Vec::new(alloc)),
-    }
-}
-
 /// Asks what a thread keeps that is made with a context.
 fn ask<G: Guard>(
     alloc: Global,
@@ -37,18 +27,13 @@ fn ask<G: Guard>(
     requires known { IsKnownIn (G.kept guard.old) (G.entry guard.old) (state_of m.now) (Inherits context) }
     ensures answer { IfOk result (λ n. AnswersFor (G.kept guard.old) (G.kept guard.new) (G.entry guard.old) (G.entry guard.new) (G.rules guard.old)
         (Inherits context) (carried (state_of m.now)) m.now.guests.running.inherited (Kept n)) }
+    ensures once { OnOk result (G.asked guard.old (Inherits context) guard.new) }
     ensures rules { G.rules guard.new ≡ G.rules guard.old }
     ensures keeps { Keeps (G.kept guard.old) (G.kept guard.new) }
     ensures marks { Keeps (G.entry guard.old) (G.entry guard.new) }
 {
-    let marks = marks_of(alloc, m)?;
-    ask_inherit(
-        alloc,
-        guard,
-        context,
-        marks.as_slice(),
-        m.guests.running.inherited,
-    )
+    let marks = m.marks();
+    ask_inherit(alloc, guard, context, marks, m.guests.running.inherited)
 }
 
 /// Makes a thread of what the constructor is given, which keeps this.
@@ -97,6 +82,8 @@ pub(crate) fn call_init<G: Guard>(
     ensures keeps { Keeps (G.kept guard.old) (G.kept guard.new) }
     ensures marks { Keeps (G.entry guard.old) (G.entry guard.new) }
     ensures quiet { (f : Framed G.Mark) → m.old.guests.running.frames ≡ Some f → asked_of m.old f (calls.Thread (threads.Init side)) count ≡ None → guard.new ≡ guard.old }
+    ensures once { OnOk result ((f : Framed G.Mark) → m.old.guests.running.frames ≡ Some f
+        → AskedOnce G.asked guard.old guard.new (asked_of m.old f (calls.Thread (threads.Init side)) count)) }
 {
     init_laws::<G::Mark>();
     let Some(given) = named_by(&m.guests, &m.heap, side, count) else {

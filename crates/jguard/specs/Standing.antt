@@ -1,5 +1,5 @@
 -- What numbers and marks stand for, and what asks, answers, states and outcomes by numbers stand for.
-use Rattle.std.specs.Prelude.{◌≡◌, List, map, Option, Some, option_map}
+use Rattle.std.specs.Prelude.{◌≡◌, List, map, Option, Some, None, option_map}
 use Rattle.jmachine.specs.Acts.{Outcome, State}
 use Rattle.jmachine.specs.Asked.{Ask, Answer, answer, answer_map, ask_map, carried}
 use Rattle.jmachine.specs.Maps.{outcome_map, state_map}
@@ -57,3 +57,10 @@ abbrev pub AnswersFor : {N M K E : Type 0} → (N → Option K) → (N → Optio
 AnswersFor {N} {M} {K} {E} old new old_marks new_marks rules ask marks inherited given =
     (meant : Ask K) (entries : List E) (below : Option K) → Asks old ask meant → AreThose old_marks marks entries → IsThat old inherited below
     → Answers new new_marks given (answer rules entries below meant)
+
+-- ---- what an ask makes of whoever is asked
+
+-- Whoever is asked was asked this, once, and nothing else became of it; or, where nothing is asked, it is as before.
+abbrev pub AskedOnce : {S N : Type 0} → (S → Ask N → S → Type 0) → S → S → Option (Ask N) → Type 0
+AskedOnce asked old new None = new ≡ old
+AskedOnce asked old new (Some ask) = asked old ask new

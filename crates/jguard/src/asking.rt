@@ -1,4 +1,4 @@
-ghost use Rattle.std.specs.Prelude.{◌≡◌, Some, IfOk, reverse};
+ghost use Rattle.std.specs.Prelude.{◌≡◌, Some, IfOk, OnOk, reverse};
 ghost use Rattle.std.specs.Option.{option_copied};
 ghost use Rattle.jmachine.specs.Asked.{Allowed, Checks, ChecksKept, Decided, Entered, Enters, Inherits, Kept, Privileges, Snapshots};
 ghost use Rattle.jguard.specs.Said.{answer_kind, given_by};
@@ -75,6 +75,7 @@ pub fn ask_check<G: Guard>(
     requires inherited { IsKnown (G.kept guard.old) inherited }
     ensures answer { IfOk result (λ v. AnswersFor (G.kept guard.old) (G.kept guard.new) (G.entry guard.old) (G.entry guard.new) (G.rules guard.old)
         (Checks asked.now ctx) (reverse marks.now) inherited (Decided v)) }
+    ensures once { OnOk result (G.asked guard.old (Checks asked.now ctx) guard.new) }
     ensures rules { G.rules guard.new ≡ G.rules guard.old }
     ensures keeps { Keeps (G.kept guard.old) (G.kept guard.new) }
     ensures marks { Keeps (G.entry guard.old) (G.entry guard.new) }
@@ -96,6 +97,7 @@ pub fn ask_snapshot<G: Guard>(
     requires inherited { IsKnown (G.kept guard.old) inherited }
     ensures answer { IfOk result (λ n. AnswersFor (G.kept guard.old) (G.kept guard.new) (G.entry guard.old) (G.entry guard.new) (G.rules guard.old) (Snapshots ctx)
         (reverse marks.now) inherited (Kept n)) }
+    ensures once { OnOk result (G.asked guard.old (Snapshots ctx) guard.new) }
     ensures rules { G.rules guard.new ≡ G.rules guard.old }
     ensures keeps { Keeps (G.kept guard.old) (G.kept guard.new) }
     ensures marks { Keeps (G.entry guard.old) (G.entry guard.new) }
@@ -118,6 +120,7 @@ pub fn ask_kept_check<G: Guard>(
     requires inherited { IsKnown (G.kept guard.old) inherited }
     ensures answer { IfOk result (λ v. AnswersFor (G.kept guard.old) (G.kept guard.new) (G.entry guard.old) (G.entry guard.new) (G.rules guard.old)
         (ChecksKept asked.now kept) (reverse marks.now) inherited (Decided v)) }
+    ensures once { OnOk result (G.asked guard.old (ChecksKept asked.now kept) guard.new) }
     ensures rules { G.rules guard.new ≡ G.rules guard.old }
     ensures keeps { Keeps (G.kept guard.old) (G.kept guard.new) }
     ensures marks { Keeps (G.entry guard.old) (G.entry guard.new) }
@@ -139,6 +142,7 @@ pub fn ask_inherit<G: Guard>(
     requires inherited { IsKnown (G.kept guard.old) inherited }
     ensures answer { IfOk result (λ n. AnswersFor (G.kept guard.old) (G.kept guard.new) (G.entry guard.old) (G.entry guard.new) (G.rules guard.old) (Inherits ctx)
         (reverse marks.now) inherited (Kept n)) }
+    ensures once { OnOk result (G.asked guard.old (Inherits ctx) guard.new) }
     ensures rules { G.rules guard.new ≡ G.rules guard.old }
     ensures keeps { Keeps (G.kept guard.old) (G.kept guard.new) }
     ensures marks { Keeps (G.entry guard.old) (G.entry guard.new) }
@@ -161,6 +165,7 @@ pub fn ask_enter<G: Guard>(
     requires inherited { IsKnown (G.kept guard.old) inherited }
     ensures answer { IfOk result (λ n. AnswersFor (G.kept guard.old) (G.kept guard.new) (G.entry guard.old) (G.entry guard.new) (G.rules guard.old)
         (Enters ctx domain) (reverse marks.now) inherited (Entered n)) }
+    ensures once { OnOk result (G.asked guard.old (Enters ctx domain) guard.new) }
     ensures rules { G.rules guard.new ≡ G.rules guard.old }
     ensures keeps { Keeps (G.kept guard.old) (G.kept guard.new) }
     ensures marks { Keeps (G.entry guard.old) (G.entry guard.new) }
@@ -185,6 +190,7 @@ pub fn ask_privilege<G: Guard>(
     requires inherited { IsKnown (G.kept guard.old) inherited }
     ensures answer { IfOk result (λ m. AnswersFor (G.kept guard.old) (G.kept guard.new) (G.entry guard.old) (G.entry guard.new) (G.rules guard.old)
         (Privileges domain ctx given (option_copied limits.entry)) (reverse marks.now) inherited (Allowed (record { caller = m.caller; context = m.ctx }))) }
+    ensures once { OnOk result (G.asked guard.old (Privileges domain ctx given (option_copied limits.entry)) guard.new) }
     ensures rules { G.rules guard.new ≡ G.rules guard.old }
     ensures keeps { Keeps (G.kept guard.old) (G.kept guard.new) }
     ensures marks { Keeps (G.entry guard.old) (G.entry guard.new) }

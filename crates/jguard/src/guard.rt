@@ -1,5 +1,6 @@
-ghost use Rattle.std.specs.Prelude.{◌≡◌, ℕ, List, Option, Some, IfOk, reverse};
+ghost use Rattle.std.specs.Prelude.{◌≡◌, ℕ, List, Option, Some, IfOk, OnOk, reverse};
 ghost use Rattle.jlib.specs.declared.side.Side.{Side as SideOf};
+ghost use Rattle.jmachine.specs.Asked.{Ask as AskOf};
 ghost use Rattle.jmachine.specs.Security.{Rules};
 ghost use Rattle.jguard.specs.Said.{given_by, said};
 ghost use Rattle.jguard.specs.Standing.{AnswersFor, AreKnown, IsAskKnown, IsKnown, IsThat, Keeps};
@@ -66,6 +67,9 @@ pub trait Guard {
     /// The mark of a method of a domain.
     ghost mark: { ℕ → Self.Mark };
 
+    /// What an ask makes of the guard: how it may be behind the ask, by how it was before. A guard may count asks, or write them down.
+    ghost asked: { Self → AskOf ℕ → Self → Type 0 };
+
     /// The mark of a frame of a method of a domain.
     fn mark_of(&self, domain: u32) -> Self::Mark
         ensures mark { result ≡ mark domain }
@@ -94,6 +98,7 @@ pub trait Guard {
         requires inherited { IsKnown (kept self.old) inherited }
         ensures answer { IfOk result (λ a. AnswersFor (kept self.old) (kept self.new) (entry self.old) (entry self.new) (rules self.old) (said ask.entry)
             (reverse marks.now) inherited (given_by a)) }
+        ensures once { OnOk result (asked self.old (said ask.entry) self.new) }
         ensures rules { rules self.new ≡ rules self.old }
         ensures keeps { Keeps (kept self.old) (kept self.new) }
         ensures marks { Keeps (entry self.old) (entry self.new) };

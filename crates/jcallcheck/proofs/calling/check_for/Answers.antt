@@ -1,7 +1,10 @@
 use Rattle.std.proofs.Common.{◌∙◌, ap, sym, Some}
 use Rattle.jchecks.specs.declared.asking.Asked.TheVariants as asks
 use Rattle.jcore.specs.Machines.{store_of, things_of}
-use Rattle.jcallcheck.proofs.Deciding.{asked_is, asks_as, asks_some, decided, held_as, known_ask, none_row, null_row, quiet, stuck_comes}
+use Rattle.jguard.proofs.Once.{asked_nothing, asked_once}
+use Rattle.jcore.specs.Answering.{asked_of}
+use Rattle.jcallcheck.specs.Finding.{ask_by}
+use Rattle.jcallcheck.proofs.Deciding.{asked_is, asks_as, asks_it, asks_some, decided, held_as, known_ask, none_row, null_row, quiet, stuck_comes}
 use Rattle.jcallcheck.proofs.calling.check_for.Goals as goal
 
 pub ask-requires : goal.ask-requires
@@ -62,3 +65,28 @@ returns-in_ok-done-in-Permission-clause-quiet g c f runs none =
     absurd
     (asks_some m f c.args.call c.args.count c.args.wanted (c.requires.found f runs) c.asks_for.result c.in_ok-asked-in-Permission.asked asks
     (ap held_as c.in-Permission.is ∙ ap (λ x. Some x) (sym c.in_ok-asked-in-Permission.ensures)) none)
+
+pub returns-in-Stuck-clause-once : goal.returns-in-Stuck-clause-once
+returns-in-Stuck-clause-once g c f runs =
+    let m = c.args.m.now in
+    let stuck = asks_as g.row.G-Mark.Denot (store_of m) c.args.wanted.operand c.asks_for.result asks.Stuck c.in-Stuck.is
+    (c.asks_for.ensures m.calls m.fixed.shapes.now (things_of m) m.constants.constants (sym c.as_slice.ensures)) in
+    asked_nothing g.G.Guard.asked c.args.guard.now (asked_of m f c.args.call c.args.count)
+    (asked_is m f c.args.call c.args.count c.args.wanted (c.requires.found f runs) asks.Stuck stuck)
+
+pub returns-in_ok-done-in-Null-clause-once : goal.returns-in_ok-done-in-Null-clause-once
+returns-in_ok-done-in-Null-clause-once g c f runs =
+    let m = c.args.m.now in
+    let null = asks_as g.row.G-Mark.Denot (store_of m) c.args.wanted.operand c.asks_for.result asks.Null c.in-Null.is
+    (c.asks_for.ensures m.calls m.fixed.shapes.now (things_of m) m.constants.constants (sym c.as_slice.ensures)) in
+    asked_nothing g.G.Guard.asked c.args.guard.now (asked_of m f c.args.call c.args.count)
+    (asked_is m f c.args.call c.args.count c.args.wanted (c.requires.found f runs) asks.Null null)
+
+pub returns-in_ok-done-in-Permission-clause-once : goal.returns-in_ok-done-in-Permission-clause-once
+returns-in_ok-done-in-Permission-clause-once g c f runs =
+    let m = c.args.m.now in
+    let asked = c.in_ok-asked-in-Permission.asked in
+    let asks = c.asks_for.ensures m.calls m.fixed.shapes.now (things_of m) m.constants.constants (sym c.as_slice.ensures) in
+    asked_once g.G.Guard.asked c.args.guard.now (asked_of m f c.args.call c.args.count) c.ask.new.guard (ask_by c.args.wanted.whom asked)
+    (asks_it m f c.args.call c.args.count c.args.wanted (c.requires.found f runs) c.asks_for.result asked asks
+    (ap held_as c.in-Permission.is ∙ ap (λ x. Some x) (sym c.in_ok-asked-in-Permission.ensures))) c.in_ok-verdict-in-Permission.ensures.once

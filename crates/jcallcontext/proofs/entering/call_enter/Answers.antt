@@ -1,6 +1,9 @@
 use Rattle.std.proofs.Common.{None, Some}
 use Rattle.jlib.specs.declared.calls.LibCall.TheVariants as calls
 use Rattle.jlib.specs.declared.calls.RtCall.TheVariants as rt
+use Rattle.jmachine.specs.Asked.{Enters}
+use Rattle.jguard.proofs.Once.{asked_nothing, asked_once}
+use Rattle.jcore.specs.Answering.{asked_of}
 use Rattle.jcallcontext.proofs.Answered.{entering_answered, entering_as, entering_quiet, known_entering, none_answered}
 use Rattle.jcallcontext.proofs.entering.call_enter.Goals as goal
 
@@ -40,3 +43,17 @@ returns-in_ok-came-in-Some-clause-quiet g c =
     let m = c.args.m.now in
     let found = entering_as m c.args.count c.entering_found.result (Some c.in-Some.one) c.in-Some.is c.entering_found.ensures in
     entering_quiet m c.args.count _ _ c.in-Some.one found
+
+pub returns-in-None-clause-once : goal.returns-in-None-clause-once
+returns-in-None-clause-once g c f runs =
+    let m = c.args.m.now in
+    let found = entering_as m c.args.count c.entering_found.result None c.in-None.is c.entering_found.ensures in
+    asked_nothing g.G.Guard.asked c.args.guard.now (asked_of m f (calls.Rt rt.Enter) c.args.count) (found f runs).asked
+
+pub returns-in_ok-came-in-Some-clause-once : goal.returns-in_ok-came-in-Some-clause-once
+returns-in_ok-came-in-Some-clause-once g c f runs =
+    let m = c.args.m.now in
+    let one = c.in-Some.one in
+    let found = entering_as m c.args.count c.entering_found.result (Some one) c.in-Some.is c.entering_found.ensures in
+    asked_once g.G.Guard.asked c.args.guard.now (asked_of m f (calls.Rt rt.Enter) c.args.count) c.ask_entered.new.guard (Enters one.ctx one.domain) (found f runs).asked
+    c.in_ok-number-in-Some.ensures.once

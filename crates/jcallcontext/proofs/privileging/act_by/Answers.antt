@@ -1,6 +1,10 @@
 use Rattle.jinvoke.specs.declared.faces.Target.TheVariants as ways
+use Rattle.jguard.proofs.Once.{asked_nothing, asked_once}
+use Rattle.jcore.specs.Answering.{asked_of}
 use Rattle.jcore.specs.Machines.{classes_of}
-use Rattle.jcallcontext.proofs.Found.{fails_answered, known_privilege, on_as, privilege_quiet, pushes_answered, stuck_answered, within_as}
+use Rattle.jcallcontext.specs.Finding.{privilege_of}
+use Rattle.jcallcontext.proofs.Found.{fails_answered, fails_silent, known_privilege, on_as, privilege_asked, privilege_quiet}
+use Rattle.jcallcontext.proofs.Found.{pushes_answered, stuck_answered, stuck_silent, within_as}
 use Rattle.jcallcontext.proofs.privileging.act_by.Goals as goal
 
 pub returns-in-Stuck-clause-answered : goal.returns-in-Stuck-clause-answered
@@ -52,3 +56,25 @@ returns-clause-quiet g c =
     let m = c.args.m.now in
     privilege_quiet m c.args.call c.args.count _ _ c.args.wanted _ c.in-Pushes.callee c.requires.found c.requires.marks
     (on_as m c.args.wanted.action c.args.target (ways.Pushes c.in-Pushes.callee) c.in-Pushes.is c.requires.target)
+
+pub returns-in-Stuck-clause-once : goal.returns-in-Stuck-clause-once
+returns-in-Stuck-clause-once g c f runs =
+    let m = c.args.m.now in
+    asked_nothing g.G.Guard.asked c.args.guard.now (asked_of m f c.args.call c.args.count)
+    (stuck_silent m c.args.call c.args.count c.args.wanted _ c.requires.found c.requires.marks
+    (on_as m c.args.wanted.action c.args.target ways.Stuck c.in-Stuck.is c.requires.target) f runs)
+
+pub returns-in-Fails-clause-once : goal.returns-in-Fails-clause-once
+returns-in-Fails-clause-once g c f runs =
+    let m = c.args.m.now in
+    asked_nothing g.G.Guard.asked c.args.guard.now (asked_of m f c.args.call c.args.count)
+    (fails_silent m c.args.call c.args.count c.args.wanted _ c.requires.found c.requires.marks c.in-Fails.class
+    (on_as m c.args.wanted.action c.args.target (ways.Fails c.in-Fails.class) c.in-Fails.is c.requires.target) f runs)
+
+pub returns-clause-once : goal.returns-clause-once
+returns-clause-once g c f runs =
+    let m = c.args.m.now in
+    asked_once g.G.Guard.asked c.args.guard.now (asked_of m f c.args.call c.args.count) c.ask_allowed.new.guard (privilege_of c.args.wanted)
+    (privilege_asked m c.args.call c.args.count c.args.wanted _ c.requires.found c.requires.marks c.in-Pushes.callee
+    (on_as m c.args.wanted.action c.args.target (ways.Pushes c.in-Pushes.callee) c.in-Pushes.is c.requires.target) f runs)
+    c.in_ok-marked-in-Pushes.ensures.once

@@ -1,4 +1,6 @@
 use Rattle.jcontexts.specs.declared.wanting.Privileging.TheVariants as wants
+use Rattle.jguard.proofs.Once.{asked_nothing}
+use Rattle.jcore.specs.Answering.{asked_of}
 use Rattle.jcallcontext.proofs.Answered.{none_answered}
 use Rattle.jcallcontext.proofs.Found.{null_answered, wanted_as}
 use Rattle.jcallcontext.proofs.privileging.call_privileged.Goals as goal
@@ -18,3 +20,15 @@ returns-in_ok-came-in-Null-clause-answered g c =
 pub run_wanted-requires-clause-found : goal.run_wanted-requires-clause-found
 run_wanted-requires-clause-found g c =
     wanted_as c.args.m.now c.args.call c.args.count c.in_ok-found.found (wants.Asks c.in-Asks.wanted) c.in-Asks.is c.in_ok-found.ensures
+
+pub returns-in-Stuck-clause-once : goal.returns-in-Stuck-clause-once
+returns-in-Stuck-clause-once g c f runs =
+    let m = c.args.m.now in
+    let found = wanted_as m c.args.call c.args.count c.in_ok-found.found wants.Stuck c.in-Stuck.is c.in_ok-found.ensures in
+    asked_nothing g.G.Guard.asked c.args.guard.now (asked_of m f c.args.call c.args.count) (found f runs).asked
+
+pub returns-in_ok-came-in-Null-clause-once : goal.returns-in_ok-came-in-Null-clause-once
+returns-in_ok-came-in-Null-clause-once g c f runs =
+    let m = c.args.m.now in
+    let found = wanted_as m c.args.call c.args.count c.in_ok-found.found wants.Null c.in-Null.is c.in_ok-found.ensures in
+    asked_nothing g.G.Guard.asked c.args.guard.now (asked_of m f c.args.call c.args.count) (found f runs).asked

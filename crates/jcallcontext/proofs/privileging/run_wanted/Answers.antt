@@ -37,3 +37,6 @@ returns-in_err-came-clause-quiet g c =
 pub returns-clause-quiet : goal.returns-clause-quiet
 returns-clause-quiet g c =
     rw c.action_target-target.ensures.same at c.act_by.ensures.quiet
+
+pub returns-clause-once : goal.returns-clause-once
+returns-clause-once g c = rw c.action_target-target.ensures.same at c.in_ok-came.ensures.once

@@ -1,4 +1,7 @@
 use Rattle.std.proofs.Common.{None, Some}
+use Rattle.jmachine.specs.Asked.{Snapshots}
+use Rattle.jguard.proofs.Once.{asked_nothing, asked_once}
+use Rattle.jcore.specs.Answering.{asked_of}
 use Rattle.jcallcontext.proofs.Answered.{known_snapshot, none_answered, snapshot_answered, snapshot_as, snapshot_quiet}
 use Rattle.jcallcontext.proofs.snapping.call_snapshot.Goals as goal
 
@@ -38,3 +41,16 @@ returns-in_ok-came-in-Some-clause-quiet g c =
     let m = c.args.m.now in
     let found = snapshot_as m c.args.call c.args.count c.snapshot_found.result (Some c.in-Some.ctx) c.in-Some.is c.snapshot_found.ensures in
     snapshot_quiet m c.args.count _ _ c.args.call c.in-Some.ctx found
+
+pub returns-in-None-clause-once : goal.returns-in-None-clause-once
+returns-in-None-clause-once g c f runs =
+    let m = c.args.m.now in
+    let found = snapshot_as m c.args.call c.args.count c.snapshot_found.result None c.in-None.is c.snapshot_found.ensures in
+    asked_nothing g.G.Guard.asked c.args.guard.now (asked_of m f c.args.call c.args.count) (found f runs).asked
+
+pub returns-in_ok-came-in-Some-clause-once : goal.returns-in_ok-came-in-Some-clause-once
+returns-in_ok-came-in-Some-clause-once g c f runs =
+    let m = c.args.m.now in
+    let found = snapshot_as m c.args.call c.args.count c.snapshot_found.result (Some c.in-Some.ctx) c.in-Some.is c.snapshot_found.ensures in
+    asked_once g.G.Guard.asked c.args.guard.now (asked_of m f c.args.call c.args.count) c.ask_kept.new.guard (Snapshots c.in-Some.ctx) (found f runs).asked
+    c.in_ok-number-in-Some.ensures.once

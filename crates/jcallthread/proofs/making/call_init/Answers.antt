@@ -1,5 +1,9 @@
 use Rattle.jmachine.specs.Asked.{Inherits}
-use Rattle.jcallthread.proofs.Made.{init_asked, init_asks, made_answered, made_ready, stuck_answered}
+use Rattle.jlib.specs.declared.calls.LibCall.TheVariants as calls
+use Rattle.jlib.specs.declared.calls.ThreadCall.TheVariants as threads
+use Rattle.jguard.proofs.Once.{asked_nothing, asked_once}
+use Rattle.jcore.specs.Answering.{asked_of}
+use Rattle.jcallthread.proofs.Made.{init_asked, init_asks, init_silent, made_answered, made_ready, stuck_answered}
 use Rattle.jcallthread.proofs.Standing.{may_call}
 use Rattle.jcallthread.proofs.making.call_init.Goals as goal
 
@@ -47,3 +51,17 @@ pub returns-clause-quiet : goal.returns-clause-quiet
 returns-clause-quiet g c f frames none =
     let given = rw c.in-Some.is at c.named_by.ensures in
     absurd (init_asks c.args.m.now c.args.side c.args.count c.init_laws.ensures.asks c.in-Some.given given f frames none)
+
+pub returns-in_default-clause-once : goal.returns-in_default-clause-once
+returns-in_default-clause-once g c f frames =
+    let m = c.args.m.now in
+    let none = rw c.in_default.is at c.named_by.ensures in
+    asked_nothing g.G.Guard.asked c.args.guard.now (asked_of m f (calls.Thread (threads.Init c.args.side)) c.args.count)
+    (init_silent m c.args.side c.args.count c.init_laws.ensures.nothing none f frames)
+
+pub returns-clause-once : goal.returns-clause-once
+returns-clause-once g c f frames =
+    let m = c.args.m.now in
+    let given = rw c.in-Some.is at c.named_by.ensures in
+    asked_once g.G.Guard.asked c.args.guard.now (asked_of m f (calls.Thread (threads.Init c.args.side)) c.args.count) c.ask.new.guard (Inherits c.in-Some.given.context)
+    (init_asked m c.args.side c.args.count c.init_laws.ensures.asks c.in-Some.given given f frames) c.in_ok-kept.ensures.once
