@@ -1,6 +1,6 @@
 -- What the guard answers stands for what the inspecting rules answer.
 use Rattle.std.proofs.Common.{◌≡◌, ◌∙◌, ℕ, ◌-◌, ◌<◌, Bool, List, map, length, reverse, Option, Some, None, refl, sym, ap, subst}
-use Rattle.std.specs.Prelude.{IfOk, Result, Ok, Err, slice_get}
+use Rattle.std.specs.Prelude.{IfOk, OnOk, Result, Ok, Err, slice_get}
 use Rattle.std.specs.Borrow.{Bor}
 use Rattle.std.specs.Option.{option_copied}
 use Rattle.jperm.specs.declared.permission.Permission.{Permission}
@@ -19,7 +19,7 @@ use Rattle.jguard.specs.declared.ask.Ask.{Ask as AskSaid}
 use Rattle.jguard.specs.declared.ask.Ask.TheVariants as asks
 use Rattle.jguard.specs.Said.{given_by, said}
 use Rattle.jguard.specs.Standing.{AnswersFor, IsThat, Keeps}
-use Rattle.jinspect.specs.Inspects.{IsMarked, IsStack, entry_at, kept_at, newest_domain, with_domain}
+use Rattle.jinspect.specs.Inspects.{Becomes, Inspects, IsMarked, IsStack, entry_at, kept_at, newest_domain, with_domain}
 use Rattle.jinspect.proofs.Standing.{caller_stands, frames_stand, given_stands, number_stands, privileged_stands, stands_for}
 
 -- ---- what is said of an ask by another that stands for the same
@@ -170,3 +170,12 @@ module _ (has : ℕ → Permission → Bool) (old new : List KeptEntry) (marks :
     privileged ask domain ctx given limits is result w =
         so_answered ask (asks.Privileged domain ctx given limits) is (IsMarked new (newest_domain (slice_get marks (length marks - 1))) (Privileged (given_at (things old) given) (option_copied limits)))
         (λ a e. subst (λ (x : AnswerSaid InspectMark). For (Privileges domain ctx given (option_copied limits)) (given_by x)) (sym e.1) (privilege_answers domain ctx given (option_copied limits) e.0 e.2 e.3)) result w
+
+-- ---- what an ask makes of the guard
+
+pub becomes : (old new : Inspects) (ask a : AskSaid) → ask ≡ a → Becomes old (said a) new → Becomes old (said ask) new
+becomes old new ask a is = subst (λ (x : AskSaid). Becomes old (said x) new) (sym is)
+
+pub if_becomes : {T F : Type 0} (old new : Inspects) (ask a : AskSaid) (r : Result T F) → ask ≡ a → Becomes old (said a) new → OnOk r (Becomes old (said ask) new)
+if_becomes old new ask a (Ok x) is holds = becomes old new ask a is holds
+if_becomes old new ask a (Err e) is holds = tt

@@ -4,7 +4,8 @@ use Rattle.jperm.specs.declared.permission.Permission.{Permission}
 use Rattle.jdomain.specs.Stacks.{Stack, Mark, Unmarked}
 use Rattle.jkept.specs.declared.entry.KeptEntry.{KeptEntry}
 use Rattle.jkept.specs.declared.mark.InspectMark.{InspectMark}
-use Rattle.jkept.specs.Things.{mark_at, stack_at, things}
+use Rattle.jkept.specs.Things.{Keeps, mark_at, stack_at, things}
+use Rattle.jmachine.specs.Asked.{Ask, Checks, ChecksKept, Enters, Inherits, Privileges, Snapshots}
 use Rattle.jguard.specs.declared.ask.Answer.{Answer}
 use Rattle.jguard.specs.declared.ask.Answer.TheVariants as answers
 use Rattle.jrules.specs.Inspecting.{Carried}
@@ -49,3 +50,14 @@ IsStack entries s a = (n : ℕ) × (a ≡ answers.Kept n) × (n < length entries
 abbrev pub IsMarked : List KeptEntry → ℕ → Mark → Answer InspectMark → Type 0
 IsMarked entries d mark a =
     (n : ℕ) × (a ≡ answers.Marked (record { domain = d; privileged = Some n }) None) × (n < length entries) × (mark_at (things entries) (Some n) ≡ mark)
+
+-- ---- asks
+
+-- What an ask makes of the guard: where nothing has to be kept it stays as it is, and otherwise the earlier numbers keep what they stand for.
+abbrev pub Becomes : Inspects → Ask ℕ → Inspects → Type 0
+Becomes old (Checks asked ctx) new = new ≡ old
+Becomes old (ChecksKept asked kept) new = new ≡ old
+Becomes old (Enters ctx domain) new = new ≡ old
+Becomes old (Snapshots ctx) new = Keeps old.entries new.entries
+Becomes old (Inherits ctx) new = Keeps old.entries new.entries
+Becomes old (Privileges domain ctx given limits) new = Keeps old.entries new.entries

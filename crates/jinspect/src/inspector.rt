@@ -126,7 +126,7 @@ impl<'d> Guard for Inspector<'d> {
     ghost use Rattle.jdomain.specs.Domains.{has};
     ghost use Rattle.jdomain.specs.Stacks.{Stack};
     ghost use Rattle.jrules.specs.Inspecting.{Carried, rules as inspecting};
-    ghost use Rattle.jinspect.specs.Inspects.{entry_at, kept_at, unprivileged};
+    ghost use Rattle.jinspect.specs.Inspects.{Becomes, entry_at, kept_at, unprivileged};
 
     type On = OnSource;
 
@@ -143,6 +143,8 @@ impl<'d> Guard for Inspector<'d> {
     ghost rules = { λ i. inspecting (has i.domains) };
 
     ghost mark = { unprivileged };
+
+    ghost asked = { Becomes };
 
     #[tactic(auto, unfolding(jrules::specs::Inspecting::rules))]
     fn mark_of(&self, domain: u32) -> InspectMark {

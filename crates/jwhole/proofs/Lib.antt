@@ -3,3 +3,4 @@ pub mod Asking
 pub mod Coursing
 pub mod Opened
 pub mod Starting
+pub mod Hastening

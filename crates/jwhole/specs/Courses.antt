@@ -53,6 +53,11 @@ asks_of (course.Runs m) = asks_next m
 asks_of (course.Ended end) = None
 asks_of course.Lost = None
 
+-- what contracts see of an engine: its guard, and where its run is
+pub record Coursed (G M : Type 0) : Type 0 where
+  pub guard : G
+  pub course : Course M
+
 -- What holds of it between steps: where it goes on, the machine and its guard are such as can be run.
 abbrev pub Holds : {M K E : Type 0} → (ℕ → Option K) → (M → Option E) → (ℕ → M) → Rules K E → Course M → Type 0
 Holds kept entry mark rules (course.Runs m) = IsEngine kept entry mark rules m

@@ -1,6 +1,6 @@
 ghost use Rattle.std.specs.Prelude.{◌≡◌, Some, None, IfOk, OnOk};
 ghost use Rattle.jlib.specs.declared.calls.LibCall.TheVariants as calls;
-ghost use Rattle.jguard.specs.Standing.{Keeps};
+ghost use Rattle.jguard.specs.Standing.{AskedOnce, Keeps};
 ghost use Rattle.jstate.specs.Framed.{Framed};
 ghost use Rattle.jcalls.specs.Marks.{marks_of};
 ghost use Rattle.jlibrary.specs.Ran.{IsAskFree};
@@ -44,6 +44,8 @@ fn call_controller<G: Guard>(
     ensures keeps { Keeps (G.kept guard.old) (G.kept guard.new) }
     ensures marks { Keeps (G.entry guard.old) (G.entry guard.new) }
     ensures quiet { (f : Framed G.Mark) → m.old.guests.running.frames ≡ Some f → asked_of m.old f (calls.Controller call) count ≡ None → guard.new ≡ guard.old }
+    ensures once { OnOk result ((f : Framed G.Mark) → m.old.guests.running.frames ≡ Some f
+        → AskedOnce G.asked guard.old guard.new (asked_of m.old f (calls.Controller call) count)) }
 {
     let whole = LibCall::Controller(call);
     match call {
@@ -84,6 +86,8 @@ fn call_rt<G: Guard>(
     ensures keeps { Keeps (G.kept guard.old) (G.kept guard.new) }
     ensures marks { Keeps (G.entry guard.old) (G.entry guard.new) }
     ensures quiet { (f : Framed G.Mark) → m.old.guests.running.frames ≡ Some f → asked_of m.old f (calls.Rt call) count ≡ None → guard.new ≡ guard.old }
+    ensures once { OnOk result ((f : Framed G.Mark) → m.old.guests.running.frames ≡ Some f
+        → AskedOnce G.asked guard.old guard.new (asked_of m.old f (calls.Rt call) count)) }
 {
     let whole = LibCall::Rt(call);
     match call {
@@ -120,6 +124,8 @@ fn call_silent<G: Guard>(
     ensures answered { IfOk result (λ came. (f : Framed G.Mark) → m.old.guests.running.frames ≡ Some f
         → Answered (G.kept guard.now) (G.kept guard.now) (G.entry guard.now) (G.entry guard.now) (G.rules guard.now) m.old
         (asked_of m.old f call count) (outcome_of m.old f call count) came m.new) }
+    ensures once { OnOk result ((f : Framed G.Mark) → m.old.guests.running.frames ≡ Some f
+        → AskedOnce G.asked guard.now guard.now (asked_of m.old f call count)) }
     ensures ready { IfOk result (GoesOn m.new) }
     ensures fixed { OnOk result (StaysFixed m.old m.new) }
 {
@@ -150,6 +156,8 @@ fn call_library<G: Guard>(
     ensures keeps { Keeps (G.kept guard.old) (G.kept guard.new) }
     ensures marks { Keeps (G.entry guard.old) (G.entry guard.new) }
     ensures quiet { (f : Framed G.Mark) → m.old.guests.running.frames ≡ Some f → asked_of m.old f call count ≡ None → guard.new ≡ guard.old }
+    ensures once { OnOk result ((f : Framed G.Mark) → m.old.guests.running.frames ≡ Some f
+        → AskedOnce G.asked guard.old guard.new (asked_of m.old f call count)) }
 {
     match call {
         LibCall::Controller(c) => {
@@ -194,6 +202,7 @@ pub(crate) fn advance<G: Guard>(
     ensures keeps { Keeps (G.kept guard.old) (G.kept guard.new) }
     ensures marks { Keeps (G.entry guard.old) (G.entry guard.new) }
     ensures quiet { asks_next m.old ≡ None → guard.new ≡ guard.old }
+    ensures once { OnOk result (AskedOnce G.asked guard.old guard.new (asks_next m.old)) }
 {
     if m.guests.running.frames.is_none() {
         let came = begin_thread(alloc, m)?;

@@ -42,6 +42,7 @@ fn are_files(p: &LinkedProgram)
     ensures { AreFiles p.now }
 {
     for part in p.parts() {
+        // What the proof needs: each part is a class file.
         let _parts = part.class.parts();
     }
 }

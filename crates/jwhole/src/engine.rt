@@ -4,7 +4,7 @@ ghost use Rattle.jmachine.specs.Acts.{State};
 ghost use Rattle.jmachine.specs.Machine.{opening};
 ghost use Rattle.jmachine.specs.Opening.{opening_state};
 ghost use Rattle.jmachine.specs.Steps.{step as steps_by};
-ghost use Rattle.jguard.specs.Standing.{Keeps};
+ghost use Rattle.jguard.specs.Standing.{AskedOnce, Keeps};
 ghost use Rattle.jrun.specs.Coming.{ComesTo, WhereWent};
 ghost use Rattle.jwhole.specs.Courses;
 ghost use Rattle.jwhole.specs.Courses.{AreLive, Holds, Runs, Stands, asks_of, end_in, end_of, is_lost, left_by, steps};
@@ -20,6 +20,7 @@ use jmachine::Plan;
 use jrun::Stepped;
 use jtrace::End;
 use std::alloc::{AllocError, Global};
+use std::marker::Model;
 
 /// Where the run of an engine is.
 #[derive(Drop)]
@@ -32,12 +33,23 @@ enum Course<'a, 'p, M> {
     Lost,
 }
 
-/// The run of a program, step by step, by the rules of a guard that answers what its steps ask (class documentation of AccessController). `M` is
-/// what a frame carries. Contracts see the states that its numbers and marks stand for, by what its guard gave.
+/// The run of a program, step by step, by the rules of a guard that answers what its steps ask (class documentation of AccessController).
+/// Contracts see the states that its numbers and marks stand for, by what its guard gave. Between steps the machine and its guard are such as
+/// can be run: that is the invariant, so that no step asks for it.
 #[derive(Drop)]
-pub struct Engine<'a, 'p, M, G> {
+pub struct Engine<'a, 'p, G: Guard> {
     guard: G,
-    course: Course<'a, 'p, M>,
+    course: Course<'a, 'p, G::Mark>,
+}
+
+impl<'a, 'p, G: Guard> Model for Engine<'a, 'p, G> {
+    ghost use Rattle.jwhole.specs.Courses.{Coursed, Holds};
+
+    ghost Value = { Coursed G G.Mark };
+
+    ghost view = { λ e. record { guard = e.guard; course = e.course } };
+
+    ghost invariant = { λ e. Holds (G.kept e.guard) (G.entry e.guard) G.mark (G.rules e.guard) e.course };
 }
 
 /// A course begins with a machine; where there is none, the heap had too few cells.
@@ -68,6 +80,7 @@ fn go_on<G: Guard>(
     ensures keeps { Keeps (G.kept guard.old) (G.kept guard.new) }
     ensures marks { Keeps (G.entry guard.old) (G.entry guard.new) }
     ensures quiet { asks_of course.old ≡ None → guard.new ≡ guard.old }
+    ensures once { OnOk result (AskedOnce G.asked guard.old guard.new (asks_of course.old)) }
 {
     match course {
         Course::Runs { machine } => {
@@ -90,7 +103,7 @@ fn leave<M: Copy>(course: &mut Course<'_, '_, M>, came: &Stepped)
     }
 }
 
-impl<'a, 'p, G: Guard + Drop> Engine<'a, 'p, G::Mark, G> {
+impl<'a, 'p, G: Guard + Drop> Engine<'a, 'p, G> {
     /// The engine that stands at the beginning of a run of a program that links, by a guard's rules. The method with which the run begins has code.
     /// Where the heap has too few cells for what is made then (`System.out`, the strings of ConstantValue attributes and the array that `main` is
     /// given: JVMS 4.7.2, 5.2), the run has ended as `HeapFull`. A plan of 2,147,483,648 cells or more finds no memory, and want of memory may
@@ -101,7 +114,7 @@ impl<'a, 'p, G: Guard + Drop> Engine<'a, 'p, G::Mark, G> {
         program: &'p LinkedProgram,
         plan: &'a Plan,
         guard: G,
-    ) -> Result<Engine<'a, 'p, G::Mark, G>, AllocError>
+    ) -> Result<Engine<'a, 'p, G>, AllocError>
         requires base { IsGround program.now G.mark base.now }
         requires coded { is_some (code_at program.now plan.now.main) ≡ true }
         ensures stands { IfOk result (λ e. end_of e.course ≡ None
@@ -109,7 +122,6 @@ impl<'a, 'p, G: Guard + Drop> Engine<'a, 'p, G::Mark, G> {
         ensures steps { IfOk result (λ e. end_of e.course ≡ None → steps (G.rules e.guard) e.course ≡ steps_by (G.rules guard) program.now plan.now) }
         ensures ended { IfOk result (λ e. end_of e.course ≡ (opening (G.rules guard) program.now plan.now).end) }
         ensures found { IfOk result (λ e. is_lost e.course ≡ false) }
-        ensures holds { IfOk result (λ e. Holds (G.kept e.guard) (G.entry e.guard) G.mark (G.rules e.guard) e.course) }
         ensures threads { IfOk result (λ e. AreLive (G.kept e.guard) (G.entry e.guard) e.course) }
         ensures rules { IfOk result (λ e. G.rules e.guard ≡ G.rules guard) }
     {
@@ -125,10 +137,9 @@ impl<'a, 'p, G: Guard + Drop> Engine<'a, 'p, G::Mark, G> {
     }
 
     /// One step of a run that has not ended. What it tells is answered; where it ends the run, that is its end, and so is a state without a
-    /// step. Where it found no memory, each later step finds none. What was given keeps what it stands for, and a step that asks nothing leaves
-    /// the guard as it is. Behind each step the running thread is runnable, and no thread waits for one that has ended.
+    /// step. Where it found no memory, each later step finds none. What was given keeps what it stands for. What a step asks it asks once, and a
+    /// step that asks nothing leaves the guard as it is. Behind each step the running thread is runnable, and no thread waits for one that has ended.
     pub fn step(&mut self, alloc: Global) -> Result<Stepped, AllocError>
-        requires holds { Holds (G.kept self.old.guard) (G.entry self.old.guard) G.mark (G.rules self.old.guard) self.old.course }
         requires goes { end_of self.old.course ≡ None }
         ensures comes { IfOk result (λ came. (s : State G.Kept G.Entry) → Stands (G.kept self.old.guard) (G.entry self.old.guard) self.old.course s
             → ComesTo (λ t. Stands (G.kept self.new.guard) (G.entry self.new.guard) self.new.course t) (steps (G.rules self.old.guard) self.old.course s) came) }
@@ -137,12 +148,12 @@ impl<'a, 'p, G: Guard + Drop> Engine<'a, 'p, G::Mark, G> {
         ensures found { OnOk result (is_lost self.new.course ≡ false) }
         ensures lost { OnErr result (is_lost self.new.course ≡ true) }
         ensures again { is_lost self.old.course ≡ true → is_err result ≡ true }
-        ensures holds { Holds (G.kept self.new.guard) (G.entry self.new.guard) G.mark (G.rules self.new.guard) self.new.course }
         ensures threads { AreLive (G.kept self.new.guard) (G.entry self.new.guard) self.new.course }
         ensures rules { G.rules self.new.guard ≡ G.rules self.old.guard }
         ensures keeps { Keeps (G.kept self.old.guard) (G.kept self.new.guard) }
         ensures marks { Keeps (G.entry self.old.guard) (G.entry self.new.guard) }
         ensures quiet { asks_of self.old.course ≡ None → self.new.guard ≡ self.old.guard }
+        ensures once { OnOk result (AskedOnce G.asked self.old.guard self.new.guard (asks_of self.old.course)) }
     {
         let gone = go_on(alloc, &mut self.course, &mut self.guard);
         match gone {

@@ -1,15 +1,16 @@
-ghost use Rattle.std.specs.Prelude.{◌≡◌, None, IfOk, OnOk};
+ghost use Rattle.std.specs.Prelude.{◌≡◌, ◌<◌, None, IfOk, OnOk};
 ghost use Rattle.jmachine.specs.Acts.{State as StateOf};
 ghost use Rattle.jmachine.specs.Steps.{step as steps_by};
-ghost use Rattle.jguard.specs.Standing.{Keeps, StandsFor};
-ghost use Rattle.jrun.specs.Coming.{ComesTo, WhereWent};
+ghost use Rattle.jguard.specs.Standing.{AskedOnce, Keeps, StandsFor};
+ghost use Rattle.jrun.specs.Coming.{AreFew, ComesTo, Goes, WhereGoes, WhereWent};
 ghost use Rattle.jcore.specs.Machines.{state_of};
 ghost use Rattle.jwhole.specs.Engines.{IsEngine, asks_next};
 
 use crate::advancing::advance;
 use jcore::Machine;
+use jexecute::hasten;
 use jguard::{Guard, guard_laws};
-use jrun::{Stepped, Stepping};
+use jrun::{Stepped, Stepping, Stretch};
 use std::alloc::{AllocError, Global};
 
 /// A step of a machine, by the rules of the guard that answers what it asks of access control. After an error nothing is said of the machine.
@@ -28,10 +29,49 @@ pub(crate) fn move_on<G: Guard>(
     ensures keeps { Keeps (G.kept guard.old) (G.kept guard.new) }
     ensures marks { Keeps (G.entry guard.old) (G.entry guard.new) }
     ensures quiet { asks_next machine.old ≡ None → guard.new ≡ guard.old }
+    ensures once { OnOk result (AskedOnce G.asked guard.old guard.new (asks_next machine.old)) }
 {
     guard_laws::<G>();
     let came = advance(alloc, machine, guard)?;
     Ok(came)
+}
+
+/// Some steps of a machine, at least one and at most so many: those that are quick to make, of which none asks anything, and the one behind
+/// them. After an error nothing is said of the machine.
+fn make_steps<G: Guard>(
+    alloc: Global,
+    machine: &mut Machine<'_, '_, G::Mark>,
+    guard: &mut G,
+    most: u64,
+) -> Result<Stretch, AllocError>
+    requires ready { IsEngine (G.kept guard.old) (G.entry guard.old) G.mark (G.rules guard.old) machine.old }
+    requires some { 0 < most }
+    ensures goes { IfOk result (λ made. (s : StateOf G.Kept G.Entry) → StandsFor (G.kept guard.old) (G.entry guard.old) (state_of machine.old) s
+        → Goes (λ t. StandsFor (G.kept guard.new) (G.entry guard.new) (state_of machine.new) t)
+        (steps_by (G.rules guard.old) machine.old.calls machine.old.plan.now) s made) }
+    ensures few { IfOk result (AreFew most) }
+    ensures ready { IfOk result (λ made. WhereGoes (IsEngine (G.kept guard.new) (G.entry guard.new) G.mark (G.rules guard.new) machine.new) made.last) }
+    ensures same { OnOk result (steps_by (G.rules guard.new) machine.new.calls machine.new.plan.now ≡ steps_by (G.rules guard.old) machine.old.calls machine.old.plan.now) }
+{
+    guard_laws::<G>();
+    let made = hasten(alloc, machine, most)?;
+    if made.stuck {
+        return Ok(Stretch {
+            quiet: made.steps,
+            last: Some(Stepped::Stuck),
+        });
+    }
+    if made.steps < most {
+        let came = move_on(alloc, machine, guard)?;
+        return Ok(Stretch {
+            quiet: made.steps,
+            last: Some(came),
+        });
+    }
+    Ok(Stretch {
+        quiet: made.steps,
+        last: None,
+    })
 }
 
 /// A machine by numbers, and the guard that answers what it asks of access control.
@@ -56,8 +96,8 @@ impl<'a, 'p, G: Guard> Stepping for Moving<'a, 'p, G::Mark, G> {
 
     ghost ready = { λ e. IsEngine (G.kept e.guard) (G.entry e.guard) G.mark (G.rules e.guard) e.machine };
 
-    fn step(&mut self, alloc: Global) -> Result<Stepped, AllocError> {
-        let came = move_on(alloc, &mut self.machine, &mut self.guard)?;
-        Ok(came)
+    fn go(&mut self, alloc: Global, most: u64) -> Result<Stretch, AllocError> {
+        let made = make_steps(alloc, &mut self.machine, &mut self.guard, most)?;
+        Ok(made)
     }
 }

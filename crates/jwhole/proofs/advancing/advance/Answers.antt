@@ -1,6 +1,8 @@
 use Rattle.std.proofs.Common.{◌∙◌, ap, sym}
 use Rattle.std.specs.Prelude.{not}
+use Rattle.jguard.proofs.Once.{asked_alike, asked_nothing}
 use Rattle.jexecute.specs.Executing.{CameTo, StandsAt}
+use Rattle.jwhole.specs.Engines.{asks_next}
 use Rattle.jwhole.proofs.Asking.{answered_at, answers_none, asks_nothing, carry_then, fixed_then, has_frames, has_rules, known_at, tells_at, without}
 use Rattle.jwhole.proofs.advancing.advance.Goals as goal
 
@@ -70,3 +72,21 @@ pub returns-in_ok-came-in-Asks-clause-quiet : goal.returns-in_ok-came-in-Asks-cl
 returns-in_ok-came-in-Asks-clause-quiet g c none =
     let at : StandsAt c.args.m.now c.in-Asks.call c.in-Asks.count c.execute.new.m = rw c.in-Asks.is at c.in_ok-found.ensures.done in
     c.call_library.ensures.quiet at.calling.frames at.calling.runs (sym at.asked ∙ none)
+
+pub returns-then-is_none-clause-once : goal.returns-then-is_none-clause-once
+returns-then-is_none-clause-once g c =
+    let m = c.args.m.now in
+    asked_nothing g.G.Guard.asked c.args.guard.now (asks_next m) (asks_nothing m (without m (c.is_none.ensures ∙ ap not c.if-is_none.true)))
+
+pub returns-in-Done-clause-once : goal.returns-in-Done-clause-once
+returns-in-Done-clause-once g c =
+    let m = c.args.m.now in
+    let done : CameTo m c.in-Done.came c.execute.new.m = rw c.in-Done.is at c.in_ok-found.ensures.done in
+    asked_nothing g.G.Guard.asked c.args.guard.now (asks_next m) done.silent
+
+pub returns-in_ok-came-in-Asks-clause-once : goal.returns-in_ok-came-in-Asks-clause-once
+returns-in_ok-came-in-Asks-clause-once g c =
+    let m = c.args.m.now in
+    let at : StandsAt m c.in-Asks.call c.in-Asks.count c.execute.new.m = rw c.in-Asks.is at c.in_ok-found.ensures.done in
+    asked_alike g.G.Guard.asked c.args.guard.now (asks_next m) c.call_library.new.guard _ at.asked
+    (c.in_ok-came-in-Asks.ensures.once at.calling.frames at.calling.runs)

@@ -1,5 +1,7 @@
+use Rattle.std.proofs.Common.{refl}
 use Rattle.jdomain.specs.Domains.{has}
-use Rattle.jinspect.proofs.Answering.{checked, checked_kept, entered, inherit, privileged, snapshot}
+use Rattle.jguard.specs.declared.ask.Ask.TheVariants as asks
+use Rattle.jinspect.proofs.Answering.{becomes, checked, checked_kept, entered, if_becomes, inherit, privileged, snapshot}
 use Rattle.jinspect.proofs.Standing.{marks_below}
 use Rattle.jinspect.proofs.inspector.InspectorGuard.secure.Goals as goal
 
@@ -35,3 +37,30 @@ returns-in-Inherit-clause-answer c =
 pub returns-in-Privileged-clause-answer : goal.returns-in-Privileged-clause-answer
 returns-in-Privileged-clause-answer c =
     privileged (has c.args.self.now.domains) c.args.self.now.entries c.privilege.new.self.entries c.args.marks.now c.args.inherited c.args.ask c.in-Privileged.domain c.in-Privileged.ctx c.in-Privileged.given c.in-Privileged.limits c.in-Privileged.is c.privilege.result c.privilege.ensures.marked
+
+pub returns-in-Enter-clause-once : goal.returns-in-Enter-clause-once
+returns-in-Enter-clause-once c =
+    becomes c.args.self.now c.args.self.now c.args.ask (asks.Enter c.in-Enter.ctx c.in-Enter.domain) c.in-Enter.is refl
+
+pub returns-in-Check-clause-once : goal.returns-in-Check-clause-once
+returns-in-Check-clause-once c =
+    if_becomes c.args.self.now c.args.self.now c.args.ask (asks.Check c.in-Check.asked c.in-Check.ctx) c.check.result c.in-Check.is refl
+
+pub returns-in-CheckKept-clause-once : goal.returns-in-CheckKept-clause-once
+returns-in-CheckKept-clause-once c =
+    if_becomes c.args.self.now c.args.self.now c.args.ask (asks.CheckKept c.in-CheckKept.asked c.in-CheckKept.kept) c.check_kept.result c.in-CheckKept.is refl
+
+pub returns-in-Snapshot-clause-once : goal.returns-in-Snapshot-clause-once
+returns-in-Snapshot-clause-once c =
+    if_becomes c.args.self.now c.snapshot.new.self c.args.ask (asks.Snapshot c.in-Snapshot.ctx) c.snapshot.result c.in-Snapshot.is c.snapshot.ensures.earlier
+
+pub returns-in-Inherit-clause-once : goal.returns-in-Inherit-clause-once
+returns-in-Inherit-clause-once c =
+    if_becomes c.args.self.now c.snapshot-in-Inherit.new.self c.args.ask (asks.Inherit c.in-Inherit.ctx) c.snapshot-in-Inherit.result c.in-Inherit.is
+    c.snapshot-in-Inherit.ensures.earlier
+
+pub returns-in-Privileged-clause-once : goal.returns-in-Privileged-clause-once
+returns-in-Privileged-clause-once c =
+    if_becomes c.args.self.now c.privilege.new.self c.args.ask
+    (asks.Privileged c.in-Privileged.domain c.in-Privileged.ctx c.in-Privileged.given c.in-Privileged.limits) c.privilege.result c.in-Privileged.is
+    c.privilege.ensures.earlier

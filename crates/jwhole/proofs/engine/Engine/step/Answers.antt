@@ -1,16 +1,18 @@
 use Rattle.jwhole.specs.Courses.{left_by}
 use Rattle.jwhole.proofs.Coursing.{comes_left, ended_left, found_left, holds_left, live_in, same_left}
-use Rattle.jwhole.proofs.engine.Engine+G+Mark+G.step.Goals as goal
+use Rattle.jwhole.proofs.engine.Engine.step.Goals as goal
 
 pub returns-in-Ok-clause-comes : goal.returns-in-Ok-clause-comes
-returns-in-Ok-clause-comes g c s stands =
+returns-in-Ok-clause-comes g c =
+    let kept = g.G.Guard.kept c.go_on-gone.new.guard in
+    let entry = g.G.Guard.entry c.go_on-gone.new.guard in
     let comes = rw c.in-Ok.is at c.go_on-gone.ensures.comes in
-    rw c.leave.ensures (comes_left _ _ c.go_on-gone.new.course _ c.in-Ok.came (comes s stands))
+    rw (← c.self.view_is, c.leave.ensures) (λ s stands. comes_left kept entry c.go_on-gone.new.course _ c.in-Ok.came (comes s stands))
 
 pub returns-in-Ok-clause-same : goal.returns-in-Ok-clause-same
 returns-in-Ok-clause-same g c =
     let same = rw c.in-Ok.is at c.go_on-gone.ensures.same in
-    rw c.leave.ensures (same_left _ c.go_on-gone.new.course c.in-Ok.came _ same)
+    rw (← c.self.view_is, c.leave.ensures) (same_left _ c.go_on-gone.new.course c.in-Ok.came _ same)
 
 pub returns-in-Ok-clause-ended : goal.returns-in-Ok-clause-ended
 returns-in-Ok-clause-ended g c =
@@ -22,8 +24,8 @@ returns-in-Ok-clause-found g c =
     let runs = rw c.in-Ok.is at c.go_on-gone.ensures.runs in
     rw c.leave.ensures (found_left c.go_on-gone.new.course c.in-Ok.came runs)
 
-pub returns-in-Ok-clause-holds : goal.returns-in-Ok-clause-holds
-returns-in-Ok-clause-holds g c =
+pub invariant_of-self : goal.invariant_of-self
+invariant_of-self g c =
     let holds = rw c.in-Ok.is at c.go_on-gone.ensures.holds in
     rw c.leave.ensures (holds_left _ _ g.G.Guard.mark _ c.go_on-gone.new.course c.in-Ok.came holds)
 
@@ -38,3 +40,8 @@ returns-in-Ok-clause-threads g c =
 
 pub returns-in-Err-clause-threads : goal.returns-in-Err-clause-threads
 returns-in-Err-clause-threads g c = λ s stands. absurd stands
+
+pub returns-in-Ok-clause-once : goal.returns-in-Ok-clause-once
+returns-in-Ok-clause-once g c =
+    let once = rw c.in-Ok.is at c.go_on-gone.ensures.once in
+    rw (← c.self.view_is) once

@@ -1,6 +1,6 @@
 use Rattle.jwhole.specs.Courses.{course_of}
 use Rattle.jwhole.proofs.Coursing.{ended_first, found_first, holds_first, live_in, stands_first, steps_first}
-use Rattle.jwhole.proofs.engine.Engine+G+Mark+G.open.Goals as goal
+use Rattle.jwhole.proofs.engine.Engine.open.Goals as goal
 
 pub returns-clause-stands : goal.returns-clause-stands
 returns-clause-stands g c =
@@ -32,8 +32,8 @@ returns-clause-ended g c =
 pub returns-clause-found : goal.returns-clause-found
 returns-clause-found g c = rw c.course_of.ensures (found_first c.in_ok-begun.begun)
 
-pub returns-clause-holds : goal.returns-clause-holds
-returns-clause-holds g c =
+pub invariant_of-result : goal.invariant_of-result
+invariant_of-result g c =
     let kept = g.G.Guard.kept c.start.new.guard in
     let entry = g.G.Guard.entry c.start.new.guard in
     let rules = g.G.Guard.rules c.args.guard in

@@ -1,0 +1,109 @@
+-- Some steps of an engine, of which all but the last were quick to make.
+use Rattle.std.proofs.Common.{◌≡◌, ◌∙◌, ℕ, zero, suc, Bool, true, false, [], Option, Some, refl, ap, subst, sym}
+use Rattle.jmachine.specs.Acts.{Outcome, State}
+use Rattle.jmachine.specs.Security.{Rules}
+use Rattle.jmachine.specs.Steps.{step}
+use Rattle.jguard.specs.Guarded.{GuardedStep}
+use Rattle.jguard.specs.Standing.{Keeps, StandsFor}
+use Rattle.jrun.specs.Coming.{ComesTo, Goes, Quietly}
+use Rattle.jrun.specs.declared.stepping.Stepped.{Stepped}
+use Rattle.jrun.specs.declared.stepping.Stepped.TheVariants as done
+use Rattle.jcore.specs.declared.machine.Machine.{Machine}
+use Rattle.jcore.specs.Answering.{Answered}
+use Rattle.jcore.specs.Machines.{StaysFixed, state_of}
+use Rattle.jexecute.specs.declared.hastening.Hasty.{Hasty}
+use Rattle.jexecute.specs.Executing.{CameTo}
+use Rattle.jexecute.specs.Hastening.{Closes, Leads, Tries}
+use Rattle.jwhole.specs.Engines.{IsEngine, asks_next, next_of}
+use Rattle.jwhole.proofs.Arriving.{engine_again, engine_steps, same_steps}
+use Rattle.jwhole.proofs.Asking.{answers_none}
+
+module _ {M K E : Type 0} (kept : ℕ → Option K) (entry : M → Option E) (mark : ℕ → M) (rules : Rules K E) (law : GuardedStep M K E) where
+  kept_stays : Keeps kept kept
+  kept_stays k x is = is
+
+  entry_stays : Keeps entry entry
+  entry_stays k x is = is
+
+  -- what the machine is asked of is nothing
+  answered : (m n : Machine M) (came : Stepped) → CameTo m came n → Answered kept kept entry entry rules m (asks_next m) (next_of m) came n
+  answered m n came did = answers_none kept kept entry entry rules m n (asks_next m) (next_of m) came did.silent did.comes
+
+  came_so : (m n : Machine M) (came : Stepped) → IsEngine kept entry mark rules m → CameTo m came n → (s : State K E) → StandsFor kept entry (state_of m) s
+      → ComesTo (λ t. StandsFor kept entry (state_of n) t) (step rules m.calls m.plan.now s) came
+  came_so m n came e did s stands =
+      engine_steps kept kept entry entry mark rules m n came law kept_stays entry_stays e (answered m n came did) s stands
+
+  went_again : (m n : Machine M) → IsEngine kept entry mark rules m → CameTo m (done.Went []) n → StaysFixed m n → IsEngine kept entry mark rules n
+  went_again m n e did fixed =
+      engine_again kept kept entry entry mark rules m n (done.Went []) law kept_stays entry_stays e (answered m n (done.Went []) did) fixed did.ready
+
+  -- quick steps lead to an engine
+  pub leads_engine : (count : ℕ) (m n : Machine M) → Leads count m n → IsEngine kept entry mark rules m → IsEngine kept entry mark rules n
+  unfolding Leads
+  leads_engine zero m n same e = subst (IsEngine kept entry mark rules) (sym same) e
+  leads_engine (suc count) m n (mid, before, went, fixed) e = went_again mid n (leads_engine count m mid before e) went fixed
+
+  -- whose program and plan are the same
+  pub leads_fixed : (count : ℕ) (m n : Machine M) → Leads count m n → StaysFixed m n
+  unfolding Leads
+  leads_fixed zero m n same = subst (λ (x : Machine M). StaysFixed m x) (sym same) (record { fixed = refl; plan = refl; side = refl; calls = refl })
+  leads_fixed (suc count) m n (mid, before, went, fixed) =
+      let first = leads_fixed count m mid before in
+      record { fixed = fixed.fixed ∙ first.fixed; plan = fixed.plan ∙ first.plan; side = fixed.side ∙ first.side; calls = fixed.calls ∙ first.calls }
+
+  -- so that the definition's steps are the same
+  same_step : (m n : Machine M) → StaysFixed m n → (s : State K E) → step rules m.calls m.plan.now s ≡ step rules n.calls n.plan.now s
+  same_step m n fixed s = ap (λ (go : State K E → Outcome (State K E)). go s) (sym (same_steps rules rules m n refl fixed))
+
+  -- and they are steps of the definition that go on and tell nothing
+  pub leads_quietly : (count : ℕ) (m n : Machine M) → Leads count m n → IsEngine kept entry mark rules m → (s : State K E) → StandsFor kept entry (state_of m) s
+      → (t : State K E) × Quietly (step rules m.calls m.plan.now) count s t × StandsFor kept entry (state_of n) t
+  unfolding Leads Quietly
+  leads_quietly zero m n same e s stands = (s, refl, subst (λ (x : Machine M). StandsFor kept entry (state_of x) s) (sym same) stands)
+  leads_quietly (suc count) m n (mid, before, went, fixed) e s stands =
+      let led = leads_quietly count m mid before e s stands in
+      let first = leads_fixed count m mid before in
+      let came = came_so mid n (done.Went []) (leads_engine count m mid before e) went led.0 led.2 in
+      (came.0, (led.0, led.1, same_step m mid first led.0 ∙ came.1), came.2)
+
+  -- ---- some steps
+
+  module _ (m n : Machine M) (most : ℕ) (made : Hasty) (tries : Tries most m made n) (e : IsEngine kept entry mark rules m) where
+    abbrev there : IsEngine kept entry mark rules tries.behind
+    there = leads_engine made.steps m tries.behind tries.leads e
+
+    abbrev fixed : StaysFixed m tries.behind
+    fixed = leads_fixed made.steps m tries.behind tries.leads
+
+    pub stuck_goes : made.stuck ≡ true → (s : State K E) → StandsFor kept entry (state_of m) s
+        → Goes (λ t. StandsFor kept entry (state_of n) t) (step rules m.calls m.plan.now) s (record { quiet = made.steps; last = Some done.Stuck })
+    stuck_goes stuck s stands =
+        let led = leads_quietly made.steps m tries.behind tries.leads e s stands in
+        let did : CameTo tries.behind done.Stuck n = subst (λ (b : Bool). Closes b tries.behind n) stuck tries.closes in
+        (led.0, led.1, same_step m tries.behind fixed led.0 ∙ came_so tries.behind n done.Stuck there did led.0 led.2)
+
+    module _ (goes : made.stuck ≡ false) where
+      abbrev same_machine : n ≡ tries.behind
+      same_machine = subst (λ (b : Bool). Closes b tries.behind n) goes tries.closes
+
+      pub engine_then : IsEngine kept entry mark rules n
+      engine_then = subst (IsEngine kept entry mark rules) (sym same_machine) there
+
+      pub fixed_then : StaysFixed m n
+      fixed_then = subst (λ (x : Machine M). StaysFixed m x) (sym same_machine) fixed
+
+      pub quietly_then : (s : State K E) → StandsFor kept entry (state_of m) s
+          → (t : State K E) × Quietly (step rules m.calls m.plan.now) made.steps s t × StandsFor kept entry (state_of n) t
+      quietly_then s stands =
+          subst (λ (x : Machine M). (t : State K E) × Quietly (step rules m.calls m.plan.now) made.steps s t × StandsFor kept entry (state_of x) t) (sym same_machine)
+          (leads_quietly made.steps m tries.behind tries.leads e s stands)
+
+      pub last_goes : (new : ℕ → Option K) (new_marks : M → Option E) (after : Machine M) (came : Stepped)
+          → ((t : State K E) → StandsFor kept entry (state_of n) t → ComesTo (λ u. StandsFor new new_marks (state_of after) u) (step rules n.calls n.plan.now t) came)
+          → (s : State K E) → StandsFor kept entry (state_of m) s
+          → Goes (λ u. StandsFor new new_marks (state_of after) u) (step rules m.calls m.plan.now) s (record { quiet = made.steps; last = Some came })
+      last_goes new new_marks after came comes s stands =
+          let led = quietly_then s stands in
+          let is = sym (same_step m n fixed_then led.0) in
+          (led.0, led.1, subst (λ (o : Outcome (State K E)). ComesTo (λ u. StandsFor new new_marks (state_of after) u) o came) is (comes led.0 led.2))
