@@ -1,3 +1,4 @@
+pub mod JobNames
 pub mod JobNumbers
 pub mod JobReading
 pub mod JobTold
@@ -9,4 +10,5 @@ pub mod Parts
 pub mod RowLaws
 pub mod Rows
 pub mod Steps
+pub mod StoredLines
 pub mod Units

@@ -11,7 +11,7 @@ one_more line [] some = absurd (some refl)
 one_more [] (next ∷ more) some = refl
 one_more (b ∷ line) (next ∷ more) some = refl
 
-some_lines : (text : List ℕ) → ¬ (length (lines_of text) ≡ 0)
+pub some_lines : (text : List ℕ) → ¬ (length (lines_of text) ≡ 0)
 some_lines text none = let counted : length (lines_of text) ≡ count_by (λ b. b == 10) text + 1 = length-slice_split (λ b. b == 10) text in omega (arith, none, counted)
 
 pub lines_more : (text line more : List ℕ) → lines_of text ≡ line ∷ lines_of more → number_of_lines (lines_of text) ≡ 1 + number_of_lines (lines_of more)

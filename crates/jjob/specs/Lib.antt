@@ -1,8 +1,10 @@
 pub mod App
 pub mod JobLines
+pub mod JobNames
 pub mod JobNumbers
 pub mod JobReading
 pub mod JobTold
 pub mod Jobs
 pub mod Rows
+pub mod Storing
 pub mod Words

@@ -4,9 +4,11 @@
 mod command;
 mod job;
 mod line;
+mod names;
 mod number;
 mod reader;
 mod reading;
+mod storing;
 mod text;
 mod told;
 mod verb;
@@ -15,5 +17,6 @@ mod words;
 pub use command::{Command, Form, WordsError};
 pub use job::{Job, JobError, JobSource};
 pub use reading::read_job;
+pub use storing::stored_job;
 pub use text::Text;
 pub use words::read_words;

@@ -2,10 +2,12 @@ ghost use Rattle.std.specs.Prelude.{◌≡◌, ◌∷◌, [], ◌<◌, ◌≤◌
 ghost use Rattle.std.specs.Str.{is_utf8};
 ghost use Rattle.std.specs.Str.Lossy.{utf8_valid_len};
 ghost use Rattle.jjob.specs.Jobs.{JobGives, job, job_in, line_at, lines_of, number_of_lines};
-ghost use Rattle.jjob.specs.JobReading.{TakesAll};
+ghost use Rattle.jjob.specs.JobReading.{TakesAll, is_at};
 
 use crate::job::{Job, JobError};
-use crate::reader::Reader;
+use crate::names::first_again;
+use crate::reader::take;
+use crate::told::Told;
 use std::alloc::Global;
 
 /// The job that the bytes of a job file are.
@@ -54,8 +56,8 @@ fn job_in(alloc: Global, text: &str) -> Result<Job, JobError>
     requires { length text.now < 0xffff_ffff }
     ensures { JobGives result (job_in text.now) }
 {
-    let reader = lines_read(alloc, text)?;
-    let Some(job) = reader.told.into_job(alloc)? else {
+    let told = lines_read(alloc, text)?;
+    let Some(job) = told.into_job(alloc)? else {
         return Err(JobError::Line {
             line: number_of_lines(text) + 1,
         });
@@ -64,25 +66,36 @@ fn job_in(alloc: Global, text: &str) -> Result<Job, JobError>
 }
 
 /// What a text's lines give, or the first bad one.
-fn lines_read<'a>(alloc: Global, text: &'a str) -> Result<Reader<'a>, JobError>
+fn lines_read(alloc: Global, text: &str) -> Result<Told, JobError>
     requires { length text.now < 0xffff_ffff }
     ensures { TakesAll (lines_of text.now) result }
 {
-    let mut reader = Reader::new(alloc);
+    let again = first_again(alloc, text)?;
+    let mut told = Told::new(alloc);
     let mut number = 1;
     let mut rest = text;
     while let Some((line, more)) = first_line(rest) {
-        reader.take(alloc, number, line)?;
+        take(alloc, &mut told, number, is_at(again, number), line)?;
         number += 1;
         rest = more;
     }
-    reader.take(alloc, number, rest)?;
-    Ok(reader)
+    take(alloc, &mut told, number, is_at(again, number), rest)?;
+    Ok(told)
+}
+
+/// Whether a line has a number, if there is one.
+fn is_at(place: Option<u32>, number: u32) -> bool
+    ensures { result ≡ is_at place number }
+{
+    match place {
+        Some(place) => place == number,
+        None => false,
+    }
 }
 
 /// The first line of a text, and what stands behind the line feed that ends it.
 #[inline(always)]
-fn first_line(text: &str) -> Option<(&str, &str)>
+pub fn first_line(text: &str) -> Option<(&str, &str)>
     ensures none { IfNone result (lines_of text.now ≡ text.now ∷ []) }
     ensures some { IfSome result (λ x. lines_of text.now ≡ x.0.now ∷ lines_of x.1.now) }
     ensures shorter { IfSome result (λ x. length x.1.now < length text.now) }

@@ -1,6 +1,0 @@
-use Rattle.std.proofs.Common.{rules}
-use Rattle.jjob.proofs.JobReading.{takes_skipped}
-use Rattle.jjob.proofs.reader.Reader.take.Goals as goal
-
-pub returns-then-not-is_kept : goal.returns-then-not-is_kept
-returns-then-not-is_kept c = λ lines read. takes_skipped lines c.args.line.now c.args.self.now (search rules) read
