@@ -1,9 +1,4 @@
-pub mod Domains
 pub mod Ends
-pub mod Mains
-pub mod Halting
-pub mod Items
-pub mod Members
-pub mod Paths
+pub mod StoredFiles
 pub mod Tops
-pub mod Wholes
+pub mod WrittenUnits

@@ -4,12 +4,13 @@ use Rattle.jbase.specs.Causes.{Rose}
 use Rattle.jio.specs.Held.{File}
 use Rattle.jjob.specs.declared.command.Command.{Command}
 use Rattle.jjob.specs.Words.{Word, command}
-use Rattle.jdriver.specs.declared.task.Task.{Task}
-use Rattle.jdriver.specs.declared.status.Status.{Status}
-use Rattle.jdriver.specs.declared.status.Status.TheVariants as statuses
-use Rattle.jdriver.specs.Stages.{Stopped, Missing, Misses}
-use Rattle.jdriver.specs.Tasks.{built, task}
-use Rattle.jdriver.specs.Answers.{Answer, Answers, accepted, answer, stopped_or_shown}
+use Rattle.jshow.specs.declared.status.Status.{Status}
+use Rattle.jshow.specs.declared.status.Status.TheVariants as statuses
+use Rattle.jshow.specs.Answering.{Answer, Answers}
+use Rattle.jtask.specs.declared.task.Task.{Task}
+use Rattle.jtask.specs.Stages.{Stopped, Missing, Misses}
+use Rattle.jtask.specs.Tasks.{built, task}
+use Rattle.jdriver.specs.Answers.{accepted, answer, stopped_or_shown}
 
 pub answer_is : (c : Command) (files : List File) (read : Result Task Stopped) → task c files ≡ read → answer c files ≡ stopped_or_shown read
 unfolding answer
@@ -19,18 +20,19 @@ some_is : {A : Type 0} (a b : A) → Some a ≡ Some b → a ≡ b
 some_is a b e = cc
 
 -- what an answer's own status or want of memory is
-pub own_status : (a : Answer) (s t : Status) (old new : Option (List ℕ)) → Answers a s old new → a.status ≡ Some t → (s ≡ statuses.ReadFault → ⊥) → (s ≡ statuses.WriteFault → ⊥) → (s ≡ t) ⊎ (s ≡ statuses.OutOfMemory)
-own_status a statuses.Finished t old new h is nr nw = inl (some_is _ _ (sym h.0 ∙ is))
-own_status a statuses.Uncaught t old new h is nr nw = inl (some_is _ _ (sym h.0 ∙ is))
-own_status a statuses.Usage t old new h is nr nw = inl (some_is _ _ (sym h.0 ∙ is))
-own_status a statuses.Refused t old new h is nr nw = inl (some_is _ _ (sym h.0 ∙ is))
-own_status a statuses.Bound t old new h is nr nw = inl (some_is _ _ (sym h.0 ∙ is))
-own_status a statuses.HeapFull t old new h is nr nw = inl (some_is _ _ (sym h.0 ∙ is))
-own_status a statuses.Deadlock t old new h is nr nw = inl (some_is _ _ (sym h.0 ∙ is))
-own_status a statuses.ReadFault t old new h is nr nw = absurd (nr refl)
-own_status a statuses.WriteFault t old new h is nr nw = absurd (nw refl)
-own_status a statuses.OutOfMemory t old new h is nr nw = inr refl
-own_status a statuses.Stuck t old new h is nr nw = inl (some_is _ _ (sym h.0 ∙ is))
+pub own_status : (a : Answer) (s t : Status) (old new : Option (List ℕ)) → Answers a s old new → a.status ≡ Some t → (s ≡ statuses.ReadFault → ⊥) → (s ≡ statuses.StoreFault → ⊥) → (s ≡ statuses.WriteFault → ⊥) → (s ≡ t) ⊎ (s ≡ statuses.OutOfMemory)
+own_status a statuses.Finished t old new h is nr ns nw = inl (some_is _ _ (sym h.0 ∙ is))
+own_status a statuses.Uncaught t old new h is nr ns nw = inl (some_is _ _ (sym h.0 ∙ is))
+own_status a statuses.Usage t old new h is nr ns nw = inl (some_is _ _ (sym h.0 ∙ is))
+own_status a statuses.Refused t old new h is nr ns nw = inl (some_is _ _ (sym h.0 ∙ is))
+own_status a statuses.Bound t old new h is nr ns nw = inl (some_is _ _ (sym h.0 ∙ is))
+own_status a statuses.HeapFull t old new h is nr ns nw = inl (some_is _ _ (sym h.0 ∙ is))
+own_status a statuses.Deadlock t old new h is nr ns nw = inl (some_is _ _ (sym h.0 ∙ is))
+own_status a statuses.ReadFault t old new h is nr ns nw = absurd (nr refl)
+own_status a statuses.WriteFault t old new h is nr ns nw = absurd (nw refl)
+own_status a statuses.StoreFault t old new h is nr ns nw = absurd (ns refl)
+own_status a statuses.OutOfMemory t old new h is nr ns nw = inr refl
+own_status a statuses.Stuck t old new h is nr ns nw = inl (some_is _ _ (sym h.0 ∙ is))
 
 same_files : (held : Option (List File)) (files others : List File) → held ≡ Some files → held ≡ Some others → others ≡ files
 same_files held files others e h = some_is others files (sym h ∙ e)

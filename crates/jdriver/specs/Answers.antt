@@ -1,7 +1,7 @@
 -- What the program answers to its words, over the files that are held.
-use Rattle.std.specs.Prelude.{◌≡◌, ◌⊎◌, ℕ, List, [], ◌++◌, length, Option, Some, None, Result, Ok, Err, codes, decimal, option_and_then, if◌then◌else◌, String}
+use Rattle.std.specs.Prelude.{◌≡◌, ◌⊎◌, ℕ, Bool, false, List, [], ◌++◌, length, Option, Some, None, Result, Ok, Err, codes, decimal, option_and_then, if◌then◌else◌, String}
 use Rattle.std.specs.declared.alloc.Global.{Global}
-use Rattle.jbase.specs.Causes.{Rose, appended, IsCut}
+use Rattle.jbase.specs.Causes.{Rose}
 use Rattle.jio.specs.Held.{File}
 use Rattle.jdomain.specs.Domains.{has}
 use Rattle.jmachine.specs.Machine.{run}
@@ -9,54 +9,51 @@ use Rattle.jmachine.specs.Runs.{Run, run_text, ending}
 use Rattle.jrules.specs.Inspecting.{rules as inspecting}
 use Rattle.jjob.specs.declared.command.Command.{Command}
 use Rattle.jjob.specs.Words.{Word, command, words_of}
-use Rattle.jdriver.specs.declared.task.Task.{Task}
-use Rattle.jdriver.specs.declared.task.Task.TheVariants as tasks
-use Rattle.jdriver.specs.declared.status.Status.{Status}
-use Rattle.jdriver.specs.declared.status.Status.TheVariants as statuses
-use Rattle.jdriver.specs.Checking.{methods_of}
-use Rattle.jdriver.specs.Listings.{listing}
-use Rattle.jdriver.specs.Refusals.{refusal_line}
-use Rattle.jdriver.specs.Stages.{Stopped, Missing, Refused, Misses}
-use Rattle.jdriver.specs.Statuses.{status_of}
-use Rattle.jdriver.specs.Tasks.{built, task}
-
--- a text, and a status where there is one
-pub record Answer : Type 0 where
-  pub text : List ℕ
-  pub status : Option Status
+use Rattle.jshow.specs.declared.status.Status.{Status}
+use Rattle.jshow.specs.declared.status.Status.TheVariants as statuses
+use Rattle.jshow.specs.Answering.{Answer, listed, refused_answer}
+use Rattle.jshow.specs.Counting.{checked_line, methods_of}
+use Rattle.jshow.specs.Listings.{listing}
+use Rattle.jshow.specs.Refusals.{refusal_line}
+use Rattle.jshow.specs.Statuses.{status_of}
+use Rattle.jtask.specs.declared.task.Task.{Task}
+use Rattle.jtask.specs.declared.task.Task.TheVariants as tasks
+use Rattle.jtask.specs.Stages.{Stopped, Missing, Refused, Misses}
+use Rattle.jtask.specs.Tasks.{built, stores, task}
+use Rattle.jdriver.specs.Folders.{files_below}
+use Rattle.jdriver.specs.Storing.{StoresFront, with_files}
 
 abbrev pub usage_line : List ℕ
 usage_line = codes "usage: javasec VERB ARGUMENTS\n"
 
 abbrev pub usage_answer : Answer
-usage_answer = record { text = usage_line; status = Some statuses.Usage }
-
-abbrev pub refused_answer : List ℕ → Answer
-refused_answer line = record { text = line; status = Some statuses.Refused }
+usage_answer = record { text = usage_line; files = []; status = Some statuses.Usage }
 
 abbrev pub ran : {S : Type 0} → Run S → Answer
-ran r = record { text = run_text r; status = Some (status_of (ending r)) }
+ran r = record { text = run_text r; files = []; status = Some (status_of (ending r)) }
 
-abbrev pub listed : List ℕ → Answer
-listed text = record { text = text; status = Some statuses.Finished }
+-- the line of a program that is rewritten: how many classes it has
+abbrev pub rewritten_line : ℕ → List ℕ
+rewritten_line classes = codes "rewritten " ++ (decimal classes ++ codes " classes\n")
 
--- the line of a program that is checked: how many classes it has, and how many of their methods have code
-abbrev pub checked_line : ℕ → ℕ → List ℕ
-checked_line classes methods = codes "checked " ++ (decimal classes ++ (codes " classes " ++ (decimal methods ++ codes " methods\n")))
+-- a program that is rewritten, with the files that are stored
+abbrev pub rewrote : List File → ℕ → Answer
+rewrote files classes = record { text = rewritten_line classes; files = files; status = Some statuses.Finished }
 
 -- what is told when a task is done
 unfoldable pub shown : Task → Answer
 shown (tasks.Run program domains plan) = ran (run (inspecting (has domains)) program plan plan.steps)
 shown (tasks.Policy sources domains) = listed (listing 0 sources domains)
 shown (tasks.Check program) = listed (checked_line (length program.parts) (methods_of program.parts))
+shown (tasks.Rewrite program job to) = rewrote (files_below to job program) (length program.parts)
 
 -- the same, where there may be none
 abbrev pub stopped_or_shown : Result Task Stopped → Answer
 stopped_or_shown (Ok it) = shown it
 stopped_or_shown (Err (Refused refusal)) = refused_answer (refusal_line refusal)
-stopped_or_shown (Err Missing) = record { text = []; status = None }
+stopped_or_shown (Err Missing) = record { text = []; files = []; status = None }
 
--- the text and the status at a command; there is none where a file that is to be read is missing or too long
+-- the text, the files that are stored and the status at a command; there is none of these where a file that is to be read is missing or too long
 unfoldable pub answer : Command → List File → Answer
 answer c files = stopped_or_shown (task c files)
 
@@ -79,13 +76,13 @@ answered words = answer_to (accepted (words_of words))
 
 -- ---- what a call answers
 
--- What the call answered and wrote is this answer. After a fault of reading nothing was written; after a fault of writing,
--- and where memory ran out, a front of its text.
-abbrev pub Answers : Answer → Status → Option (List ℕ) → Option (List ℕ) → Type 0
-Answers a statuses.ReadFault old new = new ≡ old
-Answers a statuses.WriteFault old new = IsCut old new a.text
-Answers a statuses.OutOfMemory old new = IsCut old new a.text
-Answers a status old new = (a.status ≡ Some status) × (new ≡ appended old a.text)
+-- What the call stored are these files. After a fault of reading nothing was stored; after a fault of storing, and where memory ran out, a
+-- front of them.
+abbrev pub Stores : List File → Status → Option (List File) → Option (List File) → Type 0
+Stores stored statuses.ReadFault old new = new ≡ old
+Stores stored statuses.StoreFault old new = StoresFront stored old new
+Stores stored statuses.OutOfMemory old new = StoresFront stored old new
+Stores stored status old new = new ≡ with_files stored old
 
 -- Usage comes exactly where the words are no command that is built; it yields to a fault of writing and to want of memory.
 abbrev pub UsageExactly : Option Command → Status → Type 0
@@ -96,9 +93,10 @@ UsageExactly None _ = ⊥
 UsageExactly (Some c) statuses.Usage = ⊥
 UsageExactly (Some c) _ = Unit {0}
 
--- Neither count of faults has risen, that of reads and that of puts.
-abbrev pub Calm : ℕ → ℕ → ℕ → ℕ → Type 0
-Calm read_before read_now put_before put_now = (Rose read_before read_now → ⊥) × (Rose put_before put_now → ⊥)
+-- None of the counts of faults has risen: that of reads, that of files that are stored, and that of puts.
+abbrev pub Calm : ℕ → ℕ → ℕ → ℕ → ℕ → ℕ → Type 0
+Calm read_before read_now store_before store_now put_before put_now =
+    (Rose read_before read_now → ⊥) × (Rose store_before store_now → ⊥) × (Rose put_before put_now → ⊥)
 
 -- The status is the answer's own over the files that are held, or memory ran out.
 abbrev pub Complete : (List File → Answer) → Option (List File) → Status → Type 0
@@ -108,3 +106,8 @@ Complete answer_over held s = (files : List File) (own : Status) → held ≡ So
 abbrev pub MissesAny : Option (List File) → Option Command → Type 0
 MissesAny held None = ⊥
 MissesAny held (Some c) = Misses held (task c)
+
+-- The words are a command that stores files.
+abbrev pub any_stores : Option Command → Bool
+any_stores None = false
+any_stores (Some c) = stores c

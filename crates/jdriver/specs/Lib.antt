@@ -1,9 +1,3 @@
 pub mod Answers
-pub mod Checking
-pub mod Grounds
-pub mod Linking
-pub mod Listings
-pub mod Refusals
-pub mod Stages
-pub mod Statuses
-pub mod Tasks
+pub mod Folders
+pub mod Storing

@@ -1,23 +1,27 @@
-ghost use Rattle.std.specs.Prelude.{◌≡◌, ◌≤◌, ◌⊎◌, is_some, length, true};
+ghost use Rattle.std.specs.Prelude.{◌≡◌, ◌≤◌, ◌⊎◌, List, false, is_some, length, true};
 ghost use Rattle.jbase.specs.Causes.{Rose};
+ghost use Rattle.jio.specs.Held.{File};
 ghost use Rattle.jdomain.specs.Domains.{has};
 ghost use Rattle.jmachine.specs.Machine.{run};
 ghost use Rattle.jrules.specs.Inspecting.{rules as inspecting};
 ghost use Rattle.juses.specs.Instructions.{code_at};
-ghost use Rattle.jdriver.specs.declared.status.Status.TheVariants.{ReadFault, Usage, WriteFault};
-ghost use Rattle.jdriver.specs.Answers.{Answers, listed, ran, shown, usage_answer};
-ghost use Rattle.jdriver.specs.Listings.{listing};
-ghost use Rattle.jdriver.specs.Tasks.{IsWhole};
+ghost use Rattle.jshow.specs.declared.status.Status.TheVariants.{Finished, ReadFault, StoreFault, Usage, WriteFault};
+ghost use Rattle.jshow.specs.Answering.{Answers, listed};
+ghost use Rattle.jshow.specs.Listings.{listing};
+ghost use Rattle.jtask.specs.Tasks.{IsWhole, is_stored};
+ghost use Rattle.jdriver.specs.Answers.{Stores, ran, rewrote, shown, usage_answer};
+ghost use Rattle.jdriver.specs.Folders.{files_below};
 
-use crate::counting::show_checked;
-use crate::listing::put_listing;
-use crate::status::{Status, status_of};
-use crate::task::Task;
+use crate::storing::{files_below, store_all};
 use jcheck::CheckedProgram;
 use jdomain::{CodeSource, Domains};
 use jinspect::run_inspect;
-use jio::{Sink, put_all};
+use jio::{Part, Shelf, ShelfError, Sink, put_all, write_line};
+use jjob::Text;
 use jmachine::Plan;
+use jrewrite::RewrittenProgram;
+use jshow::{Status, put_listing, show_checked, status_of};
+use jtask::Task;
 use jtrace::RunFault;
 use std::alloc::Global;
 
@@ -28,6 +32,7 @@ pub fn show_usage<K: Sink>(out: &mut K) -> Status
     ensures cause { result ≡ WriteFault → Rose (K.faults out.old) (K.faults out.new) }
     ensures read { result ≡ ReadFault → ⊥ }
     ensures usage { result ≡ Usage ⊎ result ≡ WriteFault }
+    ensures store { result ≡ StoreFault → ⊥ }
 {
     match put_all(out, b"usage: javasec VERB ARGUMENTS\n") {
         Ok(()) => Status::Usage,
@@ -50,6 +55,7 @@ fn show_run<K: Sink>(
     ensures cause { result ≡ WriteFault → Rose (K.faults out.old) (K.faults out.new) }
     ensures read { result ≡ ReadFault → ⊥ }
     ensures usage { result ≡ Usage → ⊥ }
+    ensures store { result ≡ StoreFault → ⊥ }
 {
     match run_inspect(alloc, program, domains, plan, out) {
         Ok(end) => status_of(end),
@@ -71,6 +77,7 @@ fn show_listing<K: Sink>(
     ensures cause { result ≡ WriteFault → Rose (K.faults out.old) (K.faults out.new) }
     ensures read { result ≡ ReadFault → ⊥ }
     ensures usage { result ≡ Usage → ⊥ }
+    ensures store { result ≡ StoreFault → ⊥ }
 {
     match put_listing(alloc, sources, domains, out) {
         Ok(()) => Status::Finished,
@@ -79,15 +86,68 @@ fn show_listing<K: Sink>(
     }
 }
 
-/// Does a task, and writes what it tells.
-#[tactic(auto, unfolding(crate::specs::Answers::shown))]
-pub fn show<K: Sink>(alloc: Global, task: &Task, out: &mut K) -> Status
-    requires { IsWhole task.now }
-    ensures answer { Answers (shown task.now) result (K.out out.old) (K.out out.new) }
+/// Writes the line of a program that is rewritten.
+fn put_rewritten<K: Sink>(classes: u64, out: &mut K) -> Status
+    ensures answer { (files : List File) → Answers (rewrote files classes) result (K.out out.old) (K.out out.new) }
+    ensures later { K.faults out.old ≤ K.faults out.new }
+    ensures cause { result ≡ WriteFault → Rose (K.faults out.old) (K.faults out.new) }
+    ensures done { result ≡ Finished ⊎ result ≡ WriteFault }
+{
+    let parts = [
+        Part::Plain("rewritten "),
+        Part::Number(classes),
+        Part::Plain(" classes"),
+    ];
+    match write_line(out, &parts) {
+        Ok(()) => Status::Finished,
+        Err(_) => Status::WriteFault,
+    }
+}
+
+/// Stores the files of a program that is rewritten, and writes its line.
+fn show_rewritten<S: Shelf, K: Sink>(
+    alloc: Global,
+    program: &RewrittenProgram,
+    job: &Text,
+    to: &Text,
+    shelf: &mut S,
+    out: &mut K,
+) -> Status
+    ensures answer { Answers (rewrote (files_below to.now job.now program.now) (length program.now.parts)) result (K.out out.old) (K.out out.new) }
+    ensures files { Stores (files_below to.now job.now program.now) result (S.held shelf.old) (S.held shelf.new) }
+    ensures reads { S.read_faults shelf.new ≡ S.read_faults shelf.old }
+    ensures stores_later { S.write_faults shelf.old ≤ S.write_faults shelf.new }
     ensures later { K.faults out.old ≤ K.faults out.new }
     ensures cause { result ≡ WriteFault → Rose (K.faults out.old) (K.faults out.new) }
     ensures read { result ≡ ReadFault → ⊥ }
     ensures usage { result ≡ Usage → ⊥ }
+    ensures store { result ≡ StoreFault → Rose (S.write_faults shelf.old) (S.write_faults shelf.new) }
+{
+    let Ok(files) = files_below(alloc, to, job, program) else {
+        return Status::OutOfMemory;
+    };
+    match store_all(alloc, files.as_slice(), shelf) {
+        Ok(()) => put_rewritten(program.linked().parts().len() as u64, out),
+        Err(ShelfError::Failed) => Status::StoreFault,
+        Err(ShelfError::Memory) => Status::OutOfMemory,
+    }
+}
+
+/// Does a task: stores its files, and writes what it tells.
+#[tactic(auto, unfolding(crate::specs::Answers::shown))]
+pub fn show<S: Shelf, K: Sink>(alloc: Global, task: &Task, shelf: &mut S, out: &mut K) -> Status
+    requires { IsWhole task.now }
+    ensures answer { Answers (shown task.now) result (K.out out.old) (K.out out.new) }
+    ensures files { Stores (shown task.now).files result (S.held shelf.old) (S.held shelf.new) }
+    ensures held { is_stored task.now ≡ false → S.held shelf.new ≡ S.held shelf.old }
+    ensures stored { is_stored task.now ≡ false → S.write_faults shelf.new ≡ S.write_faults shelf.old }
+    ensures reads { S.read_faults shelf.new ≡ S.read_faults shelf.old }
+    ensures stores_later { S.write_faults shelf.old ≤ S.write_faults shelf.new }
+    ensures later { K.faults out.old ≤ K.faults out.new }
+    ensures cause { result ≡ WriteFault → Rose (K.faults out.old) (K.faults out.new) }
+    ensures read { result ≡ ReadFault → ⊥ }
+    ensures usage { result ≡ Usage → ⊥ }
+    ensures store { result ≡ StoreFault → Rose (S.write_faults shelf.old) (S.write_faults shelf.new) }
 {
     match task {
         Task::Run {
@@ -96,6 +156,7 @@ pub fn show<K: Sink>(alloc: Global, task: &Task, out: &mut K) -> Status
             plan,
         } => show_run(alloc, program, domains, plan, out),
         Task::Check(program) => show_checked(program.linked().parts(), out),
+        Task::Rewrite { program, job, to } => show_rewritten(alloc, program, job, to, shelf, out),
         Task::Policy { sources, domains } => show_listing(alloc, sources.as_slice(), domains, out),
     }
 }

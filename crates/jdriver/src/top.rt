@@ -1,22 +1,21 @@
-ghost use Rattle.std.specs.Prelude.{◌≡◌, ◌≤◌, ◌⊎◌, IsTrue, List, Some};
+ghost use Rattle.std.specs.Prelude.{◌≡◌, ◌≤◌, ◌⊎◌, IsTrue, List, Some, false};
 ghost use Rattle.jbase.specs.Causes.{Rose};
 ghost use Rattle.jio.specs.Held.{File};
 ghost use Rattle.jjob.specs.Words.{words_of};
-ghost use Rattle.jdriver.specs.declared.status.Status.TheVariants.{ReadFault, Usage, WriteFault};
-ghost use Rattle.jdriver.specs.Answers.{Answers, Calm, Complete, UsageExactly, MissesAny, accepted, answer, answered};
-ghost use Rattle.jdriver.specs.Stages.{Misses};
-ghost use Rattle.jdriver.specs.Tasks.{built, task};
+ghost use Rattle.jshow.specs.declared.status.Status.TheVariants.{ReadFault, StoreFault, Usage, WriteFault};
+ghost use Rattle.jshow.specs.Answering.{Answers};
+ghost use Rattle.jtask.specs.Stages.{Misses};
+ghost use Rattle.jtask.specs.Tasks.{built, stores, task};
+ghost use Rattle.jdriver.specs.Answers.{Calm, Complete, MissesAny, Stores, UsageExactly, accepted, answer, answered, any_stores};
 
-use crate::halt::Halt;
-use crate::refusing::show_refusal;
 use crate::showing::{show, show_usage};
-use crate::status::Status;
-use crate::tasks::{is_built, task_of};
 use jio::{Shelf, Sink};
 use jjob::{Command, WordsError, read_words};
+use jshow::{Status, show_refusal};
+use jtask::{Halt, is_built, task_of};
 use std::alloc::Global;
 
-/// Does what a command asks for: reads the files that it names from a shelf, and writes to a sink. Condition: the command's verb and
+/// Does what a command asks for: reads the files that it names from a shelf, stores there what it makes, and writes to a sink. Condition: the command's verb and
 /// form are built.
 pub fn dispatch<S: Shelf, K: Sink>(
     alloc: Global,
@@ -28,29 +27,36 @@ pub fn dispatch<S: Shelf, K: Sink>(
     // The bytes that are written, and the status, are the answer to the command over the bytes of the files.
     ensures answer { (files : List File) → S.held shelf.old ≡ Some files → Answers (answer command.now files) result (K.out out.old) (K.out out.new) }
     ensures usage { result ≡ Usage → ⊥ }
-    // Nothing is stored.
-    ensures held { S.held shelf.new ≡ S.held shelf.old }
-    ensures stored { S.write_faults shelf.new ≡ S.write_faults shelf.old }
+    // The files that are stored are those of the answer.
+    ensures files { (files : List File) → S.held shelf.old ≡ Some files → Stores (answer command.now files).files result (S.held shelf.old) (S.held shelf.new) }
+    // A command that stores no files leaves those that are there.
+    ensures held { stores command.now ≡ false → S.held shelf.new ≡ S.held shelf.old }
+    ensures stored { stores command.now ≡ false → S.write_faults shelf.new ≡ S.write_faults shelf.old }
     // A fault of reading is told only where one was counted in this call, or where a file that is to be read is missing or too
     // long.
     ensures read { result ≡ ReadFault → Rose (S.read_faults shelf.old) (S.read_faults shelf.new) ⊎ Misses (S.held shelf.old) (task command.now) }
     // A fault of writing is told only where one was counted in this call.
     ensures write { result ≡ WriteFault → Rose (K.faults out.old) (K.faults out.new) }
+    // A fault of storing is told only where one was counted in this call.
+    ensures store { result ≡ StoreFault → Rose (S.write_faults shelf.old) (S.write_faults shelf.new) }
     // Where no fault is counted and each file that is to be read is there, the status is the answer's, or memory ran out.
-    ensures complete { Calm (S.read_faults shelf.old) (S.read_faults shelf.new) (K.faults out.old) (K.faults out.new) → Complete (answer command.now) (S.held shelf.old) result }
+    ensures complete { Calm (S.read_faults shelf.old) (S.read_faults shelf.new) (S.write_faults shelf.old) (S.write_faults shelf.new) (K.faults out.old) (K.faults out.new)
+        → Complete (answer command.now) (S.held shelf.old) result }
     ensures reads_later { S.read_faults shelf.old ≤ S.read_faults shelf.new }
+    ensures stores_later { S.write_faults shelf.old ≤ S.write_faults shelf.new }
     ensures puts_later { K.faults out.old ≤ K.faults out.new }
 {
     match task_of(alloc, command, shelf) {
-        Ok(task) => show(alloc, &task, out),
+        Ok(task) => show(alloc, &task, shelf, out),
         Err(Halt::Refused(refusal)) => show_refusal(alloc, &refusal, out),
         Err(Halt::Read) => Status::ReadFault,
         Err(Halt::Memory) => Status::OutOfMemory,
     }
 }
 
-/// Does all that the program does with its words: reads the files that they name from a shelf, and writes to a sink.
-#[tactic(auto, unfolding(crate::specs::Answers::accepted))]
+/// Does all that the program does with its words: reads the files that they name from a shelf, stores there what it makes, and writes to a
+/// sink.
+#[tactic(auto, unfolding(crate::specs::Answers::accepted), using(crate::proofs::StoredFiles::stores_nothing, crate::proofs::StoredFiles::front_same))]
 pub fn javasec<S: Shelf, K: Sink>(
     alloc: Global,
     words: &[String],
@@ -61,17 +67,23 @@ pub fn javasec<S: Shelf, K: Sink>(
     ensures answer { (files : List File) → S.held shelf.old ≡ Some files → Answers (answered words.now files) result (K.out out.old) (K.out out.new) }
     // Usage comes exactly where the words are no command that is built.
     ensures usage { UsageExactly (accepted (words_of words.now)) result }
-    // Nothing is stored.
-    ensures held { S.held shelf.new ≡ S.held shelf.old }
-    ensures stored { S.write_faults shelf.new ≡ S.write_faults shelf.old }
+    // The files that are stored are those of the answer.
+    ensures files { (files : List File) → S.held shelf.old ≡ Some files → Stores (answered words.now files).files result (S.held shelf.old) (S.held shelf.new) }
+    // A command that stores no files leaves those that are there.
+    ensures held { any_stores (accepted (words_of words.now)) ≡ false → S.held shelf.new ≡ S.held shelf.old }
+    ensures stored { any_stores (accepted (words_of words.now)) ≡ false → S.write_faults shelf.new ≡ S.write_faults shelf.old }
     // A fault of reading is told only where one was counted in this call, or where a file that is to be read is missing or too
     // long.
     ensures read { result ≡ ReadFault → Rose (S.read_faults shelf.old) (S.read_faults shelf.new) ⊎ MissesAny (S.held shelf.old) (accepted (words_of words.now)) }
     // A fault of writing is told only where one was counted in this call.
     ensures write { result ≡ WriteFault → Rose (K.faults out.old) (K.faults out.new) }
+    // A fault of storing is told only where one was counted in this call.
+    ensures store { result ≡ StoreFault → Rose (S.write_faults shelf.old) (S.write_faults shelf.new) }
     // Where no fault is counted and each file that is to be read is there, the status is the answer's, or memory ran out.
-    ensures complete { Calm (S.read_faults shelf.old) (S.read_faults shelf.new) (K.faults out.old) (K.faults out.new) → Complete (answered words.now) (S.held shelf.old) result }
+    ensures complete { Calm (S.read_faults shelf.old) (S.read_faults shelf.new) (S.write_faults shelf.old) (S.write_faults shelf.new) (K.faults out.old) (K.faults out.new)
+        → Complete (answered words.now) (S.held shelf.old) result }
     ensures reads_later { S.read_faults shelf.old ≤ S.read_faults shelf.new }
+    ensures stores_later { S.write_faults shelf.old ≤ S.write_faults shelf.new }
     ensures puts_later { K.faults out.old ≤ K.faults out.new }
 {
     let command = match read_words(alloc, words) {

@@ -27,10 +27,11 @@ fn explain(rt: &HostRuntime, status: Status, failed: Option<&str>) {
     let told = match status {
         Status::Usage => {
             eprintln!(rt;
-                "javasec: the commands are `run --form=inspect JOB`, `check JOB`, `check --form=plain JOB` and `policy JOB`"
+                "javasec: the commands are `run --form=inspect JOB`, `check JOB`, `check --form=plain JOB`, `rewrite JOB OUT` and `policy JOB`"
             )
         }
         Status::ReadFault => eprintln!(rt; "javasec: {path} could not be read"),
+        Status::StoreFault => eprintln!(rt; "javasec: {path} could not be stored"),
         Status::WriteFault => eprintln!(rt; "javasec: the output could not be written"),
         Status::OutOfMemory => eprintln!(rt; "javasec: no memory was left"),
         _ => Ok(()),

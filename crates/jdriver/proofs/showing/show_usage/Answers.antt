@@ -1,5 +1,5 @@
+use Rattle.jshow.proofs.Lines.{cut_line}
 use Rattle.jdriver.specs.Answers.{usage_line}
-use Rattle.jdriver.proofs.Ends.{cut_line}
 use Rattle.jdriver.proofs.showing.show_usage.Goals as goal
 
 pub returns-in-Err-clause-answer : goal.returns-in-Err-clause-answer

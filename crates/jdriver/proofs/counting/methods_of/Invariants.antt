@@ -1,7 +1,0 @@
-use Rattle.std.proofs.Common.{◌≡◌, take}
-use Rattle.std.specs.List.{sum_by}
-use Rattle.jdriver.specs.Checking.{methods_in}
-use Rattle.jdriver.proofs.counting.methods_of.Given as goal
-
-abbrev pub invariant-loop-part : goal.invariant-loop-part
-invariant-loop-part l = l.count ≡ sum_by methods_in (take l.part-index l.parts)

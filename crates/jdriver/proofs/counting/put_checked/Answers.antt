@@ -1,5 +1,0 @@
-use Rattle.jdriver.proofs.Ends.{cut_line}
-use Rattle.jdriver.proofs.counting.put_checked.Goals as goal
-
-pub returns-in-Err-clause-answer : goal.returns-in-Err-clause-answer
-returns-in-Err-clause-answer g c = cut_line _ _ _ c.in-Err.field-0.written c.in-Err.ensures.err

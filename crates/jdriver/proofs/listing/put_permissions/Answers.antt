@@ -1,9 +1,0 @@
-use Rattle.std.proofs.lemmas.Result.{err_from_is_err_and}
-use Rattle.jdriver.specs.Listings.{permission_line}
-use Rattle.jdriver.proofs.Items.{cut_item}
-use Rattle.jdriver.proofs.listing.put_permissions.Goals as goal
-
-pub returns-in_err-put_permission-clause-err : goal.returns-in_err-put_permission-clause-err
-returns-in_err-put_permission-clause-err g c =
-    let p = err_from_is_err_and c.from_residual.result c.from_residual.ensures.1 in
-    rw p.1 (cut_item permission_line c.args.permissions.now c.loop-permission.permission-index c.permission-item.result _ _ _ c.loop-permission-test.true c.permission-item.is c.loop-permission.invariant.written c.in_err-put_permission.ensures.err)

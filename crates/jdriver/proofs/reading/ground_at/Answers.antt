@@ -1,5 +1,0 @@
-use Rattle.jdriver.proofs.Wholes.{whole_ground}
-use Rattle.jdriver.proofs.reading.ground_at.Goals as goal
-
-pub returns-clause-whole : goal.returns-clause-whole
-returns-clause-whole g c = rw c.in_ok-ground.ensures (whole_ground c.in_ok-job.job c.in_ok-grants.grants)

@@ -1,4 +1,0 @@
-use Rattle.jdriver.proofs.refusing.put_check.Goals as goal
-
-pub returns-clause-answer : goal.returns-clause-answer
-returns-clause-answer g c = rw (← c.from-at.ensures) c.refuse.ensures.answer

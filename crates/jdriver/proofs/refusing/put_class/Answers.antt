@@ -1,7 +1,0 @@
-use Rattle.jdriver.proofs.refusing.put_class.Goals as goal
-
-pub returns-in-None-clause-answer : goal.returns-in-None-clause-answer
-returns-in-None-clause-answer g c = rw (← c.from-at.ensures, c.in-None.is) c.refuse.ensures.answer
-
-pub returns-in-Some-clause-answer : goal.returns-in-Some-clause-answer
-returns-in-Some-clause-answer g c = rw (← c.from-at.ensures, c.in-Some.is, ← c.from.ensures) c.refuse-in-Some.ensures.answer

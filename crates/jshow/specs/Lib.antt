@@ -1,0 +1,5 @@
+pub mod Answering
+pub mod Counting
+pub mod Listings
+pub mod Refusals
+pub mod Statuses

@@ -1,0 +1,136 @@
+-- The lines of refusals.
+use Rattle.std.specs.Prelude.{ℕ, List, ◌++◌, Option, Some, None, codes, decimal}
+use Rattle.jio.specs.Text.{written}
+use Rattle.jtext.specs.Texts.{units_of_text}
+use Rattle.jclass.specs.declared.fault.ClassFault.{ClassFault}
+use Rattle.jclass.specs.declared.fault.ClassFault.TheVariants as kinds
+use Rattle.jprogram.specs.declared.fault.LinkKind.{LinkKind}
+use Rattle.jprogram.specs.declared.fault.LinkKind.TheVariants as links
+use Rattle.jmoveclass.specs.declared.limit.RewriteKind.{RewriteKind}
+use Rattle.jmoveclass.specs.declared.limit.RewriteKind.TheVariants as limits
+use Rattle.jpolicy.specs.declared.fault.PolicyFault.{PolicyFault}
+use Rattle.jpolicy.specs.declared.fault.PolicyFault.TheVariants as policies
+use Rattle.jshow.specs.declared.refusal.Refusal.{Refusal}
+use Rattle.jshow.specs.declared.refusal.Refusal.TheVariants.{BadJob, BadPolicy, BadClass, BadLink, BadCheck, BadRewrite, NoMain}
+
+-- some words and a text, which is written as texts are in lines
+abbrev pub text_line : List ℕ → List ℕ → List ℕ
+text_line words units = words ++ (written units ++ codes "\n")
+
+-- ---- the refusal of a job
+
+abbrev pub job_line : ℕ → List ℕ
+job_line line = codes "refused job " ++ (decimal line ++ codes "\n")
+
+-- ---- the refusal of a class file
+
+-- a fault's name
+unfoldable pub class_word : ClassFault → List ℕ
+class_word kinds.Truncated = codes "truncated"
+class_word kinds.Magic = codes "magic"
+class_word kinds.Version = codes "version"
+class_word kinds.Tag = codes "tag"
+class_word kinds.Trailing = codes "trailing"
+class_word kinds.Text = codes "text"
+class_word kinds.Index = codes "index"
+class_word kinds.Name = codes "name"
+class_word kinds.Descriptor = codes "descriptor"
+class_word kinds.Code = codes "code"
+class_word (kinds.Opcode opcode) = codes "opcode"
+class_word (kinds.LeftOut opcode) = codes "leftout"
+class_word kinds.Operand = codes "operand"
+class_word kinds.Target = codes "target"
+class_word kinds.Reserved = codes "reserved"
+class_word kinds.MapTag = codes "maptag"
+class_word kinds.MapLeftOut = codes "leftout"
+class_word kinds.Maps = codes "maps"
+
+-- the opcode that it names, if it does
+unfoldable pub class_opcode : ClassFault → Option ℕ
+class_opcode (kinds.Opcode opcode) = Some opcode
+class_opcode (kinds.LeftOut opcode) = Some opcode
+class_opcode _ = None
+
+-- what stands behind the name, to the end of the line
+abbrev pub behind_word : Option ℕ → List ℕ
+behind_word None = codes "\n"
+behind_word (Some number) = codes " " ++ (decimal number ++ codes "\n")
+
+abbrev pub class_text : List ℕ → ℕ → List ℕ → Option ℕ → List ℕ
+class_text path at word opcode = codes "refused class " ++ (written path ++ (codes " at " ++ (decimal at ++ (codes " " ++ (word ++ behind_word opcode)))))
+
+abbrev pub class_line : List ℕ → ℕ → ClassFault → List ℕ
+class_line path at kind = class_text (units_of_text path) at (class_word kind) (class_opcode kind)
+
+-- ---- the refusal of a policy
+
+unfoldable pub policy_word : PolicyFault → List ℕ
+policy_word policies.NotUtf8 = codes "not-utf8"
+policy_word policies.Syntax = codes "syntax"
+policy_word policies.SelfExpansion = codes "self-expansion"
+
+abbrev pub policy_line : ℕ → PolicyFault → List ℕ
+policy_line at kind = codes "refused policy " ++ (decimal at ++ (codes " " ++ (policy_word kind ++ codes "\n")))
+
+-- ---- the refusal of classes that don't link
+
+-- a broken rule's name
+unfoldable pub link_word : LinkKind → List ℕ
+link_word links.Twice = codes "twice"
+link_word links.NoClass = codes "noclass"
+link_word links.Circular = codes "circular"
+link_word links.BadSuper = codes "badsuper"
+link_word links.FinalMethod = codes "finalmethod"
+link_word links.NoMember = codes "nomember"
+link_word links.NotAccessible = codes "notaccessible"
+link_word links.OverridesLibrary = codes "overrideslibrary"
+link_word links.ReservedName = codes "reservedname"
+link_word links.LeftOut = codes "leftout"
+link_word links.BadUse = codes "baduse"
+
+-- a member's name and descriptor, or a dash where there is no member
+abbrev pub member_or_dash : Option (List ℕ) → List ℕ
+member_or_dash None = codes "-"
+member_or_dash (Some units) = written units
+
+abbrev pub link_text : List ℕ → Option (List ℕ) → List ℕ → List ℕ
+link_text class member word = codes "refused link " ++ (written class ++ (codes " " ++ (member_or_dash member ++ (codes " " ++ (word ++ codes "\n")))))
+
+abbrev pub link_line : List ℕ → Option (List ℕ) → LinkKind → List ℕ
+link_line class member kind = link_text class member (link_word kind)
+
+-- ---- the refusal of a program that isn't well typed
+
+abbrev pub check_line : List ℕ → List ℕ → ℕ → List ℕ
+check_line class member at = codes "refused check " ++ (written class ++ (codes " " ++ (written member ++ (codes " at " ++ (decimal at ++ codes "\n")))))
+
+-- ---- the refusal of a program that can't be moved
+
+-- a limit's name
+unfoldable pub limit_word : RewriteKind → List ℕ
+limit_word limits.Slots = codes "slots"
+limit_word limits.Locals = codes "locals"
+limit_word limits.Stack = codes "stack"
+limit_word (limits.TooLong n) = codes "too long"
+limit_word limits.PoolFull = codes "pool"
+
+-- how many bytes of code there would be, where that is the limit
+unfoldable pub limit_size : RewriteKind → Option ℕ
+limit_size (limits.TooLong n) = Some n
+limit_size _ = None
+
+abbrev pub rewrite_text : List ℕ → List ℕ → List ℕ → Option ℕ → List ℕ
+rewrite_text class member word size = codes "refused rewrite " ++ (written class ++ (codes " " ++ (member ++ (codes " " ++ (word ++ behind_word size)))))
+
+abbrev pub rewrite_line : List ℕ → Option (List ℕ) → RewriteKind → List ℕ
+rewrite_line class member kind = rewrite_text class (member_or_dash member) (limit_word kind) (limit_size kind)
+
+-- a refusal's line
+abbrev pub refusal_line : Refusal → List ℕ
+refusal_line (BadJob line) = job_line line
+refusal_line (BadPolicy at kind) = policy_line at kind
+refusal_line (BadClass path at kind) = class_line path at kind
+refusal_line (BadLink class member kind) = link_line class member kind
+refusal_line (BadCheck class member at) = check_line class member at
+refusal_line (BadRewrite class member kind) = rewrite_line class member kind
+refusal_line (NoMain name) = text_line (codes "refused main ") name

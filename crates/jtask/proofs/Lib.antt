@@ -1,0 +1,6 @@
+pub mod Halting
+pub mod Mains
+pub mod Members
+pub mod Paths
+pub mod Sides
+pub mod Wholes

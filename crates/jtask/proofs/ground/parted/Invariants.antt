@@ -1,0 +1,10 @@
+use Rattle.std.proofs.Common.{◌≡◌, length}
+use Rattle.jtask.specs.Grounds.{paths_from, urls_of}
+use Rattle.jtask.proofs.ground.parted.Given as goal
+
+abbrev pub invariant-loop-one : goal.invariant-loop-one
+invariant-loop-one l = record {
+  urls : l.urls ≡ urls_of l.yielded;
+  classes : l.classes ≡ paths_from 0 l.yielded;
+  count : l.domain ≡ length l.yielded;
+}

@@ -1,0 +1,5 @@
+use Rattle.jtask.proofs.Wholes.{whole_ground}
+use Rattle.jtask.proofs.reading.ground_in.Goals as goal
+
+pub returns-clause-whole : goal.returns-clause-whole
+returns-clause-whole g c = rw c.in_ok-ground.ensures (whole_ground c.in_ok-job.job c.in_ok-grants.grants)

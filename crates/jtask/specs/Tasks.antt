@@ -1,0 +1,176 @@
+-- What is to be done at a command with the files that are held: they are read in the order job, policy, class files, and each is
+-- judged before the next is read; then the classes link, then `main` is looked for where they are to be run, then they are checked, and
+-- then the limits of moving are looked at where they are to be rewritten.
+use Rattle.std.specs.Prelude.{◌≡◌, ℕ, ◌-◌, Bool, true, false, List, [], length, Option, Some, None, Result, Ok, Err, is_some}
+use Rattle.std.specs.List.{flat_map}
+use Rattle.jbase.specs.Each.{each}
+use Rattle.jbase.specs.Stops.{◌>>=◌}
+use Rattle.jio.specs.Held.{File}
+use Rattle.jtext.specs.Modified.{group}
+use Rattle.jformat.specs.declared.error.At.{At}
+use Rattle.jformat.specs.declared.error.Fault.{Fault}
+use Rattle.jclass.specs.declared.class.ClassParts.{ClassParts}
+use Rattle.jclass.specs.declared.fault.ClassFault.{ClassFault}
+use Rattle.jclass.specs.Class.{class_file}
+use Rattle.jpolicy.specs.declared.fault.PolicyFault.{PolicyFault}
+use Rattle.jpolicy.specs.declared.grant.Grant.{Grant}
+use Rattle.jpolicy.specs.Policies.{policy}
+use Rattle.jjob.specs.declared.command.Command.{Command}
+use Rattle.jjob.specs.declared.command.Command.TheVariants as commands
+use Rattle.jjob.specs.declared.command.Form.{Form}
+use Rattle.jjob.specs.declared.command.Form.TheVariants.{Inspect, Plain}
+use Rattle.jjob.specs.declared.job.Job.{Job}
+use Rattle.jjob.specs.Jobs.{job}
+use Rattle.jlib.specs.declared.side.Side.{Side}
+use Rattle.jlib.specs.declared.side.Side.TheVariants.{Source, Passing}
+use Rattle.jprogram.specs.declared.part.CodePart.{CodePart}
+use Rattle.jprogram.specs.Classes.{program}
+use Rattle.jprogram.specs.Members.{main_of}
+use Rattle.juses.specs.Instructions.{code_at}
+use Rattle.jshow.specs.declared.refusal.Refusal.TheVariants.{BadJob, BadPolicy, BadClass, NoMain}
+use Rattle.jtask.specs.declared.ground.ClassPath.{ClassPath}
+use Rattle.jtask.specs.declared.ground.Ground.{Ground}
+use Rattle.jtask.specs.declared.task.Task.{Task}
+use Rattle.jtask.specs.declared.task.Task.TheVariants as tasks
+use Rattle.jtask.specs.Checking.{checked}
+use Rattle.jtask.specs.Grounds.{ground_of, plan_of}
+use Rattle.jtask.specs.Linking.{linked}
+use Rattle.jtask.specs.Rewriting.{rewritten}
+use Rattle.jtask.specs.Stages.{Stopped, Missing, Refused, judged, bytes_at}
+
+-- ---- the job and its policy
+
+-- the job that is read, or its refusal at the first bad line
+abbrev pub job_read : Result Job ℕ → Result Job Stopped
+job_read (Ok it) = Ok it
+job_read (Err line) = Err (Refused (BadJob line))
+
+-- the grants that are read, or their refusal at the first fault
+abbrev pub grants_read : Result (List Grant) (At PolicyFault) → Result (List Grant) Stopped
+grants_read (Ok grants) = Ok grants
+grants_read (Err fault) = Err (Refused (BadPolicy fault.at fault.kind))
+
+-- the grants of a job's policy, expanded by the job's properties; a job without a policy has none
+abbrev pub grants_of : List File → List (List ℕ × List ℕ) → Option (List ℕ) → Result (List Grant) Stopped
+grants_of files props None = Ok []
+grants_of files props (Some path) = bytes_at files path >>= λ bytes. grants_read (policy props bytes)
+
+unfoldable pub grants_at : List File → Job → Result (List Grant) Stopped
+grants_at files it = grants_of files it.props it.policy
+
+-- what the job of a text and its policy say
+unfoldable pub ground_in : List File → List ℕ → Result Ground Stopped
+ground_in files text = job_read (job text) >>= λ it. grants_at files it >>= λ grants. Ok (ground_of it grants)
+
+-- what the job at a path and its policy say
+unfoldable pub ground_at : List File → List ℕ → Result Ground Stopped
+ground_at files path = bytes_at files path >>= λ text. ground_in files text
+
+-- ---- class files
+
+-- the class file that is read, or its refusal at the first fault
+abbrev pub class_read : List ℕ → List ℕ → Result ClassParts (Fault ClassFault) → Result ClassParts Stopped
+class_read path bytes (Ok class) = Ok class
+class_read path bytes (Err fault) = Err (Refused (BadClass path (length bytes - fault.left) fault.kind))
+
+-- the class file at a path
+unfoldable pub class_at : List File → List ℕ → Result ClassParts Stopped
+class_at files path = bytes_at files path >>= λ bytes. class_read path bytes (class_file.read bytes)
+
+-- the class file at a path, with the number of its code source
+unfoldable pub part_at : List File → ClassPath → Result CodePart Stopped
+part_at files one = class_at files one.path >>= λ class. Ok (record { domain = one.domain; class = class })
+
+-- ---- a run
+
+-- the run of these classes: they link, the main class has a `main`, and they are well typed
+abbrev pub run_of_parts : Ground → List CodePart → Result Task Stopped
+run_of_parts g parts =
+    linked (program Source parts) >>= λ p.
+    judged (NoMain g.main) (main_of p (flat_map group g.main)) >>= λ main.
+    checked p >>= λ q.
+    Ok (tasks.Run q g.domains (plan_of g.setting main))
+
+unfoldable pub run_of_ground : List File → Ground → Result Task Stopped
+run_of_ground files g = each (part_at files) g.classes >>= λ parts. run_of_parts g parts
+
+unfoldable pub run_at : List File → List ℕ → Result Task Stopped
+run_at files path = ground_at files path >>= λ g. run_of_ground files g
+
+-- ---- a check
+
+-- the library against which a form is checked: the passing side's for what is run without a look at frames, and else the source side's
+abbrev pub side_of : Form → Side
+side_of Plain = Passing
+side_of _ = Source
+
+-- the check of these classes on a side: they link, and they are well typed
+abbrev pub check_of_parts : Side → List CodePart → Result Task Stopped
+check_of_parts side parts = linked (program side parts) >>= λ p. checked p >>= λ q. Ok (tasks.Check q)
+
+unfoldable pub check_of_ground : List File → Side → Ground → Result Task Stopped
+check_of_ground files side g = each (part_at files) g.classes >>= λ parts. check_of_parts side parts
+
+unfoldable pub check_at : List File → Side → List ℕ → Result Task Stopped
+check_at files side path = ground_at files path >>= λ g. check_of_ground files side g
+
+-- ---- a rewriting
+
+-- the rewriting of these classes: they link, they are well typed, and they break no limit
+abbrev pub rewrite_of_parts : List ℕ → List ℕ → List CodePart → Result Task Stopped
+rewrite_of_parts text to parts =
+    linked (program Source parts) >>= λ p.
+    checked p >>= λ q.
+    rewritten q >>= λ r.
+    Ok (tasks.Rewrite r text to)
+
+unfoldable pub rewrite_of_ground : List File → List ℕ → List ℕ → Ground → Result Task Stopped
+rewrite_of_ground files text to g = each (part_at files) g.classes >>= λ parts. rewrite_of_parts text to parts
+
+-- the rewriting of the classes of a job of this text
+unfoldable pub rewrite_of_text : List File → List ℕ → List ℕ → Result Task Stopped
+rewrite_of_text files to text = ground_in files text >>= λ g. rewrite_of_ground files text to g
+
+unfoldable pub rewrite_at : List File → List ℕ → List ℕ → Result Task Stopped
+rewrite_at files to path = bytes_at files path >>= λ text. rewrite_of_text files to text
+
+-- ---- by verb
+
+-- what the job at a path grants; no class file is read
+unfoldable pub policy_at : List File → List ℕ → Result Task Stopped
+policy_at files path = ground_at files path >>= λ g. Ok (tasks.Policy g.sources g.domains)
+
+-- the commands that are built
+abbrev pub built : Command → Bool
+built (commands.Run Inspect path) = true
+built (commands.Check form path) = true
+built (commands.Rewrite path to) = true
+built (commands.Policy path) = true
+built _ = false
+
+-- the commands that store files
+abbrev pub stores : Command → Bool
+stores (commands.Rewrite path to) = true
+stores _ = false
+
+-- What a command asks for. The others aren't built, and nobody comes with one.
+unfoldable pub task : Command → List File → Result Task Stopped
+task (commands.Run form path) files = run_at files path
+task (commands.Check form path) files = check_at files (side_of form) path
+task (commands.Rewrite path to) files = rewrite_at files to path
+task (commands.Policy path) files = policy_at files path
+task _ files = Err Missing
+
+-- ---- tasks
+
+-- a program is run from a method with code, and each code source has its permissions
+abbrev pub IsWhole : Task → Type 0
+IsWhole (tasks.Run program domains plan) = is_some (code_at program plan.main) ≡ true
+IsWhole (tasks.Check program) = Unit {0}
+IsWhole (tasks.Rewrite program job to) = Unit {0}
+IsWhole (tasks.Policy sources domains) = length domains ≡ length sources
+
+-- files are stored for it
+abbrev pub is_stored : Task → Bool
+is_stored (tasks.Rewrite program job to) = true
+is_stored _ = false

@@ -1,0 +1,30 @@
+use jbase::Seq;
+use jcheck::CheckedProgram;
+use jdomain::{CodeSource, Domains};
+use jjob::Text;
+use jmachine::Plan;
+use jrewrite::RewrittenProgram;
+
+/// What is to be done, when all files are read and judged.
+#[derive(Drop)]
+pub enum Task {
+    /// A program is to be run.
+    Run {
+        program: CheckedProgram,
+        domains: Domains,
+        plan: Plan,
+    },
+    /// How much of a program was checked is to be written.
+    Check(CheckedProgram),
+    /// A moved program is to be stored in a folder, with the job that it was moved from.
+    Rewrite {
+        program: RewrittenProgram,
+        job: Text,
+        to: Text,
+    },
+    /// The permissions of each code source are to be written.
+    Policy {
+        sources: Seq<CodeSource>,
+        domains: Domains,
+    },
+}

@@ -1,0 +1,282 @@
+ghost use Rattle.std.specs.Prelude.{◌≡◌, ◌≤◌, ◌<◌, ◌^◌, ◌⊎◌, ℕ, Err, IfOk, IsTrue, List, None, Some, false, length, true};
+ghost use Rattle.std.specs.List.{flat_map};
+ghost use Rattle.jbase.specs.Causes.{Rose};
+ghost use Rattle.jio.specs.Held.{File};
+ghost use Rattle.jtext.specs.Modified.{group};
+ghost use Rattle.jprogram.specs.Members.{main_of};
+ghost use Rattle.jtask.specs.declared.halt.Halt.TheVariants.{Read};
+ghost use Rattle.jtask.specs.Stages.{Excused, Follows, judged};
+ghost use Rattle.jtask.specs.Tasks.{IsWhole, built, check_at, check_of_ground, check_of_parts, is_stored, policy_at, run_at, run_of_ground, run_of_parts, side_of, stores, task};
+ghost use Rattle.jtask.specs.Tasks.{rewrite_at, rewrite_of_ground, rewrite_of_parts, rewrite_of_text};
+
+use crate::checking::checked;
+use crate::ground::Ground;
+use crate::halt::Halt;
+use crate::linking::linked;
+use crate::reading::{ground_at, ground_in, parts_at, read_at, text_in};
+use crate::rewriting::rewritten;
+use crate::task::Task;
+use jbase::Seq;
+use jio::Shelf;
+use jjob::{Command, Form, Text};
+use jlib::Side;
+use jlink::LinkedProgram;
+use jprogram::{CodePart, MethodId};
+use jshow::Refusal;
+use jtext::{Units, bytes_of};
+use std::alloc::Global;
+
+/// Whether a command is built.
+pub fn is_built(command: &Command) -> bool
+    ensures { result ≡ built command.now }
+{
+    match command {
+        Command::Run { form, .. } => match form {
+            Form::Inspect => true,
+            _ => false,
+        },
+        Command::Check { .. } | Command::Rewrite { .. } | Command::Policy { .. } => true,
+        _ => false,
+    }
+}
+
+// ---- a run
+
+fn no_main<T>(alloc: Global, name: &Units) -> Result<T, Halt>
+    ensures value { Follows (λ x. x) result (judged (Refusal.NoMain name.now) None) }
+    ensures unread { result ≡ Err Read → ⊥ }
+{
+    let name = name.copy(alloc)?;
+    Err(Halt::Refused(Refusal::NoMain(name)))
+}
+
+/// The first method of a program: `main` of the class with this name.
+fn main_named(alloc: Global, program: &LinkedProgram, name: &Units) -> Result<MethodId, Halt>
+    ensures value { Follows (λ x. x) result (judged (Refusal.NoMain name.now) (main_of program.now (flat_map group name.now))) }
+    ensures unread { result ≡ Err Read → ⊥ }
+{
+    let bytes = bytes_of(alloc, name)?;
+    match program.main_of(bytes.as_slice()) {
+        Some(main) => Ok(main),
+        None => no_main(alloc, name),
+    }
+}
+
+/// The run of the classes that were read for a job.
+#[tactic(auto, using(crate::proofs::Mains::run_coded))]
+fn run_of_parts(alloc: Global, ground: Ground, parts: Seq<CodePart>) -> Result<Task, Halt>
+    ensures value { Follows (λ x. x) result (run_of_parts ground parts) }
+    ensures whole { IfOk result IsWhole }
+    ensures kind { IfOk result (λ t. is_stored t ≡ false) }
+    ensures unread { result ≡ Err Read → ⊥ }
+{
+    let program = linked(alloc, parts, Side::Source)?;
+    let main = main_named(alloc, &program, &ground.main)?;
+    let program = checked(alloc, program)?;
+    Ok(Task::Run {
+        program,
+        domains: ground.domains,
+        plan: ground.setting.plan(main),
+    })
+}
+
+#[tactic(auto, unfolding(crate::specs::Tasks::run_of_ground))]
+fn run_of_ground<S: Shelf>(alloc: Global, ground: Ground, shelf: &mut S) -> Result<Task, Halt>
+    ensures value { (files : List File) → S.held shelf.old ≡ Some files → Follows (λ x. x) result (run_of_ground files ground) }
+    ensures whole { IfOk result IsWhole }
+    ensures kind { IfOk result (λ t. is_stored t ≡ false) }
+    ensures held { S.held shelf.new ≡ S.held shelf.old }
+    ensures stored { S.write_faults shelf.new ≡ S.write_faults shelf.old }
+    ensures later { S.read_faults shelf.old ≤ S.read_faults shelf.new }
+    ensures cause { Excused result (S.read_faults shelf.old) (S.read_faults shelf.new) (S.held shelf.old) (λ files. run_of_ground files ground) }
+{
+    let parts = parts_at(alloc, ground.classes.as_slice(), shelf)?;
+    run_of_parts(alloc, ground, parts)
+}
+
+#[tactic(auto, unfolding(crate::specs::Tasks::run_at))]
+fn run_at<S: Shelf>(alloc: Global, path: &str, shelf: &mut S) -> Result<Task, Halt>
+    ensures value { (files : List File) → S.held shelf.old ≡ Some files → Follows (λ x. x) result (run_at files path.now) }
+    ensures whole { IfOk result IsWhole }
+    ensures kind { IfOk result (λ t. is_stored t ≡ false) }
+    ensures held { S.held shelf.new ≡ S.held shelf.old }
+    ensures stored { S.write_faults shelf.new ≡ S.write_faults shelf.old }
+    ensures later { S.read_faults shelf.old ≤ S.read_faults shelf.new }
+    ensures cause { Excused result (S.read_faults shelf.old) (S.read_faults shelf.new) (S.held shelf.old) (λ files. run_at files path.now) }
+{
+    let ground = ground_at(alloc, path, shelf)?;
+    run_of_ground(alloc, ground, shelf)
+}
+
+// ---- a check
+
+/// The side against whose library a form is checked.
+fn side_of(form: Form) -> Side
+    ensures { result ≡ side_of form }
+{
+    match form {
+        Form::Plain => Side::Passing,
+        Form::Inspect | Form::Pass => Side::Source,
+    }
+}
+
+fn check_of_parts(alloc: Global, side: Side, parts: Seq<CodePart>) -> Result<Task, Halt>
+    ensures value { Follows (λ x. x) result (check_of_parts side parts) }
+    ensures whole { IfOk result IsWhole }
+    ensures kind { IfOk result (λ t. is_stored t ≡ false) }
+    ensures unread { result ≡ Err Read → ⊥ }
+{
+    let program = linked(alloc, parts, side)?;
+    let program = checked(alloc, program)?;
+    Ok(Task::Check(program))
+}
+
+#[tactic(auto, unfolding(crate::specs::Tasks::check_of_ground))]
+fn check_of_ground<S: Shelf>(
+    alloc: Global,
+    side: Side,
+    ground: Ground,
+    shelf: &mut S,
+) -> Result<Task, Halt>
+    ensures value { (files : List File) → S.held shelf.old ≡ Some files → Follows (λ x. x) result (check_of_ground files side ground) }
+    ensures whole { IfOk result IsWhole }
+    ensures kind { IfOk result (λ t. is_stored t ≡ false) }
+    ensures held { S.held shelf.new ≡ S.held shelf.old }
+    ensures stored { S.write_faults shelf.new ≡ S.write_faults shelf.old }
+    ensures later { S.read_faults shelf.old ≤ S.read_faults shelf.new }
+    ensures cause { Excused result (S.read_faults shelf.old) (S.read_faults shelf.new) (S.held shelf.old) (λ files. check_of_ground files side ground) }
+{
+    let parts = parts_at(alloc, ground.classes.as_slice(), shelf)?;
+    check_of_parts(alloc, side, parts)
+}
+
+#[tactic(auto, unfolding(crate::specs::Tasks::check_at))]
+fn check_at<S: Shelf>(alloc: Global, side: Side, path: &str, shelf: &mut S) -> Result<Task, Halt>
+    ensures value { (files : List File) → S.held shelf.old ≡ Some files → Follows (λ x. x) result (check_at files side path.now) }
+    ensures whole { IfOk result IsWhole }
+    ensures kind { IfOk result (λ t. is_stored t ≡ false) }
+    ensures held { S.held shelf.new ≡ S.held shelf.old }
+    ensures stored { S.write_faults shelf.new ≡ S.write_faults shelf.old }
+    ensures later { S.read_faults shelf.old ≤ S.read_faults shelf.new }
+    ensures cause { Excused result (S.read_faults shelf.old) (S.read_faults shelf.new) (S.held shelf.old) (λ files. check_at files side path.now) }
+{
+    let ground = ground_at(alloc, path, shelf)?;
+    check_of_ground(alloc, side, ground, shelf)
+}
+
+// ---- a rewriting
+
+/// The rewriting of the classes that were read for a job.
+#[tactic(auto, using(crate::proofs::Sides::on_source))]
+fn rewrite_of_parts(alloc: Global, text: Text, to: Text, parts: Seq<CodePart>) -> Result<Task, Halt>
+    ensures value { Follows (λ x. x) result (rewrite_of_parts text to parts) }
+    ensures whole { IfOk result IsWhole }
+    ensures kind { IfOk result (λ t. is_stored t ≡ true) }
+    ensures unread { result ≡ Err Read → ⊥ }
+{
+    let program = linked(alloc, parts, Side::Source)?;
+    let program = checked(alloc, program)?;
+    let program = rewritten(alloc, &program)?;
+    Ok(Task::Rewrite {
+        program,
+        job: text,
+        to,
+    })
+}
+
+#[tactic(auto, unfolding(crate::specs::Tasks::rewrite_of_ground))]
+fn rewrite_of_ground<S: Shelf>(
+    alloc: Global,
+    text: Text,
+    to: Text,
+    ground: Ground,
+    shelf: &mut S,
+) -> Result<Task, Halt>
+    ensures value { (files : List File) → S.held shelf.old ≡ Some files → Follows (λ x. x) result (rewrite_of_ground files text to ground) }
+    ensures whole { IfOk result IsWhole }
+    ensures kind { IfOk result (λ t. is_stored t ≡ true) }
+    ensures held { S.held shelf.new ≡ S.held shelf.old }
+    ensures stored { S.write_faults shelf.new ≡ S.write_faults shelf.old }
+    ensures later { S.read_faults shelf.old ≤ S.read_faults shelf.new }
+    ensures cause { Excused result (S.read_faults shelf.old) (S.read_faults shelf.new) (S.held shelf.old) (λ files. rewrite_of_ground files text to ground) }
+{
+    let parts = parts_at(alloc, ground.classes.as_slice(), shelf)?;
+    rewrite_of_parts(alloc, text, to, parts)
+}
+
+/// The rewriting of the classes of a job of this text.
+#[tactic(auto, unfolding(crate::specs::Tasks::rewrite_of_text))]
+fn rewrite_of_text<S: Shelf>(
+    alloc: Global,
+    text: &[u8],
+    to: &Text,
+    shelf: &mut S,
+) -> Result<Task, Halt>
+    requires { length text.now < 2 ^ 31 }
+    ensures value { (files : List File) → S.held shelf.old ≡ Some files → Follows (λ x. x) result (rewrite_of_text files to.now text.now) }
+    ensures whole { IfOk result IsWhole }
+    ensures kind { IfOk result (λ t. is_stored t ≡ true) }
+    ensures held { S.held shelf.new ≡ S.held shelf.old }
+    ensures stored { S.write_faults shelf.new ≡ S.write_faults shelf.old }
+    ensures later { S.read_faults shelf.old ≤ S.read_faults shelf.new }
+    ensures cause { Excused result (S.read_faults shelf.old) (S.read_faults shelf.new) (S.held shelf.old) (λ files. rewrite_of_text files to.now text.now) }
+{
+    let ground = ground_in(alloc, text, shelf)?;
+    let text = text_in(alloc, text)?;
+    let to = to.copy(alloc)?;
+    rewrite_of_ground(alloc, text, to, ground, shelf)
+}
+
+#[tactic(auto, unfolding(crate::specs::Tasks::rewrite_at))]
+fn rewrite_at<S: Shelf>(alloc: Global, path: &str, to: &Text, shelf: &mut S) -> Result<Task, Halt>
+    ensures value { (files : List File) → S.held shelf.old ≡ Some files → Follows (λ x. x) result (rewrite_at files to.now path.now) }
+    ensures whole { IfOk result IsWhole }
+    ensures kind { IfOk result (λ t. is_stored t ≡ true) }
+    ensures held { S.held shelf.new ≡ S.held shelf.old }
+    ensures stored { S.write_faults shelf.new ≡ S.write_faults shelf.old }
+    ensures later { S.read_faults shelf.old ≤ S.read_faults shelf.new }
+    ensures cause { Excused result (S.read_faults shelf.old) (S.read_faults shelf.new) (S.held shelf.old) (λ files. rewrite_at files to.now path.now) }
+{
+    let text = read_at(alloc, path, shelf)?;
+    rewrite_of_text(alloc, &text, to, shelf)
+}
+
+// ---- by verb
+
+#[tactic(auto, unfolding(crate::specs::Tasks::policy_at))]
+fn policy_at<S: Shelf>(alloc: Global, path: &str, shelf: &mut S) -> Result<Task, Halt>
+    ensures value { (files : List File) → S.held shelf.old ≡ Some files → Follows (λ x. x) result (policy_at files path.now) }
+    ensures whole { IfOk result IsWhole }
+    ensures kind { IfOk result (λ t. is_stored t ≡ false) }
+    ensures held { S.held shelf.new ≡ S.held shelf.old }
+    ensures stored { S.write_faults shelf.new ≡ S.write_faults shelf.old }
+    ensures later { S.read_faults shelf.old ≤ S.read_faults shelf.new }
+    ensures cause { Excused result (S.read_faults shelf.old) (S.read_faults shelf.new) (S.held shelf.old) (λ files. policy_at files path.now) }
+{
+    let ground = ground_at(alloc, path, shelf)?;
+    Ok(Task::Policy {
+        sources: ground.sources,
+        domains: ground.domains,
+    })
+}
+
+/// What a command that is built asks for.
+#[tactic(auto, unfolding(crate::specs::Tasks::task))]
+pub fn task_of<S: Shelf>(alloc: Global, command: &Command, shelf: &mut S) -> Result<Task, Halt>
+    requires { IsTrue (built command.now) }
+    ensures value { (files : List File) → S.held shelf.old ≡ Some files → Follows (λ x. x) result (task command.now files) }
+    ensures whole { IfOk result IsWhole }
+    ensures kind { IfOk result (λ t. is_stored t ≡ stores command.now) }
+    ensures held { S.held shelf.new ≡ S.held shelf.old }
+    ensures stored { S.write_faults shelf.new ≡ S.write_faults shelf.old }
+    ensures later { S.read_faults shelf.old ≤ S.read_faults shelf.new }
+    ensures cause { Excused result (S.read_faults shelf.old) (S.read_faults shelf.new) (S.held shelf.old) (λ files. task command.now files) }
+{
+    match command {
+        Command::Run { job, .. } => run_at(alloc, job.as_str(), shelf),
+        Command::Check { form, job } => check_at(alloc, side_of(*form), job.as_str(), shelf),
+        Command::Rewrite { job, to } => rewrite_at(alloc, job.as_str(), to, shelf),
+        Command::Policy { job } => policy_at(alloc, job.as_str(), shelf),
+        _ => unreachable!(),
+    }
+}
