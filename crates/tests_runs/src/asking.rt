@@ -1,4 +1,4 @@
-use crate::rows::{Asked, Faults, Row};
+use crate::rows::{Asked, Faults, Row, Stored};
 use jdriver::javasec;
 use jio::{MemoryShelf, MemorySink, Shelf};
 use std::alloc::{AllocError, Global};
@@ -13,12 +13,17 @@ struct Outcome {
     sink: MemorySink,
 }
 
+/// A word with a line feed for each `¶`, since a line of rows can't hold one.
+fn word_of(alloc: Global, word: &str) -> Result<String, AllocError> {
+    word.replace(alloc, '¶', "\n")
+}
+
 /// The words of a text, parted by single spaces.
 fn words_of(alloc: Global, text: &str) -> Result<Vec<String>, AllocError> {
     let mut words = Vec::new(alloc);
     for word in text.split(' ') {
         if !word.is_empty() {
-            words.push(String::from_str(alloc, word)?)?;
+            words.push(word_of(alloc, word)?)?;
         }
     }
     Ok(words)
@@ -46,33 +51,77 @@ fn file_of<S: Shelf>(alloc: Global, path: &str, shelf: &mut S) -> Result<Vec<u8>
     }
 }
 
-/// The files in memory of words `PATH=NAME`, each with what the file of its name holds.
+/// The file of a word `PATH=NAME`, with what the file of this name in the folder `memory` holds.
+fn named_file<S: Shelf>(
+    alloc: Global,
+    word: &str,
+    shelf: &mut S,
+) -> Result<(String, Vec<u8>), AllocError> {
+    let Some((path, name)) = word.split_once('=') else {
+        return Err(AllocError);
+    };
+    let name = format!(in alloc; "memory/{name}")?;
+    let bytes = file_of(alloc, name.as_str(), shelf)?;
+    Ok((word_of(alloc, path)?, bytes))
+}
+
+/// The path that a line of a job names, as a class file or a policy.
+fn named_in(line: &str) -> Option<&str> {
+    let (key, path) = line.split_once(' ')?;
+    if key == "class" || key == "policy" {
+        return Some(path);
+    }
+    None
+}
+
+/// A job at the path `job`, and the files that it names at their paths.
+fn files_of_job<S: Shelf>(alloc: Global, path: &str, shelf: &mut S) -> Result<Files, AllocError> {
+    let job = file_of(alloc, path, shelf)?;
+    let Ok(text) = str::from_utf8(job.as_slice()) else {
+        return Err(AllocError);
+    };
+    let mut files = Vec::new(alloc);
+    for line in text.lines() {
+        if let Some(path) = named_in(line) {
+            let bytes = file_of(alloc, path, shelf)?;
+            files.push((String::from_str(alloc, path)?, bytes))?;
+        }
+    }
+    files.push((String::from_str(alloc, "job")?, job))?;
+    Ok(files)
+}
+
+/// The files of words `PATH=NAME`, or of the job that is named behind the word `of`.
 fn files_of<S: Shelf>(alloc: Global, words: &str, shelf: &mut S) -> Result<Files, AllocError> {
+    if let Some(path) = words.strip_prefix("of ") {
+        return files_of_job(alloc, path, shelf);
+    }
     let mut files = Vec::new(alloc);
     for word in words.split(' ') {
-        let Some((path, name)) = word.split_once('=') else {
-            return Err(AllocError);
-        };
-        let name = format!(in alloc; "memory/{name}")?;
-        let bytes = file_of(alloc, name.as_str(), shelf)?;
-        files.push((String::from_str(alloc, path)?, bytes))?;
+        files.push(named_file(alloc, word, shelf)?)?;
     }
     Ok(files)
 }
 
-/// What the words answer over files in memory, whose paths differ.
+/// A shelf of files in memory, whose paths differ.
+fn memory_of(alloc: Global, files: Files, faults: Faults) -> Result<MemoryShelf, AllocError> {
+    if !MemoryShelf::paths_differ(&files) {
+        return Err(AllocError);
+    }
+    let reads = vec![in alloc; faults.read]?;
+    let writes = vec![in alloc; faults.write]?;
+    MemoryShelf::open(alloc, files, reads, writes)
+}
+
+/// What the words answer over files in memory.
 fn outcome_over(
     alloc: Global,
     words: &str,
     files: Files,
     faults: Faults,
 ) -> Result<Outcome, AllocError> {
-    if !MemoryShelf::paths_differ(&files) {
-        return Err(AllocError);
-    }
-    let reads = vec![in alloc; faults.read]?;
-    let mut shelf = MemoryShelf::open(alloc, files, reads, Vec::new(alloc))?;
-    outcome_of(alloc, words, &mut shelf, faults)
+    let mut memory = memory_of(alloc, files, faults)?;
+    outcome_of(alloc, words, &mut memory, faults)
 }
 
 /// The files of a row, the last one cut behind some bytes; none where it isn't longer.
@@ -176,6 +225,76 @@ fn are_steps_right<S: Shelf>(
     Ok(0 < bounded && bounded < most)
 }
 
+/// Whether an outcome is what a row says.
+fn is_as(got: &Outcome, row: &Row<'_>, wanted: &[u8]) -> bool {
+    got.status == row.status && got.sink.bytes() == wanted
+}
+
+/// Whether what a row says is answered over its files, and by `check --form=plain` once more over what `rewrite` stores of them.
+fn is_moved_right<S: Shelf>(
+    alloc: Global,
+    row: &Row<'_>,
+    wanted: &[u8],
+    shelf: &mut S,
+) -> Result<bool, AllocError> {
+    let files = files_of(alloc, row.files, shelf)?;
+    let mut memory = memory_of(alloc, files, Faults::NONE)?;
+    let first = outcome_of(alloc, row.words, &mut memory, Faults::NONE)?;
+    let moved = outcome_of(alloc, "rewrite job out", &mut memory, Faults::NONE)?;
+    let again = outcome_of(
+        alloc,
+        "check --form=plain out/job",
+        &mut memory,
+        Faults::NONE,
+    )?;
+    Ok(is_as(&first, row, wanted) && moved.status == 0 && is_as(&again, row, wanted))
+}
+
+/// Whether the files of a list stand, so many of them, and those behind them don't.
+fn are_stored<S: Shelf>(
+    alloc: Global,
+    stored: Stored<'_>,
+    memory: &MemoryShelf,
+    shelf: &mut S,
+) -> Result<bool, AllocError> {
+    let path = format!(in alloc; "memory/{}", stored.list)?;
+    let list = file_of(alloc, path.as_str(), shelf)?;
+    let Ok(text) = str::from_utf8(list.as_slice()) else {
+        return Err(AllocError);
+    };
+    for (i, word) in text.lines().enumerate() {
+        let (path, wanted) = named_file(alloc, word, shelf)?;
+        let is_right = match memory.file(path.as_str()) {
+            Some(bytes) => i < stored.count && bytes == wanted.as_slice(),
+            None => stored.count <= i,
+        };
+        if !is_right {
+            return Ok(false);
+        }
+    }
+    Ok(stored.count <= text.lines().count())
+}
+
+/// Whether a row over files in memory is answered as it says, and stores what it says.
+fn is_memory_right<S: Shelf>(
+    alloc: Global,
+    row: &Row<'_>,
+    faults: Faults,
+    wanted: &[u8],
+    shelf: &mut S,
+) -> Result<bool, AllocError> {
+    let files = files_of(alloc, row.files, shelf)?;
+    let mut memory = memory_of(alloc, files, faults)?;
+    let got = outcome_of(alloc, row.words, &mut memory, faults)?;
+    if !is_as(&got, row, wanted) {
+        return Ok(false);
+    }
+    if row.stored.list.is_empty() {
+        return Ok(true);
+    }
+    are_stored(alloc, row.stored, &memory, shelf)
+}
+
 /// The name of the file of what a row is to write.
 fn text_path(alloc: Global, row: &Row<'_>) -> Result<String, AllocError> {
     match row.asked {
@@ -189,14 +308,14 @@ pub fn is_right<S: Shelf>(alloc: Global, row: &Row<'_>, shelf: &mut S) -> Result
     let path = text_path(alloc, row)?;
     let wanted = file_of(alloc, path.as_str(), shelf)?;
     let wanted = wanted.as_slice();
-    let got = match row.asked {
-        Asked::Fronts => return are_fronts_right(alloc, row, wanted, shelf),
-        Asked::Steps(most) => return are_steps_right(alloc, row, most, wanted, shelf),
-        Asked::Real => outcome_of(alloc, row.words, shelf, Faults::NONE)?,
-        Asked::Memory(faults) => {
-            let files = files_of(alloc, row.files, shelf)?;
-            outcome_over(alloc, row.words, files, faults)?
+    match row.asked {
+        Asked::Fronts => are_fronts_right(alloc, row, wanted, shelf),
+        Asked::Steps(most) => are_steps_right(alloc, row, most, wanted, shelf),
+        Asked::Moved => is_moved_right(alloc, row, wanted, shelf),
+        Asked::Memory(faults) => is_memory_right(alloc, row, faults, wanted, shelf),
+        Asked::Real => {
+            let got = outcome_of(alloc, row.words, shelf, Faults::NONE)?;
+            Ok(is_as(&got, row, wanted))
         }
-    };
-    Ok(got.status == row.status && got.sink.bytes() == wanted)
+    }
 }

@@ -1,15 +1,17 @@
-/// What fails in a row: the read and the put of these numbers, and the room for what is put.
+/// What fails in a row: the read, the write and the put of these numbers, and the room for what is put.
 #[derive(Clone, Copy)]
 pub struct Faults {
     pub read: u64,
+    pub write: u64,
     pub put: u64,
     pub room: usize,
 }
 
 impl Faults {
-    /// Reads and puts are numbered from 1, and no command writes so much.
+    /// Reads, writes and puts are numbered from 1, and no command puts so much.
     pub const NONE: Faults = Faults {
         read: 0,
+        write: 0,
         put: 0,
         room: 65_536,
     };
@@ -26,9 +28,19 @@ pub enum Asked {
     Fronts,
     /// For each number of steps below this one, as the first line of the first of the files in memory.
     Steps(u32),
+    /// Once over the files in memory, and once over what `rewrite` makes of them.
+    Moved,
 }
 
-/// A row: the words of a command, the name of what it is to write, the number of its status, how it is asked, and its files in memory.
+/// Which files are to be stored: the first ones of the list of this name, and none behind them. A list without a name says nothing.
+#[derive(Clone, Copy)]
+pub struct Stored<'a> {
+    pub count: usize,
+    pub list: &'a str,
+}
+
+/// A row: the words of a command, the name of what it is to write, the number of its status, how it is asked, its files in memory, and
+/// what it is to store.
 #[derive(Clone, Copy)]
 pub struct Row<'a> {
     pub words: &'a str,
@@ -36,6 +48,7 @@ pub struct Row<'a> {
     pub status: u8,
     pub asked: Asked,
     pub files: &'a str,
+    pub stored: Stored<'a>,
 }
 
 /// How a word and a number say that a command is asked.
@@ -44,6 +57,7 @@ fn asked_of(word: &str, digits: &str) -> Option<Asked> {
     let mut faults = Faults::NONE;
     match word {
         "read" => faults.read = u64::from(number),
+        "write" => faults.write = u64::from(number),
         "put" => faults.put = u64::from(number),
         "room" => faults.room = number as usize,
         "steps" => return Some(Asked::Steps(number)),
@@ -60,12 +74,31 @@ fn given_of(given: &str) -> Option<(&str, Asked)> {
     if how == "fronts" {
         return Some((files, Asked::Fronts));
     }
+    if how == "moved" {
+        return Some((files, Asked::Moved));
+    }
     let (word, digits) = how.split_once(' ')?;
     Some((files, asked_of(word, digits)?))
 }
 
-/// The row of words and of what stands behind them, with files and a way of being asked.
-fn row_with<'a>(words: &'a str, wanted: &'a str, files: &'a str, asked: Asked) -> Option<Row<'a>> {
+/// What is given of a row, and what it is to store.
+fn stored_of(given: &str) -> Option<(&str, Stored<'_>)> {
+    let Some((given, stored)) = given.split_once(" | stores ") else {
+        return Some((given, Stored { count: 0, list: "" }));
+    };
+    let (digits, list) = stored.split_once(' ')?;
+    let count = digits.parse::<u32>().ok()? as usize;
+    Some((given, Stored { count, list }))
+}
+
+/// The row of words and of what stands behind them, over files, with a way of being asked.
+fn row_with<'a>(
+    words: &'a str,
+    wanted: &'a str,
+    files: &'a str,
+    asked: Asked,
+    stored: Stored<'a>,
+) -> Option<Row<'a>> {
     let (name, digits) = wanted.split_once(' ')?;
     let status = digits.parse::<u8>().ok()?;
     Some(Row {
@@ -74,6 +107,7 @@ fn row_with<'a>(words: &'a str, wanted: &'a str, files: &'a str, asked: Asked) -
         status,
         asked,
         files,
+        stored,
     })
 }
 
@@ -81,8 +115,9 @@ fn row_with<'a>(words: &'a str, wanted: &'a str, files: &'a str, asked: Asked) -
 pub fn row_of(line: &str) -> Option<Row<'_>> {
     let (words, rest) = line.split_once(" > ")?;
     let Some((wanted, given)) = rest.split_once(" | ") else {
-        return row_with(words, rest, "", Asked::Real);
+        return row_with(words, rest, "", Asked::Real, Stored { count: 0, list: "" });
     };
+    let (given, stored) = stored_of(given)?;
     let (files, asked) = given_of(given)?;
-    row_with(words, wanted, files, asked)
+    row_with(words, wanted, files, asked, stored)
 }
