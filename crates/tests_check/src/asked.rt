@@ -1,5 +1,6 @@
 use crate::layered::{implements, of_members};
-use crate::linked::of_linked;
+use crate::linked::{fault_of, of_linked};
+use crate::moved::of_moved;
 use crate::question::{Question, class_id, method_of, number};
 use crate::used::of_types;
 use crate::words::Unread;
@@ -129,8 +130,14 @@ pub fn answer(
     side: Side,
     question: &str,
 ) -> Result<String, Unread> {
-    match question.strip_prefix("linked ") {
-        Some(question) => of_linked(alloc, parts, side, &Question::of(question)),
+    if question == "link" {
+        return fault_of(alloc, parts, side);
+    }
+    if let Some(question) = question.strip_prefix("linked ") {
+        return of_linked(alloc, parts, side, &Question::of(question));
+    }
+    match question.strip_prefix("moved ") {
+        Some(which) => of_moved(alloc, parts, which),
         None => of_named(alloc, parts, side, question),
     }
 }

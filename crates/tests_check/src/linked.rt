@@ -85,6 +85,18 @@ fn of_code(alloc: Global, p: &LinkedProgram, q: &Question<'_>) -> Result<String,
     }
 }
 
+/// The first broken rule of linking where parts don't link.
+pub fn fault_of(alloc: Global, parts: Vec<CodePart>, side: Side) -> Result<String, Unread> {
+    if !are_parts(&parts) {
+        return Err(Unread::Line);
+    }
+    match link(alloc, parts, side) {
+        Ok(_) => Ok(String::from_str(alloc, "it links")?),
+        Err(LinkError::At(fault)) => Ok(format!(in alloc; "{fault:?}")?),
+        Err(LinkError::Memory) => Err(Unread::Memory),
+    }
+}
+
 /// The program of parts that link.
 fn linked(alloc: Global, parts: Vec<CodePart>, side: Side) -> Result<LinkedProgram, Unread> {
     if !are_parts(&parts) {

@@ -10,7 +10,9 @@
 //!   on the passing side, or `at PLACE` in the last method, `at CLASS METHOD PLACE` in another.
 //! - `program SHOWS | NAME .. | ANSWER`: the classes of these names.
 //! - `over CLASS .. | SHOWS`: the classes that the lines behind it ask about, by their names or their bytes, and maybe what they show.
-//! - `ask QUESTION | ANSWER`: what is asked of the program of those classes, by its word and the words behind it.
+//!   `N*CLASS` is the same class N times.
+//! - `ask QUESTION | ANSWER`: what is asked of the program of those classes, by its word and the words behind it; `link` is which rule of
+//!   linking is broken first.
 //! - `# ..` and empty lines say nothing.
 #![tactic(auto)]
 
@@ -18,6 +20,7 @@ mod asked;
 mod judging;
 mod layered;
 mod linked;
+mod moved;
 mod question;
 mod reading;
 mod rows;

@@ -87,12 +87,24 @@ impl Table {
         part_of(alloc, bytes)
     }
 
+    /// Puts a class behind others: its name or its bytes, maybe behind how often it stands and a `*`.
+    fn put_part(&self, alloc: Global, word: &str, parts: &mut Vec<CodePart>) -> Result<(), Unread> {
+        let (times, name) = word.split_once('*').unwrap_or(("1", word));
+        let Ok(times) = times.parse::<u32>() else {
+            return Err(Unread::Line);
+        };
+        for _ in 0..times {
+            let part = self.part(alloc, name)?;
+            parts.push(part).map_err(AllocError::from)?;
+        }
+        Ok(())
+    }
+
     /// The classes of these names.
     fn parts(&self, alloc: Global, names: &str) -> Result<Vec<CodePart>, Unread> {
         let mut parts = Vec::new(alloc);
-        for name in names.split(' ') {
-            let part = self.part(alloc, name)?;
-            parts.push(part).map_err(AllocError::from)?;
+        for word in names.split(' ') {
+            self.put_part(alloc, word, &mut parts)?;
         }
         Ok(parts)
     }
