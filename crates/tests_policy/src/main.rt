@@ -1,12 +1,15 @@
-//! Asks the crates of permissions, policy files, code sources, what a policy grants to them, and security contexts what the lines of the
-//! input ask, and tells how many answers of each section are those that the input says, and which aren't. The input's head says what
-//! its columns are.
+//! Asks the crates of permissions, policy files, code sources, what a policy grants to them, security contexts, jobs, command lines and
+//! kept stacks what the lines of the input ask, and tells how many answers of each section are those that the input says, and which
+//! aren't. The input's head says what its columns are.
 #![tactic(auto)]
 
 mod contexts;
+mod jobs;
+mod kept;
 mod permissions;
 mod policies;
 mod sources;
+mod stacks;
 mod table;
 mod words;
 

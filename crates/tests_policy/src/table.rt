@@ -1,5 +1,5 @@
 use crate::words::{Unread, bytes_of, first, number, units_of, unquoted, yes_or_no};
-use crate::{contexts, permissions, policies, sources};
+use crate::{contexts, jobs, permissions, policies, sources, stacks};
 use jdomain::{CodeSource, Domains};
 use jperm::Permission;
 use jpolicy::Policy;
@@ -89,6 +89,21 @@ impl Table {
         contexts::verdict(alloc, &self.directory, &domains, words, &asked)
     }
 
+    /// What was found for a row of jobs, of commands or of kept stacks.
+    fn found_below(&self, alloc: Global, kind: &str, fields: &str) -> Result<String, Unread> {
+        match kind {
+            "job" => jobs::job(alloc, fields),
+            "long job" => jobs::long_job(alloc, fields),
+            "command" => jobs::command(alloc, fields),
+            "stored" => jobs::stored(alloc, fields),
+            "walk" => stacks::walked(alloc, &self.domains(alloc)?, fields),
+            "kept" => stacks::decided(alloc, &self.domains(alloc)?, fields),
+            "entries" => stacks::entries(alloc, fields),
+            "chain" => stacks::chain(alloc, &self.domains(alloc)?, fields),
+            _ => Err(Unread::Line),
+        }
+    }
+
     /// What was found for a row.
     fn found(&self, alloc: Global, kind: &str, fields: &str) -> Result<String, Unread> {
         match kind {
@@ -107,7 +122,7 @@ impl Table {
             "has" => self.has(alloc, fields),
             "context" => contexts::context(alloc, &self.directory, fields),
             "verdict" => self.verdict(alloc, fields),
-            _ => Err(Unread::Line),
+            _ => self.found_below(alloc, kind, fields),
         }
     }
 
