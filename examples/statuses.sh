@@ -20,11 +20,13 @@ check() {
   fi
 }
 
-commands='javasec: the commands are `run --form=inspect JOB`, `check JOB`, `check --form=plain JOB` and `policy JOB`'
+commands='javasec: the commands are `run --form=inspect JOB`, `check JOB`, `check --form=plain JOB`, `rewrite JOB OUT` and `policy JOB`'
 out=/dev/null
 check 0 '' policy audit.job
 check 2 "$commands"
-check 2 "$commands" rewrite job out
+check 2 "$commands" rewrite job
+check 7 'javasec: nowhere could not be read' rewrite nowhere out
+check 9 'javasec: /dev/null/d0/app/Main.class could not be stored' rewrite plugin.job /dev/null
 check 7 'javasec: nowhere could not be read' policy nowhere
 check 7 'javasec: nowhere could not be read' run --form=inspect -- nowhere
 check 7 'javasec: nowhere could not be read' check nowhere

@@ -1,5 +1,5 @@
 #!/usr/bin/env python3
-"""links.py KIND NUMBER FOLDER: makes a job with class files whose linking costs most in some way, for the table of docs/MEASURES.md."""
+"""links.py KIND NUMBER FOLDER: makes a job with class files whose linking or rewriting costs most in some way, for the tables of docs/MEASURES.md."""
 import os, struct, sys
 
 
@@ -163,8 +163,35 @@ def descriptors(n):
     yield "Main", c
 
 
-KINDS = dict(many=many, least=least, chain=chain, diamonds=diamonds, methods=methods, one_method=one_method,
-             class_names=class_names, long_class=long_class, method_names=method_names, descriptors=descriptors)
+def calls(n):
+    """One class of n methods, of which each calls all."""
+    c = Class("Many")
+    for i in range(n):
+        c.method("m%d" % i, "()V", code=b"".join(b"\xb8" + struct.pack(">H", c.ref(10, "Many", "m%d" % k, "()V")) for k in range(n)) + b"\xb1")
+    yield "Many", c
+    yield "Main", main_class()
+
+
+def texts(n, there=()):
+    """One class of 1,000 methods, of which each calls the next, and n texts in its pool."""
+    c = Class("Many")
+    for i in range(1_000):
+        c.method("m%d" % i, "()V", code=b"\xb8" + struct.pack(">H", c.ref(10, "Many", "m%d" % ((i + 1) % 1_000), "()V")) + b"\xb1")
+    for i in range(n):
+        c.utf("text %d" % i)
+    for text in there:
+        c.utf(text)
+    yield "Many", c
+    yield "Main", main_class()
+
+
+def texts_there(n):
+    """The same with the texts that rewriting adds, all but the names of what it calls."""
+    return texts(n, ("sps/Ctx", "sps/Rt", "enter", "(Lsps/Ctx;I)Lsps/Ctx;", "(Lsps/Ctx;)V"))
+
+
+KINDS = dict(many=many, least=least, chain=chain, diamonds=diamonds, methods=methods, one_method=one_method, class_names=class_names,
+             long_class=long_class, method_names=method_names, descriptors=descriptors, calls=calls, texts=texts, texts_there=texts_there)
 
 if __name__ == "__main__":
     kind, number, folder = sys.argv[1], int(sys.argv[2]), sys.argv[3]
