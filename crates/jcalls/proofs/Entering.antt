@@ -100,3 +100,9 @@ module _ {E : Type 0} (count : ℕ) (f : Framed E) where
   pub missing_fails : (depth : ℕ) (way : Called) (g : Framed E) → way ≡ ways.Raises no_code → g ≡ holding (drop count f.newest.operands) f
       → Reaches count found.Missing depth f way g
   missing_fails depth way g w e r p plan s selected d is = rw (w, e, is) (fails_so r p plan s no_code)
+
+-- How a user's method begins, or doesn't.
+pub ruleset enterings = (overflows, begins_so, codeless)
+
+-- What is selected and isn't a user's method with code.
+pub ruleset reachings = (library_runs, abstract_fails, missing_fails)

@@ -5,7 +5,7 @@ use Rattle.std.proofs.lemmas.List.{length-map}
 use Rattle.std.proofs.Math.Nat.{mod-eq_of_lt}
 use Rattle.jheap.specs.declared.cell.Kind.TheVariants as kinds
 use Rattle.jheap.specs.Heaps as heaps
-use Rattle.jheap.specs.Heaps.{HasCell, Heaped, Makes as MakesOne, cells_at, fresh, made, with_cell}
+use Rattle.jheap.specs.Heaps.{Heaped, Makes as MakesOne, fresh, made, with_cell}
 use Rattle.jlib.specs.declared.classes.LibClass.{LibClass}
 use Rattle.jlib.specs.declared.classes.LibClass.TheVariants as lib
 use Rattle.jprogram.specs.declared.part.ClassRef.{ClassRef}

@@ -73,7 +73,7 @@ fn raise<M: Copy>(frames: &mut Frames<M>, count: usize, class: Thrown) -> Called
 
 /// A frame of a user's method begins, where it has code and there is room.
 #[inline]
-#[tactic(auto, using(crate::proofs::Entering::overflows, crate::proofs::Entering::begins_so, crate::proofs::Entering::codeless, crate::proofs::Standing::raised_thrown, crate::proofs::Standing::raised_stands, crate::proofs::Standing::begun_stands))]
+#[tactic(auto, using(crate::proofs::Entering::enterings, crate::proofs::Standing::raised_thrown, crate::proofs::Standing::raised_stands, crate::proofs::Standing::begun_stands))]
 fn enter<M: Copy>(
     frames: &mut Frames<M>,
     count: usize,
@@ -98,7 +98,7 @@ fn enter<M: Copy>(
 
 /// What is selected is reached.
 #[inline]
-#[tactic(auto, using(crate::proofs::Entering::library_runs, crate::proofs::Entering::abstract_fails, crate::proofs::Entering::missing_fails, crate::proofs::Standing::raised_thrown, crate::proofs::Standing::raised_stands))]
+#[tactic(auto, using(crate::proofs::Entering::reachings, crate::proofs::Standing::raised_thrown, crate::proofs::Standing::raised_stands))]
 fn reach<M: Copy>(
     frames: &mut Frames<M>,
     count: usize,

@@ -163,3 +163,6 @@ module _ (E : Type 0) (permissions : List perms.Permission) (kept : List ℕ) (s
         → IfOk result (λ w. FindsBy E side form permissions kept shapes h values w)
     found_so q (Ok w) is wants = found_one q w is wants
     found_so q (Err e) is wants = tt
+
+-- What is given with an action, by its kind.
+pub ruleset actions = (int_action, long_action, ctx_action, null_action, some_action)

@@ -80,3 +80,6 @@ module _ (h g k : Heaped) (place o : ℕ) (is : (o ≡ length h.objects + 1) × 
   context_celled made_stays written_stays shapes celled =
       let suits : Suits shapes (kinds.Object 43) 1 = λ n e. cc in
       rw whole (written_stays M o 0 place shapes (made_stays shapes h (kinds.Object 43) 1 suits celled))
+
+-- What a context that is made leaves.
+pub ruleset makings = (last_cell, no_room, one_made, makes_context, context_built, context_celled)

@@ -72,3 +72,6 @@ given_stands f g count o on classes stand = rw on (stand.0.class, stand.1)
 
 pub same_stands : {E : Type 0} (f : Framed E) → LeavesStanding f f
 same_stands f classes stand = (stand.0.class, stand.1)
+
+-- What a snapshot leaves.
+pub ruleset snappings = (snaps, snaps_kept, snaps_full, given_stands, same_stands)

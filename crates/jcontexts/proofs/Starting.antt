@@ -168,3 +168,6 @@ module _ (class : ThrownClass) (number : ℕ) (same : number ≡ thrown_number c
 pub made_built : MadeStaysBuilt → (number : ℕ) (h k : Heaped) (o : Option ℕ) → MakesOne (kinds.Object number) 1 h k o → AreBuilt h.objects → AreBuilt k.objects
 made_built law number h k None m built = throwing.none_built number h k None refl m built
 made_built law number h k (Some o) m built = throwing.made_built law number h k (Some o) o refl m built
+
+-- What the exception that a thread begins with leaves.
+pub ruleset failings = (made_first, made_heap, made_kept, made_built, made_celled)

@@ -73,7 +73,7 @@ pub fn begin<M: Copy>(
 
 /// Raises an exception of a class where a thread was to begin with the `run` of its Runnable. No frame handles it, so that the thread has
 /// ended by it. The answer is no where the heap has too few cells for it, and then nothing has changed.
-#[tactic(auto, using(crate::proofs::Starting::made_first, crate::proofs::Starting::made_heap, crate::proofs::Starting::made_kept, crate::proofs::Starting::made_built, crate::proofs::Starting::made_celled))]
+#[tactic(auto, using(crate::proofs::Starting::failings))]
 pub fn fail_beginning<M>(alloc: Global, heap: &mut Heap, class: Thrown) -> Result<bool, AllocError>
     requires built { AreBuilt heap.old.objects }
     ensures row { IfOk result (λ room. FailsFirst M class heap.old room heap.new) }

@@ -44,7 +44,7 @@ fn keep(kept: &mut Seq<u64>, number: u64) -> Result<u32, AllocError>
 }
 
 /// Makes an AccessControlContext that holds a place. The cells for it are left.
-#[tactic(auto, using(crate::proofs::Making::last_cell, crate::proofs::Making::no_room, crate::proofs::Making::one_made, crate::proofs::Making::makes_context, crate::proofs::Making::context_built, crate::proofs::Making::context_celled))]
+#[tactic(auto, using(crate::proofs::Making::makings))]
 fn make_context(alloc: Global, heap: &mut Heap, place: u32) -> Result<u32, AllocError>
     requires built { AreBuilt heap.old.objects }
     requires room { 2 ≤ heap.old.left }
@@ -80,7 +80,7 @@ pub(crate) fn give<M: Copy>(
 
 /// Makes an AccessControlContext that keeps a number, as getContext does, in the place of so many operands of its call. The answer is no
 /// where the heap has too few cells for it, and then nothing has changed. After an error nothing is said.
-#[tactic(auto, using(crate::proofs::Keeping::stay_kept, crate::proofs::Snapping::snaps, crate::proofs::Snapping::snaps_kept, crate::proofs::Snapping::snaps_full, crate::proofs::Snapping::given_stands, crate::proofs::Snapping::same_stands))]
+#[tactic(auto, using(crate::proofs::Keeping::stay_kept, crate::proofs::Snapping::snappings))]
 pub fn snapshot<M: Copy>(
     alloc: Global,
     frames: &mut Frames<M>,

@@ -42,7 +42,7 @@ pub enum Privileging {
 }
 
 /// What is wanted with an action, by what is given with it and what limits it.
-#[tactic(auto, using(crate::proofs::Finding::int_action, crate::proofs::Finding::long_action, crate::proofs::Finding::ctx_action, crate::proofs::Finding::null_action, crate::proofs::Finding::some_action))]
+#[tactic(auto, using(crate::proofs::Finding::actions))]
 fn by_action<M>(
     domain: Option<u32>,
     ctx: Option<u64>,

@@ -107,3 +107,6 @@ module _ {E : Type 0} (m : Machine E) where
       → SettlesRaised m raised.Uncaught class told came n → Settles m (steps.Uncaught class) came n
   settled_uncaught class told n came none law s g behind runs =
       subst (λ (events : List Event). SettlesRaised m raised.Uncaught class events came n) none law s g behind runs
+
+-- How it goes on behind a step, by how the step ended.
+pub ruleset settlings = (settled_went, settled_full, settled_stuck, settled_ended, settled_handled, settled_uncaught)

@@ -1,5 +1,5 @@
 -- What a step asks of access control and is answered, and calls of the library.
-use Rattle.std.specs.Prelude.{◌≡◌, ◌≤◌, ℕ, List, Option, Some, length, take}
+use Rattle.std.specs.Prelude.{◌≡◌, ◌≤◌, ℕ, Option, Some, length, take}
 use Rattle.jlib.specs.declared.calls.LibCall.{LibCall}
 use Rattle.jmachine.specs.Acts.{Outcome, State}
 use Rattle.jmachine.specs.Asked.{Answer, Ask, answer_in, asking_site, carried, run_asks}

@@ -118,7 +118,7 @@ pub fn full(alloc: Global) -> Stepped
 }
 
 /// Goes on behind a step of the running thread, which needn't ask the library.
-#[tactic(auto, using(crate::proofs::Ready::went_ready, crate::proofs::Ready::left_handled, crate::proofs::Settled::settled_went, crate::proofs::Settled::settled_full, crate::proofs::Settled::settled_stuck, crate::proofs::Settled::settled_ended, crate::proofs::Settled::settled_handled, crate::proofs::Settled::settled_uncaught))]
+#[tactic(auto, using(crate::proofs::Ready::went_ready, crate::proofs::Ready::left_handled, crate::proofs::Settled::settlings))]
 pub fn settle<M: Copy>(
     alloc: Global,
     m: &mut Machine<'_, '_, M>,

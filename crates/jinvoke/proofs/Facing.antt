@@ -1,6 +1,6 @@
 -- What calls by interfaces of the library come to.
-use Rattle.std.proofs.Common.{◌≡◌, ◌∙◌, ◌⊎◌, inl, inr, ◌<◌, ℕ, zero, suc, Bool, true, false, not, List, length, Option, Some, None, refl, sym, ap, ap₂, subst}
-use Rattle.std.specs.Prelude.{⊤, option_map}
+use Rattle.std.proofs.Common.{◌≡◌, ◌∙◌, inl, inr, ℕ, zero, suc, Bool, true, false, not, List, length, Option, Some, None, refl, sym, ap, ap₂, subst}
+use Rattle.std.specs.Prelude.{option_map}
 use Rattle.jbase.specs.First.{fault_if, or_else}
 use Rattle.jheap.specs.declared.cell.Kind.{Kind}
 use Rattle.jheap.specs.Heaps as heaps
@@ -36,7 +36,7 @@ use Rattle.jinvoke.specs.declared.choosing.Answer.{Answer}
 use Rattle.jinvoke.specs.declared.choosing.Chosen.{Chosen}
 use Rattle.jinvoke.specs.declared.faces.Target.{Target}
 use Rattle.jinvoke.specs.declared.faces.Target.TheVariants as ways
-use Rattle.jinvoke.specs.Answers.{chosen, id_on, is_one_of, number_by}
+use Rattle.jinvoke.specs.Answers.{chosen, id_on, number_by}
 use Rattle.jinvoke.specs.Faces.{FaceTarget, TargetAs, TargetWithin, face_answer, face_call, face_selected}
 use Rattle.jinvoke.specs.Invoking.{IsMarked, marked}
 use Rattle.jinvoke.proofs.Classed.{instance_at}
@@ -139,3 +139,6 @@ module _ (law : SeesEach) {E : Type 0} (p : Program) (marks : List E) (h : Heape
         ≡ Some (target_of a.has a.hidden full (face_selected p call (number_by kind))) =
         ap (option_map (by_interface (world p) full (face_call face call))) y.1 ∙ ap (λ u. Some u) (seen_so shapes things constants y.0 y.1 y.2) in
         subst (λ (u : Option targets.Target). TargetAs entry_of p t u) (sym so) (l entry_of p (face_selected p call (number_by kind)) are (ap (λ (b : Answer). b.what) is))
+
+-- What is selected, by what it is.
+pub ruleset facings = (overflows, pushes, library_stuck, abstract_fails, missing_fails)

@@ -29,7 +29,7 @@ pub enum Target<M> {
 }
 
 /// What is selected is reached, by a thread that has all frames that it may have, or not.
-#[tactic(auto, using(crate::proofs::Facing::overflows, crate::proofs::Facing::pushes, crate::proofs::Facing::library_stuck, crate::proofs::Facing::abstract_fails, crate::proofs::Facing::missing_fails))]
+#[tactic(auto, using(crate::proofs::Facing::facings))]
 fn reached<M: Copy>(what: Found<M>, full: bool) -> Target<M>
     ensures target { (entry_of : ℕ → M) (p : Program) (s : Selected) → IsFound entry_of p what s → TargetAs entry_of p result (Some (reached_target full s)) }
     ensures within { (classes : ℕ) → FoundWithin classes what → TargetWithin classes result }

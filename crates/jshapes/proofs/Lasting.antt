@@ -297,3 +297,6 @@ permissions_last p shapes permissions kept before after stay held things more e 
 
 pub kept_last : KeptLast
 kept_last p shapes things before after stay same more = stay (record { permissions = things.permissions; kept = things.kept ++ more }) (same more)
+
+-- What lasts, by what is made or written.
+pub ruleset lastings = (leave_one, more_stay, made_stays, written_stays, kept_last)

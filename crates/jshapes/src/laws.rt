@@ -11,7 +11,7 @@ ghost use Rattle.jshapes.specs.Alike.{
 /// The laws of what a machine keeps besides its heap: what makes the same of the objects makes the same of them behind a row, behind what is
 /// made, and behind a cell that is written; and so no object names a permission or a kept number that isn't there, if none did. It has no
 /// body to run; its contract is the laws.
-#[tactic(auto, using(crate::proofs::Lasting::leave_one, crate::proofs::Lasting::more_stay, crate::proofs::Lasting::made_stays, crate::proofs::Lasting::written_stays, crate::proofs::Lasting::kept_last))]
+#[tactic(auto, using(crate::proofs::Lasting::lastings))]
 pub fn alike_laws<M>()
     ensures left { RowsLeaveOne M }
     ensures rows { RowsStayAlike M }
