@@ -1,4 +1,5 @@
 pub mod EntryLaws
+pub mod Fitting
 pub mod Grown
 pub mod Numbered
 pub mod Params

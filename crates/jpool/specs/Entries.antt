@@ -122,6 +122,19 @@ cases =
 unfoldable pub entry : Format PoolFault Entry
 entry = union Truncated (λ _. BadTag) cases
 
+-- the entry of one index that a tag stands for
+abbrev pub by_one : ℕ → ℕ → Entry
+by_one tag index = if tag == 7 then Class index else if tag == 8 then Str index else MethodType index
+
+-- the entry of two indices that a tag stands for
+abbrev pub by_two : ℕ → ℕ × ℕ → Entry
+by_two tag p =
+    if tag == 9 then two_of Field p
+    else if tag == 10 then two_of Method p
+    else if tag == 11 then two_of InterfaceMethod p
+    else if tag == 12 then two_of NameAndType p
+    else two_of InvokeDynamic p
+
 -- the first byte is above this one
 abbrev pub is_above : ℕ → List ℕ → Bool
 is_above tag [] = false

@@ -1,7 +1,7 @@
 ghost use Rattle.std.specs.Prelude.{◌≡◌, ◌≤◌, ◌∷◌, ◌++◌, IsTrue, OnOk, length};
 ghost use Rattle.jbase.specs.Stops.{Gives};
 ghost use Rattle.jpool.specs.Adding.{has_spelling};
-ghost use Rattle.jpool.specs.Entries.{entry, handle, i8, is_above, text as text_format, two, u2, u4, u8 as u8_format};
+ghost use Rattle.jpool.specs.Entries.{by_one, by_two, entry, handle, i8, is_above, text as text_format, two, u2, u4, u8 as u8_format};
 
 use crate::entry::Entry;
 use crate::fault::PoolFault;
@@ -36,48 +36,49 @@ fn handle_of(bytes: &[u8]) -> Result<((u8, u16), &[u8]), ReadError<PoolFault>>
     Ok(((kind, member), rest))
 }
 
+/// An entry that takes one index, of the tag 7, 8 or 16.
+fn named_one(tag: u8, index: u16) -> Entry
+    ensures { result ≡ by_one tag index }
+{
+    match tag {
+        7 => Entry::Class(index),
+        8 => Entry::Str(index),
+        _ => Entry::MethodType(index),
+    }
+}
+
+/// An entry that takes two indices, of a tag from 9 to 12, or 18.
+fn named_two(tag: u8, one: u16, other: u16) -> Entry
+    ensures { result ≡ by_two tag (one, other) }
+{
+    match tag {
+        9 => Entry::Field(one, other),
+        10 => Entry::Method(one, other),
+        11 => Entry::InterfaceMethod(one, other),
+        12 => Entry::NameAndType(one, other),
+        _ => Entry::InvokeDynamic(one, other),
+    }
+}
+
 /// An entry that names others, and the bytes behind it.
 #[tactic(auto, unfolding(crate::specs::Entries::entry))]
 fn reference_of(bytes: &[u8]) -> Result<(Entry, &[u8]), ReadError<PoolFault>>
     requires { IsTrue (is_above 6 bytes.now) }
     ensures { Gives (λ x. (x.0, x.1.now)) result (entry.read bytes.now) }
 {
-    match bytes {
-        [7, rest @ ..] => {
-            let (name, rest) = u16_of(Truncated, rest)?;
-            Ok((Entry::Class(name), rest))
+    let (tag, rest) = u8_of(Truncated, bytes)?;
+    match tag {
+        7 | 8 | 16 => {
+            let (index, rest) = u16_of(Truncated, rest)?;
+            Ok((named_one(tag, index), rest))
         }
-        [8, rest @ ..] => {
-            let (text, rest) = u16_of(Truncated, rest)?;
-            Ok((Entry::Str(text), rest))
+        9..=12 | 18 => {
+            let ((one, other), rest) = two_of(rest)?;
+            Ok((named_two(tag, one, other), rest))
         }
-        [9, rest @ ..] => {
-            let ((class, both), rest) = two_of(rest)?;
-            Ok((Entry::Field(class, both), rest))
-        }
-        [10, rest @ ..] => {
-            let ((class, both), rest) = two_of(rest)?;
-            Ok((Entry::Method(class, both), rest))
-        }
-        [11, rest @ ..] => {
-            let ((class, both), rest) = two_of(rest)?;
-            Ok((Entry::InterfaceMethod(class, both), rest))
-        }
-        [12, rest @ ..] => {
-            let ((name, descriptor), rest) = two_of(rest)?;
-            Ok((Entry::NameAndType(name, descriptor), rest))
-        }
-        [15, rest @ ..] => {
+        15 => {
             let ((kind, member), rest) = handle_of(rest)?;
             Ok((Entry::MethodHandle(kind, member), rest))
-        }
-        [16, rest @ ..] => {
-            let (descriptor, rest) = u16_of(Truncated, rest)?;
-            Ok((Entry::MethodType(descriptor), rest))
-        }
-        [18, rest @ ..] => {
-            let ((bootstrap, both), rest) = two_of(rest)?;
-            Ok((Entry::InvokeDynamic(bootstrap, both), rest))
         }
         _ => Err(fault(BadTag, bytes)),
     }
@@ -88,30 +89,30 @@ fn reference_of(bytes: &[u8]) -> Result<(Entry, &[u8]), ReadError<PoolFault>>
 pub fn entry_of(alloc: Global, bytes: &[u8]) -> Result<(Entry, &[u8]), ReadError<PoolFault>>
     ensures { Gives (λ x. (x.0, x.1.now)) result (entry.read bytes.now) }
 {
-    match bytes {
-        [] => Err(fault(Truncated, bytes)),
-        [1, rest @ ..] => {
+    let (tag, rest) = u8_of(Truncated, bytes)?;
+    match tag {
+        1 => {
             let (text, rest) = sized_of(alloc, Truncated, rest)?;
             Ok((Entry::Utf8(text), rest))
         }
-        [3, rest @ ..] => {
+        3 => {
             let (n, rest) = i32_of(Truncated, rest)?;
             Ok((Entry::Integer(n), rest))
         }
-        [4, rest @ ..] => {
+        4 => {
             let (n, rest) = u32_of(Truncated, rest)?;
             Ok((Entry::Float(n), rest))
         }
-        [5, rest @ ..] => {
+        5 => {
             let (n, rest) = i64_of(rest)?;
             Ok((Entry::Long(n), rest))
         }
-        [6, rest @ ..] => {
+        6 => {
             let (n, rest) = u64_of(Truncated, rest)?;
             Ok((Entry::Double(n), rest))
         }
-        [7..=255, ..] => reference_of(bytes),
-        [0 | 2, ..] => Err(fault(BadTag, bytes)),
+        7..=255 => reference_of(bytes),
+        0 | 2 => Err(fault(BadTag, bytes)),
     }
 }
 
