@@ -30,7 +30,7 @@ use Rattle.jclass.specs.Basics.{u2, u4, access, index, pool_fault}
 use Rattle.jclass.specs.Rules.{names_caught, is_code, is_maps, method_descriptor}
 use Rattle.jclass.specs.Shapes
 use Rattle.jclass.specs.Judging
-use Rattle.jclass.specs.Judging.{is_modified, text_fault, entry_fault, no_fault}
+use Rattle.jclass.specs.Judging.{is_modified, entry_fault, no_fault}
 use Rattle.jclass.specs.Attributes.{text_index, name_once, content}
 use Rattle.jclass.specs.Codes.{begins, ends, code_length, length_fault, ops, handler, handler_parts, target_fault, behind_ops, code_content, code_body, maps, attribute, saw_maps}
 use Rattle.jclass.specs.Members.{body_of, codes_fault, method, method_parts, method_attribute, names_of}
