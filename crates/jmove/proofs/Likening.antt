@@ -1,5 +1,5 @@
 -- Methods that differ in indices of the pool alone break the same limits.
-use Rattle.std.proofs.Common.{◌≡◌, ℕ, ◌+◌, ◌≤◌, List, [], ◌∷◌, map, length, Option, Some, None, refl, ap, ap₂, ◌∙◌, sym, subst, arith, nat_lt, max, ◌==◌, ◌||◌, if◌then◌else◌}
+use Rattle.std.proofs.Common.{◌≡◌, ℕ, ◌+◌, ◌≤◌, List, [], ◌∷◌, map, length, Option, Some, refl, ap, ap₂, ◌∙◌, sym, subst, arith, nat_lt, max, ◌==◌, ◌||◌, if◌then◌else◌}
 use Rattle.std.specs.Prelude.{All, IsTrue}
 use Rattle.std.specs.List.{AllByRecursion}
 use Rattle.std.proofs.lemmas.List.{length-map}
@@ -23,7 +23,7 @@ use Rattle.jmove.specs.Additions.{◌>>◌, numbered, with_number, with_security
 use Rattle.jmove.specs.Limits.{Alike, SameLimit, SameCanMove, Renumbered, bare_type, bare_frame, bare_kind}
 use Rattle.jmove.specs.Frames.{width, widths, items, items_of}
 use Rattle.jmove.specs.Lines.{end_of, reach}
-use Rattle.jmove.specs.Moved.{CanMove, context_local, expansion, expansions, limit_of, lines, moved_length, move_ref, prologue, push_int, setting, too_long, too_many}
+use Rattle.jmove.specs.Moved.{context_local, expansion, expansions, limit_of, lines, moved_length, move_ref, prologue, push_int, too_long}
 use Rattle.jmove.proofs.Assembling.{end_reach}
 use Rattle.jmove.proofs.Sizes.{call_size, calling_size}
 
