@@ -124,7 +124,7 @@ named_before (first ∷ more) (suc i) (suc j) line name below there is = go (nam
     go (Some other) e = or_any (bytes_eq name other) (list_any (bytes_eq name) (filter_map name_of (take i more))) e
 
 -- a line in front that says the name
-record IsNamed (lines : List (List ℕ)) (i : ℕ) (name : List ℕ) : Type 0 where
+pub record IsNamed (lines : List (List ℕ)) (i : ℕ) (name : List ℕ) : Type 0 where
   pub place : ℕ
   pub line : List ℕ
   pub below : place < i
@@ -134,7 +134,7 @@ record IsNamed (lines : List (List ℕ)) (i : ℕ) (name : List ℕ) : Type 0 wh
 named_more : (first : List ℕ) (more : List (List ℕ)) (i : ℕ) (name : List ℕ) → IsNamed more i name → IsNamed (first ∷ more) (suc i) name
 named_more first more i name r = record { place = suc r.place; line = r.line; below = omega (arith, r.below); there = r.there; named = r.named }
 
-before_named : (lines : List (List ℕ)) (i : ℕ) (name : List ℕ) → list_any (bytes_eq name) (filter_map name_of (take i lines)) ≡ true → IsNamed lines i name
+pub before_named : (lines : List (List ℕ)) (i : ℕ) (name : List ℕ) → list_any (bytes_eq name) (filter_map name_of (take i lines)) ≡ true → IsNamed lines i name
 before_named [] zero name e = cc
 before_named [] (suc i) name e = cc
 before_named (first ∷ more) zero name e = cc

@@ -1,19 +1,17 @@
 -- Reading the lines of a job one by one.
-use Rattle.std.proofs.Common.{◌≡◌, ℕ, ◌+◌, ◌≤◌, ◌==◌, ◌||◌, Bool, true, false, cond, List, [], ◌∷◌, ◌++◌, length, take, filter, Option, Some, None, refl, sym, ap, ◌∙◌, subst, append_assoc, arith}
-use Rattle.std.specs.Prelude.{Result, Ok, Err, codes, nat_le, nat_lt, option_map, slice_index}
-use Rattle.std.specs.List.{after_first, before_first, filter_map, cons_option, list_any, slice_split}
+use Rattle.std.proofs.Common.{◌≡◌, ℕ, suc, ◌+◌, ◌==◌, ◌&&◌, ◌||◌, not, Bool, true, false, cond, List, [], ◌∷◌, ◌++◌}
+use Rattle.std.proofs.Common.{length, take, filter, map, Option, Some, None, refl, sym, ap, ◌∙◌, subst, append_assoc, arith}
+use Rattle.std.specs.Prelude.{Result, Ok, Err, OnOk, codes, nat_le, nat_lt, option_map, slice_index}
+use Rattle.std.specs.List.{after_first, before_first, filter_map, flat_map, cons_option, list_any, onto_first, slice_split}
 use Rattle.std.specs.Option.{is_some}
 use Rattle.url.specs.Parts.{Parts}
 use Rattle.std.specs.Str.{bytes_eq}
 use Rattle.std.specs.Result.{result_ok}
 use Rattle.jbase.specs.Each.{each_some}
 use Rattle.jdomain.specs.Sources.{source_of}
-use Rattle.std.proofs.lemmas.Bool.{eq-eqb, ne_eqb}
-use Rattle.std.proofs.lemmas.List.{append-nil, length-append}
+use Rattle.std.proofs.lemmas.List.{append-nil, length-append, map-append}
 use Rattle.std.proofs.lemmas.List.Elements.{filter_map-append, filter-append}
 use Rattle.jbase.specs.First.{fault_if, first_along, or_else}
-use Rattle.jjob.specs.declared.job.JobError.{JobError}
-use Rattle.jjob.specs.declared.job.JobError.TheVariants.{Line, Memory}
 use Rattle.jjob.specs.declared.job.TheConstants.{MOST_CODES, MOST_CLASSES, MOST_PICKS}
 use Rattle.jjob.specs.declared.line.Said.{Said}
 use Rattle.jjob.specs.declared.line.Said.TheVariants.{Policy, Prop, Cwd, Code, Class, Main, Schedule, Heap, Depth, Steps}
@@ -21,10 +19,11 @@ use Rattle.jjob.specs.declared.told.Told.{Told}
 use Rattle.jjob.specs.declared.line.TheConstants.{MOST_HEAP, MOST_DEPTH, MOST_STEPS, MOST_PICK}
 use Rattle.jjob.specs.JobNumbers.{number_up_to}
 use Rattle.jjob.specs.JobLines.{SaysNoProp, code_said, counted, cwd_said, depth_said, frames_said, is_kept, keyed, prop_said, said_of, schedule_said}
-use Rattle.jjob.specs.Jobs.{bad_behind, clashes, first_bad, name_in, said_by}
+use Rattle.jjob.specs.Jobs.{bad_behind, clashes, count_of, first_bad, has, lines_of, said_by}
+use Rattle.jjob.specs.Jobs.{class_in, code_in, cwd_in, depth_in, heap_in, main_in, name_in, picks_in, policy_in, steps_in}
 use Rattle.jjob.specs.JobTold.{IsTold, is_too_much}
-use Rattle.jjob.specs.JobReading.{TakesAll, TakesLine, is_at}
-use Rattle.jjob.specs.JobNames.{first_again, is_named, name_of, name_said, names_again}
+use Rattle.jjob.specs.JobReading.{AreSkipped, IsSkipped, Skips, TakesLine, bad_otherwise, clashes_otherwise}
+use Rattle.jjob.specs.JobNames.{first_again, is_named, name_of, name_said, names_again, digest, digests_of}
 
 -- ---- what may not be said
 
@@ -37,18 +36,32 @@ abbrev is_named_again : List Said → Said → Bool
 is_named_again before (Prop name value) = list_any (bytes_eq name) (filter_map name_in before)
 is_named_again before other = false
 
-clashes_is : (before : List Said) (told : Told) (said : Said) → IsTold before told → clashes before said ≡ (is_too_much told said || is_named_again before said)
+clashes_is : (before : List Said) (said : Said) → clashes before said ≡ (clashes_otherwise before said || is_named_again before said)
+unfolding clashes
+clashes_is before (Policy path) = or_none (has policy_in before)
+clashes_is before (Prop name value) = refl
+clashes_is before (Cwd path) = or_none (has cwd_in before)
+clashes_is before (Code source) = or_none (nat_le MOST_CODES (count_of code_in before))
+clashes_is before (Class path) = or_none (count_of code_in before == 0 || nat_le MOST_CLASSES (count_of class_in before))
+clashes_is before (Main name) = or_none (has main_in before)
+clashes_is before (Schedule numbers) = or_none (nat_lt MOST_PICKS (length (flat_map picks_in before) + length numbers))
+clashes_is before (Heap cells) = or_none (has heap_in before)
+clashes_is before (Depth frames) = or_none (has depth_in before)
+clashes_is before (Steps steps) = or_none (has steps_in before)
+
+-- what is told tells whether something clashes otherwise
+otherwise_is : (before : List Said) (told : Told) (said : Said) → IsTold before told → clashes_otherwise before said ≡ is_too_much told said
 unfolding clashes is_too_much
-clashes_is before told (Policy path) t = ap is_some (sym t.policy) ∙ or_none (is_some told.policy)
-clashes_is before told (Prop name value) t = refl
-clashes_is before told (Cwd path) t = ap is_some (sym t.cwd) ∙ or_none (is_some told.cwd)
-clashes_is before told (Code source) t = rw (← t.codes) (or_none (nat_le MOST_CODES told.codes))
-clashes_is before told (Class path) t = rw (← t.codes, ← t.classes) (or_none (told.codes == 0 || nat_le MOST_CLASSES told.classes))
-clashes_is before told (Main name) t = ap is_some (sym t.main) ∙ or_none (is_some told.main)
-clashes_is before told (Schedule numbers) t = rw (← t.schedule) (or_none (nat_lt MOST_PICKS (length told.schedule + length numbers)))
-clashes_is before told (Heap cells) t = ap is_some (sym t.heap) ∙ or_none (is_some told.heap)
-clashes_is before told (Depth frames) t = ap is_some (sym t.depth) ∙ or_none (is_some told.depth)
-clashes_is before told (Steps steps) t = ap is_some (sym t.steps) ∙ or_none (is_some told.steps)
+otherwise_is before told (Policy path) t = ap is_some (sym t.policy)
+otherwise_is before told (Prop name value) t = refl
+otherwise_is before told (Cwd path) t = ap is_some (sym t.cwd)
+otherwise_is before told (Code source) t = rw (← t.codes) refl
+otherwise_is before told (Class path) t = rw (← t.codes, ← t.classes) refl
+otherwise_is before told (Main name) t = ap is_some (sym t.main)
+otherwise_is before told (Schedule numbers) t = rw (← t.schedule) refl
+otherwise_is before told (Heap cells) t = ap is_some (sym t.heap)
+otherwise_is before told (Depth frames) t = ap is_some (sym t.depth)
+otherwise_is before told (Steps steps) t = ap is_some (sym t.steps)
 
 -- ---- the names of properties
 
@@ -179,6 +192,19 @@ prop_fits told name value = refl
 
 -- ---- one line
 
+no_name : (line : List ℕ) (kept : Bool) (said : Option Said) → is_kept line ≡ kept → said_of line ≡ said → cond kept (name_said said) None ≡ None → name_of line ≡ None
+unfolding name_of
+no_name line kept said k s e = rw (k, s) e
+
+-- a line is bad where it is bad otherwise, or says a name again
+bad_is : (lines : List (List ℕ)) (line : List ℕ) → bad_behind lines line ≡ (bad_otherwise lines line || names_again lines line)
+bad_is lines line = go (is_kept line) (said_of line) refl refl
+  where
+    go : (kept : Bool) (said : Option Said) → is_kept line ≡ kept → said_of line ≡ said → bad_behind lines line ≡ (bad_otherwise lines line || names_again lines line)
+    go false said k s = rw (k, no_name line false said k s refl) refl
+    go true None k s = rw (k, s) refl
+    go true (Some said) k s = rw (k, s) (clashes_is (said_by lines) said ∙ ap (λ (b : Bool). clashes_otherwise (said_by lines) said || b) (sym (again_said lines line said k s)))
+
 said_more : (lines : List (List ℕ)) (line : List ℕ) → said_by (lines ++ line ∷ []) ≡ said_by lines ++ filter_map said_of (filter is_kept (line ∷ []))
 unfolding said_by
 said_more lines line = ap (filter_map said_of) (filter-append is_kept lines (line ∷ [])) ∙ filter_map-append said_of (filter is_kept lines) (filter is_kept (line ∷ []))
@@ -187,62 +213,40 @@ said_here : (line : List ℕ) (kept : Bool) → is_kept line ≡ kept → filter
 said_here line true is = rw is refl
 said_here line false is = rw is refl
 
-pub takes_skipped : (lines : List (List ℕ)) (line : List ℕ) (told : Told) → is_kept line ≡ false → IsTold (said_by lines) told
-    → (bad_behind lines line ≡ false) × IsTold (said_by (lines ++ line ∷ [])) told
+pub takes_skipped : (lines : List (List ℕ)) (line : List ℕ) (told : Told) → is_kept line ≡ false → IsTold (said_by lines) told → TakesLine lines line told (Ok true)
 takes_skipped lines line told skipped is =
     let same : said_by (lines ++ line ∷ []) ≡ said_by lines = said_more lines line ∙ ap (λ (l : List Said). said_by lines ++ l) (said_here line false skipped) ∙ append-nil (said_by lines) in
     (rw skipped refl, subst (λ (s : List Said). IsTold s told) (sym same) is)
 
-pub takes_too_much : (lines : List (List ℕ)) (line : List ℕ) (said : Said) (told : Told) → is_kept line ≡ true → said_of line ≡ Some said → is_too_much told said ≡ true
-    → IsTold (said_by lines) told → bad_behind lines line ≡ true
-takes_too_much lines line said told kept says much is =
-    let bad : clashes (said_by lines) said ≡ true = clashes_is (said_by lines) told said is ∙ ap (λ (b : Bool). b || is_named_again (said_by lines) said) much in
-    rw (kept, says) bad
+-- a line that says nothing
+pub takes_nothing : (lines : List (List ℕ)) (line : List ℕ) → is_kept line ≡ true → said_of line ≡ None → bad_otherwise lines line ≡ true
+takes_nothing lines line kept says = rw (kept, says) refl
 
--- a property whose name comes again is bad
-pub takes_again : (lines : List (List ℕ)) (line name value : List ℕ) (told : Told) → is_kept line ≡ true → said_of line ≡ Some (Prop name value)
-    → names_again lines line ≡ true → IsTold (said_by lines) told → bad_behind lines line ≡ true
-takes_again lines line name value told kept says again is =
-    let bad : clashes (said_by lines) (Prop name value) ≡ true = clashes_is (said_by lines) told (Prop name value) is
-    ∙ ap (λ (b : Bool). b || is_named_again (said_by lines) (Prop name value)) (prop_fits told name value) ∙ sym (again_said lines line (Prop name value) kept says) ∙ again in
-    rw (kept, says) bad
+pub takes_too_much : (lines : List (List ℕ)) (line : List ℕ) (said : Said) (told : Told) → is_kept line ≡ true → said_of line ≡ Some said → is_too_much told said ≡ true
+    → IsTold (said_by lines) told → bad_otherwise lines line ≡ true
+takes_too_much lines line said told kept says much is = rw (kept, says) (otherwise_is (said_by lines) told said is ∙ much)
 
 pub takes_said : (lines : List (List ℕ)) (line : List ℕ) (said : Said) (old new : Told) → is_kept line ≡ true → said_of line ≡ Some said → is_too_much old said ≡ false
-    → names_again lines line ≡ false → IsTold (said_by lines) old → IsTold (said_by lines ++ said ∷ []) new
-    → (bad_behind lines line ≡ false) × IsTold (said_by (lines ++ line ∷ [])) new
-takes_said lines line said old new kept says much fresh is more =
-    let good : clashes (said_by lines) said ≡ false = clashes_is (said_by lines) old said is ∙ ap (λ (b : Bool). b || is_named_again (said_by lines) said) much ∙ sym (again_said lines line said kept says) ∙ fresh in
+    → IsTold (said_by lines) old → IsTold (said_by lines ++ said ∷ []) new → TakesLine lines line new (Ok true)
+takes_said lines line said old new kept says fits is more =
     let here : filter_map said_of (filter is_kept (line ∷ [])) ≡ said ∷ [] = said_here line true kept ∙ ap (λ (o : Option Said). cons_option o []) says in
     let grown : said_by (lines ++ line ∷ []) ≡ said_by lines ++ said ∷ [] = said_more lines line ∙ ap (λ (l : List Said). said_by lines ++ l) here in
-    (rw (kept, says) good, subst (λ (s : List Said). IsTold s new) (sym grown) more)
+    (rw (kept, says) (otherwise_is (said_by lines) old said is ∙ fits), subst (λ (s : List Said). IsTold s new) (sym grown) more)
 
--- ---- all lines
+-- ---- the first bad line, and the first name again
 
-abbrev test : (List (List ℕ) → List ℕ → Bool) → List (List ℕ) → ℕ → List ℕ → Option ℕ
+abbrev pub test : (List (List ℕ) → List ℕ → Bool) → List (List ℕ) → ℕ → List ℕ → Option ℕ
 test behind all i line = fault_if (behind (take i all) line) (i + 1)
-
--- some lines were taken, and these are left; `again` is the first of all that says a name again
-pub record Along (all : List (List ℕ)) (again : Option ℕ) (number : ℕ) (left : List (List ℕ)) (told : Told) : Type 0 where
-  pub before : List (List ℕ)
-  pub whole : before ++ left ≡ all
-  pub place : number ≡ length before + 1
-  pub good : first_along (test bad_behind all) (length before) left ≡ first_bad all
-  pub fresh : first_along (test names_again all) (length before) left ≡ again
-  pub is : IsTold (said_by before) told
-
-pub along_begins : (all : List (List ℕ)) (again : Option ℕ) (told : Told) → again ≡ first_again all → IsTold [] told → Along all again 1 all told
-unfolding said_by first_bad first_again
-along_begins all again told first is = record { before = []; whole = refl; place = refl; good = refl; fresh = sym first; is = is }
 
 take_front : (xs ys : List (List ℕ)) → take (length xs) (xs ++ ys) ≡ xs
 take_front [] ys = refl
 take_front (x ∷ xs) ys = ap (λ (l : List (List ℕ)). x ∷ l) (take_front xs ys)
 
-test_here : (behind : List (List ℕ) → List ℕ → Bool) (all before left : List (List ℕ)) (line : List ℕ) (bad : Bool) → before ++ left ≡ all → behind before line ≡ bad
-    → test behind all (length before) line ≡ fault_if bad (length before + 1)
-test_here behind all before left line bad whole is =
+test_here : (behind : List (List ℕ) → List ℕ → Bool) (all before left : List (List ℕ)) (line : List ℕ) → before ++ left ≡ all
+    → test behind all (length before) line ≡ fault_if (behind before line) (length before + 1)
+test_here behind all before left line whole =
     let front : take (length before) all ≡ before = ap (take (length before)) (sym whole) ∙ take_front before left in
-    ap (λ (ls : List (List ℕ)). fault_if (behind ls line) (length before + 1)) front ∙ ap (λ (b : Bool). fault_if b (length before + 1)) is
+    ap (λ (ls : List (List ℕ)). fault_if (behind ls line) (length before + 1)) front
 
 along_step : (test : ℕ → List ℕ → Option ℕ) (i : ℕ) (line : List ℕ) (more : List (List ℕ))
     → first_along test i (line ∷ more) ≡ or_else (test i line) (first_along test (i + 1) more)
@@ -253,91 +257,214 @@ first_none : (test : ℕ → List ℕ → Option ℕ) (i : ℕ) → first_along 
 unfolding first_along
 first_none test i = refl
 
--- no line in front of those that are left
-not_before : (behind : List (List ℕ) → List ℕ → Bool) (all : List (List ℕ)) (i : ℕ) (left : List (List ℕ)) (number : ℕ) → number ≤ i
-    → is_at (first_along (test behind all) i left) number ≡ false
+else_none : {X : Type 0} (o : Option X) → or_else o None ≡ o
+else_none None = refl
+else_none (Some x) = refl
+
+else_behind : {X : Type 0} (a b c : Option X) → or_else (or_else a b) c ≡ or_else a (or_else b c)
+else_behind None b c = refl
+else_behind (Some x) b c = refl
+
+longer : (before : List (List ℕ)) (line : List ℕ) → length (before ++ line ∷ []) ≡ length before + 1
+longer before line = length-append before (line ∷ [])
+
+-- tests look at the lines before alone
+pub same_tests : (behind : List (List ℕ) → List ℕ → Bool) (done xs more all part : List (List ℕ)) → done ++ (xs ++ more) ≡ all → done ++ xs ≡ part
+    → first_along (test behind all) (length done) xs ≡ first_along (test behind part) (length done) xs
+same_tests behind done [] more all part a p = first_none (test behind all) (length done) ∙ sym (first_none (test behind part) (length done))
+same_tests behind done (x ∷ xs) more all part a p =
+    let one = test_here behind all done (x ∷ (xs ++ more)) x a ∙ sym (test_here behind part done (x ∷ xs) x p) in
+    let rest = same_tests behind (done ++ x ∷ []) xs more all part (append_assoc done (x ∷ []) (xs ++ more) ∙ a) (append_assoc done (x ∷ []) xs ∙ p) in
+    let later : first_along (test behind all) (length done + 1) xs ≡ first_along (test behind part) (length done + 1) xs
+    = ap (λ (i : ℕ). first_along (test behind all) i xs) (sym (longer done x)) ∙ rest ∙ ap (λ (i : ℕ). first_along (test behind part) i xs) (longer done x) in
+    along_step (test behind all) (length done) x xs ∙ ap (λ (o : Option ℕ). or_else o (first_along (test behind all) (length done + 1) xs)) one
+    ∙ ap (or_else (test behind part (length done) x)) later ∙ sym (along_step (test behind part) (length done) x xs)
+
+from_zero : (n : ℕ) → 0 + n ≡ n
+from_zero n = omega arith
+
+-- lines, and lines behind them
+along_parts : (test : ℕ → List ℕ → Option ℕ) (i : ℕ) (xs ys : List (List ℕ))
+    → first_along test i (xs ++ ys) ≡ or_else (first_along test i xs) (first_along test (i + length xs) ys)
 unfolding first_along
-not_before behind all i [] number le = refl
-not_before behind all i (line ∷ more) number le = go (behind (take i all) line) (not_before behind all (i + 1) more number (omega (arith, le)))
-  where
-    go : (bad : Bool) → is_at (first_along (test behind all) (i + 1) more) number ≡ false
-        → is_at (or_else (fault_if bad (i + 1)) (first_along (test behind all) (i + 1) more)) number ≡ false
-    go true e = ne_eqb (i + 1) number (λ x. omega (arith, x, le))
-    go false e = e
+along_parts test i [] ys = let at : i ≡ i + 0 = omega arith in ap (λ (j : ℕ). first_along test j ys) at
+along_parts test i (x ∷ xs) ys =
+    let at : i + 1 + length xs ≡ i + suc (length xs) = omega arith in
+    ap (or_else (test i x)) (along_parts test (i + 1) xs ys ∙ ap (λ (j : ℕ). or_else (first_along test (i + 1) xs) (first_along test j ys)) at)
+    ∙ sym (else_behind (test i x) (first_along test (i + 1) xs) (first_along test (i + suc (length xs)) ys))
 
--- the line that comes next says a name again where its number is the one
-pub along_again : (all : List (List ℕ)) (again : Option ℕ) (number : ℕ) (left : List (List ℕ)) (line : List ℕ) (more : List (List ℕ)) (told : Told) (along : Along all again number left told) → left ≡ line ∷ more → is_at again number ≡ names_again along.before line
-along_again all again number left line more told along is =
+pub along_both : (test : ℕ → List ℕ → Option ℕ) (xs ys : List (List ℕ)) → first_along test 0 (xs ++ ys) ≡ or_else (first_along test 0 xs) (first_along test (length xs) ys)
+along_both test xs ys = along_parts test 0 xs ys ∙ ap (λ (j : ℕ). or_else (first_along test 0 xs) (first_along test j ys)) (from_zero (length xs))
+
+-- the first name again with one line more
+again_more : (before : List (List ℕ)) (line : List ℕ) → first_again (before ++ line ∷ []) ≡ or_else (first_again before) (fault_if (names_again before line) (length before + 1))
+unfolding first_again
+again_more before line =
+    let all = before ++ line ∷ [] in
+    let one : first_along (test names_again all) 0 all ≡ or_else (first_along (test names_again all) 0 before) (test names_again all (length before) line)
+    = along_both (test names_again all) before (line ∷ [])
+    ∙ ap (or_else (first_along (test names_again all) 0 before)) (along_step (test names_again all) (length before) line []
+    ∙ ap (or_else (test names_again all (length before) line)) (first_none (test names_again all) (length before + 1))
+    ∙ else_none (test names_again all (length before) line)) in
+    let same : first_along (test names_again all) 0 before ≡ first_along (test names_again before) 0 before = same_tests names_again [] before (line ∷ []) all before refl refl in
+    one ∙ ap (λ (o : Option ℕ). or_else o (test names_again all (length before) line)) same
+    ∙ ap (or_else (first_along (test names_again before) 0 before)) (test_here names_again all before (line ∷ []) line refl)
+
+-- ---- all lines
+
+-- the digests with one line more
+digests_more : (before : List (List ℕ)) (line : List ℕ) (old now : List ℕ) → old ≡ digests_of before → now ≡ old ++ digests_of (line ∷ []) → now ≡ digests_of (before ++ line ∷ [])
+digests_more before line old now known more =
+    more ∙ ap (λ (l : List ℕ). l ++ digests_of (line ∷ [])) known ∙ sym (map-append digest (filter_map name_of before) (filter_map name_of (line ∷ [])))
+    ∙ ap (map digest) (sym (filter_map-append name_of before (line ∷ [])))
+
+-- some lines were taken, with the digests of their names, and these are left
+pub record Along (all : List (List ℕ)) (number : ℕ) (left : List (List ℕ)) (told : Told) (digests : List ℕ) : Type 0 where
+  pub before : List (List ℕ)
+  pub whole : before ++ left ≡ all
+  pub place : number ≡ length before + 1
+  pub first : or_else (first_again before) (first_along (test bad_behind all) (length before) left) ≡ first_bad all
+  pub known : digests ≡ digests_of before
+  pub is : IsTold (said_by before) told
+
+pub along_begins : (all : List (List ℕ)) (told : Told) (digests : List ℕ) → digests ≡ [] → IsTold [] told → Along all 1 all told digests
+unfolding said_by first_bad first_again first_along
+along_begins all told digests none is = record { before = []; whole = refl; place = refl; first = refl; known = none; is = is }
+
+-- the lines that are left, with what the first of them says
+along_first : (all before left : List (List ℕ)) (line : List ℕ) (more : List (List ℕ)) (bad : Bool) → before ++ left ≡ all → left ≡ line ∷ more → bad_behind before line ≡ bad
+    → first_along (test bad_behind all) (length before) left ≡ or_else (fault_if bad (length before + 1)) (first_along (test bad_behind all) (length before + 1) more)
+along_first all before left line more bad whole is b =
+    ap (first_along (test bad_behind all) (length before)) is ∙ along_step (test bad_behind all) (length before) line more
+    ∙ ap (λ (o : Option ℕ). or_else o (first_along (test bad_behind all) (length before + 1) more))
+    (test_here bad_behind all before left line whole ∙ ap (λ (t : Bool). fault_if t (length before + 1)) b)
+
+-- what a call answers to a line
+abbrev pub Takes : Told → List ℕ → Told → Bool → Type 0
+Takes old line new taken = (lines : List (List ℕ)) → IsTold (said_by lines) old → TakesLine lines line new (Ok taken)
+
+pub along_more : (all : List (List ℕ)) (number : ℕ) (left : List (List ℕ)) (line : List ℕ) (more : List (List ℕ)) (old new : Told) (noted now : List ℕ) (taken : Bool)
+    → Along all number left old noted → left ≡ line ∷ more → Takes old line new taken → taken ≡ true → now ≡ noted ++ digests_of (line ∷ []) → Along all (number + 1) more new now
+along_more all number left line more old new noted now taken along is takes was note =
+    let here = subst (λ (b : Bool). TakesLine along.before line new (Ok b)) was (takes along.before along.is) in
     let shape : along.before ++ line ∷ more ≡ all = ap (λ (l : List (List ℕ)). along.before ++ l) (sym is) ∙ along.whole in
-    let here = test_here names_again all along.before (line ∷ more) line (names_again along.before line) shape refl in
-    let whole = sym along.fresh ∙ ap (first_along (test names_again all) (length along.before)) is ∙ along_step (test names_again all) (length along.before) line more
-    ∙ ap (λ (o : Option ℕ). or_else o (first_along (test names_again all) (length along.before + 1) more)) here in
-    ap (λ (o : Option ℕ). is_at o number) whole ∙ ap (is_at (or_else (fault_if (names_again along.before line) (length along.before + 1)) (first_along (test names_again all) (length along.before + 1) more))) along.place
-    ∙ go (names_again along.before line)
-  where
-    go : (b : Bool) → is_at (or_else (fault_if b (length along.before + 1)) (first_along (test names_again all) (length along.before + 1) more)) (length along.before + 1) ≡ b
-    go true = eq-eqb (length along.before + 1) (length along.before + 1) refl
-    go false = not_before names_again all (length along.before + 1) more (length along.before + 1) (omega arith)
-
--- what a call answers to the line, where it was told whether it says a name again
-abbrev pub Takes : Told → Told → List ℕ → ℕ → Bool → Result (Unit {0}) JobError → Type 0
-Takes old new line number again result = (lines : List (List ℕ)) → IsTold (said_by lines) old → again ≡ names_again lines line → TakesLine lines line number new result
-
-no_name : (line : List ℕ) (kept : Bool) (said : Option Said) → is_kept line ≡ kept → said_of line ≡ said → cond kept (name_said said) None ≡ None → name_of line ≡ None
-unfolding name_of
-no_name line kept said k s e = rw (k, s) e
-
-not_again : (before : List Said) (said : Said) → clashes before said ≡ false → is_named_again before said ≡ false
-unfolding clashes
-not_again before (Policy path) e = refl
-not_again before (Prop name value) e = e
-not_again before (Cwd path) e = refl
-not_again before (Code source) e = refl
-not_again before (Class path) e = refl
-not_again before (Main name) e = refl
-not_again before (Schedule numbers) e = refl
-not_again before (Heap cells) e = refl
-not_again before (Depth frames) e = refl
-not_again before (Steps steps) e = refl
-
--- a line that isn't bad says no name again
-fresh_where : (lines : List (List ℕ)) (line : List ℕ) → bad_behind lines line ≡ false → names_again lines line ≡ false
-fresh_where lines line good = go (is_kept line) (said_of line) refl refl
-  where
-    go : (kept : Bool) (said : Option Said) → is_kept line ≡ kept → said_of line ≡ said → names_again lines line ≡ false
-    go false said k s = ap (is_named lines) (no_name line false said k s refl)
-    go true None k s = ap (is_named lines) (no_name line true None k s refl)
-    go true (Some said) k s = again_said lines line said k s ∙ not_again (said_by lines) said (rw (k, s) at good)
-
-pub along_more : (all : List (List ℕ)) (again : Option ℕ) (number : ℕ) (left : List (List ℕ)) (line : List ℕ) (more : List (List ℕ)) (old new : Told) (named : Bool) (done : Unit {0}) → Along all again number left old → left ≡ line ∷ more → named ≡ is_at again number → Takes old new line number named (Ok done) → Along all again (number + 1) more new
-along_more all again number left line more old new named done along is at takes =
-    let here = takes along.before along.is (at ∙ along_again all again number left line more old along is) in
-    let shape : along.before ++ line ∷ more ≡ all = ap (λ (l : List (List ℕ)). along.before ++ l) (sym is) ∙ along.whole in
-    let longer : length (along.before ++ line ∷ []) ≡ length along.before + 1 = length-append along.before (line ∷ []) in
-    let passed : (behind : List (List ℕ) → List ℕ → Bool) → behind along.before line ≡ false → first_along (test behind all) (length (along.before ++ line ∷ [])) more ≡ first_along (test behind all) (length along.before) left = λ behind good.
-    let none : test behind all (length along.before) line ≡ None = test_here behind all along.before (line ∷ more) line false shape good in
-    ap (λ (i : ℕ). first_along (test behind all) i more) longer ∙ sym (ap (λ (o : Option ℕ). or_else o (first_along (test behind all) (length along.before + 1) more)) none)
-    ∙ sym (along_step (test behind all) (length along.before) line more) ∙ ap (first_along (test behind all) (length along.before)) (sym is) in
+    let size = longer along.before line in
+    let bad : bad_behind along.before line ≡ names_again along.before line = bad_is along.before line ∙ ap (λ (b : Bool). b || names_again along.before line) here.0 in
+    let later = first_along (test bad_behind all) (length along.before + 1) more in
     record {
       before = along.before ++ line ∷ [];
       whole = append_assoc along.before (line ∷ []) more ∙ shape;
-      place = ap (λ (n : ℕ). n + 1) along.place ∙ ap (λ (n : ℕ). n + 1) (sym longer);
-      good = passed bad_behind here.0 ∙ along.good;
-      fresh = passed names_again (fresh_where along.before line here.0) ∙ along.fresh;
+      place = ap (λ (n : ℕ). n + 1) along.place ∙ ap (λ (n : ℕ). n + 1) (sym size);
+      first = ap (λ (i : ℕ). or_else (first_again (along.before ++ line ∷ [])) (first_along (test bad_behind all) i more)) size
+          ∙ ap (λ (o : Option ℕ). or_else o later) (again_more along.before line)
+          ∙ else_behind (first_again along.before) (fault_if (names_again along.before line) (length along.before + 1)) later
+          ∙ ap (or_else (first_again along.before)) (sym (along_first all along.before left line more (names_again along.before line) along.whole is bad))
+          ∙ along.first;
+      known = digests_more along.before line noted now along.known note;
       is = here.1;
     }
 
-pub along_bad : (all : List (List ℕ)) (again : Option ℕ) (number : ℕ) (left : List (List ℕ)) (line : List ℕ) (more : List (List ℕ)) (old new : Told) (named : Bool) (fault : JobError) → Along all again number left old → left ≡ line ∷ more → named ≡ is_at again number → Takes old new line number named (Err fault) → TakesAll all (Err fault)
-along_bad all again number left line more old new named Memory along is at takes = tt
-along_bad all again number left line more old new named (Line bad) along is at takes =
-    let here = takes along.before along.is (at ∙ along_again all again number left line more old along is) in
-    let shape : along.before ++ line ∷ more ≡ all = ap (λ (l : List (List ℕ)). along.before ++ l) (sym is) ∙ along.whole in
-    let some : test bad_behind all (length along.before) line ≡ Some (length along.before + 1) = test_here bad_behind all along.before (line ∷ more) line true shape here.1 in
-    sym along.good ∙ ap (first_along (test bad_behind all) (length along.before)) is ∙ along_step (test bad_behind all) (length along.before) line more
-    ∙ ap (λ (o : Option ℕ). or_else o (first_along (test bad_behind all) (length along.before + 1) more)) some ∙ ap (λ (n : ℕ). Some n) (sym (here.0 ∙ along.place))
+-- a line is bad otherwise, so the first bad one is the first that says a name again, else this line
+pub along_bad : (all : List (List ℕ)) (number : ℕ) (left : List (List ℕ)) (line : List ℕ) (more : List (List ℕ)) (old new : Told) (noted now : List ℕ) (taken : Bool) (bad : ℕ)
+    → Along all number left old noted → left ≡ line ∷ more → Takes old line new taken → taken ≡ false → now ≡ noted ++ digests_of (line ∷ [])
+    → ((before left : List (List ℕ)) → before ++ left ≡ all → number ≡ length before → now ≡ digests_of before → or_else (first_again before) (Some number) ≡ Some bad)
+    → first_bad all ≡ Some bad
+along_bad all number left line more old new noted now taken bad along is takes was note judged =
+    let otherwise : bad_otherwise along.before line ≡ true = subst (λ (b : Bool). TakesLine along.before line new (Ok b)) was (takes along.before along.is) in
+    let here : bad_behind along.before line ≡ true = bad_is along.before line ∙ ap (λ (b : Bool). b || names_again along.before line) otherwise in
+    let first : or_else (first_again along.before) (Some number) ≡ first_bad all = ap (λ (n : ℕ). or_else (first_again along.before) (Some n)) along.place
+    ∙ ap (or_else (first_again along.before)) (sym (along_first all along.before left line more true along.whole is here)) ∙ along.first in
+    let again : first_again (along.before ++ line ∷ []) ≡ or_else (first_again along.before) (fault_if (names_again along.before line) number)
+    = again_more along.before line ∙ ap (λ (n : ℕ). or_else (first_again along.before) (fault_if (names_again along.before line) n)) (sym along.place) in
+    let shape : (along.before ++ line ∷ []) ++ more ≡ all = append_assoc along.before (line ∷ []) more ∙ ap (λ (l : List (List ℕ)). along.before ++ l) (sym is) ∙ along.whole in
+    let judge = judged (along.before ++ line ∷ []) more shape (along.place ∙ sym (longer along.before line)) (digests_more along.before line noted now along.known note) in
+    sym first ∙ go (first_again along.before) (names_again along.before line) ∙ ap (λ (o : Option ℕ). or_else o (Some number)) (sym again) ∙ judge
+  where
+    go : (o : Option ℕ) (b : Bool) → or_else o (Some number) ≡ or_else (or_else o (fault_if b number)) (Some number)
+    go None true = refl
+    go None false = refl
+    go (Some n) b = refl
 
-pub along_ends : (all : List (List ℕ)) (again : Option ℕ) (number : ℕ) (left : List (List ℕ)) (line : List ℕ) (old new : Told) (named : Bool) (done : Unit {0})
-    → Along all again number left old → left ≡ line ∷ [] → named ≡ is_at again number → Takes old new line number named (Ok done) → TakesAll all (Ok new)
-along_ends all again number left line old new named done along is at takes =
-    let last = along_more all again number left line [] old new named done along is at takes in
-    (sym last.good ∙ first_none (test bad_behind all) (length last.before), subst (λ (ls : List (List ℕ)). IsTold (said_by ls) new) (sym (append-nil last.before) ∙ last.whole) last.is)
+-- all lines were taken, so the first bad one is the first that says a name again
+pub along_ends : (all : List (List ℕ)) (number : ℕ) (left : List (List ℕ)) (line : List ℕ) (old new : Told) (noted now : List ℕ) (taken : Bool) (again : Option ℕ)
+    → Along all number left old noted → left ≡ line ∷ [] → Takes old line new taken → taken ≡ true → now ≡ noted ++ digests_of (line ∷ [])
+    → (now ≡ digests_of all → again ≡ first_again all) → (first_bad all ≡ again) × IsTold (said_by all) new
+along_ends all number left line old new noted now taken again along is takes was note judged =
+    let last = along_more all number left line [] old new noted now taken along is takes was note in
+    let same : last.before ≡ all = sym (append-nil last.before) ∙ last.whole in (
+      sym last.first ∙ ap (or_else (first_again last.before)) (first_none (test bad_behind all) (length last.before)) ∙ else_none (first_again last.before)
+          ∙ ap first_again same ∙ sym (judged (last.known ∙ ap digests_of same)),
+      subst (λ (ls : List (List ℕ)). IsTold (said_by ls) new) same last.is,
+    )
+
+-- ---- lines that are skipped
+
+-- an empty line
+pub skipped_empty : (text more : List ℕ) → text ≡ 10 ∷ more → IsSkipped (lines_of text) (lines_of more)
+unfolding is_kept
+skipped_empty text more is = ([], refl, ap lines_of is)
+
+-- a line that begins with `#`
+pub skipped_mark : (text rest line : List ℕ) (more : List (List ℕ)) → text ≡ 35 ∷ rest → lines_of rest ≡ line ∷ more → IsSkipped (lines_of text) more
+unfolding is_kept
+skipped_mark text rest line more is lines = (35 ∷ line, and_false (not (length (35 ∷ line) == 0)), ap lines_of is ∙ ap (onto_first 35) lines)
+  where
+    and_false : (b : Bool) → (b && false) ≡ false
+    and_false true = refl
+    and_false false = refl
+
+pub skips_none : (lines : List (List ℕ)) (number : ℕ) → Skips lines number lines number
+skips_none lines number = record { front = []; whole = refl; skipped = tt; count = omega arith }
+
+one_skipped : (front : List (List ℕ)) (line : List ℕ) → AreSkipped front → is_kept line ≡ false → AreSkipped (front ++ line ∷ [])
+one_skipped [] line all one = (one, tt)
+one_skipped (x ∷ front) line all one = (all.0, one_skipped front line all.1 one)
+
+pub skips_more : (lines : List (List ℕ)) (number : ℕ) (left : List (List ℕ)) (at : ℕ) (more : List (List ℕ))
+    → Skips lines number left at → IsSkipped left more → Skips lines number more (at + 1)
+skips_more lines number left at more skips one =
+    let size = longer skips.front one.0 in
+    record {
+      front = skips.front ++ one.0 ∷ [];
+      whole = append_assoc skips.front (one.0 ∷ []) more ∙ ap (λ (l : List (List ℕ)). skips.front ++ l) (sym one.2) ∙ skips.whole;
+      skipped = one_skipped skips.front one.0 skips.skipped one.1;
+      count = omega (arith, skips.count, size);
+    }
+
+skip_one : (all : List (List ℕ)) (number : ℕ) (left : List (List ℕ)) (line : List ℕ) (more : List (List ℕ)) (told : Told) (noted : List ℕ)
+    → Along all number left told noted → left ≡ line ∷ more → is_kept line ≡ false → Along all (number + 1) more told noted
+skip_one all number left line more told noted along is skipped =
+    let none : name_of line ≡ None = no_name line false (said_of line) skipped refl refl in
+    along_more all number left line more told told noted noted true along is (λ lines is. takes_skipped lines line told skipped is) refl (rw none (sym (append-nil noted)))
+
+skip_all : (all : List (List ℕ)) (number : ℕ) (front left more : List (List ℕ)) (told : Told) (noted : List ℕ)
+    → Along all number left told noted → AreSkipped front → front ++ more ≡ left → Along all (number + length front) more told noted
+skip_all all number [] left more told noted along skipped whole =
+    let at : number ≡ number + 0 = omega arith in
+    subst (λ (n : ℕ). Along all n more told noted) at (subst (λ (l : List (List ℕ)). Along all number l told noted) (sym whole) along)
+skip_all all number (line ∷ front) left more told noted along skipped whole =
+    let at : number + 1 + length front ≡ number + suc (length front) = omega arith in
+    subst (λ (n : ℕ). Along all n more told noted) at
+    (skip_all all (number + 1) front (front ++ more) more told noted (skip_one all number left line (front ++ more) told noted along (sym whole) skipped.0) skipped.1 refl)
+
+-- lines that are skipped say nothing
+pub along_skips : (all : List (List ℕ)) (number : ℕ) (left : List (List ℕ)) (at : ℕ) (more : List (List ℕ)) (told : Told) (noted : List ℕ)
+    → Along all number left told noted → Skips left number more at → Along all at more told noted
+along_skips all number left at more told noted along skips =
+    subst (λ (n : ℕ). Along all n more told noted) (sym skips.count) (skip_all all number skips.front left more told noted along skips.skipped skips.whole)
+
+-- the call answers well, whatever it answers
+pub on_ok : {A E P : Type 0} (result : Result A E) → P → OnOk result P
+on_ok (Ok a) p = p
+on_ok (Err e) p = tt
+
+-- the digests of a line that says no property, and of one that says one
+pub digest_none : (line : List ℕ) (digests : List ℕ) → name_of line ≡ None → digests ≡ digests ++ digests_of (line ∷ [])
+digest_none line digests none = rw none (sym (append-nil digests))
+
+pub digest_skipped : (line : List ℕ) (digests : List ℕ) → is_kept line ≡ false → digests ≡ digests ++ digests_of (line ∷ [])
+digest_skipped line digests skipped = digest_none line digests (no_name line false (said_of line) skipped refl refl)
+
+pub digest_prop : (line name value : List ℕ) (digests : List ℕ) → is_kept line ≡ true → said_of line ≡ Some (Prop name value)
+    → digests ++ digest name ∷ [] ≡ digests ++ digests_of (line ∷ [])
+digest_prop line name value digests kept says = rw (name_here line (Prop name value) kept says) refl

@@ -1,3 +1,4 @@
+pub mod JobDigests
 pub mod JobNames
 pub mod JobNumbers
 pub mod JobReading

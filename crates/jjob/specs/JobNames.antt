@@ -1,10 +1,12 @@
 -- The names of properties in order, by which the first one that comes again is found.
-use Rattle.std.specs.Prelude.{ℕ, ◌+◌, ◌*◌, ◌%◌, ◌^◌, ◌==◌, ◌&&◌, Bool, false, List, [], ◌∷◌, ◌++◌, take, nat_le, nat_lt, Option, Some, None, option_map, if◌then◌else◌}
-use Rattle.std.specs.List.{filter_map, list_any}
+use Rattle.std.specs.Prelude.{◌≡◌, ℕ, ◌+◌, ◌*◌, ◌%◌, ◌^◌, ◌==◌, ◌≤◌, ◌&&◌, Bool, true, false, List, [], ◌∷◌, ◌++◌, length, map, take, nat_le, nat_lt}
+use Rattle.std.specs.Prelude.{Option, Some, None, option_map, Result, IfOk, if◌then◌else◌}
+use Rattle.std.specs.List.{count_by, filter_map, list_any}
 use Rattle.std.specs.Option.{option_to_list}
 use Rattle.std.specs.Str.{bytes_eq}
+use Rattle.std.specs.declared.alloc.AllocError.{AllocError}
 use denote.Ref.{Bor}
-use Rattle.jbase.specs.First.{fault_if, first_along}
+use Rattle.jbase.specs.First.{fault_if, first_along, or_else}
 use Rattle.jjob.specs.declared.line.Said.{Said}
 use Rattle.jjob.specs.JobLines.{is_kept, said_of}
 use Rattle.jjob.specs.Jobs.{name_in}
@@ -31,7 +33,7 @@ names_again before line = is_named before (name_of line)
 unfoldable pub first_again : List (List ℕ) → Option ℕ
 first_again lines = first_along (λ i line. fault_if (names_again (take i lines) line) (i + 1)) 0 lines
 
--- ---- names in order
+-- ---- names by numbers
 
 -- a number by which most names are told apart
 unfoldable pub digest_from : ℕ → List ℕ → ℕ
@@ -40,6 +42,35 @@ digest_from sum (b ∷ name) = digest_from ((sum * 257 % 2 ^ 64 + b) % 2 ^ 64) n
 
 abbrev pub digest : List ℕ → ℕ
 digest name = digest_from 0 name
+
+-- the digests of the names that lines say
+abbrev pub digests_of : List (List ℕ) → List ℕ
+digests_of lines = map digest (filter_map name_of lines)
+
+-- what is answered of all lines up to one that has the number: the first number at which a name comes again, else this one
+abbrev pub AgainTo : List (List ℕ) → ℕ → List ℕ → Result ℕ AllocError → Type 0
+AgainTo all number digests result = (lines left : List (List ℕ)) → lines ++ left ≡ all → number ≡ length lines → digests ≡ digests_of lines
+    → IfOk result (λ n. or_else (first_again lines) (Some number) ≡ Some n)
+
+-- no number stands twice
+abbrev pub NoneTwice : List ℕ → Type 0
+NoneTwice numbers = (x : ℕ) → count_by (λ y. y == x) numbers ≤ 1
+
+unfoldable pub differ_from : ℕ → List ℕ → Bool
+differ_from last [] = true
+differ_from last (next ∷ more) = if last == next then false else differ_from next more
+
+-- whether no number is equal to the one behind it
+abbrev pub neighbours_differ : List ℕ → Bool
+neighbours_differ [] = true
+neighbours_differ (first ∷ more) = differ_from first more
+
+-- the lesser of a number that there may be, and another one
+abbrev pub lesser : Option ℕ → ℕ → ℕ
+lesser None number = number
+lesser (Some other) number = if nat_le other number then other else number
+
+-- ---- names in order
 
 -- what is noted of a line: the digest of its property's name, the name and the line's number
 abbrev pub note_of : ℕ → List ℕ → List (ℕ × List ℕ × ℕ)

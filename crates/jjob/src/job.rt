@@ -6,7 +6,6 @@ use jbase::Seq;
 use jdomain::CodeSource;
 use jtext::Units;
 use std::alloc::AllocError;
-use std::fmt;
 use thiserror::Error;
 
 /// The cells of the heap, where a job doesn't say.

@@ -2,6 +2,7 @@
 #![tactic(auto)]
 
 mod command;
+mod digests;
 mod job;
 mod line;
 mod names;

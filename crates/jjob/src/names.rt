@@ -1,8 +1,9 @@
 ghost use Rattle.std.specs.Prelude.{◌≡◌, ◌<◌, ◌++◌, IfOk, OnOk, length, map, true};
 ghost use Rattle.jjob.specs.JobLines.{is_kept};
 ghost use Rattle.jjob.specs.Jobs.{lines_of};
-ghost use Rattle.jjob.specs.JobNames.{digest, first_again, is_again, least_again, least_with, note_of, notes, plain, with_next};
+ghost use Rattle.jjob.specs.JobNames.{AgainTo, digests_of, first_again, is_again, least_again, least_with, lesser, note_of, notes, plain, with_next};
 
+use crate::digests::{are_apart, digest};
 use crate::line::{is_kept, prop_of};
 use crate::reading::first_line;
 use std::alloc::{AllocError, Global};
@@ -10,8 +11,55 @@ use std::alloc::{AllocError, Global};
 /// The name of a property behind its digest, so that comparisons seldom read names, and the number of its line.
 type Note<'a> = (u64, &'a str, u32);
 
+/// The number of the first line that says a property whose name a line before it says; the digests are those of the names of all lines.
+/// Where no two are equal the lines aren't gone over again.
+pub fn first_again_by(
+    alloc: Global,
+    text: &str,
+    digests: Vec<u64>,
+) -> Result<Option<u32>, AllocError>
+    requires { length text.now < 0xffff_ffff }
+    ensures { digests.items ≡ digests_of (lines_of text.now) → IfOk result (λ number. number ≡ first_again (lines_of text.now)) }
+{
+    if are_apart(digests) {
+        return Ok(None);
+    }
+    first_again(alloc, text)
+}
+
+/// The number of the first line that says a property's name again, up to a line of a text that has the number, else this number; the digests
+/// are those of the names of the lines up to it.
+pub fn first_again_to(
+    alloc: Global,
+    text: &str,
+    digests: Vec<u64>,
+    number: u32,
+) -> Result<u32, AllocError>
+    requires { length text.now < 0xffff_ffff }
+    ensures { AgainTo (lines_of text.now) number digests.items result }
+{
+    if are_apart(digests) {
+        return Ok(number);
+    }
+    let again = first_again(alloc, text)?;
+    Ok(lesser(again, number))
+}
+
+/// The lesser of a number that there may be, and another one.
+fn lesser(other: Option<u32>, number: u32) -> u32
+    ensures { result ≡ lesser other number }
+{
+    let Some(other) = other else {
+        return number;
+    };
+    if other <= number {
+        return other;
+    }
+    number
+}
+
 /// The number of the first line that says a property whose name a line before it says.
-pub fn first_again(alloc: Global, text: &str) -> Result<Option<u32>, AllocError>
+fn first_again(alloc: Global, text: &str) -> Result<Option<u32>, AllocError>
     requires { length text.now < 0xffff_ffff }
     ensures { IfOk result (λ number. number ≡ first_again (lines_of text.now)) }
 {
@@ -109,16 +157,4 @@ fn least_with(least: Option<u32>, number: u32) -> Option<u32>
         return least;
     }
     Some(number)
-}
-
-/// A number by which most names are told apart.
-#[tactic(auto, unfolding(crate::specs::JobNames::digest_from))]
-fn digest(name: &[u8]) -> u64
-    ensures { result ≡ digest name.now }
-{
-    let mut sum: u64 = 0;
-    for b in name {
-        sum = sum.wrapping_mul(257).wrapping_add(u64::from(*b));
-    }
-    sum
 }

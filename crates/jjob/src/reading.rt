@@ -1,11 +1,11 @@
-ghost use Rattle.std.specs.Prelude.{◌≡◌, ◌∷◌, [], ◌<◌, ◌≤◌, length, IfErr, IfNone, IfSome, MatchResult, false, true};
+ghost use Rattle.std.specs.Prelude.{◌≡◌, ◌∷◌, [], ◌<◌, ◌≤◌, ◌+◌, length, IfErr, IfNone, IfSome, MatchResult, false, true};
 ghost use Rattle.std.specs.Str.{is_utf8};
 ghost use Rattle.std.specs.Str.Lossy.{utf8_valid_len};
 ghost use Rattle.jjob.specs.Jobs.{JobGives, job, job_in, line_at, lines_of, number_of_lines};
-ghost use Rattle.jjob.specs.JobReading.{TakesAll, is_at};
+ghost use Rattle.jjob.specs.JobReading.{IsSkipped, Skips, TakesAll};
 
 use crate::job::{Job, JobError};
-use crate::names::first_again;
+use crate::names::{first_again_by, first_again_to};
 use crate::reader::take;
 use crate::told::Told;
 use std::alloc::Global;
@@ -70,27 +70,64 @@ fn lines_read(alloc: Global, text: &str) -> Result<Told, JobError>
     requires { length text.now < 0xffff_ffff }
     ensures { TakesAll (lines_of text.now) result }
 {
-    let again = first_again(alloc, text)?;
     let mut told = Told::new(alloc);
-    let mut number = 1;
-    let mut rest = text;
+    let mut digests = Vec::new(alloc);
+    let (mut rest, mut number) = behind_skipped(text, 1);
     while let Some((line, more)) = first_line(rest) {
-        take(alloc, &mut told, number, is_at(again, number), line)?;
-        number += 1;
-        rest = more;
+        let taken = take(alloc, &mut told, &mut digests, line)?;
+        if !taken {
+            let line = first_again_to(alloc, text, digests, number)?;
+            return Err(JobError::Line { line });
+        }
+        let (next, place) = behind_skipped(more, number + 1);
+        rest = next;
+        number = place;
     }
-    take(alloc, &mut told, number, is_at(again, number), rest)?;
-    Ok(told)
+    let taken = take(alloc, &mut told, &mut digests, rest)?;
+    if !taken {
+        let line = first_again_to(alloc, text, digests, number)?;
+        return Err(JobError::Line { line });
+    }
+    let again = first_again_by(alloc, text, digests)?;
+    match again {
+        Some(line) => Err(JobError::Line { line }),
+        None => Ok(told),
+    }
 }
 
-/// Whether a line has a number, if there is one.
-fn is_at(place: Option<u32>, number: u32) -> bool
-    ensures { result ≡ is_at place number }
+/// What is left of a text behind the lines at its front that are skipped, and the number of the first line that is left, where the text's
+/// first one has the number. The text's last line is always left.
+fn behind_skipped(text: &str, number: u32) -> (&str, u32)
+    requires { number + length text.now ≤ 0xffff_ffff }
+    ensures skips { Skips (lines_of text.now) number (lines_of result.0.now) result.1 }
+    ensures small { result.1 + length result.0.now ≤ number + length text.now }
+    ensures shorter { length result.0.now ≤ length text.now }
 {
-    match place {
-        Some(place) => place == number,
-        None => false,
+    let mut place = number;
+    let mut rest = text;
+    while let Some(more) = behind_first_skipped(rest) {
+        place += 1;
+        rest = more;
     }
+    (rest, place)
+}
+
+/// What stands behind the first line of a text, where it is skipped and ends.
+#[inline(always)]
+fn behind_first_skipped(text: &str) -> Option<&str>
+    ensures skipped { IfSome result (λ more. IsSkipped (lines_of text.now) (lines_of more.now)) }
+    ensures shorter { IfSome result (λ more. length more.now < length text.now) }
+{
+    if let Some(more) = text.strip_prefix('\n') {
+        return Some(more);
+    }
+    let Some(rest) = text.strip_prefix('#') else {
+        return None;
+    };
+    let Some((_, more)) = first_line(rest) else {
+        return None;
+    };
+    Some(more)
 }
 
 /// The first line of a text, and what stands behind the line feed that ends it.

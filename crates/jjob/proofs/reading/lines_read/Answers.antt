@@ -1,32 +1,56 @@
-use Rattle.std.proofs.Common.{rules, arith}
-use Rattle.std.proofs.lemmas.Result.{err_from_is_err_and}
+use Rattle.std.proofs.Common.{◌≡◌, ◌+◌, ◌∙◌, arith, false, rules, true}
 use Rattle.jjob.specs.Jobs.{lines_of}
-use Rattle.jjob.proofs.JobReading.{along_bad, along_begins, along_ends, along_more}
+use Rattle.jjob.proofs.JobReading.{along_bad, along_begins, along_ends, along_more, along_skips}
 use Rattle.jjob.proofs.reading.lines_read.Goals as goal
 
 pub loop-line-init : goal.loop-line-init
-loop-line-init c = (search rules, omega arith, along_begins (lines_of c.args.text.now) c.in_ok-again.again c.new-told.result c.in_ok-again.ensures c.new-told.ensures)
+loop-line-init c =
+    let all = lines_of c.args.text.now in
+    let names = c.new-digests.result.items in (
+      search rules,
+      omega (arith, c.behind_skipped-number.ensures.small),
+      along_skips all 1 all c.behind_skipped-number.result.1 (lines_of c.behind_skipped-number.result.0.now) c.new-told.result names
+          (along_begins all c.new-told.result names c.new-digests.ensures.items c.new-told.ensures) c.behind_skipped-number.ensures.skips,
+    )
 
-pub returns-in_err-take : goal.returns-in_err-take
-returns-in_err-take c =
-    let p = err_from_is_err_and c.from_residual-in_err-take.result c.from_residual-in_err-take.ensures.1 in
-    rw (p.1, p.2) (along_bad (lines_of c.args.text.now) c.in_ok-again.again c.loop-line.number (lines_of c.loop-line.rest.now) c.in-Some.line.now (lines_of c.in-Some.more.now) c.loop-line.told c.take.new.told c.is_at.result c.in_err-take.field-0.0
-    c.loop-line.invariant.2 c.in-Some.ensures.some c.is_at.ensures c.in_err-take.ensures)
+pub returns-then-not-taken : goal.returns-then-not-taken
+returns-then-not-taken c =
+    let was : c.in_ok-taken.taken ≡ false = search rules in
+    along_bad (lines_of c.args.text.now) c.loop-line.number (lines_of c.loop-line.rest.now) c.in-Some.line.now (lines_of c.in-Some.more.now) c.loop-line.told c.take.new.told
+    c.loop-line.digests.items c.take.new.digests.items c.in_ok-taken.taken c.in_ok-line.line c.loop-line.invariant.2 c.in-Some.ensures.some
+    c.in_ok-taken.ensures.taken was c.in_ok-taken.ensures.noted c.in_ok-line.ensures
 
 pub loop-line-preserved : goal.loop-line-preserved
-loop-line-preserved c = (
-  search rules,
-  omega (arith, c.loop-line.invariant.1, c.in-Some.ensures.shorter),
-  along_more (lines_of c.args.text.now) c.in_ok-again.again c.loop-line.number (lines_of c.loop-line.rest.now) c.in-Some.line.now (lines_of c.in-Some.more.now) c.loop-line.told c.take.new.told c.is_at.result c.in_ok-take.field-0
-      c.loop-line.invariant.2 c.in-Some.ensures.some c.is_at.ensures c.in_ok-take.ensures,
-)
+loop-line-preserved c =
+    let was : c.in_ok-taken.taken ≡ true = search rules in
+    let all = lines_of c.args.text.now in
+    let noted = c.take.new.digests.items in (
+      search rules,
+      omega (arith, c.loop-line.invariant.1, c.in-Some.ensures.shorter, c.behind_skipped-place.ensures.small),
+      along_skips all (c.loop-line.number + 1) (lines_of c.in-Some.more.now) c.behind_skipped-place.result.1 (lines_of c.behind_skipped-place.result.0.now) c.take.new.told noted
+          (along_more all c.loop-line.number (lines_of c.loop-line.rest.now) c.in-Some.line.now (lines_of c.in-Some.more.now) c.loop-line.told c.take.new.told
+          c.loop-line.digests.items noted c.in_ok-taken.taken c.loop-line.invariant.2 c.in-Some.ensures.some c.in_ok-taken.ensures.taken was c.in_ok-taken.ensures.noted)
+          c.behind_skipped-place.ensures.skips,
+    )
 
-pub returns-in_err-take-2 : goal.returns-in_err-take-2
-returns-in_err-take-2 c =
-    let p = err_from_is_err_and c.from_residual-in_err-take-2.result c.from_residual-in_err-take-2.ensures.1 in
-    rw (p.1, p.2) (along_bad (lines_of c.args.text.now) c.in_ok-again.again c.loop-line.number (lines_of c.loop-line.rest.now) c.loop-line.rest.now _ c.loop-line.told c.take-2.new.told c.is_at-2.result c.in_err-take-2.field-0.0
-    c.loop-line.invariant.2 c.in_default.ensures.none c.is_at-2.ensures c.in_err-take-2.ensures)
+pub returns-then-not-taken-2 : goal.returns-then-not-taken-2
+returns-then-not-taken-2 c =
+    let was : c.in_ok-taken-2.taken ≡ false = search rules in
+    along_bad (lines_of c.args.text.now) c.loop-line.number (lines_of c.loop-line.rest.now) c.loop-line.rest.now _ c.loop-line.told c.take-2.new.told
+    c.loop-line.digests.items c.take-2.new.digests.items c.in_ok-taken-2.taken c.in_ok-line-2.line c.loop-line.invariant.2 c.in_default.ensures.none
+    c.in_ok-taken-2.ensures.taken was c.in_ok-taken-2.ensures.noted c.in_ok-line-2.ensures
 
-pub returns : goal.returns
-returns c = along_ends (lines_of c.args.text.now) c.in_ok-again.again c.loop-line.number (lines_of c.loop-line.rest.now) c.loop-line.rest.now c.loop-line.told c.take-2.new.told c.is_at-2.result c.in_ok-take-2.field-0
-    c.loop-line.invariant.2 c.in_default.ensures.none c.is_at-2.ensures c.in_ok-take-2.ensures
+pub returns-in-Some-again : goal.returns-in-Some-again
+returns-in-Some-again c =
+    let was : c.in_ok-taken-2.taken ≡ true = search rules in
+    (along_ends (lines_of c.args.text.now) c.loop-line.number (lines_of c.loop-line.rest.now) c.loop-line.rest.now c.loop-line.told c.take-2.new.told
+    c.loop-line.digests.items c.take-2.new.digests.items c.in_ok-taken-2.taken c.in_ok-again.again c.loop-line.invariant.2 c.in_default.ensures.none
+    c.in_ok-taken-2.ensures.taken was c.in_ok-taken-2.ensures.noted c.in_ok-again.ensures).0 ∙ c.in-Some-again.is
+
+pub returns-in-None : goal.returns-in-None
+returns-in-None c =
+    let was : c.in_ok-taken-2.taken ≡ true = search rules in
+    let end = along_ends (lines_of c.args.text.now) c.loop-line.number (lines_of c.loop-line.rest.now) c.loop-line.rest.now c.loop-line.told c.take-2.new.told
+    c.loop-line.digests.items c.take-2.new.digests.items c.in_ok-taken-2.taken c.in_ok-again.again c.loop-line.invariant.2 c.in_default.ensures.none
+    c.in_ok-taken-2.ensures.taken was c.in_ok-taken-2.ensures.noted c.in_ok-again.ensures in
+    (end.0 ∙ c.in-None.is, end.1)

@@ -6,7 +6,7 @@ use Rattle.jjob.proofs.JobReading.{Along}
 use Rattle.jjob.proofs.reading.lines_read.Given as goal
 
 abbrev pub invariant-loop-line : goal.invariant-loop-line
-invariant-loop-line l = shadow (Utf8 l.rest) × (l.number + length l.rest ≤ length l.text + 1) × Along (lines_of l.text) l.again l.number (lines_of l.rest) l.told
+invariant-loop-line l = shadow (Utf8 l.rest) × (l.number + length l.rest ≤ length l.text + 1) × Along (lines_of l.text) l.number (lines_of l.rest) l.told l.digests.items
 
 abbrev pub decreases-loop-line : goal.decreases-loop-line
 decreases-loop-line l = length l.rest
