@@ -26,7 +26,7 @@ use Rattle.jlibrary.specs.Ran.{IsTelling}
 use Rattle.jstep.specs.declared.outcomes.Stepped.{Stepped}
 use Rattle.jstep.specs.declared.outcomes.Stepped.TheVariants as steps
 use Rattle.jstep.specs.Stepping as stepped
-use Rattle.jstep.specs.Stepping.{AsksAs, CallsLibrary, SteppedAs, StoodAs, asking}
+use Rattle.jstep.specs.Stepping.{AsksAs, StoodAs, asking}
 use Rattle.jcore.specs.declared.machine.Machine.{Machine}
 use Rattle.jcore.specs.Answering.{asked_of, outcome_of}
 use Rattle.jcore.specs.Comings.{Comes, GoesOn, IsBehind, LeftStand, Settles, any}

@@ -3,15 +3,14 @@ ghost use Rattle.jready.specs.declared.instr.FlowInstr.TheVariants as flows;
 ghost use Rattle.jready.specs.declared.instr.Instr.TheVariants as instrs;
 ghost use Rattle.jready.specs.Prepared.{IsRow};
 ghost use Rattle.jstate.specs.Celled.{AreCelled};
-ghost use Rattle.jstate.specs.Framed.{all};
 ghost use Rattle.jstate.specs.Seen.{AreBuilt};
-ghost use Rattle.jcalls.specs.Marks.{AreStanding, Stand};
+ghost use Rattle.jcalls.specs.Marks.{AreStanding};
 ghost use Rattle.jrefs.specs.References.{IsLasting};
 ghost use Rattle.jstep.specs.Stepping.{IsFixed};
 ghost use Rattle.jcore.specs.Machines.{IsReady, StaysFixed};
 ghost use Rattle.jexecute.specs.Advancing.{Fetches, lasting_by};
 ghost use Rattle.jexecute.specs.Executing.{HasRules};
-ghost use Rattle.jexecute.specs.Hastening.{HasThings, Hastens, IsCalm, IsQuick, IsQuickOf, IsQuickOfField, IsQuickRef, Tries, WereMade, program_of, quick_as};
+ghost use Rattle.jexecute.specs.Hastening.{HasThings, Hastens, IsCalm, IsQuickOf, IsQuickOfField, Tries, WereMade, program_of, quick_as};
 
 use crate::executing::{kept_counts, linked};
 use jacts::Way;
@@ -153,61 +152,6 @@ fn quick_of(way: Way) -> Quick
     }
 }
 
-/// A step with numbers, a local, or the newest items of the stack.
-#[inline]
-fn hasten_row<M: Copy>(
-    alloc: Global,
-    frames: &mut Frames<M>,
-    heap: &mut Heap,
-    fixed: &Fixed<'_, '_, M>,
-    counts: Counts,
-    one: Instr,
-) -> Result<Quick, AllocError>
-    requires fixed { IsFixed (program_of fixed.now) fixed.now }
-    requires here { IsQuick one }
-    requires fetches { Fetches (program_of fixed.now) fixed.now frames.old.newest one }
-    requires stand { Stand (length fixed.now.marks.now) (all frames.old) }
-    requires built { AreBuilt heap.old.objects }
-    requires celled { AreCelled fixed.now.shapes.now heap.old.objects }
-    ensures { IfOk result (λ quick. Hastens fixed.now counts frames.old heap.old quick frames.new heap.new) }
-{
-    step_laws::<M>();
-    behind_laws::<M>();
-    let way = jstep::run(alloc, frames, heap, fixed, one)?;
-    Ok(quick_of(way))
-}
-
-/// A step with a static, or with a branch that tests references.
-#[inline]
-fn hasten_reference<M: Copy>(
-    alloc: Global,
-    frames: &mut Frames<M>,
-    heap: &mut Heap,
-    fixed: &Fixed<'_, '_, M>,
-    counts: Counts,
-    one: Instr,
-) -> Result<Quick, AllocError>
-    requires fixed { IsFixed (program_of fixed.now) fixed.now }
-    requires lasting { IsLasting (lasting_by fixed.now) }
-    requires here { IsQuickRef one }
-    requires fetches { Fetches (program_of fixed.now) fixed.now frames.old.newest one }
-    requires stand { Stand (length fixed.now.marks.now) (all frames.old) }
-    requires built { AreBuilt heap.old.objects }
-    requires celled { AreCelled fixed.now.shapes.now heap.old.objects }
-    requires things { HasThings counts }
-    ensures { IfOk result (λ quick. Hastens fixed.now counts frames.old heap.old quick frames.new heap.new) }
-{
-    step_laws::<M>();
-    behind_laws::<M>();
-    let x = Lasting {
-        ready: fixed.ready,
-        shapes: fixed.shapes,
-        ancestors: fixed.ancestors,
-    };
-    let way = jrefs::run(alloc, frames, heap, &x, counts, one)?;
-    Ok(quick_of(way))
-}
-
 /// A step of a thread, whose newest frame stands at this instruction, if it is quick to make.
 #[inline]
 fn hasten_at<M: Copy>(
@@ -227,9 +171,22 @@ fn hasten_at<M: Copy>(
     requires things { HasThings counts }
     ensures { IfOk result (λ quick. Hastens fixed.now counts frames.old heap.old quick frames.new heap.new) }
 {
+    step_laws::<M>();
+    behind_laws::<M>();
     match haste_of(one) {
-        Haste::Row => hasten_row(alloc, frames, heap, fixed, counts, one),
-        Haste::Reference => hasten_reference(alloc, frames, heap, fixed, counts, one),
+        Haste::Row => {
+            let way = jstep::run(alloc, frames, heap, fixed, one)?;
+            Ok(quick_of(way))
+        }
+        Haste::Reference => {
+            let x = Lasting {
+                ready: fixed.ready,
+                shapes: fixed.shapes,
+                ancestors: fixed.ancestors,
+            };
+            let way = jrefs::run(alloc, frames, heap, &x, counts, one)?;
+            Ok(quick_of(way))
+        }
         Haste::None => Ok(Quick::Left),
     }
 }
