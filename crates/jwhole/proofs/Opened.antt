@@ -1,6 +1,6 @@
 -- A run by numbers begins where the run by the guard's rules does.
 use Rattle.std.proofs.Common.{◌≡◌, ◌∙◌, ℕ, ◌<◌, ◌≤◌, Bool, false, [], List, Option, Some, None, refl, sym, ap, subst, arith, rules, le-leb}
-use Rattle.std.specs.Prelude.{nat_le, if◌then◌else◌}
+use Rattle.std.specs.Prelude.{Err, Ok, OnErr, Result, nat_le, if◌then◌else◌}
 use Rattle.jtrace.specs.declared.event.End.{End}
 use Rattle.jtrace.specs.declared.event.End.TheVariants as ends
 use Rattle.jlib.specs.declared.side.Side.{Side}
@@ -94,3 +94,8 @@ pub runs_by : {M K E : Type 0} (rules after : Rules K E) (p : Program) (plan : P
     → run_from (step after m.calls m.plan.now) k (opening rules p plan) ≡ run rules p plan k
 runs_by {M} {K} {E} rules after p plan k m same steps =
     ap (λ (r : Rules K E). run_from (step r m.calls m.plan.now) k (opening rules p plan)) same ∙ runs_as rules p plan k (step rules m.calls m.plan.now) steps
+
+-- what holds anyhow holds where nothing was made
+pub at_err : {T E Q : Type 0} (r : Result T E) → Q → OnErr r Q
+at_err (Ok x) q = tt
+at_err (Err e) q = q

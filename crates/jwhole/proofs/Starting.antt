@@ -1,7 +1,8 @@
 -- How a run begins, by numbers.
-use Rattle.std.proofs.Common.{◌≡◌, ◌∙◌, ℕ, zero, suc, ◌+◌, ◌<◌, ◌≤◌, true, false, List, [], ◌∷◌, map, length, take, drop, Option, Some, None, refl, sym, ap, subst, arith, inl, inr}
-use Rattle.std.specs.Prelude.{is_some, option_and_then, option_map, slice_get, slice_set}
+use Rattle.std.proofs.Common.{◌≡◌, ◌∙◌, ℕ, zero, suc, ◌+◌, ◌<◌, ◌≤◌, true, false, List, [], ◌∷◌, ◌++◌, map, length, take, drop, Option, Some, None, refl, sym, ap, ap₂, subst, arith, inl, inr}
+use Rattle.std.specs.Prelude.{get_or, is_some, option_and_then, option_map, slice_get, slice_set}
 use Rattle.std.specs.List.{AllByRecursion}
+use Rattle.std.proofs.lemmas.List.{map_more}
 use Rattle.std.proofs.lemmas.Option.{slice_get_cases}
 use Rattle.jthreads.specs.declared.thread.Thread.{Thread}
 use Rattle.jthreads.specs.Table.{opened}
@@ -44,6 +45,11 @@ pub file_at : (parts : List CodePart) (i : ℕ) (part : CodePart) → AllByRecur
 file_at [] i part all at = absurd (let e = at in cc)
 file_at (one ∷ parts) zero part all at = let e : one ≡ part = (let f = at in cc) in subst IsFile e all.0
 file_at (one ∷ parts) (suc i) part all at = file_at parts i part all.1 at
+
+-- what is put behind the images of a front is that of what follows it
+pub mapped_more : {A B : Type 0} (f : A → B) (xs : List A) (i : ℕ) (x : A) (ys zs : List B) (y : B) → i < length xs → x ≡ get_or xs i x → y ≡ f x
+    → ys ≡ map f (take i xs) → zs ≡ ys ++ y ∷ [] → zs ≡ map f (take (i + 1) xs)
+mapped_more f xs i x ys zs y lt here is front put = put ∙ ap₂ (λ l b. l ++ b ∷ []) front (is ∙ ap f here) ∙ sym (map_more f xs i x lt)
 
 -- ---- objects that name nothing
 

@@ -7,7 +7,9 @@ use Rattle.jmachine.specs.Frames.{domain_of}
 use Rattle.jmachine.specs.Machine.{opening}
 use Rattle.jmachine.specs.Opening.{opening_charge, opening_state}
 use Rattle.jmachine.specs.Security.{Rules, handed}
+use Rattle.jready.specs.Prepared.{Prepared}
 use Rattle.jstate.specs.declared.shapes.Shape.{Shape}
+use Rattle.jshapes.specs.declared.shapes.Shaped.{Shaped}
 use Rattle.jshapes.specs.Numbered.{AreRows, IsStrings}
 use Rattle.jshapes.specs.Tied.{AreTied}
 use Rattle.jcalls.specs.Marks.{marks_of}
@@ -20,6 +22,14 @@ use Rattle.jcore.specs.declared.machine.Machine.{Machine}
 use Rattle.jcore.specs.Machines.{IsReady, state_of}
 use Rattle.jwhole.specs.declared.grounds.Ground.{Ground}
 use Rattle.jwhole.specs.Engines.{IsEngine}
+
+-- The program is ready, and this is what stands in its heap's cells.
+pub record IsShaped (p : Program) (r : Prepared) (x : Shaped) : Type 0 where
+  pub ready : r.program ≡ p
+  pub tied : AreTied p r.methods.tables x.shapes
+  pub numbers : AreRows x.shapes x.numbers
+  pub strings : IsStrings x.shapes x.strings
+  pub small : (i : ℕ) (shape : Shape) → slice_get x.shapes.users i ≡ Some shape → length shape.cells + 1 < 2 ^ 32
 
 -- It is that of the program, and frames of the methods of each class carry the mark of its domain.
 pub record IsGround {M : Type 0} (p : Program) (mark : ℕ → M) (x : Ground M) : Type 0 where

@@ -1,3 +1,4 @@
+pub mod Calls
 pub mod Courses
 pub mod Engines
 pub mod Grounds

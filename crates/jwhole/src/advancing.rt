@@ -1,13 +1,14 @@
-ghost use Rattle.std.specs.Prelude.{◌≡◌, Some, None, IfOk, OnOk};
+ghost use Rattle.std.specs.Prelude.{◌≡◌, None, IfOk, OnOk};
 ghost use Rattle.jlib.specs.declared.calls.LibCall.TheVariants as calls;
 ghost use Rattle.jguard.specs.Standing.{AskedOnce, Keeps};
-ghost use Rattle.jstate.specs.Framed.{Framed};
 ghost use Rattle.jcalls.specs.Marks.{marks_of};
 ghost use Rattle.jlibrary.specs.Ran.{IsAskFree};
 ghost use Rattle.jcallplain.specs.Running.{MayTell};
-ghost use Rattle.jcore.specs.Answering.{Answered, AsksKnown, Calling, asked_of, outcome_of};
+ghost use Rattle.jcallcontext.specs.Rows.{CallAnswered, CallKnown, CallOnce, CallQuiet};
+ghost use Rattle.jcore.specs.Answering.{Answered, AsksKnown, Calling};
 ghost use Rattle.jcore.specs.Comings.{GoesOn};
 ghost use Rattle.jcore.specs.Machines.{IsReady, StaysFixed};
+ghost use Rattle.jwhole.specs.Calls.{AsksFor};
 ghost use Rattle.jwhole.specs.Engines.{asks_next, next_of};
 
 use jbegin::begin_thread;
@@ -18,95 +19,62 @@ use jcallthread::call_thread;
 use jcore::Machine;
 use jexecute::{Executed, execute};
 use jguard::Guard;
-use jlib::{ControllerCall, LibCall, RtCall};
+use jlib::{ControllerCall, LibCall, RtCall, ThreadCall};
 use jrun::Stepped;
 use std::alloc::{AllocError, Global};
 
-/// A call of AccessController at which the running thread stands.
-fn call_controller<G: Guard>(
-    alloc: Global,
-    m: &mut Machine<'_, '_, G::Mark>,
-    guard: &mut G,
-    call: ControllerCall,
-    count: usize,
-) -> Result<Stepped, AllocError>
-    requires calling { Calling m.old count }
-    requires side { (G.rules guard.old).side ≡ m.old.side }
-    requires carry { m.old.fixed.marks.now ≡ marks_of G.mark m.old.calls }
-    requires known { (f : Framed G.Mark) → m.old.guests.running.frames ≡ Some f
-        → AsksKnown (G.kept guard.old) (G.entry guard.old) m.old (asked_of m.old f (calls.Controller call) count) }
-    ensures answered { IfOk result (λ came. (f : Framed G.Mark) → m.old.guests.running.frames ≡ Some f
-        → Answered (G.kept guard.old) (G.kept guard.new) (G.entry guard.old) (G.entry guard.new) (G.rules guard.old) m.old
-        (asked_of m.old f (calls.Controller call) count) (outcome_of m.old f (calls.Controller call) count) came m.new) }
-    ensures ready { IfOk result (GoesOn m.new) }
-    ensures fixed { OnOk result (StaysFixed m.old m.new) }
-    ensures rules { G.rules guard.new ≡ G.rules guard.old }
-    ensures keeps { Keeps (G.kept guard.old) (G.kept guard.new) }
-    ensures marks { Keeps (G.entry guard.old) (G.entry guard.new) }
-    ensures quiet { (f : Framed G.Mark) → m.old.guests.running.frames ≡ Some f → asked_of m.old f (calls.Controller call) count ≡ None → guard.new ≡ guard.old }
-    ensures once { OnOk result ((f : Framed G.Mark) → m.old.guests.running.frames ≡ Some f
-        → AskedOnce G.asked guard.old guard.new (asked_of m.old f (calls.Controller call) count)) }
+/// What a call of the library asks of access control, if it asks anything.
+#[derive(Clone, Copy)]
+enum Asking {
+    /// What AccessController's checkPermission does.
+    Check,
+    /// What AccessControlContext's checkPermission does.
+    ContextCheck,
+    /// What getContext does.
+    Snapshot,
+    /// What doPrivileged does.
+    Privileged,
+    /// The context of a method of a domain that is entered.
+    Enter,
+    /// What a new thread inherits, if it makes one.
+    Thread(ThreadCall),
+    Nothing,
+}
+
+fn asking_of_controller(call: ControllerCall) -> Asking
+    ensures { AsksFor (calls.Controller call) result }
 {
-    let whole = LibCall::Controller(call);
     match call {
-        ControllerCall::Check => {
-            let done = call_check(alloc, m, guard, whole, count)?;
-            Ok(done)
-        }
-        ControllerCall::Snapshot => {
-            let done = call_snapshot(alloc, m, guard, whole, count)?;
-            Ok(done)
-        }
-        _ => {
-            let done = call_privileged(alloc, m, guard, whole, count)?;
-            Ok(done)
-        }
+        ControllerCall::Check => Asking::Check,
+        ControllerCall::Snapshot => Asking::Snapshot,
+        ControllerCall::Privileged => Asking::Privileged,
+        ControllerCall::PrivilegedWith => Asking::Privileged,
+        ControllerCall::PrivilegedLimited => Asking::Privileged,
     }
 }
 
-/// The same of a call of the passing side's runtime.
-fn call_rt<G: Guard>(
-    alloc: Global,
-    m: &mut Machine<'_, '_, G::Mark>,
-    guard: &mut G,
-    call: RtCall,
-    count: usize,
-) -> Result<Stepped, AllocError>
-    requires calling { Calling m.old count }
-    requires side { (G.rules guard.old).side ≡ m.old.side }
-    requires carry { m.old.fixed.marks.now ≡ marks_of G.mark m.old.calls }
-    requires known { (f : Framed G.Mark) → m.old.guests.running.frames ≡ Some f
-        → AsksKnown (G.kept guard.old) (G.entry guard.old) m.old (asked_of m.old f (calls.Rt call) count) }
-    ensures answered { IfOk result (λ came. (f : Framed G.Mark) → m.old.guests.running.frames ≡ Some f
-        → Answered (G.kept guard.old) (G.kept guard.new) (G.entry guard.old) (G.entry guard.new) (G.rules guard.old) m.old
-        (asked_of m.old f (calls.Rt call) count) (outcome_of m.old f (calls.Rt call) count) came m.new) }
-    ensures ready { IfOk result (GoesOn m.new) }
-    ensures fixed { OnOk result (StaysFixed m.old m.new) }
-    ensures rules { G.rules guard.new ≡ G.rules guard.old }
-    ensures keeps { Keeps (G.kept guard.old) (G.kept guard.new) }
-    ensures marks { Keeps (G.entry guard.old) (G.entry guard.new) }
-    ensures quiet { (f : Framed G.Mark) → m.old.guests.running.frames ≡ Some f → asked_of m.old f (calls.Rt call) count ≡ None → guard.new ≡ guard.old }
-    ensures once { OnOk result ((f : Framed G.Mark) → m.old.guests.running.frames ≡ Some f
-        → AskedOnce G.asked guard.old guard.new (asked_of m.old f (calls.Rt call) count)) }
+fn asking_of_rt(call: RtCall) -> Asking
+    ensures { AsksFor (calls.Rt call) result }
 {
-    let whole = LibCall::Rt(call);
     match call {
-        RtCall::Enter => {
-            let done = call_enter(alloc, m, guard, count)?;
-            Ok(done)
-        }
-        RtCall::Check => {
-            let done = call_check(alloc, m, guard, whole, count)?;
-            Ok(done)
-        }
-        RtCall::Snapshot => {
-            let done = call_snapshot(alloc, m, guard, whole, count)?;
-            Ok(done)
-        }
-        _ => {
-            let done = call_privileged(alloc, m, guard, whole, count)?;
-            Ok(done)
-        }
+        RtCall::Enter => Asking::Enter,
+        RtCall::Check => Asking::Check,
+        RtCall::Snapshot => Asking::Snapshot,
+        RtCall::Privileged => Asking::Privileged,
+        RtCall::PrivilegedWith => Asking::Privileged,
+        RtCall::PrivilegedLimited => Asking::Privileged,
+    }
+}
+
+fn asking_of(call: LibCall) -> Asking
+    ensures { AsksFor call result }
+{
+    match call {
+        LibCall::Controller(c) => asking_of_controller(c),
+        LibCall::Rt(c) => asking_of_rt(c),
+        LibCall::Thread(c) => Asking::Thread(c),
+        LibCall::ContextCheck => Asking::ContextCheck,
+        _ => Asking::Nothing,
     }
 }
 
@@ -121,11 +89,9 @@ fn call_silent<G: Guard>(
     requires free { IsAskFree call }
     requires calling { Calling m.old count }
     requires told { MayTell m.old call count }
-    ensures answered { IfOk result (λ came. (f : Framed G.Mark) → m.old.guests.running.frames ≡ Some f
-        → Answered (G.kept guard.now) (G.kept guard.now) (G.entry guard.now) (G.entry guard.now) (G.rules guard.now) m.old
-        (asked_of m.old f call count) (outcome_of m.old f call count) came m.new) }
-    ensures once { OnOk result ((f : Framed G.Mark) → m.old.guests.running.frames ≡ Some f
-        → AskedOnce G.asked guard.now guard.now (asked_of m.old f call count)) }
+    ensures answered { IfOk result (λ came. CallAnswered (G.kept guard.now) (G.kept guard.now) (G.entry guard.now) (G.entry guard.now) (G.rules guard.now)
+        m.old call count came m.new) }
+    ensures once { OnOk result (CallOnce m.old call count G.asked guard.now guard.now) }
     ensures ready { IfOk result (GoesOn m.new) }
     ensures fixed { OnOk result (StaysFixed m.old m.new) }
 {
@@ -142,44 +108,27 @@ fn call_library<G: Guard>(
     count: usize,
 ) -> Result<Stepped, AllocError>
     requires calling { Calling m.old count }
-    requires side { (G.rules guard.old).side ≡ m.old.side }
     requires carry { m.old.fixed.marks.now ≡ marks_of G.mark m.old.calls }
-    requires known { (f : Framed G.Mark) → m.old.guests.running.frames ≡ Some f
-        → AsksKnown (G.kept guard.old) (G.entry guard.old) m.old (asked_of m.old f call count) }
+    requires known { CallKnown (G.kept guard.old) (G.entry guard.old) m.old call count }
     requires told { MayTell m.old call count }
-    ensures answered { IfOk result (λ came. (f : Framed G.Mark) → m.old.guests.running.frames ≡ Some f
-        → Answered (G.kept guard.old) (G.kept guard.new) (G.entry guard.old) (G.entry guard.new) (G.rules guard.old) m.old
-        (asked_of m.old f call count) (outcome_of m.old f call count) came m.new) }
+    ensures answered { IfOk result (λ came. CallAnswered (G.kept guard.old) (G.kept guard.new) (G.entry guard.old) (G.entry guard.new) (G.rules guard.old)
+        m.old call count came m.new) }
     ensures ready { IfOk result (GoesOn m.new) }
     ensures fixed { OnOk result (StaysFixed m.old m.new) }
     ensures rules { G.rules guard.new ≡ G.rules guard.old }
     ensures keeps { Keeps (G.kept guard.old) (G.kept guard.new) }
     ensures marks { Keeps (G.entry guard.old) (G.entry guard.new) }
-    ensures quiet { (f : Framed G.Mark) → m.old.guests.running.frames ≡ Some f → asked_of m.old f call count ≡ None → guard.new ≡ guard.old }
-    ensures once { OnOk result ((f : Framed G.Mark) → m.old.guests.running.frames ≡ Some f
-        → AskedOnce G.asked guard.old guard.new (asked_of m.old f call count)) }
+    ensures quiet { CallQuiet m.old call count guard.old guard.new }
+    ensures once { OnOk result (CallOnce m.old call count G.asked guard.old guard.new) }
 {
-    match call {
-        LibCall::Controller(c) => {
-            let done = call_controller(alloc, m, guard, c, count)?;
-            Ok(done)
-        }
-        LibCall::Rt(c) => {
-            let done = call_rt(alloc, m, guard, c, count)?;
-            Ok(done)
-        }
-        LibCall::Thread(c) => {
-            let done = call_thread(alloc, m, guard, c, count)?;
-            Ok(done)
-        }
-        LibCall::ContextCheck => {
-            let done = call_kept_check(alloc, m, guard, count)?;
-            Ok(done)
-        }
-        _ => {
-            let done = call_silent(alloc, m, guard, call, count)?;
-            Ok(done)
-        }
+    match asking_of(call) {
+        Asking::Check => call_check(alloc, m, guard, call, count),
+        Asking::ContextCheck => call_kept_check(alloc, m, guard, count),
+        Asking::Snapshot => call_snapshot(alloc, m, guard, call, count),
+        Asking::Privileged => call_privileged(alloc, m, guard, call, count),
+        Asking::Enter => call_enter(alloc, m, guard, count),
+        Asking::Thread(c) => call_thread(alloc, m, guard, c, count),
+        Asking::Nothing => call_silent(alloc, m, guard, call, count),
     }
 }
 
@@ -191,7 +140,6 @@ pub(crate) fn advance<G: Guard>(
     guard: &mut G,
 ) -> Result<Stepped, AllocError>
     requires ready { IsReady m.old }
-    requires side { (G.rules guard.old).side ≡ m.old.side }
     requires carry { m.old.fixed.marks.now ≡ marks_of G.mark m.old.calls }
     requires known { AsksKnown (G.kept guard.old) (G.entry guard.old) m.old (asks_next m.old) }
     ensures answered { IfOk result (λ came. Answered (G.kept guard.old) (G.kept guard.new) (G.entry guard.old) (G.entry guard.new)

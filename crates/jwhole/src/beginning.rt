@@ -66,8 +66,16 @@ pub(crate) fn begin<'a, 'p, M: Copy>(
         return Ok(None);
     };
     are_files(program);
-    let calls = Calls::of(alloc, program)?;
-    let guests = Guests::open(alloc, opened.frames)?;
+    let Ok(calls) = Calls::of(alloc, program) else {
+        drop(opened);
+        return Err(AllocError);
+    };
+    let Ok(guests) = Guests::open(alloc, opened.frames) else {
+        drop(calls);
+        drop(opened.heap);
+        drop(opened.constants);
+        return Err(AllocError);
+    };
     Ok(Some(Machine {
         fixed: fixed_by(base, plan.depth),
         plan,

@@ -21,6 +21,7 @@ use jrun::Stepped;
 use jtrace::End;
 use std::alloc::{AllocError, Global};
 use std::marker::Model;
+use std::mem::replace;
 
 /// Where the run of an engine is.
 #[derive(Drop)]
@@ -92,14 +93,22 @@ fn go_on<G: Guard>(
     }
 }
 
+/// A course is another from here.
+fn put<'a, 'p, M: Copy>(course: &mut Course<'a, 'p, M>, new: Course<'a, 'p, M>)
+    ensures { course.new ≡ new.entry }
+{
+    let old = replace(course, new);
+    drop(old);
+}
+
 /// Where a step leaves a course: one that ended the run, and a state without a step, are its end.
 fn leave<M: Copy>(course: &mut Course<'_, '_, M>, came: &Stepped)
     ensures { course.new ≡ left_by course.old came.now }
 {
     match came {
         Stepped::Went { .. } => {}
-        Stepped::Ended { end, .. } => *course = Course::Ended { end: *end },
-        Stepped::Stuck => *course = Course::Ended { end: End::Stuck },
+        Stepped::Ended { end, .. } => put(course, Course::Ended { end: *end }),
+        Stepped::Stuck => put(course, Course::Ended { end: End::Stuck }),
     }
 }
 
@@ -162,7 +171,7 @@ impl<'a, 'p, G: Guard + Drop> Engine<'a, 'p, G> {
                 Ok(came)
             }
             Err(fault) => {
-                self.course = Course::Lost;
+                put(&mut self.course, Course::Lost);
                 Err(fault)
             }
         }

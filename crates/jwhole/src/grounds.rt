@@ -1,6 +1,6 @@
 ghost use Rattle.std.specs.Prelude.{◌≡◌, IfOk};
 ghost use Rattle.jcalls.specs.Marks.{marks_of};
-ghost use Rattle.jwhole.specs.Grounds.{IsGround};
+ghost use Rattle.jwhole.specs.Grounds.{IsGround, IsShaped};
 
 use jbase::Seq;
 use jguard::Guard;
@@ -38,6 +38,21 @@ fn marks_by<G: Guard>(
     Ok(marks)
 }
 
+/// The program by number, and what stands in the heap's cells.
+fn ready_by<'p>(
+    alloc: Global,
+    program: &'p LinkedProgram,
+) -> Result<(Ready<'p>, Shaped), AllocError>
+    ensures { IfOk result (λ both. IsShaped program.now both.0 both.1) }
+{
+    let ready = Ready::of(alloc, program)?;
+    let Ok(shaped) = shapes_of(alloc, &ready) else {
+        drop(ready);
+        return Err(AllocError);
+    };
+    Ok((ready, shaped))
+}
+
 impl<'p, M> Ground<'p, M> {
     /// What stands as long as a program runs whose asks this guard answers.
     pub fn of<G: Guard<Mark = M>>(
@@ -47,10 +62,13 @@ impl<'p, M> Ground<'p, M> {
     ) -> Result<Ground<'p, M>, AllocError>
         ensures { IfOk result (IsGround program.now G.mark) }
     {
-        let ready = Ready::of(alloc, program)?;
-        let shaped = shapes_of(alloc, &ready)?;
-        let ancestors = Ancestors::of(alloc, program)?;
+        // What has the most to drop comes last.
         let marks = marks_by(alloc, program, guard)?;
+        let ancestors = Ancestors::of(alloc, program)?;
+        let Ok((ready, shaped)) = ready_by(alloc, program) else {
+            drop(ancestors);
+            return Err(AllocError);
+        };
         Ok(Ground {
             ready,
             shaped,

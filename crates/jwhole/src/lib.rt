@@ -1,4 +1,5 @@
 //! The whole machine by numbers: each step does what the machine's definition does, by the rules of the guard that answers what it asks.
+//! What has much to drop is dropped by a call: a drop at an exit of a function is proved there, with all its parts.
 #![tactic(auto)]
 
 mod advancing;

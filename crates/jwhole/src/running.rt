@@ -71,6 +71,37 @@ pub(crate) fn start<'a, 'p, G: Guard>(
     Ok(begun)
 }
 
+/// Runs a program by what stands as long as it runs, as `run` does, under a plan that has few enough cells.
+fn run_on<'p, G: Guard + Drop, K: Sink>(
+    alloc: Global,
+    base: &Ground<'p, G::Mark>,
+    program: &'p LinkedProgram,
+    plan: &Plan,
+    guard: G,
+    out: &mut K,
+) -> Result<End, RunFault>
+    requires base { IsGround program.now G.mark base.now }
+    requires most { plan.now.heap < 2 ^ 31 }
+    requires coded { is_some (code_at program.now plan.now.main) ≡ true }
+    ensures written { OnOk result (K.out out.new ≡ appended (K.out out.old) (run_text (run_of (G.rules guard) program.now plan.now plan.now.steps))) }
+    ensures end { IfOk result (λ end. end ≡ ending (run_of (G.rules guard) program.now plan.now plan.now.steps)) }
+    ensures cut { OnErr result (IsCut (K.out out.old) (K.out out.new) (run_text (run_of (G.rules guard) program.now plan.now plan.now.steps))) }
+    ensures later { K.faults out.old ≤ K.faults out.new }
+    ensures cause { result ≡ Err SinkFault → Rose (K.faults out.old) (K.faults out.new) }
+{
+    let mut guard = guard;
+    let begun = start(alloc, base, program, plan, &mut guard)?;
+    match begun {
+        None => close(out, End::HeapFull),
+        Some(machine) => {
+            let mut moving = Moving { machine, guard };
+            let came = jrun::run(alloc, &mut moving, plan.steps, out);
+            drop(moving);
+            came
+        }
+    }
+}
+
 /// Runs a program that links for at most so many steps as its plan has, and writes a line for each event and one for the end, by the rules of the
 /// guard that answers what its steps ask (class documentation of AccessController). The method with which it begins has code.
 ///
@@ -90,17 +121,11 @@ pub fn run<G: Guard + Drop, K: Sink>(
     ensures later { K.faults out.old ≤ K.faults out.new }
     ensures cause { result ≡ Err SinkFault → Rose (K.faults out.old) (K.faults out.new) }
 {
-    let mut guard = guard;
     if plan.heap >= 0x8000_0000 {
         return Err(RunFault::Memory);
     }
     let base = Ground::of(alloc, program, &guard)?;
-    let begun = start(alloc, &base, program, plan, &mut guard)?;
-    match begun {
-        None => close(out, End::HeapFull),
-        Some(machine) => {
-            let mut moving = Moving { machine, guard };
-            jrun::run(alloc, &mut moving, plan.steps, out)
-        }
-    }
+    let came = run_on(alloc, &base, program, plan, guard, out);
+    drop(base);
+    came
 }

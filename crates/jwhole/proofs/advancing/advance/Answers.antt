@@ -37,9 +37,6 @@ call_library-requires-clause-calling g c =
     let at : StandsAt c.args.m.now c.in-Asks.call c.in-Asks.count c.execute.new.m = rw c.in-Asks.is at c.in_ok-found.ensures.done in
     at.calling
 
-pub call_library-requires-clause-side : goal.call_library-requires-clause-side
-call_library-requires-clause-side g c = c.requires.side ∙ sym c.in_ok-found.ensures.fixed.side
-
 pub call_library-requires-clause-carry : goal.call_library-requires-clause-carry
 call_library-requires-clause-carry g c = carry_then g.G.Guard.mark c.args.m.now c.execute.new.m c.in_ok-found.ensures.fixed c.requires.carry
 

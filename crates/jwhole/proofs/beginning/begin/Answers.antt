@@ -28,18 +28,18 @@ returns g c =
     let f = c.requires.base.1 in
     let base = c.args.base.now in
     let opens : Opens base.ready.program base.shaped.shapes c.args.first c.args.plan.now.heap c.in-Some.opened = rw c.in-Some.is at c.in_ok-opened.ensures in
-    let guests = c.in_ok-guests.ensures in
+    let guests = c.in-Ok-open.ensures in
     let m : Machine g.row.M.Denot = record {
       fixed = c.fixed_by.result;
       plan = c.args.plan;
       side = c.args.side;
-      guests = c.in_ok-guests.guests;
+      guests = c.in-Ok-open.guests;
       heap = c.in-Some.opened.heap;
       constants = c.in-Some.opened.constants;
       permissions = c.new.result;
       kept = c.new-2.result;
-      calls = c.in_ok-calls.calls;
+      calls = c.in-Ok.calls;
     } in
     begun_by p mark base c.args.first c.args.plan.now c.args.side c.in-Some.opened m f c.requires.coded c.requires.main opens
     (c.fixed_by.ensures.fixed p mark f) (c.fixed_by.ensures.tied p mark f) c.fixed_by.ensures.shapes c.fixed_by.ensures.marks c.fixed_by.ensures.depth c.are_files.ensures
-    guests.are guests.one guests.now guests.alone guests.lives guests.table guests.turns guests.at c.in_ok-calls.ensures refl refl refl refl c.new.ensures c.new-2.ensures
+    guests.are guests.one guests.now guests.alone guests.lives guests.table guests.turns guests.at c.in-Ok.ensures refl refl refl refl c.new.ensures c.new-2.ensures

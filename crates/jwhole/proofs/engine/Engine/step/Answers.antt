@@ -39,9 +39,33 @@ returns-in-Ok-clause-threads g c =
     rw c.leave.ensures (live_in kept entry g.G.Guard.mark rules (left_by course c.in-Ok.came) (holds_left kept entry g.G.Guard.mark rules course c.in-Ok.came holds))
 
 pub returns-in-Err-clause-threads : goal.returns-in-Err-clause-threads
-returns-in-Err-clause-threads g c = λ s stands. absurd stands
+returns-in-Err-clause-threads g c = rw c.put.ensures (λ s stands. absurd stands)
 
 pub returns-in-Ok-clause-once : goal.returns-in-Ok-clause-once
 returns-in-Ok-clause-once g c =
     let once = rw c.in-Ok.is at c.go_on-gone.ensures.once in
     rw (← c.self.view_is) once
+
+pub returns-in-Ok-clause-rules : goal.returns-in-Ok-clause-rules
+returns-in-Ok-clause-rules g c = rw (← c.self.view_is) c.go_on-gone.ensures.rules
+
+pub returns-in-Ok-clause-keeps : goal.returns-in-Ok-clause-keeps
+returns-in-Ok-clause-keeps g c = rw (← c.self.view_is) c.go_on-gone.ensures.keeps
+
+pub returns-in-Ok-clause-marks : goal.returns-in-Ok-clause-marks
+returns-in-Ok-clause-marks g c = rw (← c.self.view_is) c.go_on-gone.ensures.marks
+
+pub returns-in-Ok-clause-quiet : goal.returns-in-Ok-clause-quiet
+returns-in-Ok-clause-quiet g c = rw (← c.self.view_is) c.go_on-gone.ensures.quiet
+
+pub returns-in-Err-clause-rules : goal.returns-in-Err-clause-rules
+returns-in-Err-clause-rules g c = rw (← c.self.view_is) c.go_on-gone.ensures.rules
+
+pub returns-in-Err-clause-keeps : goal.returns-in-Err-clause-keeps
+returns-in-Err-clause-keeps g c = rw (← c.self.view_is) c.go_on-gone.ensures.keeps
+
+pub returns-in-Err-clause-marks : goal.returns-in-Err-clause-marks
+returns-in-Err-clause-marks g c = rw (← c.self.view_is) c.go_on-gone.ensures.marks
+
+pub returns-in-Err-clause-quiet : goal.returns-in-Err-clause-quiet
+returns-in-Err-clause-quiet g c = rw (← c.self.view_is) c.go_on-gone.ensures.quiet

@@ -1,15 +1,24 @@
 use Rattle.std.proofs.Common.{◌≡◌, ◌<◌, subst, sym}
 use Rattle.jbase.specs.Causes.{IsCut, appended}
+use Rattle.jbase.proofs.Cuts.{cut_none}
 use Rattle.jmachine.specs.Acts.{State}
-use Rattle.jmachine.specs.Machine.{opening}
+use Rattle.jmachine.specs.Machine.{opening, run as run_of}
 use Rattle.jmachine.specs.Opening.{opening_charge}
 use Rattle.jmachine.specs.Runs.{Run, ending, run_text}
 use Rattle.jmachine.specs.Security.{Rules}
 use Rattle.jrun.proofs.Courses.{if_ok, on_err, on_ok}
 use Rattle.jwhole.specs.Engines.{IsEngine}
 use Rattle.jwhole.specs.Grounds.{Starts}
-use Rattle.jwhole.proofs.Opened.{ended, runs_by}
-use Rattle.jwhole.proofs.running.run.Goals as goal
+use Rattle.jwhole.proofs.Opened.{at_err, ended, runs_by}
+use Rattle.jwhole.proofs.running.run_on.Goals as goal
+
+-- where there is no memory
+
+pub returns-in_err-begun-clause-cut : goal.returns-in_err-begun-clause-cut
+returns-in_err-begun-clause-cut g c =
+    let plan = c.args.plan.now in
+    at_err c.from_residual.result
+    (cut_none (g.K.Sink.out c.args.out.now) (run_text (run_of (g.G.Guard.rules c.args.guard) c.args.program.now plan plan.steps)))
 
 -- where the heap has too few cells
 
@@ -36,8 +45,8 @@ returns-in-None-clause-cut g c =
 
 -- where it begins
 
-pub run-requires : goal.run-requires
-run-requires g c =
+pub run-came-requires : goal.run-came-requires
+run-came-requires g c =
     let begun : Starts _ _ _ _ c.args.program.now c.args.plan.now c.in-Some.machine = rw c.in-Some.is at c.in_ok-begun.ensures.starts in
     subst (λ (r : Rules _ _). IsEngine (g.G.Guard.kept c.start.new.guard) (g.G.Guard.entry c.start.new.guard) g.G.Guard.mark r c.in-Some.machine)
     (sym c.start.ensures.rules) begun.engine
@@ -48,8 +57,8 @@ returns-in-Some-clause-written g c =
     let plan = c.args.plan.now in
     let rules = g.G.Guard.rules c.args.guard in
     let begun : Starts _ _ _ rules p plan c.in-Some.machine = rw c.in-Some.is at c.in_ok-begun.ensures.starts in
-    on_ok c.run.result (λ written. subst (λ (r : Run (State _ _)). g.K.Sink.out c.run.new.out ≡ appended (g.K.Sink.out c.args.out.now) (run_text r))
-    (runs_by rules (g.G.Guard.rules c.start.new.guard) p plan plan.steps c.in-Some.machine c.start.ensures.rules begun.steps) (written (opening rules p plan) begun.begins)) c.run.ensures.written
+    on_ok c.run-came.result (λ written. subst (λ (r : Run (State _ _)). g.K.Sink.out c.run-came.new.out ≡ appended (g.K.Sink.out c.args.out.now) (run_text r))
+    (runs_by rules (g.G.Guard.rules c.start.new.guard) p plan plan.steps c.in-Some.machine c.start.ensures.rules begun.steps) (written (opening rules p plan) begun.begins)) c.run-came.ensures.written
 
 pub returns-in-Some-clause-end : goal.returns-in-Some-clause-end
 returns-in-Some-clause-end g c =
@@ -57,8 +66,8 @@ returns-in-Some-clause-end g c =
     let plan = c.args.plan.now in
     let rules = g.G.Guard.rules c.args.guard in
     let begun : Starts _ _ _ rules p plan c.in-Some.machine = rw c.in-Some.is at c.in_ok-begun.ensures.starts in
-    if_ok c.run.result (λ end is. subst (λ (r : Run (State _ _)). end ≡ ending r)
-    (runs_by rules (g.G.Guard.rules c.start.new.guard) p plan plan.steps c.in-Some.machine c.start.ensures.rules begun.steps) (is (opening rules p plan) begun.begins)) c.run.ensures.end
+    if_ok c.run-came.result (λ end is. subst (λ (r : Run (State _ _)). end ≡ ending r)
+    (runs_by rules (g.G.Guard.rules c.start.new.guard) p plan plan.steps c.in-Some.machine c.start.ensures.rules begun.steps) (is (opening rules p plan) begun.begins)) c.run-came.ensures.end
 
 pub returns-in-Some-clause-cut : goal.returns-in-Some-clause-cut
 returns-in-Some-clause-cut g c =
@@ -66,5 +75,5 @@ returns-in-Some-clause-cut g c =
     let plan = c.args.plan.now in
     let rules = g.G.Guard.rules c.args.guard in
     let begun : Starts _ _ _ rules p plan c.in-Some.machine = rw c.in-Some.is at c.in_ok-begun.ensures.starts in
-    on_err c.run.result (λ cut. subst (λ (r : Run (State _ _)). IsCut (g.K.Sink.out c.args.out.now) (g.K.Sink.out c.run.new.out) (run_text r))
-    (runs_by rules (g.G.Guard.rules c.start.new.guard) p plan plan.steps c.in-Some.machine c.start.ensures.rules begun.steps) (cut (opening rules p plan) begun.begins)) c.run.ensures.cut
+    on_err c.run-came.result (λ cut. subst (λ (r : Run (State _ _)). IsCut (g.K.Sink.out c.args.out.now) (g.K.Sink.out c.run-came.new.out) (run_text r))
+    (runs_by rules (g.G.Guard.rules c.start.new.guard) p plan plan.steps c.in-Some.machine c.start.ensures.rules begun.steps) (cut (opening rules p plan) begun.begins)) c.run-came.ensures.cut
