@@ -57,10 +57,10 @@ behind_word None = codes "\n"
 behind_word (Some number) = codes " " ++ (decimal number ++ codes "\n")
 
 abbrev pub class_text : List ℕ → ℕ → List ℕ → Option ℕ → List ℕ
-class_text path at word opcode = codes "refused class " ++ (written path ++ (codes " at " ++ (decimal at ++ (codes " " ++ (word ++ behind_word opcode)))))
+class_text path at word opcode = codes "refused class " ++ (path ++ (codes " at " ++ (decimal at ++ (codes " " ++ (word ++ behind_word opcode)))))
 
 abbrev pub class_line : List ℕ → ℕ → ClassFault → List ℕ
-class_line path at kind = class_text (units_of_text path) at (class_word kind) (class_opcode kind)
+class_line path at kind = class_text (written (units_of_text path)) at (class_word kind) (class_opcode kind)
 
 -- ---- the refusal of a policy
 
@@ -93,16 +93,19 @@ abbrev pub member_or_dash : Option (List ℕ) → List ℕ
 member_or_dash None = codes "-"
 member_or_dash (Some units) = written units
 
-abbrev pub link_text : List ℕ → Option (List ℕ) → List ℕ → List ℕ
-link_text class member word = codes "refused link " ++ (written class ++ (codes " " ++ (member_or_dash member ++ (codes " " ++ (word ++ codes "\n")))))
+abbrev pub link_text : List ℕ → List ℕ → List ℕ → List ℕ
+link_text class member word = codes "refused link " ++ (class ++ (codes " " ++ (member ++ (codes " " ++ (word ++ codes "\n")))))
 
 abbrev pub link_line : List ℕ → Option (List ℕ) → LinkKind → List ℕ
-link_line class member kind = link_text class member (link_word kind)
+link_line class member kind = link_text (written class) (member_or_dash member) (link_word kind)
 
 -- ---- the refusal of a program that isn't well typed
 
+abbrev pub check_text : List ℕ → List ℕ → ℕ → List ℕ
+check_text class member at = codes "refused check " ++ (class ++ (codes " " ++ (member ++ (codes " at " ++ (decimal at ++ codes "\n")))))
+
 abbrev pub check_line : List ℕ → List ℕ → ℕ → List ℕ
-check_line class member at = codes "refused check " ++ (written class ++ (codes " " ++ (written member ++ (codes " at " ++ (decimal at ++ codes "\n")))))
+check_line class member at = check_text (written class) (written member) at
 
 -- ---- the refusal of a program that can't be moved
 
@@ -120,10 +123,10 @@ limit_size (limits.TooLong n) = Some n
 limit_size _ = None
 
 abbrev pub rewrite_text : List ℕ → List ℕ → List ℕ → Option ℕ → List ℕ
-rewrite_text class member word size = codes "refused rewrite " ++ (written class ++ (codes " " ++ (member ++ (codes " " ++ (word ++ behind_word size)))))
+rewrite_text class member word size = codes "refused rewrite " ++ (class ++ (codes " " ++ (member ++ (codes " " ++ (word ++ behind_word size)))))
 
 abbrev pub rewrite_line : List ℕ → Option (List ℕ) → RewriteKind → List ℕ
-rewrite_line class member kind = rewrite_text class (member_or_dash member) (limit_word kind) (limit_size kind)
+rewrite_line class member kind = rewrite_text (written class) (member_or_dash member) (limit_word kind) (limit_size kind)
 
 -- a refusal's line
 abbrev pub refusal_line : Refusal → List ℕ

@@ -1,10 +1,10 @@
-ghost use Rattle.std.specs.Prelude.{◌≡◌, ◌≤◌, ◌<◌, ◌^◌, ◌⊎◌, None, Some, length};
+ghost use Rattle.std.specs.Prelude.{◌≡◌, ◌≤◌, ◌<◌, ◌^◌, IfSome, length};
 ghost use Rattle.jbase.specs.Causes.{Rose};
 ghost use Rattle.jio.specs.LineOf.{line_of, part_of, part_room, room_of};
-ghost use Rattle.jtext.specs.Texts.{units_of_text};
+ghost use Rattle.jio.specs.Text.{written};
 ghost use Rattle.jshow.specs.declared.status.Status.TheVariants.{ReadFault, StoreFault, Usage, WriteFault};
 ghost use Rattle.jshow.specs.Answering.{Answers, refused_answer};
-ghost use Rattle.jshow.specs.Refusals.{check_line, class_line, job_line, link_line, policy_line, refusal_line, text_line};
+ghost use Rattle.jshow.specs.Refusals.{check_line, check_text, class_line, job_line, link_line, member_or_dash, policy_line, refusal_line, text_line};
 ghost use Rattle.jshow.specs.Refusals.{class_opcode, class_text, class_word, limit_size, limit_word, link_text, link_word, policy_word, rewrite_line, rewrite_text};
 
 use crate::refusal::Refusal;
@@ -20,6 +20,33 @@ use std::alloc::Global;
 
 /// The most units of a name in a refusal.
 const MOST_UNITS: usize = 0x7fff_ffff;
+
+// ---- names
+
+/// A name as a part of a line; none where it has more units than a line may have.
+fn name_part(name: &Units) -> Option<Part<'_>>
+    ensures part { IfSome result (λ part. part_of part ≡ written name.now) }
+    ensures room { IfSome result (λ part. part_room part < 2 ^ 34) }
+{
+    let units = name.as_slice();
+    if MOST_UNITS < units.len() {
+        return None;
+    }
+    Some(Part::Text(units))
+}
+
+/// A member's name and descriptor as a part of a line, or the dash that stands for no member; none where they have more units than a line may have.
+fn member_part(member: &Option<Units>) -> Option<Part<'_>>
+    ensures part { IfSome result (λ part. part_of part ≡ member_or_dash member.now) }
+    ensures room { IfSome result (λ part. part_room part < 2 ^ 34) }
+{
+    match member {
+        Some(member) => name_part(member),
+        None => Some(Part::Plain("-")),
+    }
+}
+
+// ---- lines
 
 /// Writes a refusal's line of these parts.
 fn refuse<K: Sink>(parts: &[Part<'_>], out: &mut K) -> Status
@@ -37,36 +64,20 @@ fn refuse<K: Sink>(parts: &[Part<'_>], out: &mut K) -> Status
     }
 }
 
-/// Writes a line of a few words and a text.
-fn show_text<K: Sink>(words: &str, units: &[u16], out: &mut K) -> Status
+/// Writes a line of a few words and a name.
+fn show_name<'a, K: Sink>(words: &'a str, name: &'a Units, out: &mut K) -> Status
     requires { length words.now < 2 ^ 32 }
-    ensures answer { Answers (refused_answer (text_line words.now units.now)) result (K.out out.old) (K.out out.new) }
+    ensures answer { Answers (refused_answer (text_line words.now name.now)) result (K.out out.old) (K.out out.new) }
     ensures later { K.faults out.old ≤ K.faults out.new }
     ensures cause { result ≡ WriteFault → Rose (K.faults out.old) (K.faults out.new) }
     ensures read { result ≡ ReadFault → ⊥ }
     ensures usage { result ≡ Usage → ⊥ }
     ensures store { result ≡ StoreFault → ⊥ }
 {
-    if MOST_UNITS < units.len() {
-        return Status::OutOfMemory;
-    }
-    refuse(&[Part::Plain(words), Part::Text(units)], out)
-}
-
-/// Writes a line of a few words and a path.
-fn show_path<K: Sink>(alloc: Global, words: &str, path: &Text, out: &mut K) -> Status
-    requires { length words.now < 2 ^ 32 }
-    ensures answer { Answers (refused_answer (text_line words.now (units_of_text path.now))) result (K.out out.old) (K.out out.new) }
-    ensures later { K.faults out.old ≤ K.faults out.new }
-    ensures cause { result ≡ WriteFault → Rose (K.faults out.old) (K.faults out.new) }
-    ensures read { result ≡ ReadFault → ⊥ }
-    ensures usage { result ≡ Usage → ⊥ }
-    ensures store { result ≡ StoreFault → ⊥ }
-{
-    let Ok(units) = Units::from_text(alloc, path.as_str()) else {
+    let Some(name) = name_part(name) else {
         return Status::OutOfMemory;
     };
-    show_text(words, units.as_slice(), out)
+    refuse(&[Part::Plain(words), name], out)
 }
 
 // ---- jobs
@@ -153,15 +164,15 @@ fn class_opcode(kind: ClassFault) -> Option<u8>
 }
 
 fn put_class<'a, K: Sink>(
-    path: &'a [u16],
+    path: Part<'a>,
     at: u32,
     word: &'a str,
     opcode: Option<u8>,
     out: &mut K,
 ) -> Status
-    requires path { length path.now ≤ 0x7fff_ffff }
+    requires path { part_room path < 2 ^ 34 }
     requires word { length word.now < 32 }
-    ensures answer { Answers (refused_answer (class_text path.now at word.now opcode)) result (K.out out.old) (K.out out.new) }
+    ensures answer { Answers (refused_answer (class_text (part_of path.entry) at word.now opcode)) result (K.out out.old) (K.out out.new) }
     ensures later { K.faults out.old ≤ K.faults out.new }
     ensures cause { result ≡ WriteFault → Rose (K.faults out.old) (K.faults out.new) }
     ensures read { result ≡ ReadFault → ⊥ }
@@ -173,7 +184,7 @@ fn put_class<'a, K: Sink>(
         None => refuse(
             &[
                 Part::Plain("refused class "),
-                Part::Text(path),
+                path,
                 Part::Plain(" at "),
                 Part::Number(at),
                 Part::Plain(" "),
@@ -184,7 +195,7 @@ fn put_class<'a, K: Sink>(
         Some(opcode) => refuse(
             &[
                 Part::Plain("refused class "),
-                Part::Text(path),
+                path,
                 Part::Plain(" at "),
                 Part::Number(at),
                 Part::Plain(" "),
@@ -208,11 +219,10 @@ fn show_class<K: Sink>(alloc: Global, path: &Text, at: u32, kind: ClassFault, ou
     let Ok(units) = Units::from_text(alloc, path.as_str()) else {
         return Status::OutOfMemory;
     };
-    let units = units.as_slice();
-    if MOST_UNITS < units.len() {
+    let Some(path) = name_part(&units) else {
         return Status::OutOfMemory;
-    }
-    put_class(units, at, class_word(kind), class_opcode(kind), out)
+    };
+    put_class(path, at, class_word(kind), class_opcode(kind), out)
 }
 
 // ---- classes that don't link
@@ -237,11 +247,12 @@ fn link_word(kind: LinkKind) -> &'static str
     }
 }
 
-/// Writes the refusal of a class that breaks a rule by itself.
-fn put_link<'a, K: Sink>(class: &'a [u16], word: &'a str, out: &mut K) -> Status
-    requires class { length class.now ≤ 0x7fff_ffff }
+/// Writes the refusal of a class by a rule that it breaks, and by a member, or by the dash that stands for none.
+fn put_link<'a, K: Sink>(class: Part<'a>, member: Part<'a>, word: &'a str, out: &mut K) -> Status
+    requires class { part_room class < 2 ^ 34 }
+    requires member { part_room member < 2 ^ 34 }
     requires word { length word.now < 32 }
-    ensures answer { Answers (refused_answer (link_text class.now None word.now)) result (K.out out.old) (K.out out.new) }
+    ensures answer { Answers (refused_answer (link_text (part_of class.entry) (part_of member.entry) word.now)) result (K.out out.old) (K.out out.new) }
     ensures later { K.faults out.old ≤ K.faults out.new }
     ensures cause { result ≡ WriteFault → Rose (K.faults out.old) (K.faults out.new) }
     ensures read { result ≡ ReadFault → ⊥ }
@@ -250,37 +261,9 @@ fn put_link<'a, K: Sink>(class: &'a [u16], word: &'a str, out: &mut K) -> Status
 {
     let parts = [
         Part::Plain("refused link "),
-        Part::Text(class),
+        class,
         Part::Plain(" "),
-        Part::Plain("-"),
-        Part::Plain(" "),
-        Part::Plain(word),
-    ];
-    refuse(&parts, out)
-}
-
-/// Writes the refusal of a class that breaks a rule by a member.
-fn put_member<'a, K: Sink>(
-    class: &'a [u16],
-    member: &'a [u16],
-    word: &'a str,
-    out: &mut K,
-) -> Status
-    requires class { length class.now ≤ 0x7fff_ffff }
-    requires member { length member.now ≤ 0x7fff_ffff }
-    requires word { length word.now < 32 }
-    ensures answer { Answers (refused_answer (link_text class.now (Some member.now) word.now)) result (K.out out.old) (K.out out.new) }
-    ensures later { K.faults out.old ≤ K.faults out.new }
-    ensures cause { result ≡ WriteFault → Rose (K.faults out.old) (K.faults out.new) }
-    ensures read { result ≡ ReadFault → ⊥ }
-    ensures usage { result ≡ Usage → ⊥ }
-    ensures store { result ≡ StoreFault → ⊥ }
-{
-    let parts = [
-        Part::Plain("refused link "),
-        Part::Text(class),
-        Part::Plain(" "),
-        Part::Text(member),
+        member,
         Part::Plain(" "),
         Part::Plain(word),
     ];
@@ -295,27 +278,22 @@ fn show_link<K: Sink>(class: &Units, member: &Option<Units>, kind: LinkKind, out
     ensures usage { result ≡ Usage → ⊥ }
     ensures store { result ≡ StoreFault → ⊥ }
 {
-    let class = class.as_slice();
-    if MOST_UNITS < class.len() {
+    let Some(class) = name_part(class) else {
         return Status::OutOfMemory;
-    }
-    let Some(member) = member else {
-        return put_link(class, link_word(kind), out);
     };
-    let member = member.as_slice();
-    if MOST_UNITS < member.len() {
+    let Some(member) = member_part(member) else {
         return Status::OutOfMemory;
-    }
-    put_member(class, member, link_word(kind), out)
+    };
+    put_link(class, member, link_word(kind), out)
 }
 
 // ---- programs that aren't well typed
 
 /// Writes the refusal of a program by a place in a method.
-fn put_check<'a, K: Sink>(class: &'a [u16], member: &'a [u16], at: u32, out: &mut K) -> Status
-    requires class { length class.now ≤ 0x7fff_ffff }
-    requires member { length member.now ≤ 0x7fff_ffff }
-    ensures answer { Answers (refused_answer (check_line class.now member.now at)) result (K.out out.old) (K.out out.new) }
+fn put_check<'a, K: Sink>(class: Part<'a>, member: Part<'a>, at: u32, out: &mut K) -> Status
+    requires class { part_room class < 2 ^ 34 }
+    requires member { part_room member < 2 ^ 34 }
+    ensures answer { Answers (refused_answer (check_text (part_of class.entry) (part_of member.entry) at)) result (K.out out.old) (K.out out.new) }
     ensures later { K.faults out.old ≤ K.faults out.new }
     ensures cause { result ≡ WriteFault → Rose (K.faults out.old) (K.faults out.new) }
     ensures read { result ≡ ReadFault → ⊥ }
@@ -325,9 +303,9 @@ fn put_check<'a, K: Sink>(class: &'a [u16], member: &'a [u16], at: u32, out: &mu
     let at = u64::from(at);
     let parts = [
         Part::Plain("refused check "),
-        Part::Text(class),
+        class,
         Part::Plain(" "),
-        Part::Text(member),
+        member,
         Part::Plain(" at "),
         Part::Number(at),
     ];
@@ -342,14 +320,12 @@ fn show_check<K: Sink>(class: &Units, member: &Units, at: u32, out: &mut K) -> S
     ensures usage { result ≡ Usage → ⊥ }
     ensures store { result ≡ StoreFault → ⊥ }
 {
-    let class = class.as_slice();
-    let member = member.as_slice();
-    if MOST_UNITS < class.len() {
+    let Some(class) = name_part(class) else {
         return Status::OutOfMemory;
-    }
-    if MOST_UNITS < member.len() {
+    };
+    let Some(member) = name_part(member) else {
         return Status::OutOfMemory;
-    }
+    };
     put_check(class, member, at, out)
 }
 
@@ -381,16 +357,16 @@ fn limit_size(kind: RewriteKind) -> Option<u32>
 
 /// Writes the refusal of a class by a member, or by the dash that stands for none.
 fn put_limit<'a, K: Sink>(
-    class: &'a [u16],
+    class: Part<'a>,
     member: Part<'a>,
     word: &'a str,
     size: Option<u32>,
     out: &mut K,
 ) -> Status
-    requires class { length class.now ≤ 0x7fff_ffff }
+    requires class { part_room class < 2 ^ 34 }
     requires member { part_room member < 2 ^ 34 }
     requires word { length word.now < 32 }
-    ensures answer { Answers (refused_answer (rewrite_text class.now (part_of member.entry) word.now size)) result (K.out out.old) (K.out out.new) }
+    ensures answer { Answers (refused_answer (rewrite_text (part_of class.entry) (part_of member.entry) word.now size)) result (K.out out.old) (K.out out.new) }
     ensures later { K.faults out.old ≤ K.faults out.new }
     ensures cause { result ≡ WriteFault → Rose (K.faults out.old) (K.faults out.new) }
     ensures read { result ≡ ReadFault → ⊥ }
@@ -401,7 +377,7 @@ fn put_limit<'a, K: Sink>(
         None => refuse(
             &[
                 Part::Plain("refused rewrite "),
-                Part::Text(class),
+                class,
                 Part::Plain(" "),
                 member,
                 Part::Plain(" "),
@@ -412,7 +388,7 @@ fn put_limit<'a, K: Sink>(
         Some(size) => refuse(
             &[
                 Part::Plain("refused rewrite "),
-                Part::Text(class),
+                class,
                 Part::Plain(" "),
                 member,
                 Part::Plain(" "),
@@ -438,19 +414,12 @@ fn show_rewrite<K: Sink>(
     ensures usage { result ≡ Usage → ⊥ }
     ensures store { result ≡ StoreFault → ⊥ }
 {
-    let class = class.as_slice();
-    if MOST_UNITS < class.len() {
+    let Some(class) = name_part(class) else {
         return Status::OutOfMemory;
-    }
-    let Some(member) = member else {
-        let none = Part::Plain("-");
-        return put_limit(class, none, limit_word(kind), limit_size(kind), out);
     };
-    let member = member.as_slice();
-    if MOST_UNITS < member.len() {
+    let Some(member) = member_part(member) else {
         return Status::OutOfMemory;
-    }
-    let member = Part::Text(member);
+    };
     put_limit(class, member, limit_word(kind), limit_size(kind), out)
 }
 
@@ -478,6 +447,6 @@ pub fn show_refusal<K: Sink>(alloc: Global, refusal: &Refusal, out: &mut K) -> S
             member,
             kind,
         } => show_rewrite(class, member, *kind, out),
-        Refusal::NoMain(name) => show_text("refused main ", name.as_slice(), out),
+        Refusal::NoMain(name) => show_name("refused main ", name, out),
     }
 }
