@@ -1,7 +1,6 @@
 -- The side of a program that was linked and checked.
 use Rattle.std.proofs.Common.{◌≡◌, ◌∙◌, Ok, Option, Some, None, ap, sym}
 use Rattle.std.specs.Prelude.{List}
-use Rattle.jlib.specs.declared.side.Side.{Side}
 use Rattle.jlib.specs.declared.side.Side.TheVariants.{Source}
 use Rattle.jprogram.specs.declared.fault.LinkFault.{LinkFault}
 use Rattle.jprogram.specs.declared.part.CodePart.{CodePart}

@@ -24,7 +24,8 @@ use Rattle.jjob.specs.Jobs.{job}
 use Rattle.jlib.specs.declared.side.Side.{Side}
 use Rattle.jlib.specs.declared.side.Side.TheVariants.{Source, Passing}
 use Rattle.jprogram.specs.declared.part.CodePart.{CodePart}
-use Rattle.jprogram.specs.Classes.{program}
+use Rattle.jprogram.specs.declared.member.MethodId.{MethodId}
+use Rattle.jprogram.specs.Classes.{Program, program}
 use Rattle.jprogram.specs.Members.{main_of}
 use Rattle.juses.specs.Instructions.{code_at}
 use Rattle.jshow.specs.declared.refusal.Refusal.TheVariants.{BadJob, BadPolicy, BadClass, NoMain}
@@ -83,13 +84,17 @@ part_at files one = class_at files one.path >>= λ class. Ok (record { domain = 
 
 -- ---- a run
 
--- the run of these classes: they link, the main class has a `main`, and they are well typed
-abbrev pub run_of_parts : Ground → List CodePart → Result Task Stopped
-run_of_parts g parts =
+-- the program of a run and the method with which it begins: the classes link, the main class has a `main`, and they are well typed
+abbrev pub runnable : List ℕ → List CodePart → Result (Program × MethodId) Stopped
+runnable name parts =
     linked (program Source parts) >>= λ p.
-    judged (NoMain g.main) (main_of p (flat_map group g.main)) >>= λ main.
+    judged (NoMain name) (main_of p (flat_map group name)) >>= λ main.
     checked p >>= λ q.
-    Ok (tasks.Run q g.domains (plan_of g.setting main))
+    Ok (q, main)
+
+-- the run of these classes
+abbrev pub run_of_parts : Ground → List CodePart → Result Task Stopped
+run_of_parts g parts = runnable g.main parts >>= λ found. Ok (tasks.Run found.0 g.domains (plan_of g.setting found.1))
 
 unfoldable pub run_of_ground : List File → Ground → Result Task Stopped
 run_of_ground files g = each (part_at files) g.classes >>= λ parts. run_of_parts g parts
@@ -116,13 +121,13 @@ check_at files side path = ground_at files path >>= λ g. check_of_ground files 
 
 -- ---- a rewriting
 
--- the rewriting of these classes: they link, they are well typed, and they break no limit
+-- the moved program of these classes: they link, they are well typed, and they break no limit
+abbrev pub moved_of_parts : List CodePart → Result Program Stopped
+moved_of_parts parts = linked (program Source parts) >>= λ p. checked p >>= λ q. rewritten q
+
+-- the rewriting of these classes
 abbrev pub rewrite_of_parts : List ℕ → List ℕ → List CodePart → Result Task Stopped
-rewrite_of_parts text to parts =
-    linked (program Source parts) >>= λ p.
-    checked p >>= λ q.
-    rewritten q >>= λ r.
-    Ok (tasks.Rewrite r text to)
+rewrite_of_parts text to parts = moved_of_parts parts >>= λ p. Ok (tasks.Rewrite p text to)
 
 unfoldable pub rewrite_of_ground : List File → List ℕ → List ℕ → Ground → Result Task Stopped
 rewrite_of_ground files text to g = each (part_at files) g.classes >>= λ parts. rewrite_of_parts text to parts

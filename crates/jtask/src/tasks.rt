@@ -1,13 +1,13 @@
-ghost use Rattle.std.specs.Prelude.{◌≡◌, ◌≤◌, ◌<◌, ◌^◌, ◌⊎◌, ℕ, Err, IfOk, IsTrue, List, None, Some, false, length, true};
+ghost use Rattle.std.specs.Prelude.{◌≡◌, ◌≤◌, ◌<◌, ◌^◌, Err, IfOk, IsTrue, List, None, Some, false, is_some, length, true};
 ghost use Rattle.std.specs.List.{flat_map};
-ghost use Rattle.jbase.specs.Causes.{Rose};
 ghost use Rattle.jio.specs.Held.{File};
 ghost use Rattle.jtext.specs.Modified.{group};
 ghost use Rattle.jprogram.specs.Members.{main_of};
+ghost use Rattle.juses.specs.Instructions.{code_at};
 ghost use Rattle.jtask.specs.declared.halt.Halt.TheVariants.{Read};
 ghost use Rattle.jtask.specs.Stages.{Excused, Follows, judged};
-ghost use Rattle.jtask.specs.Tasks.{IsWhole, built, check_at, check_of_ground, check_of_parts, is_stored, policy_at, run_at, run_of_ground, run_of_parts, side_of, stores, task};
-ghost use Rattle.jtask.specs.Tasks.{rewrite_at, rewrite_of_ground, rewrite_of_parts, rewrite_of_text};
+ghost use Rattle.jtask.specs.Tasks.{IsWhole, built, check_at, check_of_ground, check_of_parts, is_stored, policy_at, run_at, run_of_ground, run_of_parts, runnable};
+ghost use Rattle.jtask.specs.Tasks.{moved_of_parts, rewrite_at, rewrite_of_ground, rewrite_of_parts, rewrite_of_text, side_of, stores, task};
 
 use crate::checking::checked;
 use crate::ground::Ground;
@@ -17,11 +17,13 @@ use crate::reading::{ground_at, ground_in, parts_at, read_at, text_in};
 use crate::rewriting::rewritten;
 use crate::task::Task;
 use jbase::Seq;
+use jcheck::CheckedProgram;
 use jio::Shelf;
 use jjob::{Command, Form, Text};
 use jlib::Side;
 use jlink::LinkedProgram;
 use jprogram::{CodePart, MethodId};
+use jrewrite::RewrittenProgram;
 use jshow::Refusal;
 use jtext::{Units, bytes_of};
 use std::alloc::Global;
@@ -62,17 +64,30 @@ fn main_named(alloc: Global, program: &LinkedProgram, name: &Units) -> Result<Me
     }
 }
 
+/// The program of a run, and the method with which it begins.
+fn runnable(
+    alloc: Global,
+    name: &Units,
+    parts: Seq<CodePart>,
+) -> Result<(CheckedProgram, MethodId), Halt>
+    ensures value { Follows (λ x. x) result (runnable name.now parts) }
+    ensures coded { IfOk result (λ x. is_some (code_at x.0 x.1) ≡ true) }
+    ensures unread { result ≡ Err Read → ⊥ }
+{
+    let joined = linked(alloc, parts, Side::Source)?;
+    let main = main_named(alloc, &joined, name)?;
+    let program = checked(alloc, joined)?;
+    Ok((program, main))
+}
+
 /// The run of the classes that were read for a job.
-#[tactic(auto, using(crate::proofs::Mains::run_coded))]
 fn run_of_parts(alloc: Global, ground: Ground, parts: Seq<CodePart>) -> Result<Task, Halt>
     ensures value { Follows (λ x. x) result (run_of_parts ground parts) }
     ensures whole { IfOk result IsWhole }
     ensures kind { IfOk result (λ t. is_stored t ≡ false) }
     ensures unread { result ≡ Err Read → ⊥ }
 {
-    let program = linked(alloc, parts, Side::Source)?;
-    let main = main_named(alloc, &program, &ground.main)?;
-    let program = checked(alloc, program)?;
+    let (program, main) = runnable(alloc, &ground.main, parts)?;
     Ok(Task::Run {
         program,
         domains: ground.domains,
@@ -126,8 +141,8 @@ fn check_of_parts(alloc: Global, side: Side, parts: Seq<CodePart>) -> Result<Tas
     ensures kind { IfOk result (λ t. is_stored t ≡ false) }
     ensures unread { result ≡ Err Read → ⊥ }
 {
-    let program = linked(alloc, parts, side)?;
-    let program = checked(alloc, program)?;
+    let joined = linked(alloc, parts, side)?;
+    let program = checked(alloc, joined)?;
     Ok(Task::Check(program))
 }
 
@@ -166,17 +181,24 @@ fn check_at<S: Shelf>(alloc: Global, side: Side, path: &str, shelf: &mut S) -> R
 
 // ---- a rewriting
 
+/// The moved program of the classes that were read for a job.
+fn moved_of_parts(alloc: Global, parts: Seq<CodePart>) -> Result<RewrittenProgram, Halt>
+    ensures value { Follows (λ x. x) result (moved_of_parts parts) }
+    ensures unread { result ≡ Err Read → ⊥ }
+{
+    let joined = linked(alloc, parts, Side::Source)?;
+    let program = checked(alloc, joined)?;
+    rewritten(alloc, &program)
+}
+
 /// The rewriting of the classes that were read for a job.
-#[tactic(auto, using(crate::proofs::Sides::on_source))]
 fn rewrite_of_parts(alloc: Global, text: Text, to: Text, parts: Seq<CodePart>) -> Result<Task, Halt>
     ensures value { Follows (λ x. x) result (rewrite_of_parts text to parts) }
     ensures whole { IfOk result IsWhole }
     ensures kind { IfOk result (λ t. is_stored t ≡ true) }
     ensures unread { result ≡ Err Read → ⊥ }
 {
-    let program = linked(alloc, parts, Side::Source)?;
-    let program = checked(alloc, program)?;
-    let program = rewritten(alloc, &program)?;
+    let program = moved_of_parts(alloc, parts)?;
     Ok(Task::Rewrite {
         program,
         job: text,
