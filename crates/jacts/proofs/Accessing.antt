@@ -18,7 +18,7 @@ use Rattle.jlib.specs.declared.classes.Thrown.TheVariants as thrown
 use Rattle.jops.specs.declared.value.Value.{Value}
 use Rattle.jops.specs.declared.value.Value.TheVariants.{Int, Long, Ref, Ctx}
 use Rattle.jprogram.specs.Classes.{Program}
-use Rattle.jrule.specs.Effects.{Of, Holds, Want, items_of, same_items}
+use Rattle.jrule.specs.Effects.{Of, Holds, items_of, same_items}
 use Rattle.jrule.specs.Effects as rules
 use Rattle.jtypes.specs.declared.vtype.ArrayType.{ArrayType}
 use Rattle.jtypes.specs.declared.vtype.VType.{VType}

@@ -10,7 +10,7 @@ use Rattle.jops.specs.declared.value.Value.TheVariants.{Int, Long, Ref, Ctx}
 use Rattle.jops.specs.Kinds.{are_of, is_of}
 use Rattle.jtypes.specs.declared.vtype.Name.{Name}
 use Rattle.jtypes.specs.declared.vtype.VType.{VType}
-use Rattle.jrule.specs.Effects.{Of, Want, of_kinds}
+use Rattle.jrule.specs.Effects.{Of, of_kinds}
 use Rattle.jrule.specs.Effects as types
 use Rattle.jmachine.specs.Objects.{Object, Instance, Thrown, Text, Builder, Piece, Permission, Context, Thread, Bare, Array, class_of, is_ready}
 use Rattle.jmachine.specs.Operands.{Taken, found_type, serves, serves_as, taken, with_value}

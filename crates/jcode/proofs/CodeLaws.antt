@@ -1,5 +1,5 @@
 -- An instruction is a format, and code is one of all bytes.
-use Rattle.std.proofs.Common.{◌≡◌, ℕ, ◌-◌, ◌≤◌, ℤ, Bool, true, false, eqb, List, [], ◌∷◌, ◌++◌, length, Option, Some, None, Result, Ok, Err, refl, sym, ap, subst, ◌∙◌, arith, inl, inr}
+use Rattle.std.proofs.Common.{◌≡◌, ℕ, ◌-◌, ◌≤◌, ℤ, true, false, eqb, List, [], ◌∷◌, ◌++◌, length, Option, Some, None, Result, Ok, Err, refl, sym, ap, subst, ◌∙◌, arith, inl, inr}
 use Rattle.std.specs.Prelude.{IsTrue}
 use Rattle.std.specs.List.{list_all}
 use Rattle.std.proofs.lemmas.Bool.{cases_Bool, eqb-true}
@@ -35,7 +35,7 @@ use Rattle.jcode.specs.declared.head.OtherHead.{OtherHead}
 use Rattle.jcode.specs.declared.head.OtherHead.TheVariants as other
 use Rattle.jcode.specs.Opcodes.{head_number, head_at}
 use Rattle.jcode.specs.Operands.{OtherOperand, Operand, operands}
-use Rattle.jcode.specs.Instructions.{other_op, op_from, Parts, parts, behind, behind_fits, read_behind, at_front, behind_head, instruction_at, instruction, placed_at, op_at, placed, place_behind, instructions, leads, lost, first_lost, lost_fault, code}
+use Rattle.jcode.specs.Instructions.{op_from, Parts, parts, behind, behind_fits, read_behind, at_front, behind_head, instruction_at, instruction, placed_at, op_at, placed, place_behind, instructions, leads, lost, first_lost, lost_fault, code}
 use Rattle.jcode.proofs.OpcodeLaws.{number_of_head, head_of_number}
 use Rattle.jcode.proofs.OperandLaws.{operands_law}
 

@@ -1,8 +1,7 @@
 -- The operands of each opcode are a format.
-use Rattle.std.proofs.Common.{◌≡◌, ℕ, zero, suc, ◌%◌, ◌-◌, ℤ, true, eqb, List, [], ◌∷◌, length, Option, Some, None, refl, ap, arith, inl, inr}
-use Rattle.std.proofs.lemmas.Bool.{cases_Bool, eqb-true}
+use Rattle.std.proofs.Common.{◌≡◌, ℕ, zero, suc, ◌%◌, ◌-◌, ℤ, true, eqb, List, [], ◌∷◌, length, Option, None, refl, ap, arith}
 use Rattle.std.specs.Int.{w8, w16, w32, to_be_bytes, from_be_bytes}
-use Rattle.jformat.specs.Format.{IsBytes, void, known, ◌·◌, such}
+use Rattle.jformat.specs.Format.{IsBytes, known, ◌·◌, such}
 use Rattle.jformat.specs.Bodies.{counted}
 use Rattle.jformat.specs.States.{counted_from}
 use Rattle.jformat.specs.Cases.{IsOnce}

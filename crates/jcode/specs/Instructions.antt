@@ -1,11 +1,11 @@
 -- Instructions, and code: instructions one behind the other (JVMS 4.7.3, 6.5).
-use Rattle.std.specs.Prelude.{◌≡◌, ℕ, ◌+◌, ◌<◌, ◌≤◌, ◌==◌, ℤ, pos, ◌+ℤ◌, Bool, true, IsTrue, ◌&&◌, if◌then◌else◌, List, [], ◌∷◌, length, get_or, position, Option, Some, None, option_map, Result, Ok, Err}
+use Rattle.std.specs.Prelude.{◌≡◌, ℕ, ◌+◌, ◌<◌, ◌==◌, ℤ, pos, ◌+ℤ◌, Bool, IsTrue, ◌&&◌, if◌then◌else◌, List, [], ◌∷◌, length, get_or, position, Option, Some, None, option_map, Result, Ok, Err}
 use Rattle.std.specs.List.{list_all, list_any}
 use Rattle.std.specs.Ordering.{int_eq}
 use Rattle.jbase.specs.Stops.{◌>>=◌}
 use Rattle.jbase.specs.First.{first_some}
 use Rattle.jformat.specs.declared.error.Fault.{Fault}
-use Rattle.jformat.specs.Format.{Answer, Format, fault, void, ◌·◌, as_case, unless_fault}
+use Rattle.jformat.specs.Format.{Answer, Format, fault, as_case, unless_fault}
 use Rattle.jformat.specs.Places.{from_end}
 use Rattle.jformat.specs.Bodies.{Body}
 use Rattle.jformat.specs.States.{many_by}

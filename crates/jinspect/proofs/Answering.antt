@@ -11,7 +11,7 @@ use Rattle.jkept.specs.declared.mark.InspectMark.{InspectMark}
 use Rattle.jkept.specs.Things.{given_at, mark_at, stack_at, things}
 use Rattle.jkept.specs.Things as kept
 use Rattle.jmachine.specs.Asked.{Ask, Checks, ChecksKept, Snapshots, Inherits, Enters, Privileges, Answer, Decided, Kept, Entered, Allowed}
-use Rattle.jrules.specs.Inspecting.{Carried, marked, rules, stack_of}
+use Rattle.jrules.specs.Inspecting.{Carried, rules, stack_of}
 use Rattle.jrules.specs.Inspecting as inspecting
 use Rattle.jguard.specs.declared.ask.Answer.{Answer as AnswerSaid}
 use Rattle.jguard.specs.declared.ask.Answer.TheVariants as answers

@@ -1,5 +1,5 @@
 -- Each branch of an instruction leads to an instruction of its method, which has a number.
-use Rattle.std.proofs.Common.{◌≡◌, ℕ, zero, suc, ◌<◌, ◌||◌, ◌&&◌, Bool, true, false, List, [], ◌∷◌, length, map, Option, Some, None, refl, ap, subst, arith}
+use Rattle.std.proofs.Common.{◌≡◌, ℕ, ◌<◌, ◌||◌, Bool, true, false, List, [], ◌∷◌, length, map, Option, Some, refl, subst, arith}
 use Rattle.std.specs.Prelude.{ℤ, pos, ◌+ℤ◌, option_and_then, option_map}
 use Rattle.std.specs.List.{AllByRecursion, list_all, list_any, position, position_or_len}
 use Rattle.std.specs.Option.{IsSome}

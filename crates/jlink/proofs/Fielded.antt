@@ -47,7 +47,7 @@ use Rattle.jprogram.specs.declared.member.MethodId.{MethodId}
 use Rattle.jprogram.specs.declared.part.ClassRef.TheVariants as refs
 use Rattle.jprogram.specs.declared.part.CodePart.{CodePart}
 use Rattle.jprogram.specs.Parts as parts
-use Rattle.jprogram.specs.Parts.{class_text, is_called, text, this_name}
+use Rattle.jprogram.specs.Parts.{is_called, this_name}
 use Rattle.jprogram.specs.Classes.{Lib, Program, User, extends, face_names, find, holds, is_interface, known, name_at, named as named_class, object, over, superinterfaces, up}
 use Rattle.jprogram.specs.Members.{field_at, field_in, init, is_static, lib_field, looked_up, part_of, resolve_field, user_is}
 use Rattle.jprogram.specs.Standing.{StandsInOrder}

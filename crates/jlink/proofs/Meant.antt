@@ -2,7 +2,6 @@
 use Rattle.std.proofs.Common.{◌≡◌, ℕ, suc, ◌≤◌, ◌⊎◌, Bool, true, false, ◌||◌, List, length, map, Option, Some, None, refl, sym, ap, ◌∙◌, arith, inl, inr}
 use Rattle.std.specs.Prelude.{is_some, option_and_then, option_map, slice_get}
 use Rattle.std.specs.Option.{IsSome}
-use Rattle.std.specs.Str.{bytes_eq}
 use Rattle.std.proofs.lemmas.Bool.{or_parts}
 use Rattle.std.proofs.lemmas.Option.{slice_get-map}
 use Rattle.jbase.specs.First.{fault_if, or_else}
@@ -34,7 +33,7 @@ use Rattle.jreferring.specs.declared.judged.Sort.TheVariants as sort
 use Rattle.jreferring.specs.Names.{desc_test, is_array, type_named, type_test}
 use Rattle.jreferring.specs.Operands.{class_use, is_no_maker, is_unmade, new_test, operand_test}
 use Rattle.jreferring.specs.References.{call_left_out_test, call_test, called_by_interface_test, called_test, facts_of, field_member_test, field_test, interface_test, names_test}
-use Rattle.jreferring.specs.Entries.{desc_in, entry_of, judge, reference}
+use Rattle.jreferring.specs.Entries.{desc_in, judge, reference}
 use Rattle.jreferring.specs.Units.{class_in, constant_test, long_test, member_in, or_no_member, pool_test}
 use Rattle.jlink.specs.Coded.{AreFiles}
 use Rattle.jlink.specs.Links.{Links}

@@ -1,13 +1,13 @@
 -- The types that descriptors and class entries say are there, where their classes may be named and no float or double stands in them.
-use Rattle.std.proofs.Common.{◌≡◌, ℕ, zero, suc, ◌+◌, ◌<◌, ◌≤◌, ◌^◌, ◌⊎◌, Bool, true, false, ◌&&◌, ◌||◌, not, List, [], ◌∷◌, ◌++◌, length, replicate, reverse, Option, Some, None, refl, sym, ap, subst, ◌∙◌, arith, inl, inr}
-use Rattle.std.specs.Prelude.{IsTrue, codes, is_some, option_map, nat_lt, ◌==◌, if◌then◌else◌}
+use Rattle.std.proofs.Common.{◌≡◌, ℕ, zero, suc, ◌+◌, ◌<◌, ◌≤◌, ◌^◌, ◌⊎◌, Bool, true, false, ◌&&◌, ◌||◌, not, List, [], ◌∷◌, length, replicate, reverse, Option, Some, None, refl, sym, ap, ◌∙◌, arith, inl, inr}
+use Rattle.std.specs.Prelude.{codes, is_some, option_map, nat_lt, ◌==◌, if◌then◌else◌}
 use Rattle.std.specs.List.{AllByRecursion, list_all, list_any}
 use Rattle.std.specs.Option.{IsSome}
 use Rattle.std.specs.Str.{byte, bytes_eq}
 use Rattle.std.proofs.lemmas.Bool.{lt-ltb, ne_eqb, or_parts}
 use Rattle.std.proofs.lemmas.List.{length-append, length-replicate}
 use Rattle.jbase.specs.Each.{each_some}
-use Rattle.jbase.specs.First.{fault_if, first_some, or_else}
+use Rattle.jbase.specs.First.{fault_if, first_some}
 use Rattle.jbase.proofs.Firsts.{none_of}
 use Rattle.jformat.proofs.Steps.{first_true, second_true}
 use Rattle.jpool.specs.declared.descriptor.Descriptor.{Descriptor}
@@ -33,7 +33,7 @@ use Rattle.jreferring.specs.Names as names
 use Rattle.jreferring.specs.Names.{array_or, class_test, desc_test, is_array, return_test, type_named, type_test}
 use Rattle.jreferring.specs.Operands.{class_use, is_barred_array, is_barred_operand, is_context, is_float, operand_test, type_use}
 use Rattle.jlink.specs.Sound.{IsFieldText, IsMethodText, gives_float, is_sound_field, is_sound_method}
-use Rattle.jlink.proofs.Having.{each_has, has_some, map_has, map_is}
+use Rattle.jlink.proofs.Having.{each_has, has_some, map_has}
 
 -- ---- tests
 

@@ -1,5 +1,5 @@
 -- What the instructions of a program stand on: its parts are class files, and the numbers to which they lead are those of instructions.
-use Rattle.std.specs.Prelude.{◌≡◌, ℕ, ◌<◌, List, length, Some, IsTrue, slice_get}
+use Rattle.std.specs.Prelude.{◌≡◌, ℕ, ◌<◌, length, Some, IsTrue, slice_get}
 use Rattle.std.specs.List.{AllByRecursion}
 use Rattle.jclass.specs.Class.{class_file}
 use Rattle.jclass.specs.declared.class.CodeBody.{CodeBody}

@@ -1,11 +1,11 @@
 -- The classes of a program that links stand in order: what typing asks of them.
-use Rattle.std.specs.Prelude.{◌≡◌, ℕ, List, Option, None, true, codes}
+use Rattle.std.specs.Prelude.{◌≡◌, None, true, codes}
 use Rattle.std.proofs.Common.{ap, ◌∙◌}
 use Rattle.jbase.specs.First.{or_else}
 use Rattle.jbase.proofs.Firsts.{none_of}
 use Rattle.jtypes.specs.declared.vtype.Name.{Name}
 use Rattle.jtypes.specs.Tree.{InterfacesExtendTheirs}
-use Rattle.jprogram.specs.Classes.{Program, extends, object, tree}
+use Rattle.jprogram.specs.Classes.{Program, extends, tree}
 use Rattle.jprogram.specs.Naming.{naming_fault}
 use Rattle.jprogram.specs.Standing.{StandsInOrder}
 use Rattle.jprogram.specs.Supers.{supers_fault}

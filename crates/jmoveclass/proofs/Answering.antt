@@ -1,6 +1,6 @@
 -- What the answer of a move says of what was put, and of the numbers of the moved method.
-use Rattle.std.proofs.Common.{◌≡◌, ℕ, ◌+◌, ◌<◌, ◌≤◌, Bool, true, false, List, [], ◌∷◌, length, map, Option, Some, None, Result, Ok, Err, refl, ap, sym, ◌∙◌, subst, arith, inl, inr}
-use Rattle.std.specs.Prelude.{All, nat_lt, if◌then◌else◌}
+use Rattle.std.proofs.Common.{◌≡◌, ℕ, ◌+◌, ◌<◌, ◌≤◌, true, List, [], ◌∷◌, length, map, None, Ok, Err, refl, ap, sym, ◌∙◌, subst, arith, inl, inr}
+use Rattle.std.specs.Prelude.{All, nat_lt}
 use Rattle.std.proofs.lemmas.Bool.{cases_Bool, ltb-true}
 use Rattle.std.proofs.Math.Nat.{max-le}
 use Rattle.std.proofs.lemmas.List.Elements.{All-from_recursion}
@@ -16,12 +16,12 @@ use Rattle.jmove.specs.declared.method.MethodOut.{MethodOut}
 use Rattle.jmove.specs.declared.method.MoveError.{MoveError}
 use Rattle.jmove.specs.declared.method.MoveError.TheVariants as errors
 use Rattle.jmove.specs.declared.naming.Named.{Named}
-use Rattle.jmove.specs.Additions.{Adding, Refused, giving, with_body, ◌>>◌}
+use Rattle.jmove.specs.Additions.{Refused, with_body, ◌>>◌}
 use Rattle.jmove.specs.Frames.{moved_frame}
 use Rattle.jmove.specs.Lines.{end_of, place_of}
 use Rattle.jmove.specs.Methods.{Answers, move_method, moved_in}
 use Rattle.jmove.specs.Moved.{CanMove, context_local, limit_of, lines, moved_by, prologue, setting}
-use Rattle.jmove.proofs.Limiting.{Within, no_limit, short}
+use Rattle.jmove.proofs.Limiting.{no_limit, short}
 use Rattle.jmove.proofs.Placing.{place_within}
 use Rattle.jmove.proofs.Renumbering.{named_can, named_limit}
 use Rattle.jmoveclass.specs.Methods.{moved_code, with_moved}

@@ -1,11 +1,8 @@
 -- What becomes of attributes; and that where no method breaks a limit none of its codes does.
-use Rattle.std.proofs.Common.{◌≡◌, ℕ, Bool, true, false, List, [], ◌∷◌, length, Option, Some, None, refl, ap, sym, ◌∙◌, subst}
-use Rattle.std.specs.Prelude.{IsTrue, option_map, slice_get, ◌==◌}
-use Rattle.jbase.specs.First.{first_along}
+use Rattle.std.proofs.Common.{◌≡◌, ℕ, List, [], ◌∷◌, Option, Some, None, refl, ap, sym, ◌∙◌, subst}
+use Rattle.std.specs.Prelude.{IsTrue, option_map}
 use Rattle.jbase.proofs.Firsts.{none_fails}
 use Rattle.jpool.specs.declared.entry.Entry.{Entry}
-use Rattle.jmaps.specs.declared.types.MapType.{MapType}
-use Rattle.jmaps.specs.declared.types.RawFrame.{RawFrame}
 use Rattle.jclass.specs.declared.class.Attribute.{Attribute}
 use Rattle.jclass.specs.declared.class.Attribute.TheVariants.{Code, ConstantValue, Raw}
 use Rattle.jclass.specs.declared.class.ClassParts.{ClassParts}
@@ -19,8 +16,6 @@ use Rattle.jmove.specs.Additions.{Adding, Refused, giving, ◌>>◌}
 use Rattle.jmove.proofs.Growing.{giving_grows}
 use Rattle.jmove.specs.Moved.{limit_of}
 use Rattle.jprogram.specs.Classes.{Program}
-use Rattle.jprogram.specs.Parts.{code_of}
-use Rattle.jmoveclass.specs.declared.limit.Limit.{Limit}
 use Rattle.jmoveclass.specs.declared.limit.RewriteKind.{RewriteKind}
 use Rattle.jmoveclass.specs.Beginning.{bare_beginning}
 use Rattle.jmoveclass.specs.Calls.{expands}

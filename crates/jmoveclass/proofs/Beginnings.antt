@@ -1,5 +1,5 @@
 -- What is put for the beginning of a method, step by step.
-use Rattle.std.proofs.Common.{◌≡◌, ℕ, Bool, true, false, List, [], ◌∷◌, ◌++◌, refl, ap, sym, ◌∙◌, subst}
+use Rattle.std.proofs.Common.{◌≡◌, ℕ, Bool, true, false, List, [], ◌∷◌, ◌++◌, sym, ◌∙◌, subst}
 use Rattle.std.specs.Prelude.{if◌then◌else◌}
 use Rattle.jpool.specs.declared.descriptor.FieldType.{FieldType}
 use Rattle.jpool.specs.declared.entry.Entry.{Entry}

@@ -1,6 +1,6 @@
 -- What is put for a class only grows its pool.
 use Rattle.std.proofs.Common.{ℕ, Bool, true, false, List, [], ◌∷◌, ◌++◌}
-use Rattle.std.specs.Prelude.{if◌then◌else◌, ◌||◌, nat_lt}
+use Rattle.std.specs.Prelude.{if◌then◌else◌}
 use Rattle.jpool.specs.declared.descriptor.FieldType.{FieldType}
 use Rattle.jpool.specs.declared.entry.Entry.TheVariants as entries
 use Rattle.jmaps.specs.declared.types.MapType.{MapType}

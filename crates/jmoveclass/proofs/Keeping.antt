@@ -3,7 +3,7 @@ use Rattle.std.proofs.Common.{◌≡◌, ℕ, Bool, true, false, ◌&&◌, not, 
 use Rattle.std.specs.Prelude.{IsTrue, is_some, slice_get, codes, ◌||◌}
 use Rattle.std.specs.List.{list_all}
 use Rattle.jformat.specs.Format.{is_good, unless}
-use Rattle.jformat.specs.Bodies.{block, counted}
+use Rattle.jformat.specs.Bodies.{block}
 use Rattle.jformat.specs.States.{counted_from, fits_from}
 use Rattle.jformat.proofs.Steps.{both, first_true, second_true}
 use Rattle.jpool.specs.declared.entry.Entry.{Entry}
@@ -16,11 +16,11 @@ use Rattle.jclass.specs.declared.class.MemberInfo.{MemberInfo}
 use Rattle.jclass.specs.declared.fault.ClassFault.{ClassFault}
 use Rattle.jclass.specs.declared.fault.ClassFault.TheVariants.{Index, Truncated}
 use Rattle.jclass.specs.Basics.{access, index, run, u2, u4}
-use Rattle.jclass.specs.Rules.{descriptor_fault, field_descriptor, is_constant_value, is_plain_class, is_static, is_text, names_caught, names_class, names_super, suits, suits_field, suits_type}
-use Rattle.jclass.specs.Attributes.{class_attribute, constant, content, field_attribute, is_constant, name_fault, name_once, raw_parts, saw_constant, text_index}
-use Rattle.jclass.specs.Members.{field, member_parts}
+use Rattle.jclass.specs.Rules.{descriptor_fault, field_descriptor, is_constant_value, is_plain_class, is_static, is_text, names_caught, names_class, names_super, suits_field, suits_type}
+use Rattle.jclass.specs.Attributes.{class_attribute, constant, content, field_attribute, is_constant, name_fault, name_once, saw_constant, text_index}
+use Rattle.jclass.specs.Members.{field}
 use Rattle.jmove.specs.Additions.{IsFront}
-use Rattle.jmoveclass.proofs.Fronts.{class_name_stays, class_stays, is_there, kept_test, same_text, test_stays, text_stays, text_utf8, utf8_stays}
+use Rattle.jmoveclass.proofs.Fronts.{class_name_stays, class_stays, is_there, kept_test, same_text, text_utf8, utf8_stays}
 
 -- ---- tests
 

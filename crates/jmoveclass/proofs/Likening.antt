@@ -1,5 +1,5 @@
 -- A method breaks the same limit whatever the indices of the classes that its beginning names.
-use Rattle.std.proofs.Common.{◌≡◌, ℕ, ◌+◌, Bool, true, false, List, [], ◌∷◌, ◌++◌, map, Option, Some, None, Result, Ok, Err, refl, ap, sym, ◌∙◌, subst}
+use Rattle.std.proofs.Common.{◌≡◌, ℕ, ◌+◌, Bool, true, false, List, [], ◌∷◌, ◌++◌, map, Option, Some, None, Result, Ok, Err, refl, ap, sym, ◌∙◌}
 use Rattle.std.specs.Prelude.{option_map, if◌then◌else◌, ◌==◌}
 use Rattle.std.specs.Str.{byte}
 use Rattle.std.proofs.lemmas.List.{map-append}
@@ -10,13 +10,13 @@ use Rattle.jmaps.specs.declared.types.FullFrame.{FullFrame}
 use Rattle.jmaps.specs.declared.types.MapType.{MapType}
 use Rattle.jmaps.specs.declared.types.MapType.TheVariants as items
 use Rattle.jmaps.specs.declared.types.RawFrame.{RawFrame}
-use Rattle.jmaps.specs.Full.{expand_from, in_full, locals_after, locals_before, or_number, place_behind, place_from, with_locals}
+use Rattle.jmaps.specs.Full.{expand_from, locals_after, locals_before, or_number, place_behind, with_locals}
 use Rattle.jmaps.proofs.FullLaws.{locals_map}
 use Rattle.jclass.specs.declared.class.ClassParts.{ClassParts}
 use Rattle.jclass.specs.declared.class.CodeBody.{CodeBody}
 use Rattle.jclass.specs.declared.class.MemberInfo.{MemberInfo}
 use Rattle.jmove.specs.declared.method.Expand.{Expand}
-use Rattle.jmove.specs.Additions.{Adding, giving, with_class, ◌>>◌}
+use Rattle.jmove.specs.Additions.{giving, with_class, ◌>>◌}
 use Rattle.jmove.specs.Limits.{Alike, bare_frame, bare_type}
 use Rattle.jprogram.specs.Parts.{is_static, this_name}
 use Rattle.jmoveclass.specs.Beginning.{bare_beginning, bare_this, class_name, is_init, is_reference, item, params_of, this_item, with_beginning, with_item, with_this}

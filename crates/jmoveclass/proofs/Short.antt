@@ -1,5 +1,5 @@
 -- How long the texts are that are put into a pool.
-use Rattle.std.proofs.Common.{◌≡◌, ℕ, ◌+◌, ◌≤◌, ◌<◌, Bool, true, false, List, [], ◌∷◌, ◌++◌, length, Option, Some, None, refl, ap, sym, ◌∙◌, subst, arith, inl, inr}
+use Rattle.std.proofs.Common.{◌≡◌, ℕ, ◌+◌, ◌≤◌, Bool, true, false, List, [], ◌∷◌, ◌++◌, length, Option, Some, None, refl, ap, arith, inl, inr}
 use Rattle.std.specs.Prelude.{IsTrue, slice_get, option_and_then, replicate, nat_le, nat_lt, codes, if◌then◌else◌, ◌⊎◌, ◌&&◌, ◌==◌, ◌^◌, All}
 use Rattle.std.specs.List.{AllByRecursion, flat_map, list_all}
 use Rattle.std.specs.Str.{byte}
@@ -24,7 +24,7 @@ use Rattle.jpool.proofs.Spelling.{fits_spelling}
 use Rattle.jclass.specs.declared.class.ClassParts.{ClassParts}
 use Rattle.jclass.specs.declared.class.MemberInfo.{MemberInfo}
 use Rattle.jmove.specs.Additions.{context_type, moved_descriptor, with_context}
-use Rattle.jprogram.specs.Parts.{class_text as class_of, member_desc, or_empty, text, this_name}
+use Rattle.jprogram.specs.Parts.{class_text as class_of, member_desc, or_empty, text}
 use Rattle.jmoveclass.specs.Beginning.{class_name, params_in, params_of}
 
 -- ---- texts of a pool

@@ -1,10 +1,10 @@
 -- What a class file holds of a method: its descriptor, and one code at most.
-use Rattle.std.proofs.Common.{◌≡◌, ℕ, zero, suc, ◌+◌, ◌≤◌, ◌<◌, Bool, true, false, cond, ◌&&◌, List, [], ◌∷◌, length, map, Option, Some, None, refl, ap, sym, ◌∙◌, subst, arith, inl, inr}
-use Rattle.std.specs.Prelude.{IsTrue, is_some, option_and_then, option_map, slice_get, nat_le, nat_lt, ◌==◌, if◌then◌else◌}
+use Rattle.std.proofs.Common.{◌≡◌, ℕ, zero, suc, ◌+◌, ◌≤◌, ◌<◌, Bool, true, false, ◌&&◌, List, [], ◌∷◌, length, map, Option, Some, None, refl, ap, sym, ◌∙◌, subst, arith, inl, inr}
+use Rattle.std.specs.Prelude.{IsTrue, is_some, option_and_then, option_map, slice_get, nat_le, ◌==◌, if◌then◌else◌}
 use Rattle.std.specs.List.{filter, list_all}
-use Rattle.std.proofs.lemmas.Bool.{cases_Bool, eqb-true, leb-true, ltb-true}
+use Rattle.std.proofs.lemmas.Bool.{cases_Bool, eqb-true, leb-true}
 use Rattle.jbase.specs.First.{first_some, or_else}
-use Rattle.jformat.specs.Format.{◌·◌, is_good, unless}
+use Rattle.jformat.specs.Format.{◌·◌, is_good}
 use Rattle.jformat.specs.Bodies.{counted}
 use Rattle.jformat.proofs.Steps.{first_true, second_true}
 use Rattle.jpool.specs.declared.descriptor.Descriptor.{Descriptor}
@@ -15,7 +15,6 @@ use Rattle.jpool.specs.Descriptors.{descriptor_of, is_method, is_opening, is_ret
 use Rattle.jpool.specs.Pools.{class_name_at, name_in, utf8_at}
 use Rattle.jpool.proofs.PoolLaws.{at_index}
 use Rattle.jpool.proofs.Spelled.{descriptor_take}
-use Rattle.jclass.specs.declared.access.Access.{Access}
 use Rattle.jclass.specs.declared.class.Attribute.{Attribute}
 use Rattle.jclass.specs.declared.class.Attribute.TheVariants.{Code, ConstantValue, Raw}
 use Rattle.jclass.specs.declared.class.ClassParts.{ClassParts}

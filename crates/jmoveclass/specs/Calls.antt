@@ -1,5 +1,5 @@
 -- What an instruction becomes, by what its reference stands for.
-use Rattle.std.specs.Prelude.{ℕ, List, map, Option, Some, None, slice_get}
+use Rattle.std.specs.Prelude.{ℕ, List, map, Option, Some, slice_get}
 use Rattle.jpool.specs.declared.entry.Entry.{Entry}
 use Rattle.jcode.specs.declared.op.Op.{Op}
 use Rattle.jcode.specs.declared.op.Op.TheVariants as ops

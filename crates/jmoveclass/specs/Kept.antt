@@ -1,5 +1,5 @@
 -- Which attributes moved classes keep. The others say what the source or its code was, or what no machine of ours looks at.
-use Rattle.std.specs.Prelude.{ℕ, Bool, ◌||◌, List, [], ◌∷◌, Option, codes}
+use Rattle.std.specs.Prelude.{ℕ, Bool, List, [], ◌∷◌, Option, codes}
 use Rattle.std.specs.List.{list_any}
 use Rattle.jpool.specs.declared.entry.Entry.{Entry}
 use Rattle.jpool.specs.Pools.{utf8_at}

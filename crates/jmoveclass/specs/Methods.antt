@@ -7,7 +7,7 @@ use Rattle.jmaps.specs.declared.types.MapType.{MapType}
 use Rattle.jmaps.specs.declared.types.RawFrame.{RawFrame}
 use Rattle.jmaps.specs.Full.{expand_from, full_forms}
 use Rattle.jclass.specs.declared.class.Attribute.{Attribute}
-use Rattle.jclass.specs.declared.class.Attribute.TheVariants.{Code, ConstantValue, Raw}
+use Rattle.jclass.specs.declared.class.Attribute.TheVariants.{Code, Raw}
 use Rattle.jclass.specs.declared.class.ClassParts.{ClassParts}
 use Rattle.jclass.specs.declared.class.CodeAttribute.{CodeAttribute}
 use Rattle.jclass.specs.declared.class.CodeAttribute.TheVariants as code
@@ -16,7 +16,6 @@ use Rattle.jclass.specs.declared.class.MemberInfo.{MemberInfo}
 use Rattle.jmove.specs.declared.method.Expand.{Expand}
 use Rattle.jmove.specs.declared.method.MethodIn.{MethodIn}
 use Rattle.jmove.specs.declared.method.MethodOut.{MethodOut}
-use Rattle.jmove.specs.declared.naming.Named.{Named}
 use Rattle.jmove.specs.Additions.{Adding, giving, moved_descriptor, with_body, with_text, ◌>>◌}
 use Rattle.jmove.specs.Moved.{moved_by}
 use Rattle.jprogram.specs.Classes.{Program}

@@ -1,6 +1,6 @@
 -- Where frames of moved code stand, and that they can be written.
-use Rattle.std.proofs.Common.{◌≡◌, ℕ, zero, suc, ◌+◌, ◌-◌, ◌<◌, ◌≤◌, pos, Bool, true, false, ◌&&◌, nat_lt, List, [], ◌∷◌, ◌++◌, map, length, replicate, Option, Some, None, refl, ap, ◌∙◌, sym, subst, arith}
-use Rattle.std.specs.Prelude.{IsTrue, All, slice_get}
+use Rattle.std.proofs.Common.{ℕ, zero, suc, ◌+◌, ◌-◌, ◌<◌, ◌≤◌, pos, true, ◌&&◌, nat_lt, List, [], ◌∷◌, ◌++◌, map, length, replicate, Option, Some, None, refl, ap, ◌∙◌, arith}
+use Rattle.std.specs.Prelude.{IsTrue}
 use Rattle.std.specs.List.{AllByRecursion, list_all}
 use Rattle.std.proofs.lemmas.Bool.{lt-ltb, ltb-true}
 use Rattle.std.proofs.lemmas.List.{length-append, length-map, length-replicate}
@@ -14,9 +14,7 @@ use Rattle.jmaps.specs.declared.types.MapType.{MapType}
 use Rattle.jmaps.specs.declared.types.MapType.TheVariants as types
 use Rattle.jmaps.specs.declared.types.FullFrame.{FullFrame}
 use Rattle.jmaps.specs.Frames.{map_type, own_type}
-use Rattle.jmaps.specs.Full.{can_follow, can_write, delta_behind, is_behind, items_fit, place_after, stands}
-use Rattle.jmove.specs.declared.method.Expand.{Expand}
-use Rattle.jmove.specs.declared.method.Setting.{Setting}
+use Rattle.jmaps.specs.Full.{can_follow, items_fit, place_after, stands}
 use Rattle.jmove.specs.Frames.{moved_frame, moved_type, unsaid, width, widths}
 use Rattle.jmove.specs.Lines.{end_of}
 use Rattle.jmove.specs.Moved.{lines}

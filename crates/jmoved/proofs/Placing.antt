@@ -1,7 +1,6 @@
 -- Where old places lie in moved code.
 use Rattle.std.proofs.Common.{◌≡◌, ◌≢◌, ℕ, zero, suc, ◌+◌, ◌<◌, List, [], ◌∷◌, ◌++◌, map, length, Some, refl, ap, ◌∙◌, sym, subst, arith}
 use Rattle.std.specs.Prelude.{slice_get}
-use Rattle.jcode.specs.declared.op.Op.{Op}
 use Rattle.jcode.specs.declared.op.Placed.{Placed}
 use Rattle.jcode.specs.Instructions.{size, code}
 use Rattle.jmove.specs.declared.method.Expand.{Expand}

@@ -1,5 +1,5 @@
 -- Frames whose items name classes that are there (JVMS 4.7.4).
-use Rattle.std.specs.Prelude.{ℕ, List, None, IsTrue}
+use Rattle.std.specs.Prelude.{List, None, IsTrue}
 use Rattle.std.specs.List.{AllByRecursion, list_all}
 use Rattle.jpool.specs.declared.entry.Entry.{Entry}
 use Rattle.jmaps.specs.declared.types.FullFrame.{FullFrame}

@@ -1,5 +1,5 @@
 -- The kinds of operands that instructions which compute take and give, the newest operand first (JVMS 6.5).
-use Rattle.std.specs.Prelude.{Bool, true, false, Option, Some, None}
+use Rattle.std.specs.Prelude.{Bool, true, false, Some, None}
 use Rattle.jnames.specs.declared.names.OpTwo.{OpTwo}
 use Rattle.jnames.specs.declared.names.OpTwo.TheVariants as two
 use Rattle.jnames.specs.declared.names.OpOne.{OpOne}

@@ -11,7 +11,7 @@ use Rattle.jnames.specs.declared.names.Compare.TheVariants as compares
 use Rattle.jops.specs.declared.value.Value.{Value}
 use Rattle.jops.specs.declared.value.Value.TheVariants.{Int, Long, Ref, Ctx}
 use Rattle.jops.specs.declared.value.DivideByZero.{DivideByZero}
-use Rattle.jops.specs.Operations.{two, one, divide, test, on_int, on_long, on_ints, on_longs, on_long_and_int, unless_zero, same, int, long}
+use Rattle.jops.specs.Operations.{two, one, divide, on_int, on_long, on_ints, on_longs, on_long_and_int, unless_zero, same, int, long}
 use Rattle.jops.specs.Operations.{int_quotient, int_remainder, long_quotient, long_remainder}
 use Rattle.jops.specs.Kinds.{is_of, TwoByKinds, TwoGives, OneByKinds, OneGives, DivisionByKinds, DivisionGives, TestByKinds}
 

@@ -1,13 +1,12 @@
 -- Chains as a loop makes them, and as a loop goes along them.
-use Rattle.std.proofs.Common.{◌≡◌, ℕ, zero, suc, ◌+◌, ◌-◌, ◌≤◌, ◌<◌, ◌==◌, Bool, true, false, List, [], ◌∷◌, ◌++◌, length, fold, get_or, take, Option, Some, None, refl, sym, ap, subst, ◌∙◌, arith, add-one, inl, inr, ◌||◌, ◌⊎◌, eq-eqb, eqb-true}
+use Rattle.std.proofs.Common.{◌≡◌, ℕ, zero, suc, ◌+◌, ◌-◌, ◌≤◌, ◌<◌, ◌==◌, true, false, List, [], ◌∷◌, ◌++◌, length, fold, get_or, take, Option, Some, None, refl, sym, ap, subst, ◌∙◌, arith, add-one, inl, inr, ◌||◌, ◌⊎◌, eq-eqb, eqb-true}
 use Rattle.std.specs.Prelude.{slice_get, slice_set}
 use Rattle.std.proofs.lemmas.Bool.{cases_Bool}
 use Rattle.std.proofs.lemmas.List.{length-append, length-set, length-take-le, take_all}
 use Rattle.std.proofs.lemmas.Nat.{mod_below}
 use Rattle.std.proofs.Math.Seq.{take-suc}
-use Rattle.jperm.specs.declared.chains.Chains.{Chains}
 use Rattle.jperm.specs.declared.permission.Permission.{Permission}
-use Rattle.jperm.specs.Chains.{AllStand, AreChains, chain, has_place, held, linked, newest, places, slot}
+use Rattle.jperm.specs.Chains.{AllStand, chain, has_place, linked, newest, places, slot}
 use Rattle.jperm.specs.Keys.{key_of}
 use Rattle.jperm.proofs.Cover.{either, or_left, or_right}
 

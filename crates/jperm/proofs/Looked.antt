@@ -1,5 +1,5 @@
 -- What is found along the chains of the keys of an asked permission is what the whole list says of it.
-use Rattle.std.proofs.Common.{◌≡◌, ℕ, zero, suc, ◌<◌, ◌==◌, Bool, true, false, ◌&&◌, ◌||◌, if◌then◌else◌, List, [], ◌∷◌, length, get_or, fold, bit_or, Option, Some, None, refl, sym, ap, ap₂, subst, ◌∙◌, arith, inl, inr, ◌⊎◌, eqb-true}
+use Rattle.std.proofs.Common.{◌≡◌, ℕ, zero, suc, ◌<◌, ◌==◌, Bool, true, false, ◌&&◌, ◌||◌, if◌then◌else◌, List, [], ◌∷◌, length, get_or, fold, Option, Some, None, refl, sym, ap, ap₂, subst, ◌∙◌, arith, inl, inr, ◌⊎◌, eqb-true}
 use Rattle.std.specs.Prelude.{slice_get}
 use Rattle.std.specs.List.{Contains, list_any}
 use Rattle.std.proofs.lemmas.Bool.{cases_Bool}
@@ -10,9 +10,8 @@ use Rattle.jperm.specs.declared.permission.Permission.TheVariants.{All, Basic, P
 use Rattle.jperm.specs.declared.permission.BasicClass.{BasicClass}
 use Rattle.jperm.specs.Actions.{has_all}
 use Rattle.jperm.specs.Chains.{AreChains, enough, has_place, looked, noted, noted_at, noted_if, places, suffices}
-use Rattle.jperm.specs.Keys.{class_kind, key_of, keys_of, kind_keys, named_key, named_keys}
+use Rattle.jperm.specs.Keys.{class_kind, key_of, keys_of, named_key, named_keys}
 use Rattle.jperm.specs.Names.{name_covers}
-use Rattle.jperm.specs.Paths.{path_covers}
 use Rattle.jperm.specs.Permissions.{covers, gives, implies, one_implies, same_class, stands_alone, together, united}
 use Rattle.jperm.proofs.Bits.{has_all-both, has_all-itself, has_all-left, has_all-none, has_all-right, has_all-trans}
 use Rattle.jperm.proofs.Cover.{either, fold_has, fold_within, or_left, or_right}

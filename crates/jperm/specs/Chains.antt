@@ -5,7 +5,7 @@ use Rattle.jperm.specs.declared.chains.Chains.{Chains}
 use Rattle.jperm.specs.declared.permission.Permission.{Permission}
 use Rattle.jperm.specs.declared.permission.Permission.TheVariants.{Property, File}
 use Rattle.jperm.specs.Actions.{has_all}
-use Rattle.jperm.specs.Keys.{dot, key_of, keys_of}
+use Rattle.jperm.specs.Keys.{dot, key_of}
 use Rattle.jperm.specs.Permissions.{gives, implies, stands_alone}
 
 -- ---- chains

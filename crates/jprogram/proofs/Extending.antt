@@ -13,7 +13,7 @@ use Rattle.jlib.specs.declared.classes.PermissionClass.TheVariants as permission
 use Rattle.jlib.specs.Classes as library
 use Rattle.jtypes.specs.Tree.{InterfacesExtendTheirs}
 use Rattle.jprogram.specs.Parts as parts
-use Rattle.jprogram.specs.Parts.{super_name, this_name}
+use Rattle.jprogram.specs.Parts.{super_name}
 use Rattle.jprogram.specs.Classes.{Class, Lib, Program, above, above_name, chain, extends, face_names, find, holds, is_interface, known, object, onward, tree, up}
 use Rattle.jprogram.specs.Standing.{StandsInOrder}
 use Rattle.jprogram.specs.Supers.{is_object, lists_a_class, super_barred}

@@ -8,7 +8,7 @@ use Rattle.jlib.specs.declared.classes.LibClass.{LibClass}
 use Rattle.jlib.specs.Classes as library
 use Rattle.jlib.proofs.Found.{class_implements}
 use Rattle.jprogram.specs.Parts as parts
-use Rattle.jprogram.specs.Parts.{class_text, interface_names, super_name, this_name}
+use Rattle.jprogram.specs.Parts.{class_text, super_name}
 use Rattle.jprogram.specs.Classes.{Class, Program, above_name, face_names, faces_of, find, holds, implements, is_interface, known, object, onward, over, superinterfaces, up}
 use Rattle.jprogram.specs.Implementing.{above_has}
 use Rattle.jprogram.specs.Standing.{StandsInOrder}

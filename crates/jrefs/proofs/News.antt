@@ -29,7 +29,7 @@ use Rattle.jtypes.specs.Described.{in_brackets}
 use Rattle.juses.specs.declared.types.ArrayRef.{ArrayRef}
 use Rattle.juses.specs.declared.types.ElementRef.TheVariants as held
 use Rattle.juses.specs.Meanings as meanings
-use Rattle.juses.specs.Meanings.{AClass, AConstant, AField, AMethod, Cast, EntryMeaning, Make, Meaning, cast_by, class_meant, entry_meant, field_entry, made, meant, method_entry, reference, used}
+use Rattle.juses.specs.Meanings.{AClass, AConstant, AField, AMethod, Cast, EntryMeaning, Make, Meaning, cast_by, entry_meant, field_entry, made, meant, method_entry, reference, used}
 use Rattle.juses.specs.Typed.{class_by, class_of, class_type, element_in, is_context, name, there, type_in, type_of}
 use Rattle.juses.specs.Types.{array_named, class_named}
 use Rattle.jlink.proofs.Having.{map_is, then_is}

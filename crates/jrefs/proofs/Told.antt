@@ -7,7 +7,7 @@ use Rattle.jprogram.specs.declared.member.Member.TheVariants as members
 use Rattle.jtypes.specs.declared.vtype.VType.{VType}
 use Rattle.juses.specs.Instructions.{Instruction, Used}
 use Rattle.juses.specs.Meanings as meanings
-use Rattle.juses.specs.Meanings.{FieldMeaning, Meaning}
+use Rattle.juses.specs.Meanings.{FieldMeaning}
 use Rattle.jlink.specs.Fields.{IsNamedField}
 use Rattle.jmachine.specs.Acts.{FrameOf}
 use Rattle.jready.specs.declared.instr.ArrayInstr.{ArrayInstr}

@@ -25,7 +25,6 @@ use Rattle.jtypes.specs.declared.vtype.Name.{Name}
 use Rattle.jtypes.specs.declared.vtype.VType.{VType}
 use Rattle.jtypes.specs.declared.vtype.VType.TheVariants as types
 use Rattle.juses.specs.Instructions as instructions
-use Rattle.juses.specs.Instructions.{Instruction}
 use Rattle.juses.specs.Meanings as meanings
 use Rattle.juses.specs.Meanings.{FieldMeaning, Make, meant}
 use Rattle.juses.specs.declared.types.TypeRef.{TypeRef}

@@ -35,7 +35,7 @@ use Rattle.jprogram.specs.Classes.{Program}
 use Rattle.jprogram.specs.Members.{desc_in, desc_of, is_static, looked_up, referred, resolve_method, user_is}
 use Rattle.jprogram.specs.Naming.{class_reserved, desc_reserved, is_reserved, names_reserved, return_reserved, text_reserved, type_reserved}
 use Rattle.jprogram.specs.Parts as parts
-use Rattle.jprogram.specs.Parts.{class_text, member_desc, or_empty, text}
+use Rattle.jprogram.specs.Parts.{member_desc, or_empty, text}
 use Rattle.jreferring.specs.declared.judged.Judged.TheVariants as judged
 use Rattle.jreferring.specs.declared.judged.MemberFacts.{MemberFacts}
 use Rattle.jreferring.specs.declared.judged.MemberUse.{MemberUse}

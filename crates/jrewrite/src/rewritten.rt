@@ -57,6 +57,7 @@ fn is_linked(p: &LinkedProgram)
     ensures { IsLinked p.now }
 {
     for part in p.parts() {
+        // What the proof needs: each part is a class file.
         let _parts = part.class.parts();
     }
 }

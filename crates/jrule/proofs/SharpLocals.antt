@@ -10,7 +10,7 @@ use Rattle.jtypes.specs.Tree.{Tree}
 use Rattle.jrule.specs.Effects.{is_int, is_of}
 use Rattle.jnames.specs.declared.kinds.Kind.TheVariants as kinds
 use Rattle.jrule.specs.Locals as locals
-use Rattle.jrule.specs.Locals.{broken, is_top, is_whole, passes, with_local, with_second}
+use Rattle.jrule.specs.Locals.{broken, is_top, is_whole, passes, with_local}
 use Rattle.jrule.specs.Precise.{begins_with_top, item_precise, keeps_second, locals_precise, precise}
 use Rattle.jrule.specs.Operands.{pushed}
 use Rattle.jrule.proofs.Both.{and_true, both, implies_none, implies_then, implies_true}

@@ -11,7 +11,6 @@ use Rattle.jlib.specs.declared.calls.RtCall.TheVariants as rt
 use Rattle.jlib.specs.declared.classes.LibClass.TheVariants as lib
 use Rattle.jlib.specs.declared.classes.PermissionClass.TheVariants as kinds
 use Rattle.jlib.specs.declared.classes.Thrown.TheVariants as thrown
-use Rattle.jops.specs.declared.value.Value.{Value}
 use Rattle.jops.specs.declared.value.Value.TheVariants.{Int, Ref, Ctx}
 use Rattle.jprogram.specs.declared.member.Selected.TheVariants as selected
 use Rattle.jprogram.specs.Members.{method_id}
@@ -22,13 +21,13 @@ use Rattle.juses.specs.Typed.{name}
 use Rattle.jmachine.specs.Acts.{Row, Goes, Calls, Raises, free, costs}
 use Rattle.jmachine.specs.Asking.{context_row, controller_row, rt_row}
 use Rattle.jmachine.specs.Privileges.{all_limits}
-use Rattle.jmachine.specs.Objects.{Object, Instance, Permission, Context, Array, library_name}
+use Rattle.jmachine.specs.Objects.{Instance, Permission, Context, Array, library_name}
 use Rattle.jmachine.specs.Security.{denial_message, null}
 use Rattle.jmachine.specs.Sites.{Site}
 use Rattle.jmachine.specs.Store.{Store, with_made}
 use Rattle.jmachine.specs.World.{World}
 use Rattle.jrules.specs.Inspecting as inspecting
-use Rattle.jrules.specs.Inspecting.{Carried, unmarked}
+use Rattle.jrules.specs.Inspecting.{unmarked}
 use Rattle.jrules.specs.Plain as plain
 
 -- ---- one class, whose objects are actions, and two domains besides domain 0, which has no permission

@@ -1,7 +1,6 @@
 -- The answers of the two machines, joined by the laws of contexts.
-use Rattle.std.proofs.Common.{◌≡◌, ℕ, Bool, List, [], ◌∷◌, Option, Some, None, refl, sym, ap, ◌∙◌}
+use Rattle.std.proofs.Common.{◌≡◌, [], Option, Some, None, refl, sym, ap, ◌∙◌}
 use Rattle.std.specs.Option.{option_map}
-use Rattle.jperm.specs.declared.permission.Permission.{Permission}
 use Rattle.jdomain.specs.Stacks.{Stack}
 use Rattle.jctx.specs.Contexts.{along, along_given, privileged}
 use Rattle.jctx.specs.Laws.{DecidesAsTheWalk, PrivilegedSame}

@@ -3,7 +3,7 @@ use Rattle.std.specs.Prelude.{ℕ, Bool, List, [], ◌∷◌, Option, Some, None
 use Rattle.jperm.specs.declared.permission.Permission.{Permission}
 use Rattle.jdomain.specs.Stacks.{Stack, Bottom, Entry, Mark, Unmarked, Privileged, Given, Nothing, Within, walk}
 use Rattle.jlib.specs.declared.side.Side.TheVariants.{Source}
-use Rattle.jmachine.specs.Security.{Privilege, Rules}
+use Rattle.jmachine.specs.Security.{Rules}
 
 -- what a frame carries: its method's domain and its mark
 pub record Carried : Type 0 where

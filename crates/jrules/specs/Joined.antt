@@ -4,7 +4,6 @@ use Rattle.jperm.specs.declared.permission.Permission.{Permission}
 use Rattle.jdomain.specs.Stacks.{Stack}
 use Rattle.jctx.specs.declared.item.Item.{Item}
 use Rattle.jctx.specs.Contexts.{along}
-use Rattle.jmachine.specs.Security.{Rules}
 use Rattle.jrules.specs.Inspecting as inspecting
 use Rattle.jrules.specs.Inspecting.{Carried, stack_of, unmarked}
 use Rattle.jrules.specs.Plain as plain

@@ -1,10 +1,10 @@
 -- The plain machine's rules: what is kept is a context, which each method is given, and frames carry nothing (Wallach, Appel and Felten, 2000).
-use Rattle.std.specs.Prelude.{ℕ, Bool, List, [], Option, Some, None, unwrap_or}
+use Rattle.std.specs.Prelude.{ℕ, Bool, List, [], Option, Some, unwrap_or}
 use Rattle.jperm.specs.declared.permission.Permission.{Permission}
 use Rattle.jlib.specs.declared.side.Side.TheVariants.{Passing}
 use Rattle.jctx.specs.declared.item.Item.{Item}
 use Rattle.jctx.specs.Contexts.{enter, privileged, verdict}
-use Rattle.jmachine.specs.Security.{Privilege, Rules}
+use Rattle.jmachine.specs.Security.{Rules}
 
 -- the context that a call was given; one that was given none restricts nothing
 abbrev pub given_context : Option (List Item) → List Item

@@ -1,6 +1,6 @@
 -- References that are stored in arrays.
-use Rattle.std.proofs.Common.{◌≡◌, ◌∙◌, ℕ, ℤ, zero, suc, ◌<◌, ◌≤◌, Bool, true, false, ◌&&◌, List, [], ◌∷◌, Option, Some, None, refl, sym, ap, rules}
-use Rattle.std.specs.Prelude.{is_some, length, nat_lt, option_and_then, option_map, slice_get, if◌then◌else◌}
+use Rattle.std.proofs.Common.{◌≡◌, ◌∙◌, ℕ, zero, suc, ◌<◌, ◌≤◌, Bool, true, false, ◌&&◌, List, [], ◌∷◌, Option, Some, None, refl, sym, ap, rules}
+use Rattle.std.specs.Prelude.{is_some, nat_lt, option_and_then, option_map, slice_get, if◌then◌else◌}
 use Rattle.jcode.specs.declared.names.Element.TheVariants as items
 use Rattle.jheap.specs.declared.cell.Kind.{Kind}
 use Rattle.jheap.specs.declared.cell.Kind.TheVariants as kinds
@@ -13,7 +13,7 @@ use Rattle.jprogram.specs.Classes.{Program}
 use Rattle.juses.specs.declared.types.ArrayRef.{ArrayRef}
 use Rattle.juses.specs.declared.types.TypeRef.{TypeRef}
 use Rattle.juses.specs.Types.{array_named, named}
-use Rattle.jrule.specs.Effects.{Holds, Of, held_as, holds, is_of, items_of, same_items}
+use Rattle.jrule.specs.Effects.{Holds, Of, held_as, holds, items_of, same_items}
 use Rattle.jmachine.specs.Arrays as rows
 use Rattle.jmachine.specs.Operands.{serves_as, taken, type_of}
 use Rattle.jmachine.specs.Sites.{Site}

@@ -4,7 +4,7 @@ use Rattle.std.specs.Prelude.{◌⊎◌, slice_get, slice_set}
 use Rattle.std.specs.List.{AllByRecursion}
 use Rattle.std.proofs.lemmas.List.{length-append}
 use Rattle.jheap.specs.Heaps as heaps
-use Rattle.jheap.specs.Heaps.{Heaped, changed, fresh}
+use Rattle.jheap.specs.Heaps.{changed, fresh}
 use Rattle.jstate.specs.Seen.{NamesWithin}
 use Rattle.jstate.specs.SeenLaws.{MadeStaysBuilt, MoreStaysBuilt, NamedStaysBuilt, WrittenStaysBuilt, with_number}
 use Rattle.jstate.proofs.Seeing.{names_none}

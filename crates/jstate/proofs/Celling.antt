@@ -4,7 +4,7 @@ use Rattle.std.specs.Prelude.{◌⊎◌, option_map, slice_get, unwrap_or}
 use Rattle.std.proofs.lemmas.List.{length-replicate, length-set}
 use Rattle.jheap.specs.declared.cell.Kind.{Kind}
 use Rattle.jheap.specs.Heaps as heaps
-use Rattle.jheap.specs.Heaps.{Heaped, changed, fresh}
+use Rattle.jheap.specs.Heaps.{changed, fresh}
 use Rattle.jstate.specs.declared.shapes.Shapes.{Shapes}
 use Rattle.jstate.specs.Celled.{BehindStaysCelled, HasWanted, MadeStaysCelled, MoreStayCelled, NoneAreCelled, Suits, WantsAsClass, WrittenStaysCelled, class_cells, kind_cells}
 use Rattle.jstate.specs.SeenLaws.{with_number}

@@ -8,7 +8,7 @@ use Rattle.std.proofs.lemmas.Option.{slice_get_within}
 use Rattle.std.proofs.Math.Nat.{mod-eq_of_lt}
 use Rattle.jheap.specs.declared.cell.Kind.TheVariants as kinds
 use Rattle.jheap.specs.Heaps as heaps
-use Rattle.jheap.specs.Heaps.{HasCell, Heaped, cells_at, changed, with_before, with_cell}
+use Rattle.jheap.specs.Heaps.{HasCell, Heaped, changed, with_before, with_cell}
 use Rattle.jops.specs.declared.value.Value.{Value}
 use Rattle.jops.specs.declared.value.Value.TheVariants.{Ref}
 use Rattle.jlib.specs.declared.classes.LibClass.TheVariants as lib

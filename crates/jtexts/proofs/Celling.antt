@@ -4,7 +4,7 @@ use Rattle.std.specs.Prelude.{option_map, slice_get, if◌then◌else◌}
 use Rattle.jheap.specs.declared.cell.Kind.{Kind}
 use Rattle.jheap.specs.declared.cell.Kind.TheVariants as kinds
 use Rattle.jheap.specs.Heaps as heaps
-use Rattle.jheap.specs.Heaps.{HasCell, Heaped, kind_at, object_at}
+use Rattle.jheap.specs.Heaps.{Heaped, kind_at, object_at}
 use Rattle.jlib.specs.declared.classes.LibClass.{LibClass}
 use Rattle.jlib.specs.declared.classes.LibClass.TheVariants as lib
 use Rattle.jops.specs.declared.value.Value.TheVariants.{Ctx, Int, Long, Ref}

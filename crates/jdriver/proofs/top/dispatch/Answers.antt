@@ -23,6 +23,12 @@ returns-in-Ok-clause-held g c = λ quiet. c.show.ensures.held (c.in-Ok.ensures.k
 pub returns-in-Ok-clause-stored : goal.returns-in-Ok-clause-stored
 returns-in-Ok-clause-stored g c = λ quiet. c.show.ensures.stored (c.in-Ok.ensures.kind ∙ quiet) ∙ c.in-Ok.ensures.stored
 
+pub returns-in-Ok-clause-read : goal.returns-in-Ok-clause-read
+returns-in-Ok-clause-read g c = λ is. absurd (c.show.ensures.read is)
+
+pub returns-in-Ok-clause-write : goal.returns-in-Ok-clause-write
+returns-in-Ok-clause-write g c = c.show.ensures.cause
+
 pub returns-in-Ok-clause-store : goal.returns-in-Ok-clause-store
 returns-in-Ok-clause-store g c = λ s. omega (arith, c.show.ensures.store s, c.in-Ok.ensures.stored)
 

@@ -1,7 +1,3 @@
-use Rattle.std.proofs.Common.{List, sym, subst}
-use Rattle.std.specs.Prelude.{IsTrue}
-use Rattle.jmaps.specs.declared.types.RawFrame.{RawFrame}
-use Rattle.jmaps.specs.Frames.{maps}
 use Rattle.jmoveclass.specs.Moving.{seen_body}
 use Rattle.jmoveclass.proofs.Stored.{frames_fit, has_code, is_method_of}
 use Rattle.jmoveclass.proofs.method.method_in.Goals as goal

@@ -1,4 +1,3 @@
-use Rattle.std.proofs.Common.{[], ◌∷◌}
 use Rattle.std.proofs.lemmas.Result.{err_from_is_err_and}
 use Rattle.jmoveclass.proofs.Members.{attributes_refused, desc_refused, method_put}
 use Rattle.jmoveclass.proofs.method.put_method.Goals as goal

@@ -1,4 +1,4 @@
-use Rattle.std.proofs.Common.{sym, ◌∙◌, arith}
+use Rattle.std.proofs.Common.{sym, ◌∙◌}
 use Rattle.jbase.specs.Each.{each_some}
 use Rattle.juses.specs.Numbered.{key_at}
 use Rattle.juses.proofs.Leading.{none_next, some_next}

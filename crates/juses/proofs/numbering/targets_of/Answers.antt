@@ -1,4 +1,4 @@
-use Rattle.std.proofs.Common.{rules, pos, ap, sym, ◌∙◌, arith}
+use Rattle.std.proofs.Common.{rules, pos, ap, sym, ◌∙◌}
 use Rattle.jbase.specs.Each.{each_some}
 use Rattle.juses.specs.Instructions.{target}
 use Rattle.juses.proofs.Leading.{none_next, some_next}
