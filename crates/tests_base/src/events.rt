@@ -1,9 +1,10 @@
-use jio::MemorySink;
+use crate::words::{first, pair, units};
+use jio::{MemorySink, PutFault};
 use jperm::{Actions, Permission, PropertyActions};
 use jtext::Units;
 use jtrace::{End, Event, write_end, write_event};
 use std::alloc::{AllocError, Global};
-use std::test::Fail;
+use tests_rows::{Unread, number};
 
 /// A check's permission on the property `x`.
 fn asked(alloc: Global) -> Result<Permission, AllocError> {
@@ -13,124 +14,103 @@ fn asked(alloc: Global) -> Result<Permission, AllocError> {
     })
 }
 
-fn out(alloc: Global, text: &str) -> Result<Event, AllocError> {
-    Ok(Event::Out {
-        thread: 7,
-        text: Units::from_text(alloc, text)?,
-    })
-}
-
-/// A sink with ample room, whose put of this number fails.
-fn sink(alloc: Global, bad_put: u64) -> Result<MemorySink, AllocError> {
-    let bad_puts = vec![in alloc; bad_put]?;
-    MemorySink::open(alloc, 4096, bad_puts)
+/// The event of words: a thread's number first.
+fn event(alloc: Global, kind: &str, words: &str) -> Result<Event, Unread> {
+    let (thread, rest) = first(words);
+    let thread = number::<u32>(thread)?;
+    let event = match kind {
+        "out" => Event::Out {
+            thread,
+            text: Units::from_vec(units(alloc, rest)?),
+        },
+        "grant" => Event::Grant {
+            thread,
+            asked: asked(alloc)?,
+        },
+        "deny" => Event::Deny {
+            thread,
+            asked: asked(alloc)?,
+            domain: number::<u32>(rest)?,
+        },
+        "throw" => Event::Throw {
+            thread,
+            class: Units::from_text(alloc, rest)?,
+        },
+        "uncaught" => Event::Uncaught {
+            thread,
+            class: Units::from_text(alloc, rest)?,
+        },
+        _ => return Err(Unread::Line),
+    };
+    Ok(event)
 }
 
 /// Writes an event's line where it is short enough.
-fn write_short(to: &mut MemorySink, event: &Event) -> Result<(), Option<usize>> {
+fn write_short(to: &mut MemorySink, event: &Event) -> Result<Result<(), PutFault>, Unread> {
     if !event.is_short() {
-        return Err(None);
+        return Err(Unread::Line);
     }
-    match write_event(to, event) {
-        Ok(()) => Ok(()),
-        Err(fault) => Err(Some(fault.written)),
-    }
+    Ok(write_event(to, event))
 }
 
-/// Whether an event is written as this line, whole.
-fn is_written(alloc: Global, event: &Event, line: &[u8]) -> Result<bool, AllocError> {
-    let mut to = sink(alloc, 2)?;
-    let written = write_short(&mut to, event).is_ok();
-    Ok(written && to.bytes() == line)
-}
-
-#[test]
-fn writes_what_a_thread_prints(rt: HostRuntime) -> Result<(), Fail> {
-    let alloc = rt.alloc();
-    let nothing = out(alloc, "")?;
-    assert!(rt; is_written(alloc, &nothing, b"out 7 \n")?);
-    let escaped = out(alloc, "a\\é\n")?;
-    assert!(rt; is_written(alloc, &escaped, b"out 7 a\\\\\\u00e9\\u000a\n")?);
-    Ok(())
-}
-
-#[test]
-fn writes_what_a_check_decides(rt: HostRuntime) -> Result<(), Fail> {
-    let alloc = rt.alloc();
-    let asked = asked(alloc)?;
-    let grant = Event::Grant { thread: 0, asked };
-    let line = b"grant 0 (\"java.util.PropertyPermission\" \"x\" \"read\")\n";
-    assert!(rt; is_written(alloc, &grant, line)?);
-    Ok(())
-}
-
-#[test]
-fn writes_the_domain_that_denies(rt: HostRuntime) -> Result<(), Fail> {
-    let alloc = rt.alloc();
-    let deny = Event::Deny {
-        thread: 10,
-        asked: asked(alloc)?,
-        domain: 1,
+/// What a sink holds: one line, which is told without its end.
+fn line(alloc: Global, to: &MemorySink) -> Result<String, Unread> {
+    let Ok(text) = str::from_utf8(to.bytes()) else {
+        return Err(Unread::Line);
     };
-    let line = b"deny 10 (\"java.util.PropertyPermission\" \"x\" \"read\") domain 1\n";
-    assert!(rt; is_written(alloc, &deny, line)?);
-    Ok(())
-}
-
-#[test]
-fn writes_what_is_thrown(rt: HostRuntime) -> Result<(), Fail> {
-    let alloc = rt.alloc();
-    let class = Units::from_text(alloc, "java.security.AccessControlException")?;
-    let throw = Event::Throw { thread: 0, class };
-    let line = b"throw 0 java.security.AccessControlException\n";
-    assert!(rt; is_written(alloc, &throw, line)?);
-    Ok(())
-}
-
-#[test]
-fn writes_what_nobody_catches(rt: HostRuntime) -> Result<(), Fail> {
-    let alloc = rt.alloc();
-    let uncaught = Event::Uncaught {
-        thread: 4_294_967_295,
-        class: Units::from_text(alloc, "java.security.AccessControlException")?,
-    };
-    let line = b"uncaught 4294967295 java.security.AccessControlException\n";
-    assert!(rt; is_written(alloc, &uncaught, line)?);
-    Ok(())
-}
-
-#[test]
-fn writes_a_line_for_each_end(rt: HostRuntime) -> Result<(), Fail> {
-    let rows = [
-        (End::Finished, "end finished\n"),
-        (End::Uncaught, "end uncaught\n"),
-        (End::Deadlock, "end deadlock\n"),
-        (End::HeapFull, "end heap\n"),
-        (End::Bound, "end bound\n"),
-        (End::Stuck, "end stuck\n"),
-    ];
-    for (end, line) in rows {
-        let mut to = sink(rt.alloc(), 2)?;
-        assert!(rt; write_end(&mut to, end).is_ok(), "at {line}");
-        assert!(rt; to.bytes() == line.as_bytes(), "at {line}");
+    match text.strip_suffix('\n') {
+        Some(line) => Ok(format!(in alloc; "<{line}>")?),
+        None => Err(Unread::Line),
     }
-    Ok(())
 }
 
-#[test]
-fn a_long_line_goes_out_in_pieces(rt: HostRuntime) -> Result<(), Fail> {
-    let alloc = rt.alloc();
-    let event = Event::Out {
-        thread: 0,
-        text: Units::from_vec(vec![in alloc; 97; 600]?),
-    };
-    for (bad_put, written) in [(1, 0), (2, 256), (3, 512)] {
-        let mut to = sink(alloc, bad_put)?;
-        assert_eq!(rt; write_short(&mut to, &event), Err(Some(written)));
-        assert_eq!(rt; to.bytes().len(), written);
+/// The line of an event.
+fn told(alloc: Global, words: &str) -> Result<String, Unread> {
+    let (kind, rest) = pair(words)?;
+    let event = event(alloc, kind, rest)?;
+    let mut to = MemorySink::open(alloc, 4096, Vec::new(alloc))?;
+    match write_short(&mut to, &event)? {
+        Ok(()) => line(alloc, &to),
+        Err(_) => Err(Unread::Line),
     }
-    let mut to = sink(alloc, 4)?;
-    assert_eq!(rt; write_short(&mut to, &event), Ok(()));
-    assert_eq!(rt; to.bytes().len(), 607);
-    Ok(())
+}
+
+/// What becomes of the line of a long text where the put of a number fails, and how many bytes went out.
+fn long(alloc: Global, words: &str) -> Result<String, Unread> {
+    let bad_puts = Vec::from_slice(alloc, &[number::<u64>(words)?])?;
+    let mut to = MemorySink::open(alloc, 4096, bad_puts)?;
+    let text = Units::from_text(alloc, "a".repeat(alloc, 600)?.as_str())?;
+    let written = write_short(&mut to, &Event::Out { thread: 0, text })?;
+    Ok(format!(in alloc; "{written:?} {}", to.bytes().len())?)
+}
+
+fn end_of(name: &str) -> Result<End, Unread> {
+    match name {
+        "Finished" => Ok(End::Finished),
+        "Uncaught" => Ok(End::Uncaught),
+        "Deadlock" => Ok(End::Deadlock),
+        "HeapFull" => Ok(End::HeapFull),
+        "Bound" => Ok(End::Bound),
+        "Stuck" => Ok(End::Stuck),
+        _ => Err(Unread::Line),
+    }
+}
+
+/// The line of an end.
+fn ended(alloc: Global, name: &str) -> Result<String, Unread> {
+    let mut to = MemorySink::open(alloc, 4096, Vec::new(alloc))?;
+    match write_end(&mut to, end_of(name)?) {
+        Ok(()) => line(alloc, &to),
+        Err(_) => Err(Unread::Line),
+    }
+}
+
+/// What is asked of events and ends.
+pub fn found(alloc: Global, kind: &str, words: &str) -> Result<String, Unread> {
+    match kind {
+        "event" => told(alloc, words),
+        "long" => long(alloc, words),
+        "end" => ended(alloc, words),
+        _ => Err(Unread::Line),
+    }
 }

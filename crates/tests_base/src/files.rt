@@ -1,18 +1,18 @@
 ghost use Rattle.std.specs.Prelude.{◌≡◌, ◌+◌, ◌<◌, ◌≤◌, ◌^◌, None, IfOk, OnErr, length, min, take};
 ghost use Rattle.jbase.specs.Causes.{HasCause, appended};
 
+use crate::words::{pair, units};
 use jio::{
-    MemoryShelf, MemorySink, Part, PutFault, RealShelf, RealSink, Shelf, Sink, SinkError, put_all,
+    MemoryShelf, MemorySink, Part, RealShelf, RealSink, Shelf, Sink, SinkError, put_all,
     write_line, write_line_text,
 };
 use std::alloc::{AllocError, Global};
 use std::fs;
-use std::test::Fail;
+use tests_rows::{Unread, hex_of, number};
 
-/// Takes one byte a put, into an array, and fails at one put.
+/// Takes one byte a put, and fails at one put.
 #[derive(Drop)]
 struct Drip {
-    bytes: [u8; 24],
     len: usize,
     puts: u64,
     bad_put: u64,
@@ -22,7 +22,6 @@ struct Drip {
 impl Drip {
     fn new(bad_put: u64) -> Drip {
         Drip {
-            bytes: [0; 24],
             len: 0,
             puts: 0,
             bad_put,
@@ -41,77 +40,68 @@ impl Sink for Drip {
             return Ok(0);
         }
         self.puts = self.puts.saturating_add(1);
-        if self.puts == self.bad_put || self.len >= 24 {
+        if self.puts == self.bad_put {
             self.faults = self.faults.saturating_add(1);
             return Err(SinkError::Failed);
         }
-        self.bytes[self.len] = piece[0];
-        self.len += 1;
+        self.len = self.len.saturating_add(1);
         Ok(1)
     }
 }
 
+/// A sink in memory, whose put of a number fails.
 fn sink(alloc: Global, room: usize, bad_put: u64) -> Result<MemorySink, AllocError> {
-    let bad_puts = vec![in alloc; bad_put]?;
+    let bad_puts = Vec::from_slice(alloc, &[bad_put])?;
     MemorySink::open(alloc, room, bad_puts)
 }
 
-#[test]
-fn a_text_is_written_as_lines_write_it(rt: HostRuntime) -> Result<(), Fail> {
-    let none: [u16; 0] = [];
-    let rows: [(&[u16], &str); 8] = [
-        (&[0xd83d, 0xde00], "\\ud83d\\ude00"),
-        (&[0x5c], "\\\\"),
-        (&[0x22], "\""),
-        (&[0x20, 0x7e, 0x7f], " ~\\u007f"),
-        (&[0x0, 0xa, 0x1f], "\\u0000\\u000a\\u001f"),
-        (&[0xe9, 0xffff], "\\u00e9\\uffff"),
-        (&[0x75, 0x5c, 0x75], "u\\\\u"),
-        (&none, ""),
+/// What a line has of a short text.
+fn text(alloc: Global, word: &str) -> Result<String, Unread> {
+    let units = units(alloc, word)?;
+    if 100 < units.len() {
+        return Err(Unread::Line);
+    }
+    let mut sink = sink(alloc, 100, 0)?;
+    let Ok(()) = write_line_text(&mut sink, units.as_slice()) else {
+        return Err(Unread::Line);
+    };
+    match str::from_utf8(sink.bytes()) {
+        Ok(text) => Ok(format!(in alloc; "<{text}>")?),
+        Err(_) => Err(Unread::Line),
+    }
+}
+
+/// What becomes of a line with a text of so many letters where the put of a number fails, and how many bytes went out.
+fn pieces(alloc: Global, words: &str) -> Result<String, Unread> {
+    let (letters, bad_put) = pair(words)?;
+    let text = vec![in alloc; 0x78u16; usize::from(number::<u16>(letters)?)]?;
+    let mut sink = sink(alloc, 1000, number::<u64>(bad_put)?)?;
+    let parts = [
+        Part::Number(7),
+        Part::Plain(" "),
+        Part::Text(text.as_slice()),
     ];
-    for (units, want) in rows {
-        let mut sink = sink(rt.alloc(), 100, 0)?;
-        assert_eq!(rt; write_line_text(&mut sink, units), Ok(()));
-        assert_eq!(rt; sink.bytes(), want.as_bytes());
-    }
-    Ok(())
+    let written = write_line(&mut sink, &parts);
+    Ok(format!(in alloc; "{written:?} {}", sink.bytes().len())?)
 }
 
-#[test]
-fn a_line_goes_out_in_pieces(rt: HostRuntime) -> Result<(), Fail> {
-    let units = [0x78u16; 300];
-    for (letters, bad_put, want, length) in [
-        (253, 2, Ok(()), 256),
-        (253, 1, Err(PutFault { written: 0 }), 0),
-        (254, 2, Err(PutFault { written: 256 }), 256),
-        (254, 3, Ok(()), 257),
-    ] {
-        let mut sink = sink(rt.alloc(), 1000, bad_put)?;
-        let parts = [
-            Part::Number(7),
-            Part::Plain(" "),
-            Part::Text(&units[..letters]),
-        ];
-        assert_eq!(rt; write_line(&mut sink, &parts), want);
-        assert_eq!(rt; sink.bytes().len(), length);
-    }
-    Ok(())
+/// What becomes of 18 bytes that go out one by one where the put of a number fails, and how many went out.
+fn drips(alloc: Global, bad_put: &str) -> Result<String, Unread> {
+    let mut drip = Drip::new(number::<u64>(bad_put)?);
+    let put = put_all(&mut drip, b"grant 0 (\"a\" \"b\")\n");
+    Ok(format!(in alloc; "{put:?} {}", drip.len)?)
 }
 
-#[test]
-fn a_fault_counts_what_went_out(rt: HostRuntime) {
-    let piece = b"grant 0 (\"a\" \"b\")\n";
-    for bad_put in 1..20u64 {
-        let mut drip = Drip::new(bad_put);
-        let written = (bad_put - 1) as usize;
-        let want = if written < 18 {
-            Err(PutFault { written })
-        } else {
-            Ok(())
-        };
-        assert_eq!(rt; put_all(&mut drip, piece), want);
-        assert_eq!(rt; drip.len, written.min(18));
+/// What becomes of each word that is put into a sink with room for six bytes, whose second put fails, and what it holds then.
+fn puts(alloc: Global, words: &str) -> Result<String, AllocError> {
+    let mut sink = sink(alloc, 6, 2)?;
+    let mut found = String::new(alloc);
+    for word in words.split(' ') {
+        let put = sink.put(word.as_bytes());
+        found.push_str(format!(in alloc; "{put:?} ")?.as_str())?;
     }
+    let held = str::from_utf8(sink.bytes()).unwrap_or("?");
+    format!(in alloc; "{}<{held}>", found.as_str())
 }
 
 fn file(alloc: Global, path: &str, bytes: &str) -> Result<(String, Vec<u8>), AllocError> {
@@ -119,93 +109,109 @@ fn file(alloc: Global, path: &str, bytes: &str) -> Result<(String, Vec<u8>), All
     Ok((name, Vec::from_slice(alloc, bytes.as_bytes())?))
 }
 
-fn reads<S: Shelf>(rt: &HostRuntime, shelf: &mut S, path: &str, want: &str) -> bool {
-    match shelf.read(rt.alloc(), path) {
-        Ok(bytes) => bytes.as_slice() == want.as_bytes(),
-        Err(_) => false,
+/// A shelf of two files in memory, whose second read fails, and whose first and third write.
+fn memory(alloc: Global) -> Result<MemoryShelf, AllocError> {
+    let mut files = Vec::new(alloc);
+    files.push(file(alloc, "a/one", "first")?)?;
+    files.push(file(alloc, "two", "second")?)?;
+    if !MemoryShelf::paths_differ(&files) {
+        return Err(AllocError);
+    }
+    let bad_reads = Vec::from_slice(alloc, &[2])?;
+    let bad_writes = Vec::from_slice(alloc, &[1, 3])?;
+    MemoryShelf::open(alloc, files, bad_reads, bad_writes)
+}
+
+/// What a shelf answers to a word: to a path what it reads, to a path with `=` and bytes behind it whether these are stored.
+fn step<S: Shelf>(alloc: Global, shelf: &mut S, word: &str) -> Result<String, Unread> {
+    if let Some((path, what)) = word.split_once('=') {
+        let stored = shelf.write(alloc, path, hex_of(alloc, what)?.as_slice());
+        return Ok(format!(in alloc; "{}", stored.is_ok())?);
+    }
+    match shelf.read(alloc, word) {
+        Ok(bytes) => Ok(hex::encode(alloc, bytes.as_slice())?),
+        Err(_) => Ok(String::from_str(alloc, "none")?),
     }
 }
 
-#[test]
-fn a_memory_shelf_keeps_files(rt: HostRuntime) -> Result<(), Fail> {
-    let mut files = Vec::new(rt.alloc());
-    files.push(file(rt.alloc(), "a/one", "first")?)?;
-    files.push(file(rt.alloc(), "two", "second")?)?;
-    assert!(rt; MemoryShelf::paths_differ(&files));
-    let bad_reads = vec![in rt.alloc(); 2]?;
-    let bad_writes = vec![in rt.alloc(); 1, 3]?;
-    let mut shelf = MemoryShelf::open(rt.alloc(), files, bad_reads, bad_writes)?;
-    for (path, bytes, good) in [
-        ("a/one", "first", true),
-        ("two", "second", false),
-        ("two", "second", true),
-        ("three", "", false),
-    ] {
-        assert_eq!(rt; reads(&rt, &mut shelf, path, bytes), good, "at {path}");
+/// What a shelf answers, word by word.
+fn steps<S: Shelf>(alloc: Global, shelf: &mut S, words: &str) -> Result<String, Unread> {
+    let mut found = String::new(alloc);
+    for word in words.split(' ') {
+        let told = step(alloc, shelf, word)?;
+        found.push_str(told.as_str())?;
+        found.push(' ').map_err(AllocError::from)?;
     }
-    for (path, bytes, good) in [
-        ("two", "lost", false),
-        ("two", "new", true),
-        ("three", "lost", false),
-        ("three", "third", true),
-    ] {
-        let stored = shelf.write(rt.alloc(), path, bytes.as_bytes());
-        assert_eq!(rt; stored.is_ok(), good, "at {path}");
+    Ok(found)
+}
+
+/// What a shelf in memory answers, word by word, and what its files are then.
+fn in_memory(alloc: Global, words: &str) -> Result<String, Unread> {
+    let mut shelf = memory(alloc)?;
+    let mut found = steps(alloc, &mut shelf, words)?;
+    for path in ["a/one", "two", "three"] {
+        let bytes = shelf.file(path).unwrap_or(&[]);
+        let digits = hex::encode(alloc, bytes)?;
+        found.push_str(format!(in alloc; "<{}> ", digits.as_str())?.as_str())?;
     }
-    for (path, bytes) in [("a/one", "first"), ("two", "new"), ("three", "third")] {
-        assert_eq!(rt; shelf.file(path), Some(bytes.as_bytes()), "at {path}");
+    Ok(found)
+}
+
+/// What the shelf of real files answers, word by word. What it made goes then.
+fn real(rt: &HostRuntime, words: &str) -> Result<String, Unread> {
+    let found = steps(rt.alloc(), &mut RealShelf::new(rt), words)?;
+    match fs::remove_dir_all(rt, "made") {
+        Ok(()) => Ok(found),
+        Err(_) => Err(Unread::Line),
+    }
+}
+
+/// Puts words into a real file.
+fn put_words(rt: &HostRuntime, path: &str, words: &str) -> Result<(), Unread> {
+    let Ok(file) = fs::File::create(rt, path) else {
+        return Err(Unread::Line);
+    };
+    let mut sink = RealSink::new(file);
+    for word in words.split(',') {
+        if put_all(&mut sink, word.as_bytes()).is_err() {
+            return Err(Unread::Line);
+        }
     }
     Ok(())
 }
 
-#[test]
-fn a_memory_sink_has_room_and_bad_puts(rt: HostRuntime) -> Result<(), Fail> {
-    let mut sink = sink(rt.alloc(), 6, 2)?;
-    for (piece, want) in [
-        ("one", Ok(3)),
-        ("two", Err(SinkError::Failed)),
-        ("", Ok(0)),
-        ("four", Ok(3)),
-        ("x", Err(SinkError::Failed)),
-    ] {
-        assert_eq!(rt; sink.put(piece.as_bytes()), want, "at {piece}");
-    }
-    assert_eq!(rt; sink.bytes(), b"onefou".as_slice());
-    Ok(())
-}
-
-#[test]
-fn real_files_are_kept(rt: HostRuntime) -> Result<(), Fail> {
-    let mut shelf = RealShelf::new(&rt);
-    let path = "made/by/a/test.txt";
-    assert!(rt; !reads(&rt, &mut shelf, path, ""));
-    for (path, bytes, good) in [
-        (path, "longer than what comes next", true),
-        (path, "\u{0}\r\nend\u{e9}", true),
-        ("made/by", "a folder", false),
-    ] {
-        let stored = shelf.write(rt.alloc(), path, bytes.as_bytes());
-        assert_eq!(rt; stored.is_ok(), good, "at {path}");
-        assert_eq!(rt; reads(&rt, &mut shelf, path, bytes), good, "at {path}");
-    }
-    fs::remove_dir_all(&rt, "made")?;
-    Ok(())
-}
-
-#[test]
-fn a_real_sink_writes(rt: HostRuntime) -> Result<(), Fail> {
+/// What a real file holds into which words were put one behind the other. It goes then.
+fn real_sink(rt: &HostRuntime, words: &str) -> Result<String, Unread> {
     let path = "written_by_a_test.txt";
-    let mut sink = RealSink::new(fs::File::create(&rt, path)?);
-    for word in ["some ", "", "bytes"] {
-        assert_eq!(rt; put_all(&mut sink, word.as_bytes()), Ok(()));
+    put_words(rt, path, words)?;
+    let found = step(rt.alloc(), &mut RealShelf::new(rt), path)?;
+    match fs::remove_file(rt, path) {
+        Ok(()) => Ok(found),
+        Err(_) => Err(Unread::Line),
     }
-    let mut shelf = RealShelf::new(&rt);
-    assert!(rt; reads(&rt, &mut shelf, path, "some bytes"));
-    fs::remove_file(&rt, path)?;
+}
+
+/// What becomes of four bytes that are put where there is room for three, and of four more.
+fn short_sink(alloc: Global) -> Result<String, AllocError> {
     let mut three = [0u8; 3];
-    let mut short = RealSink::new(three.as_mut_slice());
-    for want in [Ok(3), Err(SinkError::Failed)] {
-        assert_eq!(rt; short.put(b"four"), want);
+    let mut sink = RealSink::new(three.as_mut_slice());
+    let first = sink.put(b"four");
+    let second = sink.put(b"four");
+    format!(in alloc; "{first:?} {second:?}")
+}
+
+/// What is asked of shelves, of sinks and of lines.
+pub fn found(rt: &HostRuntime, kind: &str, words: &str) -> Result<String, Unread> {
+    let alloc = rt.alloc();
+    match kind {
+        "text" => text(alloc, words),
+        "pieces" => pieces(alloc, words),
+        "drips" => drips(alloc, words),
+        "puts" => Ok(puts(alloc, words)?),
+        "memory" => in_memory(alloc, words),
+        "real" => real(rt, words),
+        "real_sink" => real_sink(rt, words),
+        "short_sink" => Ok(short_sink(alloc)?),
+        _ => Err(Unread::Line),
     }
-    Ok(())
 }

@@ -3,13 +3,14 @@ ghost use Rattle.std.specs.Int.{w16, to_be_bytes};
 ghost use Rattle.jformat.specs.Format.{number_at};
 ghost use Rattle.jformat.proofs.Blocks.{all_law};
 
-use jbase::{Seq, Stop};
+use jbase::Seq;
 use jformat::{
-    BodyReader, Fault, ReadError, Reader, StateReader, StateWriter, Writer, block_of, counted_of,
-    i8_of, i16_of, many_of, put_block, put_by, put_counted, put_i16, put_sized16, put_u16,
-    times_by_of, u16_of, words_of,
+    BodyReader, ReadError, Reader, StateReader, StateWriter, Writer, block_of, counted_of, i8_of,
+    i16_of, many_of, put_block, put_by, put_counted, put_i16, put_sized16, put_u16, times_by_of,
+    u16_of, words_of,
 };
 use std::alloc::{AllocError, Global};
+use tests_rows::{Unread, hex_of};
 
 /// Numbers of two bytes.
 struct Short;
@@ -109,61 +110,67 @@ impl StateWriter for Nth {
     }
 }
 
-#[test]
-fn reads_lists(rt: HostRuntime) {
-    let alloc = rt.alloc();
-    let bytes = [0, 2, 1, 0, 0, 7, 9];
-    match counted_of(alloc, &Short, 0, &bytes) {
-        Ok((items, rest)) => {
-            assert!(rt; items.as_slice() == [256, 7].as_slice());
-            assert!(rt; rest == [9].as_slice());
-        }
-        Err(_) => assert!(rt; false),
-    }
-    assert!(rt;
-        counted_of(alloc, &Short, 0, &bytes[..5]).err()
-            == Some(Stop::Fault(Fault { left: 1, kind: 0 }))
-    );
-    match many_of(alloc, &Short, 1, &bytes[..6]) {
-        Ok(items) => assert!(rt; items.as_slice() == [2, 256, 7].as_slice()),
-        Err(_) => assert!(rt; false),
-    }
-    match times_by_of(alloc, &Nth, 0, 3, &bytes) {
-        Ok((items, _)) => assert!(rt; items.as_slice() == [2, 256, 7].as_slice()),
-        Err(_) => assert!(rt; false),
+/// Items, and what stands behind them.
+fn list(
+    alloc: Global,
+    read: Result<(Seq<u16>, &[u8]), ReadError<u8>>,
+) -> Result<String, AllocError> {
+    match read {
+        Ok((items, rest)) => format!(in alloc; "{:?} {rest:?}", items.as_slice()),
+        Err(stop) => format!(in alloc; "{stop:?}"),
     }
 }
 
-#[test]
-fn reads_parts(rt: HostRuntime) {
-    let alloc = rt.alloc();
-    let bytes = [0, 0, 0, 2, 8, 9, 5];
-    match block_of(alloc, &Text, 0, &bytes) {
-        Ok((text, rest)) => {
-            assert!(rt; text.as_slice() == [8, 9].as_slice());
-            assert!(rt; rest == [5].as_slice());
-        }
-        Err(_) => assert!(rt; false),
+/// Items up to the end.
+fn many(alloc: Global, bytes: &[u8]) -> Result<String, AllocError> {
+    match many_of(alloc, &Short, 1, bytes) {
+        Ok(items) => format!(in alloc; "{:?}", items.as_slice()),
+        Err(stop) => format!(in alloc; "{stop:?}"),
     }
-    assert!(rt; i16_of(0, &[255, 128]) == Ok((-128, [].as_slice())));
-    assert!(rt; i8_of(0, &[254, 1]) == Ok((-2, [1].as_slice())));
-    assert!(rt; words_of(3, b"run ", b"run it") == Ok(b"it".as_slice()));
-    assert!(rt; words_of(3, b"run ", b"ran it") == Err(Stop::Fault(Fault { left: 6, kind: 3 })));
 }
 
-#[test]
+/// The text of a block, and what stands behind it.
+fn block(alloc: Global, bytes: &[u8]) -> Result<String, AllocError> {
+    match block_of(alloc, &Text, 0, bytes) {
+        Ok((text, rest)) => format!(in alloc; "{:?} {rest:?}", text.as_slice()),
+        Err(stop) => format!(in alloc; "{stop:?}"),
+    }
+}
+
+/// The bytes that writers put one behind the other: two numbers behind their count, one in a block, two by a state, a sized text, -2.
 #[tactic(auto, unfolding(jformat::specs::States::fits_from))]
-fn writes(rt: HostRuntime) -> Result<(), AllocError> {
-    let alloc = rt.alloc();
+fn written(alloc: Global) -> Result<String, AllocError> {
     let mut out = Seq::new(alloc);
     put_counted(alloc, &Short, &[256, 7], &mut out)?;
     put_block(alloc, &Short, &9, &mut out)?;
     put_by(alloc, &Nth, 0, &[1, 2], &mut out)?;
     put_sized16(b"a", &mut out)?;
     put_i16(-2, &mut out)?;
-    let all = [
-        0, 2, 1, 0, 0, 7, 0, 0, 0, 2, 0, 9, 0, 1, 0, 2, 0, 1, 97, 255, 254,
-    ];
-    assert!(rt; out.as_slice() == all.as_slice());
-    Ok(())
+    hex::encode(alloc, out.as_slice())
+}
+
+/// What is asked of a text that is to begin with the word `run`.
+fn behind_run(alloc: Global, text: &str) -> Result<String, AllocError> {
+    let read = words_of(3, b"run ", text.as_bytes());
+    format!(in alloc; "{read:?}")
+}
+
+/// What is asked of formats.
+pub fn found(alloc: Global, kind: &str, words: &str) -> Result<String, Unread> {
+    match kind {
+        "written" => return Ok(written(alloc)?),
+        "words" => return Ok(behind_run(alloc, words)?),
+        _ => {}
+    }
+    let bytes = hex_of(alloc, words)?;
+    let bytes = bytes.as_slice();
+    match kind {
+        "counted" => Ok(list(alloc, counted_of(alloc, &Short, 0, bytes))?),
+        "three" => Ok(list(alloc, times_by_of(alloc, &Nth, 0, 3, bytes))?),
+        "many" => Ok(many(alloc, bytes)?),
+        "block" => Ok(block(alloc, bytes)?),
+        "i16" => Ok(format!(in alloc; "{:?}", i16_of(0u8, bytes))?),
+        "i8" => Ok(format!(in alloc; "{:?}", i8_of(0u8, bytes))?),
+        _ => Err(Unread::Line),
+    }
 }

@@ -1,38 +1,46 @@
+use crate::words::pair;
 use jheap::{CellType, Heap, Kind};
 use jops::Value;
-use std::test::Fail;
+use std::alloc::Global;
+use tests_rows::{Unread, number};
 
-/// Charges against cells: an object costs one more than its cells, anything else two more.
-#[test]
-fn charges(rt: HostRuntime) -> Result<(), Fail> {
-    let rows: [(Kind, u32, u16, u16); 5] = [
-        (Kind::Object(7), 0, 1, 0),
-        (Kind::Object(7), 3, 4, 3),
-        (Kind::Array(1), 3, 5, 4),
-        (Kind::Text, 0, 2, 1),
-        (Kind::Piece, 9, 11, 10),
-    ];
-    for (kind, len, cost, short) in rows {
-        let mut heap = Heap::open(rt.alloc(), u32::from(cost))?;
-        assert!(rt; heap.make(rt.alloc(), kind, len)? == Some(1), "{len}");
-        assert!(rt; heap.left() == 0, "{len}");
-        let mut less = Heap::open(rt.alloc(), u32::from(short))?;
-        assert!(rt; less.make(rt.alloc(), kind, len)? == None, "{len}");
-        assert!(rt; less.left() == u32::from(short), "{len}");
+fn kind_of(name: &str) -> Result<Kind, Unread> {
+    match name {
+        "object" => Ok(Kind::Object(7)),
+        "array" => Ok(Kind::Array(1)),
+        "text" => Ok(Kind::Text),
+        "piece" => Ok(Kind::Piece),
+        _ => Err(Unread::Line),
     }
-    Ok(())
 }
 
-/// Statics keep what was written, and are 0 before.
-#[test]
-fn statics(rt: HostRuntime) -> Result<(), Fail> {
-    let mut heap = Heap::open(rt.alloc(), 0)?;
-    heap.add_statics(rt.alloc(), 2)?;
-    assert!(rt; heap.static_at(1, CellType::Int) == Value::Int(0));
+/// What is made of a kind and a length in a heap with so many cells, and how many of these are left.
+fn made(alloc: Global, words: &str) -> Result<String, Unread> {
+    let (kind, rest) = pair(words)?;
+    let (len, cells) = pair(rest)?;
+    let mut heap = Heap::open(alloc, u32::from(number::<u16>(cells)?))?;
+    let made = heap.make(alloc, kind_of(kind)?, number::<u32>(len)?)?;
+    Ok(format!(in alloc; "{made:?} {}", heap.left())?)
+}
+
+/// The second of two statics as it is at first and with -1 in it, then the first with the least long in it, and the second again.
+fn statics(alloc: Global) -> Result<String, Unread> {
+    let mut heap = Heap::open(alloc, 0)?;
+    heap.add_statics(alloc, 2)?;
+    let before = heap.static_at(1, CellType::Int);
     heap.set_static(1, Value::Int(-1));
-    assert!(rt; heap.static_at(1, CellType::Int) == Value::Int(-1));
+    let behind = heap.static_at(1, CellType::Int);
     heap.set_static(0, Value::Long(i64::MIN));
-    assert!(rt; heap.static_at(0, CellType::Long) == Value::Long(i64::MIN));
-    assert!(rt; heap.static_at(1, CellType::Int) == Value::Int(-1));
-    Ok(())
+    let other = heap.static_at(0, CellType::Long);
+    let last = heap.static_at(1, CellType::Int);
+    Ok(format!(in alloc; "{before:?} {behind:?} {other:?} {last:?}")?)
+}
+
+/// What is asked of heaps.
+pub fn found(alloc: Global, kind: &str, words: &str) -> Result<String, Unread> {
+    match kind {
+        "make" => made(alloc, words),
+        "statics" => statics(alloc),
+        _ => Err(Unread::Line),
+    }
 }

@@ -1,5 +1,6 @@
 use jmemo::{Key, Memo};
-use std::test::Fail;
+use std::alloc::Global;
+use tests_rows::{Unread, number};
 
 /// A method that is looked for in a class.
 #[derive(Clone, Copy, PartialEq, Eq)]
@@ -20,30 +21,28 @@ impl Key for Call {
     }
 }
 
-fn key(class: u32, method: u32) -> Call {
-    Call { class, method }
+/// The numbers of a class and of a method, parted by a comma.
+fn key(word: &str) -> Result<Call, Unread> {
+    let Some((class, method)) = word.split_once(',') else {
+        return Err(Unread::Line);
+    };
+    Ok(Call {
+        class: number::<u32>(class)?,
+        method: number::<u32>(method)?,
+    })
 }
 
-/// What is put is got back, and nothing else of the same place.
-#[test]
-fn remembers(rt: HostRuntime) -> Result<(), Fail> {
-    let mut memo = Memo::new(rt.alloc())?;
-    assert!(rt; memo.get(key(7, 1)) == None);
-    memo.put(key(7, 1), 'a');
-    assert!(rt; memo.get(key(7, 1)) == Some('a'));
-    assert!(rt; memo.get(key(7, 2)) == None);
-    Ok(())
-}
-
-/// A later answer takes the place of an earlier one, also where their numbers differ by 4,096; other places stay.
-#[test]
-fn forgets(rt: HostRuntime) -> Result<(), Fail> {
-    let mut memo = Memo::new(rt.alloc())?;
-    memo.put(key(7, 1), 'a');
-    memo.put(key(8, 1), 'b');
-    memo.put(key(7 + 4096, 1), 'c');
-    assert!(rt; memo.get(key(7, 1)) == None);
-    assert!(rt; memo.get(key(8, 1)) == Some('b'));
-    assert!(rt; memo.get(key(7 + 4096, 1)) == Some('c'));
-    Ok(())
+/// What is got of a key by each word that has one alone; a word with `=` puts what stands behind it.
+pub fn found(alloc: Global, words: &str) -> Result<String, Unread> {
+    let mut memo: Memo<Call, u32> = Memo::new(alloc)?;
+    let mut found = String::new(alloc);
+    for word in words.split(' ') {
+        if let Some((at, what)) = word.split_once('=') {
+            memo.put(key(at)?, number::<u32>(what)?);
+            continue;
+        }
+        let got = memo.get(key(word)?);
+        found.push_str(format!(in alloc; " {got:?}")?.as_str())?;
+    }
+    Ok(found)
 }

@@ -1,151 +1,166 @@
-ghost use Rattle.std.specs.Prelude.{◌≤◌};
-
+use crate::words::pair;
+use jnames::Compare::{Eq, Ge, Gt, Le, Lt, Ne};
+use jnames::Division::{Idiv, Irem, Ldiv, Lrem};
 use jnames::OpOne::{I2b, I2c, I2l, I2s, Ineg, L2i, Lneg};
 use jnames::OpTwo::{
     Iadd, Iand, Imul, Ior, Ishl, Ishr, Isub, Iushr, Ixor, Ladd, Land, Lcmp, Lmul, Lor, Lshl, Lshr,
     Lsub, Lushr, Lxor,
 };
-use jnames::{Compare, Division, Shuffle};
-use jops::Value::{Int, Long, Ref};
+use jnames::Shuffle::{Dup, Dup2, Dup2X1, Dup2X2, DupX1, DupX2, Pop, Pop2, Swap};
+use jops::Value::{Ctx, Int, Long, Ref};
 use jops::{DivideByZero, Shuffled, Value, divide, one, shuffle, test, two};
+use std::alloc::Global;
+use tests_rows::{Unread, number};
 
-/// The least and the greatest int and long.
-const LEAST: i32 = -2_147_483_648;
-
-const GREATEST: i32 = 2_147_483_647;
-
-const LEAST_LONG: i64 = -9_223_372_036_854_775_808;
-
-const GREATEST_LONG: i64 = 9_223_372_036_854_775_807;
-
-#[test]
+/// What two ints give.
 #[tactic(auto, unfolding(jops::specs::Operations::two))]
-fn computes_with_two_ints(rt: HostRuntime) {
-    let rows = [
-        (two(Iadd, Int(GREATEST), Int(1)), LEAST),
-        (two(Iadd, Int(-3), Int(5)), 2),
-        (two(Isub, Int(LEAST), Int(1)), GREATEST),
-        (two(Isub, Int(3), Int(5)), -2),
-        (two(Imul, Int(46_341), Int(46_341)), -2_147_479_015),
-        (two(Imul, Int(65_536), Int(65_536)), 0),
-        (two(Imul, Int(LEAST), Int(-1)), LEAST),
-        (two(Ishl, Int(1), Int(33)), 2),
-        (two(Ishl, Int(1), Int(-1)), LEAST),
-        (two(Ishl, Int(3), Int(31)), LEAST),
-        (two(Ishr, Int(-8), Int(33)), -4),
-        (two(Ishr, Int(-7), Int(1)), -4),
-        (two(Ishr, Int(LEAST), Int(-1)), -1),
-        (two(Iushr, Int(-1), Int(28)), 15),
-        (two(Iushr, Int(-1), Int(32)), -1),
-        (two(Iushr, Int(-8), Int(33)), 2_147_483_644),
-        (two(Iand, Int(-2), Int(7)), 6),
-        (two(Ior, Int(-8), Int(3)), -5),
-        (two(Ixor, Int(-1), Int(5)), -6),
-    ];
-    for (i, (got, want)) in rows.into_iter().enumerate() {
-        assert!(rt; got == Int(want), "row {i}");
+fn of_ints(name: &str, x: i32, y: i32) -> Option<Value> {
+    match name {
+        "iadd" => Some(two(Iadd, Int(x), Int(y))),
+        "isub" => Some(two(Isub, Int(x), Int(y))),
+        "imul" => Some(two(Imul, Int(x), Int(y))),
+        "ishl" => Some(two(Ishl, Int(x), Int(y))),
+        "ishr" => Some(two(Ishr, Int(x), Int(y))),
+        "iushr" => Some(two(Iushr, Int(x), Int(y))),
+        "iand" => Some(two(Iand, Int(x), Int(y))),
+        "ior" => Some(two(Ior, Int(x), Int(y))),
+        "ixor" => Some(two(Ixor, Int(x), Int(y))),
+        _ => None,
     }
 }
 
-#[test]
+/// What two longs give.
 #[tactic(auto, unfolding(jops::specs::Operations::two))]
-fn computes_with_two_longs(rt: HostRuntime) {
-    let rows = [
-        (two(Ladd, Long(GREATEST_LONG), Long(1)), LEAST_LONG),
-        (two(Lsub, Long(LEAST_LONG), Long(1)), GREATEST_LONG),
-        (
-            two(Lmul, Long(3_037_000_500), Long(3_037_000_500)),
-            -9_223_372_036_709_301_616,
-        ),
-        (two(Lmul, Long(4_294_967_296), Long(4_294_967_296)), 0),
-        (two(Lshl, Long(1), Int(65)), 2),
-        (two(Lshl, Long(1), Int(33)), 8_589_934_592),
-        (two(Lshl, Long(1), Int(-1)), LEAST_LONG),
-        (two(Lshr, Long(-8), Int(65)), -4),
-        (two(Lushr, Long(-1), Int(60)), 15),
-        (two(Lushr, Long(-1), Int(64)), -1),
-        (two(Land, Long(-2), Long(7)), 6),
-        (two(Lor, Long(-8), Long(3)), -5),
-        (two(Lxor, Long(-1), Long(5)), -6),
-    ];
-    for (i, (got, want)) in rows.into_iter().enumerate() {
-        assert!(rt; got == Long(want), "row {i}");
+fn of_longs(name: &str, x: i64, y: i64) -> Option<Value> {
+    match name {
+        "ladd" => Some(two(Ladd, Long(x), Long(y))),
+        "lsub" => Some(two(Lsub, Long(x), Long(y))),
+        "lmul" => Some(two(Lmul, Long(x), Long(y))),
+        "land" => Some(two(Land, Long(x), Long(y))),
+        "lor" => Some(two(Lor, Long(x), Long(y))),
+        "lxor" => Some(two(Lxor, Long(x), Long(y))),
+        "lcmp" => Some(two(Lcmp, Long(x), Long(y))),
+        _ => None,
     }
-    assert!(rt; two(Lcmp, Long(LEAST_LONG), Long(GREATEST_LONG)) == Int(-1));
-    assert!(rt; two(Lcmp, Long(-1), Long(-1)) == Int(0));
-    assert!(rt; two(Lcmp, Long(4_294_967_296), Long(1)) == Int(1));
 }
 
-#[test]
+/// What a long gives, shifted by an int.
+#[tactic(auto, unfolding(jops::specs::Operations::two))]
+fn shifted(name: &str, x: i64, y: i32) -> Option<Value> {
+    match name {
+        "lshl" => Some(two(Lshl, Long(x), Int(y))),
+        "lshr" => Some(two(Lshr, Long(x), Int(y))),
+        "lushr" => Some(two(Lushr, Long(x), Int(y))),
+        _ => None,
+    }
+}
+
+/// What an int gives.
 #[tactic(auto, unfolding(jops::specs::Operations::one))]
-fn computes_with_one(rt: HostRuntime) {
-    let rows = [
-        (one(Ineg, Int(LEAST)), Int(LEAST)),
-        (one(Ineg, Int(5)), Int(-5)),
-        (one(Lneg, Long(LEAST_LONG)), Long(LEAST_LONG)),
-        (one(I2l, Int(-1)), Long(-1)),
-        (one(L2i, Long(2_147_483_648)), Int(LEAST)),
-        (one(L2i, Long(-4_294_967_297)), Int(-1)),
-        (one(I2b, Int(200)), Int(-56)),
-        (one(I2b, Int(-129)), Int(127)),
-        (one(I2c, Int(-1)), Int(65_535)),
-        (one(I2c, Int(65_601)), Int(65)),
-        (one(I2s, Int(40_000)), Int(-25_536)),
-        (one(I2s, Int(-32_769)), Int(32_767)),
-    ];
-    for (i, (got, want)) in rows.into_iter().enumerate() {
-        assert!(rt; got == want, "row {i}");
+fn of_int(name: &str, x: i32) -> Option<Value> {
+    match name {
+        "ineg" => Some(one(Ineg, Int(x))),
+        "i2l" => Some(one(I2l, Int(x))),
+        "i2b" => Some(one(I2b, Int(x))),
+        "i2c" => Some(one(I2c, Int(x))),
+        "i2s" => Some(one(I2s, Int(x))),
+        _ => None,
     }
 }
 
-#[test]
+/// What a long gives.
+#[tactic(auto, unfolding(jops::specs::Operations::one))]
+fn of_long(name: &str, x: i64) -> Option<Value> {
+    match name {
+        "lneg" => Some(one(Lneg, Long(x))),
+        "l2i" => Some(one(L2i, Long(x))),
+        _ => None,
+    }
+}
+
+/// What a division of ints gives.
 #[tactic(auto, unfolding(jops::specs::Operations::divide))]
-fn divides(rt: HostRuntime) {
-    use Division::{Idiv, Irem, Ldiv, Lrem};
-    let rows = [
-        (divide(Idiv, Int(-7), Int(2)), Ok(Int(-3))),
-        (divide(Irem, Int(-7), Int(2)), Ok(Int(-1))),
-        (divide(Idiv, Int(7), Int(-2)), Ok(Int(-3))),
-        (divide(Irem, Int(7), Int(-2)), Ok(Int(1))),
-        (divide(Idiv, Int(LEAST), Int(-1)), Ok(Int(LEAST))),
-        (divide(Irem, Int(LEAST), Int(-1)), Ok(Int(0))),
-        (
-            divide(Ldiv, Long(LEAST_LONG), Long(-1)),
-            Ok(Long(LEAST_LONG)),
-        ),
-        (divide(Lrem, Long(LEAST_LONG), Long(-1)), Ok(Long(0))),
-        (divide(Lrem, Long(-7), Long(-4)), Ok(Long(-3))),
-        (divide(Idiv, Int(0), Int(0)), Err(DivideByZero)),
-        (divide(Irem, Int(1), Int(0)), Err(DivideByZero)),
-        (divide(Ldiv, Long(1), Long(0)), Err(DivideByZero)),
-        (divide(Lrem, Long(0), Long(0)), Err(DivideByZero)),
-    ];
-    for (i, (got, want)) in rows.into_iter().enumerate() {
-        assert!(rt; got == want, "row {i}");
+fn divided(name: &str, x: i32, y: i32) -> Option<Result<Value, DivideByZero>> {
+    match name {
+        "idiv" => Some(divide(Idiv, Int(x), Int(y))),
+        "irem" => Some(divide(Irem, Int(x), Int(y))),
+        _ => None,
     }
 }
 
-#[test]
-fn compares(rt: HostRuntime) {
-    use Compare::{Eq, Ge, Gt, Le, Lt, Ne};
-    let rows = [
-        (test(Eq, Int(3), Int(3)), true),
-        (test(Eq, Ref(0), Ref(0)), true),
-        (test(Eq, Ref(5), Ref(6)), false),
-        (test(Ne, Ref(5), Ref(0)), true),
-        (test(Ne, Int(-1), Int(-1)), false),
-        (test(Lt, Int(LEAST), Int(GREATEST)), true),
-        (test(Lt, Int(0), Int(0)), false),
-        (test(Ge, Int(0), Int(0)), true),
-        (test(Ge, Int(-1), Int(0)), false),
-        (test(Gt, Int(0), Int(-1)), true),
-        (test(Gt, Int(0), Int(0)), false),
-        (test(Le, Int(0), Int(0)), true),
-        (test(Le, Int(1), Int(0)), false),
-    ];
-    for (i, (got, want)) in rows.into_iter().enumerate() {
-        assert!(rt; got == want, "row {i}");
+/// What a division of longs gives.
+#[tactic(auto, unfolding(jops::specs::Operations::divide))]
+fn long_divided(name: &str, x: i64, y: i64) -> Option<Result<Value, DivideByZero>> {
+    match name {
+        "ldiv" => Some(divide(Ldiv, Long(x), Long(y))),
+        "lrem" => Some(divide(Lrem, Long(x), Long(y))),
+        _ => None,
     }
+}
+
+/// Whether a test of two ints holds.
+fn holds(name: &str, x: i32, y: i32) -> Option<bool> {
+    match name {
+        "eq" => Some(test(Eq, Int(x), Int(y))),
+        "ne" => Some(test(Ne, Int(x), Int(y))),
+        "lt" => Some(test(Lt, Int(x), Int(y))),
+        "ge" => Some(test(Ge, Int(x), Int(y))),
+        "gt" => Some(test(Gt, Int(x), Int(y))),
+        "le" => Some(test(Le, Int(x), Int(y))),
+        _ => None,
+    }
+}
+
+/// Whether a test of two references holds.
+fn ref_holds(name: &str, x: u32, y: u32) -> Option<bool> {
+    match name {
+        "eq" => Some(test(Eq, Ref(x), Ref(y))),
+        "ne" => Some(test(Ne, Ref(x), Ref(y))),
+        _ => None,
+    }
+}
+
+/// What is asked of ints and longs, by the name of an instruction.
+fn computed(alloc: Global, words: &str) -> Result<String, Unread> {
+    let (name, rest) = pair(words)?;
+    let Some((x, y)) = rest.split_once(' ') else {
+        let found = match name {
+            "lneg" | "l2i" => of_long(name, number::<i64>(rest)?),
+            _ => of_int(name, number::<i32>(rest)?),
+        };
+        return Ok(format!(in alloc; "{found:?}")?);
+    };
+    let found = match name {
+        "lshl" | "lshr" | "lushr" => shifted(name, number::<i64>(x)?, number::<i32>(y)?),
+        "ladd" | "lsub" | "lmul" | "land" | "lor" | "lxor" | "lcmp" => {
+            of_longs(name, number::<i64>(x)?, number::<i64>(y)?)
+        }
+        _ => of_ints(name, number::<i32>(x)?, number::<i32>(y)?),
+    };
+    Ok(format!(in alloc; "{found:?}")?)
+}
+
+/// What is asked of a division.
+fn quotient(alloc: Global, words: &str) -> Result<String, Unread> {
+    let (name, rest) = pair(words)?;
+    let (x, y) = pair(rest)?;
+    let found = match name {
+        "ldiv" | "lrem" => long_divided(name, number::<i64>(x)?, number::<i64>(y)?),
+        _ => divided(name, number::<i32>(x)?, number::<i32>(y)?),
+    };
+    Ok(format!(in alloc; "{found:?}")?)
+}
+
+/// What is asked of a test of two ints, or of two references.
+fn tested(alloc: Global, words: &str, of_refs: bool) -> Result<String, Unread> {
+    let (name, rest) = pair(words)?;
+    let (x, y) = pair(rest)?;
+    let found = if of_refs {
+        ref_holds(name, number::<u32>(x)?, number::<u32>(y)?)
+    } else {
+        holds(name, number::<i32>(x)?, number::<i32>(y)?)
+    };
+    Ok(format!(in alloc; "{found:?}")?)
 }
 
 /// Items of one slot, longs, and a place where no item is.
@@ -153,7 +168,7 @@ const A: Value = Ref(1);
 
 const B: Value = Int(2);
 
-const C: Value = Value::Ctx(3);
+const C: Value = Ctx(3);
 
 const D: Value = Ref(4);
 
@@ -163,35 +178,71 @@ const K: Value = Long(6);
 
 const Z: Value = Int(0);
 
-fn comes(shuffled: Shuffled, taken: u32, values: &[Value]) -> bool
-    requires { shuffled.put ≤ 6 }
-{
-    shuffled.taken == taken && &shuffled.values[..shuffled.put as usize] == values
+/// What an instruction does with items of one slot.
+#[tactic(auto, unfolding(jops::specs::Shuffles::shuffle))]
+fn moved(words: &str) -> Option<Shuffled> {
+    match words {
+        "pop A" => Some(shuffle(Pop, [Z, Z, Z, A])),
+        "pop2 B A" => Some(shuffle(Pop2, [Z, Z, B, A])),
+        "dup A" => Some(shuffle(Dup, [Z, Z, Z, A])),
+        "dup_x1 B A" => Some(shuffle(DupX1, [Z, Z, B, A])),
+        "dup_x2 C B A" => Some(shuffle(DupX2, [Z, C, B, A])),
+        "dup2 B A" => Some(shuffle(Dup2, [Z, Z, B, A])),
+        "dup2_x1 C B A" => Some(shuffle(Dup2X1, [Z, C, B, A])),
+        "dup2_x2 D C B A" => Some(shuffle(Dup2X2, [D, C, B, A])),
+        "swap B A" => Some(shuffle(Swap, [Z, Z, B, A])),
+        _ => None,
+    }
 }
 
-#[test]
+/// What an instruction does with items of which some are longs.
 #[tactic(auto, unfolding(jops::specs::Shuffles::shuffle))]
-fn moves_items(rt: HostRuntime) {
-    assert!(rt; comes(shuffle(Shuffle::Pop, [Z, Z, Z, A]), 1, &[]));
-    assert!(rt; comes(shuffle(Shuffle::Pop2, [Z, Z, B, A]), 2, &[]));
-    assert!(rt; comes(shuffle(Shuffle::Pop2, [Z, Z, B, J]), 1, &[]));
-    assert!(rt; comes(shuffle(Shuffle::Dup, [Z, Z, Z, A]), 1, &[A, A]));
-    assert!(rt; comes(shuffle(Shuffle::DupX1, [Z, Z, B, A]), 2, &[A, B, A]));
-    assert!(rt; comes(shuffle(Shuffle::DupX2, [Z, C, B, A]), 3, &[A, C, B, A]));
-    assert!(rt; comes(shuffle(Shuffle::DupX2, [Z, Z, K, A]), 2, &[A, K, A]));
-    assert!(rt; comes(shuffle(Shuffle::Dup2, [Z, Z, B, A]), 2, &[B, A, B, A]));
-    assert!(rt; comes(shuffle(Shuffle::Dup2, [Z, Z, Z, J]), 1, &[J, J]));
-    assert!(rt; comes(shuffle(Shuffle::Dup2X1, [Z, C, B, A]), 3, &[B, A, C, B, A]));
-    assert!(rt; comes(shuffle(Shuffle::Dup2X1, [Z, Z, B, J]), 2, &[J, B, J]));
-    assert!(rt;
-        comes(
-            shuffle(Shuffle::Dup2X2, [D, C, B, A]),
-            4,
-            &[B, A, D, C, B, A]
-        )
-    );
-    assert!(rt; comes(shuffle(Shuffle::Dup2X2, [Z, C, B, J]), 3, &[J, C, B, J]));
-    assert!(rt; comes(shuffle(Shuffle::Dup2X2, [Z, K, B, A]), 3, &[B, A, K, B, A]));
-    assert!(rt; comes(shuffle(Shuffle::Dup2X2, [Z, Z, K, J]), 2, &[J, K, J]));
-    assert!(rt; comes(shuffle(Shuffle::Swap, [Z, Z, B, A]), 2, &[A, B]));
+fn moved_longs(words: &str) -> Option<Shuffled> {
+    match words {
+        "pop2 B J" => Some(shuffle(Pop2, [Z, Z, B, J])),
+        "dup_x2 K A" => Some(shuffle(DupX2, [Z, Z, K, A])),
+        "dup2 J" => Some(shuffle(Dup2, [Z, Z, Z, J])),
+        "dup2_x1 B J" => Some(shuffle(Dup2X1, [Z, Z, B, J])),
+        "dup2_x2 C B J" => Some(shuffle(Dup2X2, [Z, C, B, J])),
+        "dup2_x2 K B A" => Some(shuffle(Dup2X2, [Z, K, B, A])),
+        "dup2_x2 K J" => Some(shuffle(Dup2X2, [Z, Z, K, J])),
+        _ => None,
+    }
+}
+
+/// The letter of an item.
+fn letter(item: Value) -> char {
+    match item {
+        Ref(1) => 'A',
+        Int(2) => 'B',
+        Ctx(3) => 'C',
+        Ref(4) => 'D',
+        Long(5) => 'J',
+        Long(6) => 'K',
+        _ => '?',
+    }
+}
+
+/// How many items an instruction takes, and those that it puts.
+fn shuffled(alloc: Global, words: &str) -> Result<String, Unread> {
+    let Some(moved) = moved(words).or(moved_longs(words)) else {
+        return Err(Unread::Line);
+    };
+    let mut items = String::new(alloc);
+    for item in moved.values.iter().take(moved.put as usize) {
+        items.push(letter(*item))?;
+    }
+    Ok(format!(in alloc; "{} <{}>", moved.taken, items.as_str())?)
+}
+
+/// What is asked of operations.
+pub fn found(alloc: Global, kind: &str, words: &str) -> Result<String, Unread> {
+    match kind {
+        "computes" => computed(alloc, words),
+        "divides" => quotient(alloc, words),
+        "compares" => tested(alloc, words, false),
+        "compares_refs" => tested(alloc, words, true),
+        "moves" => shuffled(alloc, words),
+        _ => Err(Unread::Line),
+    }
 }

@@ -1,61 +1,84 @@
 ghost use Rattle.std.specs.Prelude.{◌∷◌};
 ghost use Rattle.std.specs.Option.{option_to_list};
 
+use crate::words::first;
 use jpile::{Pile, Spread};
-use std::test::Fail;
+use std::alloc::{AllocError, Global};
+use tests_rows::{Unread, number};
 
 /// Items that are written as what they are in another list.
 struct Pairs;
 
-impl Spread<(u8, Option<u8>), u8> for Pairs {
+impl Spread<(u32, Option<u32>), u32> for Pairs {
     ghost spread = { λ pair. pair.0 ∷ option_to_list pair.1 };
 
-    fn parts(item: (u8, Option<u8>)) -> (u8, Option<u8>) {
+    fn parts(item: (u32, Option<u32>)) -> (u32, Option<u32>) {
         item
     }
 }
 
-/// Items are counted from the newest by `get` and `set`, from the oldest by `at` and `set_at`.
-#[test]
-fn counted_both_ways(rt: HostRuntime) -> Result<(), Fail> {
-    let mut pile = Pile::new(rt.alloc());
-    pile.push(b'a')?;
-    pile.push(b'b')?;
-    pile.push(b'c')?;
-    assert!(rt; pile.get(0) == b'c' && pile.at(0) == b'a');
-    pile.set(0, b'd');
-    pile.set_at(0, b'e');
-    assert!(rt; pile.top(3) == b"ebd".as_slice());
-    Ok(())
+/// Changes a list by a word and an item; false where the word isn't one of those that do.
+fn change(pile: &mut Pile<u32>, word: &str, i: usize, item: u32) -> Result<bool, AllocError> {
+    match word {
+        "push" => pile.push(item)?,
+        "set" if i < pile.len() => pile.set(i, item),
+        "set_at" if i < pile.len() => pile.set_at(i, item),
+        "open" => pile.open()?,
+        "close" => pile.close(),
+        _ => return Ok(false),
+    }
+    Ok(true)
 }
 
-/// A list is opened and closed, and the one below it is as before.
-#[test]
-fn opened_and_closed(rt: HostRuntime) -> Result<(), Fail> {
-    let mut pile = Pile::new(rt.alloc());
-    pile.push(b'a')?;
-    pile.push(b'b')?;
-    pile.open()?;
-    pile.push(b'c')?;
-    assert!(rt; pile.len() == 1);
-    pile.close();
-    assert!(rt; pile.pop() == b'b');
-    assert!(rt; pile.len() == 1);
-    Ok(())
+/// What a list answers to a word and a number.
+fn told(alloc: Global, pile: &mut Pile<u32>, word: &str, i: usize) -> Result<String, Unread> {
+    let len = pile.len();
+    match word {
+        "get" if i < len => Ok(format!(in alloc; " {}", pile.get(i))?),
+        "at" if i < len => Ok(format!(in alloc; " {}", pile.at(i))?),
+        "top" if i <= len => Ok(format!(in alloc; " {:?}", pile.top(i))?),
+        "len" => Ok(format!(in alloc; " {len}")?),
+        "pop" if 0 < len => Ok(format!(in alloc; " {}", pile.pop())?),
+        _ => Err(Unread::Line),
+    }
 }
 
-/// A list of what items of another are, filled up.
-#[test]
-fn opened_from_another(rt: HostRuntime) -> Result<(), Fail> {
-    let mut from = Pile::new(rt.alloc());
-    from.push((b'a', None))?;
-    from.push((b'b', Some(b'c')))?;
-    from.push((b'd', None))?;
-    let mut pile = Pile::new(rt.alloc());
-    pile.push(b'z')?;
-    pile.open_from::<(u8, Option<u8>), Pairs>(from.top(2), 5, b'-')?;
-    assert!(rt; pile.top(pile.len()) == b"bcd--".as_slice());
+/// What a list answers, word by word. Behind a word may stand the number that it asks of, and an item.
+fn steps(alloc: Global, pile: &mut Pile<u32>, words: &str) -> Result<String, Unread> {
+    let mut found = String::new(alloc);
+    for step in words.split(", ") {
+        let (word, rest) = first(step);
+        let (i, item) = first(rest);
+        let (i, item) = (
+            number::<u32>(i).unwrap_or(0) as usize,
+            number::<u32>(item).unwrap_or(0),
+        );
+        if !change(pile, word, i, item)? {
+            found.push_str(told(alloc, pile, word, i)?.as_str())?;
+        }
+    }
+    Ok(found)
+}
+
+/// The newest list that is opened of the two newest items of another, with -, 9 and that list's own below it once it is closed.
+fn spread(alloc: Global) -> Result<String, AllocError> {
+    let mut from = Pile::new(alloc);
+    from.push((1, None))?;
+    from.push((2, Some(3)))?;
+    from.push((4, None))?;
+    let mut pile = Pile::new(alloc);
+    pile.push(9)?;
+    pile.open_from::<(u32, Option<u32>), Pairs>(from.top(2), 5, 0)?;
+    let opened = format!(in alloc; "{:?}", pile.top(pile.len()))?;
     pile.close();
-    assert!(rt; pile.top(pile.len()) == b"z".as_slice());
-    Ok(())
+    format!(in alloc; "{} {:?}", opened.as_str(), pile.top(pile.len()))
+}
+
+/// What is asked of lists one on the other.
+pub fn found(alloc: Global, kind: &str, words: &str) -> Result<String, Unread> {
+    match kind {
+        "pile" => steps(alloc, &mut Pile::new(alloc), words),
+        "spread" => Ok(spread(alloc)?),
+        _ => Err(Unread::Line),
+    }
 }

@@ -1,101 +1,68 @@
+use crate::words::units;
 use jbase::Stop;
-use jformat::At;
 use jtext::{Units, bytes_of, same_ignoring_case, units_of};
 use std::alloc::{AllocError, Global};
+use tests_rows::{Unread, hex_of};
 
-/// Behind `groups` groups of one, two and three bytes each, and before one more.
-fn around(alloc: Global, groups: usize, bad: &[u8]) -> Result<Vec<u8>, AllocError> {
-    let mut bytes = Vec::new(alloc);
-    for _ in 0..groups {
-        bytes.extend_from_slice(b"a\xc3\xa9\xe4\xb8\xad")?;
-    }
-    bytes.extend_from_slice(bad)?;
-    Ok(bytes)
-}
-
-#[test]
-fn reads_and_writes(rt: HostRuntime) -> Result<(), AllocError> {
-    let alloc = rt.alloc();
-    let rows: [(&[u16], &[u8]); 5] = [
-        (&[], b""),
-        (&[0], b"\xc0\x80"),
-        (&[0xe9], b"\xc3\xa9"),
-        (&[0xd83d, 0xde00], b"\xed\xa0\xbd\xed\xb8\x80"),
-        (
-            &[1, 0x7f, 0x80, 0x7ff, 0x800, 0xffff],
-            b"\x01\x7f\xc2\x80\xdf\xbf\xe0\xa0\x80\xef\xbf\xbf",
-        ),
-    ];
-    for (units, bytes) in rows {
-        let written = bytes_of(alloc, &Units::from_slice(alloc, units)?)?;
-        assert!(rt; written.as_slice() == bytes);
-        match units_of(alloc, bytes) {
-            Ok(text) => assert!(rt; text.as_slice() == units),
-            Err(_) => assert!(rt; false),
+/// The bytes of units, where these are read from them again.
+fn spelled(alloc: Global, word: &str) -> Result<String, Unread> {
+    let given = units(alloc, word)?;
+    let written = bytes_of(alloc, &Units::from_slice(alloc, given.as_slice())?)?;
+    match units_of(alloc, written.as_slice()) {
+        Ok(text) if text.as_slice() == given.as_slice() => {
+            let digits = hex::encode(alloc, written.as_slice())?;
+            Ok(format!(in alloc; "<{}>", digits.as_str())?)
         }
+        _ => Err(Unread::Line),
     }
-    Ok(())
 }
 
-#[test]
-fn names_the_first_bad_group(rt: HostRuntime) -> Result<(), AllocError> {
-    let alloc = rt.alloc();
-    let rows: [&[u8]; 14] = [
-        b"\x00",
-        b"\x80",
-        b"\xbf",
-        b"\xc0\x81",
-        b"\xc1\xbf",
-        b"\xc3",
-        b"\xc3a",
-        b"\xe0\x80\x80",
-        b"\xe0\x9f\xbf",
-        b"\xe4\xb8",
-        b"\xe4a\xad",
-        b"\xe4\xb8a",
-        b"\xf0\x9f\x98\x80",
-        b"\xff",
-    ];
-    for bad in rows {
-        for groups in 0..9 {
-            let bytes = around(alloc, groups, bad)?;
-            let at = 6 * groups as u32;
-            assert!(rt;
-                units_of(alloc, &bytes).err() == Some(Stop::Fault(At { at, kind: () })),
-                "at {at}"
-            );
-        }
+/// The place of the fault in bytes that are a text up to there.
+fn fault_in(alloc: Global, bytes: &[u8]) -> Result<u32, Unread> {
+    match units_of(alloc, bytes) {
+        Err(Stop::Fault(fault)) => Ok(fault.at),
+        _ => Err(Unread::Line),
     }
-    Ok(())
 }
 
-#[test]
-fn takes_the_units_of_a_text(rt: HostRuntime) -> Result<(), AllocError> {
-    let alloc = rt.alloc();
-    let text = Units::from_text(alloc, "a\u{e9}\u{1f600}")?;
-    assert!(rt; text.copy(alloc)?.as_slice() == [0x61, 0xe9, 0xd83d, 0xde00].as_slice());
-    Ok(())
+/// The places of the fault behind no, one and up to eight groups of one, two and three bytes each.
+fn faults(alloc: Global, word: &str) -> Result<String, Unread> {
+    let bad = hex_of(alloc, word)?;
+    let mut front = Vec::new(alloc);
+    let mut found = String::new(alloc);
+    for _ in 0..9 {
+        let mut all = Vec::from_slice(alloc, front.as_slice())?;
+        all.extend_from_slice(bad.as_slice())?;
+        let at = fault_in(alloc, all.as_slice())?;
+        found.push_str(format!(in alloc; " {at}")?.as_str())?;
+        front.extend_from_slice(b"a\xc3\xa9\xe4\xb8\xad")?;
+    }
+    Ok(found)
 }
 
-#[test]
-fn compares_without_letter_case(rt: HostRuntime) {
-    let rows: [(&str, &[u8], bool); 8] = [
-        ("", b"", true),
-        ("read", b"read", true),
-        ("ReAD", b"rEad", true),
-        ("reads", b"read", false),
-        ("rea", b"read", false),
-        ("reaf", b"read", false),
-        ("@[`{", b"`{@[", false),
-        ("\u{130}\u{212a}", b"ik", false),
-    ];
-    for (text, word, same) in rows {
-        match Units::from_text(rt.alloc(), text) {
-            Ok(units) => assert!(rt;
-                same_ignoring_case(units.as_slice(), word) == same,
-                "{text}"
-            ),
-            Err(_) => assert!(rt; false),
+/// The units of a text.
+fn taken(alloc: Global, text: &str) -> Result<String, AllocError> {
+    let units = Units::from_text(alloc, text)?.copy(alloc)?;
+    format!(in alloc; "{:?}", units.as_slice())
+}
+
+/// Whether two texts are one but for the case of letters.
+fn same(alloc: Global, text: &str, word: &str) -> Result<String, AllocError> {
+    let units = Units::from_text(alloc, text)?;
+    let same = same_ignoring_case(units.as_slice(), word.as_bytes());
+    format!(in alloc; "{same}")
+}
+
+/// What is asked of texts.
+pub fn found(alloc: Global, kind: &str, words: &str) -> Result<String, Unread> {
+    match kind {
+        "spelled" => spelled(alloc, words),
+        "bad" => faults(alloc, words),
+        "units" => Ok(taken(alloc, words)?),
+        "same" => {
+            let (text, word) = words.split_once('=').ok_or(Unread::Line)?;
+            Ok(same(alloc, text, word)?)
         }
+        _ => Err(Unread::Line),
     }
 }

@@ -1,94 +1,100 @@
 ghost use Rattle.std.specs.Prelude.{◌≡◌, ◌∷◌, [], IfOk};
 ghost use Rattle.jthreads.specs.Table.{running};
 
-use jthreads::{Joined, Threads, pick};
+use crate::words::{numbers, pair};
+use jthreads::{Threads, pick};
 use std::alloc::{AllocError, Global};
+use tests_rows::{Unread, number};
 
-#[test]
-fn picks(rt: HostRuntime) {
-    let rows: [(&[u32], u64, &[u32], Option<u32>); 12] = [
-        (&[7], 0, &[0, 2, 5], Some(2)),
-        (&[], 0, &[], None),
-        (&[7], 0, &[], None),
-        // The schedule is used up.
-        (&[], 0, &[0, 2, 5], Some(0)),
-        (&[7], 1, &[1, 2, 5], Some(1)),
-        (&[7], u64::MAX, &[4, 6], Some(4)),
-        // Each number in turn.
-        (&[0, 1, 2, 3], 0, &[0, 2, 5], Some(0)),
-        (&[0, 1, 2, 3], 1, &[0, 2, 5], Some(2)),
-        (&[0, 1, 2, 3], 2, &[0, 2, 5], Some(5)),
-        (&[0, 1, 2, 3], 3, &[0, 2, 5], Some(0)),
-        // One thread alone, and the greatest number.
-        (&[9], 0, &[3], Some(3)),
-        (&[u32::MAX], 0, &[1, 8], Some(8)),
-    ];
-    for (schedule, taken, runnable, want) in rows {
-        assert!(rt; pick(schedule, taken, runnable) == want, "{taken}");
-    }
+/// Which thread is picked: by a schedule, how many of its numbers were taken, and the threads that can run.
+fn picked(alloc: Global, words: &str) -> Result<String, Unread> {
+    let (schedule, rest) = pair(words)?;
+    let (taken, runnable) = pair(rest)?;
+    let schedule = numbers(alloc, schedule)?;
+    let runnable = numbers(alloc, runnable)?;
+    let found = pick(
+        schedule.as_slice(),
+        number::<u64>(taken)?,
+        runnable.as_slice(),
+    );
+    Ok(format!(in alloc; "{found:?}")?)
 }
 
-fn runs(alloc: Global, threads: &Threads, want: &[u32]) -> bool {
-    match threads.runnable(alloc) {
-        Ok(numbers) => numbers.as_slice() == want,
-        Err(_) => false,
-    }
+/// Threads 0 and 1, both started.
+fn two(alloc: Global) -> Result<Threads, AllocError>
+    ensures { IfOk result (λ threads. threads ≡ running ∷ running ∷ []) }
+{
+    let mut threads = Threads::open(alloc)?;
+    threads.add(alloc)?;
+    threads.start(1);
+    Ok(threads)
 }
 
 /// Threads 0 to 3, all started.
 fn four(alloc: Global) -> Result<Threads, AllocError>
     ensures { IfOk result (λ threads. threads ≡ running ∷ running ∷ running ∷ running ∷ []) }
 {
-    let mut threads = Threads::open(alloc)?;
+    let mut threads = two(alloc)?;
     threads.add(alloc)?;
     threads.add(alloc)?;
-    threads.add(alloc)?;
-    threads.start(1);
     threads.start(2);
     threads.start(3);
     Ok(threads)
 }
 
-#[test]
-fn starts_once(rt: HostRuntime) {
-    let mut threads = Threads::open(rt.alloc()).expect(&rt, "a table");
-    assert!(rt; threads.add(rt.alloc()).expect(&rt, "thread 1") == 1);
-    assert!(rt; threads.add(rt.alloc()).expect(&rt, "thread 2") == 2);
-    assert!(rt; runs(rt.alloc(), &threads, &[0]));
-    assert!(rt; threads.start(1));
-    assert!(rt; !threads.start(1));
-    assert!(rt; !threads.start(0));
-    // Thread 2 was never started, so it isn't waited for.
-    assert!(rt; threads.join(0, 2) == Joined::AtOnce);
-    assert!(rt; runs(rt.alloc(), &threads, &[0, 1]));
+/// Two threads more, of which one is started, again, and the first one too; then the first waits for the one that wasn't started.
+fn starts(alloc: Global) -> Result<String, AllocError> {
+    let mut threads = Threads::open(alloc)?;
+    let one = threads.add(alloc)?;
+    let two = threads.add(alloc)?;
+    let before = threads.runnable(alloc)?;
+    let (first, again, zero) = (threads.start(1), threads.start(1), threads.start(0));
+    let joined = threads.join(0, 2);
+    let behind = threads.runnable(alloc)?;
+    let (before, behind) = (before.as_slice(), behind.as_slice());
+    format!(in alloc; "{one} {two} {before:?} {first} {again} {zero} {joined:?} {behind:?}")
 }
 
-#[test]
-fn an_end_wakes_two(rt: HostRuntime) {
-    let mut threads = four(rt.alloc()).expect(&rt, "a table");
-    assert!(rt; runs(rt.alloc(), &threads, &[0, 1, 2, 3]));
-    assert!(rt; threads.join(0, 1) == Joined::Waits);
-    assert!(rt; threads.join(2, 1) == Joined::Waits);
-    // A thread may wait for itself.
-    assert!(rt; threads.join(3, 3) == Joined::Waits);
-    assert!(rt; runs(rt.alloc(), &threads, &[1]));
+/// Of four threads two wait for the second, and the last for itself; the second ends, and one that waited does so again.
+fn wakes(alloc: Global) -> Result<String, AllocError> {
+    let mut threads = four(alloc)?;
+    let all = threads.runnable(alloc)?;
+    let (one, two, own) = (threads.join(0, 1), threads.join(2, 1), threads.join(3, 3));
+    let before = threads.runnable(alloc)?;
     threads.end(1);
-    assert!(rt; runs(rt.alloc(), &threads, &[0, 2]));
-    // Thread 1 has ended, so it isn't waited for.
-    assert!(rt; threads.join(0, 1) == Joined::AtOnce);
-    assert!(rt; !threads.start(1));
-    assert!(rt; runs(rt.alloc(), &threads, &[0, 2]));
+    let behind = threads.runnable(alloc)?;
+    let (again, started) = (threads.join(0, 1), threads.start(1));
+    let last = threads.runnable(alloc)?;
+    let (all, before) = (all.as_slice(), before.as_slice());
+    let (behind, last) = (behind.as_slice(), last.as_slice());
+    format!(in alloc;
+        "{all:?} {one:?} {two:?} {own:?} {before:?} {behind:?} {again:?} {started} {last:?}"
+    )
 }
 
-#[test]
-fn all_ended(rt: HostRuntime) {
-    let mut threads = Threads::open(rt.alloc()).expect(&rt, "a table");
-    assert!(rt; threads.add(rt.alloc()).expect(&rt, "thread 1") == 1);
-    assert!(rt; !threads.all_ended());
+/// Whether all have ended: before the first one has, behind it while the second isn't started, and once that is.
+fn ends(alloc: Global) -> Result<String, AllocError> {
+    let mut threads = Threads::open(alloc)?;
+    let one = threads.add(alloc)?;
+    let before = threads.all_ended();
     threads.end(0);
-    // Thread 1 was never started.
-    assert!(rt; threads.all_ended());
-    assert!(rt; runs(rt.alloc(), &threads, &[]));
-    assert!(rt; threads.start(1));
-    assert!(rt; !threads.all_ended());
+    let behind = threads.all_ended();
+    let runnable = threads.runnable(alloc)?;
+    let started = threads.start(1);
+    let last = threads.all_ended();
+    format!(in alloc;
+        "{one} {before} {behind} {:?} {started} {last}",
+        runnable.as_slice()
+    )
+}
+
+/// What is asked of threads.
+pub fn found(alloc: Global, kind: &str, words: &str) -> Result<String, Unread> {
+    match kind {
+        "picks" => picked(alloc, words),
+        "starts" => Ok(starts(alloc)?),
+        "wakes" => Ok(wakes(alloc)?),
+        "ends" => Ok(ends(alloc)?),
+        _ => Err(Unread::Line),
+    }
 }

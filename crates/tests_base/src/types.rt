@@ -1,10 +1,11 @@
 ghost use Rattle.std.specs.Prelude.{◌≡◌, ⊤};
 ghost use Rattle.tests_base.specs.Few.{few, few_above, few_chain, few_itself, few_object};
 
+use crate::words::pair;
 use jbase::Seq;
 use jtypes::{Ancestry, ArrayType, Element, Name, VType, fits};
 use std::alloc::{AllocError, Global};
-use std::test::Fail;
+use tests_rows::{Unread, number};
 
 /// A program where `p/B` extends `p/A`, and `p/I`, `Cloneable` and `Serializable` are interfaces.
 struct Few;
@@ -81,63 +82,18 @@ fn vtype(alloc: Global, depth: u32, text: &[u8]) -> Result<VType, AllocError> {
     }
 }
 
-/// A type by its dimensions and its letter or name, and marks of types that it fits.
-type Row<'a> = (u32, &'a [u8], &'a [u8]);
-
-/// Whether a type fits exactly the types of the rows that are marked.
-fn fits_as_marked(
-    alloc: Global,
-    a: &VType,
-    marks: &[u8],
-    rows: &[Row<'_>],
-) -> Result<bool, AllocError> {
-    for (i, row) in rows.iter().enumerate() {
-        let b = vtype(alloc, row.0, row.1)?;
-        let wanted = marks.get(i) == Some(&b'1');
-        if fits(&Few, a, &b) != wanted {
-            return Ok(false);
-        }
-    }
-    Ok(marks.len() == rows.len())
+/// The type of words: its dimensions, and its letter or its class's name.
+pub fn type_of(alloc: Global, words: &str) -> Result<VType, Unread> {
+    let (depth, name) = pair(words)?;
+    Ok(vtype(alloc, number::<u32>(depth)?, name.as_bytes())?)
 }
 
-/// Each row marks the rows of the types that its type fits.
-#[test]
-fn what_fits_what(rt: HostRuntime) -> Result<(), Fail> {
-    let alloc = rt.alloc();
-    let rows: [Row<'_>; 28] = [
-        (0, b"T", b"1..........................."),
-        (0, b"I", b"11.........................."),
-        (0, b"J", b"1.1........................."),
-        (0, b"N", b"1..1....11111111111111111111"),
-        (0, b"U", b"1...1......................."),
-        (0, b"3", b"1....1......................"),
-        (0, b"4", b"1.....1....................."),
-        (0, b"X", b"1......1...................."),
-        (0, b"java/lang/Object", b"1.......1111................"),
-        (0, b"java/lang/Cloneable", b"1.......1111................"),
-        (0, b"java/io/Serializable", b"1.......1111................"),
-        (0, b"p/I", b"1.......1111................"),
-        (0, b"p/A", b"1.......11111..............."),
-        (0, b"p/B", b"1.......111111.............."),
-        (1, b"Z", b"1.......111...1............."),
-        (1, b"C", b"1.......111....1............"),
-        (1, b"B", b"1.......111.....1..........."),
-        (1, b"S", b"1.......111......1.........."),
-        (1, b"I", b"1.......111.......1........."),
-        (1, b"J", b"1.......111........1........"),
-        (1, b"p/A", b"1.......111.........1.111..."),
-        (1, b"p/B", b"1.......111.........11111..."),
-        (1, b"p/I", b"1.......111...........111..."),
-        (1, b"java/lang/Object", b"1.......111...........111..."),
-        (1, b"java/lang/Cloneable", b"1.......111...........111..."),
-        (2, b"I", b"1.......111............111.."),
-        (2, b"p/B", b"1.......111............11.11"),
-        (2, b"java/lang/Object", b"1.......111............11..1"),
-    ];
-    for row in &rows {
-        let a = vtype(alloc, row.0, row.1)?;
-        assert!(rt; fits_as_marked(alloc, &a, row.2, &rows)?);
+/// A mark for each type of a list: `1` where a type fits it.
+pub fn marks(alloc: Global, a: &VType, all: &[VType]) -> Result<String, AllocError> {
+    let mut marks = String::new(alloc);
+    for b in all {
+        let mark = if fits(&Few, a, b) { '1' } else { '.' };
+        marks.push(mark)?;
     }
-    Ok(())
+    Ok(marks)
 }

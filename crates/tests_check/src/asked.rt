@@ -1,14 +1,13 @@
 use crate::layered::{implements, of_members};
 use crate::linked::{fault_of, of_linked};
-use crate::moved::of_moved;
 use crate::question::{Question, class_id, method_of, number};
 use crate::used::of_types;
-use crate::words::Unread;
 use jclass::ClassParts;
 use jlib::Side;
 use jmembers::members_fault;
 use jprogram::{CallKind, ClassRef, CodePart, NamedProgram};
 use std::alloc::Global;
+use tests_rows::Unread;
 
 fn call_kind(word: &str) -> Result<CallKind, Unread> {
     match word {
@@ -133,11 +132,8 @@ pub fn answer(
     if question == "link" {
         return fault_of(alloc, parts, side);
     }
-    if let Some(question) = question.strip_prefix("linked ") {
-        return of_linked(alloc, parts, side, &Question::of(question));
-    }
-    match question.strip_prefix("moved ") {
-        Some(which) => of_moved(alloc, parts, which),
+    match question.strip_prefix("linked ") {
+        Some(question) => of_linked(alloc, parts, side, &Question::of(question)),
         None => of_named(alloc, parts, side, question),
     }
 }

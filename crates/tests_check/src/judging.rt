@@ -1,4 +1,3 @@
-use crate::words::Unread;
 use jcheck::{CheckedProgram, TypeFault, check};
 use jclass::read_class;
 use jlib::Side;
@@ -6,6 +5,7 @@ use jlink::{LinkError, LinkedProgram, are_parts, link};
 use jprogram::CodePart;
 use std::alloc::Global;
 use std::fmt;
+use tests_rows::Unread;
 
 /// What the checker says of a program.
 #[derive(Clone, Copy)]

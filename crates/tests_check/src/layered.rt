@@ -4,11 +4,11 @@ ghost use Rattle.jprogram.specs.Standing.{StandsInOrder};
 
 use crate::question::{Question, index, number};
 use crate::used::of_pools;
-use crate::words::Unread;
 use jprogram::{Interfaces, NamedProgram, program_laws};
 use jreferring::code_fault;
 use juses::Uses;
 use std::alloc::Global;
+use tests_rows::Unread;
 
 /// Whether the classes of a program stand in order.
 fn is_in_order(alloc: Global, program: &NamedProgram) -> bool

@@ -1,13 +1,13 @@
 ghost use Rattle.std.specs.Prelude.{◌≡◌, IfOk};
 
 use crate::question::{Question, class_id, index, method_of, number};
-use crate::words::Unread;
 use jclass::ClassFile;
 use jlib::Side;
 use jlink::{LinkError, LinkedProgram, are_parts, link, link_known};
 use jprogram::{CallKind, ClassRef, CodePart, MethodId};
 use juses::{code_at, instruction_at};
 use std::alloc::{AllocError, Global};
+use tests_rows::Unread;
 
 /// The one part of a program again.
 fn copied(alloc: Global, parts: &[CodePart]) -> Result<Vec<CodePart>, AllocError>

@@ -20,7 +20,6 @@ mod asked;
 mod judging;
 mod layered;
 mod linked;
-mod moved;
 mod question;
 mod reading;
 mod rows;

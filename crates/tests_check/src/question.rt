@@ -1,5 +1,5 @@
-use crate::words::Unread;
 use jprogram::{ClassId, Member, MethodId};
+use tests_rows::Unread;
 
 /// A question: its word, and up to four words behind it, which are empty where they aren't there.
 #[derive(Clone, Copy)]

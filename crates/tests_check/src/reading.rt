@@ -1,10 +1,11 @@
 use crate::asked::answer;
 use crate::judging::{Verdict, judged, part_of};
 use crate::rows::Row;
-use crate::words::{Unread, bytes_of, put_hex, put_u16};
+use crate::words::put_u16;
 use jlib::Side;
 use jprogram::CodePart;
 use std::alloc::{AllocError, Global};
+use tests_rows::{Unread, hex_of, put_hex};
 
 /// Bytes with a name: a class file, or what stands before a method's attributes.
 #[derive(Drop)]
@@ -80,7 +81,7 @@ impl Table {
     /// The class of a name, or of bytes that begin as each class file does.
     fn part(&self, alloc: Global, name: &str) -> Result<CodePart, Unread> {
         if name.starts_with("cafebabe") {
-            let bytes = bytes_of(alloc, name)?;
+            let bytes = hex_of(alloc, name)?;
             return part_of(alloc, bytes.as_slice());
         }
         let bytes = self.find(name)?;

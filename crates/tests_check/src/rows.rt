@@ -1,5 +1,6 @@
-use crate::words::{Unread, bytes_of, put_hex, put_run, put_u16};
+use crate::words::{put_run, put_u16};
 use std::alloc::Global;
+use tests_rows::{Unread, hex_of, put_hex};
 
 /// A field, and what stands behind it.
 fn first(line: &str) -> Option<(&str, &str)> {
@@ -44,14 +45,14 @@ impl<'a> Row<'a> {
 
     /// Puts its handlers (JVMS 4.7.3), of eight bytes each.
     fn put_handlers(&self, alloc: Global, bytes: &mut Vec<u8>) -> Result<(), Unread> {
-        let handlers = bytes_of(alloc, self.handlers)?;
+        let handlers = hex_of(alloc, self.handlers)?;
         put_u16(handlers.len() / 8, bytes)?;
         Ok(bytes.extend_from_slice(handlers.as_slice())?)
     }
 
     /// Puts its StackMapTable (JVMS 4.7.4), where it has one. Its name stands at index 2 of the pool.
     fn put_frames(&self, alloc: Global, bytes: &mut Vec<u8>) -> Result<(), Unread> {
-        let frames = bytes_of(alloc, self.frames)?;
+        let frames = hex_of(alloc, self.frames)?;
         if frames.is_empty() {
             return put_u16(0, bytes);
         }
@@ -64,7 +65,7 @@ impl<'a> Row<'a> {
     fn content(&self, alloc: Global) -> Result<Vec<u8>, Unread> {
         let mut content = Vec::new(alloc);
         put_hex(alloc, self.most, &mut content)?;
-        let code = bytes_of(alloc, self.code)?;
+        let code = hex_of(alloc, self.code)?;
         put_run(code.as_slice(), &mut content)?;
         self.put_handlers(alloc, &mut content)?;
         self.put_frames(alloc, &mut content)?;

@@ -1,9 +1,9 @@
 use crate::question::{Question, index, number};
-use crate::words::Unread;
 use jcode::{CallOp, CastOp, FieldOp, PoolForm};
 use jprogram::{ClassRef, NamedProgram};
 use juses::{ArrayRef, ElementRef, TypeRef, Use, Uses, stands_below, type_fits};
 use std::alloc::Global;
+use tests_rows::Unread;
 
 /// What an instruction of a name says of an entry.
 fn form_of(name: &str, i: u16) -> Result<PoolForm, Unread> {

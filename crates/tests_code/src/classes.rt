@@ -1,7 +1,7 @@
-use crate::words::{Unread, hex_of};
 use jbase::Stop;
 use jclass::{ClassFile, read_class, write_class};
 use std::alloc::{AllocError, Global};
+use tests_rows::{Unread, hex_of};
 
 /// Whether a class file that was read is written as it was.
 fn written(alloc: Global, class: &ClassFile, bytes: &[u8]) -> Result<String, AllocError> {

@@ -1,9 +1,9 @@
-use crate::words::{Unread, hex_of};
 use jbase::Stop;
 use jcode::{
     Form, Placed, Switch, branch_at, branch_count, decode, effect_of, encode, form_of, goes_on,
 };
 use std::alloc::{AllocError, Global};
+use tests_rows::{Unread, hex_of};
 
 /// How many instructions a code has, if it is written back as it was, or its first fault.
 pub fn read(alloc: Global, words: &str) -> Result<String, Unread> {

@@ -1,4 +1,3 @@
-use crate::words::{Unread, bytes_of, first, hex_of, number, told_if, unquoted, yes_or_no};
 use jbase::{Seq, Stop};
 use jpool::{
     AddError, Adder, DescError, Descriptor, Entry, FieldType, Pool, is_array_descriptor,
@@ -6,6 +5,18 @@ use jpool::{
     read_pool, slots_of, write_pool,
 };
 use std::alloc::{AllocError, Global};
+use tests_rows::{Unread, bytes_of, first, hex_of, number, unquoted, yes_or_no};
+
+/// How bytes of a text are told, or none.
+pub fn told_if(alloc: Global, text: Option<&[u8]>) -> Result<String, AllocError> {
+    match text {
+        Some(text) => {
+            let text = String::from_utf8_lossy(alloc, text)?;
+            format!(in alloc; "'{}'", text.as_str())
+        }
+        None => String::from_str(alloc, "-"),
+    }
+}
 
 /// Whether a text names a class.
 pub fn class_name(alloc: Global, field: &str) -> Result<String, Unread> {

@@ -1,12 +1,12 @@
 ghost use Rattle.std.specs.Prelude.{IsTrue};
 ghost use Rattle.jmaps.specs.Frames.{maps};
 
-use crate::words::{Unread, hex_of, number};
 use jbase::{Seq, Stop};
 use jmaps::{
     ExpandError, Expansion, FullFrame, MapType, RawFrame, expand, put_frames, read_maps, write_maps,
 };
 use std::alloc::{AllocError, Global};
+use tests_rows::{Unread, hex_of, number};
 
 /// How many frames a StackMapTable's content spells, or its first fault.
 pub fn read(alloc: Global, words: &str) -> Result<String, Unread> {

@@ -1,7 +1,7 @@
-use crate::words::{Unread, first, hex_of};
 use crate::{classes, code, pools, stack_maps};
 use jpool::{Adder, Pool};
 use std::alloc::Global;
+use tests_rows::{Line, Unread, first, hex_of};
 
 /// What was read so far.
 #[derive(Drop)]
@@ -12,16 +12,6 @@ pub struct Table {
     pool: Option<Pool>,
     /// The pool that grows.
     adder: Option<Adder>,
-}
-
-/// What a line is.
-pub enum Line<'a> {
-    /// One that says nothing, or that later lines are read by.
-    Known,
-    /// The name of the rows behind it.
-    Section(&'a str),
-    /// The answer that it wants, and the one that was found.
-    Row(&'a str, String),
 }
 
 impl Table {

@@ -3,42 +3,10 @@ ghost use Rattle.jmove.specs.Frames.{width, widths};
 ghost use Rattle.jmove.specs.Moved.{CanMove};
 
 use jbase::Seq;
-use jcode::{Handler, Placed, decode};
+use jcode::{Handler, decode};
 use jmaps::{FullFrame, MapType};
-use jmove::{Expand, MethodIn, MethodOut, MoveError, move_method};
-use jpool::{Adder, read_pool};
+use jmove::{Expand, MethodIn};
 use std::alloc::Global;
-
-/// A pool with an interface's method at 6, whose descriptor is `()V`, and a class's at 7.
-pub const CALLS: &str = "000801000149070001010001\
-    6d0100032829560c000300040b000200050a00020005";
-
-/// An adder over the pool that these bytes spell.
-pub fn adder_over(alloc: Global, bytes: &[u8]) -> Option<Adder> {
-    let (pool, _) = read_pool(alloc, bytes, 0).ok()?;
-    if pool.entries().is_empty() {
-        return None;
-    }
-    Adder::over(alloc, pool).ok()
-}
-
-/// An adder over a pool in hexadecimal.
-pub fn adder_of(alloc: Global, text: &str) -> Option<Adder> {
-    let bytes = hex::decode(alloc, text).ok()?;
-    adder_over(alloc, bytes.as_slice())
-}
-
-/// The instructions of code, as a text.
-pub fn text_of(alloc: Global, ops: &[Placed]) -> Option<String> {
-    format!(in alloc; "{ops:?}").ok()
-}
-
-/// The instructions of bytes in hexadecimal, as a text.
-pub fn text_in(alloc: Global, code: &str) -> Option<String> {
-    let bytes = hex::decode(alloc, code).ok()?;
-    let ops = decode(alloc, bytes.as_slice()).ok()?;
-    text_of(alloc, ops.as_slice())
-}
 
 /// The sizes of a method: its slots, its `max_stack` and its `max_locals`.
 pub type Sizes = (u32, u32, u32);
@@ -108,45 +76,5 @@ pub fn method_of(
             })
         }
         Err(_) => None,
-    }
-}
-
-/// Moves a method of domain 0.
-pub fn moved(
-    alloc: Global,
-    code: &[u8],
-    sizes: Sizes,
-    handlers: Seq<Handler>,
-    frames: Seq<FullFrame>,
-    kinds: &[Expand],
-    pool: &mut Adder,
-) -> Option<Result<MethodOut, MoveError>> {
-    match method_of(alloc, code, sizes, handlers, frames, kinds) {
-        Some(m) => Some(move_method(alloc, &m, kinds, 0, pool)),
-        None => None,
-    }
-}
-
-/// Moves code without handlers and frames, and answers it as a text.
-pub fn code_of(
-    alloc: Global,
-    code: &str,
-    sizes: Sizes,
-    kinds: &[Expand],
-    pool: &mut Adder,
-) -> Option<String> {
-    let bytes = hex::decode(alloc, code).ok()?;
-    let none = Seq::new(alloc);
-    match moved(
-        alloc,
-        bytes.as_slice(),
-        sizes,
-        none,
-        Seq::new(alloc),
-        kinds,
-        pool,
-    ) {
-        Some(Ok(m)) => text_of(alloc, m.ops.as_slice()),
-        _ => None,
     }
 }

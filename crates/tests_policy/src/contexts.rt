@@ -1,10 +1,10 @@
 use crate::permissions::reads;
-use crate::words::{Unread, number};
 use jctx::{Context, enter, privileged, top};
 use jdomain::{Domains, Verdict};
 use jperm::Permission;
 use jtext::Units;
 use std::alloc::{AllocError, Global};
+use tests_rows::{Unread, number};
 
 /// The limits that a word names: to read a property, or none.
 fn limits_of(alloc: Global, directory: &Units, name: &str) -> Result<Vec<Permission>, Unread> {

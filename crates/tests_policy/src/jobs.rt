@@ -1,7 +1,8 @@
-use crate::words::{Unread, bytes_of, first, number, string_of, told, unquoted};
+use crate::words::told;
 use jjob::{Command, Form, Job, JobError, Text, WordsError, read_job, read_words, stored_job};
 use jtext::Units;
 use std::alloc::{AllocError, Global};
+use tests_rows::{Unread, bytes_of, first, number, string_of, unquoted};
 
 fn put(out: &mut Vec<u16>, text: &str, end: u8) -> Result<(), AllocError> {
     for unit in text.encode_utf16() {

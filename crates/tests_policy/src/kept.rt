@@ -2,12 +2,12 @@ ghost use Rattle.std.specs.Prelude.{◌<◌, IsTrue, length};
 ghost use Rattle.jkept.specs.Entries.{AllBelow, Below};
 
 use crate::permissions::reads;
-use crate::words::Unread;
 use jdomain::{Domains, Verdict};
 use jkept::{InspectMark, Kept};
 use jperm::Permission;
 use jtext::Units;
-use std::alloc::{AllocError, Global};
+use std::alloc::Global;
+use tests_rows::Unread;
 
 /// Whether a number, where there is one, is one of the first so many.
 fn is_given(len: u64, number: Option<u64>) -> bool

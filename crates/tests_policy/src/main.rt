@@ -13,54 +13,9 @@ mod stacks;
 mod table;
 mod words;
 
-use std::alloc::Global;
-use std::{fmt, io};
-use table::{Line, Table};
-use words::string_of;
-
-/// How many rows of a section were asked, and how many were answered as they say.
-#[derive(Drop)]
-struct Section {
-    name: String,
-    asked: u32,
-    right: u32,
-}
-
-impl Section {
-    fn new(name: String) -> Section {
-        Section {
-            name,
-            asked: 0,
-            right: 0,
-        }
-    }
-
-    /// Counts a row that was answered as it says, or wasn't.
-    fn count(&mut self, right: bool) {
-        self.asked = self.asked.saturating_add(1);
-        self.right = self.right.saturating_add(u32::from(right));
-    }
-}
-
-impl fmt::Display for Section {
-    fn fmt<W: fmt::Write>(&self, f: &mut fmt::Formatter<W>) -> fmt::Result {
-        write!(
-            f,
-            "{}: {} of {} as they say",
-            self.name.as_str(),
-            self.right,
-            self.asked
-        )
-    }
-}
-
-/// Whether an answer is what a row spells.
-fn is_spelled(alloc: Global, wanted: &str, found: &str) -> bool {
-    match string_of(alloc, wanted) {
-        Ok(wanted) => wanted.as_str() == found,
-        Err(_) => false,
-    }
-}
+use std::io;
+use table::Table;
+use tests_rows::{Line, Section, is_spelled};
 
 fn main(rt: HostRuntime) -> io::Result<()> {
     let alloc = rt.alloc();
@@ -72,7 +27,7 @@ fn main(rt: HostRuntime) -> io::Result<()> {
         match table.read(alloc, line.as_str()) {
             Ok(Line::Known) => {}
             Ok(Line::Section(name)) => {
-                if section.asked != 0 {
+                if !section.is_empty() {
                     println!(rt; "{section}")?;
                 }
                 section = Section::new(String::from_str(alloc, name)?);

@@ -1,7 +1,8 @@
-use crate::words::{Unread, first, told, units_if, units_of, unquoted, yes_or_no};
+use crate::words::{told, units_if, units_of};
 use jperm::{FilePath, PermClass, PermError, Permission, covers, make};
 use jtext::Units;
 use std::alloc::{AllocError, Global};
+use tests_rows::{Unread, first, unquoted, yes_or_no};
 
 fn class_of(word: &str) -> Result<PermClass, Unread> {
     match word {

@@ -1,8 +1,9 @@
-use crate::words::{Unread, bytes_of, told, unquoted};
+use crate::words::told;
 use jbase::Stop;
 use jpolicy::{Policy, PolicyError, read_policy};
 use jtext::Units;
 use std::alloc::{AllocError, Global};
+use tests_rows::{Unread, bytes_of, unquoted};
 
 /// The policy of a text, if it isn't too long to be asked.
 pub fn policy_of(

@@ -1,10 +1,11 @@
-use crate::words::{Unread, bytes_of, first, string_of, told, unquoted, yes_or_no};
+use crate::words::told;
 use jbase::{Seq, Stop};
 use jdomain::{CodeSource, SourceError};
 use jperm::Permission;
 use jpolicy::Grant;
 use jtext::Units;
 use std::alloc::{AllocError, Global};
+use tests_rows::{Unread, bytes_of, first, string_of, unquoted, yes_or_no};
 
 /// The code source that a field is.
 pub fn source_of(alloc: Global, field: &str) -> Result<CodeSource, Unread> {

@@ -1,11 +1,11 @@
 use crate::kept::{grant, keep, walk};
 use crate::permissions::reads;
-use crate::words::{Unread, first, number};
 use jdomain::{Domains, Verdict};
 use jkept::{InspectMark, Kept};
 use jperm::Permission;
 use jtext::Units;
 use std::alloc::{AllocError, Global};
+use tests_rows::{Unread, first, number};
 
 /// The mark of a frame.
 fn mark(domain: u32, privileged: Option<u64>) -> InspectMark {
@@ -171,7 +171,7 @@ pub fn chain(alloc: Global, domains: &Domains, fields: &str) -> Result<String, U
     let empty: [Permission; 0] = [];
     let mut kept = Kept::open(alloc)?;
     let mut given = keep(alloc, &mut kept, &[mark(number(oldest)?, None)], None)?;
-    for _ in 0..number(long)? {
+    for _ in 0..number::<u32>(long)? {
         let one = grant(alloc, &mut kept, Some(given), Some(&empty))?;
         let frame = mark(0, Some(one));
         given = keep(alloc, &mut kept, &[frame, frame], None)?;

@@ -1,10 +1,11 @@
-use crate::words::{Unread, bytes_of, first, number, units_of, unquoted, yes_or_no};
+use crate::words::units_of;
 use crate::{contexts, jobs, permissions, policies, sources, stacks};
 use jdomain::{CodeSource, Domains};
 use jperm::Permission;
 use jpolicy::Policy;
 use jtext::Units;
 use std::alloc::{AllocError, Global};
+use tests_rows::{Line, Unread, bytes_of, first, number, unquoted, yes_or_no};
 
 /// What was read so far.
 #[derive(Drop)]
@@ -21,16 +22,6 @@ pub struct Table {
     granted_in: Units,
     /// The code sources of the domains.
     sources: Vec<CodeSource>,
-}
-
-/// What a line is.
-pub enum Line<'a> {
-    /// One that says nothing, or that later lines are read by.
-    Known,
-    /// The name of the rows behind it.
-    Section(&'a str),
-    /// The answer that it wants, and the one that was found.
-    Row(&'a str, String),
 }
 
 impl Table {

@@ -120,25 +120,27 @@ fn put_word(alloc: Global, word: &str, bytes: &mut Vec<u8>) -> Result<(), Unread
     Ok(())
 }
 
+/// Puts the bytes of words of hexadecimal text behind others.
+pub fn put_hex(alloc: Global, words: &str, bytes: &mut Vec<u8>) -> Result<(), Unread> {
+    for word in words.split(' ') {
+        put_word(alloc, word, bytes)?;
+    }
+    Ok(())
+}
+
 /// The bytes that words of hexadecimal text are; `-` are none.
 pub fn hex_of(alloc: Global, words: &str) -> Result<Vec<u8>, Unread> {
     let mut bytes = Vec::new(alloc);
-    if words == "-" {
-        return Ok(bytes);
-    }
-    for word in words.split(' ') {
-        put_word(alloc, word, &mut bytes)?;
+    if words != "-" {
+        put_hex(alloc, words, &mut bytes)?;
     }
     Ok(bytes)
 }
 
-/// How bytes of a text are told, or none.
-pub fn told_if(alloc: Global, text: Option<&[u8]>) -> Result<String, AllocError> {
-    match text {
-        Some(text) => {
-            let text = String::from_utf8_lossy(alloc, text)?;
-            format!(in alloc; "'{}'", text.as_str())
-        }
-        None => String::from_str(alloc, "-"),
+/// Whether an answer is the text that a row spells.
+pub fn is_spelled(alloc: Global, wanted: &str, found: &str) -> bool {
+    match string_of(alloc, wanted) {
+        Ok(wanted) => wanted.as_str() == found,
+        Err(_) => false,
     }
 }

@@ -1,0 +1,218 @@
+use crate::given::method_of;
+use crate::reading::{Given, read};
+use jbase::Seq;
+use jcode::{Handler, decode};
+use jmaps::{FullFrame, MapType};
+use jmove::{MethodOut, MoveError, limit_of, move_method, moved_descriptor};
+use jpool::{Adder, Entry, read_pool, write_pool};
+use std::alloc::{AllocError, Global};
+use tests_rows::{Unread, first, hex_of, number};
+
+/// An adder over the pool that bytes spell, to which a text was added, where there is one.
+fn adder_of(alloc: Global, bytes: &[u8], added: &str) -> Result<Adder, Unread> {
+    let Ok((pool, _)) = read_pool(alloc, bytes, 0) else {
+        return Err(Unread::Line);
+    };
+    if pool.entries().is_empty() {
+        return Err(Unread::Line);
+    }
+    let Ok(mut adder) = Adder::over(alloc, pool) else {
+        return Err(Unread::Memory);
+    };
+    if added.len() > 0xffff {
+        return Err(Unread::Line);
+    }
+    if added != "-" {
+        let text = Seq::from_slice(alloc, added.as_bytes())?;
+        if adder.add(Entry::Utf8(text)).is_err() {
+            return Err(Unread::Line);
+        }
+    }
+    Ok(adder)
+}
+
+/// Moves a method of a domain.
+fn moved(
+    alloc: Global,
+    given: Given,
+    domain: u32,
+    pool: &mut Adder,
+) -> Result<Result<MethodOut, MoveError>, Unread> {
+    let Given {
+        sizes,
+        code,
+        kinds,
+        handlers,
+        frames,
+    } = given;
+    let kinds = kinds.as_slice();
+    if domain >= 4096 {
+        return Err(Unread::Line);
+    }
+    match method_of(alloc, code.as_slice(), sizes, handlers, frames, kinds) {
+        Some(m) => Ok(move_method(alloc, &m, kinds, domain, pool)),
+        None => Err(Unread::Line),
+    }
+}
+
+/// The limit that a method breaks.
+fn limit(alloc: Global, given: Given) -> Result<String, Unread> {
+    let Given {
+        sizes,
+        code,
+        kinds,
+        handlers,
+        frames,
+    } = given;
+    let kinds = kinds.as_slice();
+    match method_of(alloc, code.as_slice(), sizes, handlers, frames, kinds) {
+        Some(m) => Ok(format!(in alloc; "{:?}", limit_of(&m, kinds))?),
+        None => Err(Unread::Line),
+    }
+}
+
+/// Whether the instructions of a method are those of code.
+fn is_code(alloc: Global, m: &MethodOut, words: &str) -> Result<String, Unread> {
+    let bytes = hex_of(alloc, words)?;
+    let Ok(ops) = decode(alloc, bytes.as_slice()) else {
+        return Err(Unread::Line);
+    };
+    let wanted = format!(in alloc; "{:?}", ops.as_slice())?;
+    let found = format!(in alloc; "{:?}", m.ops.as_slice())?;
+    Ok(format!(in alloc; "{}", found.as_str() == wanted.as_str())?)
+}
+
+fn put_types(alloc: Global, types: &[MapType], out: &mut String) -> Result<(), AllocError> {
+    for one in types {
+        let text = match one {
+            MapType::Top => String::from_str(alloc, "T,")?,
+            MapType::Int => String::from_str(alloc, "I,")?,
+            MapType::Long => String::from_str(alloc, "J,")?,
+            MapType::Object(i) => format!(in alloc; "O{i},")?,
+            MapType::Uninit(at) => format!(in alloc; "U{at},")?,
+            _ => String::from_str(alloc, "?,")?,
+        };
+        out.push_str(text.as_str())?;
+    }
+    Ok(())
+}
+
+/// Parts a text from what comes next by a space.
+fn part(out: &mut String) -> Result<(), AllocError> {
+    if !out.is_empty() {
+        out.push(' ')?;
+    }
+    Ok(())
+}
+
+/// Frames as a text: each with its place, its locals and its stack, and a comma behind each type.
+fn frames_text(alloc: Global, frames: &[FullFrame]) -> Result<String, AllocError> {
+    let mut out = String::new(alloc);
+    for frame in frames {
+        part(&mut out)?;
+        let at = format!(in alloc; "{}:", frame.at)?;
+        out.push_str(at.as_str())?;
+        put_types(alloc, frame.locals.as_slice(), &mut out)?;
+        out.push(':')?;
+        put_types(alloc, frame.stack.as_slice(), &mut out)?;
+    }
+    if out.is_empty() {
+        out.push('-')?;
+    }
+    Ok(out)
+}
+
+/// Handlers as a text: each with its range, its place and its class.
+fn handlers_text(alloc: Global, handlers: &[Handler]) -> Result<String, AllocError> {
+    let mut out = String::new(alloc);
+    for one in handlers {
+        part(&mut out)?;
+        let text = format!(in alloc; "{}-{}:{}:{}", one.start, one.end, one.at, one.class)?;
+        out.push_str(text.as_str())?;
+    }
+    if out.is_empty() {
+        out.push('-')?;
+    }
+    Ok(out)
+}
+
+/// What is asked of a moved method.
+fn of_method(alloc: Global, m: &MethodOut, word: &str, rest: &str) -> Result<String, Unread> {
+    match word {
+        "code" => is_code(alloc, m, rest),
+        "sizes" => Ok(format!(in alloc; "{} {} {}", m.slots, m.max_stack, m.max_locals)?),
+        "handlers" => Ok(handlers_text(alloc, m.handlers.as_slice())?),
+        "frames" => Ok(frames_text(alloc, m.frames.as_slice())?),
+        "count" => Ok(format!(in alloc; "{}", m.frames.as_slice().len())?),
+        "length" => match m.ops.as_slice().last() {
+            Some(last) => Ok(format!(in alloc; "{}", last.at.wrapping_add(1))?),
+            None => Err(Unread::Line),
+        },
+        _ => Err(Unread::Line),
+    }
+}
+
+/// What is asked of the pool behind a method that was moved, or wasn't.
+fn of_pool(alloc: Global, pool: Adder, word: &str, rest: &str) -> Result<String, Unread> {
+    let pool = pool.into_pool();
+    if word == "entries" {
+        return Ok(format!(in alloc; "{}", pool.entries().len())?);
+    }
+    let wanted = hex_of(alloc, rest)?;
+    let written = write_pool(alloc, &pool)?;
+    let is = written.as_slice() == wanted.as_slice();
+    Ok(format!(in alloc; "{is}")?)
+}
+
+/// Why the method of fields isn't moved, the limit that it breaks, and how many entries the pool has then.
+fn limits(
+    alloc: Global,
+    pool: &[u8],
+    added: &str,
+    domain: u32,
+    fields: &str,
+) -> Result<String, Unread> {
+    let broken = limit(alloc, read(alloc, fields)?)?;
+    let mut pool = adder_of(alloc, pool, added)?;
+    let came = moved(alloc, read(alloc, fields)?, domain, &mut pool)?;
+    let error = came.err();
+    let entries = pool.into_pool().entries().len();
+    Ok(format!(in alloc; "{error:?} {} {entries}", broken.as_str())?)
+}
+
+/// What is asked of a method, by a word and the words behind it: over the pool that bytes spell, to which a text was added, of a domain.
+pub fn answer(
+    alloc: Global,
+    pool: &[u8],
+    given: &str,
+    word: &str,
+    rest: &str,
+) -> Result<String, Unread> {
+    let (added, fields) = first(given)?;
+    let (domain, fields) = first(fields)?;
+    if word == "limits" {
+        return limits(alloc, pool, added, number::<u32>(domain)?, fields);
+    }
+    let given = read(alloc, fields)?;
+    let mut pool = adder_of(alloc, pool, added)?;
+    let came = moved(alloc, given, number::<u32>(domain)?, &mut pool)?;
+    match word {
+        "error" => Ok(format!(in alloc; "{:?}", came.err())?),
+        "entries" | "pool" => of_pool(alloc, pool, word, rest),
+        _ => match came {
+            Ok(m) => of_method(alloc, &m, word, rest),
+            Err(error) => Ok(format!(in alloc; "{error:?}")?),
+        },
+    }
+}
+
+/// A descriptor with a context.
+pub fn descriptor(alloc: Global, text: &str) -> Result<String, Unread> {
+    let Some(found) = moved_descriptor(alloc, text.as_bytes())? else {
+        return Err(Unread::Line);
+    };
+    let Ok(text) = str::from_utf8(found.as_slice()) else {
+        return Err(Unread::Line);
+    };
+    Ok(String::from_str(alloc, text)?)
+}

@@ -1,0 +1,10 @@
+//! What the programs of tests share: how the fields of their rows are spelled, and how their rows are counted.
+#![tactic(auto)]
+
+mod section;
+mod words;
+
+pub use section::{Line, Section};
+pub use words::{
+    Unread, bytes_of, first, hex_of, is_spelled, number, put_hex, string_of, unquoted, yes_or_no,
+};
