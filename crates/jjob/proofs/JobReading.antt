@@ -1,7 +1,7 @@
 -- Reading the lines of a job one by one.
 use Rattle.std.proofs.Common.{◌≡◌, ℕ, suc, ◌+◌, ◌==◌, ◌&&◌, ◌||◌, not, Bool, true, false, cond, List, [], ◌∷◌, ◌++◌}
 use Rattle.std.proofs.Common.{length, take, filter, map, Option, Some, None, refl, sym, ap, ◌∙◌, subst, append_assoc, arith}
-use Rattle.std.specs.Prelude.{Result, Ok, Err, OnOk, codes, nat_le, nat_lt, option_map, slice_index}
+use Rattle.std.specs.Prelude.{Result, Ok, Err, IfOk, OnOk, codes, nat_le, nat_lt, option_map, slice_index}
 use Rattle.std.specs.List.{after_first, before_first, filter_map, flat_map, cons_option, list_any, onto_first, slice_split}
 use Rattle.std.specs.Option.{is_some}
 use Rattle.url.specs.Parts.{Parts}
@@ -16,13 +16,14 @@ use Rattle.jjob.specs.declared.job.TheConstants.{MOST_CODES, MOST_CLASSES, MOST_
 use Rattle.jjob.specs.declared.line.Said.{Said}
 use Rattle.jjob.specs.declared.line.Said.TheVariants.{Policy, Prop, Cwd, Code, Class, Main, Schedule, Heap, Depth, Steps}
 use Rattle.jjob.specs.declared.told.Told.{Told}
+use Rattle.std.specs.declared.alloc.AllocError.{AllocError}
 use Rattle.jjob.specs.declared.line.TheConstants.{MOST_HEAP, MOST_DEPTH, MOST_STEPS, MOST_PICK}
 use Rattle.jjob.specs.JobNumbers.{number_up_to}
 use Rattle.jjob.specs.JobLines.{SaysNoProp, code_said, counted, cwd_said, depth_said, frames_said, is_kept, keyed, prop_said, said_of, schedule_said}
 use Rattle.jjob.specs.Jobs.{bad_behind, clashes, count_of, first_bad, has, lines_of, said_by}
 use Rattle.jjob.specs.Jobs.{class_in, code_in, cwd_in, depth_in, heap_in, main_in, name_in, picks_in, policy_in, steps_in}
 use Rattle.jjob.specs.JobTold.{IsTold, is_too_much}
-use Rattle.jjob.specs.JobReading.{AreSkipped, IsSkipped, Skips, TakesLine, bad_otherwise, clashes_otherwise}
+use Rattle.jjob.specs.JobReading.{AreSkipped, IsSkipped, Skips, TakesLine, TellsAll, bad_otherwise, clashes_otherwise}
 use Rattle.jjob.specs.JobNames.{first_again, is_named, name_of, name_said, names_again, digest, digests_of}
 
 -- ---- what may not be said
@@ -396,6 +397,16 @@ along_ends all number left line old new noted now taken again along is takes was
           ∙ ap first_again same ∙ sym (judged (last.known ∙ ap digests_of same)),
       subst (λ (ls : List (List ℕ)). IsTold (said_by ls) new) same last.is,
     )
+
+-- the answer to whether a name stands twice is that to all lines
+pub ends_so : (all : List (List ℕ)) (number : ℕ) (left : List (List ℕ)) (line : List ℕ) (old new : Told) (noted now : List ℕ) (taken : Bool)
+    (result : Result (Option ℕ) AllocError) → Along all number left old noted → left ≡ line ∷ [] → Takes old line new taken → taken ≡ true
+    → now ≡ noted ++ digests_of (line ∷ []) → (now ≡ digests_of all → IfOk result (λ again. again ≡ first_again all)) → IfOk result (TellsAll all new)
+ends_so all number left line old new noted now taken (Err e) along is takes was note judged = tt
+ends_so all number left line old new noted now taken (Ok (Some again)) along is takes was note judged =
+    (along_ends all number left line old new noted now taken (Some again) along is takes was note judged).0
+ends_so all number left line old new noted now taken (Ok None) along is takes was note judged =
+    along_ends all number left line old new noted now taken None along is takes was note judged
 
 -- ---- lines that are skipped
 

@@ -51,6 +51,11 @@ TakesLine lines line told (Ok true) = (bad_otherwise lines line ≡ false) × Is
 TakesLine lines line told (Ok false) = bad_otherwise lines line ≡ true
 TakesLine lines line told (Err e) = Unit {0}
 
+-- the first bad one of all lines; where there is none, what they say is told
+abbrev pub TellsAll : List (List ℕ) → Told → Option ℕ → Type 0
+TellsAll lines told (Some number) = first_bad lines ≡ Some number
+TellsAll lines told None = (first_bad lines ≡ None) × IsTold (said_by lines) told
+
 -- the answer to all lines is the first bad one, or what they say
 abbrev pub TakesAll : List (List ℕ) → Result Told JobError → Type 0
 TakesAll lines (Ok told) = (first_bad lines ≡ None) × IsTold (said_by lines) told

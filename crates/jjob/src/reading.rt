@@ -1,14 +1,15 @@
-ghost use Rattle.std.specs.Prelude.{◌≡◌, ◌∷◌, [], ◌<◌, ◌≤◌, ◌+◌, length, IfErr, IfNone, IfSome, MatchResult, false, true};
+ghost use Rattle.std.specs.Prelude.{◌≡◌, ◌∷◌, [], ◌<◌, ◌≤◌, ◌+◌, length, IfErr, IfNone, IfOk, IfSome, MatchResult, false, true};
 ghost use Rattle.std.specs.Str.{is_utf8};
 ghost use Rattle.std.specs.Str.Lossy.{utf8_valid_len};
 ghost use Rattle.jjob.specs.Jobs.{JobGives, job, job_in, line_at, lines_of, number_of_lines};
-ghost use Rattle.jjob.specs.JobReading.{IsSkipped, Skips, TakesAll};
+ghost use Rattle.jjob.specs.JobReading.{IsSkipped, Skips, TakesAll, TellsAll};
+ghost use Rattle.jjob.specs.JobTold.{IsTold};
 
 use crate::job::{Job, JobError};
 use crate::names::{first_again_by, first_again_to};
 use crate::reader::take;
 use crate::told::Told;
-use std::alloc::Global;
+use std::alloc::{AllocError, Global};
 
 /// The job that the bytes of a job file are.
 ///
@@ -71,28 +72,37 @@ fn lines_read(alloc: Global, text: &str) -> Result<Told, JobError>
     ensures { TakesAll (lines_of text.now) result }
 {
     let mut told = Told::new(alloc);
+    let bad = bad_line(alloc, text, &mut told)?;
+    match bad {
+        Some(line) => Err(JobError::Line { line }),
+        None => Ok(told),
+    }
+}
+
+/// The number of the first bad line of a text; where there is none, what the lines give is told. Nothing was told before.
+fn bad_line(alloc: Global, text: &str, told: &mut Told) -> Result<Option<u32>, AllocError>
+    requires small { length text.now < 0xffff_ffff }
+    requires empty { IsTold [] told.old }
+    ensures { IfOk result (TellsAll (lines_of text.now) told.new) }
+{
     let mut digests = Vec::new(alloc);
     let (mut rest, mut number) = behind_skipped(text, 1);
     while let Some((line, more)) = first_line(rest) {
-        let taken = take(alloc, &mut told, &mut digests, line)?;
+        let taken = take(alloc, told, &mut digests, line)?;
         if !taken {
             let line = first_again_to(alloc, text, digests, number)?;
-            return Err(JobError::Line { line });
+            return Ok(Some(line));
         }
         let (next, place) = behind_skipped(more, number + 1);
         rest = next;
         number = place;
     }
-    let taken = take(alloc, &mut told, &mut digests, rest)?;
+    let taken = take(alloc, told, &mut digests, rest)?;
     if !taken {
         let line = first_again_to(alloc, text, digests, number)?;
-        return Err(JobError::Line { line });
+        return Ok(Some(line));
     }
-    let again = first_again_by(alloc, text, digests)?;
-    match again {
-        Some(line) => Err(JobError::Line { line }),
-        None => Ok(told),
-    }
+    first_again_by(alloc, text, digests)
 }
 
 /// What is left of a text behind the lines at its front that are skipped, and the number of the first line that is left, where the text's

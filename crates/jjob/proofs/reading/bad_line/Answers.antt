@@ -1,7 +1,7 @@
-use Rattle.std.proofs.Common.{◌≡◌, ◌+◌, ◌∙◌, arith, false, rules, true}
+use Rattle.std.proofs.Common.{◌≡◌, ◌+◌, arith, false, rules, true}
 use Rattle.jjob.specs.Jobs.{lines_of}
-use Rattle.jjob.proofs.JobReading.{along_bad, along_begins, along_ends, along_more, along_skips}
-use Rattle.jjob.proofs.reading.lines_read.Goals as goal
+use Rattle.jjob.proofs.JobReading.{along_bad, along_begins, along_more, along_skips, ends_so}
+use Rattle.jjob.proofs.reading.bad_line.Goals as goal
 
 pub loop-line-init : goal.loop-line-init
 loop-line-init c =
@@ -9,8 +9,8 @@ loop-line-init c =
     let names = c.new-digests.result.items in (
       search rules,
       omega (arith, c.behind_skipped-number.ensures.small),
-      along_skips all 1 all c.behind_skipped-number.result.1 (lines_of c.behind_skipped-number.result.0.now) c.new-told.result names
-          (along_begins all c.new-told.result names c.new-digests.ensures.items c.new-told.ensures) c.behind_skipped-number.ensures.skips,
+      along_skips all 1 all c.behind_skipped-number.result.1 (lines_of c.behind_skipped-number.result.0.now) c.args.told.now names
+          (along_begins all c.args.told.now names c.new-digests.ensures.items c.requires.empty) c.behind_skipped-number.ensures.skips,
     )
 
 pub returns-then-not-taken : goal.returns-then-not-taken
@@ -40,17 +40,9 @@ returns-then-not-taken-2 c =
     c.loop-line.digests.items c.take-2.new.digests.items c.in_ok-taken-2.taken c.in_ok-line-2.line c.loop-line.invariant.2 c.in_default.ensures.none
     c.in_ok-taken-2.ensures.taken was c.in_ok-taken-2.ensures.noted c.in_ok-line-2.ensures
 
-pub returns-in-Some-again : goal.returns-in-Some-again
-returns-in-Some-again c =
+pub returns : goal.returns
+returns c =
     let was : c.in_ok-taken-2.taken ≡ true = search rules in
-    (along_ends (lines_of c.args.text.now) c.loop-line.number (lines_of c.loop-line.rest.now) c.loop-line.rest.now c.loop-line.told c.take-2.new.told
-    c.loop-line.digests.items c.take-2.new.digests.items c.in_ok-taken-2.taken c.in_ok-again.again c.loop-line.invariant.2 c.in_default.ensures.none
-    c.in_ok-taken-2.ensures.taken was c.in_ok-taken-2.ensures.noted c.in_ok-again.ensures).0 ∙ c.in-Some-again.is
-
-pub returns-in-None : goal.returns-in-None
-returns-in-None c =
-    let was : c.in_ok-taken-2.taken ≡ true = search rules in
-    let end = along_ends (lines_of c.args.text.now) c.loop-line.number (lines_of c.loop-line.rest.now) c.loop-line.rest.now c.loop-line.told c.take-2.new.told
-    c.loop-line.digests.items c.take-2.new.digests.items c.in_ok-taken-2.taken c.in_ok-again.again c.loop-line.invariant.2 c.in_default.ensures.none
-    c.in_ok-taken-2.ensures.taken was c.in_ok-taken-2.ensures.noted c.in_ok-again.ensures in
-    (end.0 ∙ c.in-None.is, end.1)
+    ends_so (lines_of c.args.text.now) c.loop-line.number (lines_of c.loop-line.rest.now) c.loop-line.rest.now c.loop-line.told c.take-2.new.told
+    c.loop-line.digests.items c.take-2.new.digests.items c.in_ok-taken-2.taken c.first_again_by.result c.loop-line.invariant.2 c.in_default.ensures.none
+    c.in_ok-taken-2.ensures.taken was c.in_ok-taken-2.ensures.noted c.first_again_by.ensures
