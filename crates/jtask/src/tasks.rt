@@ -198,12 +198,18 @@ fn rewrite_of_parts(alloc: Global, text: Text, to: Text, parts: Seq<CodePart>) -
     ensures kind { IfOk result (λ t. is_stored t ≡ true) }
     ensures unread { result ≡ Err Read → ⊥ }
 {
-    let program = moved_of_parts(alloc, parts)?;
-    Ok(Task::Rewrite {
-        program,
-        job: text,
-        to,
-    })
+    match moved_of_parts(alloc, parts) {
+        Ok(program) => Ok(Task::Rewrite {
+            program,
+            job: text,
+            to,
+        }),
+        Err(halt) => {
+            drop(text);
+            drop(to);
+            Err(halt)
+        }
+    }
 }
 
 #[tactic(auto, unfolding(crate::specs::Tasks::rewrite_of_ground))]
