@@ -11,15 +11,18 @@ use Rattle.jperm.specs.Names.{but_last}
 use Rattle.jpolicy.specs.declared.grant.Grant.{Grant}
 use Rattle.jdomain.specs.declared.code.Code.{Code}
 use Rattle.jdomain.specs.declared.code.Code.TheVariants.{All, Nothing, Under}
-use Rattle.jdomain.specs.declared.code.TheConstants.{MOST_URL}
 use Rattle.jdomain.specs.declared.fault.SourceError.{SourceError}
 use Rattle.jdomain.specs.declared.fault.SourceError.TheVariants.{NotUrl, NotDirectory, Memory}
 
 -- ---- texts that are URLs
 
+-- the most bytes of a URL
+abbrev pub most_url : ℕ
+most_url = 65536
+
 -- the URL that a text of UTF-8 is, if it is one and isn't too long
 unfoldable pub url_of : List ℕ → Option Parts
-url_of text = if nat_le (length text) MOST_URL then result_ok (parse_url None text) else None
+url_of text = if nat_le (length text) most_url then result_ok (parse_url None text) else None
 
 -- the text of UTF-8 that units of UTF-16 are, if each surrogate has its partner
 abbrev pub text_of : List ℕ → Option (List ℕ)

@@ -2,7 +2,6 @@
 use Rattle.std.specs.Prelude.{◌≡◌, ℕ, List, [], ◌∷◌, length, Option, Some, None, nat_le, if◌then◌else◌}
 use Rattle.std.specs.Str.{bytes_eq}
 use Rattle.std.specs.Option.{option_map}
-use Rattle.jio.specs.declared.TheConstants.{MOST_READ}
 
 pub record File : Type 0 where
   pub path : List ℕ
@@ -18,10 +17,14 @@ abbrev pub PathsDiffer : List File → Type 0
 PathsDiffer [] = Unit {0}
 PathsDiffer (file ∷ files) = (file_at files file.path ≡ None) × PathsDiffer files
 
+-- The most bytes of a file that a shelf reads: 64 MiB.
+abbrev pub most_read : ℕ
+most_read = 67108864
+
 -- The bytes, where they are few enough to be read.
 abbrev pub short_enough : Option (List ℕ) → Option (List ℕ)
 short_enough None = None
-short_enough (Some bytes) = if nat_le (length bytes) MOST_READ then Some bytes else None
+short_enough (Some bytes) = if nat_le (length bytes) most_read then Some bytes else None
 
 -- What a read of the path gives.
 abbrev pub readable : List File → List ℕ → Option (List ℕ)

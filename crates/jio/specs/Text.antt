@@ -4,7 +4,6 @@ use Rattle.std.specs.Fmt.{digit_glyph}
 use Rattle.std.specs.Str.{byte}
 use Rattle.jbase.specs.Causes.{appended}
 use Rattle.jio.specs.Puts.{IsCutAt}
-use Rattle.jio.specs.declared.TheConstants.{PIECE}
 use Rattle.jio.specs.declared.sink.PutFault.{PutFault}
 
 -- One UTF-16 unit: a printable one of ASCII stands for itself, but a backslash is written twice; any other is `\u` and
@@ -20,9 +19,13 @@ written (unit ∷ units) = written_unit unit ++ written units
 
 -- ---- a line in pieces
 
+-- The bytes of a piece.
+abbrev pub piece : ℕ
+piece = 256
+
 -- How many bytes of a line have gone out, of so many that it has so far: whole pieces.
 abbrev pub whole : ℕ → ℕ
-whole count = count / PIECE * PIECE
+whole count = count / piece * piece
 
 -- A line that isn't ended: how many of its bytes have gone out, and the bytes behind these.
 pub record LineState : Type 0 where

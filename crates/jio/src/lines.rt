@@ -21,14 +21,13 @@ pub struct Line {
 
 impl Model for Line {
     ghost use Rattle.std.specs.Prelude.{◌+◌, ◌<◌, ◌^◌, take};
-    ghost use Rattle.jio.specs.declared.TheConstants.{PIECE};
-    ghost use Rattle.jio.specs.Text.{LineState};
+    ghost use Rattle.jio.specs.Text.{LineState, piece};
 
     ghost Value = { LineState };
 
     ghost view = { λ l. record { written = l.written; pending = take l.filled l.buffer } };
 
-    ghost invariant = { λ l. (l.filled < PIECE) × (l.written + l.filled < 2 ^ 64) };
+    ghost invariant = { λ l. (l.filled < piece) × (l.written + l.filled < 2 ^ 64) };
 }
 
 fn hex_digit(value: u16) -> u8

@@ -1,9 +1,8 @@
 ghost use Rattle.std.specs.Prelude.{is_some, ◌≡◌, ◌⊎◌, ◌≤◌, ◌↔◌, Some, None, IfOk, IfSome, ◌<◌, OnOk, OnErr, map, length, vec_len, IsTrue, MatchOption};
 ghost use Rattle.std.specs.Option.{option_map, option_copied};
 ghost use Rattle.jbase.specs.Causes.{Rose};
-ghost use Rattle.jio.specs.declared.TheConstants.{MOST_READ};
 ghost use Rattle.jio.specs.declared.shelf.ShelfError.TheVariants.{Memory, Failed};
-ghost use Rattle.jio.specs.Held.{PathsDiffer, Told, Lacks, SameElsewhere, stored, file_at};
+ghost use Rattle.jio.specs.Held.{PathsDiffer, Told, Lacks, SameElsewhere, most_read, stored, file_at};
 ghost use Rattle.jio.specs.Memory.{files_of, new_shelf, place_from, read_listed, read_gives, after_read, write_listed, after_write};
 
 use crate::MOST_READ;
@@ -163,7 +162,7 @@ impl Shelf for MemoryShelf {
     /// `MOST_READ` bytes; only where it is listed the fault is counted.
     fn read(&mut self, alloc: Global, path: &str) -> Result<Vec<u8>, ShelfError>
         ensures bytes { IfOk result (λ bytes. Told (Some self.old.files) path.now bytes.items) }
-        ensures few { IfOk result (λ bytes. vec_len bytes ≤ MOST_READ) }
+        ensures few { IfOk result (λ bytes. vec_len bytes ≤ most_read) }
         ensures held { Some self.new.files ≡ Some self.old.files }
         ensures later { self.old.read_faults ≤ self.new.read_faults }
         ensures writes { self.new.write_faults ≡ self.old.write_faults }

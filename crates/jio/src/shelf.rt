@@ -1,9 +1,8 @@
 ghost use Rattle.std.specs.Prelude.{◌≡◌, ◌⊎◌, ◌≤◌, List, Option, ℕ, IfOk, OnOk, vec_len};
 ghost use Rattle.std.specs.Option.{option_map};
 ghost use Rattle.jbase.specs.Causes.{Rose};
-ghost use Rattle.jio.specs.declared.TheConstants.{MOST_READ};
 ghost use Rattle.jio.specs.declared.shelf.ShelfError.TheVariants.{Memory, Failed};
-ghost use Rattle.jio.specs.Held.{File, Told, Lacks, SameElsewhere, file_at, stored};
+ghost use Rattle.jio.specs.Held.{File, Told, Lacks, SameElsewhere, file_at, most_read, stored};
 
 use std::alloc::{AllocError, AllocFailed, Global};
 
@@ -41,11 +40,11 @@ pub trait Shelf {
     /// How many writes failed: a `u64` that stands still at its last value.
     ghost write_faults: { Self → ℕ };
 
-    /// All bytes of the file at the path, of which there are at most `MOST_READ`. It answers `Failed` only where a
+    /// All bytes of the file at the path, of which there are at most 67,108,864. It answers `Failed` only where a
     /// read fault was counted in this call, or where the told files have none at the path or a longer one.
     fn read(&mut self, alloc: Global, path: &str) -> Result<Vec<u8>, ShelfError>
         ensures bytes { IfOk result (λ bytes. Told (held self.old) path.now bytes.items) }
-        ensures few { IfOk result (λ bytes. vec_len bytes ≤ MOST_READ) }
+        ensures few { IfOk result (λ bytes. vec_len bytes ≤ most_read) }
         ensures held { held self.new ≡ held self.old }
         ensures later { read_faults self.old ≤ read_faults self.new }
         ensures writes { write_faults self.new ≡ write_faults self.old }

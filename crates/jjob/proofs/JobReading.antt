@@ -12,12 +12,11 @@ use Rattle.jdomain.specs.Sources.{source_of}
 use Rattle.std.proofs.lemmas.List.{append-nil, length-append, map-append}
 use Rattle.std.proofs.lemmas.List.Elements.{filter_map-append, filter-append}
 use Rattle.jbase.specs.First.{fault_if, first_along, or_else}
-use Rattle.jjob.specs.declared.job.TheConstants.{MOST_CODES, MOST_CLASSES, MOST_PICKS}
+use Rattle.jjob.specs.Limits.{most_codes, most_classes, most_picks, most_heap, most_depth, most_steps, greatest_pick}
 use Rattle.jjob.specs.declared.line.Said.{Said}
 use Rattle.jjob.specs.declared.line.Said.TheVariants.{Policy, Prop, Cwd, Code, Class, Main, Schedule, Heap, Depth, Steps}
 use Rattle.jjob.specs.declared.told.Told.{Told}
 use Rattle.std.specs.declared.alloc.AllocError.{AllocError}
-use Rattle.jjob.specs.declared.line.TheConstants.{MOST_HEAP, MOST_DEPTH, MOST_STEPS, MOST_PICK}
 use Rattle.jjob.specs.JobNumbers.{number_up_to}
 use Rattle.jjob.specs.JobLines.{SaysNoProp, code_said, counted, cwd_said, depth_said, frames_said, is_kept, keyed, prop_said, said_of, schedule_said}
 use Rattle.jjob.specs.Jobs.{bad_behind, clashes, count_of, first_bad, has, lines_of, said_by}
@@ -42,10 +41,10 @@ unfolding clashes
 clashes_is before (Policy path) = or_none (has policy_in before)
 clashes_is before (Prop name value) = refl
 clashes_is before (Cwd path) = or_none (has cwd_in before)
-clashes_is before (Code source) = or_none (nat_le MOST_CODES (count_of code_in before))
-clashes_is before (Class path) = or_none (count_of code_in before == 0 || nat_le MOST_CLASSES (count_of class_in before))
+clashes_is before (Code source) = or_none (nat_le most_codes (count_of code_in before))
+clashes_is before (Class path) = or_none (count_of code_in before == 0 || nat_le most_classes (count_of class_in before))
 clashes_is before (Main name) = or_none (has main_in before)
-clashes_is before (Schedule numbers) = or_none (nat_lt MOST_PICKS (length (flat_map picks_in before) + length numbers))
+clashes_is before (Schedule numbers) = or_none (nat_lt most_picks (length (flat_map picks_in before) + length numbers))
 clashes_is before (Heap cells) = or_none (has heap_in before)
 clashes_is before (Depth frames) = or_none (has depth_in before)
 clashes_is before (Steps steps) = or_none (has steps_in before)
@@ -150,11 +149,11 @@ unfolding counted schedule_said depth_said
 not_counted key text name value e = go (bytes_eq key (codes "schedule")) (bytes_eq key (codes "heap")) (bytes_eq key (codes "depth")) (bytes_eq key (codes "steps")) e
   where
     go : (a b c d : Bool)
-        → cond a (schedule_said text) (cond b (option_map Heap (number_up_to MOST_HEAP text)) (cond c (depth_said text) (cond d (option_map Steps (number_up_to MOST_STEPS text)) None))) ≡ Some (Prop name value) → ⊥
-    go true b c d e = not_picks (each_some (number_up_to MOST_PICK) (slice_split (λ b. b == 32) text)) name value e
-    go false true c d e = not_heap (number_up_to MOST_HEAP text) name value e
-    go false false true d e = not_depth (number_up_to MOST_DEPTH text) name value e
-    go false false false true e = not_steps (number_up_to MOST_STEPS text) name value e
+        → cond a (schedule_said text) (cond b (option_map Heap (number_up_to most_heap text)) (cond c (depth_said text) (cond d (option_map Steps (number_up_to most_steps text)) None))) ≡ Some (Prop name value) → ⊥
+    go true b c d e = not_picks (each_some (number_up_to greatest_pick) (slice_split (λ b. b == 32) text)) name value e
+    go false true c d e = not_heap (number_up_to most_heap text) name value e
+    go false false true d e = not_depth (number_up_to most_depth text) name value e
+    go false false false true e = not_steps (number_up_to most_steps text) name value e
     go false false false false e = cc
 
 not_cwd : (b : Bool) (text name value : List ℕ) → cond b (Some (Cwd text)) None ≡ Some (Prop name value) → ⊥

@@ -9,7 +9,7 @@ use Rattle.std.specs.Prelude.{nat_le}
 use Rattle.url.specs.Parts.{Parts}
 use Rattle.jbase.specs.First.{first_some, or_else}
 use Rattle.jjob.specs.declared.job.JobSource.{JobSource}
-use Rattle.jjob.specs.declared.job.TheConstants.{MOST_CLASSES}
+use Rattle.jjob.specs.Limits.{most_classes}
 use Rattle.jjob.specs.declared.line.Said.{Said}
 use Rattle.jjob.specs.declared.line.Said.TheVariants.{Policy, Prop, Cwd, Code, Class, Main, Schedule, Heap, Depth, Steps}
 use Rattle.jjob.specs.declared.told.Told.{Told}
@@ -195,7 +195,7 @@ last_grows path (d ∷ e ∷ more) s = ap (λ (ss : List JobSource). d ∷ ss) (
 
 is_class : (told : Told) (path : List ℕ) → is_too_much told (Class path) ≡ false → told.codes ≡ 0 → ⊥
 unfolding is_too_much
-is_class told path h none = go (told.codes == 0) (nat_le MOST_CLASSES told.classes) h (ap (λ (n : ℕ). n == 0) none)
+is_class told path h none = go (told.codes == 0) (nat_le most_classes told.classes) h (ap (λ (n : ℕ). n == 0) none)
   where
     go : (a b : Bool) → (a || b) ≡ false → a ≡ true → ⊥
     go true b h e = cc

@@ -6,7 +6,6 @@ pub mod JobTold
 pub mod Join
 pub mod LineNumbers
 pub mod Looks
-pub mod Numbers
 pub mod Parts
 pub mod RowLaws
 pub mod Rows

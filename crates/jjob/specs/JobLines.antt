@@ -7,7 +7,7 @@ use Rattle.jbase.specs.Each.{each_some}
 use Rattle.jdomain.specs.Sources.{source_of}
 use Rattle.jjob.specs.declared.line.Said.{Said}
 use Rattle.jjob.specs.declared.line.Said.TheVariants.{Policy, Prop, Cwd, Code, Class, Main, Schedule, Heap, Depth, Steps}
-use Rattle.jjob.specs.declared.line.TheConstants.{MOST_HEAP, MOST_DEPTH, MOST_STEPS, MOST_PICK}
+use Rattle.jjob.specs.Limits.{most_heap, most_depth, most_steps, greatest_pick}
 use Rattle.jjob.specs.JobNumbers.{number_up_to}
 
 -- whether a line says something: it isn't empty and doesn't begin with `#`
@@ -37,7 +37,7 @@ code_said url = option_map Code (result_ok (source_of url))
 
 -- numbers of the schedule, parted by one space each
 unfoldable pub schedule_said : List ℕ → Option Said
-schedule_said text = option_map Schedule (each_some (number_up_to MOST_PICK) (slice_split (λ b. b == byte " ") text))
+schedule_said text = option_map Schedule (each_some (number_up_to greatest_pick) (slice_split (λ b. b == byte " ") text))
 
 abbrev pub frames_said : Option ℕ → Option Said
 frames_said None = None
@@ -45,7 +45,7 @@ frames_said (Some frames) = if frames == 0 then None else Some (Depth frames)
 
 -- the frames of a thread: at least one
 unfoldable pub depth_said : List ℕ → Option Said
-depth_said digits = frames_said (number_up_to MOST_DEPTH digits)
+depth_said digits = frames_said (number_up_to most_depth digits)
 
 -- ---- lines
 
@@ -53,9 +53,9 @@ depth_said digits = frames_said (number_up_to MOST_DEPTH digits)
 unfoldable pub counted : List ℕ → List ℕ → Option Said
 counted key value =
     if bytes_eq key (codes "schedule") then schedule_said value
-    else (if bytes_eq key (codes "heap") then option_map Heap (number_up_to MOST_HEAP value)
+    else (if bytes_eq key (codes "heap") then option_map Heap (number_up_to most_heap value)
     else (if bytes_eq key (codes "depth") then depth_said value
-    else (if bytes_eq key (codes "steps") then option_map Steps (number_up_to MOST_STEPS value) else None)))
+    else (if bytes_eq key (codes "steps") then option_map Steps (number_up_to most_steps value) else None)))
 
 -- what a key says with a value, if a job has the key and the value is good
 unfoldable pub keyed : List ℕ → List ℕ → Option Said

@@ -4,7 +4,7 @@ use Rattle.std.specs.List.{filter_map, flat_map}
 use Rattle.std.specs.Option.{is_some, option_to_list}
 use Rattle.jbase.specs.First.{first_some}
 use Rattle.jjob.specs.declared.job.JobSource.{JobSource}
-use Rattle.jjob.specs.declared.job.TheConstants.{MOST_CODES, MOST_CLASSES, MOST_PICKS}
+use Rattle.jjob.specs.Limits.{most_codes, most_classes, most_picks}
 use Rattle.jjob.specs.declared.line.Said.{Said}
 use Rattle.jjob.specs.declared.line.Said.TheVariants.{Policy, Prop, Cwd, Code, Class, Main, Schedule, Heap, Depth, Steps}
 use Rattle.jjob.specs.declared.told.Told.{Told}
@@ -15,10 +15,10 @@ unfoldable pub is_too_much : Told → Said → Bool
 is_too_much told (Policy path) = is_some told.policy
 is_too_much told (Prop name value) = false
 is_too_much told (Cwd path) = is_some told.cwd
-is_too_much told (Code source) = nat_le MOST_CODES told.codes
-is_too_much told (Class path) = told.codes == 0 || nat_le MOST_CLASSES told.classes
+is_too_much told (Code source) = nat_le most_codes told.codes
+is_too_much told (Class path) = told.codes == 0 || nat_le most_classes told.classes
 is_too_much told (Main name) = is_some told.main
-is_too_much told (Schedule numbers) = nat_lt MOST_PICKS (length told.schedule + length numbers)
+is_too_much told (Schedule numbers) = nat_lt most_picks (length told.schedule + length numbers)
 is_too_much told (Heap cells) = is_some told.heap
 is_too_much told (Depth frames) = is_some told.depth
 is_too_much told (Steps steps) = is_some told.steps

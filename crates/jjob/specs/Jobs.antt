@@ -12,7 +12,7 @@ use Rattle.jjob.specs.declared.job.Job.{Job}
 use Rattle.jjob.specs.declared.job.JobError.{JobError}
 use Rattle.jjob.specs.declared.job.JobError.TheVariants.{Line, Memory}
 use Rattle.jjob.specs.declared.job.JobSource.{JobSource}
-use Rattle.jjob.specs.declared.job.TheConstants.{DEFAULT_HEAP, DEFAULT_DEPTH, DEFAULT_STEPS, MOST_CODES, MOST_CLASSES, MOST_PICKS}
+use Rattle.jjob.specs.Limits.{default_heap, default_depth, default_steps, most_codes, most_classes, most_picks}
 use Rattle.jjob.specs.declared.line.Said.{Said}
 use Rattle.jjob.specs.declared.line.Said.TheVariants.{Policy, Prop, Cwd, Code, Class, Main, Schedule, Heap, Depth, Steps}
 use Rattle.jjob.specs.JobLines.{is_kept, said_of}
@@ -78,10 +78,10 @@ unfoldable pub clashes : List Said → Said → Bool
 clashes before (Policy path) = has policy_in before
 clashes before (Prop name value) = list_any (bytes_eq name) (filter_map name_in before)
 clashes before (Cwd path) = has cwd_in before
-clashes before (Code source) = nat_le MOST_CODES (count_of code_in before)
-clashes before (Class path) = count_of code_in before == 0 || nat_le MOST_CLASSES (count_of class_in before)
+clashes before (Code source) = nat_le most_codes (count_of code_in before)
+clashes before (Class path) = count_of code_in before == 0 || nat_le most_classes (count_of class_in before)
 clashes before (Main name) = has main_in before
-clashes before (Schedule numbers) = nat_lt MOST_PICKS (length (flat_map picks_in before) + length numbers)
+clashes before (Schedule numbers) = nat_lt most_picks (length (flat_map picks_in before) + length numbers)
 clashes before (Heap cells) = has heap_in before
 clashes before (Depth frames) = has depth_in before
 clashes before (Steps steps) = has steps_in before
@@ -129,9 +129,9 @@ job_of said main = record {
   sources = sources_of said;
   main = main;
   schedule = flat_map picks_in said;
-  heap = unwrap_or (first_some heap_in said) DEFAULT_HEAP;
-  depth = unwrap_or (first_some depth_in said) DEFAULT_DEPTH;
-  steps = unwrap_or (first_some steps_in said) DEFAULT_STEPS;
+  heap = unwrap_or (first_some heap_in said) default_heap;
+  depth = unwrap_or (first_some depth_in said) default_depth;
+  steps = unwrap_or (first_some steps_in said) default_steps;
 }
 
 -- ---- the job of a file

@@ -5,6 +5,7 @@ pub mod JobNumbers
 pub mod JobReading
 pub mod JobTold
 pub mod Jobs
+pub mod Limits
 pub mod Rows
 pub mod Storing
 pub mod Words

@@ -1,9 +1,7 @@
 -- The words of the command line, and the command that they are.
-use Rattle.std.specs.Prelude.{◌≡◌, ℕ, ◌^◌, ◌&&◌, ◌==◌, Bool, true, false, List, [], ◌∷◌, Option, Some, None, Result, Ok, Err, ⊤}
-use Rattle.std.specs.Prelude.{if◌then◌else◌, is_some, nat_le, nat_lt, length, drop, take, codes, map, option_map, option_and_then, String, string_bytes}
-use Rattle.std.specs.List.{list_all}
+use Rattle.std.specs.Prelude.{◌≡◌, ℕ, ◌==◌, Bool, true, false, List, [], ◌∷◌, Option, Some, None, Result, Ok, Err, ⊤}
+use Rattle.std.specs.Prelude.{if◌then◌else◌, is_some, length, drop, take, codes, map, option_map, option_and_then, String, string_bytes}
 use Rattle.std.specs.Str.{bytes_eq}
-use Rattle.std.specs.Str.Parse.{digits_value}
 use Rattle.std.specs.declared.alloc.Global.{Global}
 use Rattle.jjob.specs.declared.command.Command.{Command}
 use Rattle.jjob.specs.declared.command.Command.TheVariants.{Run, Check, Rewrite, Policy, Gen}
@@ -11,6 +9,8 @@ use Rattle.jjob.specs.declared.command.Form.{Form}
 use Rattle.jjob.specs.declared.command.Form.TheVariants.{Inspect, Pass, Plain}
 use Rattle.jjob.specs.declared.command.WordsError.{WordsError}
 use Rattle.jjob.specs.declared.command.WordsError.TheVariants.{Usage, Memory}
+use Rattle.jjob.specs.JobNumbers.{number_up_to}
+use Rattle.jjob.specs.Limits.{most_seed, most_size}
 
 -- the bytes of a word
 abbrev pub Word : Type 0
@@ -70,25 +70,13 @@ abbrev pub form_or_pass : Option Word → Option Form
 form_or_pass None = Some Pass
 form_or_pass (Some w) = form_named w
 
--- each byte is a decimal digit
-abbrev pub are_digits : Word → Bool
-are_digits w = list_all (λ b. nat_le 48 b && nat_le b 57) w
-
--- 1 to 20 decimal digits
-abbrev pub is_number : Word → Bool
-is_number w = nat_lt 0 (length w) && (nat_lt (length w) 21 && are_digits w)
-
--- the u64 that a word writes
-unfoldable pub number : Word → Option ℕ
-number w = if is_number w && nat_lt (digits_value 10 w) (2 ^ 64) then Some (digits_value 10 w) else None
-
--- a size is from 1 to 1,000
+-- a size isn't 0
 abbrev pub sized : ℕ → ℕ → Option Command
-sized seed size = if nat_lt 0 size && nat_lt size 1001 then Some (Gen seed size) else None
+sized seed size = if size == 0 then None else Some (Gen seed size)
 
--- what is made of a seed and a size
+-- what is made of a seed and a size, each of 1 to 20 decimal digits
 abbrev pub generated : Word → Word → Option Command
-generated seed size = option_and_then (λ s. option_and_then (sized s) (number size)) (number seed)
+generated seed size = option_and_then (λ s. option_and_then (sized s) (number_up_to most_size size)) (number_up_to most_seed seed)
 
 -- what has one path behind its verb
 abbrev pub with_one : Option Word → Word → Word → Option Command
@@ -97,11 +85,15 @@ with_one form verb job =
     else (if bytes_eq verb (codes "check") then option_map (λ f. Check f job) (form_or_pass form)
     else (if bytes_eq verb (codes "policy") then (if is_some form then None else Some (Policy job)) else None))
 
+-- a rewriting of a job, stored below a folder that has a name
+abbrev pub rewriting : Word → Word → Option Command
+rewriting job to = if length to == 0 then None else Some (Rewrite job to)
+
 -- what has two words behind its verb
 abbrev pub with_two : Option Word → Word → Word → Word → Option Command
 with_two form verb one two =
     if is_some form then None
-    else (if bytes_eq verb (codes "rewrite") then Some (Rewrite one two)
+    else (if bytes_eq verb (codes "rewrite") then rewriting one two
     else (if bytes_eq verb (codes "gen") then generated one two else None))
 
 -- a verb has one word or two behind it

@@ -20,7 +20,7 @@ pub enum Command {
     Run { form: Form, job: Text },
     /// The code of a job is checked.
     Check { form: Form, job: Text },
-    /// The code of a job is rewritten, and stored below a folder.
+    /// The code of a job is rewritten, and stored below a folder, whose path isn't empty.
     Rewrite { job: Text, to: Text },
     /// What the policy of a job grants is written.
     Policy { job: Text },

@@ -1,8 +1,9 @@
 ghost use Rattle.std.specs.Prelude.{◌≡◌, map};
 ghost use Rattle.std.specs.Option.{option_copied};
-ghost use Rattle.jjob.specs.Words.{WordsGive, are_digits, by_verb, form_named, form_or_pass, generated, is_number, number, with_one, with_two};
+ghost use Rattle.jjob.specs.Words.{WordsGive, by_verb, form_named, form_or_pass, generated, rewriting, with_one, with_two};
 
 use crate::command::{Command, Form, WordsError};
+use crate::number::{number_up_to, small_up_to};
 use crate::text::Text;
 use std::alloc::Global;
 
@@ -63,9 +64,7 @@ fn with_two(
         return Err(WordsError::Usage);
     }
     if verb == "rewrite" {
-        let job = Text::from_str(alloc, one)?;
-        let to = Text::from_str(alloc, two)?;
-        return Ok(Command::Rewrite { job, to });
+        return rewriting(alloc, one, two);
     }
     if verb == "gen" {
         return generated(one, two);
@@ -73,26 +72,32 @@ fn with_two(
     Err(WordsError::Usage)
 }
 
-/// A program of a seed and a size, from 1 to 1,000.
+/// A rewriting of a job, stored below a folder; an empty path names none.
+fn rewriting(alloc: Global, job: &str, to: &str) -> Result<Command, WordsError>
+    ensures { WordsGive result (rewriting job.now to.now) }
+{
+    if to.is_empty() {
+        return Err(WordsError::Usage);
+    }
+    let job = Text::from_str(alloc, job)?;
+    let to = Text::from_str(alloc, to)?;
+    Ok(Command::Rewrite { job, to })
+}
+
+/// A program of a seed, which is a u64, and a size from 1 to 1,000.
 fn generated(seed: &str, size: &str) -> Result<Command, WordsError>
     ensures { WordsGive result (generated seed.now size.now) }
 {
-    let Some(seed) = number(seed) else {
+    let Some(seed) = number_up_to(u64::MAX, seed) else {
         return Err(WordsError::Usage);
     };
-    let Some(size) = number(size) else {
+    let Some(size) = small_up_to(1_000, size) else {
         return Err(WordsError::Usage);
     };
-    if size < 1 {
+    if size == 0 {
         return Err(WordsError::Usage);
     }
-    if size > 1_000 {
-        return Err(WordsError::Usage);
-    }
-    Ok(Command::Gen {
-        seed,
-        size: size as u32,
-    })
+    Ok(Command::Gen { seed, size })
 }
 
 /// The form of the name, and `pass` where none is named.
@@ -118,41 +123,4 @@ fn form_named(name: &str) -> Option<Form>
         return Some(Form::Plain);
     }
     None
-}
-
-/// The number that 1 to 20 decimal digits write, if it is a u64.
-#[tactic(auto, unfolding(crate::specs::Words::number))]
-fn number(word: &str) -> Option<u64>
-    ensures { result ≡ number word.now }
-{
-    if !is_number(word.as_bytes()) {
-        return None;
-    }
-    match word.parse::<u64>() {
-        Ok(number) => Some(number),
-        Err(_) => None,
-    }
-}
-
-fn is_number(word: &[u8]) -> bool
-    ensures { result ≡ is_number word.now }
-{
-    if word.len() < 1 {
-        return false;
-    }
-    if word.len() > 20 {
-        return false;
-    }
-    are_digits(word)
-}
-
-fn are_digits(word: &[u8]) -> bool
-    ensures { result ≡ are_digits word.now }
-{
-    for b in word {
-        if !b.is_ascii_digit() {
-            return false;
-        }
-    }
-    true
 }

@@ -33,6 +33,10 @@ line (events.Deny thread asked domain) = told (codes "deny ") thread (text_of as
 line (events.Throw thread class) = told (codes "throw ") thread class line_feed
 line (events.Uncaught thread class) = told (codes "uncaught ") thread class line_feed
 
+-- the most units of an event that is written
+abbrev pub most_units : ℕ
+most_units = 4294967295
+
 -- how many units the event's text has
 unfoldable pub units_of : Event → ℕ
 units_of (events.Out thread text) = length text

@@ -2,7 +2,7 @@ ghost use Rattle.std.specs.Prelude.{◌≡◌, ◌+◌, ◌*◌, ◌<◌, ◌≤
 ghost use Rattle.jbase.specs.Causes.{HasCause, appended};
 ghost use Rattle.jio.specs.Puts.{IsCutAt};
 ghost use Rattle.jperm.specs.Texts.{text_of};
-ghost use Rattle.jtrace.specs.Lines.{line, end_line, line_feed, told, checked, behind_denial, units_of, texts, room};
+ghost use Rattle.jtrace.specs.Lines.{line, end_line, line_feed, told, checked, behind_denial, most_units, units_of, texts, room};
 
 use crate::event::{End, Event};
 use jio::{Part, PutFault, Sink, put_all, write_line};
@@ -19,7 +19,7 @@ const CHECK_PARTS: usize = BEFORE + PARTS + 2;
 
 /// Whether a permission's text has at most `MOST_UNITS` units.
 fn is_short_permission(asked: &Permission) -> bool
-    ensures { result ≡ nat_le (length (text_of asked.now)) MOST_UNITS }
+    ensures { result ≡ nat_le (length (text_of asked.now)) most_units }
 {
     text_laws();
     let mut units = 0;
@@ -110,7 +110,7 @@ impl Event {
     /// Whether the event's text has at most `MOST_UNITS` units, so that its line can be written.
     #[tactic(auto, unfolding(crate::specs::Lines::units_of))]
     pub fn is_short(&self) -> bool
-        ensures { result ≡ nat_le (units_of self.now) MOST_UNITS }
+        ensures { result ≡ nat_le (units_of self.now) most_units }
     {
         match self {
             Event::Out { text, .. } => text.as_slice().len() <= MOST_UNITS,
@@ -126,7 +126,7 @@ impl Event {
 /// 256 bytes, the last of which may be shorter. At a fault exactly the line's first `written` bytes went out.
 #[tactic(auto, unfolding(crate::specs::Lines::line, crate::specs::Lines::units_of))]
 pub fn write_event<K: Sink>(out: &mut K, event: &Event) -> Result<(), PutFault>
-    requires { units_of event.now ≤ MOST_UNITS }
+    requires { units_of event.now ≤ most_units }
     ensures ok { OnOk result (K.out out.new ≡ appended (K.out out.old) (line event.now)) }
     ensures err { IfErr result (λ e. IsCutAt (K.out out.old) (K.out out.new) (line event.now) e.written) }
     ensures cause { HasCause (K.faults out.old) (K.faults out.new) result }
