@@ -15,6 +15,7 @@ use Rattle.jtypes.specs.declared.vtype.VType.TheVariants as types
 use Rattle.jprogram.specs.declared.member.CallKind.TheVariants as call_kinds
 use Rattle.jprogram.specs.declared.member.ClassId.{ClassId}
 use Rattle.jprogram.specs.declared.member.ClassId.TheVariants as id
+use Rattle.jprogram.specs.declared.member.Member.{Member}
 use Rattle.jprogram.specs.declared.member.MethodId.{MethodId}
 use Rattle.jprogram.specs.declared.member.Selected.{Selected}
 use Rattle.jprogram.specs.declared.member.Selected.TheVariants as selected
@@ -61,7 +62,7 @@ pub record IsCallee {E : Type 0} (entry_of : ℕ → E) (p : Program) (c : Calle
 abbrev pub IsFound : {E : Type 0} → (ℕ → E) → Program → Found E → Selected → Type 0
 IsFound entry_of p (found.Method c) s = (s ≡ selected.Method c.method) × IsCallee entry_of p c
 IsFound entry_of p (found.Lib call) s = s ≡ selected.Lib call
-IsFound entry_of p found.Abstract s = (m : MethodId) × (s ≡ selected.Abstract m)
+IsFound entry_of p found.Abstract s = (m : Member) × (s ≡ selected.Abstract m)
 IsFound entry_of p found.Missing s = s ≡ selected.Missing
 
 -- ---- the object

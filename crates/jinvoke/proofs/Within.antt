@@ -126,14 +126,14 @@ module _ (p : Program) where
 
   -- ---- what is selected
 
-  by_code : (x : MethodId) (b : Bool) → x.class < length p.parts → SelectedWithin p (if b then selected.Abstract x else selected.Method x)
-  by_code x true few = tt
-  by_code x false few = few
+  coded_within : (m : Member) (coded : Selected) (b : Bool) → SelectedWithin p coded → SelectedWithin p (if b then selected.Abstract m else coded)
+  coded_within m coded true few = tt
+  coded_within m coded false few = few
 
   as_within : (o : Option Member) → ((x : Member) → o ≡ Some x → MemberWithin p x) → SelectedWithin p (as_selected p o)
   as_within None h = tt
-  as_within (Some (Method x)) h = by_code x (is_abstract p (Method x)) (h (Method x) refl)
-  as_within (Some (LibMethod x)) h = tt
+  as_within (Some (Method x)) h = coded_within (Method x) (selected.Method x) (is_abstract p (Method x)) (h (Method x) refl)
+  as_within (Some (LibMethod x)) h = coded_within (LibMethod x) (selected.Lib x) (is_abstract p (LibMethod x)) tt
   as_within (Some (Field i j)) h = tt
   as_within (Some LibField) h = tt
 

@@ -168,17 +168,7 @@ impl<'p> Known<'p> {
     fn itself(&self, member: Member) -> Selected
         ensures { result ≡ (world self.now).itself member }
     {
-        match member {
-            Member::Method(m) => {
-                if self.program().named().is_abstract(Member::Method(m)) {
-                    return Selected::Abstract(m);
-                }
-                Selected::Method(m)
-            }
-            Member::LibMethod(call) => Selected::Lib(call),
-            Member::Field { .. } => Selected::Missing,
-            Member::LibField => Selected::Missing,
-        }
+        self.program().named().itself(member)
     }
 
     #[tactic(auto, unfolding(jmachine::specs::World::world))]
@@ -261,20 +251,17 @@ impl<'p> Known<'p> {
     }
 
     #[tactic(auto, unfolding(jmachine::specs::World::world))]
-    fn is_public(&self, method: MethodId) -> bool
-        ensures { result ≡ (world self.now).is_public (members.Method method) }
+    fn is_public(&self, method: Member) -> bool
+        ensures { result ≡ (world self.now).is_public method }
     {
-        matches!(
-            self.program().named().reach_of(Member::Method(method)),
-            Reach::Public
-        )
+        matches!(self.program().named().reach_of(method), Reach::Public)
     }
 
     fn is_hidden(&self, found: Selected) -> bool
         ensures { result ≡ Calls.is_hidden (world self.now) found }
     {
         match found {
-            Selected::Method(m) => !self.is_public(m),
+            Selected::Method(m) => !self.is_public(Member::Method(m)),
             Selected::Abstract(m) => !self.is_public(m),
             Selected::Lib(_) => false,
             Selected::Missing => false,

@@ -21,6 +21,7 @@ use Rattle.jprogram.specs.declared.member.ClassId.{ClassId}
 use Rattle.jprogram.specs.declared.member.Member.{Member}
 use Rattle.jprogram.specs.declared.member.Member.TheVariants.{Field, LibField, LibMethod, Method}
 use Rattle.jprogram.specs.declared.member.MethodId.{MethodId}
+use Rattle.jprogram.specs.declared.member.Selected.{Selected}
 use Rattle.jprogram.specs.declared.member.Selected.TheVariants as selected
 use Rattle.jprogram.specs.declared.part.CodePart.{CodePart}
 use Rattle.jprogram.specs.Parts.{is_called, member_desc, member_name}
@@ -128,14 +129,14 @@ first_is q p kinds.Special r x ms all e = find_is q (λ m. not (is_static p m)) 
 
 -- ---- what is selected
 
-by_code : (p : Program) (m : Member) (x : MethodId) (b : Bool) → IsCalledAs p m (Method x) → IsSelectedAs p m (if b then selected.Abstract x else selected.Method x)
-by_code p m x true h = h
-by_code p m x false h = h
+by_code : (p : Program) (m x : Member) (coded : Selected) (b : Bool) → IsCalledAs p m x → IsSelectedAs p m coded → IsSelectedAs p m (if b then selected.Abstract x else coded)
+by_code p m x coded true h own = h
+by_code p m x coded false h own = own
 
 as_called : (p : Program) (m : Member) (o : Option Member) → ((x : Member) → o ≡ Some x → IsCalledAs p m x) → IsSelectedAs p m (as_selected p o)
 as_called p m None h = tt
-as_called p m (Some (Method x)) h = by_code p m x (is_abstract p (Method x)) (h (Method x) refl)
-as_called p m (Some (LibMethod x)) h = h (LibMethod x) refl
+as_called p m (Some (Method x)) h = by_code p m (Method x) (selected.Method x) (is_abstract p (Method x)) (h (Method x) refl) (h (Method x) refl)
+as_called p m (Some (LibMethod x)) h = by_code p m (LibMethod x) (selected.Lib x) (is_abstract p (LibMethod x)) (h (LibMethod x) refl) (h (LibMethod x) refl)
 as_called p m (Some (Field i j)) h = tt
 as_called p m (Some LibField) h = tt
 

@@ -14,6 +14,6 @@ IsCalledAs p m x = (name_of p x ≡ name_of p m) × (desc_of p x ≡ desc_of p m
 -- what is selected for a method has its name and its descriptor, if anything is selected
 abbrev pub IsSelectedAs : Program → Member → Selected → Type 0
 IsSelectedAs p m (selected.Method x) = IsCalledAs p m (Method x)
-IsSelectedAs p m (selected.Abstract x) = IsCalledAs p m (Method x)
+IsSelectedAs p m (selected.Abstract x) = IsCalledAs p m x
 IsSelectedAs p m (selected.Lib x) = IsCalledAs p m (LibMethod x)
 IsSelectedAs p m selected.Missing = Unit {0}

@@ -240,9 +240,13 @@ first_by p call.Special r ms = find (λ m. not (is_static p m)) ms
 abbrev pub methods_along : Program → List ℕ → List ℕ → List (List ℕ) → List Member
 methods_along p name desc names = filter_map (method_at p name desc) names
 
+-- a method with code, or one without
+abbrev pub by_code : Program → Member → Selected → Selected
+by_code p m coded = if is_abstract p m then selected.Abstract m else coded
+
 abbrev pub as_selected : Program → Option Member → Selected
-as_selected p (Some (Method m)) = if is_abstract p (Method m) then selected.Abstract m else selected.Method m
-as_selected p (Some (LibMethod m)) = selected.Lib m
+as_selected p (Some (Method m)) = by_code p (Method m) (selected.Method m)
+as_selected p (Some (LibMethod m)) = by_code p (LibMethod m) (selected.Lib m)
 as_selected p _ = selected.Missing
 
 -- where a method is called on a class: for `invokevirtual` the first from the class upwards that is the method or overrides it, else the
@@ -258,7 +262,7 @@ main_desc side.Source = codes "([Ljava/lang/String;)V"
 main_desc side.Passing = codes "([Ljava/lang/String;Lsps/Ctx;)V"
 
 abbrev pub is_main : Side → ClassParts → MemberInfo → Bool
-is_main side c m = parts.is_called c (codes "main") (main_desc side) m && (parts.is_public m.flags && parts.is_static m.flags && parts.has_code m)
+is_main side c m = parts.is_called c (codes "main") (main_desc side) m && (parts.is_public_reach (parts.reach_of m.flags) && parts.is_static m.flags && parts.has_code m)
 
 abbrev pub main_in : Side → Option Class → Option MethodId
 main_in side (Some (User i c)) = option_map (method_id i) (position (is_main side c) c.methods)

@@ -1,5 +1,5 @@
 -- What the parts of a class file say by its pool (JVMS 4.1, 4.5, 4.6). A text that isn't there is empty, so each part says something.
-use Rattle.std.specs.Prelude.{ℕ, Bool, ◌&&◌, List, [], ◌∷◌, Option, Some, None, map, is_some, ◌==◌, if◌then◌else◌}
+use Rattle.std.specs.Prelude.{ℕ, Bool, true, false, ◌&&◌, List, [], ◌∷◌, Option, Some, None, map, is_some, ◌==◌, if◌then◌else◌}
 use Rattle.std.specs.List.{list_any}
 use Rattle.std.specs.Str.{byte, bytes_eq}
 use Rattle.jbase.specs.First.{first_some}
@@ -83,6 +83,10 @@ reach_of a =
     if has_flag 0x0002 a then reach.Private else
     (if has_flag 0x0001 a then reach.Public else
     (if has_flag 0x0004 a then reach.Protected else reach.Package))
+
+abbrev pub is_public_reach : Reach → Bool
+is_public_reach reach.Public = true
+is_public_reach r = false
 
 -- ---- packages (JVMS 5.3)
 

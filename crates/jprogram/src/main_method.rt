@@ -2,11 +2,13 @@ ghost use Rattle.std.specs.Prelude.{◌≡◌, ◌<◌, IfSome, length};
 ghost use Rattle.std.specs.List.{position};
 ghost use Rattle.jprogram.specs.Classes;
 ghost use Rattle.jprogram.specs.Members;
+ghost use Rattle.jprogram.specs.Parts.{is_public_reach};
 
 use crate::classes::NamedProgram;
 use crate::found::Found;
 use crate::member::MethodId;
-use crate::parts::{has_code, is_called};
+use crate::parts::{has_code, is_called, reach_of};
+use crate::reach::Reach;
 use bitflags::Flags;
 use jclass::{Access, ClassFile, ClassParts, MemberInfo};
 use jlib::Side;
@@ -21,14 +23,22 @@ fn main_desc(side: Side) -> &'static [u8]
     }
 }
 
+fn is_public(reach: Reach) -> bool
+    ensures { result ≡ is_public_reach reach }
+{
+    matches!(reach, Reach::Public)
+}
+
 fn is_main(side: Side, class: &ClassParts, method: &MemberInfo) -> bool
     ensures { result ≡ Members.is_main side class.now method.now }
 {
     if !is_called(class, b"main", main_desc(side), method) {
         return false;
     }
-    let flags = method.flags;
-    flags.contains(Access::PUBLIC) && flags.contains(Access::STATIC) && has_code(method)
+    if !is_public(reach_of(method.flags)) {
+        return false;
+    }
+    method.flags.contains(Access::STATIC) && has_code(method)
 }
 
 fn place_of_main(side: Side, class: &ClassParts, methods: &[MemberInfo]) -> Option<usize>

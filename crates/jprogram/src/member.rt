@@ -39,7 +39,7 @@ pub enum CallKind {
 pub enum Selected {
     Method(MethodId),
     Lib(LibCall),
-    /// A method without code.
-    Abstract(MethodId),
+    /// A method without code: a user's, or one of an interface of the library.
+    Abstract(Member),
     Missing,
 }

@@ -265,18 +265,34 @@ impl NamedProgram {
         }
     }
 
+    fn by_code(&self, member: Member, coded: Selected) -> Selected
+        ensures { result ≡ Members.by_code self.now member coded }
+    {
+        if self.is_abstract(member) {
+            return Selected::Abstract(member);
+        }
+        coded
+    }
+
+    /// A method as it is, where nothing has to be selected: `invokestatic`, and `invokespecial` of the current class. `Abstract` where it
+    /// has no code, `Missing` where it is a field.
+    pub fn itself(&self, method: Member) -> Selected
+        ensures { result ≡ Members.as_selected self.now (Some method) }
+    {
+        match method {
+            Member::Method(id) => self.by_code(method, Selected::Method(id)),
+            Member::LibMethod(call) => self.by_code(method, Selected::Lib(call)),
+            Member::Field { .. } => Selected::Missing,
+            Member::LibField => Selected::Missing,
+        }
+    }
+
     fn as_selected(&self, found: Option<Member>) -> Selected
         ensures { result ≡ Members.as_selected self.now found }
     {
         match found {
-            Some(Member::Method(id)) => {
-                if self.is_abstract(Member::Method(id)) {
-                    return Selected::Abstract(id);
-                }
-                Selected::Method(id)
-            }
-            Some(Member::LibMethod(call)) => Selected::Lib(call),
-            _ => Selected::Missing,
+            Some(method) => self.itself(method),
+            None => Selected::Missing,
         }
     }
 

@@ -43,10 +43,14 @@ unless_runs (Some x) t call e = absurd cc
 itself_lib : (p : Program) (m : Member) (call : LibCall) → as_selected p (Some m) ≡ selected.Lib call → m ≡ LibMethod call
 itself_lib p (Method m) call e = absurd (by (is_abstract p (Method m)) e)
   where
-    by : (b : Bool) → (if b then selected.Abstract m else selected.Method m) ≡ selected.Lib call → ⊥
+    by : (b : Bool) → (if b then selected.Abstract (Method m) else selected.Method m) ≡ selected.Lib call → ⊥
     by true h = cc
     by false h = cc
-itself_lib p (LibMethod x) call e = let same : x ≡ call = cc in ap (λ (y : LibCall). LibMethod y) same
+itself_lib p (LibMethod x) call e = by (is_abstract p (LibMethod x)) e
+  where
+    by : (b : Bool) → (if b then selected.Abstract (LibMethod x) else selected.Lib x) ≡ selected.Lib call → LibMethod x ≡ LibMethod call
+    by true h = absurd cc
+    by false h = let same : x ≡ call = cc in ap (λ (y : LibCall). LibMethod y) same
 itself_lib p (Field i j) call e = absurd cc
 itself_lib p LibField call e = absurd cc
 
