@@ -12,8 +12,8 @@ use Rattle.jprogram.specs.declared.part.ClassRef.{ClassRef}
 use Rattle.jprogram.specs.Classes.{Program}
 use Rattle.jtrace.specs.declared.event.Event.{Event}
 use Rattle.jtrace.specs.declared.event.Event.TheVariants.{Deny, Grant}
-use Rattle.jmachine.specs.Acts.{Outcome, State, Went}
-use Rattle.jmachine.specs.Security.{Rules, judged, null}
+use Rattle.jmachine.specs.Acts.{Outcome, State, Went, null}
+use Rattle.jmachine.specs.Security.{Rules, judged}
 use Rattle.jmachine.specs.Store.{Store}
 use Rattle.jmachine.specs.Turns.{thread_of}
 use Rattle.jmachine.specs.Unwinding.{handler_at}

@@ -8,9 +8,9 @@ use Rattle.jlib.specs.declared.calls.LibCall.{LibCall}
 use Rattle.jops.specs.declared.value.Value.{Value}
 use Rattle.jops.specs.declared.value.Value.TheVariants.{Int, Long, Ref, Ctx}
 use Rattle.jtrace.specs.declared.event.Event.TheVariants.{Grant}
-use Rattle.jmachine.specs.Acts.{Act, FrameOf, Goes, Row}
+use Rattle.jmachine.specs.Acts.{Act, FrameOf, Goes, Row, null}
 use Rattle.jmachine.specs.Asked.{Answer, Ask, Decided, answer_in, carried}
-use Rattle.jmachine.specs.Security.{Rules, checked, judged, null, permission_in}
+use Rattle.jmachine.specs.Security.{Rules, checked, judged, permission_in}
 use Rattle.jmachine.specs.Sites.{Site}
 use Rattle.jmachine.specs.Steps.{entries}
 use Rattle.jmachine.specs.Store.{Store, object_at, object_of}

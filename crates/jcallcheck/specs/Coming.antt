@@ -11,8 +11,8 @@ use Rattle.jprogram.specs.declared.part.ClassRef.{ClassRef}
 use Rattle.jprogram.specs.declared.part.ClassRef.TheVariants as refs
 use Rattle.jtrace.specs.declared.event.Event.{Event}
 use Rattle.jtrace.specs.declared.event.Event.TheVariants.{Deny, Grant}
-use Rattle.jmachine.specs.Acts.{Row, State}
-use Rattle.jmachine.specs.Security.{Rules, judged, null}
+use Rattle.jmachine.specs.Acts.{Row, State, null}
+use Rattle.jmachine.specs.Security.{Rules, judged}
 use Rattle.jmachine.specs.Turns.{thread_of}
 use Rattle.jrun.specs.declared.stepping.Stepped.{Stepped}
 use Rattle.jstate.specs.Framed.{Framed}

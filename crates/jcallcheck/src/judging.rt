@@ -1,5 +1,6 @@
 ghost use Rattle.std.specs.Prelude.{◌≡◌, ◌∷◌, [], Some, IfOk, OnOk};
-ghost use Rattle.jmachine.specs.Security.{judged, null};
+ghost use Rattle.jmachine.specs.Acts.{null};
+ghost use Rattle.jmachine.specs.Security.{judged};
 ghost use Rattle.jmachine.specs.Turns.{thread_of};
 ghost use Rattle.jcore.specs.Answering.{Calling};
 ghost use Rattle.jcore.specs.Comings.{GoesOn};

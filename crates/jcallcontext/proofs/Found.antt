@@ -10,12 +10,12 @@ use Rattle.jlib.specs.declared.side.Side.{Side}
 use Rattle.jops.specs.declared.value.Value.{Value}
 use Rattle.jops.specs.declared.value.Value.TheVariants.{Ctx}
 use Rattle.jperm.specs.declared.permission.Permission as perms
-use Rattle.jmachine.specs.Acts.{FrameOf, Row, gives, raises}
+use Rattle.jmachine.specs.Acts.{FrameOf, Row, gives, raises, null}
 use Rattle.jmachine.specs.Asked.{Allowed, Answer, Enters, Snapshots, carried, run_asks, where_run}
 use Rattle.jmachine.specs.Asking.{context_made}
 use Rattle.jmachine.specs.Calls as targets
 use Rattle.jmachine.specs.Privileges.{acting}
-use Rattle.jmachine.specs.Security.{Privilege, Rules, null}
+use Rattle.jmachine.specs.Security.{Privilege, Rules}
 use Rattle.jmachine.specs.Steps.{entries, own_fields, site}
 use Rattle.jguard.specs.Standing.{AnswersFor, IsKnownIn}
 use Rattle.jrun.specs.declared.stepping.Stepped.{Stepped}

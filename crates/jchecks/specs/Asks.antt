@@ -6,7 +6,8 @@ use Rattle.jheap.specs.declared.cell.Kind.{Kind}
 use Rattle.jheap.specs.declared.cell.Kind.TheVariants as kinds
 use Rattle.jheap.specs.Heaps as heaps
 use Rattle.jops.specs.declared.value.Value.{Value}
-use Rattle.jmachine.specs.Security.{checked, judged, null}
+use Rattle.jmachine.specs.Acts.{null}
+use Rattle.jmachine.specs.Security.{checked, judged}
 use Rattle.jmachine.specs.Sites.{Site}
 use Rattle.jmachine.specs.Store.{Store}
 use Rattle.jstate.specs.Numbers.{class_numbered}

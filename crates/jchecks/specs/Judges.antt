@@ -14,10 +14,10 @@ use Rattle.jtrace.specs.declared.event.Event.TheVariants.{Grant, Deny}
 use Rattle.jprogram.specs.declared.member.MethodId.{MethodId}
 use Rattle.jprogram.specs.Classes.{Program}
 use Rattle.jmachine.specs.declared.plan.Plan.{Plan}
-use Rattle.jmachine.specs.Acts.{NoStep, Outcome, Row, State}
+use Rattle.jmachine.specs.Acts.{NoStep, Outcome, Row, State, null}
 use Rattle.jmachine.specs.Objects.{library_name}
 use Rattle.jmachine.specs.Security as security
-use Rattle.jmachine.specs.Security.{Rules, null}
+use Rattle.jmachine.specs.Security.{Rules}
 use Rattle.jmachine.specs.Steps.{went}
 use Rattle.jmachine.specs.Store.{Store}
 use Rattle.jmachine.specs.Turns.{thread_of}

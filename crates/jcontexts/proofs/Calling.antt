@@ -1,8 +1,7 @@
 -- What the call of an action comes to, and what raises an exception in place of it.
-use Rattle.std.proofs.Common.{◌≡◌, ◌∙◌, ◌+◌, ℕ, true, false, List, [], ◌∷◌, ◌++◌, length, drop, take, Option, Some, None, refl, sym, ap, subst}
+use Rattle.std.proofs.Common.{◌≡◌, ◌∙◌, ◌+◌, ℕ, true, false, List, ◌∷◌, ◌++◌, length, drop, take, Option, Some, None, refl, sym, ap, subst}
 use Rattle.std.specs.Prelude.{option_map, option_to_list}
 use Rattle.std.proofs.Math.Dec.{leb-zero}
-use Rattle.jheap.specs.Heaps.{Heaped}
 use Rattle.jlib.specs.declared.classes.LibClass.TheVariants as lib
 use Rattle.jlib.specs.declared.classes.Thrown.{Thrown as ThrownClass}
 use Rattle.jops.specs.declared.value.Value.{Value}
@@ -11,19 +10,13 @@ use Rattle.jtypes.specs.declared.vtype.VType.TheVariants as types
 use Rattle.jclass.specs.declared.class.CodeBody.{CodeBody}
 use Rattle.jprogram.specs.declared.member.MethodId.{MethodId}
 use Rattle.juses.specs.Instructions.{code_at}
-use Rattle.jmachine.specs.Acts.{Outcome, State}
 use Rattle.jmachine.specs.Frames.{carrying, domain_of, frame_of, with_operands}
-use Rattle.jmachine.specs.Objects.{library_name}
 use Rattle.jmachine.specs.Steps.{acted, applied}
-use Rattle.jstate.specs.Framed.{Framed, all, holding, pushed, starting, with_newest}
-use Rattle.jstate.specs.Seen.{store_by}
+use Rattle.jstate.specs.Framed.{Framed, holding, pushed, starting, with_newest}
 use Rattle.jacts.proofs.Costs.{unpaid}
 use Rattle.jcalls.specs.declared.calls.Callee.{Callee}
-use Rattle.jcalls.specs.declared.raising.Raised.{Raised}
-use Rattle.jcalls.specs.Marks.{Stand}
-use Rattle.jcalls.specs.Throws.{LeavesStanding, RaisedAs, Raises}
 use Rattle.jcontexts.specs.declared.acting.Acted.TheVariants as ways
-use Rattle.jcontexts.specs.Acting.{ActsStanding, CallsAction, Fails, RaisesSteps, handed_on}
+use Rattle.jcontexts.specs.Acting.{ActsStanding, CallsAction, RaisesSteps, handed_on}
 
 -- ---- a method's frame
 
@@ -105,19 +98,3 @@ module _ {E : Type 0} (c : Callee E) (n : ℕ) (caller : E) (ctx : Option ℕ) (
 pub raises_steps : {E : Type 0} → RaisesSteps E
 unfolding applied acted
 raises_steps r p plan s f count class row is = rw is refl
-
-module _ {E : Type 0} (marks : List E) (goes : MethodId → ℕ → Option ℕ) (class : ThrownClass) (count : ℕ) (f g u : Framed E) (h k : Heaped)
-    (shrunk : u ≡ holding (drop count f.newest.operands) f) where
-  pub fails_so : (way : Raised) → Raises marks goes (lib.Thrown class) u h way g k → Fails marks goes class count f h way g k
-  fails_so way raises_in r p plan s shapes things constants row marked seen told does =
-      let so : Raises marks goes (lib.Thrown class) (holding (drop count f.newest.operands) f) h way g k =
-      subst (λ v. Raises marks goes (lib.Thrown class) v h way g k) shrunk raises_in in
-      subst (λ (o : Outcome (State ℕ E)). RaisedAs r p plan s [] (types.Object (library_name (lib.Thrown class))) (store_by p shapes things constants k) way g o)
-      (sym (raises_steps r p plan s f count class row does)) (so r p plan s [] shapes things constants marked seen told)
-
-  pub shrunk_stands : (classes : ℕ) → Stand classes (all f) → Stand classes (all u)
-  shrunk_stands classes s =
-      subst (λ (v : Framed E). Stand classes (all v)) (sym shrunk) (record { class = s.0.class; place = s.0.place }, s.1)
-
-  pub failed_stands : LeavesStanding u g → LeavesStanding f g
-  failed_stands leaves classes s = leaves classes (shrunk_stands classes s)

@@ -1,31 +1,23 @@
 -- What a step comes to that calls an action with a privilege, and one that raises an exception in place of that (class documentation of
 -- AccessController).
 use Rattle.std.specs.Prelude.{◌≡◌, ◌<◌, ◌++◌, ⊤, ℕ, List, [], ◌∷◌, drop, take, Option, Some, option_map, option_to_list}
-use Rattle.std.specs.List.{AllByRecursion}
-use Rattle.jheap.specs.Heaps.{Heaped}
 use Rattle.jlib.specs.declared.classes.LibClass.TheVariants as lib
 use Rattle.jlib.specs.declared.classes.Thrown.{Thrown as ThrownClass}
 use Rattle.jops.specs.declared.value.Value.{Value}
 use Rattle.jops.specs.declared.value.Value.TheVariants.{Ctx, Ref}
-use Rattle.jprogram.specs.declared.member.MethodId.{MethodId}
 use Rattle.jprogram.specs.Classes.{Program}
 use Rattle.jtypes.specs.declared.vtype.VType.TheVariants as types
 use Rattle.jmachine.specs.declared.plan.Plan.{Plan}
 use Rattle.jmachine.specs.Acts.{NoStep, Outcome, Row, State, gives, raises}
 use Rattle.jmachine.specs.Calls.{Pushes}
-use Rattle.jmachine.specs.Objects.{library_name}
 use Rattle.jmachine.specs.Privileges.{acting}
 use Rattle.jmachine.specs.Security.{Rules}
 use Rattle.jmachine.specs.Steps.{went}
-use Rattle.jstate.specs.declared.shapes.Shapes.{Shapes}
 use Rattle.jstate.specs.Framed.{Framed, all, holding}
-use Rattle.jstate.specs.Seen.{Things, store_by}
 use Rattle.jcalls.specs.declared.calls.Callee.{Callee}
-use Rattle.jcalls.specs.declared.raising.Raised.{Raised}
 use Rattle.jcalls.specs.Calling.{IsCallee, stepped}
-use Rattle.jcalls.specs.Marks.{AreStanding, Stand, marks_of}
-use Rattle.jcalls.specs.Throws.{RaisedAs, raising}
-use Rattle.jcalls.specs.Unwinds.{IsTold}
+use Rattle.jcalls.specs.Marks.{AreStanding, Stand}
+use Rattle.jcalls.specs.Throws.{raising}
 use Rattle.jcontexts.specs.declared.acting.Acted.{Acted}
 use Rattle.jcontexts.specs.declared.acting.Acted.TheVariants as ways
 
@@ -49,15 +41,6 @@ CallsAction {E} c n caller ctx count f way g = (r : Rules ℕ E) (p : Program) (
 abbrev pub ActsStanding : {E : Type 0} → Callee E → Framed E → Acted → Framed E → Type 0
 ActsStanding c f ways.Begun g = (classes : ℕ) → c.method.class < classes → Stand classes (all f) → AreStanding classes g
 ActsStanding c f ways.Stuck g = ⊤
-
--- An exception of a class was raised in place of a call with so many operands: the step is the one whose row raises it.
-abbrev pub Fails : {E : Type 0} → List E → (MethodId → ℕ → Option ℕ) → ThrownClass → (count : ℕ) → Framed E → Heaped → Raised → Framed E → Heaped → Type 0
-Fails {E} marks goes class count f h way g k = (r : Rules ℕ E) (p : Program) (plan : Plan) (s : State ℕ E)
-    (shapes : Shapes) (things : Things) (constants : List (List ℕ × ℕ)) (row : List (Value ℕ) → Option (Row ℕ E))
-    → let type = types.Object (library_name (lib.Thrown class)) in
-    marks ≡ marks_of r.entry_of p → s.store ≡ store_by p shapes things constants h → AllByRecursion (IsTold p type goes) (all f)
-    → row (take count f.newest.operands) ≡ Some (raises (lib.Thrown class))
-    → RaisedAs r p plan s [] type (store_by p shapes things constants k) way g (stepped r p plan s f count row)
 
 -- A value was given in the place of so many operands: the step is the one whose row gives it.
 abbrev pub GivesOne : {E : Type 0} → Value ℕ → (count : ℕ) → Framed E → Framed E → Type 0

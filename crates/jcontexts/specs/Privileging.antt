@@ -6,12 +6,12 @@ use Rattle.jlib.specs.declared.side.Side.{Side}
 use Rattle.jops.specs.declared.value.Value.{Value}
 use Rattle.jprogram.specs.declared.member.Member.{Member}
 use Rattle.jprogram.specs.Classes.{Program}
-use Rattle.jmachine.specs.Acts.{Row}
+use Rattle.jmachine.specs.Acts.{Row, null}
 use Rattle.jmachine.specs.Asked.{Ask, Privileges, privileges, privileges_by, privileges_limited, privileges_within, run_asks, where_run}
 use Rattle.jmachine.specs.Calls.{Target, by_interface}
 use Rattle.jmachine.specs.Doing.{run}
 use Rattle.jmachine.specs.Privileges.{acting, alone, given, limited, limited_by, privilege, run_action, within}
-use Rattle.jmachine.specs.Security.{Rules, null}
+use Rattle.jmachine.specs.Security.{Rules}
 use Rattle.jmachine.specs.Sites.{Site}
 use Rattle.jmachine.specs.Store.{Store, object_at}
 use Rattle.jstate.specs.declared.shapes.Shapes.{Shapes}

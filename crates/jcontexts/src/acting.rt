@@ -1,21 +1,13 @@
 ghost use Rattle.std.specs.Prelude.{◌≡◌, ◌≤◌, ◌++◌, ◌∷◌, IfOk, OnOk, drop, length, option_map, option_to_list};
 ghost use Rattle.jops.specs.declared.value.Value.TheVariants as values;
-ghost use Rattle.jlib.specs.declared.classes.LibClass.TheVariants as lib;
 ghost use Rattle.jmachine.specs.Frames.{carrying, with_operands};
-ghost use Rattle.jstate.specs.Celled.{StayCelled};
-ghost use Rattle.jstate.specs.Framed.{all, holding, with_newest};
-ghost use Rattle.jstate.specs.Seen.{AreBuilt};
-ghost use Rattle.jcalls.specs.Marks.{Stand};
-ghost use Rattle.jcalls.specs.Throws.{LeavesStanding, RaisedHeap};
-ghost use Rattle.jcontexts.specs.Kept.{StayKept};
-ghost use Rattle.jcontexts.specs.Acting.{ActsStanding, CallsAction, Fails, RaisesSteps};
+ghost use Rattle.jstate.specs.Framed.{holding, with_newest};
+ghost use Rattle.jcontexts.specs.Acting.{ActsStanding, CallsAction, RaisesSteps};
 
-use jcalls::{Callee, Handlers, Raised, raise};
-use jheap::Heap;
-use jlib::Thrown;
+use jcalls::Callee;
 use jops::Value;
-use jstate::{Frames, heap_laws, number_laws, thrown_number};
-use std::alloc::{AllocError, Global};
+use jstate::Frames;
+use std::alloc::AllocError;
 
 /// What the call of an action came to.
 #[derive(Clone, Copy)]
@@ -79,36 +71,6 @@ pub fn act<M: Copy>(
     let handed = hand(frames, ctx)?;
     frames.begin(callee.method, callee.most, handed + 1, callee.mark)?;
     Ok(Acted::Begun)
-}
-
-/// Raises an exception of a class in place of a call with so many operands, which are gone then. `handlers` say where frames go on that
-/// handle its type.
-#[tactic(auto, using(crate::proofs::Calling::fails_so, crate::proofs::Calling::shrunk_stands, crate::proofs::Calling::failed_stands))]
-pub fn fail<M: Copy, H: Handlers>(
-    alloc: Global,
-    frames: &mut Frames<M>,
-    heap: &mut Heap,
-    class: Thrown,
-    count: usize,
-    marks: &[M],
-    handlers: &H,
-) -> Result<Raised, AllocError>
-    requires few { count ≤ length frames.old.newest.operands }
-    requires stand { Stand (length marks.now) (all frames.old) }
-    requires built { AreBuilt heap.old.objects }
-    ensures row { IfOk result (λ way. Fails marks.now (H.goes handlers.now) class count frames.old heap.old way frames.new heap.new) }
-    ensures stand { OnOk result (LeavesStanding frames.old frames.new) }
-    ensures heap { OnOk result (RaisedHeap class heap.old heap.new) }
-    ensures kept { OnOk result (StayKept heap.old.objects heap.new.objects) }
-    ensures built { OnOk result (AreBuilt heap.new.objects) }
-    ensures celled { OnOk result (StayCelled heap.old.objects heap.new.objects) }
-{
-    heap_laws();
-    number_laws();
-    frames.shrink(count);
-    let number = thrown_number(class);
-    let way = raise(alloc, frames, heap, class, number, marks, handlers)?;
-    Ok(way)
 }
 
 /// The law of calls that raise an exception: it is raised in frames whose operands of the call are gone. It has no body to run; its

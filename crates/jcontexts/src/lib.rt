@@ -11,7 +11,7 @@ mod requests;
 mod snapshots;
 mod wanting;
 
-pub use acting::{Acted, act, fail, fail_law};
+pub use acting::{Acted, act, fail_law};
 pub use arrays::limits;
 pub use beginning::{begin, begin_laws, fail_beginning};
 pub use contexts::{given, kept_of};

@@ -6,7 +6,6 @@ mod CallRows
 pub mod Courses
 mod Examples
 mod FieldRows
-mod LeftOut
 mod LibraryRows
 mod Looking
 mod MakingRows

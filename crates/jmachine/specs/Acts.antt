@@ -6,6 +6,8 @@ use Rattle.jthreads.specs.declared.thread.Thread.{Thread}
 use Rattle.jtrace.specs.declared.event.Event.{Event}
 use Rattle.jtrace.specs.declared.event.End.{End}
 use Rattle.jlib.specs.declared.classes.LibClass.{LibClass}
+use Rattle.jlib.specs.declared.classes.LibClass.TheVariants as lib
+use Rattle.jlib.specs.declared.classes.Thrown.TheVariants as thrown
 use Rattle.jprogram.specs.declared.member.MethodId.{MethodId}
 use Rattle.jmachine.specs.Store.{Store}
 
@@ -80,6 +82,10 @@ gives s values = free (Goes s values [])
 -- an exception without a message
 abbrev pub raises : {K E : Type 0} → LibClass → Row K E
 raises class = free (Raises [] class None)
+
+-- null stands where an object is wanted
+abbrev pub null : {K E : Type 0} → Row K E
+null = raises (lib.Thrown thrown.NullPointerException)
 
 -- ---- cells
 

@@ -13,7 +13,7 @@ use Rattle.jcode.specs.declared.form.ArrayForm.TheVariants as forms
 use Rattle.jrule.specs.Arrays.{component, of_numbers}
 use Rattle.jmachine.specs.Objects.{Object, Array}
 use Rattle.jmachine.specs.Store.{Store, next_number, object_at, with_made, with_object}
-use Rattle.jmachine.specs.Acts.{Row, Goes, cells_of, costs, gives, raises}
+use Rattle.jmachine.specs.Acts.{Row, Goes, cells_of, costs, gives, null, raises}
 use Rattle.jmachine.specs.Narrowing.{default, held_by, narrowed, place}
 use Rattle.jmachine.specs.Operands.{type_of}
 use Rattle.jmachine.specs.World.{World, is_instance}
@@ -50,9 +50,6 @@ within count (Some i) = if nat_lt i count then Some i else None
 
 abbrev pub outside : {K E : Type 0} → Row K E
 outside = raises (lib.Thrown thrown.ArrayIndexOutOfBoundsException)
-
-abbrev pub null : {K E : Type 0} → Row K E
-null = raises (lib.Thrown thrown.NullPointerException)
 
 abbrev pub length_row : {K E : Type 0} → Store K → Items K → Row K E
 length_row s x = gives s (Int (pos (length x.items)) ∷ [])

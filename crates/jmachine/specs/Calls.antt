@@ -69,7 +69,7 @@ reached full selected.Missing = Fails no_code
 
 abbrev pub is_hidden : World → Selected → Bool
 is_hidden w (selected.Method m) = not (w.is_public (Method m))
-is_hidden w (selected.Abstract m) = not (w.is_public (Method m))
+is_hidden w (selected.Abstract m) = not (w.is_public m)
 is_hidden w s = false
 
 -- by an interface the object's class has to have, a method that has to be public

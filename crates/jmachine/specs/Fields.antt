@@ -1,7 +1,5 @@
 -- Rows of instructions with fields (JVMS 6.5: getfield, putfield, getstatic, putstatic).
 use Rattle.std.specs.Prelude.{ℕ, zero, List, [], ◌∷◌, length, Option, Some, None, option_map, option_and_then, slice_get, slice_set, nat_lt, if◌then◌else◌}
-use Rattle.jlib.specs.declared.classes.Thrown.TheVariants as thrown
-use Rattle.jlib.specs.declared.classes.LibClass.TheVariants as lib
 use Rattle.jops.specs.declared.value.Value.{Value}
 use Rattle.jops.specs.declared.value.Value.TheVariants.{Ref}
 use Rattle.jcode.specs.declared.names.FieldOp.{FieldOp}
@@ -10,16 +8,13 @@ use Rattle.jprogram.specs.declared.member.Member.{Member}
 use Rattle.jprogram.specs.declared.member.Member.TheVariants.{LibField}
 use Rattle.jmachine.specs.Objects.{Object, Instance}
 use Rattle.jmachine.specs.Store.{Store, object_at, with_object, with_statics}
-use Rattle.jmachine.specs.Acts.{Row, gives, raises}
+use Rattle.jmachine.specs.Acts.{Row, gives, null}
 use Rattle.jmachine.specs.Narrowing.{narrowed}
 use Rattle.jmachine.specs.World.{World}
 
 -- the number of `System.out`, the first object that is made
 abbrev pub out : ℕ
 out = 1
-
-abbrev pub null : {K E : Type 0} → Row K E
-null = raises (lib.Thrown thrown.NullPointerException)
 
 -- a list with a value in a place that is there
 abbrev pub with_place : {K : Type 0} → List (Value K) → Value K → ℕ → Option (List (Value K))

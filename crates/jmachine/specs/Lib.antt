@@ -28,5 +28,4 @@ pub mod Runs
 pub mod Machine
 pub mod Maps
 pub mod Asked
-pub mod LeftOut
 pub mod Natural

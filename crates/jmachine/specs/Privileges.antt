@@ -8,11 +8,11 @@ use Rattle.jops.specs.declared.value.Value.{Value}
 use Rattle.jops.specs.declared.value.Value.TheVariants.{Ref, Ctx}
 use Rattle.jprogram.specs.declared.member.Member.TheVariants.{LibMethod}
 use Rattle.juses.specs.Meanings.{CallMeaning}
-use Rattle.jmachine.specs.Acts.{Row, Calls, free, raises}
+use Rattle.jmachine.specs.Acts.{Row, Calls, free, raises, null}
 use Rattle.jmachine.specs.Arrays.{Items, items_in}
 use Rattle.jmachine.specs.Calls.{Target, Fails, Pushes, Runs, by_interface}
 use Rattle.jmachine.specs.Objects.{Object, library_name}
-use Rattle.jmachine.specs.Security.{Privilege, Rules, kept_in, null, permission_in}
+use Rattle.jmachine.specs.Security.{Privilege, Rules, kept_in, permission_in}
 use Rattle.jmachine.specs.Sites.{Site}
 use Rattle.jmachine.specs.Store.{Store, object_at}
 

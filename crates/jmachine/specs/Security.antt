@@ -7,14 +7,13 @@ use Rattle.jdomain.specs.declared.verdict.Verdict.{Verdict}
 use Rattle.jdomain.specs.declared.verdict.Verdict.TheVariants.{Granted, Denied}
 use Rattle.jlib.specs.declared.side.Side.{Side}
 use Rattle.jlib.specs.declared.side.Side.TheVariants.{Passing}
-use Rattle.jlib.specs.declared.classes.Thrown.TheVariants as thrown
 use Rattle.jlib.specs.declared.classes.LibClass.TheVariants as lib
 use Rattle.jops.specs.declared.value.Value.{Value}
 use Rattle.jops.specs.declared.value.Value.TheVariants.{Ref, Ctx}
 use Rattle.jtrace.specs.declared.event.Event.TheVariants.{Grant, Deny}
 use Rattle.jmachine.specs.Objects.{Object, Permission, Context}
 use Rattle.jmachine.specs.Store.{Store, object_at}
-use Rattle.jmachine.specs.Acts.{Row, Goes, Raises, free, raises}
+use Rattle.jmachine.specs.Acts.{Row, Goes, Raises, free, null}
 use Rattle.jmachine.specs.Sites.{Site}
 
 -- ---- rules
@@ -70,9 +69,6 @@ permission_in x = None
 abbrev pub kept_in : {K : Type 0} → Option (Object K) → Option K
 kept_in (Some (Context kept)) = kept
 kept_in x = None
-
-abbrev pub null : {K E : Type 0} → Row K E
-null = raises (lib.Thrown thrown.NullPointerException)
 
 -- a check that is decided so; null fails before anything is asked
 abbrev pub checked : {K E : Type 0} → Site → Store K → (perms.Permission → Verdict) → Value K → Option (Row K E)

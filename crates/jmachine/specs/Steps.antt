@@ -17,6 +17,7 @@ use Rattle.jprogram.specs.Classes.{Program}
 use Rattle.jprogram.specs.Members as members
 use Rattle.juses.specs.Instructions.{Instruction, code_at, goes_on, instruction_at}
 use Rattle.juses.specs.Meanings.{CallMeaning}
+use Rattle.jrule.specs.Rule.{is_own}
 use Rattle.jmachine.specs.declared.plan.Plan.{Plan}
 use Rattle.jmachine.specs.Acts.{FrameOf, GuestOf, State, Act, Goes, Jumps, Leaves, Calls, Raises, Throws, Switches, Makes, Row, Outcome, Went, Over, NoStep, charge_of, free, raises}
 use Rattle.jmachine.specs.Calls.{Target, Fails, Pushes, Runs, by_interface}
@@ -53,7 +54,7 @@ is_init p m = bytes_eq (members.name_of p (Method m)) members.init && not (membe
 
 -- an `<init>` may write the fields that its class declares before another is called on `this`
 abbrev pub own_fields : Program → MethodId → Member → Bool
-own_fields p m field = is_init p m && bytes_eq (members.owner_of p field) ((world p).named m.class).0
+own_fields p m = is_own p (is_init p m) ((world p).named m.class)
 
 module _ {K E : Type 0} (r : Rules K E) (p : Program) (plan : Plan) (s : State K E) where
   -- ---- outcomes

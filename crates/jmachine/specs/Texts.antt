@@ -18,7 +18,7 @@ use Rattle.jops.specs.declared.value.Value.TheVariants.{Int, Long, Ref}
 use Rattle.jtrace.specs.declared.event.Event.TheVariants.{Out}
 use Rattle.jmachine.specs.Objects.{Object, Text, Builder, Piece as Appended}
 use Rattle.jmachine.specs.Store.{Store, object_at, object_of, with_made, with_object}
-use Rattle.jmachine.specs.Acts.{Row, Goes, cells_of, costs, free, gives, raises}
+use Rattle.jmachine.specs.Acts.{Row, Goes, cells_of, costs, free, gives, null, raises}
 use Rattle.jmachine.specs.Making.{tested, text_made}
 use Rattle.jmachine.specs.Narrowing.{place}
 
@@ -37,21 +37,19 @@ abbrev pub units_or_null : {K : Type 0} → Store K → Value K → Option (List
 units_or_null s (Ref zero) = Some (codes "null")
 units_or_null s v = units s v
 
-abbrev pub flag_text : Bool → List ℕ
-flag_text true = codes "false"
-flag_text false = codes "true"
+-- the word of a boolean, of which is told whether its int is 0
+abbrev pub zero_text : Bool → List ℕ
+zero_text true = codes "false"
+zero_text false = codes "true"
 
 -- What a value is printed as, and appended as: of a char the lowest 16 bits of its int, and of a boolean `false` where its int is 0.
 unfoldable pub printed : {K : Type 0} → Store K → Piece → Value K → Option (List ℕ)
 printed s pieces.Int (Int x) = Some (signed_decimal x)
 printed s pieces.Long (Long x) = Some (signed_decimal x)
 printed s pieces.Char (Int x) = Some ((cast_unsigned w32 x % 2 ^ 16) ∷ [])
-printed s pieces.Bool (Int x) = Some (flag_text (int_eq x (pos 0)))
+printed s pieces.Bool (Int x) = Some (zero_text (int_eq x (pos 0)))
 printed s pieces.Text v = units_or_null s v
 printed s piece v = None
-
-abbrev pub null : {K E : Type 0} → Row K E
-null = raises (lib.Thrown thrown.NullPointerException)
 
 -- ---- String
 

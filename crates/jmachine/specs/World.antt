@@ -14,11 +14,10 @@ use Rattle.jprogram.specs.declared.member.Member.{Member}
 use Rattle.jprogram.specs.declared.member.Selected.{Selected}
 use Rattle.jprogram.specs.declared.part.ClassRef.{ClassRef}
 use Rattle.jprogram.specs.declared.part.ClassRef.TheVariants as refs
-use Rattle.jprogram.specs.declared.reach.Reach.{Reach}
-use Rattle.jprogram.specs.declared.reach.Reach.TheVariants as reach
 use Rattle.jprogram.specs.Classes as classes
 use Rattle.jprogram.specs.Classes.{Program}
 use Rattle.jprogram.specs.Members as members
+use Rattle.jprogram.specs.Parts.{is_public_reach}
 use Rattle.juses.specs.Typed.{name}
 use Rattle.jlayout.specs.Layout as fields
 use Rattle.jmachine.specs.Objects.{library_name}
@@ -48,10 +47,6 @@ pub record World : Type 0 where
 abbrev pub class_id : ClassRef → ClassId
 class_id (refs.User i) = id.User i
 class_id (refs.Lib c) = id.Lib c
-
-abbrev pub is_public_reach : Reach → Bool
-is_public_reach reach.Public = true
-is_public_reach r = false
 
 unfoldable pub world : Program → World
 world p = record {

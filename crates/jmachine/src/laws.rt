@@ -2,7 +2,6 @@ ghost use Rattle.jmachine.specs.Natural.{AnswersAlike, AppliedAlike, ArrayAlike,
 ghost use Rattle.jmachine.specs.Natural.{InitTakesAlike, JumpAlike, LibraryAlike, LocalAlike, MakeAlike, MakeArrayAlike, OpeningAlike, PushAlike};
 ghost use Rattle.jmachine.specs.Natural.{RunAlike, SimpleAlike, StackAlike, StepAlike, StepAlikeAt, StepUnasked, SwitchAlike};
 ghost use Rattle.jmachine.specs.Natural.{TakesAlike, ThrowAlike};
-ghost use Rattle.jmachine.specs.LeftOut.{ChecksAlone};
 ghost use Rattle.jmachine.specs.Machine.{RunGrows, RunStays};
 ghost use Rattle.jmachine.specs.Runs.{GoesOn, Grows, Stays};
 
@@ -80,8 +79,7 @@ pub trait TwoMachines {
 
 /// The laws of what a step asks of access control. What it asks doesn't depend on what is kept. Two machines whose contexts and frames'
 /// entries correspond take the same step where they answer alike what it asks, and where it asks nothing. Those that answer alike do so
-/// at each ask, at each step, and their runs are the same. They begin in the same state. A step asks no more than the member of the
-/// library does that it runs. It has no body to run; its contract is the laws.
+/// at each ask, at each step, and their runs are the same. They begin in the same state. It has no body to run; its contract is the laws.
 pub fn asking_laws<P: TwoMachines>()
     ensures asks { AsksAlike P.K P.L P.E P.F }
     ensures at { StepAlikeAt P.K P.L P.E P.F }
@@ -90,5 +88,4 @@ pub fn asking_laws<P: TwoMachines>()
     ensures step { StepAlike P.K P.L P.E P.F }
     ensures run { RunAlike P.K P.L P.E P.F }
     ensures opening { OpeningAlike P.K P.L P.E P.F }
-    ensures checks { ChecksAlone P.K P.E }
 {}

@@ -1,5 +1,5 @@
 -- Casts, and what is thrown.
-use Rattle.std.proofs.Common.{◌≡◌, ◌∙◌, ℕ, zero, suc, ◌+◌, Bool, true, false, List, [], ◌∷◌, drop, Option, Some, None, refl, sym, ap, subst}
+use Rattle.std.proofs.Common.{◌≡◌, ◌∙◌, ℕ, zero, suc, ◌+◌, Bool, true, false, List, [], ◌∷◌, drop, Option, Some, None, refl, sym, ap}
 use Rattle.std.specs.Prelude.{slice_get}
 use Rattle.jcode.specs.declared.names.CastOp.TheVariants as ops
 use Rattle.jlib.specs.declared.classes.LibClass.TheVariants as lib
@@ -8,8 +8,8 @@ use Rattle.jnames.specs.declared.kinds.Kind.TheVariants as kinds
 use Rattle.jops.specs.declared.value.Value.{Value}
 use Rattle.jops.specs.declared.value.Value.TheVariants.{Int, Long, Ref, Ctx}
 use Rattle.jprogram.specs.declared.member.Member.{Member}
-use Rattle.jrule.specs.Effects.{Fits, Of}
-use Rattle.jrule.specs.Uses.{exchange, throwable}
+use Rattle.jrule.specs.Effects.{Of}
+use Rattle.jrule.specs.Uses.{exchange}
 use Rattle.jtypes.specs.declared.vtype.VType.{VType}
 use Rattle.juses.specs.Instructions as instructions
 use Rattle.juses.specs.Meanings as meanings
@@ -25,7 +25,7 @@ use Rattle.jmachine.specs.World.{World}
 use Rattle.jacts.specs.Ways.{ActsWhere, GoesFree, leaves}
 use Rattle.jacts.specs.declared.way.Way.TheVariants as ways
 use Rattle.jobjs.specs.declared.casts.Named.TheVariants as names
-use Rattle.jobjs.specs.Serving.{IsOne, Serve, ServeThrown, named_seen}
+use Rattle.jobjs.specs.Serving.{IsOne, Serve, named_seen}
 use Rattle.jobjs.proofs.Served.{front_one, has_front, not_served, taken_front}
 
 pub null_there : (v : Option (Value ℕ)) → names.Null ≡ named_seen v → Some (Ref zero) ≡ v
@@ -108,40 +108,3 @@ module _ {E : Type 0} (f : FrameOf ℕ E) (s : Store ℕ) where
     cast_fails n here r at own entries inherited told =
         let named = is_named (slice_get f.operands 0) n here in
         rw (taken_front at.world s (Of kinds.Ref) f.operands (Ref (suc named.before)) named.value told.0, some_row false named.before named.value at.world told.1) (refl, refl, refl, refl, refl, refl)
-
-  -- ---- athrow
-
-  abbrev Thrown : Bool → Site → (Member → Bool) → Type 0
-  Thrown serve at own = ServeThrown at s f.operands serve
-
-  pub throw_not : (g : FrameOf ℕ E) → ActsWhere (Thrown false) instructions.Throw f s (leaves ways.Stuck [] g s)
-  unfolding doing
-  throw_not g r at own entries inherited told = rw (not_served (taken at.world s (Fits throwable ∷ []) f.operands) told) refl
-
-  no_throw : (v : Value ℕ) → names.Other ≡ named_seen (Some v) → straight.throw {K = ℕ} {E = E} (v ∷ []) ≡ None
-  unfolding straight.throw
-  no_throw (Int x) h = refl
-  no_throw (Long x) h = refl
-  no_throw (Ref zero) h = cc
-  no_throw (Ref (suc n)) h = cc
-  no_throw (Ctx k) h = refl
-
-  pub throw_none : (g : FrameOf ℕ E) → names.Other ≡ named_seen (slice_get f.operands 0) → ActsWhere (Thrown true) instructions.Throw f s (leaves ways.Stuck [] g s)
-  unfolding doing
-  throw_none g none r at own entries inherited told =
-      let front = has_front at.world s (Fits throwable) f.operands told in
-      rw (taken_front at.world s (Fits throwable) f.operands front.value front.newest told, no_throw front.value (none ∙ ap named_seen (sym front.newest))) refl
-
-  pub throw_null : names.Null ≡ named_seen (slice_get f.operands 0) → ActsWhere (Thrown true) instructions.Throw f s (leaves (ways.Raises (lib.Thrown thrown.NullPointerException)) [] f s)
-  unfolding doing straight.throw
-  throw_null null r at own entries inherited told =
-      rw (taken_front at.world s (Fits throwable) f.operands (Ref zero) (null_there (slice_get f.operands 0) null) told) (refl, refl, refl, refl, refl, refl)
-
-  throw_one : (b : ℕ) → Some (Ref (suc b)) ≡ slice_get f.operands 0 → ActsWhere (Thrown true) instructions.Throw f s (leaves (ways.Throws (suc b)) [] f s)
-  unfolding doing straight.throw
-  throw_one b newest r at own entries inherited told = rw (taken_front at.world s (Fits throwable) f.operands (Ref (suc b)) newest told) (refl, refl, refl, refl, refl)
-
-  pub throw_at : (n : ℕ) → names.Object n ≡ named_seen (slice_get f.operands 0) → ActsWhere (Thrown true) instructions.Throw f s (leaves (ways.Throws n) [] f s)
-  throw_at n here =
-      let named = is_named (slice_get f.operands 0) n here in
-      subst (λ (m : ℕ). ActsWhere (Thrown true) instructions.Throw f s (leaves (ways.Throws m) [] f s)) (sym named.number) (throw_one named.before named.value)

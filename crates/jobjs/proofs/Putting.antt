@@ -24,9 +24,9 @@ use Rattle.juses.specs.Types.{element_named}
 use Rattle.juses.specs.Instructions as instructions
 use Rattle.juses.specs.Meanings as meanings
 use Rattle.juses.specs.Meanings.{FieldMeaning}
-use Rattle.jmachine.specs.Acts.{FrameOf, gives}
+use Rattle.jmachine.specs.Acts.{FrameOf, gives, null}
 use Rattle.jmachine.specs.Doing.{doing, used}
-use Rattle.jmachine.specs.Fields.{field, null, put_into}
+use Rattle.jmachine.specs.Fields.{field, put_into}
 use Rattle.jmachine.specs.Frames.{standing}
 use Rattle.jmachine.specs.Narrowing.{narrowed}
 use Rattle.jmachine.specs.Objects.{Instance}

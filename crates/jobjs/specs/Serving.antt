@@ -1,13 +1,12 @@
 -- What rows of instructions by an entry of the pool are told: whether the operands serve for what the entry wants.
-use Rattle.std.specs.Prelude.{◌≡◌, ℕ, ℤ, pos, zero, suc, Bool, true, false, List, [], ◌∷◌, Option, Some, is_some}
+use Rattle.std.specs.Prelude.{◌≡◌, ℕ, ℤ, pos, zero, suc, Bool, true, false, List, Option, Some, is_some}
 use Rattle.jheap.specs.declared.cell.Kind.{Kind}
 use Rattle.jheap.specs.declared.cell.Kind.TheVariants as kinds
 use Rattle.jheap.specs.Heaps.{Heaped, kind_at}
 use Rattle.jops.specs.declared.value.Value.{Value}
 use Rattle.jops.specs.declared.value.Value.TheVariants.{Ref}
 use Rattle.jprogram.specs.declared.member.Member.{Member}
-use Rattle.jrule.specs.Effects.{Fits}
-use Rattle.jrule.specs.Uses.{exchange, throwable}
+use Rattle.jrule.specs.Uses.{exchange}
 use Rattle.jtypes.specs.declared.vtype.VType.{VType}
 use Rattle.juses.specs.Meanings.{Meaning}
 use Rattle.jmachine.specs.Making.{is_one}
@@ -48,7 +47,3 @@ IsOne w s t operand answer = (n : ℕ) → operand ≡ Some (Ref (suc n)) → is
 abbrev pub bit : Bool → ℤ
 bit true = pos 1
 bit false = pos 0
-
--- what is thrown serves, or it doesn't
-abbrev pub ServeThrown : Site → Store ℕ → List (Value ℕ) → Bool → Type 0
-ServeThrown at s operands serve = is_some (taken at.world s (Fits throwable ∷ []) operands) ≡ serve

@@ -8,7 +8,7 @@ ghost use Rattle.jtypes.specs.declared.vtype.VType.{VType};
 ghost use Rattle.juses.specs.Instructions as instructions;
 ghost use Rattle.juses.specs.Meanings as meanings;
 ghost use Rattle.jacts.specs.Ways.{ActsWhere, leaves};
-ghost use Rattle.jobjs.specs.Serving.{IsOne, Serve, ServeThrown, bit, named_seen};
+ghost use Rattle.jobjs.specs.Serving.{IsOne, Serve, bit, named_seen};
 ghost use Rattle.jobjs.specs.Staying.{Stays};
 
 use crate::fields::give_one;
@@ -108,22 +108,5 @@ pub fn instance_of<M: Copy>(frames: &mut Frames<M>, serve: bool, is: bool) -> Wa
         Named::Other => Way::Stuck,
         Named::Null => give_one(frames, told(false)),
         Named::Object(_) => give_one(frames, told(is)),
-    }
-}
-
-/// Throws what an operand names (JVMS 6.5: athrow). `serve` says that the operand serves. Null raises an exception.
-#[inline]
-pub fn throw<M: Copy>(frames: &Frames<M>, serve: bool) -> Way
-    ensures row { (s : Store ℕ) →
-        ActsWhere (λ (at : Site) (own : Member → Bool). ServeThrown at s frames.now.newest.operands serve) instructions.Throw frames.now.newest s
-        (leaves result [] frames.now.newest s) }
-{
-    if !serve {
-        return Way::Stuck;
-    }
-    match named_at(frames) {
-        Named::Other => Way::Stuck,
-        Named::Null => Way::Raises(LibClass::Thrown(Thrown::NullPointerException)),
-        Named::Object(n) => Way::Throws(n),
     }
 }

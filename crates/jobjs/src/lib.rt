@@ -11,7 +11,7 @@ mod target;
 
 pub use arrays::new_refs;
 pub use branching::{if_null, if_same};
-pub use casts::{check_cast, instance_of, throw};
+pub use casts::{check_cast, instance_of};
 pub use fields::{get_field, get_out, get_static, put_field, put_static};
 pub use making::{new_library, new_object};
 pub use storing::{Held, store_ref};

@@ -26,7 +26,7 @@ use Rattle.jmachine.specs.Calls.{begun_on, init_taken, is_begun, may_begin, rece
 use Rattle.jmachine.specs.Objects.{Object, class_of}
 use Rattle.jmachine.specs.Operands.{Taken, taken}
 use Rattle.jmachine.specs.Store.{Store, object_at, object_of}
-use Rattle.jmachine.specs.World.{fits, is_instance, world}
+use Rattle.jmachine.specs.World.{fits, world}
 use Rattle.jstate.specs.Seen.{object_by}
 use Rattle.jstate.specs.SeenLaws.{SeesEach}
 use Rattle.jcalls.specs.declared.receiver.Receiver.{Receiver}
@@ -199,15 +199,6 @@ module _ (law : SeesEach) (p : Program) (x : Objects) (s : Store ℕ) (store : I
   class_is (Ref (suc o)) y kind there on =
       named_as y kind (heaps.object_at x.heap.now (suc o))
       (sym there ∙ ap (λ (s : Store ℕ). object_at s (suc o)) store.seen ∙ law p x.shapes.now store.things store.constants x.heap.now (suc o)) on
-
-  pub interface_of : (values : List (Value ℕ)) (on : Receiver) (kind : Kind) (t : TypeRef) (b : Bool) → on ≡ receiver_seen x.heap.now (receiver values)
-      → on ≡ receivers.Object kind → t ≡ kind_type x.shapes.now kind → b ≡ is_instance (world p) (named p t) (named p (types.Object owner))
-      → IsOfInterface p s c values b
-  interface_of values on kind t b seen is own h v y newest there =
-      let class = class_is v y kind there (sym is ∙ seen ∙ ap (receiver_seen x.heap.now) newest) in
-      ap (λ (t : VType). is_instance (world p) t (ObjectType c.owner)) class
-      ∙ ap (λ (n : Name). is_instance (world p) (named p (kind_type x.shapes.now kind)) (ObjectType n)) owned
-      ∙ ap (λ (t : TypeRef). is_instance (world p) (named p t) (named p (types.Object owner))) (sym own) ∙ sym h
 
   missing_is : (v : Value ℕ) (y : Object ℕ) → object_of s v ≡ Some y → IsThere (receiver_seen x.heap.now (Some v))
   missing_is (Int n) y there = cc

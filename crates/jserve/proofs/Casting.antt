@@ -32,10 +32,10 @@ use Rattle.jmachine.specs.Operands.{serves_as, taken, type_of}
 use Rattle.jmachine.specs.Sites.{Site}
 use Rattle.jmachine.specs.Store.{Store}
 use Rattle.jmachine.specs.World.{World, is_instance, world}
-use Rattle.jobjs.specs.Serving.{IsOne, Serve, ServeThrown}
+use Rattle.jobjs.specs.Serving.{IsOne, Serve}
 use Rattle.jstate.specs.SeenLaws.{SeesEach}
 use Rattle.jserve.specs.declared.values.Objects.{Objects}
-use Rattle.jserve.specs.Served.{one_serves, serves_in}
+use Rattle.jserve.specs.Served.{ServeThrown, one_serves, serves_in}
 use Rattle.jserve.specs.Valued.{IsStore, type_in}
 use Rattle.jserve.proofs.Wanting.{double, serves_seen, single}
 use Rattle.jserve.proofs.Valuing.{type_is}

@@ -148,7 +148,3 @@ module _ (law : SeesEach) (p : Program) (x : Objects) (things : Things) (constan
 -- the type of a value by number is its type
 pub type_is : SeesEach → (p : Program) (x : Objects) (s : Store ℕ) (v : Value ℕ) → IsStore p x s → type_of (world p) s v ≡ option_map (named p) (type_in x v)
 type_is law p x s v store = ap (λ (s : Store ℕ). type_of (world p) s v) store.seen ∙ value_typed law p x store.things store.constants store.counted v
-
-pub type_seen : SeesEach → (p : Program) (x : Objects) (s : Store ℕ) (v : Value ℕ) (t : Option TypeRef) → IsStore p x s → t ≡ type_in x v
-    → option_map (named p) t ≡ type_of (world p) s v
-type_seen law p x s v t store e = ap (option_map (named p)) e ∙ sym (type_is law p x s v store)

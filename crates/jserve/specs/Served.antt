@@ -1,10 +1,13 @@
 -- Operands that serve, by number.
-use Rattle.std.specs.Prelude.{ℕ, Bool, true, false, ◌&&◌, List, [], ◌∷◌, Option, Some, None, option_map}
+use Rattle.std.specs.Prelude.{◌≡◌, ℕ, Bool, true, false, ◌&&◌, List, [], ◌∷◌, Option, Some, None, is_some, option_map}
 use Rattle.jops.specs.declared.value.Value.{Value}
 use Rattle.jprogram.specs.Classes.{Program}
-use Rattle.jrule.specs.Effects.{Want}
+use Rattle.jrule.specs.Effects.{Fits, Want}
+use Rattle.jrule.specs.Uses.{throwable}
 use Rattle.juses.specs.Types.{named}
-use Rattle.jmachine.specs.Operands.{Taken, serves_as}
+use Rattle.jmachine.specs.Operands.{Taken, serves_as, taken}
+use Rattle.jmachine.specs.Sites.{Site}
+use Rattle.jmachine.specs.Store.{Store}
 use Rattle.jmachine.specs.World.{world}
 use Rattle.jcalls.specs.Calling.{took}
 use Rattle.jserve.specs.declared.values.Objects.{Objects}
@@ -29,3 +32,7 @@ one_serves f want (Some v) = f want v
 abbrev pub took_if : ℕ → List (Value ℕ) → Bool → Option (Taken ℕ)
 took_if count operands true = Some (took count operands)
 took_if count operands false = None
+
+-- what is thrown serves, or it doesn't
+abbrev pub ServeThrown : Site → Store ℕ → List (Value ℕ) → Bool → Type 0
+ServeThrown at s operands serve = is_some (taken at.world s (Fits throwable ∷ []) operands) ≡ serve

@@ -1,10 +1,6 @@
-ghost use Rattle.std.specs.Prelude.{◌≡◌, ◌≤◌, ◌+◌, ℕ, List, length, slice_get, true};
-ghost use Rattle.jcalls.specs.Calling.{IsOfInterface, receiver_seen};
-ghost use Rattle.jops.specs.declared.value.Value.{Value as ValueOf};
+ghost use Rattle.std.specs.Prelude.{◌≡◌, ◌≤◌, ◌+◌, ℕ, length, slice_get, true};
 ghost use Rattle.jheap.specs.Heaps.{kind_at};
-ghost use Rattle.jmachine.specs.Calls.{receiver};
 ghost use Rattle.jmachine.specs.Store.{Store};
-ghost use Rattle.juses.specs.Types.{class_named};
 ghost use Rattle.juses.specs.Meanings.{CallMeaning};
 ghost use Rattle.juses.specs.declared.meaning.How.TheVariants as how;
 ghost use Rattle.jserve.specs.Calls;
@@ -12,10 +8,9 @@ ghost use Rattle.jserve.specs.Calls.{CallServes, IsCall, begins_in, count_of};
 ghost use Rattle.jserve.specs.Valued.{IsStore};
 
 use crate::ancestors::Ancestors;
-use crate::fitting::{fits, is_instance};
+use crate::fitting::fits;
 use crate::serving::{object_serves, params_serve};
 use crate::values::{Objects, kind_type};
-use jcalls::Receiver;
 use jops::Value;
 use jprogram::ClassRef;
 use jstate::{Frames, heap_laws};
@@ -86,20 +81,6 @@ fn init_serves<M: Copy>(
         return false;
     }
     begins_at(a, x, frames, owner, params.len())
-}
-
-/// Whether the class of the object of a call has the interface by which its method is named, where the object is there.
-#[inline]
-pub fn has_interface(a: &Ancestors<'_>, x: &Objects<'_>, owner: ClassRef, on: Receiver) -> bool
-    ensures { (s : Store ℕ) (c : CallMeaning) (values : List (ValueOf ℕ)) → IsStore a.now x.now s → c.owner ≡ class_named a.now owner
-        → on ≡ receiver_seen x.now.heap.now (receiver values) → IsOfInterface a.now s c values result }
-{
-    heap_laws();
-    match on {
-        Receiver::Missing => false,
-        Receiver::Null => false,
-        Receiver::Object(kind) => is_instance(a, kind_type(x.shapes, kind), TypeRef::Object(owner)),
-    }
 }
 
 /// Whether the newest operands serve for a call, by how it is made, the class by which its method is named, and the types of the

@@ -8,7 +8,7 @@ ghost use Rattle.jmachine.specs.Sites.{Site};
 ghost use Rattle.jmachine.specs.Store.{Store};
 ghost use Rattle.jmachine.specs.World.{world};
 ghost use Rattle.jnames.specs.declared.kinds.Kind.TheVariants as wanted;
-ghost use Rattle.jobjs.specs.Serving.{IsOne, Serve, ServeThrown};
+ghost use Rattle.jobjs.specs.Serving.{IsOne, Serve};
 ghost use Rattle.jprogram.specs.declared.member.Member.{Member};
 ghost use Rattle.jprogram.specs.Classes.{Program};
 ghost use Rattle.jrule.specs.Arrays;
@@ -18,7 +18,7 @@ ghost use Rattle.jtypes.specs.declared.vtype.VType.{VType};
 ghost use Rattle.juses.specs.Meanings as meanings;
 ghost use Rattle.juses.specs.Types.{array_named, element_named, named};
 ghost use Rattle.jtypes.specs.Described;
-ghost use Rattle.jserve.specs.Served.{one_serves, serves_in};
+ghost use Rattle.jserve.specs.Served.{ServeThrown, one_serves, serves_in};
 ghost use Rattle.jserve.specs.Valued.{IsStore, type_in};
 
 use crate::ancestors::Ancestors;

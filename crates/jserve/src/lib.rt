@@ -13,9 +13,9 @@ mod storing;
 mod values;
 
 pub use ancestors::Ancestors;
-pub use calls::{call_serves, has_interface};
+pub use calls::call_serves;
 pub use casts::{is_one, is_stored, ref_serves, refs_serve, thrown_serves};
 pub use fields::{get_field_serves, put_field_serves, put_static_serves};
 pub use fitting::{fits, is_instance};
 pub use storing::{may_store, store_serves};
-pub use values::{Objects, type_at};
+pub use values::Objects;

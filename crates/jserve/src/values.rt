@@ -1,20 +1,15 @@
-ghost use Rattle.std.specs.Prelude.{◌≡◌, ◌<◌, ℕ, None, Some, option_and_then, option_map};
+ghost use Rattle.std.specs.Prelude.{◌≡◌, ◌<◌, None, Some, option_and_then};
 ghost use Rattle.jheap.specs.Heaps.{object_at};
-ghost use Rattle.jmachine.specs.Operands.{type_of};
-ghost use Rattle.jmachine.specs.Store.{Store};
-ghost use Rattle.jmachine.specs.World.{world};
-ghost use Rattle.jprogram.specs.Classes.{Program};
 ghost use Rattle.jstate.specs.Seen.{array_at};
-ghost use Rattle.juses.specs.Types.{named};
 ghost use Rattle.jserve.specs.Valued;
-ghost use Rattle.jserve.specs.Valued.{IsStore, type_in};
+ghost use Rattle.jserve.specs.Valued.{type_in};
 
 use jcalls::{Counts, is_ready};
 use jheap::{Heap, Kind};
 use jlib::LibClass;
 use jops::Value;
 use jprogram::ClassRef;
-use jstate::{Shapes, class_numbered, heap_laws};
+use jstate::{Shapes, class_numbered};
 use juses::{ArrayRef, ElementRef, TypeRef};
 
 /// The objects of a machine: the heap, what its numbers stand for, and how many permissions and contexts the machine keeps.
@@ -86,14 +81,4 @@ pub(crate) fn value_type(x: &Objects<'_>, value: Value) -> Option<TypeRef>
             object_type(x, o)
         }
     }
-}
-
-/// The type of a value, by number: of a reference the class of the object that it names, or the type of the array. None where it names
-/// an object that may not be used yet, or isn't there.
-#[inline]
-pub fn type_at(x: &Objects<'_>, value: Value) -> Option<TypeRef>
-    ensures { (p : Program) (s : Store ℕ) → IsStore p x.now s → option_map (named p) result ≡ type_of (world p) s value }
-{
-    heap_laws();
-    value_type(x, value)
 }

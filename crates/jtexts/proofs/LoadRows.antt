@@ -1,9 +1,9 @@
--- Constants.
-use Rattle.std.proofs.Common.{◌≡◌, ◌∙◌, ℕ, ◌+◌, ◌<◌, ◌^◌, ℤ, List, [], ◌∷◌, ◌++◌, length, get_or, Some, None, false, sym, ap, ap₂, rules}
+-- String constants that are made.
+use Rattle.std.proofs.Common.{◌≡◌, ◌∙◌, ℕ, ◌+◌, ◌<◌, ◌^◌, List, [], ◌∷◌, ◌++◌, length, get_or, Some, None, false, sym, ap, ap₂, rules}
 use Rattle.std.specs.Prelude.{nat_le}
 use Rattle.std.proofs.lemmas.Bool.{le-leb}
 use Rattle.std.proofs.lemmas.List.{length-map}
-use Rattle.jops.specs.declared.value.Value.TheVariants.{Int, Long, Ref}
+use Rattle.jops.specs.declared.value.Value.TheVariants.{Ref}
 use Rattle.jheap.specs.declared.cell.Kind.TheVariants as kinds
 use Rattle.jheap.specs.Heaps.{Heaped}
 use Rattle.jprogram.specs.Classes.{Program}
@@ -17,25 +17,11 @@ use Rattle.jstate.specs.SeenLaws.{AddsOne}
 use Rattle.jtexts.specs.HeapTexts.{Puts}
 use Rattle.jtexts.specs.Rans.{Comes, leaves}
 use Rattle.jtexts.specs.declared.ran.Ran.TheVariants as rans
-use Rattle.jtexts.proofs.Costs.{at_no_cost}
 use Rattle.jtexts.proofs.TextRows.{text_view}
-
-module _ (E : Type 0) (s : Store ℕ) where
-  pub int_row : (n : ℤ) → Comes {E = E} s (push s (meanings.Int n) []) (leaves (rans.Gave (Int n)) [] s)
-  unfolding push
-  int_row n = at_no_cost s s (rans.Gave (Int n)) [] (leaves rans.Full [] s)
-
-  pub long_row : (n : ℤ) → Comes {E = E} s (push s (meanings.Long n) []) (leaves (rans.Gave (Long n)) [] s)
-  unfolding push
-  long_row n = at_no_cost s s (rans.Gave (Long n)) [] (leaves rans.Full [] s)
 
 module _ (E : Type 0) (p : Program) (shapes : Shapes) (things : Things) (constants : List (List ℕ × ℕ)) (bytes us : List ℕ) where
   abbrev at : Heaped → Store ℕ
   at h = store_by p shapes things constants h
-
-  pub known_row : (h : Heaped) (o : ℕ) → units_held bytes ≡ us → constant_at constants us ≡ Some o → Comes {E = E} (at h) (push (at h) (meanings.Text bytes) []) (leaves (rans.Gave (Ref o)) [] (at h))
-  unfolding push
-  known_row h o held known = rw (held, known) (at_no_cost (at h) (at h) (rans.Gave (Ref o)) [] (leaves rans.Full [] (at h)))
 
   pub full_row : (old new : Heaped) → units_held bytes ≡ us → constant_at constants us ≡ None → Puts kinds.Text us old new None
       → Comes {E = E} (at old) (push (at old) (meanings.Text bytes) []) (leaves rans.Full [] (at new))

@@ -1,7 +1,6 @@
 pub mod Constants
 pub mod HeapBuilders
 pub mod HeapTexts
-pub mod Loaded
 pub mod Messages
 pub mod Printed
 pub mod Rans

@@ -8,7 +8,7 @@ use Rattle.jops.specs.declared.value.Value.TheVariants.{Int, Long, Ref}
 use Rattle.jheap.specs.Heaps.{Heaped}
 use Rattle.jlib.specs.declared.calls.Piece.{Piece}
 use Rattle.jlib.specs.declared.calls.Piece.TheVariants as pieces
-use Rattle.jmachine.specs.Texts.{flag_text}
+use Rattle.jmachine.specs.Texts.{zero_text}
 use Rattle.jtexts.specs.HeapTexts.{text_in}
 
 abbrev pub int_in : Value ℕ → Option ℤ
@@ -23,7 +23,7 @@ long_in v = None
 abbrev pub shown_int : Piece → ℤ → Option (List ℕ)
 shown_int pieces.Int x = Some (signed_decimal x)
 shown_int pieces.Char x = Some ((cast_unsigned w32 x % 2 ^ 16) ∷ [])
-shown_int pieces.Bool x = Some (flag_text (int_eq x (pos 0)))
+shown_int pieces.Bool x = Some (zero_text (int_eq x (pos 0)))
 shown_int piece x = None
 
 abbrev pub text_or_null : Heaped → Value ℕ → Option (List ℕ)

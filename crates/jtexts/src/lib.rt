@@ -4,7 +4,6 @@
 mod builders;
 mod cells;
 mod constants;
-mod loading;
 mod making;
 mod printing;
 mod ran;
@@ -17,7 +16,6 @@ mod thrown;
 pub use builders::{append, builder_init, builder_of_text, built_text};
 pub use cells::cells_laws;
 pub use constants::{constant_laws, make_constant, make_text};
-pub use loading::{load_int, load_long, load_text};
 pub use printing::{print, print_end};
 pub use ran::{Ran, ran_laws};
 pub use seen::text_units;

@@ -2,7 +2,7 @@ ghost use Rattle.std.specs.Prelude.{◌≡◌, ◌∷◌, ◌%◌, ◌^◌, [], 
 ghost use Rattle.std.specs.Fmt.{signed_decimal};
 ghost use Rattle.std.specs.Int.{w32, cast_unsigned};
 ghost use Rattle.std.specs.Ordering.{int_eq};
-ghost use Rattle.jmachine.specs.Texts.{flag_text as text_of_flag};
+ghost use Rattle.jmachine.specs.Texts.{zero_text};
 ghost use Rattle.jtexts.specs.Shown.{int_in, long_in, shown as shown_as, shown_int as int_shown, text_or_null};
 
 use crate::texts::{is_null, read_onto, text_of};
@@ -53,7 +53,7 @@ fn char_text(alloc: Global, x: i32) -> Result<Units, AllocError>
 
 /// `false` where the int is 0, else `true`.
 fn flag_text(alloc: Global, x: i32) -> Result<Units, AllocError>
-    ensures { IfOk result (λ units. units ≡ text_of_flag (int_eq x (pos 0))) }
+    ensures { IfOk result (λ units. units ≡ zero_text (int_eq x (pos 0))) }
 {
     if x == 0 {
         let units = widened(alloc, b"false")?;

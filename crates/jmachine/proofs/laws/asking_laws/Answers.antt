@@ -1,5 +1,4 @@
 use Rattle.jmachine.proofs.Asking.{asks_law}
-use Rattle.jmachine.proofs.LeftOut.{alone_law}
 use Rattle.jmachine.proofs.Openings.{opening_law, run_law}
 use Rattle.jmachine.proofs.Stepping.{answer_law, step_at_law, step_law, step_unasked_law}
 use Rattle.jmachine.proofs.laws.asking_laws.Goals as goal
@@ -24,6 +23,3 @@ returns-clause-run g c = run_law _ _ _ _
 
 pub returns-clause-opening : goal.returns-clause-opening
 returns-clause-opening g c = opening_law _ _ _ _
-
-pub returns-clause-checks : goal.returns-clause-checks
-returns-clause-checks g c = alone_law _ _
