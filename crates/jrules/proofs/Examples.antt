@@ -18,11 +18,11 @@ use Rattle.jthreads.specs.Table.{opened}
 use Rattle.jtrace.specs.declared.event.Event.TheVariants.{Grant, Deny}
 use Rattle.jtypes.specs.declared.vtype.Element.TheVariants as elements
 use Rattle.juses.specs.Typed.{name}
-use Rattle.jmachine.specs.Acts.{Row, Goes, Calls, Raises, free, costs}
+use Rattle.jmachine.specs.Acts.{Row, Goes, Calls, Raises, free, costs, null}
 use Rattle.jmachine.specs.Asking.{context_row, controller_row, rt_row}
 use Rattle.jmachine.specs.Privileges.{all_limits}
 use Rattle.jmachine.specs.Objects.{Instance, Permission, Context, Array, library_name}
-use Rattle.jmachine.specs.Security.{denial_message, null}
+use Rattle.jmachine.specs.Security.{denial_message}
 use Rattle.jmachine.specs.Sites.{Site}
 use Rattle.jmachine.specs.Store.{Store, with_made}
 use Rattle.jmachine.specs.World.{World}

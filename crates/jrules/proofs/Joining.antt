@@ -11,7 +11,7 @@ use Rattle.jrules.specs.Joined.{BeginsAlike, CallsAlike, ChecksAlike, HeldChecks
 
 pub checks : DecidesAsTheWalk → ChecksAlike
 unfolding inspecting.rules plain.rules
-checks decides has asked entries below none = sym (decides has asked (stack_of entries below))
+checks decides has asked entries below none inherited = sym (decides has asked (stack_of entries below))
 
 pub held : DecidesAsTheWalk → HeldChecksAlike
 unfolding inspecting.rules plain.rules
@@ -19,7 +19,7 @@ held decides has asked s = sym (decides has asked s)
 
 pub keeps : KeepsAlike
 unfolding inspecting.rules plain.rules
-keeps = record { snapshot = λ has entries below none. refl; inherit = λ has entries below none. refl }
+keeps = record { snapshot = λ has entries below none inherited. refl; inherit = λ has entries below none inherited. refl }
 
 pub calls : CallsAlike
 unfolding inspecting.rules plain.rules

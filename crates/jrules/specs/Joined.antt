@@ -12,22 +12,23 @@ use Rattle.jrules.specs.Plain as plain
 abbrev pub context_of : List Carried → Option Stack → List Item
 context_of entries below = along (stack_of entries below)
 
--- A check is decided alike, the denying domain included,
+-- A check is decided alike, the denying domain included, whatever context the plain machine's thread was started with,
 abbrev pub ChecksAlike : Type 0
-ChecksAlike = (has : ℕ → Permission → Bool) (asked : Permission) (entries : List Carried) (below : Option Stack) (none : List (Unit {0}))
-    → (inspecting.rules has).check asked None entries below ≡ (plain.rules has).check asked (Some (context_of entries below)) none None
+ChecksAlike = (has : ℕ → Permission → Bool) (asked : Permission) (entries : List Carried) (below : Option Stack)
+    (none : List (Unit {0})) (inherited : Option (List Item))
+    → (inspecting.rules has).check asked None entries below ≡ (plain.rules has).check asked (Some (context_of entries below)) none inherited
 
 -- and so is one of what is held.
 abbrev pub HeldChecksAlike : Type 0
 HeldChecksAlike = (has : ℕ → Permission → Bool) (asked : Permission) (s : Stack)
     → (inspecting.rules has).check_kept asked s ≡ (plain.rules has).check_kept asked (along s)
 
--- What getContext and a Thread keep corresponds.
+-- What getContext and a Thread keep corresponds, likewise.
 pub record KeepsAlike : Type 0 where
-  pub snapshot : (has : ℕ → Permission → Bool) (entries : List Carried) (below : Option Stack) (none : List (Unit {0}))
-      → along ((inspecting.rules has).snapshot None entries below) ≡ (plain.rules has).snapshot (Some (context_of entries below)) none None
-  pub inherit : (has : ℕ → Permission → Bool) (entries : List Carried) (below : Option Stack) (none : List (Unit {0}))
-      → along ((inspecting.rules has).inherit None entries below) ≡ (plain.rules has).inherit (Some (context_of entries below)) none None
+  pub snapshot : (has : ℕ → Permission → Bool) (entries : List Carried) (below : Option Stack) (none : List (Unit {0})) (inherited : Option (List Item))
+      → along ((inspecting.rules has).snapshot None entries below) ≡ (plain.rules has).snapshot (Some (context_of entries below)) none inherited
+  pub inherit : (has : ℕ → Permission → Bool) (entries : List Carried) (below : Option Stack) (none : List (Unit {0})) (inherited : Option (List Item))
+      → along ((inspecting.rules has).inherit None entries below) ≡ (plain.rules has).inherit (Some (context_of entries below)) none inherited
 
 -- A method of a domain that is called enters the context of its caller,
 abbrev pub CallsAlike : Type 0
