@@ -1,5 +1,5 @@
 -- What marks and frames of a table settle.
-use Rattle.std.proofs.Common.{◌≡◌, ℕ, zero, suc, ◌-◌, ◌<◌, ◌≤◌, Bool, true, false, List, [], ◌∷◌, ◌++◌, Option, Some, None, length, get_or, take, refl, sym, ap, ◌∙◌, arith, slice_get, unwrap_or, cond, length-append}
+use Rattle.std.proofs.Common.{◌≡◌, ℕ, zero, suc, ◌-◌, ◌<◌, ◌≤◌, Bool, true, false, List, [], ◌∷◌, ◌++◌, Option, Some, None, length, get_or, take, refl, sym, ap, subst, ◌∙◌, arith, slice_get, unwrap_or, cond, length-append}
 use Rattle.std.proofs.Math.Seq.{take-suc}
 use native.Mathlib.Decide.{dec_lt}
 use Rattle.jperm.specs.declared.permission.Permission.{Permission}
@@ -10,7 +10,7 @@ use Rattle.jkept.specs.declared.mark.InspectMark.{InspectMark}
 use Rattle.jkept.specs.declared.entry.KeptFrame.{KeptFrame}
 use Rattle.jkept.specs.declared.entry.KeptEntry.{KeptEntry}
 use Rattle.jkept.specs.declared.entry.KeptEntry.TheVariants.{Empty, Frame, Privilege}
-use Rattle.jkept.specs.Entries.{Below, IsBack}
+use Rattle.jkept.specs.Entries.{Below, EntryBelow, IsBack}
 use Rattle.jkept.specs.Things.{Thing, the_stack, the_mark, stack_at, mark_at, given_at, framed, pushed, things}
 use Rattle.jkept.specs.Settled.{settled, settled_mark, settled_frame, stack_from, given_of, Knows, known}
 use Rattle.jkept.proofs.Meanings.{things-at}
@@ -29,6 +29,22 @@ below_more m n None h below = below
 below_more m n (Some k) h below = omega arith
 
 -- ---- entries
+
+get_past : (a : List KeptEntry) (x y : KeptEntry) (k : ℕ) → length a ≤ k → slice_get (a ++ x ∷ []) k ≡ Some y → (k ≡ length a) × (x ≡ y)
+get_past [] x y zero h e = (refl, cc)
+get_past [] x y (suc k) h e = absurd cc
+get_past (z ∷ a) x y zero h e = absurd (omega arith)
+get_past (z ∷ a) x y (suc k) h e = let rest = get_past a x y k (omega arith) e in (ap suc rest.0, rest.1)
+
+-- one entry more that speaks of earlier ones
+pub back_more : (old new : List KeptEntry) (e : KeptEntry) → IsBack old → EntryBelow (length old) e → new ≡ old ++ e ∷ [] → IsBack new
+back_more old new e back below is = subst (λ (l : List KeptEntry). IsBack l) (sym is) each
+  where
+    each : IsBack (old ++ e ∷ [])
+    each k x found = elim (dec_lt k (length old)) as (λ w. EntryBelow k x) [
+      | yes before ↦ back k x (sym (get_before old (e ∷ []) k before) ∙ found)
+      | no past ↦ (let there = get_past old e x k (omega arith) found in subst (λ (n : ℕ). EntryBelow n x) (sym there.0) (subst (λ (y : KeptEntry). EntryBelow (length old) y) there.1 below))
+    ]
 
 -- the given number of a privilege is an earlier one
 pub privilege_back : (entries : List KeptEntry) (k : ℕ) (x : KeptEntry) (given : Option ℕ) (limits : Option (List Permission))

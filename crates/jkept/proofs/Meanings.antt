@@ -1,11 +1,12 @@
 -- Each entry of a table stands for what it says over the whole table.
 use Rattle.std.proofs.Common.{◌≡◌, ℕ, zero, suc, ◌+◌, ◌<◌, List, [], ◌∷◌, ◌++◌, Option, Some, None, length, refl, sym, ap, ◌∙◌, arith, length-append, slice_get, add-zero, zero-add}
 use Rattle.jdomain.specs.Stacks.{Stack, Privileged, Within}
+use Rattle.jperm.specs.declared.permission.Permission.{Permission}
 use Rattle.jkept.specs.declared.mark.InspectMark.{InspectMark}
 use Rattle.jkept.specs.declared.entry.KeptEntry.{KeptEntry}
 use Rattle.jkept.specs.declared.entry.KeptEntry.TheVariants.{Empty, Frame, Privilege}
-use Rattle.jkept.specs.Entries.{Below, AllBelow, EntryBelow, IsBack}
-use Rattle.jkept.specs.Things.{Thing, AStack, AMark, the_stack, the_mark, stack_at, mark_at, given_at, framed, pushed, stack_of, thing_of, things_behind, things, Keeps}
+use Rattle.jkept.specs.Entries.{Below, AllBelow, EntryBelow, Extends, IsBack}
+use Rattle.jkept.specs.Things.{Thing, AStack, AMark, the_stack, the_mark, stack_at, mark_at, given_at, framed, pushed, stack_of, thing_of, things_behind, things, Keeps, IsPlain}
 
 -- two lists that have the same below n
 abbrev pub Agree : ℕ → List Thing → List Thing → Type 0
@@ -105,6 +106,27 @@ keeps_grown old new more grown =
       λ k h. ap (λ l. slice_get (things l) k) grown ∙ ap (λ l. slice_get l k) (things_behind-append [] old more)
           ∙ things_behind-agree (things old) more k (omega (arith, count, h)),
     )
+
+-- so does the number of the privilege without a given stack and limits
+pub plain_grown : (old new more : List KeptEntry) (n : Option ℕ) → new ≡ old ++ more → IsPlain old n → IsPlain new n
+plain_grown old new more None grown plain = tt
+plain_grown old new more (Some n) grown plain =
+    let keeps = keeps_grown old new more grown in (
+      omega (arith, keeps.0, plain.0),
+      ap the_mark (keeps.1 n plain.0) ∙ plain.1,
+    )
+
+-- an added privilege stands for its mark
+pub marked_stands : (old new : List KeptEntry) (given : Option ℕ) (limits : Option (List Permission)) (n : ℕ) → new ≡ old ++ Privilege given limits ∷ [] → n ≡ length old
+    → mark_at (things new) (Some n) ≡ Privileged (given_at (things old) given) limits
+marked_stands old new given limits n grown number = ap the_mark (added_stands old new (Privilege given limits) n grown number)
+
+nothing_more : (entries : List KeptEntry) → entries ≡ entries ++ []
+nothing_more [] = refl
+nothing_more (e ∷ entries) = ap (λ (l : List KeptEntry). e ∷ l) (nothing_more entries)
+
+pub extends_none : (entries : List KeptEntry) → Extends entries entries
+extends_none entries = ([], nothing_more entries)
 
 -- so stacks and marks of earlier numbers stay
 pub stack_of-kept : (old new : List KeptEntry) → Keeps old new → (marks : List InspectMark) (inherited : Option ℕ) → AllBelow (length old) marks → Below (length old) inherited

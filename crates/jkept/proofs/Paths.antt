@@ -1,14 +1,13 @@
 -- What the frames of the stack that was kept last stand for.
 use Rattle.std.proofs.Common.{◌≡◌, ℕ, zero, suc, ◌+◌, ◌-◌, ◌<◌, ◌≤◌, List, [], ◌∷◌, ◌++◌, Option, Some, None, length, get_or, take, drop, refl, sym, ap, subst, ◌∙◌, arith, length-append, slice_get}
-use Rattle.jperm.specs.declared.permission.Permission.{Permission}
-use Rattle.jdomain.specs.Stacks.{Bottom, Privileged}
+use Rattle.jdomain.specs.Stacks.{Bottom}
 use Rattle.jkept.specs.declared.mark.InspectMark.{InspectMark}
 use Rattle.jkept.specs.declared.entry.KeptEntry.{KeptEntry}
-use Rattle.jkept.specs.declared.entry.KeptEntry.TheVariants.{Empty, Frame, Privilege}
+use Rattle.jkept.specs.declared.entry.KeptEntry.TheVariants.{Empty, Frame}
 use Rattle.jkept.specs.declared.path.Noted.{Noted}
 use Rattle.jkept.specs.Entries.{Below, AllBelow, IsBack, Extends}
 use Rattle.jkept.specs.Paths.{Lies, marks_of, newest}
-use Rattle.jkept.specs.Things.{the_stack, the_mark, stack_at, mark_at, given_at, pushed, stack_of, things, Keeps}
+use Rattle.jkept.specs.Things.{the_stack, stack_at, pushed, stack_of, things, Keeps}
 use Rattle.std.proofs.lemmas.List.{take_rest, take-append-drop}
 use Rattle.jkept.proofs.Meanings.{things-at, added_stands, keeps_grown, stack_of-kept}
 
@@ -112,15 +111,7 @@ kept_stands old new under inherited frames marks r back grown below_marks below 
 pub keeps_from : (old mid new more : List KeptEntry) → mid ≡ old → new ≡ mid ++ more → Keeps old new
 keeps_from old mid new more same grown = keeps_grown old new more (grown ∙ ap (λ (l : List KeptEntry). l ++ more) same)
 
--- a privilege that was added stands for its mark
-pub privilege_kept : (old mid new : List KeptEntry) (given : Option ℕ) (limits again : Option (List Permission)) (n : ℕ)
-    → mid ≡ old → new ≡ mid ++ Privilege given limits ∷ [] → n ≡ length mid → limits ≡ again
-    → mark_at (things new) (Some n) ≡ Privileged (given_at (things old) given) again
-privilege_kept old mid new given limits again n same grown number are =
-    ap the_mark (added_stands old new (Privilege given limits) n (grown ∙ ap (λ (l : List KeptEntry). l ++ Privilege given limits ∷ []) same) (number ∙ ap length same))
-    ∙ ap (Privileged (given_at (things old) given)) are
-
--- and the empty stack that was added for itself
+-- the empty stack that was added for itself
 pub empty_kept : (old new : List KeptEntry) (n : ℕ) → new ≡ old ++ Empty ∷ [] → n ≡ length old → stack_at (things new) (Some n) ≡ Bottom
 empty_kept old new n grown number = ap the_stack (added_stands old new Empty n grown number)
 

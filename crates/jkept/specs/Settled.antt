@@ -1,5 +1,5 @@
 -- Where a walk ends, by one frame.
-use Rattle.std.specs.Prelude.{ℕ, ◌+◌, ◌≡◌, ◌<◌, ⊤, Bool, true, List, Option, Some, None, unwrap_or, length, slice_get, if◌then◌else◌}
+use Rattle.std.specs.Prelude.{ℕ, ◌+◌, ◌≡◌, ◌<◌, ⊤, Bool, true, false, List, Option, Some, None, is_none, unwrap_or, length, slice_get, if◌then◌else◌}
 use Rattle.jperm.specs.declared.permission.Permission.{Permission}
 use Rattle.jdomain.specs.declared.verdict.Verdict.{Verdict}
 use Rattle.jdomain.specs.declared.verdict.Verdict.TheVariants.{Granted, Denied}
@@ -48,6 +48,11 @@ stack_from things (Some f) = framed things f.mark (stack_at things f.older)
 abbrev pub given_of : Option KeptEntry → Option ℕ
 given_of (Some (Privilege given limits)) = given
 given_of _ = None
+
+-- an entry is a privilege without limits
+abbrev pub is_last : Option KeptEntry → Bool
+is_last (Some (Privilege given limits)) = is_none limits
+is_last _ = false
 
 -- the stack that a privilege was given, by the number of the privilege
 abbrev pub given_in : List KeptEntry → ℕ → Given

@@ -1,5 +1,5 @@
 -- What the numbers of a table stand for: stacks, and marks of frames (class documentation of AccessController).
-use Rattle.std.specs.Prelude.{ℕ, ◌≡◌, ◌<◌, ◌≤◌, List, [], ◌∷◌, ◌++◌, Option, Some, None, length, slice_get}
+use Rattle.std.specs.Prelude.{ℕ, ◌≡◌, ◌<◌, ◌≤◌, ⊤, List, [], ◌∷◌, ◌++◌, Option, Some, None, length, slice_get}
 use Rattle.jdomain.specs.Stacks.{Stack, Bottom, Entry, Mark, Unmarked, Privileged, Given, Nothing, Within}
 use Rattle.jkept.specs.declared.mark.InspectMark.{InspectMark}
 use Rattle.jkept.specs.declared.entry.KeptEntry.{KeptEntry}
@@ -66,3 +66,8 @@ things entries = things_behind [] entries
 -- the earlier numbers keep what they stand for
 abbrev pub Keeps : List KeptEntry → List KeptEntry → Type 0
 Keeps old new = (length old ≤ length new) × ((n : ℕ) → n < length old → slice_get (things new) n ≡ slice_get (things old) n)
+
+-- a number, if there is one, is that of a privilege without a given stack and limits
+abbrev pub IsPlain : List KeptEntry → Option ℕ → Type 0
+IsPlain entries None = ⊤
+IsPlain entries (Some n) = (n < length entries) × (mark_at (things entries) (Some n) ≡ Privileged Nothing None)

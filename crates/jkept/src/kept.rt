@@ -135,7 +135,8 @@ impl Kept {
     }
 
     /// Keeps a privilege, and answers a number that stands for its mark. The number of its given stack is one that this table
-    /// gave. Numbers that were given before keep what they stand for, and after an error the table is unchanged.
+    /// gave. Numbers that were given before keep what they stand for, and after an error the table is unchanged. All privileges without a
+    /// given stack and limits have one number.
     pub fn privilege(
         &mut self,
         alloc: Global,
@@ -149,7 +150,7 @@ impl Kept {
         ensures err { OnErr result (self.new ≡ self.old) }
     {
         let limits = limits_again(alloc, limits)?;
-        let number = self.table.add(KeptEntry::Privilege { given, limits })?;
+        let number = self.table.privilege(given, limits)?;
         Ok(number)
     }
 

@@ -1,7 +1,11 @@
 ghost use Rattle.std.specs.Prelude.{◌≡◌, [], ◌<◌, ◌≤◌, ◌∷◌, ◌++◌, IfOk, OnOk, OnErr, Some, length, slice_get, take};
-ghost use Rattle.jkept.specs.Entries.{EntryBelow, IsBack};
+ghost use Rattle.jdomain.specs.Stacks.{Nothing, Privileged};
+ghost use Rattle.jkept.specs.Entries.{Below, EntryBelow, Extends, IsBack};
+ghost use Rattle.jkept.specs.Things.{given_at, mark_at, things};
 
 use crate::entry::KeptEntry;
+use jbase::Seq;
+use jperm::Permission;
 use std::alloc::{AllocError, Global};
 use std::marker::Model;
 
@@ -9,6 +13,8 @@ use std::marker::Model;
 #[derive(Drop)]
 pub struct Table {
     entries: Vec<KeptEntry>,
+    /// The number of the privilege without a given stack and limits, once there is one.
+    plain: Option<u64>,
 }
 
 impl Model for Table {
@@ -18,10 +24,11 @@ impl Model for Table {
     ghost Value = { List KeptEntry };
 
     ghost use Rattle.jkept.specs.Entries.{IsBack};
+    ghost use Rattle.jkept.specs.Things.{IsPlain};
 
     ghost view = { λ t. t.entries.items };
 
-    ghost invariant = { λ t. IsBack t.entries.items };
+    ghost invariant = { λ t. IsBack t.entries.items × IsPlain t.entries.items t.plain };
 }
 
 impl Table {
@@ -31,6 +38,7 @@ impl Table {
     {
         Table {
             entries: Vec::new(alloc),
+            plain: None,
         }
     }
 
@@ -69,6 +77,73 @@ impl Table {
         requires { len ≤ length self.old }
         ensures { self.new ≡ take len self.old }
     {
+        self.plain = None;
         self.entries.truncate(len as usize);
+    }
+
+    // ---- privileges
+
+    /// Adds a privilege of its own number.
+    fn own(
+        &mut self,
+        given: Option<u64>,
+        limits: Option<Seq<Permission>>,
+    ) -> Result<u64, AllocError>
+        requires { Below (length self.old) given }
+        ensures given { IfOk result (λ n. n < length self.new) }
+        ensures stands { IfOk result (λ n. mark_at (things self.new) (Some n) ≡ Privileged (given_at (things self.old) given) limits) }
+        ensures grown { OnOk result (Extends self.old self.new) }
+        ensures err { OnErr result (self.new ≡ self.old) }
+    {
+        let number = self.add(KeptEntry::Privilege { given, limits })?;
+        Ok(number)
+    }
+
+    /// The privilege without a given stack and limits. It is added once.
+    fn plain(&mut self) -> Result<u64, AllocError>
+        ensures given { IfOk result (λ n. n < length self.new) }
+        ensures stands { IfOk result (λ n. mark_at (things self.new) (Some n) ≡ Privileged Nothing None) }
+        ensures grown { OnOk result (Extends self.old self.new) }
+        ensures err { OnErr result (self.new ≡ self.old) }
+    {
+        if let Some(number) = self.plain {
+            return Ok(number);
+        }
+        let number = self.own(None, None)?;
+        self.plain = Some(number);
+        Ok(number)
+    }
+
+    /// Adds a privilege without limits.
+    fn unlimited(&mut self, given: Option<u64>) -> Result<u64, AllocError>
+        requires { Below (length self.old) given }
+        ensures given { IfOk result (λ n. n < length self.new) }
+        ensures stands { IfOk result (λ n. mark_at (things self.new) (Some n) ≡ Privileged (given_at (things self.old) given) None) }
+        ensures grown { OnOk result (Extends self.old self.new) }
+        ensures err { OnErr result (self.new ≡ self.old) }
+    {
+        match given {
+            None => self.plain(),
+            Some(_) => self.own(given, None),
+        }
+    }
+
+    /// Adds a privilege, and answers its number, which is one for all that have neither a given stack nor limits. After an error the
+    /// table is unchanged.
+    pub fn privilege(
+        &mut self,
+        given: Option<u64>,
+        limits: Option<Seq<Permission>>,
+    ) -> Result<u64, AllocError>
+        requires { Below (length self.old) given }
+        ensures given { IfOk result (λ n. n < length self.new) }
+        ensures stands { IfOk result (λ n. mark_at (things self.new) (Some n) ≡ Privileged (given_at (things self.old) given) limits) }
+        ensures grown { OnOk result (Extends self.old self.new) }
+        ensures err { OnErr result (self.new ≡ self.old) }
+    {
+        match limits {
+            None => self.unlimited(given),
+            Some(limits) => self.own(given, Some(limits)),
+        }
     }
 }

@@ -1,9 +1,9 @@
-ghost use Rattle.std.specs.Prelude.{◌≡◌, ℕ, Bool, ◌<◌, ◌≤◌, IfOk, IfSome, OnOk, Some, None, length, slice_get};
+ghost use Rattle.std.specs.Prelude.{◌≡◌, ℕ, Bool, ◌<◌, ◌≤◌, IfOk, IfSome, OnOk, Some, None, length, slice_get, true};
 ghost use Rattle.jperm.specs.declared.permission.Permission.{Permission};
 ghost use Rattle.jdomain.specs.Domains.{has};
 ghost use Rattle.jdomain.specs.Stacks.{some_implies, walk, walk_given};
 ghost use Rattle.jkept.specs.Entries.{AllBelow, Below};
-ghost use Rattle.jkept.specs.Settled.{Grants, Knows, given_in, given_of, known, settled, settled_frame, settled_mark, stack_from};
+ghost use Rattle.jkept.specs.Settled.{Grants, Knows, given_in, given_of, is_last, known, settled, settled_frame, settled_mark, stack_from};
 ghost use Rattle.jkept.specs.Things.{mark_at, stack_at, stack_of, things};
 
 use crate::entry::{KeptEntry, KeptFrame};
@@ -159,6 +159,80 @@ impl Table {
         self.mark_end(given, asked, k)
     }
 
+    // ---- a kept stack by itself
+
+    /// Whether a frame has no privilege that was given a stack.
+    fn is_plain(&self, mark: InspectMark) -> bool
+        requires { Below (length self.now) mark.privileged }
+        ensures { result ≡ true → IfSome mark.privileged (λ k. given_of (slice_get self.now k) ≡ None) }
+    {
+        match mark.privileged {
+            None => true,
+            Some(k) => self.given(k).is_none(),
+        }
+    }
+
+    /// What a frame settles without a privilege that was given a stack. A domain that has the permission may be known.
+    fn plain_end(
+        &self,
+        domains: &Domains,
+        asked: &Permission,
+        granted: Option<u32>,
+        mark: InspectMark,
+    ) -> Option<Verdict>
+        requires granted { Grants (has domains.now) asked.now granted }
+        requires back { Below (length self.now) mark.privileged }
+        requires plain { IfSome mark.privileged (λ k. given_of (slice_get self.now k) ≡ None) }
+        ensures { result ≡ settled_frame (has domains.now) asked.now mark.domain (mark_at (things self.now) mark.privileged) }
+    {
+        if !implies_too(domains, asked, granted, mark.domain) {
+            return Some(Verdict::Denied(mark.domain));
+        }
+        let Some(k) = mark.privileged else {
+            return None;
+        };
+        self.mark_end(Verdict::Granted, asked, k)
+    }
+
+    /// The verdict of the stack of a number, where no frame that the walk comes to has a privilege that was given a stack.
+    fn walk_plain(
+        &self,
+        domains: &Domains,
+        asked: &Permission,
+        number: Option<u64>,
+    ) -> Option<Verdict>
+        requires { Below (length self.now) number }
+        ensures { IfSome result (λ v. v ≡ walk (has domains.now) asked.now (stack_at (things self.now) number)) }
+    {
+        let mut granted = None;
+        let mut older = number;
+        while let Some(n) = older {
+            let Some(frame) = self.frame(n) else {
+                return Some(Verdict::Granted);
+            };
+            if !self.is_plain(frame.mark) {
+                return None;
+            }
+            if let Some(verdict) = self.plain_end(domains, asked, granted, frame.mark) {
+                return Some(verdict);
+            }
+            granted = Some(frame.mark.domain);
+            older = frame.older;
+        }
+        Some(Verdict::Granted)
+    }
+
+    /// Whether a privilege has no limits, so that the walk ends with it.
+    fn is_last(&self, k: u64) -> bool
+        requires { k < length self.now }
+        ensures { result ≡ is_last (slice_get self.now k) }
+    {
+        match self.get(k) {
+            KeptEntry::Privilege { limits, .. } => limits.is_none(),
+            _ => false,
+        }
+    }
+
     // ---- kept stacks, each decided once
 
     /// The verdict of the next number's stack, where those of earlier numbers are decided.
@@ -199,7 +273,8 @@ impl Table {
         Ok(())
     }
 
-    /// The verdict of the stack that a privilege was given, which is decided where it isn't yet.
+    /// The verdict of the stack that a privilege was given. Where the walk ends with the privilege that stack is walked by itself, if that
+    /// comes to no other given stack; else it is decided with all of earlier numbers, where it isn't yet.
     fn decide_given(
         &self,
         decided: &mut Vec<Verdict>,
@@ -217,6 +292,11 @@ impl Table {
         let Some(n) = self.given(k) else {
             return Ok(Verdict::Granted);
         };
+        if self.is_last(k) {
+            if let Some(verdict) = self.walk_plain(domains, asked, Some(n)) {
+                return Ok(verdict);
+            }
+        }
         self.decide_to(decided, domains, asked, n)?;
         Ok(known(decided, Some(n)))
     }
