@@ -27,7 +27,7 @@ use Rattle.jrewrite.specs.Linking.{IsLinked}
 use Rattle.jrewrite.specs.Program.{moved}
 use Rattle.jrewrite.proofs.Declaring.{first_false, no_again}
 use Rattle.jrewrite.proofs.Judging.{Pair, desc_kept, owner_kept, says_on, use_same}
-use Rattle.jrewrite.proofs.Keeping.{methods_kept, unchanged}
+use Rattle.jrewrite.proofs.Keeping.{IsItself, methods_kept, unchanged}
 use Rattle.jrewrite.proofs.Overriding.{AllMoving}
 use Rattle.jrewrite.proofs.Plainly.{is_plain}
 use Rattle.jrewrite.proofs.Resolving.{Finds, facts_same, method_finds}
@@ -39,7 +39,7 @@ use Rattle.jrewrite.proofs.Testing.{call_more, interface_more, one_more}
 
 -- ---- what stays
 
-unchanged_is : (n : ℕ) (x : Member) → calling n (Some x) ≡ kinds.Same → unchanged x ≡ true
+pub unchanged_is : (n : ℕ) (x : Member) → calling n (Some x) ≡ kinds.Same → unchanged x ≡ true
 unchanged_is n (members.Method m) h = absurd cc
 unchanged_is n (members.LibMethod m) h = same_stands n m h
 unchanged_is n (members.Field i j) h = refl
@@ -53,12 +53,12 @@ pub record Known (p : Program) (c d : ClassParts) : Type 0 where
   pub passing : IsPassing (moved p)
   pub pair : Pair c d
 
-facts_by : (p : Program) (c d : ClassParts) → Known p c d → (i : ℕ) (o q : Option Member) → Finds p unchanged o q → ((x : Member) → o ≡ Some x → calling i (Some x) ≡ kinds.Same)
+facts_by : (p : Program) (c d : ClassParts) → Known p c d → (i : ℕ) (o q : Option Member) → Finds (IsItself p) unchanged o q → ((x : Member) → o ≡ Some x → calling i (Some x) ≡ kinds.Same)
     → option_map (facts_of (moved p) (this_name c)) q ≡ option_map (facts_of p (this_name c)) o
 facts_by p c d k i None q f h = ap (option_map (facts_of (moved p) (this_name c))) (f.none refl)
 facts_by p c d k i (Some x) q f h =
     let r = f.some x refl (unchanged_is i x (h x refl)) in
-    ap (option_map (facts_of (moved p) (this_name c))) r.is ∙ ap (λ (m : MemberFacts). Some m) (facts_same p (is_plain p k.linked) (this_name c) x r.other k.pair.plain r.like)
+    ap (option_map (facts_of (moved p) (this_name c))) r.is ∙ ap (λ (m : MemberFacts). Some m) (facts_same p (is_plain p k.linked) (this_name c) x r.other k.pair.plain r.like.like)
 
 same_as : (i : ℕ) (o : Option Member) (x : Member) → calling i o ≡ kinds.Same → o ≡ Some x → calling i (Some x) ≡ kinds.Same
 same_as i o x h e = ap (calling i) (sym e) ∙ h
@@ -71,7 +71,7 @@ kept_use p c d k i t h =
     let desc = desc_kept c t.class t.two k.pair.kept t.says in
     let o = resolve_method p t.says.owner t.says.name t.says.desc in
     let q = resolve_method (moved p) t.says.owner t.says.name t.says.desc in
-    let f = method_finds p plainly unchanged t.says.owner t.says.name t.says.desc t.says.desc (plain_owner t.says.owner owner) (methods_kept p plainly k.all t.says.name t.says.desc desc) in
+    let f = method_finds p plainly (IsItself p) unchanged t.says.owner t.says.name t.says.desc t.says.desc (plain_owner t.says.owner owner) (methods_kept p plainly k.all t.says.name t.says.desc desc) in
     let same = ap (calling i) (sym (referred_is p c.pool i t)) ∙ h in
     use_same p plainly (this_name c) k.pair.plain (sort_by t.interface) o q t.says.owner t.says.name t.says.desc owner desc (facts_by p c d k i o q f (λ x e. same_as i o x same e))
 

@@ -1,6 +1,6 @@
 -- Methods that are handed a context are found in the moved program where they were, by their new descriptors.
 use Rattle.std.proofs.Common.{◌≡◌, ℕ, Bool, true, false, List, Option, Some, None, refl, ap, sym, ◌∙◌, subst}
-use Rattle.std.specs.Prelude.{is_some, option_and_then, option_map, codes, if◌then◌else◌}
+use Rattle.std.specs.Prelude.{option_and_then, option_map, codes, if◌then◌else◌}
 use Rattle.std.specs.List.{position}
 use Rattle.jpool.specs.Descriptors.{base_at, class_at, closing_at, descriptor_of, descriptor_text, field_of, method_of, params_at, return_at, slots_of, type_at}
 use Rattle.jpool.specs.Names.{is_class_name}
@@ -45,6 +45,22 @@ changed (LibMethod m) = is_run m
 changed (Field i j) = false
 changed LibField = false
 
+-- both `run` and Thread's constructor as the passing side has them
+abbrev pub run_form : LibCall → LibCall
+run_form (call.Run side) = call.Run Passing
+run_form (call.RunAction side) = call.RunAction Passing
+run_form (call.Thread (thread.Init side)) = call.Thread (thread.Init Passing)
+run_form m = m
+
+abbrev pub form_of : Member → Member
+form_of (LibMethod m) = LibMethod (run_form m)
+form_of x = x
+
+-- a member of the moved program is a member's form there
+pub record IsForm (p : Program) (x y : Member) : Type 0 where
+  pub form : y ≡ form_of x
+  pub like : Likewise p x y
+
 -- ---- the library's
 
 run_desc : or_empty (moved_descriptor (codes "()V")) ≡ codes "(Lsps/Ctx;)V"
@@ -65,14 +81,14 @@ passing_at n class name desc on c s d = rw (sym c, sym s, sym d) (call_only Pass
 abbrev held : Option LibCall → Option Member
 held o = option_and_then lib_method o
 
-there_by : (n : LibCall) (class name desc : List ℕ) → is_field n ≡ false → member_named Passing class name desc ≡ Some n → is_some (held (member_named Passing class name desc)) ≡ true
+there_by : (n : LibCall) (class name desc : List ℕ) → is_field n ≡ false → member_named Passing class name desc ≡ Some n → held (member_named Passing class name desc) ≡ Some (LibMethod n)
 there_by n class name desc none at = rw (at, none) refl
 
 new_text : (desc old new : List ℕ) → old ≡ desc → or_empty (moved_descriptor old) ≡ new → new ≡ or_empty (moved_descriptor desc)
 new_text desc old new e is = sym is ∙ ap (λ (t : List ℕ). or_empty (moved_descriptor t)) e
 
 run_there : (m : LibCall) (class name desc : List ℕ) → is_run m ≡ true → call_stands_on Source m ≡ true → library_classes.name_of (owner m) ≡ class → name_of_call m ≡ name → desc_of m ≡ desc
-    → is_some (held (member_named Passing class name (or_empty (moved_descriptor desc)))) ≡ true
+    → held (member_named Passing class name (or_empty (moved_descriptor desc))) ≡ Some (LibMethod (run_form m))
 run_there (call.Run Source) class name desc h on c s d =
     let new = or_empty (moved_descriptor desc) in
     there_by (call.Run Passing) class name new refl (passing_at (call.Run Passing) class name new refl c s (new_text desc (codes "()V") (codes "(Lsps/Ctx;)V") d run_desc))
@@ -107,39 +123,41 @@ method_is : (b : Bool) (m : LibCall) (x : Member) → (if b then None else Some 
 method_is true m x h = absurd cc
 method_is false m x h = cc
 
-lib_there : (class name desc : List ℕ) (o : Option LibCall) (x : Member) → member_named Source class name desc ≡ o → held o ≡ Some x → changed x ≡ true → is_some (held (member_named Passing class name (or_empty (moved_descriptor desc)))) ≡ true
+lib_there : (class name desc : List ℕ) (o : Option LibCall) (x : Member) → member_named Source class name desc ≡ o → held o ≡ Some x → changed x ≡ true → held (member_named Passing class name (or_empty (moved_descriptor desc))) ≡ Some (form_of x)
 lib_there class name desc None x a e h = absurd cc
 lib_there class name desc (Some m) x a e h =
     let f = call_found Source class name desc m a in
-    run_there m class name desc (ap changed (method_is (is_field m) m x e) ∙ h) f.3 f.0 f.1 f.2
+    let is = method_is (is_field m) m x e in
+    run_there m class name desc (ap changed is ∙ h) f.3 f.0 f.1 f.2 ∙ ap (λ (y : Member). Some (form_of y)) is
 
 in_lib : (p : Program) → p.side ≡ Source → (o : ClassParts) (m : MemberInfo) (c d : LibClass) → c ≡ d → (name : List ℕ) (x : Member) → method_in p.side (Lib c) name (member_desc o m) ≡ Some x → changed x ≡ true
-    → is_some (method_in (moved p).side (Lib d) name (new_desc o m)) ≡ true
+    → method_in (moved p).side (Lib d) name (new_desc o m) ≡ Some (form_of x)
 in_lib p source o m c d e name x h k =
     let class = library_classes.name_of c in
-    ap (λ (s : Side). is_some (method_in s (Lib d) name (new_desc o m))) (moved_side p)
-    ∙ ap (λ (y : LibClass). is_some (method_in Passing (Lib y) name (new_desc o m))) (sym e)
+    ap (λ (s : Side). method_in s (Lib d) name (new_desc o m)) (moved_side p)
+    ∙ ap (λ (y : LibClass). method_in Passing (Lib y) name (new_desc o m)) (sym e)
     ∙ lib_there class name (member_desc o m) (member_named Source class name (member_desc o m)) x refl (ap (λ (s : Side). method_in s (Lib c) name (member_desc o m)) (sym source) ∙ h) k
 
 -- ---- users'
 
-some_map : {A B : Type 0} (f g : A → B) (o q : Option A) → q ≡ o → is_some (option_map g q) ≡ is_some (option_map f o)
-some_map f g None q e = ap (λ z. is_some (option_map g z)) e
-some_map f g (Some x) q e = ap (λ z. is_some (option_map g z)) e
+some_form : (i j : ℕ) → i ≡ j → (o q : Option ℕ) → q ≡ o → (x : Member) → option_map (λ k. Method (method_id i k)) o ≡ Some x → option_map (λ k. Method (method_id j k)) q ≡ Some (form_of x)
+some_form i j e None q h x k = absurd cc
+some_form i j e (Some n) q h x k =
+    let is : Method (method_id i n) ≡ x = cc in
+    ap (option_map (λ k. Method (method_id j k))) h ∙ ap (λ (l : ℕ). Some (Method (method_id l n))) (sym e) ∙ ap (λ (y : Member). Some (form_of y)) is
 
-in_user : (i j : ℕ) (o c d : ClassParts) (m : MemberInfo) (name : List ℕ) (x : Member) → Facts o m → Moving c d → Alike c d.pool c.methods d.methods
+in_user : (i j : ℕ) → i ≡ j → (o c d : ClassParts) (m : MemberInfo) (name : List ℕ) (x : Member) → Facts o m → Moving c d → Alike c d.pool c.methods d.methods
     → option_map (λ k. Method (method_id i k)) (position (is_called c name (member_desc o m)) c.methods) ≡ Some x
-    → is_some (option_map (λ k. Method (method_id j k)) (position (is_called d name (new_desc o m)) d.methods)) ≡ true
-in_user i j o c d m name x f k all h =
-    some_map (λ n. Method (method_id i n)) (λ n. Method (method_id j n)) (position (is_called c name (member_desc o m)) c.methods) (position (is_called d name (new_desc o m)) d.methods) (position_same c d o m name k all f)
-    ∙ ap is_some h
+    → option_map (λ k. Method (method_id j k)) (position (is_called d name (new_desc o m)) d.methods) ≡ Some (form_of x)
+in_user i j e o c d m name x f k all h =
+    some_form i j e (position (is_called c name (member_desc o m)) c.methods) (position (is_called d name (new_desc o m)) d.methods) (position_same c d o m name k all f) x h
 
 -- ---- what is found
 
 found_there : (p : Program) → IsPlain p → AllMoving p → (o : ClassParts) (m : MemberInfo) (name : List ℕ) → Facts o m → (a b : Option Class) (x : Member) → SameFound p a b → option_and_then (λ c. method_in p.side c name (member_desc o m)) a ≡ Some x
-    → changed x ≡ true → is_some (option_and_then (λ c. method_in (moved p).side c name (new_desc o m)) b) ≡ true
+    → changed x ≡ true → option_and_then (λ c. method_in (moved p).side c name (new_desc o m)) b ≡ Some (form_of x)
 found_there p is all o m name f None None x h e k = absurd cc
-found_there p is all o m name f (Some (User i c)) (Some (User j d)) x h e k = let one = all i c d h.1 in in_user i j o c d m name x f one.0 one.1 e
+found_there p is all o m name f (Some (User i c)) (Some (User j d)) x h e k = let one = all i c d h.1 in in_user i j h.0 o c d m name x f one.0 one.1 e
 found_there p is all o m name f (Some (Lib c)) (Some (Lib d)) x h e k = in_lib p is.source o m c d h name x e k
 found_there p is all o m name f None (Some d) x h e k = absurd h
 found_there p is all o m name f (Some (User i c)) None x h e k = absurd h
@@ -152,15 +170,16 @@ none_of_sub p o None h e = refl
 none_of_sub p None (Some y) h e = absurd h
 none_of_sub p (Some x) (Some y) h e = absurd cc
 
-some_of_sub : (p : Program) (o q : Option Member) → OptSub p o q → (x : Member) → o ≡ Some x → is_some q ≡ true → Is p x q
+some_of_sub : (p : Program) (o q : Option Member) → OptSub p o q → (x : Member) → o ≡ Some x → q ≡ Some (form_of x) → Is (IsForm p) x q
 some_of_sub p o None h x e k = absurd cc
 some_of_sub p None (Some y) h x e k = absurd h
 some_of_sub p (Some z) (Some y) h x e k =
     let is : z ≡ x = cc in
-    record { other = y; is = refl; like = subst (λ (w : Member). Likewise p w y) is h }
+    let form : y ≡ form_of x = cc in
+    record { other = y; is = refl; like = record { form = form; like = subst (λ (w : Member). Likewise p w y) is h } }
 
 pub methods_changed : (p : Program) → IsPlain p → AllMoving p → (o : ClassParts) (m : MemberInfo) (name : List ℕ) → Facts o m → (class : List ℕ) → is_reserved class ≡ false
-    → Finds p changed (method_at p name (member_desc o m) class) (method_at (moved p) name (new_desc o m) class)
+    → Finds (IsForm p) changed (method_at p name (member_desc o m) class) (method_at (moved p) name (new_desc o m) class)
 methods_changed p is all o m name f class plain =
     let sub = at_sub p is all o m name f class plain in
     record {

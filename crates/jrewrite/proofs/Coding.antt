@@ -135,7 +135,7 @@ static_good p c d k m j s =
 
 -- ---- entries by what names them
 
-record Stays (o : Option Entry) : Type 0 where
+pub record Stays (o : Option Entry) : Type 0 where
   pub e : Entry
   pub at : o ≡ Some e
   pub kept : stays e ≡ true
@@ -145,7 +145,7 @@ never true h k = absurd cc
 never false h k = absurd cc
 
 -- what passes a test that no reference to a method passes
-stays_by : (test : Option Entry → Bool) → ((c b : ℕ) → test (Some (Method c b)) ≡ false) → ((c b : ℕ) → test (Some (InterfaceMethod c b)) ≡ false) → test None ≡ false → (o : Option Entry) → test o ≡ true → Stays o
+pub stays_by : (test : Option Entry → Bool) → ((c b : ℕ) → test (Some (Method c b)) ≡ false) → ((c b : ℕ) → test (Some (InterfaceMethod c b)) ≡ false) → test None ≡ false → (o : Option Entry) → test o ≡ true → Stays o
 stays_by test m i n None h = never (test None) n h
 stays_by test m i n (Some (Method c b)) h = never (test (Some (Method c b))) (m c b) h
 stays_by test m i n (Some (InterfaceMethod c b)) h = never (test (Some (InterfaceMethod c b))) (i c b) h

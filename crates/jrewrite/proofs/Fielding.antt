@@ -193,7 +193,7 @@ found_likewise p is name desc (Some (User i c)) (Some (Lib d)) x h e = absurd h
 found_likewise p is name desc (Some (Lib c)) (Some (User j d)) x h e = absurd h
 
 -- fields are found where they were
-pub fields_found : (p : Program) → IsLinked p → (name desc class : List ℕ) → is_reserved class ≡ false → Finds p any (field_at p name desc class) (field_at (moved p) name desc class)
+pub fields_found : (p : Program) → IsLinked p → (name desc class : List ℕ) → is_reserved class ≡ false → Finds (Likewise p) any (field_at p name desc class) (field_at (moved p) name desc class)
 fields_found p is name desc class plain =
     let plainly = is_plain p is in
     let e = field_same p is class name desc plain in

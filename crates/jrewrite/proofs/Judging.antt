@@ -44,6 +44,7 @@ use Rattle.jrewrite.specs.Linking.{IsLinked}
 use Rattle.jrewrite.specs.Program.{moved}
 use Rattle.jrewrite.proofs.Declaring.{first_false}
 use Rattle.jrewrite.proofs.Fielding.{any, fields_found}
+use Rattle.jrewrite.proofs.Overriding.{Likewise}
 use Rattle.jrewrite.proofs.Plainly.{is_plain}
 use Rattle.jrewrite.proofs.Resolving.{Finds, facts_same, field_finds}
 use Rattle.jrewrite.proofs.Standing.{IsPlain, any_false}
@@ -163,7 +164,7 @@ says_use p from pool kind class two s =
 
 -- ---- what isn't kept
 
-entry_kept : (c : ClassParts) (i : ℕ) (e : Entry) → names_reserved c ≡ false → slice_get c.pool i ≡ Some e → entry_reserved c.pool e ≡ false
+pub entry_kept : (c : ClassParts) (i : ℕ) (e : Entry) → names_reserved c ≡ false → slice_get c.pool i ≡ Some e → entry_reserved c.pool e ≡ false
 entry_kept c i e h at = any_false (entry_reserved c.pool) c.pool i e (first_false (list_any (entry_reserved c.pool) c.pool) _ h) at
 
 pub class_kept : (c : ClassParts) (i : ℕ) (name : List ℕ) → names_reserved c ≡ false → class_name_at c.pool i ≡ Some name → class_reserved name ≡ false
@@ -213,7 +214,7 @@ use_same p is from plain kind o q owner name desc h k facts =
     ∙ ap (λ (b : Bool). make names face b now) (extends_same p is from owner plain)
     ∙ ap (make names face (extends p from owner)) facts
 
-facts_by : (p : Program) → IsPlain p → (from : List ℕ) → is_reserved from ≡ false → (o q : Option Member) → Finds p any o q → option_map (facts_of (moved p) from) q ≡ option_map (facts_of p from) o
+facts_by : (p : Program) → IsPlain p → (from : List ℕ) → is_reserved from ≡ false → (o q : Option Member) → Finds (Likewise p) any o q → option_map (facts_of (moved p) from) q ≡ option_map (facts_of p from) o
 facts_by p is from plain None q f = ap (option_map (facts_of (moved p) from)) (f.none refl)
 facts_by p is from plain (Some x) q f =
     let k = f.some x refl refl in
@@ -224,7 +225,7 @@ unfolding named_use
 field_use p is from plain owner name desc h k =
     let plainly = is_plain p is in
     use_same p plainly from plain sort.Field (resolve_field p owner name desc) (resolve_field (moved p) owner name desc) owner name desc h k
-    (facts_by p plainly from plain (resolve_field p owner name desc) (resolve_field (moved p) owner name desc) (field_finds p plainly any owner name desc (plain_owner owner h) (fields_found p is name desc)))
+    (facts_by p plainly from plain (resolve_field p owner name desc) (resolve_field (moved p) owner name desc) (field_finds p plainly (Likewise p) any owner name desc (plain_owner owner h) (fields_found p is name desc)))
 
 -- ---- a class and the moved one
 
@@ -241,7 +242,7 @@ stays (Method c b) = false
 stays (InterfaceMethod c b) = false
 stays _ = true
 
-field_says : (pool : List Entry) (i class two : ℕ) → IsSound pool → slice_get pool i ≡ Some (Field class two) → Says pool class two
+pub field_says : (pool : List Entry) (i class two : ℕ) → IsSound pool → slice_get pool i ≡ Some (Field class two) → Says pool class two
 unfolding pools.entry_fault
 field_says pool i class two s at = says_of pool class two s (no_entry_fault pool i (Field class two) s at)
 

@@ -42,6 +42,11 @@ unchanged (Method m) = false
 unchanged (Field i j) = true
 unchanged LibField = true
 
+-- a member of the moved program is the member itself
+pub record IsItself (p : Program) (x y : Member) : Type 0 where
+  pub is : y ≡ x
+  pub like : Likewise p x y
+
 -- ---- no method of a moved class has a plain descriptor
 
 or_right : (a b : Bool) → b ≡ true → (a || b) ≡ true
@@ -92,7 +97,7 @@ user_no i (Some j) x e h =
     differ (sym h ∙ ap unchanged (sym is))
 
 in_user : (p : Program) (i j : ℕ) (c d : ClassParts) (name desc : List ℕ) → Moving c d → Alike c d.pool c.methods d.methods → text_reserved desc ≡ false
-    → Finds p unchanged (option_map (λ k. Method (method_id i k)) (position (is_called c name desc) c.methods)) (option_map (λ k. Method (method_id j k)) (position (is_called d name desc) d.methods))
+    → Finds (IsItself p) unchanged (option_map (λ k. Method (method_id i k)) (position (is_called c name desc) c.methods)) (option_map (λ k. Method (method_id j k)) (position (is_called d name desc) d.methods))
 in_user p i j c d name desc k all plain = record {
   none = λ e. ap (option_map (λ n. Method (method_id j n))) (no_position c d name desc k all plain);
   some = λ x e h. user_no i (position (is_called c name desc) c.methods) x e h;
@@ -114,31 +119,31 @@ method_is : (b : Bool) (m : LibCall) (x : Member) → (if b then None else Some 
 method_is true m x h = absurd cc
 method_is false m x h = cc
 
-some_there : (p : Program) (class name desc : List ℕ) (o q : Option LibCall) → member_named Source class name desc ≡ o → member_named Passing class name desc ≡ q → (x : Member) → held o ≡ Some x → unchanged x ≡ true → Is p x (held q)
+some_there : (p : Program) (class name desc : List ℕ) (o q : Option LibCall) → member_named Source class name desc ≡ o → member_named Passing class name desc ≡ q → (x : Member) → held o ≡ Some x → unchanged x ≡ true → Is (IsItself p) x (held q)
 some_there p class name desc None q a b x e h = absurd cc
 some_there p class name desc (Some m) q a b x e h =
     let is = method_is (is_field m) m x e in
     let there = on_side Source Passing class name desc m a (ap unchanged is ∙ h) in
-    record { other = x; is = ap held (sym b ∙ there) ∙ e; like = subst (λ (y : Member). Likewise p y y) is (lib_likewise p m m refl refl) }
+    record { other = x; is = ap held (sym b ∙ there) ∙ e; like = record { is = refl; like = subst (λ (y : Member). Likewise p y y) is (lib_likewise p m m refl refl) } }
 
-lib_by : (p : Program) (class name desc : List ℕ) → is_reserved class ≡ false → text_reserved desc ≡ false → Finds p unchanged (held (member_named Source class name desc)) (held (member_named Passing class name desc))
+lib_by : (p : Program) (class name desc : List ℕ) → is_reserved class ≡ false → text_reserved desc ≡ false → Finds (IsItself p) unchanged (held (member_named Source class name desc)) (held (member_named Passing class name desc))
 lib_by p class name desc plain typed = record {
   none = λ e. none_there class name desc (member_named Source class name desc) (member_named Passing class name desc) plain typed refl refl e;
   some = λ x e h. some_there p class name desc (member_named Source class name desc) (member_named Passing class name desc) refl refl x e h;
 }
 
 in_lib : (p : Program) → p.side ≡ Source → (c d : LibClass) → c ≡ d → (name desc : List ℕ) → is_reserved (library_classes.name_of c) ≡ false → text_reserved desc ≡ false
-    → Finds p unchanged (method_in p.side (Lib c) name desc) (method_in (moved p).side (Lib d) name desc)
+    → Finds (IsItself p) unchanged (method_in p.side (Lib c) name desc) (method_in (moved p).side (Lib d) name desc)
 in_lib p source c d e name desc plain typed =
-    subst (λ (y : LibClass). Finds p unchanged (method_in p.side (Lib c) name desc) (method_in (moved p).side (Lib y) name desc)) e
-    (subst (λ (s : Side). Finds p unchanged (method_in s (Lib c) name desc) (method_in (moved p).side (Lib c) name desc)) (sym source)
-    (subst (λ (s : Side). Finds p unchanged (method_in Source (Lib c) name desc) (method_in s (Lib c) name desc)) (sym (moved_side p))
+    subst (λ (y : LibClass). Finds (IsItself p) unchanged (method_in p.side (Lib c) name desc) (method_in (moved p).side (Lib y) name desc)) e
+    (subst (λ (s : Side). Finds (IsItself p) unchanged (method_in s (Lib c) name desc) (method_in (moved p).side (Lib c) name desc)) (sym source)
+    (subst (λ (s : Side). Finds (IsItself p) unchanged (method_in Source (Lib c) name desc) (method_in s (Lib c) name desc)) (sym (moved_side p))
     (lib_by p (library_classes.name_of c) name desc plain typed)))
 
 -- ---- what is found
 
 found_kept : (p : Program) → IsPlain p → AllMoving p → (name desc : List ℕ) → text_reserved desc ≡ false → (a b : Option Class) → SameFound p a b → ((c : LibClass) → a ≡ Some (Lib c) → is_reserved (library_classes.name_of c) ≡ false)
-    → Finds p unchanged (option_and_then (λ c. method_in p.side c name desc) a) (option_and_then (λ c. method_in (moved p).side c name desc) b)
+    → Finds (IsItself p) unchanged (option_and_then (λ c. method_in p.side c name desc) a) (option_and_then (λ c. method_in (moved p).side c name desc) b)
 found_kept p is all name desc typed None None h plain = record { none = λ e. refl; some = λ x e k. no_some x e }
 found_kept p is all name desc typed (Some (User i c)) (Some (User j d)) h plain = let k = all i c d h.1 in in_user p i j c d name desc k.0 k.1 typed
 found_kept p is all name desc typed (Some (Lib c)) (Some (Lib d)) h plain = in_lib p is.source c d h name desc (plain c refl) typed
@@ -148,5 +153,5 @@ found_kept p is all name desc typed (Some (Lib c)) None h plain = absurd h
 found_kept p is all name desc typed (Some (User i c)) (Some (Lib d)) h plain = absurd h
 found_kept p is all name desc typed (Some (Lib c)) (Some (User j d)) h plain = absurd h
 
-pub methods_kept : (p : Program) → IsPlain p → AllMoving p → (name desc : List ℕ) → text_reserved desc ≡ false → (class : List ℕ) → is_reserved class ≡ false → Finds p unchanged (method_at p name desc class) (method_at (moved p) name desc class)
+pub methods_kept : (p : Program) → IsPlain p → AllMoving p → (name desc : List ℕ) → text_reserved desc ≡ false → (class : List ℕ) → is_reserved class ≡ false → Finds (IsItself p) unchanged (method_at p name desc class) (method_at (moved p) name desc class)
 methods_kept p is all name desc typed class plain = found_kept p is all name desc typed (find p class) (find (moved p) class) (same p is class plain) (λ c e. ap is_reserved (lib_named p class c e) ∙ plain)

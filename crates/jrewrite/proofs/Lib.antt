@@ -29,4 +29,5 @@ pub mod Starting
 pub mod Targets
 pub mod Testing
 pub mod Upward
+pub mod Walking
 pub mod Widths

@@ -155,7 +155,7 @@ rt_barred Privileged = refl
 rt_barred PrivilegedWith = refl
 rt_barred PrivilegedLimited = refl
 
-no_init : (m : Security) → bytes_eq (security_name m) init ≡ false
+pub no_init : (m : Security) → bytes_eq (security_name m) init ≡ false
 no_init Enter = refl
 no_init Check = refl
 no_init Snapshot = refl
@@ -165,7 +165,7 @@ no_init PrivilegedLimited = refl
 
 -- ---- the method that is found
 
-abbrev rt_of : Security → RtCall
+abbrev pub rt_of : Security → RtCall
 rt_of Enter = rt.Enter
 rt_of Check = rt.Check
 rt_of Snapshot = rt.Snapshot
@@ -173,7 +173,7 @@ rt_of Privileged = rt.Privileged
 rt_of PrivilegedWith = rt.PrivilegedWith
 rt_of PrivilegedLimited = rt.PrivilegedLimited
 
-abbrev found : Security → Member
+abbrev pub found : Security → Member
 found m = LibMethod (call.Rt (rt_of m))
 
 declared : (m : Security) → method_in Passing (Lib lib.Rt) (security_name m) (security_type m) ≡ Some (found m)
@@ -210,6 +210,9 @@ resolves q class name desc x no_init at =
     let over = first_some (λ c. first_some f (superinterfaces q c)) (up q class) in
     ap (λ (b : Bool). if b then f class else or_else (first_some f (up q class)) over) no_init
     ∙ ap (λ (o : Option Member). or_else o over) (ap (first_some f) (chain_begins q (length (known q)) class) ∙ first_of_all f class (onward (chain q (length (known q))) (above_name q class)) x at)
+
+pub security_found : (q : Program) → IsPassing q → (m : Security) → resolve_method q (codes "sps/Rt") (security_name m) (security_type m) ≡ Some (found m)
+security_found q is m = resolves q (codes "sps/Rt") (security_name m) (security_type m) (found m) (no_init m) (rt_at q is m)
 
 -- ---- the call
 
@@ -256,7 +259,7 @@ pub security_call : (q : Program) → IsPassing q → (from : List ℕ) (m : Sec
 unfolding named_use
 security_call q is from m =
     let owner = codes "sps/Rt" in
-    let at = resolves q owner (security_name m) (security_type m) (found m) (no_init m) (rt_at q is m) in
+    let at = security_found q is m in
     may_call (member_use q from sort.Method (resolve_method q owner (security_name m) (security_type m)) owner (security_name m) (security_type m)) (record {
       names = none_or (type_test q from (type_named owner)) (desc_test q from (descriptor_of (security_type m))) (type_open q is from (type_named owner) rt_lib) (desc_open q is from (descriptor_of (security_type m)) (security_lib m));
       barred = rt_barred m;

@@ -59,7 +59,7 @@ use Rattle.jmovefile.proofs.Sound.{IsSound}
 use Rattle.jmovefile.proofs.Texts.{longer, longer_slots, longer_well, moved_is}
 use Rattle.jrewrite.specs.Linking.{IsLinked}
 use Rattle.jrewrite.specs.Program.{moved}
-use Rattle.jrewrite.proofs.Changing.{changed, is_run, methods_changed}
+use Rattle.jrewrite.proofs.Changing.{IsForm, changed, is_run, methods_changed}
 use Rattle.jrewrite.proofs.Declaring.{Facts, differ, first_false, or_join, second_false}
 use Rattle.jrewrite.proofs.Judging.{Says, desc_kept, judged_at, no_entry_fault, owner_kept, says_of, says_use}
 use Rattle.jrewrite.proofs.Membering.{none_or}
@@ -347,11 +347,11 @@ facts_from p c i t k = record {
 pub plain_owner : (owner : List ℕ) → class_reserved owner ≡ false → is_reserved owner ≡ false
 plain_owner owner h = first_false (is_reserved owner) (text_reserved owner) h
 
-pub change_found : (p : Program) → IsLinked p → AllMoving p → (c : ClassParts) → names_reserved c ≡ false → (i : ℕ) (t : Target c.pool i) (k : Change p c i t) → Is p k.member (resolve_method (moved p) t.says.owner t.says.name (changed_desc c i t))
+pub change_found : (p : Program) → IsLinked p → AllMoving p → (c : ClassParts) → names_reserved c ≡ false → (i : ℕ) (t : Target c.pool i) (k : Change p c i t) → Is (IsForm p) k.member (resolve_method (moved p) t.says.owner t.says.name (changed_desc c i t))
 change_found p is all c kept i t k =
     let plainly = is_plain p is in
     let m = named_method c t.class t.two t.says in
-    let f = method_finds p plainly changed t.says.owner t.says.name (member_desc c m) (new_desc c m) (plain_owner t.says.owner (owner_kept c t.class t.two kept t.says)) (methods_changed p plainly all c m t.says.name (facts_from p c i t k)) in
+    let f = method_finds p plainly (IsForm p) changed t.says.owner t.says.name (member_desc c m) (new_desc c m) (plain_owner t.says.owner (owner_kept c t.class t.two kept t.says)) (methods_changed p plainly all c m t.says.name (facts_from p c i t k)) in
     f.some k.member (ap (resolve_method p t.says.owner t.says.name) (text_there c i t) ∙ k.at) k.handed
 
 -- ---- what it may be used for
@@ -436,7 +436,7 @@ change_more p is all passing c kept from plain i t k names barred =
       crossed = ap (is_crossed (sort_by t.interface)) (interface_name p plainly owner (plain_owner owner owner_plain));
       upward = extends_same p plainly from owner plain;
       init = refl;
-      member = ap (option_map (facts_of (moved p) from)) found.is ∙ ap (λ (m : MemberFacts). Some m) (facts_same p plainly from k.member found.other plain found.like) ∙ ap (option_map (facts_of p from)) (sym k.at);
+      member = ap (option_map (facts_of (moved p) from)) found.is ∙ ap (λ (m : MemberFacts). Some m) (facts_same p plainly from k.member found.other plain found.like.like) ∙ ap (option_map (facts_of p from)) (sym k.at);
     }
 
 -- its slots, before and after

@@ -12,7 +12,7 @@ use Rattle.jprogram.specs.declared.member.MethodId.{MethodId}
 use Rattle.jprogram.specs.declared.part.CodePart.{CodePart}
 use Rattle.jprogram.specs.Classes.{Lib, Program, User, find, found_at, place_of}
 use Rattle.jprogram.specs.Members.{is_main, main_desc, main_in, main_of, method_id}
-use Rattle.jprogram.specs.Parts.{code_of, has_code, is_called, is_public, is_static}
+use Rattle.jprogram.specs.Parts.{code_of, has_code, is_called, is_public_reach, is_static, reach_of}
 use Rattle.juses.specs.Instructions.{body_in, code_at}
 use Rattle.jtyping.specs.Typing.{Place, type_fault}
 use Rattle.jshow.specs.declared.refusal.Refusal.{Refusal}
@@ -26,7 +26,7 @@ last true false c d e = absurd (let x = e in cc)
 last false b c d e = absurd (let x = e in cc)
 
 main_has_code : (side : Side) (c : ClassParts) (m : MemberInfo) → is_main side c m ≡ true → has_code m ≡ true
-main_has_code side c m e = last (is_called c (codes "main") (main_desc side) m) (is_public m.flags) (is_static m.flags) (has_code m) e
+main_has_code side c m e = last (is_called c (codes "main") (main_desc side) m) (is_public_reach (reach_of m.flags)) (is_static m.flags) (has_code m) e
 
 -- the first of a class's methods that is one
 first_main : (side : Side) (c : ClassParts) (ms : List MemberInfo) (j : ℕ) → position (is_main side c) ms ≡ Some j
