@@ -1,6 +1,10 @@
 //! What the programs of this repository do: take the words, make a real shelf and a real sink, and end with the status's number.
 #![tactic(auto)]
 
+ghost use Rattle.std.specs.Prelude.{◌≡◌};
+ghost use Rattle.std.specs.Process.{exit_status};
+ghost use Rattle.jshow.specs.Statuses.{number};
+
 use jdriver::{Status, javasec};
 use jio::{RealShelf, RealSink};
 use std::alloc::Global;
@@ -39,16 +43,24 @@ fn explain(rt: &HostRuntime, status: Status, failed: Option<&str>) {
     let _ = told;
 }
 
-/// Does what the words of the command line say, and gives the number with which the process ends.
+/// The number with which the process ends.
+fn code_of(status: Status) -> ExitCode
+    ensures { exit_status result ≡ number status }
+{
+    ExitCode::from(status.number())
+}
+
+/// Does what the words of the command line say, and gives the number with which the process ends. That it is that of the driver's status is in no
+/// clause, since what the process reads and writes isn't told; stored runs show it.
 pub fn run(rt: &HostRuntime) -> ExitCode {
     let alloc = rt.alloc();
     let Ok(words) = words(rt, alloc) else {
         explain(rt, Status::OutOfMemory, None);
-        return ExitCode::from(Status::OutOfMemory.number());
+        return code_of(Status::OutOfMemory);
     };
     let mut shelf = RealShelf::new(rt);
     let mut sink = RealSink::new(io::writer(rt));
     let status = javasec(alloc, &words, &mut shelf, &mut sink);
     explain(rt, status, shelf.failed());
-    ExitCode::from(status.number())
+    code_of(status)
 }

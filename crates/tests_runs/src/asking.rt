@@ -13,8 +13,11 @@ struct Outcome {
     sink: MemorySink,
 }
 
-/// A word with a line feed for each `¶`, since a line of rows can't hold one.
+/// A word with a line feed for each `¶`, since a line of rows can't hold one, and the empty word for `∅`.
 fn word_of(alloc: Global, word: &str) -> Result<String, AllocError> {
+    if word == "∅" {
+        return String::from_str(alloc, "");
+    }
     word.replace(alloc, '¶', "\n")
 }
 

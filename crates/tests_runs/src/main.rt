@@ -2,6 +2,8 @@
 //!
 //! A line `WORDS > NAME STATUS` gives the words of a command, a name and the number of a status. What the command is to write stands in
 //! the file `NAME.text`. The input's head says what may stand behind it. Lines `# ..` and empty ones say nothing.
+//!
+//! Then it does what its own words say, as the program of this repository does, and ends with the number with which that ends.
 #![tactic(auto)]
 
 mod asking;
@@ -9,10 +11,12 @@ mod rows;
 
 use asking::is_right;
 use jio::RealShelf;
+use jmain::run;
 use rows::row_of;
 use std::io;
+use std::process::ExitCode;
 
-fn main(rt: HostRuntime) -> io::Result<()> {
+fn main(rt: HostRuntime) -> io::Result<ExitCode> {
     let alloc = rt.alloc();
     let mut shelf = RealShelf::new(&rt);
     let (mut asked, mut right) = (0u32, 0u32);
@@ -32,5 +36,6 @@ fn main(rt: HostRuntime) -> io::Result<()> {
         asked = asked.saturating_add(1);
         right = right.saturating_add(u32::from(is_right));
     }
-    println!(rt; "{right} of {asked} as they say")
+    println!(rt; "{right} of {asked} as they say")?;
+    Ok(run(&rt))
 }
