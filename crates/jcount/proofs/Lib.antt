@@ -1,0 +1,3 @@
+mod Behind
+pub mod Counts
+pub mod Silences

@@ -1,0 +1,3 @@
+mod Examples
+mod Few
+mod References
