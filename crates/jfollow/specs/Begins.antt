@@ -1,0 +1,23 @@
+-- How the runs of a program and of its moved program begin: `main` of the latter enters its context first.
+use Rattle.std.specs.Prelude.{◌≡◌, ℕ, Bool, List, [], Some}
+use Rattle.jperm.specs.declared.permission.Permission.{Permission}
+use Rattle.jprogram.specs.Classes.{Program}
+use Rattle.jprogram.specs.Members.{main_of}
+use Rattle.jmachine.specs.declared.plan.Plan.{Plan}
+use Rattle.jmachine.specs.Opening.{opening_state}
+use Rattle.jbeside.specs.Beside.{shadowed, sourced}
+use Rattle.jcount.specs.Counting.{Leads}
+use Rattle.jstands.specs.Moves.{Moves}
+use Rattle.jstands.specs.Stands.{Point, Stands, behind}
+
+-- the first state of a run, on either side
+abbrev pub first : (ℕ → Permission → Bool) → Program → Plan → Point
+first has p plan = opening_state (sourced has) p plan.main plan.heap
+
+abbrev pub first_moved : (ℕ → Permission → Bool) → Program → Plan → Point
+first_moved has q plan = opening_state (shadowed has) q plan.main plan.heap
+
+-- The moved program comes in four steps, which tell nothing, to a state that stands for the first one of the program as it was written.
+abbrev pub BeginsInFour : Type 0
+BeginsInFour = (has : ℕ → Permission → Bool) (p q : Program) (plan : Plan) (name : List ℕ) → Moves p q → main_of p name ≡ Some plan.main
+    → (u : Point) × Leads (behind has q plan) 4 (first_moved has q plan) [] u × Stands p q (first has p plan) u
