@@ -1,0 +1,15 @@
+pub mod Assembled
+pub mod Beginning
+pub mod Branching
+pub mod Coded
+pub mod Entries
+pub mod Fetching
+pub mod Filling
+pub mod Handling
+pub mod Instructing
+pub mod Meaning
+pub mod Moving
+pub mod Resolved
+pub mod Rt
+pub mod Slots
+pub mod Types

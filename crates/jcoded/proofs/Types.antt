@@ -1,0 +1,126 @@
+-- The types that descriptors and class entries name: in the moved program as in the program, and of a moved descriptor the context besides.
+use Rattle.std.proofs.Common.{◌≡◌, ℕ, Bool, true, false, List, [], ◌∷◌, ◌++◌, Option, Some, None, refl, ap, sym, ◌∙◌}
+use Rattle.std.specs.Prelude.{is_some, not, option_map, codes, ◌||◌, ◌==◌, nat_lt, if◌then◌else◌}
+use Rattle.std.specs.List.{list_any}
+use Rattle.std.specs.Str.{byte}
+use Rattle.std.proofs.lemmas.List.{reverse-append}
+use Rattle.jbase.specs.Each.{each_some, put_front}
+use Rattle.jpool.specs.declared.descriptor.Descriptor.{Descriptor}
+use Rattle.jpool.specs.declared.descriptor.Descriptor.TheVariants as descriptors
+use Rattle.jpool.specs.declared.descriptor.FieldType.{FieldType}
+use Rattle.jpool.specs.Descriptors.{descriptor_of}
+use Rattle.jlib.specs.declared.side.Side.TheVariants.{Passing}
+use Rattle.jlib.specs.declared.classes.LibClass.TheVariants as lib
+use Rattle.jlib.proofs.Found.{class_only}
+use Rattle.jmove.specs.Additions.{context_type}
+use Rattle.jtypes.specs.declared.vtype.Name.{Name}
+use Rattle.jtypes.specs.declared.vtype.Element.TheVariants as elements
+use Rattle.jtypes.specs.declared.vtype.VType.{VType}
+use Rattle.jtypes.specs.declared.vtype.VType.TheVariants as types
+use Rattle.jtypes.specs.Described.{element_of}
+use Rattle.jprogram.specs.Classes.{Class, Program, find}
+use Rattle.jprogram.specs.Naming.{class_reserved, desc_reserved, is_reserved, return_reserved, text_reserved, type_reserved}
+use Rattle.juses.specs.Typed.{Called, Typed, called, class_by, class_of, class_type, held, name, return_in, there, type_in, type_of, typed, typed_as}
+use Rattle.jrewrite.specs.Program.{moved}
+use Rattle.jrewrite.proofs.Declaring.{first_false, second_false}
+use Rattle.jrewrite.proofs.Security.{IsPassing, find_lib}
+use Rattle.jrewrite.proofs.Standing.{IsPlain, missing_name}
+
+-- ---- the same types
+
+same_not : (a b : Bool) → not a ≡ not b → a ≡ b
+same_not true true h = refl
+same_not true false h = absurd cc
+same_not false true h = absurd cc
+same_not false false h = refl
+
+there_same : (p : Program) → IsPlain p → (text : List ℕ) → is_reserved text ≡ false → there (moved p) text ≡ there p text
+there_same p is text plain = ap (λ (b : Bool). if b then Some (name text) else None) (same_not (is_some (find (moved p) text)) (is_some (find p text)) (missing_name p is text plain))
+
+pub type_same : (p : Program) → IsPlain p → (t : FieldType) → type_reserved t ≡ false → type_in (moved p) t ≡ type_in p t
+unfolding type_in
+type_same p is t plain = ap (λ (o : Option Name). option_map (type_of t.depth) (if t.base == byte "L" then option_map elements.Class o else element_of t.base (name t.class))) (there_same p is t.class plain)
+
+types_same : (p : Program) → IsPlain p → (ts : List FieldType) → list_any type_reserved ts ≡ false → each_some (type_in (moved p)) ts ≡ each_some (type_in p) ts
+unfolding each_some
+types_same p is [] plain = refl
+types_same p is (t ∷ ts) plain =
+    ap (λ (o : Option VType). put_front o (each_some (type_in (moved p)) ts)) (type_same p is t (first_false (type_reserved t) (list_any type_reserved ts) plain))
+    ∙ ap (put_front (type_in p t)) (types_same p is ts (second_false (type_reserved t) (list_any type_reserved ts) plain))
+
+return_same : (p : Program) → IsPlain p → (ret : Option FieldType) → return_reserved ret ≡ false → return_in (moved p) ret ≡ return_in p ret
+return_same p is None plain = refl
+return_same p is (Some t) plain = ap (option_map Some) (type_same p is t plain)
+
+typed_by : (p : Program) → IsPlain p → (d : Option Descriptor) → desc_reserved d ≡ false → typed_as (moved p) d ≡ typed_as p d
+typed_by p is None plain = refl
+typed_by p is (Some (descriptors.Field t)) plain = ap held (type_same p is t plain)
+typed_by p is (Some (descriptors.Method ps ret)) plain =
+    ap (λ (o : Option (List VType)). called o (return_in (moved p) ret)) (types_same p is ps (first_false (list_any type_reserved ps) (return_reserved ret) plain))
+    ∙ ap (called (each_some (type_in p) ps)) (return_same p is ret (second_false (list_any type_reserved ps) (return_reserved ret) plain))
+
+-- what a descriptor says
+pub typed_same : (p : Program) → IsPlain p → (desc : List ℕ) → text_reserved desc ≡ false → typed (moved p) desc ≡ typed p desc
+unfolding typed text_reserved
+typed_same p is desc plain = typed_by p is (descriptor_of desc) plain
+
+class_same : (p : Program) → IsPlain p → (text : List ℕ) → is_reserved text ≡ false → option_map class_of (there (moved p) text) ≡ option_map class_of (there p text)
+class_same p is text plain = ap (option_map class_of) (there_same p is text plain)
+
+class_if : (p : Program) → IsPlain p → (text : List ℕ) (t : FieldType) (b : Bool) → is_reserved text ≡ false → type_reserved t ≡ false
+    → (if b then type_in (moved p) t else option_map class_of (there (moved p) text)) ≡ (if b then type_in p t else option_map class_of (there p text))
+class_if p is text t true plain kept = type_same p is t kept
+class_if p is text t false plain kept = class_same p is text plain
+
+class_in : (p : Program) → IsPlain p → (text : List ℕ) (d : Option Descriptor) → is_reserved text ≡ false → desc_reserved d ≡ false → class_by (moved p) text d ≡ class_by p text d
+class_in p is text None plain kept = class_same p is text plain
+class_in p is text (Some (descriptors.Field t)) plain kept = class_if p is text t (nat_lt 0 t.depth) plain kept
+class_in p is text (Some (descriptors.Method ps ret)) plain kept = class_same p is text plain
+
+-- what a class entry names
+pub class_type_same : (p : Program) → IsPlain p → (text : List ℕ) → class_reserved text ≡ false → class_type (moved p) text ≡ class_type p text
+unfolding class_type text_reserved
+class_type_same p is text plain = class_in p is text (descriptor_of text) (first_false (is_reserved text) (text_reserved text) plain) (second_false (is_reserved text) (text_reserved text) plain)
+
+-- ---- the context besides
+
+pub context_in : (q : Program) → IsPassing q → type_in q context_type ≡ Some types.Ctx
+unfolding type_in
+context_in q is =
+    ap (λ (o : Option Class). option_map (type_of 0) (option_map elements.Class (if is_some o then Some (name (codes "sps/Ctx")) else None))) (find_lib q is (codes "sps/Ctx") lib.Ctx (class_only Passing lib.Ctx refl))
+
+abbrev more : VType → List VType → List VType
+more v vs = vs ++ v ∷ []
+
+put_more : (v : VType) (o : Option VType) (vs : Option (List VType)) → put_front o (option_map (more v) vs) ≡ option_map (more v) (put_front o vs)
+put_more v None vs = refl
+put_more v (Some x) None = refl
+put_more v (Some x) (Some vs) = refl
+
+each_more : (f : FieldType → Option VType) (ts : List FieldType) (t : FieldType) (v : VType) → f t ≡ Some v → each_some f (ts ++ t ∷ []) ≡ option_map (more v) (each_some f ts)
+unfolding each_some
+each_more f [] t v e = ap (λ (o : Option VType). put_front o (Some [])) e
+each_more f (x ∷ ts) t v e = ap (put_front (f x)) (each_more f ts t v e) ∙ put_more v (f x) (each_some f ts)
+
+abbrev with_newest : VType → Typed → Typed
+with_newest v (Called params ret) = Called (v ∷ params) ret
+with_newest v t = t
+
+called_more : (v : VType) (o : Option (List VType)) (ret : Option (Option VType)) → called (option_map (more v) o) ret ≡ with_newest v (called o ret)
+called_more v None ret = refl
+called_more v (Some vs) None = refl
+called_more v (Some vs) (Some r) = ap (λ (l : List VType). Called l r) (reverse-append vs (v ∷ []))
+
+-- a moved descriptor
+pub typed_handed : (p : Program) → IsPlain p → IsPassing (moved p) → (old new : List ℕ) (ps : List FieldType) (ret : Option FieldType) → descriptor_of old ≡ Some (descriptors.Method ps ret) → descriptor_of new ≡ Some (descriptors.Method (ps ++ context_type ∷ []) ret)
+    → text_reserved old ≡ false → (params : List VType) (r : Option VType) → typed p old ≡ Called params r → typed (moved p) new ≡ Called (types.Ctx ∷ params) r
+unfolding typed text_reserved
+typed_handed p is passing old new ps ret reads now plain params r e =
+    let kept : (list_any type_reserved ps || return_reserved ret) ≡ false = sym (ap desc_reserved reads) ∙ plain in
+    let said : called (each_some (type_in p) ps) (return_in p ret) ≡ Called params r = sym (ap (typed_as p) reads) ∙ e in
+    ap (typed_as (moved p)) now
+    ∙ ap (λ (o : Option (List VType)). called o (return_in (moved p) ret)) (each_more (type_in (moved p)) ps context_type types.Ctx (context_in (moved p) passing))
+    ∙ called_more types.Ctx (each_some (type_in (moved p)) ps) (return_in (moved p) ret)
+    ∙ ap (λ (o : Option (List VType)). with_newest types.Ctx (called o (return_in (moved p) ret))) (types_same p is ps (first_false (list_any type_reserved ps) (return_reserved ret) kept))
+    ∙ ap (λ (o : Option (Option VType)). with_newest types.Ctx (called (each_some (type_in p) ps) o)) (return_same p is ret (second_false (list_any type_reserved ps) (return_reserved ret) kept))
+    ∙ ap (with_newest types.Ctx) said

@@ -1,0 +1,136 @@
+-- The constants of statics are in the moved class what they were.
+use Rattle.std.proofs.Common.{◌≡◌, ◌⊎◌, ℕ, Bool, false, List, [], ◌∷◌, Option, Some, None, refl, ap, ◌∙◌, subst, inl, inr}
+use Rattle.std.specs.Prelude.{IsTrue, length, option_and_then, option_map, slice_get}
+use Rattle.jbase.specs.First.{first_some, or_else}
+use Rattle.jformat.specs.Format.{◌·◌, ◌▹◌, is_good, unless}
+use Rattle.jformat.specs.Bodies.{block}
+use Rattle.jformat.specs.States.{counted_from, fits_from}
+use Rattle.jformat.proofs.Steps.{first_true, second_true}
+use Rattle.jpool.specs.declared.entry.Entry.{Entry}
+use Rattle.jpool.specs.declared.entry.Entry.TheVariants as entries
+use Rattle.jpool.specs.declared.fault.PoolFault.TheVariants.{BadIndex}
+use Rattle.jpool.specs.Pools as pools
+use Rattle.jpool.specs.Pools.{is_utf8, utf8_at}
+use Rattle.jpool.proofs.PoolLaws.{at_index}
+use Rattle.jclass.specs.declared.access.Access.{Access}
+use Rattle.jclass.specs.declared.class.Attribute.{Attribute}
+use Rattle.jclass.specs.declared.class.Attribute.TheVariants as attributes
+use Rattle.jclass.specs.declared.class.ClassParts.{ClassParts}
+use Rattle.jclass.specs.declared.class.MemberInfo.{MemberInfo}
+use Rattle.jclass.specs.declared.fault.ClassFault.TheVariants as kinds
+use Rattle.jclass.specs.Attributes.{constant, content, field_attribute, is_constant, name_once, saw_constant, text_index}
+use Rattle.jclass.specs.Basics.{access, u2, u4}
+use Rattle.jclass.specs.Class.{class_file}
+use Rattle.jclass.specs.Members.{field}
+use Rattle.jclass.specs.Rules.{field_descriptor, suits_field, suits_type}
+use Rattle.jclass.specs.Stored.{IsIn}
+use Rattle.jprogram.specs.Parts.{or_empty, text}
+use Rattle.jmachine.specs.Making.{units_of}
+use Rattle.jmachine.specs.Opening.{constant_of, string_in, value_in, value_of}
+use Rattle.jmachine.specs.Store.{constant_at}
+use Rattle.jops.specs.declared.value.Value.TheVariants.{Ref}
+use Rattle.jmove.specs.Additions.{IsFront}
+use Rattle.jmoveclass.proofs.Fronts.{kept_test, same_text}
+use Rattle.jmoveclass.proofs.Keeping.{good_is}
+use Rattle.jmovefile.proofs.Sound.{IsSound}
+use Rattle.jrewrite.proofs.Judging.{no_entry_fault}
+use Rattle.jrewrite.proofs.Membering.{class_fields}
+
+-- ---- what an attribute of a field holds
+
+constant_suits : (pool : List Entry) (a : Access) (desc : ℕ) (seen : Bool) (x : Attribute) (i : ℕ) → IsTrue ((field_attribute pool a desc seen).fits x) → value_in x ≡ Some i → IsTrue (suits_field pool desc i)
+unfolding field_attribute
+constant_suits pool a desc seen (attributes.ConstantValue name value) i fit is =
+    let same : value ≡ i = cc in
+    let inside = second_true ((name_once pool (is_constant pool a) kinds.Index seen).fits name) ((content (is_constant pool a name) (constant pool desc)).fits (inl value)) fit in
+    let whole = second_true (is_constant pool a name) ((block u4 kinds.Truncated (constant pool desc)).fits value) inside in
+    let body = first_true ((constant pool desc).fits value) (u4.fits (length ((constant pool desc).spell value))) whole in
+    let good = good_is (suits_field pool desc value) kinds.Index (second_true (u2.fits value) (is_good (unless (suits_field pool desc value) kinds.Index)) body) in
+    subst (λ (n : ℕ). IsTrue (suits_field pool desc n)) same good
+constant_suits pool a desc seen (attributes.Code name stack locals ops handlers more) i fit is = absurd cc
+constant_suits pool a desc seen (attributes.Raw name bytes) i fit is = absurd cc
+
+or_some : {A : Type 0} (o q : Option A) (i : A) → or_else o q ≡ Some i → (o ≡ Some i) ⊎ (q ≡ Some i)
+or_some None q i e = inr e
+or_some (Some n) q i e = inl e
+
+first_in : (x : Attribute) (xs : List Attribute) (i : ℕ) → first_some value_in (x ∷ xs) ≡ Some i → (value_in x ≡ Some i) ⊎ (first_some value_in xs ≡ Some i)
+unfolding first_some
+first_in x xs i e = or_some (value_in x) (first_some value_in xs) i e
+
+none_first : {P : Type 0} (i : ℕ) → first_some value_in [] ≡ Some i → P
+unfolding first_some
+none_first i e = absurd cc
+
+abbrev fit_along : List Entry → Access → ℕ → Bool → List Attribute → Bool
+fit_along pool a desc seen xs = fits_from (λ (s : Bool). (field_attribute pool a desc s).fits) saw_constant seen xs
+
+attributes_suit : (pool : List Entry) (a : Access) (desc : ℕ) (seen : Bool) (xs : List Attribute) (i : ℕ) → IsTrue (fit_along pool a desc seen xs) → first_some value_in xs ≡ Some i → IsTrue (suits_field pool desc i)
+unfolding fits_from
+attributes_suit pool a desc seen [] i fit is = none_first i is
+attributes_suit pool a desc seen (x ∷ xs) i fit is =
+    elim (first_in x xs i is) [
+      | inl here ↦ constant_suits pool a desc seen x i (first_true ((field_attribute pool a desc seen).fits x) (fit_along pool a desc (saw_constant seen x) xs) fit) here
+      | inr more ↦
+          attributes_suit pool a desc (saw_constant seen x) xs i
+          (second_true ((field_attribute pool a desc seen).fits x) (fit_along pool a desc (saw_constant seen x) xs) fit) more
+    ]
+
+field_suits : (pool : List Entry) (m : MemberInfo) (i : ℕ) → IsTrue ((field pool).fits m) → first_some value_in m.attributes ≡ Some i → IsTrue (suits_field pool m.desc i)
+unfolding field
+field_suits pool m i fit is =
+    let behind = field_descriptor pool ▹ (λ (desc : ℕ). counted_from u2 (field_attribute pool m.flags desc) saw_constant false) in
+    let a = second_true (access.fits m.flags) ((text_index pool · behind).fits (m.name, (m.desc, m.attributes))) fit in
+    let b = second_true ((text_index pool).fits m.name) (behind.fits (m.desc, m.attributes)) a in
+    let c = second_true ((field_descriptor pool).fits m.desc) ((counted_from u2 (field_attribute pool m.flags m.desc) saw_constant false).fits m.attributes) b in
+    let d = first_true (fit_along pool m.flags m.desc false m.attributes) (u2.fits (length m.attributes)) c in
+    attributes_suit pool m.flags m.desc false m.attributes i d is
+
+-- ---- in a longer pool
+
+none_suits : (type : Option (List ℕ)) → suits_type type None ≡ false
+none_suits None = refl
+none_suits (Some t) = refl
+
+entry_stays : (pool whole : List Entry) → IsFront pool whole → (desc i : ℕ) → IsTrue (suits_field pool desc i) → slice_get whole i ≡ slice_get pool i
+unfolding suits_field
+entry_stays pool whole f desc i h = kept_test pool whole f (suits_type (utf8_at pool desc)) (none_suits (utf8_at pool desc)) i h
+
+module _ (c d : ClassParts) (front : IsFront c.pool d.pool) (sound : IsSound c.pool) (fit : IsTrue (class_file.fits c)) where
+  field_fits : (m : MemberInfo) → IsIn m c.fields → IsTrue ((field c.pool).fits m)
+  field_fits m there = at_index (field c.pool).fits c.fields there.0 m (class_fields c fit) there.1
+
+  constant_by : (m : MemberInfo) → IsIn m c.fields → (o : Option ℕ) → first_some value_in m.attributes ≡ o → option_and_then (slice_get d.pool) o ≡ option_and_then (slice_get c.pool) o
+  constant_by m there None e = refl
+  constant_by m there (Some i) e = entry_stays c.pool d.pool front m.desc i (field_suits c.pool m i (field_fits m there) e)
+
+  pub constant_same : (m : MemberInfo) → IsIn m c.fields → constant_of d m ≡ constant_of c m
+  constant_same m there = constant_by m there (first_some value_in m.attributes) refl
+
+  string_text : (i t : ℕ) → slice_get c.pool i ≡ Some (entries.Str t) → text d.pool t ≡ text c.pool t
+  unfolding pools.entry_fault
+  string_text i t at = ap or_empty (same_text c.pool d.pool front t (good_is (is_utf8 c.pool t) BadIndex (no_entry_fault c.pool i (entries.Str t) sound at)))
+
+  string_by : (i : ℕ) (e : Option Entry) → slice_get c.pool i ≡ e → string_in d e ≡ string_in c e
+  string_by i (Some (entries.Str t)) at = ap (λ (x : List ℕ). Some (units_of x)) (string_text i t at)
+  string_by i None at = refl
+  string_by i e at = refl
+
+  string_of : (o : Option ℕ) → string_in d (option_and_then (slice_get c.pool) o) ≡ string_in c (option_and_then (slice_get c.pool) o)
+  string_of None = refl
+  string_of (Some i) = string_by i (slice_get c.pool i) refl
+
+  pub string_same : (m : MemberInfo) → IsIn m c.fields → string_in d (constant_of d m) ≡ string_in c (constant_of c m)
+  string_same m there = ap (string_in d) (constant_same m there) ∙ string_of (first_some value_in m.attributes)
+
+  value_by : {K : Type 0} (made : List (List ℕ × ℕ)) (i : ℕ) (e : Option Entry) → slice_get c.pool i ≡ e → value_of {K = K} made d e ≡ value_of made c e
+  value_by made i (Some (entries.Str t)) at = ap (λ (x : List ℕ). option_map Ref (constant_at made (units_of x))) (string_text i t at)
+  value_by made i None at = refl
+  value_by made i e at = refl
+
+  value_at : {K : Type 0} (made : List (List ℕ × ℕ)) (o : Option ℕ) → value_of {K = K} made d (option_and_then (slice_get c.pool) o) ≡ value_of made c (option_and_then (slice_get c.pool) o)
+  value_at made None = refl
+  value_at made (Some i) = value_by made i (slice_get c.pool i) refl
+
+  pub value_same : {K : Type 0} (made : List (List ℕ × ℕ)) (m : MemberInfo) → IsIn m c.fields → value_of {K = K} made d (constant_of d m) ≡ value_of made c (constant_of c m)
+  value_same made m there = ap (value_of made d) (constant_same m there) ∙ value_at made (first_some value_in m.attributes)

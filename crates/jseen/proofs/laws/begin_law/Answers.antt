@@ -1,0 +1,15 @@
+use Rattle.jseen.proofs.laws.begin_law.Goals as goal
+use Rattle.jseen.proofs.Making.{makes_same}
+use Rattle.jseen.proofs.Openings.{domain_same, main_coded, own_same}
+
+pub returns-clause-domains : goal.returns-clause-domains
+returns-clause-domains g = domain_same
+
+pub returns-clause-own : goal.returns-clause-own
+returns-clause-own g = own_same
+
+pub returns-clause-makes : goal.returns-clause-makes
+returns-clause-makes g p linked = makes_same p linked
+
+pub returns-clause-coded : goal.returns-clause-coded
+returns-clause-coded g = main_coded
