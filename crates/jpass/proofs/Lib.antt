@@ -1,0 +1,4 @@
+mod Lasting
+mod Passed
+mod Standing
+mod Told

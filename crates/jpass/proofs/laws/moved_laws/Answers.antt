@@ -1,0 +1,7 @@
+use Rattle.jpass.proofs.laws.moved_laws.Goals as goal
+
+pub returns-clause-states : goal.returns-clause-states
+returns-clause-states c = λ has p plan links typed small. c.stand_law.ensures has p _ plan (c.moves_law.ensures p links typed small)
+
+pub returns-clause-runs : goal.returns-clause-runs
+returns-clause-runs c = λ has p plan name links typed small is. c.pass_law.ensures has p _ plan name (c.moves_law.ensures p links typed small) is
