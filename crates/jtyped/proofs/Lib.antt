@@ -1,0 +1,16 @@
+pub mod Codes
+pub mod Exchanging
+pub mod Fitting
+pub mod Flows
+pub mod Growing
+pub mod Leaving
+pub mod Locals
+pub mod Moves
+pub mod OfKinds
+pub mod Orders
+pub mod Simples
+pub mod Storing
+pub mod Straights
+pub mod Taking
+pub mod Wanting
+pub mod Wider

@@ -1,0 +1,65 @@
+-- A store of which all is as the program says, with one more object that is so.
+use Rattle.std.proofs.Common.{◌≡◌, ℕ, zero, suc, List, [], ◌∷◌, ◌++◌, Some, ◌⊎◌, inl, inr, subst}
+use Rattle.std.specs.Prelude.{slice_get}
+use Rattle.jops.specs.declared.value.Value.{Value}
+use Rattle.jops.specs.declared.value.Value.TheVariants.{Ref}
+use Rattle.jtypes.specs.declared.vtype.VType.{VType}
+use Rattle.jrule.specs.Arrays.{component}
+use Rattle.jmachine.specs.Objects.{Object, Instance, Thrown, Text, Builder, Piece, Permission, Context, Thread, Bare, Array}
+use Rattle.jmachine.specs.Store.{Store, object_at, with_made}
+use Rattle.jmachine.specs.World.{World}
+use Rattle.jtyped.specs.Growing.{Grows}
+use Rattle.jtyped.specs.Stores.{EachOf, IsObject, StoredMade}
+use Rattle.jtyped.specs.Values.{AreOf}
+use Rattle.jtyped.proofs.Growing.{get_front, grows_made, serves_kept}
+
+module _ {K : Type 0} (w : World) (s t : Store K) (grows : Grows w s t) where
+  pub each_kept : (a : VType) (vs : List (Value K)) → EachOf w s a vs → EachOf w t a vs
+  each_kept a [] h = tt
+  each_kept a (v ∷ vs) h = (serves_kept w s t grows _ v h.0, each_kept a vs h.1)
+
+  pub are_kept : (ts : List VType) (vs : List (Value K)) → AreOf w s ts vs → AreOf w t ts vs
+  are_kept [] [] h = tt
+  are_kept [] (v ∷ vs) h = absurd h
+  are_kept (a ∷ ts) [] h = absurd h
+  are_kept (a ∷ ts) (v ∷ vs) h = (serves_kept w s t grows _ v h.0, are_kept ts vs h.1)
+
+  pub object_kept : (x : Object K) → IsObject w s x → IsObject w t x
+  object_kept (Instance class message fields) h = (serves_kept w s t grows _ (Ref message) h.0, are_kept (w.layout class) fields h.1)
+  object_kept (Thrown c message) h = serves_kept w s t grows _ (Ref message) h
+  object_kept (Array a items) h = each_kept (component a) items h
+  object_kept (Text units) h = tt
+  object_kept (Builder units) h = tt
+  object_kept (Piece units) h = tt
+  object_kept (Permission c held) h = tt
+  object_kept (Context kept) h = tt
+  object_kept (Thread number) h = tt
+  object_kept (Bare c) h = tt
+
+some_is : {A : Type 0} (a b : A) → Some a ≡ Some b → a ≡ b
+some_is a b e = cc
+
+at_end : {A : Type 0} (xs : List A) (x : A) (n : ℕ) (y : A) → slice_get (xs ++ x ∷ []) n ≡ Some y → (slice_get xs n ≡ Some y) ⊎ (x ≡ y)
+at_end [] x zero y e = inr (some_is x y e)
+at_end [] x (suc n) y e = absurd (cc)
+at_end (a ∷ xs) x zero y e = inl e
+at_end (a ∷ xs) x (suc n) y e = at_end xs x n y e
+
+made_at : {K : Type 0} (s : Store K) (x : Object K) (n : ℕ) (y : Object K) → object_at s n ≡ Some y → object_at (with_made s x) n ≡ Some y
+made_at s x zero y e = absurd (cc)
+made_at s x (suc n) y e = get_front s.objects (x ∷ []) n y e
+
+pub stored_made : (K : Type 0) → StoredMade K
+stored_made K w s x statics h is = record {
+  objects = each;
+  statics_of = are_kept w s (with_made s x) (grows_made K w s x) statics s.statics h.statics_of;
+  constants = λ c inside. made_at s x c.1 (Text (Some c.0)) (h.constants c inside);
+  out_is = made_at s x 1 _ h.out_is;
+}
+  where
+    each : (n : ℕ) (y : Object K) → object_at (with_made s x) n ≡ Some y → IsObject w (with_made s x) y
+    each zero y e = absurd (cc)
+    each (suc n) y e = elim (at_end s.objects x n y e) [
+      | inl old ↦ object_kept w s (with_made s x) (grows_made K w s x) y (h.objects (suc n) y old)
+      | inr same ↦ subst (λ y. IsObject w (with_made s x) y) same is
+    ]

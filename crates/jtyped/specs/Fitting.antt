@@ -1,0 +1,19 @@
+-- What fits what where a machine runs, by what fits as programs are checked.
+use Rattle.std.specs.Prelude.{◌≡◌, true, ⊤}
+use Rattle.jtypes.specs.declared.vtype.VType.{VType}
+use Rattle.jtypes.specs.declared.vtype.VType.TheVariants as types
+use Rattle.jtypes.specs.Fitting as checked
+use Rattle.jprogram.specs.Classes.{Program, tree}
+use Rattle.jprogram.specs.Standing.{StandsInOrder}
+use Rattle.jmachine.specs.World.{fits, world}
+
+-- a type that values have
+abbrev pub IsValueType : VType → Type 0
+IsValueType types.Top = ⊥
+IsValueType types.UninitThis = ⊥
+IsValueType (types.Uninit o) = ⊥
+IsValueType t = ⊤
+
+-- What fits, where a machine runs, a type that fits another as programs are checked, fits that one where a machine runs.
+abbrev pub FitsAfter : Type 0
+FitsAfter = (p : Program) (a b c : VType) → StandsInOrder p → IsValueType a → fits (world p) a b ≡ true → checked.fits (tree p) b c ≡ true → fits (world p) a c ≡ true

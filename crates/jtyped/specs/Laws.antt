@@ -1,0 +1,57 @@
+-- Laws: where the typing rule gives a frame behind an instruction, the machine has a row that suits it.
+use Rattle.std.specs.Prelude.{◌≡◌, ⊤, Bool, true, false, List, Option, Some}
+use Rattle.jtypes.specs.Fitting.{fits}
+use Rattle.jtypes.specs.Frames.{Frame, frame_fits}
+use Rattle.jlib.specs.declared.calls.LibCall.{LibCall}
+use Rattle.jlib.specs.Classes as library
+use Rattle.jlib.specs.Calls as library_calls
+use Rattle.jprogram.specs.declared.member.CallKind.{CallKind}
+use Rattle.jprogram.specs.declared.member.ClassId.{ClassId}
+use Rattle.jprogram.specs.declared.member.Member.{Member}
+use Rattle.jprogram.specs.declared.member.Selected.TheVariants as selected
+use Rattle.jprogram.specs.Classes.{Program, tree}
+use Rattle.jprogram.specs.Members.{as_selected, select}
+use Rattle.jprogram.specs.Standing.{StandsInOrder}
+use Rattle.juses.specs.Instructions.{Instruction, Array, Used}
+use Rattle.jrule.specs.Here.{Here}
+use Rattle.jrule.specs.Rule.{rule}
+use Rattle.jmachine.specs.Acts.{FrameOf}
+use Rattle.jmachine.specs.Doing.{doing}
+use Rattle.jmachine.specs.Security.{Rules}
+use Rattle.jmachine.specs.Sites.{Site}
+use Rattle.jmachine.specs.Store.{Store}
+use Rattle.jmachine.specs.World.{World, world}
+use Rattle.jtyped.specs.Doings.{CanDo}
+use Rattle.jtyped.specs.Frames.{News, Suits}
+
+-- an instruction that asks neither an array nor an entry of the pool: it has operands alone, a local, or moves the stack, or it jumps,
+-- returns or throws
+abbrev pub IsStraight : Instruction → Type 0
+IsStraight (Array form) = ⊥
+IsStraight (Used m) = ⊥
+IsStraight i = ⊤
+
+-- In a frame that suits, the machine does what a straight instruction asks, and what it does suits the frame behind.
+abbrev pub StraightDoes : Type 0 → Type 0 → Type 0
+StraightDoes K E = (r : Rules K E) (at : Site) (own : Member → Bool) (s : Store K) (entries : List E) (inherited : Option K)
+    (p : Program) (here : Here) (news : News) (i : Instruction) (shape behind : Frame) (f : FrameOf K E)
+    → StandsInOrder p → at.world ≡ world p → IsStraight i → Suits at.world s here news shape f → rule p here i shape ≡ Some behind
+    → CanDo at.world s here news behind (doing r at own s entries inherited i f)
+
+-- What a frame holds that suits one of typing suits each that this one fits.
+abbrev pub SuitsWider : Type 0 → Type 0 → Type 0
+SuitsWider K E = (p : Program) (w : World) (s : Store K) (here : Here) (news : News) (a b : Frame) (f : FrameOf K E)
+    → StandsInOrder p → w ≡ world p → frame_fits (fits (tree p)) a b ≡ true → Suits w s here news a f → Suits w s here news b f
+
+-- ---- calls of the library
+
+-- it has code: its owner is no interface
+abbrev pub HasCode : LibCall → Type 0
+HasCode call = library.is_interface (library_calls.owner call) ≡ false
+
+-- What is selected, or taken as it is, of the library has code.
+abbrev pub ItselfHasCode : Type 0
+ItselfHasCode = (p : Program) (m : Option Member) (call : LibCall) → as_selected p m ≡ selected.Lib call → HasCode call
+
+abbrev pub SelectedHasCode : Type 0
+SelectedHasCode = (p : Program) (on : ClassId) (m : Member) (kind : CallKind) (call : LibCall) → select p on m kind ≡ selected.Lib call → HasCode call
