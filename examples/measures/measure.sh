@@ -49,6 +49,8 @@ row Snapshots 1000 100000 snapshot 0
 row Nested 60 60 privilege 0
 row Nested 900 900 privilege 0
 row Contexts 100000 100000 context 0
+row Privileges 0 20000 check 0
+row Privileges 100000 20000 check 0
 row Entries 100 200000 check 100
 row Entries 57000 200000 check 57000
 row Yields 0 1000000 switch 0
