@@ -1,4 +1,7 @@
-//! Runs a job of class files under its policy, or says what its policy grants.
+//! The program: it runs a job of class files under its policy, checks it, moves it, or says what its policy grants. Its stored run is a
+//! job of one class file.
+//!
+//! No room names it.
 #![tactic(auto)]
 
 use jmain::run;

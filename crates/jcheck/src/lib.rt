@@ -1,4 +1,17 @@
-//! The type checker (JVMS 4.10): it accepts exactly the programs that are well typed.
+//! The type checker: one pass over each method, with one frame at a time, by numbers.
+//!
+//! - `Checks`: what an error of checking says.
+//! - `Numbered`, `Checking`: methods by number, and what they stand for.
+//! - `News`: the `new`s of a method.
+//! - `Given`, `Chained`: the frames that a method declares, whose locals are kept as chains that share their first ones.
+//! - `First`: how a method begins.
+//! - `Keeping`: what is known of the frame that is held, so that handlers and locals that are known to serve aren't looked at again.
+//!
+//! Proved: `check` answers the program that was handed in exactly where it is well typed, and else hands it back unchanged with the
+//! first place that isn't; a `CheckedProgram` is well typed by both definitions; `into_plain` makes a `PlainProgram` of it exactly
+//! where its side is the passing one, and else hands it back.
+//!
+//! Rooms of the machine, moving, jobs and the top may name it, and tests.
 #![tactic(auto)]
 
 mod chains;

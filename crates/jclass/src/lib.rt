@@ -1,4 +1,22 @@
-//! Class files: read with the first fault exact, and written back byte for byte.
+//! Class files whole, both ways (JVMS 4.1 to 4.7). A class file is read in three passes over the same bytes, and the first that finds a
+//! fault ends the reading: its shape, its pool entry by entry, and then the rest by the pool. `ClassFile` holds parts that some bytes
+//! spell.
+//!
+//! - `Basics`: numbers, flags, indices with a test, one of two formats by a test.
+//! - `Shapes`: the first pass (attributes as runs of bytes, gone over without keeping them).
+//! - `Judging`: the second (what entries hold and name).
+//! - `Rules` and `Operands`: what indices, flags, descriptors and instructions must be.
+//! - `Attributes`, `Codes`, `Members`, `Class`: the third pass, and the whole.
+//! - `Stored`: what a class file holds, as laws speak of it.
+//! - `AttributeLaws`, `CodeLaws`: laws of these formats that readers of blocks need, which is why they stand in `specs/`.
+//!
+//! Proved: `read_class` accepts exactly the bytes that spell a class file, and names the first fault of the first pass that finds one,
+//! with its kind and place; `write_class` gives the bytes that spell it; `spelling_laws`: one spelling a class file, one class file a
+//! spelling, and bytes spell one exactly where reading finds no fault; `stored_laws`: each code in a class file is code of at most
+//! 65,535 bytes whose places rise, whose branches and handlers lead to instructions and whose frames are frames, and each text is
+//! modified UTF-8; copies are equal.
+//!
+//! Rooms of linking, checking, the machine's definition, the machine, moving, jobs and the top may name it, and tests.
 #![tactic(auto)]
 
 mod access;

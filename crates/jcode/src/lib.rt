@@ -1,4 +1,20 @@
-//! Instructions of methods: how code is read into them, and how they are written.
+//! Instructions and code (JVMS 4.7.3, 6.5): `decode` and `encode`, `size_at`, `place_of`, `form_of`, `effect_of`, the branches of a
+//! form. An instruction with its place takes 24 bytes. jclass reads code by it, and the checker and the machine read its forms.
+//!
+//! - `Opcodes`: the number of each opcode, and which opcode a first byte says; which are left out, which unknown.
+//! - `Operands`: what stands behind an opcode, switches and `wide` among them.
+//! - `Instructions`: an instruction as its opcode and operands; instructions one behind the other with their places; branches that lead
+//!   to instructions; code, and its first fault.
+//! - `Forms`: what an instruction does, one form for all its spellings; the kinds of operands that forms take and give; the branches of
+//!   a form, and whether the next instruction may follow.
+//!
+//! Proved: `decode` gives exactly the instructions that bytes spell, or the first fault with its place, `BadTarget` at the first branch
+//! that leads to no instruction included; `encode` writes what is read back as the same instructions; `size_at` is the size of an
+//! instruction at a place; `code_laws`: one reading, one spelling, bytes spell code exactly where reading finds no fault, places rise;
+//! `place_of` finds the number of the instruction at a place; `form_of`, `effect_of`, `branch_count`, `branch_at`, `goes_on` are their
+//! definitions; copies are equal.
+//!
+//! Rooms of class files, linking, checking, the machine's definition, the machine and moving may name it, and tests.
 #![tactic(auto)]
 
 mod branches;

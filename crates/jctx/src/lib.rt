@@ -1,4 +1,19 @@
-//! Security contexts as values: what a method was handed by its caller, in place of the stack below it.
+//! Security contexts as values, in place of the stack below a method (Wallach, Appel and Felten): `top`, `enter`, `privileged`,
+//! `Context::verdict`. By them jrules says what the machine that passes contexts does.
+//!
+//! - `Items`: a domain that is asked, and the limits under which it is.
+//! - `Limits`: sets of permissions.
+//! - `Contexts`: what a context decides, how one is made at a call and at a privilege, and the context of a stack.
+//! - `Growing`: contexts that grow item by item.
+//! - `Laws`: the laws.
+//!
+//! Proved: each call is its definition; `verdict` takes no memory, and the context of a stack decides as the walk of the stack does,
+//! the denying domain included (also on `context_laws`, for every stack and permission); no item of a context that is made is covered
+//! by an earlier one; without limits the domains of such a context differ, so that it has no more items than there are domains, and a
+//! call within its newest domain changes nothing. A privilege that a method takes in the context that it entered is one in the context
+//! in which it was called.
+//!
+//! Rooms of the machine's definition and the machine may name it, and tests.
 #![tactic(auto)]
 
 mod context;

@@ -1,4 +1,19 @@
-//! What calls and what is thrown ask of a program: which methods are selected, and which handlers handle.
+//! What calls and what is thrown ask of a program, by numbers: where a method's handlers go on for an object of a class, which method
+//! is selected, what an interface asks, and from these a whole call. What was asked about a call is remembered, by the place where it
+//! stands and the class of its object.
+//!
+//! - `Faces`: what a call by an interface of the library comes to that the machine makes itself, such as that of an action's `run`.
+//! - `Answers`: what is known of a call: what is selected, whether its frames have code and how many locals, whether the object's class
+//!   has the interface, and whether what is selected isn't public.
+//! - `Invoking`: what a step comes to that calls.
+//! - `Keys`: where answers are looked for.
+//! - `Told`, `Laws`: what the laws say.
+//!
+//! Proved: `ThrownAs` tells of every frame where the machine's definition goes on; an answer is what the definition selects and asks,
+//! whether it was remembered or not; `invoke` comes to what the machine's step does, whatever the rules and the state are, where the
+//! operands serve; and what a class by the heap's number is.
+//!
+//! Rooms of the machine may name it.
 #![tactic(auto)]
 
 mod answers;

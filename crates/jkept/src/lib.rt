@@ -1,4 +1,15 @@
-//! Kept stacks and privileges by numbers, and the walk of a stack that marks and numbers stand for.
+//! Kept stacks and privileges by numbers, as the inspecting machine holds them.
+//!
+//! - `Things`: what a number stands for, a stack or a mark of a frame.
+//! - `Entries`: each entry speaks of earlier numbers alone.
+//! - `Paths`: the stack that was kept last, frame by frame, which the next one shares.
+//! - `Settled`: where a walk ends, by one frame.
+//!
+//! Proved: `snapshot` and `privilege` give a number that stands for the stack of these frames on that of the inherited number, or for
+//! the mark with its given stack and limits; earlier numbers keep what they stand for, and an error changes nothing. `walk` is exactly
+//! the walk of the stack that frames and an inherited number stand for.
+//!
+//! Rooms of the machine may name it, and tests.
 #![tactic(auto)]
 
 mod entry;

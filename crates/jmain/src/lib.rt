@@ -1,4 +1,7 @@
-//! What the programs of this repository do: take the words, make a real shelf and a real sink, and end with the status's number.
+//! What the programs of this repository do: take the words, make a real shelf and a real sink, call `javasec`, say one sentence on
+//! standard error where a status alone says too little, and end with the status's number.
+//!
+//! Rooms of jobs and the top may name it.
 #![tactic(auto)]
 
 ghost use Rattle.std.specs.Prelude.{◌≡◌};

@@ -1,4 +1,11 @@
-//! Remembered answers.
+//! Remembered answers, in 4,096 places by their keys' numbers.
+//!
+//! - `Memos`: what a place holds, and that all that is remembered are answers of a function.
+//!
+//! Proved: `get` answers exactly what the key's place holds for it; `put` replaces that place alone; where what is remembered are a
+//! function's answers, whatever is got is the function's answer.
+//!
+//! Rooms of the machine may name it, and tests.
 #![tactic(auto)]
 
 mod memo;

@@ -1,4 +1,11 @@
-//! The names that instructions and operations share (JVMS 6.5), and the kinds of operands that they take and give.
+//! The names that instructions and operations share (JVMS 6.5), and the kinds of operands.
+//!
+//! - `Effects`: the one table of the kinds that each instruction which computes takes and gives, the newest operand first; which
+//!   comparisons are of references too.
+//!
+//! Proved: each call gives the row of its definition.
+//!
+//! Rooms of the base, class files, linking, checking, the machine's definition and the machine may name it, and tests.
 #![tactic(auto)]
 
 mod effects;

@@ -1,4 +1,16 @@
-//! The state in which a run of a program begins, by numbers: the heap with what is made before the first step, and the frame of `main`.
+//! The state in which a run begins, by numbers: `System.out`, the strings of ConstantValues, each text once, by `jconstants`, the empty
+//! array, the statics and the frame of `main`.
+//!
+//! - `Opened`: what the opening comes to.
+//! - `Texts`, `Begun`: the heap string by string and step by step.
+//! - `Rows`: what statics hold at first, by `jready`'s rows.
+//! - `Files`: parts are class files, in which constants suit their fields.
+//!
+//! Proved: `open` answers none exactly where the opening's charge is above the heap's cells; else the heap, with the constants that
+//! were made, is `jmachine`'s opening store, each object has the cells that its class wants, and the frames are those of its main
+//! thread, for all rules whose frames carry the mark and hand the context that were given.
+//!
+//! Rooms of the machine may name it.
 #![tactic(auto)]
 
 mod files;

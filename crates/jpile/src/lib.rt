@@ -1,4 +1,13 @@
-//! Lists one on the other in one vector, for the locals and the operands of a thread's frames.
+//! Lists one on the other in one vector, for the locals and operands of a thread's frames.
+//!
+//! - `Piles`: the newest list and those below it, each with its newest item first.
+//! - `Starts`: how they lie in one list of items.
+//! - `Laws`: the laws below.
+//!
+//! Proved: each call by its equation over the lists; an error leaves all as it was. `pile_laws`: an item that was put is read, no other
+//! changes; an item's place counted from the newest and from the oldest; what is opened and closed again is as before.
+//!
+//! Rooms of the machine may name it, and tests.
 #![tactic(auto)]
 
 mod laws;

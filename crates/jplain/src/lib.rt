@@ -1,5 +1,13 @@
 //! The plain machine's guard: it answers what is asked of access control by the contexts that calls hand on, and never looks at frames
-//! (Wallach, Appel and Felten, 2000).
+//! (Wallach, Appel and Felten, 2000). No verb runs it yet.
+//!
+//! - `Plains`: what an ask makes of the guard.
+//!
+//! Proved: each answer of `Plain` stands for what the rules of contexts answer; a check leaves the guard as it is; `run_linked` and
+//! `run_plain` write exactly the text of the machine's run by these rules under the plan's heap, depth and steps, answer its end, and at a
+//! fault leave a front of the text.
+//!
+//! Jobs and the top may name it.
 #![tactic(auto)]
 
 mod plain;

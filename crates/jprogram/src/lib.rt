@@ -1,4 +1,31 @@
-//! A program as a list of classes: how they are found by name, which stands above which, and which member a name stands for.
+//! A program as a list of classes with their domains, beside the library of its side, and its look-ups by name. Linking stands on it.
+//!
+//! - `Parts`: what a class file's parts say by its pool; a text that isn't there is empty.
+//! - `Classes`: a class is found, users' first; what stands above it, its interfaces, directly and through others; what extends and
+//!   implements what. Walks end by the number of known classes, circles or not.
+//! - `Members`: resolution of fields and methods (JVMS 5.4.3), access (5.4.4), overriding (5.4.5), selection (5.4.6), `main`.
+//! - `Names`: the table of users' names.
+//! - `Seen`: what a class that was found is.
+//! - `Layers`: what a search of interfaces goes through, each once.
+//! - `Shortly`: overriding and selection computed along a chain, by what the code does.
+//! - `Naming`, `Supers`: the first two phases of linking, names and superclasses, as lists of tests with places.
+//! - `Heights`: heights, which classes of one circle may share, by which a class that is higher than what stands directly above it
+//!   doesn't stand above itself; so only classes of circles are searched.
+//! - `Faces`: the number of each interface among the interfaces.
+//! - `Implementing`, `Bits`: the table of the interfaces that each class implements, a bit for each interface.
+//! - `Standing`: programs in which those two phases find nothing.
+//! - `Circles`: what stands directly above a class that was found.
+//! - `Slots`, `Digests`: tables by which a class's name and a member's name and descriptor are found, which no contract above sees.
+//!
+//! Proved, for every list of class files, linked or not: each call is its definition: `class_of`, `super_of`, `extends`, `may_name`,
+//! `may_use`, `select`, `main_of`, and the first fault of each of linking's first two phases, `naming_fault` (names that are kept or
+//! taken) and `supers_fault` (classes that are missing, may not stand above, or stand above themselves). `resolve_method`,
+//! `resolve_field` and `resolved` are their definitions too, on the condition that no interface stands among its own. `program_laws`:
+//! where the first two phases find nothing that condition holds, no class stands above itself, extending is transitive, two classes
+//! that extend one another are one, and what an interface extends is an interface or Object. `number_laws`: a class's number names it
+//! and is found by its name. `Interfaces` answers `implements` without memory.
+//!
+//! Rooms of linking, checking, the machine's definition, the machine, moving, jobs and the top may name it, and tests.
 #![tactic(auto)]
 
 mod access;

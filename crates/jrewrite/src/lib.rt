@@ -1,4 +1,26 @@
-//! The moved program: the class files that hand each method its caller's security context, and what keeps a program from being moved.
+//! The moved program: each class moved (`jmoveclass`), in a program of the passing side, and its class files. The verb `rewrite` stands
+//! on it.
+//!
+//! - `Program`: the moved program, and the first limit that a program breaks.
+//! - `Linking`, `Members`, `References`: what moved programs keep of linking.
+//! - `Parts`: what its parts are.
+//! - `Files`: what holds of a moved program, and its class files, as they are stored.
+//!
+//! Proved: `moved_parts` answers exactly the parts of the moved program, for a program of the source side that links and is well typed,
+//! where no limit is broken, and else the first: class by class, in each its methods in their order, and its pool last.
+//! `standing_laws`: in the moved program of one that links, the first two phases of linking find nothing. `part_laws`: where a program
+//! of the source side links, is well typed and breaks no limit, each part of the moved program is a class file. `member_law`: there the
+//! third phase finds nothing either: no member stands twice, as moved descriptors are one where the old ones are; no method is one that
+//! the library fixes, as none of its methods with code is handed a context; and of the methods above none is new. `code_law`: nor does
+//! the fourth phase, as calls that change find the members that they found, by their new descriptors, all other references stand for
+//! what they stood for, and the methods of `sps/Rt` and the class of contexts may be named by all, and what full frames name besides
+//! was asked for with the frame that a method begins with. `link_law`: so the moved program links. `rewrite` answers the moved program
+//! of a checked program of the source side, as a program that is linked without a second look, where no limit is broken, and else the
+//! first limit; `files` are the bytes that spell its parts, with the names of their classes and the numbers of their code sources, in
+//! its order; `into_plain` makes a program that runs on the passing side of it exactly where it is well typed, and else hands it back
+//! with the first place that isn't.
+//!
+//! Rooms of jobs and the top may name it.
 #![tactic(auto)]
 
 mod error;

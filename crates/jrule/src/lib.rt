@@ -1,4 +1,24 @@
-//! The typing rule (JVMS 4.10.1.9): the frame behind an instruction, by the frame before it.
+//! The typing rule of instructions (JVMS 4.10.1.9): the frame behind an instruction, or none. Definitions go by the names of classes,
+//! code by numbers. The checker asks it once an instruction.
+//!
+//! - `Here`: what the rule has to know of a place.
+//! - `Effects`, `Uses`: what is wanted of operands and what is given, one table, kept apart from frames so that the machine's step can
+//!   read it.
+//! - `Operands`: taking and giving.
+//! - `Straight`, `Locals`, `Moves`, `Arrays`, `Objects`: the groups.
+//! - `Rule`: which group says it.
+//! - `Forms`: the same by an instruction's form and the pool.
+//! - `News`, `Further`, `Precise`: what the rule doesn't depend on.
+//! - `Seen`, `Filled`, `Slots`, `Swaps`: frames by number.
+//!
+//! Proved: `rule` answers the frame that the rule gives to the frame of names that a frame of numbers stands for, and none where it
+//! gives none; so does each group's call. `form_law`: the rule by form is the rule of the instruction by number. `Locals` keeps the
+//! locals up to the last that was set, and contracts see all of them. `news_law`: of a method's `new`s the rule asks what the one at a
+//! place makes. `local_law`: where the rule gives a frame, it gives the same one with further locals and more room on the stack.
+//! `precise_law`: behind a frame of more precise types it gives one of more precise types, in programs whose classes stand in order.
+//! Two dozen small frames are theorems beside it.
+//!
+//! Rooms of checking, the machine's definition and the machine may name it.
 #![tactic(auto)]
 
 mod arrays;

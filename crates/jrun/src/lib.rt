@@ -1,4 +1,14 @@
-//! The run of a machine, step by step, and what it writes.
+//! The run of a machine, whatever it is. `Stepping` is a machine that is run by stretches of steps, of which none but the last tells
+//! anything, as a trait; `run` writes a line for each event and one for the end.
+//!
+//! - `Coming`: what a step and what a stretch of steps came to, by what the definition's steps come to; runs that begin.
+//! - `Running`: some steps of a run.
+//!
+//! Proved: `run` writes exactly the text of the definition's run after so many steps and answers its end, `Bound` where it hasn't
+//! ended, `Stuck` where a state has no step; at a fault a front of it went out, and a fault of writing is told only where one was
+//! counted.
+//!
+//! Rooms of the machine may name it.
 #![tactic(auto)]
 
 mod running;

@@ -1,4 +1,20 @@
-//! What the library's members do that ask nothing of access control, by numbers: one function a member, from the operands of its call.
+//! What the library's members do that ask nothing of access control, and what constants push, by numbers: one function a member, from the
+//! operands that its call took: String's `length`, `charAt`, `equals` and `concat`, what PrintStream prints, StringBuilder, whose pieces
+//! are gathered where its text is asked for, Object's constructor, Throwable's constructors and `getMessage`, and constants, of which a
+//! string is made when it is first loaded.
+//!
+//! - `Rans`: what a call of the library came to.
+//! - `HeapTexts`: the texts of the heap, and new ones.
+//! - `Shown`, `Printed`: what values are printed as.
+//! - `HeapBuilders`: builders of the heap, and the pieces that they hold.
+//! - `Constants`: strings that are made, constants and others.
+//! - `Messages`: the messages of objects that can be thrown.
+//!
+//! Proved: each function is the row that jmachine's definition names for its member, for whatever the heap stands for, and keeps what holds
+//! of the pieces of builders and of the objects' cells. `cells_laws`: the cells that some of them want, a builder's for its last piece and
+//! those for messages, follow from that.
+//!
+//! Rooms of the machine may name it.
 #![tactic(auto)]
 
 mod builders;

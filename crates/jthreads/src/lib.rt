@@ -1,4 +1,14 @@
-//! Guest threads: which of them runs next, and the table of them.
+//! Guest threads: which of them runs next (`pick`), and the table of them (`Threads`), which contracts see as the list of threads by
+//! their numbers. The machine's threads (`jguests`) stand on it.
+//!
+//! - `Schedule`: the number at a place of the schedule, and the thread that it picks.
+//! - `Table`: a thread as started, ended, waits for; the runnable numbers; the table after each call.
+//!
+//! Proved: `pick` is the schedule's pick, None exactly where no thread is runnable; each call changes the table by one equation;
+//! `thread_laws`: the runnable numbers rise and are exactly those of runnable threads, a thread that was never started isn't among
+//! them, and after the end of a thread nobody waits for it.
+//!
+//! Rooms of the machine's definition and the machine may name it, and tests.
 #![tactic(auto)]
 
 mod laws;

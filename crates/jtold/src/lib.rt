@@ -1,4 +1,11 @@
-//! Which objects of a machine's heap may be told a message.
+//! Which objects of the machine's heap may be told a message: a law over jlink, jobjs and jtexts, without code.
+//!
+//! - `Telling`: which calls of the library give a message, and what is said of their objects.
+//!
+//! Proved: `told_law`: in a program that links and whose parts are class files, where the operands of a call serve that comes to a
+//! constructor of what can be thrown, its object has a place for a message, so that jtexts' constructors may be called.
+//!
+//! Rooms of the machine may name it.
 #![tactic(auto)]
 
 ghost use Rattle.jtold.specs.Telling.{TellsWhatMay};

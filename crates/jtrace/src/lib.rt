@@ -1,4 +1,10 @@
-//! What a run tells, and the lines that it is written in.
+//! Events and ends of a run, and their lines, without memory.
+//!
+//! - `Lines`: the line of each event and of each end, the text of a run, the parts of a check's line.
+//!
+//! Proved: `write_event` and `write_end` write exactly the line, or a front of it.
+//!
+//! Rooms of the machine's definition, the machine, jobs and the top may name it, and tests.
 #![tactic(auto)]
 
 mod event;

@@ -4,6 +4,8 @@
 //! the content of a StackMapTable, `code` and the instructions of a method, `class` and a whole class file. The stored input has
 //! the distinct parts of class files that were made outside this repository, these class files, and some that a Java compiler
 //! made: with inner classes, synthetic members, signatures, annotations, line numbers and constants of each kind.
+//!
+//! No room names it.
 #![tactic(auto)]
 
 mod trip;

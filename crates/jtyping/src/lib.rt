@@ -1,4 +1,17 @@
-//! Which programs are well typed (JVMS 4.10.1.6): the tests in their order, the demand on a list of frames, and that the two say the same.
+//! Which programs are well typed (JVMS 4.10.1.6), as definitions that the checker and the driver share, and their laws, which proofs
+//! above cite.
+//!
+//! - `Methods`: what typing has to know of a method: its class, the one above, its parameters, what its `new`s make, which handlers
+//!   cover a place.
+//! - `Declared`: the frames that a method declares, in full, by the names of their types, and what is asked of them.
+//! - `Typing`: the tests in their order, and the first place with one that fails (`type_fault`).
+//! - `Typed`: the same as a demand on a whole list of frames.
+//!
+//! Proved: `typing_law`: no test fails in a program exactly where each instruction of its methods can be given a frame so that these
+//! fit one another. `frames_law`: these frames are no others, each instruction has one, and it is the declared one where one is
+//! declared. `leading_law` and `number_law`: the frame behind an instruction fits wherever it leads, by places and by numbers.
+//!
+//! Rooms of checking, the machine, moving, jobs and the top may name it.
 #![tactic(auto)]
 
 mod laws;

@@ -1,5 +1,31 @@
-//! The whole machine by numbers: each step does what the machine's definition does, by the rules of the guard that answers what it asks.
-//! What has much to drop is dropped by a call: a drop at an exit of a function is proved there, with all its parts.
+//! The whole machine by numbers: one step of whichever kind, and the run, for any guard (`jguard`) that answers what it asks of access
+//! control.
+//!
+//! - `Calls`: what a call of the library asks of access control (`AsksFor`), by which its step is chosen.
+//! - `Engines`: what holds between steps of a machine and a guard (`IsEngine`): the machine is ready, its frames' marks are the
+//!   guard's, and there is a state for which its own stands.
+//! - `Grounds`: what stands as long as a program runs (`IsGround`), and how a run begins: by numbers for all rules that hand `main` the
+//!   same (`IsBegun`), and by the guard's rules (`Starts`), or the heap has too few cells.
+//! - `Courses`: where the run of an engine is: its end, if it has one (`end_of`), whether a step found no memory (`is_lost`), the
+//!   states for which it stands (`Stands`), what is so of the threads of each such state (`AreLive`), what a step of the guard's rules
+//!   comes to (`steps`), and what holds of it between steps (`Holds`). That is the invariant of `Engine`, whose `step` asks only that
+//!   the run has not ended; contracts see an engine as its guard and where its run is (`Coursed`).
+//!
+//! Proved: `advance` comes to jmachine's step by all rules by numbers that answer as the guard did what the step asks, be it an
+//! instruction (`jexecute`), a call of the library (`jcallplain`, `jcallcheck`, `jcallcontext`, `jcallthread`) or the beginning of a
+//! thread (`jbegin`); so a machine and its guard (`Moving`) are a machine that `jrun` runs, whose steps are jmachine's by the guard's
+//! own rules: as many quick ones (`jexecute`'s `hasten`) as there are, and one that `advance` makes. `run` writes exactly the text of
+//! jmachine's run by the guard's rules under the plan's heap, depth and steps, answers its end, and at a fault leaves a front of the
+//! text.
+//!
+//! Proved of `Engine`, which others step, over a `Ground` that they keep: `open` stands for jmachine's first state by the guard's
+//! rules, or has ended as `HeapFull`, exactly where the plan's heap is below the opening's charge; `step` comes to jmachine's step for
+//! each state for which the engine stands, and `ended` is the end that a step was; in each state for which it stands, at the beginning
+//! and behind each step, the running thread is runnable and no thread waits for one that has ended; the guard's rules stay, its numbers
+//! and marks keep what they stand for, where the step asks something the guard was asked it once, and where it asks nothing the guard
+//! is as before; where a step found no memory each later one finds none. `guard` lends the guard as it stands.
+//!
+//! Rooms of the machine may name it.
 #![tactic(auto)]
 
 mod advancing;

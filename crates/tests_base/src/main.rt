@@ -1,6 +1,10 @@
 //! Asks what a machine stands on (formats, texts, shelves and sinks, operations, the heap, what is remembered, lists one on the other, the
 //! library, types, threads and events) what the lines of the input ask, and tells which answers aren't those that the input says. A line
 //! is a word, more words, ` | ` and the answer. The input says what the words are.
+//!
+//! - `Few`: a program of few classes, over which types are asked.
+//!
+//! No room names it.
 #![tactic(auto)]
 
 mod events;

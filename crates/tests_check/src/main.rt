@@ -14,6 +14,8 @@
 //! - `ask QUESTION | ANSWER`: what is asked of the program of those classes, by its word and the words behind it; `link` is which rule of
 //!   linking is broken first.
 //! - `# ..` and empty lines say nothing.
+//!
+//! No room names it.
 #![tactic(auto)]
 
 mod asked;

@@ -1,5 +1,7 @@
 //! Asks the crates of constant pools, stack maps, instructions and class files what the lines of the input ask, and tells how many answers
 //! of each section are those that the input says, and which aren't. The input's head says what its columns are.
+//!
+//! No room names it.
 #![tactic(auto)]
 
 mod classes;

@@ -1,4 +1,6 @@
 //! Moves methods from the input, and tells which answers aren't those that the input says. The input says what its lines are.
+//!
+//! No room names it.
 #![tactic(auto)]
 
 mod asking;

@@ -1,6 +1,8 @@
 //! Asks the crates of permissions, policy files, code sources, what a policy grants to them, security contexts, jobs, command lines and
 //! kept stacks what the lines of the input ask, and tells how many answers of each section are those that the input says, and which
 //! aren't. The input's head says what its columns are.
+//!
+//! No room names it.
 #![tactic(auto)]
 
 mod contexts;

@@ -1,4 +1,6 @@
 //! What the programs of tests share: how the fields of their rows are spelled, and how their rows are counted.
+//!
+//! Programs of tests alone name it.
 #![tactic(auto)]
 
 mod section;

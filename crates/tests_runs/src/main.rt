@@ -4,6 +4,8 @@
 //! the file `NAME.text`. The input's head says what may stand behind it. Lines `# ..` and empty ones say nothing.
 //!
 //! Then it does what its own words say, as the program of this repository does, and ends with the number with which that ends.
+//!
+//! No room names it.
 #![tactic(auto)]
 
 mod asking;
