@@ -31,7 +31,8 @@ use Rattle.jrule.specs.Objects.{all_replaced, init, init_of, init_on, is_it, is_
 use Rattle.jrule.specs.Operands.{exchanged, given, pushed, taken}
 use Rattle.jrule.specs.Rule.{called, used}
 use Rattle.jrule.specs.Straight.{flow}
-use Rattle.jcheck.proofs.Resting.{Rests, by_array_rests, exchanged_rests, flow_rests, given_rests, increment_rests, load_rests, move_rests, pushed_rests, taken_rests}
+use Rattle.jcheck.specs.Keeping.{Rests}
+use Rattle.jcheck.proofs.Resting.{by_array_rests, exchanged_rests, flow_rests, given_rests, increment_rests, load_rests, move_rests, pushed_rests, taken_rests}
 
 -- a frame of as many locals, if there is one
 abbrev pub Keeps : Frame → Option Frame → Type 0

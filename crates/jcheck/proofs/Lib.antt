@@ -16,4 +16,5 @@ pub mod Reversed
 pub mod Ruling
 pub mod Searching
 pub mod Serving
+pub mod Stored
 pub mod Walking

@@ -37,14 +37,9 @@ use Rattle.jrule.specs.Locals.{is_whole, load_from, local, passes}
 use Rattle.jrule.specs.Moves.{move, shuffled}
 use Rattle.jrule.specs.Operands.{below, exchanged, given, pushed, taken, with_room, with_stack}
 use Rattle.jrule.specs.Straight.{flow}
-use Rattle.jcheck.specs.Keeping.{is_quiet}
+use Rattle.jcheck.specs.Keeping.{Rests, is_quiet}
 
--- a frame with the same locals and flag, if there is one
-abbrev pub Rests : Frame → Option Frame → Type 0
-Rests f None = Unit {0}
-Rests f (Some g) = (g.locals ≡ f.locals) × (g.flag ≡ f.flag)
-
-if_rests : (f : Frame) (b : Bool) (x : Option Frame) → Rests f x → Rests f (if b then x else None)
+pub if_rests : (f : Frame) (b : Bool) (x : Option Frame) → Rests f x → Rests f (if b then x else None)
 if_rests f true x h = h
 if_rests f false x h = tt
 

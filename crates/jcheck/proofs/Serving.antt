@@ -25,8 +25,7 @@ use Rattle.jcheck.specs.declared.held.Known.{Known}
 use Rattle.jcheck.specs.declared.held.Served.{Served}
 use Rattle.jcheck.specs.declared.walk.Checking.{Checking}
 use Rattle.jcheck.specs.Checking.{IsCounted, IsHeld, frames_of, method_of, program_of}
-use Rattle.jcheck.specs.Keeping.{AreFrom, IsKnown, arrived, bare, held_seen, is_quiet, is_served, none_begins, unknown}
-use Rattle.jcheck.proofs.Resting.{Rests, form_rests}
+use Rattle.jcheck.specs.Keeping.{AreFrom, IsKnown, Rests, arrived, bare, held_seen, is_served, none_begins, unknown}
 use Rattle.jcheck.proofs.Walking.{told}
 
 parts : (a b : Bool) → (a && b) ≡ true → (a ≡ true) × (b ≡ true)
@@ -110,21 +109,16 @@ nearest_more hs i d at next now lt less near e =
 
 -- ---- behind an instruction
 
-known_moved : (p : Program) (m : Method) (ws : List Written) (f g : Frame) (k : Known) → Rests f (Some g) → IsKnown p m ws f.locals f.flag k → IsKnown p m ws g.locals g.flag k
+pub known_moved : (p : Program) (m : Method) (ws : List Written) (f g : Frame) (k : Known) → Rests f (Some g) → IsKnown p m ws f.locals f.flag k → IsKnown p m ws g.locals g.flag k
 known_moved p m ws f g k same known =
     subst (λ (b : Bool). IsKnown p m ws g.locals b k) (sym same.1) (subst (λ (ls : List VType). IsKnown p m ws ls f.flag k) (sym same.0) known)
 
-none_known : (p : Program) (m : Method) (ws : List Written) (locals : List VType) (flag : Bool) (k : Known) → k ≡ unknown → IsKnown p m ws locals flag k
+pub none_known : (p : Program) (m : Method) (ws : List Written) (locals : List VType) (flag : Bool) (k : Known) → k ≡ unknown → IsKnown p m ws locals flag k
 none_known p m ws locals flag k e = subst (λ (k : Known). IsKnown p m ws locals flag k) (sym e) (record { from = tt; served = tt })
 
-by_quiet : (p : Program) (m : Method) (ws : List Written) (here : Here) (pool : List Entry) (form : Form Switch) (f g : Frame) (k : Known) (quiet : Bool) → is_quiet form ≡ quiet → Some g ≡ by_form p here pool form f
-    → IsKnown p m ws f.locals f.flag k → (is_quiet form ≡ false → k ≡ unknown) → IsKnown p m ws g.locals g.flag k
-by_quiet p m ws here pool form f g k true q e known loud = known_moved p m ws f g k (subst (Rests f) (sym e) (form_rests p here pool form f q)) known
-by_quiet p m ws here pool form f g k false q e known loud = none_known p m ws g.locals g.flag k (loud q)
-
 pub known_behind : (p : Program) (m : Method) (ws : List Written) (here : Here) (pool : List Entry) (form : Form Switch) (f : Frame) (g : FrameRef) (r : Option FrameRef) (k : Known) → r ≡ Some g → option_map (seen p) r ≡ by_form p here pool form f
-    → IsKnown p m ws f.locals f.flag k → (is_quiet form ≡ false → k ≡ unknown) → IsKnown p m ws (seen p g).locals g.flag k
-known_behind p m ws here pool form f g r k is e known loud = by_quiet p m ws here pool form f (seen p g) k (is_quiet form) refl (sym (ap (option_map (seen p)) is) ∙ e) known loud
+    → ((here : Here) (pool : List Entry) (g : Frame) → by_form p here pool form f ≡ Some g → IsKnown p m ws g.locals g.flag k) → IsKnown p m ws (seen p g).locals g.flag k
+known_behind p m ws here pool form f g r k is e behind = behind here pool (seen p g) (sym e ∙ ap (option_map (seen p)) is)
 
 -- ---- what arrives
 

@@ -1,5 +1,5 @@
 -- What is known of the frame that a walk holds, so that what was tested isn't tested again.
-use Rattle.std.specs.Prelude.{◌≡◌, ℕ, pos, Bool, true, false, ◌&&◌, ◌||◌, List, [], Option, Some, None, IfSome, nat_le, if◌then◌else◌}
+use Rattle.std.specs.Prelude.{◌≡◌, ℕ, pos, Bool, true, false, ◌&&◌, ◌||◌, List, [], Option, Some, None, IfSome, nat_le, if◌then◌else◌, ⊤}
 use Rattle.std.specs.List.{list_all}
 use Rattle.jcode.specs.declared.form.Form.{Form}
 use Rattle.jcode.specs.declared.form.Form.TheVariants as forms
@@ -33,6 +33,11 @@ is_quiet (forms.Local (Move Store kind n)) = false
 is_quiet (forms.Pool (New i)) = false
 is_quiet (forms.Pool (Call Special i)) = false
 is_quiet form = true
+
+-- a frame with the same locals and flag, if there is one
+abbrev pub Rests : Frame → Option Frame → Type 0
+Rests f None = ⊤
+Rests f (Some g) = (g.locals ≡ f.locals) × (g.flag ≡ f.flag)
 
 -- ---- locals and a flag
 

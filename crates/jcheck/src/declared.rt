@@ -63,7 +63,7 @@ impl Model for Declared {
 
 // ---- what fits
 
-fn is_long(p: &NamedProgram, kind: TypeRef) -> bool
+pub(crate) fn is_long(p: &NamedProgram, kind: TypeRef) -> bool
     ensures { result ≡ Frames.is_long (named p.now kind) }
 {
     matches!(kind, TypeRef::Long)

@@ -83,3 +83,14 @@ pub(crate) fn is_quiet(op: &Op) -> bool
 {
     is_quiet_form(&form_of(op))
 }
+
+/// Whether two branches, where there are any, are the same.
+pub(crate) fn is_same(one: Option<i32>, other: Option<i32>) -> bool
+    ensures { result ≡ true → one ≡ other }
+{
+    match (one, other) {
+        (None, None) => true,
+        (Some(one), Some(other)) => one == other,
+        _ => false,
+    }
+}

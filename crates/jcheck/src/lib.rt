@@ -22,6 +22,7 @@ mod held;
 mod method;
 mod news;
 mod reading;
+mod storing;
 mod verdict;
 mod walk;
 

@@ -1,9 +1,12 @@
-ghost use Rattle.std.specs.Prelude.{◌≡◌, ◌≤◌, ◌||◌, ◌⊎◌, IfOk, IfSome, Some, false, option_map, pos, slice_get, true};
+ghost use Rattle.std.specs.Prelude.{◌≡◌, ◌≤◌, ◌||◌, ◌⊎◌, List, IfOk, IfSome, Some, false, option_map, pos, slice_get, true};
 ghost use Rattle.std.specs.List.{list_all, list_any};
 ghost use Rattle.jcode.specs.Forms as forms;
 ghost use Rattle.jcode.specs.Forms.{branches, form};
 ghost use Rattle.juses.specs.Types.{named};
+ghost use Rattle.jtypes.specs.Frames.{Frame};
+ghost use Rattle.jpool.specs.declared.entry.Entry.{Entry};
 ghost use Rattle.jrule.specs.Forms.{by_form};
+ghost use Rattle.jrule.specs.Here.{Here};
 ghost use Rattle.jrule.specs.Seen.{seen};
 ghost use Rattle.jtyping.specs.Declared.{declared_at};
 ghost use Rattle.jtyping.specs.Methods;
@@ -14,9 +17,10 @@ ghost use Rattle.jcheck.specs.Keeping as keeping;
 ghost use Rattle.jcheck.specs.Keeping.{IsKnown, arrived, held_seen, is_served, none_begins, unknown};
 
 use crate::declared::Declared;
-use crate::held::{Arriving, Held, Known, Served, is_quiet, spans};
+use crate::held::{Arriving, Held, Known, Served, is_same, spans};
 use crate::method::MethodRef;
 use crate::news::MethodNews;
+use crate::storing::rests;
 use jcode::{Form, Handler, Placed, Switch, branch_at, branch_count, form_of, goes_on};
 use jlib::{LibClass, Thrown};
 use jprogram::{ClassRef, NamedProgram};
@@ -225,17 +229,17 @@ impl<'a> Checking<'a> {
         }
     }
 
-    /// What is known behind an instruction by a frame before it that serves its handlers. It holds before it, and is nothing where the
-    /// instruction may change locals or the flag.
+    /// What is known behind an instruction by a frame before it that serves its handlers: nothing, where the instruction may change locals
+    /// or the flag.
     fn known_behind(&self, o: &Placed, f: &Held) -> Known
         requires held { IsHeld self.now f.now }
         requires serves { Typing.handlers_fit (program_of self.now) (method_of self.now) (frames_of self.now) o.now.at
             (held_seen (program_of self.now) f.now) ≡ true }
-        ensures known { IsKnown (program_of self.now) (method_of self.now) (frames_of self.now)
-            (held_seen (program_of self.now) f.now).locals f.now.frame.flag result }
-        ensures loud { keeping.is_quiet (form o.now.op) ≡ false → result ≡ unknown }
+        ensures { (here : Here) (pool : List Entry) (g : Frame)
+            → by_form (program_of self.now) here pool (form o.now.op) (held_seen (program_of self.now) f.now) ≡ Some g
+            → IsKnown (program_of self.now) (method_of self.now) (frames_of self.now) g.locals g.flag result }
     {
-        if !is_quiet(&o.op) {
+        if !rests(self.p, &o.op, &f.frame) {
             return Known {
                 from: None,
                 served: None,
@@ -293,14 +297,13 @@ impl<'a> Checking<'a> {
         Ok(behind)
     }
 
-    /// Whether the frame behind an instruction serves where its branch of a number leads, if it has one.
-    fn branch_fits(&self, at: u32, form: &Form<&Switch>, i: usize, g: &Held) -> bool
+    /// Whether the frame behind an instruction serves where a branch of it leads, if it is one.
+    fn branch_fits(&self, at: u32, by: Option<i32>, g: &Held) -> bool
         requires { IsHeld self.now g.now }
         ensures { result
-            ≡ checking.branch_test (Typing.branch_fits (program_of self.now) (frames_of self.now) at (held_seen (program_of self.now) g.now))
-            (slice_get (branches (forms.seen form.now)) i) }
+            ≡ checking.branch_test (Typing.branch_fits (program_of self.now) (frames_of self.now) at (held_seen (program_of self.now) g.now)) by }
     {
-        match branch_at(form, i) {
+        match by {
             Some(by) => self.declared.leads_in(
                 self.p,
                 &g.frame,
@@ -311,6 +314,20 @@ impl<'a> Checking<'a> {
         }
     }
 
+    /// The same, where the frame serves another branch. One that leads there too isn't tested again.
+    fn branch_fits_too(&self, at: u32, other: Option<i32>, by: Option<i32>, g: &Held) -> bool
+        requires held { IsHeld self.now g.now }
+        requires other { checking.branch_test
+            (Typing.branch_fits (program_of self.now) (frames_of self.now) at (held_seen (program_of self.now) g.now)) other ≡ true }
+        ensures { result
+            ≡ checking.branch_test (Typing.branch_fits (program_of self.now) (frames_of self.now) at (held_seen (program_of self.now) g.now)) by }
+    {
+        if is_same(other, by) {
+            return true;
+        }
+        self.branch_fits(at, by, g)
+    }
+
     /// Whether the frame behind an instruction serves where its branches lead.
     fn branches_fit(&self, at: u32, form: &Form<&Switch>, g: &Held) -> bool
         requires { IsHeld self.now g.now }
@@ -318,10 +335,13 @@ impl<'a> Checking<'a> {
             ≡ list_all (Typing.branch_fits (program_of self.now) (frames_of self.now) at (held_seen (program_of self.now) g.now))
             (branches (forms.seen form.now)) }
     {
+        let mut fitting = None;
         for i in 0..branch_count(form) {
-            if !self.branch_fits(at, form, i, g) {
+            let by = branch_at(form, i);
+            if !self.branch_fits_too(at, fitting, by, g) {
                 return false;
             }
+            fitting = by;
         }
         true
     }

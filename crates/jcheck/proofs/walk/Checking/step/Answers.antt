@@ -13,5 +13,5 @@ leave-requires c =
     record {
       count = told (IsCounted c.args.self.now) c.in_ok-frame.field-0 c.in-Some.frame c.in_ok-frame.ensures.count c.in-Some.is;
       known = known_behind p m (frames_of c.args.self.now) (here_of p m c.args.o.now.at) m.pool (form c.args.o.now.op) (held_seen p c.args.f) c.in-Some.frame c.in_ok-frame.field-0 c.known_behind-known.result
-          c.in-Some.is c.in_ok-frame.ensures.seen c.known_behind-known.ensures.known c.known_behind-known.ensures.loud;
+          c.in-Some.is c.in_ok-frame.ensures.seen c.known_behind-known.ensures;
     }
