@@ -21,6 +21,7 @@ use Rattle.jmove.specs.Lines.{case_with, distance, switch_with}
 use Rattle.jmoved.specs.Numbers.{index_of, moved, new_place}
 use Rattle.jmoved.proofs.Leading.{jumps, leads, within}
 use Rattle.jmoved.proofs.Ranging.{there}
+use Rattle.jprogram.proofs.Settling.{clash}
 use Rattle.juses.specs.Instructions.{Instruction, Jump, Switch, Test, cases, default, jump, keyed, switch, target}
 use Rattle.jlink.proofs.Having.{map_is, then_is}
 use Rattle.jstands.specs.Expanding.{led_case}
@@ -40,9 +41,6 @@ aimed (d ∷ is) at by n e =
     record { one = one; stands = slice_get-get_or (d ∷ is) n d p.0; place = sym ((Decides-int_eq (pos one.at) (pos at +ℤ by)).0 p.1) }
 
 -- ---- places as numbers
-
-clash : {P : Type 0} (b : Bool) → b ≡ true → b ≡ false → P
-clash b h k = absurd cc
 
 no_int : (a b : ℕ) → ((a ≡ b) → ⊥) → int_eq (pos a) (pos b) ≡ false
 no_int a b h = elim (cases_Bool (int_eq (pos a) (pos b))) [ inl hit ↦ absurd (let e : pos a ≡ pos b = (Decides-int_eq (pos a) (pos b)).0 hit in h (omega (arith, ints))) | inr miss ↦ miss ]

@@ -43,6 +43,7 @@ use Rattle.jrewrite.proofs.Coding.{stands_for}
 use Rattle.jrewrite.proofs.Overriding.{moved_at, pair_at}
 use Rattle.jrewrite.proofs.Putting.{AreNumbered, IsNumber, IsSecurity, numbers_on, security_on}
 use Rattle.jrewrite.proofs.Walking.{AllPut, AttributePut, IsPutCode, MethodPut, MethodsPut, class_put, known_of}
+use Rattle.jrewrite.proofs.Declaring.{first_false}
 
 -- ---- the code of a method in a class
 
@@ -67,10 +68,6 @@ no_fault_is : {F : Type 0} (bad : Bool) (kind : F) → IsTrue (is_good (if bad t
 no_fault_is true kind h = absurd cc
 no_fault_is false kind h = refl
 
-first_no : (a b : Bool) → (a || b) ≡ false → a ≡ false
-first_no true b h = absurd cc
-first_no false b h = refl
-
 pub has_bytes : (pool : List Entry) (b : CodeBody) → IsTrue ((code_content pool).fits b) → length (jcode.code.spell b.ops) == 0 ≡ false
 unfolding code_content ops
 has_bytes pool b fit =
@@ -78,7 +75,7 @@ has_bytes pool b fit =
     let rest = second_true (u2.fits b.max_locals) _ (second_true (u2.fits b.max_stack) _ fit) in
     let here = first_true ((block code_length kinds.Truncated (ops pool)).fits b.ops) ((behind_ops pool b.ops).fits (b.handlers, b.attributes)) rest in
     let size = second_true ((ops pool).fits b.ops) (code_length.fits n) here in
-    first_no (n == 0) (nat_lt 65535 n) (no_fault_is (n == 0 || nat_lt 65535 n) kinds.Code (second_true (u4.fits n) (is_good (length_fault n)) size))
+    first_false (n == 0) (nat_lt 65535 n) (no_fault_is (n == 0 || nat_lt 65535 n) kinds.Code (second_true (u4.fits n) (is_good (length_fault n)) size))
 
 pub first_there : (is : List Placed) (n : ℕ) → Laid 0 is n → n == 0 ≡ false → (i : Placed) × (slice_get is 0 ≡ Some i)
 first_there [] n h k =

@@ -36,7 +36,8 @@ use Rattle.jrewrite.proofs.Plainly.{is_plain}
 use Rattle.jrewrite.proofs.Targets.{Change, Target, changed_desc, referred_is}
 use Rattle.jstands.specs.Expanding.{handed, moved_member}
 use Rattle.jcoded.proofs.Resolved.{change_resolved, field_resolved, method_resolved}
-use Rattle.jcoded.proofs.Types.{class_type_same, typed_handed, typed_same}
+use Rattle.jseen.proofs.Types.{typed_same}
+use Rattle.jcoded.proofs.Types.{class_type_same, typed_handed}
 
 -- ---- what a reference says
 

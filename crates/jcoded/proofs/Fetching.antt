@@ -29,6 +29,7 @@ use Rattle.jmovefile.proofs.Bodying.{begin_of, new_body, set_of}
 use Rattle.jmovefile.proofs.Pooling.{ops_named}
 use Rattle.jprogram.specs.declared.member.MethodId.{MethodId}
 use Rattle.jprogram.specs.Classes.{Program}
+use Rattle.jprogram.proofs.Settling.{or_right}
 use Rattle.juses.specs.Instructions as uses
 use Rattle.juses.specs.Instructions.{Always, Array, Instruction, Jump, Local, Return, Simple, Stack, Switch, Test, Throw, Used, goes_on, instruction, instruction_at}
 use Rattle.jlink.proofs.Having.{then_is}
@@ -96,10 +97,6 @@ gets p m c b t n i it at means followed =
     ∙ ap (λ (t : Bool). if t then Some it else None) (ap (λ (o : Option CodeBody). not (goes_on it) || has_next o n) (code_there p m c b t) ∙ followed)
 
 -- ---- where code goes on
-
-or_true : (a b : Bool) → b ≡ true → (a || b) ≡ true
-or_true true b h = refl
-or_true false b h = h
 
 stopped_jump : (place : Place) (to : ℕ → ℕ) (test : Test) (n : ℕ) → goes_on (Jump test n) ≡ false → (j : ℕ) (x : Instruction) → slice_get (expanded place to (Jump test n)) j ≡ Some x → goes_on x ≡ false
 stopped_jump place to Always n h zero x at = let same : Jump Always (to n) ≡ x = cc in ap goes_on (sym same)
@@ -229,7 +226,7 @@ module _ (p : Program) (m : MethodId) (b : CodeBody) (r : Both p m b) where
   goes_where n j i it y x lt at followed = elim (cases_Bool (goes_on it)) [
     | inl on ↦ (
         let more : nat_lt (n + 1) (length b.ops) ≡ true = sym (ap (λ (t : Bool). not t || nat_lt (n + 1) (length b.ops)) on) ∙ followed in
-        or_true (not (goes_on y)) (nat_lt (number n + j + 1) (length new)) (next_there n j i it x lt more)
+        or_right (not (goes_on y)) (nat_lt (number n + j + 1) (length new)) (next_there n j i it x lt more)
         )
     | inr off ↦ ap (λ (t : Bool). not t || nat_lt (number n + j + 1) (length new)) (stopped place number it off j y at)
   ]
@@ -270,4 +267,4 @@ module _ (p : Program) (m : MethodId) (b : CodeBody) (r : Both p m b) where
       let one = nth (Means q d.pool new to 0) begin (prologue (slots c r.method) place) first_row j y at in
       let stands = begun begin s r.ms b.ops j one.op one.there in
       let less : j < 4 = within begin j one.op one.there in
-      gets q m d now r.new j (standing to 0 0 begin j one.op) y stands (one.is (reach 0 (take j begin))) (or_true (not (goes_on y)) (nat_lt (j + 1) (length new)) (begun_next j less))
+      gets q m d now r.new j (standing to 0 0 begin j one.op) y stands (one.is (reach 0 (take j begin))) (or_right (not (goes_on y)) (nat_lt (j + 1) (length new)) (begun_next j less))

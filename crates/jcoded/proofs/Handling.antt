@@ -3,9 +3,7 @@ use Rattle.std.proofs.Common.{◌≡◌, ℕ, suc, ◌+◌, ◌<◌, Bool, true,
 use Rattle.std.specs.Prelude.{IsTrue, option_and_then, option_map, slice_get, nat_le, nat_lt, ◌||◌, ◌==◌, ◌↔◌, if◌then◌else◌}
 use Rattle.std.specs.List.{find, list_all}
 use Rattle.std.proofs.lemmas.Bool.{le-leb, leb-true, lt-ltb, ltb-true}
-use Rattle.jformat.specs.Format.{is_good, ◌·◌}
 use Rattle.jformat.proofs.Steps.{first_true, second_true}
-use Rattle.jpool.specs.declared.entry.Entry.{Entry}
 use Rattle.jpool.specs.Pools.{is_class}
 use Rattle.jpool.proofs.PoolLaws.{at_index}
 use Rattle.jcode.specs.declared.op.Handler.{Handler}
@@ -13,18 +11,16 @@ use Rattle.jcode.specs.declared.op.Placed.{Placed}
 use Rattle.jcode.specs.Instructions as jcode
 use Rattle.jclass.specs.declared.class.ClassParts.{ClassParts}
 use Rattle.jclass.specs.declared.class.CodeBody.{CodeBody}
-use Rattle.jclass.specs.declared.fault.ClassFault.TheVariants.{Index}
-use Rattle.jclass.specs.Codes.{handler, handler_parts, target_fault}
+use Rattle.jclass.specs.Codes.{handler}
 use Rattle.jclass.specs.Rules.{names_caught}
 use Rattle.jclass.specs.Stored.{Leads}
 use Rattle.jclass.proofs.Stored.{code_fits, code_leads}
-use Rattle.jclass.specs.Basics.{index, u2}
+use Rattle.jclass.specs.Basics.{u2}
 use Rattle.jmove.specs.declared.method.Expand.{Expand}
 use Rattle.jmove.specs.declared.method.Setting.{Setting}
 use Rattle.jmove.specs.Moved.{expansion, moved_handler}
 use Rattle.jmove.proofs.Coding.{code_laid}
 use Rattle.jmoveclass.specs.Moved.{moved_class}
-use Rattle.jmoveclass.proofs.Keeping.{good_is}
 use Rattle.jmoved.specs.Numbers.{IsNth, new_place, standing}
 use Rattle.jmoved.specs.Ranges.{Covers, IsRange}
 use Rattle.jmoved.proofs.Leading.{jumps, numbered}
@@ -39,10 +35,12 @@ use Rattle.jprogram.specs.declared.member.MethodId.{MethodId}
 use Rattle.jprogram.specs.Classes.{Program}
 use Rattle.juses.specs.Instructions.{Instruction, body_in}
 use Rattle.juses.specs.Meanings.{as_class, class_at}
+use Rattle.jrule.proofs.Both.{and_true}
 use Rattle.jmachine.specs.Steps as steps
 use Rattle.jmachine.specs.Unwinding.{catches, covers, handler_at, handler_from, handler_in, is_caught, number_at, takes}
 use Rattle.jmachine.specs.World.{World, is_instance, world}
 use Rattle.jrewrite.specs.Program.{moved}
+use Rattle.jrewrite.proofs.Bodies.{caught}
 use Rattle.jrewrite.proofs.Coding.{stays_by}
 use Rattle.jstands.specs.Expanding.{expanded}
 use Rattle.jstands.specs.Moves.{SameClasses}
@@ -50,16 +48,6 @@ use Rattle.jcoded.proofs.Coded.{Both, IsThere}
 use Rattle.jcoded.proofs.Entries.{entry_same}
 use Rattle.jcoded.proofs.Fetching.{each, fits, got, many, number, place, row_at}
 use Rattle.jcoded.proofs.Instructing.{is_name}
-
--- ---- what a handler names, as it was read
-
-caught : (pool : List Entry) (is : List Placed) (h : Handler) → IsTrue ((handler pool is).fits h) → IsTrue (names_caught pool h.class)
-unfolding handler
-caught pool is h fit =
-    let numbers = first_true ((u2 · u2 · u2 · index (names_caught pool)).fits (handler_parts h)) (is_good (target_fault is (handler_parts h))) fit in
-    let last = second_true (u2.fits h.at) ((index (names_caught pool)).fits h.class)
-    (second_true (u2.fits h.end) ((u2 · index (names_caught pool)).fits (h.at, h.class)) (second_true (u2.fits h.start) ((u2 · u2 · index (names_caught pool)).fits (h.end, (h.at, h.class))) numbers)) in
-    good_is (names_caught pool h.class) Index (second_true (u2.fits h.class) _ last)
 
 -- ---- what a program handles
 
@@ -89,15 +77,11 @@ agreed true b h = sym (h.0 refl)
 agreed false true h = h.1 refl
 agreed false false h = refl
 
-both_true : (a b : Bool) → a ≡ true → b ≡ true → (a && b) ≡ true
-both_true true b h k = k
-both_true false b h k = absurd cc
-
 covering : (h : Handler) (at : ℕ) → covers at h ≡ true → Covers h at
 covering h at e = (leb-true h.start at (first_true (nat_le h.start at) (nat_lt at h.end) e), ltb-true at h.end (second_true (nat_le h.start at) (nat_lt at h.end) e))
 
 covered : (h : Handler) (at : ℕ) → Covers h at → covers at h ≡ true
-covered h at e = both_true (nat_le h.start at) (nat_lt at h.end) (le-leb h.start at e.0) (lt-ltb at h.end e.1)
+covered h at e = and_true (nat_le h.start at) (nat_lt at h.end) (le-leb h.start at e.0) (lt-ltb at h.end e.1)
 
 -- what is found among handlers that were moved, where the tests agree
 found_moved : (to number : ℕ → ℕ) (f : Handler → Option ℕ) (g : Handler → Option ℕ) (t u : Handler → Bool) (hs : List Handler) → ((i : ℕ) (h : Handler) → slice_get hs i ≡ Some h → (t (moved_handler to h) ≡ u h) × (f (moved_handler to h) ≡ option_map number (g h)))

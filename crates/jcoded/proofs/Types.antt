@@ -1,8 +1,7 @@
 -- The types that descriptors and class entries name: in the moved program as in the program, and of a moved descriptor the context besides.
 use Rattle.std.proofs.Common.{◌≡◌, ℕ, Bool, true, false, List, [], ◌∷◌, ◌++◌, Option, Some, None, refl, ap, sym, ◌∙◌}
-use Rattle.std.specs.Prelude.{is_some, not, option_map, codes, ◌||◌, ◌==◌, nat_lt, if◌then◌else◌}
+use Rattle.std.specs.Prelude.{is_some, option_map, codes, ◌||◌, nat_lt, if◌then◌else◌}
 use Rattle.std.specs.List.{list_any}
-use Rattle.std.specs.Str.{byte}
 use Rattle.std.proofs.lemmas.List.{reverse-append}
 use Rattle.jbase.specs.Each.{each_some, put_front}
 use Rattle.jpool.specs.declared.descriptor.Descriptor.{Descriptor}
@@ -13,56 +12,22 @@ use Rattle.jlib.specs.declared.side.Side.TheVariants.{Passing}
 use Rattle.jlib.specs.declared.classes.LibClass.TheVariants as lib
 use Rattle.jlib.proofs.Found.{class_only}
 use Rattle.jmove.specs.Additions.{context_type}
-use Rattle.jtypes.specs.declared.vtype.Name.{Name}
 use Rattle.jtypes.specs.declared.vtype.Element.TheVariants as elements
 use Rattle.jtypes.specs.declared.vtype.VType.{VType}
 use Rattle.jtypes.specs.declared.vtype.VType.TheVariants as types
-use Rattle.jtypes.specs.Described.{element_of}
-use Rattle.jprogram.specs.Classes.{Class, Program, find}
+use Rattle.jprogram.specs.Classes.{Class, Program}
 use Rattle.jprogram.specs.Naming.{class_reserved, desc_reserved, is_reserved, return_reserved, text_reserved, type_reserved}
-use Rattle.juses.specs.Typed.{Called, Typed, called, class_by, class_of, class_type, held, name, return_in, there, type_in, type_of, typed, typed_as}
+use Rattle.juses.specs.Typed.{Called, Typed, called, class_by, class_of, class_type, name, return_in, there, type_in, type_of, typed, typed_as}
 use Rattle.jrewrite.specs.Program.{moved}
 use Rattle.jrewrite.proofs.Declaring.{first_false, second_false}
 use Rattle.jrewrite.proofs.Security.{IsPassing, find_lib}
-use Rattle.jrewrite.proofs.Standing.{IsPlain, missing_name}
+use Rattle.jrewrite.proofs.Standing.{IsPlain}
+use Rattle.jseen.proofs.Types.{found_same, return_same, type_same, types_same}
 
--- ---- the same types
-
-same_not : (a b : Bool) → not a ≡ not b → a ≡ b
-same_not true true h = refl
-same_not true false h = absurd cc
-same_not false true h = absurd cc
-same_not false false h = refl
+-- ---- the same classes
 
 there_same : (p : Program) → IsPlain p → (text : List ℕ) → is_reserved text ≡ false → there (moved p) text ≡ there p text
-there_same p is text plain = ap (λ (b : Bool). if b then Some (name text) else None) (same_not (is_some (find (moved p) text)) (is_some (find p text)) (missing_name p is text plain))
-
-pub type_same : (p : Program) → IsPlain p → (t : FieldType) → type_reserved t ≡ false → type_in (moved p) t ≡ type_in p t
-unfolding type_in
-type_same p is t plain = ap (λ (o : Option Name). option_map (type_of t.depth) (if t.base == byte "L" then option_map elements.Class o else element_of t.base (name t.class))) (there_same p is t.class plain)
-
-types_same : (p : Program) → IsPlain p → (ts : List FieldType) → list_any type_reserved ts ≡ false → each_some (type_in (moved p)) ts ≡ each_some (type_in p) ts
-unfolding each_some
-types_same p is [] plain = refl
-types_same p is (t ∷ ts) plain =
-    ap (λ (o : Option VType). put_front o (each_some (type_in (moved p)) ts)) (type_same p is t (first_false (type_reserved t) (list_any type_reserved ts) plain))
-    ∙ ap (put_front (type_in p t)) (types_same p is ts (second_false (type_reserved t) (list_any type_reserved ts) plain))
-
-return_same : (p : Program) → IsPlain p → (ret : Option FieldType) → return_reserved ret ≡ false → return_in (moved p) ret ≡ return_in p ret
-return_same p is None plain = refl
-return_same p is (Some t) plain = ap (option_map Some) (type_same p is t plain)
-
-typed_by : (p : Program) → IsPlain p → (d : Option Descriptor) → desc_reserved d ≡ false → typed_as (moved p) d ≡ typed_as p d
-typed_by p is None plain = refl
-typed_by p is (Some (descriptors.Field t)) plain = ap held (type_same p is t plain)
-typed_by p is (Some (descriptors.Method ps ret)) plain =
-    ap (λ (o : Option (List VType)). called o (return_in (moved p) ret)) (types_same p is ps (first_false (list_any type_reserved ps) (return_reserved ret) plain))
-    ∙ ap (called (each_some (type_in p) ps)) (return_same p is ret (second_false (list_any type_reserved ps) (return_reserved ret) plain))
-
--- what a descriptor says
-pub typed_same : (p : Program) → IsPlain p → (desc : List ℕ) → text_reserved desc ≡ false → typed (moved p) desc ≡ typed p desc
-unfolding typed text_reserved
-typed_same p is desc plain = typed_by p is (descriptor_of desc) plain
+there_same p is text plain = ap (λ (b : Bool). if b then Some (name text) else None) (found_same p is text plain)
 
 class_same : (p : Program) → IsPlain p → (text : List ℕ) → is_reserved text ≡ false → option_map class_of (there (moved p) text) ≡ option_map class_of (there p text)
 class_same p is text plain = ap (option_map class_of) (there_same p is text plain)

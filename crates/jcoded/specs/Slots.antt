@@ -35,13 +35,15 @@ slots_at p m = slots_in (info_of p (Method m))
 
 -- In a program that links, the values that a call took, where it comes to a user's method, take as many places as that one has slots.
 abbrev pub CallsFill : Type 0
-CallsFill = (p : Program) → IsLinked p → (m callee : MethodId) (at : Site) (s : Store (List Item)) (by : How) (c : CallMeaning) (operands : List (Value (List Item))) (t : Taken (List Item))
-    → Calling p m at s by c operands t → target at s by c t.values ≡ Some (Pushes callee) → places_of t.values ≡ slots_at p callee
+CallsFill = (p : Program) → IsLinked p → (m callee : MethodId) (at : Site) (s : Store (List Item)) (by : How) (c : CallMeaning)
+    → (operands : List (Value (List Item))) (t : Taken (List Item)) → Calling p m at s by c operands t
+    → target at s by c t.values ≡ Some (Pushes callee) → places_of t.values ≡ slots_at p callee
 
 -- `run` of an action and of a Runnable has one slot, for its object,
 abbrev pub RunsFill : Type 0
 RunsFill = (p : Program) (full : Bool) (x : Object (List Item)) (callee : MethodId)
-    → ((by_interface (world p) full (run_action Source) x ≡ Pushes callee → slots_at p callee ≡ 1) × (by_interface (world p) full (run_of Source) x ≡ Pushes callee → slots_at p callee ≡ 1))
+    → (by_interface (world p) full (run_action Source) x ≡ Pushes callee → slots_at p callee ≡ 1)
+    × (by_interface (world p) full (run_of Source) x ≡ Pushes callee → slots_at p callee ≡ 1)
 
 -- and so has `main`, for its array.
 abbrev pub MainFills : Type 0

@@ -1,9 +1,14 @@
-//! The code of a program and of its moved program, as a machine knows it; and with what is known of their classes that they are such a pair
-//! as a machine has to know.
+//! The code of a program and of its moved program, as a machine knows it; and with what is known of their classes (`jseen`) that they are
+//! such a pair as a machine has to know (`jstands`). Laws alone; premises are that the program links, is well typed and breaks no limit.
 //!
-//! Proved, each on a function without a body: what the entries of a moved class's pool mean (`meaning_law`); that each method has in the moved
-//! program the code that its old one was moved to, by what instructions mean (`code_law`); how many slots a method has where a call comes to
-//! it (`fill_law`); and all that `Moves` asks of the two programs (`moves_law`).
+//! - `Meaning`: what the entries of a moved class's pool stand for. `Codes`: each method has in the moved program the code that its old one
+//!   was moved to, by what instructions mean, and what is thrown is handled where it was.
+//! - `Slots`: how many slots a method has, and that the values of a call that comes to it fill them. `Moving`: the two programs are a pair
+//!   of which all that `Moves` asks holds.
+//!
+//! Proved: `meaning_law`, `code_law`, `fill_law`, `moves_law`.
+//!
+//! Rooms of moving may name it.
 #![tactic(auto)]
 
 mod laws;

@@ -177,7 +177,7 @@ maps_none table (code.Raw name bytes ∷ xs) h = maps_none table xs h
 
 -- ---- handlers
 
-caught : (pool : List Entry) (is : List Placed) (h : Handler) → IsTrue ((handler pool is).fits h) → IsTrue (names_caught pool h.class)
+pub caught : (pool : List Entry) (is : List Placed) (h : Handler) → IsTrue ((handler pool is).fits h) → IsTrue (names_caught pool h.class)
 unfolding handler
 caught pool is h fit =
     let numbers = first_true ((u2 · u2 · u2 · index (names_caught pool)).fits (handler_parts h)) (is_good (target_fault is (handler_parts h))) fit in

@@ -53,7 +53,7 @@ use Rattle.jrewrite.specs.Program.{limits, moved}
 use Rattle.jrewrite.proofs.Declaring.{Facts, Moving, again_same, desc_is, desc_kept, first_false, left_same, name_same, new_ends, no_again, no_fault, not_fixed, or_join, return_there, second_false, text_same, type_same, types_stay, types_there}
 use Rattle.jrewrite.proofs.Filed.{can_be_file}
 use Rattle.jrewrite.proofs.Finding.{above_same, place_same, pool_front}
-use Rattle.jrewrite.proofs.Moving.{members_none}
+use Rattle.jrewrite.proofs.Moving.{at_none, members_none}
 use Rattle.jrewrite.proofs.Overriding.{AllMoving, above_sub, member_likewise, moved_at, none_final}
 use Rattle.jrewrite.proofs.Plainly.{is_plain}
 use Rattle.jrewrite.proofs.Rooming.{all_few}
@@ -117,10 +117,6 @@ unfolding find moved
 context_there p is = ap not (ap (λ o. is_some (found_at (moved p) context_type.class o)) (place_same p context_type.class p.parts is.all) ∙ context_by p (place_of p.parts context_type.class) refl)
 
 -- ---- methods
-
-at_none : (i k : ℕ) (o : Option LinkKind) → at_member i k o ≡ None → o ≡ None
-at_none i k None h = refl
-at_none i k (Some kind) h = absurd cc
 
 none_at : (i k : ℕ) (o : Option LinkKind) → o ≡ None → at_member i k o ≡ None
 none_at i k None h = refl

@@ -48,7 +48,7 @@ if_none : {F : Type 0} (b : Bool) (fault : F) → fault_if b fault ≡ None → 
 if_none true fault h = absurd cc
 if_none false fault h = refl
 
-at_none : (i k : ℕ) (o : Option LinkKind) → at_member i k o ≡ None → o ≡ None
+pub at_none : (i k : ℕ) (o : Option LinkKind) → at_member i k o ≡ None → o ≡ None
 at_none i k None h = refl
 at_none i k (Some kind) h = absurd cc
 

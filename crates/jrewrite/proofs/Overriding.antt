@@ -102,7 +102,7 @@ and_map true b true d f g h = g h
 and_map true b false d f g h = f refl
 and_map false b c d f g h = absurd cc
 
-at_once_same : (p : Program) (x y r s : Member) → Likewise p x y → Likewise p r s → overrides_at_once (moved p) y s ≡ overrides_at_once p x r
+pub at_once_same : (p : Program) (x y r s : Member) → Likewise p x y → Likewise p r s → overrides_at_once (moved p) y s ≡ overrides_at_once p x r
 unfolding overrides_at_once
 at_once_same p x y r s a b = rw (a.static, a.reach, a.owner, b.reach, b.owner) refl
 
@@ -174,7 +174,7 @@ chain_same p is (suc n) name plain =
 abbrev pub AllMoving : Program → Type 0
 AllMoving p = (i : ℕ) (c d : ClassParts) → IsMovedClass p i c d → Moving c d × Alike c d.pool c.methods d.methods
 
-called_there : (c d o : ClassParts) (x y m : MemberInfo) (name : List ℕ) → Moving c d → IsIn x c.methods → Like c d.pool x y → Facts o m → is_called d name (new_desc o m) y ≡ is_called c name (member_desc o m) x
+pub called_there : (c d o : ClassParts) (x y m : MemberInfo) (name : List ℕ) → Moving c d → IsIn x c.methods → Like c d.pool x y → Facts o m → is_called d name (new_desc o m) y ≡ is_called c name (member_desc o m) x
 called_there c d o x y m name k at like f =
     let named : bytes_eq (member_name d y) name ≡ bytes_eq (member_name c x) name = ap (λ (t : List ℕ). bytes_eq t name) (name_same c d x y k at like) in
     let typed : bytes_eq (member_desc d y) (new_desc o m) ≡ bytes_eq (member_desc c x) (member_desc o m) = ap (λ (t : List ℕ). bytes_eq t (new_desc o m)) (desc_is c d x y like) ∙ desc_same c o x m (k.facts x at) f in

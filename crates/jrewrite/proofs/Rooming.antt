@@ -45,7 +45,7 @@ use Rattle.jrewrite.specs.Program.{at_class, limits}
 
 -- ---- what a reference stands for has its descriptor
 
-either : {A P : Type 0} (a b : Option A) (x : A) → or_else a b ≡ Some x → (a ≡ Some x → P) → (b ≡ Some x → P) → P
+pub either : {A P : Type 0} (a b : Option A) (x : A) → or_else a b ≡ Some x → (a ≡ Some x → P) → (b ≡ Some x → P) → P
 either None b x e one two = two e
 either (Some y) b x e one two = one e
 

@@ -25,7 +25,7 @@ use Rattle.jprogram.specs.Naming.{is_reserved}
 use Rattle.jprogram.specs.Parts.{this_name}
 use Rattle.jprogram.specs.Standing.{StandsInOrder}
 use Rattle.jprogram.proofs.Circling.{or_split}
-use Rattle.jprogram.proofs.Settling.{name_is}
+use Rattle.jprogram.proofs.Settling.{clash, name_is}
 use Rattle.jprogram.proofs.Standing.{lib_find, not_taken}
 use Rattle.jlink.specs.Links.{Links}
 use Rattle.jlink.specs.Called.{begins}
@@ -45,7 +45,7 @@ use Rattle.jseen.specs.Found.{is_handed, library_handed}
 use Rattle.jseen.proofs.Chosen.{select_same}
 use Rattle.jseen.proofs.Comes.{Kind, OfArray, OfClass, id_same, itself_same, kind}
 use Rattle.jseen.proofs.Coming.{Serves, above_same, named_is, named_same, on_in, super_extends, super_is}
-use Rattle.jseen.proofs.Handing.{clash, or_three}
+use Rattle.jseen.proofs.Handing.{or_three}
 use Rattle.jseen.proofs.Keeping.{finds_method}
 use Rattle.jseen.proofs.Library.{alone_concrete}
 use Rattle.jseen.proofs.Meeting.{alone_face, alone_plain, alone_stays, alone_top}

@@ -10,13 +10,14 @@ use Rattle.jprogram.specs.declared.member.ClassId.{ClassId}
 use Rattle.jprogram.specs.declared.member.Member.{Member}
 use Rattle.jprogram.specs.declared.member.Member.TheVariants.{Field, LibField, LibMethod, Method}
 use Rattle.jprogram.specs.Classes.{Program, up}
-use Rattle.jprogram.specs.Members.{as_selected, desc_of, first_by, method_at, methods_along, name_of, name_of_id, overrides_at_once, same_method, select}
+use Rattle.jprogram.specs.Members.{as_selected, desc_of, first_by, method_at, methods_along, name_of, name_of_id, same_method, select}
 use Rattle.jprogram.specs.Naming.{is_reserved}
 use Rattle.jprogram.specs.Parts.{member_desc}
+use Rattle.jprogram.proofs.Settling.{clash}
 use Rattle.jmoveclass.specs.Methods.{new_desc}
 use Rattle.jrewrite.specs.Program.{moved}
 use Rattle.jrewrite.proofs.Declaring.{Facts}
-use Rattle.jrewrite.proofs.Overriding.{AllMoving, Likewise}
+use Rattle.jrewrite.proofs.Overriding.{AllMoving, at_once_same}
 use Rattle.jrewrite.proofs.Standing.{AllPlain, IsPlain}
 use Rattle.jrewrite.proofs.Upward.{up_same}
 use Rattle.jstands.specs.Expanding.{moved_member, passing}
@@ -29,10 +30,6 @@ use Rattle.jseen.proofs.Staying.{StaysAt}
 use Rattle.jseen.proofs.Twins.{moved_twin, same_twin}
 
 -- ---- members
-
-at_once_same : (p : Program) (x y r s : Member) → Likewise p x y → Likewise p r s → overrides_at_once (moved p) y s ≡ overrides_at_once p x r
-unfolding overrides_at_once
-at_once_same p x y r s a b = rw (a.static, a.reach, a.owner, b.reach, b.owner) refl
 
 same_to : (a b : Member) → same_method (moved_member a) (moved_member b) ≡ same_method a b
 same_to (Method a) (Method b) = refl
@@ -65,16 +62,13 @@ pub record MovedText (old new : List ℕ) : Type 0 where
   pub old_is : member_desc class method ≡ old
   pub new_is : new_desc class method ≡ new
 
-no_field : {P : Type 0} (b : Bool) → b ≡ true → b ≡ false → P
-no_field b h k = absurd cc
-
 -- nothing but what is handed one
 clear_moved : (o : Option Member) → ((x : LibCall) → o ≡ Some (LibMethod x) → library_handed x ≡ true) → ((m : Member) → o ≡ Some m → is_method m ≡ true) → option_and_then kept o ≡ option_map moved_member o
 clear_moved None clear is = refl
 clear_moved (Some (Method m)) clear is = refl
 clear_moved (Some (LibMethod x)) clear is = ap (λ (b : Bool). if b then Some (LibMethod (passing x)) else None) (clear x refl)
-clear_moved (Some (Field i j)) clear is = no_field (is_method (Field i j)) (is (Field i j) refl) refl
-clear_moved (Some LibField) clear is = no_field (is_method LibField) (is LibField refl) refl
+clear_moved (Some (Field i j)) clear is = clash (is_method (Field i j)) (is (Field i j) refl) refl
+clear_moved (Some LibField) clear is = clash (is_method LibField) (is LibField refl) refl
 
 module _ (p : Program) (is : IsPlain p) (all : AllMoving p) where
   found_clear : (name old new : List ℕ) → MovedText old new → (c : List ℕ) → is_reserved c ≡ false → IsClearAt p name old c → method_at (moved p) name new c ≡ option_map moved_member (method_at p name old c)

@@ -14,11 +14,13 @@ use Rattle.jtypes.specs.declared.vtype.Name.{Name}
 use Rattle.jprogram.specs.declared.part.ClassRef.TheVariants as refs
 use Rattle.jprogram.specs.declared.part.CodePart.{CodePart}
 use Rattle.jprogram.specs.Classes.{Class, Lib, Program, User, above, extends, face_names, faces_of, find, holds, implements, is_interface, known, name_at, named, object, onward, over, ref_of, super_at, superinterfaces, tree, up}
+use Rattle.jprogram.specs.Members.{main_in, main_of}
 use Rattle.jprogram.specs.Naming.{is_reserved}
 use Rattle.jprogram.specs.Parts.{super_name, this_name}
 use Rattle.jprogram.specs.Standing.{StandsInOrder}
 use Rattle.jprogram.proofs.Extending.{object_find, object_up, up_is}
 use Rattle.jprogram.proofs.Standing.{Stands, Users, Libs, Nowhere, stands}
+use Rattle.jprogram.proofs.Settling.{clash}
 use Rattle.jlayout.specs.Layout.{own_types}
 use Rattle.jmoveclass.specs.Moved.{moved_part}
 use Rattle.jrewrite.specs.Program.{moved}
@@ -58,9 +60,6 @@ kept_class lib.Ctx h = record { above = refl; alone = refl; plain = refl }
 kept_class (lib.Thrown thrown.Throwable) h = absurd cc
 kept_class (lib.Permission permission.Permission) h = absurd cc
 kept_class l h = absurd cc
-
-clash : {P : Type 0} (b : Bool) → b ≡ true → b ≡ false → P
-clash b h k = absurd cc
 
 module _ (p : Program) (is : IsPlain p) (c : List ℕ) (kept : is_reserved c ≡ true) where
   -- the program has none
@@ -110,6 +109,14 @@ module _ (p : Program) (is : IsPlain p) (c : List ℕ) (kept : is_reserved c ≡
   pub kept_types : own_types (moved p) (find (moved p) c) ≡ own_types p (find p c)
   kept_types = types_there found_there
 
+  main_there : Found → main_of (moved p) c ≡ main_of p c
+  unfolding main_of
+  main_there (Nothing none) = ap (main_in (moved p).side) none ∙ sym (ap (main_in p.side) none_here)
+  main_there (Kept l here k) = ap (main_in (moved p).side) here ∙ sym (ap (main_in p.side) none_here)
+
+  pub kept_main : main_of (moved p) c ≡ main_of p c
+  kept_main = main_there found_there
+
   -- Object is above all
   two_ends : (d : List ℕ) (a b : Bool) → (a || (b || (a || false))) ≡ (a || (b || false))
   two_ends d true b = refl
@@ -152,7 +159,7 @@ module _ (p : Program) (is : IsPlain p) (c : List ℕ) (kept : is_reserved c ≡
 
 -- ---- at all names
 
-either_name : {P : List ℕ → Type 0} → ((c : List ℕ) → is_reserved c ≡ false → P c) → ((c : List ℕ) → is_reserved c ≡ true → P c) → (c : List ℕ) (b : Bool) → is_reserved c ≡ b → P c
+pub either_name : {P : List ℕ → Type 0} → ((c : List ℕ) → is_reserved c ≡ false → P c) → ((c : List ℕ) → is_reserved c ≡ true → P c) → (c : List ℕ) (b : Bool) → is_reserved c ≡ b → P c
 either_name plain kept c false e = plain c e
 either_name plain kept c true e = kept c e
 

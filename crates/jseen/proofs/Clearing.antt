@@ -29,7 +29,7 @@ use Rattle.jprogram.specs.Parts.{super_name}
 use Rattle.jprogram.specs.Standing.{StandsInOrder}
 use Rattle.jprogram.proofs.Circling.{all_weaken, or_split}
 use Rattle.jprogram.proofs.Going.{some_is}
-use Rattle.jprogram.proofs.Settling.{name_is}
+use Rattle.jprogram.proofs.Settling.{clash, name_is}
 use Rattle.jprogram.proofs.Standing.{Stands, Users, Libs, Nowhere, stands}
 use Rattle.jlink.proofs.Having.{map_is, then_is}
 use Rattle.jseen.specs.Clear.{IsClear, IsClearAt}
@@ -138,15 +138,12 @@ fixes_found side name desc c y opened plain owned called e =
     let one : (is_concrete y && library_calls.is_called name desc y) ≡ true = rw (concrete, both.1) refl in
     rw (opened) (found_any (λ m. call_stands_on side m && library_calls.is_called name desc m) (λ m. is_concrete m && library_calls.is_called name desc m) (members c) y among one)
 
-no_clash : {P : Type 0} (b : Bool) → b ≡ true → b ≡ false → P
-no_clash b h k = absurd cc
-
 -- so nothing of it stands in the way of what is not fixed
 pub clear_at : (p : Program) (name desc c : List ℕ) → bytes_eq name init ≡ false → OpenAt p c → is_fixed_at p name desc c ≡ false → IsClearAt p name desc c
 clear_at p name desc c plain opened free x e =
     let f = lib_found p name desc c x e in
     let fixed : is_fixed_at p name desc c ≡ true = ap (λ (o : Option Class). is_fixed_by name desc o) f.is ∙ fixes_found p.side name desc f.l x (opened f.l f.is) plain f.owned f.name_is f.there in
-    no_clash (is_fixed_at p name desc c) fixed free
+    clash (is_fixed_at p name desc c) fixed free
 
 -- ---- below a class
 
@@ -206,7 +203,7 @@ open_in t l opened h =
 face_clear_at : (p : Program) (name desc c : List ℕ) → bytes_eq name init ≡ false → list_any (fixes name desc) library.open_classes ≡ false → OpenAt p c → IsClearAt p name desc c
 face_clear_at p name desc c plain free opened x e =
     let f = lib_found p name desc c x e in
-    no_clash (list_any (fixes name desc) library.open_classes) (open_in (fixes name desc) f.l (opened f.l f.is) (fixes_found p.side name desc f.l x (opened f.l f.is) plain f.owned f.name_is f.there)) free
+    clash (list_any (fixes name desc) library.open_classes) (open_in (fixes name desc) f.l (opened f.l f.is) (fixes_found p.side name desc f.l x (opened f.l f.is) plain f.owned f.name_is f.there)) free
 
 -- nothing stands in the way of a method that an interface declares, along a chain of classes that users may extend
 pub face_clear : (p : Program) → StandsInOrder p → (name desc : List ℕ) → bytes_eq name init ≡ false → list_any (fixes name desc) library.open_classes ≡ false → (n : ℕ) (c : List ℕ) → OpenAt p c → IsClear p name desc (chain p n c)

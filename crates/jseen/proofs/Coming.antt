@@ -18,7 +18,7 @@ use Rattle.jprogram.specs.Standing.{StandsInOrder}
 use Rattle.jprogram.proofs.Circling.{or_split}
 use Rattle.jprogram.proofs.Extending.{extends_object, up_is}
 use Rattle.jprogram.proofs.Rows.{found_part, own_place}
-use Rattle.jprogram.proofs.Settling.{or_right}
+use Rattle.jprogram.proofs.Settling.{clash, or_right}
 use Rattle.jprogram.proofs.Standing.{Stands, Users, Libs, Nowhere, stands}
 use Rattle.jlink.specs.Links.{Links}
 use Rattle.jlink.specs.Called.{begins}
@@ -41,9 +41,6 @@ use Rattle.jseen.proofs.Comes.{interface_moved, itself_moved, reached_moved}
 use Rattle.jseen.proofs.Handing.{fits_selects, has_selects, meets_below, selects}
 use Rattle.jseen.proofs.Meeting.{extends_parts}
 use Rattle.jseen.proofs.Resolved.{Resolved, resolved_at}
-
-clash : {P : Type 0} (b : Bool) → b ≡ true → b ≡ false → P
-clash b h k = absurd cc
 
 -- ---- the class above
 

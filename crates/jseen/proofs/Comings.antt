@@ -26,6 +26,7 @@ use Rattle.jprogram.specs.Classes.{Program, extends, super_at, superinterfaces, 
 use Rattle.jprogram.specs.Members.{as_selected, desc_of, first_by, init, is_abstract, is_static, method_at, methods_along, name_of, name_of_id, resolve_method, select}
 use Rattle.jprogram.specs.Parts.{this_name}
 use Rattle.jprogram.specs.Standing.{StandsInOrder}
+use Rattle.jprogram.proofs.Settling.{clash}
 use Rattle.jlink.specs.Links.{Links}
 use Rattle.juses.specs.declared.meaning.How.{How}
 use Rattle.juses.specs.declared.meaning.How.TheVariants as how
@@ -43,7 +44,7 @@ use Rattle.jseen.proofs.Alone.{IsAlone, alone_of, face_apart, object_extends}
 use Rattle.jseen.proofs.Clearing.{lib_found}
 use Rattle.jseen.proofs.Comes.{kind}
 use Rattle.jseen.proofs.Coming.{Serves, found_by, named_is, on_in, plain_by, super_extends, super_is}
-use Rattle.jseen.proofs.Handing.{clash, fits_below, has_below, meets_below}
+use Rattle.jseen.proofs.Handing.{fits_below, has_below, meets_below}
 use Rattle.jseen.proofs.Library.{alone_concrete, handed_name, instance_alone, run_handed, source_alone, source_handed}
 use Rattle.jseen.proofs.Meeting.{Meets, alone_stays}
 use Rattle.jseen.proofs.Resolved.{resolved_at}

@@ -1,11 +1,9 @@
 -- A program and the moved one have the same fields: of objects, of classes, and what each holds.
-use Rattle.std.proofs.Common.{◌≡◌, ℕ, suc, ◌+◌, Bool, true, false, not, List, [], ◌∷◌, ◌++◌, length, map, reverse, take, drop, Option, Some, None, refl, ap, sym, ◌∙◌, subst}
-use Rattle.std.specs.Prelude.{is_some, option_and_then, option_map, slice_get, ◌==◌, if◌then◌else◌}
+use Rattle.std.proofs.Common.{◌≡◌, ℕ, suc, ◌+◌, Bool, true, false, List, [], ◌∷◌, ◌++◌, length, map, reverse, take, drop, Option, Some, None, refl, ap, sym, ◌∙◌, subst}
+use Rattle.std.specs.Prelude.{option_and_then, option_map, slice_get, if◌then◌else◌}
 use Rattle.std.specs.List.{AllByRecursion, filter, flat_map, list_any}
-use Rattle.std.specs.Str.{byte}
 use Rattle.std.proofs.Math.Path.{fun_ext}
 use Rattle.std.proofs.lemmas.List.{take-map}
-use Rattle.jbase.specs.Each.{each_some, put_front}
 use Rattle.jpool.specs.declared.descriptor.Descriptor.{Descriptor}
 use Rattle.jpool.specs.declared.descriptor.Descriptor.TheVariants as descriptors
 use Rattle.jpool.specs.declared.descriptor.FieldType.{FieldType}
@@ -21,65 +19,26 @@ use Rattle.jprogram.specs.declared.member.MethodId.{MethodId}
 use Rattle.jprogram.specs.declared.part.CodePart.{CodePart}
 use Rattle.jprogram.specs.Classes.{Class, Lib, Program, User, find, up}
 use Rattle.jprogram.specs.Members.{desc_of, desc_in}
-use Rattle.jprogram.specs.Naming.{desc_reserved, entry_reserved, is_reserved, member_reserved, names_reserved, return_reserved, text_reserved, type_reserved}
+use Rattle.jprogram.specs.Naming.{entry_reserved, is_reserved, member_reserved, names_reserved, text_reserved}
 use Rattle.jprogram.specs.Parts.{member_desc, this_name}
-use Rattle.juses.specs.Typed.{called, name, return_in, type_in, type_of, typed, typed_as}
+use Rattle.juses.specs.Typed.{typed}
 use Rattle.juses.specs.Typed as typing
-use Rattle.jtypes.specs.Described.{element_of}
 use Rattle.jmove.specs.Additions.{context_type}
 use Rattle.jmoveclass.specs.Methods.{new_desc}
 use Rattle.jmoveclass.specs.Moved.{moved_class, moved_part}
 use Rattle.jrewrite.specs.Linking.{IsLinked}
 use Rattle.jrewrite.specs.Program.{moved}
-use Rattle.jrewrite.proofs.Declaring.{first_false, second_false}
+use Rattle.jrewrite.proofs.Declaring.{second_false}
 use Rattle.jrewrite.proofs.Fielding.{fielded}
 use Rattle.jrewrite.proofs.Finding.{IsMovedClass, SameFound, part_moved, this_same}
 use Rattle.jrewrite.proofs.Membering.{any_at, fields_same}
 use Rattle.jrewrite.proofs.Overriding.{AllMoving}
 use Rattle.jrewrite.proofs.Plainly.{is_plain}
-use Rattle.jrewrite.proofs.Standing.{IsPlain, missing_name, plain_at, same, text_plain}
+use Rattle.jrewrite.proofs.Standing.{IsPlain, plain_at, same, text_plain}
 use Rattle.jrewrite.proofs.Upward.{up_same}
 use Rattle.jseen.proofs.Classes.{kept_types}
+use Rattle.jseen.proofs.Types.{typed_same}
 use Rattle.jseen.proofs.Twins.{Declared, declared, moved_desc, none_pair, old_desc}
-
--- ---- types
-
-not_same : (a b : Bool) → not a ≡ not b → a ≡ b
-not_same true true e = refl
-not_same true false e = cc
-not_same false true e = cc
-not_same false false e = refl
-
-found_same : (p : Program) → IsPlain p → (c : List ℕ) → is_reserved c ≡ false → is_some (find (moved p) c) ≡ is_some (find p c)
-found_same p is c plain = not_same (is_some (find (moved p) c)) (is_some (find p c)) (missing_name p is c plain)
-
-type_same : (p : Program) → IsPlain p → (t : FieldType) → type_reserved t ≡ false → type_in (moved p) t ≡ type_in p t
-unfolding type_in
-type_same p is t plain =
-    ap (λ (b : Bool). option_map (type_of t.depth) (if t.base == byte "L" then option_map elements.Class (if b then Some (name t.class) else None) else element_of t.base (name t.class))) (found_same p is t.class plain)
-
-each_same : (p : Program) → IsPlain p → (ts : List FieldType) → list_any type_reserved ts ≡ false → each_some (type_in (moved p)) ts ≡ each_some (type_in p) ts
-unfolding each_some
-each_same p is [] plain = refl
-each_same p is (t ∷ ts) plain =
-    ap (λ (o : Option VType). put_front o (each_some (type_in (moved p)) ts)) (type_same p is t (first_false (type_reserved t) (list_any type_reserved ts) plain))
-    ∙ ap (put_front (type_in p t)) (each_same p is ts (second_false (type_reserved t) (list_any type_reserved ts) plain))
-
-ret_same : (p : Program) → IsPlain p → (ret : Option FieldType) → return_reserved ret ≡ false → return_in (moved p) ret ≡ return_in p ret
-ret_same p is None plain = refl
-ret_same p is (Some t) plain = ap (option_map Some) (type_same p is t plain)
-
-desc_typed : (p : Program) → IsPlain p → (d : Option Descriptor) → desc_reserved d ≡ false → typed_as (moved p) d ≡ typed_as p d
-desc_typed p is None plain = refl
-desc_typed p is (Some (descriptors.Field t)) plain = ap typing.held (type_same p is t plain)
-desc_typed p is (Some (descriptors.Method ps ret)) plain =
-    ap (λ (o : Option (List VType)). called o (return_in (moved p) ret)) (each_same p is ps (first_false (list_any type_reserved ps) (return_reserved ret) plain))
-    ∙ ap (called (each_some (type_in p) ps)) (ret_same p is ret (second_false (list_any type_reserved ps) (return_reserved ret) plain))
-
--- a descriptor that names nothing kept says the same
-pub typed_same : (p : Program) → IsPlain p → (desc : List ℕ) → text_reserved desc ≡ false → typed (moved p) desc ≡ typed p desc
-unfolding typed text_reserved
-typed_same p is desc plain = desc_typed p is (descriptor_of desc) plain
 
 -- ---- lists
 

@@ -22,7 +22,7 @@ use Rattle.jprogram.specs.Naming.{is_reserved}
 use Rattle.jprogram.specs.Standing.{StandsInOrder}
 use Rattle.jprogram.proofs.Circling.{or_split}
 use Rattle.jprogram.proofs.Extending.{object_find, object_up}
-use Rattle.jprogram.proofs.Settling.{name_is}
+use Rattle.jprogram.proofs.Settling.{clash, name_is}
 use Rattle.jprogram.proofs.Standing.{lib_find, not_taken}
 use Rattle.jlink.specs.Links.{Links}
 use Rattle.juses.specs.Typed.{name}
@@ -43,9 +43,6 @@ use Rattle.jseen.proofs.Library.{handed_name, handed_no_object}
 use Rattle.jseen.proofs.Meeting.{Meets, extends_parts, not_lib, plain_below, run_clear, user_has, user_meets}
 use Rattle.jseen.proofs.Resolved.{Above, Over, Place, Resolved, of_all}
 use Rattle.jseen.proofs.Texts.{Spoken, found_declared, lib_spoken, user_spoken}
-
-pub clash : {P : Type 0} (b : Bool) → b ≡ true → b ≡ false → P
-clash b h k = absurd cc
 
 -- ---- what is above arrays is the library's
 

@@ -15,6 +15,7 @@ pub mod Handing
 pub mod Keeping
 pub mod Library
 pub mod Linked
+pub mod Mains
 pub mod Making
 pub mod Meeting
 pub mod Openings
@@ -27,5 +28,6 @@ pub mod Staying
 pub mod Stores
 pub mod Texts
 pub mod Twins
+pub mod Types
 pub mod Ways
 pub mod Worlds

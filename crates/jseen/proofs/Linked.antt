@@ -35,6 +35,7 @@ use Rattle.jprogram.specs.Classes.{Program, extends, find, holds, is_interface, 
 use Rattle.jprogram.specs.Members.{desc_of, init, method_at, name_of, resolve_method}
 use Rattle.jprogram.specs.Naming.{is_reserved, names_reserved}
 use Rattle.jprogram.specs.Parts.{or_empty, text, this_name}
+use Rattle.jprogram.proofs.Standing.{not_none}
 use Rattle.juses.specs.declared.meaning.How.{How}
 use Rattle.juses.specs.declared.meaning.How.TheVariants as how
 use Rattle.juses.specs.Instructions.{Used, array, by_form, instruction, instruction_at}
@@ -62,7 +63,7 @@ use Rattle.jmovefile.proofs.Sound.{IsSound}
 use Rattle.jrewrite.specs.Linking.{IsLinked}
 use Rattle.jrewrite.proofs.Judging.{owner_kept}
 use Rattle.jrewrite.proofs.Plainly.{is_plain}
-use Rattle.jrewrite.proofs.Rooming.{resolved_desc}
+use Rattle.jrewrite.proofs.Rooming.{either, resolved_desc}
 use Rattle.jrewrite.proofs.Standing.{plain_at}
 use Rattle.jrewrite.proofs.Targets.{Target, call_use, plain_owner, sort_by, target_of, target_use}
 use Rattle.jseen.specs.Calls.{IsResolvedCall, by_interface, calls_static}
@@ -162,10 +163,6 @@ referred p pool i t begun c e =
 
 -- ---- what it is resolved to is called so
 
-either : {A P : Type 0} (a b : Option A) (x : A) → or_else a b ≡ Some x → (a ≡ Some x → P) → (b ≡ Some x → P) → P
-either None b x e one two = two e
-either (Some y) b x e one two = one e
-
 resolved_name : (p : Program) (owner called desc : List ℕ) (m : Member) → resolve_method p owner called desc ≡ Some m → name_of p m ≡ called
 unfolding resolve_method
 resolved_name p owner called desc m e = by (bytes_eq called init) e
@@ -188,10 +185,6 @@ differ_none true true h = refl
 differ_none true false h = absurd cc
 differ_none false true h = absurd cc
 differ_none false false h = refl
-
-unless_not : (b : Bool) → not b ≡ false → b ≡ true
-unless_not true h = refl
-unless_not false h = absurd cc
 
 -- what the tests of a call say of its use
 record IsUsed (u : MemberUse) (m : MemberFacts) (op : CallOp) : Type 0 where
@@ -337,7 +330,7 @@ module _ (p : Program) (c : ClassParts) (kept : names_reserved c ≡ false) (sou
     crossed_plain b is h e = sym (ap (λ (x : Bool). references.is_crossed (sort_by x) (holds is_interface (find p t.says.owner))) (is ∙ h)) ∙ e
 
     crossed_face : t.interface ≡ true → use_of.crossed ≡ false → holds is_interface (find p t.says.owner) ≡ true
-    crossed_face is e = unless_not (holds is_interface (find p t.says.owner)) (sym (ap (λ (x : Bool). references.is_crossed (sort_by x) (holds is_interface (find p t.says.owner))) is) ∙ e)
+    crossed_face is e = not_none (holds is_interface (find p t.says.owner)) (sym (ap (λ (x : Bool). references.is_crossed (sort_by x) (holds is_interface (find p t.says.owner))) is) ∙ e)
 
     of_interface_is : use_of.of_interface ≡ false → t.interface ≡ false
     of_interface_is e = by t.interface e
@@ -364,7 +357,7 @@ module _ (p : Program) (c : ClassParts) (kept : names_reserved c ≡ false) (sou
 
         either_up : (a b : Bool) → a ≡ false → not (a || b) ≡ false → b ≡ true
         either_up true b h e = absurd cc
-        either_up false b h e = unless_not b e
+        either_up false b h e = not_none b e
 
         by : (b : Bool) → begun ≡ b → IsResolvedCall p from (if b then how.Init else how.Special) d
         by true e = call_of how.Init e u.static (crossed_plain t.interface refl (of_interface_is (u.sort refl)) u.crossed) (λ e. absurd (apart e))

@@ -26,7 +26,7 @@ use Rattle.jprogram.specs.Parts.{member_desc, member_name}
 use Rattle.jprogram.specs.Standing.{StandsInOrder}
 use Rattle.jprogram.proofs.Circling.{or_split}
 use Rattle.jprogram.proofs.Extending.{extends_chain, interfaces_extend, object_find, object_up, up_is}
-use Rattle.jprogram.proofs.Settling.{name_is}
+use Rattle.jprogram.proofs.Settling.{clash, name_is}
 use Rattle.jprogram.proofs.Standing.{any_of_all}
 use Rattle.jrewrite.proofs.Overriding.{AllMoving}
 use Rattle.jrewrite.proofs.Standing.{IsPlain}
@@ -40,9 +40,6 @@ use Rattle.jseen.proofs.Resolved.{Resolved, lib_above, lib_place, place_is}
 use Rattle.jseen.proofs.Staying.{StaysAt, stays_along}
 
 -- ---- chains
-
-clash : {P : Type 0} (b : Bool) → b ≡ true → b ≡ false → P
-clash b h k = absurd cc
 
 -- what extends another class has it in its chain, or that is Object
 pub extends_parts : (p : Program) (c d : List ℕ) → extends p c d ≡ true → (d ≡ object) ⊎ (list_any (bytes_eq d) (up p c) ≡ true)

@@ -17,6 +17,7 @@ use Rattle.jprogram.proofs.Implementing.{faces_are}
 use Rattle.jprogram.proofs.Settling.{name_is}
 use Rattle.jprogram.proofs.Standing.{all_append, any_of_all, lib_find, not_taken}
 use Rattle.jlink.proofs.Having.{first_in}
+use Rattle.jrewrite.proofs.Rooming.{either}
 use Rattle.jseen.proofs.Along.{LibAt, lib_along}
 
 -- ---- lists
@@ -79,10 +80,6 @@ pub record Resolved (p : Program) (owner name desc : List ℕ) (m : Member) : Ty
   pub class : List ℕ
   pub place : Place p owner class
   pub here : method_at p name desc class ≡ Some m
-
-either : {A P : Type 0} (a b : Option A) (x : A) → or_else a b ≡ Some x → (a ≡ Some x → P) → (b ≡ Some x → P) → P
-either None b x e one two = two e
-either (Some y) b x e one two = one e
 
 pub resolved_at : (p : Program) (owner name desc : List ℕ) (m : Member) → bytes_eq name init ≡ false → resolve_method p owner name desc ≡ Some m → Resolved p owner name desc m
 unfolding resolve_method

@@ -14,7 +14,7 @@ use Rattle.jlib.specs.declared.calls.LibCall.{LibCall}
 use Rattle.jlib.specs.declared.side.Side.{Side}
 use Rattle.jlib.specs.declared.side.Side.TheVariants.{Passing, Source}
 use Rattle.jlib.specs.Calls as library
-use Rattle.jlib.specs.Calls.{desc_of, fixes, is_concrete, member_among, member_named, members, name_of_call, owner}
+use Rattle.jlib.specs.Calls.{desc_of, fixes, is_concrete, member_among, members, name_of_call, owner}
 use Rattle.jlib.specs.Classes as library_classes
 use Rattle.jlib.proofs.Beginning.{by_class}
 use Rattle.jlib.proofs.Found.{call_only, class_above}
@@ -28,7 +28,7 @@ use Rattle.jprogram.specs.Parts.{is_called, is_interface, member_desc, member_na
 use Rattle.jprogram.specs.Standing.{StandsInOrder}
 use Rattle.jprogram.proofs.Circling.{all_weaken, or_split}
 use Rattle.jprogram.proofs.Extending.{object_up}
-use Rattle.jprogram.proofs.Settling.{name_is}
+use Rattle.jprogram.proofs.Settling.{clash, name_is}
 use Rattle.jprogram.proofs.Standing.{Stands, Users, Libs, Nowhere, any_of_all, lib_find, not_taken, stands}
 use Rattle.jmoveclass.specs.Methods.{new_desc}
 use Rattle.jlink.specs.Links.{Links}
@@ -86,9 +86,6 @@ back c d [] (z ∷ ys) j all y at = absurd all
 back c d (x ∷ xs) [] j all y at = absurd all
 back c d (x ∷ xs) (z ∷ ys) zero all y at = let same : z ≡ y = cc in (x, refl, subst (λ (m : MemberInfo). Like c d.pool x m) same all.0)
 back c d (x ∷ xs) (z ∷ ys) (suc j) all y at = back c d xs ys j all.1 y at
-
-clash : {P : Type 0} (b : Bool) → b ≡ true → b ≡ false → P
-clash b h k = absurd cc
 
 -- a moved class declares nothing that is handed no context
 none_handed : (c d : ClassParts) (name desc : List ℕ) → Moving c d → Alike c d.pool c.methods d.methods → ends_so (descriptor_of desc) ≡ false → (o : Option ℕ) → position (is_called d name desc) d.methods ≡ o → position (is_called d name desc) d.methods ≡ None

@@ -74,7 +74,7 @@ text_is : (t : List ℕ) → member_desc (text_class t) text_method ≡ t
 unfolding utf8_at
 text_is t = refl
 
-text_of : (old new : List ℕ) (ps : List FieldType) (ret : Option FieldType) → descriptor_of old ≡ Some (descriptors.Method ps ret) → or_empty (moved_descriptor old) ≡ new → descriptor_of new ≡ Some (descriptors.Method (ps ++ context_type ∷ []) ret) → MovedText old new
+pub text_of : (old new : List ℕ) (ps : List FieldType) (ret : Option FieldType) → descriptor_of old ≡ Some (descriptors.Method ps ret) → or_empty (moved_descriptor old) ≡ new → descriptor_of new ≡ Some (descriptors.Method (ps ++ context_type ∷ []) ret) → MovedText old new
 text_of old new ps ret old_is new_is longer =
     let is : new_desc (text_class old) text_method ≡ new = ap (λ (t : List ℕ). or_empty (moved_descriptor t)) (text_is old) ∙ new_is in
     record {

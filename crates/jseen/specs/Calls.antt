@@ -39,8 +39,8 @@ pub record IsResolvedCall (p : Program) (this : List ℕ) (by : How) (c : CallMe
 
 -- An instruction that calls in a program that links is resolved so.
 abbrev pub CallsAreResolved : Type 0
-CallsAreResolved = (p : Program) (m : MethodId) (part : CodePart) (n : ℕ) (by : How) (c : CallMeaning) → IsLinked p → slice_get p.parts m.class ≡ Some part → instruction_at p m n ≡ Some (Used (Call by c))
-    → IsResolvedCall p (this_name part.class) by c
+CallsAreResolved = (p : Program) (m : MethodId) (part : CodePart) (n : ℕ) (by : How) (c : CallMeaning) → IsLinked p
+    → slice_get p.parts m.class ≡ Some part → instruction_at p m n ≡ Some (Used (Call by c)) → IsResolvedCall p (this_name part.class) by c
 
 -- Where a call's operands were taken it comes to the same in the moved program, with a context or without one.
 abbrev pub CallsStay : Type 0

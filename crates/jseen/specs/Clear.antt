@@ -22,10 +22,11 @@ IsClear p name desc names = AllByRecursion (IsClearAt p name desc) names
 
 -- None stands in the way of a user's method, along each class that extends the one by which it is named,
 abbrev pub ClearBelow : Type 0
-ClearBelow = (p : Program) (owner name desc class : List ℕ) (m : MethodId) → IsLinked p → is_reserved owner ≡ false → bytes_eq name init ≡ false → resolve_method p owner name desc ≡ Some (Method m)
-    → extends p class owner ≡ true → IsClear p name desc (up p class)
+ClearBelow = (p : Program) (owner name desc class : List ℕ) (m : MethodId) → IsLinked p → is_reserved owner ≡ false → bytes_eq name init ≡ false
+    → resolve_method p owner name desc ≡ Some (Method m) → extends p class owner ≡ true → IsClear p name desc (up p class)
 
 -- and along each that has the interface by which it is named.
 abbrev pub ClearWhereHad : Type 0
-ClearWhereHad = (p : Program) (owner name desc class : List ℕ) (m : MethodId) → IsLinked p → is_reserved owner ≡ false → bytes_eq name init ≡ false → resolve_method p owner name desc ≡ Some (Method m)
-    → holds is_interface (find p owner) ≡ true → implements p class owner ≡ true → is_reserved class ≡ false → IsClear p name desc (up p class)
+ClearWhereHad = (p : Program) (owner name desc class : List ℕ) (m : MethodId) → IsLinked p → is_reserved owner ≡ false → bytes_eq name init ≡ false
+    → resolve_method p owner name desc ≡ Some (Method m) → holds is_interface (find p owner) ≡ true → implements p class owner ≡ true → is_reserved class ≡ false
+    → IsClear p name desc (up p class)

@@ -29,7 +29,11 @@ OwnFieldsStay = (p : Program) → IsLinked p → WellTyped p → limits p ≡ No
 abbrev pub MakesStay : Type 0
 MakesStay = (p : Program) → IsLinked p → (m : MethodId) (n : ℕ) (c : Name) → fetched p m n ≡ Some (Used (Make c)) → (world (moved p)).class c ≡ (world p).class c
 
--- `main` has code.
+-- A class's `main` is the same method,
+abbrev pub MainsStay : Type 0
+MainsStay = (p : Program) → IsLinked p → WellTyped p → limits p ≡ None → (name : List ℕ) → main_of (moved p) name ≡ main_of p name
+
+-- and it has code.
 abbrev pub MainHasCode : Type 0
 MainHasCode = (p : Program) (name : List ℕ) (m : MethodId) → main_of p name ≡ Some m → (body : CodeBody) × (code_at p m ≡ Some body)
 

@@ -1,7 +1,7 @@
 ghost use Rattle.jseen.specs.Calls.{CallsAreResolved, CallsStay};
 ghost use Rattle.jseen.specs.Clear.{ClearBelow, ClearWhereHad};
 ghost use Rattle.jseen.specs.Found.{FoundAsItself};
-ghost use Rattle.jseen.specs.Openings.{ChargeStays, DomainsStay, MainHasCode, MakesStay, OwnFieldsStay, StoreStays, StringsStay};
+ghost use Rattle.jseen.specs.Openings.{ChargeStays, DomainsStay, MainHasCode, MainsStay, MakesStay, OwnFieldsStay, StoreStays, StringsStay};
 ghost use Rattle.jseen.specs.Worlds.{ClassesStay};
 
 /// The law of what stands in the way: along the chain of a class that has a user's method by the class or the interface by which it is named, no
@@ -37,11 +37,12 @@ pub fn call_law()
 {}
 
 /// The laws of methods: the domain of each is what it was, and so are the fields that it may write before it calls another `<init>`; `new` makes
-/// objects of the same class; and `main` has code.
+/// objects of the same class; and the `main` of each class is the same method, which has code.
 pub fn begin_law()
     ensures domains { DomainsStay }
     ensures own { OwnFieldsStay }
     ensures makes { MakesStay }
+    ensures main { MainsStay }
     ensures coded { MainHasCode }
 {}
 

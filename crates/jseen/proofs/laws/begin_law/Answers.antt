@@ -1,4 +1,7 @@
 use Rattle.jseen.proofs.laws.begin_law.Goals as goal
+use Rattle.jrewrite.proofs.Membering.{all_moving}
+use Rattle.jrewrite.proofs.Plainly.{is_plain}
+use Rattle.jseen.proofs.Mains.{main_same}
 use Rattle.jseen.proofs.Making.{makes_same}
 use Rattle.jseen.proofs.Openings.{domain_same, main_coded, own_same}
 
@@ -10,6 +13,9 @@ returns-clause-own g = own_same
 
 pub returns-clause-makes : goal.returns-clause-makes
 returns-clause-makes g p linked = makes_same p linked
+
+pub returns-clause-main : goal.returns-clause-main
+returns-clause-main g p linked well few = main_same p (is_plain p linked) (all_moving p linked well few)
 
 pub returns-clause-coded : goal.returns-clause-coded
 returns-clause-coded g = main_coded
