@@ -1,5 +1,5 @@
 -- What is known of the context that a domain enters: its own number, or the number of what is remembered.
-use Rattle.std.proofs.Common.{◌≡◌, ◌∙◌, ℕ, zero, suc, Bool, true, false, ◌&&◌, ◌==◌, List, [], ◌∷◌, Option, Some, None, length, option_map, refl, sym, ap, subst, eqb-true, arith}
+use Rattle.std.proofs.Common.{◌≡◌, ◌∙◌, ℕ, Bool, true, false, ◌&&◌, ◌==◌, List, [], ◌∷◌, Option, Some, None, length, option_map, refl, sym, ap, subst, eqb-true, arith}
 use Rattle.std.specs.Prelude.{slice_get}
 use Rattle.jperm.specs.declared.permission.Permission.{Permission}
 use Rattle.jctx.specs.declared.item.Item.{Item}

@@ -49,6 +49,13 @@ impl Contexts {
         Ok(Contexts { all })
     }
 
+    /// How many contexts have numbers, which are those below.
+    pub fn len(&self) -> u64
+        ensures { result ≡ length self.now }
+    {
+        self.all.len() as u64
+    }
+
     /// The number that was given, and where none was, that of the context that restricts nothing.
     pub fn number_or_first(&self, n: Option<u64>) -> u64
         ensures value { result ≡ number_or_first n }

@@ -1,10 +1,11 @@
 use crate::permissions::reads;
 use jctx::{Context, enter, privileged, top};
 use jdomain::{Domains, Verdict};
+use jnumbered::Contexts;
 use jperm::Permission;
 use jtext::Units;
 use std::alloc::{AllocError, Global};
-use tests_rows::{Unread, number};
+use tests_rows::{Unread, first, number};
 
 /// The limits that a word names: to read a property, or none.
 fn limits_of(alloc: Global, directory: &Units, name: &str) -> Result<Vec<Permission>, Unread> {
@@ -104,4 +105,65 @@ pub fn verdict(
         Verdict::Granted => Ok(String::from_str(alloc, "granted")?),
         Verdict::Denied(domain) => Ok(format!(in alloc; "denied by {domain}")?),
     }
+}
+
+/// The number of a context behind one more word, where the words before have this number.
+fn number_behind(
+    alloc: Global,
+    directory: &Units,
+    contexts: &mut Contexts,
+    word: &str,
+    n: u64,
+) -> Result<u64, Unread> {
+    if n >= contexts.len() {
+        return Err(Unread::Line);
+    }
+    if let Some(domain) = word.strip_suffix('!') {
+        return Ok(contexts.privileged(alloc, number(domain)?, None, None, n)?);
+    }
+    match word.split_once(':') {
+        Some((domain, name)) => {
+            let limits = limits_of(alloc, directory, name)?;
+            Ok(contexts.privileged(alloc, number(domain)?, Some(0), Some(limits.as_slice()), n)?)
+        }
+        None => Ok(contexts.enter(alloc, n, number(word)?)?),
+    }
+}
+
+/// The number of the context that words make, the last one innermost, from that of a number on.
+fn number_of(
+    alloc: Global,
+    directory: &Units,
+    contexts: &mut Contexts,
+    words: &str,
+    n: u64,
+) -> Result<u64, Unread> {
+    let mut number = n;
+    for word in words.split(' ') {
+        number = number_behind(alloc, directory, contexts, word, number)?;
+    }
+    Ok(number)
+}
+
+/// What the context of a number shows, and how many contexts have numbers.
+fn counted(alloc: Global, contexts: &Contexts, n: u64) -> Result<String, Unread> {
+    let len = contexts.len();
+    if n >= len {
+        return Err(Unread::Line);
+    }
+    let text = shown(alloc, contexts.get(n))?;
+    Ok(format!(in alloc; "{}, {len}", text.as_str())?)
+}
+
+/// What contexts by number show where words stand behind those of a loop, so often: each turn begins with the same context.
+pub fn turns(alloc: Global, directory: &Units, fields: &str) -> Result<String, Unread> {
+    let (times, fields) = first(fields)?;
+    let (base, words) = first(fields)?;
+    let mut contexts = Contexts::open(alloc)?;
+    let from = number_of(alloc, directory, &mut contexts, base, 0)?;
+    let mut last = from;
+    for _ in 0..number::<u32>(times)? {
+        last = number_of(alloc, directory, &mut contexts, words, from)?;
+    }
+    counted(alloc, &contexts, last)
 }

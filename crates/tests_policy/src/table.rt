@@ -113,6 +113,7 @@ impl Table {
             "has" => self.has(alloc, fields),
             "context" => contexts::context(alloc, &self.directory, fields),
             "verdict" => self.verdict(alloc, fields),
+            "turns" => contexts::turns(alloc, &self.directory, fields),
             _ => self.found_below(alloc, kind, fields),
         }
     }
