@@ -7,9 +7,9 @@ use Rattle.jlib.specs.Calls as library_calls
 use Rattle.jprogram.specs.declared.member.Member.{Member}
 use Rattle.jprogram.specs.declared.member.Member.TheVariants.{Field, Method, LibField, LibMethod}
 use Rattle.jprogram.specs.declared.member.MethodId.{MethodId}
+use Rattle.jprogram.specs.declared.member.Selected.{Selected}
 use Rattle.jprogram.specs.declared.member.Selected.TheVariants as selected
 use Rattle.jprogram.specs.Classes as classes
-use Rattle.jprogram.specs.Classes.{Program}
 use Rattle.jprogram.specs.Members.{desc_of, first_by, is_abstract, methods_along, name_of, name_of_id, select}
 use Rattle.jtyped.specs.Laws.{HasCode, ItselfHasCode, SelectedHasCode}
 

@@ -6,6 +6,7 @@ use Rattle.jtypes.specs.declared.vtype.VType.{VType}
 use Rattle.jtypes.specs.Frames.{Frame, within}
 use Rattle.jtypes.specs.Tree.{Tree}
 use Rattle.jprogram.specs.declared.member.Member.{Member}
+use Rattle.juses.specs.Instructions.{Instruction}
 use Rattle.jrule.specs.Effects.{Exchange, Want}
 use Rattle.jrule.specs.Here.{Here}
 use Rattle.jrule.specs.Operands.{below, exchanged, given, taken as types_taken, with_stack}
@@ -41,7 +42,7 @@ roomy most f stack g e = go (within most stack) e
     go true e = cc
     go false e = absurd (cc)
 
-given_leaves : (t : Tree) (most : ℕ) (wants : List Want) (f g : Frame) (rest : List VType) → below t wants f.stack ≡ Some rest → (gives : Option VType)
+pub given_leaves : (t : Tree) (most : ℕ) (wants : List Want) (f g : Frame) (rest : List VType) → below t wants f.stack ≡ Some rest → (gives : Option VType)
     → given most gives (with_stack f rest) ≡ Some g → Exchanged t wants gives f g
 given_leaves t most wants f g rest is None h =
     let at = some_is (with_stack f rest) g h in
@@ -68,23 +69,25 @@ taken_leaves t wants f g h = go (below t wants f.stack) refl h
 
 -- ---- one lemma for all that take operands
 
-module _ {K E : Type 0} (r : Rules K E) (at : Site) (own : Member → Bool) (s : Store K) (entries : List E) (inherited : Option K) (here : Here) (news : News) where
+module _ {K E : Type 0} (r : Rules K E) (at : Site) (own : Member → Bool) (s : Store K) (entries : List E) (inherited : Option K) (statics : List VType) (here : Here)
+    (news : News) (i : Instruction) where
   abbrev doing_of : FrameOf K E → Row K E → Doing K E
   doing_of f row = record { frame = f; row = row }
 
   abbrev pub AllHaveRow : List Want → Option VType → (List (Value K) → Option (Row K E)) → Type 0
-  AllHaveRow wants gives row = (given : List (Value K)) → AllServe at.world s wants given → HasRow {K = K} {E = E} at.world s here.returns gives (row given)
+  AllHaveRow wants gives row = (given : List (Value K)) → AllServe at.world s wants given → HasRow {K = K} {E = E} at.world s statics here news i gives (row given)
 
   -- operands serve, and the row gives what is said
   pub taken_does : (t : Tree) (wants : List Want) (gives : Option VType) → AreServed at.world s here news t wants
       → (row : List (Value K) → Option (Row K E)) → AllHaveRow wants gives row
       → (shape behind : Frame) (f : FrameOf K E) → Suits at.world s here news shape f → Exchanged t wants gives shape behind
-      → CanDo at.world s here news behind (by_taken r at own s entries inherited f (taken at.world s wants f.operands) row)
+      → CanDo at.world s statics here i behind (by_taken r at own s entries inherited f (taken at.world s wants f.operands) row)
   taken_does t wants gives served row rows shape behind f suits x =
       let have = took at.world s here news t wants served shape.stack f.operands x.rest suits.operands x.is in
       let found = rows have.values have.serve in record {
         done = doing_of (with_operands f have.under) found.row;
         is = ap (λ o. by_taken r at own s entries inherited f o row) have.is ∙ ap (option_map (doing_of (with_operands f have.under))) found.is;
+        news = news;
         does = record {
           gives = gives;
           rest = x.rest;

@@ -1,7 +1,10 @@
 -- Rows of instructions that jump, return and throw.
-use Rattle.std.proofs.Common.{◌≡◌, ℕ, zero, suc, ℤ, pos, Bool, true, false, ◌||◌, List, [], ◌∷◌, Option, Some, None, is_some, option_map, refl, sym, subst}
-use Rattle.std.specs.Prelude.{option_to_list}
+use Rattle.std.proofs.Common.{◌≡◌, ℕ, zero, suc, ℤ, pos, Bool, true, false, ◌||◌, List, [], ◌∷◌, map, Option, Some, None, is_some, option_map, refl, sym, subst}
+use Rattle.std.specs.Ordering.{int_eq}
+use Rattle.std.specs.Prelude.{option_to_list, if◌then◌else◌}
+use Rattle.jnames.specs.declared.kinds.Kind.{Kind}
 use Rattle.jnames.specs.declared.kinds.Kind.TheVariants as kinds
+use Rattle.jnames.specs.declared.kinds.Kinds.TheVariants as many
 use Rattle.jnames.specs.declared.names.Compare.{Compare}
 use Rattle.jnames.specs.declared.names.Compare.TheVariants as compares
 use Rattle.jops.specs.declared.value.Value.{Value}
@@ -10,13 +13,17 @@ use Rattle.jops.specs.Operations as operations
 use Rattle.jops.proofs.ByKinds.{test_there}
 use Rattle.jcode.specs.declared.names.RefTest.{RefTest}
 use Rattle.jcode.specs.declared.names.RefTest.TheVariants as refs
+use Rattle.jcode.specs.declared.names.Returned.{Returned}
+use Rattle.jcode.specs.declared.names.Returned.TheVariants as results
 use Rattle.jcode.specs.Forms as forms
 use Rattle.jtypes.specs.declared.vtype.VType.{VType}
 use Rattle.jtypes.specs.declared.vtype.VType.TheVariants as types
 use Rattle.jtypes.specs.Fitting as checked
-use Rattle.juses.specs.Instructions.{Test, Always, If, IfInt, IfRef}
+use Rattle.jclass.specs.Stored.{IsIn}
+use Rattle.juses.specs.Instructions.{Instruction, Jump, Switch, Throw, Test, Always, If, IfInt, IfRef, goes_on}
 use Rattle.jrule.specs.Effects.{Fits, Of, is_ref, of_kinds}
-use Rattle.jrule.specs.Straight.{tested}
+use Rattle.jrule.specs.Here.{Here}
+use Rattle.jrule.specs.Straight.{returns, tested}
 use Rattle.jrule.specs.Uses.{throwable}
 use Rattle.jmachine.specs.Acts.{Jumps, Row, Throws, free, raises}
 use Rattle.jmachine.specs.Store.{Store}
@@ -24,6 +31,9 @@ use Rattle.jmachine.specs.Straight.{branched, case_of, compared, holds, jump, le
 use Rattle.jmachine.specs.World.{World}
 use Rattle.jlib.specs.declared.classes.LibClass.TheVariants as lib
 use Rattle.jlib.specs.declared.classes.Thrown.TheVariants as thrown
+use Rattle.jtyped.specs.Frames.{News}
+use Rattle.jtyped.specs.Stores.{IsStored}
+use Rattle.jtyped.proofs.Growing.{grows_itself}
 use Rattle.jtyped.specs.Values.{AllServe, AreOf, IsA, Serves}
 use Rattle.jtyped.proofs.OfKinds.{int_value, ref_value}
 use Rattle.jtyped.proofs.Simples.{HasRow}
@@ -112,40 +122,64 @@ module _ {K : Type 0} (w : World) (s : Store K) where
       thrown_ref (types.Array b) e = refl
       thrown_ref _ e = absurd (cc)
 
-module _ {K E : Type 0} (w : World) (s : Store K) (ret : Option VType) where
-  abbrev IsRow : Option VType → Option (Row K E) → Type 0
-  IsRow gives found = HasRow {K = K} {E = E} w s ret gives found
+-- where a switch goes on is where one of its numbers leads
+case_in : (cases : List (ℤ × ℕ)) (other : ℕ) (key : ℤ) → IsIn (case_of key cases other) (other ∷ map (λ c. c.1) cases)
+unfolding case_of
+case_in [] other key = (0, refl)
+case_in (c ∷ cases) other key = go (int_eq c.0 key) (case_in cases other key)
+  where
+    go : (b : Bool) → IsIn (case_of key cases other) (other ∷ map (λ c. c.1) cases)
+        → IsIn (if b then c.1 else case_of key cases other) (other ∷ c.1 ∷ map (λ c. c.1) cases)
+    go true h = (1, refl)
+    go false (zero, e) = (zero, e)
+    go false (suc k, e) = (suc (suc k), e)
 
-  branch_row : (to : ℕ) (b : Bool) → IsRow None (Some (branched s to b))
-  branch_row to true = record { row = branched s to true; is = refl; act = refl }
-  branch_row to false = record { row = branched s to false; is = refl; act = (refl, tt) }
+module _ {K E : Type 0} (w : World) (s : Store K) (statics : List VType) (stored : IsStored w s statics) (here : Here) (news : News) where
+  abbrev IsRow : Instruction → Option VType → Option (Row K E) → Type 0
+  IsRow i gives found = HasRow {K = K} {E = E} w s statics here news i gives found
 
-  pub jump_row : (test : Test) (to : ℕ) (given : List (Value K)) → AllServe w s (of_kinds (tested test)) given → IsRow None (jump s test to given)
+  branch_row : (test : Test) (to : ℕ) → goes_on (Jump test to) ≡ true → (b : Bool) → IsRow (Jump test to) None (Some (branched s to b))
+  branch_row test to on true = record { row = branched s to true; is = refl; act = ((0, refl), refl) }
+  branch_row test to on false = record { row = branched s to false; is = refl; act = (on, grows_itself K w s, stored, tt) }
+
+  tested_row : (test : Test) (to : ℕ) → goes_on (Jump test to) ≡ true → (given : List (Value K)) → AllServe w s (of_kinds (tested test)) given
+      → IsRow (Jump test to) None (jump s test to given)
   unfolding jump
-  jump_row test to given h = let x = held w s test given h in subst (λ o. IsRow None (option_map (branched s to) o)) (sym x.1) (branch_row to x.0)
+  tested_row test to on given h = let x = held w s test given h in subst (λ o. IsRow (Jump test to) None (option_map (branched s to) o)) (sym x.1) (branch_row test to on x.0)
 
-  key_row : (cases : List (ℤ × ℕ)) (other : ℕ) (x : ℤ) → IsRow None (switch {K = K} cases other (Int x ∷ []))
+  always_row : (to : ℕ) → IsRow (Jump Always to) None (jump {K = K} s Always to [])
+  unfolding jump
+  always_row to = record { row = branched s to true; is = refl; act = ((0, refl), refl) }
+
+  pub jump_row : (test : Test) (to : ℕ) (given : List (Value K)) → AllServe w s (of_kinds (tested test)) given → IsRow (Jump test to) None (jump s test to given)
+  jump_row Always to [] h = always_row to
+  jump_row Always to (v ∷ more) h = absurd h
+  jump_row (If test) to given h = tested_row (If test) to refl given h
+  jump_row (IfInt test) to given h = tested_row (IfInt test) to refl given h
+  jump_row (IfRef test) to given h = tested_row (IfRef test) to refl given h
+
+  key_row : (cases : List (ℤ × ℕ)) (other : ℕ) (x : ℤ) → IsRow (Switch cases other) None (switch {K = K} cases other (Int x ∷ []))
   unfolding switch
-  key_row cases other x = record { row = free (Jumps (case_of x cases other)); is = refl; act = refl }
+  key_row cases other x = record { row = free (Jumps (case_of x cases other)); is = refl; act = (case_in cases other x, refl) }
 
-  pub switch_row : (cases : List (ℤ × ℕ)) (other : ℕ) (given : List (Value K)) → AllServe w s (Of kinds.Int ∷ []) given → IsRow None (switch cases other given)
-  switch_row cases other (v ∷ []) h = let i = int_value w s v h.0 in subst (λ v. IsRow None (switch cases other (v ∷ []))) (sym i.1) (key_row cases other i.0)
+  pub switch_row : (cases : List (ℤ × ℕ)) (other : ℕ) (given : List (Value K)) → AllServe w s (Of kinds.Int ∷ []) given → IsRow (Switch cases other) None (switch cases other given)
+  switch_row cases other (v ∷ []) h = let i = int_value w s v h.0 in subst (λ v. IsRow (Switch cases other) None (switch cases other (v ∷ []))) (sym i.1) (key_row cases other i.0)
   switch_row cases other [] h = absurd h
   switch_row cases other (v ∷ u ∷ more) h = absurd h.1
 
   -- ---- throws
 
-  ref_thrown : (n : ℕ) → IsA w s throwable (Ref n) → IsRow None (throw (Ref n ∷ []))
+  ref_thrown : (n : ℕ) → IsA w s throwable (Ref n) → IsRow Throw None (throw (Ref n ∷ []))
   unfolding throw
   ref_thrown zero h = record { row = raises (lib.Thrown thrown.NullPointerException); is = refl; act = tt }
-  ref_thrown (suc n) h = record { row = free (Throws (suc n)); is = refl; act = h }
+  ref_thrown (suc n) h = record { row = free (Throws (suc n)); is = refl; act = (h, λ e. cc) }
 
-  pub throw_row : (given : List (Value K)) → AllServe w s (Fits throwable ∷ []) given → IsRow None (throw given)
-  throw_row (v ∷ []) h = let i = ref_of w s v h.0 in subst (λ v. IsRow None (throw (v ∷ []))) (sym i.1) (ref_thrown i.0 (subst (λ v. IsA w s throwable v) i.1 h.0))
+  pub throw_row : (given : List (Value K)) → AllServe w s (Fits throwable ∷ []) given → IsRow Throw None (throw given)
+  throw_row (v ∷ []) h = let i = ref_of w s v h.0 in subst (λ v. IsRow Throw None (throw (v ∷ []))) (sym i.1) (ref_thrown i.0 (subst (λ v. IsA w s throwable v) i.1 h.0))
   throw_row [] h = absurd h
   throw_row (v ∷ u ∷ more) h = absurd h.1
 
   -- ---- returns
 
-  pub leave_row : (given : List (Value K)) → AreOf w s (option_to_list ret) given → IsRow None (leave given)
-  leave_row given h = record { row = _; is = refl; act = (refl, h) }
+  pub leave_row : (i : Instruction) (given : List (Value K)) → AreOf w s (option_to_list here.returns) given → IsRow i None (leave given)
+  leave_row i given h = record { row = _; is = refl; act = (refl, h) }

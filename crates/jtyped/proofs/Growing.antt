@@ -9,7 +9,7 @@ use Rattle.jtypes.specs.declared.vtype.VType.TheVariants as types
 use Rattle.jrule.specs.Effects.{Want}
 use Rattle.jrule.specs.Here.{Here}
 use Rattle.jmachine.specs.Objects.{Object, class_of}
-use Rattle.jmachine.specs.Store.{Store, object_at}
+use Rattle.jmachine.specs.Store.{Store, object_at, with_constant, with_made}
 use Rattle.jmachine.specs.World.{World}
 use Rattle.jtyped.specs.Frames.{AllHave, AllHold, Has, Holds, IsMade, News}
 use Rattle.jtyped.specs.Growing.{Becomes, Grows, GrowsChanged, GrowsItself, GrowsMade, GrowsOn, SuitsLater}
@@ -49,7 +49,7 @@ module _ {K : Type 0} (w : World) (s t : Store K) (grows : Grows w s t) where
   made_kept (Some c) n h = let later = grows n h.0 h.1 in (later.0, later.1, later.2.class ∙ h.2, later.2.piece ∙ h.3)
 
   module _ (here : Here) (news : News) where
-    has_kept : (a : VType) (v : Value K) → Has w s here news a v → Has w t here news a v
+    pub has_kept : (a : VType) (v : Value K) → Has w s here news a v → Has w t here news a v
     has_kept types.Top v h = tt
     has_kept types.UninitThis v h = (h.0, (serves_kept _ _ h.1.0, h.1.1))
     has_kept (types.Uninit o) v h = (h.0, made_kept (here.makes o) (news.made o) h.1)
@@ -57,7 +57,7 @@ module _ {K : Type 0} (w : World) (s t : Store K) (grows : Grows w s t) where
     has_kept types.Long v h = serves_kept _ v h
     has_kept types.Null v h = serves_kept _ v h
     has_kept (types.Object c) v h = serves_kept _ v h
-    has_kept (types.Array b) v h = serves_kept _ v h
+    has_kept (types.Array b) v h = (serves_kept _ v h.0, h.1)
     has_kept types.Ctx v h = serves_kept _ v h
 
     pub have_kept : (ts : List VType) (vs : List (Value K)) → AllHave w s here news ts vs → AllHave w t here news ts vs
@@ -105,11 +105,16 @@ pub grows_made : (K : Type 0) → GrowsMade K
 grows_made K w s made zero x at = absurd (cc)
 grows_made K w s made (suc n) x at = (x, get_front s.objects (made ∷ []) n x at, itself w x)
 
+-- with the string of a constant, which is told
+pub grows_constant : (K : Type 0) (w : World) (s : Store K) (units : List ℕ) (made : Object K) → Grows w s (with_made (with_constant s units) made)
+grows_constant K w s units made zero x at = absurd (cc)
+grows_constant K w s units made (suc n) x at = (x, get_front s.objects (made ∷ []) n x at, itself w x)
+
 -- what stands in a place of a list with another item in one of its places
-abbrev Stands : {A : Type 0} → List A → ℕ → A → A → ℕ → A → Type 0
+abbrev pub Stands : {A : Type 0} → List A → ℕ → A → A → ℕ → A → Type 0
 Stands {A} xs n x y i z = ((i ≡ n) × (z ≡ x) × (slice_get (slice_set xs n y) i ≡ Some y)) ⊎ (slice_get (slice_set xs n y) i ≡ Some z)
 
-placed : {A : Type 0} (xs : List A) (n : ℕ) (x y : A) → slice_get xs n ≡ Some x → (i : ℕ) (z : A) → slice_get xs i ≡ Some z → Stands xs n x y i z
+pub placed : {A : Type 0} (xs : List A) (n : ℕ) (x y : A) → slice_get xs n ≡ Some x → (i : ℕ) (z : A) → slice_get xs i ≡ Some z → Stands xs n x y i z
 placed [] n x y e i z f = absurd (cc)
 placed (a ∷ xs) zero x y e zero z f = inl (refl, some_is z x (sym f ∙ e), refl)
 placed (a ∷ xs) zero x y e (suc i) z f = inr f

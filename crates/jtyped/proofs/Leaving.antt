@@ -15,6 +15,7 @@ use Rattle.jtypes.specs.Fitting as checked
 use Rattle.jtypes.specs.Frames.{Frame, is_long}
 use Rattle.jtypes.specs.Tree.{Tree}
 use Rattle.jprogram.specs.declared.member.Member.{Member}
+use Rattle.juses.specs.Instructions.{Instruction}
 use Rattle.jrule.specs.Effects.{Fits, Of, is_int, is_of, is_ref, of_kinds}
 use Rattle.jrule.specs.Here.{Here}
 use Rattle.jrule.specs.Operands.{below, taken as types_taken}
@@ -32,6 +33,7 @@ use Rattle.jmachine.specs.World.{World, fits}
 use Rattle.jtyped.specs.Doings.{CanDo}
 use Rattle.jtyped.specs.Fitting.{IsValueType}
 use Rattle.jtyped.specs.Frames.{AllHave, AllHold, News, Suits}
+use Rattle.jtyped.specs.Stores.{IsStored}
 use Rattle.jtyped.specs.Values.{AllServe, AreOf, IsA}
 use Rattle.jtyped.proofs.Exchanging.{Exchanged, taken_does, taken_leaves}
 use Rattle.jtyped.proofs.Fitting.{InOrder}
@@ -84,19 +86,20 @@ module _ {K : Type 0} (w : World) (s : Store K) (here : Here) (news : News) wher
         fit = subst (λ ts. AllHave w s here news ts operands) (same_rest ts rest test.1) fit.1;
       }
 
-module _ {K E : Type 0} (r : Rules K E) (at : Site) (own : Member → Bool) (s : Store K) (entries : List E) (inherited : Option K) (here : Here) (news : News)
-    (t : Tree) (same : t ≡ at.world.tree) (order : InOrder at.world.tree) (shape behind : Frame) (f : FrameOf K E) (suits : Suits at.world s here news shape f) where
+module _ {K E : Type 0} (r : Rules K E) (at : Site) (own : Member → Bool) (s : Store K) (entries : List E) (inherited : Option K) (statics : List VType) (stored : IsStored at.world s statics)
+    (here : Here) (news : News) (t : Tree) (same : t ≡ at.world.tree) (order : InOrder at.world.tree) (shape behind : Frame) (f : FrameOf K E) (suits : Suits at.world s here news shape f) where
   fit_served : (b : VType) → IsValueType b → IsServed at.world s here news t (Fits b)
   fit_served b value = subst (λ t. IsServed at.world s here news t (Fits b)) (sym same) (λ a v x m. has_want at.world s order here news (Fits b) a v value x m)
 
-  abbrev Left : Kinds → Type 0
-  Left ks = CanDo at.world s here news behind (by_taken r at own s entries inherited f (taken at.world s (of_kinds ks) f.operands) leave)
+  abbrev Left : Instruction → Kinds → Type 0
+  Left i ks = CanDo at.world s statics here i behind (by_taken r at own s entries inherited f (taken at.world s (of_kinds ks) f.operands) leave)
 
-  left_one : (k : Kind) (b : VType) → here.returns ≡ Some b → IsKept at.world k b → IsValueType b → Exchanged t (Fits b ∷ []) None shape behind → Left (many.One k)
-  left_one k b ret kept value x =
+  left_one : (i : Instruction) (k : Kind) (b : VType) → here.returns ≡ Some b → IsKept at.world k b → IsValueType b → Exchanged t (Fits b ∷ []) None shape behind → Left i (many.One k)
+  left_one i k b ret kept value x =
       let one = took_one at.world s here news t k b kept (fit_served b value) shape.stack f.operands x.rest suits.operands x.is in record {
         done = record { frame = with_operands f one.under; row = free (Leaves (one.value ∷ [])) };
         is = ap (λ o. by_taken r at own s entries inherited f o leave) one.is;
+        news = news;
         does = record {
           gives = None;
           rest = x.rest;
@@ -107,27 +110,27 @@ module _ {K E : Type 0} (r : Rules K E) (at : Site) (own : Member → Bool) (s :
         };
       }
 
-  left_none : here.returns ≡ None → Exchanged t [] None shape behind → Left many.None
-  left_none ret x = taken_does r at own s entries inherited here news t [] None tt leave
-      (λ given h. leave_row at.world s here.returns given (subst (λ ret. AreOf at.world s (option_to_list ret) given) (sym ret) (none_given given h))) shape behind f suits x
+  left_none : (i : Instruction) → here.returns ≡ None → Exchanged t [] None shape behind → Left i many.None
+  left_none i ret x = taken_does r at own s entries inherited statics here news i t [] None tt leave
+      (λ given h. leave_row at.world s statics stored here news i given (subst (λ ret. AreOf at.world s (option_to_list ret) given) (sym ret) (none_given given h))) shape behind f suits x
     where
       none_given : (given : List (Value K)) → AllServe at.world s [] given → AreOf at.world s [] given
       none_given [] h = tt
       none_given (v ∷ given) h = h
 
-  left : (kind : Returned) (ret : Option VType) → here.returns ≡ ret → returns kind ret ≡ true → Exchanged t (map Fits (option_to_list ret)) None shape behind → Left (returned kind)
-  left results.Int (Some types.Int) is e x = left_one kinds.Int types.Int is (λ a f. ap is_int (int_fits at.world a f)) tt x
-  left results.Long (Some types.Long) is e x = left_one kinds.Long types.Long is (λ a f. ap is_long (long_fits at.world a f)) tt x
-  left results.Ref (Some b) is e x = left_one kinds.Ref b is (ref_kept at.world b e) (ref_value_type b e) x
-  left results.Nothing None is e x = left_none is x
-  left _ _ is e x = absurd (cc)
+  left : (i : Instruction) (kind : Returned) (ret : Option VType) → here.returns ≡ ret → returns kind ret ≡ true → Exchanged t (map Fits (option_to_list ret)) None shape behind → Left i (returned kind)
+  left i results.Int (Some types.Int) is e x = left_one i kinds.Int types.Int is (λ a f. ap is_int (int_fits at.world a f)) tt x
+  left i results.Long (Some types.Long) is e x = left_one i kinds.Long types.Long is (λ a f. ap is_long (long_fits at.world a f)) tt x
+  left i results.Ref (Some b) is e x = left_one i kinds.Ref b is (ref_kept at.world b e) (ref_value_type b e) x
+  left i results.Nothing None is e x = left_none i is x
+  left i _ _ is e x = absurd (cc)
 
   and_left : (a b : Bool) → a && b ≡ true → a ≡ true
   and_left true b e = refl
   and_left false b e = absurd (cc)
 
-  pub leave_does : (kind : Returned) → rule_straight.leave t here.is_init here.returns kind shape ≡ Some behind → Left (returned kind)
-  leave_does kind e =
+  pub leave_does : (i : Instruction) (kind : Returned) → rule_straight.leave t here.is_init here.returns kind shape ≡ Some behind → Left i (returned kind)
+  leave_does i kind e =
       let allowed = may_leave here.is_init kind shape.flag in
       let test = if_some (returns kind here.returns && allowed) (types_taken t (map Fits (option_to_list here.returns)) shape) behind e in
-      left kind here.returns refl (and_left (returns kind here.returns) allowed test.0) (taken_leaves t (map Fits (option_to_list here.returns)) shape behind test.1)
+      left i kind here.returns refl (and_left (returns kind here.returns) allowed test.0) (taken_leaves t (map Fits (option_to_list here.returns)) shape behind test.1)

@@ -1,6 +1,7 @@
 -- Instructions with a local in typed frames.
 use Rattle.std.proofs.Common.{◌≡◌, ℕ, zero, suc, ◌+◌, ℤ, ◌+ℤ◌, Bool, true, false, ◌&&◌, List, [], ◌∷◌, length, Option, Some, None, option_map, refl, sym, ap, subst, ◌∙◌}
 use Rattle.std.specs.Prelude.{nat_le, option_and_then, slice_get, slice_set, if◌then◌else◌}
+use Rattle.jnames.specs.declared.kinds.Kind.{Kind}
 use Rattle.jnames.specs.declared.kinds.Kind.TheVariants as kinds
 use Rattle.jops.specs.declared.value.Value.{Value}
 use Rattle.jops.specs.declared.value.Value.TheVariants.{Int}
@@ -18,6 +19,7 @@ use Rattle.jtypes.specs.declared.vtype.VType.TheVariants as types
 use Rattle.jtypes.specs.Frames as shapes
 use Rattle.jtypes.specs.Frames.{Frame, is_long}
 use Rattle.jprogram.specs.declared.member.Member.{Member}
+use Rattle.juses.specs.Instructions.{Instruction, goes_on}
 use Rattle.jrule.specs.Effects.{is_int, is_of}
 use Rattle.jrule.specs.Here.{Here}
 use Rattle.jrule.specs.Locals as rule_locals
@@ -31,6 +33,8 @@ use Rattle.jmachine.specs.Sites.{Site}
 use Rattle.jmachine.specs.Store.{Store}
 use Rattle.jmachine.specs.Straight.{Held, holding, increased, loaded, local, local_at, places, stored, with_local}
 use Rattle.jmachine.specs.World.{World}
+use Rattle.jtyped.specs.Stores.{IsStored}
+use Rattle.jtyped.proofs.Growing.{grows_itself}
 use Rattle.jtyped.specs.Doings.{CanDo}
 use Rattle.jtyped.specs.Frames.{AllHave, AllHold, Has, Holds, News}
 use Rattle.jtyped.proofs.Exchanging.{roomy}
@@ -251,13 +255,15 @@ module _ {K : Type 0} (w : World) (s : Store K) (here : Here) (news : News) wher
   local_does most (Moves Keep kind n) shape behind h fit fits e = store_does kind n shape behind shape.stack h.locals h.operands fit fits e
   local_does most (Increment n by) shape behind h fit fits e = increment_does n by shape behind h fit fits e
 
-module _ {K E : Type 0} (r : Rules K E) (at : Site) (own : Member → Bool) (s : Store K) (entries : List E) (inherited : Option K) (here : Here) (news : News) where
+module _ {K E : Type 0} (r : Rules K E) (at : Site) (own : Member → Bool) (s : Store K) (entries : List E) (inherited : Option K) (statics : List VType) (stored : IsStored at.world s statics)
+    (here : Here) (news : News) (i : Instruction) (on : goes_on i ≡ true) where
   abbrev doing_of : FrameOf K E → Held K → Doing K E
   doing_of f h = record { frame = with_held f h; row = gives s [] }
 
-  pub held_does : (behind : Frame) (f : FrameOf K E) (found : Option (Held K)) → Kept at.world s here news behind found → CanDo at.world s here news behind (by_held r at own s entries inherited f found)
+  pub held_does : (behind : Frame) (f : FrameOf K E) (found : Option (Held K)) → Kept at.world s here news behind found → CanDo at.world s statics here i behind (by_held r at own s entries inherited f found)
   held_does behind f found k = record {
     done = doing_of f k.held;
     is = ap (option_map (doing_of f)) k.is;
-    does = record { gives = None; rest = behind.stack; stack = refl; locals = k.locals; operands = k.operands; act = (refl, tt) };
+    news = news;
+    does = record { gives = None; rest = behind.stack; stack = refl; locals = k.locals; operands = k.operands; act = (on, grows_itself K at.world s, stored, tt) };
   }

@@ -216,14 +216,16 @@ module _ {K : Type 0} (w : World) (s : Store K) (here : Here) (news : News) wher
   abbrev after : ℕ → Frame → Option (Move VType) → Option Frame
   after most shape o = option_and_then (with_room most shape) (option_map (moved shape.stack) o)
 
-  types_move : (op : Shuffle) (ts : List VType) (vs : List (Value K)) (h : AllHave w s here news ts vs) → option_map (move_map type_in) (shuffle op (pairs ts vs h)) ≡ shuffle op (items ts)
+  types_move : (op : Shuffle) (ts : List VType) (vs : List (Value K)) (h : AllHave w s here news ts vs)
+      → option_map (move_map type_in) (shuffle op (pairs ts vs h)) ≡ shuffle op (items ts)
   types_move op ts vs h = shuffle_alike type_in op (pairs ts vs h) ∙ ap (shuffle op) (types_are ts vs h)
 
   values_move : (op : Shuffle) (ts : List VType) (vs : List (Value K)) (h : AllHave w s here news ts vs) (m : Move Paired) → shuffle op (pairs ts vs h) ≡ Some m
       → shuffle op (map shuffles.item vs) ≡ Some (move_map value_in m)
   values_move op ts vs h m e =
       let x = values_are ts vs h in
-      let front : shuffle op (map (item_map value_in) (pairs ts vs h)) ≡ Some (move_map value_in m) = sym (shuffle_alike value_in op (pairs ts vs h)) ∙ ap (option_map (move_map value_in)) e in
+      let front : shuffle op (map (item_map value_in) (pairs ts vs h)) ≡ Some (move_map value_in m) = sym (shuffle_alike value_in op (pairs ts vs h))
+      ∙ ap (option_map (move_map value_in)) e in
       ap (shuffle op) x.1 ∙ (shuffle_front op (map (item_map value_in) (pairs ts vs h)) x.0 (move_map value_in m) front).0
 
   pub stack_does : (most : ℕ) (op : Shuffle) (shape behind : Frame) (h : Held K) → AllHold w s here news shape.locals h.locals → AllHave w s here news shape.stack h.operands
@@ -231,7 +233,8 @@ module _ {K : Type 0} (w : World) (s : Store K) (here : Here) (news : News) wher
   unfolding machine.stack
   stack_does most op shape behind h fit fits e = go (shuffle op (pairs shape.stack h.operands fits)) refl
     where
-      go : (o : Option (Move Paired)) → shuffle op (pairs shape.stack h.operands fits) ≡ o → Kept w s here news behind (option_map (λ m. holding h.locals (machine.moved h.operands m)) (shuffle op (map shuffles.item h.operands)))
+      go : (o : Option (Move Paired)) → shuffle op (pairs shape.stack h.operands fits) ≡ o
+          → Kept w s here news behind (option_map (λ m. holding h.locals (machine.moved h.operands m)) (shuffle op (map shuffles.item h.operands)))
       go None is =
           let same : after most shape None ≡ Some behind = ap (after most shape) (ap (option_map (move_map type_in)) (sym is) ∙ types_move op shape.stack h.operands fits) ∙ e in
           absurd (no_frame behind same)

@@ -1,5 +1,5 @@
 -- Kinds of values, by the types that are known of them.
-use Rattle.std.proofs.Common.{◌≡◌, ℕ, zero, suc, ℤ, Bool, true, false, ◌||◌, Option, Some, None, refl, sym, ap, subst, ◌∙◌}
+use Rattle.std.proofs.Common.{◌≡◌, ℕ, zero, suc, ℤ, Bool, true, false, ◌||◌, List, Option, Some, None, refl, sym, ap, subst, ◌∙◌}
 use Rattle.std.specs.Bool.{⊤}
 use Rattle.std.specs.Prelude.{if◌then◌else◌}
 use Rattle.jnames.specs.declared.kinds.Kind.{Kind}
@@ -8,6 +8,7 @@ use Rattle.jops.specs.declared.value.Value.{Value}
 use Rattle.jops.specs.declared.value.Value.TheVariants.{Int, Long, Ref, Ctx}
 use Rattle.jops.specs.Kinds as values
 use Rattle.jops.specs.Shuffles as shuffles
+use Rattle.jtypes.specs.declared.vtype.ArrayType.{ArrayType}
 use Rattle.jtypes.specs.declared.vtype.VType.{VType}
 use Rattle.jtypes.specs.declared.vtype.VType.TheVariants as types
 use Rattle.jrule.specs.Effects.{Want, Fits, Of, is_of, is_ref}
@@ -121,7 +122,7 @@ module _ {K : Type 0} (w : World) (s : Store K) where
   has_kind here news k types.Long v h x e = record { type = x.type; is = x.is; met = kind_kept w k x.type types.Long h x.met e }
   has_kind here news k types.Null v h x e = record { type = x.type; is = x.is; met = kind_kept w k x.type types.Null h x.met e }
   has_kind here news k (types.Object c) v h x e = record { type = x.type; is = x.is; met = kind_kept w k x.type (types.Object c) h x.met e }
-  has_kind here news k (types.Array b) v h x e = record { type = x.type; is = x.is; met = kind_kept w k x.type (types.Array b) h x.met e }
+  has_kind here news k (types.Array b) v h x e = record { type = x.0.type; is = x.0.is; met = kind_kept w k x.0.type (types.Array b) h x.0.met e }
   has_kind here news k types.Ctx v h x e = record { type = x.type; is = x.is; met = kind_kept w k x.type types.Ctx h x.met e }
 
   -- ---- the machine finds it too
@@ -143,10 +144,10 @@ module _ {K : Type 0} (w : World) (s : Store K) where
 
   -- ---- numbers
 
-  abbrev Of_class : VType → Option (Object K) → Type 0
+  abbrev pub Of_class : VType → Option (Object K) → Type 0
   Of_class a o = (x : Object K) × (o ≡ Some x) × (a ≡ class_of w.named x)
 
-  whole_class : (o : Option (Object K)) (a : VType) → whole_type w s o ≡ Some a → Of_class a o
+  pub whole_class : (o : Option (Object K)) (a : VType) → whole_type w s o ≡ Some a → Of_class a o
   whole_class None a e = absurd (cc)
   whole_class (Some x) a e = (x, refl, go (is_whole x) e)
     where
@@ -211,6 +212,20 @@ module _ {K : Type 0} (w : World) (s : Store K) where
   ref_value (Long x) h = absurd (never (sym (ap (is_of kinds.Ref) (some_is h.type types.Long (sym h.is))) ∙ h.met))
   ref_value (Ctx k) h = absurd (never (sym (ap (is_of kinds.Ref) (some_is h.type types.Ctx (sym h.is))) ∙ h.met))
 
+  abbrev IsArray : Object K → Type 0
+  IsArray x = (a : ArrayType) × (items : List (Value K)) × (x ≡ Array a items)
+
+  array_object : (x : Object K) → is_of kinds.Array (class_of w.named x) ≡ true → IsArray x
+  array_object (Array a items) e = (a, items, refl)
+  array_object _ e = absurd (cc)
+
+  -- a reference to an array that isn't null names an array
+  pub array_value : (n : ℕ) → Serves w s (Of kinds.Array) (Ref (suc n)) → (a : ArrayType) × (items : List (Value K)) × (object_at s (suc n) ≡ Some (Array a items))
+  array_value n h =
+      let c = whole_class (object_at s (suc n)) h.type h.is in
+      let x = array_object c.0 (ap (is_of kinds.Array) (sym c.2) ∙ h.met) in
+      (x.0, x.1, c.1 ∙ ap (λ (x : Object K). Some x) x.2)
+
   -- a number is of its type
   pub int_is : (v : Value K) → values.is_of kinds.Int v ≡ true → Serves w s (Fits types.Int) v
   int_is (Int x) e = record { type = types.Int; is = refl; met = refl }
@@ -262,7 +277,7 @@ module _ {K : Type 0} (w : World) (s : Store K) where
   held_of here news (types.Uninit o) v x e = ap (values.is_of kinds.Held) x.0
   held_of here news types.Null v x e = held_is types.Null v refl x
   held_of here news (types.Object c) v x e = held_is (types.Object c) v refl x
-  held_of here news (types.Array b) v x e = held_is (types.Array b) v refl x
+  held_of here news (types.Array b) v x e = held_is (types.Array b) v refl x.0
   held_of here news types.Ctx v x e = held_is types.Ctx v refl x
   held_of here news types.Top v x e = absurd (cc)
   held_of here news types.Int v x e = absurd (cc)
@@ -282,5 +297,5 @@ module _ {K : Type 0} (w : World) (s : Store K) where
   as_long here news (types.Uninit o) v x e = sym (ap shuffles.is_long x.0)
   as_long here news types.Null v x e = sym (held_short v (held_is types.Null v refl x))
   as_long here news (types.Object c) v x e = sym (held_short v (held_is (types.Object c) v refl x))
-  as_long here news (types.Array b) v x e = sym (held_short v (held_is (types.Array b) v refl x))
+  as_long here news (types.Array b) v x e = sym (held_short v (held_is (types.Array b) v refl x.0))
   as_long here news types.Ctx v x e = sym (held_short v (held_is types.Ctx v refl x))

@@ -43,6 +43,7 @@ module _ (p : Program) (stands : StandsInOrder p) where
 
   pub in_order : InOrder (tree p)
   in_order = record {
+    itself = λ c. extending.extends_itself p c.0;
     chain = λ c d e first second. extending.extends_chain p stands c.0 d.0 e.0 first second;
     object = λ c d at. ap (extends p c.0) at ∙ extending.extends_object p c.0;
     last = λ c d at e. last c.0 d.0 at e;

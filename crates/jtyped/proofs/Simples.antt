@@ -26,12 +26,17 @@ use Rattle.jcode.specs.declared.form.Simple.TheVariants as simples
 use Rattle.jcode.specs.Forms.{listed, simple_effect}
 use Rattle.jtypes.specs.declared.vtype.VType.{VType}
 use Rattle.jtypes.specs.declared.vtype.VType.TheVariants as types
+use Rattle.juses.specs.Instructions.{Instruction, goes_on}
 use Rattle.jrule.specs.Effects.{Of, by_effect, of_kinds, typed}
+use Rattle.jrule.specs.Here.{Here}
 use Rattle.jmachine.specs.Acts.{Row, gives}
 use Rattle.jmachine.specs.Store.{Store}
 use Rattle.jmachine.specs.Straight.{gives_one, quotient, simple}
 use Rattle.jmachine.specs.World.{World}
-use Rattle.jtyped.specs.Values.{AllServe, AreOf, Serves}
+use Rattle.jtyped.specs.Frames.{AllHave, News}
+use Rattle.jtyped.specs.Values.{AllServe, Serves}
+use Rattle.jtyped.specs.Stores.{IsStored}
+use Rattle.jtyped.proofs.Growing.{grows_itself}
 use Rattle.jtyped.specs.Doings.{GivesOf}
 use Rattle.jtyped.proofs.OfKinds.{int_is, int_value, long_is, long_value}
 use Rattle.jtyped.proofs.Taking.{ArePlain}
@@ -126,7 +131,7 @@ simple_plain (simples.One op) = one_plain (one_effect op) (one_is op)
 
 -- ---- rows
 
-module _ {K : Type 0} (w : World) (s : Store K) where
+module _ {K : Type 0} (w : World) (s : Store K) (here : Here) (news : News) where
   -- a value of a number's kind
   value_kind : (k : Kind) → IsNumber k → (v : Value K) → Serves w s (Of k) v → values.is_of k v ≡ true
   value_kind kinds.Int h v x = ap (values.is_of kinds.Int) (int_value w s v x).1
@@ -134,7 +139,7 @@ module _ {K : Type 0} (w : World) (s : Store K) where
   value_kind _ h v x = absurd h
 
   -- a value that is given is of the type that is pushed
-  given_is : (k : Kind) → IsNumber k → (v : Value K) → values.is_of k v ≡ true → AreOf w s (option_to_list (option_and_then typed (Some k))) (v ∷ [])
+  given_is : (k : Kind) → IsNumber k → (v : Value K) → values.is_of k v ≡ true → AllHave w s here news (option_to_list (option_and_then typed (Some k))) (v ∷ [])
   given_is kinds.Int h v e = (int_is w s v e, tt)
   given_is kinds.Long h v e = (long_is w s v e, tt)
   given_is _ h v e = absurd h
@@ -170,58 +175,61 @@ module _ {K : Type 0} (w : World) (s : Store K) where
 
   -- ---- what is given
 
-  given_by : (e : Effect) (g : Kind) → e.gives ≡ Some g → IsNumber g → (v : Value K) → is_given e.gives v ≡ true → AreOf w s (option_to_list (by_effect e).gives) (v ∷ [])
+  given_by : (e : Effect) (g : Kind) → e.gives ≡ Some g → IsNumber g → (v : Value K) → is_given e.gives v ≡ true → AllHave w s here news (option_to_list (by_effect e).gives) (v ∷ [])
   given_by e g is number v h =
-      subst (λ o. AreOf w s (option_to_list (option_and_then typed o)) (v ∷ [])) (sym is) (given_is g number v (sym (ap (λ o. is_given o v) is) ∙ h))
+      subst (λ o. AllHave w s here news (option_to_list (option_and_then typed o)) (v ∷ [])) (sym is) (given_is g number v (sym (ap (λ o. is_given o v) is) ∙ h))
 
-module _ {K E : Type 0} (w : World) (s : Store K) where
+module _ {K E : Type 0} (w : World) (s : Store K) (statics : List VType) (here : Here) (news : News) (i : Instruction) where
   -- There is a row, and it gives what is said.
-  pub record HasRow (returns gives : Option VType) (found : Option (Row K E)) : Type 0 where
+  pub record HasRow (gives : Option VType) (found : Option (Row K E)) : Type 0 where
     pub row : Row K E
     pub is : found ≡ Some row
-    pub act : GivesOf {K = K} {E = E} w s returns gives row.act
+    pub act : GivesOf {K = K} {E = E} w s statics here news i gives row.act
 
-  abbrev Gives : Option VType → Effect → Option (Row K E) → Type 0
-  Gives returns e found = HasRow returns (by_effect e).gives found
+-- of instructions behind which another may follow
+module _ {K E : Type 0} (w : World) (s : Store K) (statics : List VType) (stored : IsStored w s statics) (i : Instruction) (on : goes_on i ≡ true)
+    (here : Here) (news : News) where
+  abbrev Gives : Effect → Option (Row K E) → Type 0
+  Gives e found = HasRow {K = K} {E = E} w s statics here news i (by_effect e).gives found
 
-  some_row : (returns : Option VType) (e : Effect) (found : Option (Value K)) → is_some found ≡ true → ((v : Value K) → found ≡ Some v → AreOf w s (option_to_list (by_effect e).gives) (v ∷ []))
-      → Gives returns e (gives_one s found)
-  some_row returns e None there given = absurd (cc)
-  some_row returns e (Some v) there given = record { row = gives s (v ∷ []); is = refl; act = (refl, given v refl) }
+  some_row : (e : Effect) (found : Option (Value K)) → is_some found ≡ true → ((v : Value K) → found ≡ Some v → AllHave w s here news (option_to_list (by_effect e).gives) (v ∷ []))
+      → Gives e (gives_one s found)
+  some_row e None there given = absurd (cc)
+  some_row e (Some v) there given = record { row = gives s (v ∷ []); is = refl; act = (on, grows_itself K w s, stored, given v refl) }
 
-  some_quotient : (returns : Option VType) (e : Effect) (found : Option (Result (Value K) DivideByZero)) → is_some found ≡ true
-      → ((v : Value K) → found ≡ Some (Ok v) → AreOf w s (option_to_list (by_effect e).gives) (v ∷ [])) → Gives returns e (option_map (quotient s) found)
-  some_quotient returns e None there given = absurd (cc)
-  some_quotient returns e (Some (Ok v)) there given = record { row = gives s (v ∷ []); is = refl; act = (refl, given v refl) }
-  some_quotient returns e (Some (Err fault)) there given = record { row = quotient s (Err fault); is = refl; act = tt }
+  some_quotient : (e : Effect) (found : Option (Result (Value K) DivideByZero)) → is_some found ≡ true
+      → ((v : Value K) → found ≡ Some (Ok v) → AllHave w s here news (option_to_list (by_effect e).gives) (v ∷ [])) → Gives e (option_map (quotient s) found)
+  some_quotient e None there given = absurd (cc)
+  some_quotient e (Some (Ok v)) there given = record { row = gives s (v ∷ []); is = refl; act = (on, grows_itself K w s, stored, given v refl) }
+  some_quotient e (Some (Err fault)) there given = record { row = quotient s (Err fault); is = refl; act = tt }
 
   -- ---- all
 
-  pub simple_row : (returns : Option VType) (form : Simple) (given : List (Value K)) → AllServe w s (of_kinds (simple_effect form).takes) given → Gives returns (simple_effect form) (simple s form given)
+  pub simple_row : (form : Simple) (given : List (Value K)) → AllServe w s (of_kinds (simple_effect form).takes) given → Gives (simple_effect form) (simple s form given)
   unfolding simple
-  simple_row returns simples.Nothing [] h = record { row = gives s []; is = refl; act = (refl, tt) }
-  simple_row returns simples.Null [] h = record { row = gives s (Ref 0 ∷ []); is = refl; act = (refl, (record { type = types.Null; is = refl; met = refl }, tt)) }
-  simple_row returns (simples.Int n) [] h = record { row = gives s (Int n ∷ []); is = refl; act = (refl, (record { type = types.Int; is = refl; met = refl }, tt)) }
-  simple_row returns (simples.Long n) [] h = record { row = gives s (Long n ∷ []); is = refl; act = (refl, (record { type = types.Long; is = refl; met = refl }, tt)) }
-  simple_row returns (simples.Two op) given h =
+  simple_row simples.Nothing [] h = record { row = gives s []; is = refl; act = (on, grows_itself K w s, stored, tt) }
+  simple_row simples.Null [] h = record { row = gives s (Ref 0 ∷ []); is = refl; act = (on, grows_itself K w s, stored, (record { type = types.Null; is = refl; met = refl }, tt)) }
+  simple_row (simples.Int n) [] h = record { row = gives s (Int n ∷ []); is = refl; act = (on, grows_itself K w s, stored, (record { type = types.Int; is = refl; met = refl }, tt)) }
+  simple_row (simples.Long n) [] h = record { row = gives s (Long n ∷ []); is = refl; act = (on, grows_itself K w s, stored, (record { type = types.Long; is = refl; met = refl }, tt)) }
+  simple_row (simples.Two op) given h =
       let t = two_is op in
-      let p = two_taken w s (two_effect op) t given h in
-      let row : Gives returns (two_effect op) (gives_one s (two op p.1 p.0)) = some_row returns (two_effect op) (two op p.1 p.0) (two_there K op p.1 p.0 ∙ p.3)
-      (λ v e. given_by w s (two_effect op) t.g t.gives t.numbers.2 v (two_gives K op p.1 p.0 v e)) in
-      subst (λ given. Gives returns (two_effect op) (simple s (simples.Two op) given)) (sym p.2) row
-  simple_row returns (simples.Divide op) given h =
+      let p = two_taken w s here news (two_effect op) t given h in
+      let row : Gives (two_effect op) (gives_one s (two op p.1 p.0)) = some_row (two_effect op) (two op p.1 p.0) (two_there K op p.1 p.0 ∙ p.3)
+      (λ v e. given_by w s here news (two_effect op) t.g t.gives t.numbers.2 v (two_gives K op p.1 p.0 v e)) in
+      subst (λ given. Gives (two_effect op) (simple s (simples.Two op) given)) (sym p.2) row
+  simple_row (simples.Divide op) given h =
       let t = division_is op in
-      let p = two_taken w s (division_effect op) t given h in
-      let row : Gives returns (division_effect op) (option_map (quotient s) (divide op p.1 p.0)) = some_quotient returns (division_effect op) (divide op p.1 p.0) (division_there K op p.1 p.0 ∙ p.3)
-      (λ v e. given_by w s (division_effect op) t.g t.gives t.numbers.2 v (division_gives K op p.1 p.0 v e)) in
-      subst (λ given. Gives returns (division_effect op) (simple s (simples.Divide op) given)) (sym p.2) row
-  simple_row returns (simples.One op) given h =
+      let p = two_taken w s here news (division_effect op) t given h in
+      let row : Gives (division_effect op) (option_map (quotient s) (divide op p.1 p.0)) = some_quotient (division_effect op) (divide op p.1 p.0) (division_there K op p.1 p.0 ∙ p.3)
+      (λ v e. given_by w s here news (division_effect op) t.g t.gives t.numbers.2 v (division_gives K op p.1 p.0 v e)) in
+      subst (λ given. Gives (division_effect op) (simple s (simples.Divide op) given)) (sym p.2) row
+  simple_row (simples.One op) given h =
       let t = one_is op in
-      let p = one_taken w s (one_effect op) t given h in
-      let row : Gives returns (one_effect op) (gives_one s (one op p.0)) = some_row returns (one_effect op) (one op p.0) (one_there K op p.0 ∙ p.2)
-      (λ v e. given_by w s (one_effect op) t.g t.gives t.numbers.1 v (one_gives K op p.0 v e)) in
-      subst (λ given. Gives returns (one_effect op) (simple s (simples.One op) given)) (sym p.1) row
-  simple_row returns simples.Nothing (v ∷ given) h = absurd h
-  simple_row returns simples.Null (v ∷ given) h = absurd h
-  simple_row returns (simples.Int n) (v ∷ given) h = absurd h
-  simple_row returns (simples.Long n) (v ∷ given) h = absurd h
+      let p = one_taken w s here news (one_effect op) t given h in
+      let row : Gives (one_effect op) (gives_one s (one op p.0)) = some_row (one_effect op) (one op p.0) (one_there K op p.0 ∙ p.2)
+      (λ v e. given_by w s here news (one_effect op) t.g t.gives t.numbers.1 v (one_gives K op p.0 v e)) in
+      subst (λ given. Gives (one_effect op) (simple s (simples.One op) given)) (sym p.1) row
+  simple_row simples.Nothing (v ∷ given) h = absurd h
+  simple_row simples.Null (v ∷ given) h = absurd h
+  simple_row (simples.Int n) (v ∷ given) h = absurd h
+  simple_row (simples.Long n) (v ∷ given) h = absurd h

@@ -57,7 +57,7 @@ module _ {K : Type 0} (w : World) (s : Store K) (order : InOrder w.tree) (here :
   has_fit types.Long b v h x e = further types.Long b v x e
   has_fit types.Null b v h x e = further types.Null b v x e
   has_fit (types.Object c) b v h x e = further (types.Object c) b v x e
-  has_fit (types.Array d) b v h x e = further (types.Array d) b v x e
+  has_fit (types.Array d) b v h x e = further (types.Array d) b v x.0 e
   has_fit types.Ctx b v h x e = further types.Ctx b v x e
 
   first_of : (c this : Name) (v : Value K) → Serves w s (Fits (types.Object c)) v → Serves w s (OrThis c this) v

@@ -1,11 +1,11 @@
 -- What fits what where a machine runs, by what fits as programs are checked.
-use Rattle.std.specs.Prelude.{◌≡◌, true, ⊤}
+use Rattle.std.specs.Prelude.{◌≡◌, ℕ, List, true, ⊤}
 use Rattle.jtypes.specs.declared.vtype.VType.{VType}
 use Rattle.jtypes.specs.declared.vtype.VType.TheVariants as types
 use Rattle.jtypes.specs.Fitting as checked
-use Rattle.jprogram.specs.Classes.{Program, tree}
+use Rattle.jprogram.specs.Classes.{Program, find, holds, implements, is_interface, tree}
 use Rattle.jprogram.specs.Standing.{StandsInOrder}
-use Rattle.jmachine.specs.World.{fits, world}
+use Rattle.jmachine.specs.World.{fits, is_instance, world}
 
 -- a type that values have
 abbrev pub IsValueType : VType → Type 0
@@ -17,3 +17,11 @@ IsValueType t = ⊤
 -- What fits, where a machine runs, a type that fits another as programs are checked, fits that one where a machine runs.
 abbrev pub FitsAfter : Type 0
 FitsAfter = (p : Program) (a b c : VType) → StandsInOrder p → IsValueType a → fits (world p) a b ≡ true → checked.fits (tree p) b c ≡ true → fits (world p) a c ≡ true
+
+-- What a class implements is an interface.
+abbrev pub ImplementsFaces : Type 0
+ImplementsFaces = (p : Program) (c d : List ℕ) → StandsInOrder p → implements p c d ≡ true → holds is_interface (find p d) ≡ true
+
+-- What is one of a type, as casts and stores into arrays ask, fits it.
+abbrev pub InstanceFits : Type 0
+InstanceFits = (p : Program) (a b : VType) → StandsInOrder p → is_instance (world p) a b ≡ true → fits (world p) a b ≡ true

@@ -12,9 +12,13 @@ use Rattle.jprogram.specs.declared.member.Selected.TheVariants as selected
 use Rattle.jprogram.specs.Classes.{Program, tree}
 use Rattle.jprogram.specs.Members.{as_selected, select}
 use Rattle.jprogram.specs.Standing.{StandsInOrder}
-use Rattle.juses.specs.Instructions.{Instruction, Array, Used}
+use Rattle.jtypes.specs.declared.vtype.ArrayType.{ArrayType}
+use Rattle.jtypes.specs.declared.vtype.VType.TheVariants as types
+use Rattle.juses.specs.Instructions.{Instruction, Used}
+use Rattle.juses.specs.Meanings as meanings
+use Rattle.jrule.specs.Effects.{is_ref}
 use Rattle.jrule.specs.Here.{Here}
-use Rattle.jrule.specs.Rule.{rule}
+use Rattle.jrule.specs.Rule.{is_own, rule}
 use Rattle.jmachine.specs.Acts.{FrameOf}
 use Rattle.jmachine.specs.Doing.{doing}
 use Rattle.jmachine.specs.Security.{Rules}
@@ -22,26 +26,41 @@ use Rattle.jmachine.specs.Sites.{Site}
 use Rattle.jmachine.specs.Store.{Store}
 use Rattle.jmachine.specs.World.{World, world}
 use Rattle.jtyped.specs.Doings.{CanDo}
-use Rattle.jtyped.specs.Frames.{News, Suits}
+use Rattle.jtyped.specs.Stores.{IsStored}
+use Rattle.jtyped.specs.Frames.{AllHaveDimensions, News, Suits}
+use Rattle.jtyped.specs.Uses.{IsField, IsNew, static_types}
+use Rattle.jtyped.specs.Values.{HasDimensions}
 
--- an instruction that asks neither an array nor an entry of the pool: it has operands alone, a local, or moves the stack, or it jumps,
--- returns or throws
-abbrev pub IsStraight : Instruction → Type 0
-IsStraight (Array form) = ⊥
-IsStraight (Used m) = ⊥
-IsStraight i = ⊤
+-- ---- instructions that call no method
 
--- In a frame that suits, the machine does what a straight instruction asks, and what it does suits the frame behind.
+-- Where an instruction stands: the class of its method, and the fields that it may write before `this` is initialised, are those of typing.
+pub record IsAt (p : Program) (at : Site) (own : Member → Bool) (here : Here) : Type 0 where
+  pub program : at.world ≡ world p
+  pub class : at.world.named at.class ≡ here.class
+  pub own_fields : own ≡ is_own p here.is_init here.class
+
+-- What is said of an instruction that calls no method: what linking says of what it names.
+abbrev pub IsStraight : Program → Here → Instruction → Type 0
+IsStraight p here (Used (meanings.Cast op t)) = (is_ref t ≡ true) × HasDimensions t
+IsStraight p here (Used (meanings.MakeArray t)) = (a : ArrayType) × (t ≡ types.Array a) × HasDimensions (types.Array a)
+IsStraight p here (Used (meanings.Field op f)) = IsField p op f
+IsStraight p here (Used (meanings.Make c)) = IsNew p here c
+IsStraight p here (Used (meanings.Call by c)) = ⊥
+IsStraight p here i = ⊤
+
+-- In a frame that suits, the machine does what such an instruction asks, and what it does suits the frame behind.
 abbrev pub StraightDoes : Type 0 → Type 0 → Type 0
 StraightDoes K E = (r : Rules K E) (at : Site) (own : Member → Bool) (s : Store K) (entries : List E) (inherited : Option K)
     (p : Program) (here : Here) (news : News) (i : Instruction) (shape behind : Frame) (f : FrameOf K E)
-    → StandsInOrder p → at.world ≡ world p → IsStraight i → Suits at.world s here news shape f → rule p here i shape ≡ Some behind
-    → CanDo at.world s here news behind (doing r at own s entries inherited i f)
+    → StandsInOrder p → IsAt p at own here → IsStored at.world s (static_types p) → IsStraight p here i → Suits at.world s here news shape f → rule p here i shape ≡ Some behind
+    → CanDo at.world s (static_types p) here i behind (doing r at own s entries inherited i f)
 
--- What a frame holds that suits one of typing suits each that this one fits.
+-- ---- frames
+
+-- What a frame holds that suits one of typing suits each that this one fits, if that has no array without dimensions.
 abbrev pub SuitsWider : Type 0 → Type 0 → Type 0
 SuitsWider K E = (p : Program) (w : World) (s : Store K) (here : Here) (news : News) (a b : Frame) (f : FrameOf K E)
-    → StandsInOrder p → w ≡ world p → frame_fits (fits (tree p)) a b ≡ true → Suits w s here news a f → Suits w s here news b f
+    → StandsInOrder p → w ≡ world p → AllHaveDimensions b → frame_fits (fits (tree p)) a b ≡ true → Suits w s here news a f → Suits w s here news b f
 
 -- ---- calls of the library
 

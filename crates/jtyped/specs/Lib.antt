@@ -1,7 +1,10 @@
+pub mod Calling
 pub mod Doings
 pub mod Fitting
 pub mod Frames
+pub mod Going
 pub mod Growing
 pub mod Laws
 pub mod Stores
+pub mod Uses
 pub mod Values

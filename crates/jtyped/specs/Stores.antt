@@ -5,13 +5,14 @@ use Rattle.jclass.specs.Stored.{IsIn}
 use Rattle.jops.specs.declared.value.Value.{Value}
 use Rattle.jops.specs.declared.value.Value.TheVariants.{Ref}
 use Rattle.jtypes.specs.declared.vtype.VType.{VType}
+use Rattle.jtypes.specs.declared.vtype.VType.TheVariants as types
 use Rattle.jrule.specs.Arrays.{component}
 use Rattle.jrule.specs.Uses.{string}
 use Rattle.jmachine.specs.Fields.{out}
 use Rattle.jmachine.specs.Objects.{Object, Instance, Thrown, Text, Bare, Array}
 use Rattle.jmachine.specs.Store.{Store, object_at, with_made}
 use Rattle.jmachine.specs.World.{World}
-use Rattle.jtyped.specs.Values.{AreOf, IsA}
+use Rattle.jtyped.specs.Values.{AreOf, CanBeThrown, HasDimensions, IsA, IsBare}
 
 module _ {K : Type 0} (w : World) (s : Store K) where
   -- values that are all of one type
@@ -26,8 +27,9 @@ module _ {K : Type 0} (w : World) (s : Store K) where
   -- an object holds what its class says
   abbrev pub IsObject : Object K → Type 0
   IsObject (Instance class message fields) = IsMessage message × AreOf w s (w.layout class) fields
-  IsObject (Thrown c message) = IsMessage message
-  IsObject (Array a items) = EachOf (component a) items
+  IsObject (Thrown c message) = CanBeThrown c × IsMessage message
+  IsObject (Bare c) = IsBare c
+  IsObject (Array a items) = HasDimensions (types.Array a) × EachOf (component a) items
   IsObject x = ⊤
 
   -- What all threads share, where the statics are of these types: what each object holds, each static, and each string constant that was

@@ -1,19 +1,43 @@
-ghost use Rattle.jtyped.specs.Fitting.{FitsAfter};
+ghost use Rattle.jtyped.specs.Calling.{CallsComeTo, CallsDo, FramesBegin, InitsDo};
+ghost use Rattle.jtyped.specs.Fitting.{FitsAfter, ImplementsFaces, InstanceFits};
+ghost use Rattle.jtyped.specs.Going.{StraightLeads};
 ghost use Rattle.jtyped.specs.Growing.{GrowsChanged, GrowsItself, GrowsMade, GrowsOn, SuitsLater};
 ghost use Rattle.jtyped.specs.Stores.{StoredMade};
 ghost use Rattle.jtyped.specs.Laws.{ItselfHasCode, SelectedHasCode, StraightDoes, SuitsWider};
 
-/// The law of types that values have: where a machine runs, what fits a type that fits another as programs are checked fits that one. It has
-/// no body to run; its contract is the law.
-pub fn fits_law()
-    ensures { FitsAfter }
+/// The laws of what fits what where a machine runs, in a program whose classes stand in order: of the types that values have, what fits one that
+/// fits another as programs are checked fits that one; what a class implements is an interface; and an object that is one of a type, as casts
+/// ask, fits it. It has no body to run; its contract is the laws.
+pub fn fits_laws()
+    ensures after { FitsAfter }
+    ensures faces { ImplementsFaces }
+    ensures instance { InstanceFits }
 {}
 
-/// The laws of typed frames. Where the rule gives a frame behind a straight instruction, the machine has a row, and does what that frame says;
-/// and what suits a frame suits each that this one fits. It has no body to run; its contract is the laws.
+/// The laws of typed frames. In a frame that suits, where the rule gives a frame behind an instruction that calls no method, the machine has a
+/// row, and what it does suits that frame in a typed store behind; and what suits a frame suits each that this one fits. It has no body to
+/// run; its contract is the laws.
 pub fn frame_laws<K, E>()
     ensures straight { StraightDoes K E }
     ensures wider { SuitsWider K E }
+{}
+
+/// The law of where instructions lead that call no method, in a method whose instructions have frames: in a frame that suits its own, one is
+/// done, and then the frame suits that of the instruction behind or of the one to which it jumps, or it returns what the method returns, or throws what can
+/// be thrown. It has no body to run; its contract is the law.
+pub fn leading_law<K, E>()
+    ensures { StraightLeads K E }
+{}
+
+/// The laws of calls. In a frame that suits, where the rule gives a frame behind a call, the call is done: it comes to a user's method or to one
+/// of the library that may be given its values, or to an exception, and what is left suits the frame behind, but for what is returned, and
+/// behind an `<init>` where its object may be used. And the frame of a method begins as typing says, where it is given what it may be given.
+/// It has no body to run; its contract is the laws.
+pub fn calling_laws<K, E>()
+    ensures comes { CallsComeTo K }
+    ensures done { CallsDo K E }
+    ensures inits { InitsDo K E }
+    ensures begins { FramesBegin K E }
 {}
 
 /// The laws of stores that come behind others: a frame that suits one store suits each behind it, and a store with one more object, or with
