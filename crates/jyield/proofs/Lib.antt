@@ -1,0 +1,16 @@
+mod AskingRows
+mod Chosen
+mod Classes
+mod Following
+mod Library
+mod Objects
+mod Orders
+mod PermissionRows
+mod PrivilegeRows
+mod Reserved
+mod Rows
+mod Sided
+mod Signed
+mod TextRows
+mod ThreadRows
+mod ThrowableRows

@@ -1,0 +1,536 @@
+-- The types that the descriptors of the library's members say, in a program whose classes stand in order.
+use Rattle.std.proofs.Common.{◌≡◌, ℕ, true, List, [], ◌∷◌, Option, Some, None, refl, ap, ◌∙◌}
+use Rattle.std.specs.Prelude.{codes, is_some, option_map, reverse, if◌then◌else◌}
+use Rattle.std.specs.Str.{byte}
+use Rattle.jbase.specs.Each.{each_some, put_front}
+use Rattle.jpool.specs.declared.descriptor.Descriptor.TheVariants as descriptors
+use Rattle.jpool.specs.declared.descriptor.FieldType.{FieldType}
+use Rattle.jpool.specs.Descriptors.{base_at, class_at, closing_at, descriptor_of, field_of, method_of, params_at, return_at, slots_of, type_at}
+use Rattle.jpool.specs.Names.{is_class_name}
+use Rattle.jlib.specs.declared.calls.ControllerCall.TheVariants as controllers
+use Rattle.jlib.specs.declared.calls.LibCall.TheVariants as calls
+use Rattle.jlib.specs.declared.calls.RtCall.TheVariants as rt
+use Rattle.jlib.specs.declared.classes.LibClass.{LibClass}
+use Rattle.jlib.specs.declared.classes.LibClass.TheVariants as lib
+use Rattle.jlib.specs.declared.classes.PermissionClass.TheVariants as permissions
+use Rattle.jlib.specs.Calls.{desc_of}
+use Rattle.jlib.specs.Classes as library
+use Rattle.jtypes.specs.declared.vtype.ArrayType.{ArrayType}
+use Rattle.jtypes.specs.declared.vtype.Element.TheVariants as elements
+use Rattle.jtypes.specs.declared.vtype.VType.{VType}
+use Rattle.jtypes.specs.declared.vtype.VType.TheVariants as types
+use Rattle.jprogram.specs.Classes.{Class, Program}
+use Rattle.jprogram.specs.Standing.{StandsInOrder}
+use Rattle.jprogram.proofs.Standing.{lib_find, not_taken}
+use Rattle.juses.specs.Typed.{Called, Held, called, held, name, return_in, type_in, type_of, typed, typed_as}
+use Rattle.jrule.specs.Uses.{of_library, string}
+
+-- ---- types
+
+abbrev class_type : ℕ → LibClass → FieldType
+class_type depth c = record { depth = depth; base = byte "L"; class = library.name_of c }
+
+abbrev letter : ℕ → FieldType
+letter base = record { depth = 0; base = base; class = [] }
+
+abbrev pub permission : VType
+permission = of_library (lib.Permission permissions.Permission)
+
+abbrev pub permissions_array : ArrayType
+permissions_array = record { depth = 1; element = elements.Class (name (library.name_of (lib.Permission permissions.Permission))) }
+
+-- what a descriptor says
+record Says (p : Program) (text : List ℕ) (params : List VType) (ret : Option VType) : Type 0 where
+  ts : List FieldType
+  back : Option FieldType
+  vs : List VType
+  is : descriptor_of text ≡ Some (descriptors.Method ts back)
+  are : each_some (type_in p) ts ≡ Some vs
+  gives : return_in p back ≡ Some ret
+  turned : reverse vs ≡ params
+
+says : (p : Program) (text : List ℕ) (params : List VType) (ret : Option VType) → Says p text params ret → typed p text ≡ Called params ret
+unfolding typed
+says p text params ret s =
+    ap (typed_as p) s.is
+    ∙ ap (λ (o : Option (List VType)). called o (return_in p s.back)) s.are
+    ∙ ap (called (Some s.vs)) s.gives
+    ∙ ap (λ (l : List VType). Called l ret) s.turned
+
+module _ (p : Program) (good : StandsInOrder p) where
+  class_in : (depth : ℕ) (c : LibClass) → library.stands_on p.side c ≡ true → type_in p (class_type depth c) ≡ Some (type_of depth (elements.Class (name (library.name_of c))))
+  unfolding type_in
+  class_in depth c on =
+      ap (λ (o : Option Class). option_map (type_of depth) (option_map elements.Class (if is_some o then Some (name (library.name_of c)) else None)))
+      (lib_find p (not_taken p good) c on)
+
+  -- ---- lists of types
+
+  no_types : each_some (type_in p) [] ≡ Some []
+  unfolding each_some
+  no_types = refl
+
+  one_more : (t : FieldType) (ts : List FieldType) (v : VType) (vs : List VType) → type_in p t ≡ Some v → each_some (type_in p) ts ≡ Some vs
+      → each_some (type_in p) (t ∷ ts) ≡ Some (v ∷ vs)
+  unfolding each_some
+  one_more t ts v vs first rest = ap (λ (o : Option VType). put_front o (each_some (type_in p) ts)) first ∙ ap (put_front (Some v)) rest
+
+  gives_nothing : return_in p None ≡ Some None
+  gives_nothing = refl
+
+  gives_type : (t : FieldType) (v : VType) → type_in p t ≡ Some v → return_in p (Some t) ≡ Some (Some v)
+  gives_type t v is = ap (option_map Some) is
+
+  int_in : type_in p (letter (byte "I")) ≡ Some types.Int
+  unfolding type_in
+  int_in = refl
+
+  char_in : type_in p (letter (byte "C")) ≡ Some types.Int
+  unfolding type_in
+  char_in = refl
+
+  bool_in : type_in p (letter (byte "Z")) ≡ Some types.Int
+  unfolding type_in
+  bool_in = refl
+
+  long_in : type_in p (letter (byte "J")) ≡ Some types.Long
+  unfolding type_in
+  long_in = refl
+
+  string_in : type_in p (class_type 0 lib.String) ≡ Some string
+  string_in = class_in 0 lib.String refl
+
+  builder_in : type_in p (class_type 0 lib.StringBuilder) ≡ Some (of_library lib.StringBuilder)
+  builder_in = class_in 0 lib.StringBuilder refl
+
+  object_in : type_in p (class_type 0 lib.Object) ≡ Some (of_library lib.Object)
+  object_in = class_in 0 lib.Object refl
+
+  runnable_in : type_in p (class_type 0 lib.Runnable) ≡ Some (of_library lib.Runnable)
+  runnable_in = class_in 0 lib.Runnable refl
+
+  action_in : type_in p (class_type 0 lib.PrivilegedAction) ≡ Some (of_library lib.PrivilegedAction)
+  action_in = class_in 0 lib.PrivilegedAction refl
+
+  context_in : type_in p (class_type 0 lib.AccessControlContext) ≡ Some (of_library lib.AccessControlContext)
+  context_in = class_in 0 lib.AccessControlContext refl
+
+  permission_in : type_in p (class_type 0 (lib.Permission permissions.Permission)) ≡ Some permission
+  permission_in = class_in 0 (lib.Permission permissions.Permission) refl
+
+  limits_in : type_in p (class_type 1 (lib.Permission permissions.Permission)) ≡ Some (types.Array permissions_array)
+  limits_in = class_in 1 (lib.Permission permissions.Permission) refl
+
+  ctx_in : library.stands_on p.side lib.Ctx ≡ true → type_in p (class_type 0 lib.Ctx) ≡ Some types.Ctx
+  ctx_in on = class_in 0 lib.Ctx on
+
+  -- ---- descriptors
+
+  pub nothing_says : typed p (codes "()V") ≡ Called [] None
+  unfolding descriptor_of method_of field_of params_at closing_at type_at base_at class_at return_at slots_of is_class_name
+  nothing_says = says p _ _ _ (record {
+    ts = [];
+    back = None;
+    vs = [];
+    is = refl;
+    are = no_types;
+    gives = gives_nothing;
+    turned = refl;
+  })
+
+  pub text_says : typed p (codes "(Ljava/lang/String;)V") ≡ Called (string ∷ []) None
+  unfolding descriptor_of method_of field_of params_at closing_at type_at base_at class_at return_at slots_of is_class_name
+  text_says = says p _ _ _ (record {
+    ts = class_type 0 lib.String ∷ [];
+    back = None;
+    vs = string ∷ [];
+    is = refl;
+    are = one_more _ _ _ _ string_in no_types;
+    gives = gives_nothing;
+    turned = refl;
+  })
+
+  pub texts_say : typed p (codes "(Ljava/lang/String;Ljava/lang/String;)V") ≡ Called (string ∷ string ∷ []) None
+  unfolding descriptor_of method_of field_of params_at closing_at type_at base_at class_at return_at slots_of is_class_name
+  texts_say = says p _ _ _ (record {
+    ts = class_type 0 lib.String ∷ class_type 0 lib.String ∷ [];
+    back = None;
+    vs = string ∷ string ∷ [];
+    is = refl;
+    are = one_more _ _ _ _ string_in (one_more _ _ _ _ string_in no_types);
+    gives = gives_nothing;
+    turned = refl;
+  })
+
+  pub told_says : typed p (codes "()Ljava/lang/String;") ≡ Called [] (Some string)
+  unfolding descriptor_of method_of field_of params_at closing_at type_at base_at class_at return_at slots_of is_class_name
+  told_says = says p _ _ _ (record {
+    ts = [];
+    back = Some (class_type 0 lib.String);
+    vs = [];
+    is = refl;
+    are = no_types;
+    gives = gives_type _ _ string_in;
+    turned = refl;
+  })
+
+  pub length_says : typed p (codes "()I") ≡ Called [] (Some types.Int)
+  unfolding descriptor_of method_of field_of params_at closing_at type_at base_at class_at return_at slots_of is_class_name
+  length_says = says p _ _ _ (record {
+    ts = [];
+    back = Some (letter (byte "I"));
+    vs = [];
+    is = refl;
+    are = no_types;
+    gives = gives_type _ _ int_in;
+    turned = refl;
+  })
+
+  pub char_at_says : typed p (codes "(I)C") ≡ Called (types.Int ∷ []) (Some types.Int)
+  unfolding descriptor_of method_of field_of params_at closing_at type_at base_at class_at return_at slots_of is_class_name
+  char_at_says = says p _ _ _ (record {
+    ts = letter (byte "I") ∷ [];
+    back = Some (letter (byte "C"));
+    vs = types.Int ∷ [];
+    is = refl;
+    are = one_more _ _ _ _ int_in no_types;
+    gives = gives_type _ _ char_in;
+    turned = refl;
+  })
+
+  pub equals_says : typed p (codes "(Ljava/lang/Object;)Z") ≡ Called (of_library lib.Object ∷ []) (Some types.Int)
+  unfolding descriptor_of method_of field_of params_at closing_at type_at base_at class_at return_at slots_of is_class_name
+  equals_says = says p _ _ _ (record {
+    ts = class_type 0 lib.Object ∷ [];
+    back = Some (letter (byte "Z"));
+    vs = of_library lib.Object ∷ [];
+    is = refl;
+    are = one_more _ _ _ _ object_in no_types;
+    gives = gives_type _ _ bool_in;
+    turned = refl;
+  })
+
+  pub concat_says : typed p (codes "(Ljava/lang/String;)Ljava/lang/String;") ≡ Called (string ∷ []) (Some string)
+  unfolding descriptor_of method_of field_of params_at closing_at type_at base_at class_at return_at slots_of is_class_name
+  concat_says = says p _ _ _ (record {
+    ts = class_type 0 lib.String ∷ [];
+    back = Some (class_type 0 lib.String);
+    vs = string ∷ [];
+    is = refl;
+    are = one_more _ _ _ _ string_in no_types;
+    gives = gives_type _ _ string_in;
+    turned = refl;
+  })
+
+  pub append_int_says : typed p (codes "(I)Ljava/lang/StringBuilder;") ≡ Called (types.Int ∷ []) (Some (of_library lib.StringBuilder))
+  unfolding descriptor_of method_of field_of params_at closing_at type_at base_at class_at return_at slots_of is_class_name
+  append_int_says = says p _ _ _ (record {
+    ts = letter (byte "I") ∷ [];
+    back = Some (class_type 0 lib.StringBuilder);
+    vs = types.Int ∷ [];
+    is = refl;
+    are = one_more _ _ _ _ int_in no_types;
+    gives = gives_type _ _ builder_in;
+    turned = refl;
+  })
+
+  pub append_long_says : typed p (codes "(J)Ljava/lang/StringBuilder;") ≡ Called (types.Long ∷ []) (Some (of_library lib.StringBuilder))
+  unfolding descriptor_of method_of field_of params_at closing_at type_at base_at class_at return_at slots_of is_class_name
+  append_long_says = says p _ _ _ (record {
+    ts = letter (byte "J") ∷ [];
+    back = Some (class_type 0 lib.StringBuilder);
+    vs = types.Long ∷ [];
+    is = refl;
+    are = one_more _ _ _ _ long_in no_types;
+    gives = gives_type _ _ builder_in;
+    turned = refl;
+  })
+
+  pub append_char_says : typed p (codes "(C)Ljava/lang/StringBuilder;") ≡ Called (types.Int ∷ []) (Some (of_library lib.StringBuilder))
+  unfolding descriptor_of method_of field_of params_at closing_at type_at base_at class_at return_at slots_of is_class_name
+  append_char_says = says p _ _ _ (record {
+    ts = letter (byte "C") ∷ [];
+    back = Some (class_type 0 lib.StringBuilder);
+    vs = types.Int ∷ [];
+    is = refl;
+    are = one_more _ _ _ _ char_in no_types;
+    gives = gives_type _ _ builder_in;
+    turned = refl;
+  })
+
+  pub append_bool_says : typed p (codes "(Z)Ljava/lang/StringBuilder;") ≡ Called (types.Int ∷ []) (Some (of_library lib.StringBuilder))
+  unfolding descriptor_of method_of field_of params_at closing_at type_at base_at class_at return_at slots_of is_class_name
+  append_bool_says = says p _ _ _ (record {
+    ts = letter (byte "Z") ∷ [];
+    back = Some (class_type 0 lib.StringBuilder);
+    vs = types.Int ∷ [];
+    is = refl;
+    are = one_more _ _ _ _ bool_in no_types;
+    gives = gives_type _ _ builder_in;
+    turned = refl;
+  })
+
+  pub append_text_says : typed p (codes "(Ljava/lang/String;)Ljava/lang/StringBuilder;") ≡ Called (string ∷ []) (Some (of_library lib.StringBuilder))
+  unfolding descriptor_of method_of field_of params_at closing_at type_at base_at class_at return_at slots_of is_class_name
+  append_text_says = says p _ _ _ (record {
+    ts = class_type 0 lib.String ∷ [];
+    back = Some (class_type 0 lib.StringBuilder);
+    vs = string ∷ [];
+    is = refl;
+    are = one_more _ _ _ _ string_in no_types;
+    gives = gives_type _ _ builder_in;
+    turned = refl;
+  })
+
+  pub int_says : typed p (codes "(I)V") ≡ Called (types.Int ∷ []) None
+  unfolding descriptor_of method_of field_of params_at closing_at type_at base_at class_at return_at slots_of is_class_name
+  int_says = says p _ _ _ (record {
+    ts = letter (byte "I") ∷ [];
+    back = None;
+    vs = types.Int ∷ [];
+    is = refl;
+    are = one_more _ _ _ _ int_in no_types;
+    gives = gives_nothing;
+    turned = refl;
+  })
+
+  pub long_says : typed p (codes "(J)V") ≡ Called (types.Long ∷ []) None
+  unfolding descriptor_of method_of field_of params_at closing_at type_at base_at class_at return_at slots_of is_class_name
+  long_says = says p _ _ _ (record {
+    ts = letter (byte "J") ∷ [];
+    back = None;
+    vs = types.Long ∷ [];
+    is = refl;
+    are = one_more _ _ _ _ long_in no_types;
+    gives = gives_nothing;
+    turned = refl;
+  })
+
+  pub char_says : typed p (codes "(C)V") ≡ Called (types.Int ∷ []) None
+  unfolding descriptor_of method_of field_of params_at closing_at type_at base_at class_at return_at slots_of is_class_name
+  char_says = says p _ _ _ (record {
+    ts = letter (byte "C") ∷ [];
+    back = None;
+    vs = types.Int ∷ [];
+    is = refl;
+    are = one_more _ _ _ _ char_in no_types;
+    gives = gives_nothing;
+    turned = refl;
+  })
+
+  pub bool_says : typed p (codes "(Z)V") ≡ Called (types.Int ∷ []) None
+  unfolding descriptor_of method_of field_of params_at closing_at type_at base_at class_at return_at slots_of is_class_name
+  bool_says = says p _ _ _ (record {
+    ts = letter (byte "Z") ∷ [];
+    back = None;
+    vs = types.Int ∷ [];
+    is = refl;
+    are = one_more _ _ _ _ bool_in no_types;
+    gives = gives_nothing;
+    turned = refl;
+  })
+
+  pub runnable_says : typed p (codes "(Ljava/lang/Runnable;)V") ≡ Called (of_library lib.Runnable ∷ []) None
+  unfolding descriptor_of method_of field_of params_at closing_at type_at base_at class_at return_at slots_of is_class_name
+  runnable_says = says p _ _ _ (record {
+    ts = class_type 0 lib.Runnable ∷ [];
+    back = None;
+    vs = of_library lib.Runnable ∷ [];
+    is = refl;
+    are = one_more _ _ _ _ runnable_in no_types;
+    gives = gives_nothing;
+    turned = refl;
+  })
+
+  pub passed_says : library.stands_on p.side lib.Ctx ≡ true → typed p (codes "(Ljava/lang/Runnable;Lsps/Ctx;)V") ≡ Called (types.Ctx ∷ of_library lib.Runnable ∷ []) None
+  unfolding descriptor_of method_of field_of params_at closing_at type_at base_at class_at return_at slots_of is_class_name
+  passed_says on = says p _ _ _ (record {
+    ts = class_type 0 lib.Runnable ∷ class_type 0 lib.Ctx ∷ [];
+    back = None;
+    vs = of_library lib.Runnable ∷ types.Ctx ∷ [];
+    is = refl;
+    are = one_more _ _ _ _ runnable_in (one_more _ _ _ _ (ctx_in on) no_types);
+    gives = gives_nothing;
+    turned = refl;
+  })
+
+  pub check_says : typed p (codes "(Ljava/security/Permission;)V") ≡ Called (permission ∷ []) None
+  unfolding descriptor_of method_of field_of params_at closing_at type_at base_at class_at return_at slots_of is_class_name
+  check_says = says p _ _ _ (record {
+    ts = class_type 0 (lib.Permission permissions.Permission) ∷ [];
+    back = None;
+    vs = permission ∷ [];
+    is = refl;
+    are = one_more _ _ _ _ permission_in no_types;
+    gives = gives_nothing;
+    turned = refl;
+  })
+
+  pub snapshot_says : typed p (codes "()Ljava/security/AccessControlContext;") ≡ Called [] (Some (of_library lib.AccessControlContext))
+  unfolding descriptor_of method_of field_of params_at closing_at type_at base_at class_at return_at slots_of is_class_name
+  snapshot_says = says p _ _ _ (record {
+    ts = [];
+    back = Some (class_type 0 lib.AccessControlContext);
+    vs = [];
+    is = refl;
+    are = no_types;
+    gives = gives_type _ _ context_in;
+    turned = refl;
+  })
+
+  pub action_says : typed p (codes "(Ljava/security/PrivilegedAction;)Ljava/lang/Object;") ≡ Called (of_library lib.PrivilegedAction ∷ []) (Some (of_library lib.Object))
+  unfolding descriptor_of method_of field_of params_at closing_at type_at base_at class_at return_at slots_of is_class_name
+  action_says = says p _ _ _ (record {
+    ts = class_type 0 lib.PrivilegedAction ∷ [];
+    back = Some (class_type 0 lib.Object);
+    vs = of_library lib.PrivilegedAction ∷ [];
+    is = refl;
+    are = one_more _ _ _ _ action_in no_types;
+    gives = gives_type _ _ object_in;
+    turned = refl;
+  })
+
+  pub within_says : typed p (desc_of (calls.Controller controllers.PrivilegedWith))
+      ≡ Called (of_library lib.AccessControlContext ∷ of_library lib.PrivilegedAction ∷ []) (Some (of_library lib.Object))
+  unfolding descriptor_of method_of field_of params_at closing_at type_at base_at class_at return_at slots_of is_class_name
+  within_says = says p _ _ _ (record {
+    ts = class_type 0 lib.PrivilegedAction ∷ class_type 0 lib.AccessControlContext ∷ [];
+    back = Some (class_type 0 lib.Object);
+    vs = of_library lib.PrivilegedAction ∷ of_library lib.AccessControlContext ∷ [];
+    is = refl;
+    are = one_more _ _ _ _ action_in (one_more _ _ _ _ context_in no_types);
+    gives = gives_type _ _ object_in;
+    turned = refl;
+  })
+
+  pub limited_says : typed p (desc_of (calls.Controller controllers.PrivilegedLimited))
+      ≡ Called (types.Array permissions_array ∷ of_library lib.AccessControlContext ∷ of_library lib.PrivilegedAction ∷ []) (Some (of_library lib.Object))
+  unfolding descriptor_of method_of field_of params_at closing_at type_at base_at class_at return_at slots_of is_class_name
+  limited_says = says p _ _ _ (record {
+    ts = class_type 0 lib.PrivilegedAction ∷ class_type 0 lib.AccessControlContext ∷ class_type 1 (lib.Permission permissions.Permission) ∷ [];
+    back = Some (class_type 0 lib.Object);
+    vs = of_library lib.PrivilegedAction ∷ of_library lib.AccessControlContext ∷ types.Array permissions_array ∷ [];
+    is = refl;
+    are = one_more _ _ _ _ action_in (one_more _ _ _ _ context_in (one_more _ _ _ _ limits_in no_types));
+    gives = gives_type _ _ object_in;
+    turned = refl;
+  })
+
+  pub enter_says : library.stands_on p.side lib.Ctx ≡ true → typed p (codes "(Lsps/Ctx;I)Lsps/Ctx;") ≡ Called (types.Int ∷ types.Ctx ∷ []) (Some types.Ctx)
+  unfolding descriptor_of method_of field_of params_at closing_at type_at base_at class_at return_at slots_of is_class_name
+  enter_says on = says p _ _ _ (record {
+    ts = class_type 0 lib.Ctx ∷ letter (byte "I") ∷ [];
+    back = Some (class_type 0 lib.Ctx);
+    vs = types.Ctx ∷ types.Int ∷ [];
+    is = refl;
+    are = one_more _ _ _ _ (ctx_in on) (one_more _ _ _ _ int_in no_types);
+    gives = gives_type _ _ (ctx_in on);
+    turned = refl;
+  })
+
+  pub rt_check_says : library.stands_on p.side lib.Ctx ≡ true → typed p (codes "(Ljava/security/Permission;Lsps/Ctx;)V") ≡ Called (types.Ctx ∷ permission ∷ []) None
+  unfolding descriptor_of method_of field_of params_at closing_at type_at base_at class_at return_at slots_of is_class_name
+  rt_check_says on = says p _ _ _ (record {
+    ts = class_type 0 (lib.Permission permissions.Permission) ∷ class_type 0 lib.Ctx ∷ [];
+    back = None;
+    vs = permission ∷ types.Ctx ∷ [];
+    is = refl;
+    are = one_more _ _ _ _ permission_in (one_more _ _ _ _ (ctx_in on) no_types);
+    gives = gives_nothing;
+    turned = refl;
+  })
+
+  pub rt_snapshot_says : library.stands_on p.side lib.Ctx ≡ true
+      → typed p (codes "(Lsps/Ctx;)Ljava/security/AccessControlContext;") ≡ Called (types.Ctx ∷ []) (Some (of_library lib.AccessControlContext))
+  unfolding descriptor_of method_of field_of params_at closing_at type_at base_at class_at return_at slots_of is_class_name
+  rt_snapshot_says on = says p _ _ _ (record {
+    ts = class_type 0 lib.Ctx ∷ [];
+    back = Some (class_type 0 lib.AccessControlContext);
+    vs = types.Ctx ∷ [];
+    is = refl;
+    are = one_more _ _ _ _ (ctx_in on) no_types;
+    gives = gives_type _ _ context_in;
+    turned = refl;
+  })
+
+  pub rt_action_says : typed p (desc_of (calls.Rt rt.Privileged)) ≡ Called (types.Int ∷ of_library lib.PrivilegedAction ∷ []) (Some (of_library lib.Object))
+  unfolding descriptor_of method_of field_of params_at closing_at type_at base_at class_at return_at slots_of is_class_name
+  rt_action_says = says p _ _ _ (record {
+    ts = class_type 0 lib.PrivilegedAction ∷ letter (byte "I") ∷ [];
+    back = Some (class_type 0 lib.Object);
+    vs = of_library lib.PrivilegedAction ∷ types.Int ∷ [];
+    is = refl;
+    are = one_more _ _ _ _ action_in (one_more _ _ _ _ int_in no_types);
+    gives = gives_type _ _ object_in;
+    turned = refl;
+  })
+
+  pub rt_within_says : typed p (desc_of (calls.Rt rt.PrivilegedWith))
+      ≡ Called (types.Int ∷ of_library lib.AccessControlContext ∷ of_library lib.PrivilegedAction ∷ []) (Some (of_library lib.Object))
+  unfolding descriptor_of method_of field_of params_at closing_at type_at base_at class_at return_at slots_of is_class_name
+  rt_within_says = says p _ _ _ (record {
+    ts = class_type 0 lib.PrivilegedAction ∷ class_type 0 lib.AccessControlContext ∷ letter (byte "I") ∷ [];
+    back = Some (class_type 0 lib.Object);
+    vs = of_library lib.PrivilegedAction ∷ of_library lib.AccessControlContext ∷ types.Int ∷ [];
+    is = refl;
+    are = one_more _ _ _ _ action_in (one_more _ _ _ _ context_in (one_more _ _ _ _ int_in no_types));
+    gives = gives_type _ _ object_in;
+    turned = refl;
+  })
+
+  pub rt_limited_says : library.stands_on p.side lib.Ctx ≡ true
+      → typed p (desc_of (calls.Rt rt.PrivilegedLimited))
+      ≡ Called (types.Int ∷ types.Ctx ∷ types.Array permissions_array ∷ of_library lib.AccessControlContext ∷ of_library lib.PrivilegedAction ∷ []) (Some (of_library lib.Object))
+  unfolding descriptor_of method_of field_of params_at closing_at type_at base_at class_at return_at slots_of is_class_name
+  rt_limited_says on = says p _ _ _ (record {
+    ts = class_type 0 lib.PrivilegedAction ∷ class_type 0 lib.AccessControlContext ∷ class_type 1 (lib.Permission permissions.Permission)
+        ∷ class_type 0 lib.Ctx ∷ letter (byte "I") ∷ [];
+    back = Some (class_type 0 lib.Object);
+    vs = of_library lib.PrivilegedAction ∷ of_library lib.AccessControlContext ∷ types.Array permissions_array ∷ types.Ctx ∷ types.Int ∷ [];
+    is = refl;
+    are = one_more _ _ _ _ action_in (one_more _ _ _ _ context_in (one_more _ _ _ _ limits_in (one_more _ _ _ _ (ctx_in on) (one_more _ _ _ _ int_in no_types))));
+    gives = gives_type _ _ object_in;
+    turned = refl;
+  })
+
+  pub run_says : typed p (codes "()Ljava/lang/Object;") ≡ Called [] (Some (of_library lib.Object))
+  unfolding descriptor_of method_of field_of params_at closing_at type_at base_at class_at return_at slots_of is_class_name
+  run_says = says p _ _ _ (record {
+    ts = [];
+    back = Some (class_type 0 lib.Object);
+    vs = [];
+    is = refl;
+    are = no_types;
+    gives = gives_type _ _ object_in;
+    turned = refl;
+  })
+
+  pub run_passed_says : library.stands_on p.side lib.Ctx ≡ true → typed p (codes "(Lsps/Ctx;)V") ≡ Called (types.Ctx ∷ []) None
+  unfolding descriptor_of method_of field_of params_at closing_at type_at base_at class_at return_at slots_of is_class_name
+  run_passed_says on = says p _ _ _ (record {
+    ts = class_type 0 lib.Ctx ∷ [];
+    back = None;
+    vs = types.Ctx ∷ [];
+    is = refl;
+    are = one_more _ _ _ _ (ctx_in on) no_types;
+    gives = gives_nothing;
+    turned = refl;
+  })
+
+  pub action_passed_says : library.stands_on p.side lib.Ctx ≡ true → typed p (codes "(Lsps/Ctx;)Ljava/lang/Object;")
+      ≡ Called (types.Ctx ∷ []) (Some (of_library lib.Object))
+  unfolding descriptor_of method_of field_of params_at closing_at type_at base_at class_at return_at slots_of is_class_name
+  action_passed_says on = says p _ _ _ (record {
+    ts = class_type 0 lib.Ctx ∷ [];
+    back = Some (class_type 0 lib.Object);
+    vs = types.Ctx ∷ [];
+    is = refl;
+    are = one_more _ _ _ _ (ctx_in on) no_types;
+    gives = gives_type _ _ object_in;
+    turned = refl;
+  })
+
+  -- a field's
+  pub out_says : typed p (codes "Ljava/io/PrintStream;") ≡ Held (of_library lib.PrintStream)
+  unfolding descriptor_of method_of field_of params_at closing_at type_at base_at class_at return_at slots_of is_class_name typed
+  out_says = ap (λ (o : Option VType). held o) (class_in 0 lib.PrintStream refl)
