@@ -1,0 +1,15 @@
+pub mod Apart
+pub mod Arriving
+pub mod Asking
+pub mod Beginning
+pub mod Carrying
+pub mod Expanding
+pub mod Leading
+pub mod Moving
+pub mod Reading
+pub mod Renaming
+pub mod Rooming
+pub mod Running
+pub mod Settled
+pub mod Stepping
+pub mod Walking
