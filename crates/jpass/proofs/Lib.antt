@@ -1,4 +1,5 @@
 mod Lasting
 mod Passed
 mod Standing
+pub mod Tellings
 mod Told

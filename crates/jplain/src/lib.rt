@@ -1,5 +1,5 @@
 //! The plain machine's guard: it answers what is asked of access control by the contexts that calls hand on, and never looks at frames
-//! (Wallach, Appel and Felten, 2000). No verb runs it yet.
+//! (Wallach, Appel and Felten, 2000). The forms `plain` and `pass` run by it.
 //!
 //! - `Plains`: what an ask makes of the guard.
 //!
