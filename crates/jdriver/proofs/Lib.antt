@@ -1,4 +1,5 @@
 pub mod Ends
+pub mod Headlines
 pub mod StoredFiles
 pub mod Tops
 pub mod WrittenUnits

@@ -16,7 +16,7 @@ pub answer_is : (c : Command) (files : List File) (read : Result Task Stopped) �
 unfolding answer
 answer_is c files read h = ap stopped_or_shown h
 
-some_is : {A : Type 0} (a b : A) → Some a ≡ Some b → a ≡ b
+pub some_is : {A : Type 0} (a b : A) → Some a ≡ Some b → a ≡ b
 some_is a b e = cc
 
 -- what an answer's own status or want of memory is

@@ -7,6 +7,7 @@ use Rattle.jdomain.specs.Domains.{has}
 use Rattle.jmachine.specs.Machine.{run}
 use Rattle.jmachine.specs.Runs.{Run, run_text, ending}
 use Rattle.jrules.specs.Inspecting.{rules as inspecting}
+use Rattle.jrules.specs.Plain.{rules as plain}
 use Rattle.jjob.specs.declared.command.Command.{Command}
 use Rattle.jjob.specs.Words.{Word, command, words_of}
 use Rattle.jshow.specs.declared.status.Status.{Status}
@@ -43,6 +44,8 @@ rewrote files classes = record { text = rewritten_line classes; files = files; s
 -- what is told when a task is done
 unfoldable pub shown : Task → Answer
 shown (tasks.Run program domains plan) = ran (run (inspecting (has domains)) program plan plan.steps)
+shown (tasks.RunPlain program domains plan) = ran (run (plain (has domains)) program plan plan.steps)
+shown (tasks.RunPass program domains plan) = ran (run (plain (has domains)) program plan plan.steps)
 shown (tasks.Policy sources domains) = listed (listing 0 sources domains)
 shown (tasks.Check program) = listed (checked_line (length program.parts) (methods_of program.parts))
 shown (tasks.Rewrite program job to) = rewrote (files_below to job program) (length program.parts)

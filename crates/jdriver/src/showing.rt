@@ -4,6 +4,7 @@ ghost use Rattle.jio.specs.Held.{File};
 ghost use Rattle.jdomain.specs.Domains.{has};
 ghost use Rattle.jmachine.specs.Machine.{run};
 ghost use Rattle.jrules.specs.Inspecting.{rules as inspecting};
+ghost use Rattle.jrules.specs.Plain.{rules as plain};
 ghost use Rattle.juses.specs.Instructions.{code_at};
 ghost use Rattle.jshow.specs.declared.status.Status.TheVariants.{Finished, ReadFault, StoreFault, Usage, WriteFault};
 ghost use Rattle.jshow.specs.Answering.{Answers, listed};
@@ -13,12 +14,14 @@ ghost use Rattle.jdriver.specs.Answers.{Stores, ran, rewrote, shown, usage_answe
 ghost use Rattle.jdriver.specs.Folders.{files_below};
 
 use crate::storing::{files_below, store_all};
-use jcheck::CheckedProgram;
+use jcheck::{CheckedProgram, PlainProgram};
 use jdomain::{CodeSource, Domains};
 use jinspect::run_inspect;
 use jio::{Part, Shelf, ShelfError, Sink, put_all, write_line};
 use jjob::Text;
 use jmachine::Plan;
+use jpass::run_pass;
+use jplain::run_plain;
 use jrewrite::RewrittenProgram;
 use jshow::{Status, put_listing, show_checked, status_of};
 use jtask::Task;
@@ -40,7 +43,7 @@ pub fn show_usage<K: Sink>(out: &mut K) -> Status
     }
 }
 
-/// Runs a program, and writes what happens and how it ends.
+/// Runs a program by the stacks of its frames, and writes what happens and how it ends.
 #[tactic(auto, using(crate::proofs::Ends::answers_run))]
 fn show_run<K: Sink>(
     alloc: Global,
@@ -58,6 +61,54 @@ fn show_run<K: Sink>(
     ensures store { result ≡ StoreFault → ⊥ }
 {
     match run_inspect(alloc, program, domains, plan, out) {
+        Ok(end) => status_of(end),
+        Err(RunFault::Sink) => Status::WriteFault,
+        Err(RunFault::Memory) => Status::OutOfMemory,
+    }
+}
+
+/// Runs a program by the contexts that its calls hand on, and writes what happens and how it ends.
+#[tactic(auto, using(crate::proofs::Ends::answers_run))]
+fn show_plain<K: Sink>(
+    alloc: Global,
+    program: &PlainProgram,
+    domains: &Domains,
+    plan: &Plan,
+    out: &mut K,
+) -> Status
+    requires coded { is_some (code_at program.now plan.now.main) ≡ true }
+    ensures answer { Answers (ran (run (plain (has domains.now)) program.now plan.now plan.now.steps)) result (K.out out.old) (K.out out.new) }
+    ensures later { K.faults out.old ≤ K.faults out.new }
+    ensures cause { result ≡ WriteFault → Rose (K.faults out.old) (K.faults out.new) }
+    ensures read { result ≡ ReadFault → ⊥ }
+    ensures usage { result ≡ Usage → ⊥ }
+    ensures store { result ≡ StoreFault → ⊥ }
+{
+    match run_plain(alloc, program, domains, plan, out) {
+        Ok(end) => status_of(end),
+        Err(RunFault::Sink) => Status::WriteFault,
+        Err(RunFault::Memory) => Status::OutOfMemory,
+    }
+}
+
+/// Runs a moved program by the contexts that its calls hand on, and writes what happens and how it ends.
+#[tactic(auto, using(crate::proofs::Ends::answers_run))]
+fn show_pass<K: Sink>(
+    alloc: Global,
+    program: &RewrittenProgram,
+    domains: &Domains,
+    plan: &Plan,
+    out: &mut K,
+) -> Status
+    requires coded { is_some (code_at program.now plan.now.main) ≡ true }
+    ensures answer { Answers (ran (run (plain (has domains.now)) program.now plan.now plan.now.steps)) result (K.out out.old) (K.out out.new) }
+    ensures later { K.faults out.old ≤ K.faults out.new }
+    ensures cause { result ≡ WriteFault → Rose (K.faults out.old) (K.faults out.new) }
+    ensures read { result ≡ ReadFault → ⊥ }
+    ensures usage { result ≡ Usage → ⊥ }
+    ensures store { result ≡ StoreFault → ⊥ }
+{
+    match run_pass(alloc, program.linked(), domains, plan, out) {
         Ok(end) => status_of(end),
         Err(RunFault::Sink) => Status::WriteFault,
         Err(RunFault::Memory) => Status::OutOfMemory,
@@ -155,6 +206,16 @@ pub fn show<S: Shelf, K: Sink>(alloc: Global, task: &Task, shelf: &mut S, out: &
             domains,
             plan,
         } => show_run(alloc, program, domains, plan, out),
+        Task::RunPlain {
+            program,
+            domains,
+            plan,
+        } => show_plain(alloc, program, domains, plan, out),
+        Task::RunPass {
+            program,
+            domains,
+            plan,
+        } => show_pass(alloc, program, domains, plan, out),
         Task::Check(program) => show_checked(program.linked().parts(), out),
         Task::Rewrite { program, job, to } => show_rewritten(alloc, program, job, to, shelf, out),
         Task::Policy { sources, domains } => show_listing(alloc, sources.as_slice(), domains, out),

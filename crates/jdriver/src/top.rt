@@ -1,16 +1,19 @@
 ghost use Rattle.std.specs.Prelude.{◌≡◌, ◌≤◌, ◌⊎◌, IsTrue, List, Some, false};
 ghost use Rattle.jbase.specs.Causes.{Rose};
 ghost use Rattle.jio.specs.Held.{File};
+ghost use Rattle.jjob.specs.declared.command.Command.{Command};
 ghost use Rattle.jjob.specs.Words.{words_of};
 ghost use Rattle.jshow.specs.declared.status.Status.TheVariants.{ReadFault, StoreFault, Usage, WriteFault};
 ghost use Rattle.jshow.specs.Answering.{Answers};
 ghost use Rattle.jtask.specs.Stages.{Misses};
 ghost use Rattle.jtask.specs.Tasks.{built, stores, task};
 ghost use Rattle.jdriver.specs.Answers.{Calm, Complete, MissesAny, Stores, UsageExactly, accepted, answer, answered, any_stores};
+ghost use Rattle.jdriver.specs.Headline.{AnswersAll, AnswersSome};
 
 use crate::showing::{show, show_usage};
 use jio::{Shelf, Sink};
 use jjob::{Command, WordsError, read_words};
+use jpass::moved_laws;
 use jshow::{Status, show_refusal};
 use jtask::{Halt, is_built, task_of};
 use std::alloc::Global;
@@ -26,6 +29,10 @@ pub fn dispatch<S: Shelf, K: Sink>(
     requires { IsTrue (built command.now) }
     // The bytes that are written, and the status, are the answer to the command over the bytes of the files.
     ensures answer { (files : List File) → S.held shelf.old ≡ Some files → Answers (answer command.now files) result (K.out out.old) (K.out out.new) }
+    // Of a run in the pass form they answer what the inspecting run of the program as it was written has told after some of its steps, and
+    ensures passes { (files : List File) → S.held shelf.old ≡ Some files → AnswersSome command.now files result (K.out out.old) (K.out out.new) }
+    // all that it tells, where it has ended and the plan has enough steps.
+    ensures whole { (files : List File) → S.held shelf.old ≡ Some files → AnswersAll command.now files result (K.out out.old) (K.out out.new) }
     ensures usage { result ≡ Usage → ⊥ }
     // The files that are stored are those of the answer.
     ensures files { (files : List File) → S.held shelf.old ≡ Some files → Stores (answer command.now files).files result (S.held shelf.old) (S.held shelf.new) }
@@ -46,6 +53,7 @@ pub fn dispatch<S: Shelf, K: Sink>(
     ensures stores_later { S.write_faults shelf.old ≤ S.write_faults shelf.new }
     ensures puts_later { K.faults out.old ≤ K.faults out.new }
 {
+    moved_laws();
     match task_of(alloc, command, shelf) {
         Ok(task) => show(alloc, &task, shelf, out),
         Err(Halt::Refused(refusal)) => show_refusal(alloc, &refusal, out),
@@ -65,6 +73,13 @@ pub fn javasec<S: Shelf, K: Sink>(
 ) -> Status
     // The bytes that are written, and the status, are the answer to the words over the bytes of the files.
     ensures answer { (files : List File) → S.held shelf.old ≡ Some files → Answers (answered words.now files) result (K.out out.old) (K.out out.new) }
+    // Where the words run a job in the pass form, they answer what the inspecting run of the program as it was written has told after some of
+    // its steps, and
+    ensures passes { (files : List File) (c : Command) → S.held shelf.old ≡ Some files → accepted (words_of words.now) ≡ Some c
+        → AnswersSome c files result (K.out out.old) (K.out out.new) }
+    // all that it tells, where it has ended and the plan has enough steps.
+    ensures whole { (files : List File) (c : Command) → S.held shelf.old ≡ Some files → accepted (words_of words.now) ≡ Some c
+        → AnswersAll c files result (K.out out.old) (K.out out.new) }
     // Usage comes exactly where the words are no command that is built.
     ensures usage { UsageExactly (accepted (words_of words.now)) result }
     // The files that are stored are those of the answer.

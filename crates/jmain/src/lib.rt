@@ -34,7 +34,7 @@ fn explain(rt: &HostRuntime, status: Status, failed: Option<&str>) {
     let told = match status {
         Status::Usage => {
             eprintln!(rt;
-                "javasec: the commands are `run --form=inspect JOB`, `check JOB`, `check --form=plain JOB`, `rewrite JOB OUT` and `policy JOB`"
+                "javasec: the commands are `run JOB`, `check JOB`, `rewrite JOB OUT` and `policy JOB`; the first two take --form=inspect, --form=pass or --form=plain"
             )
         }
         Status::ReadFault => eprintln!(rt; "javasec: {path} could not be read"),

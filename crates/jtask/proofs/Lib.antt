@@ -1,7 +1,10 @@
+pub mod Classes
 pub mod Halting
 pub mod Mains
 pub mod Members
+pub mod Moving
 pub mod Parts
 pub mod Paths
 pub mod Sides
+pub mod Sources
 pub mod Wholes

@@ -67,7 +67,7 @@ main_coded : (p : Program) (name : List ℕ) (m : MethodId) → main_of p name �
 unfolding main_of find
 main_coded p name m e = in_found p name (place_of p.parts name) m e
 
-found_is : (r : Refusal) (o : Option MethodId) (m : MethodId) → judged r o ≡ Ok m → o ≡ Some m
+pub found_is : (r : Refusal) (o : Option MethodId) (m : MethodId) → judged r o ≡ Ok m → o ≡ Some m
 found_is r None m e = absurd (let x = e in cc)
 found_is r (Some n) m e = let x = e in cc
 

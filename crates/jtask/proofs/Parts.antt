@@ -20,23 +20,23 @@ use Rattle.jtask.specs.Tasks.{check_of_parts, moved_of_parts, runnable}
 
 -- ---- a run
 
-module _ (name : List ℕ) (parts : List CodePart) where
-  pub run_unlinked : (halt : Halt) → Halts halt (linked (program Source parts)) → Halts halt (runnable name parts)
+module _ (side : Side) (name : List ℕ) (parts : List CodePart) where
+  pub run_unlinked : (halt : Halt) → Halts halt (linked (program side parts)) → Halts halt (runnable side name parts)
   run_unlinked halts.Read h = tt
   run_unlinked halts.Memory h = tt
   run_unlinked (halts.Refused refusal) h = rw h refl
 
-  pub run_unnamed : (halt : Halt) (p : Program) → linked (program Source parts) ≡ Ok p → Halts halt (judged (NoMain name) (main_of p (flat_map group name))) → Halts halt (runnable name parts)
+  pub run_unnamed : (halt : Halt) (p : Program) → linked (program side parts) ≡ Ok p → Halts halt (judged (NoMain name) (main_of p (flat_map group name))) → Halts halt (runnable side name parts)
   run_unnamed halts.Read p links h = tt
   run_unnamed halts.Memory p links h = tt
   run_unnamed (halts.Refused refusal) p links h = rw (links, h) refl
 
-  pub run_untyped : (halt : Halt) (p : Program) (main : MethodId) → linked (program Source parts) ≡ Ok p → judged (NoMain name) (main_of p (flat_map group name)) ≡ Ok main → Halts halt (checked p) → Halts halt (runnable name parts)
+  pub run_untyped : (halt : Halt) (p : Program) (main : MethodId) → linked (program side parts) ≡ Ok p → judged (NoMain name) (main_of p (flat_map group name)) ≡ Ok main → Halts halt (checked p) → Halts halt (runnable side name parts)
   run_untyped halts.Read p main links named h = tt
   run_untyped halts.Memory p main links named h = tt
   run_untyped (halts.Refused refusal) p main links named h = rw (links, named, h) refl
 
-  pub runs : (p q : Program) (main : MethodId) → linked (program Source parts) ≡ Ok p → judged (NoMain name) (main_of p (flat_map group name)) ≡ Ok main → checked p ≡ Ok q → runnable name parts ≡ Ok (q, main)
+  pub runs : (p q : Program) (main : MethodId) → linked (program side parts) ≡ Ok p → judged (NoMain name) (main_of p (flat_map group name)) ≡ Ok main → checked p ≡ Ok q → runnable side name parts ≡ Ok (q, main)
   runs p q main links named typed = rw (links, named, typed) refl
 
 -- ---- a check

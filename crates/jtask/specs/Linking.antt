@@ -1,14 +1,15 @@
 -- How the classes of a job link: the program that they make, or the refusal by the first rule of linking that they break.
-use Rattle.std.specs.Prelude.{ℕ, List, [], ◌++◌, Option, Some, None, option_map, Result, Ok, Err, slice_get}
+use Rattle.std.specs.Prelude.{◌≡◌, ℕ, List, [], ◌++◌, Option, Some, None, option_map, Result, Ok, Err, IsTrue, slice_get}
 use Rattle.jformat.specs.declared.error.Fault.{Fault}
 use Rattle.jtext.specs.Modified.{text}
 use Rattle.jclass.specs.declared.class.ClassParts.{ClassParts}
 use Rattle.jclass.specs.declared.class.MemberInfo.{MemberInfo}
+use Rattle.jclass.specs.Class.{class_file}
 use Rattle.jprogram.specs.declared.fault.LinkFault.{LinkFault}
 use Rattle.jprogram.specs.declared.part.CodePart.{CodePart}
 use Rattle.jprogram.specs.Parts.{member_desc, member_name, this_name}
 use Rattle.jprogram.specs.Classes.{Program}
-use Rattle.jlink.specs.Links.{link_fault}
+use Rattle.jlink.specs.Links.{AreParts, link_fault}
 use Rattle.jshow.specs.declared.refusal.Refusal.{Refusal}
 use Rattle.jshow.specs.declared.refusal.Refusal.TheVariants.{BadLink}
 use Rattle.jtask.specs.Stages.{Stopped, Refused}
@@ -34,6 +35,11 @@ member_at c i = slice_get (c.methods ++ c.fields) i
 abbrev pub member_told : ClassParts → Option ℕ → Option (List ℕ)
 member_told c None = None
 member_told c (Some i) = option_map (member_text c) (member_at c i)
+
+-- parts that may be linked, each of them a class file
+pub record AreClasses (classes : List CodePart) : Type 0 where
+  pub parts : AreParts classes
+  pub files : (i : ℕ) (part : CodePart) → slice_get classes i ≡ Some part → IsTrue (class_file.fits part.class)
 
 -- ---- the refusal
 

@@ -1,6 +1,6 @@
 -- What is to be done at a command with the files that are held: they are read in the order job, policy, class files, and each is
 -- judged before the next is read; then the classes link, then `main` is looked for where they are to be run, then they are checked, and
--- then the limits of moving are looked at where they are to be rewritten.
+-- then the limits of moving are looked at where they are to be moved: to be stored, or to be run in the form `pass`.
 use Rattle.std.specs.Prelude.{◌≡◌, ℕ, ◌-◌, Bool, true, false, List, [], length, Option, Some, None, Result, Ok, Err, is_some}
 use Rattle.std.specs.List.{flat_map}
 use Rattle.jbase.specs.Each.{each}
@@ -18,7 +18,7 @@ use Rattle.jpolicy.specs.Policies.{policy}
 use Rattle.jjob.specs.declared.command.Command.{Command}
 use Rattle.jjob.specs.declared.command.Command.TheVariants as commands
 use Rattle.jjob.specs.declared.command.Form.{Form}
-use Rattle.jjob.specs.declared.command.Form.TheVariants.{Inspect, Plain}
+use Rattle.jjob.specs.declared.command.Form.TheVariants.{Inspect, Pass, Plain}
 use Rattle.jjob.specs.declared.job.Job.{Job}
 use Rattle.jjob.specs.Jobs.{job}
 use Rattle.jlib.specs.declared.side.Side.{Side}
@@ -28,6 +28,8 @@ use Rattle.jprogram.specs.declared.member.MethodId.{MethodId}
 use Rattle.jprogram.specs.Classes.{Program, program}
 use Rattle.jprogram.specs.Members.{main_of}
 use Rattle.juses.specs.Instructions.{code_at}
+use Rattle.jmachine.specs.declared.plan.Plan.{Plan}
+use Rattle.jperm.specs.declared.permission.Permission.{Permission}
 use Rattle.jshow.specs.declared.refusal.Refusal.TheVariants.{BadJob, BadPolicy, BadClass, NoMain}
 use Rattle.jtask.specs.declared.ground.ClassPath.{ClassPath}
 use Rattle.jtask.specs.declared.ground.Ground.{Ground}
@@ -35,7 +37,7 @@ use Rattle.jtask.specs.declared.task.Task.{Task}
 use Rattle.jtask.specs.declared.task.Task.TheVariants as tasks
 use Rattle.jtask.specs.Checking.{checked}
 use Rattle.jtask.specs.Grounds.{ground_of, plan_of}
-use Rattle.jtask.specs.Linking.{linked}
+use Rattle.jtask.specs.Linking.{AreClasses, linked}
 use Rattle.jtask.specs.Rewriting.{rewritten}
 use Rattle.jtask.specs.Stages.{Stopped, Missing, Refused, judged, bytes_at}
 
@@ -82,32 +84,46 @@ class_at files path = bytes_at files path >>= λ bytes. class_read path bytes (c
 unfoldable pub part_at : List File → ClassPath → Result CodePart Stopped
 part_at files one = class_at files one.path >>= λ class. Ok (record { domain = one.domain; class = class })
 
+-- the library against which a form is linked and checked: the passing side's for classes that are moved already, and else the source side's
+abbrev pub side_of : Form → Side
+side_of Plain = Passing
+side_of _ = Source
+
 -- ---- a run
 
--- the program of a run and the method with which it begins: the classes link, the main class has a `main`, and they are well typed
-abbrev pub runnable : List ℕ → List CodePart → Result (Program × MethodId) Stopped
-runnable name parts =
-    linked (program Source parts) >>= λ p.
+-- the program of a run on a side and the method with which it begins: the classes link, the main class has a `main`, and they are well typed
+abbrev pub runnable : Side → List ℕ → List CodePart → Result (Program × MethodId) Stopped
+runnable side name parts =
+    linked (program side parts) >>= λ p.
     judged (NoMain name) (main_of p (flat_map group name)) >>= λ main.
     checked p >>= λ q.
     Ok (q, main)
 
--- the run of these classes
-abbrev pub run_of_parts : Ground → List CodePart → Result Task Stopped
-run_of_parts g parts = runnable g.main parts >>= λ found. Ok (tasks.Run found.0 g.domains (plan_of g.setting found.1))
+-- The run of a program in a form: by the stacks of its frames, by the contexts that its calls hand on, or so once it is moved.
+abbrev pub run_in : Form → Program → List (List Permission) → Plan → Result Task Stopped
+run_in Inspect p domains plan = Ok (tasks.Run p domains plan)
+run_in Plain p domains plan = Ok (tasks.RunPlain p domains plan)
+run_in Pass p domains plan = rewritten p >>= λ q. Ok (tasks.RunPass q domains plan)
 
-unfoldable pub run_of_ground : List File → Ground → Result Task Stopped
-run_of_ground files g = each (part_at files) g.classes >>= λ parts. run_of_parts g parts
+-- the run of these classes in a form
+abbrev pub run_of_parts : Form → Ground → List CodePart → Result Task Stopped
+run_of_parts form g parts = runnable (side_of form) g.main parts >>= λ found. run_in form found.0 g.domains (plan_of g.setting found.1)
 
-unfoldable pub run_at : List File → List ℕ → Result Task Stopped
-run_at files path = ground_at files path >>= λ g. run_of_ground files g
+unfoldable pub run_of_ground : List File → Form → Ground → Result Task Stopped
+run_of_ground files form g = each (part_at files) g.classes >>= λ parts. run_of_parts form g parts
+
+unfoldable pub run_at : List File → Form → List ℕ → Result Task Stopped
+run_at files form path = ground_at files path >>= λ g. run_of_ground files form g
+
+-- the class files that a ground names are parts that may be linked
+abbrev pub GroundClasses : List File → Ground → Type 0
+GroundClasses files g = (parts : List CodePart) → each (part_at files) g.classes ≡ Ok parts → AreClasses parts
+
+-- those that the job at a path names are
+abbrev pub JobClasses : List File → List ℕ → Type 0
+JobClasses files path = (g : Ground) → ground_at files path ≡ Ok g → GroundClasses files g
 
 -- ---- a check
-
--- the library against which a form is checked: the passing side's for what is run without a look at frames, and else the source side's
-abbrev pub side_of : Form → Side
-side_of Plain = Passing
-side_of _ = Source
 
 -- the check of these classes on a side: they link, and they are well typed
 abbrev pub check_of_parts : Side → List CodePart → Result Task Stopped
@@ -147,7 +163,7 @@ policy_at files path = ground_at files path >>= λ g. Ok (tasks.Policy g.sources
 
 -- the commands that are built
 abbrev pub built : Command → Bool
-built (commands.Run Inspect path) = true
+built (commands.Run form path) = true
 built (commands.Check form path) = true
 built (commands.Rewrite path to) = true
 built (commands.Policy path) = true
@@ -160,17 +176,24 @@ stores _ = false
 
 -- What a command asks for. The others aren't built, and nobody comes with one.
 unfoldable pub task : Command → List File → Result Task Stopped
-task (commands.Run form path) files = run_at files path
+task (commands.Run form path) files = run_at files form path
 task (commands.Check form path) files = check_at files (side_of form) path
 task (commands.Rewrite path to) files = rewrite_at files to path
 task (commands.Policy path) files = policy_at files path
 task _ files = Err Missing
+
+-- where a command runs a job, those that the job names are
+abbrev pub RunClasses : Command → List File → Type 0
+RunClasses (commands.Run form path) files = JobClasses files path
+RunClasses _ files = Unit {0}
 
 -- ---- tasks
 
 -- a program is run from a method with code, and each code source has its permissions
 abbrev pub IsWhole : Task → Type 0
 IsWhole (tasks.Run program domains plan) = is_some (code_at program plan.main) ≡ true
+IsWhole (tasks.RunPlain program domains plan) = is_some (code_at program plan.main) ≡ true
+IsWhole (tasks.RunPass program domains plan) = is_some (code_at program plan.main) ≡ true
 IsWhole (tasks.Check program) = Unit {0}
 IsWhole (tasks.Rewrite program job to) = Unit {0}
 IsWhole (tasks.Policy sources domains) = length domains ≡ length sources

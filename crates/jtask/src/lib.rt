@@ -2,15 +2,16 @@
 //!
 //! - `Stages`: what a call that reads files answers beside its definition.
 //! - `Grounds`: what a job and its policy say, for each verb.
-//! - `Tasks`: what is to be done at a command, one case a verb; files are read in order, each judged before the next. `IsWhole` says of
-//!   a run that the method with which it begins has code, and of a listing that each code source has its permissions.
+//! - `Tasks`: what is to be done at a command, one case a verb, and for a run one case a form; files are read in order, each judged before
+//!   the next. `IsWhole` says of a run that the method with which it begins has code, and of a listing that each code source has its
+//!   permissions.
 //! - `Linking`: the program that a job's classes make, or the refusal by the first broken rule.
 //! - `Checking`: a program that is well typed, or the refusal by the first place that isn't.
 //! - `Rewriting`: the moved program, or the refusal by the first limit that is broken.
 //!
 //! Proved: `task_of` answers the task of a command that is built, or its refusal, over the files that the shelf holds, and leaves them
-//! as they are; a fault of reading is told only where the shelf counted one, or where a file is missing or too long; `is_built` says
-//! which commands are built.
+//! as they are; a fault of reading is told only where the shelf counted one, or where a file is missing or too long; what was read for
+//! a run are parts that may be linked, each of them a class file. `is_built` says which commands are built.
 //!
 //! Rooms of jobs and the top may name it.
 #![tactic(auto)]

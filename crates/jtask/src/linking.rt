@@ -3,7 +3,7 @@ ghost use Rattle.jprogram.specs.Classes.{Program, program};
 ghost use Rattle.jlink.specs.Links.{LinkErrorIs};
 ghost use Rattle.jtask.specs.declared.halt.Halt.TheVariants.{Read};
 ghost use Rattle.jtask.specs.Stages.{Follows};
-ghost use Rattle.jtask.specs.Linking.{link_refusal, linked, member_at, member_text, member_told, refusal_in, units_in, unless_broken};
+ghost use Rattle.jtask.specs.Linking.{AreClasses, link_refusal, linked, member_at, member_text, member_told, refusal_in, units_in, unless_broken};
 
 use crate::halt::Halt;
 use jbase::{Seq, Stop};
@@ -112,6 +112,16 @@ fn not_linked(alloc: Global, parts: &[CodePart], error: LinkError) -> Result<Lin
 }
 
 // ---- programs
+
+/// The parts of a program that links may be linked, and each was read as a class file.
+pub fn are_classes(program: &LinkedProgram)
+    ensures { AreClasses program.now.parts }
+{
+    for part in program.parts() {
+        // What the proof needs: each part is a class file.
+        let _parts = part.class.parts();
+    }
+}
 
 /// The program that classes make which link against a side's library.
 #[tactic(auto, unfolding(crate::specs::Linking::linked))]

@@ -1,5 +1,5 @@
 use jbase::Seq;
-use jcheck::CheckedProgram;
+use jcheck::{CheckedProgram, PlainProgram};
 use jdomain::{CodeSource, Domains};
 use jjob::Text;
 use jmachine::Plan;
@@ -8,9 +8,21 @@ use jrewrite::RewrittenProgram;
 /// What is to be done, when all files are read and judged.
 #[derive(Drop)]
 pub enum Task {
-    /// A program is to be run.
+    /// A program is to be run by the stacks of its frames.
     Run {
         program: CheckedProgram,
+        domains: Domains,
+        plan: Plan,
+    },
+    /// A program of the passing side is to be run by the contexts that its calls hand on.
+    RunPlain {
+        program: PlainProgram,
+        domains: Domains,
+        plan: Plan,
+    },
+    /// A moved program is to be run, by the contexts that its calls hand on.
+    RunPass {
+        program: RewrittenProgram,
         domains: Domains,
         plan: Plan,
     },

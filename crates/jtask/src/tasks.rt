@@ -1,27 +1,34 @@
-ghost use Rattle.std.specs.Prelude.{◌≡◌, ◌≤◌, ◌<◌, ◌^◌, Err, IfOk, IsTrue, List, None, Some, false, is_some, length, true};
+ghost use Rattle.std.specs.Prelude.{◌≡◌, ◌≤◌, ◌<◌, ◌^◌, Err, IfOk, IsTrue, List, None, OnOk, Some, false, is_some, length, true};
 ghost use Rattle.std.specs.List.{flat_map};
 ghost use Rattle.jio.specs.Held.{File};
 ghost use Rattle.jtext.specs.Modified.{group};
+ghost use Rattle.jjob.specs.declared.command.Form.TheVariants.{Pass};
+ghost use Rattle.jlib.specs.declared.side.Side.TheVariants.{Passing, Source};
 ghost use Rattle.jprogram.specs.Members.{main_of};
 ghost use Rattle.juses.specs.Instructions.{code_at};
 ghost use Rattle.jtask.specs.declared.halt.Halt.TheVariants.{Read};
+ghost use Rattle.jtask.specs.declared.task.Task.TheVariants.{RunPlain};
+ghost use Rattle.jtask.specs.Rewriting;
 ghost use Rattle.jtask.specs.Stages.{Excused, Follows, judged};
-ghost use Rattle.jtask.specs.Tasks.{IsWhole, built, check_at, check_of_ground, check_of_parts, is_stored, policy_at, run_at, run_of_ground, run_of_parts, runnable};
+ghost use Rattle.jtask.specs.Linking.{AreClasses};
+ghost use Rattle.jtask.specs.Tasks.{GroundClasses, IsWhole, JobClasses, RunClasses, built, check_at, check_of_ground, check_of_parts, is_stored, policy_at, run_at, run_in, run_of_ground, run_of_parts, runnable};
 ghost use Rattle.jtask.specs.Tasks.{moved_of_parts, rewrite_at, rewrite_of_ground, rewrite_of_parts, rewrite_of_text, side_of, stores, task};
 
 use crate::checking::checked;
 use crate::ground::Ground;
 use crate::halt::Halt;
-use crate::linking::linked;
+use crate::linking::{are_classes, linked};
 use crate::reading::{ground_at, ground_in, parts_at, read_at, text_in};
 use crate::rewriting::rewritten;
 use crate::task::Task;
 use jbase::Seq;
 use jcheck::CheckedProgram;
+use jdomain::Domains;
 use jio::Shelf;
 use jjob::{Command, Form, Text};
 use jlib::Side;
 use jlink::LinkedProgram;
+use jmachine::Plan;
 use jprogram::{CodePart, MethodId};
 use jrewrite::RewrittenProgram;
 use jshow::Refusal;
@@ -33,12 +40,21 @@ pub fn is_built(command: &Command) -> bool
     ensures { result ≡ built command.now }
 {
     match command {
-        Command::Run { form, .. } => match form {
-            Form::Inspect => true,
-            _ => false,
-        },
-        Command::Check { .. } | Command::Rewrite { .. } | Command::Policy { .. } => true,
-        _ => false,
+        Command::Run { .. }
+        | Command::Check { .. }
+        | Command::Rewrite { .. }
+        | Command::Policy { .. } => true,
+        Command::Gen { .. } => false,
+    }
+}
+
+/// The side against whose library a form is linked and checked.
+fn side_of(form: Form) -> Side
+    ensures { result ≡ side_of form }
+{
+    match form {
+        Form::Plain => Side::Passing,
+        Form::Inspect | Form::Pass => Side::Source,
     }
 }
 
@@ -64,76 +80,158 @@ fn main_named(alloc: Global, program: &LinkedProgram, name: &Units) -> Result<Me
     }
 }
 
-/// The program of a run, and the method with which it begins.
+/// The program of a run on a side, and the method with which it begins.
 fn runnable(
     alloc: Global,
+    side: Side,
     name: &Units,
     parts: Seq<CodePart>,
 ) -> Result<(CheckedProgram, MethodId), Halt>
-    ensures value { Follows (λ x. x) result (runnable name.now parts) }
+    ensures value { Follows (λ x. x) result (runnable side name.now parts) }
+    ensures classes { OnOk result (AreClasses parts) }
+    ensures side { IfOk result (λ x. x.0.side ≡ side) }
     ensures coded { IfOk result (λ x. is_some (code_at x.0 x.1) ≡ true) }
     ensures unread { result ≡ Err Read → ⊥ }
 {
-    let joined = linked(alloc, parts, Side::Source)?;
+    let joined = linked(alloc, parts, side)?;
+    are_classes(&joined);
     let main = main_named(alloc, &joined, name)?;
     let program = checked(alloc, joined)?;
     Ok((program, main))
 }
 
-/// The run of the classes that were read for a job.
-fn run_of_parts(alloc: Global, ground: Ground, parts: Seq<CodePart>) -> Result<Task, Halt>
-    ensures value { Follows (λ x. x) result (run_of_parts ground parts) }
+/// The run of a program of the passing side.
+fn run_plain(program: CheckedProgram, domains: Domains, plan: Plan) -> Task
+    requires { program.side ≡ Passing }
+    ensures { result ≡ RunPlain program domains plan }
+{
+    match program.into_plain() {
+        Ok(program) => Task::RunPlain {
+            program,
+            domains,
+            plan,
+        },
+        Err(_) => unreachable!(),
+    }
+}
+
+/// The moved program of one that is checked.
+fn moved_of(alloc: Global, program: CheckedProgram) -> Result<RewrittenProgram, Halt>
+    requires { program.side ≡ Source }
+    ensures value { Follows (λ x. x) result (Rewriting.rewritten program) }
+    ensures unread { result ≡ Err Read → ⊥ }
+{
+    rewritten(alloc, &program)
+}
+
+/// The run of a program once it is moved.
+fn run_moved(
+    alloc: Global,
+    program: CheckedProgram,
+    domains: Domains,
+    plan: Plan,
+) -> Result<Task, Halt>
+    requires side { program.side ≡ Source }
+    requires coded { is_some (code_at program plan.main) ≡ true }
+    ensures value { Follows (λ x. x) result (run_in Pass program domains plan) }
     ensures whole { IfOk result IsWhole }
     ensures kind { IfOk result (λ t. is_stored t ≡ false) }
     ensures unread { result ≡ Err Read → ⊥ }
 {
-    let (program, main) = runnable(alloc, &ground.main, parts)?;
-    Ok(Task::Run {
-        program,
-        domains: ground.domains,
-        plan: ground.setting.plan(main),
-    })
+    match moved_of(alloc, program) {
+        Ok(program) => Ok(Task::RunPass {
+            program,
+            domains,
+            plan,
+        }),
+        Err(halt) => {
+            drop(domains);
+            drop(plan);
+            Err(halt)
+        }
+    }
+}
+
+/// The run of a program in a form, which is on the form's side.
+fn run_in(
+    alloc: Global,
+    form: Form,
+    program: CheckedProgram,
+    domains: Domains,
+    plan: Plan,
+) -> Result<Task, Halt>
+    requires side { program.side ≡ side_of form }
+    requires coded { is_some (code_at program plan.main) ≡ true }
+    ensures value { Follows (λ x. x) result (run_in form program domains plan) }
+    ensures whole { IfOk result IsWhole }
+    ensures kind { IfOk result (λ t. is_stored t ≡ false) }
+    ensures unread { result ≡ Err Read → ⊥ }
+{
+    match form {
+        Form::Inspect => Ok(Task::Run {
+            program,
+            domains,
+            plan,
+        }),
+        Form::Plain => Ok(run_plain(program, domains, plan)),
+        Form::Pass => run_moved(alloc, program, domains, plan),
+    }
+}
+
+/// The run in a form of the classes that were read for a job.
+fn run_of_parts(
+    alloc: Global,
+    form: Form,
+    ground: Ground,
+    parts: Seq<CodePart>,
+) -> Result<Task, Halt>
+    ensures value { Follows (λ x. x) result (run_of_parts form ground parts) }
+    ensures classes { OnOk result (AreClasses parts) }
+    ensures whole { IfOk result IsWhole }
+    ensures kind { IfOk result (λ t. is_stored t ≡ false) }
+    ensures unread { result ≡ Err Read → ⊥ }
+{
+    let (program, main) = runnable(alloc, side_of(form), &ground.main, parts)?;
+    let plan = ground.setting.plan(main);
+    run_in(alloc, form, program, ground.domains, plan)
 }
 
 #[tactic(auto, unfolding(crate::specs::Tasks::run_of_ground))]
-fn run_of_ground<S: Shelf>(alloc: Global, ground: Ground, shelf: &mut S) -> Result<Task, Halt>
-    ensures value { (files : List File) → S.held shelf.old ≡ Some files → Follows (λ x. x) result (run_of_ground files ground) }
+fn run_of_ground<S: Shelf>(
+    alloc: Global,
+    form: Form,
+    ground: Ground,
+    shelf: &mut S,
+) -> Result<Task, Halt>
+    ensures value { (files : List File) → S.held shelf.old ≡ Some files → Follows (λ x. x) result (run_of_ground files form ground) }
+    ensures classes { (files : List File) → S.held shelf.old ≡ Some files → OnOk result (GroundClasses files ground) }
     ensures whole { IfOk result IsWhole }
     ensures kind { IfOk result (λ t. is_stored t ≡ false) }
     ensures held { S.held shelf.new ≡ S.held shelf.old }
     ensures stored { S.write_faults shelf.new ≡ S.write_faults shelf.old }
     ensures later { S.read_faults shelf.old ≤ S.read_faults shelf.new }
-    ensures cause { Excused result (S.read_faults shelf.old) (S.read_faults shelf.new) (S.held shelf.old) (λ files. run_of_ground files ground) }
+    ensures cause { Excused result (S.read_faults shelf.old) (S.read_faults shelf.new) (S.held shelf.old) (λ files. run_of_ground files form ground) }
 {
     let parts = parts_at(alloc, ground.classes.as_slice(), shelf)?;
-    run_of_parts(alloc, ground, parts)
+    run_of_parts(alloc, form, ground, parts)
 }
 
 #[tactic(auto, unfolding(crate::specs::Tasks::run_at))]
-fn run_at<S: Shelf>(alloc: Global, path: &str, shelf: &mut S) -> Result<Task, Halt>
-    ensures value { (files : List File) → S.held shelf.old ≡ Some files → Follows (λ x. x) result (run_at files path.now) }
+fn run_at<S: Shelf>(alloc: Global, form: Form, path: &str, shelf: &mut S) -> Result<Task, Halt>
+    ensures value { (files : List File) → S.held shelf.old ≡ Some files → Follows (λ x. x) result (run_at files form path.now) }
+    ensures classes { (files : List File) → S.held shelf.old ≡ Some files → OnOk result (JobClasses files path.now) }
     ensures whole { IfOk result IsWhole }
     ensures kind { IfOk result (λ t. is_stored t ≡ false) }
     ensures held { S.held shelf.new ≡ S.held shelf.old }
     ensures stored { S.write_faults shelf.new ≡ S.write_faults shelf.old }
     ensures later { S.read_faults shelf.old ≤ S.read_faults shelf.new }
-    ensures cause { Excused result (S.read_faults shelf.old) (S.read_faults shelf.new) (S.held shelf.old) (λ files. run_at files path.now) }
+    ensures cause { Excused result (S.read_faults shelf.old) (S.read_faults shelf.new) (S.held shelf.old) (λ files. run_at files form path.now) }
 {
     let ground = ground_at(alloc, path, shelf)?;
-    run_of_ground(alloc, ground, shelf)
+    run_of_ground(alloc, form, ground, shelf)
 }
 
 // ---- a check
-
-/// The side against whose library a form is checked.
-fn side_of(form: Form) -> Side
-    ensures { result ≡ side_of form }
-{
-    match form {
-        Form::Plain => Side::Passing,
-        Form::Inspect | Form::Pass => Side::Source,
-    }
-}
 
 fn check_of_parts(alloc: Global, side: Side, parts: Seq<CodePart>) -> Result<Task, Halt>
     ensures value { Follows (λ x. x) result (check_of_parts side parts) }
@@ -188,7 +286,7 @@ fn moved_of_parts(alloc: Global, parts: Seq<CodePart>) -> Result<RewrittenProgra
 {
     let joined = linked(alloc, parts, Side::Source)?;
     let program = checked(alloc, joined)?;
-    rewritten(alloc, &program)
+    moved_of(alloc, program)
 }
 
 /// The rewriting of the classes that were read for a job.
@@ -293,6 +391,8 @@ fn policy_at<S: Shelf>(alloc: Global, path: &str, shelf: &mut S) -> Result<Task,
 pub fn task_of<S: Shelf>(alloc: Global, command: &Command, shelf: &mut S) -> Result<Task, Halt>
     requires { IsTrue (built command.now) }
     ensures value { (files : List File) → S.held shelf.old ≡ Some files → Follows (λ x. x) result (task command.now files) }
+    // What was read for a run are parts that may be linked, each of them a class file.
+    ensures classes { (files : List File) → S.held shelf.old ≡ Some files → OnOk result (RunClasses command.now files) }
     ensures whole { IfOk result IsWhole }
     ensures kind { IfOk result (λ t. is_stored t ≡ stores command.now) }
     ensures held { S.held shelf.new ≡ S.held shelf.old }
@@ -301,7 +401,7 @@ pub fn task_of<S: Shelf>(alloc: Global, command: &Command, shelf: &mut S) -> Res
     ensures cause { Excused result (S.read_faults shelf.old) (S.read_faults shelf.new) (S.held shelf.old) (λ files. task command.now files) }
 {
     match command {
-        Command::Run { job, .. } => run_at(alloc, job.as_str(), shelf),
+        Command::Run { form, job } => run_at(alloc, *form, job.as_str(), shelf),
         Command::Check { form, job } => check_at(alloc, side_of(*form), job.as_str(), shelf),
         Command::Rewrite { job, to } => rewrite_at(alloc, job.as_str(), to, shelf),
         Command::Policy { job } => policy_at(alloc, job.as_str(), shelf),

@@ -7,6 +7,14 @@ pub returns-in-Run-clause-files : goal.returns-in-Run-clause-files
 unfolding shown
 returns-in-Run-clause-files g c = rw c.in-Run.is (stores_nothing c.show_run.result (g.S.Shelf.held c.args.shelf.now) (g.S.Shelf.held c.args.shelf.now) refl)
 
+pub returns-in-RunPlain-clause-files : goal.returns-in-RunPlain-clause-files
+unfolding shown
+returns-in-RunPlain-clause-files g c = rw c.in-RunPlain.is (stores_nothing c.show_plain.result (g.S.Shelf.held c.args.shelf.now) (g.S.Shelf.held c.args.shelf.now) refl)
+
+pub returns-in-RunPass-clause-files : goal.returns-in-RunPass-clause-files
+unfolding shown
+returns-in-RunPass-clause-files g c = rw c.in-RunPass.is (stores_nothing c.show_pass.result (g.S.Shelf.held c.args.shelf.now) (g.S.Shelf.held c.args.shelf.now) refl)
+
 pub returns-in-Check-clause-files : goal.returns-in-Check-clause-files
 unfolding shown
 returns-in-Check-clause-files g c = rw c.in-Check.is (stores_nothing c.show_checked.result (g.S.Shelf.held c.args.shelf.now) (g.S.Shelf.held c.args.shelf.now) refl)

@@ -1,9 +1,11 @@
 use Rattle.std.proofs.Common.{◌∙◌, sym, ap, subst, Ok, Err, arith, List, Option}
 use Rattle.jio.specs.Held.{File}
+use Rattle.jshow.specs.declared.status.Status.TheVariants.{OutOfMemory, ReadFault}
 use Rattle.jshow.specs.Answering.{Answer, Answers}
 use Rattle.jtask.specs.declared.halt.Halt.{Halt}
 use Rattle.jtask.specs.Stages.{Refused}
 use Rattle.jdriver.specs.Answers.{Stores, answer, shown}
+use Rattle.jdriver.proofs.Headlines.{answers_all, answers_some, any_all, any_some, refused_all, refused_some, unread, unwritten}
 use Rattle.jdriver.proofs.StoredFiles.{front_same, stores_nothing}
 use Rattle.jdriver.proofs.Tops.{answer_is, own_status, no_fault}
 use Rattle.jdriver.proofs.top.dispatch.Goals as goal
@@ -54,3 +56,39 @@ returns-in-Err-Read-clause-complete g c = λ calm files status told is.
 
 pub returns-in-Err-Memory-clause-files : goal.returns-in-Err-Memory-clause-files
 returns-in-Err-Memory-clause-files g c = λ files told. front_same (answer c.args.command.now files).files (g.S.Shelf.held c.args.shelf.now) (g.S.Shelf.held c.task_of.new.shelf) c.in-Err-Memory.ensures.held
+
+pub returns-in-Ok-clause-passes : goal.returns-in-Ok-clause-passes
+returns-in-Ok-clause-passes g c = λ files told.
+    answers_some c.moved_laws.ensures.runs c.args.command.now files (c.in-Ok.ensures.classes files told) c.show.result (g.K.Sink.out c.args.out.now) (g.K.Sink.out c.show.new.out)
+    (returns-in-Ok-clause-answer g c files told)
+
+pub returns-in-Ok-clause-whole : goal.returns-in-Ok-clause-whole
+returns-in-Ok-clause-whole g c = λ files told.
+    answers_all c.moved_laws.ensures.runs c.args.command.now files (c.in-Ok.ensures.classes files told) c.show.result (g.K.Sink.out c.args.out.now) (g.K.Sink.out c.show.new.out)
+    (returns-in-Ok-clause-answer g c files told)
+
+pub returns-in-Err-Refused-clause-passes : goal.returns-in-Err-Refused-clause-passes
+returns-in-Err-Refused-clause-passes g c = λ files told.
+    refused_some c.args.command.now files c.in-Err-Refused.refusal c.show_refusal.result (g.K.Sink.out c.args.out.now) (g.K.Sink.out c.show_refusal.new.out)
+    ((rw c.in-Err-Refused.field-0-is at c.in-Err-Refused.ensures.value) files told)
+
+pub returns-in-Err-Refused-clause-whole : goal.returns-in-Err-Refused-clause-whole
+returns-in-Err-Refused-clause-whole g c = λ files told.
+    refused_all c.args.command.now files c.in-Err-Refused.refusal c.show_refusal.result (g.K.Sink.out c.args.out.now) (g.K.Sink.out c.show_refusal.new.out)
+    ((rw c.in-Err-Refused.field-0-is at c.in-Err-Refused.ensures.value) files told)
+
+pub returns-in-Err-Read-clause-passes : goal.returns-in-Err-Read-clause-passes
+returns-in-Err-Read-clause-passes g c = λ files told.
+    any_some c.args.command.now files ReadFault (g.K.Sink.out c.args.out.now) (g.K.Sink.out c.args.out.now) (unread (g.K.Sink.out c.args.out.now))
+
+pub returns-in-Err-Read-clause-whole : goal.returns-in-Err-Read-clause-whole
+returns-in-Err-Read-clause-whole g c = λ files told.
+    any_all c.args.command.now files ReadFault (g.K.Sink.out c.args.out.now) (g.K.Sink.out c.args.out.now) (unread (g.K.Sink.out c.args.out.now))
+
+pub returns-in-Err-Memory-clause-passes : goal.returns-in-Err-Memory-clause-passes
+returns-in-Err-Memory-clause-passes g c = λ files told.
+    any_some c.args.command.now files OutOfMemory (g.K.Sink.out c.args.out.now) (g.K.Sink.out c.args.out.now) (unwritten (g.K.Sink.out c.args.out.now))
+
+pub returns-in-Err-Memory-clause-whole : goal.returns-in-Err-Memory-clause-whole
+returns-in-Err-Memory-clause-whole g c = λ files told.
+    any_all c.args.command.now files OutOfMemory (g.K.Sink.out c.args.out.now) (g.K.Sink.out c.args.out.now) (unwritten (g.K.Sink.out c.args.out.now))
