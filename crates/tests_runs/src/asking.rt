@@ -179,21 +179,34 @@ fn are_fronts_right<S: Shelf>(
     Ok(false)
 }
 
-/// What the words answer where the first of the files begins with this number of steps.
-fn outcome_within<S: Shelf>(
+/// The files of a row, whose job begins with this number of steps.
+fn files_within<S: Shelf>(
     alloc: Global,
     row: &Row<'_>,
     steps: u32,
     shelf: &mut S,
-) -> Result<Outcome, AllocError> {
+) -> Result<Files, AllocError> {
     let mut files = files_of(alloc, row.files, shelf)?;
-    let Some((_, job)) = files.first_mut() else {
-        return Err(AllocError);
-    };
-    let mut text = format!(in alloc; "steps {steps}\n")?.into_bytes();
-    text.extend_from_slice(job.as_slice())?;
-    *job = text;
-    outcome_over(alloc, row.words, files, Faults::NONE)
+    for (path, bytes) in files.iter_mut() {
+        if path.as_str() == "job" {
+            let mut text = format!(in alloc; "steps {steps}\n")?.into_bytes();
+            text.extend_from_slice(bytes.as_slice())?;
+            *bytes = text;
+        }
+    }
+    Ok(files)
+}
+
+/// What words answer where the job begins with this number of steps.
+fn outcome_within<S: Shelf>(
+    alloc: Global,
+    words: &str,
+    row: &Row<'_>,
+    steps: u32,
+    shelf: &mut S,
+) -> Result<Outcome, AllocError> {
+    let files = files_within(alloc, row, steps, shelf)?;
+    outcome_over(alloc, words, files, Faults::NONE)
 }
 
 /// The number of the status of a run that its steps bound, and its last line.
@@ -210,7 +223,7 @@ fn are_steps_right<S: Shelf>(
 ) -> Result<bool, AllocError> {
     let (mut shown, mut bounded) = (0, 0);
     for steps in 0..most {
-        let got = outcome_within(alloc, row, steps, shelf)?;
+        let got = outcome_within(alloc, row.words, row, steps, shelf)?;
         let text = got.sink.bytes();
         if got.status == row.status && text == wanted {
             continue;
@@ -226,6 +239,47 @@ fn are_steps_right<S: Shelf>(
         bounded = steps.saturating_add(1);
     }
     Ok(0 < bounded && bounded < most)
+}
+
+/// Whether the form `pass` answers so with this number of steps, by what the form `inspect` answers with each number up to it: as one of
+/// these, which has ended too, or of which so many steps are at most eight times as many and fifteen; and as each that has ended, from eight
+/// times as many and eight on.
+fn is_beside(told: &[Outcome], steps: usize, got: &Outcome) -> bool {
+    let has_ended = got.status != BOUND.0;
+    let mut is_told = false;
+    for (k, one) in told.iter().enumerate() {
+        let is_same = got.status == one.status && got.sink.bytes() == one.sink.bytes();
+        let eightfold = k.saturating_mul(8);
+        if one.status != BOUND.0 && eightfold.saturating_add(8) <= steps && !is_same {
+            return false;
+        }
+        if is_same && (has_ended || steps <= eightfold.saturating_add(15)) {
+            is_told = true;
+        }
+    }
+    is_told
+}
+
+/// Whether the form `pass` answers with each number of steps as it may by what a row's words answer, of which the last is as the row says.
+fn are_forms_right<S: Shelf>(
+    alloc: Global,
+    row: &Row<'_>,
+    most: u32,
+    wanted: &[u8],
+    shelf: &mut S,
+) -> Result<bool, AllocError> {
+    let mut told = Vec::new(alloc);
+    for steps in 0..most {
+        told.push(outcome_within(alloc, row.words, row, steps, shelf)?)?;
+        let got = outcome_within(alloc, "run --form=pass job", row, steps, shelf)?;
+        if !is_beside(told.as_slice(), steps as usize, &got) {
+            return Ok(false);
+        }
+    }
+    match told.last() {
+        Some(last) => Ok(is_as(last, row, wanted)),
+        None => Ok(false),
+    }
 }
 
 /// Whether an outcome is what a row says.
@@ -251,6 +305,20 @@ fn is_moved_right<S: Shelf>(
         Faults::NONE,
     )?;
     Ok(is_as(&first, row, wanted) && moved.status == 0 && is_as(&again, row, wanted))
+}
+
+/// Whether what a row says is answered when `rewrite` has stored what it makes of the job's files.
+fn is_rewritten_right<S: Shelf>(
+    alloc: Global,
+    row: &Row<'_>,
+    wanted: &[u8],
+    shelf: &mut S,
+) -> Result<bool, AllocError> {
+    let files = files_of(alloc, row.files, shelf)?;
+    let mut memory = memory_of(alloc, files, Faults::NONE)?;
+    let moved = outcome_of(alloc, "rewrite job out", &mut memory, Faults::NONE)?;
+    let got = outcome_of(alloc, row.words, &mut memory, Faults::NONE)?;
+    Ok(moved.status == 0 && is_as(&got, row, wanted))
 }
 
 /// Whether the files of a list stand, so many of them, and those behind them don't.
@@ -314,7 +382,9 @@ pub fn is_right<S: Shelf>(alloc: Global, row: &Row<'_>, shelf: &mut S) -> Result
     match row.asked {
         Asked::Fronts => are_fronts_right(alloc, row, wanted, shelf),
         Asked::Steps(most) => are_steps_right(alloc, row, most, wanted, shelf),
+        Asked::Forms(most) => are_forms_right(alloc, row, most, wanted, shelf),
         Asked::Moved => is_moved_right(alloc, row, wanted, shelf),
+        Asked::Rewritten => is_rewritten_right(alloc, row, wanted, shelf),
         Asked::Memory(faults) => is_memory_right(alloc, row, faults, wanted, shelf),
         Asked::Real => {
             let got = outcome_of(alloc, row.words, shelf, Faults::NONE)?;

@@ -26,10 +26,14 @@ pub enum Asked {
     Memory(Faults),
     /// For each front of the last of the files in memory.
     Fronts,
-    /// For each number of steps below this one, as the first line of the first of the files in memory.
+    /// For each number of steps below this one, as the first line of the job in memory.
     Steps(u32),
+    /// So too, and in the form `pass` beside.
+    Forms(u32),
     /// Once over the files in memory, and once over what `rewrite` makes of them.
     Moved,
+    /// Once, over files in memory of which `rewrite` has stored what it makes of them.
+    Rewritten,
 }
 
 /// Which files are to be stored: the first ones of the list of this name, and none behind them. A list without a name says nothing.
@@ -61,6 +65,7 @@ fn asked_of(word: &str, digits: &str) -> Option<Asked> {
         "put" => faults.put = u64::from(number),
         "room" => faults.room = number as usize,
         "steps" => return Some(Asked::Steps(number)),
+        "forms" => return Some(Asked::Forms(number)),
         _ => return None,
     }
     Some(Asked::Memory(faults))
@@ -76,6 +81,9 @@ fn given_of(given: &str) -> Option<(&str, Asked)> {
     }
     if how == "moved" {
         return Some((files, Asked::Moved));
+    }
+    if how == "rewritten" {
+        return Some((files, Asked::Rewritten));
     }
     let (word, digits) = how.split_once(' ')?;
     Some((files, asked_of(word, digits)?))
