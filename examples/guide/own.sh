@@ -13,3 +13,4 @@ echo 'grant { permission java.io.FilePermission "/home/u/-", "read"; };' >app.po
 cat job
 "$program" check job
 "$program" run --form=inspect job
+"$program" run job

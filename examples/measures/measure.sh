@@ -1,7 +1,9 @@
 #!/usr/bin/env bash
-# measure.sh PROGRAM: what the programs of this folder take by a built javasec, in processor seconds, and for each thing that they repeat.
+# measure.sh PROGRAM [FORM]: what the programs of this folder take by a built javasec, in processor seconds, and for each thing that they
+# repeat. FORM is inspect, where none is given, or pass.
 set -eu
 program=$(realpath "$1")
+form=${2:-inspect}
 here=$(cd "$(dirname "$0")" && pwd)
 work=$(mktemp -d)
 trap 'rm -rf "$work"' EXIT
@@ -28,10 +30,11 @@ row() {
     } >app.policy
     {
         printf 'policy app.policy\ndepth 10000\nheap 16777216\nsteps 100000000000\ncode file:/a/\n'
-        for c in *.class; do echo "class $c"; done
+        for c in *.class; do [ "$c" = Other.class ] || echo "class $c"; done
+        [ ! -e Other.class ] || printf 'code file:/b/\nclass Other.class\n'
         echo "main $1"
     } >job
-    t=$(least "$program" run --form=inspect job)
+    t=$(least "$program" run --form="$form" job)
     jvm=-
     if [ "$4" = instruction ]; then jvm=$(least java -Xint -cp . "$1"); fi
     awk -v n="$1" -v d="$2" -v t="$t" -v k="$3" -v u="$4" -v j="$jvm" -v e="$(tail -1 out.txt)" \
@@ -41,6 +44,7 @@ row() {
 row StaticInt 0 40000000 instruction 0
 row Locals 0 44000000 instruction 0
 row StaticCall 0 40000000 instruction 0
+row Across 0 40000000 instruction 0
 row VirtualCall 0 39000000 instruction 0
 row Appends 0 2000000 append 0
 for depth in 10 100 1000 10000; do row Checks $depth 20000 check 0; done

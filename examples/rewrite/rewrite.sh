@@ -1,5 +1,5 @@
 #!/bin/sh
-# Rewrites the job of this folder in a new one, checks what was stored, and shows one method before and after.
+# Rewrites the job of this folder in a new one, checks and runs what was stored, and shows one method before and after.
 # Usage: examples/rewrite/rewrite.sh PROGRAM, with the program that `rt ci` built (crates/javasec/out/javasec).
 set -eu
 program=$(realpath "$1")
@@ -18,6 +18,8 @@ show() {
 show run --form=inspect vault.job
 show rewrite vault.job out
 show check --form=plain out/job
+show run --form=plain out/job
+show run vault.job
 echo '$ cat out/job'
 cat out/job
 if command -v javap >/dev/null; then
