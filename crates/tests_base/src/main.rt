@@ -1,6 +1,6 @@
-//! Asks what a machine stands on (formats, texts, shelves and sinks, operations, the heap, what is remembered, lists one on the other, the
-//! library, types, threads and events) what the lines of the input ask, and tells which answers aren't those that the input says. A line
-//! is a word, more words, ` | ` and the answer. The input says what the words are.
+//! Asks what a machine stands on (formats, texts, shelves and sinks, operations, the heap, what is remembered, lists one on the other,
+//! regions, the library, types, threads and events) what the lines of the input ask, and tells which answers aren't those that the input
+//! says. A line is a word, more words, ` | ` and the answer. The input says what the words are.
 //!
 //! - `Few`: a program of few classes, over which types are asked.
 //!
@@ -15,6 +15,7 @@ mod library;
 mod memo;
 mod operations;
 mod piles;
+mod regions;
 mod table;
 mod texts;
 mod threads;

@@ -1,6 +1,8 @@
 use crate::types::{marks, type_of};
 use crate::words::pair;
-use crate::{events, files, formats, heaps, library, memo, operations, piles, texts, threads};
+use crate::{
+    events, files, formats, heaps, library, memo, operations, piles, regions, texts, threads,
+};
 use jtypes::VType;
 use std::alloc::{AllocError, Global};
 use tests_rows::Unread;
@@ -47,6 +49,7 @@ impl Table {
             "heaps" => heaps::found(alloc, kind, words),
             "memo" => memo::found(alloc, words),
             "piles" => piles::found(alloc, kind, words),
+            "regions" => regions::found(alloc, kind, words),
             "library" => library::found(alloc, kind, words),
             "types" => self.marks(alloc, words),
             "threads" => threads::found(alloc, kind, words),
