@@ -27,7 +27,7 @@ use Rattle.jmachine.specs.Store.{Store}
 use Rattle.jmachine.specs.World.{World, world}
 use Rattle.jtyped.specs.Doings.{CanDo, GivesOf}
 use Rattle.jtyped.specs.Frames.{AllHaveDimensions, AllHave, AllHold, Has, Holds, IsBelow, IsMade, News, Suits}
-use Rattle.jtyped.specs.Going.{DeclareDimensions, Leads, LeadsOn, StraightLeads, SuitsAt}
+use Rattle.jtyped.specs.Going.{DeclareDimensions, Leads, LeadsOn, StraightLeads, SuitsAt, inside}
 use Rattle.jtyped.specs.Stores.{IsStored}
 use Rattle.jtyped.specs.Uses.{static_types}
 use Rattle.jtyped.proofs.Growing.{all_kept, have_kept}
@@ -72,21 +72,32 @@ suits_place p s m news a b shape f x = record {
   operands = have_there (world p) s (here_of p m a) (here_of p m b) news refl (λ o. refl) shape.stack f.operands x.operands;
 }
 
+-- ---- where a frame arrives
+
+module _ {K E : Type 0} (p : Program) (stands : StandsInOrder p) (t : Store K) (m : Method) (ws : List Written) (fs : List Frame) (dims : DeclareDimensions ws) (news : News)
+    (behind : Frame) (k : ℕ) (f : FrameOf K E) (suits : Suits (world p) t (inside p m) news behind f) where
+  pub fitted_at : (next : Frame) → slice_get fs k ≡ Some next → AllHaveDimensions next → frame_fits (tree p) behind next ≡ true → SuitsAt p m fs news t k f
+  fitted_at next at d fit = record { shape = next; there = at; suits = suits_wider K E p (world p) t (inside p m) news behind next f stands refl d fit suits }
+
+  pub arrived_at : (next : Frame) (at : ℤ) (d : Option Frame) → slice_get fs k ≡ Some next → declared_at ws at ≡ d → Arrives (tree p) d behind next → SuitsAt p m fs news t k f
+  arrived_at next at None there none a = record { shape = next; there = there; suits = subst (λ g. Suits (world p) t (inside p m) news g f) (sym a) suits }
+  arrived_at next at (Some d) there is a = fitted_at d (there ∙ ap (λ f. Some f) a.0) (dims at d is) a.1
+
 -- ---- where a frame is declared
 
 no_led : (p : Program) (g : Frame) → leads_in (tree p) g None ≡ true → ⊥
 no_led p g e = cc
 
 -- Where an instruction leads a frame is declared, which is that of the instruction there.
-record IsDeclared (p : Program) (ws : List Written) (fs : List Frame) (k : ℕ) (g : Frame) : Type 0 where
-  at : ℤ
-  frame : Frame
-  declared : declared_at ws at ≡ Some frame
-  there : slice_get fs k ≡ Some frame
-  arrives : frame_fits (tree p) g frame ≡ true
+pub record IsDeclared (p : Program) (ws : List Written) (fs : List Frame) (k : ℕ) (g : Frame) : Type 0 where
+  pub at : ℤ
+  pub frame : Frame
+  pub declared : declared_at ws at ≡ Some frame
+  pub there : slice_get fs k ≡ Some frame
+  pub arrives : frame_fits (tree p) g frame ≡ true
 
 module _ (p : Program) (m : Method) (ws : List Written) (fs : List Frame) (frames : AreFrames p m ws fs) where
-  declared_by : (k : ℕ) (to : Placed) (g f : Frame) (at : ℤ) (d : Option Frame) → slice_get m.body.ops k ≡ Some to → slice_get fs k ≡ Some f → pos to.at ≡ at
+  pub declared_by : (k : ℕ) (to : Placed) (g f : Frame) (at : ℤ) (d : Option Frame) → slice_get m.body.ops k ≡ Some to → slice_get fs k ≡ Some f → pos to.at ≡ at
       → declared_at ws at ≡ d → leads_in (tree p) g d ≡ true → IsDeclared p ws fs k g
   declared_by k to g f at None stands there same is e = absurd (no_led p g e)
   declared_by k to g f at (Some d) stands there same is e =
@@ -116,17 +127,13 @@ place p m o = here_of p m o.at
 module _ {K E : Type 0} (p : Program) (stands : StandsInOrder p) (s : Store K) (statics : List VType) (m : Method) (ws : List Written) (fs : List Frame)
     (frames : AreFrames p m ws fs) (dims : DeclareDimensions ws) (n : ℕ) (o : Placed) (i : Instruction) (is : instruction p m.pool m.body.ops o ≡ Some i) (shape : Frame)
     (x : typing.Serves p m ws fs n o shape) (news : News) where
-  suited : (t : Store K) (next : Frame) (k : ℕ) (f : FrameOf K E) → slice_get fs k ≡ Some next → Suits (world p) t (place p m o) news next f → SuitsAt p m fs news t k f
-  suited t next k f at suits = record { shape = next; there = at; suits = suits_place p t m news o.at 0 next f suits }
-
   fitted : (t : Store K) (next : Frame) (k : ℕ) (f : FrameOf K E) → slice_get fs k ≡ Some next → AllHaveDimensions next → frame_fits (tree p) x.behind next ≡ true
       → Suits (world p) t (place p m o) news x.behind f → SuitsAt p m fs news t k f
-  fitted t next k f at d fit suits = suited t next k f at (suits_wider K E p (world p) t (place p m o) news x.behind next f stands refl d fit suits)
+  fitted t next k f at d fit suits = fitted_at p stands t m ws fs dims news x.behind k f (suits_place p t m news o.at 0 x.behind f suits) next at d fit
 
   arrived : (t : Store K) (next : Frame) (k : ℕ) (f : FrameOf K E) (at : ℤ) (d : Option Frame) → slice_get fs k ≡ Some next → declared_at ws at ≡ d → Arrives (tree p) d x.behind next
       → Suits (world p) t (place p m o) news x.behind f → SuitsAt p m fs news t k f
-  arrived t next k f at None there none a suits = suited t next k f there (subst (λ g. Suits (world p) t (place p m o) news g f) (sym a) suits)
-  arrived t next k f at (Some d) there is a suits = fitted t d k f (there ∙ ap (λ f. Some f) a.0) (dims at d is) a.1 suits
+  arrived t next k f at d there is a suits = arrived_at p stands t m ws fs dims news x.behind k f (suits_place p t m news o.at 0 x.behind f suits) next at d there is a
 
   lead_on : (act : Act K E) (f : FrameOf K E) (gives : Option VType) (rest : List VType) → x.behind.stack ≡ (option_to_list gives ++ rest)
       → AllHold (world p) s (place p m o) news x.behind.locals f.locals → AllHave (world p) s (place p m o) news rest f.operands

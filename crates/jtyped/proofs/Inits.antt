@@ -57,7 +57,7 @@ use Rattle.jmachine.specs.Security.{Rules}
 use Rattle.jmachine.specs.Sites.{Site}
 use Rattle.jmachine.specs.Store.{Store, object_at}
 use Rattle.jmachine.specs.World.{World, fits, world}
-use Rattle.jtyped.specs.Calling.{AllHaveCode, CanInit, Coded, InitsDo, IsAboveHere, IsBegunBy, IsGiven, IsInit, IsInitTarget, method, within}
+use Rattle.jtyped.specs.Calling.{AllHaveCode, CanInit, Coded, InitsDo, IsAboveHere, IsBegunBy, IsGiven, IsInit, IsInitTarget, IsUsable, method, within}
 use Rattle.jtyped.specs.Fitting.{IsValueType}
 use Rattle.jtyped.specs.Frames.{AllHave, AllHold, Has, Holds, IsBelow, IsMade, News, Suits}
 use Rattle.jtyped.specs.Growing.{Grows}
@@ -68,7 +68,7 @@ use Rattle.jtyped.proofs.Calling.{have_all, have_last, receiver_is, some_member}
 use Rattle.jtyped.proofs.Codes.{itself_coded}
 use Rattle.jtyped.proofs.Exchanging.{roomy}
 use Rattle.jtyped.proofs.Fitting.{fits_after, or_right, or_split}
-use Rattle.jtyped.proofs.Growing.{has_kept}
+use Rattle.jtyped.proofs.Growing.{has_kept, serves_kept}
 use Rattle.jtyped.proofs.OfKinds.{known_value, whole_class}
 use Rattle.jtyped.proofs.Orders.{in_order}
 use Rattle.jtyped.proofs.Selected.{IsOf, abstract_is, desc_is, method_there, name_is, selected_library, selected_member, static_is, user_name}
@@ -360,9 +360,12 @@ module _ {K : Type 0} (p : Program) (good : StandsInOrder p) (s : Store K) (code
   lib_typed x member = ap (typed p) (sym (ap (desc_of p) member)) ∙ linked.typed_as
 
   lib_begun : (x : LibCall) → c.member ≡ LibMethod x → HasCode x → IsBegunBy p s c.owner x c.ret values
+  unfolding is_static name_of
   lib_begun x member code = record {
     code = code;
     own = linked.library x member;
+    static = sym (ap (is_static p) member) ∙ linked.static;
+    named = ap (λ (n : List ℕ). bytes_eq n init) (sym (ap (name_of p) member)) ∙ linked.named;
     params = c.params;
     typed_as = lib_typed x member;
     arguments = given;
@@ -434,10 +437,33 @@ module _ {K E : Type 0} (r : Rules K E) (at : Site) (own : Member → Bool) (s :
   usable_by unready.This v h is = h.1.0
   usable_by (unready.New o) v h is = is
 
-  reaches : (values : List (Value K)) (v : Value K) → receiver values ≡ Some v → (n : ℕ) → v ≡ Ref (suc n) → (x : Object K) → object_at s (suc n) ≡ Some x
-      → target at s how.Init c values ≡ Some (reached at.full (as_selected p (Some c.member)))
+  -- where the object may be used later on, it is of its class
+  made_class : (n : ℕ) (made : Option Name) → is_named c.owner made ≡ true → IsMade (world p) s made n → (x : Object K) × (object_at s n ≡ Some x) × (class_of (world p).named x ≡ types.Object c.owner)
+  made_class n None named h = absurd h
+  made_class n (Some d) named h = (h.0, h.1, h.2 ∙ ap (λ (n : List ℕ). types.Object (name n)) (sym (settling.name_is c.owner.0 d.0 named)))
+
+  later_is : (t : Store K) → Grows (world p) s t → (n : ℕ) (x : Object K) → object_at s n ≡ Some x → class_of (world p).named x ≡ types.Object c.owner → IsUsable t n
+      → IsA (world p) t (types.Object c.owner) (Ref n)
+  later_is t grows zero x there class w = absurd (cc)
+  later_is t grows (suc n) x there class w =
+      let y = grows (suc n) x there in
+      let same : w.0 ≡ y.0 = some_is w.0 y.0 (sym w.1 ∙ y.1) in
+      let of : class_of (world p).named w.0 ≡ types.Object c.owner = ap (λ x. class_of (world p).named x) same ∙ y.2.class ∙ class in
+      record {
+        type = types.Object c.owner;
+        is = ap (whole_type (world p) t) w.1 ∙ ap (λ b. if b then Some (class_of (world p).named w.0) else None) w.2 ∙ ap (λ t. Some t) of;
+        met = fits_own p good s here c.owner;
+      }
+
+  whole_by : (it : Unready) → MayReady here c.owner it → (v : Value K) → Has (world p) s here news (unready_type it) v → (t : Store K) → Grows (world p) s t → IsUsable t (index news it)
+      → IsA (world p) t (types.Object (class_by here c.owner it)) (Ref (index news it))
+  whole_by unready.This may v h t grows w = serves_kept (world p) s t grows _ (Ref news.this) h.1.0
+  whole_by (unready.New o) may v h t grows w = let x = made_class (news.made o) (here.makes o) may h.1 in later_is t grows (news.made o) x.0 x.1 x.2 w
+
+  reaches : (vs : List (Value K)) (v : Value K) → receiver vs ≡ Some v → (n : ℕ) → v ≡ Ref (suc n) → (x : Object K) → object_at s (suc n) ≡ Some x
+      → target at s how.Init c vs ≡ Some (reached at.full (as_selected p (Some c.member)))
   unfolding target world
-  reaches values v last n is x there =
+  reaches vs v last n is x there =
       ap (option_and_then (on_value at s how.Init c)) (last ∙ ap (λ v. Some v) is) ∙ ap (option_map (on_object at how.Init c)) there
       ∙ ap (λ (w : World). Some (reached at.full (w.itself c.member))) place.program
 
@@ -474,6 +500,8 @@ module _ {K E : Type 0} (r : Rules K E) (at : Site) (own : Member → Bool) (s :
             comes = subst (λ vs. IsInitTarget p s c vs (reached at.full (as_selected p (Some c.member)))) same comes;
             class = class_by here c.owner x.it;
             number = index news x.it;
+            on = receiver_is given v ∙ ap (λ v. Some v) (b.1 ∙ ap (λ n. Ref n) b.3);
+            whole = whole_by x.it x.may v fit.0;
             rest = all_replaced x.it (types.Object (class_by here c.owner x.it)) x.rest;
             stack = x.stack_is;
             ready = λ t grows is. (

@@ -6,6 +6,7 @@ pub mod Calling
 pub mod Callings
 pub mod Changing
 pub mod Codes
+pub mod Dimensions
 pub mod Exchanging
 pub mod Faces
 pub mod FieldRows
@@ -26,6 +27,7 @@ pub mod OfKinds
 pub mod Orders
 pub mod Selected
 pub mod Simples
+pub mod States
 pub mod Storing
 pub mod Straights
 pub mod Taking

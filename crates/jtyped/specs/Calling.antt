@@ -38,7 +38,7 @@ use Rattle.jrule.specs.Rule.{rule}
 use Rattle.jtyping.specs.Declared.{first_frame}
 use Rattle.jtyping.specs.Methods.{Method, here_of, method_of}
 use Rattle.jmachine.specs.Acts.{FrameOf}
-use Rattle.jmachine.specs.Calls.{Target, Fails, Pushes, Runs, target}
+use Rattle.jmachine.specs.Calls.{Target, Fails, Pushes, Runs, receiver as oldest, target}
 use Rattle.jmachine.specs.Doing.{called, doing}
 use Rattle.jmachine.specs.Frames.{frame_of, with_operands}
 use Rattle.jmachine.specs.Security.{Rules}
@@ -50,7 +50,7 @@ use Rattle.jtyped.specs.Fitting.{IsValueType}
 use Rattle.jtyped.specs.Frames.{AllHave, AllHold, News, Suits}
 use Rattle.jtyped.specs.Growing.{Grows}
 use Rattle.jtyped.specs.Laws.{HasCode, IsAt}
-use Rattle.jtyped.specs.Values.{AllServe, AreOf, CanBeThrown, HasDimensions, IsA, is_piece}
+use Rattle.jtyped.specs.Values.{AllServe, AreOf, CanBeThrown, HasDimensions, IsA, is_piece, is_whole}
 
 -- ---- methods with code
 
@@ -130,7 +130,8 @@ IsTarget p s ret values (Runs call) = IsRun p s call ret values
 -- With values that serve a call that is of no `<init>`, there is one that it comes to.
 abbrev pub CallsComeTo : Type 0 → Type 0
 CallsComeTo K = (p : Program) (at : Site) (s : Store K) (by : How) (c : CallMeaning) (values : List (Value K))
-    → StandsInOrder p → AllHaveCode p → at.world ≡ world p → begins by ≡ false → IsCall p by c → AllServe (world p) s (arguments c ++ receiver (at.world.named at.class) by c.owner) values
+    → StandsInOrder p → AllHaveCode p → at.world ≡ world p → begins by ≡ false → IsCall p by c
+    → AllServe (world p) s (arguments c ++ receiver (at.world.named at.class) by c.owner) values
     → (t : Target) × (target at s by c values ≡ Some t) × IsTarget p s c.ret values t
 
 -- a parameter stands for a value
@@ -177,10 +178,12 @@ pub record IsInit (p : Program) (c : CallMeaning) : Type 0 where
   pub owned : (m : MethodId) → c.member ≡ AMethod m → name_at p (refs.User m.class) ≡ c.owner.0
   pub library : (x : LibCall) → c.member ≡ LibMethod x → library.name_of (library_calls.owner x) ≡ c.owner.0
 
--- The values of an `<init>` of the library: its arguments, and an object of its class, or one below, that holds nothing yet.
+-- The values of an `<init>` of the library: its arguments, and an object of its class, or one below, that may hold nothing yet.
 pub record IsBegunBy {K : Type 0} (p : Program) (s : Store K) (owner : Name) (call : LibCall) (ret : Option VType) (values : List (Value K)) : Type 0 where
   pub code : HasCode call
   pub own : library.name_of (library_calls.owner call) ≡ owner.0
+  pub static : library_calls.is_static call ≡ false
+  pub named : bytes_eq (library_calls.name_of_call call) init ≡ true
   pub params : List VType
   pub typed_as : typed p (library_calls.desc_of call) ≡ Called params ret
   pub arguments : List (Value K)
@@ -197,6 +200,10 @@ IsInitTarget p s c values (Fails class) = CanBeThrown class
 IsInitTarget p s c values (Pushes m) = IsGiven p s m c.ret values
 IsInitTarget p s c values (Runs call) = IsBegunBy p s c.owner call c.ret values
 
+-- the object of a number is there, and may be used
+abbrev pub IsUsable : {K : Type 0} → Store K → ℕ → Type 0
+IsUsable {K} t n = (x : Object K) × (object_at t n ≡ Some x) × (is_whole x ≡ true)
+
 -- A call of an `<init>` is done. What is left suits the frame behind, but for what is returned, in each store behind in which the object that it
 -- was called on may be used; a user's may be already.
 pub record CanInit {K E : Type 0} (r : Rules K E) (at : Site) (own : Member → Bool) (s : Store K) (entries : List E) (inherited : Option K) (p : Program) (here : Here) (news : News)
@@ -207,9 +214,12 @@ pub record CanInit {K E : Type 0} (r : Rules K E) (at : Site) (own : Member → 
   pub comes : IsInitTarget p s c values target
   pub class : Name
   pub number : ℕ
+  pub on : oldest values ≡ Some (Ref number)
+  pub whole : (t : Store K) → Grows (world p) s t → IsUsable t number → IsA (world p) t (types.Object class) (Ref number)
   pub rest : List VType
   pub stack : behind.stack ≡ (option_to_list c.ret ++ rest)
-  pub ready : (t : Store K) → Grows (world p) s t → IsA (world p) t (types.Object class) (Ref number) → AllHold (world p) t here news behind.locals f.locals × AllHave (world p) t here news rest under
+  pub ready : (t : Store K) → Grows (world p) s t → IsA (world p) t (types.Object class) (Ref number)
+      → AllHold (world p) t here news behind.locals f.locals × AllHave (world p) t here news rest under
   pub usable : (m : MethodId) → target ≡ Pushes m → IsA (world p) s (types.Object class) (Ref number)
   pub does : doing r at own s entries inherited (Used (meanings.Call how.Init c)) f
       ≡ option_map (λ row. record { frame = with_operands f under; row = row }) (called r at own s entries inherited values target)

@@ -5,6 +5,7 @@ pub mod Frames
 pub mod Going
 pub mod Growing
 pub mod Laws
+pub mod States
 pub mod Stores
 pub mod Uses
 pub mod Values

@@ -2,6 +2,7 @@ ghost use Rattle.jtyped.specs.Calling.{CallsComeTo, CallsDo, FramesBegin, InitsD
 ghost use Rattle.jtyped.specs.Fitting.{FitsAfter, ImplementsFaces, InstanceFits};
 ghost use Rattle.jtyped.specs.Going.{StraightLeads};
 ghost use Rattle.jtyped.specs.Growing.{GrowsChanged, GrowsItself, GrowsMade, GrowsOn, SuitsLater};
+ghost use Rattle.jtyped.specs.States.{FramesResume, FramesUnwind, StackedLater};
 ghost use Rattle.jtyped.specs.Stores.{StoredMade};
 ghost use Rattle.jtyped.specs.Laws.{ItselfHasCode, SelectedHasCode, StraightDoes, SuitsWider};
 
@@ -38,6 +39,15 @@ pub fn calling_laws<K, E>()
     ensures done { CallsDo K E }
     ensures inits { InitsDo K E }
     ensures begins { FramesBegin K E }
+{}
+
+/// The laws of the frames of a thread, of which the newest stands at an instruction and each older one awaits what it called. They are so in
+/// each store behind; with what the method that it called returns, a frame goes on; and an exception that is thrown is handled by a frame
+/// that goes on with it, or by none. It has no body to run; its contract is the laws.
+pub fn stack_laws<K, E>()
+    ensures later { StackedLater K E }
+    ensures resume { FramesResume K E }
+    ensures unwind { FramesUnwind K E }
 {}
 
 /// The laws of stores that come behind others: a frame that suits one store suits each behind it, and a store with one more object, or with

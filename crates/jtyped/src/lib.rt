@@ -6,18 +6,20 @@
 //! - `Uses`: what linking says of the fields and classes that instructions name (`IsField`, `IsNew`).
 //! - `Calling`: what linking says of calls (`IsCall`, `IsInit`), what a method may be given (`IsGiven`), and what calls come to (`IsTarget`).
 //! - `Doings`: what an instruction is to do, by the frame that the typing rule gives behind it (`CanDo`). `Going`: where that leads in its
-//!   method (`LeadsOn`). `Laws`, `Fitting`: the laws.
+//!   method (`LeadsOn`). `States`: the frames of a thread (`AreStacked`). `Laws`, `Fitting`: the laws.
 //!
 //! Proved, of a typed store and a frame that suits: each instruction that calls no method has a row, and what it does suits the frame behind
 //! it, in a typed store behind (`frame_laws`), so that in a method whose instructions have frames it leads on (`leading_law`); each call comes
-//! to a method that may be given its values, and a frame that is pushed begins as typing says (`calling_laws`). Besides: what fits where a machine runs goes with what fits as programs are checked, and with what casts ask (`fits_laws`); what suits stays so in stores
-//! behind (`growing_laws`); one more object leaves a typed store one (`store_law`); and a method of the library that is selected has code
-//! (`code_laws`). Of what methods of the library do, of exceptions that are caught, of threads and steps, and of the store in which a run
-//! begins, nothing is said yet.
+//! to a method that may be given its values, and a frame that is pushed begins as typing says (`calling_laws`); an older frame goes on with
+//! what is returned, and one that handles an exception goes on with it (`stack_laws`). Besides: what fits where a machine runs goes with what
+//! fits as programs are checked, and with what casts ask (`fits_laws`); what suits stays so in stores behind (`growing_laws`); one more object
+//! leaves a typed store one (`store_law`); and a method of the library that is selected has code (`code_laws`). Of what methods of the library
+//! do, of threads and steps, and of the store in which a run begins, nothing is said yet.
 #![tactic(auto)]
 
 mod laws;
 
 pub use laws::{
-    calling_laws, code_laws, fits_laws, frame_laws, growing_laws, leading_law, store_law,
+    calling_laws, code_laws, fits_laws, frame_laws, growing_laws, leading_law, stack_laws,
+    store_law,
 };

@@ -151,25 +151,26 @@ module _ {K E : Type 0} (r : Rules K E) (at : Site) (own : Member → Bool) (s :
 
 module _ (K E : Type 0) where
   pub check_yields : CallYields K E (calls.Controller controllers.Check)
-  check_yields = call_yields K E (calls.Controller controllers.Check) (permission ∷ []) None (λ p good on. signed.check_says p good)
+  check_yields = call_yields K E (calls.Controller controllers.Check) (permission ∷ []) None (λ p good ps t e. signed.check_says p good)
       (λ r at own s entries inherited p statics values good is side sided h g. check_on r at own s entries inherited statics h values g)
 
   pub snapshot_yields : CallYields K E (calls.Controller controllers.Snapshot)
-  snapshot_yields = call_yields K E (calls.Controller controllers.Snapshot) [] (Some (of_library lib.AccessControlContext)) (λ p good on. signed.snapshot_says p good)
+  snapshot_yields = call_yields K E (calls.Controller controllers.Snapshot) [] (Some (of_library lib.AccessControlContext)) (λ p good ps t e. signed.snapshot_says p good)
       (λ r at own s entries inherited p statics values good is side sided h g. snapshot_on r at own s entries inherited statics h values g)
 
   pub kept_yields : CallYields K E calls.ContextCheck
-  kept_yields = call_yields K E (calls.ContextCheck) (permission ∷ []) None (λ p good on. signed.check_says p good)
+  kept_yields = call_yields K E (calls.ContextCheck) (permission ∷ []) None (λ p good ps t e. signed.check_says p good)
       (λ r at own s entries inherited p statics values good is side sided h g. kept_on r at own s entries inherited statics h values g)
 
   pub enter_yields : CallYields K E (calls.Rt rt.Enter)
-  enter_yields = call_yields K E (calls.Rt rt.Enter) (types.Int ∷ types.Ctx ∷ []) (Some types.Ctx) (λ p good on. signed.enter_says p good on)
+  enter_yields = call_yields K E (calls.Rt rt.Enter) (types.Int ∷ types.Ctx ∷ []) (Some types.Ctx) (λ p good ps t e. signed.enter_says p good (signed.enter_on p good ps t e))
       (λ r at own s entries inherited p statics values good is side sided h g. enter_on r at own s entries inherited statics h values g)
 
   pub rt_check_yields : CallYields K E (calls.Rt rt.Check)
-  rt_check_yields = call_yields K E (calls.Rt rt.Check) (types.Ctx ∷ permission ∷ []) None (λ p good on. signed.rt_check_says p good on)
+  rt_check_yields = call_yields K E (calls.Rt rt.Check) (types.Ctx ∷ permission ∷ []) None (λ p good ps t e. signed.rt_check_says p good (signed.rt_check_on p good ps t e))
       (λ r at own s entries inherited p statics values good is side sided h g. rt_check_on r at own s entries inherited statics h values g)
 
   pub rt_snapshot_yields : CallYields K E (calls.Rt rt.Snapshot)
-  rt_snapshot_yields = call_yields K E (calls.Rt rt.Snapshot) (types.Ctx ∷ []) (Some (of_library lib.AccessControlContext)) (λ p good on. signed.rt_snapshot_says p good on)
+  rt_snapshot_yields = call_yields K E (calls.Rt rt.Snapshot) (types.Ctx ∷ []) (Some (of_library lib.AccessControlContext))
+      (λ p good ps t e. signed.rt_snapshot_says p good (signed.rt_snapshot_on p good ps t e))
       (λ r at own s entries inherited p statics values good is side sided h g. rt_snapshot_on r at own s entries inherited statics h values g)

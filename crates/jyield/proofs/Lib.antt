@@ -1,16 +1,17 @@
-mod AskingRows
-mod Chosen
-mod Classes
-mod Following
-mod Library
-mod Objects
-mod Orders
-mod PermissionRows
-mod PrivilegeRows
-mod Reserved
-mod Rows
-mod Sided
-mod Signed
-mod TextRows
-mod ThreadRows
-mod ThrowableRows
+pub mod AskingRows
+pub mod Chosen
+pub mod Classes
+pub mod Coming
+pub mod Following
+pub mod Library
+pub mod Objects
+pub mod Orders
+pub mod PermissionRows
+pub mod PrivilegeRows
+pub mod Reserved
+pub mod Rows
+pub mod Sided
+pub mod Signed
+pub mod TextRows
+pub mod ThreadRows
+pub mod ThrowableRows

@@ -39,16 +39,16 @@ module _ (K E : Type 0) where
   rt_yields rt.PrivilegedLimited = rt_limited_yields K E
 
   out_yields : CallYields K E calls.Out
-  out_yields r at own s entries inherited p statics params ret values good is side sided stored code on says given = absurd (no_call _ params ret (sym (out_says p good) ∙ says))
+  out_yields r at own s entries inherited p statics params ret values good is side sided stored code says given = absurd (no_call _ params ret (sym (out_says p good) ∙ says))
 
   -- both `run` have no code
   run_yields : (side : Side) → CallYields K E (calls.Run side)
-  run_yields Source r at own s entries inherited p statics params ret values good is side sided stored code on says given = absurd (cc)
-  run_yields Passing r at own s entries inherited p statics params ret values good is side sided stored code on says given = absurd (cc)
+  run_yields Source r at own s entries inherited p statics params ret values good is side sided stored code says given = absurd (cc)
+  run_yields Passing r at own s entries inherited p statics params ret values good is side sided stored code says given = absurd (cc)
 
   run_action_yields : (side : Side) → CallYields K E (calls.RunAction side)
-  run_action_yields Source r at own s entries inherited p statics params ret values good is side sided stored code on says given = absurd (cc)
-  run_action_yields Passing r at own s entries inherited p statics params ret values good is side sided stored code on says given = absurd (cc)
+  run_action_yields Source r at own s entries inherited p statics params ret values good is side sided stored code says given = absurd (cc)
+  run_action_yields Passing r at own s entries inherited p statics params ret values good is side sided stored code says given = absurd (cc)
 
   pub library_yields : (call : LibCall) → CallYields K E call
   library_yields calls.ObjectInit = object_yields K E

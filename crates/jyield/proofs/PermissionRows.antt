@@ -141,21 +141,22 @@ module _ {K E : Type 0} (r : Rules K E) (at : Site) (own : Member → Bool) (s :
 
 module _ (K E : Type 0) where
   pub permission_yields : (call : PermissionInit) → CallYields K E (calls.PermissionInit call)
-  permission_yields inits.All = call_yields K E (calls.PermissionInit inits.All) [] None (λ p good on. signed.nothing_says p good)
+  permission_yields inits.All = call_yields K E (calls.PermissionInit inits.All) [] None (λ p good ps t e. signed.nothing_says p good)
       (λ r at own s entries inherited p statics values good is side sided h g. on_none r at own s entries inherited statics h inits.All permissions.AllPermission values g)
-  permission_yields inits.Runtime = call_yields K E (calls.PermissionInit inits.Runtime) (text_type ∷ []) None (λ p good on. signed.text_says p good)
+  permission_yields inits.Runtime = call_yields K E (calls.PermissionInit inits.Runtime) (text_type ∷ []) None (λ p good ps t e. signed.text_says p good)
       (λ r at own s entries inherited p statics values good is side sided h g. on_name r at own s entries inherited statics h inits.Runtime permissions.RuntimePermission values g)
-  permission_yields inits.RuntimeActions = call_yields K E (calls.PermissionInit inits.RuntimeActions) (text_type ∷ text_type ∷ []) None (λ p good on. signed.texts_say p good)
+  permission_yields inits.RuntimeActions = call_yields K E (calls.PermissionInit inits.RuntimeActions) (text_type ∷ text_type ∷ []) None (λ p good ps t e. signed.texts_say p good)
       (λ r at own s entries inherited p statics values good is side sided h g.
       on_both r at own s entries inherited statics h inits.RuntimeActions permissions.RuntimePermission values g)
-  permission_yields inits.Security = call_yields K E (calls.PermissionInit inits.Security) (text_type ∷ []) None (λ p good on. signed.text_says p good)
+  permission_yields inits.Security = call_yields K E (calls.PermissionInit inits.Security) (text_type ∷ []) None (λ p good ps t e. signed.text_says p good)
       (λ r at own s entries inherited p statics values good is side sided h g.
       on_name r at own s entries inherited statics h inits.Security permissions.SecurityPermission values g)
-  permission_yields inits.SecurityActions = call_yields K E (calls.PermissionInit inits.SecurityActions) (text_type ∷ text_type ∷ []) None (λ p good on. signed.texts_say p good)
+  permission_yields inits.SecurityActions = call_yields K E (calls.PermissionInit inits.SecurityActions) (text_type ∷ text_type ∷ []) None
+      (λ p good ps t e. signed.texts_say p good)
       (λ r at own s entries inherited p statics values good is side sided h g.
       on_both r at own s entries inherited statics h inits.SecurityActions permissions.SecurityPermission values g)
-  permission_yields inits.Property = call_yields K E (calls.PermissionInit inits.Property) (text_type ∷ text_type ∷ []) None (λ p good on. signed.texts_say p good)
+  permission_yields inits.Property = call_yields K E (calls.PermissionInit inits.Property) (text_type ∷ text_type ∷ []) None (λ p good ps t e. signed.texts_say p good)
       (λ r at own s entries inherited p statics values good is side sided h g.
       on_both r at own s entries inherited statics h inits.Property permissions.PropertyPermission values g)
-  permission_yields inits.File = call_yields K E (calls.PermissionInit inits.File) (text_type ∷ text_type ∷ []) None (λ p good on. signed.texts_say p good)
+  permission_yields inits.File = call_yields K E (calls.PermissionInit inits.File) (text_type ∷ text_type ∷ []) None (λ p good ps t e. signed.texts_say p good)
       (λ r at own s entries inherited p statics values good is side sided h g. on_both r at own s entries inherited statics h inits.File permissions.FilePermission values g)

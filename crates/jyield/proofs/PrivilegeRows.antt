@@ -322,7 +322,8 @@ module _ {K E : Type 0} (r : Rules K E) (at : Site) (own : Member → Bool) (s :
       by_array at.world s Alone (context_type ∷ action_type ∷ []) (λ vs. P (Int d ∷ Ctx k ∷ vs)) _ (λ l more limits.
       by_ref at.world s Alone (action_type ∷ []) (λ vs. P (Int d ∷ Ctx k ∷ Ref l ∷ vs)) _ (λ m more kept.
       by_ref at.world s Alone [] (λ vs. P (Int d ∷ Ctx k ∷ Ref l ∷ Ref m ∷ vs)) _ (λ n more is.
-      nothing_else (λ vs. P (Int d ∷ Ctx k ∷ Ref l ∷ Ref m ∷ Ref n ∷ vs)) (rt_limited d k l m n (limits_given l limits) (kept_given m kept) is) more) more) more) more) more) values g
+      nothing_else (λ vs. P (Int d ∷ Ctx k ∷ Ref l ∷ Ref m ∷ Ref n ∷ vs))
+      (rt_limited d k l m n (limits_given l limits) (kept_given m kept) is) more) more) more) more) more) values g
 
 -- ---- the calls
 
@@ -334,31 +335,31 @@ module _ (K E : Type 0) where
   a_context_object = of_library lib.AccessControlContext
 
   pub alone_yields : CallYields K E (calls.Controller controllers.Privileged)
-  alone_yields = call_yields K E (calls.Controller controllers.Privileged) (an_action ∷ []) (Some (of_library lib.Object)) (λ p good on. signed.action_says p good)
+  alone_yields = call_yields K E (calls.Controller controllers.Privileged) (an_action ∷ []) (Some (of_library lib.Object)) (λ p good ps t e. signed.action_says p good)
       (λ r at own s entries inherited p statics values good is side sided h g. alone_on r at own s entries inherited statics h p is sided values g)
 
   pub within_yields : CallYields K E (calls.Controller controllers.PrivilegedWith)
   within_yields = call_yields K E (calls.Controller controllers.PrivilegedWith) (a_context_object ∷ an_action ∷ []) (Some (of_library lib.Object))
-      (λ p good on. signed.within_says p good)
+      (λ p good ps t e. signed.within_says p good)
       (λ r at own s entries inherited p statics values good is side sided h g. within_on r at own s entries inherited statics h p is sided values g)
 
   pub limited_yields : CallYields K E (calls.Controller controllers.PrivilegedLimited)
   limited_yields = call_yields K E (calls.Controller controllers.PrivilegedLimited) (types.Array permissions_array ∷ a_context_object ∷ an_action ∷ [])
       (Some (of_library lib.Object))
-      (λ p good on. signed.limited_says p good)
+      (λ p good ps t e. signed.limited_says p good)
       (λ r at own s entries inherited p statics values good is side sided h g. limited_on r at own s entries inherited statics h p is sided values g)
 
   pub rt_alone_yields : CallYields K E (calls.Rt rt.Privileged)
-  rt_alone_yields = call_yields K E (calls.Rt rt.Privileged) (types.Int ∷ an_action ∷ []) (Some (of_library lib.Object)) (λ p good on. signed.rt_action_says p good)
+  rt_alone_yields = call_yields K E (calls.Rt rt.Privileged) (types.Int ∷ an_action ∷ []) (Some (of_library lib.Object)) (λ p good ps t e. signed.rt_action_says p good)
       (λ r at own s entries inherited p statics values good is side sided h g. rt_alone_on r at own s entries inherited statics h p is sided values g)
 
   pub rt_within_yields : CallYields K E (calls.Rt rt.PrivilegedWith)
   rt_within_yields = call_yields K E (calls.Rt rt.PrivilegedWith) (types.Int ∷ a_context_object ∷ an_action ∷ []) (Some (of_library lib.Object))
-      (λ p good on. signed.rt_within_says p good)
+      (λ p good ps t e. signed.rt_within_says p good)
       (λ r at own s entries inherited p statics values good is side sided h g. rt_within_on r at own s entries inherited statics h p is sided values g)
 
   pub rt_limited_yields : CallYields K E (calls.Rt rt.PrivilegedLimited)
   rt_limited_yields = call_yields K E (calls.Rt rt.PrivilegedLimited) (types.Int ∷ types.Ctx ∷ types.Array permissions_array ∷ a_context_object ∷ an_action ∷ [])
       (Some (of_library lib.Object))
-      (λ p good on. signed.rt_limited_says p good on)
+      (λ p good ps t e. signed.rt_limited_says p good (signed.rt_limited_on p good ps t e))
       (λ r at own s entries inherited p statics values good is side sided h g. rt_limited_on r at own s entries inherited statics h p is sided values g)

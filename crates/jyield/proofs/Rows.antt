@@ -7,7 +7,7 @@ use Rattle.jlib.specs.declared.classes.LibClass.TheVariants as lib
 use Rattle.jlib.specs.declared.classes.PermissionClass.{PermissionClass}
 use Rattle.jlib.specs.declared.classes.Thrown.TheVariants as thrown
 use Rattle.jlib.specs.declared.side.Side.{Side}
-use Rattle.jlib.specs.Calls.{call_stands_on, desc_of}
+use Rattle.jlib.specs.Calls.{desc_of}
 use Rattle.jperm.specs.declared.permission.Permission as perms
 use Rattle.jops.specs.declared.value.Value.{Value}
 use Rattle.jops.specs.declared.value.Value.TheVariants.{Int, Long, Ref, Ctx}
@@ -107,7 +107,7 @@ whole_piece : {K : Type 0} (x : Object K) → is_piece x ≡ true → is_whole x
 whole_piece (Piece units) is e = cc
 whole_piece _ is e = cc
 
-not_piece : {K : Type 0} (x : Object K) → is_whole x ≡ true → is_piece x ≡ false
+pub not_piece : {K : Type 0} (x : Object K) → is_whole x ≡ true → is_piece x ≡ false
 not_piece x e = go (is_piece x) refl
   where
     go : (b : Bool) → is_piece x ≡ b → is_piece x ≡ false
@@ -229,7 +229,7 @@ module _ (K E : Type 0) (call : LibCall) (params : List VType) (ret : Option VTy
       → Yields r.side at s statics (way_of call) values ret (run r at own s entries inherited call values)
 
   abbrev pub CallSays : Type 0
-  CallSays = (p : Program) → StandsInOrder p → call_stands_on p.side call ≡ true → typed p (desc_of call) ≡ Called params ret
+  CallSays = (p : Program) → StandsInOrder p → (ps : List VType) (t : Option VType) → typed p (desc_of call) ≡ Called ps t → typed p (desc_of call) ≡ Called params ret
 
   same_params : (ps : List VType) (t : Option VType) → Called ps t ≡ Called params ret → ps ≡ params
   same_params ps t e = cc
@@ -241,8 +241,8 @@ module _ (K E : Type 0) (call : LibCall) (params : List VType) (ret : Option VTy
   world_orders p side w good is same = subst (λ w. Orders side w) (sym is) (subst (λ side. Orders side (world p)) (sym same) (orders p good))
 
   pub call_yields : CallSays → RowsYield → CallYields K E call
-  call_yields says rows r at own s entries inherited p statics ps t values good is side sided stored code on typed given =
-      let same = sym typed ∙ says p good on in
+  call_yields says rows r at own s entries inherited p statics ps t values good is side sided stored code typed given =
+      let same = sym typed ∙ says p good ps t typed in
       let premises : Premises r.side at.world s statics = record { orders = world_orders p r.side at.world good is side; stored = stored } in
       subst (λ t. Yields r.side at s statics (way_of call) values t (run r at own s entries inherited call values)) (sym (same_ret ps t same))
       (rows r at own s entries inherited p statics values good is side sided premises (subst (λ ps. AreGiven at.world s call ps values) (same_params ps t same) given))

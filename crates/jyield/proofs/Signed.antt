@@ -1,5 +1,5 @@
 -- The types that the descriptors of the library's members say, in a program whose classes stand in order.
-use Rattle.std.proofs.Common.{◌≡◌, ℕ, true, List, [], ◌∷◌, Option, Some, None, refl, ap, ◌∙◌}
+use Rattle.std.proofs.Common.{◌≡◌, ℕ, ◌⊎◌, inl, inr, Bool, false, sym, true, List, [], ◌∷◌, Option, Some, None, refl, ap, ◌∙◌}
 use Rattle.std.specs.Prelude.{codes, is_some, option_map, reverse, if◌then◌else◌}
 use Rattle.std.specs.Str.{byte}
 use Rattle.jbase.specs.Each.{each_some, put_front}
@@ -22,8 +22,9 @@ use Rattle.jtypes.specs.declared.vtype.VType.TheVariants as types
 use Rattle.jprogram.specs.Classes.{Class, Program}
 use Rattle.jprogram.specs.Standing.{StandsInOrder}
 use Rattle.jprogram.proofs.Standing.{lib_find, not_taken}
-use Rattle.juses.specs.Typed.{Called, Held, called, held, name, return_in, type_in, type_of, typed, typed_as}
+use Rattle.juses.specs.Typed.{Called, Held, Untyped, called, held, name, return_in, type_in, type_of, typed, typed_as}
 use Rattle.jrule.specs.Uses.{of_library, string}
+use Rattle.jyield.proofs.Reserved.{not_found}
 
 -- ---- types
 
@@ -38,6 +39,9 @@ permission = of_library (lib.Permission permissions.Permission)
 
 abbrev pub permissions_array : ArrayType
 permissions_array = record { depth = 1; element = elements.Class (name (library.name_of (lib.Permission permissions.Permission))) }
+
+abbrev pub texts_array : ArrayType
+texts_array = record { depth = 1; element = elements.Class (name (library.name_of lib.String)) }
 
 -- what a descriptor says
 record Says (p : Program) (text : List ℕ) (params : List VType) (ret : Option VType) : Type 0 where
@@ -120,6 +124,9 @@ module _ (p : Program) (good : StandsInOrder p) where
 
   limits_in : type_in p (class_type 1 (lib.Permission permissions.Permission)) ≡ Some (types.Array permissions_array)
   limits_in = class_in 1 (lib.Permission permissions.Permission) refl
+
+  texts_in : type_in p (class_type 1 lib.String) ≡ Some (types.Array texts_array)
+  texts_in = class_in 1 lib.String refl
 
   ctx_in : library.stands_on p.side lib.Ctx ≡ true → type_in p (class_type 0 lib.Ctx) ≡ Some types.Ctx
   ctx_in on = class_in 0 lib.Ctx on
@@ -530,7 +537,98 @@ module _ (p : Program) (good : StandsInOrder p) where
     turned = refl;
   })
 
+  -- those of `main`
+  pub main_says : typed p (codes "([Ljava/lang/String;)V") ≡ Called (types.Array texts_array ∷ []) None
+  unfolding descriptor_of method_of field_of params_at closing_at type_at base_at class_at return_at slots_of is_class_name
+  main_says = says p _ _ _ (record {
+    ts = class_type 1 lib.String ∷ [];
+    back = None;
+    vs = types.Array texts_array ∷ [];
+    is = refl;
+    are = one_more _ _ _ _ texts_in no_types;
+    gives = gives_nothing;
+    turned = refl;
+  })
+
+  pub main_passed_says : library.stands_on p.side lib.Ctx ≡ true → typed p (codes "([Ljava/lang/String;Lsps/Ctx;)V") ≡ Called (types.Ctx ∷ types.Array texts_array ∷ []) None
+  unfolding descriptor_of method_of field_of params_at closing_at type_at base_at class_at return_at slots_of is_class_name
+  main_passed_says on = says p _ _ _ (record {
+    ts = class_type 1 lib.String ∷ class_type 0 lib.Ctx ∷ [];
+    back = None;
+    vs = types.Array texts_array ∷ types.Ctx ∷ [];
+    is = refl;
+    are = one_more _ _ _ _ texts_in (one_more _ _ _ _ (ctx_in on) no_types);
+    gives = gives_nothing;
+    turned = refl;
+  })
+
   -- a field's
   pub out_says : typed p (codes "Ljava/io/PrintStream;") ≡ Held (of_library lib.PrintStream)
   unfolding descriptor_of method_of field_of params_at closing_at type_at base_at class_at return_at slots_of is_class_name typed
   out_says = ap (λ (o : Option VType). held o) (class_in 0 lib.PrintStream refl)
+
+  -- ---- where a descriptor names contexts, the program has them
+
+  -- one of these types isn't there
+  abbrev OneIsNot : List FieldType → Type 0
+  OneIsNot [] = ⊥
+  OneIsNot (t ∷ ts) = (type_in p t ≡ None) ⊎ OneIsNot ts
+
+  put_none : (o : Option VType) → put_front o None ≡ None
+  put_none None = refl
+  put_none (Some v) = refl
+
+  not_all : (ts : List FieldType) → OneIsNot ts → each_some (type_in p) ts ≡ None
+  unfolding each_some
+  not_all [] h = absurd h
+  not_all (t ∷ ts) (inl none) = ap (λ (o : Option VType). put_front o (each_some (type_in p) ts)) none
+  not_all (t ∷ ts) (inr more) = ap (put_front (type_in p t)) (not_all ts more) ∙ put_none (type_in p t)
+
+  no_context : library.stands_on p.side lib.Ctx ≡ false → type_in p (class_type 0 lib.Ctx) ≡ None
+  unfolding type_in
+  no_context off =
+      ap (λ (o : Option Class). option_map (type_of 0) (option_map elements.Class (if is_some o then Some (name (library.name_of lib.Ctx)) else None)))
+      (not_found p good lib.Ctx off)
+
+  untyped : (params : List VType) (ret : Option VType) → Untyped ≡ Called params ret → ⊥
+  untyped params ret e = cc
+
+  -- a descriptor with a context among its parameters
+  context_on : (text : List ℕ) (ts : List FieldType) (back : Option FieldType) → descriptor_of text ≡ Some (descriptors.Method ts back)
+      → (type_in p (class_type 0 lib.Ctx) ≡ None → OneIsNot ts) → (params : List VType) (ret : Option VType)
+      → typed p text ≡ Called params ret → library.stands_on p.side lib.Ctx ≡ true
+  unfolding typed
+  context_on text ts back is one params ret e = go (library.stands_on p.side lib.Ctx) refl
+    where
+      go : (b : Bool) → library.stands_on p.side lib.Ctx ≡ b → library.stands_on p.side lib.Ctx ≡ true
+      go true on = on
+      go false off =
+          let none : typed_as p (Some (descriptors.Method ts back)) ≡ Untyped = ap (λ (o : Option (List VType)). called o (return_in p back)) (not_all ts (one (no_context off))) in
+          absurd (untyped params ret (sym none ∙ ap (typed_as p) (sym is) ∙ e))
+
+  abbrev HasContexts : List ℕ → Type 0
+  HasContexts text = (params : List VType) (ret : Option VType) → typed p text ≡ Called params ret → library.stands_on p.side lib.Ctx ≡ true
+
+  pub passed_on : HasContexts (codes "(Ljava/lang/Runnable;Lsps/Ctx;)V")
+  unfolding descriptor_of method_of field_of params_at closing_at type_at base_at class_at return_at slots_of is_class_name
+  passed_on = context_on (codes "(Ljava/lang/Runnable;Lsps/Ctx;)V") (class_type 0 lib.Runnable ∷ class_type 0 lib.Ctx ∷ []) (None) refl (λ none. inr (inl none))
+
+  pub enter_on : HasContexts (codes "(Lsps/Ctx;I)Lsps/Ctx;")
+  unfolding descriptor_of method_of field_of params_at closing_at type_at base_at class_at return_at slots_of is_class_name
+  enter_on = context_on (codes "(Lsps/Ctx;I)Lsps/Ctx;") (class_type 0 lib.Ctx ∷ letter (byte "I") ∷ []) (Some (class_type 0 lib.Ctx)) refl (λ none. inl none)
+
+  pub rt_check_on : HasContexts (codes "(Ljava/security/Permission;Lsps/Ctx;)V")
+  unfolding descriptor_of method_of field_of params_at closing_at type_at base_at class_at return_at slots_of is_class_name
+  rt_check_on = context_on (codes "(Ljava/security/Permission;Lsps/Ctx;)V")
+      (class_type 0 (lib.Permission permissions.Permission) ∷ class_type 0 lib.Ctx ∷ []) (None) refl (λ none. inr (inl none))
+
+  pub rt_snapshot_on : HasContexts (codes "(Lsps/Ctx;)Ljava/security/AccessControlContext;")
+  unfolding descriptor_of method_of field_of params_at closing_at type_at base_at class_at return_at slots_of is_class_name
+  rt_snapshot_on = context_on (codes "(Lsps/Ctx;)Ljava/security/AccessControlContext;")
+      (class_type 0 lib.Ctx ∷ []) (Some (class_type 0 lib.AccessControlContext)) refl (λ none. inl none)
+
+  pub rt_limited_on : HasContexts (desc_of (calls.Rt rt.PrivilegedLimited))
+  unfolding descriptor_of method_of field_of params_at closing_at type_at base_at class_at return_at slots_of is_class_name
+  rt_limited_on = context_on (desc_of (calls.Rt rt.PrivilegedLimited))
+      (class_type 0 lib.PrivilegedAction ∷ class_type 0 lib.AccessControlContext ∷ class_type 1 (lib.Permission permissions.Permission)
+      ∷ class_type 0 lib.Ctx ∷ letter (byte "I") ∷ []) (Some (class_type 0 lib.Object)) refl (λ none. inr (inr (inr (inl none))))

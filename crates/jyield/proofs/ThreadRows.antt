@@ -162,14 +162,14 @@ module _ {K E : Type 0} (r : Rules K E) (at : Site) (own : Member → Bool) (s :
 module _ (K E : Type 0) where
   pub thread_yields : (call : ThreadCall) → CallYields K E (calls.Thread call)
   thread_yields (thread_calls.Init Source) = call_yields K E (calls.Thread (thread_calls.Init Source)) (of_library lib.Runnable ∷ []) None
-      (λ p good on. signed.runnable_says p good)
+      (λ p good ps t e. signed.runnable_says p good)
       (λ r at own s entries inherited p statics values good is side sided h g. source_on r at own s entries inherited statics h values g)
   thread_yields (thread_calls.Init Passing) = call_yields K E (calls.Thread (thread_calls.Init Passing)) (types.Ctx ∷ of_library lib.Runnable ∷ []) None
-      (λ p good on. signed.passed_says p good on)
+      (λ p good ps t e. signed.passed_says p good (signed.passed_on p good ps t e))
       (λ r at own s entries inherited p statics values good is side sided h g. passing_on r at own s entries inherited statics h values g)
-  thread_yields thread_calls.Start = call_yields K E (calls.Thread thread_calls.Start) [] None (λ p good on. signed.nothing_says p good)
+  thread_yields thread_calls.Start = call_yields K E (calls.Thread thread_calls.Start) [] None (λ p good ps t e. signed.nothing_says p good)
       (λ r at own s entries inherited p statics values good is side sided h g. start_on r at own s entries inherited statics h values g)
-  thread_yields thread_calls.Join = call_yields K E (calls.Thread thread_calls.Join) [] None (λ p good on. signed.nothing_says p good)
+  thread_yields thread_calls.Join = call_yields K E (calls.Thread thread_calls.Join) [] None (λ p good ps t e. signed.nothing_says p good)
       (λ r at own s entries inherited p statics values good is side sided h g. join_on r at own s entries inherited statics h values g)
-  thread_yields thread_calls.Yield = call_yields K E (calls.Thread thread_calls.Yield) [] None (λ p good on. signed.nothing_says p good)
+  thread_yields thread_calls.Yield = call_yields K E (calls.Thread thread_calls.Yield) [] None (λ p good ps t e. signed.nothing_says p good)
       (λ r at own s entries inherited p statics values good is side sided h g. yield_on r at own s entries inherited statics h values g)

@@ -198,19 +198,19 @@ module _ {K E : Type 0} (r : Rules K E) (at : Site) (own : Member → Bool) (s :
 
 module _ (K E : Type 0) where
   pub thrown_yields : (one : ThrownClass) (way : ThrownInit) → CallYields K E (calls.ThrownInit one way)
-  thrown_yields one given.Message = call_yields K E (calls.ThrownInit one given.Message) (text_type ∷ []) None (λ p good on. signed.text_says p good)
+  thrown_yields one given.Message = call_yields K E (calls.ThrownInit one given.Message) (text_type ∷ []) None (λ p good ps t e. signed.text_says p good)
       (λ r at own s entries inherited p statics values good is side sided h g. message_on r at own s entries inherited statics h one values g)
-  thrown_yields one given.Nothing = call_yields K E (calls.ThrownInit one given.Nothing) [] None (λ p good on. signed.nothing_says p good)
+  thrown_yields one given.Nothing = call_yields K E (calls.ThrownInit one given.Nothing) [] None (λ p good ps t e. signed.nothing_says p good)
       (λ r at own s entries inherited p statics values good is side sided h g. nothing_on r at own s entries inherited statics h one values g)
 
   pub control_yields : CallYields K E calls.AccessControlInit
-  control_yields = call_yields K E (calls.AccessControlInit) (text_type ∷ []) None (λ p good on. signed.text_says p good)
+  control_yields = call_yields K E (calls.AccessControlInit) (text_type ∷ []) None (λ p good ps t e. signed.text_says p good)
       (λ r at own s entries inherited p statics values good is side sided h g. control_on r at own s entries inherited statics h values g)
 
   pub get_yields : CallYields K E calls.GetMessage
-  get_yields = call_yields K E (calls.GetMessage) [] (Some text_type) (λ p good on. signed.told_says p good)
+  get_yields = call_yields K E (calls.GetMessage) [] (Some text_type) (λ p good ps t e. signed.told_says p good)
       (λ r at own s entries inherited p statics values good is side sided h g. get_on r at own s entries inherited statics h values g)
 
   pub object_yields : CallYields K E calls.ObjectInit
-  object_yields = call_yields K E (calls.ObjectInit) [] None (λ p good on. signed.nothing_says p good)
+  object_yields = call_yields K E (calls.ObjectInit) [] None (λ p good ps t e. signed.nothing_says p good)
       (λ r at own s entries inherited p statics values good is side sided h g. object_on r at own s entries inherited statics h values g)

@@ -1,5 +1,5 @@
 -- Laws: each call of the library with values of its descriptor's types has a row, and what it gives is of the type that it returns.
-use Rattle.std.specs.Prelude.{◌≡◌, ℕ, Bool, true, List, [], Option, Some, None, is_some}
+use Rattle.std.specs.Prelude.{◌≡◌, ℕ, Bool, List, [], Option, Some, None, is_some}
 use Rattle.jperm.specs.declared.permission.Permission.{Permission}
 use Rattle.jlib.specs.declared.calls.LibCall.{LibCall}
 use Rattle.jlib.specs.declared.calls.LibCall.TheVariants as calls
@@ -7,14 +7,16 @@ use Rattle.jlib.specs.declared.classes.LibClass.{LibClass}
 use Rattle.jlib.specs.declared.classes.LibClass.TheVariants as lib
 use Rattle.jlib.specs.declared.side.Side.{Side}
 use Rattle.jlib.specs.declared.side.Side.TheVariants.{Passing}
-use Rattle.jlib.specs.Calls.{call_stands_on, desc_of}
+use Rattle.jlib.specs.Calls.{desc_of}
 use Rattle.jlib.specs.Classes.{same_side}
 use Rattle.jops.specs.declared.value.Value.{Value}
+use Rattle.jtypes.specs.declared.vtype.Name.{Name}
 use Rattle.jtypes.specs.declared.vtype.VType.{VType}
 use Rattle.jprogram.specs.declared.member.Member.{Member}
 use Rattle.jprogram.specs.declared.member.Member.TheVariants.{LibMethod}
 use Rattle.jprogram.specs.Classes.{Program}
 use Rattle.jprogram.specs.Standing.{StandsInOrder}
+use Rattle.juses.specs.declared.meaning.How.TheVariants as how
 use Rattle.juses.specs.Meanings.{CallMeaning}
 use Rattle.juses.specs.Typed.{Called, typed}
 use Rattle.jrule.specs.Uses.{of_library}
@@ -25,6 +27,7 @@ use Rattle.jmachine.specs.Security.{Rules}
 use Rattle.jmachine.specs.Sites.{Site}
 use Rattle.jmachine.specs.Store.{Store}
 use Rattle.jmachine.specs.World.{World, world}
+use Rattle.jtyped.specs.Calling.{IsBegunBy, IsRun}
 use Rattle.jtyped.specs.Laws.{HasCode}
 use Rattle.jtyped.specs.Stores.{IsStored}
 use Rattle.jtyped.specs.Values.{CanBeThrown}
@@ -62,10 +65,26 @@ ActionSays = (p : Program) → StandsInOrder p → typed p (desc_of (calls.RunAc
 
 -- ---- calls
 
--- A call of a member with code of the program's library, with values of the types that its descriptor says, has a row that yields what it says.
+-- A call of a member of the library with code, with values of the types that its descriptor says, has a row that yields what it says.
 abbrev pub CallYields : Type 0 → Type 0 → LibCall → Type 0
 CallYields K E call = (r : Rules K E) (at : Site) (own : Member → Bool) (s : Store K) (entries : List E) (inherited : Option K)
     (p : Program) (statics params : List VType) (ret : Option VType) (values : List (Value K))
     → StandsInOrder p → at.world ≡ world p → r.side ≡ p.side → AreSided r → IsStored at.world s statics
-    → HasCode call → call_stands_on p.side call ≡ true → typed p (desc_of call) ≡ Called params ret → AreGiven at.world s call params values
+    → HasCode call → typed p (desc_of call) ≡ Called params ret → AreGiven at.world s call params values
     → Yields r.side at s statics (way_of call) values ret (run r at own s entries inherited call values)
+
+-- ---- calls as instructions make them
+
+-- So does a member of the library to which a call comes with values that it may be given,
+abbrev pub RunsYield : Type 0 → Type 0 → Type 0
+RunsYield K E = (r : Rules K E) (at : Site) (own : Member → Bool) (s : Store K) (entries : List E) (inherited : Option K)
+    (p : Program) (statics : List VType) (call : LibCall) (ret : Option VType) (values : List (Value K))
+    → StandsInOrder p → at.world ≡ world p → r.side ≡ p.side → AreSided r → IsStored at.world s statics → IsRun p s call ret values
+    → Yields r.side at s statics (way_of call) values ret (run r at own s entries inherited call values)
+
+-- and an `<init>` of the library, which is called on an object that may hold nothing yet.
+abbrev pub InitsYield : Type 0 → Type 0 → Type 0
+InitsYield K E = (r : Rules K E) (at : Site) (own : Member → Bool) (s : Store K) (entries : List E) (inherited : Option K)
+    (p : Program) (statics : List VType) (owner : Name) (call : LibCall) (ret : Option VType) (values : List (Value K))
+    → StandsInOrder p → at.world ≡ world p → r.side ≡ p.side → AreSided r → IsStored at.world s statics → way_of call ≡ how.Init → IsBegunBy p s owner call ret values
+    → Yields r.side at s statics how.Init values ret (run r at own s entries inherited call values)

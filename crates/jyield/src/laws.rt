@@ -14,7 +14,7 @@ ghost use Rattle.jlib.specs.declared.classes.Thrown.{Thrown};
 ghost use Rattle.jmachine.specs.Privileges.{run_action};
 ghost use Rattle.jrules.specs.Inspecting as inspecting;
 ghost use Rattle.jrules.specs.Plain as plain;
-ghost use Rattle.jyield.specs.Laws.{ActionSays, AreSided, CallYields, InterfaceRaises, RunIsUsers, RunSays, run_call};
+ghost use Rattle.jyield.specs.Laws.{ActionSays, AreSided, CallYields, InitsYield, InterfaceRaises, RunIsUsers, RunSays, RunsYield, run_call};
 
 /// The laws of the calls of String, StringBuilder and PrintStream: each has a row, and what it gives is of the type that it returns. It has
 /// no body to run; its contract is the laws.
@@ -70,6 +70,13 @@ pub fn run_laws<K>()
 /// and what that gives is of the type that it returns, in a typed store behind. It has no body to run; its contract is the law.
 pub fn library_law<K, E>()
     ensures { (call : LibCall) → CallYields K E call }
+{}
+
+/// The same law where an instruction's call comes to the library: with values that the member may be given, and for an `<init>` with an object that
+/// may hold nothing yet. It has no body to run; its contract is the laws.
+pub fn coming_laws<K, E>()
+    ensures runs { RunsYield K E }
+    ensures inits { InitsYield K E }
 {}
 
 /// The laws of the rules of both machines: they hand contexts over on the passing side alone, and always there. It has no body to run; its

@@ -13,6 +13,6 @@
 mod laws;
 
 pub use laws::{
-    library_law, permission_law, rules_laws, run_laws, security_laws, text_laws, thread_law,
-    throwable_laws,
+    coming_laws, library_law, permission_law, rules_laws, run_laws, security_laws, text_laws,
+    thread_law, throwable_laws,
 };
