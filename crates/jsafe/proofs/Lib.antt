@@ -1,0 +1,14 @@
+mod Acting
+mod Begun
+mod Calling
+mod Constants
+mod Executing
+mod Interfaces
+mod Kept
+mod Opening
+mod Paid
+mod Raising
+mod Running
+mod Runs
+mod Steps
+mod Threads

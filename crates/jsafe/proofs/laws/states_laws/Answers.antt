@@ -1,0 +1,13 @@
+use Rattle.jsafe.proofs.Opening.{opens_typed}
+use Rattle.jsafe.proofs.Running.{runs_typed}
+use Rattle.jsafe.proofs.Steps.{states_step}
+use Rattle.jsafe.proofs.laws.states_laws.Goals as goal
+
+pub returns-clause-step : goal.returns-clause-step
+returns-clause-step g c = states_step _ _
+
+pub returns-clause-opening : goal.returns-clause-opening
+returns-clause-opening g c = opens_typed _ _
+
+pub returns-clause-run : goal.returns-clause-run
+returns-clause-run g c = runs_typed _ _

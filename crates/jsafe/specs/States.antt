@@ -1,0 +1,72 @@
+-- Typed states: in each thread, in all objects and statics, and in all string constants.
+use Rattle.std.specs.Prelude.{◌≡◌, ◌≢◌, ◌⊎◌, ℕ, List, length, Some}
+use Rattle.std.specs.List.{AllByRecursion}
+use Rattle.jlib.specs.declared.classes.LibClass.TheVariants as lib
+use Rattle.jlib.specs.declared.side.Side.{Side}
+use Rattle.jops.specs.declared.value.Value.TheVariants.{Ref}
+use Rattle.jtrace.specs.declared.event.End.TheVariants.{Stuck}
+use Rattle.jprogram.specs.declared.member.MethodId.{MethodId}
+use Rattle.jprogram.specs.Classes.{Program}
+use Rattle.jprogram.specs.Members.{main_of}
+use Rattle.jrule.specs.Uses.{of_library}
+use Rattle.jmachine.specs.declared.plan.Plan.{Plan}
+use Rattle.jmachine.specs.Acts.{GuestOf, NoStep, Outcome, Over, State, Went}
+use Rattle.jmachine.specs.Machine.{run}
+use Rattle.jmachine.specs.Opening.{opening_state}
+use Rattle.jmachine.specs.Runs.{Run}
+use Rattle.jmachine.specs.Security.{Rules, handed}
+use Rattle.jmachine.specs.Steps.{step}
+use Rattle.jmachine.specs.Store.{Store}
+use Rattle.jmachine.specs.Turns.{guests}
+use Rattle.jmachine.specs.World.{world}
+use Rattle.jtyped.specs.States.{AreStacked}
+use Rattle.jtyped.specs.Stores.{IsStored}
+use Rattle.jtyped.specs.Uses.{static_types}
+use Rattle.jtyped.specs.Values.{AreOf, IsA}
+use Rattle.jyield.specs.Laws.{AreSided}
+use Rattle.jyield.specs.Yields.{run_given}
+use Rattle.jsafe.specs.Begins.{CanOpen}
+use Rattle.jsafe.specs.Sound.{IsSound}
+
+module _ {K E : Type 0} (p : Program) (side : Side) (s : Store K) where
+  -- A thread has no Runnable, or begins with `run` of one, and what it inherited is what `run` is given.
+  abbrev pub MayBegin : GuestOf K E → Type 0
+  MayBegin g = (g.runnable ≡ 0) ⊎ (IsA (world p) s (of_library lib.Runnable) (Ref g.runnable) × AreOf (world p) s (run_given side) (handed side g.inherited))
+
+  -- its newest frame stands at an instruction, and each older one awaits what it called
+  abbrev pub IsGuest : GuestOf K E → Type 0
+  IsGuest g = AreStacked p s g.frames × MayBegin g
+
+-- A state is typed.
+pub record IsTypedState {K E : Type 0} (p : Program) (side : Side) (s : State K E) : Type 0 where
+  pub stored : IsStored (world p) s.store (static_types p)
+  pub threads : AllByRecursion (IsGuest p side s.store) (guests s)
+  pub count : length (guests s) ≡ length s.table
+
+-- A step comes to a typed state, and no run ends stuck.
+abbrev pub ComesTo : {K E : Type 0} → Program → Side → Outcome (State K E) → Type 0
+ComesTo p side (Went s events) = IsTypedState p side s
+ComesTo p side (Over s events end) = IsTypedState p side s × (end ≢ Stuck)
+ComesTo p side NoStep = ⊥
+
+-- ---- laws
+
+-- A typed state has a step, which comes to one.
+abbrev pub StatesStep : Type 0 → Type 0 → Type 0
+StatesStep K E =
+    (r : Rules K E) (p : Program) (plan : Plan) (s : State K E) → IsSound p → r.side ≡ p.side → AreSided r → IsTypedState p r.side s → ComesTo p r.side (step r p plan s)
+
+-- The state in which a run begins is typed.
+abbrev pub OpensTyped : Type 0 → Type 0 → Type 0
+OpensTyped K E = (r : Rules K E) (p : Program) (name : List ℕ) (main : MethodId) (heap : ℕ) → IsSound p → CanOpen p → r.side ≡ p.side → AreSided r → main_of p name ≡ Some main
+    → IsTypedState p r.side (opening_state r p main heap)
+
+-- So the state behind each number of steps is typed; where the run has not ended it has a step, and it never ends stuck.
+pub record IsTypedRun {K E : Type 0} (r : Rules K E) (p : Program) (plan : Plan) (x : Run (State K E)) : Type 0 where
+  pub state : IsTypedState p r.side x.state
+  pub steps : ComesTo p r.side (step r p plan x.state)
+  pub end : x.end ≢ Some Stuck
+
+abbrev pub RunsTyped : Type 0 → Type 0 → Type 0
+RunsTyped K E = (r : Rules K E) (p : Program) (plan : Plan) (name : List ℕ) (k : ℕ) → IsSound p → CanOpen p → r.side ≡ p.side → AreSided r → main_of p name ≡ Some plan.main
+    → IsTypedRun r p plan (run r p plan k)
