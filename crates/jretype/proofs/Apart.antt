@@ -107,6 +107,12 @@ module _ (begin : List Op) (s : Setting) (ks : List Expand) (is : List Placed) (
       let rest = expansions s ks is in
       subst (λ (n : ℕ). reach 0 begin ≤ n) (sym (place_skip o 0 0 begin rest)) (low o (reach 0 begin) rest)
 
+  -- what is no place of an instruction went to the end
+  pub missed_end : (o : ℕ) → is_place is (pos o) ≡ false → to o ≡ end_of 0 (lines begin s ks is)
+  missed_end o miss =
+      let rest = expansions s ks is in
+      place_skip o 0 0 begin rest ∙ missed s ks is (reach 0 begin) o miss ∙ sym (end_reach 0 0 begin rest)
+
   module _ (n : ℕ) (k : Expand) (i : Placed) (nth : IsNth ks is n k i) where
     abbrev os : List Op
     os = expansion s k i.op

@@ -63,8 +63,10 @@ long_from p pool most earlier before (f ∷ fs) j w d e is =
         absurd cc
 
     go : (o : Option (List VType)) (n : ℕ)
-        → slice_get (continued most (place_from earlier f.delta) (reverse (map (item p pool) f.stack)) (λ values. written_from p pool most (Some (place_from earlier f.delta)) values fs) o) n ≡ Some w
-        → ((values : List VType) (l : ℕ) → slice_get (written_from p pool most (Some (place_from earlier f.delta)) values fs) l ≡ Some w → w.frame ≡ Some d → most ≤ length d.locals)
+        → slice_get (continued most (place_from earlier f.delta) (reverse (map (item p pool) f.stack))
+        (λ values. written_from p pool most (Some (place_from earlier f.delta)) values fs) o) n ≡ Some w
+        → ((values : List VType) (l : ℕ) → slice_get (written_from p pool most (Some (place_from earlier f.delta)) values fs) l ≡ Some w → w.frame ≡ Some d
+        → most ≤ length d.locals)
         → most ≤ length d.locals
     go None zero h rest = absurd (no_frame _ h refl)
     go None (suc n) h rest = absurd cc
@@ -116,7 +118,8 @@ module _ (m : Moving) (k : IsMoving m) where
       let same : g ≡ f = cc in
       subst (Arrives at (Some a)) same (record { frame = a; begins = ap (λ (o : Option Frame). begun o (Some a)) is; finer = h.0; roomy = h.1 })
 
-  pub arrives : (i : Placed) → is_place (ops m) (pos i.at) ≡ true → (arr new : Option Frame) (f : Frame) → begun (declared_at (ws m) (pos i.at)) arr ≡ Some f → Arrived m k new arr → Arrives i.at new f
+  pub arrives : (i : Placed) → is_place (ops m) (pos i.at) ≡ true → (arr new : Option Frame) (f : Frame) → begun (declared_at (ws m) (pos i.at)) arr ≡ Some f
+      → Arrived m k new arr → Arrives i.at new f
   arrives i hit arr new f e h =
       by_declared i.at (declared_at (ws m) (pos i.at)) (declared_new m k i.at hit) (λ d is. declared_roomy (pos i.at) d is) arr new f e h
 

@@ -58,7 +58,7 @@ use Rattle.jretype.proofs.Walking.{Roomy, Walks, here, lead_on, now, onward_next
 
 -- ---- lists
 
-joined : (xs ys zs : List VType) → (xs ++ ys) ++ zs ≡ xs ++ (ys ++ zs)
+pub joined : (xs ys zs : List VType) → (xs ++ ys) ++ zs ≡ xs ++ (ys ++ zs)
 joined [] ys zs = refl
 joined (x ∷ xs) ys zs = ap (λ (us : List VType). x ∷ us) (joined xs ys zs)
 
@@ -81,11 +81,11 @@ tops_get zero j lt = absurd (omega arith)
 tops_get (suc r) zero lt = refl
 tops_get (suc r) (suc j) lt = tops_get r j (omega arith)
 
-tops_length : (r : ℕ) → length (replicate r Top) ≡ r
+pub tops_length : (r : ℕ) → length (replicate r Top) ≡ r
 tops_length zero = refl
 tops_length (suc r) = ap suc (tops_length r)
 
-tops_join : (a b : ℕ) (xs : List VType) → replicate a Top ++ (replicate b Top ++ xs) ≡ replicate (a + b) Top ++ xs
+pub tops_join : (a b : ℕ) (xs : List VType) → replicate a Top ++ (replicate b Top ++ xs) ≡ replicate (a + b) Top ++ xs
 tops_join zero b xs = let same : 0 + b ≡ b = omega arith in ap (λ (n : ℕ). replicate n Top ++ xs) (sym same)
 tops_join (suc a) b xs =
     let same : suc a + b ≡ suc (a + b) = omega arith in
@@ -128,9 +128,12 @@ module _ (t : Tree) (o : InOrder t) where
   values_behind [] xs ys h = h
   values_behind (v ∷ vs) xs ys h =
       let one = one_behind v (places_of vs ++ xs) (places_of vs ++ ys) (values_behind vs xs ys h) in
-      let left : places_of (v ∷ vs) ++ xs ≡ places v ++ (places_of vs ++ xs) = ap (λ (zs : List VType). zs ++ xs) (flat_map-cons places v vs) ∙ joined (places v) (places_of vs) xs in
-      let right : places_of (v ∷ vs) ++ ys ≡ places v ++ (places_of vs ++ ys) = ap (λ (zs : List VType). zs ++ ys) (flat_map-cons places v vs) ∙ joined (places v) (places_of vs) ys in
-      subst (λ (zs : List VType). LocalsSharp t zs (places_of (v ∷ vs) ++ ys)) (sym left) (subst (λ (zs : List VType). LocalsSharp t (places v ++ (places_of vs ++ xs)) zs) (sym right) one)
+      let left : places_of (v ∷ vs) ++ xs ≡ places v ++ (places_of vs ++ xs) = ap (λ (zs : List VType). zs ++ xs) (flat_map-cons places v vs)
+      ∙ joined (places v) (places_of vs) xs in
+      let right : places_of (v ∷ vs) ++ ys ≡ places v ++ (places_of vs ++ ys) = ap (λ (zs : List VType). zs ++ ys) (flat_map-cons places v vs)
+      ∙ joined (places v) (places_of vs) ys in
+      subst (λ (zs : List VType). LocalsSharp t zs (places_of (v ∷ vs) ++ ys)) (sym left)
+      (subst (λ (zs : List VType). LocalsSharp t (places v ++ (places_of vs ++ xs)) zs) (sym right) one)
 
 -- where `new`s go elsewhere values stay in their places
 pub places_same : (to : ℕ → ℕ) (vs : List VType) → map (renamed_type to) (places_of vs) ≡ places_of (map (renamed_type to) vs)
@@ -256,7 +259,8 @@ module _ (m : Moving) (k : IsMoving m) (room : length (places_of m.x.params) ≤
   unfolding rule
   stored h = ap (λ (b : Bool). cond b (Some kept) None) (le-leb (m.s.local + 1) (length entry.locals) (let long = entry_length in omega arith))
 
-  entered : (h : Here) → h.max_stack ≡ m.x.body.max_stack + 3 → rule m.q h (Used (meanings.Call how.Static (rt_meaning rt.Enter))) (with_stack entry (Int ∷ Ctx ∷ [])) ≡ Some (with_stack entry (Ctx ∷ []))
+  entered : (h : Here) → h.max_stack ≡ m.x.body.max_stack + 3 → rule m.q h (Used (meanings.Call how.Static (rt_meaning rt.Enter))) (with_stack entry (Int ∷ Ctx ∷ [])) ≡ Some
+      (with_stack entry (Ctx ∷ []))
   unfolding taken operands.below slots
   entered h is =
       static_is m k h (rt_meaning rt.Enter) (with_stack entry (Int ∷ Ctx ∷ []))
@@ -323,7 +327,11 @@ module _ (m : Moving) (k : IsMoving m) (room : length (places_of m.x.params) ≤
         (ap (λ (d : Option Frame). begun d (Some b)) (none_before fourth below.1.1.1)) (no_handlers fourth below.1.1.1 b) gives (ap (list_all _) goes.0)
         (ap (λ (v : Bool). onward m.q (news m) kept v (rest_of m k last m.ks (ops m))) goes.1
         ∙ onward_next m k (first_frame m.x) kept true last m.ks (ops m) fs kept_finer k.each
-        (λ i at. (sym to_first ∙ ap (to m) (sym (laid_first m k 0 (length (code.spell (ops m))) (ops m) i (code_laid (ops m) k.fits) at)), first_in m k m.ks (ops m) k.each begins_all i at)) follows)
+        (λ i at. (
+          sym to_first ∙ ap (to m) (sym (laid_first m k 0 (length (code.spell (ops m))) (ops m) i (code_laid (ops m) k.fits) at)),
+          first_in m k m.ks
+              (ops m) k.each begins_all i at,
+        )) follows)
         behind
 
     -- no test of the walk fails

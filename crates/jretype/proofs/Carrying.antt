@@ -31,8 +31,10 @@ module _ (to : ℕ → ℕ) (more : List VType) where
 
   same_int : (a b c d : ℕ) → (a == b) ≡ (c == d) → int_eq (pos a) (pos b) ≡ int_eq (pos c) (pos d)
   same_int a b c d e = agree (int_eq (pos a) (pos b)) (int_eq (pos c) (pos d))
-      (λ h. let same : pos a ≡ pos b = (Decides-int_eq (pos a) (pos b)).0 h in (Decides-int_eq (pos c) (pos d)).1 (ap (λ (n : ℕ). pos n) (eqb-true c d (sym e ∙ eq-eqb a b (let same : a ≡ b = omega (arith, ints) in same)))))
-      (λ h. let same : pos c ≡ pos d = (Decides-int_eq (pos c) (pos d)).0 h in (Decides-int_eq (pos a) (pos b)).1 (ap (λ (n : ℕ). pos n) (eqb-true a b (e ∙ eq-eqb c d (let same : c ≡ d = omega (arith, ints) in same)))))
+      (λ h. let same : pos a ≡ pos b = (Decides-int_eq (pos a) (pos b)).0 h in (Decides-int_eq (pos c) (pos d)).1
+      (ap (λ (n : ℕ). pos n) (eqb-true c d (sym e ∙ eq-eqb a b (let same : a ≡ b = omega (arith, ints) in same)))))
+      (λ h. let same : pos c ≡ pos d = (Decides-int_eq (pos c) (pos d)).0 h in (Decides-int_eq (pos a) (pos b)).1
+      (ap (λ (n : ℕ). pos n) (eqb-true a b (e ∙ eq-eqb c d (let same : c ≡ d = omega (arith, ints) in same)))))
     where
       agree : (x y : Bool) → (x ≡ true → y ≡ true) → (y ≡ true → x ≡ true) → x ≡ y
       agree true y f g = sym (f refl)
@@ -43,7 +45,8 @@ module _ (to : ℕ → ℕ) (more : List VType) where
   pub declared_there : (ws : List Written) (at : ℕ) → IsApart to at → declared_at (map carried_written ws) (pos (to at)) ≡ option_map carried (declared_at ws (pos at))
   declared_there [] at h = refl
   declared_there (w ∷ ws) at h =
-      ap (λ (b : Bool). option_and_then (λ (x : Written). x.frame) (cond b (Some (carried_written w)) (find (λ (x : Written). int_eq (pos x.at) (pos (to at))) (map carried_written ws)))) (same_int (to w.at) (to at) w.at at (h w.at))
+      ap (λ (b : Bool). option_and_then (λ (x : Written). x.frame) (cond b (Some (carried_written w))
+      (find (λ (x : Written). int_eq (pos x.at) (pos (to at))) (map carried_written ws)))) (same_int (to w.at) (to at) w.at at (h w.at))
       ∙ go (int_eq (pos w.at) (pos at)) (declared_there ws at h)
     where
       go : (b : Bool) → declared_at (map carried_written ws) (pos (to at)) ≡ option_map carried (declared_at ws (pos at))
@@ -56,7 +59,8 @@ module _ (to : ℕ → ℕ) (more : List VType) where
   pub declared_nowhere : (ws : List Written) (at : ℕ) → ((w : Written) → IsIn w ws → (to w.at == at) ≡ false) → declared_at (map carried_written ws) (pos at) ≡ None
   declared_nowhere [] at h = refl
   declared_nowhere (w ∷ ws) at h =
-      ap (λ (b : Bool). option_and_then (λ (x : Written). x.frame) (cond b (Some (carried_written w)) (find (λ (x : Written). int_eq (pos x.at) (pos at)) (map carried_written ws)))) (same_int (to w.at) at 0 1 (h w (0, refl)))
+      ap (λ (b : Bool). option_and_then (λ (x : Written). x.frame) (cond b (Some (carried_written w))
+      (find (λ (x : Written). int_eq (pos x.at) (pos at)) (map carried_written ws)))) (same_int (to w.at) at 0 1 (h w (0, refl)))
       ∙ declared_nowhere ws at (λ x is. h x (suc is.0, is.1))
 
   -- ---- what fits
@@ -170,9 +174,11 @@ module _ (to : ℕ → ℕ) (more : List VType) where
       and_true (item_fits (fits t) (renamed_type to x) (renamed_type to y)) _ (item_fit t x y parts.0) (stack_fit t xs ys parts.1)
 
   -- what fits a frame fits it as the moved method has both
-  pub carried_fits : (t : Tree) (f g : Frame) → all_fit (fits t) more more ≡ true → frames.frame_fits (fits t) f g ≡ true → frames.frame_fits (fits t) (carried f) (carried g) ≡ true
+  pub carried_fits : (t : Tree) (f g : Frame) → all_fit (fits t) more more ≡ true → frames.frame_fits (fits t) f g ≡ true
+      → frames.frame_fits (fits t) (carried f) (carried g) ≡ true
   carried_fits t f g h e =
       let first = both (all_fit (fits t) f.locals g.locals && stack_fits (fits t) f.stack g.stack) (implies f.flag g.flag) e in
       let rest = both (all_fit (fits t) f.locals g.locals) (stack_fits (fits t) f.stack g.stack) first.0 in
       and_true (all_fit (fits t) (carried f).locals (carried g).locals && stack_fits (fits t) (carried f).stack (carried g).stack) (implies f.flag g.flag)
-      (and_true (all_fit (fits t) (carried f).locals (carried g).locals) (stack_fits (fits t) (carried f).stack (carried g).stack) (locals_fit t f.locals g.locals h rest.0) (stack_fit t f.stack g.stack rest.1)) first.1
+      (and_true (all_fit (fits t) (carried f).locals (carried g).locals) (stack_fits (fits t) (carried f).stack (carried g).stack) (locals_fit t f.locals g.locals h rest.0)
+      (stack_fit t f.stack g.stack rest.1)) first.1

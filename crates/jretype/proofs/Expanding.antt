@@ -44,10 +44,14 @@ not_plain : (i j : Instruction) → Some j ≡ Some i → is_plain j ≡ false �
 not_plain i j e h k = absurd cc
 
 flow_not : (ops : List Placed) (at : ℕ) (f : Flow SwitchOp) (i : Instruction) → instructions.flow ops at f ≡ Some i → is_plain i ≡ true → ⊥
-flow_not ops at (flows.If test by) i e h = let r = map_is (Jump (instructions.If test)) (instructions.target ops at by) i e in not_plain i (Jump (instructions.If test) r.0) (ap (λ (j : Instruction). Some j) r.2) refl h
-flow_not ops at (flows.IfInt test by) i e h = let r = map_is (Jump (instructions.IfInt test)) (instructions.target ops at by) i e in not_plain i (Jump (instructions.IfInt test) r.0) (ap (λ (j : Instruction). Some j) r.2) refl h
-flow_not ops at (flows.IfRef test by) i e h = let r = map_is (Jump (instructions.IfRef test)) (instructions.target ops at by) i e in not_plain i (Jump (instructions.IfRef test) r.0) (ap (λ (j : Instruction). Some j) r.2) refl h
-flow_not ops at (flows.Goto by) i e h = let r = map_is (Jump instructions.Always) (instructions.target ops at by) i e in not_plain i (Jump instructions.Always r.0) (ap (λ (j : Instruction). Some j) r.2) refl h
+flow_not ops at (flows.If test by) i e h = let r = map_is (Jump (instructions.If test)) (instructions.target ops at by) i e in not_plain i (Jump (instructions.If test) r.0)
+    (ap (λ (j : Instruction). Some j) r.2) refl h
+flow_not ops at (flows.IfInt test by) i e h = let r = map_is (Jump (instructions.IfInt test)) (instructions.target ops at by) i e in not_plain i
+    (Jump (instructions.IfInt test) r.0) (ap (λ (j : Instruction). Some j) r.2) refl h
+flow_not ops at (flows.IfRef test by) i e h = let r = map_is (Jump (instructions.IfRef test)) (instructions.target ops at by) i e in not_plain i
+    (Jump (instructions.IfRef test) r.0) (ap (λ (j : Instruction). Some j) r.2) refl h
+flow_not ops at (flows.Goto by) i e h = let r = map_is (Jump instructions.Always) (instructions.target ops at by) i e in not_plain i (Jump instructions.Always r.0)
+    (ap (λ (j : Instruction). Some j) r.2) refl h
 flow_not ops at (flows.Switch s) i e h =
     let found = then_is (λ l. option_map (Switch l) (instructions.target ops at (instructions.default s))) (instructions.cases ops at s) i e in
     let other = map_is (Switch found.0) (instructions.target ops at (instructions.default s)) i found.2 in
@@ -55,7 +59,8 @@ flow_not ops at (flows.Switch s) i e h =
 flow_not ops at (flows.Return kind) i e h = not_plain i (Return kind) e refl h
 flow_not ops at flows.Throw i e h = not_plain i Throw e refl h
 
-pub plain_goes : (p : Program) (pool : List Entry) (ops : List Placed) (at : ℕ) (f : Form SwitchOp) (i : Instruction) → instructions.by_form p pool ops at f ≡ Some i → is_plain i ≡ true → (branches f ≡ []) × (goes_on f ≡ true)
+pub plain_goes : (p : Program) (pool : List Entry) (ops : List Placed) (at : ℕ) (f : Form SwitchOp) (i : Instruction) → instructions.by_form p pool ops at f ≡ Some i
+    → is_plain i ≡ true → (branches f ≡ []) × (goes_on f ≡ true)
 unfolding branches goes_on
 plain_goes p pool ops at (forms.Simple f) i e h = (refl, refl)
 plain_goes p pool ops at (forms.Local f) i e h = (refl, refl)
@@ -172,7 +177,8 @@ module _ (m : Moving) (k : IsMoving m) (P : Op → Instruction → Type 0) where
   Asks it = (by : How) (c : CallMeaning) (call : ControllerCall) → it ≡ Used (Call by c) → way_of c.member ≡ Asking call → IsAsked by c call
 
   -- what is asked of AccessController, by what is taken and given
-  asked_is : (by : How) (c : CallMeaning) (call : ControllerCall) → IsAsked by c call → (h : Here) (a : Frame) → static_rule m k h (asking_params call) (asked_ret call) a ≡ rule m.q h (Used (Call by c)) a
+  asked_is : (by : How) (c : CallMeaning) (call : ControllerCall) → IsAsked by c call → (h : Here) (a : Frame)
+      → static_rule m k h (asking_params call) (asked_ret call) a ≡ rule m.q h (Used (Call by c)) a
   asked_is by c call asked h a =
       ap (λ (o : Option VType). static_rule m k h (asking_params call) o a) (sym asked.ret)
       ∙ ap (λ (ps : List VType). static_rule m k h ps c.ret a) (sym asked.params)
@@ -221,7 +227,8 @@ module _ (m : Moving) (k : IsMoving m) (P : Op → Instruction → Type 0) where
     last = record { is = Used (Call how.Static d); row = e.1.0; plain = refl; by = by; call = c; it_is = refl; does = with_number call d params ret by c asked };
   }
 
-  two_call : (o u : Op) (by : How) (c : CallMeaning) → Asks (Used (Call by c)) → (w : Way) → way_of c.member ≡ w → Each P (o ∷ u ∷ []) (calling (place m) by c w) → Two o u (Used (Call by c))
+  two_call : (o u : Op) (by : How) (c : CallMeaning) → Asks (Used (Call by c)) → (w : Way) → way_of c.member ≡ w → Each P (o ∷ u ∷ []) (calling (place m) by c w)
+      → Two o u (Used (Call by c))
   two_call o u by c asks Alone at e = absurd e.1
   two_call o u by c asks Handed at e = record {
     put = Ctx;
@@ -230,8 +237,10 @@ module _ (m : Moving) (k : IsMoving m) (P : Op → Instruction → Type 0) where
   }
   two_call o u by c asks (Asking controller.Check) at e = by_context o u controller.Check (rt_meaning rt.Check) by c refl refl (asks by c controller.Check refl at) e
   two_call o u by c asks (Asking controller.Snapshot) at e = by_context o u controller.Snapshot (rt_meaning rt.Snapshot) by c refl refl (asks by c controller.Snapshot refl at) e
-  two_call o u by c asks (Asking controller.Privileged) at e = by_number o u controller.Privileged (rt_meaning rt.Privileged) by c refl refl (asks by c controller.Privileged refl at) e
-  two_call o u by c asks (Asking controller.PrivilegedWith) at e = by_number o u controller.PrivilegedWith (rt_meaning rt.PrivilegedWith) by c refl refl (asks by c controller.PrivilegedWith refl at) e
+  two_call o u by c asks (Asking controller.Privileged) at e = by_number o u controller.Privileged (rt_meaning rt.Privileged) by c refl refl
+      (asks by c controller.Privileged refl at) e
+  two_call o u by c asks (Asking controller.PrivilegedWith) at e = by_number o u controller.PrivilegedWith (rt_meaning rt.PrivilegedWith) by c refl refl
+      (asks by c controller.PrivilegedWith refl at) e
   two_call o u by c asks (Asking controller.PrivilegedLimited) at e = absurd e.1.1
 
   pub double : (o u : Op) (it : Instruction) → Asks it → Each P (o ∷ u ∷ []) (expanded (place m) (number m) it) → Two o u it
@@ -250,7 +259,8 @@ module _ (m : Moving) (k : IsMoving m) (P : Op → Instruction → Type 0) where
   double o u (Used (meanings.MakeArray t)) asks e = absurd e.1
   double o u (Used (meanings.Cast op t)) asks e = absurd e.1
 
-  three_call : (o u v : Op) (by : How) (c : CallMeaning) → Asks (Used (Call by c)) → (w : Way) → way_of c.member ≡ w → Each P (o ∷ u ∷ v ∷ []) (calling (place m) by c w) → Three o u v (Used (Call by c))
+  three_call : (o u v : Op) (by : How) (c : CallMeaning) → Asks (Used (Call by c)) → (w : Way) → way_of c.member ≡ w → Each P (o ∷ u ∷ v ∷ []) (calling (place m) by c w)
+      → Three o u v (Used (Call by c))
   three_call o u v by c asks Alone at e = absurd e.1
   three_call o u v by c asks Handed at e = absurd e.1.1
   three_call o u v by c asks (Asking controller.Check) at e = absurd e.1.1

@@ -161,7 +161,8 @@ module _ (m : Moving) (k : IsMoving m) where
   branches_on i at g d finer e =
       ap (list_all (branch_fits m.q (news m) at d)) (each_branch (distance (to m) i.at at) i.op)
       ∙ all_mapped (branch_fits m.q (news m) at d) (distance (to m) i.at at) (branches (form i.op))
-      (λ by is. leads_on g d (pos i.at +ℤ by) (pos at +ℤ distance (to m) i.at at by) finer (λ w e. leads (to m) i.at at w by (sym e)) (all_in (branch_fits m.p (ws m) i.at g) (branches (form i.op)) by e is))
+      (λ by is. leads_on g d (pos i.at +ℤ by) (pos at +ℤ distance (to m) i.at at by) finer (λ w e. leads (to m) i.at at w by (sym e))
+      (all_in (branch_fits m.p (ws m) i.at g) (branches (form i.op)) by e is))
 
   -- ---- handlers
 
@@ -175,7 +176,8 @@ module _ (m : Moving) (k : IsMoving m) where
       go true = refl
       go false = class_at_settled m.p m.x.pool h.class
 
-  caught_finer : (f a b : Frame) (c : VType) → Finer m k a (carry m f) → b.locals ≡ a.locals → b.flag ≡ a.flag → Settled c → Finer m k (with_stack b (c ∷ [])) (carry m (with_stack f (c ∷ [])))
+  caught_finer : (f a b : Frame) (c : VType) → Finer m k a (carry m f) → b.locals ≡ a.locals → b.flag ≡ a.flag → Settled c
+      → Finer m k (with_stack b (c ∷ [])) (carry m (with_stack f (c ∷ [])))
   unfolding all_fit
   caught_finer f a b c finer locals flag settled =
       let t = tree m.p in
@@ -192,7 +194,8 @@ module _ (m : Moving) (k : IsMoving m) where
   handler_on f a b h finer locals flag is e =
       ap (caught_fits (tree m.q) b (declared_at (news m) (pos (to m h.at)))) (k.caught h is) ∙ go (caught_type m.p m.x h) refl e
     where
-      go : (c : Option VType) → caught_type m.p m.x h ≡ c → caught_fits (tree m.p) f (declared_at (ws m) (pos h.at)) c ≡ true → caught_fits (tree m.q) b (declared_at (news m) (pos (to m h.at))) c ≡ true
+      go : (c : Option VType) → caught_type m.p m.x h ≡ c → caught_fits (tree m.p) f (declared_at (ws m) (pos h.at)) c ≡ true
+          → caught_fits (tree m.q) b (declared_at (news m) (pos (to m h.at))) c ≡ true
       go None at fit = absurd cc
       go (Some c) at fit =
           let parts = both_of (fits (tree m.p) c throwable) (leads_in (tree m.p) (with_stack f (c ∷ [])) (declared_at (ws m) (pos h.at))) fit in
@@ -209,4 +212,5 @@ module _ (m : Moving) (k : IsMoving m) where
       → handlers_fit m.q (y m) (news m) at b ≡ true
   handlers_on i at f a b finer locals flag same old =
       all_mapped (handler_test m.q (y m) (news m) at b) (moved_handler (to m)) m.x.body.handlers
-      (λ h is. where_holds (covers at (moved_handler (to m) h)) (handler_fits m.q (y m) (news m) b (moved_handler (to m) h)) (λ c. handler_on f a b h finer locals flag is (old h is (sym (same h is) ∙ c))))
+      (λ h is. where_holds (covers at (moved_handler (to m) h)) (handler_fits m.q (y m) (news m) b (moved_handler (to m) h))
+      (λ c. handler_on f a b h finer locals flag is (old h is (sym (same h is) ∙ c))))

@@ -1,11 +1,19 @@
 pub mod Apart
 pub mod Arriving
+pub mod Asked
 pub mod Asking
 pub mod Beginning
+pub mod Becoming
 pub mod Carrying
+pub mod Describing
 pub mod Expanding
+pub mod Framing
+pub mod Handed
+pub mod Items
 pub mod Leading
 pub mod Moving
+pub mod Naming
+pub mod Putting
 pub mod Reading
 pub mod Renaming
 pub mod Rooming
@@ -13,3 +21,4 @@ pub mod Running
 pub mod Settled
 pub mod Stepping
 pub mod Walking
+pub mod Writing

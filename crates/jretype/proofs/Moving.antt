@@ -75,7 +75,8 @@ module _ (m : Moving) (k : IsMoving m) where
   all_there [] ys h e = e
   all_there (x ∷ xs) ys h e =
       let parts = both_of (is_there (makes m.p m.x) x) (list_all (is_there (makes m.p m.x)) xs) h in
-      and_true (is_there (makes m.q (y m)) (renamed_type (to m) x)) (list_all (is_there (makes m.q (y m))) (map (renamed_type (to m)) xs ++ ys)) (there_new x parts.0) (all_there xs ys parts.1 e)
+      and_true (is_there (makes m.q (y m)) (renamed_type (to m) x)) (list_all (is_there (makes m.q (y m))) (map (renamed_type (to m)) xs ++ ys)) (there_new x parts.0)
+      (all_there xs ys parts.1 e)
 
   none_more : (xs : List VType) → xs ++ [] ≡ xs
   none_more [] = refl

@@ -1,6 +1,6 @@
 -- Frames that are written full are read as they were, and frames that can be said in full as they say it.
-use Rattle.std.proofs.Common.{◌≡◌, ℕ, ◌+◌, List, [], ◌∷◌, map, reverse, Option, Some, None, Result, Ok, Err, refl, sym, ap, ◌∙◌, arith}
-use Rattle.std.specs.Prelude.{IsTrue, option_map}
+use Rattle.std.proofs.Common.{◌≡◌, ℕ, ◌+◌, true, false, List, [], ◌∷◌, map, reverse, Option, Some, None, Result, Ok, Err, refl, sym, ap, subst, ◌∙◌, arith}
+use Rattle.std.specs.Prelude.{IsTrue, is_some, option_map}
 use Rattle.std.specs.List.{AllByRecursion}
 use Rattle.std.proofs.lemmas.Bool.{ltb-true}
 use Rattle.jbase.specs.Stops.{◌>>=◌}
@@ -68,12 +68,14 @@ module _ (p : Program) (pool : List Entry) (most : ℕ) where
       others values = written_from p pool most (Some (place_behind e r.delta)) values rs
 
       abbrev Says : Type 0
-      Says = continued most (place_behind e r.delta) (reverse (each r.stack)) others (locals_after r.form (each r.locals) (map of (locals_before first e))) ≡ map (in_full of most) fs
+      Says = continued most (place_behind e r.delta) (reverse (each r.stack)) others (locals_after r.form (each r.locals) (map of (locals_before first e))) ≡ map
+          (in_full of most) fs
 
       abbrev Later : Type 0
       Later = (locals : List MapType) (ys : List FullFrame) → expand_from first (i + 1) (Some (full locals)) rs ≡ Ok ys → others (map of locals) ≡ map (in_full of most) ys
 
-      same_locals : (locals : List MapType) → locals_after r.form r.locals (locals_before first e) ≡ Some locals → locals_after r.form (each r.locals) (map of (locals_before first e)) ≡ Some (map of locals)
+      same_locals : (locals : List MapType) → locals_after r.form r.locals (locals_before first e) ≡ Some locals
+          → locals_after r.form (each r.locals) (map of (locals_before first e)) ≡ Some (map of locals)
       same_locals locals is =
           ap (λ (xs : List VType). locals_after r.form xs (map of (locals_before first e))) (same_items r.locals k.0)
           ∙ sym (locals_map of r.form r.locals (locals_before first e)) ∙ ap (option_map (map of)) is
@@ -83,7 +85,8 @@ module _ (p : Program) (pool : List Entry) (most : ℕ) where
       later locals is (Err n) more h rest = absurd cc
       later locals is (Ok ys) more h rest =
           ap (continued most (place_behind e r.delta) (reverse (each r.stack)) others) (same_locals locals is)
-          ∙ ap (λ (xs : List VType). record { at = place_behind e r.delta; frame = Some (frame_of most (map of locals) (reverse xs)) } ∷ others (map of locals)) (same_items r.stack k.1)
+          ∙ ap (λ (xs : List VType). record { at = place_behind e r.delta; frame = Some (frame_of most (map of locals) (reverse xs)) } ∷ others (map of locals))
+          (same_items r.stack k.1)
           ∙ ap (λ (ws : List Written). in_full of most (full locals) ∷ ws) (rest locals ys more)
           ∙ ap (map (in_full of most)) (ok_is (full locals ∷ ys) fs h)
 
@@ -100,6 +103,57 @@ module _ (p : Program) (pool : List Entry) (most : ℕ) where
     says_from i e (r ∷ rs) fs h k =
         found i e r rs fs k.0 (locals_after r.form r.locals (locals_before first e)) refl h
         (λ locals ys more. says_from (i + 1) (Some (record { at = place_behind e r.delta; locals = locals; stack = r.stack })) rs ys more k.1)
+
+    -- ---- frames that are there can be said in full
+
+    abbrev pub AllThere : List Written → Type 0
+    AllThere ws = AllByRecursion (λ w. is_some w.frame ≡ true) ws
+
+    module _ (i : ℕ) (e : Option FullFrame) (r : RawFrame) (rs : List RawFrame) (k : StandFor p pool of r.locals × StandFor p pool of r.stack) where
+      abbrev Told : (List MapType → Result (List FullFrame) ℕ) → Type 0
+      Told next = (locals : List MapType) → AllThere (written_from p pool most (Some (place_behind e r.delta)) (map of locals) rs) → (ys : List FullFrame) × (next locals ≡ Ok ys)
+
+      abbrev next : List MapType → Result (List FullFrame) ℕ
+      next locals = expand_from first (i + 1) (Some (record { at = place_behind e r.delta; locals = locals; stack = r.stack })) rs
+
+      abbrev now : Option (List MapType) → Result (List FullFrame) ℕ
+      now o = or_number i (with_locals e r o) >>= λ f. expand_from first (i + 1) (Some f) rs >>= λ ys. Ok (f ∷ ys)
+
+      locals_alike : (o : Option (List MapType)) → locals_after r.form r.locals (locals_before first e) ≡ o
+          → locals_after r.form (each r.locals) (map of (locals_before first e)) ≡ option_map (map of) o
+      locals_alike o is =
+          ap (λ (xs : List VType). locals_after r.form xs (map of (locals_before first e))) (same_items r.locals k.0)
+          ∙ sym (locals_map of r.form r.locals (locals_before first e)) ∙ ap (option_map (map of)) is
+
+      told : (o : Option (List MapType)) → AllThere (continued most (place_behind e r.delta) (reverse (each r.stack))
+          (λ values. written_from p pool most (Some (place_behind e r.delta)) values rs) (option_map (map of) o))
+          → Told next → (fs : List FullFrame) × (now o ≡ Ok fs)
+      told None h rest = absurd (not_there h.0)
+        where
+          not_there : false ≡ true → ⊥
+          not_there e = absurd cc
+      told (Some locals) h rest =
+          let ys = rest locals h.1 in
+          let full : FullFrame = record { at = place_behind e r.delta; locals = locals; stack = r.stack } in
+          (full ∷ ys.0, ap (λ (x : Result (List FullFrame) ℕ). x >>= λ zs. Ok (full ∷ zs)) ys.1)
+
+      tells : AllThere (continued most (place_behind e r.delta) (reverse (each r.stack)) (λ values. written_from p pool most (Some (place_behind e r.delta)) values rs)
+          (locals_after r.form (each r.locals) (map of (locals_before first e)))) → Told next
+          → (fs : List FullFrame) × (now (locals_after r.form r.locals (locals_before first e)) ≡ Ok fs)
+      tells h rest =
+          let o = locals_after r.form r.locals (locals_before first e) in
+          told o (subst (λ (z : Option (List VType)). AllThere (continued most (place_behind e r.delta) (reverse (each r.stack))
+          (λ values. written_from p pool most (Some (place_behind e r.delta)) values rs) z)) (locals_alike o refl) h) rest
+
+    full_from : (i : ℕ) (e : Option FullFrame) (rs : List RawFrame) → AllThere (written_from p pool most (place e) (map of (locals_before first e)) rs) → Stand rs
+        → (fs : List FullFrame) × (expand_from first i e rs ≡ Ok fs)
+    unfolding written_from expand_from
+    full_from i e [] h k = ([], refl)
+    full_from i e (r ∷ rs) h k =
+        tells i e r rs k.0 h (λ locals there. full_from (i + 1) (Some (record { at = place_behind e r.delta; locals = locals; stack = r.stack })) rs there k.1)
+
+    pub full_there : (rs : List RawFrame) → AllThere (written_from p pool most None (map of first) rs) → Stand rs → (fs : List FullFrame) × (expand_from first 0 None rs ≡ Ok fs)
+    full_there rs h k = full_from 0 None rs h k
 
 pub are_read_back : AreReadBack
 are_read_back p pool most before fs h = read_back p pool most None before fs (first_true (fits_from can_follow place_after None fs) _ h)

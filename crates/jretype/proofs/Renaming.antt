@@ -300,14 +300,16 @@ module _ (to : ℕ → ℕ) where
   shuffled_same s xs =
       ap (option_map (moved (all xs))) (ap (shuffle s) (items_same xs) ∙ naturally (renamed_type to) s (moves.items xs)) ∙ go (shuffle s (moves.items xs))
     where
-      go : (o : Option (shuffles.Move VType)) → option_map (moved (all xs)) (option_map (of_move (renamed_type to)) o) ≡ option_map (map (renamed_type to)) (option_map (moved xs) o)
+      go : (o : Option (shuffles.Move VType)) → option_map (moved (all xs)) (option_map (of_move (renamed_type to)) o) ≡ option_map (map (renamed_type to))
+          (option_map (moved xs) o)
       go None = refl
       go (Some m) = ap Some (ap (λ (ys : List VType). all m.put ++ ys) (dropped m.taken xs) ∙ sym (map-append (renamed_type to) m.put (drop m.taken xs)))
 
   move_turned : (most : ℕ) (s : Shuffle) → Turns (move most s) (move most s)
   move_turned most s f = ap (option_and_then (with_room most (renamed to f))) (shuffled_same s f.stack) ∙ go (shuffled s f.stack)
     where
-      go : (o : Option (List VType)) → option_and_then (with_room most (renamed to f)) (option_map (map (renamed_type to)) o) ≡ option_map (renamed to) (option_and_then (with_room most f) o)
+      go : (o : Option (List VType)) → option_and_then (with_room most (renamed to f)) (option_map (map (renamed_type to)) o) ≡ option_map (renamed to)
+          (option_and_then (with_room most f) o)
       go None = refl
       go (Some xs) = room_turned most f xs (all xs) refl
 
@@ -420,10 +422,12 @@ module _ (to : ℕ → ℕ) where
   load_item_turned : (t : Tree) (most : ℕ) (e : items.Element) → Turns (array.load t most e) (array.load t most e)
   load_item_turned t most e f =
       ap (λ (a : VType). option_and_then (pushed most a) (taken t (operands e (arrays.Load e)) (renamed to f))) (loaded_on_same e f.stack)
-      ∙ ap (option_and_then (pushed most (r (loaded_on e f.stack)))) (taken_turned t (operands e (arrays.Load e)) (operands_settled e (listed (array_effect (arrays.Load e)).takes)) f)
+      ∙ ap (option_and_then (pushed most (r (loaded_on e f.stack)))) (taken_turned t (operands e (arrays.Load e))
+      (operands_settled e (listed (array_effect (arrays.Load e)).takes)) f)
       ∙ go (taken t (operands e (arrays.Load e)) f)
     where
-      go : (o : Option Frame) → option_and_then (pushed most (r (loaded_on e f.stack))) (option_map (renamed to) o) ≡ option_map (renamed to) (option_and_then (pushed most (loaded_on e f.stack)) o)
+      go : (o : Option Frame) → option_and_then (pushed most (r (loaded_on e f.stack))) (option_map (renamed to) o) ≡ option_map (renamed to)
+          (option_and_then (pushed most (loaded_on e f.stack)) o)
       go None = refl
       go (Some g) = room_turned most g (loaded_on e f.stack ∷ g.stack) (r (loaded_on e f.stack) ∷ all g.stack) refl
 
@@ -475,11 +479,9 @@ module _ (to : ℕ → ℕ) where
   leave_turned : (t : Tree) (is_init : Bool) (ret : Option VType) (kind : Returned) → Turns (straight.leave t is_init ret kind) (straight.leave t is_init ret kind)
   leave_turned t is_init ret kind f = go (straight.returns kind ret) refl (straight.may_leave is_init kind f.flag)
     where
-      wants : List Want
-      wants = map Fits (option_to_list ret)
-
       go : (b : Bool) → straight.returns kind ret ≡ b → (c : Bool) →
-          (if b && c then taken t (map Fits (option_to_list ret)) (renamed to f) else None) ≡ option_map (renamed to) (if b && c then taken t (map Fits (option_to_list ret)) f else None)
+          (if b && c then taken t (map Fits (option_to_list ret)) (renamed to f) else None) ≡ option_map (renamed to)
+          (if b && c then taken t (map Fits (option_to_list ret)) f else None)
       go false e c = refl
       go true e false = refl
       go true e true = taken_turned t (map Fits (option_to_list ret)) (returned_settled kind ret e) f
@@ -523,7 +525,8 @@ module _ (to : ℕ → ℕ) where
   all_replaced_same : (it that : Unready) → Same it that → (new : VType) → Settled new → (xs : List VType) → all_replaced that new (all xs) ≡ all (all_replaced it new xs)
   all_replaced_same it that h new s [] = refl
   all_replaced_same it that h new s (a ∷ xs) =
-      ap (λ (x : VType). x ∷ all_replaced that new (all xs)) (replaced_same it that h new s a) ∙ ap (λ (ys : List VType). r (replaced it new a) ∷ ys) (all_replaced_same it that h new s xs)
+      ap (λ (x : VType). x ∷ all_replaced that new (all xs)) (replaced_same it that h new s a)
+      ∙ ap (λ (ys : List VType). r (replaced it new a) ∷ ys) (all_replaced_same it that h new s xs)
 
   any_same : (it that : Unready) → Same it that → (xs : List VType) → list_any (is_it that) (all xs) ≡ list_any (is_it it) xs
   any_same it that h [] = refl
@@ -533,9 +536,14 @@ module _ (to : ℕ → ℕ) where
   make_turned : (most at : ℕ) → IsApart to at → Turns (objects.make most at) (objects.make most (to at))
   make_turned most at h f =
       let cleared : Frame = record { locals = all_replaced (unready.New at) Top f.locals; stack = f.stack; flag = f.flag } in
-      ap (λ (b : Bool). if b then None else pushed most (Uninit (to at)) (record { locals = all_replaced (unready.New (to at)) Top (all f.locals); stack = all f.stack; flag = f.flag }))
+      ap (λ (b : Bool). if b then None else pushed most (Uninit (to at)) (record {
+        locals = all_replaced (unready.New (to at)) Top (all f.locals);
+        stack = all f.stack;
+        flag = f.flag;
+      }))
       (any_same (unready.New at) (unready.New (to at)) (new_same at h) f.stack)
-      ∙ ap (λ (ls : List VType). if list_any (is_it (unready.New at)) f.stack then None else pushed most (Uninit (to at)) (record { locals = ls; stack = all f.stack; flag = f.flag }))
+      ∙ ap (λ (ls : List VType). if list_any (is_it (unready.New at)) f.stack then None else pushed most (Uninit (to at))
+      (record { locals = ls; stack = all f.stack; flag = f.flag }))
       (all_replaced_same (unready.New at) (unready.New (to at)) (new_same at h) Top refl f.locals)
       ∙ go (list_any (is_it (unready.New at)) f.stack) cleared
     where
@@ -543,7 +551,8 @@ module _ (to : ℕ → ℕ) where
       go true g = refl
       go false g = room_turned most g (Uninit at ∷ g.stack) (Uninit (to at) ∷ all g.stack) refl
 
-  readied_same : (it that : Unready) → Same it that → (class : Name) (flag : Bool) (ls stack : List VType) → readied that class flag (all ls) (all stack) ≡ renamed to (readied it class flag ls stack)
+  readied_same : (it that : Unready) → Same it that → (class : Name) (flag : Bool) (ls stack : List VType)
+      → readied that class flag (all ls) (all stack) ≡ renamed to (readied it class flag ls stack)
   readied_same it that h class flag ls stack =
       ap (λ (xs : List VType). record { locals = xs; stack = all_replaced that (Object class) (all stack); flag = flag }) (all_replaced_same it that h (Object class) refl ls)
       ∙ ap (λ (xs : List VType). record { locals = all (all_replaced it (Object class) ls); stack = xs; flag = flag }) (all_replaced_same it that h (Object class) refl stack)
@@ -583,14 +592,16 @@ module _ (to : ℕ → ℕ) where
     init_turned t c h =
         then_turned (λ f. option_and_then (init_of here c.owner) (taken t (arguments c) f)) (λ f. option_and_then (init_of there c.owner) (taken t (arguments c) f))
         (given here.max_stack c.ret) (given here.max_stack c.ret)
-        (then_turned (taken t (arguments c)) (taken t (arguments c)) (init_of here c.owner) (init_of there c.owner) (taken_turned t (arguments c) (arguments_settled c.params h.0)) (init_of_turned c.owner))
+        (then_turned (taken t (arguments c)) (taken t (arguments c)) (init_of here c.owner) (init_of there c.owner)
+        (taken_turned t (arguments c) (arguments_settled c.params h.0)) (init_of_turned c.owner))
         (given_turned here.max_stack c.ret h.1)
 
     -- ---- by what the pool means
 
     module _ (p : Program) where
       table_turned : (m : Meaning) → SettledMeaning m → Turns (by_table p here m) (by_table p there m)
-      table_turned m h = exchanged_turned (tree p) here.max_stack (exchange (is_own p here.is_init here.class) here.class m) (exchange_settled (is_own p here.is_init here.class) here.class m h)
+      table_turned m h = exchanged_turned (tree p) here.max_stack (exchange (is_own p here.is_init here.class) here.class m)
+          (exchange_settled (is_own p here.is_init here.class) here.class m h)
 
       meaning_turned : (m : Option Meaning) → IfSome m SettledMeaning → Turns (by_meaning p here m) (by_meaning p there m)
       meaning_turned None h f = refl

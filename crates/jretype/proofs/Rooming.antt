@@ -170,7 +170,8 @@ module _ (long most : ℕ) where
 
   load_item_keeps : (t : Tree) (e : items.Element) → Keeps (array.load t most e)
   load_item_keeps t e f k is h =
-      then_keeps (taken t (operands e (arrays.Load e))) (pushed most (loaded_on e f.stack)) (taken_keeps t (operands e (arrays.Load e))) (given_keeps (Some (loaded_on e f.stack))) f k is h
+      then_keeps (taken t (operands e (arrays.Load e))) (pushed most (loaded_on e f.stack)) (taken_keeps t (operands e (arrays.Load e)))
+      (given_keeps (Some (loaded_on e f.stack))) f k is h
 
   array_keeps : (t : Tree) (form : ArrayForm) → Keeps (array.array t most form)
   array_keeps t (arrays.New kind) f k e h = exchanged_keeps t (gives (Of kinds.Int ∷ []) (array.row (array.of_numbers kind))) f k e h
@@ -202,7 +203,8 @@ module _ (long most : ℕ) where
   make_keeps : (at : ℕ) → Keeps (objects.make most at)
   make_keeps at f k e h = go (list_any (is_it (unready.New at)) f.stack) e
     where
-      go : (b : Bool) → (if b then None else pushed most (Uninit at) (record { locals = all_replaced (unready.New at) Top f.locals; stack = f.stack; flag = f.flag })) ≡ Some k → HasRoom long most k
+      go : (b : Bool) → (if b then None else pushed most (Uninit at) (record { locals = all_replaced (unready.New at) Top f.locals; stack = f.stack; flag = f.flag })) ≡ Some k
+          → HasRoom long most k
       go true to = absurd cc
       go false to =
           room_keeps (record { locals = all_replaced (unready.New at) Top f.locals; stack = f.stack; flag = f.flag }) k (Uninit at ∷ f.stack) to
@@ -241,7 +243,8 @@ module _ (long most : ℕ) where
   unfolding slots
   replaced_slots it c [] = refl
   replaced_slots it c (a ∷ xs) =
-      ap (λ (n : ℕ). n + slots (all_replaced it (Object c) xs)) (by_long (replaced it (Object c) a) a (replaced_long it c a)) ∙ ap (λ (n : ℕ). length (places a) + n) (replaced_slots it c xs)
+      ap (λ (n : ℕ). n + slots (all_replaced it (Object c) xs)) (by_long (replaced it (Object c) a) a (replaced_long it c a))
+      ∙ ap (λ (n : ℕ). length (places a) + n) (replaced_slots it c xs)
 
   readied_keeps : (it : Unready) (c : Name) (flag : Bool) (f : Frame) (xs : List VType) → HasRoom long most f → slots xs ≤ most → HasRoom long most (readied it c flag f.locals xs)
   readied_keeps it c flag f xs h few = record { locals = length-map f.locals (replaced it (Object c)) ∙ h.locals; stack = let same = replaced_slots it c xs in omega arith }
@@ -273,7 +276,8 @@ module _ (long : ℕ) (p : Program) (here : Here) where
   init_keeps : (c : CallMeaning) → Kept (objects.init (tree p) here c)
   init_keeps c =
       then_keeps long here.max_stack (λ f. option_and_then (init_of here c.owner) (taken (tree p) (arguments c) f)) (given here.max_stack c.ret)
-      (then_keeps long here.max_stack (taken (tree p) (arguments c)) (init_of here c.owner) (taken_keeps long here.max_stack (tree p) (arguments c)) (init_of_keeps long here.max_stack here c.owner))
+      (then_keeps long here.max_stack (taken (tree p) (arguments c)) (init_of here c.owner) (taken_keeps long here.max_stack (tree p) (arguments c))
+      (init_of_keeps long here.max_stack here c.owner))
       (given_keeps long here.max_stack c.ret)
 
   table_keeps : (m : Meaning) → Kept (by_table p here m)
@@ -292,7 +296,8 @@ module _ (long : ℕ) (p : Program) (here : Here) where
   meaning_keeps (Some (meanings.MakeArray t)) f k e h = table_keeps (meanings.MakeArray t) f k e h
   meaning_keeps (Some (meanings.Cast op t)) f k e h = table_keeps (meanings.Cast op t) f k e h
 
-  pub keeps_room : {S : Type 0} (pool : List Entry) (form : Form S) (f k : Frame) → by_form p here pool form f ≡ Some k → HasRoom long here.max_stack f → HasRoom long here.max_stack k
+  pub keeps_room : {S : Type 0} (pool : List Entry) (form : Form S) (f k : Frame) → by_form p here pool form f ≡ Some k → HasRoom long here.max_stack f
+      → HasRoom long here.max_stack k
   unfolding by_form
   keeps_room pool (forms.Simple form) f k e h = exchanged_keeps long here.max_stack (tree p) (by_effect (simple_effect form)) f k e h
   keeps_room pool (forms.Local form) f k e h = local_keeps long here.max_stack form f k e h

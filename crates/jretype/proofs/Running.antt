@@ -99,7 +99,8 @@ module _ (m : Moving) (k : IsMoving m) (c : Point m k) where
 
   -- ---- an instruction that becomes itself
 
-  one_walk : (arr : Option Frame) → One m k P c.i.op row.it → 0 < length (expansion m.s c.e c.i.op) → begun (declared_at (news m) (pos (to m c.i.at))) arr ≡ Some c.a → Walks m (now m c.i.at (to m c.i.at) c.i.op ∷ c.rest) arr
+  one_walk : (arr : Option Frame) → One m k P c.i.op row.it → 0 < length (expansion m.s c.e c.i.op) → begun (declared_at (news m) (pos (to m c.i.at))) arr ≡ Some c.a
+      → Walks m (now m c.i.at (to m c.i.at) c.i.op ∷ c.rest) arr
   unfolding instruction
   one_walk arr z lt b =
       let spot = to m c.i.at in
@@ -114,7 +115,8 @@ module _ (m : Moving) (k : IsMoving m) (c : Point m k) where
 
   -- ---- a call behind what it is handed
 
-  last_walk : (j : ℕ) → 0 < j → j < length (expansion m.s c.e c.i.op) → (o : Op) (puts : List VType → List VType) → Last m k P o puts row.it → Walks m (now m c.i.at (at j) o ∷ c.rest) (Some (with_stack c.a (puts c.a.stack)))
+  last_walk : (j : ℕ) → 0 < j → j < length (expansion m.s c.e c.i.op) → (o : Op) (puts : List VType → List VType) → Last m k P o puts row.it
+      → Walks m (now m c.i.at (at j) o ∷ c.rest) (Some (with_stack c.a (puts c.a.stack)))
   unfolding instruction
   last_walk j some lt o puts l =
       let b = with_stack c.a (puts c.a.stack) in
@@ -131,7 +133,8 @@ module _ (m : Moving) (k : IsMoving m) (c : Point m k) where
       let new_goes = plain_goes m.q m.pool (new m) spot (form (led (to m) c.i.at spot o)) l.is (l.row spot) l.plain in
       let old_goes : goes_on (form c.i.op) ≡ true =
       (plain_goes m.p m.x.pool (ops m) c.i.at (form c.i.op) (Used (meanings.Call l.by l.call)) (row.means ∙ ap (λ (z : Instruction). Some z) l.it_is) refl).1 in
-      walk_on m (now m c.i.at spot o) c.rest (Some b) (sent (goes_on (form c.i.op)) s.0) b s.0 (ap (λ (d : Option Frame). begun d (Some b)) (none_at j some lt)) (handlers_at j lt b refl refl) gives
+      walk_on m (now m c.i.at spot o) c.rest (Some b) (sent (goes_on (form c.i.op)) s.0) b s.0 (ap (λ (d : Option Frame). begun d (Some b)) (none_at j some lt))
+      (handlers_at j lt b refl refl) gives
       (ap (list_all _) new_goes.0)
       (ap (λ (v : Bool). onward m.q (news m) s.0 v c.rest) (new_goes.1 ∙ sym old_goes) ∙ c.onwards s.0 s.2) (c.later s.0 s.2)
 
@@ -149,9 +152,11 @@ module _ (m : Moving) (k : IsMoving m) (c : Point m k) where
       (handlers_at 0 (omega (arith, long)) c.a refl refl)
       (t.lead.puts (here m spot) c.a (context_at m k c.f c.a c.finer c.roomy) le)
       (ap (λ (n : ℕ). declared_at (news m) (pos n)) (sym second) ∙ none_at 1 (omega arith) (omega (arith, long)))
-      (subst (λ (n : ℕ). Walks m (now m c.i.at n u ∷ c.rest) (Some (with_stack c.a (t.put ∷ c.a.stack)))) second (last_walk 1 (omega arith) (omega (arith, long)) u (λ xs. t.put ∷ xs) t.last))
+      (subst (λ (n : ℕ). Walks m (now m c.i.at n u ∷ c.rest) (Some (with_stack c.a (t.put ∷ c.a.stack)))) second
+      (last_walk 1 (omega arith) (omega (arith, long)) u (λ xs. t.put ∷ xs) t.last))
 
-  three_walk : (arr : Option Frame) (o u v : Op) → expansion m.s c.e c.i.op ≡ o ∷ u ∷ v ∷ [] → Three m k P o u v row.it → begun (declared_at (news m) (pos (to m c.i.at))) arr ≡ Some c.a
+  three_walk : (arr : Option Frame) (o u v : Op) → expansion m.s c.e c.i.op ≡ o ∷ u ∷ v ∷ [] → Three m k P o u v row.it
+      → begun (declared_at (news m) (pos (to m c.i.at))) arr ≡ Some c.a
       → let one = to m c.i.at in let two = one + size one o in
       Walks m (now m c.i.at one o ∷ now m c.i.at two u ∷ now m c.i.at (two + size two u) v ∷ c.rest) arr
   three_walk arr o u v is t b =
@@ -190,7 +195,8 @@ module _ (m : Moving) (k : IsMoving m) (c : Point m k) where
   two_as arr e o u same is b =
       two_walk arr o u (ops_as e same ∙ is) (double m k P o u row.it row.asks (subst (λ (xs : List Op). Each P xs (expanded (place m) (number m) row.it)) is (row_as e same))) b
 
-  two_rest : (arr : Option Frame) (e : Expand) (o u : Op) (r : List Placed) → c.rest ≡ r → c.e ≡ e → expansion m.s e c.i.op ≡ o ∷ u ∷ [] → begun (declared_at (news m) (pos (to m c.i.at))) arr ≡ Some c.a
+  two_rest : (arr : Option Frame) (e : Expand) (o u : Op) (r : List Placed) → c.rest ≡ r → c.e ≡ e → expansion m.s e c.i.op ≡ o ∷ u ∷ []
+      → begun (declared_at (news m) (pos (to m c.i.at))) arr ≡ Some c.a
       → Walks m (now m c.i.at (to m c.i.at) o ∷ now m c.i.at (to m c.i.at + size (to m c.i.at) o) u ∷ r) arr
   two_rest arr e o u r rest same is b =
       subst (λ (z : List Placed). Walks m (now m c.i.at (to m c.i.at) o ∷ now m c.i.at (to m c.i.at + size (to m c.i.at) o) u ∷ z) arr) rest (two_as arr e o u same is b)
@@ -201,11 +207,16 @@ module _ (m : Moving) (k : IsMoving m) (c : Point m k) where
       let long : length (expansion m.s c.e c.i.op) ≡ 1 = ap length (ops_as Same same) in
       subst (λ (r : List Placed). Walks m (now m c.i.at (to m c.i.at) c.i.op ∷ r) arr) rest
       (one_walk arr (single m k P c.i.op row.it (row_as Same same)) (omega (arith, long)) b)
-  by_kind (Call n) same ks is rest arr b = two_rest arr (Call n) (move_ref Load m.s.local) (calling n c.i.op) (rest_of m k (reach (to m c.i.at) (expansion m.s (Call n) c.i.op)) ks is) rest same refl b
-  by_kind (Check n) same ks is rest arr b = two_rest arr (Check n) (move_ref Load m.s.local) (call_static n) (rest_of m k (reach (to m c.i.at) (expansion m.s (Check n) c.i.op)) ks is) rest same refl b
-  by_kind (Snapshot n) same ks is rest arr b = two_rest arr (Snapshot n) (move_ref Load m.s.local) (call_static n) (rest_of m k (reach (to m c.i.at) (expansion m.s (Snapshot n) c.i.op)) ks is) rest same refl b
-  by_kind (Privileged n) same ks is rest arr b = two_rest arr (Privileged n) (push_int m.s.domain) (call_static n) (rest_of m k (reach (to m c.i.at) (expansion m.s (Privileged n) c.i.op)) ks is) rest same refl b
-  by_kind (PrivilegedWith n) same ks is rest arr b = two_rest arr (PrivilegedWith n) (push_int m.s.domain) (call_static n) (rest_of m k (reach (to m c.i.at) (expansion m.s (PrivilegedWith n) c.i.op)) ks is) rest same refl b
+  by_kind (Call n) same ks is rest arr b = two_rest arr (Call n) (move_ref Load m.s.local) (calling n c.i.op)
+      (rest_of m k (reach (to m c.i.at) (expansion m.s (Call n) c.i.op)) ks is) rest same refl b
+  by_kind (Check n) same ks is rest arr b = two_rest arr (Check n) (move_ref Load m.s.local) (call_static n)
+      (rest_of m k (reach (to m c.i.at) (expansion m.s (Check n) c.i.op)) ks is) rest same refl b
+  by_kind (Snapshot n) same ks is rest arr b = two_rest arr (Snapshot n) (move_ref Load m.s.local) (call_static n)
+      (rest_of m k (reach (to m c.i.at) (expansion m.s (Snapshot n) c.i.op)) ks is) rest same refl b
+  by_kind (Privileged n) same ks is rest arr b = two_rest arr (Privileged n) (push_int m.s.domain) (call_static n)
+      (rest_of m k (reach (to m c.i.at) (expansion m.s (Privileged n) c.i.op)) ks is) rest same refl b
+  by_kind (PrivilegedWith n) same ks is rest arr b = two_rest arr (PrivilegedWith n) (push_int m.s.domain) (call_static n)
+      (rest_of m k (reach (to m c.i.at) (expansion m.s (PrivilegedWith n) c.i.op)) ks is) rest same refl b
   by_kind (PrivilegedLimited n) same ks is rest arr b =
       let o = move_ref Load m.s.local in
       let u = push_int m.s.domain in
@@ -277,6 +288,7 @@ module _ (m : Moving) (k : IsMoving m) where
         onwards = λ d finer. onward_next m k s.behind d goes (reach (to m i.at) (expansion m.s e i.op)) ks is fs finer fewer
             (λ z at. (end_at ∙ ap (to m) (sym (laid_first behind last is z next at)), first_in ks is fewer others z at)) s.follows;
         later = λ d finer. subst (λ (q : ℕ). Walks m (rest_of m k q ks is) (sent goes d)) (sym end_at)
-            (walks ks is fs fewer others behind last next (sent goes s.behind) (sent goes d) (onward_of m.p m.x (ws m) i f is fs s) serve.1 (sent_arrived goes s.behind d finer roomy));
+            (walks ks is fs fewer others behind last next (sent goes s.behind) (sent goes d) (onward_of m.p m.x (ws m) i f is fs s) serve.1
+            (sent_arrived goes s.behind d finer roomy));
       } in
       subst (λ (q : ℕ). Walks m (rest_of m k (to m q) (e ∷ ks) (i ∷ is)) new_arr) laid.0 (by_kind m k point e refl ks is refl new_arr a.begins)

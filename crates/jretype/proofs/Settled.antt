@@ -91,7 +91,8 @@ pub map_some_by : {A B : Type 0} (Q : A → Type 0) (P : B → Type 0) (g : A �
 map_some_by Q P g None q h = tt
 map_some_by Q P g (Some a) q h = h a q
 
-pub then_some_by : {A B : Type 0} (Q : A → Type 0) (P : B → Type 0) (g : A → Option B) (o : Option A) → IfSome o Q → ((a : A) → Q a → IfSome (g a) P) → IfSome (option_and_then g o) P
+pub then_some_by : {A B : Type 0} (Q : A → Type 0) (P : B → Type 0) (g : A → Option B) (o : Option A) → IfSome o Q → ((a : A) → Q a → IfSome (g a) P)
+    → IfSome (option_and_then g o) P
 then_some_by Q P g None q h = tt
 then_some_by Q P g (Some a) q h = h a q
 
@@ -203,11 +204,13 @@ call_settled owner (Some m) (Held t) h = tt
 
 a_field : (p : Program) (r : Reference) → IfSome (option_map AField (field_meant p r)) SettledEntry
 unfolding field_meant
-a_field p r = map_some_by (λ f. Settled f.held) SettledEntry AField (field_meant p r) (field_settled (name r.owner) (resolve_field p r.owner r.name r.desc) (typed p r.desc) (typed_settled p r.desc)) (λ f h. h)
+a_field p r = map_some_by (λ f. Settled f.held) SettledEntry AField (field_meant p r)
+    (field_settled (name r.owner) (resolve_field p r.owner r.name r.desc) (typed p r.desc) (typed_settled p r.desc)) (λ f h. h)
 
 a_method : (p : Program) (b : Bool) (r : Reference) → IfSome (option_map (AMethod b) (call_meant p r)) SettledEntry
 unfolding call_meant
-a_method p b r = map_some_by SettledCall SettledEntry (AMethod b) (call_meant p r) (call_settled (name r.owner) (resolve_method p r.owner r.name r.desc) (typed p r.desc) (typed_settled p r.desc)) (λ c h. h)
+a_method p b r = map_some_by SettledCall SettledEntry (AMethod b) (call_meant p r)
+    (call_settled (name r.owner) (resolve_method p r.owner r.name r.desc) (typed p r.desc) (typed_settled p r.desc)) (λ c h. h)
 
 pub entry_settled : (p : Program) (pool : List Entry) (e : Option Entry) → IfSome (entry_meant p pool e) SettledEntry
 unfolding entry_meant

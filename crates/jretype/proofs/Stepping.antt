@@ -249,7 +249,8 @@ module _ (m : Moving) (k : IsMoving m) where
   step_at n e i it f g a nth means gives finer =
       let far = apart (begin m) m.s m.ks (ops m) k.each k.fits n e i nth in
       let elsewhere = goes_along SwitchOp m.p (to m) (makes m.q (y m)) (old_here i) m.x.pool (form i.op) f k.names far ∙ ap (option_map (renamed (to m))) gives in
-      let wider = looks_no_further SwitchOp m.p (gone (to m) (makes m.q (y m)) (old_here i)) (m.x.body.max_stack + 3) m.x.pool (form i.op) (renamed (to m) f) (renamed (to m) g) (more m) few
+      let wider = looks_no_further SwitchOp m.p (gone (to m) (makes m.q (y m)) (old_here i)) (m.x.body.max_stack + 3) m.x.pool (form i.op) (renamed (to m) f) (renamed (to m) g)
+      (more m) few
       (none_unready (m.s.local - m.x.body.max_locals)) elsewhere in
       let kept = keeps_precise SwitchOp m.p (same_here i) m.x.pool (form i.op) a (carry m f) (carry m g) k.stands finer wider in
       (kept.0, asks_tree m.p m.q (same_here i) it a k.same_tree k.owners ∙ form_agrees m.p (same_here i) m.x.pool (ops m) i.at (form i.op) it a means ∙ kept.1, kept.2)
@@ -272,11 +273,13 @@ module _ (m : Moving) (k : IsMoving m) where
   unfolding rule exchange
   static_is h c a = refl
 
-  pub context_taken : (h : Here) (params : List VType) (ret : Option VType) (a : Frame) → static_rule h (Ctx ∷ params) ret (with_stack a (Ctx ∷ a.stack)) ≡ static_rule h params ret a
+  pub context_taken : (h : Here) (params : List VType) (ret : Option VType) (a : Frame)
+      → static_rule h (Ctx ∷ params) ret (with_stack a (Ctx ∷ a.stack)) ≡ static_rule h params ret a
   unfolding taken below
   context_taken h params ret a = refl
 
-  pub number_taken : (h : Here) (params : List VType) (ret : Option VType) (a : Frame) → static_rule h (Int ∷ params) ret (with_stack a (Int ∷ a.stack)) ≡ static_rule h params ret a
+  pub number_taken : (h : Here) (params : List VType) (ret : Option VType) (a : Frame)
+      → static_rule h (Int ∷ params) ret (with_stack a (Int ∷ a.stack)) ≡ static_rule h params ret a
   unfolding taken below
   number_taken h params ret a = refl
 
@@ -289,7 +292,8 @@ module _ (m : Moving) (k : IsMoving m) where
   unfolding rule taken below
   push_rule h n a le = pushed_is h Int a le
 
-  pub load_rule : (h : Here) (n : ℕ) (a : Frame) → slice_get a.locals n ≡ Some Ctx → slots (Ctx ∷ a.stack) ≤ h.max_stack → rule m.q h (load n) a ≡ Some (with_stack a (Ctx ∷ a.stack))
+  pub load_rule : (h : Here) (n : ℕ) (a : Frame) → slice_get a.locals n ≡ Some Ctx → slots (Ctx ∷ a.stack) ≤ h.max_stack
+      → rule m.q h (load n) a ≡ Some (with_stack a (Ctx ∷ a.stack))
   unfolding rule
   load_rule h n a e le = ap (local.load_from h.max_stack (codes_of.local locals.Ref) n a) e ∙ pushed_is h Ctx a le
 
@@ -339,7 +343,9 @@ module _ (m : Moving) (k : IsMoving m) where
       → put_at at (same_here i) ≡ here_of m.q (y m) at
   here_at i at h = here_is i at (any_mapped m.x.body.handlers h)
     where
-      any_mapped : (hs : List Handler) → ((h : Handler) → IsIn h hs → covers at (moved_handler (to m) h) ≡ covers i.at h) → list_any (covers at) (map (moved_handler (to m)) hs) ≡ list_any (covers i.at) hs
+      any_mapped : (hs : List Handler) → ((h : Handler) → IsIn h hs → covers at (moved_handler (to m) h) ≡ covers i.at h)
+          → list_any (covers at) (map (moved_handler (to m)) hs) ≡ list_any (covers i.at) hs
       any_mapped [] e = refl
       any_mapped (h ∷ hs) e =
-          ap (λ (b : Bool). b || list_any (covers at) (map (moved_handler (to m)) hs)) (e h (0, refl)) ∙ ap (λ (b : Bool). covers i.at h || b) (any_mapped hs (λ g is. e g (suc is.0, is.1)))
+          ap (λ (b : Bool). b || list_any (covers at) (map (moved_handler (to m)) hs)) (e h (0, refl))
+          ∙ ap (λ (b : Bool). covers i.at h || b) (any_mapped hs (λ g is. e g (suc is.0, is.1)))

@@ -41,8 +41,10 @@ module _ (m : Moving) where
   abbrev pub Walks : List Placed → Option Frame → Type 0
   Walks os arriving = walk m.q (y m) (news m) os arriving ≡ None
 
-  pub walk_on : (o : Placed) (rest : List Placed) (arr next : Option Frame) (a d : Frame) → begun (declared_at (news m) (pos o.at)) arr ≡ Some a → handlers_fit m.q (y m) (news m) o.at a ≡ true
-      → by_form m.q (here o.at) m.pool (form o.op) a ≡ Some d → branches_fit m.q (news m) o d ≡ true → onward m.q (news m) d (goes_on (form o.op)) rest ≡ Some next → Walks rest next → Walks (o ∷ rest) arr
+  pub walk_on : (o : Placed) (rest : List Placed) (arr next : Option Frame) (a d : Frame) → begun (declared_at (news m) (pos o.at)) arr ≡ Some a
+      → handlers_fit m.q (y m) (news m) o.at a ≡ true
+      → by_form m.q (here o.at) m.pool (form o.op) a ≡ Some d → branches_fit m.q (news m) o d ≡ true → onward m.q (news m) d (goes_on (form o.op)) rest ≡ Some next
+      → Walks rest next → Walks (o ∷ rest) arr
   unfolding walk step
   walk_on o rest arr next a d b h g led on later =
       let stepped : step m.q (y m) (news m) o rest a ≡ Some next =
@@ -53,13 +55,15 @@ module _ (m : Moving) where
       ∙ ap (or_at o.at (walk m.q (y m) (news m) rest)) stepped ∙ later
 
   -- an instruction that leads on alone, to one at which no frame is declared
-  pub lead_on : (from at : ℕ) (o : Op) (x : Instruction) (next : Placed) (rest : List Placed) (arr : Option Frame) (a d : Frame) → Means m.q m.pool (new m) (to m) from o x → is_plain x ≡ true
+  pub lead_on : (from at : ℕ) (o : Op) (x : Instruction) (next : Placed) (rest : List Placed) (arr : Option Frame) (a d : Frame) → Means m.q m.pool (new m) (to m) from o x
+      → is_plain x ≡ true
       → begun (declared_at (news m) (pos at)) arr ≡ Some a → handlers_fit m.q (y m) (news m) at a ≡ true → rule m.q (here at) x a ≡ Some d
       → declared_at (news m) (pos next.at) ≡ None → Walks (next ∷ rest) (Some d) → Walks (now from at o ∷ next ∷ rest) arr
   unfolding instruction
   lead_on from at o x next rest arr a d means plain b h g none later =
       let goes = plain_goes m.q m.pool (new m) at (form (led (to m) from at o)) x (means at) plain in
-      let gives : by_form m.q (here at) m.pool (form (led (to m) from at o)) a ≡ Some d = sym (form_agrees m.q (here at) m.pool (new m) at (form (led (to m) from at o)) x a (means at)) ∙ g in
+      let gives : by_form m.q (here at) m.pool (form (led (to m) from at o)) a ≡ Some d = sym
+      (form_agrees m.q (here at) m.pool (new m) at (form (led (to m) from at o)) x a (means at)) ∙ g in
       let no_branch : branches_fit m.q (news m) (now from at o) d ≡ true = ap (list_all _) goes.0 in
       let on : onward m.q (news m) d (goes_on (form (led (to m) from at o))) (next ∷ rest) ≡ Some (Some d) =
       ap (λ (v : Bool). onward m.q (news m) d v (next ∷ rest)) goes.1
@@ -83,7 +87,8 @@ module _ (m : Moving) (k : IsMoving m) where
   rest_of at ks is = placed (to m) at (expansions m.s ks is)
 
   -- the first instruction of an expansion stands where it begins
-  pub first_stands : (at : ℕ) (e : Expand) (i : Placed) (ks : List Expand) (is : List Placed) → (o : Placed) × ((os : List Placed) × ((rest_of at (e ∷ ks) (i ∷ is) ≡ o ∷ os) × (o.at ≡ at)))
+  pub first_stands : (at : ℕ) (e : Expand) (i : Placed) (ks : List Expand) (is : List Placed)
+      → (o : Placed) × ((os : List Placed) × ((rest_of at (e ∷ ks) (i ∷ is) ≡ o ∷ os) × (o.at ≡ at)))
   first_stands at Same i ks is = (_, (_, (refl, refl)))
   first_stands at (Call n) i ks is = (_, (_, (refl, refl)))
   first_stands at (Check n) i ks is = (_, (_, (refl, refl)))

@@ -1,3 +1,4 @@
 pub mod Full
 pub mod Places
 pub mod Programs
+pub mod Types

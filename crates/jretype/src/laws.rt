@@ -2,6 +2,7 @@ ghost use Rattle.jprogram.specs.Classes.{Program};
 ghost use Rattle.jretype.specs.Full.{AreReadBack, SaysFull};
 ghost use Rattle.jretype.specs.Places.{GoesAlong};
 ghost use Rattle.jretype.specs.Programs.{AsksTree};
+ghost use Rattle.jretype.specs.Types.{TypesStay};
 
 /// The law of the rule and of places. Of places the rule asks which are the same: where all instructions of a method go elsewhere it gives
 /// the same frames, whose `new`s went with them.
@@ -19,4 +20,9 @@ pub fn program_law()
 pub fn written_law()
     ensures back { AreReadBack }
     ensures full { SaysFull }
+{}
+
+/// The law of types. The moved program is well typed, where the program links, is well typed and breaks no limit.
+pub fn types_law()
+    ensures { TypesStay }
 {}
