@@ -1,0 +1,5 @@
+pub mod Classes
+pub mod Draws
+pub mod Files
+pub mod Items
+pub mod Parts

@@ -1,0 +1,25 @@
+//! Jobs that are made from a number: classes that call one another and check one permission, a policy that grants it to some of them,
+//! and the job that runs them.
+//!
+//! - `Draws`: what is drawn from a seed, and what it says of each class.
+//! - `Items`: what stands in a class file behind its pool, item by item, and the entries that its items put into the pool.
+//! - `Classes`: the class files.
+//! - `Files`: the job, its policy, and all files in their order.
+//! - `Parts`: the parts in which two of the methods are put.
+//!
+//! Proved: `make_job` answers exactly the made files of seed and size, or want of memory, so that equal seeds and sizes make equal bytes.
+//! No pool gets full, and a string's index fits the one byte that it has. That each made class is a class file is shown by tests.
+//!
+//! The top may name it, and tests.
+#![tactic(auto)]
+
+mod adding;
+mod class;
+mod draws;
+mod laying;
+mod making;
+mod methods;
+mod piece;
+mod texts;
+
+pub use making::{MadeFile, MadeJob, make_job};
