@@ -1,5 +1,5 @@
 //! What the programs of this repository do: take the words, make a real shelf and a real sink, call `javasec`, say one sentence on
-//! standard error where a status alone says too little, and end with the status's number.
+//! standard error where a status alone says too little (`jhint`, where something was refused), and end with the status's number.
 //!
 //! Rooms of jobs and the top may name it.
 #![tactic(auto)]
@@ -8,7 +8,11 @@ ghost use Rattle.std.specs.Prelude.{◌≡◌};
 ghost use Rattle.std.specs.Process.{exit_status};
 ghost use Rattle.jshow.specs.Statuses.{number};
 
+mod faults;
+
+use crate::faults::{say_unread, say_unstored};
 use jdriver::{Status, javasec};
+use jhint::say_why;
 use jio::{RealShelf, RealSink};
 use std::alloc::Global;
 use std::process::ExitCode;
@@ -29,21 +33,35 @@ fn words(rt: &HostRuntime, alloc: Global) -> io::Result<Vec<String>> {
 }
 
 /// One sentence on standard error where the status alone says too little. A standard error that is closed changes nothing.
-fn explain(rt: &HostRuntime, status: Status, failed: Option<&str>) {
-    let path = failed.unwrap_or("a file");
+fn explain(rt: &HostRuntime, status: Status) {
     let told = match status {
         Status::Usage => {
             eprintln!(rt;
                 "javasec: the commands are `run JOB`, `check JOB`, `rewrite JOB OUT` and `policy JOB`; the first two take --form=inspect, --form=pass or --form=plain"
             )
         }
-        Status::ReadFault => eprintln!(rt; "javasec: {path} could not be read"),
-        Status::StoreFault => eprintln!(rt; "javasec: {path} could not be stored"),
         Status::WriteFault => eprintln!(rt; "javasec: the output could not be written"),
         Status::OutOfMemory => eprintln!(rt; "javasec: no memory was left"),
         _ => Ok(()),
     };
     let _ = told;
+}
+
+/// The same where the files have to be looked at again.
+fn explain_files(
+    rt: &HostRuntime,
+    status: Status,
+    words: &[String],
+    shelf: &mut RealShelf<'_, HostRuntime>,
+) {
+    let alloc = rt.alloc();
+    let mut errors = RealSink::new(rt.stderr());
+    match status {
+        Status::Refused => say_why(alloc, words, shelf, &mut errors),
+        Status::ReadFault => say_unread(rt, shelf.failed(), &mut errors),
+        Status::StoreFault => say_unstored(rt, shelf.failed(), &mut errors),
+        _ => {}
+    }
 }
 
 /// The number with which the process ends.
@@ -58,12 +76,13 @@ fn code_of(status: Status) -> ExitCode
 pub fn run(rt: &HostRuntime) -> ExitCode {
     let alloc = rt.alloc();
     let Ok(words) = words(rt, alloc) else {
-        explain(rt, Status::OutOfMemory, None);
+        explain(rt, Status::OutOfMemory);
         return code_of(Status::OutOfMemory);
     };
     let mut shelf = RealShelf::new(rt);
     let mut sink = RealSink::new(io::writer(rt));
     let status = javasec(alloc, &words, &mut shelf, &mut sink);
-    explain(rt, status, shelf.failed());
+    explain(rt, status);
+    explain_files(rt, status, &words, &mut shelf);
     code_of(status)
 }

@@ -1,0 +1,30 @@
+//! What there is to mend, in words: after a command was refused, its refusal again, with what the files say of the place.
+//!
+//! `say_why` does the command's task again over the shelf. A refused line of a job is told with its rule, a token of a policy with what
+//! could stand there, a byte of a class file with the part of the file in which it stands, a class or a member that is missing with its
+//! name, an instruction with what it takes. The room has no definitions.
+//!
+//! Proved: it ends, and leaves the shelf's files and its faults of writing as they were. What it says is in no clause. A line goes out
+//! whole or not at all, but for a fault of the sink; where memory runs out nothing is said. Names and paths are written as texts are in
+//! lines, and cut where they are long.
+//!
+//! jmain alone may name it.
+#![tactic(auto)]
+
+mod checks;
+mod classes;
+mod files;
+mod leftouts;
+mod limits;
+mod lines;
+mod links;
+mod mains;
+mod opcodes;
+mod outline;
+mod policies;
+mod references;
+mod said;
+mod scene;
+mod why;
+
+pub use why::{say_file, say_why};
