@@ -25,11 +25,17 @@ out=/dev/null
 check 0 '' policy audit.job
 check 2 "$commands"
 check 2 "$commands" rewrite job
-check 7 'javasec: nowhere could not be read' rewrite nowhere out
-check 9 'javasec: /dev/null/d0/app/Main.class could not be stored' rewrite plugin.job /dev/null
-check 7 'javasec: nowhere could not be read' policy nowhere
-check 7 'javasec: nowhere could not be read' run --form=inspect -- nowhere
-check 7 'javasec: nowhere could not be read' check nowhere
+check 7 'javasec: nowhere could not be read: nothing is there' rewrite nowhere out
+check 9 'javasec: /dev/null/d0/app/Main.class could not be stored: a file stands where a folder is wanted' rewrite plugin.job /dev/null
+check 7 'javasec: nowhere could not be read: nothing is there' policy nowhere
+check 7 'javasec: nowhere could not be read: nothing is there' run --form=inspect -- nowhere
+check 7 'javasec: nowhere could not be read: nothing is there' check nowhere
+check 7 'javasec: memory could not be read: it is a folder' policy memory
+check 7 'javasec: audit.job/job could not be read: a file stands where a folder is wanted' policy audit.job/job
+check 7 'javasec: \u001b[31m could not be read: nothing is there' policy "$(printf '\033[31m')"
+long=$(mktemp) && truncate -s 67108865 "$long"
+check 7 "javasec: $long could not be read: it has more than 67,108,864 bytes" policy "$long"
+rm "$long"
 out=/dev/full
 check 8 'javasec: the output could not be written' policy audit.job
 
