@@ -1,35 +1,29 @@
 -- What an act comes to, by what it leaves.
-use Rattle.std.proofs.Common.{◌≡◌, ◌≢◌, ◌⊎◌, ℕ, zero, suc, ◌+◌, inl, inr, arith, Bool, true, false, List, [], ◌∷◌, ◌++◌, length, Option, Some, None, option_map, refl, sym, ap, subst, ◌∙◌}
+use Rattle.std.proofs.Common.{◌≡◌, ◌≢◌, ℕ, suc, ◌+◌, arith, Bool, true, false, List, [], ◌∷◌, ◌++◌, length, Option, Some, None, refl, sym, ap, subst, ◌∙◌}
 use Rattle.std.specs.Option.{option_to_list}
-use Rattle.std.specs.Prelude.{nat_le, option_and_then, slice_get, if◌then◌else◌}
+use Rattle.std.specs.Prelude.{nat_le, if◌then◌else◌}
 use Rattle.std.proofs.lemmas.List.{length-append}
 use Rattle.jlib.specs.declared.classes.LibClass.{LibClass}
 use Rattle.jlib.specs.declared.classes.LibClass.TheVariants as lib
 use Rattle.jops.specs.declared.value.Value.{Value}
 use Rattle.jops.specs.declared.value.Value.TheVariants.{Ref}
-use Rattle.jthreads.specs.declared.thread.Thread.{Thread}
 use Rattle.jtrace.specs.declared.event.Event.{Event}
 use Rattle.jtrace.specs.declared.event.End.TheVariants.{HeapFull}
 use Rattle.jtypes.specs.declared.vtype.VType.{VType}
-use Rattle.jclass.specs.declared.class.ClassParts.{ClassParts}
-use Rattle.jclass.specs.declared.class.CodeBody.{CodeBody}
 use Rattle.jprogram.specs.declared.member.MethodId.{MethodId}
-use Rattle.jprogram.specs.declared.part.CodePart.{CodePart}
 use Rattle.jprogram.specs.Classes.{Program}
-use Rattle.jprogram.specs.Parts.{code_of}
-use Rattle.juses.specs.Instructions.{body_in, code_at}
 use Rattle.jrule.specs.Uses.{string, throwable}
 use Rattle.jmachine.specs.declared.plan.Plan.{Plan}
-use Rattle.jmachine.specs.Acts.{Act, Calls, FrameOf, Goes, GuestOf, Jumps, Leaves, Makes, Outcome, Over, Raises, Row, State, Switches, Throws, charge_of}
+use Rattle.jmachine.specs.Acts.{Act, Calls, FrameOf, Goes, Jumps, Leaves, Makes, Over, Raises, Row, State, Switches, Throws, charge_of}
 use Rattle.jmachine.specs.Frames.{all_marked, begun, domain_of, frame_of, marked, onward, standing}
 use Rattle.jmachine.specs.Objects.{Object, Text, Thrown, class_of}
 use Rattle.jmachine.specs.Security.{Rules}
-use Rattle.jmachine.specs.Steps.{acted, applied, left, pushed, raised, thrown, thrown_at, thrown_to, went}
+use Rattle.jmachine.specs.Steps.{acted, applied, left, pushed, raised, thrown, thrown_at, thrown_to}
 use Rattle.jmachine.specs.Store.{Store, next_number, object_at, paid, with_made}
 use Rattle.jmachine.specs.Turns.{with_running, with_table}
-use Rattle.jmachine.specs.Unwinding.{resumed, told_name, unwound, with_raised}
+use Rattle.jmachine.specs.Unwinding.{resumed, unwound, with_raised}
 use Rattle.jmachine.specs.World.{world}
-use Rattle.jtyped.specs.Calling.{Coded, IsGiven, method}
+use Rattle.jtyped.specs.Calling.{IsGiven, method}
 use Rattle.jtyped.specs.Going.{inside}
 use Rattle.jtyped.specs.Growing.{Grows}
 use Rattle.jtyped.specs.States.{AreGuarded, AreStacked, Awaits, Guarded, Older, Stands, returns_at}
@@ -43,8 +37,8 @@ use Rattle.jyield.proofs.Following.{is_named, made_at}
 use Rattle.jyield.proofs.Objects.{named}
 use Rattle.jyield.proofs.Orders.{orders}
 use Rattle.jyield.proofs.Rows.{a_null}
-use Rattle.jsafe.specs.Sound.{IsSound}
-use Rattle.jsafe.specs.States.{ComesTo, IsGuest, IsTypedState, MayBegin}
+use Rattle.jsafe.proofs.Founded.{IsFounded}
+use Rattle.jsafe.specs.States.{ComesTo, IsTypedState, MayBegin}
 use Rattle.jsafe.proofs.Begun.{begun_is, frame_stands}
 use Rattle.jsafe.proofs.Paid.{grows_paid, stored_paid}
 use Rattle.jsafe.proofs.Raising.{raised_fits}
@@ -55,7 +49,7 @@ use Rattle.jsafe.proofs.Threads.{ended_stays, joined_by, may_later, ran, tabled,
 last_at : {K : Type 0} (s : Store K) (x : Object K) → length (with_made s x).objects ≡ next_number s
 last_at s x = length-append s.objects (x ∷ [])
 
-module _ {K : Type 0} (p : Program) (sound : IsSound p) (statics : List VType) where
+module _ {K : Type 0} (p : Program) (sound : IsFounded p) (statics : List VType) where
   -- a store with a new exception, which is its last object
   pub record IsRaised (s t : Store K) (class : LibClass) : Type 0 where
     pub grows : Grows (world p) s t
@@ -96,7 +90,7 @@ module _ {K : Type 0} (p : Program) (sound : IsSound p) (statics : List VType) w
 
 -- ---- acts
 
-module _ {K E : Type 0} (r : Rules K E) (p : Program) (plan : Plan) (s : State K E) (sound : IsSound p) (state : IsTypedState p r.side s) where
+module _ {K E : Type 0} (r : Rules K E) (p : Program) (plan : Plan) (s : State K E) (sound : IsFounded p) (state : IsTypedState p r.side s) where
   -- what stands above, and awaits what it called
   abbrev pub IsPushed : MethodId → List (Value K) → FrameOf K E → Type 0
   IsPushed m arguments f = (ret : Option VType) × IsGiven p s.store m ret arguments × Awaits p s.store ret f

@@ -1,22 +1,18 @@
 -- A frame that is pushed stands at the first instruction of its method.
-use Rattle.std.proofs.Common.{◌≡◌, ℕ, pos, List, Option, Some, None, refl, sym, ap, subst, ◌∙◌}
-use Rattle.std.specs.List.{AllByRecursion}
+use Rattle.std.proofs.Common.{◌≡◌, pos, List, Option, Some, None, refl, ap, ◌∙◌}
 use Rattle.std.specs.Option.{IsSome}
 use Rattle.std.specs.Prelude.{option_and_then, option_map, slice_get}
 use Rattle.jclass.specs.declared.class.ClassParts.{ClassParts}
 use Rattle.jprogram.specs.declared.part.CodePart.{CodePart}
 use Rattle.jprogram.specs.Parts.{code_of}
 use Rattle.juses.specs.Instructions.{body_in, code_at}
-use Rattle.jcode.specs.declared.op.Placed.{Placed}
 use Rattle.jops.specs.declared.value.Value.{Value}
 use Rattle.jtypes.specs.declared.vtype.VType.{VType}
-use Rattle.jtypes.specs.Frames.{Frame}
 use Rattle.jprogram.specs.declared.member.MethodId.{MethodId}
-use Rattle.jprogram.specs.Classes.{Program, tree}
+use Rattle.jprogram.specs.Classes.{Program}
 use Rattle.jtyping.specs.Declared.{declared_at, first_frame, written}
-use Rattle.jtyping.specs.Typed.{Arrives, IsTyped}
+use Rattle.jtyping.specs.Typed.{IsTyped}
 use Rattle.jtyping.proofs.Chosen.{also_at}
-use Rattle.jmachine.specs.Acts.{FrameOf}
 use Rattle.jmachine.specs.Frames.{begun, frame_of}
 use Rattle.jmachine.specs.Store.{Store}
 use Rattle.jmachine.specs.World.{world}
@@ -27,14 +23,14 @@ use Rattle.jtyped.specs.States.{Stands}
 use Rattle.jtyped.proofs.Beginning.{frames_begin}
 use Rattle.jtyped.proofs.Going.{arrived_at}
 use Rattle.jtyped.proofs.States.{coded_dimensions}
-use Rattle.jsafe.specs.Sound.{IsSound}
+use Rattle.jsafe.proofs.Founded.{IsFounded}
 
 pub there_is : {A : Type 0} (o : Option A) → IsSome o → (x : A) × (o ≡ Some x)
 there_is None h = absurd (cc)
 there_is (Some x) h = (x, refl)
 
 -- methods with code are well typed
-pub code_typed : (p : Program) → IsSound p → (m : MethodId) (x : Coded p m) → IsTyped p (method p m x)
+pub code_typed : (p : Program) → IsFounded p → (m : MethodId) (x : Coded p m) → IsTyped p (method p m x)
 code_typed p sound m x = sound.well_typed x.part x.info x.body (m.class, x.stands) (m.method, x.declared) x.code
 
 pub code_is : (p : Program) (m : MethodId) (x : Coded p m) → code_at p m ≡ Some x.body
@@ -45,7 +41,7 @@ pub begun_is : {K E : Type 0} (p : Program) (m : MethodId) (x : Coded p m) (entr
     → begun p m entry arguments ≡ Some (frame_of m entry arguments x.body)
 begun_is p m x entry arguments = ap (option_map (frame_of m entry arguments)) (code_is p m x)
 
-pub frame_stands : {K E : Type 0} (p : Program) (sound : IsSound p) (s : Store K) (m : MethodId) (ret : Option VType) (entry : E) (arguments : List (Value K)) (given : IsGiven p s m ret arguments)
+pub frame_stands : {K E : Type 0} (p : Program) (sound : IsFounded p) (s : Store K) (m : MethodId) (ret : Option VType) (entry : E) (arguments : List (Value K)) (given : IsGiven p s m ret arguments)
     → Stands p s (frame_of m entry arguments given.coded.body)
 frame_stands {K} {E} p sound s m ret entry arguments given =
     let x = given.coded in

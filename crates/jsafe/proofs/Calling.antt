@@ -1,27 +1,23 @@
 -- Calls leave frames that stand or await what they called.
-use Rattle.std.proofs.Common.{◌≡◌, ◌≢◌, ◌⊎◌, ℕ, zero, suc, ◌+◌, pos, inl, inr, arith, Bool, true, false, List, [], ◌∷◌, ◌++◌, length, Option, Some, None, option_map, refl, sym, ap, subst, ◌∙◌}
-use Rattle.std.specs.Bool.{⊤}
+use Rattle.std.proofs.Common.{◌≡◌, ℕ, suc, ◌+◌, pos, inr, arith, Bool, true, false, List, [], ◌∷◌, ◌++◌, length, Option, Some, None, refl, sym, ap, subst, ◌∙◌}
 use Rattle.std.specs.List.{AllByRecursion}
 use Rattle.std.specs.Option.{option_to_list}
-use Rattle.std.specs.Prelude.{option_and_then, slice_get, if◌then◌else◌}
+use Rattle.std.specs.Prelude.{if◌then◌else◌}
 use Rattle.std.specs.Str.{bytes_eq}
 use Rattle.jlib.specs.declared.calls.LibCall.{LibCall}
 use Rattle.jlib.specs.declared.calls.LibCall.TheVariants as calls
-use Rattle.jlib.specs.declared.classes.LibClass.{LibClass}
 use Rattle.jlib.specs.declared.classes.LibClass.TheVariants as lib
 use Rattle.jlib.specs.declared.side.Side.{Side}
 use Rattle.jlib.specs.declared.side.Side.TheVariants.{Source, Passing}
 use Rattle.jlib.specs.Calls as library_calls
 use Rattle.jops.specs.declared.value.Value.{Value}
 use Rattle.jops.specs.declared.value.Value.TheVariants.{Ref}
-use Rattle.jtypes.specs.declared.vtype.Name.{Name}
 use Rattle.jtypes.specs.declared.vtype.VType.{VType}
 use Rattle.jtypes.specs.declared.vtype.VType.TheVariants as types
-use Rattle.jtypes.specs.Frames.{Frame}
 use Rattle.jprogram.specs.declared.member.Member.{Member}
 use Rattle.jprogram.specs.declared.member.MethodId.{MethodId}
 use Rattle.jprogram.specs.Classes.{Program}
-use Rattle.jprogram.specs.Members.{desc_of, init}
+use Rattle.jprogram.specs.Members.{init}
 use Rattle.juses.specs.declared.meaning.How.{How}
 use Rattle.juses.specs.declared.meaning.How.TheVariants as how
 use Rattle.juses.specs.Meanings.{CallMeaning}
@@ -30,41 +26,38 @@ use Rattle.jrule.specs.Here.{Here}
 use Rattle.jrule.specs.Uses.{of_library}
 use Rattle.jtyping.specs.Declared.{declared_at, written}
 use Rattle.jtyping.specs.Methods.{here_of}
-use Rattle.jtyping.specs.Typed.{Continues, IsTyped}
 use Rattle.jmachine.specs.declared.plan.Plan.{Plan}
-use Rattle.jmachine.specs.Acts.{Act, Calls, FrameOf, Goes, Jumps, Leaves, Makes, Raises, Row, State, Switches, Throws, free, raises}
-use Rattle.jmachine.specs.Calls as machine
+use Rattle.jmachine.specs.Acts.{Act, Calls, FrameOf, Goes, Makes, Raises, Row, State, Switches, free, raises}
 use Rattle.jmachine.specs.Calls.{Fails, Pushes, Runs, Target, by_interface}
-use Rattle.jmachine.specs.Doing.{Doing, called, run}
+use Rattle.jmachine.specs.Doing.{called, run}
 use Rattle.jmachine.specs.Frames.{onward, with_operands}
 use Rattle.jmachine.specs.Objects.{Object}
 use Rattle.jmachine.specs.Privileges.{run_action}
 use Rattle.jmachine.specs.Security.{Rules, handed}
 use Rattle.jmachine.specs.Sites.{Site}
-use Rattle.jmachine.specs.Store.{Store, object_at}
+use Rattle.jmachine.specs.Store.{Store}
 use Rattle.jmachine.specs.World.{world}
-use Rattle.jtyped.specs.Calling.{Coded, IsBegunBy, IsGiven, IsInitTarget, IsRun, IsTarget, method}
-use Rattle.jtyped.specs.Frames.{AllHave, AllHold, Has, Holds, IsBelow, IsMade, News, Suits}
-use Rattle.jtyped.specs.Going.{SuitsAt, inside}
+use Rattle.jtyped.specs.Calling.{Coded, IsGiven, IsInitTarget, IsTarget, method}
+use Rattle.jtyped.specs.Frames.{AllHave, AllHold, Has, Holds, News, Suits}
+use Rattle.jtyped.specs.Going.{inside}
 use Rattle.jtyped.specs.Growing.{Grows}
-use Rattle.jtyped.specs.States.{Awaits, Guarded, Stands, returns_at}
+use Rattle.jtyped.specs.States.{Awaits, Guarded, Stands}
 use Rattle.jtyped.specs.Stores.{IsStored}
 use Rattle.jtyped.specs.Uses.{static_types}
-use Rattle.jtyped.specs.Values.{AreOf, CanBeThrown, HasDimensions, IsA, is_whole}
-use Rattle.jtyped.proofs.Calling.{have_all, receiver_is}
-use Rattle.jtyped.proofs.Dimensions.{IsTypedNamed, typed_named}
+use Rattle.jtyped.specs.Values.{AreOf, HasDimensions, IsA}
+use Rattle.jtyped.proofs.Calling.{have_all}
+use Rattle.jtyped.proofs.Dimensions.{IsTypedNamed}
 use Rattle.jtyped.proofs.Going.{arrived_at}
-use Rattle.jtyped.proofs.Growing.{all_kept, grows_itself, have_kept, serves_kept}
+use Rattle.jtyped.proofs.Growing.{all_kept, grows_itself, have_kept}
 use Rattle.jtyped.proofs.Having.{have_given}
 use Rattle.jtyped.proofs.States.{coded_dimensions}
 use Rattle.jyield.specs.Given.{way_of}
 use Rattle.jyield.specs.Laws.{AreSided}
-use Rattle.jyield.specs.Yields.{Follows, IsAction, IsReadied, Yields, YieldsOf, run_given}
-use Rattle.jyield.proofs.Chosen.{action_users}
+use Rattle.jyield.specs.Yields.{IsAction, IsReadied, YieldsOf, run_given}
 use Rattle.jyield.proofs.Coming.{inits_yield, runs_yield}
 use Rattle.jyield.proofs.Rows.{a_context}
-use Rattle.jsafe.specs.Sound.{IsSound}
-use Rattle.jsafe.specs.States.{IsTypedState, MayBegin}
+use Rattle.jsafe.proofs.Founded.{IsFounded}
+use Rattle.jsafe.specs.States.{IsTypedState}
 use Rattle.jsafe.proofs.Acting.{After}
 use Rattle.jsafe.proofs.Executing.{stands_by}
 use Rattle.jsafe.proofs.Interfaces.{interface_comes}
@@ -119,7 +112,7 @@ ret_dimensions p t params ret e h = go ret (subst (λ t. IsTypedNamed p t) e h)
 -- ---- frames that await
 
 -- with what was awaited, a frame goes on
-pub goes_onward : {K E : Type 0} (p : Program) → IsSound p → (t : Store K) (f : FrameOf K E) (ret : Option VType) (values : List (Value K)) → (x : Awaits p t ret f)
+pub goes_onward : {K E : Type 0} (p : Program) → IsFounded p → (t : Store K) (f : FrameOf K E) (ret : Option VType) (values : List (Value K)) → (x : Awaits p t ret f)
     → AreOf (world p) t (option_to_list ret) values → AllByRecursion HasDimensions (option_to_list ret) → Stands p t (onward f values)
 goes_onward p sound t f ret values x are dims =
     let m = method p f.method x.coded in
@@ -161,7 +154,7 @@ handed_kept p t Passing kept = (a_context (world p) t kept, tt)
 
 -- ---- what the library's rows leave
 
-module _ {K E : Type 0} (r : Rules K E) (p : Program) (plan : Plan) (s : State K E) (sound : IsSound p) (state : IsTypedState p r.side s) (on_side : r.side ≡ p.side) where
+module _ {K E : Type 0} (r : Rules K E) (p : Program) (plan : Plan) (s : State K E) (sound : IsFounded p) (state : IsTypedState p r.side s) (on_side : r.side ≡ p.side) where
   abbrev Left : FrameOf K E → Act K E → Type 0
   Left f act = After r p plan s sound state f act
 

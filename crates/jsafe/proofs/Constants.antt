@@ -1,5 +1,5 @@
 -- A static holds at first what is of its type: a class file is one only where constants suit their fields (JVMS 4.7.2).
-use Rattle.std.proofs.Common.{◌≡◌, ◌⊎◌, ◌+◌, ℕ, zero, suc, pos, Bool, true, false, cond, ◌||◌, inl, inr, List, [], ◌∷◌, ◌++◌, length, map, Option, Some, None, refl, sym, ap, subst, ◌∙◌}
+use Rattle.std.proofs.Common.{◌≡◌, ◌⊎◌, ◌+◌, ℕ, pos, Bool, true, false, cond, ◌||◌, inl, inr, List, [], ◌∷◌, ◌++◌, length, map, Option, Some, None, refl, sym, ap, subst, ◌∙◌}
 use Rattle.std.specs.Prelude.{IsTrue, codes, is_some, option_and_then, option_map, slice_get, unwrap_or}
 use Rattle.std.specs.List.{AllByRecursion, filter, flat_map, list_all}
 use Rattle.std.specs.Str.{bytes_eq}
@@ -29,14 +29,13 @@ use Rattle.jclass.specs.Class.{TailParts, class_file, class_parts, strict, tail}
 use Rattle.jclass.specs.Judging as judging
 use Rattle.jclass.specs.Members.{field, method}
 use Rattle.jclass.specs.Rules.{field_descriptor, is_int, names_class, names_super, suits, suits_field, suits_type}
-use Rattle.jclass.specs.Stored.{IsIn}
 use Rattle.jlib.specs.declared.classes.LibClass.TheVariants as lib
 use Rattle.jtypes.specs.declared.vtype.Element.{Element}
 use Rattle.jtypes.specs.declared.vtype.Element.TheVariants as elements
 use Rattle.jtypes.specs.declared.vtype.VType.{VType}
 use Rattle.jtypes.specs.declared.vtype.VType.TheVariants as types
 use Rattle.jprogram.specs.declared.part.CodePart.{CodePart}
-use Rattle.jprogram.specs.Classes.{Class, Program, find}
+use Rattle.jprogram.specs.Classes.{Class, Program}
 use Rattle.jprogram.specs.Parts.{member_desc, or_empty, text}
 use Rattle.jprogram.specs.Standing.{StandsInOrder}
 use Rattle.jprogram.proofs.Standing.{lib_find, not_taken}
@@ -50,7 +49,7 @@ use Rattle.jmachine.specs.Narrowing.{default, narrowed}
 use Rattle.jmachine.specs.Objects.{Object, Text}
 use Rattle.jmachine.specs.Opening.{constant_of, first_value, value_in, value_of, values_in}
 use Rattle.jmachine.specs.Store.{Store, constant_at, object_at}
-use Rattle.jmachine.specs.World.{World, world}
+use Rattle.jmachine.specs.World.{world}
 use Rattle.jtyped.specs.Uses.{static_types}
 use Rattle.jtyped.specs.Values.{AreOf, IsA}
 use Rattle.jyield.proofs.Following.{is_named}

@@ -1,40 +1,29 @@
 -- An instruction of a frame that stands is done, and what it does leaves frames that stand.
-use Rattle.std.proofs.Common.{◌≡◌, ◌≢◌, ◌⊎◌, ◌<◌, ℕ, zero, suc, ◌+◌, pos, inl, inr, arith, Bool, true, false, not, ◌||◌, ◌&&◌, List, [], ◌∷◌, ◌++◌, length, Option, Some, None, option_map, refl, sym, ap, subst, ◌∙◌}
-use Rattle.std.specs.Bool.{⊤}
-use Rattle.std.specs.List.{AllByRecursion}
-use Rattle.std.specs.Option.{IsSome, option_to_list}
+use Rattle.std.proofs.Common.{◌≡◌, ◌<◌, ℕ, zero, suc, ◌+◌, arith, Bool, true, false, not, ◌||◌, ◌&&◌, List, [], ◌∷◌, length, Some, None, option_map, refl, sym, ap, subst, ◌∙◌}
 use Rattle.std.specs.Prelude.{nat_lt, option_and_then, slice_get, if◌then◌else◌}
 use Rattle.std.specs.Str.{bytes_eq}
 use Rattle.std.proofs.lemmas.Bool.{lt-ltb}
 use Rattle.jclass.specs.declared.class.ClassParts.{ClassParts}
-use Rattle.jclass.specs.declared.class.CodeBody.{CodeBody}
 use Rattle.jcode.specs.declared.op.Placed.{Placed}
-use Rattle.jops.specs.declared.value.Value.{Value}
-use Rattle.jops.specs.declared.value.Value.TheVariants.{Ref}
-use Rattle.jtypes.specs.declared.vtype.VType.{VType}
 use Rattle.jtypes.specs.Frames.{Frame}
-use Rattle.jprogram.specs.declared.member.Member.{Member}
 use Rattle.jprogram.specs.declared.member.Member.TheVariants.{Method as AMethod}
 use Rattle.jprogram.specs.declared.member.MethodId.{MethodId}
-use Rattle.jprogram.specs.declared.part.ClassRef.TheVariants as refs
 use Rattle.jprogram.specs.declared.part.CodePart.{CodePart}
-use Rattle.jprogram.specs.Classes.{Program, name_at}
-use Rattle.jprogram.specs.Members.{init, is_static, name_of, part_of}
-use Rattle.jprogram.specs.Parts as parts
+use Rattle.jprogram.specs.Classes.{Program}
+use Rattle.jprogram.specs.Members.{init, is_static}
 use Rattle.jprogram.specs.Parts.{code_of, member_name, this_name}
 use Rattle.juses.specs.Instructions.{Instruction, body_in, code_at, goes_on, instruction, instruction_at, instruction_in}
 use Rattle.juses.specs.Typed.{name}
-use Rattle.jrule.specs.Here.{Here}
-use Rattle.jrule.specs.Rule.{is_own, rule}
+use Rattle.jrule.specs.Rule.{is_own}
 use Rattle.jtyping.specs.Declared.{written}
 use Rattle.jtyping.specs.Methods as typing
 use Rattle.jtyping.specs.Methods.{here_of}
-use Rattle.jtyping.specs.Typed.{AreFrames, Continues, IsTyped, Serves}
+use Rattle.jtyping.specs.Typed.{IsTyped, Serves}
 use Rattle.jtyping.proofs.Chosen.{also_at}
 use Rattle.jtyping.proofs.Successors.{number_onward}
 use Rattle.jmachine.specs.Acts.{FrameOf}
 use Rattle.jmachine.specs.Sites.{Site}
-use Rattle.jmachine.specs.Steps.{fetched, has_next, is_followed, is_init, own_fields, unless_last}
+use Rattle.jmachine.specs.Steps.{fetched, has_next, is_init, own_fields, unless_last}
 use Rattle.jmachine.specs.Store.{Store}
 use Rattle.jmachine.specs.World.{world}
 use Rattle.jtyped.specs.Calling.{Coded, method}
@@ -43,7 +32,8 @@ use Rattle.jtyped.specs.Frames.{AllHold, News}
 use Rattle.jtyped.specs.Laws.{IsAt}
 use Rattle.jtyped.specs.States.{Guarded, Stands}
 use Rattle.jtyped.proofs.Selected.{name_is, static_is, user_name}
-use Rattle.jsafe.specs.Sound.{IsSaid, IsSound}
+use Rattle.jsafe.specs.Sound.{IsSaid}
+use Rattle.jsafe.proofs.Founded.{IsFounded}
 use Rattle.jsafe.proofs.Begun.{there_is}
 
 lt_at : {A : Type 0} (xs : List A) (n : ℕ) (x : A) → slice_get xs n ≡ Some x → n < length xs
@@ -59,7 +49,7 @@ suc_is n = omega arith
 
 -- ---- what is fetched
 
-module _ (p : Program) (sound : IsSound p) (m : MethodId) (x : Coded p m) (typed : IsTyped p (method p m x)) (n : ℕ) (shape : Frame) (there : slice_get typed.frames n ≡ Some shape) where
+module _ (p : Program) (sound : IsFounded p) (m : MethodId) (x : Coded p m) (typed : IsTyped p (method p m x)) (n : ℕ) (shape : Frame) (there : slice_get typed.frames n ≡ Some shape) where
   -- the instruction of a number that has a frame
   pub record IsFetched : Type 0 where
     pub op : Placed

@@ -1,12 +1,10 @@
 -- Where `run` is called by an interface, a method of a user is given what its descriptor says.
-use Rattle.std.proofs.Common.{◌≡◌, ℕ, zero, suc, Bool, true, false, List, [], ◌∷◌, ◌++◌, map, Option, Some, None, refl, sym, ap, subst, ◌∙◌}
+use Rattle.std.proofs.Common.{◌≡◌, ℕ, zero, suc, true, false, List, [], ◌∷◌, ◌++◌, map, Option, Some, refl, sym, ap, subst, ◌∙◌}
 use Rattle.std.specs.List.{AllByRecursion}
 use Rattle.std.specs.Str.{bytes_eq}
 use Rattle.std.specs.Prelude.{option_and_then, option_map}
 use Rattle.jlib.specs.declared.calls.LibCall.{LibCall}
-use Rattle.jlib.specs.declared.calls.LibCall.TheVariants as calls
 use Rattle.jlib.specs.declared.classes.LibClass.{LibClass}
-use Rattle.jlib.specs.declared.classes.LibClass.TheVariants as lib
 use Rattle.jlib.specs.declared.side.Side.{Side}
 use Rattle.jlib.specs.declared.side.Side.TheVariants.{Source, Passing}
 use Rattle.jlib.specs.Calls as library_calls
@@ -22,21 +20,21 @@ use Rattle.jlink.specs.Called.{IsNamedCall}
 use Rattle.juses.specs.declared.meaning.How.TheVariants as how
 use Rattle.juses.specs.Meanings.{CallMeaning}
 use Rattle.juses.specs.Typed.{Called, typed}
-use Rattle.jrule.specs.Effects.{Fits, Want}
-use Rattle.jrule.specs.Uses.{arguments, of_library, receiver}
+use Rattle.jrule.specs.Effects.{Fits}
+use Rattle.jrule.specs.Uses.{of_library}
 use Rattle.jmachine.specs.Calls as machine
-use Rattle.jmachine.specs.Calls.{Fails, Pushes, Runs, Target, by_interface, on_value, target}
+use Rattle.jmachine.specs.Calls.{Target, by_interface, on_value, target}
 use Rattle.jmachine.specs.Objects.{Object, library_name}
 use Rattle.jmachine.specs.Sites.{Site}
-use Rattle.jmachine.specs.Store.{Store, object_at, object_of}
+use Rattle.jmachine.specs.Store.{Store, object_at}
 use Rattle.jmachine.specs.World.{world}
-use Rattle.jtyped.specs.Calling.{IsCall, IsGiven, IsTarget}
+use Rattle.jtyped.specs.Calling.{IsCall, IsTarget}
 use Rattle.jtyped.specs.Fitting.{IsValueType}
 use Rattle.jtyped.specs.Laws.{HasCode}
 use Rattle.jtyped.specs.Values.{AllServe, AreOf, HasDimensions, IsA}
 use Rattle.jtyped.proofs.Calling.{calls_come, receiver_is}
 use Rattle.jyield.specs.Yields.{run_given}
-use Rattle.jsafe.specs.Sound.{IsSound}
+use Rattle.jsafe.proofs.Founded.{IsFounded}
 
 -- a member that both sides call `run`
 pub record IsRunOf (p : Program) (owner : LibClass) (call : LibCall) (ret : Option VType) : Type 0 where
@@ -83,7 +81,7 @@ module _ (p : Program) (owner : LibClass) (call : LibCall) (ret : Option VType) 
     library = λ x e code. absurd (run.code (subst HasCode (sym (same_call call x e)) code));
   }
 
-  module _ {K : Type 0} (sound : IsSound p) (at : Site) (s : Store K) (in_world : at.world ≡ world p) where
+  module _ {K : Type 0} (sound : IsFounded p) (at : Site) (s : Store K) (in_world : at.world ≡ world p) where
     serves_all : (ts : List VType) (vs : List (Value K)) (n : ℕ) → AreOf (world p) s ts vs → IsA (world p) s (of_library owner) (Ref n)
         → AllServe (world p) s (map Fits ts ++ Fits (types.Object (library_name owner)) ∷ []) (vs ++ Ref n ∷ [])
     serves_all [] [] n are is = (is, tt)

@@ -1,11 +1,9 @@
 -- The state in which a run begins is typed.
-use Rattle.std.proofs.Common.{◌≡◌, ◌≢◌, ◌⊎◌, ℕ, zero, suc, ◌+◌, inl, inr, arith, Bool, true, false, ◌&&◌, List, [], ◌∷◌, ◌++◌, length, map, reverse, get_or, Option, Some, None, is_some, refl, sym, ap, subst, ◌∙◌}
-use Rattle.std.specs.Bool.{⊤}
+use Rattle.std.proofs.Common.{◌≡◌, ℕ, zero, suc, ◌+◌, inl, arith, Bool, true, false, ◌&&◌, List, [], ◌∷◌, ◌++◌, length, map, reverse, get_or, Option, Some, None, is_some, refl, sym, ap, subst, ◌∙◌}
 use Rattle.std.specs.List.{AllByRecursion, position, range_with_len, zip}
-use Rattle.std.specs.Prelude.{IsTrue, codes, option_map, slice_get, if◌then◌else◌}
+use Rattle.std.specs.Prelude.{codes, option_map, slice_get, if◌then◌else◌}
 use Rattle.std.specs.Str.{bytes_eq}
 use Rattle.std.proofs.lemmas.Slice.Eq.{bytes_eq-Decides}
-use Rattle.jclass.specs.Class.{class_file}
 use Rattle.jclass.specs.Stored.{IsIn}
 use Rattle.jlib.specs.declared.classes.LibClass.TheVariants as lib
 use Rattle.jops.specs.declared.value.Value.{Value}
@@ -16,7 +14,7 @@ use Rattle.jprogram.specs.declared.part.CodePart.{CodePart}
 use Rattle.jprogram.specs.Classes.{Program}
 use Rattle.jmachine.specs.Fields.{out}
 use Rattle.jmachine.specs.Objects.{Object, Array, Bare, Text}
-use Rattle.jmachine.specs.Opening.{arguments_number, arguments_type, constants_of, first_objects, only, opening_state, opening_store, strings}
+use Rattle.jmachine.specs.Opening.{arguments_number, arguments_type, constants_of, only, opening_state, opening_store, strings}
 use Rattle.jmachine.specs.Store.{Store, constant_at, object_at}
 use Rattle.jmachine.specs.World.{fits, world}
 use Rattle.jtyped.specs.Stores.{IsObject, IsStored}
@@ -52,8 +50,7 @@ use Rattle.jyield.proofs.Following.{is_named}
 use Rattle.jyield.proofs.Orders.{orders}
 use Rattle.jyield.proofs.Rows.{a_context}
 use Rattle.jyield.proofs.Signed.{main_passed_says, main_says}
-use Rattle.jsafe.specs.Sound.{IsSound}
-use Rattle.jsafe.specs.Begins.{ArePlain, CanOpen}
+use Rattle.jsafe.proofs.Founded.{IsFounded, founded}
 use Rattle.jsafe.specs.States.{OpensTyped}
 use Rattle.jsafe.proofs.Begun.{begun_is, frame_stands}
 use Rattle.jsafe.proofs.Constants.{AreMade, parts_are}
@@ -121,10 +118,10 @@ module _ (p : Program) (K : Type 0) (heap : ℕ) where
   objects_are (suc zero) x e = subst (IsObject (world p) begun_store) (some_is (Bare lib.PrintStream) x e) tt
   objects_are (suc (suc k)) x e = texts_are (strings p) k x e
 
-  pub opening_stored : IsSound p → CanOpen p → IsStored (world p) begun_store (static_types p)
-  opening_stored sound can = record {
+  pub opening_stored : IsFounded p → IsStored (world p) begun_store (static_types p)
+  opening_stored sound = record {
     objects = objects_are;
-    statics_of = parts_are p sound.stands begun_store (constants_of (strings p)) made_are p.parts can.files can.plain;
+    statics_of = parts_are p sound.stands begun_store (constants_of (strings p)) made_are p.parts sound.files sound.plain;
     constants = constants_are;
     out_is = refl;
   }
@@ -162,7 +159,7 @@ some_code : (o : Option CodeBody) → is_some o ≡ true → (body : CodeBody) �
 some_code None e = absurd (cc)
 some_code (Some body) e = (body, refl)
 
-module _ (p : Program) (sound : IsSound p) where
+module _ (p : Program) (sound : IsFounded p) where
   -- the types that its descriptor says
   main_typed : (side : Side) → p.side ≡ side → typed p (main_desc side) ≡ Called (run_given side ++ types.Array arguments_type ∷ []) None
   main_typed Source is = main_says p sound.stands
@@ -242,7 +239,8 @@ handed_first p s Passing (Some k) e = (a_context (world p) s k, tt)
 
 pub opens_typed : (K E : Type 0) → OpensTyped K E
 unfolding opening_state main_is main_may
-opens_typed K E r p text m heap sound can on_side sided found =
+opens_typed K E r p text m heap sound_program on_side sided found =
+    let sound = founded p sound_program in
     let s = begun_store p K heap in
     let x = main_is p sound text m found in
     let vs = handed r.side r.first in
@@ -252,7 +250,7 @@ opens_typed K E r p text m heap sound can on_side sided found =
     let arguments = vs ++ Ref (arguments_number p) ∷ [] in
     let frames = sym (ap only (begun_is p m x.coded entry arguments)) in
     record {
-      stored = opening_stored p K heap sound can;
+      stored = opening_stored p K heap sound;
       threads = ((subst (AreStacked p s) frames (frame_stands p sound s m None entry arguments given, tt), inl refl), tt);
       count = refl;
     }

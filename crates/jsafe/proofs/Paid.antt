@@ -1,12 +1,11 @@
 -- A store with fewer cells left holds the same.
 use Rattle.std.proofs.Common.{◌≡◌, ℕ, zero, suc, List, Some, refl}
-use Rattle.jops.specs.declared.value.Value.{Value}
 use Rattle.jtypes.specs.declared.vtype.VType.{VType}
 use Rattle.jmachine.specs.Objects.{Object}
 use Rattle.jmachine.specs.Store.{Store, object_at, paid}
 use Rattle.jmachine.specs.World.{World}
-use Rattle.jtyped.specs.Growing.{Becomes, Grows}
-use Rattle.jtyped.specs.Stores.{IsObject, IsStored}
+use Rattle.jtyped.specs.Growing.{Grows}
+use Rattle.jtyped.specs.Stores.{IsStored}
 use Rattle.jtyped.proofs.Storing.{are_kept, object_kept}
 
 module _ {K : Type 0} (w : World) (cells : ℕ) (s : Store K) where

@@ -1,5 +1,5 @@
 -- What the machine raises can be thrown: it extends Throwable.
-use Rattle.std.proofs.Common.{◌≡◌, ℕ, Bool, true, false, ◌||◌, List, [], ◌∷◌, Option, Some, None, refl, sym, ap, subst, ◌∙◌}
+use Rattle.std.proofs.Common.{◌≡◌, ℕ, Bool, true, false, ◌||◌, List, ◌∷◌, Option, Some, refl, sym, ap, subst, ◌∙◌}
 use Rattle.std.specs.Prelude.{option_and_then, option_map}
 use Rattle.std.specs.List.{list_any}
 use Rattle.std.specs.Str.{bytes_eq}
@@ -8,8 +8,7 @@ use Rattle.jlib.specs.declared.classes.LibClass.TheVariants as lib
 use Rattle.jlib.specs.declared.classes.Thrown.{Thrown}
 use Rattle.jlib.specs.declared.classes.Thrown.TheVariants as thrown
 use Rattle.jlib.specs.Classes as library
-use Rattle.jlib.proofs.Found.{class_above}
-use Rattle.jprogram.specs.Classes.{Class, Program, above, above_name, extends, find, holds, is_interface, object, onward, up}
+use Rattle.jprogram.specs.Classes.{Program, above, above_name, extends, find, holds, is_interface, object, onward, up}
 use Rattle.jprogram.specs.Standing.{StandsInOrder}
 use Rattle.jprogram.proofs.Extending.{extends_chain, extends_itself, up_is}
 use Rattle.jprogram.proofs.Settling.{name_equal}

@@ -1,14 +1,13 @@
 -- Runs of typed states.
-use Rattle.std.proofs.Common.{◌≡◌, ◌≢◌, ℕ, zero, suc, Bool, true, false, List, Option, Some, None, refl, sym, ap, subst, ◌∙◌}
+use Rattle.std.proofs.Common.{◌≡◌, ◌≢◌, ℕ, zero, suc, Bool, true, false, Option, Some, None}
 use Rattle.std.specs.Prelude.{nat_le, if◌then◌else◌}
-use Rattle.jlib.specs.declared.side.Side.{Side}
 use Rattle.jtrace.specs.declared.event.End.{End}
 use Rattle.jtrace.specs.declared.event.End.TheVariants.{HeapFull, Stuck}
 use Rattle.jprogram.specs.Classes.{Program}
 use Rattle.jmachine.specs.declared.plan.Plan.{Plan}
 use Rattle.jmachine.specs.Acts.{NoStep, Outcome, Over, State, Went}
 use Rattle.jmachine.specs.Machine.{opening, run}
-use Rattle.jmachine.specs.Opening.{opening_charge, opening_state}
+use Rattle.jmachine.specs.Opening.{opening_charge}
 use Rattle.jmachine.specs.Runs.{Run, after, next_at, run_from}
 use Rattle.jmachine.specs.Security.{Rules}
 use Rattle.jmachine.specs.Steps.{step}
@@ -46,6 +45,6 @@ full_or false e = cc
 
 pub runs_typed : (K E : Type 0) → RunsTyped K E
 unfolding run
-runs_typed K E r p plan text k sound can on_side sided found =
-    let state = opens_typed K E r p text plan.main plan.heap sound can on_side sided found in
+runs_typed K E r p plan text k sound on_side sided found =
+    let state = opens_typed K E r p text plan.main plan.heap sound on_side sided found in
     run_typed r p plan sound on_side sided k (opening r p plan) (typed_run r p plan sound on_side sided (opening r p plan) state (full_or (nat_le (opening_charge p) plan.heap)))

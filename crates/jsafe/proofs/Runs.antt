@@ -1,5 +1,5 @@
 -- Both `run`: of an action, and of a Runnable.
-use Rattle.std.proofs.Common.{◌≡◌, ℕ, true, false, List, Option, Some, None, refl, sym, ap, subst, ◌∙◌}
+use Rattle.std.proofs.Common.{◌≡◌, false, Some, None, refl}
 use Rattle.jlib.specs.declared.calls.LibCall.TheVariants as calls
 use Rattle.jlib.specs.declared.classes.LibClass.TheVariants as lib
 use Rattle.jlib.specs.declared.side.Side.{Side}
@@ -11,7 +11,7 @@ use Rattle.jrule.specs.Uses.{of_library}
 use Rattle.std.specs.Str.{bytes_eq}
 use Rattle.jtyped.specs.Laws.{HasCode}
 use Rattle.jyield.proofs.Chosen.{action_says, run_says}
-use Rattle.jsafe.specs.Sound.{IsSound}
+use Rattle.jsafe.proofs.Founded.{IsFounded}
 use Rattle.jsafe.proofs.Interfaces.{IsRunOf}
 
 run_static : (side : Side) → library_calls.is_static (calls.Run side) ≡ false
@@ -26,7 +26,7 @@ run_named : (side : Side) → bytes_eq (library_calls.name_of_call (calls.Run si
 run_named Source = refl
 run_named Passing = refl
 
-pub thread_run : (p : Program) → IsSound p → IsRunOf p lib.Runnable (calls.Run p.side) None
+pub thread_run : (p : Program) → IsFounded p → IsRunOf p lib.Runnable (calls.Run p.side) None
 thread_run p sound = record { says = run_says p sound.stands; static = run_static p.side; code = run_code p.side; named = run_named p.side }
 
 action_static : (side : Side) → library_calls.is_static (calls.RunAction side) ≡ false
@@ -41,5 +41,5 @@ action_named : (side : Side) → bytes_eq (library_calls.name_of_call (calls.Run
 action_named Source = refl
 action_named Passing = refl
 
-pub action_run : (p : Program) → IsSound p → IsRunOf p lib.PrivilegedAction (calls.RunAction p.side) (Some (of_library lib.Object))
+pub action_run : (p : Program) → IsFounded p → IsRunOf p lib.PrivilegedAction (calls.RunAction p.side) (Some (of_library lib.Object))
 action_run p sound = record { says = action_says p sound.stands; static = action_static p.side; code = action_code p.side; named = action_named p.side }

@@ -1,19 +1,14 @@
 -- A typed state has a step, which comes to a typed state.
-use Rattle.std.proofs.Common.{◌≡◌, ◌≢◌, ◌⊎◌, ℕ, zero, suc, ◌+◌, pos, inl, inr, arith, Bool, true, false, List, [], ◌∷◌, ◌++◌, length, Option, Some, None, option_map, refl, sym, ap, subst, ◌∙◌}
-use Rattle.std.specs.Bool.{⊤}
-use Rattle.std.specs.List.{AllByRecursion}
+use Rattle.std.proofs.Common.{◌≡◌, ◌⊎◌, ℕ, zero, suc, ◌+◌, inl, inr, arith, false, List, [], ◌∷◌, ◌++◌, Option, Some, None, option_map, refl, sym, ap, subst, ◌∙◌}
 use Rattle.std.specs.Option.{option_to_list}
-use Rattle.std.specs.Prelude.{nat_le, option_and_then, slice_get}
+use Rattle.std.specs.Prelude.{slice_get}
 use Rattle.jcode.specs.declared.op.Placed.{Placed}
 use Rattle.jlib.specs.declared.calls.LibCall.TheVariants as calls
-use Rattle.jlib.specs.declared.classes.LibClass.{LibClass}
 use Rattle.jlib.specs.declared.classes.LibClass.TheVariants as lib
 use Rattle.jops.specs.declared.value.Value.{Value}
 use Rattle.jops.specs.declared.value.Value.TheVariants.{Ref}
 use Rattle.jtypes.specs.declared.vtype.VType.{VType}
 use Rattle.jtypes.specs.declared.vtype.VType.TheVariants as types
-use Rattle.jtypes.specs.Frames.{Frame}
-use Rattle.jprogram.specs.declared.member.MethodId.{MethodId}
 use Rattle.jprogram.specs.Classes.{Program}
 use Rattle.jprogram.specs.Members.{desc_of}
 use Rattle.juses.specs.declared.meaning.How.{How}
@@ -25,14 +20,14 @@ use Rattle.juses.specs.Typed.{typed}
 use Rattle.jlink.specs.Called.{begins}
 use Rattle.jrule.specs.Here.{Here}
 use Rattle.jrule.specs.Rule.{rule}
-use Rattle.jrule.specs.Uses.{of_library, throwable}
+use Rattle.jrule.specs.Uses.{of_library}
 use Rattle.jtyping.specs.Declared.{written}
 use Rattle.jtyping.specs.Methods.{Method, here_of}
-use Rattle.jtyping.specs.Typed.{IsTyped, Serves}
+use Rattle.jtyping.specs.Typed.{Serves}
 use Rattle.jtyping.proofs.Successors.{gives_rule, number_onward}
 use Rattle.jmachine.specs.declared.plan.Plan.{Plan}
 use Rattle.jmachine.specs.Acts.{Act, Calls, FrameOf, Goes, Jumps, Leaves, Makes, Outcome, Raises, Row, State, Switches, Throws, free, raises}
-use Rattle.jmachine.specs.Calls.{Fails, Pushes, Runs, Target, by_interface, receiver}
+use Rattle.jmachine.specs.Calls.{Fails, Pushes, Runs, Target, by_interface}
 use Rattle.jmachine.specs.Doing.{Doing, called, doing}
 use Rattle.jmachine.specs.Frames.{onward, standing, with_operands}
 use Rattle.jmachine.specs.Objects.{Object}
@@ -42,14 +37,14 @@ use Rattle.jmachine.specs.Steps as steps
 use Rattle.jmachine.specs.Steps.{acted, begun_on, done, entries, executed, fetched, first_done, first_row, own_fields, site, step, step_at}
 use Rattle.jmachine.specs.Store.{Store, object_at}
 use Rattle.jmachine.specs.World.{world}
-use Rattle.jtyped.specs.Calling.{CanCall, CanInit, Coded, IsAboveHere, IsCall, IsInit, IsTarget, IsUsable, method}
+use Rattle.jtyped.specs.Calling.{CanInit, IsAboveHere, IsCall, IsInit, IsTarget, IsUsable, method}
 use Rattle.jtyped.specs.Laws.{IsStraight}
 use Rattle.jtyped.specs.Frames.{AllHave, AllHold, News, Suits}
-use Rattle.jtyped.specs.Going.{Leads, SuitsAt, inside}
+use Rattle.jtyped.specs.Going.{Leads, inside}
 use Rattle.jtyped.specs.Growing.{Grows}
 use Rattle.jtyped.specs.States.{AreStacked, Awaits, Guarded, Older, Stands, returns_at}
 use Rattle.jtyped.specs.Uses.{static_types}
-use Rattle.jtyped.specs.Values.{AreOf, HasDimensions, IsA}
+use Rattle.jtyped.specs.Values.{AreOf, IsA}
 use Rattle.jtyped.proofs.Callings.{calls_do}
 use Rattle.jtyped.proofs.Dimensions.{typed_named}
 use Rattle.jtyped.proofs.Going.{straight_leads}
@@ -60,13 +55,14 @@ use Rattle.jyield.specs.Laws.{AreSided, run_call}
 use Rattle.jyield.specs.Yields.{IsReadied, run_given}
 use Rattle.jyield.proofs.Chosen.{run_users}
 use Rattle.jyield.proofs.Objects.{named}
-use Rattle.jsafe.specs.Sound.{IsSaid, IsSound}
-use Rattle.jsafe.specs.States.{ComesTo, IsGuest, IsTypedState, MayBegin, StatesStep}
+use Rattle.jsafe.specs.Sound.{IsSaid}
+use Rattle.jsafe.proofs.Founded.{IsFounded, founded}
+use Rattle.jsafe.specs.States.{ComesTo, IsTypedState, MayBegin, StatesStep}
 use Rattle.jsafe.proofs.Acting.{After, acted_stays, applied_stays, pushed_stays, raised_stays}
 use Rattle.jsafe.proofs.Calling.{IsDone, all_there, have_there, init_done, ret_dimensions, target_done}
 use Rattle.jsafe.proofs.Executing.{fetched_is, guarded_by, is_at, serves_at, stands_by}
 use Rattle.jsafe.proofs.Interfaces.{interface_comes}
-use Rattle.jsafe.proofs.Kept.{IsGoing, Keeps, doing_keeps}
+use Rattle.jsafe.proofs.Kept.{IsGoing, doing_keeps}
 use Rattle.jsafe.proofs.Runs.{thread_run}
 use Rattle.jsafe.proofs.Threads.{ended_stays, running_is}
 
@@ -79,7 +75,7 @@ suc_is n = omega arith
 same_ref : {K : Type 0} (n m : ℕ) → ◌≡◌ {A = Option (Value K)} (Some (Ref n)) (Some (Ref m)) → n ≡ m
 same_ref n m e = cc
 
-module _ {K E : Type 0} (r : Rules K E) (p : Program) (plan : Plan) (s : State K E) (sound : IsSound p) (on_side : r.side ≡ p.side) (sided : AreSided r) (state : IsTypedState p r.side s) where
+module _ {K E : Type 0} (r : Rules K E) (p : Program) (plan : Plan) (s : State K E) (sound : IsFounded p) (on_side : r.side ≡ p.side) (sided : AreSided r) (state : IsTypedState p r.side s) where
   abbrev Left : FrameOf K E → Act K E → Type 0
   Left f act = After r p plan s sound state f act
 
@@ -281,4 +277,4 @@ pub states_step : (K E : Type 0) → StatesStep K E
 unfolding step
 states_step K E r p plan s sound on_side sided state =
     let g = running_is p r.side s state in
-    step_comes r p plan s sound on_side sided state s.running.frames g.0 g.1
+    step_comes r p plan s (founded p sound) on_side sided state s.running.frames g.0 g.1

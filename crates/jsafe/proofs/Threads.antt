@@ -1,5 +1,5 @@
 -- All threads of a typed state, and turns.
-use Rattle.std.proofs.Common.{◌≡◌, ◌≢◌, ◌<◌, ◌≤◌, ◌⊎◌, ℕ, zero, suc, ◌+◌, ◌%◌, inl, inr, arith, Bool, true, false, List, [], ◌∷◌, ◌++◌, length, map, take, drop, Option, Some, None, refl, sym, ap, subst, ◌∙◌}
+use Rattle.std.proofs.Common.{◌≡◌, ◌≢◌, ◌<◌, ℕ, zero, suc, ◌+◌, ◌%◌, inl, inr, arith, Bool, true, false, List, [], ◌∷◌, ◌++◌, length, take, drop, Option, Some, None, refl, sym, ap, subst, ◌∙◌}
 use Rattle.std.specs.Prelude.{slice_get, slice_index_or, slice_set, if◌then◌else◌}
 use Rattle.std.specs.List.{AllByRecursion, Contains, list_any}
 use Rattle.std.proofs.lemmas.List.{length-append, length-map}
@@ -7,7 +7,7 @@ use Rattle.jlib.specs.declared.side.Side.{Side}
 use Rattle.jops.specs.declared.value.Value.TheVariants.{Ref}
 use Rattle.jthreads.specs.declared.thread.Thread.{Thread}
 use Rattle.jthreads.specs.Schedule.{number_at, picked}
-use Rattle.jthreads.specs.Table.{have_ended, runnable_numbers, table_after_end, thread_at, is_runnable, woken}
+use Rattle.jthreads.specs.Table.{have_ended, runnable_numbers, thread_at, is_runnable, woken}
 use Rattle.jthreads.proofs.Numbers.{within}
 use Rattle.jtrace.specs.declared.event.Event.{Event}
 use Rattle.jtrace.specs.declared.event.End.TheVariants.{Deadlock, Finished, Stuck, Uncaught}
@@ -15,7 +15,7 @@ use Rattle.jprogram.specs.Classes.{Program}
 use Rattle.jmachine.specs.Acts.{FrameOf, GuestOf, State}
 use Rattle.jmachine.specs.Security.{handed}
 use Rattle.jmachine.specs.Store.{Store}
-use Rattle.jmachine.specs.Turns.{ended, given_to, guests, run_by, thread_of, turn_of, turned, with_ended, with_guest, with_running, with_table}
+use Rattle.jmachine.specs.Turns.{ended, given_to, guests, thread_of, turn_of, turned, with_ended, with_guest, with_running, with_table}
 use Rattle.jmachine.specs.World.{world}
 use Rattle.jtyped.specs.Growing.{Grows}
 use Rattle.jtyped.specs.States.{AreStacked}

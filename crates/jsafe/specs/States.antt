@@ -25,7 +25,6 @@ use Rattle.jtyped.specs.Uses.{static_types}
 use Rattle.jtyped.specs.Values.{AreOf, IsA}
 use Rattle.jyield.specs.Laws.{AreSided}
 use Rattle.jyield.specs.Yields.{run_given}
-use Rattle.jsafe.specs.Begins.{CanOpen}
 use Rattle.jsafe.specs.Sound.{IsSound}
 
 module _ {K E : Type 0} (p : Program) (side : Side) (s : Store K) where
@@ -58,7 +57,7 @@ StatesStep K E =
 
 -- The state in which a run begins is typed.
 abbrev pub OpensTyped : Type 0 → Type 0 → Type 0
-OpensTyped K E = (r : Rules K E) (p : Program) (name : List ℕ) (main : MethodId) (heap : ℕ) → IsSound p → CanOpen p → r.side ≡ p.side → AreSided r → main_of p name ≡ Some main
+OpensTyped K E = (r : Rules K E) (p : Program) (name : List ℕ) (main : MethodId) (heap : ℕ) → IsSound p → r.side ≡ p.side → AreSided r → main_of p name ≡ Some main
     → IsTypedState p r.side (opening_state r p main heap)
 
 -- So the state behind each number of steps is typed; where the run has not ended it has a step, and it never ends stuck.
@@ -68,5 +67,5 @@ pub record IsTypedRun {K E : Type 0} (r : Rules K E) (p : Program) (plan : Plan)
   pub end : x.end ≢ Some Stuck
 
 abbrev pub RunsTyped : Type 0 → Type 0 → Type 0
-RunsTyped K E = (r : Rules K E) (p : Program) (plan : Plan) (name : List ℕ) (k : ℕ) → IsSound p → CanOpen p → r.side ≡ p.side → AreSided r → main_of p name ≡ Some plan.main
+RunsTyped K E = (r : Rules K E) (p : Program) (plan : Plan) (name : List ℕ) (k : ℕ) → IsSound p → r.side ≡ p.side → AreSided r → main_of p name ≡ Some plan.main
     → IsTypedRun r p plan (run r p plan k)

@@ -1,11 +1,12 @@
 //! Typed states of the machine: a well-typed program's run never ends stuck, and in each of its states all objects, statics, locals and operands
 //! are of the types that typing gives them, for any machine, whatever stands for a security context.
 //!
-//! `Sound` says what a program must be (`IsSound`): well typed, with what linking says of its instructions; and `Begins` what the state in which a
-//! run begins rests on besides (`CanOpen`). `States` says which states are typed (`IsTypedState`), and has the laws: a step, the opening, a run.
+//! `Sound` says what is asked of a program (`IsSound`): it links, its parts are class files, it is well typed, and linking says of each instruction
+//! what typing takes it for (`IsSaid`). `States` says which states are typed (`IsTypedState`), and has the laws: a step, the opening, a run.
 //!
 //! Proved, of such a program (`states_laws`): a typed state has a step, which comes to a typed state; the state in which a run begins is typed;
-//! so is the one behind each number of steps, on any plan, and no run ends stuck. That a program which links is one of these is not said here.
+//! so is the one behind each number of steps, on any plan, and no run ends stuck. What linking says of methods, their code and statics is shown; what
+//! it says of an instruction's class, field or call is not yet.
 #![tactic(auto)]
 
 mod laws;
