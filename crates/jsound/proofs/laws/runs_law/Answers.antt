@@ -1,0 +1,5 @@
+use Rattle.jsound.proofs.Running.{runs}
+use Rattle.jsound.proofs.laws.runs_law.Goals as goal
+
+pub returns : goal.returns
+returns g c = runs _ _

@@ -1,0 +1,18 @@
+-- Runs of programs that link and are well typed.
+use Rattle.std.specs.Prelude.{◌≡◌, ℕ, List, Some}
+use Rattle.jprogram.specs.Classes.{Program}
+use Rattle.jprogram.specs.Members.{main_of}
+use Rattle.jlink.specs.Coded.{AreFiles}
+use Rattle.jlink.specs.Links.{Links}
+use Rattle.jtyping.specs.Typing.{WellTyped}
+use Rattle.jmachine.specs.declared.plan.Plan.{Plan}
+use Rattle.jmachine.specs.Machine.{run}
+use Rattle.jmachine.specs.Security.{Rules}
+use Rattle.jyield.specs.Laws.{AreSided}
+use Rattle.jsafe.specs.States.{IsTypedRun}
+
+-- Behind each number of steps the state of its run is typed, from the `main` of any of its classes, on any plan, by any rules that hand contexts
+-- over by their side; and no run ends stuck.
+abbrev pub LinkedRunsTyped : Type 0 → Type 0 → Type 0
+LinkedRunsTyped K E = (r : Rules K E) (p : Program) (plan : Plan) (name : List ℕ) (k : ℕ) → Links p → AreFiles p → WellTyped p
+    → r.side ≡ p.side → AreSided r → main_of p name ≡ Some plan.main → IsTypedRun r p plan (run r p plan k)

@@ -1,0 +1,18 @@
+ghost use Rattle.jprogram.specs.Classes.{Program};
+ghost use Rattle.jlink.specs.Coded.{AreFiles};
+ghost use Rattle.jlink.specs.Links.{Links};
+ghost use Rattle.jtyping.specs.Typing.{WellTyped};
+ghost use Rattle.jsafe.specs.Sound.{IsSound};
+ghost use Rattle.jsound.specs.Runs.{LinkedRunsTyped};
+
+/// The law of linking: a program that links, of class files, and that is well typed is what typed states rest on. It has no body to run; its
+/// contract is the law.
+pub fn sound_law()
+    ensures { (p : Program) → Links p → AreFiles p → WellTyped p → IsSound p }
+{}
+
+/// The law of runs: each state of a run of such a program is typed, and no run ends stuck. It has no body to run; its
+/// contract is the law.
+pub fn runs_law<K, E>()
+    ensures { LinkedRunsTyped K E }
+{}
