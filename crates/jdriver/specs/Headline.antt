@@ -9,7 +9,7 @@ use Rattle.jjob.specs.declared.command.Form.TheVariants.{Inspect, Pass}
 use Rattle.jprogram.specs.Classes.{Program}
 use Rattle.jrewrite.specs.Program.{limits}
 use Rattle.jmachine.specs.declared.plan.Plan.{Plan}
-use Rattle.jpass.specs.Passing.{NeverStuck, inspected}
+use Rattle.jpass.specs.Passing.{inspected}
 use Rattle.jpass.specs.Running.{AfterSome, OnceEnded}
 use Rattle.jshow.specs.declared.status.Status.{Status}
 use Rattle.jshow.specs.Answering.{Answers}
@@ -18,13 +18,12 @@ use Rattle.jtask.specs.Tasks.{task}
 use Rattle.jdriver.specs.Answers.{ran}
 
 -- A command runs a job in the pass form. The job's files give a program, the permissions of its domains and a plan, as they give them to the
--- inspecting form; the program breaks no limit of moving, and its inspecting run isn't stuck within the plan's steps.
+-- inspecting form; the program breaks no limit of moving.
 pub record RunsPassed (c : Command) (files : List File) (p : Program) (domains : List (List Permission)) (plan : Plan) : Type 0 where
   pub path : List ℕ
   pub command : c ≡ commands.Run Pass path
   pub job : task (commands.Run Inspect path) files ≡ Ok (tasks.Run p domains plan)
   pub small : limits p ≡ None
-  pub free : NeverStuck (has domains) p plan plan.steps
 
 -- What the call wrote, and its status, answer what the inspecting run of that program has told after some k steps, which are no more than the
 -- plan's; and where it goes on behind them, the plan's steps are at most 8 k + 15.

@@ -8,7 +8,7 @@ ghost use Rattle.juses.specs.Instructions.{code_at};
 ghost use Rattle.jmachine.specs.Machine.{run as run_of};
 ghost use Rattle.jmachine.specs.Runs.{ending, run_text};
 ghost use Rattle.jrules.specs.Plain.{rules as plain};
-ghost use Rattle.jpass.specs.Passing.{NeverStuck, inspected};
+ghost use Rattle.jpass.specs.Passing.{inspected};
 ghost use Rattle.jpass.specs.Running.{AfterSome, IsMoved, OnceEnded, Tells};
 
 use crate::laws::moved_laws;
@@ -38,9 +38,9 @@ pub fn run_pass<K: Sink>(
     ensures cut { OnErr result (IsCut (K.out out.old) (K.out out.new) (run_text (run_of (plain (has domains.now)) program.now plan.now plan.now.steps))) }
     ensures later { K.faults out.old ≤ K.faults out.new }
     ensures cause { result ≡ Err SinkFault → Rose (K.faults out.old) (K.faults out.new) }
-    ensures simulated { (p : Program) → IsMoved p program.now plan.now → NeverStuck (has domains.now) p plan.now plan.now.steps
+    ensures simulated { (p : Program) → IsMoved p program.now plan.now
         → AfterSome (inspected (has domains.now) p plan.now) plan.now.steps (λ r. Tells r result (K.out out.old) (K.out out.new)) }
-    ensures complete { (p : Program) → IsMoved p program.now plan.now → NeverStuck (has domains.now) p plan.now plan.now.steps
+    ensures complete { (p : Program) → IsMoved p program.now plan.now
         → OnceEnded (inspected (has domains.now) p plan.now) plan.now.steps (λ r. Tells r result (K.out out.old) (K.out out.new)) }
 {
     moved_laws();
