@@ -37,6 +37,14 @@ class Class:
         body = struct.pack(">HHI", stack, locals_, len(code)) + code + b"\0\0\0\0"
         self.methods.append(struct.pack(">HHHHHI", flags, self.utf(name), self.utf(desc), 1, self.utf("Code"), len(body)) + body)
 
+    def field(self, name, desc, flags=0x9):
+        self.fields.append(struct.pack(">HHHH", flags, self.utf(name), self.utf(desc), 0))
+
+    def init(self, code=b""):
+        """A constructor without parameters; its code stands in front of the call of the one above."""
+        call = b"\x2a\xb7" + struct.pack(">H", self.ref(10, "java/lang/Object", "<init>", "()V"))
+        self.method("<init>", "()V", 1, code + call + b"\xb1", stack=2, locals_=1)
+
     def abstract(self, name, desc):
         self.methods.append(struct.pack(">HHHH", 0x401, self.utf(name), self.utf(desc), 0))
 
@@ -190,8 +198,98 @@ def texts_there(n):
     return texts(n, ("sps/Ctx", "sps/Rt", "enter", "(Lsps/Ctx;I)Lsps/Ctx;", "(Lsps/Ctx;)V"))
 
 
+def equal_ends(n):
+    """One class of n methods whose names of 72 bytes have their first and their last 32 in common, and one of a twentieth as many references."""
+    names = ["a" * 32 + "%08d" % i + "b" * 32 for i in range(n)]
+    c = Class("Many")
+    for name in names:
+        c.method(name, "()V")
+    yield "Many", c
+    d = main_class()
+    for name in names[:: 20]:
+        d.ref(10, "Many", name, "()V")
+    yield "Main", d
+
+
+def long_fields(n):
+    """n methods of 65,520 bytes that read a field of one class and write it to one of the class above, whose names have 60,000 bytes."""
+    below, above = "b" * 60_000, "a" * 60_000
+    yield "A", Class(above)
+    yield "B", Class(below, above)
+    c = main_class()
+    c.field("f", "L%s;" % below)
+    c.field("g", "L%s;" % above)
+    two = b"\xb2" + struct.pack(">H", c.ref(9, "Main", "f", "L%s;" % below)) + b"\xb3" + struct.pack(">H", c.ref(9, "Main", "g", "L%s;" % above))
+    for i in range(n):
+        c.method("m%d" % i, "()V", code=two * 10_920 + b"\xb1")
+    yield "Main", c
+
+
+def long_new(n):
+    """n methods of 65,000 bytes that make objects of a class whose name has 65,535 bytes."""
+    name = "n" * 65_535
+    c = Class(name)
+    c.init()
+    yield "N", c
+    d = main_class()
+    two = b"\xbb" + struct.pack(">H", d.cls(name)) + b"\xb7" + struct.pack(">H", d.ref(10, name, "<init>", "()V"))
+    for i in range(n):
+        d.method("m%d" % i, "()V", code=two * 10_833 + b"\xb1")
+    yield "Main", d
+
+
+def long_put(n):
+    """A class whose name has 65,535 bytes: n constructors of 65,000 bytes that write a field before another constructor is called."""
+    name = "n" * 65_535
+    c = Class(name)
+    c.field("f", "I", 1)
+    put = b"\x2a\x03\xb5" + struct.pack(">H", c.ref(9, name, "f", "I"))
+    call = b"\x2a\xb7" + struct.pack(">H", c.ref(10, "java/lang/Object", "<init>", "()V"))
+    for i in range(n):
+        c.method("<init>", "(%s)V" % ("I" * i), 1, put * 13_000 + call + b"\xb1", stack=2, locals_=n + 1)
+    yield "N", c
+    yield "Main", main_class()
+
+
+def deep_fits(n):
+    """A chain of n classes, and 10,000 writes of an object of the lowest to a field of the highest."""
+    for i in range(n):
+        yield "C%d" % i, Class("C%d" % i, "C%d" % (i - 1) if i else "java/lang/Object")
+    c = main_class()
+    low = "LC%d;" % (n - 1)
+    c.field("f", low)
+    c.field("g", "LC0;")
+    two = b"\xb2" + struct.pack(">H", c.ref(9, "Main", "f", low)) + b"\xb3" + struct.pack(">H", c.ref(9, "Main", "g", "LC0;"))
+    c.method("m", "()V", code=two * 10_000 + b"\xb1")
+    yield "Main", c
+
+
+def overriding(n):
+    """A chain of n classes with a method each, which overrides the one above."""
+    for i in range(n):
+        c = Class("C%d" % i, "C%d" % (i - 1) if i else "java/lang/Object")
+        c.method("m", "()V", 1)
+        yield "C%d" % i, c
+    yield "Main", main_class()
+
+
+def deep_references(n):
+    """A chain of n classes, and 600 references to methods of the highest by the name of the lowest."""
+    for i in range(n):
+        c = Class("C%d" % i, "C%d" % (i - 1) if i else "java/lang/Object")
+        for k in range(600 if i == 0 else 0):
+            c.method("m%d" % k, "()V")
+        yield "C%d" % i, c
+    d = main_class()
+    for k in range(600):
+        d.ref(10, "C%d" % (n - 1), "m%d" % k, "()V")
+    yield "Main", d
+
+
 KINDS = dict(many=many, least=least, chain=chain, diamonds=diamonds, methods=methods, one_method=one_method, class_names=class_names,
-             long_class=long_class, method_names=method_names, descriptors=descriptors, calls=calls, texts=texts, texts_there=texts_there)
+             long_class=long_class, method_names=method_names, descriptors=descriptors, calls=calls, texts=texts, texts_there=texts_there,
+             equal_ends=equal_ends, long_fields=long_fields, long_new=long_new, long_put=long_put, deep_fits=deep_fits, overriding=overriding,
+             deep_references=deep_references)
 
 if __name__ == "__main__":
     kind, number, folder = sys.argv[1], int(sys.argv[2]), sys.argv[3]

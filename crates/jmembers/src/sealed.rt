@@ -1,5 +1,6 @@
 ghost use Rattle.std.specs.Prelude.{◌≡◌, ◌||◌, [], ℕ, List, IfOk, OnOk};
 ghost use Rattle.jprogram.specs.Classes;
+ghost use Rattle.jprogram.specs.Digests.{IsKey};
 ghost use Rattle.jprogram.specs.Members;
 ghost use Rattle.jprogram.specs.Parts;
 ghost use Rattle.jprogram.specs.Shortly;
@@ -11,8 +12,8 @@ use crate::fixed::most_steps;
 use crate::numbers::note;
 use jclass::MemberInfo;
 use jprogram::{
-    LinkKind, Member, MethodId, NamedProgram, Reach, member_desc, member_name, same_package,
-    super_name,
+    Key, LinkKind, Member, MethodId, NamedProgram, Reach, key_of, member_desc, member_name,
+    same_package, super_name,
 };
 use std::alloc::{AllocError, Global};
 use std::collections::BTreeMap;
@@ -133,22 +134,22 @@ fn overrides_final(
     alloc: Global,
     program: &NamedProgram,
     below: Member,
-    name: &[u8],
-    desc: &[u8],
+    key: Key<'_>,
     from: &[u8],
 ) -> Result<bool, AllocError>
+    requires { IsKey key }
     ensures { IfOk result (λ b. b ≡ Declares.overrides_final program.now below []
-        (Members.methods_along program.now name.now desc.now (Classes.up program.now from.now))) }
+        (Members.methods_along program.now key.entry.name.now key.entry.desc.now (Classes.up program.now from.now))) }
 {
     let mut shown = BTreeMap::new(alloc);
-    let mut at = from;
+    let mut at = program.at(from);
     let steps = most_steps(program);
     for step in 0..steps {
-        let above = program.method_in(name, desc, at);
+        let above = program.method_here(key, at);
         if look_at(alloc, program, below, &mut shown, above, step)? {
             return Ok(true);
         }
-        match program.above_name(at) {
+        match program.above_at(at) {
             None => return Ok(false),
             Some(above) => at = above,
         }
@@ -180,8 +181,8 @@ impl<'a> ClassTexts<'a> {
             class: self.place(),
             method: k,
         });
-        let desc = member_desc(class, method);
-        if overrides_final(alloc, self.program(), below, name, desc, above)? {
+        let key = key_of(name, member_desc(class, method));
+        if overrides_final(alloc, self.program(), below, key, above)? {
             return Ok(Some(LinkKind::FinalMethod));
         }
         Ok(None)

@@ -37,7 +37,7 @@ no_place : (i : ℕ) (d : List ℕ) → place_of [] d ≡ Some i → ⊥
 unfolding place_of
 no_place i d e = cc
 
-one_name : (parts : List CodePart) (d m : List ℕ) (i : ℕ) → place_of parts d ≡ Some i → place_of parts m ≡ Some i → m ≡ d
+pub one_name : (parts : List CodePart) (d m : List ℕ) (i : ℕ) → place_of parts d ≡ Some i → place_of parts m ≡ Some i → m ≡ d
 one_name [] d m i ed em = absurd (no_place i d ed)
 one_name (q ∷ ps) d m i ed em = sym (place_named (q ∷ ps) m i q em) ∙ place_named (q ∷ ps) d i q ed
 

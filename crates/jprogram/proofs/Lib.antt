@@ -22,3 +22,4 @@ pub mod Slotting
 pub mod Standing
 pub mod Table
 pub mod Telling
+pub mod Walking

@@ -8,6 +8,7 @@ use Rattle.std.specs.BTreeMap.{BTreeMap}
 use Rattle.jclass.specs.declared.class.ClassParts.{ClassParts}
 use Rattle.jclass.specs.declared.class.MemberInfo.{MemberInfo}
 use Rattle.jprogram.specs.declared.firsts.Firsts.{Firsts}
+use Rattle.jprogram.specs.declared.firsts.Key.{Key}
 use Rattle.jprogram.specs.declared.part.CodePart.{CodePart}
 use Rattle.jprogram.specs.Parts as parts
 
@@ -20,12 +21,16 @@ digest_from sum (b ∷ text) = digest_from ((sum * 257 % 2 ^ 64 + b) % 2 ^ 64) t
 -- of a long text its ends alone count
 unfoldable pub digest_text : ℕ → List ℕ → ℕ
 digest_text sum text =
-    if nat_lt 64 (length text) then digest_from (digest_from sum (take 32 text)) (drop (length text - 32) text)
+    if nat_lt 1024 (length text) then digest_from (digest_from sum (take 512 text)) (drop (length text - 512) text)
     else digest_from sum text
 
 -- of a name and a descriptor
 abbrev pub digest : List ℕ → List ℕ → ℕ
 digest name desc = digest_text (digest_text 0 name) desc
+
+-- a digest is that of the name and the descriptor beside it
+abbrev pub IsKey : Key → Type 0
+IsKey key = key.sum ≡ digest key.name.now key.desc.now
 
 abbrev pub digest_of : ClassParts → MemberInfo → ℕ
 digest_of c m = digest (parts.member_name c m) (parts.member_desc c m)

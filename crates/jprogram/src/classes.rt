@@ -4,6 +4,7 @@ ghost use Rattle.std.specs.Str.{bytes_eq};
 ghost use Rattle.jprogram.specs.Classes;
 ghost use Rattle.jprogram.specs.Digests.{AreFirsts};
 ghost use Rattle.jprogram.specs.Faces;
+ghost use Rattle.jprogram.specs.Lines.{AreLines, IsLine};
 ghost use Rattle.jprogram.specs.Seen.{seen};
 ghost use Rattle.jprogram.specs.Slots;
 
@@ -11,6 +12,7 @@ use crate::faces::{face_at, faces_of};
 use crate::firsts::{Firsts, firsts_in};
 use crate::found::Found;
 use crate::library::class_named;
+use crate::lines::Line;
 use crate::names::places_of;
 use crate::part::{ClassRef, CodePart};
 use crate::parts::this_name;
@@ -41,6 +43,8 @@ pub struct NamedProgram {
     faces: Seq<Option<u32>>,
     /// The first members of each class by their digests.
     firsts: Vec<Firsts>,
+    /// What is kept of each class, so that no walk upwards looks at names; of those behind the last nothing is.
+    lines: Seq<Line>,
 }
 
 impl Model for NamedProgram {
@@ -48,6 +52,7 @@ impl Model for NamedProgram {
     ghost use Rattle.jprogram.specs.Classes.{Program, program};
     ghost use Rattle.jprogram.specs.Digests.{AreTold};
     ghost use Rattle.jprogram.specs.Faces.{AreFaces};
+    ghost use Rattle.jprogram.specs.Lines.{AreLines};
     ghost use Rattle.jprogram.specs.Names.{ArePlaces};
     ghost use Rattle.jprogram.specs.Slots.{AreSlots};
 
@@ -56,7 +61,8 @@ impl Model for NamedProgram {
     ghost view = { λ p. program p.side p.parts.items };
 
     ghost invariant = { λ p. ArePlaces p.parts.items p.places
-        × (AreSlots p.parts.items p.slots × (AreFaces p.parts.items p.faces × (AreTold p.parts.items p.firsts.items × (length p.parts.items ≤ 0xffff)))) };
+        × (AreSlots p.parts.items p.slots × (AreFaces p.parts.items p.faces × (AreTold p.parts.items p.firsts.items
+        × (AreLines (program p.side p.parts.items) p.lines × (length p.parts.items ≤ 0xffff))))) };
 }
 
 impl NamedProgram {
@@ -82,14 +88,34 @@ impl NamedProgram {
         let Ok(firsts) = firsts_in(alloc, parts.as_slice()) else {
             return Err(AllocFailed { value: parts });
         };
-        Ok(NamedProgram {
+        let named = NamedProgram {
             side,
             parts,
             places,
             slots,
             faces,
             firsts,
-        })
+            lines: Seq::new(alloc),
+        };
+        let Ok(lines) = named.all_lines(alloc) else {
+            return Err(AllocFailed { value: named.parts });
+        };
+        Ok(named.keeping(lines))
+    }
+
+    /// The same, with what is kept of its classes.
+    fn keeping(self, lines: Seq<Line>) -> NamedProgram
+        requires { AreLines self lines }
+        ensures { result ≡ self }
+    {
+        NamedProgram { lines, ..self }
+    }
+
+    /// What is kept of a user's class.
+    pub(crate) fn line(&self, i: u32) -> Option<Line>
+        ensures { IfSome result (IsLine self.now i) }
+    {
+        self.lines.as_slice().get(i as usize).copied()
     }
 
     /// Its side.
@@ -150,7 +176,7 @@ impl NamedProgram {
         face_at(&self.faces, i as usize)
     }
 
-    fn user_at(&self, i: u32) -> Option<Found<'_>>
+    pub(crate) fn user_at(&self, i: u32) -> Option<Found<'_>>
         ensures { option_map seen result ≡ Classes.user_at self.now i }
     {
         match self.parts.as_slice().get(i as usize) {
@@ -170,7 +196,7 @@ impl NamedProgram {
         Some((&part.class, firsts))
     }
 
-    fn library_class(&self, name: &[u8]) -> Option<Found<'_>>
+    pub(crate) fn library_class(&self, name: &[u8]) -> Option<Found<'_>>
         ensures { option_map seen result ≡ Classes.found_at self.now name.now None }
     {
         match class_named(self.side, name) {

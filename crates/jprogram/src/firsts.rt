@@ -1,6 +1,6 @@
 ghost use Rattle.std.specs.Prelude.{◌≡◌, IfOk, OnOk};
 ghost use Rattle.jprogram.specs.Digests;
-ghost use Rattle.jprogram.specs.Digests.{AreFirst, AreFirsts, AreTold, Tells};
+ghost use Rattle.jprogram.specs.Digests.{AreFirst, AreFirsts, AreTold, IsKey, Tells};
 
 use crate::part::CodePart;
 use crate::parts::{member_desc, member_name};
@@ -34,19 +34,39 @@ fn digest_from(front: u64, text: &[u8]) -> u64
 pub fn digest_text(front: u64, text: &[u8]) -> u64
     ensures { result ≡ Digests.digest_text front text.now }
 {
-    if 64 < text.len() {
-        let (begin, _) = text.split_at(32);
-        let (_, end) = text.split_at(text.len() - 32);
+    if 1024 < text.len() {
+        let (begin, _) = text.split_at(512);
+        let (_, end) = text.split_at(text.len() - 512);
         return digest_from(digest_from(front, begin), end);
     }
     digest_from(front, text)
 }
 
-/// The digest of a name and a descriptor.
-pub fn digest(name: &[u8], desc: &[u8]) -> u64
+fn digest(name: &[u8], desc: &[u8]) -> u64
     ensures { result ≡ Digests.digest name.now desc.now }
 {
     digest_text(digest_text(0, name), desc)
+}
+
+/// A name and a descriptor with their digest, so that it is taken once where several classes are asked for them.
+#[derive(Clone, Copy)]
+pub struct Key<'a> {
+    pub name: &'a [u8],
+    pub desc: &'a [u8],
+    pub sum: u64,
+}
+
+/// A name and a descriptor, with their digest.
+pub fn key_of<'a>(name: &'a [u8], desc: &'a [u8]) -> Key<'a>
+    ensures name { result.name.now ≡ name.now }
+    ensures desc { result.desc.now ≡ desc.now }
+    ensures key { IsKey result }
+{
+    Key {
+        name,
+        desc,
+        sum: digest(name, desc),
+    }
 }
 
 fn digest_of(class: &ClassParts, member: &MemberInfo) -> u64

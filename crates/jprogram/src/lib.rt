@@ -15,15 +15,18 @@
 //! - `Implementing`, `Bits`: the table of the interfaces that each class implements, a bit for each interface.
 //! - `Standing`: programs in which those two phases find nothing.
 //! - `Circles`: what stands directly above a class that was found.
-//! - `Slots`, `Digests`: tables by which a class's name and a member's name and descriptor are found, which no contract above sees.
+//! - `Slots`, `Digests`: tables by which a class's name and a member's name and descriptor are found, which no contract above sees, and a
+//!   name and a descriptor with their digest.
+//! - `Lines`: what is kept of each of the program's own classes, so that walks upwards and comparisons of classes look at no names, and a
+//!   name with its class, from which such a walk goes on.
 //!
 //! Proved, for every list of class files, linked or not: each call is its definition: `class_of`, `super_of`, `extends`, `may_name`,
-//! `may_use`, `select`, `main_of`, and the first fault of each of linking's first two phases, `naming_fault` (names that are kept or
-//! taken) and `supers_fault` (classes that are missing, may not stand above, or stand above themselves). `resolve_method`,
-//! `resolve_field` and `resolved` are their definitions too, on the condition that no interface stands among its own. `program_laws`:
-//! where the first two phases find nothing that condition holds, no class stands above itself, extending is transitive, two classes
-//! that extend one another are one, and what an interface extends is an interface or Object. `number_laws`: a class's number names it
-//! and is found by its name. `Interfaces` answers `implements` without memory.
+//! `may_use`, `select`, `main_of`; of classes by their numbers `same_class`, `declares`, `extends_at`, `is_interface_at`; and the first
+//! fault of each of linking's first two phases, `naming_fault` (names that are kept or taken) and `supers_fault` (classes that are missing,
+//! may not stand above, or stand above themselves). `resolve_method`, `resolve_field` and `resolved` are their definitions too, on the
+//! condition that no interface stands among its own. `program_laws`: where the first two phases find nothing that condition holds, no class
+//! stands above itself, extending is transitive, two classes that extend one another are one, and what an interface extends is an interface
+//! or Object. `number_laws`: a class's number names it and is found by its name. `Interfaces` answers `implements` without memory.
 //!
 //! Rooms of linking, checking, the machine's definition, the machine, moving, jobs and the top may name it, and tests.
 #![tactic(auto)]
@@ -40,6 +43,7 @@ mod heights;
 mod implemented;
 mod laws;
 mod library;
+mod lines;
 mod main_method;
 mod member;
 mod members;
@@ -58,8 +62,10 @@ mod supers;
 
 pub use classes::NamedProgram;
 pub use fault::{LinkFault, LinkKind};
+pub use firsts::{Key, key_of};
 pub use implemented::Interfaces;
 pub use laws::{number_laws, program_laws};
+pub use lines::At;
 pub use member::{CallKind, ClassId, Member, MethodId, Selected};
 pub use part::{ClassRef, CodePart};
 pub use parts::{

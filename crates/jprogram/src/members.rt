@@ -1,11 +1,11 @@
 ghost use Rattle.std.specs.Prelude.{◌≡◌, ◌<◌, IfSome, length};
 ghost use Rattle.std.specs.List.{position};
 ghost use Rattle.jprogram.specs.Classes;
-ghost use Rattle.jprogram.specs.Digests.{AreFirst, AreFirsts};
+ghost use Rattle.jprogram.specs.Digests.{AreFirst, AreFirsts, IsKey};
 ghost use Rattle.jprogram.specs.Members;
 ghost use Rattle.jprogram.specs.Parts;
 
-use crate::firsts::{Firsts, digest, first_at};
+use crate::firsts::{Firsts, Key, first_at};
 use crate::member::{Member, MethodId};
 use crate::parts::is_called;
 use jclass::{ClassFile, ClassParts, MemberInfo};
@@ -36,35 +36,30 @@ fn place_by(
     class: &ClassParts,
     members: &[MemberInfo],
     firsts: &BTreeMap<u64, usize>,
-    name: &[u8],
-    desc: &[u8],
+    key: Key<'_>,
 ) -> Option<usize>
-    requires { AreFirst class.now members.now firsts.now }
-    ensures place { result ≡ position (Parts.is_called class.now name.now desc.now) members.now }
+    requires firsts { AreFirst class.now members.now firsts.now }
+    requires key { IsKey key }
+    ensures place { result ≡ position (Parts.is_called class.now key.entry.name.now key.entry.desc.now) members.now }
     ensures within { IfSome result (λ i. i < length members.now) }
 {
-    let first = first_at(firsts, digest(name, desc))?;
+    let first = first_at(firsts, key.sum)?;
     if let Some(one) = members.get(first) {
-        if is_called(class, name, desc, one) {
+        if is_called(class, key.name, key.desc, one) {
             return Some(first);
         }
     }
-    place_among(class, members, name, desc)
+    place_among(class, members, key.name, key.desc)
 }
 
 /// The first method of this name and descriptor that a user's class declares itself.
-pub fn user_method(
-    i: u32,
-    class: &ClassFile,
-    firsts: &Firsts,
-    name: &[u8],
-    desc: &[u8],
-) -> Option<Member>
-    requires { AreFirsts class.now firsts.now }
-    ensures { result ≡ Members.method_in Side.Source (Classes.User i class.now) name.now desc.now }
+pub fn user_method(i: u32, class: &ClassFile, firsts: &Firsts, key: Key<'_>) -> Option<Member>
+    requires firsts { AreFirsts class.now firsts.now }
+    requires key { IsKey key }
+    ensures { result ≡ Members.method_in Side.Source (Classes.User i class.now) key.entry.name.now key.entry.desc.now }
 {
     let parts = class.parts();
-    let place = place_by(parts, parts.methods.as_slice(), &firsts.methods, name, desc)?;
+    let place = place_by(parts, parts.methods.as_slice(), &firsts.methods, key)?;
     Some(Member::Method(MethodId {
         class: i,
         method: place as u32,
@@ -72,18 +67,13 @@ pub fn user_method(
 }
 
 /// The first field of this name and descriptor that a user's class declares itself.
-pub fn user_field(
-    i: u32,
-    class: &ClassFile,
-    firsts: &Firsts,
-    name: &[u8],
-    desc: &[u8],
-) -> Option<Member>
-    requires { AreFirsts class.now firsts.now }
-    ensures { result ≡ Members.field_in Side.Source (Classes.User i class.now) name.now desc.now }
+pub fn user_field(i: u32, class: &ClassFile, firsts: &Firsts, key: Key<'_>) -> Option<Member>
+    requires firsts { AreFirsts class.now firsts.now }
+    requires key { IsKey key }
+    ensures { result ≡ Members.field_in Side.Source (Classes.User i class.now) key.entry.name.now key.entry.desc.now }
 {
     let parts = class.parts();
-    let place = place_by(parts, parts.fields.as_slice(), &firsts.fields, name, desc)?;
+    let place = place_by(parts, parts.fields.as_slice(), &firsts.fields, key)?;
     Some(Member::Field {
         class: i,
         field: place as u32,

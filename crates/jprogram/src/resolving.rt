@@ -1,12 +1,16 @@
 ghost use Rattle.std.specs.Prelude.{◌≡◌, None, IfOk, IfSome, length, nat_lt, option_and_then};
 ghost use Rattle.jbase.specs.First.{first_some};
 ghost use Rattle.jprogram.specs.Classes;
+ghost use Rattle.jprogram.specs.Digests.{IsKey};
 ghost use Rattle.jprogram.specs.Layers;
 ghost use Rattle.jprogram.specs.Layers.{AreClosed, IsLayered};
+ghost use Rattle.jprogram.specs.Lines.{IsAt};
 ghost use Rattle.jprogram.specs.Members;
 
 use crate::classes::NamedProgram;
+use crate::firsts::{Key, key_of};
 use crate::library::class_named;
+use crate::lines::At;
 use crate::member::Member;
 use crate::members::{lib_field_in, lib_method_in, user_field, user_method};
 use crate::searching::Sort;
@@ -16,11 +20,12 @@ use std::alloc::{AllocError, Global};
 const INIT: &[u8] = b"<init>";
 
 impl NamedProgram {
-    fn method_of(&self, i: u32, name: &[u8], desc: &[u8]) -> Option<Member>
-        ensures { result ≡ option_and_then (λ c. Members.method_in self.now.side c name.now desc.now) (Classes.user_at self.now i) }
+    pub(crate) fn method_of(&self, i: u32, key: Key<'_>) -> Option<Member>
+        requires { IsKey key }
+        ensures { result ≡ option_and_then (λ c. Members.method_in self.now.side c key.entry.name.now key.entry.desc.now) (Classes.user_at self.now i) }
     {
         let (class, firsts) = self.user(i)?;
-        user_method(i, class, firsts, name, desc)
+        user_method(i, class, firsts, key)
     }
 
     fn library_method(&self, name: &[u8], desc: &[u8], class: &[u8]) -> Option<Member>
@@ -30,11 +35,12 @@ impl NamedProgram {
         lib_method_in(self.side(), class, name, desc)
     }
 
-    fn field_of(&self, i: u32, name: &[u8], desc: &[u8]) -> Option<Member>
-        ensures { result ≡ option_and_then (λ c. Members.field_in self.now.side c name.now desc.now) (Classes.user_at self.now i) }
+    pub(crate) fn field_of(&self, i: u32, key: Key<'_>) -> Option<Member>
+        requires { IsKey key }
+        ensures { result ≡ option_and_then (λ c. Members.field_in self.now.side c key.entry.name.now key.entry.desc.now) (Classes.user_at self.now i) }
     {
         let (class, firsts) = self.user(i)?;
-        user_field(i, class, firsts, name, desc)
+        user_field(i, class, firsts, key)
     }
 
     fn library_field(&self, name: &[u8], desc: &[u8], class: &[u8]) -> Option<Member>
@@ -51,7 +57,7 @@ impl NamedProgram {
         ensures { result ≡ Members.method_at self.now name.now desc.now class.now }
     {
         match self.place_of(class) {
-            Some(i) => self.method_of(i, name, desc),
+            Some(i) => self.method_of(i, key_of(name, desc)),
             None => self.library_method(name, desc, class),
         }
     }
@@ -63,23 +69,24 @@ impl NamedProgram {
         ensures { result ≡ Members.field_at self.now name.now desc.now class.now }
     {
         match self.place_of(class) {
-            Some(i) => self.field_of(i, name, desc),
+            Some(i) => self.field_of(i, key_of(name, desc)),
             None => self.library_field(name, desc, class),
         }
     }
 
     /// The first method of this name and descriptor in the class of a name and in those above it.
     #[tactic(auto, using(crate::proofs::Chains::chain_at, crate::proofs::Chains::chain_end), unfolding(jbase::specs::First::first_some))]
-    fn method_upwards(&self, name: &[u8], desc: &[u8], class: &[u8]) -> Option<Member>
-        ensures { result ≡ first_some (Members.method_at self.now name.now desc.now) (Classes.up self.now class.now) }
+    fn method_upwards(&self, key: Key<'_>, class: &[u8]) -> Option<Member>
+        requires { IsKey key }
+        ensures { result ≡ first_some (Members.method_at self.now key.entry.name.now key.entry.desc.now) (Classes.up self.now class.now) }
     {
-        let mut at = class;
+        let mut at = self.at(class);
         let steps = self.most_steps();
         for step in 0..steps {
-            if let Some(found) = self.method_in(name, desc, at) {
+            if let Some(found) = self.method_here(key, at) {
                 return Some(found);
             }
-            match self.above_name(at) {
+            match self.above_at(at) {
                 None => return None,
                 Some(above) => at = above,
             }
@@ -133,10 +140,23 @@ impl NamedProgram {
         }
     }
 
-    fn lists_faces(&self, class: &[u8]) -> bool
-        ensures { result ≡ nat_lt 0 (length (Classes.face_names self.now class.now)) }
+    /// The first field of this name and descriptor in a class itself, whose class is known.
+    fn own_here(&self, sort: Sort, key: Key<'_>, at: At<'_>) -> Option<Member>
+        requires key { IsKey key }
+        requires at { IsAt self.now at }
+        ensures { result ≡ Layers.own self.now sort key.entry.name.now key.entry.desc.now at.entry.name.now }
     {
-        match self.find(class) {
+        match sort {
+            Sort::Method => None,
+            Sort::Field => self.field_here(key, at),
+        }
+    }
+
+    fn lists_faces(&self, at: At<'_>) -> bool
+        requires { IsAt self.now at }
+        ensures { result ≡ nat_lt 0 (length (Classes.face_names self.now at.entry.name.now)) }
+    {
+        match at.class {
             Some(found) => 0 < found.face_count(),
             None => false,
         }
@@ -145,19 +165,15 @@ impl NamedProgram {
     /// The first member of this name and descriptor in a class itself, of fields alone, and in its interfaces, where the class has it or
     /// lists none; `None` where interfaces would have to be gone through.
     #[tactic(auto, using(crate::proofs::Plain::plain_found, crate::proofs::Plain::plain_none))]
-    fn plainly_at(
-        &self,
-        sort: Sort,
-        name: &[u8],
-        desc: &[u8],
-        class: &[u8],
-    ) -> Option<Option<Member>>
-        ensures { IfSome result (λ m. m ≡ Layers.at_and_over self.now sort name.now desc.now class.now) }
+    fn plainly_at(&self, sort: Sort, key: Key<'_>, at: At<'_>) -> Option<Option<Member>>
+        requires key { IsKey key }
+        requires at { IsAt self.now at }
+        ensures { IfSome result (λ m. m ≡ Layers.at_and_over self.now sort key.entry.name.now key.entry.desc.now at.entry.name.now) }
     {
-        if let Some(found) = self.own(sort, name, desc, class) {
+        if let Some(found) = self.own_here(sort, key, at) {
             return Some(Some(found));
         }
-        if self.lists_faces(class) {
+        if self.lists_faces(at) {
             return None;
         }
         Some(None)
@@ -166,22 +182,17 @@ impl NamedProgram {
     /// The first member that is found so, from a class upwards; `None` where interfaces would have to be gone through. It takes no
     /// memory.
     #[tactic(auto, using(crate::proofs::Chains::chain_at, crate::proofs::Chains::chain_end), unfolding(jbase::specs::First::first_some))]
-    fn found_plainly(
-        &self,
-        sort: Sort,
-        name: &[u8],
-        desc: &[u8],
-        class: &[u8],
-    ) -> Option<Option<Member>>
-        ensures { IfSome result (λ m. m ≡ first_some (Layers.at_and_over self.now sort name.now desc.now) (Classes.up self.now class.now)) }
+    fn found_plainly(&self, sort: Sort, key: Key<'_>, class: &[u8]) -> Option<Option<Member>>
+        requires { IsKey key }
+        ensures { IfSome result (λ m. m ≡ first_some (Layers.at_and_over self.now sort key.entry.name.now key.entry.desc.now) (Classes.up self.now class.now)) }
     {
-        let mut at = class;
+        let mut at = self.at(class);
         let steps = self.most_steps();
         for step in 0..steps {
-            if let Some(found) = self.plainly_at(sort, name, desc, at)? {
+            if let Some(found) = self.plainly_at(sort, key, at)? {
                 return Some(Some(found));
             }
-            match self.above_name(at) {
+            match self.above_at(at) {
                 None => return Some(None),
                 Some(above) => at = above,
             }
@@ -202,7 +213,7 @@ impl NamedProgram {
         requires { IsLayered self.now }
         ensures { IfOk result (λ m. m ≡ first_some (Layers.at_and_over self.now sort name.now desc.now) (Classes.up self.now class.now)) }
     {
-        if let Some(found) = self.found_plainly(sort, name, desc, class) {
+        if let Some(found) = self.found_plainly(sort, key_of(name, desc), class) {
             return Ok(found);
         }
         let mut closed = self.no_marks(alloc, sort, name, desc)?;
@@ -239,7 +250,7 @@ impl NamedProgram {
         if name == INIT {
             return Ok(self.method_in(name, desc, class));
         }
-        if let Some(found) = self.method_upwards(name, desc, class) {
+        if let Some(found) = self.method_upwards(key_of(name, desc), class) {
             return Ok(Some(found));
         }
         self.found_upwards(alloc, Sort::Method, name, desc, class)

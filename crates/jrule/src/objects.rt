@@ -58,7 +58,7 @@ pub fn make(
 fn same_name(p: &NamedProgram, c: ClassRef, d: ClassRef) -> bool
     ensures { result ≡ same_name (class_named p.now c) (class_named p.now d) }
 {
-    p.name_of(c) == p.name_of(d)
+    p.same_class(c, d)
 }
 
 fn is_named(p: &NamedProgram, c: ClassRef, d: Option<ClassRef>) -> bool

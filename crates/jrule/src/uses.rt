@@ -87,7 +87,7 @@ fn is_own(p: &NamedProgram, is_init: bool, this: ClassRef, member: Member) -> bo
     if !is_init {
         return false;
     }
-    p.owner_of(member) == p.name_of(this)
+    p.declares(this, member)
 }
 
 /// Whether a type serves as the object whose field is written.

@@ -37,7 +37,7 @@ pub fn stands_below(p: &NamedProgram, c: ClassRef, d: ClassRef) -> bool
     if are_one(c, d) {
         return true;
     }
-    p.extends(p.name_of(c), p.name_of(d))
+    p.extends_at(c, d)
 }
 
 /// Whether an object of the first class fits the second one.
@@ -47,7 +47,7 @@ fn class_fits(p: &NamedProgram, c: ClassRef, d: ClassRef) -> bool
     if are_one(c, d) {
         return true;
     }
-    if p.is_interface(p.name_of(d)) {
+    if p.is_interface_at(d) {
         return true;
     }
     stands_below(p, c, d)

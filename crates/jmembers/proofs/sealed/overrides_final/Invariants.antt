@@ -1,5 +1,6 @@
 use Rattle.std.proofs.Common.{◌≡◌, ◌-◌, ◌+◌, length}
 use Rattle.jprogram.specs.Classes.{chain, known, up}
+use Rattle.jprogram.specs.Lines.{IsAt}
 use Rattle.jprogram.specs.Members.{methods_along}
 use Rattle.jmembers.specs.Declares.{overrides_final}
 use Rattle.jmembers.specs.Sealed.{barred_by, has}
@@ -9,4 +10,4 @@ use Rattle.jmembers.proofs.sealed.overrides_final.Given as goal
 abbrev pub invariant-loop-step : goal.invariant-loop-step
 invariant-loop-step l =
     (l.steps ≡ length (known l.program) + 1)
-    × (barred_by l.program l.below (has l.shown) (methods_along l.program l.name l.desc (chain l.program (l.steps - l.step) l.at)) ≡ overrides_final l.program l.below [] (methods_along l.program l.name l.desc (up l.program l.fn.from)))
+    × (IsAt l.program l.at × (barred_by l.program l.below (has l.shown) (methods_along l.program l.key.name.now l.key.desc.now (chain l.program (l.steps - l.step) l.at.name.now)) ≡ overrides_final l.program l.below [] (methods_along l.program l.key.name.now l.key.desc.now (up l.program l.fn.from))))

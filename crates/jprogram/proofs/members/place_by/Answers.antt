@@ -7,6 +7,6 @@ use Rattle.jprogram.proofs.members.place_by.Goals as goal
 
 pub returns-then-is_called-clause-place : goal.returns-then-is_called-clause-place
 returns-then-is_called-clause-place c =
-    let first : first_at c.args.firsts.now (digest c.args.name.now c.args.desc.now) ≡ Some c.in_ok-first.first = ap (first_at c.args.firsts.now) (sym c.digest.ensures) ∙ sym c.in_ok-first.ensures in
+    let first : first_at c.args.firsts.now (digest c.args.key.name.now c.args.key.desc.now) ≡ Some c.in_ok-first.first = ap (first_at c.args.firsts.now) (sym c.requires.key) ∙ sym c.in_ok-first.ensures in
     let there = slice_get-get_or c.args.members.now c.in_ok-first.first c.in-Some.one.now c.in-Some.ensures.lookup.3.0 ∙ ap (λ (x : MemberInfo). Some x) (sym c.in-Some.ensures.lookup.1) in
-    sym (first_told c.args.class.now c.args.members.now c.args.firsts.now c.args.name.now c.args.desc.now c.in_ok-first.first c.in-Some.one.now c.requires first there (sym c.is_called.ensures ∙ c.if-is_called.true))
+    sym (first_told c.args.class.now c.args.members.now c.args.firsts.now c.args.key.name.now c.args.key.desc.now c.in_ok-first.first c.in-Some.one.now c.requires.firsts first there (sym c.is_called.ensures ∙ c.if-is_called.true))
