@@ -14,8 +14,8 @@ use Rattle.jmachine.specs.Calls as targets
 use Rattle.jmachine.specs.Security.{Rules}
 use Rattle.jmachine.specs.Turns.{ended}
 use Rattle.jmachine.specs.Unwinding.{told_name}
-use Rattle.jrun.specs.declared.stepping.Stepped.{Stepped}
-use Rattle.jrun.specs.declared.stepping.Stepped.TheVariants as stepped
+use Rattle.jrun.specs.declared.came.Came.{Came}
+use Rattle.jrun.specs.declared.came.Came.TheVariants as stepped
 use Rattle.jstate.specs.Celled.{StayCelled}
 use Rattle.jstate.specs.Framed.{Framed}
 use Rattle.jstate.specs.Seen.{AreBuilt}
@@ -43,7 +43,7 @@ module _ {E : Type 0} (m : Machine E) where
 
   -- ---- without an object
 
-  pub step_ends : EndsUnbegun E → (n : Machine E) (told : List Event) (came : Stepped) → told ≡ [] → m.guests.running.frames ≡ None → runnable ≡ 0
+  pub step_ends : EndsUnbegun E → (n : Machine E) (told : List Event) (came : Came) → told ≡ [] → m.guests.running.frames ≡ None → runnable ≡ 0
       → EndsThread m false told came n → Comes m any (step_of m) came n
   step_ends law n told came quiet none zeroed ends = record {
     over = state_of n;
@@ -54,7 +54,7 @@ module _ {E : Type 0} (m : Machine E) where
 
   -- ---- with an object
 
-  pub run_begins : (mid n : Machine E) (t : Target E) (came : Stepped) → mid ≡ m → RunTarget m t → BeginsAs mid t came n → Comes m any (step_of m) came n
+  pub run_begins : (mid n : Machine E) (t : Target E) (came : Came) → mid ≡ m → RunTarget m t → BeginsAs mid t came n → Comes m any (step_of m) came n
   run_begins mid n t came same target begun = (subst (λ (y : Machine E). BeginsAs y t came n) same begun) target
 
   -- ---- where there is no step
@@ -129,10 +129,10 @@ module _ {E : Type 0} (m : Machine E) where
     abbrev tells : ℕ → VType → List Event
     tells thread type = Throw thread (told_name type) ∷ Uncaught thread (told_name type) ∷ []
 
-    abbrev Ends : List Event → Stepped → Machine E → Machine E → Type 0
+    abbrev Ends : List Event → Came → Machine E → Machine E → Type 0
     Ends told came n mid = EndsThread mid true told came n × (told ≡ tells mid.guests.at (type_of mid.calls (thrown_ref class)))
 
-    pub fails_begins : LeftIsBehind E → IsNumbered E → IsMachine m → (mid n : Machine E) (before told : List Event) (came : Stepped) → FailsIn m class true mid → before ≡ []
+    pub fails_begins : LeftIsBehind E → IsNumbered E → IsMachine m → (mid n : Machine E) (before told : List Event) (came : Came) → FailsIn m class true mid → before ≡ []
         → told ≡ before ++ tells mid.guests.at (type_of mid.calls (thrown_ref class)) → EndsThread mid true told came n → BeginsAs m (ways.Fails class) came n
     fails_begins behind number is mid n before told came x quiet told_is ends target =
         let frames = m.guests.running.frames in

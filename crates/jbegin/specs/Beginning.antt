@@ -7,7 +7,7 @@ use Rattle.jlib.specs.declared.classes.Thrown.{Thrown as ThrownClass}
 use Rattle.jmachine.specs.Acts.{Outcome, State}
 use Rattle.jmachine.specs.Security.{Rules}
 use Rattle.jmachine.specs.Steps.{step}
-use Rattle.jrun.specs.declared.stepping.Stepped.{Stepped}
+use Rattle.jrun.specs.declared.came.Came.{Came}
 use Rattle.jinvoke.specs.declared.faces.Target.{Target}
 use Rattle.jinvoke.specs.Faces.{FaceTarget}
 use Rattle.jcontexts.specs.Beginning.{FailsFirst}
@@ -25,7 +25,7 @@ abbrev pub RunTarget : {E : Type 0} → Machine E → Target E → Type 0
 RunTarget m t = FaceTarget m.calls m.fixed.marks.now m.heap lib.Runnable (calls.Run m.side) false m.guests.running.runnable t
 
 -- The step came to this, if the call comes to that.
-abbrev pub BeginsAs : {E : Type 0} → Machine E → Target E → Stepped → Machine E → Type 0
+abbrev pub BeginsAs : {E : Type 0} → Machine E → Target E → Came → Machine E → Type 0
 BeginsAs m t came n = RunTarget m t → Comes m any (step_of m) came n
 
 -- An exception of a class was raised where the thread was to begin, if there was room for it.

@@ -11,7 +11,7 @@ use jcontexts::begin_laws;
 use jcore::{Machine, end_thread};
 use jinvoke::Target;
 use jlib::{LibCall, LibClass};
-use jrun::Stepped;
+use jrun::Came;
 use std::alloc::{AllocError, Global};
 
 /// What a call of `run` comes to on the object that the running thread was given.
@@ -36,7 +36,7 @@ fn begin_by<M: Copy>(
     alloc: Global,
     m: &mut Machine<'_, '_, M>,
     target: Target<M>,
-) -> Result<Stepped, AllocError>
+) -> Result<Came, AllocError>
     requires ready { IsReady m.old }
     requires none { m.old.guests.running.frames ≡ None }
     requires some { 0 < m.old.guests.running.runnable }
@@ -47,7 +47,7 @@ fn begin_by<M: Copy>(
 {
     begin_laws::<M>();
     match target {
-        Target::Stuck => Ok(Stepped::Stuck),
+        Target::Stuck => Ok(Came::Stuck),
         Target::Fails(class) => {
             let came = fail_run(alloc, m, class)?;
             Ok(came)
@@ -60,7 +60,7 @@ fn begin_by<M: Copy>(
 }
 
 /// Begins the running thread with the `run` of the object that it was given.
-fn begin_run<M: Copy>(alloc: Global, m: &mut Machine<'_, '_, M>) -> Result<Stepped, AllocError>
+fn begin_run<M: Copy>(alloc: Global, m: &mut Machine<'_, '_, M>) -> Result<Came, AllocError>
     requires ready { IsReady m.old }
     requires none { m.old.guests.running.frames ≡ None }
     requires some { 0 < m.old.guests.running.runnable }
@@ -75,10 +75,7 @@ fn begin_run<M: Copy>(alloc: Global, m: &mut Machine<'_, '_, M>) -> Result<Stepp
 
 /// A step of the running thread that has no frames: it begins with the `run` of the object that it was given, or ends at once where it was
 /// given none (class documentation of Thread).
-pub fn begin_thread<M: Copy>(
-    alloc: Global,
-    m: &mut Machine<'_, '_, M>,
-) -> Result<Stepped, AllocError>
+pub fn begin_thread<M: Copy>(alloc: Global, m: &mut Machine<'_, '_, M>) -> Result<Came, AllocError>
     requires ready { IsReady m.old }
     requires none { m.old.guests.running.frames ≡ None }
     ensures comes { IfOk result (λ done. Comes m.old any (step_of m.old) done m.new) }

@@ -9,7 +9,7 @@ use jcontexts::fail_beginning;
 use jcore::{Machine, end_thread, full, machine_laws, tell_uncaught};
 use jlib::{LibClass, Thrown};
 use jprogram::ClassRef;
-use jrun::Stepped;
+use jrun::Came;
 use std::alloc::{AllocError, Global};
 
 /// Raises an exception of a class where the running thread is to begin, if the cells for it are left.
@@ -32,7 +32,7 @@ pub(crate) fn fail_run<M: Copy>(
     alloc: Global,
     m: &mut Machine<'_, '_, M>,
     class: Thrown,
-) -> Result<Stepped, AllocError>
+) -> Result<Came, AllocError>
     requires ready { IsReady m.old }
     requires none { m.old.guests.running.frames ≡ None }
     requires some { 0 < m.old.guests.running.runnable }

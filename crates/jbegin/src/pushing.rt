@@ -8,7 +8,7 @@ use jbase::Seq;
 use jcalls::Callee;
 use jcontexts::begin;
 use jcore::{Machine, machine_laws};
-use jrun::Stepped;
+use jrun::Came;
 use std::alloc::{AllocError, Global};
 
 /// The running thread, which has no frames, begins with a user's method, where this has code.
@@ -16,7 +16,7 @@ pub(crate) fn push_run<M: Copy>(
     alloc: Global,
     m: &mut Machine<'_, '_, M>,
     callee: Callee<M>,
-) -> Result<Stepped, AllocError>
+) -> Result<Came, AllocError>
     requires ready { IsReady m.old }
     requires none { m.old.guests.running.frames ≡ None }
     requires some { 0 < m.old.guests.running.runnable }
@@ -34,10 +34,10 @@ pub(crate) fn push_run<M: Copy>(
         m.side,
     )?;
     let Some(frames) = begun else {
-        return Ok(Stepped::Stuck);
+        return Ok(Came::Stuck);
     };
     m.guests.running.frames = Some(frames);
-    Ok(Stepped::Went {
+    Ok(Came::Went {
         events: Seq::new(alloc),
     })
 }

@@ -17,8 +17,8 @@ use Rattle.jmachine.specs.Security.{Rules, judged}
 use Rattle.jmachine.specs.Store.{Store}
 use Rattle.jmachine.specs.Turns.{thread_of}
 use Rattle.jmachine.specs.Unwinding.{handler_at}
-use Rattle.jrun.specs.declared.stepping.Stepped.{Stepped}
-use Rattle.jrun.specs.declared.stepping.Stepped.TheVariants as done
+use Rattle.jrun.specs.declared.came.Came.{Came}
+use Rattle.jrun.specs.declared.came.Came.TheVariants as done
 use Rattle.jstate.specs.Framed.{Framed, all, holding}
 use Rattle.jcalls.specs.declared.raising.Raised.{Raised}
 use Rattle.jcalls.specs.declared.raising.Raised.TheVariants as raiseds
@@ -100,7 +100,7 @@ module _ {E : Type 0} (law : RunsAs E) (m : Machine E) (are : AreGuests m.guests
   number = number_is m (state_of m) are refl
 
   module _ (asked : perms.Permission) where
-    abbrev Does : Verdict → Stepped → Machine E → Type 0
+    abbrev Does : Verdict → Came → Machine E → Type 0
     Does verdict came n = ComesBy m count (Some (judged (store_of m) (thread_of (state_of m)) asked verdict)) came n
 
     granted_comes : (verdict : Verdict) (told : List Event) → told ≡ event_by m.guests.at asked verdict ∷ [] → Judges m asked verdict count ways.Granted g k
@@ -111,7 +111,7 @@ module _ {E : Type 0} (law : RunsAs E) (m : Machine E) (are : AreGuests m.guests
     )
     granted_comes (verdicts.Denied domain) told is judges f runs = (state_of m, λ r row rules does. absurd (judges f r row runs rules does))
 
-    denied_comes : (verdict : Verdict) (told : List Event) (way : Raised) (came : Stepped) (n : Machine E) → told ≡ event_by m.guests.at asked verdict ∷ []
+    denied_comes : (verdict : Verdict) (told : List Event) (way : Raised) (came : Came) (n : Machine E) → told ≡ event_by m.guests.at asked verdict ∷ []
         → Judges m asked verdict count (ways.Denied way) g k → SettlesRaised between way denied_class told came n → Does verdict came n
     denied_comes verdicts.Granted told way came n is judges settles f runs = (state_of m, λ r row rules does. absurd (judges f r row runs rules does))
     denied_comes (verdicts.Denied domain) told way came n is judges settles f runs =
@@ -125,7 +125,7 @@ module _ {E : Type 0} (law : RunsAs E) (m : Machine E) (are : AreGuests m.guests
               (subst (λ (es : List Event). RaisedAs r m.calls m.plan.now s es denied_type (store_of between) way g o) events (judges f r row runs rules does)),
         )
 
-  null_comes : (way : Raised) (came : Stepped) (n : Machine E) → RaisesNull m count way g k → SettlesRaised between way null_class [] came n
+  null_comes : (way : Raised) (came : Came) (n : Machine E) → RaisesNull m count way g k → SettlesRaised between way null_class [] came n
       → ComesBy m count (Some null) came n
   null_comes way came n raises settles f runs =
       let s = state_of m in
@@ -137,7 +137,7 @@ module _ {E : Type 0} (law : RunsAs E) (m : Machine E) (are : AreGuests m.guests
 -- ---- behind what was done
 
 module _ {E : Type 0} (law : RunsAs E) (m : Machine E) (are : AreGuests m.guests) (count : ℕ) where
-  pub null_does : (way : Raised) (came : Stepped) (mid n : Machine E) (told : List Event) → NullRaisedOn m count way mid → told ≡ []
+  pub null_does : (way : Raised) (came : Came) (mid n : Machine E) (told : List Event) → NullRaisedOn m count way mid → told ≡ []
       → SettlesRaised mid way null_class told came n → ComesBy m count (Some null) came n
   null_does way came mid n told on none settles =
       let quiet = subst (λ (es : List Event). SettlesRaised mid way null_class es came n) none settles in
@@ -154,7 +154,7 @@ module _ {E : Type 0} (law : RunsAs E) (m : Machine E) (are : AreGuests m.guests
         let comes = granted_comes law m are on.change.frames on.change.heap count asked verdict told (told_is ways.Granted on) on.judges in
         subst (λ (x : Machine E). ComesBy m count (Some (judged (store_of m) (thread_of (state_of m)) asked verdict)) (done.Went told) x) (sym on.change.is) comes
 
-    pub deny_does : (way : Raised) (came : Stepped) (n : Machine E) → JudgedOn m asked verdict count (ways.Denied way) mid → SettlesRaised mid way denied_class told came n
+    pub deny_does : (way : Raised) (came : Came) (n : Machine E) → JudgedOn m asked verdict count (ways.Denied way) mid → SettlesRaised mid way denied_class told came n
         → ComesBy m count (Some (judged (store_of m) (thread_of (state_of m)) asked verdict)) came n
     deny_does way came n on settles =
         let settled = subst (λ (x : Machine E). SettlesRaised x way denied_class told came n) on.change.is settles in

@@ -16,8 +16,8 @@ use Rattle.jmachine.specs.Steps.{entries}
 use Rattle.jmachine.specs.Store.{Store, object_at, object_of}
 use Rattle.jmachine.specs.Turns.{thread_of}
 use Rattle.jguard.specs.Standing.{AnswersFor, IsKnownIn}
-use Rattle.jrun.specs.declared.stepping.Stepped.{Stepped}
-use Rattle.jrun.specs.declared.stepping.Stepped.TheVariants as done
+use Rattle.jrun.specs.declared.came.Came.{Came}
+use Rattle.jrun.specs.declared.came.Came.TheVariants as done
 use Rattle.jstate.specs.Framed.{Framed, all}
 use Rattle.jchecks.specs.declared.asking.Asked.{Asked}
 use Rattle.jchecks.specs.declared.asking.Asked.TheVariants as asks
@@ -116,7 +116,7 @@ verdict_is {E} m f (whom.Thread ctx) one v r runs is =
 verdict_is {E} m f (whom.Kept number) one v r runs is = ap (λ (x : Answer ℕ E). decision x) is
 
 module _ {M K E : Type 0} (old new : ℕ → Option K) (old_marks new_marks : M → Option E) (rules : Rules K E) (m n : Machine M) (f : Framed M) (call : LibCall) (count : ℕ)
-    (came : Stepped) (runs : m.guests.running.frames ≡ Some f) where
+    (came : Came) (runs : m.guests.running.frames ≡ Some f) where
   abbrev IsAnswered : Type 0
   IsAnswered = Answered old new old_marks new_marks rules m (asked_of m f call count) (outcome_of m f call count) came n
 

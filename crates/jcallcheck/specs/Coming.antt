@@ -14,7 +14,7 @@ use Rattle.jtrace.specs.declared.event.Event.TheVariants.{Deny, Grant}
 use Rattle.jmachine.specs.Acts.{Row, State, null}
 use Rattle.jmachine.specs.Security.{Rules, judged}
 use Rattle.jmachine.specs.Turns.{thread_of}
-use Rattle.jrun.specs.declared.stepping.Stepped.{Stepped}
+use Rattle.jrun.specs.declared.came.Came.{Came}
 use Rattle.jstate.specs.Framed.{Framed}
 use Rattle.jcalls.specs.declared.raising.Raised.{Raised}
 use Rattle.jcalls.specs.Calling.{stepped}
@@ -34,7 +34,7 @@ event_by thread asked verdicts.Granted = Grant thread asked
 event_by thread asked (verdicts.Denied domain) = Deny thread asked domain
 
 -- A step comes to this by any rules whose row does this with so many operands of the running thread's newest frame.
-abbrev pub ComesBy : {E : Type 0} → Machine E → (count : ℕ) → Option (Row ℕ E) → Stepped → Machine E → Type 0
+abbrev pub ComesBy : {E : Type 0} → Machine E → (count : ℕ) → Option (Row ℕ E) → Came → Machine E → Type 0
 ComesBy {E} m count does came n = (f : Framed E) → m.guests.running.frames ≡ Some f
     → (over : State ℕ E) × ((r : Rules ℕ E) (row : List (Value ℕ) → Option (Row ℕ E)) → AreRules m r → row (take count f.newest.operands) ≡ does
     → stepped r m.calls m.plan.now (state_of m) f count row ≡ outcome_by over n came)

@@ -14,7 +14,7 @@ use jchecks::{Asked, asks_for, check_laws};
 use jcore::Machine;
 use jguard::Guard;
 use jlib::{ControllerCall, LibCall, RtCall};
-use jrun::Stepped;
+use jrun::Came;
 use std::alloc::{AllocError, Global};
 
 /// What a call of checkPermission of AccessController checks.
@@ -38,7 +38,7 @@ fn check_for<G: Guard>(
     call: LibCall,
     count: usize,
     wanted: Check,
-) -> Result<Stepped, AllocError>
+) -> Result<Came, AllocError>
     requires calling { Calling m.old count }
     requires found { Found m.old call count (Some wanted) }
     requires known { (f : Framed G.Mark) → m.old.guests.running.frames ≡ Some f → AsksKnown (G.kept guard.old) (G.entry guard.old) m.old (asked_of m.old f call count) }
@@ -56,7 +56,7 @@ fn check_for<G: Guard>(
 {
     check_laws::<G::Mark>();
     match asks_for::<G::Mark>(&m.heap, m.permissions.as_slice(), wanted.operand) {
-        Asked::Stuck => Ok(Stepped::Stuck),
+        Asked::Stuck => Ok(Came::Stuck),
         Asked::Null => {
             let done = check_null(alloc, m, count)?;
             Ok(done)
@@ -78,7 +78,7 @@ pub fn call_check<G: Guard>(
     guard: &mut G,
     call: LibCall,
     count: usize,
-) -> Result<Stepped, AllocError>
+) -> Result<Came, AllocError>
     requires check { IsCheck call }
     requires calling { Calling m.old count }
     requires known { (f : Framed G.Mark) → m.old.guests.running.frames ≡ Some f → AsksKnown (G.kept guard.old) (G.entry guard.old) m.old (asked_of m.old f call count) }
@@ -96,7 +96,7 @@ pub fn call_check<G: Guard>(
 {
     check_laws::<G::Mark>();
     match checked_by(m, call, count) {
-        None => Ok(Stepped::Stuck),
+        None => Ok(Came::Stuck),
         Some(one) => {
             let done = check_for(alloc, m, guard, call, count, one)?;
             Ok(done)
@@ -110,7 +110,7 @@ pub fn call_kept_check<G: Guard>(
     m: &mut Machine<'_, '_, G::Mark>,
     guard: &mut G,
     count: usize,
-) -> Result<Stepped, AllocError>
+) -> Result<Came, AllocError>
     requires calling { Calling m.old count }
     requires known { (f : Framed G.Mark) → m.old.guests.running.frames ≡ Some f
         → AsksKnown (G.kept guard.old) (G.entry guard.old) m.old (asked_of m.old f calls.ContextCheck count) }
@@ -128,7 +128,7 @@ pub fn call_kept_check<G: Guard>(
 {
     check_laws::<G::Mark>();
     match kept_check_of(m, count) {
-        None => Ok(Stepped::Stuck),
+        None => Ok(Came::Stuck),
         Some(one) => {
             let done = check_for(alloc, m, guard, LibCall::ContextCheck, count, one)?;
             Ok(done)

@@ -17,7 +17,7 @@ use jinvoke::{ThrownAs, told_law};
 use jlib::{LibClass, Thrown};
 use jperm::Permission;
 use jprogram::ClassRef;
-use jrun::Stepped;
+use jrun::Came;
 use jstate::heap_laws;
 use jtrace::Event;
 use std::alloc::{AllocError, Global};
@@ -64,7 +64,7 @@ pub(crate) fn check_null<M: Copy>(
     alloc: Global,
     m: &mut Machine<'_, '_, M>,
     count: usize,
-) -> Result<Stepped, AllocError>
+) -> Result<Came, AllocError>
     requires calling { Calling m.old count }
     ensures comes { IfOk result (λ came. ComesBy m.old count (Some null) came m.new) }
     ensures ready { IfOk result (GoesOn m.new) }
@@ -149,7 +149,7 @@ pub(crate) fn decide<M: Copy>(
     asked: Permission,
     verdict: Verdict,
     count: usize,
-) -> Result<Stepped, AllocError>
+) -> Result<Came, AllocError>
     requires calling { Calling m.old count }
     ensures comes { IfOk result (λ came. ComesBy m.old count (Some (judged (store_of m.old) (thread_of (state_of m.old)) asked verdict)) came m.new) }
     ensures ready { IfOk result (GoesOn m.new) }
@@ -159,7 +159,7 @@ pub(crate) fn decide<M: Copy>(
     let way = judge_here(alloc, m, &asked, verdict, count)?;
     let told = told_of(alloc, m.guests.at, asked, verdict)?;
     match way {
-        Judged::Granted => Ok(Stepped::Went { events: told }),
+        Judged::Granted => Ok(Came::Went { events: told }),
         Judged::Denied(way) => {
             let class = ClassRef::Lib(LibClass::AccessControlException);
             let done = settle_raised(alloc, m, way, class, told)?;

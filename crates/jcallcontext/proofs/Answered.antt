@@ -10,8 +10,8 @@ use Rattle.jmachine.specs.Asked.{Allowed, Answer, Ask, Decided, Entered, Enters,
 use Rattle.jmachine.specs.Asking.{context_made}
 use Rattle.jmachine.specs.Security.{Rules}
 use Rattle.jguard.specs.Standing.{AnswersFor, IsKnownIn}
-use Rattle.jrun.specs.declared.stepping.Stepped.{Stepped}
-use Rattle.jrun.specs.declared.stepping.Stepped.TheVariants as done
+use Rattle.jrun.specs.declared.came.Came.{Came}
+use Rattle.jrun.specs.declared.came.Came.TheVariants as done
 use Rattle.jstate.specs.Framed.{Framed}
 use Rattle.jchecks.specs.Judges.{NothingSteps}
 use Rattle.jcontexts.specs.declared.entering.Entering.{Entering}
@@ -33,7 +33,7 @@ number_in (Kept n) = n
 number_in (Entered n) = n
 number_in (Allowed p) = 0
 
-module _ {M K E : Type 0} (old new : ℕ → Option K) (old_marks new_marks : M → Option E) (rules : Rules K E) (m n : Machine M) (call : LibCall) (count : ℕ) (came : Stepped) where
+module _ {M K E : Type 0} (old new : ℕ → Option K) (old_marks new_marks : M → Option E) (rules : Rules K E) (m n : Machine M) (call : LibCall) (count : ℕ) (came : Came) where
   abbrev pub IsAnswered : Framed M → Type 0
   IsAnswered f = Answered old new old_marks new_marks rules m (asked_of m f call count) (outcome_of m f call count) came n
 
@@ -77,7 +77,7 @@ module _ {M K E : Type 0} (old new : ℕ → Option K) (old_marks new_marks : M 
       answered (Snapshots ctx) (Kept number) any (Some (context_made (store_of m) number)) by gave comes
       (λ r marked is. (tt, ap (λ (x : Answer ℕ M). Some (context_made (store_of m) (number_in x))) is)) f runs (found f runs)
 
-pub entering_answered : {M K E : Type 0} (old new : ℕ → Option K) (old_marks new_marks : M → Option E) (rules : Rules K E) (m n : Machine M) (count : ℕ) (came : Stepped)
+pub entering_answered : {M K E : Type 0} (old new : ℕ → Option K) (old_marks new_marks : M → Option E) (rules : Rules K E) (m n : Machine M) (count : ℕ) (came : Came)
     (one : Entering) (number : ℕ) → FoundEntering m count (Some one)
     → AnswersFor old new old_marks new_marks rules (Enters one.ctx one.domain) (carried (state_of m)) m.guests.running.inherited (Entered number)
     → ComesBy m count any (Some (gives (store_of m) (Ctx number ∷ []))) came n → CallAnswered old new old_marks new_marks rules m (calls.Rt rt.Enter) count came n

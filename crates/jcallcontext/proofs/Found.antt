@@ -18,8 +18,8 @@ use Rattle.jmachine.specs.Privileges.{acting}
 use Rattle.jmachine.specs.Security.{Privilege, Rules}
 use Rattle.jmachine.specs.Steps.{entries, own_fields, site}
 use Rattle.jguard.specs.Standing.{AnswersFor, IsKnownIn}
-use Rattle.jrun.specs.declared.stepping.Stepped.{Stepped}
-use Rattle.jrun.specs.declared.stepping.Stepped.TheVariants as done
+use Rattle.jrun.specs.declared.came.Came.{Came}
+use Rattle.jrun.specs.declared.came.Came.TheVariants as done
 use Rattle.jstate.specs.Framed.{Framed, all}
 use Rattle.jcalls.specs.declared.calls.Callee.{Callee}
 use Rattle.jcalls.specs.Calling.{IsCallee}
@@ -190,7 +190,7 @@ abbrev privilege_in : {E : Type 0} → Privilege ℕ E → Answer ℕ E → Priv
 privilege_in other (Allowed p) = p
 privilege_in other given = other
 
-module _ {M K E : Type 0} (old new : ℕ → Option K) (old_marks new_marks : M → Option E) (rules : Rules K E) (m n : Machine M) (call : LibCall) (count : ℕ) (came : Stepped) where
+module _ {M K E : Type 0} (old new : ℕ → Option K) (old_marks new_marks : M → Option E) (rules : Rules K E) (m n : Machine M) (call : LibCall) (count : ℕ) (came : Came) where
   abbrev Does : Type 0
   Does = CallAnswered old new old_marks new_marks rules m call count came n
 

@@ -12,8 +12,8 @@ use Rattle.jmachine.specs.Asking.{context_made}
 use Rattle.jmachine.specs.Calls as targets
 use Rattle.jmachine.specs.Privileges.{acting}
 use Rattle.jmachine.specs.Security.{Rules}
-use Rattle.jrun.specs.declared.stepping.Stepped.{Stepped}
-use Rattle.jrun.specs.declared.stepping.Stepped.TheVariants as done
+use Rattle.jrun.specs.declared.came.Came.{Came}
+use Rattle.jrun.specs.declared.came.Came.TheVariants as done
 use Rattle.jstate.specs.declared.shapes.Shapes.{Shapes}
 use Rattle.jstate.specs.Celled.{StayCelled}
 use Rattle.jstate.specs.Framed.{Framed, all, holding}
@@ -120,7 +120,7 @@ module _ {E : Type 0} (behind : LeftIsBehind E) (m : Machine E) (count : ℕ) (g
     snaps_told told none row =
         with_events m (left_as (Some g) heap (with_kept kept (things_of m)) m) count any (Some (context_made (store_of m) number)) told none (snaps_comes row)
 
-    pub full_comes : (n : Machine E) (came : Stepped) → came ≡ done.Ended [] HeapFull
+    pub full_comes : (n : Machine E) (came : Came) → came ≡ done.Ended [] HeapFull
         → ((f : Framed E) → m.guests.running.frames ≡ Some f → Snapshots number count f m.kept m.heap false g kept heap)
         → ComesBy m count any (Some (context_made (store_of m) number)) came n
     full_comes n came over row f runs = (
@@ -184,7 +184,7 @@ module _ {E : Type 0} (m : Machine E) (count : ℕ) (calling : Calling m count) 
       let stand = stand_of m count calling f runs in
       record { frames = less; runs = refl; stand = (record { class = stand.0.class; place = stand.0.place }, stand.1) }
 
-  pub less_comes : LeftIsBehind E → RaisesSteps E → (class : ThrownClass) (came : Stepped) (n : Machine E) → RaisesIn without class [] came n
+  pub less_comes : LeftIsBehind E → RaisesSteps E → (class : ThrownClass) (came : Came) (n : Machine E) → RaisesIn without class [] came n
       → ComesBy m count any (Some (raises (lib.Thrown class))) came n
   less_comes behind law class came n raised h at =
       let same = same_frames m.guests.running.frames f h runs at in
@@ -227,7 +227,7 @@ module _ {E : Type 0} (m mid : Machine E) (count : ℕ) (calling : Calling m cou
   pub mid_fixed : StaysFixed m mid
   mid_fixed = subst (λ (x : Machine E). StaysFixed m x) (sym is_without) (record { fixed = refl; plan = refl; side = refl; calls = refl })
 
-  pub mid_comes : LeftIsBehind E → RaisesSteps E → (class : ThrownClass) (told : List Event) (came : Stepped) (n : Machine E) → told ≡ [] → RaisesIn mid class told came n
+  pub mid_comes : LeftIsBehind E → RaisesSteps E → (class : ThrownClass) (told : List Event) (came : Came) (n : Machine E) → told ≡ [] → RaisesIn mid class told came n
       → ComesBy m count any (Some (raises (lib.Thrown class))) came n
   mid_comes behind law class told came n none raised =
       less_comes m count calling f calling.runs behind law class came n

@@ -9,7 +9,7 @@ use Rattle.jmachine.specs.Security.{Rules}
 use Rattle.jmachine.specs.Sites.{Site}
 use Rattle.jmachine.specs.Steps.{entries, own_fields, site}
 use Rattle.jguard.specs.Standing.{AskedOnce}
-use Rattle.jrun.specs.declared.stepping.Stepped.{Stepped}
+use Rattle.jrun.specs.declared.came.Came.{Came}
 use Rattle.jstate.specs.Framed.{Framed, all}
 use Rattle.jcalls.specs.Calling.{stepped}
 use Rattle.jcore.specs.declared.machine.Machine.{Machine}
@@ -38,7 +38,7 @@ pub record IsAsking {E : Type 0} (m : Machine E) (f : Framed E) (call : LibCall)
 -- ---- a step
 
 -- A step comes to this by rules that are like these, whose row does this with so many operands of the running thread's newest frame.
-abbrev pub ComesBy : {E : Type 0} → Machine E → (count : ℕ) → (like : Rules ℕ E → Type 0) → Option (Row ℕ E) → Stepped → Machine E → Type 0
+abbrev pub ComesBy : {E : Type 0} → Machine E → (count : ℕ) → (like : Rules ℕ E → Type 0) → Option (Row ℕ E) → Came → Machine E → Type 0
 ComesBy {E} m count like does came n = (f : Framed E) → m.guests.running.frames ≡ Some f
     → (over : State ℕ E) × ((r : Rules ℕ E) (row : List (Value ℕ) → Option (Row ℕ E)) → AreRules m r → like r → row (take count f.newest.operands) ≡ does
     → stepped r m.calls m.plan.now (state_of m) f count row ≡ outcome_by over n came)
@@ -51,7 +51,7 @@ CallKnown {M} kept marks m call count = (f : Framed M) → m.guests.running.fram
 
 -- The call was answered what it asks, and the step came to this by all rules that answer so.
 abbrev pub CallAnswered : {M K E : Type 0} → (old new : ℕ → Option K) (old_marks new_marks : M → Option E) → Rules K E → Machine M → LibCall → (count : ℕ)
-    → Stepped → Machine M → Type 0
+    → Came → Machine M → Type 0
 CallAnswered {M} old new old_marks new_marks rules m call count came n = (f : Framed M) → m.guests.running.frames ≡ Some f
     → Answered old new old_marks new_marks rules m (asked_of m f call count) (outcome_of m f call count) came n
 

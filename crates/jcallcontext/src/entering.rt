@@ -16,7 +16,7 @@ use jchecks::check_laws;
 use jcontexts::enter;
 use jcore::{Machine, machine_laws};
 use jguard::Guard;
-use jrun::Stepped;
+use jrun::Came;
 use std::alloc::{AllocError, Global};
 
 /// The running thread goes on with the context of a number, in the place of so many operands.
@@ -25,7 +25,7 @@ fn give_context<M: Copy>(
     m: &mut Machine<'_, '_, M>,
     number: u64,
     count: usize,
-) -> Result<Stepped, AllocError>
+) -> Result<Came, AllocError>
     requires { Calling m.old count }
     ensures comes { IfOk result (λ came. ComesBy m.old count any (Some (gives (store_of m.old) (Ctx number ∷ []))) came m.new) }
     ensures ready { IfOk result (GoesOn m.new) }
@@ -35,7 +35,7 @@ fn give_context<M: Copy>(
     match &mut m.guests.running.frames {
         Some(frames) => {
             enter(frames, count, number)?;
-            Ok(Stepped::Went {
+            Ok(Came::Went {
                 events: Seq::new(alloc),
             })
         }
@@ -49,7 +49,7 @@ pub fn call_enter<G: Guard>(
     m: &mut Machine<'_, '_, G::Mark>,
     guard: &mut G,
     count: usize,
-) -> Result<Stepped, AllocError>
+) -> Result<Came, AllocError>
     requires calling { Calling m.old count }
     requires known { CallKnown (G.kept guard.old) (G.entry guard.old) m.old (calls.Rt rt.Enter) count }
     ensures answered { IfOk result (λ done. CallAnswered (G.kept guard.old) (G.kept guard.new) (G.entry guard.old) (G.entry guard.new) (G.rules guard.old)
@@ -64,7 +64,7 @@ pub fn call_enter<G: Guard>(
 {
     check_laws::<G::Mark>();
     match entering_found(m, count) {
-        None => Ok(Stepped::Stuck),
+        None => Ok(Came::Stuck),
         Some(one) => {
             let number = ask_entered(alloc, m, guard, one)?;
             let came = give_context(alloc, m, number, count)?;

@@ -12,7 +12,7 @@ use jbase::Seq;
 use jcontexts::fail_law;
 use jcore::{Machine, machine_laws, raise};
 use jlib::Thrown;
-use jrun::Stepped;
+use jrun::Came;
 use std::alloc::{AllocError, Global};
 
 /// Takes so many operands of the running thread's newest frame away.
@@ -33,7 +33,7 @@ pub(crate) fn fail_call<M: Copy>(
     m: &mut Machine<'_, '_, M>,
     class: Thrown,
     count: usize,
-) -> Result<Stepped, AllocError>
+) -> Result<Came, AllocError>
     requires { Calling m.old count }
     ensures comes { IfOk result (λ came. ComesBy m.old count any (Some (raises (lib.Thrown class))) came m.new) }
     ensures ready { IfOk result (GoesOn m.new) }

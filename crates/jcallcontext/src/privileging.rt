@@ -23,7 +23,7 @@ use jcore::{Machine, machine_laws};
 use jguard::{Guard, Marked};
 use jinvoke::Target;
 use jlib::{LibCall, Thrown};
-use jrun::Stepped;
+use jrun::Came;
 use std::alloc::{AllocError, Global};
 
 /// Calls an action with a privilege: the newest frame of the running thread is marked, and a frame of the method begins, if it has code.
@@ -34,7 +34,7 @@ fn push_action<M: Copy>(
     action: u32,
     marked: Marked<M>,
     count: usize,
-) -> Result<Stepped, AllocError>
+) -> Result<Came, AllocError>
     requires calling { Calling m.old count }
     requires within { callee.method.class < classes_of m.old }
     ensures comes { IfOk result (λ came. ComesBy m.old count (λ r. IsCallee r.entry_of m.old.calls callee)
@@ -47,10 +47,10 @@ fn push_action<M: Copy>(
         Some(frames) => {
             let acted = act(frames, callee, action, marked.caller, marked.ctx, count)?;
             match acted {
-                Acted::Begun => Ok(Stepped::Went {
+                Acted::Begun => Ok(Came::Went {
                     events: Seq::new(alloc),
                 }),
-                Acted::Stuck => Ok(Stepped::Stuck),
+                Acted::Stuck => Ok(Came::Stuck),
             }
         }
         None => unreachable!(),
@@ -66,7 +66,7 @@ fn act_by<G: Guard>(
     count: usize,
     wanted: Wanted,
     target: Target<G::Mark>,
-) -> Result<Stepped, AllocError>
+) -> Result<Came, AllocError>
     requires calling { Calling m.old count }
     requires marks { m.old.fixed.marks.now ≡ marks_of G.mark m.old.calls }
     requires found { FoundPrivilege m.old call count (wants.Asks wanted) }
@@ -85,7 +85,7 @@ fn act_by<G: Guard>(
 {
     check_laws::<G::Mark>();
     match target {
-        Target::Stuck => Ok(Stepped::Stuck),
+        Target::Stuck => Ok(Came::Stuck),
         Target::Fails(class) => {
             let came = fail_call(alloc, m, class, count)?;
             Ok(came)
@@ -106,7 +106,7 @@ fn run_wanted<G: Guard>(
     call: LibCall,
     count: usize,
     wanted: Wanted,
-) -> Result<Stepped, AllocError>
+) -> Result<Came, AllocError>
     requires calling { Calling m.old count }
     requires marks { m.old.fixed.marks.now ≡ marks_of G.mark m.old.calls }
     requires found { FoundPrivilege m.old call count (wants.Asks wanted) }
@@ -135,7 +135,7 @@ pub fn call_privileged<G: Guard>(
     guard: &mut G,
     call: LibCall,
     count: usize,
-) -> Result<Stepped, AllocError>
+) -> Result<Came, AllocError>
     requires call { IsPrivileged call }
     requires calling { Calling m.old count }
     requires marks { m.old.fixed.marks.now ≡ marks_of G.mark m.old.calls }
@@ -153,7 +153,7 @@ pub fn call_privileged<G: Guard>(
     check_laws::<G::Mark>();
     let found = privilege_found(alloc, m, call, count)?;
     match found {
-        Privileging::Stuck => Ok(Stepped::Stuck),
+        Privileging::Stuck => Ok(Came::Stuck),
         Privileging::Null => {
             let came = fail_call(alloc, m, Thrown::NullPointerException, count)?;
             Ok(came)

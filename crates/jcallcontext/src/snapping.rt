@@ -15,7 +15,7 @@ use jcontexts::snapshot;
 use jcore::{Machine, full, machine_laws};
 use jguard::Guard;
 use jlib::LibCall;
-use jrun::Stepped;
+use jrun::Came;
 use std::alloc::{AllocError, Global};
 
 /// The running thread goes on with an AccessControlContext that keeps a number, in the place of so many operands, where there is room for it.
@@ -24,7 +24,7 @@ fn give_snapshot<M: Copy>(
     m: &mut Machine<'_, '_, M>,
     number: u64,
     count: usize,
-) -> Result<Stepped, AllocError>
+) -> Result<Came, AllocError>
     requires { Calling m.old count }
     ensures comes { IfOk result (λ came. ComesBy m.old count any (Some (context_made (store_of m.old) number)) came m.new) }
     ensures ready { IfOk result (GoesOn m.new) }
@@ -37,7 +37,7 @@ fn give_snapshot<M: Copy>(
             if !room {
                 return Ok(full(alloc));
             }
-            Ok(Stepped::Went {
+            Ok(Came::Went {
                 events: Seq::new(alloc),
             })
         }
@@ -52,7 +52,7 @@ pub fn call_snapshot<G: Guard>(
     guard: &mut G,
     call: LibCall,
     count: usize,
-) -> Result<Stepped, AllocError>
+) -> Result<Came, AllocError>
     requires call { IsSnapshot call }
     requires calling { Calling m.old count }
     requires known { CallKnown (G.kept guard.old) (G.entry guard.old) m.old call count }
@@ -68,7 +68,7 @@ pub fn call_snapshot<G: Guard>(
 {
     check_laws::<G::Mark>();
     match snapshot_found(m, call, count) {
-        None => Ok(Stepped::Stuck),
+        None => Ok(Came::Stuck),
         Some(ctx) => {
             let number = ask_kept(alloc, m, guard, ctx)?;
             let came = give_snapshot(alloc, m, number, count)?;

@@ -17,7 +17,7 @@ use Rattle.jmachine.specs.Steps as machine_steps
 use Rattle.jmachine.specs.Steps.{entries, own_fields, raised, site, went}
 use Rattle.jmachine.specs.Store.{Store, paid}
 use Rattle.jmachine.specs.Unwinding.{with_raised}
-use Rattle.jrun.specs.declared.stepping.Stepped.{Stepped}
+use Rattle.jrun.specs.declared.came.Came.{Came}
 use Rattle.jstate.specs.Framed.{Framed, all}
 use Rattle.jacts.specs.declared.way.Way.{Way}
 use Rattle.jacts.specs.declared.way.Way.TheVariants as ways
@@ -76,7 +76,7 @@ module _ {E : Type 0} (r : Rules ℕ E) (p : Program) (plan : Plan) (s : State �
   came_as follows below ways.Full stays comes = follows r p plan s f.newest f.below d (leaves ways.Full told g.newest t) comes
   came_as follows below ways.Stuck stays comes = follows r p plan s f.newest f.below d (leaves ways.Stuck told g.newest t) comes
 
-module _ {E : Type 0} (m mid n : Machine E) (call : LibCall) (count : ℕ) (done : Done) (came : Stepped) where
+module _ {E : Type 0} (m mid n : Machine E) (call : LibCall) (count : ℕ) (done : Done) (came : Came) where
   pub ran_comes : Follows E → LeftIsBehind E → IsNumbered E → IsMachine m → RanIn m call count done mid
       → Settles mid done.way (option_to_list done.told) came n → (f : Framed E) → m.guests.running.frames ≡ Some f
       → ComesTo m any (outcome_of m f call count) came n

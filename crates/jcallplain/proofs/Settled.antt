@@ -7,8 +7,8 @@ use Rattle.jtrace.specs.declared.event.End.TheVariants.{HeapFull}
 use Rattle.jtrace.specs.declared.event.Event.{Event}
 use Rattle.jmachine.specs.Acts.{State, Went}
 use Rattle.jmachine.specs.Turns.{with_running}
-use Rattle.jrun.specs.declared.stepping.Stepped.{Stepped}
-use Rattle.jrun.specs.declared.stepping.Stepped.TheVariants as stepped
+use Rattle.jrun.specs.declared.came.Came.{Came}
+use Rattle.jrun.specs.declared.came.Came.TheVariants as stepped
 use Rattle.jacts.specs.declared.way.Way.TheVariants as ways
 use Rattle.jguests.specs.Guested.{frames_of}
 use Rattle.jcore.specs.declared.machine.Machine.{Machine}
@@ -31,7 +31,7 @@ module _ {E : Type 0} (m : Machine E) (told : List Event) where
   pub stuck_settles : Settles m ways.Stuck told stepped.Stuck m
   stuck_settles s g behind frames = record { over = s; comes = λ r o rules is. is }
 
-  pub raises_settle : (n : Machine E) (class : LibClass) (c : ThrownClass) (came : Stepped) → class ≡ lib.Thrown c → RaisesIn m c told came n
+  pub raises_settle : (n : Machine E) (class : LibClass) (c : ThrownClass) (came : Came) → class ≡ lib.Thrown c → RaisesIn m c told came n
       → Settles m (ways.Raises class) told came n
   raises_settle n class c came named raises = subst (λ (x : LibClass). Settles m (ways.Raises x) told came n) (sym named) by_class
     where

@@ -8,7 +8,7 @@ use Rattle.jmachine.specs.Acts.{NoStep, Outcome, Over, State}
 use Rattle.jmachine.specs.Security.{Rules}
 use Rattle.jmachine.specs.Steps.{went}
 use Rattle.jmachine.specs.Store.{Store}
-use Rattle.jrun.specs.declared.stepping.Stepped.{Stepped}
+use Rattle.jrun.specs.declared.came.Came.{Came}
 use Rattle.jstate.specs.Framed.{Framed, all}
 use Rattle.jacts.specs.declared.way.Way.{Way}
 use Rattle.jacts.specs.declared.way.Way.TheVariants as ways
@@ -29,7 +29,7 @@ WentAs r p plan s ways.Full told g t outcome = outcome ≡ Over s [] HeapFull
 WentAs r p plan s ways.Stuck told g t outcome = outcome ≡ NoStep
 
 -- Such a step came to this.
-abbrev pub Settles : {E : Type 0} → Machine E → Way → List Event → Stepped → Machine E → Type 0
+abbrev pub Settles : {E : Type 0} → Machine E → Way → List Event → Came → Machine E → Type 0
 Settles {E} m way told came n = (s : State ℕ E) (g : Framed E) → IsBehind m s → m.guests.running.frames ≡ Some g
     → Leads m (λ r outcome. WentAs r m.calls m.plan.now s way told g (store_of m) outcome) came n
 

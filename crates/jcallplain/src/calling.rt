@@ -11,7 +11,7 @@ use crate::settling::{events_of, settle};
 use jcore::{Machine, machine_laws};
 use jlib::LibCall;
 use jlibrary::Done;
-use jrun::Stepped;
+use jrun::Came;
 use jstep::behind_laws;
 use std::alloc::{AllocError, Global};
 
@@ -22,7 +22,7 @@ pub fn call_plain<M: Copy>(
     m: &mut Machine<'_, '_, M>,
     call: LibCall,
     count: usize,
-) -> Result<Stepped, AllocError>
+) -> Result<Came, AllocError>
     requires calling { Calling m.old count }
     requires free { IsAskFree call }
     requires told { MayTell m.old call count }

@@ -7,7 +7,7 @@ ghost use Rattle.jcallplain.specs.Ways.{IsLeft, Settles};
 use jacts::Way;
 use jbase::Seq;
 use jcore::{Machine, full, raise};
-use jrun::Stepped;
+use jrun::Came;
 use jstep::thrown_class;
 use jtrace::Event;
 use std::alloc::{AllocError, Global};
@@ -29,20 +29,20 @@ pub(crate) fn settle<M: Copy>(
     m: &mut Machine<'_, '_, M>,
     way: Way,
     told: Seq<Event>,
-) -> Result<Stepped, AllocError>
+) -> Result<Came, AllocError>
     requires { IsLeft m.old way }
     ensures comes { IfOk result (λ came. Settles m.old way told came m.new) }
     ensures ready { IfOk result (GoesOn m.new) }
     ensures fixed { OnOk result (StaysFixed m.old m.new) }
 {
     match way {
-        Way::Went => Ok(Stepped::Went { events: told }),
+        Way::Went => Ok(Came::Went { events: told }),
         Way::Raises(class) => {
             let came = raise(alloc, m, thrown_class(class), told)?;
             Ok(came)
         }
         Way::Full => Ok(full(alloc)),
-        Way::Stuck => Ok(Stepped::Stuck),
+        Way::Stuck => Ok(Came::Stuck),
         Way::Throws(_) => unreachable!(),
     }
 }

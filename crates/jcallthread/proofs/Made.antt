@@ -9,8 +9,8 @@ use Rattle.jlib.specs.declared.side.Side.{Side}
 use Rattle.jmachine.specs.Acts.{FrameOf, Went}
 use Rattle.jmachine.specs.Asked.{Answer, Ask, Inherits, Kept, answer_in, asking_site, carried}
 use Rattle.jmachine.specs.Security.{Rules}
-use Rattle.jrun.specs.declared.stepping.Stepped.{Stepped}
-use Rattle.jrun.specs.declared.stepping.Stepped.TheVariants as stepped
+use Rattle.jrun.specs.declared.came.Came.{Came}
+use Rattle.jrun.specs.declared.came.Came.TheVariants as stepped
 use Rattle.jstate.specs.Celled.{StayCelled}
 use Rattle.jstate.specs.Framed.{Framed, all}
 use Rattle.jstate.specs.Seen.{AreBuilt}
@@ -82,9 +82,9 @@ module _ {E : Type 0} (m : Machine E) (side : Side) (count : ℕ) where
         kept = λ more. made.names m.calls m.fixed.shapes.now (things_of m) (with_kept (m.kept ++ more) (things_of m)) (is.kept more);
       })
 
-  pub made_ready : Calling m count → (kept : ℕ) (x : Given) (n : Machine E) (came : Stepped) → MakesIn m kept count x n → came ≡ stepped.Went [] → GoesOn n came
+  pub made_ready : Calling m count → (kept : ℕ) (x : Given) (n : Machine E) (came : Came) → MakesIn m kept count x n → came ≡ stepped.Went [] → GoesOn n came
   made_ready c kept x n came made is =
-      subst (λ (y : Stepped). GoesOn n y) (sym is) (record {
+      subst (λ (y : Came). GoesOn n y) (sym is) (record {
         machine = made_machine c kept x n made;
         lives = subst (λ (y : Machine E). Lives y.guests) (sym made.is) made.lives;
         running = subst (λ (y : Machine E). GuestStands (classes_of y) y.guests.running) (sym made.is)
@@ -101,7 +101,7 @@ module _ {E : Type 0} (m : Machine E) (side : Side) (count : ℕ) where
   pub init_asks : InitAsks → (x : Given) → IsGivenIn m side count x → (f : Framed E) → m.guests.running.frames ≡ Some f → asked_of m f (calls.Thread call) count ≡ None → ⊥
   init_asks asks x given f frames none = let e : Some (Inherits x.context) ≡ None = sym (init_asked asks x given f frames) ∙ none in cc
 
-  pub made_answered : {K F : Type 0} (old new : ℕ → Option K) (old_marks new_marks : E → Option F) (rules : Rules K F) → InitAsks → (kept : ℕ) (x : Given) (n : Machine E) (came : Stepped)
+  pub made_answered : {K F : Type 0} (old new : ℕ → Option K) (old_marks new_marks : E → Option F) (rules : Rules K F) → InitAsks → (kept : ℕ) (x : Given) (n : Machine E) (came : Came)
       → IsGivenIn m side count x → MakesIn m kept count x n → came ≡ stepped.Went []
       → AnswersFor old new old_marks new_marks rules (Inherits x.context) (carried (state_of m)) m.guests.running.inherited (Kept kept)
       → (f : Framed E) → m.guests.running.frames ≡ Some f
@@ -115,7 +115,7 @@ module _ {E : Type 0} (m : Machine E) (side : Side) (count : ℕ) where
             (same_ask ask (sym asked ∙ e)) answer;
         comes = record {
           over = s;
-          comes = λ r own so. subst (λ (y : Stepped). outcome_of m f (calls.Thread call) count r ≡ outcome_by s n y) (sym is)
+          comes = λ r own so. subst (λ (y : Came). outcome_of m f (calls.Thread call) count r ≡ outcome_by s n y) (sym is)
               (made.row r m.calls m.plan.now m.fixed.shapes.now (things_of m) m.constants.constants side f frames (given f frames)
               (ap (λ es. r.inherit x.context es m.guests.running.inherited) (sym (carried_is m f frames)) ∙ kept_same (r.inherit x.context (carried s) m.guests.running.inherited) kept (answer_in r s (Inherits x.context)) (Kept kept) refl refl (so (Inherits x.context) asked))
               ∙ ap (λ (y : Machine E). Went (state_of y) []) (sym made.is));
@@ -150,7 +150,7 @@ module _ {E : Type 0} (m : Machine E) (side : Side) (count : ℕ) where
 
 -- ---- the other calls
 
-pub none_answered : {E K F : Type 0} (m n : Machine E) (call : ThreadCall) (count : ℕ) (came : Stepped) (old new : ℕ → Option K) (old_marks new_marks : E → Option F) (rules : Rules K F)
+pub none_answered : {E K F : Type 0} (m n : Machine E) (call : ThreadCall) (count : ℕ) (came : Came) (old new : ℕ → Option K) (old_marks new_marks : E → Option F) (rules : Rules K F)
     → (f : Framed E) → asked_of m f (calls.Thread call) count ≡ None → Comes m any (outcome_of m f (calls.Thread call) count) came n
     → Answered old new old_marks new_marks rules m (asked_of m f (calls.Thread call) count) (outcome_of m f (calls.Thread call) count) came n
 none_answered m n call count came old new old_marks new_marks rules f asked comes =

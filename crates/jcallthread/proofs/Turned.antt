@@ -7,8 +7,8 @@ use Rattle.jlib.specs.declared.classes.LibClass.TheVariants as lib
 use Rattle.jlib.specs.declared.classes.Thrown.{Thrown as ThrownClass}
 use Rattle.jmachine.specs.Acts.{Outcome, State}
 use Rattle.jmachine.specs.Security.{Rules}
-use Rattle.jrun.specs.declared.stepping.Stepped.{Stepped}
-use Rattle.jrun.specs.declared.stepping.Stepped.TheVariants as stepped
+use Rattle.jrun.specs.declared.came.Came.{Came}
+use Rattle.jrun.specs.declared.came.Came.TheVariants as stepped
 use Rattle.jstate.specs.Framed.{Framed, all}
 use Rattle.jcalls.specs.Marks.{Stand}
 use Rattle.jcalls.specs.Throws.{raising}
@@ -44,7 +44,7 @@ turns_on {E} m call kind count done g is row are stay framed lives alive =
     }
 
 -- what the step came to, where nothing is raised
-abbrev came_of : Threaded → Stepped
+abbrev came_of : Threaded → Came
 came_of threaded.Went = stepped.Went []
 came_of (threaded.Turned done) = turned_as done
 came_of (threaded.Raises class) = stepped.Stuck
@@ -87,9 +87,9 @@ module _ {E : Type 0} (m : Machine E) (call : ThreadCall) (count : ℕ) (c : Cal
             (each_stands m count c done x.guests x.stay x.guests.running (inl refl));
       }
 
-  pub turned_ready : (done kind : Threaded) (came : Stepped) (n : Machine E) → TurnsOn m call count done n → done ≡ kind → RaisesNone kind → came ≡ came_of kind → GoesOn n came
+  pub turned_ready : (done kind : Threaded) (came : Came) (n : Machine E) → TurnsOn m call count done n → done ≡ kind → RaisesNone kind → came ≡ came_of kind → GoesOn n came
   turned_ready done kind came n x is none way =
-      subst (λ (y : Stepped). GoesOn n y) (sym way) (by kind (subst (λ (d : Threaded). TurnsOn m call count d n) is x) none)
+      subst (λ (y : Came). GoesOn n y) (sym way) (by kind (subst (λ (d : Threaded). TurnsOn m call count d n) is x) none)
     where
       alive : (d : Threaded) → TurnsOn m call count d n → LivesOn d n.guests
       alive d y = subst (λ (z : Machine E). LivesOn d z.guests) (sym y.is) y.lives
@@ -113,7 +113,7 @@ module _ {E : Type 0} (m : Machine E) (call : ThreadCall) (count : ℕ) (c : Cal
   comes_so (threaded.Raises class) g row none f frames r = absurd none
   comes_so threaded.Stuck g row none f frames r = row r m.calls m.plan.now m.fixed.shapes.now (things_of m) m.constants.constants f frames refl
 
-  kind_comes : (done : Threaded) (came : Stepped) (n : Machine E) → TurnsOn m call count done n → RaisesNone done → came ≡ came_of done
+  kind_comes : (done : Threaded) (came : Came) (n : Machine E) → TurnsOn m call count done n → RaisesNone done → came ≡ came_of done
       → (f : Framed E) → m.guests.running.frames ≡ Some f → Comes m any (outcome f) came n
   kind_comes done came n x none is f frames =
       record {
@@ -123,7 +123,7 @@ module _ {E : Type 0} (m : Machine E) (call : ThreadCall) (count : ℕ) (c : Cal
             ∙ ap (outcome_by (over_of x.guests) n) (sym is);
       }
 
-  pub turned_comes : (done kind : Threaded) (came : Stepped) (n : Machine E) → TurnsOn m call count done n → done ≡ kind → RaisesNone kind → came ≡ came_of kind
+  pub turned_comes : (done kind : Threaded) (came : Came) (n : Machine E) → TurnsOn m call count done n → done ≡ kind → RaisesNone kind → came ≡ came_of kind
       → (f : Framed E) → m.guests.running.frames ≡ Some f → Comes m any (outcome f) came n
   turned_comes done kind came n x is none way f frames = kind_comes kind came n (subst (λ (d : Threaded). TurnsOn m call count d n) is x) none way f frames
 
@@ -172,7 +172,7 @@ module _ {E : Type 0} (m : Machine E) (call : ThreadCall) (count : ℕ) (c : Cal
   rules_so : (class : ThrownClass) (n : Machine E) → TurnsOn m call count (threaded.Raises class) n → (r : Rules ℕ E) → AreRules m r → AreRules n r
   rules_so class n x r rules = subst (λ (y : Machine E). AreRules y r) (sym x.is) (record { marks = rules.marks; side = rules.side })
 
-  pub raised_comes : RunsAs E → (class : ThrownClass) (n k : Machine E) (came : Stepped) → TurnsOn m call count (threaded.Raises class) n → RaisesIn n class [] came k
+  pub raised_comes : RunsAs E → (class : ThrownClass) (n k : Machine E) (came : Came) → TurnsOn m call count (threaded.Raises class) n → RaisesIn n class [] came k
       → (f : Framed E) → m.guests.running.frames ≡ Some f → Comes m any (outcome f) came k
   raised_comes runs class n k came x raises f frames =
       let same : store_of n ≡ store_of m = ap store_of x.is in

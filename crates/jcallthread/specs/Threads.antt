@@ -3,8 +3,8 @@ use Rattle.std.specs.Prelude.{◌≡◌, ℕ, [], take, Some}
 use Rattle.jheap.specs.Heaps.{Heaped}
 use Rattle.jlib.specs.declared.calls.ThreadCall.{ThreadCall}
 use Rattle.jlib.specs.declared.side.Side.{Side}
-use Rattle.jrun.specs.declared.stepping.Stepped.{Stepped}
-use Rattle.jrun.specs.declared.stepping.Stepped.TheVariants as stepped
+use Rattle.jrun.specs.declared.came.Came.{Came}
+use Rattle.jrun.specs.declared.came.Came.TheVariants as stepped
 use Rattle.jstate.specs.Celled.{StayCelled}
 use Rattle.jstate.specs.Framed.{Framed}
 use Rattle.jstate.specs.Seen.{AreBuilt}
@@ -25,7 +25,7 @@ abbrev pub with_threads : {E : Type 0} → Guests E → Heaped → Machine E →
 with_threads guests heap m = record m { guests = guests; heap = heap }
 
 -- The run goes on behind a turn, or has ended, and nothing is told.
-abbrev pub turned_as : Turned → Stepped
+abbrev pub turned_as : Turned → Came
 turned_as turns.Goes = stepped.Went []
 turned_as (turns.Ends end) = stepped.Ended [] end
 

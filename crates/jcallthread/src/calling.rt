@@ -11,7 +11,7 @@ use crate::turning::call_turn;
 use jcore::Machine;
 use jguard::Guard;
 use jlib::ThreadCall;
-use jrun::Stepped;
+use jrun::Came;
 use jthreading::init_laws;
 use std::alloc::{AllocError, Global};
 
@@ -23,7 +23,7 @@ pub fn call_thread<G: Guard>(
     guard: &mut G,
     call: ThreadCall,
     count: usize,
-) -> Result<Stepped, AllocError>
+) -> Result<Came, AllocError>
     requires calling { Calling m.old count }
     requires known { (f : Framed G.Mark) → m.old.guests.running.frames ≡ Some f
         → AsksKnown (G.kept guard.old) (G.entry guard.old) m.old (asked_of m.old f (calls.Thread call) count) }

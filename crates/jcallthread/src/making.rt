@@ -13,7 +13,7 @@ use crate::turning::went;
 use jcore::Machine;
 use jguard::{Guard, ask_inherit};
 use jlib::Side;
-use jrun::Stepped;
+use jrun::Came;
 use jthreading::{Given, init_laws, make, named_by};
 use std::alloc::{AllocError, Global};
 
@@ -69,7 +69,7 @@ pub(crate) fn call_init<G: Guard>(
     guard: &mut G,
     side: Side,
     count: usize,
-) -> Result<Stepped, AllocError>
+) -> Result<Came, AllocError>
     requires calling { Calling m.old count }
     requires known { (f : Framed G.Mark) → m.old.guests.running.frames ≡ Some f
         → AsksKnown (G.kept guard.old) (G.entry guard.old) m.old (asked_of m.old f (calls.Thread (threads.Init side)) count) }
@@ -87,7 +87,7 @@ pub(crate) fn call_init<G: Guard>(
 {
     init_laws::<G::Mark>();
     let Some(given) = named_by(&m.guests, &m.heap, side, count) else {
-        return Ok(Stepped::Stuck);
+        return Ok(Came::Stuck);
     };
     let kept = ask(alloc, m, guard, given.context)?;
     make_thread(alloc, m, side, given, kept, count)?;

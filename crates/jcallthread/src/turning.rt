@@ -1,6 +1,6 @@
 ghost use Rattle.std.specs.Prelude.{◌≡◌, [], IfOk, OnOk, Some};
 ghost use Rattle.jlib.specs.declared.calls.LibCall.TheVariants as calls;
-ghost use Rattle.jrun.specs.declared.stepping.Stepped.TheVariants as stepped;
+ghost use Rattle.jrun.specs.declared.came.Came.TheVariants as stepped;
 ghost use Rattle.jstate.specs.Framed.{Framed};
 ghost use Rattle.jthreading.specs.Laws.{IsNoInit};
 ghost use Rattle.jcore.specs.Answering.{Calling, outcome_of};
@@ -12,7 +12,7 @@ use jbase::Seq;
 use jcore::{Machine, machine_laws, raise};
 use jguests::{Turned, guest_laws};
 use jlib::ThreadCall;
-use jrun::Stepped;
+use jrun::Came;
 use jthreading::{Threaded, join, start, yield_turn};
 use std::alloc::{AllocError, Global};
 
@@ -48,22 +48,22 @@ fn turn_threads<M: Copy>(
 }
 
 /// The run goes on, and nothing is told.
-pub(crate) fn went(alloc: Global) -> Stepped
+pub(crate) fn went(alloc: Global) -> Came
     ensures { result ≡ stepped.Went [] }
 {
-    Stepped::Went {
+    Came::Went {
         events: Seq::new(alloc),
     }
 }
 
 /// The run goes on behind a turn, or has ended, and nothing is told.
-fn behind_turn(alloc: Global, done: Turned) -> Stepped
+fn behind_turn(alloc: Global, done: Turned) -> Came
     ensures { result ≡ turned_as done }
 {
     let events = Seq::new(alloc);
     match done {
-        Turned::Goes => Stepped::Went { events },
-        Turned::Ends(end) => Stepped::Ended { events, end },
+        Turned::Goes => Came::Went { events },
+        Turned::Ends(end) => Came::Ended { events, end },
     }
 }
 
@@ -73,7 +73,7 @@ pub(crate) fn call_turn<M: Copy>(
     m: &mut Machine<'_, '_, M>,
     call: ThreadCall,
     count: usize,
-) -> Result<Stepped, AllocError>
+) -> Result<Came, AllocError>
     requires calling { Calling m.old count }
     requires call { IsNoInit call }
     ensures comes { IfOk result (λ done. (f : Framed M) → m.old.guests.running.frames ≡ Some f
@@ -91,6 +91,6 @@ pub(crate) fn call_turn<M: Copy>(
             let came = raise(alloc, m, class, Seq::new(alloc))?;
             Ok(came)
         }
-        Threaded::Stuck => Ok(Stepped::Stuck),
+        Threaded::Stuck => Ok(Came::Stuck),
     }
 }

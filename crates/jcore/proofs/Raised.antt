@@ -7,7 +7,7 @@ use Rattle.jtrace.specs.declared.event.Event.{Event}
 use Rattle.jprogram.specs.Classes.{Program}
 use Rattle.jmachine.specs.Acts.{Outcome, State}
 use Rattle.jmachine.specs.Unwinding.{handler_at}
-use Rattle.jrun.specs.declared.stepping.Stepped.{Stepped}
+use Rattle.jrun.specs.declared.came.Came.{Came}
 use Rattle.jstate.specs.Celled.{StayCelled}
 use Rattle.jstate.specs.Framed.{Framed, all}
 use Rattle.jstate.specs.Seen.{AreBuilt}
@@ -57,7 +57,7 @@ module _ {E : Type 0} (m : Machine E) (class : ThrownClass) (done : Raised) (g :
 
 -- ---- what stands behind it
 
-module _ {E : Type 0} (m n : Machine E) (class : ThrownClass) (told : List Event) (done : Raised) (came : Stepped) where
+module _ {E : Type 0} (m n : Machine E) (class : ThrownClass) (told : List Event) (done : Raised) (came : Came) where
   settles_left : Told E → RunsAs E → (g : Framed E) (heap : Heaped)
       → ((f : Framed E) → m.guests.running.frames ≡ Some f
       → Raises m.fixed.marks.now (handler_at m.calls (type_of m.calls (thrown_ref class))) (lib.Thrown class) f m.heap done g heap)

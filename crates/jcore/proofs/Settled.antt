@@ -10,8 +10,8 @@ use Rattle.jmachine.specs.Acts.{Over, State, Went}
 use Rattle.jmachine.specs.Store.{Store}
 use Rattle.jmachine.specs.Turns.{ended, thread_of, with_running}
 use Rattle.jmachine.specs.Unwinding.{told_name}
-use Rattle.jrun.specs.declared.stepping.Stepped.{Stepped}
-use Rattle.jrun.specs.declared.stepping.Stepped.TheVariants as done
+use Rattle.jrun.specs.declared.came.Came.{Came}
+use Rattle.jrun.specs.declared.came.Came.TheVariants as done
 use Rattle.jstate.specs.Framed.{Framed, all}
 use Rattle.jcalls.specs.declared.raising.Raised.TheVariants as raised
 use Rattle.jguests.specs.declared.guests.Guests.{Guests}
@@ -72,7 +72,7 @@ module _ {E : Type 0} (m : Machine E) (class : ClassRef) (told : List Event) whe
     comes = λ r o rules so. so ∙ ap₂ Went (frames_are m s g behind runs) (ap (λ t. told ++ Throw t name ∷ []) (sym (number_is m s are behind)) ∙ sym is);
   }
 
-  pub raised_uncaught : (after : List Event) (n : Machine E) (came : Stepped) → AreGuests m.guests → after ≡ told ++ Throw m.guests.at name ∷ Uncaught m.guests.at name ∷ []
+  pub raised_uncaught : (after : List Event) (n : Machine E) (came : Came) → AreGuests m.guests → after ≡ told ++ Throw m.guests.at name ∷ Uncaught m.guests.at name ∷ []
       → EndsThread m true after came n → SettlesRaised m raised.Uncaught class told came n
   raised_uncaught after n came are is ends s g behind runs = record {
     over = state_of n;
@@ -93,17 +93,17 @@ module _ {E : Type 0} (m : Machine E) where
   pub settled_stuck : Settles m steps.Stuck done.Stuck m
   settled_stuck s g behind runs = record { over = s; comes = λ r o rules so. so }
 
-  pub settled_ended : (told : List Event) (n : Machine E) (came : Stepped) → told ≡ [] → EndsThread m false told came n → Settles m steps.Ended came n
+  pub settled_ended : (told : List Event) (n : Machine E) (came : Came) → told ≡ [] → EndsThread m false told came n → Settles m steps.Ended came n
   settled_ended told n came none ends s g behind runs =
       let law = subst (λ (events : List Event). EndsThread m false events came n) none ends in
       record { over = state_of n; comes = λ r o rules so. so ∙ law s behind }
 
-  pub settled_handled : (class : ClassRef) (told : List Event) (n : Machine E) (came : Stepped) → told ≡ []
+  pub settled_handled : (class : ClassRef) (told : List Event) (n : Machine E) (came : Came) → told ≡ []
       → SettlesRaised m raised.Handled class told came n → Settles m (steps.Handled class) came n
   settled_handled class told n came none law s g behind runs =
       subst (λ (events : List Event). SettlesRaised m raised.Handled class events came n) none law s g behind runs
 
-  pub settled_uncaught : (class : ClassRef) (told : List Event) (n : Machine E) (came : Stepped) → told ≡ []
+  pub settled_uncaught : (class : ClassRef) (told : List Event) (n : Machine E) (came : Came) → told ≡ []
       → SettlesRaised m raised.Uncaught class told came n → Settles m (steps.Uncaught class) came n
   settled_uncaught class told n came none law s g behind runs =
       subst (λ (events : List Event). SettlesRaised m raised.Uncaught class events came n) none law s g behind runs

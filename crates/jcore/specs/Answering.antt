@@ -4,7 +4,7 @@ use Rattle.jlib.specs.declared.calls.LibCall.{LibCall}
 use Rattle.jmachine.specs.Acts.{Outcome, State}
 use Rattle.jmachine.specs.Asked.{Answer, Ask, answer_in, asking_site, carried, run_asks}
 use Rattle.jmachine.specs.Security.{Rules}
-use Rattle.jrun.specs.declared.stepping.Stepped.{Stepped}
+use Rattle.jrun.specs.declared.came.Came.{Came}
 use Rattle.jguests.specs.Guested.{Lives}
 use Rattle.jstate.specs.Framed.{Framed, all}
 use Rattle.jcalls.specs.Marks.{Stand}
@@ -46,7 +46,7 @@ AnswerSo m asked given r = (ask : Ask ℕ) → asked ≡ Some ask → answer_in 
 
 -- A step was answered what it asks, by what numbers and marks stood for before and behind it, and came to this by all rules that answer so.
 pub record Answered {M K E : Type 0} (old new : ℕ → Option K) (old_marks new_marks : M → Option E) (rules : Rules K E) (m : Machine M) (asked : Option (Ask ℕ))
-    (outcome : Rules ℕ M → Outcome (State ℕ M)) (came : Stepped) (n : Machine M) : Type 0 where
+    (outcome : Rules ℕ M → Outcome (State ℕ M)) (came : Came) (n : Machine M) : Type 0 where
   pub given : Answer ℕ M
   pub answers : (ask : Ask ℕ) → asked ≡ Some ask → AnswersFor old new old_marks new_marks rules ask (carried (state_of m)) m.guests.running.inherited given
   pub comes : Comes m (AnswerSo m asked given) outcome came n

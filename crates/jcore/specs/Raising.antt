@@ -8,7 +8,7 @@ use Rattle.jprogram.specs.declared.part.ClassRef.{ClassRef}
 use Rattle.jprogram.specs.declared.part.ClassRef.TheVariants as refs
 use Rattle.jmachine.specs.Acts.{State}
 use Rattle.jmachine.specs.Unwinding.{handler_at}
-use Rattle.jrun.specs.declared.stepping.Stepped.{Stepped}
+use Rattle.jrun.specs.declared.came.Came.{Came}
 use Rattle.jstate.specs.Framed.{Framed, all}
 use Rattle.jcalls.specs.declared.raising.Raised.{Raised}
 use Rattle.jcalls.specs.Throws.{Raises, raising}
@@ -34,6 +34,6 @@ pub record ThrowsIn {E : Type 0} (m : Machine E) (class : ThrownClass) (done : R
 
 -- A step that comes to raising an exception of a class behind these events, where the running thread has the frames and the store that it has,
 -- came to this.
-abbrev pub RaisesIn : {E : Type 0} → Machine E → ThrownClass → List Event → Stepped → Machine E → Type 0
+abbrev pub RaisesIn : {E : Type 0} → Machine E → ThrownClass → List Event → Came → Machine E → Type 0
 RaisesIn {E} m class told came n = (s : State ℕ E) (g : Framed E) → IsBehind m s → m.guests.running.frames ≡ Some g
     → Leads m (λ r outcome. (s.store ≡ store_of m) × (outcome ≡ raising r m.calls m.plan.now s (all g) told (lib.Thrown class))) came n

@@ -14,7 +14,7 @@ use jguests::guest_laws;
 use jinvoke::{ThrownAs, told_law};
 use jlib::{LibClass, Thrown};
 use jprogram::ClassRef;
-use jrun::Stepped;
+use jrun::Came;
 use jstate::thrown_number;
 use jtrace::Event;
 use std::alloc::{AllocError, Global};
@@ -59,7 +59,7 @@ pub fn raise<M: Copy>(
     m: &mut Machine<'_, '_, M>,
     class: Thrown,
     told: Seq<Event>,
-) -> Result<Stepped, AllocError>
+) -> Result<Came, AllocError>
     requires machine { IsMachine m.old }
     requires lives { Lives m.old.guests }
     requires runs { RunsStanding m.old }

@@ -2,7 +2,7 @@ ghost use Rattle.std.specs.Prelude.{◌≡◌, ◌∷◌, ◌++◌, [], IfOk, On
 ghost use Rattle.jtrace.specs.declared.event.End.TheVariants.{HeapFull};
 ghost use Rattle.jtrace.specs.declared.event.Event.TheVariants.{Throw, Uncaught};
 ghost use Rattle.jmachine.specs.Unwinding.{told_name as name_told};
-ghost use Rattle.jrun.specs.declared.stepping.Stepped.TheVariants as stepped;
+ghost use Rattle.jrun.specs.declared.came.Came.TheVariants as stepped;
 ghost use Rattle.jstep.specs.Stepping.{type_of};
 ghost use Rattle.jguests.specs.Guested.{Lives};
 ghost use Rattle.jcore.specs.Comings.{EndsThread, GoesOn, HandledStand, IsOwn, LeftStand, Settles, SettlesRaised};
@@ -14,7 +14,7 @@ use jbase::Seq;
 use jcalls::Raised;
 use jguests::Turned;
 use jprogram::ClassRef;
-use jrun::Stepped;
+use jrun::Came;
 use jtrace::{End, Event};
 use std::alloc::{AllocError, Global};
 
@@ -25,7 +25,7 @@ pub fn end_thread<M: Copy>(
     m: &mut Machine<'_, '_, M>,
     failed: bool,
     told: Seq<Event>,
-) -> Result<Stepped, AllocError>
+) -> Result<Came, AllocError>
     requires machine { IsMachine m.old }
     requires lives { Lives m.old.guests }
     ensures comes { IfOk result (λ came. EndsThread m.old failed told came m.new) }
@@ -36,8 +36,8 @@ pub fn end_thread<M: Copy>(
         .guests
         .end_turn(alloc, m.plan.schedule.as_slice(), failed)?
     {
-        Turned::Goes => Ok(Stepped::Went { events: told }),
-        Turned::Ends(end) => Ok(Stepped::Ended { events: told, end }),
+        Turned::Goes => Ok(Came::Went { events: told }),
+        Turned::Ends(end) => Ok(Came::Ended { events: told, end }),
     }
 }
 
@@ -84,7 +84,7 @@ pub fn settle_raised<M: Copy>(
     done: Raised,
     class: ClassRef,
     told: Seq<Event>,
-) -> Result<Stepped, AllocError>
+) -> Result<Came, AllocError>
     requires machine { IsMachine m.old }
     requires lives { Lives m.old.guests }
     requires stand { HandledStand m.old done }
@@ -97,7 +97,7 @@ pub fn settle_raised<M: Copy>(
         Raised::Full => Ok(full(alloc)),
         Raised::Handled => {
             tell_thrown(alloc, m, class, &mut told)?;
-            Ok(Stepped::Went { events: told })
+            Ok(Came::Went { events: told })
         }
         Raised::Uncaught => {
             tell_uncaught(alloc, m, class, &mut told)?;
@@ -108,10 +108,10 @@ pub fn settle_raised<M: Copy>(
 }
 
 /// The run is over, since the heap has too few cells.
-pub fn full(alloc: Global) -> Stepped
+pub fn full(alloc: Global) -> Came
     ensures { result ≡ stepped.Ended [] HeapFull }
 {
-    Stepped::Ended {
+    Came::Ended {
         events: Seq::new(alloc),
         end: End::HeapFull,
     }
@@ -123,7 +123,7 @@ pub fn settle<M: Copy>(
     alloc: Global,
     m: &mut Machine<'_, '_, M>,
     came: jstep::Stepped,
-) -> Result<Stepped, AllocError>
+) -> Result<Came, AllocError>
     requires own { IsOwn came }
     requires machine { IsMachine m.old }
     requires lives { Lives m.old.guests }
@@ -134,7 +134,7 @@ pub fn settle<M: Copy>(
 {
     let told = Seq::new(alloc);
     match came {
-        jstep::Stepped::Went => Ok(Stepped::Went { events: told }),
+        jstep::Stepped::Went => Ok(Came::Went { events: told }),
         jstep::Stepped::Ended => {
             let done = end_thread(alloc, m, false, told)?;
             Ok(done)
@@ -148,7 +148,7 @@ pub fn settle<M: Copy>(
             Ok(done)
         }
         jstep::Stepped::Full => Ok(full(alloc)),
-        jstep::Stepped::Stuck => Ok(Stepped::Stuck),
+        jstep::Stepped::Stuck => Ok(Came::Stuck),
         jstep::Stepped::Asks { .. } => unreachable!(),
     }
 }

@@ -76,13 +76,15 @@ module _ {S T : Type 0} (R : S → T → Type 0) (fast : S → Outcome S) (slow 
 
   stuck : {P : Type 0} (told : List Event) (s : S) (m : ℕ) → 1 ≤ m → fast s ≡ NoStep → IsUnstuck fast (going told s) m → P
   stuck told s m le is free =
-      absurd (free 1 le (ap (λ (r : Run S). r.end) (one_more fast 0 told s NoStep is ∙ none_yet fast (after fast (going told s) NoStep))))
+      let here = none_yet fast (going told s) in
+      absurd (free 0 le (ap (λ (r : Run S). r.end) here) (ap (λ (r : Run S). fast r.state) here ∙ is))
 
   -- what goes on is unstuck for one step less
   free_on : (told : List Event) (s s' : S) (events : List Event) (n m : ℕ) → fast s ≡ Went s' events → suc n ≤ m → IsUnstuck fast (going told s) m
       → IsUnstuck fast (going (told ++ events) s') n
-  free_on told s s' events n m is le free k within e =
-      free (suc k) (omega arith) (ap (λ (r : Run S). r.end) (one_more fast k told s (Went s' events) is) ∙ e)
+  free_on told s s' events n m is le free k within e none =
+      let on = one_more fast k told s (Went s' events) is in
+      free (suc k) (omega arith) (ap (λ (r : Run S). r.end) on ∙ e) (ap (λ (r : Run S). fast r.state) on ∙ none)
 
   abbrev Again : ℕ → Type 0
   Again fuel = (n : ℕ) (told : List Event) (s : S) (t : T) → n ≤ fuel → R s t → IsUnstuck fast (going told s) n → Keeps fast slow most (going told s) (going told t) n

@@ -2,7 +2,6 @@
 use Rattle.std.specs.Prelude.{◌≡◌, ◌<◌, ◌≤◌, ◌+◌, ◌*◌, ℕ, List, [], ◌++◌, Some, None}
 use Rattle.jtrace.specs.declared.event.Event.{Event}
 use Rattle.jtrace.specs.declared.event.End.{End}
-use Rattle.jtrace.specs.declared.event.End.TheVariants as ends
 use Rattle.jmachine.specs.Acts.{Outcome, Went, Over, NoStep}
 use Rattle.jmachine.specs.Runs.{Run, run_from}
 
@@ -45,9 +44,13 @@ Follows {S} {T} R fast slow most = (s : S) (t : T) → R s t → Answers R slow 
 
 -- ---- whole runs
 
--- it isn't stuck within so many steps
+-- it has ended, or its state has a step
+abbrev pub HasStep : {S : Type 0} → (S → Outcome S) → Run S → Type 0
+HasStep step r = r.end ≡ None → step r.state ≡ NoStep → ⊥
+
+-- so many steps of it are steps: it isn't stuck before
 abbrev pub IsUnstuck : {S : Type 0} → (S → Outcome S) → Run S → ℕ → Type 0
-IsUnstuck step r n = (k : ℕ) → k ≤ n → (run_from step k r).end ≡ Some ends.Stuck → ⊥
+IsUnstuck step r n = (k : ℕ) → k < n → HasStep step (run_from step k r)
 
 -- after m steps the slower machine has told what the other has told after some k, and has ended as that, or m is near
 pub record Keeps {S T : Type 0} (fast : S → Outcome S) (slow : T → Outcome T) (most : ℕ) (r : Run S) (q : Run T) (m : ℕ) : Type 0 where

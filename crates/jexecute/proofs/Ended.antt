@@ -14,8 +14,8 @@ use Rattle.jmachine.specs.Steps.{site, step}
 use Rattle.jmachine.specs.Store.{Store}
 use Rattle.jmachine.specs.Turns.{with_running}
 use Rattle.jmachine.specs.World.{world}
-use Rattle.jrun.specs.declared.stepping.Stepped as run
-use Rattle.jrun.specs.declared.stepping.Stepped.TheVariants as ends
+use Rattle.jrun.specs.declared.came.Came as run
+use Rattle.jrun.specs.declared.came.Came.TheVariants as ends
 use Rattle.jstate.specs.Framed.{Framed, all, framed}
 use Rattle.jtold.specs.Telling as telling
 use Rattle.jtold.specs.Telling.{TellsWhatMay}
@@ -94,13 +94,13 @@ module _ {E : Type 0} (m : Machine E) (f g : Framed E) (h : Heaped) (made : Made
   SteppedSo came = (r : Rules ℕ E) → AreRules m r
       → stepped.CameTo r m.calls m.plan.now s f came g (store_of n) (steps_of r) asked (instruction_at m.calls f.newest.method f.newest.place)
 
-  pub settled : (came : Stepped) (end : run.Stepped) (o : Machine E) → SteppedSo came → Settles n came end o → Comes m any steps_of end o
+  pub settled : (came : Stepped) (end : run.Came) (o : Machine E) → SteppedSo came → Settles n came end o → Comes m any steps_of end o
   settled came end o so settles =
       let both = settles s g is_behind refl in
       record { over = both.over; comes = λ r are like. both.comes r (steps_of r) (same_rules r are) (so r are).outcome }
 
   done : (came : Stepped) (e : Executed) (o : Machine E) → SteppedSo came → asked ≡ None
-      → (end : run.Stepped) × (e ≡ executed.Done end) × Settles n came end o × GoesOn o end → Executes m e o
+      → (end : run.Came) × (e ≡ executed.Done end) × Settles n came end o × GoesOn o end → Executes m e o
   done came e o so none (end, is, settles, ready) =
       let P : Executed → Type 0 = λ x. Executes m x o in
       subst P (sym is) (record { comes = settled came end o so settles; ready = ready; silent = none })

@@ -67,7 +67,7 @@ use Rattle.jcore.specs.Comings.{Comes, any}
 use Rattle.jcore.specs.Machines.{IsReady, counts_of, state_of, things_of}
 use Rattle.jcore.proofs.Ready.{went_ready}
 use Rattle.jcore.proofs.Settled.{settled_went}
-use Rattle.jrun.specs.declared.stepping.Stepped.TheVariants as done
+use Rattle.jrun.specs.declared.came.Came.TheVariants as done
 use Rattle.jexecute.specs.declared.hastening.Haste.{Haste}
 use Rattle.jexecute.specs.declared.hastening.Haste.TheVariants as haste
 use Rattle.jexecute.specs.declared.hastening.Hasty.{Hasty}

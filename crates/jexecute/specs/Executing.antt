@@ -8,8 +8,8 @@ use Rattle.jmachine.specs.Asked.{asks}
 use Rattle.jmachine.specs.Calls.{receiver}
 use Rattle.jmachine.specs.Security.{Rules}
 use Rattle.jmachine.specs.Steps.{step}
-use Rattle.jrun.specs.declared.stepping.Stepped.{Stepped}
-use Rattle.jrun.specs.declared.stepping.Stepped.TheVariants as done
+use Rattle.jrun.specs.declared.came.Came.{Came}
+use Rattle.jrun.specs.declared.came.Came.TheVariants as done
 use Rattle.jstate.specs.declared.shapes.Shapes.{Shapes}
 use Rattle.jstate.specs.Framed.{Framed}
 use Rattle.jtexts.specs.Messages.{MayBeTold}
@@ -75,7 +75,7 @@ pub record Moves {E : Type 0} (m : Machine E) (came : stepping.Stepped) (n : Mac
 
 -- What is left of a step behind the frames was done,
 abbrev pub Ends : {E : Type 0} → Machine E → stepping.Stepped → Executed → Machine E → Type 0
-Ends m came e n = (end : Stepped) × (e ≡ executed.Done end) × Settles m came end n × GoesOn n end
+Ends m came e n = (end : Came) × (e ≡ executed.Done end) × Settles m came end n × GoesOn n end
 
 -- where it is the library that is to be asked, or there is no step, nothing.
 abbrev pub Finishes : {E : Type 0} → Machine E → stepping.Stepped → Executed → Machine E → Type 0
@@ -86,7 +86,7 @@ Finishes m came e n = Ends m came e n
 -- ---- a step
 
 -- The step came to this, and asks nothing of access control.
-pub record CameTo {E : Type 0} (m : Machine E) (came : Stepped) (n : Machine E) : Type 0 where
+pub record CameTo {E : Type 0} (m : Machine E) (came : Came) (n : Machine E) : Type 0 where
   pub comes : Comes m any (λ r. step r m.calls m.plan.now (state_of m)) came n
   pub ready : GoesOn n came
   pub silent : asks m.side m.calls m.plan.now (state_of m) ≡ None

@@ -10,7 +10,7 @@ use Rattle.jready.specs.declared.instr.Instr.{Instr}
 use Rattle.jready.specs.declared.instr.Instr.TheVariants as instr
 use Rattle.jready.specs.declared.instr.Plain.{Plain}
 use Rattle.jready.specs.declared.instr.Plain.TheVariants as plain
-use Rattle.jrun.specs.declared.stepping.Stepped.TheVariants as done
+use Rattle.jrun.specs.declared.came.Came.TheVariants as done
 use Rattle.jstate.specs.Celled.{AreCelled}
 use Rattle.jstate.specs.Framed.{Framed}
 use Rattle.jstate.specs.Seen.{AreBuilt, Things}

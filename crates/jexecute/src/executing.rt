@@ -10,7 +10,7 @@ use jcalls::Counts;
 use jcore::{Machine, settle};
 use jguests::guest_laws;
 use jlib::LibCall;
-use jrun::Stepped;
+use jrun::Came;
 use jshapes::alike_laws;
 use jtold::told_law;
 use std::alloc::{AllocError, Global};
@@ -19,7 +19,7 @@ use std::alloc::{AllocError, Global};
 #[derive(Debug, Drop)]
 pub enum Executed {
     /// It is done.
-    Done(Stepped),
+    Done(Came),
     /// The library is to run with so many operands, which are there. Nothing has changed.
     Asks { call: LibCall, count: usize },
 }
@@ -107,7 +107,7 @@ fn finish<M: Copy>(
         jstep::Stepped::Uncaught(_) => end_step(alloc, m, came),
         jstep::Stepped::Asks { call, count } => Ok(Executed::Asks { call, count }),
         jstep::Stepped::Full => end_step(alloc, m, came),
-        jstep::Stepped::Stuck => Ok(Executed::Done(Stepped::Stuck)),
+        jstep::Stepped::Stuck => Ok(Executed::Done(Came::Stuck)),
     }
 }
 

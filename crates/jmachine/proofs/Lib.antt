@@ -3,13 +3,14 @@ mod ArrayRows
 mod Asking
 mod Asks
 mod CallRows
+pub mod Constants
 pub mod Courses
 mod Examples
 mod FieldRows
 mod LibraryRows
 mod Looking
 mod MakingRows
-mod Moving
+pub mod Moving
 mod Openings
 mod Stepping
 mod Stores

@@ -23,14 +23,14 @@ use Rattle.jmachine.specs.Straight.{Held, holding, increased, loaded, local, loc
 -- ---- moves of the stack, over items of any type
 
 module _ {A B : Type 0} (h : A → B) where
-  abbrev item_map : Item A → Item B
+  abbrev pub item_map : Item A → Item B
   item_map (One a) = One (h a)
   item_map (Two a) = Two (h a)
 
-  abbrev move_map : Move A → Move B
+  abbrev pub move_map : Move A → Move B
   move_map m = record { taken = m.taken; put = map h m.put }
 
-  abbrev Alike : Shuffle → List (Item A) → Type 0
+  abbrev pub Alike : Shuffle → List (Item A) → Type 0
   Alike op xs = option_map move_map (shuffle op xs) ≡ shuffle op (map item_map xs)
 
   pop_alike : (xs : List (Item A)) → Alike moves.Pop xs
@@ -115,7 +115,7 @@ module _ {A B : Type 0} (h : A → B) where
   swap_alike (One a ∷ One b ∷ r) = refl
   swap_alike (One a ∷ Two b ∷ r) = refl
 
-  shuffle_alike : (op : Shuffle) (xs : List (Item A)) → Alike op xs
+  pub shuffle_alike : (op : Shuffle) (xs : List (Item A)) → Alike op xs
   shuffle_alike moves.Pop xs = pop_alike xs
   shuffle_alike moves.Pop2 xs = pop2_alike xs
   shuffle_alike moves.Dup xs = dup_alike xs

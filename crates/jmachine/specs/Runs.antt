@@ -22,7 +22,7 @@ told_by NoStep = []
 abbrev pub ended_by : {S : Type 0} → Outcome S → Option End
 ended_by (Went s events) = None
 ended_by (Over s events end) = Some end
-ended_by NoStep = Some ends.Stuck
+ended_by NoStep = None
 
 -- the state behind an outcome; a stuck state stays as it is
 abbrev pub state_behind : {S : Type 0} → S → Outcome S → S
@@ -65,7 +65,6 @@ status ends.Uncaught = 1
 status ends.Bound = 4
 status ends.HeapFull = 5
 status ends.Deadlock = 6
-status ends.Stuck = 11
 
 -- ---- laws
 

@@ -15,7 +15,7 @@ use Rattle.jrun.specs.declared.running.Written.{Written}
 use Rattle.jrun.specs.declared.stepping.Stepped.{Stepped}
 use Rattle.jrun.specs.declared.stepping.Stepped.TheVariants as done
 use Rattle.jrun.specs.declared.stepping.Stretch.{Stretch}
-use Rattle.jrun.specs.Coming.{AreFew, Begins, ComesTo, Goes, LastCame, Quietly, WhereGoes, WhereWent, count_of}
+use Rattle.jrun.specs.Coming.{AreFew, Begins, ComesTo, Goes, LastCame, Quietly, WhereGoes, WhereWent, came_as, count_of}
 use Rattle.jrun.specs.Running.{Advances, end_by, run_at, told_in}
 use Rattle.jrun.proofs.Courses as written
 
@@ -74,29 +74,26 @@ module _ {S : Type 0} (step : S → Outcome S) where
     last_is k t quiet =
         ap (λ (n : ℕ). run_from step n (run_at s)) (add-one k) ∙ courses.goes_on step (run_at s) k ∙ ap (next step) (quietly k s t quiet)
 
-    ends_so : (came : Stepped) (o : Outcome S) → ComesTo stands o came → ended_by o ≡ end_by came
+    ends_so : (came : Stepped) (o : Outcome S) → ComesTo stands o (came_as came) → ended_by o ≡ end_by came
     ends_so (done.Went events) o (u, is, there) = ap ended_by is
     ends_so (done.Ended events end) o (u, is) = ap ended_by is
-    ends_so done.Stuck o is = ap ended_by is
 
-    tells_so : (came : Stepped) (o : Outcome S) → ComesTo stands o came → told_in came ≡ told_by o
+    tells_so : (came : Stepped) (o : Outcome S) → ComesTo stands o (came_as came) → told_in came ≡ told_by o
     tells_so (done.Went events) o (u, is, there) = ap told_by (sym is)
     tells_so (done.Ended events end) o (u, is) = ap told_by (sym is)
-    tells_so done.Stuck o is = ap told_by (sym is)
 
-    stands_so : (came : Stepped) (t : S) (o : Outcome S) → ComesTo stands o came → end_by came ≡ None → stands (state_behind t o)
+    stands_so : (came : Stepped) (t : S) (o : Outcome S) → ComesTo stands o (came_as came) → end_by came ≡ None → stands (state_behind t o)
     stands_so (done.Went events) t o (u, is, there) none = subst (λ (x : Outcome S). stands (state_behind t x)) (sym is) there
     stands_so (done.Ended events end) t o (u, is) none = absurd (let a : Some end ≡ None = none in cc)
-    stands_so done.Stuck t o is none = absurd (let a : Some ends.Stuck ≡ None = none in cc)
 
-    pub last_advances : (k : ℕ) (came : Stepped) (end : Option End) → end ≡ end_by came → (t : S) × Quietly step k s t × ComesTo stands (step t) came
+    pub last_advances : (k : ℕ) (came : Stepped) (end : Option End) → end ≡ end_by came → (t : S) × Quietly step k s t × ComesTo stands (step t) (came_as came)
         → Advances stands step s (record { steps = k + 1; end = end })
     last_advances k came end is (t, quiet, comes) = record {
       ends = ap (λ (r : Run S). r.end) (last_is k t quiet) ∙ ends_so came (step t) comes ∙ sym is;
       state = λ none. subst (λ (r : Run S). stands r.state) (sym (last_is k t quiet)) (stands_so came t (step t) comes (sym is ∙ none));
     }
 
-    pub last_tells : (k : ℕ) (came : Stepped) → (t : S) × Quietly step k s t × ComesTo stands (step t) came
+    pub last_tells : (k : ℕ) (came : Stepped) → (t : S) × Quietly step k s t × ComesTo stands (step t) (came_as came)
         → told_in came ≡ (run_from step (k + 1) (run_at s)).events
     last_tells k came (t, quiet, comes) = tells_so came (step t) comes ∙ ap (λ (r : Run S). r.events) (sym (last_is k t quiet))
 
@@ -106,7 +103,7 @@ module _ {S : Type 0} (stands : S → Type 0) (step : S → Outcome S) (s : S) (
   pub goes_none : made.last ≡ None → (t : S) × Quietly step made.quiet s t × stands t
   goes_none none = (goes.0, goes.1, subst (LastCame stands step goes.0) none goes.2)
 
-  pub goes_some : (came : Stepped) → made.last ≡ Some came → (t : S) × Quietly step made.quiet s t × ComesTo stands (step t) came
+  pub goes_some : (came : Stepped) → made.last ≡ Some came → (t : S) × Quietly step made.quiet s t × ComesTo stands (step t) (came_as came)
   goes_some came some = (goes.0, goes.1, subst (LastCame stands step goes.0) some goes.2)
 
 pub few_none : (most : ℕ) (made : Stretch) → AreFew most made → made.last ≡ None → (0 < made.quiet) × (made.quiet ≤ most)
@@ -125,10 +122,9 @@ ready_none P made ready none = subst (WhereGoes P) none ready
 pub ready_some : (P : Type 0) (made : Stretch) (came : Stepped) (end : Option End) → WhereGoes P made.last → made.last ≡ Some came → end ≡ end_by came → end ≡ None → P
 ready_some P made came end ready some is none = by came (subst (WhereGoes P) some ready) (sym is ∙ none)
   where
-    by : (came : Stepped) → WhereWent P came → end_by came ≡ None → P
+    by : (came : Stepped) → WhereWent P (came_as came) → end_by came ≡ None → P
     by (done.Went events) ready none = ready
     by (done.Ended events end) ready none = absurd (let a : Some end ≡ None = none in cc)
-    by done.Stuck ready none = absurd (let a : Some ends.Stuck ≡ None = none in cc)
 
 -- ---- runs
 

@@ -2,22 +2,29 @@
 use Rattle.std.specs.Prelude.{◌≡◌, ◌<◌, ◌≤◌, ◌+◌, ⊤, ℕ, zero, suc, [], Option, Some, None}
 use Rattle.jmachine.specs.Acts.{Outcome, Went, Over, NoStep}
 use Rattle.jmachine.specs.Runs.{Run}
+use Rattle.jrun.specs.declared.came.Came.{Came}
+use Rattle.jrun.specs.declared.came.Came.TheVariants as done
 use Rattle.jrun.specs.declared.stepping.Stepped.{Stepped}
-use Rattle.jrun.specs.declared.stepping.Stepped.TheVariants as done
+use Rattle.jrun.specs.declared.stepping.Stepped.TheVariants as stepped
 use Rattle.jrun.specs.declared.stepping.Stretch.{Stretch}
 
 -- ---- one step
 
 -- The state behind it stands for what the definition's step leaves, and the same was told.
-abbrev pub ComesTo : {S : Type 0} → (S → Type 0) → Outcome S → Stepped → Type 0
+abbrev pub ComesTo : {S : Type 0} → (S → Type 0) → Outcome S → Came → Type 0
 ComesTo {S} stands o (done.Went events) = (s : S) × (o ≡ Went s events) × stands s
 ComesTo {S} stands o (done.Ended events end) = (s : S) × (o ≡ Over s events end)
 ComesTo {S} stands o done.Stuck = o ≡ NoStep
 
 -- Where the run goes on, this holds.
-abbrev pub WhereWent : Type 0 → Stepped → Type 0
+abbrev pub WhereWent : Type 0 → Came → Type 0
 WhereWent P (done.Went events) = P
 WhereWent P came = ⊤
+
+-- where there was a step
+abbrev pub came_as : Stepped → Came
+came_as (stepped.Went events) = done.Went events
+came_as (stepped.Ended events end) = done.Ended events end
 
 -- ---- some steps
 
@@ -29,7 +36,7 @@ Quietly {S} step (suc k) s t = (u : S) × Quietly step k s u × (step u ≡ Went
 -- The one behind them, if there was one, came to this.
 abbrev pub LastCame : {S : Type 0} → (S → Type 0) → (S → Outcome S) → S → Option Stepped → Type 0
 LastCame stands step t None = stands t
-LastCame stands step t (Some came) = ComesTo stands (step t) came
+LastCame stands step t (Some came) = ComesTo stands (step t) (came_as came)
 
 -- Some steps from a state were made.
 abbrev pub Goes : {S : Type 0} → (S → Type 0) → (S → Outcome S) → S → Stretch → Type 0
@@ -49,7 +56,7 @@ AreFew most made = (0 < steps_in made) × (steps_in made ≤ most)
 
 abbrev pub WhereGoes : Type 0 → Option Stepped → Type 0
 WhereGoes P None = P
-WhereGoes P (Some came) = WhereWent P came
+WhereGoes P (Some came) = WhereWent P (came_as came)
 
 -- ---- runs
 

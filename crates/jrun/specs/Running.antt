@@ -2,7 +2,6 @@
 use Rattle.std.specs.Prelude.{◌≡◌, List, [], Option, None, Some}
 use Rattle.jtrace.specs.declared.event.Event.{Event}
 use Rattle.jtrace.specs.declared.event.End.{End}
-use Rattle.jtrace.specs.declared.event.End.TheVariants as ends
 use Rattle.jmachine.specs.Acts.{Outcome}
 use Rattle.jmachine.specs.Runs.{Run, run_from}
 use Rattle.jrun.specs.declared.running.Written.{Written}
@@ -22,10 +21,8 @@ pub record Advances {S : Type 0} (stands : S → Type 0) (step : S → Outcome S
 abbrev pub told_in : Stepped → List Event
 told_in (done.Went events) = events
 told_in (done.Ended events end) = events
-told_in done.Stuck = []
 
 -- the end, if it ended the run
 abbrev pub end_by : Stepped → Option End
 end_by (done.Went events) = None
 end_by (done.Ended events end) = Some end
-end_by done.Stuck = Some ends.Stuck

@@ -5,15 +5,17 @@
 //! - `Running`: some steps of a run.
 //!
 //! Proved: `run` writes exactly the text of the definition's run after so many steps and answers its end, `Bound` where it hasn't
-//! ended, `Stuck` where a state has no step; at a fault a front of it went out, and a fault of writing is told only where one was
-//! counted.
+//! ended; at a fault a front of it went out, and a fault of writing is told only where one was counted. That each state has a step is
+//! for the machine to know: `Stepping` has no answer for one that has none, and `Came` is the word of the rooms below it, which do.
 //!
 //! Rooms of the machine may name it.
 #![tactic(auto)]
 
+mod came;
 mod running;
 mod stepping;
 mod writing;
 
+pub use came::Came;
 pub use running::{close, run};
 pub use stepping::{Stepped, Stepping, Stretch};

@@ -29,7 +29,6 @@ fn tell<K: Sink>(out: &mut K, came: Stepped) -> Result<Option<End>, RunFault>
             put_events(out, events.as_slice())?;
             Ok(Some(end))
         }
-        Stepped::Stuck => Ok(Some(End::Stuck)),
     }
 }
 
@@ -90,8 +89,8 @@ pub fn close<K: Sink>(out: &mut K, end: End) -> Result<End, RunFault>
 }
 
 /// Runs a machine for at most so many steps, and writes a line for each event and one for the end. The end is `Bound` where the run has not
-/// ended within these steps, and `Stuck` where a state has no step. At a fault a front of the text went out. `RunFault::Sink` is
-/// answered only where the sink counted a fault in this call; want of memory may come at any time.
+/// ended within these steps. At a fault a front of the text went out. `RunFault::Sink` is answered only where the sink counted a fault in
+/// this call; want of memory may come at any time.
 pub fn run<E: Stepping, K: Sink>(
     alloc: Global,
     engine: &mut E,

@@ -13,8 +13,6 @@ pub enum Stepped {
     Went { events: Seq<Event> },
     /// The run ended, after these events.
     Ended { events: Seq<Event>, end: End },
-    /// There is no step.
-    Stuck,
 }
 
 /// What some steps came to.

@@ -1,33 +1,24 @@
 -- The constants of statics are in the moved class what they were.
-use Rattle.std.proofs.Common.{◌≡◌, ◌⊎◌, ℕ, Bool, false, List, [], ◌∷◌, Option, Some, None, refl, ap, ◌∙◌, subst, inl, inr}
-use Rattle.std.specs.Prelude.{IsTrue, length, option_and_then, option_map, slice_get}
-use Rattle.jbase.specs.First.{first_some, or_else}
-use Rattle.jformat.specs.Format.{◌·◌, ◌▹◌, is_good, unless}
-use Rattle.jformat.specs.Bodies.{block}
-use Rattle.jformat.specs.States.{counted_from, fits_from}
-use Rattle.jformat.proofs.Steps.{first_true, second_true}
+use Rattle.std.proofs.Common.{◌≡◌, ℕ, false, List, Option, Some, None, refl, ap, ◌∙◌}
+use Rattle.std.specs.Prelude.{IsTrue, option_and_then, option_map, slice_get}
+use Rattle.jbase.specs.First.{first_some}
 use Rattle.jpool.specs.declared.entry.Entry.{Entry}
 use Rattle.jpool.specs.declared.entry.Entry.TheVariants as entries
 use Rattle.jpool.specs.declared.fault.PoolFault.TheVariants.{BadIndex}
 use Rattle.jpool.specs.Pools as pools
 use Rattle.jpool.specs.Pools.{is_utf8, utf8_at}
 use Rattle.jpool.proofs.PoolLaws.{at_index}
-use Rattle.jclass.specs.declared.access.Access.{Access}
-use Rattle.jclass.specs.declared.class.Attribute.{Attribute}
-use Rattle.jclass.specs.declared.class.Attribute.TheVariants as attributes
 use Rattle.jclass.specs.declared.class.ClassParts.{ClassParts}
 use Rattle.jclass.specs.declared.class.MemberInfo.{MemberInfo}
-use Rattle.jclass.specs.declared.fault.ClassFault.TheVariants as kinds
-use Rattle.jclass.specs.Attributes.{constant, content, field_attribute, is_constant, name_once, saw_constant, text_index}
-use Rattle.jclass.specs.Basics.{access, u2, u4}
 use Rattle.jclass.specs.Class.{class_file}
 use Rattle.jclass.specs.Members.{field}
-use Rattle.jclass.specs.Rules.{field_descriptor, suits_field, suits_type}
+use Rattle.jclass.specs.Rules.{suits_field, suits_type}
 use Rattle.jclass.specs.Stored.{IsIn}
 use Rattle.jprogram.specs.Parts.{or_empty, text}
 use Rattle.jmachine.specs.Making.{units_of}
 use Rattle.jmachine.specs.Opening.{constant_of, string_in, value_in, value_of}
 use Rattle.jmachine.specs.Store.{constant_at}
+use Rattle.jmachine.proofs.Constants.{field_suits}
 use Rattle.jops.specs.declared.value.Value.TheVariants.{Ref}
 use Rattle.jmove.specs.Additions.{IsFront}
 use Rattle.jmoveclass.proofs.Fronts.{kept_test, same_text}
@@ -35,56 +26,6 @@ use Rattle.jmoveclass.proofs.Keeping.{good_is}
 use Rattle.jmovefile.proofs.Sound.{IsSound}
 use Rattle.jrewrite.proofs.Judging.{no_entry_fault}
 use Rattle.jrewrite.proofs.Membering.{class_fields}
-
--- ---- what an attribute of a field holds
-
-constant_suits : (pool : List Entry) (a : Access) (desc : ℕ) (seen : Bool) (x : Attribute) (i : ℕ) → IsTrue ((field_attribute pool a desc seen).fits x) → value_in x ≡ Some i → IsTrue (suits_field pool desc i)
-unfolding field_attribute
-constant_suits pool a desc seen (attributes.ConstantValue name value) i fit is =
-    let same : value ≡ i = cc in
-    let inside = second_true ((name_once pool (is_constant pool a) kinds.Index seen).fits name) ((content (is_constant pool a name) (constant pool desc)).fits (inl value)) fit in
-    let whole = second_true (is_constant pool a name) ((block u4 kinds.Truncated (constant pool desc)).fits value) inside in
-    let body = first_true ((constant pool desc).fits value) (u4.fits (length ((constant pool desc).spell value))) whole in
-    let good = good_is (suits_field pool desc value) kinds.Index (second_true (u2.fits value) (is_good (unless (suits_field pool desc value) kinds.Index)) body) in
-    subst (λ (n : ℕ). IsTrue (suits_field pool desc n)) same good
-constant_suits pool a desc seen (attributes.Code name stack locals ops handlers more) i fit is = absurd cc
-constant_suits pool a desc seen (attributes.Raw name bytes) i fit is = absurd cc
-
-or_some : {A : Type 0} (o q : Option A) (i : A) → or_else o q ≡ Some i → (o ≡ Some i) ⊎ (q ≡ Some i)
-or_some None q i e = inr e
-or_some (Some n) q i e = inl e
-
-first_in : (x : Attribute) (xs : List Attribute) (i : ℕ) → first_some value_in (x ∷ xs) ≡ Some i → (value_in x ≡ Some i) ⊎ (first_some value_in xs ≡ Some i)
-unfolding first_some
-first_in x xs i e = or_some (value_in x) (first_some value_in xs) i e
-
-none_first : {P : Type 0} (i : ℕ) → first_some value_in [] ≡ Some i → P
-unfolding first_some
-none_first i e = absurd cc
-
-abbrev fit_along : List Entry → Access → ℕ → Bool → List Attribute → Bool
-fit_along pool a desc seen xs = fits_from (λ (s : Bool). (field_attribute pool a desc s).fits) saw_constant seen xs
-
-attributes_suit : (pool : List Entry) (a : Access) (desc : ℕ) (seen : Bool) (xs : List Attribute) (i : ℕ) → IsTrue (fit_along pool a desc seen xs) → first_some value_in xs ≡ Some i → IsTrue (suits_field pool desc i)
-unfolding fits_from
-attributes_suit pool a desc seen [] i fit is = none_first i is
-attributes_suit pool a desc seen (x ∷ xs) i fit is =
-    elim (first_in x xs i is) [
-      | inl here ↦ constant_suits pool a desc seen x i (first_true ((field_attribute pool a desc seen).fits x) (fit_along pool a desc (saw_constant seen x) xs) fit) here
-      | inr more ↦
-          attributes_suit pool a desc (saw_constant seen x) xs i
-          (second_true ((field_attribute pool a desc seen).fits x) (fit_along pool a desc (saw_constant seen x) xs) fit) more
-    ]
-
-field_suits : (pool : List Entry) (m : MemberInfo) (i : ℕ) → IsTrue ((field pool).fits m) → first_some value_in m.attributes ≡ Some i → IsTrue (suits_field pool m.desc i)
-unfolding field
-field_suits pool m i fit is =
-    let behind = field_descriptor pool ▹ (λ (desc : ℕ). counted_from u2 (field_attribute pool m.flags desc) saw_constant false) in
-    let a = second_true (access.fits m.flags) ((text_index pool · behind).fits (m.name, (m.desc, m.attributes))) fit in
-    let b = second_true ((text_index pool).fits m.name) (behind.fits (m.desc, m.attributes)) a in
-    let c = second_true ((field_descriptor pool).fits m.desc) ((counted_from u2 (field_attribute pool m.flags m.desc) saw_constant false).fits m.attributes) b in
-    let d = first_true (fit_along pool m.flags m.desc false m.attributes) (u2.fits (length m.attributes)) c in
-    attributes_suit pool m.flags m.desc false m.attributes i d is
 
 -- ---- in a longer pool
 

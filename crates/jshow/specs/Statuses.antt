@@ -18,7 +18,6 @@ number statuses.ReadFault = 7
 number statuses.WriteFault = 8
 number statuses.StoreFault = 9
 number statuses.OutOfMemory = 10
-number statuses.Stuck = 11
 
 -- what a run's end is as a status
 abbrev pub status_of : End → Status
@@ -27,4 +26,3 @@ status_of ends.Uncaught = statuses.Uncaught
 status_of ends.Deadlock = statuses.Deadlock
 status_of ends.HeapFull = statuses.HeapFull
 status_of ends.Bound = statuses.Bound
-status_of ends.Stuck = statuses.Stuck

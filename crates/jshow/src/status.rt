@@ -28,8 +28,6 @@ pub enum Status {
     StoreFault,
     /// Memory ran out. It may come at any time; what went out is a front of the text.
     OutOfMemory,
-    /// The machine's state has no step.
-    Stuck,
 }
 
 impl Status {
@@ -49,7 +47,6 @@ impl Status {
             Status::WriteFault => 8,
             Status::StoreFault => 9,
             Status::OutOfMemory => 10,
-            Status::Stuck => 11,
         }
     }
 }
@@ -64,6 +61,5 @@ pub fn status_of(end: End) -> Status
         End::Deadlock => Status::Deadlock,
         End::HeapFull => Status::HeapFull,
         End::Bound => Status::Bound,
-        End::Stuck => Status::Stuck,
     }
 }

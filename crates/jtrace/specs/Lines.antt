@@ -52,7 +52,6 @@ end_line ends.Uncaught = codes "end uncaught\n"
 end_line ends.Deadlock = codes "end deadlock\n"
 end_line ends.HeapFull = codes "end heap\n"
 end_line ends.Bound = codes "end bound\n"
-end_line ends.Stuck = codes "end stuck\n"
 
 -- the lines of events
 abbrev pub lines : List Event → List ℕ

@@ -45,6 +45,4 @@ pub enum End {
     HeapFull,
     /// The run has not ended within its number of steps.
     Bound,
-    /// The state has no step.
-    Stuck,
 }

@@ -159,6 +159,5 @@ pub fn write_end<K: Sink>(out: &mut K, end: End) -> Result<(), PutFault>
         End::Deadlock => put_all(out, b"end deadlock\n"),
         End::HeapFull => put_all(out, b"end heap\n"),
         End::Bound => put_all(out, b"end bound\n"),
-        End::Stuck => put_all(out, b"end stuck\n"),
     }
 }

@@ -2,7 +2,6 @@
 use Rattle.std.proofs.Common.{◌≡◌, ℕ, zero, suc, Bool, true, false, List, [], ◌∷◌, ◌++◌, map, Option, Some, None, option_map, refl, sym, ap, subst, ◌∙◌}
 use Rattle.std.specs.Prelude.{drop, option_and_then, if◌then◌else◌}
 use Rattle.jnames.specs.declared.names.Shuffle.{Shuffle}
-use Rattle.jnames.specs.declared.names.Shuffle.TheVariants as moves
 use Rattle.jops.specs.declared.value.Value.{Value}
 use Rattle.jops.specs.Shuffles as shuffles
 use Rattle.jops.specs.Shuffles.{Item, One, Two, Move, shuffle}
@@ -17,116 +16,11 @@ use Rattle.jmachine.specs.Store.{Store}
 use Rattle.jmachine.specs.Straight as machine
 use Rattle.jmachine.specs.Straight.{Held, holding}
 use Rattle.jmachine.specs.World.{World}
+use Rattle.jmachine.proofs.Moving.{item_map, move_map, shuffle_alike}
 use Rattle.jtyped.specs.Frames.{AllHave, AllHold, Has, News}
 use Rattle.jtyped.proofs.Exchanging.{roomy}
 use Rattle.jtyped.proofs.Locals.{Kept}
 use Rattle.jtyped.proofs.OfKinds.{as_long}
-
--- ---- moves of the stack, over items of any type
-
-module _ {A B : Type 0} (h : A → B) where
-  abbrev item_map : Item A → Item B
-  item_map (One a) = One (h a)
-  item_map (Two a) = Two (h a)
-
-  abbrev move_map : Move A → Move B
-  move_map m = record { taken = m.taken; put = map h m.put }
-
-  abbrev Alike : Shuffle → List (Item A) → Type 0
-  Alike op xs = option_map move_map (shuffle op xs) ≡ shuffle op (map item_map xs)
-
-  pop_alike : (xs : List (Item A)) → Alike moves.Pop xs
-  unfolding shuffle
-  pop_alike [] = refl
-  pop_alike (One a ∷ r) = refl
-  pop_alike (Two a ∷ r) = refl
-
-  pop2_alike : (xs : List (Item A)) → Alike moves.Pop2 xs
-  unfolding shuffle
-  pop2_alike [] = refl
-  pop2_alike (Two a ∷ r) = refl
-  pop2_alike (One a ∷ []) = refl
-  pop2_alike (One a ∷ One b ∷ r) = refl
-  pop2_alike (One a ∷ Two b ∷ r) = refl
-
-  dup_alike : (xs : List (Item A)) → Alike moves.Dup xs
-  unfolding shuffle
-  dup_alike [] = refl
-  dup_alike (One a ∷ r) = refl
-  dup_alike (Two a ∷ r) = refl
-
-  dup_x1_alike : (xs : List (Item A)) → Alike moves.DupX1 xs
-  unfolding shuffle
-  dup_x1_alike [] = refl
-  dup_x1_alike (Two a ∷ r) = refl
-  dup_x1_alike (One a ∷ []) = refl
-  dup_x1_alike (One a ∷ One b ∷ r) = refl
-  dup_x1_alike (One a ∷ Two b ∷ r) = refl
-
-  dup_x2_alike : (xs : List (Item A)) → Alike moves.DupX2 xs
-  unfolding shuffle
-  dup_x2_alike [] = refl
-  dup_x2_alike (Two a ∷ r) = refl
-  dup_x2_alike (One a ∷ []) = refl
-  dup_x2_alike (One a ∷ Two b ∷ r) = refl
-  dup_x2_alike (One a ∷ One b ∷ []) = refl
-  dup_x2_alike (One a ∷ One b ∷ One c ∷ r) = refl
-  dup_x2_alike (One a ∷ One b ∷ Two c ∷ r) = refl
-
-  dup2_alike : (xs : List (Item A)) → Alike moves.Dup2 xs
-  unfolding shuffle
-  dup2_alike [] = refl
-  dup2_alike (Two a ∷ r) = refl
-  dup2_alike (One a ∷ []) = refl
-  dup2_alike (One a ∷ One b ∷ r) = refl
-  dup2_alike (One a ∷ Two b ∷ r) = refl
-
-  dup2_x1_alike : (xs : List (Item A)) → Alike moves.Dup2X1 xs
-  unfolding shuffle
-  dup2_x1_alike [] = refl
-  dup2_x1_alike (Two a ∷ []) = refl
-  dup2_x1_alike (Two a ∷ One b ∷ r) = refl
-  dup2_x1_alike (Two a ∷ Two b ∷ r) = refl
-  dup2_x1_alike (One a ∷ []) = refl
-  dup2_x1_alike (One a ∷ Two b ∷ r) = refl
-  dup2_x1_alike (One a ∷ One b ∷ []) = refl
-  dup2_x1_alike (One a ∷ One b ∷ One c ∷ r) = refl
-  dup2_x1_alike (One a ∷ One b ∷ Two c ∷ r) = refl
-
-  dup2_x2_alike : (xs : List (Item A)) → Alike moves.Dup2X2 xs
-  unfolding shuffle
-  dup2_x2_alike [] = refl
-  dup2_x2_alike (Two a ∷ []) = refl
-  dup2_x2_alike (Two a ∷ Two b ∷ r) = refl
-  dup2_x2_alike (Two a ∷ One b ∷ []) = refl
-  dup2_x2_alike (Two a ∷ One b ∷ One c ∷ r) = refl
-  dup2_x2_alike (Two a ∷ One b ∷ Two c ∷ r) = refl
-  dup2_x2_alike (One a ∷ []) = refl
-  dup2_x2_alike (One a ∷ Two b ∷ r) = refl
-  dup2_x2_alike (One a ∷ One b ∷ []) = refl
-  dup2_x2_alike (One a ∷ One b ∷ Two c ∷ r) = refl
-  dup2_x2_alike (One a ∷ One b ∷ One c ∷ []) = refl
-  dup2_x2_alike (One a ∷ One b ∷ One c ∷ One d ∷ r) = refl
-  dup2_x2_alike (One a ∷ One b ∷ One c ∷ Two d ∷ r) = refl
-
-  swap_alike : (xs : List (Item A)) → Alike moves.Swap xs
-  unfolding shuffle
-  swap_alike [] = refl
-  swap_alike (Two a ∷ r) = refl
-  swap_alike (One a ∷ []) = refl
-  swap_alike (One a ∷ One b ∷ r) = refl
-  swap_alike (One a ∷ Two b ∷ r) = refl
-
-  shuffle_alike : (op : Shuffle) (xs : List (Item A)) → Alike op xs
-  shuffle_alike moves.Pop xs = pop_alike xs
-  shuffle_alike moves.Pop2 xs = pop2_alike xs
-  shuffle_alike moves.Dup xs = dup_alike xs
-  shuffle_alike moves.DupX1 xs = dup_x1_alike xs
-  shuffle_alike moves.DupX2 xs = dup_x2_alike xs
-  shuffle_alike moves.Dup2 xs = dup2_alike xs
-  shuffle_alike moves.Dup2X1 xs = dup2_x1_alike xs
-  shuffle_alike moves.Dup2X2 xs = dup2_x2_alike xs
-  shuffle_alike moves.Swap xs = swap_alike xs
 
 no_frame : (g : Frame) → None ≡ Some g → ⊥
 no_frame g e = cc
