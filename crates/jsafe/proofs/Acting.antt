@@ -247,4 +247,4 @@ module _ {K E : Type 0} (r : Rules K E) (p : Program) (plan : Plan) (s : State K
     where
       go : (b : Bool) → ComesTo p r.side (if b then acted r p plan s frames (charge_of row) row.act else Over s [] HeapFull)
       go true = h (charge_of row)
-      go false = (state, λ e. cc)
+      go false = state

@@ -29,7 +29,7 @@ use Rattle.jtyping.specs.Methods.{here_of}
 use Rattle.jmachine.specs.declared.plan.Plan.{Plan}
 use Rattle.jmachine.specs.Acts.{Act, Calls, FrameOf, Goes, Makes, Raises, Row, State, Switches, free, raises}
 use Rattle.jmachine.specs.Calls.{Fails, Pushes, Runs, Target, by_interface}
-use Rattle.jmachine.specs.Doing.{called, run}
+use Rattle.jmachine.specs.Doing.{called}
 use Rattle.jmachine.specs.Frames.{onward, with_operands}
 use Rattle.jmachine.specs.Objects.{Object}
 use Rattle.jmachine.specs.Privileges.{run_action}

@@ -12,7 +12,7 @@ mod Opening
 mod Paid
 mod Plain
 mod Raising
-pub mod Running
+mod Running
 mod Runs
 mod Steps
 mod Threads

@@ -1,7 +1,7 @@
 -- The state in which a run begins is typed.
 use Rattle.std.proofs.Common.{◌≡◌, ℕ, zero, suc, ◌+◌, inl, arith, Bool, true, false, ◌&&◌, List, [], ◌∷◌, ◌++◌, length, map, reverse, get_or, Option, Some, None, is_some, refl, sym, ap, subst, ◌∙◌}
 use Rattle.std.specs.List.{AllByRecursion, position, range_with_len, zip}
-use Rattle.std.specs.Prelude.{codes, option_map, slice_get, if◌then◌else◌}
+use Rattle.std.specs.Prelude.{codes, option_and_then, option_map, slice_get, if◌then◌else◌}
 use Rattle.std.specs.Str.{bytes_eq}
 use Rattle.std.proofs.lemmas.Slice.Eq.{bytes_eq-Decides}
 use Rattle.jclass.specs.Stored.{IsIn}
@@ -22,6 +22,7 @@ use Rattle.jtyped.specs.Uses.{static_types}
 use Rattle.std.proofs.lemmas.List.{reverse-reverse}
 use Rattle.std.proofs.lemmas.List.Quantifiers.{position-Some}
 use Rattle.std.proofs.lemmas.Option.{slice_get-get_or}
+use Rattle.jclass.specs.declared.class.ClassParts.{ClassParts}
 use Rattle.jclass.specs.declared.class.CodeBody.{CodeBody}
 use Rattle.jclass.specs.declared.class.MemberInfo.{MemberInfo}
 use Rattle.jlib.specs.declared.side.Side.{Side}
@@ -35,6 +36,7 @@ use Rattle.jprogram.specs.Parts as parts
 use Rattle.jprogram.specs.Parts.{member_desc, member_name, this_name}
 use Rattle.jprogram.specs.Standing.{StandsInOrder}
 use Rattle.jprogram.proofs.Standing.{Stands, Users, Libs, Nowhere, stands}
+use Rattle.juses.specs.Instructions.{body_in}
 use Rattle.juses.specs.Typed.{Called, name, typed}
 use Rattle.jtyping.specs.Methods as typing
 use Rattle.jtyping.specs.Methods.{params_of, return_of}
@@ -51,7 +53,7 @@ use Rattle.jyield.proofs.Orders.{orders}
 use Rattle.jyield.proofs.Rows.{a_context}
 use Rattle.jyield.proofs.Signed.{main_passed_says, main_says}
 use Rattle.jsafe.proofs.Founded.{IsFounded, founded}
-use Rattle.jsafe.specs.States.{OpensTyped}
+use Rattle.jsafe.specs.States.{MainHasCode, OpensTyped}
 use Rattle.jsafe.proofs.Begun.{begun_is, frame_stands}
 use Rattle.jsafe.proofs.Constants.{AreMade, parts_are}
 
@@ -231,6 +233,13 @@ module _ (p : Program) (sound : IsFounded p) where
             (have_all (world p) s here news ps (vs ++ Ref n ∷ []) (dimensions_main p.side) (are_last s (run_given p.side) vs (types.Array arguments_type) (Ref n) are is));
         returns = ap return_of x.says;
       }
+
+-- it has code
+pub main_has_code : MainHasCode
+main_has_code p text m sound found =
+    let x = (main_is p (founded p sound) text m found).coded in
+    ap is_some (ap (λ o. option_and_then (λ (c : ClassParts). body_in c m.method) (option_map (λ (part : CodePart). part.class) o)) x.stands
+    ∙ ap (option_and_then parts.code_of) x.declared ∙ x.code)
 
 handed_first : {K : Type 0} (p : Program) (s : Store K) (side : Side) (o : Option K) → is_some o ≡ same_side side Passing → AreOf (world p) s (run_given side) (handed side o)
 handed_first p s Source o e = tt

@@ -1,13 +1,10 @@
 -- Runs of typed states.
-use Rattle.std.proofs.Common.{◌≡◌, ◌≢◌, ℕ, zero, suc, Bool, true, false, Option, Some, None}
-use Rattle.std.specs.Prelude.{nat_le, if◌then◌else◌}
+use Rattle.std.proofs.Common.{◌≡◌, ℕ, zero, suc, Option, Some, None}
 use Rattle.jtrace.specs.declared.event.End.{End}
-use Rattle.jtrace.specs.declared.event.End.TheVariants.{HeapFull, Stuck}
 use Rattle.jprogram.specs.Classes.{Program}
 use Rattle.jmachine.specs.declared.plan.Plan.{Plan}
 use Rattle.jmachine.specs.Acts.{NoStep, Outcome, Over, State, Went}
 use Rattle.jmachine.specs.Machine.{opening, run}
-use Rattle.jmachine.specs.Opening.{opening_charge}
 use Rattle.jmachine.specs.Runs.{Run, after, next_at, run_from}
 use Rattle.jmachine.specs.Security.{Rules}
 use Rattle.jmachine.specs.Steps.{step}
@@ -18,16 +15,13 @@ use Rattle.jsafe.proofs.Opening.{opens_typed}
 use Rattle.jsafe.proofs.Steps.{states_step}
 
 module _ {K E : Type 0} (r : Rules K E) (p : Program) (plan : Plan) (sound : IsSound p) (on_side : r.side ≡ p.side) (sided : AreSided r) where
-  -- a run whose state is typed, and which is not stuck
-  typed_run : (x : Run (State K E)) → IsTypedState p r.side x.state → x.end ≢ Some Stuck → IsTypedRun r p plan x
-  typed_run x state end = record { state = state; steps = states_step K E r p plan x.state sound on_side sided state; end = end }
-
-  not_stuck : (end : End) → end ≢ Stuck → Some end ≢ Some Stuck
-  not_stuck end other e = other (cc)
+  -- a run whose state is typed
+  typed_run : (x : Run (State K E)) → IsTypedState p r.side x.state → IsTypedRun r p plan x
+  typed_run x state = record { state = state; steps = states_step K E r p plan x.state sound on_side sided state }
 
   after_typed : (x : Run (State K E)) (o : Outcome (State K E)) → ComesTo p r.side o → IsTypedRun r p plan (after (step r p plan) x o)
-  after_typed x (Went t events) h = typed_run (after (step r p plan) x (Went t events)) h (λ e. cc)
-  after_typed x (Over t events end) h = typed_run (after (step r p plan) x (Over t events end)) h.0 (not_stuck end h.1)
+  after_typed x (Went t events) h = typed_run (after (step r p plan) x (Went t events)) h
+  after_typed x (Over t events end) h = typed_run (after (step r p plan) x (Over t events end)) h
   after_typed x NoStep h = absurd h
 
   next_typed : (x : Run (State K E)) (end : Option End) → IsTypedRun r p plan x → IsTypedRun r p plan (next_at (step r p plan) x end)
@@ -39,12 +33,8 @@ module _ {K E : Type 0} (r : Rules K E) (p : Program) (plan : Plan) (sound : IsS
   run_typed zero x h = h
   run_typed (suc k) x h = run_typed k (next_at (step r p plan) x x.end) (next_typed x x.end h)
 
-full_or : (b : Bool) → (if b then None else Some HeapFull) ≢ Some Stuck
-full_or true e = cc
-full_or false e = cc
-
 pub runs_typed : (K E : Type 0) → RunsTyped K E
 unfolding run
 runs_typed K E r p plan text k sound on_side sided found =
     let state = opens_typed K E r p text plan.main plan.heap sound on_side sided found in
-    run_typed r p plan sound on_side sided k (opening r p plan) (typed_run r p plan sound on_side sided (opening r p plan) state (full_or (nat_le (opening_charge p) plan.heap)))
+    run_typed r p plan sound on_side sided k (opening r p plan) (typed_run r p plan sound on_side sided (opening r p plan) state)

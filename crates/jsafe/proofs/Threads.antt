@@ -1,16 +1,15 @@
 -- All threads of a typed state, and turns.
-use Rattle.std.proofs.Common.{◌≡◌, ◌≢◌, ◌<◌, ℕ, zero, suc, ◌+◌, ◌%◌, inl, inr, arith, Bool, true, false, List, [], ◌∷◌, ◌++◌, length, take, drop, Option, Some, None, refl, sym, ap, subst, ◌∙◌}
-use Rattle.std.specs.Prelude.{slice_get, slice_index_or, slice_set, if◌then◌else◌}
-use Rattle.std.specs.List.{AllByRecursion, Contains, list_any}
+use Rattle.std.proofs.Common.{◌≡◌, ◌<◌, ℕ, zero, suc, ◌+◌, ◌%◌, inl, inr, arith, Bool, List, [], ◌∷◌, ◌++◌, length, take, drop, Option, Some, None, refl, sym, ap, subst, ◌∙◌}
+use Rattle.std.specs.Prelude.{slice_get, slice_index_or, slice_set}
+use Rattle.std.specs.List.{AllByRecursion, Contains}
 use Rattle.std.proofs.lemmas.List.{length-append, length-map}
 use Rattle.jlib.specs.declared.side.Side.{Side}
 use Rattle.jops.specs.declared.value.Value.TheVariants.{Ref}
 use Rattle.jthreads.specs.declared.thread.Thread.{Thread}
 use Rattle.jthreads.specs.Schedule.{number_at, picked}
-use Rattle.jthreads.specs.Table.{have_ended, runnable_numbers, thread_at, is_runnable, woken}
+use Rattle.jthreads.specs.Table.{runnable_numbers, thread_at, is_runnable, woken}
 use Rattle.jthreads.proofs.Numbers.{within}
 use Rattle.jtrace.specs.declared.event.Event.{Event}
-use Rattle.jtrace.specs.declared.event.End.TheVariants.{Deadlock, Finished, Stuck, Uncaught}
 use Rattle.jprogram.specs.Classes.{Program}
 use Rattle.jmachine.specs.Acts.{FrameOf, GuestOf, State}
 use Rattle.jmachine.specs.Security.{handed}
@@ -90,13 +89,6 @@ picked_in schedule turns t (x ∷ ts) e = let at = read_at (x ∷ ts) (number_at
 picked_below : (schedule : List ℕ) (turns t : ℕ) (table : List Thread) → picked schedule turns (runnable_numbers table) ≡ Some t → t < length table
 picked_below schedule turns t table e = within (λ i. is_runnable (thread_at table i)) (length table) t (picked_in schedule turns t (runnable_numbers table) e)
 
--- ---- an end
-
-not_stuck : (a b : Bool) → (if a then (if b then Uncaught else Finished) else Deadlock) ≢ Stuck
-not_stuck true true e = cc
-not_stuck true false e = cc
-not_stuck false b e = cc
-
 -- ---- threads
 
 module _ {K E : Type 0} (p : Program) (side : Side) where
@@ -173,7 +165,7 @@ module _ {K E : Type 0} (p : Program) (side : Side) where
 
   turn_stays : (schedule : List ℕ) (s : State K E) (events : List Event) (o : Option ℕ) → picked schedule s.turns (runnable_numbers s.table) ≡ o → IsTypedState p side s
       → ComesTo p side (turn_of s events o)
-  turn_stays schedule s events None e h = (h, not_stuck (have_ended s.table) (list_any (λ g. g.failed) (guests s)))
+  turn_stays schedule s events None e h = h
   turn_stays schedule s events (Some t) e h = given_stays s events t (slice_get (guests s) t) h refl (picked_below schedule s.turns t s.table e)
 
   pub turned_stays : (schedule : List ℕ) (s : State K E) (events : List Event) → IsTypedState p side s → ComesTo p side (turned schedule s events)

@@ -1,13 +1,13 @@
 -- Typed states: in each thread, in all objects and statics, and in all string constants.
-use Rattle.std.specs.Prelude.{◌≡◌, ◌≢◌, ◌⊎◌, ℕ, List, length, Some}
+use Rattle.std.specs.Prelude.{◌≡◌, ◌⊎◌, ℕ, List, length, Some, is_some, true}
 use Rattle.std.specs.List.{AllByRecursion}
 use Rattle.jlib.specs.declared.classes.LibClass.TheVariants as lib
 use Rattle.jlib.specs.declared.side.Side.{Side}
 use Rattle.jops.specs.declared.value.Value.TheVariants.{Ref}
-use Rattle.jtrace.specs.declared.event.End.TheVariants.{Stuck}
 use Rattle.jprogram.specs.declared.member.MethodId.{MethodId}
 use Rattle.jprogram.specs.Classes.{Program}
 use Rattle.jprogram.specs.Members.{main_of}
+use Rattle.juses.specs.Instructions.{code_at}
 use Rattle.jrule.specs.Uses.{of_library}
 use Rattle.jmachine.specs.declared.plan.Plan.{Plan}
 use Rattle.jmachine.specs.Acts.{GuestOf, NoStep, Outcome, Over, State, Went}
@@ -42,10 +42,10 @@ pub record IsTypedState {K E : Type 0} (p : Program) (side : Side) (s : State K 
   pub threads : AllByRecursion (IsGuest p side s.store) (guests s)
   pub count : length (guests s) ≡ length s.table
 
--- A step comes to a typed state, and no run ends stuck.
+-- There is a step, and it comes to a typed state.
 abbrev pub ComesTo : {K E : Type 0} → Program → Side → Outcome (State K E) → Type 0
 ComesTo p side (Went s events) = IsTypedState p side s
-ComesTo p side (Over s events end) = IsTypedState p side s × (end ≢ Stuck)
+ComesTo p side (Over s events end) = IsTypedState p side s
 ComesTo p side NoStep = ⊥
 
 -- ---- laws
@@ -55,16 +55,19 @@ abbrev pub StatesStep : Type 0 → Type 0 → Type 0
 StatesStep K E =
     (r : Rules K E) (p : Program) (plan : Plan) (s : State K E) → IsSound p → r.side ≡ p.side → AreSided r → IsTypedState p r.side s → ComesTo p r.side (step r p plan s)
 
+-- The `main` of a class has code.
+abbrev pub MainHasCode : Type 0
+MainHasCode = (p : Program) (name : List ℕ) (main : MethodId) → IsSound p → main_of p name ≡ Some main → is_some (code_at p main) ≡ true
+
 -- The state in which a run begins is typed.
 abbrev pub OpensTyped : Type 0 → Type 0 → Type 0
 OpensTyped K E = (r : Rules K E) (p : Program) (name : List ℕ) (main : MethodId) (heap : ℕ) → IsSound p → r.side ≡ p.side → AreSided r → main_of p name ≡ Some main
     → IsTypedState p r.side (opening_state r p main heap)
 
--- So the state behind each number of steps is typed; where the run has not ended it has a step, and it never ends stuck.
+-- So the state behind each number of steps is typed, and it has a step.
 pub record IsTypedRun {K E : Type 0} (r : Rules K E) (p : Program) (plan : Plan) (x : Run (State K E)) : Type 0 where
   pub state : IsTypedState p r.side x.state
   pub steps : ComesTo p r.side (step r p plan x.state)
-  pub end : x.end ≢ Some Stuck
 
 abbrev pub RunsTyped : Type 0 → Type 0 → Type 0
 RunsTyped K E = (r : Rules K E) (p : Program) (plan : Plan) (name : List ℕ) (k : ℕ) → IsSound p → r.side ≡ p.side → AreSided r → main_of p name ≡ Some plan.main

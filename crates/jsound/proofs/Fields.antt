@@ -45,7 +45,6 @@ use Rattle.jprogram.specs.Parts.{is_called, member_desc, member_name, this_name}
 use Rattle.jprogram.specs.Classes.{Program, find, superinterfaces, up}
 use Rattle.jprogram.specs.Members.{field_at, field_in, is_final, lib_field, looked_up, owner_of, resolve_field}
 use Rattle.jprogram.proofs.Standing.{Stands, Users, Libs, Nowhere, stands}
-use Rattle.jlayout.specs.Layout.{field_type}
 use Rattle.jlayout.specs.Layout as layout
 use Rattle.juses.specs.Meanings.{FieldMeaning, Reference, reference}
 use Rattle.juses.specs.Typed.{Held, called, element_in, held, name, there, type_in, type_of, typed, typed_as}

@@ -6,5 +6,5 @@ mod Fields
 mod Libraries
 mod News
 mod Saying
-pub mod Running
+mod Running
 mod Sounding

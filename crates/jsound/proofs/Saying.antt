@@ -31,7 +31,7 @@ use Rattle.juses.specs.declared.meaning.How.TheVariants as how
 use Rattle.juses.specs.Instructions.{Array, Instruction, Jump, Local, Return, Simple, Stack, Switch, Throw, Used, Test, If, IfInt, IfRef, Always, array, by_form, cases}
 use Rattle.juses.specs.Instructions.{default, flow, instruction, instruction_at, jump, target}
 use Rattle.juses.specs.Meanings as meanings
-use Rattle.juses.specs.Meanings.{AClass, AConstant, AField, AMethod, EntryMeaning, FieldMeaning, Meaning, array_made, array_meant, entry_meant, index_of, made, meant, used}
+use Rattle.juses.specs.Meanings.{AClass, AConstant, AField, AMethod, EntryMeaning, Meaning, array_made, array_meant, entry_meant, index_of, made, meant, used}
 use Rattle.juses.specs.Typed.{array_over, name, there}
 use Rattle.jreferring.specs.declared.judged.Judged.{Judged}
 use Rattle.jreferring.specs.Entries.{judge_pool}

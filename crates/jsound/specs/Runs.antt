@@ -1,5 +1,6 @@
 -- Runs of programs that link and are well typed.
 use Rattle.std.specs.Prelude.{◌≡◌, ℕ, List, Some}
+use Rattle.jprogram.specs.declared.member.MethodId.{MethodId}
 use Rattle.jprogram.specs.Classes.{Program}
 use Rattle.jprogram.specs.Members.{main_of}
 use Rattle.jlink.specs.Coded.{AreFiles}
@@ -11,8 +12,12 @@ use Rattle.jmachine.specs.Security.{Rules}
 use Rattle.jyield.specs.Laws.{AreSided}
 use Rattle.jsafe.specs.States.{IsTypedRun}
 
--- Behind each number of steps the state of its run is typed, from the `main` of any of its classes, on any plan, by any rules that hand contexts
--- over by their side; and no run ends stuck.
+-- The `main` of a class is the method with which a run begins.
+abbrev pub IsMain : Program → MethodId → Type 0
+IsMain p main = (name : List ℕ) × (main_of p name ≡ Some main)
+
+-- Behind each number of steps the state of its run is typed and has a step, from the `main` of any of its classes, on any plan, by any rules that
+-- hand contexts over by their side.
 abbrev pub LinkedRunsTyped : Type 0 → Type 0 → Type 0
 LinkedRunsTyped K E = (r : Rules K E) (p : Program) (plan : Plan) (name : List ℕ) (k : ℕ) → Links p → AreFiles p → WellTyped p
     → r.side ≡ p.side → AreSided r → main_of p name ≡ Some plan.main → IsTypedRun r p plan (run r p plan k)

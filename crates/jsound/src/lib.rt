@@ -4,10 +4,10 @@
 //!
 //! Proved: such a program is sound (`sound_law`): what its instructions name is as typing takes it. A field holds the type that the
 //! instruction says, a method has the types of the call, is static where the call is, and with code stands at or above the class by which it
-//! is named, and objects that are made hold no security contexts. So each state of its runs is typed, and none ends stuck (`runs_law`), on
-//! either side, by any rules of access control that hand contexts over by their side.
+//! is named, and objects that are made hold no security contexts. So each state of its runs is typed and has a step (`runs_law`), on either
+//! side, by any rules of access control that hand contexts over by their side.
 //!
-//! Rooms of the machine's definition may name it. None does yet.
+//! Rooms of the machine may name it.
 #![tactic(auto)]
 
 mod laws;

@@ -1,4 +1,4 @@
-use Rattle.jsafe.proofs.Opening.{opens_typed}
+use Rattle.jsafe.proofs.Opening.{main_has_code, opens_typed}
 use Rattle.jsafe.proofs.Running.{runs_typed}
 use Rattle.jsafe.proofs.Steps.{states_step}
 use Rattle.jsafe.proofs.laws.states_laws.Goals as goal
@@ -11,3 +11,6 @@ returns-clause-opening g c = opens_typed _ _
 
 pub returns-clause-run : goal.returns-clause-run
 returns-clause-run g c = runs_typed _ _
+
+pub returns-clause-coded : goal.returns-clause-coded
+returns-clause-coded g c = main_has_code
