@@ -25,7 +25,7 @@ impl Model for CheckedProgram {
 }
 
 /// A program of the passing side that links and is well typed: it runs without a look at frames. Only
-/// [`CheckedProgram::into_plain`] makes one.
+/// [`CheckedProgram::into_plain`] and [`PlainProgram::proved`] make one.
 #[derive(Drop)]
 pub struct PlainProgram {
     program: LinkedProgram,
@@ -68,6 +68,15 @@ impl CheckedProgram {
 }
 
 impl PlainProgram {
+    /// A program that is known to be well typed: nothing of it is looked at. It takes no memory.
+    pub fn proved(program: LinkedProgram) -> PlainProgram
+        requires side { program.side ≡ sides.Passing }
+        requires typed { WellTyped program }
+        ensures { result ≡ program }
+    {
+        PlainProgram { program }
+    }
+
     /// The program.
     pub fn linked(&self) -> &LinkedProgram
         ensures same { result.now ≡ self.now }

@@ -1,5 +1,5 @@
-//! The moved program: each class moved (`jmoveclass`), in a program of the passing side, and its class files. The verb `rewrite` stands
-//! on it.
+//! The moved program: each class moved (`jmoveclass`), in a program of the passing side that links, and its class files. The type of moved
+//! programs (`jmoving`) stands on it.
 //!
 //! - `Program`: the moved program, and the first limit that a program breaks.
 //! - `Linking`, `Members`, `References`: what moved programs keep of linking.
@@ -14,13 +14,12 @@
 //! the library fixes, as none of its methods with code is handed a context; and of the methods above none is new. `code_law`: nor does
 //! the fourth phase, as calls that change find the members that they found, by their new descriptors, all other references stand for
 //! what they stood for, and the methods of `sps/Rt` and the class of contexts may be named by all, and what full frames name besides
-//! was asked for with the frame that a method begins with. `link_law`: so the moved program links. `rewrite` answers the moved program
-//! of a checked program of the source side, as a program that is linked without a second look, where no limit is broken, and else the
-//! first limit; `files` are the bytes that spell its parts, with the names of their classes and the numbers of their code sources, in
-//! its order; `into_plain` makes a program that runs on the passing side of it exactly where it is well typed, and else hands it back
-//! with the first place that isn't.
+//! was asked for with the frame that a method begins with. `link_law`: so the moved program links. `moved_program` answers the moved
+//! program of one of the source side that links and is well typed, as a program that is linked without a second look, where no limit is
+//! broken, and else the first limit; `files_of` are the bytes that spell its parts, with the names of their classes and the numbers of
+//! their code sources, in its order.
 //!
-//! Rooms of jobs and the top may name it.
+//! Rooms of moving, jobs and the top may name it.
 #![tactic(auto)]
 
 mod error;
@@ -34,4 +33,4 @@ pub use jmoveclass::RewriteKind;
 pub use laws::{code_law, link_law, member_law, part_laws, standing_laws};
 pub use moved::moved_parts;
 pub use part::MovedPart;
-pub use rewritten::{OutFile, RewrittenProgram, rewrite};
+pub use rewritten::{OutFile, files_of, moved_program};

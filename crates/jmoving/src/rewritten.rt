@@ -1,0 +1,80 @@
+ghost use Rattle.std.specs.Prelude.{◌≡◌, ℕ, IfOk, List, MatchResult, None};
+ghost use Rattle.jlib.specs.declared.side.Side.TheVariants as sides;
+ghost use Rattle.jlink.specs.Links.{Links};
+ghost use Rattle.jprogram.specs.Members.{main_of};
+ghost use Rattle.jrewrite.specs.Files;
+ghost use Rattle.jrewrite.specs.Files.{IsRewritten};
+ghost use Rattle.jrewrite.specs.Program;
+ghost use Rattle.jrewrite.specs.Program.{RewriteErrorIs};
+ghost use Rattle.jtyping.specs.Typing.{WellTyped};
+
+use jbase::Seq;
+use jcheck::{CheckedProgram, PlainProgram};
+use jlink::LinkedProgram;
+use jretype::types_law;
+use jrewrite::{OutFile, RewriteError, files_of, link_law, moved_program};
+use jseen::begin_law;
+use std::alloc::{AllocError, Global};
+use std::marker::Model;
+
+/// A moved program: it links on the passing side and is well typed, and each of its parts is a class file. Only [`rewrite`] makes one.
+/// Contracts see it as the program.
+#[derive(Drop)]
+pub struct RewrittenProgram {
+    program: LinkedProgram,
+}
+
+impl Model for RewrittenProgram {
+    ghost use Rattle.jprogram.specs.Classes.{Program};
+    ghost use Rattle.jrewrite.specs.Files.{IsRewritten};
+    ghost use Rattle.jtyping.specs.Typing.{WellTyped};
+
+    ghost Value = { Program };
+
+    ghost view = { λ p. p.program };
+
+    ghost invariant = { λ p. IsRewritten p.program × WellTyped p.program };
+}
+
+/// The moved program of a program of the source side. The error is `At` exactly where a limit is broken, and says the first: class by
+/// class, in each its methods in their order, and its pool last. Where none is broken the moved program links and is well typed.
+pub fn rewrite(alloc: Global, p: &CheckedProgram) -> Result<RewrittenProgram, RewriteError>
+    requires side { p.now.side ≡ sides.Source }
+    ensures moved { MatchResult result (λ q. (Program.limits p.now ≡ None) × (q ≡ Program.moved p.now)) (RewriteErrorIs (Program.limits p.now)) }
+    ensures links { Program.limits p.now ≡ None → Links (Program.moved p.now) }
+    ensures typed { Program.limits p.now ≡ None → WellTyped (Program.moved p.now) }
+    // The `main` of each class is the same method.
+    ensures mains { IfOk result (λ q. (name : List ℕ) → main_of q name ≡ main_of p.now name) }
+{
+    let linked = p.linked();
+    link_law();
+    types_law();
+    begin_law();
+    let program = moved_program(alloc, linked)?;
+    Ok(RewrittenProgram { program })
+}
+
+impl RewrittenProgram {
+    /// The program.
+    pub fn linked(&self) -> &LinkedProgram
+        ensures same { result.now ≡ self.now }
+        ensures moved { IsRewritten self.now }
+        ensures typed { WellTyped self.now }
+    {
+        &self.program
+    }
+
+    /// Its class files in its order: the bytes that spell each, with the number of its code source and its name.
+    pub fn files(&self, alloc: Global) -> Result<Seq<OutFile>, AllocError>
+        ensures { IfOk result (λ files. files ≡ Files.files_of self.now) }
+    {
+        files_of(alloc, &self.program)
+    }
+
+    /// The program as one that runs on the passing side. It takes no memory.
+    pub fn into_plain(self) -> PlainProgram
+        ensures { result ≡ self }
+    {
+        PlainProgram::proved(self.program)
+    }
+}
