@@ -1,11 +1,12 @@
-ghost use Rattle.std.specs.Prelude.{◌≡◌, ◌≤◌, Err, IfOk, OnErr, OnOk, is_some, true};
+ghost use Rattle.std.specs.Prelude.{◌≡◌, ◌≤◌, Err, IfOk, OnErr, OnOk};
 ghost use Rattle.jbase.specs.Causes.{IsCut, Rose, appended};
 ghost use Rattle.jdomain.specs.Domains.{has};
+ghost use Rattle.jlib.specs.declared.side.Side.TheVariants.{Source};
 ghost use Rattle.jtrace.specs.declared.fault.RunFault.TheVariants.{Sink as SinkFault};
-ghost use Rattle.juses.specs.Instructions.{code_at};
 ghost use Rattle.jmachine.specs.Machine.{run as run_of};
 ghost use Rattle.jmachine.specs.Runs.{ending, run_text};
 ghost use Rattle.jrules.specs.Inspecting.{rules as inspecting};
+ghost use Rattle.jsound.specs.Runs.{IsMain};
 
 use crate::inspector::Inspector;
 use jcheck::CheckedProgram;
@@ -14,10 +15,12 @@ use jio::Sink;
 use jmachine::Plan;
 use jtrace::{End, RunFault};
 use jwhole::run;
+use jyield::rules_laws;
 use std::alloc::Global;
 
-/// Runs a checked program by the rules of frames: each check walks the stack (class documentation of AccessController). It writes a line for each
-/// event and one for the end, which is `Bound` where the run has not ended after the plan's steps. The method with which it begins has code.
+/// Runs a checked program of the source side by the rules of frames: each check walks the stack (class documentation of AccessController). It writes
+/// a line for each event and one for the end, which is `Bound` where the run has not ended after the plan's steps. It begins with the `main` of
+/// a class.
 ///
 /// At a fault a front of the text went out. `RunFault::Sink` is answered only where the sink counted a fault in this call; want of memory
 /// may come at any time.
@@ -28,13 +31,15 @@ pub fn run_inspect<K: Sink>(
     plan: &Plan,
     out: &mut K,
 ) -> Result<End, RunFault>
-    requires coded { is_some (code_at program.now plan.now.main) ≡ true }
+    requires side { program.now.side ≡ Source }
+    requires main { IsMain program.now plan.now.main }
     ensures written { OnOk result (K.out out.new ≡ appended (K.out out.old) (run_text (run_of (inspecting (has domains.now)) program.now plan.now plan.now.steps))) }
     ensures end { IfOk result (λ end. end ≡ ending (run_of (inspecting (has domains.now)) program.now plan.now plan.now.steps)) }
     ensures cut { OnErr result (IsCut (K.out out.old) (K.out out.new) (run_text (run_of (inspecting (has domains.now)) program.now plan.now plan.now.steps))) }
     ensures later { K.faults out.old ≤ K.faults out.new }
     ensures cause { result ≡ Err SinkFault → Rose (K.faults out.old) (K.faults out.new) }
 {
+    rules_laws();
     let guard = Inspector::open(alloc, domains)?;
     run(alloc, program.linked(), plan, guard, out)
 }

@@ -3,4 +3,4 @@ mod Passed
 mod Standing
 pub mod Tellings
 mod Told
-pub mod Unstuck
+mod Unstuck

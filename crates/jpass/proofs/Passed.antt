@@ -1,30 +1,39 @@
 -- The runs of a program and of its moved program: by the local simulation, the moved one's lead, and the machines between.
-use Rattle.std.proofs.Common.{◌≡◌, ℕ, ◌+◌, ◌*◌, ◌≤◌, Bool, true, false, List, [], Some, None, refl, sym, ap, ◌∙◌, arith}
+use Rattle.std.proofs.Common.{◌≡◌, ℕ, ◌+◌, ◌*◌, ◌≤◌, Bool, true, false, [], Some, None, refl, sym, ap, ◌∙◌, arith}
 use Rattle.std.specs.Prelude.{nat_le, if◌then◌else◌}
 use Rattle.jperm.specs.declared.permission.Permission.{Permission}
 use Rattle.jtrace.specs.declared.event.End.{End}
 use Rattle.jtrace.specs.declared.event.End.TheVariants as ends
 use Rattle.jprogram.specs.Classes.{Program}
-use Rattle.jprogram.specs.Members.{main_of}
 use Rattle.jmachine.specs.declared.plan.Plan.{Plan}
 use Rattle.jmachine.specs.Machine.{run}
 use Rattle.jmachine.specs.Opening.{opening_charge}
+use Rattle.jmachine.specs.Acts.{NoStep, Outcome, Over, State, Went}
+use Rattle.jmachine.specs.Maps.{outcome_map}
 use Rattle.jmachine.specs.Runs.{Run, run_from}
-use Rattle.jbeside.specs.Alike.{ShadowedRuns, SourcedRuns}
+use Rattle.jmachine.specs.Steps.{step}
+use Rattle.jdomain.specs.Stacks.{Stack}
+use Rattle.jrules.specs.Inspecting as inspecting
+use Rattle.jrules.specs.Inspecting.{Carried}
+use Rattle.jbeside.specs.Alike.{ShadowedRuns, SourcedRuns, SourcedSteps, state_along}
 use Rattle.jbeside.specs.Beside.{shadowed, sourced}
 use Rattle.jcount.specs.Counting.{EndsAll, Follows, IsUnstuck, KeepsAll, Leads}
 use Rattle.jcount.proofs.Counts.{no_more}
-use Rattle.jstands.specs.Moves.{Moves}
 use Rattle.jstands.specs.Stands.{LocallyFollows, Point, Stands, before, behind}
 use Rattle.jfollow.specs.Begins.{BeginsInFour, first, first_moved}
-use Rattle.jpass.specs.Passing.{Complete, NeverStuck, PassTheorem, Passes, Simulated, inspected, passed}
+use Rattle.jpass.specs.Passing.{Complete, PassTheorem, PassesUnstuck, Simulated, UnstuckFor, inspected, passed}
 use Rattle.jpass.proofs.Told.{near_all, told_all}
 
 some_end : {P : Type 0} (end : End) → Some end ≡ None → P
 some_end end e = absurd cc
 
+stuck_along : (o : Outcome (State Stack Carried)) → outcome_map state_along o ≡ NoStep → o ≡ NoStep
+stuck_along (Went s events) e = absurd (let a = e in cc)
+stuck_along (Over s events end) e = absurd (let a = e in cc)
+stuck_along NoStep e = refl
+
 module _ (has : ℕ → Permission → Bool) (p q : Program) (plan : Plan) (charge : opening_charge q ≡ opening_charge p)
-    (along : SourcedRuns) (left : ShadowedRuns)
+    (along : SourcedRuns) (steps : SourcedSteps) (left : ShadowedRuns)
     (keeps : KeepsAll (Stands p q)) (ends_too : EndsAll (Stands p q)) (local : Follows (Stands p q) (before has p plan) (behind has q plan) 7)
     (u : Point) (lead : Leads (behind has q plan) 4 (first_moved has q plan) [] u) (stands : Stands p q (first has p plan) u) where
   abbrev a : Point
@@ -80,9 +89,17 @@ module _ (has : ℕ → Permission → Bool) (p q : Program) (plan : Plan) (char
   ends_behind : (m : ℕ) → (passed has q plan m).end ≡ (run_from (behind has q plan) m (begun b fits)).end
   ends_behind m = sym (ap (λ r. r.end) (left has q plan m)) ∙ ap (λ (r : Run Point). r.end) (behind_run m)
 
-  simulated : (m : ℕ) → NeverStuck has p plan m → Simulated has p q plan m
+  -- where the inspecting run has a next step, so has the first machine between
+  unstuck_before : (n : ℕ) → UnstuckFor has p plan n → IsUnstuck (before has p plan) (begun a fits) n
+  unstuck_before n free k lt ends none =
+      let s = (inspected has p plan k).state in
+      let same : state_along s ≡ (run_from (before has p plan) k (begun a fits)).state
+      = ap (λ (r : Run Point). r.state) (along has p plan k) ∙ ap (λ (r : Run Point). r.state) (before_run k) in
+      free k lt (ends_before k ∙ ends) (stuck_along (step (inspecting.rules has) p plan s) (steps has p plan s ∙ ap (before has p plan) same ∙ none))
+
+  simulated : (m : ℕ) → UnstuckFor has p plan m → Simulated has p q plan m
   simulated m free =
-      let w = simulates m fits (λ k within e. free k within (ends_before k ∙ e)) in
+      let w = simulates m fits (unstuck_before m free) in
       record {
         k = w.0;
         within = w.1;
@@ -105,15 +122,15 @@ module _ (has : ℕ → Permission → Bool) (p q : Program) (plan : Plan) (char
       let y = no_more (behind has q plan) m (begun b false) ends.HeapFull refl in
       (ap (λ (r : Run Point). r.events) y ∙ sym (ap (λ (r : Run Point). r.events) x), ap (λ (r : Run Point). r.end) y ∙ sym (ap (λ (r : Run Point). r.end) x))
 
-  complete : (n m : ℕ) (end : End) → NeverStuck has p plan n → (inspected has p plan n).end ≡ Some end → 8 * n + 8 ≤ m → Complete has p q plan n m
+  complete : (n m : ℕ) (end : End) → UnstuckFor has p plan n → (inspected has p plan n).end ≡ Some end → 8 * n + 8 ≤ m → Complete has p q plan n m
   complete n m end free e le =
-      let w = completes n m fits end (sym (ends_before n) ∙ e) (λ k within z. free k within (ends_before k ∙ z)) le in
+      let w = completes n m fits end (sym (ends_before n) ∙ e) (unstuck_before n free) le in
       record { events = told_behind m ∙ w.0 ∙ sym (told_before n); end = ends_behind m ∙ w.1 ∙ sym (ends_before n) }
 
-  pub passes : Passes has p q plan
+  pub passes : PassesUnstuck has p q plan
   passes = record { simulated = simulated; complete = complete }
 
-pub pass_theorem : SourcedRuns → ShadowedRuns → ((p q : Program) → KeepsAll (Stands p q)) → ((p q : Program) → EndsAll (Stands p q)) → LocallyFollows → BeginsInFour → PassTheorem
-pass_theorem along left keeps ends_too local begins has p q plan name moves is =
+pub pass_theorem : SourcedRuns → SourcedSteps → ShadowedRuns → ((p q : Program) → KeepsAll (Stands p q)) → ((p q : Program) → EndsAll (Stands p q)) → LocallyFollows → BeginsInFour → PassTheorem
+pass_theorem along steps left keeps ends_too local begins has p q plan name moves is =
     let w = begins has p q plan name moves is in
-    passes has p q plan moves.charge along left (keeps p q) (ends_too p q) (local has p q plan moves) w.0 w.1 w.2
+    passes has p q plan moves.charge along steps left (keeps p q) (ends_too p q) (local has p q plan moves) w.0 w.1 w.2

@@ -1,8 +1,6 @@
 -- The local simulation between the inspecting and the plain machine, by that between the machines between.
-use Rattle.std.proofs.Common.{◌≡◌, ℕ, Bool, List, refl, sym, ap, subst, ◌∙◌}
+use Rattle.std.proofs.Common.{◌≡◌, ℕ, Bool, List, refl, sym, subst}
 use Rattle.jperm.specs.declared.permission.Permission.{Permission}
-use Rattle.jtrace.specs.declared.event.Event.{Event}
-use Rattle.jtrace.specs.declared.event.End.{End}
 use Rattle.jdomain.specs.Stacks.{Stack}
 use Rattle.jprogram.specs.Classes.{Program}
 use Rattle.jctx.specs.declared.item.Item.{Item}
@@ -14,7 +12,7 @@ use Rattle.jrules.specs.Inspecting as inspecting
 use Rattle.jrules.specs.Inspecting.{Carried}
 use Rattle.jrules.specs.Plain as plain
 use Rattle.jbeside.specs.Alike.{ShadowedSteps, SourcedSteps, state_along, state_left}
-use Rattle.jcount.specs.Counting.{Answers, Leads, LeadsOut}
+use Rattle.jcount.specs.Counting.{Answers}
 use Rattle.jstands.specs.Moves.{Moves}
 use Rattle.jstands.specs.Stands.{LocallyFollows, Point, Stands, before, behind}
 use Rattle.jpass.specs.Standing.{StandsFor, StandsThroughout}

@@ -1,5 +1,5 @@
 -- What a call told of the plain run of a moved program, said of the inspecting run of the program as it was written.
-use Rattle.std.proofs.Common.{◌≡◌, ◌∙◌, ℕ, Bool, List, Option, Ok, Err, ap, subst, arith}
+use Rattle.std.proofs.Common.{◌≡◌, ◌∙◌, ℕ, Bool, List, Option, Ok, Err, ap, subst}
 use Rattle.std.specs.Prelude.{IfOk, OnErr, OnOk, Result, unwrap_or}
 use Rattle.jbase.specs.Causes.{IsCut, appended}
 use Rattle.jperm.specs.declared.permission.Permission.{Permission}
@@ -11,7 +11,7 @@ use Rattle.jtrace.specs.Lines.{text}
 use Rattle.jprogram.specs.Classes.{Program}
 use Rattle.jmachine.specs.declared.plan.Plan.{Plan}
 use Rattle.jmachine.specs.Runs.{Run, ending, run_text}
-use Rattle.jpass.specs.Passing.{MovedPasses, NeverStuck, Passes, inspected, passed}
+use Rattle.jpass.specs.Passing.{MovedPasses, Passes, inspected, passed}
 use Rattle.jpass.specs.Running.{AfterSome, IsMoved, OnceEnded, Tells}
 
 -- ---- a run's lines and its ending are its events' and its end's alone
@@ -36,16 +36,16 @@ tells r (Err fault) old new written ended cut = cut
 -- ---- of a moved program's run
 
 module _ (law : MovedPasses) (has : ℕ → Permission → Bool) (p q : Program) (plan : Plan) (is : IsMoved p q plan)
-    (free : NeverStuck has p plan plan.steps) (result : Result End RunFault) (old new : Option (List ℕ)) where
+    (result : Result End RunFault) (old new : Option (List ℕ)) where
   passes : Passes has p q plan
   passes = subst (λ (x : Program). Passes has p x plan) is.moved (law has p plan is.main.0 is.linked is.typed is.small is.main.1)
 
   pub simulated : Tells (passed has q plan plan.steps) result old new → AfterSome (inspected has p plan) plan.steps (λ r. Tells r result old new)
   simulated told =
-      let w = passes.simulated plan.steps free in
+      let w = passes.simulated plan.steps in
       (w.k, w.within, w.near, tells_alike (passed has q plan plan.steps) (inspected has p plan w.k) result old new w.events w.end told)
 
   pub complete : Tells (passed has q plan plan.steps) result old new → OnceEnded (inspected has p plan) plan.steps (λ r. Tells r result old new)
   complete told n end over enough =
-      let w = passes.complete n plan.steps end (λ k within. free k (omega arith)) over enough in
+      let w = passes.complete n plan.steps end over enough in
       tells_alike (passed has q plan plan.steps) (inspected has p plan n) result old new w.events w.end told

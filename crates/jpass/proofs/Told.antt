@@ -30,7 +30,7 @@ module _ {S T : Type 0} (R : S → T → Type 0) (keeps : KeepsAll R) (ends : En
 
   past_lead : (m : ℕ) → 4 ≤ m → IsUnstuck fast (going [] s) m → Near m
   past_lead m le free =
-      let w : Keeps fast slow 7 (going [] s) (going [] u) (m - 4) = keeps fast slow 7 (omega arith) local (m - 4) [] s u stands (λ k within e. free k (omega arith) e) in
+      let w : Keeps fast slow 7 (going [] s) (going [] u) (m - 4) = keeps fast slow 7 (omega arith) local (m - 4) [] s u stands (λ k within e none. free k (omega arith) e none) in
       let m-is : m ≡ 4 + (m - 4) = omega arith in
       let slow-is : L m ≡ run_from slow (m - 4) (going [] u) = ap L m-is ∙ behind_lead (m - 4) in
       let kept = w.within in

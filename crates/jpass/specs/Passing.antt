@@ -1,9 +1,8 @@
 -- What a moved program's run tells of the inspecting run, and of it alone.
-use Rattle.std.specs.Prelude.{◌≡◌, ◌≤◌, ◌+◌, ◌*◌, ℕ, Bool, List, Some, None}
+use Rattle.std.specs.Prelude.{◌≡◌, ◌<◌, ◌≤◌, ◌+◌, ◌*◌, ℕ, Bool, List, Some, None}
 use Rattle.jperm.specs.declared.permission.Permission.{Permission}
 use Rattle.jdomain.specs.Stacks.{Stack}
 use Rattle.jtrace.specs.declared.event.End.{End}
-use Rattle.jtrace.specs.declared.event.End.TheVariants as ends
 use Rattle.jprogram.specs.Classes.{Program}
 use Rattle.jprogram.specs.Members.{main_of}
 use Rattle.jctx.specs.declared.item.Item.{Item}
@@ -11,12 +10,14 @@ use Rattle.jrewrite.specs.Linking.{IsLinked}
 use Rattle.jtyping.specs.Typing.{WellTyped}
 use Rattle.jrewrite.specs.Program.{limits, moved}
 use Rattle.jmachine.specs.declared.plan.Plan.{Plan}
-use Rattle.jmachine.specs.Acts.{State}
+use Rattle.jmachine.specs.Acts.{Outcome, State}
 use Rattle.jmachine.specs.Machine.{run}
 use Rattle.jmachine.specs.Runs.{Run}
+use Rattle.jmachine.specs.Steps.{step}
 use Rattle.jrules.specs.Inspecting as inspecting
 use Rattle.jrules.specs.Inspecting.{Carried}
 use Rattle.jrules.specs.Plain as plain
+use Rattle.jcount.specs.Counting.{HasStep}
 use Rattle.jstands.specs.Moves.{Moves}
 
 -- the run of a program as it was written, by the machine that walks frames,
@@ -27,9 +28,13 @@ inspected has p plan k = run (inspecting.rules has) p plan k
 abbrev pub passed : (ℕ → Permission → Bool) → Program → Plan → ℕ → Run (State (List Item) (Unit {0}))
 passed has q plan m = run (plain.rules has) q plan m
 
--- the inspecting run isn't stuck within so many steps
-abbrev pub NeverStuck : (ℕ → Permission → Bool) → Program → Plan → ℕ → Type 0
-NeverStuck has p plan n = (k : ℕ) → k ≤ n → (inspected has p plan k).end ≡ Some ends.Stuck → ⊥
+-- A run is never stuck: where it has not ended, its state has a step;
+abbrev pub NeverStuck : {S : Type 0} → (S → Outcome S) → (ℕ → Run S) → Type 0
+NeverStuck step run = (k : ℕ) → HasStep step (run k)
+
+-- and so far, the inspecting run isn't.
+abbrev pub UnstuckFor : (ℕ → Permission → Bool) → Program → Plan → ℕ → Type 0
+UnstuckFor has p plan n = (k : ℕ) → k < n → HasStep (step (inspecting.rules has) p plan) (inspected has p plan k)
 
 -- After m steps the moved program has told what the inspecting run has told after some k, and has ended as that has, or m is near.
 pub record Simulated (has : ℕ → Permission → Bool) (p q : Program) (plan : Plan) (m : ℕ) : Type 0 where
@@ -46,14 +51,20 @@ pub record Complete (has : ℕ → Permission → Bool) (p q : Program) (plan : 
 
 -- both, of a program, its moved program and a plan
 pub record Passes (has : ℕ → Permission → Bool) (p q : Program) (plan : Plan) : Type 0 where
-  pub simulated : (m : ℕ) → NeverStuck has p plan m → Simulated has p q plan m
+  pub simulated : (m : ℕ) → Simulated has p q plan m
   -- where the inspecting run has ended, enough steps tell it all
-  pub complete : (n m : ℕ) (end : End) → NeverStuck has p plan n → (inspected has p plan n).end ≡ Some end → 8 * n + 8 ≤ m → Complete has p q plan n m
+  pub complete : (n m : ℕ) (end : End) → (inspected has p plan n).end ≡ Some end → 8 * n + 8 ≤ m → Complete has p q plan n m
 
--- ---- the law
+-- both, as far as the inspecting run isn't stuck
+pub record PassesUnstuck (has : ℕ → Permission → Bool) (p q : Program) (plan : Plan) : Type 0 where
+  pub simulated : (m : ℕ) → UnstuckFor has p plan m → Simulated has p q plan m
+  pub complete : (n m : ℕ) (end : End) → UnstuckFor has p plan n → (inspected has p plan n).end ≡ Some end → 8 * n + 8 ≤ m → Complete has p q plan n m
 
+-- ---- the laws
+
+-- of two programs of which a machine knows that the second is the first one moved
 abbrev pub PassTheorem : Type 0
-PassTheorem = (has : ℕ → Permission → Bool) (p q : Program) (plan : Plan) (name : List ℕ) → Moves p q → main_of p name ≡ Some plan.main → Passes has p q plan
+PassTheorem = (has : ℕ → Permission → Bool) (p q : Program) (plan : Plan) (name : List ℕ) → Moves p q → main_of p name ≡ Some plan.main → PassesUnstuck has p q plan
 
 -- of each program that links, is well typed and breaks no limit, and its moved program
 abbrev pub MovedPasses : Type 0

@@ -1,10 +1,13 @@
 ghost use Rattle.jpass.specs.Passing.{MovedPasses, PassTheorem};
 ghost use Rattle.jpass.specs.Standing.{MovedStands, StandsThroughout};
 
+use crate::machines::ByFrames;
 use jbeside::beside_laws;
 use jcoded::moves_law;
 use jcount::{TwoStates, count_laws};
 use jfollow::{follow_law, opening_law};
+use jsound::runs_law;
+use jyield::rules_laws;
 
 /// The states of the machines between, and which of them stand for which, by a program and its moved program.
 struct Between;
@@ -32,8 +35,9 @@ pub fn stand_law()
     follow_law();
 }
 
-/// The law of runs: what the moved program tells by the plain machine is what the program as it was written tells by the inspecting one, in no
-/// more than so many steps, and it tells no less. It has no body to run but the laws that it stands on; its contract is the law.
+/// The law of runs: as far as the inspecting run isn't stuck, what the moved program tells by the plain machine is what the program as it was written
+/// tells by the inspecting one, in no more than so many steps, and it tells no less. It has no body to run but the laws that it stands on; its
+/// contract is the law.
 pub fn pass_law()
     ensures { PassTheorem }
 {
@@ -44,7 +48,7 @@ pub fn pass_law()
 }
 
 /// Both laws, of each program that links, is well typed and breaks no limit, and of its moved program: whatever the policy, the schedule and the
-/// bounds are. It has no body to run but the laws that it stands on; its contract is the laws.
+/// bounds are. No run of such a program is stuck. It has no body to run but the laws that it stands on; its contract is the laws.
 pub fn moved_laws()
     ensures states { MovedStands }
     ensures runs { MovedPasses }
@@ -52,4 +56,6 @@ pub fn moved_laws()
     moves_law();
     stand_law();
     pass_law();
+    rules_laws();
+    runs_law::<ByFrames>();
 }

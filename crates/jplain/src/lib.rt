@@ -3,9 +3,9 @@
 //!
 //! - `Plains`: what an ask makes of the guard.
 //!
-//! Proved: each answer of `Plain` stands for what the rules of contexts answer; a check leaves the guard as it is; `run_linked` and
-//! `run_plain` write exactly the text of the machine's run by these rules under the plan's heap, depth and steps, answer its end, and at a
-//! fault leave a front of the text.
+//! Proved: each answer of `Plain` stands for what the rules of contexts answer; a check leaves the guard as it is; `run_plain` writes exactly
+//! the text of the machine's run by these rules under the plan's heap, depth and steps, answers its end, and at a fault leaves a front of the
+//! text.
 //!
 //! Jobs and the top may name it.
 #![tactic(auto)]
@@ -13,5 +13,6 @@
 mod plain;
 mod running;
 
+pub use jwhole::is_sound;
 pub use plain::Plain;
-pub use running::{run_linked, run_plain};
+pub use running::run_plain;

@@ -1,49 +1,28 @@
-ghost use Rattle.std.specs.Prelude.{◌≡◌, ◌≤◌, Err, IfOk, OnErr, OnOk, is_some, true};
+ghost use Rattle.std.specs.Prelude.{◌≡◌, ◌≤◌, Err, IfOk, OnErr, OnOk};
 ghost use Rattle.jbase.specs.Causes.{IsCut, Rose, appended};
 ghost use Rattle.jdomain.specs.Domains.{has};
-ghost use Rattle.jlib.specs.declared.side.Side.TheVariants.{Passing};
 ghost use Rattle.jtrace.specs.declared.fault.RunFault.TheVariants.{Sink as SinkFault};
-ghost use Rattle.juses.specs.Instructions.{code_at};
 ghost use Rattle.jmachine.specs.Machine.{run as run_of};
 ghost use Rattle.jmachine.specs.Runs.{ending, run_text};
 ghost use Rattle.jrules.specs.Plain.{rules as plain};
+ghost use Rattle.jsound.specs.Runs.{IsMain};
 
 use crate::plain::Plain;
 use jcheck::PlainProgram;
 use jdomain::Domains;
 use jio::Sink;
-use jlink::LinkedProgram;
 use jmachine::Plan;
 use jtrace::{End, RunFault};
 use jwhole::run;
+use jyield::rules_laws;
 use std::alloc::Global;
 
-/// Runs a program of the passing side by the rules of contexts: each check is decided by the context that the call hands over, without a look at
-/// frames (Wallach, Appel and Felten, 2000). It writes a line for each event and one for the end, which is `Bound` where the run has not ended
-/// after the plan's steps. The method with which it begins has code.
+/// Runs a program of the passing side that is well typed by the rules of contexts: each check is decided by the context that the call hands over,
+/// without a look at frames (Wallach, Appel and Felten, 2000). It writes a line for each event and one for the end, which is `Bound` where the run
+/// has not ended after the plan's steps. It begins with the `main` of a class.
 ///
 /// At a fault a front of the text went out. `RunFault::Sink` is answered only where the sink counted a fault in this call; want of memory
 /// may come at any time.
-pub fn run_linked<K: Sink>(
-    alloc: Global,
-    program: &LinkedProgram,
-    domains: &Domains,
-    plan: &Plan,
-    out: &mut K,
-) -> Result<End, RunFault>
-    requires side { program.now.side ≡ Passing }
-    requires coded { is_some (code_at program.now plan.now.main) ≡ true }
-    ensures written { OnOk result (K.out out.new ≡ appended (K.out out.old) (run_text (run_of (plain (has domains.now)) program.now plan.now plan.now.steps))) }
-    ensures end { IfOk result (λ end. end ≡ ending (run_of (plain (has domains.now)) program.now plan.now plan.now.steps)) }
-    ensures cut { OnErr result (IsCut (K.out out.old) (K.out out.new) (run_text (run_of (plain (has domains.now)) program.now plan.now plan.now.steps))) }
-    ensures later { K.faults out.old ≤ K.faults out.new }
-    ensures cause { result ≡ Err SinkFault → Rose (K.faults out.old) (K.faults out.new) }
-{
-    let guard = Plain::open(alloc, domains)?;
-    run(alloc, program, plan, guard, out)
-}
-
-/// Runs a program of the passing side that is well typed, as [`run_linked`] does.
 pub fn run_plain<K: Sink>(
     alloc: Global,
     program: &PlainProgram,
@@ -51,12 +30,14 @@ pub fn run_plain<K: Sink>(
     plan: &Plan,
     out: &mut K,
 ) -> Result<End, RunFault>
-    requires coded { is_some (code_at program.now plan.now.main) ≡ true }
+    requires main { IsMain program.now plan.now.main }
     ensures written { OnOk result (K.out out.new ≡ appended (K.out out.old) (run_text (run_of (plain (has domains.now)) program.now plan.now plan.now.steps))) }
     ensures end { IfOk result (λ end. end ≡ ending (run_of (plain (has domains.now)) program.now plan.now plan.now.steps)) }
     ensures cut { OnErr result (IsCut (K.out out.old) (K.out out.new) (run_text (run_of (plain (has domains.now)) program.now plan.now plan.now.steps))) }
     ensures later { K.faults out.old ≤ K.faults out.new }
     ensures cause { result ≡ Err SinkFault → Rose (K.faults out.old) (K.faults out.new) }
 {
-    run_linked(alloc, program.linked(), domains, plan, out)
+    rules_laws();
+    let guard = Plain::open(alloc, domains)?;
+    run(alloc, program.linked(), plan, guard, out)
 }

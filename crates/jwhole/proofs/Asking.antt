@@ -11,7 +11,7 @@ use Rattle.jmachine.specs.Asked.{Ask, Decided, answer_in, asked_on, asks, carrie
 use Rattle.jmachine.specs.Calls.{receiver}
 use Rattle.jmachine.specs.Security.{Rules}
 use Rattle.jcalls.specs.Marks.{marks_of}
-use Rattle.jrun.specs.declared.stepping.Stepped.{Stepped}
+use Rattle.jrun.specs.declared.came.Came.{Came}
 use Rattle.jcore.specs.declared.machine.Machine.{Machine}
 use Rattle.jops.specs.declared.value.Value.{Value}
 use Rattle.jtexts.specs.Messages.{MayBeTold}
@@ -28,7 +28,7 @@ use Rattle.jwhole.specs.Engines.{asks_next, next_of}
 
 -- where nothing is asked, whoever is asked answers nothing
 pub answers_none : {M K E : Type 0} (old new : ℕ → Option K) (old_marks new_marks : M → Option E) (rules : Rules K E) (m n : Machine M) (asked : Option (Ask ℕ))
-    (outcome : Rules ℕ M → Outcome (State ℕ M)) (came : Stepped) → asked ≡ None → Comes m any outcome came n
+    (outcome : Rules ℕ M → Outcome (State ℕ M)) (came : Came) → asked ≡ None → Comes m any outcome came n
     → Answered old new old_marks new_marks rules m asked outcome came n
 answers_none old new old_marks new_marks rules m n asked outcome came none comes = record {
   given = Decided Granted;
@@ -132,7 +132,7 @@ module _ {M : Type 0} (m k : Machine M) (call : LibCall) (count : ℕ) (at : Sta
       (same_frames k at.calling.frames f at.calling.runs runs) (at.tells tells)
 
   -- what it came to is what the step came to
-  pub answered_at : {K E : Type 0} (old new : ℕ → Option K) (old_marks new_marks : M → Option E) (rules : Rules K E) (n : Machine M) (came : Stepped) → StaysFixed m k
+  pub answered_at : {K E : Type 0} (old new : ℕ → Option K) (old_marks new_marks : M → Option E) (rules : Rules K E) (n : Machine M) (came : Came) → StaysFixed m k
       → Answered old new old_marks new_marks rules k (asked_of k at.calling.frames call count) (outcome_of k at.calling.frames call count) came n
       → Answered old new old_marks new_marks rules m (asks_next m) (next_of m) came n
   answered_at old new old_marks new_marks rules n came fixed a = record {

@@ -16,7 +16,7 @@ use Rattle.jmachine.specs.Turns.{thread_of}
 use Rattle.jguests.specs.declared.guests.Guests.{Guests}
 use Rattle.jguests.specs.Guested.{AreGuests, IsLive, Lives, guest_by, guests_of, state_by}
 use Rattle.jguard.specs.Standing.{StandsFor}
-use Rattle.jrun.specs.Coming.{ComesTo, WhereWent}
+use Rattle.jrun.specs.Coming.{ComesTo, WhereWent, came_as}
 use Rattle.jrun.specs.declared.stepping.Stepped.{Stepped}
 use Rattle.jrun.specs.declared.stepping.Stepped.TheVariants as done
 use Rattle.jcore.specs.declared.machine.Machine.{Machine}
@@ -80,22 +80,19 @@ live_in kept entry mark rules_by course.Lost holds = λ s stands. absurd stands
 -- ---- a step
 
 pub comes_left : {M K E : Type 0} (kept : ℕ → Option K) (entry : M → Option E) (c : Course M) (o : Outcome (State K E)) (came : Stepped)
-    → ComesTo (λ t. Stands kept entry c t) o came → ComesTo (λ t. Stands kept entry (left_by c came) t) o came
+    → ComesTo (λ t. Stands kept entry c t) o (came_as came) → ComesTo (λ t. Stands kept entry (left_by c came) t) o (came_as came)
 comes_left kept entry c o (done.Went events) comes = comes
 comes_left kept entry c o (done.Ended events end) comes = comes
-comes_left kept entry c o done.Stuck comes = comes
 
 pub holds_left : {M K E : Type 0} (kept : ℕ → Option K) (entry : M → Option E) (mark : ℕ → M) (rules_by : Rules K E) (c : Course M) (came : Stepped)
-    → WhereWent (Holds kept entry mark rules_by c) came → Holds kept entry mark rules_by (left_by c came)
+    → WhereWent (Holds kept entry mark rules_by c) (came_as came) → Holds kept entry mark rules_by (left_by c came)
 holds_left kept entry mark rules_by c (done.Went events) holds = holds
 holds_left kept entry mark rules_by c (done.Ended events end) holds = tt
-holds_left kept entry mark rules_by c done.Stuck holds = tt
 
 pub same_left : {M K E : Type 0} (rules_by : Rules K E) (c : Course M) (came : Stepped) (before : State K E → Outcome (State K E))
-    → steps rules_by c ≡ before → WhereWent (steps rules_by (left_by c came) ≡ before) came
+    → steps rules_by c ≡ before → WhereWent (steps rules_by (left_by c came) ≡ before) (came_as came)
 same_left rules_by c (done.Went events) before same = same
 same_left rules_by c (done.Ended events end) before same = tt
-same_left rules_by c done.Stuck before same = tt
 
 goes_on : {M : Type 0} (c : Course M) → Runs c → end_of c ≡ None
 goes_on (course.Runs m) runs = refl
@@ -110,17 +107,15 @@ is_found course.Lost runs = absurd runs
 pub ended_left : {M : Type 0} (c : Course M) (came : Stepped) → Runs c → end_of (left_by c came) ≡ end_in came
 ended_left c (done.Went events) runs = goes_on c runs
 ended_left c (done.Ended events end) runs = refl
-ended_left c done.Stuck runs = refl
 
 pub found_left : {M : Type 0} (c : Course M) (came : Stepped) → Runs c → is_lost (left_by c came) ≡ false
 found_left c (done.Went events) runs = is_found c runs
 found_left c (done.Ended events end) runs = refl
-found_left c done.Stuck runs = refl
 
 -- the step of one that goes on is its machine's
 pub comes_on : {M K E : Type 0} (kept later : ℕ → Option K) (entry afterwards : M → Option E) (rules_by : Rules K E) (c : Course M) (m n : Machine M) (came : Stepped)
     → c ≡ course.Runs m
-    → ((s : State K E) → StandsFor kept entry (state_of m) s → ComesTo (λ t. StandsFor later afterwards (state_of n) t) (step rules_by m.calls m.plan.now s) came)
-    → (s : State K E) → Stands kept entry c s → ComesTo (λ t. Stands later afterwards (course.Runs n) t) (steps rules_by c s) came
+    → ((s : State K E) → StandsFor kept entry (state_of m) s → ComesTo (λ t. StandsFor later afterwards (state_of n) t) (step rules_by m.calls m.plan.now s) (came_as came))
+    → (s : State K E) → Stands kept entry c s → ComesTo (λ t. Stands later afterwards (course.Runs n) t) (steps rules_by c s) (came_as came)
 comes_on {M} kept later entry afterwards rules_by c m n came is comes s =
-    subst (λ (x : Course M). Stands kept entry x s → ComesTo (λ t. Stands later afterwards (course.Runs n) t) (steps rules_by x s) came) (sym is) (comes s)
+    subst (λ (x : Course M). Stands kept entry x s → ComesTo (λ t. Stands later afterwards (course.Runs n) t) (steps rules_by x s) (came_as came)) (sym is) (comes s)

@@ -5,20 +5,23 @@ use Rattle.jmachine.specs.Security.{Rules}
 use Rattle.jmachine.specs.Steps.{step}
 use Rattle.jguard.specs.Guarded.{GuardedStep}
 use Rattle.jguard.specs.Standing.{Keeps, StandsFor}
-use Rattle.jrun.specs.Coming.{ComesTo, Goes, Quietly}
+use Rattle.jrun.specs.Coming.{ComesTo, Goes, Quietly, came_as}
+use Rattle.jrun.specs.declared.came.Came.{Came}
+use Rattle.jrun.specs.declared.came.Came.TheVariants as done
 use Rattle.jrun.specs.declared.stepping.Stepped.{Stepped}
-use Rattle.jrun.specs.declared.stepping.Stepped.TheVariants as done
 use Rattle.jcore.specs.declared.machine.Machine.{Machine}
 use Rattle.jcore.specs.Answering.{Answered}
 use Rattle.jcore.specs.Machines.{StaysFixed, state_of}
 use Rattle.jexecute.specs.declared.hastening.Hasty.{Hasty}
 use Rattle.jexecute.specs.Executing.{CameTo}
 use Rattle.jexecute.specs.Hastening.{Closes, Leads, Tries}
+use Rattle.jsafe.specs.States.{StatesStep}
 use Rattle.jwhole.specs.Engines.{IsEngine, asks_next, next_of}
-use Rattle.jwhole.proofs.Arriving.{engine_again, engine_steps, same_steps}
+use Rattle.jwhole.proofs.Arriving.{engine_again, engine_steps, never_stuck, same_steps}
 use Rattle.jwhole.proofs.Asking.{answers_none}
 
-module _ {M K E : Type 0} (kept : ℕ → Option K) (entry : M → Option E) (mark : ℕ → M) (rules : Rules K E) (law : GuardedStep M K E) where
+module _ {M K E : Type 0} (kept : ℕ → Option K) (entry : M → Option E) (mark : ℕ → M) (rules : Rules K E) (law : GuardedStep M K E)
+    (types : StatesStep K E) where
   kept_stays : Keeps kept kept
   kept_stays k x is = is
 
@@ -26,17 +29,17 @@ module _ {M K E : Type 0} (kept : ℕ → Option K) (entry : M → Option E) (ma
   entry_stays k x is = is
 
   -- what the machine is asked of is nothing
-  answered : (m n : Machine M) (came : Stepped) → CameTo m came n → Answered kept kept entry entry rules m (asks_next m) (next_of m) came n
+  answered : (m n : Machine M) (came : Came) → CameTo m came n → Answered kept kept entry entry rules m (asks_next m) (next_of m) came n
   answered m n came did = answers_none kept kept entry entry rules m n (asks_next m) (next_of m) came did.silent did.comes
 
-  came_so : (m n : Machine M) (came : Stepped) → IsEngine kept entry mark rules m → CameTo m came n → (s : State K E) → StandsFor kept entry (state_of m) s
+  came_so : (m n : Machine M) (came : Came) → IsEngine kept entry mark rules m → CameTo m came n → (s : State K E) → StandsFor kept entry (state_of m) s
       → ComesTo (λ t. StandsFor kept entry (state_of n) t) (step rules m.calls m.plan.now s) came
   came_so m n came e did s stands =
       engine_steps kept kept entry entry mark rules m n came law kept_stays entry_stays e (answered m n came did) s stands
 
   went_again : (m n : Machine M) → IsEngine kept entry mark rules m → CameTo m (done.Went []) n → StaysFixed m n → IsEngine kept entry mark rules n
   went_again m n e did fixed =
-      engine_again kept kept entry entry mark rules m n (done.Went []) law kept_stays entry_stays e (answered m n (done.Went []) did) fixed did.ready
+      engine_again kept kept entry entry mark rules m n (done.Went []) law types kept_stays entry_stays e (answered m n (done.Went []) did) fixed did.ready
 
   -- quick steps lead to an engine
   pub leads_engine : (count : ℕ) (m n : Machine M) → Leads count m n → IsEngine kept entry mark rules m → IsEngine kept entry mark rules n
@@ -76,12 +79,11 @@ module _ {M K E : Type 0} (kept : ℕ → Option K) (entry : M → Option E) (ma
     abbrev fixed : StaysFixed m tries.behind
     fixed = leads_fixed made.steps m tries.behind tries.leads
 
-    pub stuck_goes : made.stuck ≡ true → (s : State K E) → StandsFor kept entry (state_of m) s
-        → Goes (λ t. StandsFor kept entry (state_of n) t) (step rules m.calls m.plan.now) s (record { quiet = made.steps; last = Some done.Stuck })
-    stuck_goes stuck s stands =
-        let led = leads_quietly made.steps m tries.behind tries.leads e s stands in
+    -- behind them there is a step
+    pub isnt_stuck : made.stuck ≡ true → ⊥
+    isnt_stuck stuck =
         let did : CameTo tries.behind done.Stuck n = subst (λ (b : Bool). Closes b tries.behind n) stuck tries.closes in
-        (led.0, led.1, same_step m tries.behind fixed led.0 ∙ came_so tries.behind n done.Stuck there did led.0 led.2)
+        never_stuck kept entry mark rules tries.behind done.Stuck (λ t. StandsFor kept entry (state_of n) t) types there (came_so tries.behind n done.Stuck there did) refl
 
     module _ (goes : made.stuck ≡ false) where
       abbrev same_machine : n ≡ tries.behind
@@ -100,10 +102,10 @@ module _ {M K E : Type 0} (kept : ℕ → Option K) (entry : M → Option E) (ma
           (leads_quietly made.steps m tries.behind tries.leads e s stands)
 
       pub last_goes : (new : ℕ → Option K) (new_marks : M → Option E) (after : Machine M) (came : Stepped)
-          → ((t : State K E) → StandsFor kept entry (state_of n) t → ComesTo (λ u. StandsFor new new_marks (state_of after) u) (step rules n.calls n.plan.now t) came)
+          → ((t : State K E) → StandsFor kept entry (state_of n) t → ComesTo (λ u. StandsFor new new_marks (state_of after) u) (step rules n.calls n.plan.now t) (came_as came))
           → (s : State K E) → StandsFor kept entry (state_of m) s
           → Goes (λ u. StandsFor new new_marks (state_of after) u) (step rules m.calls m.plan.now) s (record { quiet = made.steps; last = Some came })
       last_goes new new_marks after came comes s stands =
           let led = quietly_then s stands in
           let is = sym (same_step m n fixed_then led.0) in
-          (led.0, led.1, subst (λ (o : Outcome (State K E)). ComesTo (λ u. StandsFor new new_marks (state_of after) u) o came) is (comes led.0 led.2))
+          (led.0, led.1, subst (λ (o : Outcome (State K E)). ComesTo (λ u. StandsFor new new_marks (state_of after) u) o (came_as came)) is (comes led.0 led.2))

@@ -79,10 +79,8 @@ course_of (Some m) = course.Runs m
 abbrev pub end_in : Stepped → Option End
 end_in (done.Went events) = None
 end_in (done.Ended events end) = Some end
-end_in done.Stuck = Some ends.Stuck
 
 -- where it leaves a run
 abbrev pub left_by : {M : Type 0} → Course M → Stepped → Course M
 left_by c (done.Went events) = c
 left_by c (done.Ended events end) = course.Ended end
-left_by c done.Stuck = course.Ended ends.Stuck

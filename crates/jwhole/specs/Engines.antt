@@ -1,5 +1,6 @@
 -- An engine: a machine by numbers, and a guard whose numbers stand for what is kept.
 use Rattle.std.specs.Prelude.{◌≡◌, ℕ, Option}
+use Rattle.jprogram.specs.Classes.{Program}
 use Rattle.jmachine.specs.Acts.{Outcome, State}
 use Rattle.jmachine.specs.Asked.{Ask, asks}
 use Rattle.jmachine.specs.Security.{Rules}
@@ -9,6 +10,15 @@ use Rattle.jguard.specs.Guarded.{MarksStand}
 use Rattle.jguard.specs.Standing.{StandsFor}
 use Rattle.jcore.specs.declared.machine.Machine.{Machine}
 use Rattle.jcore.specs.Machines.{IsReady, state_of}
+use Rattle.jyield.specs.Laws.{AreSided}
+use Rattle.jsafe.specs.Sound.{IsSound}
+use Rattle.jsafe.specs.States.{IsTypedState}
+
+-- By rules a program has no run that is stuck: it links and is well typed, it is on their side, and they hand contexts over by it.
+pub record IsSafe {K E : Type 0} (rules : Rules K E) (p : Program) : Type 0 where
+  pub sound : IsSound p
+  pub side : rules.side ≡ p.side
+  pub sided : AreSided rules
 
 -- What holds between steps, by what numbers and marks stand for.
 pub record IsEngine {M K E : Type 0} (kept : ℕ → Option K) (entry : M → Option E) (mark : ℕ → M) (rules : Rules K E) (m : Machine M) : Type 0 where
@@ -17,8 +27,10 @@ pub record IsEngine {M K E : Type 0} (kept : ℕ → Option K) (entry : M → Op
   -- frames of the methods of each class carry the mark of its domain
   pub carry : m.fixed.marks.now ≡ marks_of mark m.calls
   pub marks : MarksStand entry mark rules
-  -- there is a state for which its own stands
+  pub safe : IsSafe rules m.calls
+  -- there is a typed state for which its own stands
   pub stands : (s : State K E) × StandsFor kept entry (state_of m) s
+  pub typed : IsTypedState m.calls rules.side stands.0
 
 -- what its next step asks
 abbrev pub asks_next : {M : Type 0} → Machine M → Option (Ask ℕ)

@@ -20,7 +20,7 @@ use jcore::Machine;
 use jexecute::{Executed, execute};
 use jguard::Guard;
 use jlib::{ControllerCall, LibCall, RtCall, ThreadCall};
-use jrun::Stepped;
+use jrun::Came;
 use std::alloc::{AllocError, Global};
 
 /// What a call of the library asks of access control, if it asks anything.
@@ -85,7 +85,7 @@ fn call_silent<G: Guard>(
     guard: &G,
     call: LibCall,
     count: usize,
-) -> Result<Stepped, AllocError>
+) -> Result<Came, AllocError>
     requires free { IsAskFree call }
     requires calling { Calling m.old count }
     requires told { MayTell m.old call count }
@@ -106,7 +106,7 @@ fn call_library<G: Guard>(
     guard: &mut G,
     call: LibCall,
     count: usize,
-) -> Result<Stepped, AllocError>
+) -> Result<Came, AllocError>
     requires calling { Calling m.old count }
     requires carry { m.old.fixed.marks.now ≡ marks_of G.mark m.old.calls }
     requires known { CallKnown (G.kept guard.old) (G.entry guard.old) m.old call count }
@@ -138,7 +138,7 @@ pub(crate) fn advance<G: Guard>(
     alloc: Global,
     m: &mut Machine<'_, '_, G::Mark>,
     guard: &mut G,
-) -> Result<Stepped, AllocError>
+) -> Result<Came, AllocError>
     requires ready { IsReady m.old }
     requires carry { m.old.fixed.marks.now ≡ marks_of G.mark m.old.calls }
     requires known { AsksKnown (G.kept guard.old) (G.entry guard.old) m.old (asks_next m.old) }

@@ -37,16 +37,6 @@ fn fixed_by<'a, 'p, M>(base: &'a Ground<'p, M>, depth: u32) -> Fixed<'a, 'p, M>
     }
 }
 
-/// Each part of a program is a class file: it was read as one.
-fn are_files(p: &LinkedProgram)
-    ensures { AreFiles p.now }
-{
-    for part in p.parts() {
-        // What the proof needs: each part is a class file.
-        let _parts = part.class.parts();
-    }
-}
-
 /// The machine at the beginning of a run, none exactly where the heap has too few cells for what is made then.
 pub(crate) fn begin<'a, 'p, M: Copy>(
     alloc: Global,
@@ -60,12 +50,12 @@ pub(crate) fn begin<'a, 'p, M: Copy>(
     requires main { first.main ≡ plan.now.main }
     requires most { plan.now.heap < 2 ^ 31 }
     requires coded { is_some (code_at program.now plan.now.main) ≡ true }
+    requires files { AreFiles program.now }
     ensures { IfOk result (BegunOr program.now plan.now side base.now.marks first) }
 {
     let Some(opened) = open(alloc, &base.ready, &base.shaped, first, plan.heap)? else {
         return Ok(None);
     };
-    are_files(program);
     let Ok(calls) = Calls::of(alloc, program) else {
         drop(opened);
         return Err(AllocError);

@@ -1,18 +1,21 @@
-ghost use Rattle.std.specs.Prelude.{◌≡◌, None, IfOk, OnErr, OnOk, false, is_err, is_some, true};
-ghost use Rattle.juses.specs.Instructions.{code_at};
+ghost use Rattle.std.specs.Prelude.{◌≡◌, None, IfOk, OnErr, OnOk, false, is_err, true};
+ghost use Rattle.jtyping.specs.Typing.{WellTyped};
 ghost use Rattle.jmachine.specs.Acts.{State};
 ghost use Rattle.jmachine.specs.Machine.{opening};
 ghost use Rattle.jmachine.specs.Opening.{opening_state};
 ghost use Rattle.jmachine.specs.Steps.{step as steps_by};
 ghost use Rattle.jguard.specs.Standing.{AskedOnce, Keeps};
-ghost use Rattle.jrun.specs.Coming.{ComesTo, WhereWent};
+ghost use Rattle.jrun.specs.Coming.{ComesTo, WhereWent, came_as};
+ghost use Rattle.jyield.specs.Laws.{AreSided};
 ghost use Rattle.jwhole.specs.Courses;
 ghost use Rattle.jwhole.specs.Courses.{AreLive, Holds, Runs, Stands, asks_of, end_in, end_of, is_lost, left_by, steps};
+ghost use Rattle.jsound.specs.Runs.{IsMain};
 ghost use Rattle.jwhole.specs.Grounds.{IsGround};
 
 use crate::grounds::Ground;
 use crate::moving::move_on;
 use crate::running::start;
+use crate::safety::is_sound;
 use jcore::Machine;
 use jguard::Guard;
 use jlink::LinkedProgram;
@@ -72,8 +75,8 @@ fn go_on<G: Guard>(
     requires holds { Holds (G.kept guard.old) (G.entry guard.old) G.mark (G.rules guard.old) course.old }
     requires goes { end_of course.old ≡ None }
     ensures comes { IfOk result (λ came. (s : State G.Kept G.Entry) → Stands (G.kept guard.old) (G.entry guard.old) course.old s
-        → ComesTo (λ t. Stands (G.kept guard.new) (G.entry guard.new) course.new t) (steps (G.rules guard.old) course.old s) came) }
-    ensures holds { IfOk result (WhereWent (Holds (G.kept guard.new) (G.entry guard.new) G.mark (G.rules guard.new) course.new)) }
+        → ComesTo (λ t. Stands (G.kept guard.new) (G.entry guard.new) course.new t) (steps (G.rules guard.old) course.old s) (came_as came)) }
+    ensures holds { IfOk result (λ came. WhereWent (Holds (G.kept guard.new) (G.entry guard.new) G.mark (G.rules guard.new) course.new) (came_as came)) }
     ensures same { OnOk result (steps (G.rules guard.new) course.new ≡ steps (G.rules guard.old) course.old) }
     ensures runs { OnOk result (Runs course.new) }
     ensures again { is_lost course.old ≡ true → is_err result ≡ true }
@@ -101,19 +104,19 @@ fn put<'a, 'p, M: Copy>(course: &mut Course<'a, 'p, M>, new: Course<'a, 'p, M>)
     drop(old);
 }
 
-/// Where a step leaves a course: one that ended the run, and a state without a step, are its end.
+/// Where a step leaves a course: one that ended the run is its end.
 fn leave<M: Copy>(course: &mut Course<'_, '_, M>, came: &Stepped)
     ensures { course.new ≡ left_by course.old came.now }
 {
     match came {
         Stepped::Went { .. } => {}
         Stepped::Ended { end, .. } => put(course, Course::Ended { end: *end }),
-        Stepped::Stuck => put(course, Course::Ended { end: End::Stuck }),
     }
 }
 
 impl<'a, 'p, G: Guard + Drop> Engine<'a, 'p, G> {
-    /// The engine that stands at the beginning of a run of a program that links, by a guard's rules. The method with which the run begins has code.
+    /// The engine that stands at the beginning of a run of a program that links and is well typed, by the rules of a guard of the program's side,
+    /// which hand contexts over by it. The run begins with the `main` of a class. So each state of it has a step.
     /// Where the heap has too few cells for what is made then (`System.out`, the strings of ConstantValue attributes and the array that `main` is
     /// given: JVMS 4.7.2, 5.2), the run has ended as `HeapFull`. A plan of 2,147,483,648 cells or more finds no memory, and want of memory may
     /// come at any time.
@@ -125,7 +128,10 @@ impl<'a, 'p, G: Guard + Drop> Engine<'a, 'p, G> {
         guard: G,
     ) -> Result<Engine<'a, 'p, G>, AllocError>
         requires base { IsGround program.now G.mark base.now }
-        requires coded { is_some (code_at program.now plan.now.main) ≡ true }
+        requires typed { WellTyped program.now }
+        requires main { IsMain program.now plan.now.main }
+        requires side { (G.rules guard).side ≡ program.now.side }
+        requires sided { AreSided (G.rules guard) }
         ensures stands { IfOk result (λ e. end_of e.course ≡ None
             → Stands (G.kept e.guard) (G.entry e.guard) e.course (opening_state (G.rules guard) program.now plan.now.main plan.now.heap)) }
         ensures steps { IfOk result (λ e. end_of e.course ≡ None → steps (G.rules e.guard) e.course ≡ steps_by (G.rules guard) program.now plan.now) }
@@ -138,6 +144,7 @@ impl<'a, 'p, G: Guard + Drop> Engine<'a, 'p, G> {
         if plan.heap >= 0x8000_0000 {
             return Err(AllocError);
         }
+        is_sound(program);
         let begun = start(alloc, base, program, plan, &mut guard)?;
         Ok(Engine {
             guard,
@@ -145,14 +152,14 @@ impl<'a, 'p, G: Guard + Drop> Engine<'a, 'p, G> {
         })
     }
 
-    /// One step of a run that has not ended. What it tells is answered; where it ends the run, that is its end, and so is a state without a
-    /// step. Where it found no memory, each later step finds none. What was given keeps what it stands for. What a step asks it asks once, and a
-    /// step that asks nothing leaves the guard as it is. Behind each step the running thread is runnable, and no thread waits for one that has ended.
+    /// One step of a run that has not ended. What it tells is answered; where it ends the run, that is its end. Where it found no memory, each
+    /// later step finds none. What was given keeps what it stands for. What a step asks it asks once, and a step that asks nothing leaves the
+    /// guard as it is. Behind each step the running thread is runnable, and no thread waits for one that has ended.
     pub fn step(&mut self, alloc: Global) -> Result<Stepped, AllocError>
         requires goes { end_of self.old.course ≡ None }
         ensures comes { IfOk result (λ came. (s : State G.Kept G.Entry) → Stands (G.kept self.old.guard) (G.entry self.old.guard) self.old.course s
-            → ComesTo (λ t. Stands (G.kept self.new.guard) (G.entry self.new.guard) self.new.course t) (steps (G.rules self.old.guard) self.old.course s) came) }
-        ensures same { IfOk result (WhereWent (steps (G.rules self.new.guard) self.new.course ≡ steps (G.rules self.old.guard) self.old.course)) }
+            → ComesTo (λ t. Stands (G.kept self.new.guard) (G.entry self.new.guard) self.new.course t) (steps (G.rules self.old.guard) self.old.course s) (came_as came)) }
+        ensures same { IfOk result (λ came. WhereWent (steps (G.rules self.new.guard) self.new.course ≡ steps (G.rules self.old.guard) self.old.course) (came_as came)) }
         ensures ended { IfOk result (λ came. end_of self.new.course ≡ end_in came) }
         ensures found { OnOk result (is_lost self.new.course ≡ false) }
         ensures lost { OnErr result (is_lost self.new.course ≡ true) }

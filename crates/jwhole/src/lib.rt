@@ -2,8 +2,8 @@
 //! control.
 //!
 //! - `Calls`: what a call of the library asks of access control (`AsksFor`), by which its step is chosen.
-//! - `Engines`: what holds between steps of a machine and a guard (`IsEngine`): the machine is ready, its frames' marks are the
-//!   guard's, and there is a state for which its own stands.
+//! - `Engines`: what is asked of a program and of rules, so that no run is stuck (`IsSafe`), and what holds between steps of a machine and a
+//!   guard (`IsEngine`): that, the machine is ready, its frames' marks are the guard's, and there is a typed state for which its own stands.
 //! - `Grounds`: what stands as long as a program runs (`IsGround`), and how a run begins: by numbers for all rules that hand `main` the
 //!   same (`IsBegun`), and by the guard's rules (`Starts`), or the heap has too few cells.
 //! - `Courses`: where the run of an engine is: its end, if it has one (`end_of`), whether a step found no memory (`is_lost`), the
@@ -34,7 +34,9 @@ mod engine;
 mod grounds;
 mod moving;
 mod running;
+mod safety;
 
 pub use engine::Engine;
 pub use grounds::Ground;
 pub use running::run;
+pub use safety::is_sound;

@@ -2,16 +2,31 @@ ghost use Rattle.std.specs.Prelude.{◌≡◌, ◌<◌, None, IfOk, OnOk};
 ghost use Rattle.jmachine.specs.Acts.{State as StateOf};
 ghost use Rattle.jmachine.specs.Steps.{step as steps_by};
 ghost use Rattle.jguard.specs.Standing.{AskedOnce, Keeps, StandsFor};
-ghost use Rattle.jrun.specs.Coming.{AreFew, ComesTo, Goes, WhereGoes, WhereWent};
+ghost use Rattle.jrun.specs.declared.came.Came.TheVariants.{Stuck};
+ghost use Rattle.jrun.specs.Coming.{AreFew, ComesTo, Goes, WhereGoes, WhereWent, came_as};
 ghost use Rattle.jcore.specs.Machines.{state_of};
 ghost use Rattle.jwhole.specs.Engines.{IsEngine, asks_next};
 
 use crate::advancing::advance;
+use crate::safety::ByRules;
 use jcore::Machine;
 use jexecute::hasten;
 use jguard::{Guard, guard_laws};
-use jrun::{Stepped, Stepping, Stretch};
+use jrun::{Came, Stepped, Stepping, Stretch};
+use jsafe::states_laws;
 use std::alloc::{AllocError, Global};
+
+/// What a step came to that is one.
+fn stepped(came: Came) -> Stepped
+    requires { came ≡ Stuck → ⊥ }
+    ensures { came_as result ≡ came }
+{
+    match came {
+        Came::Went { events } => Stepped::Went { events },
+        Came::Ended { events, end } => Stepped::Ended { events, end },
+        Came::Stuck => unreachable!(),
+    }
+}
 
 /// A step of a machine, by the rules of the guard that answers what it asks of access control. After an error nothing is said of the machine.
 pub(crate) fn move_on<G: Guard>(
@@ -22,8 +37,8 @@ pub(crate) fn move_on<G: Guard>(
     requires ready { IsEngine (G.kept guard.old) (G.entry guard.old) G.mark (G.rules guard.old) machine.old }
     ensures comes { IfOk result (λ came. (s : StateOf G.Kept G.Entry) → StandsFor (G.kept guard.old) (G.entry guard.old) (state_of machine.old) s
         → ComesTo (λ t. StandsFor (G.kept guard.new) (G.entry guard.new) (state_of machine.new) t)
-        (steps_by (G.rules guard.old) machine.old.calls machine.old.plan.now s) came) }
-    ensures ready { IfOk result (WhereWent (IsEngine (G.kept guard.new) (G.entry guard.new) G.mark (G.rules guard.new) machine.new)) }
+        (steps_by (G.rules guard.old) machine.old.calls machine.old.plan.now s) (came_as came)) }
+    ensures ready { IfOk result (λ came. WhereWent (IsEngine (G.kept guard.new) (G.entry guard.new) G.mark (G.rules guard.new) machine.new) (came_as came)) }
     ensures same { OnOk result (steps_by (G.rules guard.new) machine.new.calls machine.new.plan.now ≡ steps_by (G.rules guard.old) machine.old.calls machine.old.plan.now) }
     ensures rules { G.rules guard.new ≡ G.rules guard.old }
     ensures keeps { Keeps (G.kept guard.old) (G.kept guard.new) }
@@ -32,8 +47,9 @@ pub(crate) fn move_on<G: Guard>(
     ensures once { OnOk result (AskedOnce G.asked guard.old guard.new (asks_next machine.old)) }
 {
     guard_laws::<G>();
+    states_laws::<ByRules<G>>();
     let came = advance(alloc, machine, guard)?;
-    Ok(came)
+    Ok(stepped(came))
 }
 
 /// Some steps of a machine, at least one and at most so many: those that are quick to make, of which none asks anything, and the one behind
@@ -54,12 +70,10 @@ fn make_steps<G: Guard>(
     ensures same { OnOk result (steps_by (G.rules guard.new) machine.new.calls machine.new.plan.now ≡ steps_by (G.rules guard.old) machine.old.calls machine.old.plan.now) }
 {
     guard_laws::<G>();
+    states_laws::<ByRules<G>>();
     let made = hasten(alloc, machine, most)?;
     if made.stuck {
-        return Ok(Stretch {
-            quiet: made.steps,
-            last: Some(Stepped::Stuck),
-        });
+        unreachable!();
     }
     if made.steps < most {
         let came = move_on(alloc, machine, guard)?;

@@ -1,17 +1,21 @@
-ghost use Rattle.std.specs.Prelude.{◌≡◌, ◌<◌, ◌≤◌, ◌^◌, IfOk, OnErr, OnOk, Err, is_some, true};
+ghost use Rattle.std.specs.Prelude.{◌≡◌, ◌<◌, ◌≤◌, ◌^◌, IfOk, OnErr, OnOk, Err};
 ghost use Rattle.jbase.specs.Causes.{IsCut, Rose, appended};
 ghost use Rattle.jtrace.specs.declared.fault.RunFault.TheVariants.{Sink as SinkFault};
-ghost use Rattle.juses.specs.Instructions.{code_at};
+ghost use Rattle.jtyping.specs.Typing.{WellTyped};
 ghost use Rattle.jmachine.specs.Frames;
 ghost use Rattle.jmachine.specs.Machine.{run as run_of};
 ghost use Rattle.jmachine.specs.Runs.{ending, run_text};
 ghost use Rattle.jmachine.specs.Security;
 ghost use Rattle.jopen.specs.Opened;
+ghost use Rattle.jyield.specs.Laws.{AreSided};
+ghost use Rattle.jsound.specs.Runs.{IsMain};
+ghost use Rattle.jwhole.specs.Engines.{IsSafe};
 ghost use Rattle.jwhole.specs.Grounds.{IsGround, StartsOr};
 
 use crate::beginning::begin;
 use crate::grounds::Ground;
 use crate::moving::Moving;
+use crate::safety::{ByRules, is_sound};
 use jcore::Machine;
 use jguard::{Guard, Sided, guard_laws};
 use jio::Sink;
@@ -21,6 +25,7 @@ use jmachine::Plan;
 use jopen::FirstFrame;
 use jprogram::MethodId;
 use jrun::close;
+use jsafe::states_laws;
 use jtrace::{End, RunFault};
 use std::alloc::{AllocError, Global};
 
@@ -54,11 +59,13 @@ pub(crate) fn start<'a, 'p, G: Guard>(
 ) -> Result<Option<Machine<'a, 'p, G::Mark>>, AllocError>
     requires base { IsGround program.now G.mark base.now }
     requires most { plan.now.heap < 2 ^ 31 }
-    requires coded { is_some (code_at program.now plan.now.main) ≡ true }
+    requires main { IsMain program.now plan.now.main }
+    requires safe { IsSafe (G.rules guard.old) program.now }
     ensures starts { IfOk result (StartsOr (G.kept guard.new) (G.entry guard.new) G.mark (G.rules guard.old) program.now plan.now) }
     ensures rules { G.rules guard.new ≡ G.rules guard.old }
 {
     guard_laws::<G>();
+    states_laws::<ByRules<G>>();
     let mark = guard.mark_of(domain_of(program, plan.main));
     let given = guard.first(alloc)?;
     let context = handed(G::On::SIDE, given);
@@ -82,7 +89,8 @@ fn run_on<'p, G: Guard + Drop, K: Sink>(
 ) -> Result<End, RunFault>
     requires base { IsGround program.now G.mark base.now }
     requires most { plan.now.heap < 2 ^ 31 }
-    requires coded { is_some (code_at program.now plan.now.main) ≡ true }
+    requires main { IsMain program.now plan.now.main }
+    requires safe { IsSafe (G.rules guard) program.now }
     ensures written { OnOk result (K.out out.new ≡ appended (K.out out.old) (run_text (run_of (G.rules guard) program.now plan.now plan.now.steps))) }
     ensures end { IfOk result (λ end. end ≡ ending (run_of (G.rules guard) program.now plan.now plan.now.steps)) }
     ensures cut { OnErr result (IsCut (K.out out.old) (K.out out.new) (run_text (run_of (G.rules guard) program.now plan.now plan.now.steps))) }
@@ -102,8 +110,9 @@ fn run_on<'p, G: Guard + Drop, K: Sink>(
     }
 }
 
-/// Runs a program that links for at most so many steps as its plan has, and writes a line for each event and one for the end, by the rules of the
-/// guard that answers what its steps ask (class documentation of AccessController). The method with which it begins has code.
+/// Runs a program that links and is well typed for at most so many steps as its plan has, and writes a line for each event and one for the end, by
+/// the rules of the guard that answers what its steps ask (class documentation of AccessController), which is one of the program's side, and
+/// whose rules hand contexts over by it. The run begins with the `main` of a class. So each state of it has a step.
 ///
 /// At a fault a front of the text went out. `RunFault::Sink` is answered only where the sink counted a fault in this call; want of memory
 /// may come at any time.
@@ -114,7 +123,10 @@ pub fn run<G: Guard + Drop, K: Sink>(
     guard: G,
     out: &mut K,
 ) -> Result<End, RunFault>
-    requires coded { is_some (code_at program.now plan.now.main) ≡ true }
+    requires typed { WellTyped program.now }
+    requires main { IsMain program.now plan.now.main }
+    requires side { (G.rules guard).side ≡ program.now.side }
+    requires sided { AreSided (G.rules guard) }
     ensures written { OnOk result (K.out out.new ≡ appended (K.out out.old) (run_text (run_of (G.rules guard) program.now plan.now plan.now.steps))) }
     ensures end { IfOk result (λ end. end ≡ ending (run_of (G.rules guard) program.now plan.now plan.now.steps)) }
     ensures cut { OnErr result (IsCut (K.out out.old) (K.out out.new) (run_text (run_of (G.rules guard) program.now plan.now plan.now.steps))) }
@@ -124,6 +136,7 @@ pub fn run<G: Guard + Drop, K: Sink>(
     if plan.heap >= 0x8000_0000 {
         return Err(RunFault::Memory);
     }
+    is_sound(program);
     let base = Ground::of(alloc, program, &guard)?;
     let came = run_on(alloc, &base, program, plan, guard, out);
     drop(base);

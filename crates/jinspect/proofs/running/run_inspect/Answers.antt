@@ -1,5 +1,6 @@
 use Rattle.std.proofs.Common.{List, OnErr, ap, subst}
 use Rattle.jbase.specs.Causes.{IsCut}
+use Rattle.jbase.proofs.Cuts.{cut_none}
 use Rattle.jperm.specs.declared.permission.Permission.{Permission}
 use Rattle.jprogram.specs.Classes.{Program}
 use Rattle.jdomain.specs.Domains.{has}
@@ -7,7 +8,20 @@ use Rattle.jmachine.specs.Machine.{run as run_of}
 use Rattle.jmachine.specs.Runs.{run_text}
 use Rattle.jrules.specs.Inspecting.{rules as inspecting}
 use Rattle.jinspect.specs.Inspects.{Inspects}
+use Rattle.jinspect.proofs.Sided.{at_err, same_side}
 use Rattle.jinspect.proofs.running.run_inspect.Goals as goal
+
+pub run-requires-clause-typed : goal.run-requires-clause-typed
+run-requires-clause-typed g c = rw c.linked.ensures.same c.linked.ensures.well
+
+pub run-requires-clause-main : goal.run-requires-clause-main
+run-requires-clause-main g c = rw c.linked.ensures.same c.requires.main
+
+pub run-requires-clause-side : goal.run-requires-clause-side
+run-requires-clause-side g c = rw c.linked.ensures.same (same_side (has c.in_ok-guard.guard.domains) c.args.program.now.side c.requires.side)
+
+pub run-requires-clause-sided : goal.run-requires-clause-sided
+run-requires-clause-sided g c = c.rules_laws.ensures.inspecting (has c.in_ok-guard.guard.domains)
 
 pub returns-clause-cut : goal.returns-clause-cut
 returns-clause-cut g c =
@@ -15,3 +29,8 @@ returns-clause-cut g c =
     (ap (λ (i : Inspects). i.domains) c.in_ok-guard.ensures)
     (subst (λ (p : Program). OnErr c.run.result (IsCut (g.K.Sink.out c.args.out.now) (g.K.Sink.out c.run.new.out) (run_text (run_of (inspecting (has c.in_ok-guard.guard.domains)) p c.args.plan.now c.args.plan.now.steps))))
     c.linked.ensures.same c.run.ensures.cut)
+
+pub returns-in_err-guard-clause-cut : goal.returns-in_err-guard-clause-cut
+returns-in_err-guard-clause-cut g c =
+    let plan = c.args.plan.now in
+    at_err c.from_residual.result (cut_none (g.K.Sink.out c.args.out.now) (run_text (run_of (inspecting (has c.args.domains.now)) c.args.program.now plan plan.steps)))

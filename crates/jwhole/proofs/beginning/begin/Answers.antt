@@ -41,5 +41,5 @@ returns g c =
       calls = c.in-Ok.calls;
     } in
     begun_by p mark base c.args.first c.args.plan.now c.args.side c.in-Some.opened m f c.requires.coded c.requires.main opens
-    (c.fixed_by.ensures.fixed p mark f) (c.fixed_by.ensures.tied p mark f) c.fixed_by.ensures.shapes c.fixed_by.ensures.marks c.fixed_by.ensures.depth c.are_files.ensures
+    (c.fixed_by.ensures.fixed p mark f) (c.fixed_by.ensures.tied p mark f) c.fixed_by.ensures.shapes c.fixed_by.ensures.marks c.fixed_by.ensures.depth c.requires.files
     guests.are guests.one guests.now guests.alone guests.lives guests.table guests.turns guests.at c.in-Ok.ensures refl refl refl refl c.new.ensures c.new-2.ensures

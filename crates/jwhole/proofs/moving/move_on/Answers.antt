@@ -1,8 +1,10 @@
 use Rattle.std.proofs.Common.{subst, sym}
 use Rattle.jmachine.specs.Security.{Rules}
 use Rattle.jrun.specs.Coming.{WhereWent}
+use Rattle.jguard.specs.Standing.{StandsFor}
+use Rattle.jcore.specs.Machines.{state_of}
 use Rattle.jwhole.specs.Engines.{IsEngine}
-use Rattle.jwhole.proofs.Arriving.{engine_again, engine_steps, knows, same_steps}
+use Rattle.jwhole.proofs.Arriving.{engine_again, engine_steps, knows, never_stuck, same_steps}
 use Rattle.jwhole.proofs.moving.move_on.Goals as goal
 
 pub advance-requires-clause-ready : goal.advance-requires-clause-ready
@@ -18,6 +20,17 @@ advance-requires-clause-known g c =
     let rules = g.G.Guard.rules c.args.guard.now in
     knows kept entry g.G.Guard.mark rules c.args.machine.now c.guard_laws.ensures.known c.requires.ready
 
+pub stepped-requires : goal.stepped-requires
+stepped-requires g c =
+    let kept = g.G.Guard.kept c.args.guard.now in
+    let entry = g.G.Guard.entry c.args.guard.now in
+    let rules = g.G.Guard.rules c.args.guard.now in
+    let later = g.G.Guard.kept c.advance.new.guard in
+    let afterwards = g.G.Guard.entry c.advance.new.guard in
+    never_stuck kept entry g.G.Guard.mark rules c.args.machine.now c.in_ok-came.came (λ t. StandsFor later afterwards (state_of c.advance.new.m) t) c.states_laws.ensures.step c.requires.ready
+    (engine_steps kept later entry afterwards g.G.Guard.mark rules c.args.machine.now c.advance.new.m c.in_ok-came.came c.guard_laws.ensures.step
+    c.advance.ensures.keeps c.advance.ensures.marks c.requires.ready c.in_ok-came.ensures.answered)
+
 pub returns-clause-comes : goal.returns-clause-comes
 returns-clause-comes g c s stands =
     let kept = g.G.Guard.kept c.args.guard.now in
@@ -25,8 +38,8 @@ returns-clause-comes g c s stands =
     let rules = g.G.Guard.rules c.args.guard.now in
     let later = g.G.Guard.kept c.advance.new.guard in
     let afterwards = g.G.Guard.entry c.advance.new.guard in
-    engine_steps kept later entry afterwards g.G.Guard.mark rules c.args.machine.now c.advance.new.m c.in_ok-came.came c.guard_laws.ensures.step
-    c.advance.ensures.keeps c.advance.ensures.marks c.requires.ready c.in_ok-came.ensures.answered s stands
+    rw c.stepped.ensures (engine_steps kept later entry afterwards g.G.Guard.mark rules c.args.machine.now c.advance.new.m c.in_ok-came.came c.guard_laws.ensures.step
+    c.advance.ensures.keeps c.advance.ensures.marks c.requires.ready c.in_ok-came.ensures.answered s stands)
 
 pub returns-clause-ready : goal.returns-clause-ready
 returns-clause-ready g c =
@@ -35,10 +48,10 @@ returns-clause-ready g c =
     let rules = g.G.Guard.rules c.args.guard.now in
     let later = g.G.Guard.kept c.advance.new.guard in
     let afterwards = g.G.Guard.entry c.advance.new.guard in
-    subst (λ (r : Rules g.G.Guard.Kept g.G.Guard.Entry). WhereWent (IsEngine later afterwards g.G.Guard.mark r c.advance.new.m) c.in_ok-came.came)
+    rw c.stepped.ensures (subst (λ (r : Rules g.G.Guard.Kept g.G.Guard.Entry). WhereWent (IsEngine later afterwards g.G.Guard.mark r c.advance.new.m) c.in_ok-came.came)
     (sym c.advance.ensures.rules)
-    (engine_again kept later entry afterwards g.G.Guard.mark rules c.args.machine.now c.advance.new.m c.in_ok-came.came c.guard_laws.ensures.step
-    c.advance.ensures.keeps c.advance.ensures.marks c.requires.ready c.in_ok-came.ensures.answered c.in_ok-came.ensures.fixed c.in_ok-came.ensures.ready)
+    (engine_again kept later entry afterwards g.G.Guard.mark rules c.args.machine.now c.advance.new.m c.in_ok-came.came c.guard_laws.ensures.step c.states_laws.ensures.step
+    c.advance.ensures.keeps c.advance.ensures.marks c.requires.ready c.in_ok-came.ensures.answered c.in_ok-came.ensures.fixed c.in_ok-came.ensures.ready))
 
 pub returns-clause-same : goal.returns-clause-same
 returns-clause-same g c =

@@ -2,6 +2,9 @@ use Rattle.jwhole.specs.Courses.{course_of}
 use Rattle.jwhole.proofs.Coursing.{ended_first, found_first, holds_first, live_in, stands_first, steps_first}
 use Rattle.jwhole.proofs.engine.Engine.open.Goals as goal
 
+pub start-requires-clause-safe : goal.start-requires-clause-safe
+start-requires-clause-safe g c = record { sound = c.is_sound.ensures; side = c.requires.side; sided = c.requires.sided }
+
 pub returns-clause-stands : goal.returns-clause-stands
 returns-clause-stands g c =
     let kept = g.G.Guard.kept c.start.new.guard in

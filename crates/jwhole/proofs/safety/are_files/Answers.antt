@@ -4,7 +4,7 @@ use Rattle.std.proofs.lemmas.List.{take_all}
 use Rattle.jprogram.specs.declared.part.CodePart.{CodePart}
 use Rattle.jopen.specs.Files.{IsFile}
 use Rattle.jwhole.proofs.Starting.{file_at}
-use Rattle.jwhole.proofs.beginning.are_files.Goals as goal
+use Rattle.jwhole.proofs.safety.are_files.Goals as goal
 
 pub returns : goal.returns
 returns c i part at =
