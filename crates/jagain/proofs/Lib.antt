@@ -1,0 +1,9 @@
+mod Lines
+mod Utf8s
+mod Words
+mod Blanks
+mod Saying
+mod Fine
+mod Sources
+mod Jobs
+mod Few
