@@ -15,7 +15,6 @@ of_end r ends.Uncaught old new is h = (ap (λ (x : End). Some (status_of x)) (sy
 of_end r ends.Deadlock old new is h = (ap (λ (x : End). Some (status_of x)) (sym is), h)
 of_end r ends.HeapFull old new is h = (ap (λ (x : End). Some (status_of x)) (sym is), h)
 of_end r ends.Bound old new is h = (ap (λ (x : End). Some (status_of x)) (sym is), h)
-of_end r ends.Stuck old new is h = (ap (λ (x : End). Some (status_of x)) (sym is), h)
 
 pub answers_run : {S : Type 0} (r : Run S) (e : End) (s : Status) (old new : Option (List ℕ)) → s ≡ status_of e → e ≡ ending r → new ≡ appended old (run_text r) → Answers (ran r) s old new
 answers_run r e s old new es is h = subst (λ (x : Status). Answers (ran r) x old new) (sym es) (of_end r e old new is h)

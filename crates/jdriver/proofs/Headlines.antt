@@ -13,10 +13,9 @@ use Rattle.jrewrite.specs.Linking.{IsLinked}
 use Rattle.jrewrite.specs.Program.{moved}
 use Rattle.jmachine.specs.declared.plan.Plan.{Plan}
 use Rattle.jmachine.specs.Runs.{Run, ending, run_text}
-use Rattle.jpass.specs.Passing.{MovedPasses, NeverStuck, Passes, inspected, passed}
+use Rattle.jpass.specs.Passing.{MovedPasses, Passes, inspected, passed}
 use Rattle.jpass.specs.Running.{AfterSome, OnceEnded}
 use Rattle.jpass.proofs.Tellings.{ending_alike, text_alike}
-use Rattle.jpass.proofs.Unstuck.{never_stuck}
 use Rattle.jshow.specs.declared.refusal.Refusal.{Refusal}
 use Rattle.jshow.specs.declared.status.Status.{Status}
 use Rattle.jshow.specs.declared.status.Status.TheVariants as statuses
@@ -60,23 +59,18 @@ module _ (c : Command) (files : List File) (p : Program) (domains : List (List P
         let main = main_in files is.path p domains plan source in
         law (has domains) p plan main.0 linked typed is.small main.1
 
-    free : (n : ℕ) → NeverStuck (has domains) p plan n
-    free n =
-        let main = main_in files is.path p domains plan source in
-        never_stuck (has domains) p plan main.0 linked typed main.1 n
-
     told : Answers (ran (passed (has domains) (moved p) plan plan.steps)) s old new
     told = subst (λ (a : Answer). Answers a s old new) answer_is answers
 
     some : AfterSome (inspected (has domains) p plan) plan.steps (λ r. Answers (ran r) s old new)
     some =
-        let w = passes.simulated plan.steps (free plan.steps) in
+        let w = passes.simulated plan.steps in
         let same = ran_alike (passed (has domains) (moved p) plan plan.steps) (inspected (has domains) p plan w.k) w.events w.end in
         (w.k, w.within, w.near, subst (λ (a : Answer). Answers a s old new) same told)
 
     all : OnceEnded (inspected (has domains) p plan) plan.steps (λ r. Answers (ran r) s old new)
     all n end over enough =
-        let w = passes.complete n plan.steps end (free n) over enough in
+        let w = passes.complete n plan.steps end over enough in
         let same = ran_alike (passed (has domains) (moved p) plan plan.steps) (inspected (has domains) p plan n) w.events w.end in
         subst (λ (a : Answer). Answers a s old new) same told
 

@@ -44,7 +44,6 @@ stores_nothing statuses.ReadFault old new h = h
 stores_nothing statuses.WriteFault old new h = h ∙ sym (with_none old)
 stores_nothing statuses.StoreFault old new h = front_same [] old new h
 stores_nothing statuses.OutOfMemory old new h = front_same [] old new h
-stores_nothing statuses.Stuck old new h = h ∙ sym (with_none old)
 
 -- all files were stored, and a line was written or not
 pub stores_done : (files : List File) (s : Status) (old new : Option (List File)) → (s ≡ statuses.Finished) ⊎ (s ≡ statuses.WriteFault) → new ≡ with_files files old → Stores files s old new

@@ -32,7 +32,6 @@ own_status a statuses.ReadFault t old new h is nr ns nw = absurd (nr refl)
 own_status a statuses.WriteFault t old new h is nr ns nw = absurd (nw refl)
 own_status a statuses.StoreFault t old new h is nr ns nw = absurd (ns refl)
 own_status a statuses.OutOfMemory t old new h is nr ns nw = inr refl
-own_status a statuses.Stuck t old new h is nr ns nw = inl (some_is _ _ (sym h.0 ∙ is))
 
 same_files : (held : Option (List File)) (files others : List File) → held ≡ Some files → held ≡ Some others → others ≡ files
 same_files held files others e h = some_is others files (sym h ∙ e)

@@ -5,16 +5,20 @@
 //! - `Storing`: files that are stored one after the other, and what stands where one fails.
 //! - `Answers`: the text, the files and the status of a task, one case a verb, and of words.
 //! - `Headline`: what a run in the pass form answers of the program as it was written.
+//! - `Alike`: when a shelf holds what a rewriting stored, and what is answered over it.
 //!
 //! Proved: **the theorem on `javasec(alloc, words, shelf, out)`**, and on `dispatch(alloc, command, shelf, out)`, which is the same
-//! behind the words (docs/THEOREMS.md).
+//! behind the words (docs/THEOREMS.md). `alike_law`, a function without a body: over a shelf that holds what `rewrite` stored, with the policy
+//! as it was, the form plain answers what the form pass answers of the first job: the same text and the same status.
 //!
 //! Rooms of jobs and the top may name it, and tests.
 #![tactic(auto)]
 
+mod laws;
 mod showing;
 mod storing;
 mod top;
 
 pub use jshow::Status;
+pub use laws::alike_law;
 pub use top::{dispatch, javasec};

@@ -1,15 +1,15 @@
-ghost use Rattle.std.specs.Prelude.{◌≡◌, ◌≤◌, ◌⊎◌, List, false, is_some, length, true};
+ghost use Rattle.std.specs.Prelude.{◌≡◌, ◌≤◌, ◌⊎◌, List, false, length};
 ghost use Rattle.jbase.specs.Causes.{Rose};
 ghost use Rattle.jio.specs.Held.{File};
 ghost use Rattle.jdomain.specs.Domains.{has};
+ghost use Rattle.jlib.specs.declared.side.Side.TheVariants.{Source};
 ghost use Rattle.jmachine.specs.Machine.{run};
 ghost use Rattle.jrules.specs.Inspecting.{rules as inspecting};
 ghost use Rattle.jrules.specs.Plain.{rules as plain};
-ghost use Rattle.juses.specs.Instructions.{code_at};
 ghost use Rattle.jshow.specs.declared.status.Status.TheVariants.{Finished, ReadFault, StoreFault, Usage, WriteFault};
 ghost use Rattle.jshow.specs.Answering.{Answers, listed};
 ghost use Rattle.jshow.specs.Listings.{listing};
-ghost use Rattle.jtask.specs.Tasks.{IsWhole, is_stored};
+ghost use Rattle.jtask.specs.Tasks.{HasMain, IsWhole, is_stored};
 ghost use Rattle.jdriver.specs.Answers.{Stores, ran, rewrote, shown, usage_answer};
 ghost use Rattle.jdriver.specs.Folders.{files_below};
 
@@ -20,9 +20,9 @@ use jinspect::run_inspect;
 use jio::{Part, Shelf, ShelfError, Sink, put_all, write_line};
 use jjob::Text;
 use jmachine::Plan;
+use jmoving::RewrittenProgram;
 use jpass::run_pass;
 use jplain::run_plain;
-use jrewrite::RewrittenProgram;
 use jshow::{Status, put_listing, show_checked, status_of};
 use jtask::Task;
 use jtrace::RunFault;
@@ -52,7 +52,8 @@ fn show_run<K: Sink>(
     plan: &Plan,
     out: &mut K,
 ) -> Status
-    requires coded { is_some (code_at program.now plan.now.main) ≡ true }
+    requires main { HasMain program.now plan.now.main }
+    requires side { program.now.side ≡ Source }
     ensures answer { Answers (ran (run (inspecting (has domains.now)) program.now plan.now plan.now.steps)) result (K.out out.old) (K.out out.new) }
     ensures later { K.faults out.old ≤ K.faults out.new }
     ensures cause { result ≡ WriteFault → Rose (K.faults out.old) (K.faults out.new) }
@@ -76,7 +77,7 @@ fn show_plain<K: Sink>(
     plan: &Plan,
     out: &mut K,
 ) -> Status
-    requires coded { is_some (code_at program.now plan.now.main) ≡ true }
+    requires main { HasMain program.now plan.now.main }
     ensures answer { Answers (ran (run (plain (has domains.now)) program.now plan.now plan.now.steps)) result (K.out out.old) (K.out out.new) }
     ensures later { K.faults out.old ≤ K.faults out.new }
     ensures cause { result ≡ WriteFault → Rose (K.faults out.old) (K.faults out.new) }
@@ -95,12 +96,12 @@ fn show_plain<K: Sink>(
 #[tactic(auto, using(crate::proofs::Ends::answers_run))]
 fn show_pass<K: Sink>(
     alloc: Global,
-    program: &RewrittenProgram,
+    program: &PlainProgram,
     domains: &Domains,
     plan: &Plan,
     out: &mut K,
 ) -> Status
-    requires coded { is_some (code_at program.now plan.now.main) ≡ true }
+    requires main { HasMain program.now plan.now.main }
     ensures answer { Answers (ran (run (plain (has domains.now)) program.now plan.now plan.now.steps)) result (K.out out.old) (K.out out.new) }
     ensures later { K.faults out.old ≤ K.faults out.new }
     ensures cause { result ≡ WriteFault → Rose (K.faults out.old) (K.faults out.new) }
@@ -108,7 +109,7 @@ fn show_pass<K: Sink>(
     ensures usage { result ≡ Usage → ⊥ }
     ensures store { result ≡ StoreFault → ⊥ }
 {
-    match run_pass(alloc, program.linked(), domains, plan, out) {
+    match run_pass(alloc, program, domains, plan, out) {
         Ok(end) => status_of(end),
         Err(RunFault::Sink) => Status::WriteFault,
         Err(RunFault::Memory) => Status::OutOfMemory,

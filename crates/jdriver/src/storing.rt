@@ -9,7 +9,7 @@ ghost use Rattle.jdriver.specs.Storing.{StoresFront, seen, with_files};
 use jbase::Seq;
 use jio::{Shelf, ShelfError};
 use jjob::{Text, stored_job};
-use jrewrite::{OutFile, RewrittenProgram};
+use jmoving::{OutFile, RewrittenProgram};
 use jtask::{text_in, units_in};
 use std::alloc::{AllocError, Global};
 

@@ -2,7 +2,6 @@ pub mod Classes
 pub mod Halting
 pub mod Mains
 pub mod Members
-pub mod Moving
 pub mod Parts
 pub mod Paths
 pub mod Sides

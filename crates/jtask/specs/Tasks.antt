@@ -1,7 +1,7 @@
 -- What is to be done at a command with the files that are held: they are read in the order job, policy, class files, and each is
 -- judged before the next is read; then the classes link, then `main` is looked for where they are to be run, then they are checked, and
 -- then the limits of moving are looked at where they are to be moved: to be stored, or to be run in the form `pass`.
-use Rattle.std.specs.Prelude.{◌≡◌, ℕ, ◌-◌, Bool, true, false, List, [], length, Option, Some, None, Result, Ok, Err, is_some}
+use Rattle.std.specs.Prelude.{◌≡◌, ℕ, ◌-◌, Bool, true, false, List, [], length, Option, Some, None, Result, Ok, Err}
 use Rattle.std.specs.List.{flat_map}
 use Rattle.jbase.specs.Each.{each}
 use Rattle.jbase.specs.Stops.{◌>>=◌}
@@ -27,7 +27,6 @@ use Rattle.jprogram.specs.declared.part.CodePart.{CodePart}
 use Rattle.jprogram.specs.declared.member.MethodId.{MethodId}
 use Rattle.jprogram.specs.Classes.{Program, program}
 use Rattle.jprogram.specs.Members.{main_of}
-use Rattle.juses.specs.Instructions.{code_at}
 use Rattle.jmachine.specs.declared.plan.Plan.{Plan}
 use Rattle.jperm.specs.declared.permission.Permission.{Permission}
 use Rattle.jshow.specs.declared.refusal.Refusal.TheVariants.{BadJob, BadPolicy, BadClass, NoMain}
@@ -189,11 +188,15 @@ RunClasses _ files = Unit {0}
 
 -- ---- tasks
 
--- a program is run from a method with code, and each code source has its permissions
+-- a method is the `main` of one of a program's classes
+abbrev pub HasMain : Program → MethodId → Type 0
+HasMain p main = (name : List ℕ) × (main_of p name ≡ Some main)
+
+-- a program is run from the `main` of one of its classes, by the stacks of its frames on the source side; and each code source has its permissions
 abbrev pub IsWhole : Task → Type 0
-IsWhole (tasks.Run program domains plan) = is_some (code_at program plan.main) ≡ true
-IsWhole (tasks.RunPlain program domains plan) = is_some (code_at program plan.main) ≡ true
-IsWhole (tasks.RunPass program domains plan) = is_some (code_at program plan.main) ≡ true
+IsWhole (tasks.Run program domains plan) = HasMain program plan.main × (program.side ≡ Source)
+IsWhole (tasks.RunPlain program domains plan) = HasMain program plan.main
+IsWhole (tasks.RunPass program domains plan) = HasMain program plan.main
 IsWhole (tasks.Check program) = Unit {0}
 IsWhole (tasks.Rewrite program job to) = Unit {0}
 IsWhole (tasks.Policy sources domains) = length domains ≡ length sources

@@ -3,8 +3,8 @@
 //! - `Stages`: what a call that reads files answers beside its definition.
 //! - `Grounds`: what a job and its policy say, for each verb.
 //! - `Tasks`: what is to be done at a command, one case a verb, and for a run one case a form; files are read in order, each judged before
-//!   the next. `IsWhole` says of a run that the method with which it begins has code, and of a listing that each code source has its
-//!   permissions.
+//!   the next. `IsWhole` says of a run that it begins with the `main` of one of its classes, and of a listing that each code source has
+//!   its permissions.
 //! - `Linking`: the program that a job's classes make, or the refusal by the first broken rule.
 //! - `Checking`: a program that is well typed, or the refusal by the first place that isn't.
 //! - `Rewriting`: the moved program, or the refusal by the first limit that is broken.

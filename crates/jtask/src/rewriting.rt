@@ -1,5 +1,6 @@
-ghost use Rattle.std.specs.Prelude.{◌≡◌, Err, IfOk, Option, Some};
+ghost use Rattle.std.specs.Prelude.{◌≡◌, ℕ, Err, IfOk, List, OnOk, Option, Some};
 ghost use Rattle.jlib.specs.declared.side.Side.TheVariants as sides;
+ghost use Rattle.jprogram.specs.Members.{main_of};
 ghost use Rattle.jrewrite.specs.declared.part.Place.{Place};
 ghost use Rattle.jrewrite.specs.Program.{RewriteErrorIs};
 ghost use Rattle.jtask.specs.declared.halt.Halt.TheVariants.{Read};
@@ -11,8 +12,8 @@ use crate::halt::Halt;
 use crate::linking::units_in;
 use jcheck::CheckedProgram;
 use jclass::ClassParts;
+use jmoving::{RewriteError, RewriteKind, RewrittenProgram, rewrite};
 use jprogram::{CodePart, this_name};
-use jrewrite::{RewriteError, RewriteKind, RewrittenProgram, rewrite};
 use jshow::Refusal;
 use jtext::Units;
 use std::alloc::{AllocError, Global};
@@ -77,6 +78,7 @@ fn not_rewritten(
     error: RewriteError,
 ) -> Result<RewrittenProgram, Halt>
     ensures value { (found : Option Place) → RewriteErrorIs found error → Follows (λ x. x) result (unless_limited program.now found) }
+    ensures never { OnOk result ⊥ }
     ensures unread { result ≡ Err Read → ⊥ }
 {
     match error {
@@ -100,6 +102,8 @@ fn not_rewritten(
 pub fn rewritten(alloc: Global, program: &CheckedProgram) -> Result<RewrittenProgram, Halt>
     requires { program.now.side ≡ sides.Source }
     ensures value { Follows (λ p. p) result (rewritten program.now) }
+    // The `main` of each class is the same method.
+    ensures mains { IfOk result (λ q. (name : List ℕ) → main_of q name ≡ main_of program.now name) }
     ensures unread { result ≡ Err Read → ⊥ }
 {
     match rewrite(alloc, program) {

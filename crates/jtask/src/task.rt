@@ -3,7 +3,7 @@ use jcheck::{CheckedProgram, PlainProgram};
 use jdomain::{CodeSource, Domains};
 use jjob::Text;
 use jmachine::Plan;
-use jrewrite::RewrittenProgram;
+use jmoving::RewrittenProgram;
 
 /// What is to be done, when all files are read and judged.
 #[derive(Drop)]
@@ -22,7 +22,7 @@ pub enum Task {
     },
     /// A moved program is to be run, by the contexts that its calls hand on.
     RunPass {
-        program: RewrittenProgram,
+        program: PlainProgram,
         domains: Domains,
         plan: Plan,
     },

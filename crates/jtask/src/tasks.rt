@@ -1,17 +1,17 @@
-ghost use Rattle.std.specs.Prelude.{◌≡◌, ◌≤◌, ◌<◌, ◌^◌, Err, IfOk, IsTrue, List, None, OnOk, Some, false, is_some, length, true};
+ghost use Rattle.std.specs.Prelude.{◌≡◌, ◌≤◌, ◌<◌, ◌^◌, ℕ, Err, IfOk, IsTrue, List, None, OnOk, Some, false, length, true};
 ghost use Rattle.std.specs.List.{flat_map};
 ghost use Rattle.jio.specs.Held.{File};
 ghost use Rattle.jtext.specs.Modified.{group};
 ghost use Rattle.jjob.specs.declared.command.Form.TheVariants.{Pass};
 ghost use Rattle.jlib.specs.declared.side.Side.TheVariants.{Passing, Source};
 ghost use Rattle.jprogram.specs.Members.{main_of};
-ghost use Rattle.juses.specs.Instructions.{code_at};
 ghost use Rattle.jtask.specs.declared.halt.Halt.TheVariants.{Read};
 ghost use Rattle.jtask.specs.declared.task.Task.TheVariants.{RunPlain};
 ghost use Rattle.jtask.specs.Rewriting;
 ghost use Rattle.jtask.specs.Stages.{Excused, Follows, judged};
 ghost use Rattle.jtask.specs.Linking.{AreClasses};
-ghost use Rattle.jtask.specs.Tasks.{GroundClasses, IsWhole, JobClasses, RunClasses, built, check_at, check_of_ground, check_of_parts, is_stored, policy_at, run_at, run_in, run_of_ground, run_of_parts, runnable};
+ghost use Rattle.jtask.specs.Tasks.{GroundClasses, HasMain, IsWhole, JobClasses, RunClasses, built, check_at, check_of_ground, check_of_parts, is_stored};
+ghost use Rattle.jtask.specs.Tasks.{policy_at, run_at, run_in, run_of_ground, run_of_parts, runnable};
 ghost use Rattle.jtask.specs.Tasks.{moved_of_parts, rewrite_at, rewrite_of_ground, rewrite_of_parts, rewrite_of_text, side_of, stores, task};
 
 use crate::checking::checked;
@@ -29,8 +29,8 @@ use jjob::{Command, Form, Text};
 use jlib::Side;
 use jlink::LinkedProgram;
 use jmachine::Plan;
+use jmoving::RewrittenProgram;
 use jprogram::{CodePart, MethodId};
-use jrewrite::RewrittenProgram;
 use jshow::Refusal;
 use jtext::{Units, bytes_of};
 use std::alloc::Global;
@@ -90,7 +90,7 @@ fn runnable(
     ensures value { Follows (λ x. x) result (runnable side name.now parts) }
     ensures classes { OnOk result (AreClasses parts) }
     ensures side { IfOk result (λ x. x.0.side ≡ side) }
-    ensures coded { IfOk result (λ x. is_some (code_at x.0 x.1) ≡ true) }
+    ensures main { IfOk result (λ x. HasMain x.0 x.1) }
     ensures unread { result ≡ Err Read → ⊥ }
 {
     let joined = linked(alloc, parts, side)?;
@@ -119,6 +119,7 @@ fn run_plain(program: CheckedProgram, domains: Domains, plan: Plan) -> Task
 fn moved_of(alloc: Global, program: CheckedProgram) -> Result<RewrittenProgram, Halt>
     requires { program.side ≡ Source }
     ensures value { Follows (λ x. x) result (Rewriting.rewritten program) }
+    ensures mains { IfOk result (λ q. (name : List ℕ) → main_of q name ≡ main_of program name) }
     ensures unread { result ≡ Err Read → ⊥ }
 {
     rewritten(alloc, &program)
@@ -132,7 +133,7 @@ fn run_moved(
     plan: Plan,
 ) -> Result<Task, Halt>
     requires side { program.side ≡ Source }
-    requires coded { is_some (code_at program plan.main) ≡ true }
+    requires main { HasMain program plan.main }
     ensures value { Follows (λ x. x) result (run_in Pass program domains plan) }
     ensures whole { IfOk result IsWhole }
     ensures kind { IfOk result (λ t. is_stored t ≡ false) }
@@ -140,7 +141,7 @@ fn run_moved(
 {
     match moved_of(alloc, program) {
         Ok(program) => Ok(Task::RunPass {
-            program,
+            program: program.into_plain(),
             domains,
             plan,
         }),
@@ -161,7 +162,7 @@ fn run_in(
     plan: Plan,
 ) -> Result<Task, Halt>
     requires side { program.side ≡ side_of form }
-    requires coded { is_some (code_at program plan.main) ≡ true }
+    requires main { HasMain program plan.main }
     ensures value { Follows (λ x. x) result (run_in form program domains plan) }
     ensures whole { IfOk result IsWhole }
     ensures kind { IfOk result (λ t. is_stored t ≡ false) }

@@ -5,7 +5,7 @@ use Rattle.jtext.specs.Modified.{group}
 use Rattle.jprogram.specs.Classes.{Program, program}
 use Rattle.jshow.specs.declared.refusal.Refusal.TheVariants.{NoMain}
 use Rattle.jtask.specs.Linking.{AreClasses}
-use Rattle.jtask.proofs.Mains.{run_coded}
+use Rattle.jtask.proofs.Mains.{run_main}
 use Rattle.jtask.proofs.Parts.{run_unlinked, run_unnamed, run_untyped, runs}
 use Rattle.jtask.proofs.Sides.{linked_is, on_side}
 use Rattle.jtask.proofs.tasks.runnable.Goals as goal
@@ -28,8 +28,8 @@ returns-in_err-program-clause-value c =
 pub returns-clause-value : goal.returns-clause-value
 returns-clause-value c = runs c.args.side c.args.name.now c.args.parts c.in_ok-joined.joined c.in_ok-program.program c.in_ok-main.main c.in_ok-joined.ensures.value c.in_ok-main.ensures.value c.in_ok-program.ensures.value
 
-pub returns-clause-coded : goal.returns-clause-coded
-returns-clause-coded c = run_coded (NoMain c.args.name.now) c.in_ok-joined.joined c.in_ok-program.program (flat_map group c.args.name.now) c.in_ok-main.main c.in_ok-main.ensures.value c.in_ok-program.ensures.value
+pub returns-clause-main : goal.returns-clause-main
+returns-clause-main c = run_main (NoMain c.args.name.now) c.in_ok-joined.joined c.in_ok-program.program (flat_map group c.args.name.now) c.in_ok-main.main c.in_ok-main.ensures.value c.in_ok-program.ensures.value
 
 pub returns-clause-side : goal.returns-clause-side
 returns-clause-side c = on_side c.args.side c.args.parts c.in_ok-joined.joined c.in_ok-program.program c.in_ok-joined.ensures.value c.in_ok-program.ensures.value
