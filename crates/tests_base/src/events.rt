@@ -91,7 +91,6 @@ fn end_of(name: &str) -> Result<End, Unread> {
         "Deadlock" => Ok(End::Deadlock),
         "HeapFull" => Ok(End::HeapFull),
         "Bound" => Ok(End::Bound),
-        "Stuck" => Ok(End::Stuck),
         _ => Err(Unread::Line),
     }
 }

@@ -1,9 +1,9 @@
+use crate::difference::Difference;
 use jbase::Seq;
 use jlink::LinkedProgram;
 use jprogram::ClassRef;
 use jtypes::Name;
-use std::alloc::Global;
-use tests_rows::Unread;
+use std::alloc::{AllocError, Global};
 
 /// The interfaces of the library that a class of a user may list.
 const FACES: [&[u8]; 2] = [b"java/lang/Runnable", b"java/security/PrivilegedAction"];
@@ -12,6 +12,8 @@ const FACES: [&[u8]; 2] = [b"java/lang/Runnable", b"java/security/PrivilegedActi
 pub fn class_count(p: &LinkedProgram) -> u32 {
     u32::try_from(p.parts().len()).unwrap_or(0)
 }
+
+// ---- classes
 
 /// Whether the class of a number has the same name in both programs, that name its number, and it the same class above it and the same
 /// `main`.
@@ -24,56 +26,68 @@ fn is_same(p: &LinkedProgram, q: &LinkedProgram, i: u32) -> bool {
         && q.main_of(name) == p.main_of(name)
 }
 
-/// Whether the same classes have an interface in both programs.
-fn is_face_same(
-    alloc: Global,
-    p: &LinkedProgram,
-    q: &LinkedProgram,
-    face: &[u8],
-) -> Result<bool, Unread> {
-    let face = Name(Seq::from_slice(alloc, face)?);
-    for i in 0..class_count(p) {
-        if q.implements(i, &face) != p.implements(i, &face) {
-            return Ok(false);
-        }
-    }
-    Ok(true)
-}
-
-/// What differs of the class of a number: what it is, or which classes have it as an interface.
-fn class_difference(
-    alloc: Global,
-    p: &LinkedProgram,
-    q: &LinkedProgram,
-    i: u32,
-) -> Result<Option<String>, Unread> {
-    if !is_same(p, q, i) {
-        return Ok(Some(format!(in alloc; "class {i}")?));
-    }
-    if !is_face_same(alloc, p, q, p.name_of(ClassRef::User(i)))? {
-        return Ok(Some(format!(in alloc; "interface {i}")?));
-    }
-    Ok(None)
-}
-
-/// What differs first of classes and interfaces.
-pub fn classes_difference(
-    alloc: Global,
-    p: &LinkedProgram,
-    q: &LinkedProgram,
-) -> Result<Option<String>, Unread> {
+/// What differs first of classes.
+pub fn classes_difference(p: &LinkedProgram, q: &LinkedProgram) -> Option<Difference> {
     if q.parts().len() != p.parts().len() {
-        return Ok(Some(String::from_str(alloc, "how many classes")?));
-    }
-    for face in FACES {
-        if !is_face_same(alloc, p, q, face)? {
-            return Ok(Some(String::from_str(alloc, "an interface of the library")?));
-        }
+        return Some(Difference::Count);
     }
     for i in 0..class_count(p) {
-        if let Some(found) = class_difference(alloc, p, q, i)? {
-            return Ok(Some(found));
+        if !is_same(p, q, i) {
+            return Some(Difference::Class(i));
         }
     }
-    Ok(None)
+    None
+}
+
+// ---- interfaces
+
+fn push_name(alloc: Global, name: &[u8], names: &mut Vec<Name>) -> Result<(), AllocError> {
+    let name = Name(Seq::from_slice(alloc, name)?);
+    Ok(names.push(name)?)
+}
+
+/// The names that interfaces may have: those of a program's classes, and of the library's that a class of a user may list.
+pub fn faces_of(alloc: Global, p: &LinkedProgram) -> Result<Vec<Name>, AllocError> {
+    let mut faces = Vec::new(alloc);
+    for i in 0..class_count(p) {
+        push_name(alloc, p.name_of(ClassRef::User(i)), &mut faces)?;
+    }
+    for name in FACES {
+        push_name(alloc, name, &mut faces)?;
+    }
+    Ok(faces)
+}
+
+/// Whether the same classes have an interface in both programs.
+fn is_face_same(p: &LinkedProgram, q: &LinkedProgram, face: &Name) -> bool {
+    for i in 0..class_count(p) {
+        if q.implements(i, face) != p.implements(i, face) {
+            return false;
+        }
+    }
+    true
+}
+
+/// What differs first of which classes have an interface of these names.
+pub fn faces_difference(
+    p: &LinkedProgram,
+    q: &LinkedProgram,
+    faces: &[Name],
+) -> Option<Difference> {
+    for (i, face) in faces.iter().enumerate() {
+        if !is_face_same(p, q, face) {
+            return Some(Difference::Interface(i));
+        }
+    }
+    None
+}
+
+/// Whether a class has the interface of a name, where that is one of these.
+pub fn has_face(p: &LinkedProgram, faces: &[Name], class: u32, name: &[u8]) -> bool {
+    for face in faces {
+        if face.0.as_slice() == name && p.implements(class, face) {
+            return true;
+        }
+    }
+    false
 }

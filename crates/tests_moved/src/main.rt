@@ -5,8 +5,11 @@
 //! No room names it.
 #![tactic(auto)]
 
+mod answering;
 mod asking;
 mod classes;
+mod comparing;
+mod difference;
 mod members;
 mod pair;
 mod references;

@@ -4,8 +4,8 @@ ghost use Rattle.jlib.specs.declared.side.Side.TheVariants as sides;
 use jcheck::{CheckedProgram, check};
 use jlib::Side;
 use jlink::{LinkError, LinkedProgram, are_parts, link};
+use jmoving::{RewriteError, RewrittenProgram, rewrite};
 use jprogram::CodePart;
-use jrewrite::{RewriteError, RewrittenProgram, rewrite};
 use std::alloc::Global;
 use std::fmt;
 
@@ -28,12 +28,26 @@ pub enum Unmoved {
 
 impl fmt::Display for Unmoved {
     fn fmt<W: fmt::Write>(&self, f: &mut fmt::Formatter<W>) -> fmt::Result {
-        match *self {
-            Unmoved::Unlinked => write!(f, "unlinked"),
-            Unmoved::Untyped => write!(f, "untyped"),
-            Unmoved::Limited => write!(f, "limited"),
-            Unmoved::Memory => write!(f, "no memory"),
-        }
+        f.write_str(match *self {
+            Unmoved::Unlinked => "unlinked",
+            Unmoved::Untyped => "untyped",
+            Unmoved::Limited => "limited",
+            Unmoved::Memory => "no memory",
+        })
+    }
+}
+
+fn why_unlinked(error: LinkError) -> Unmoved {
+    match error {
+        LinkError::At(_) => Unmoved::Unlinked,
+        LinkError::Memory => Unmoved::Memory,
+    }
+}
+
+fn why_unmoved(error: RewriteError) -> Unmoved {
+    match error {
+        RewriteError::At { .. } => Unmoved::Limited,
+        RewriteError::Memory => Unmoved::Memory,
     }
 }
 
@@ -42,12 +56,12 @@ fn linked(alloc: Global, parts: Vec<CodePart>) -> Result<LinkedProgram, Unmoved>
     ensures { IfOk result (λ p. p.side ≡ sides.Source) }
 {
     if !are_parts(&parts) {
+        drop(parts);
         return Err(Unmoved::Unlinked);
     }
     match link(alloc, parts, Side::Source) {
         Ok(program) => Ok(program),
-        Err(LinkError::At(_)) => Err(Unmoved::Unlinked),
-        Err(LinkError::Memory) => Err(Unmoved::Memory),
+        Err(error) => Err(why_unlinked(error)),
     }
 }
 
@@ -57,7 +71,10 @@ fn checked(alloc: Global, program: LinkedProgram) -> Result<CheckedProgram, Unmo
 {
     match check(alloc, program) {
         Ok(program) => Ok(program),
-        Err(_) => Err(Unmoved::Untyped),
+        Err((program, _)) => {
+            drop(program);
+            Err(Unmoved::Untyped)
+        }
     }
 }
 
@@ -67,8 +84,19 @@ fn moved(alloc: Global, program: &CheckedProgram) -> Result<RewrittenProgram, Un
 {
     match rewrite(alloc, program) {
         Ok(moved) => Ok(moved),
-        Err(RewriteError::At { .. }) => Err(Unmoved::Limited),
-        Err(RewriteError::Memory) => Err(Unmoved::Memory),
+        Err(error) => Err(why_unmoved(error)),
+    }
+}
+
+fn with_moved(alloc: Global, program: CheckedProgram) -> Result<Pair, Unmoved>
+    requires { program.side ≡ sides.Source }
+{
+    match moved(alloc, &program) {
+        Ok(moved) => Ok(Pair { program, moved }),
+        Err(why) => {
+            drop(program);
+            Err(why)
+        }
     }
 }
 
@@ -76,8 +104,7 @@ fn moved(alloc: Global, program: &CheckedProgram) -> Result<RewrittenProgram, Un
 pub fn pair_of(alloc: Global, parts: Vec<CodePart>) -> Result<Pair, Unmoved> {
     let program = linked(alloc, parts)?;
     let program = checked(alloc, program)?;
-    let moved = moved(alloc, &program)?;
-    Ok(Pair { program, moved })
+    with_moved(alloc, program)
 }
 
 impl Pair {

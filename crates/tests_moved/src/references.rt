@@ -1,10 +1,14 @@
+ghost use Rattle.std.specs.Prelude.{◌≡◌, IfSome};
+ghost use Rattle.jcode.specs.Forms.{form};
+ghost use Rattle.jlink.specs.Referred;
+ghost use Rattle.jlink.specs.Referred.{IsReferred};
+
 use crate::members::{ENTERS, named_member};
-use jcode::{Form, PoolForm, form_of};
+use jcode::{Form, Op, PoolForm, form_of};
 use jlink::LinkedProgram;
 use jprogram::{Member, MethodId};
 use juses::{CallUse, Use, code_at};
 use std::alloc::{AllocError, Global};
-use tests_rows::Unread;
 
 /// How many methods the class of a number has.
 pub fn method_count(p: &LinkedProgram, class: u32) -> u32 {
@@ -14,46 +18,56 @@ pub fn method_count(p: &LinkedProgram, class: u32) -> u32 {
     u32::try_from(part.class.parts().methods.as_slice().len()).unwrap_or(0)
 }
 
-/// What an instruction of a class names, where that is a field or a method.
-fn named_by(p: &LinkedProgram, class: u32, form: PoolForm) -> Option<Member> {
-    match form {
-        PoolForm::Field(_, i) | PoolForm::Call(_, i) | PoolForm::CallInterface(i, _) => {
-            p.uses().member_at(class, i)
-        }
+/// How many instructions a method has; None where it has no code.
+pub fn op_count(p: &LinkedProgram, m: MethodId) -> Option<usize> {
+    let code = code_at(p.named(), m)?;
+    Some(code.ops.len())
+}
+
+// ---- members
+
+/// The index of the field or the method that an instruction names.
+fn index_of(op: &Op) -> Option<u16>
+    ensures { result ≡ Referred.reference_of (form op.now) }
+{
+    match form_of(op) {
+        Form::Pool(PoolForm::Field(_, i)) => Some(i),
+        Form::Pool(PoolForm::Call(_, i)) => Some(i),
+        Form::Pool(PoolForm::CallInterface(i, _)) => Some(i),
         _ => None,
     }
 }
 
+/// The index of the field or the method that an instruction of a method names, by the place among its instructions.
+#[tactic(auto, using(crate::proofs::Referred::is_referred))]
+fn index_at(p: &LinkedProgram, m: MethodId, place: usize) -> Option<u16>
+    ensures { IfSome result (IsReferred p.now m.class) }
+{
+    let code = code_at(p.named(), m)?;
+    let one = code.ops.get(place)?;
+    index_of(&one.op)
+}
+
+/// The field or the method that an instruction of a method names.
+fn member_at(p: &LinkedProgram, m: MethodId, place: usize) -> Option<Member> {
+    let i = index_at(p, m, place)?;
+    Some(p.resolve(m.class, i))
+}
+
 /// What the instructions of a method name, in their order.
-fn members_of(alloc: Global, p: &LinkedProgram, m: MethodId) -> Result<Vec<Member>, Unread> {
+fn members_of(
+    alloc: Global,
+    p: &LinkedProgram,
+    m: MethodId,
+    count: usize,
+) -> Result<Vec<Member>, AllocError> {
     let mut members = Vec::new(alloc);
-    let Some(code) = code_at(p.named(), m) else {
-        return Ok(members);
-    };
-    for one in code.ops {
-        if let Form::Pool(form) = form_of(&one.op)
-            && let Some(member) = named_by(p, m.class, form)
-        {
-            members.push(member).map_err(AllocError::from)?;
+    for place in 0..count {
+        if let Some(member) = member_at(p, m, place) {
+            members.push(member)?;
         }
     }
     Ok(members)
-}
-
-/// The calls of a method's instructions, in their order: each with the class by which it is named.
-pub fn calls_of(alloc: Global, p: &LinkedProgram, m: MethodId) -> Result<Vec<CallUse>, Unread> {
-    let mut calls = Vec::new(alloc);
-    let Some(code) = code_at(p.named(), m) else {
-        return Ok(calls);
-    };
-    for one in code.ops {
-        if let Form::Pool(form) = form_of(&one.op)
-            && let Some(Use::Call(_, call)) = p.uses().use_at(m.class, form)
-        {
-            calls.push(call).map_err(AllocError::from)?;
-        }
-    }
-    Ok(calls)
 }
 
 /// Whether members are those that stand in a moved program for others.
@@ -69,20 +83,42 @@ fn are_moved(old: &[Member], new: &[Member]) -> bool {
     true
 }
 
+/// Whether members are those that stand in a moved method for others, behind what it begins with.
+fn are_behind(old: &[Member], new: &[Member]) -> bool {
+    match new {
+        [first, behind @ ..] => *first == ENTERS && are_moved(old, behind),
+        [] => false,
+    }
+}
+
 /// Whether the instructions of a method name the same in both programs, behind what it begins with in the moved one.
 pub fn names_same(
     alloc: Global,
     p: &LinkedProgram,
     q: &LinkedProgram,
     m: MethodId,
-) -> Result<bool, Unread> {
-    let old = members_of(alloc, p, m)?;
-    let new = members_of(alloc, q, m)?;
-    if code_at(p.named(), m).is_none() {
-        return Ok(code_at(q.named(), m).is_none());
-    }
-    let [first, behind @ ..] = new.as_slice() else {
-        return Ok(false);
+) -> Result<bool, AllocError> {
+    let (old, new) = match (op_count(p, m), op_count(q, m)) {
+        (Some(old), Some(new)) => (old, new),
+        (None, None) => return Ok(true),
+        _ => return Ok(false),
     };
-    Ok(*first == ENTERS && are_moved(old.as_slice(), behind))
+    let old = members_of(alloc, p, m, old)?;
+    let new = members_of(alloc, q, m, new)?;
+    Ok(are_behind(old.as_slice(), new.as_slice()))
+}
+
+// ---- calls
+
+/// What an instruction of a method calls, with the class by which it is named; None where it calls nothing.
+pub fn call_at(p: &LinkedProgram, m: MethodId, place: usize) -> Option<CallUse> {
+    let code = code_at(p.named(), m)?;
+    let one = code.ops.get(place)?;
+    let Form::Pool(form) = form_of(&one.op) else {
+        return None;
+    };
+    match p.uses().use_at(m.class, form) {
+        Some(Use::Call(_, call)) => Some(call),
+        _ => None,
+    }
 }

@@ -1,13 +1,10 @@
-use crate::classes::class_count;
+use crate::classes::{class_count, has_face};
 use crate::members::{moved_member, moved_selected};
-use crate::references::calls_of;
-use jbase::Seq;
+use crate::references::{call_at, op_count};
 use jlib::open_classes;
 use jlink::LinkedProgram;
 use jprogram::{CallKind, ClassId, ClassRef, Member, MethodId};
 use jtypes::Name;
-use std::alloc::Global;
-use tests_rows::Unread;
 
 const OBJECT: &[u8] = b"java/lang/Object";
 
@@ -23,15 +20,15 @@ pub fn class_id(class: ClassRef) -> ClassId {
     }
 }
 
-/// Whether an object of a class may be called by a reference that names another class or an interface.
-fn may_be_called(p: &LinkedProgram, on: ClassId, owner: &Name) -> bool {
-    let above = owner.0.as_slice();
+/// Whether an object of a class may be called by a reference that names another class, or an interface of these names.
+fn may_be_called(p: &LinkedProgram, faces: &[Name], on: ClassId, owner: ClassRef) -> bool {
     match on {
         ClassId::User(i) => {
-            p.named().extends(p.name_of(ClassRef::User(i)), above) || p.implements(i, owner)
+            p.named().extends_at(ClassRef::User(i), owner)
+                || has_face(p, faces, i, p.name_of(owner))
         }
-        ClassId::Lib(c) => p.named().extends(c.name(), above),
-        ClassId::Array => above == OBJECT,
+        ClassId::Lib(c) => p.named().extends_at(ClassRef::Lib(c), owner),
+        ClassId::Array => p.name_of(owner) == OBJECT,
     }
 }
 
@@ -47,36 +44,48 @@ fn is_same_on(p: &LinkedProgram, q: &LinkedProgram, on: ClassId, member: Member)
     true
 }
 
-/// Whether both programs select the same method where one is called by a class of a name, on each class that has that one above it.
-fn is_same_by(p: &LinkedProgram, q: &LinkedProgram, owner: &Name, member: Member) -> bool {
-    for i in 0..class_count(p) {
-        let on = ClassId::User(i);
-        if may_be_called(p, on, owner) && !is_same_on(p, q, on, member) {
-            return false;
-        }
-    }
-    for class in open_classes() {
-        let on = ClassId::Lib(*class);
-        if may_be_called(p, on, owner) && !is_same_on(p, q, on, member) {
-            return false;
-        }
-    }
-    !may_be_called(p, ClassId::Array, owner) || is_same_on(p, q, ClassId::Array, member)
-}
-
-/// The same of a method that is named by a class, where it is one that is selected.
-fn is_same_named(
-    alloc: Global,
+/// The same where the class may be called by a reference that names another.
+fn is_same_by(
     p: &LinkedProgram,
     q: &LinkedProgram,
+    faces: &[Name],
+    on: ClassId,
     owner: ClassRef,
     member: Member,
-) -> Result<bool, Unread> {
-    if !is_selected(p, member) {
-        return Ok(true);
+) -> bool {
+    !may_be_called(p, faces, on, owner) || is_same_on(p, q, on, member)
+}
+
+/// The same on all classes of users.
+fn is_same_on_users(
+    p: &LinkedProgram,
+    q: &LinkedProgram,
+    faces: &[Name],
+    owner: ClassRef,
+    member: Member,
+) -> bool {
+    for i in 0..class_count(p) {
+        if !is_same_by(p, q, faces, ClassId::User(i), owner, member) {
+            return false;
+        }
     }
-    let name = Name(Seq::from_slice(alloc, p.name_of(owner))?);
-    Ok(is_same_on(p, q, class_id(owner), member) && is_same_by(p, q, &name, member))
+    true
+}
+
+/// The same on the classes of the library that users may extend.
+fn is_same_on_library(
+    p: &LinkedProgram,
+    q: &LinkedProgram,
+    faces: &[Name],
+    owner: ClassRef,
+    member: Member,
+) -> bool {
+    for class in open_classes() {
+        if !is_same_by(p, q, faces, ClassId::Lib(*class), owner, member) {
+            return false;
+        }
+    }
+    true
 }
 
 /// Whether a method is one that is selected where it is called: an instance method, and no constructor (JVMS 5.4.6).
@@ -84,20 +93,36 @@ fn is_selected(p: &LinkedProgram, member: Member) -> bool {
     !p.named().is_static(member) && p.named().name_of_member(member) != INIT
 }
 
-/// Whether both programs select the same where a method is called, and where what its instructions call is.
-pub fn selects_same(
-    alloc: Global,
+/// Whether both programs select the same where a method is called by a class, on each class that has that one above it. One that isn't
+/// selected is passed over.
+fn is_same_named(
     p: &LinkedProgram,
     q: &LinkedProgram,
-    m: MethodId,
-) -> Result<bool, Unread> {
-    if !is_same_named(alloc, p, q, ClassRef::User(m.class), Member::Method(m))? {
-        return Ok(false);
-    }
-    for call in calls_of(alloc, p, m)?.as_slice() {
-        if !is_same_named(alloc, p, q, call.owner, call.member)? {
-            return Ok(false);
+    faces: &[Name],
+    owner: ClassRef,
+    member: Member,
+) -> bool {
+    !is_selected(p, member)
+        || (is_same_on(p, q, class_id(owner), member)
+            && is_same_on_users(p, q, faces, owner, member)
+            && is_same_on_library(p, q, faces, owner, member)
+            && is_same_by(p, q, faces, ClassId::Array, owner, member))
+}
+
+/// The same of what the instructions of a method call.
+fn calls_same(p: &LinkedProgram, q: &LinkedProgram, faces: &[Name], m: MethodId) -> bool {
+    for place in 0..op_count(p, m).unwrap_or(0) {
+        if let Some(call) = call_at(p, m, place) {
+            if !is_same_named(p, q, faces, call.owner, call.member) {
+                return false;
+            }
         }
     }
-    Ok(true)
+    true
+}
+
+/// Whether both programs select the same where a method is called, and where what its instructions call is.
+pub fn selects_same(p: &LinkedProgram, q: &LinkedProgram, faces: &[Name], m: MethodId) -> bool {
+    is_same_named(p, q, faces, ClassRef::User(m.class), Member::Method(m))
+        && calls_same(p, q, faces, m)
 }

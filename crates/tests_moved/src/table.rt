@@ -1,5 +1,4 @@
-use crate::asking::{compared, selected};
-use crate::pair::{Pair, Unmoved, pair_of};
+use crate::answering::answered;
 use jclass::read_class;
 use jprogram::CodePart;
 use std::alloc::{AllocError, Global};
@@ -16,8 +15,8 @@ struct Named {
 #[derive(Drop)]
 pub struct Table {
     named: Vec<Named>,
-    /// The program of which something is asked.
-    pair: Option<Pair>,
+    /// The names of the classes of the program of which something is asked.
+    asked: String,
 }
 
 /// What a line is.
@@ -28,10 +27,20 @@ pub enum Line<'a> {
     Row(&'a str, String),
 }
 
-/// A class of a program, all in one domain.
-fn part_of(alloc: Global, bytes: &[u8]) -> Result<CodePart, Unread> {
+fn bytes_of(alloc: Global, words: &str) -> Result<Vec<u8>, Unread> {
+    let mut bytes = Vec::new(alloc);
+    put_hex(alloc, words, &mut bytes)?;
+    Ok(bytes)
+}
+
+/// Puts a class behind others, all in one domain.
+fn put_part(alloc: Global, bytes: &[u8], parts: &mut Vec<CodePart>) -> Result<(), Unread> {
     match read_class(alloc, bytes) {
-        Ok(class) => Ok(CodePart { domain: 0, class }),
+        Ok(class) => Ok(
+            parts
+                .push(CodePart { domain: 0, class })
+                .map_err(AllocError::from)?,
+        ),
         Err(_) => Err(Unread::Line),
     }
 }
@@ -40,7 +49,7 @@ impl Table {
     pub fn new(alloc: Global) -> Table {
         Table {
             named: Vec::new(alloc),
-            pair: None,
+            asked: String::new(alloc),
         }
     }
 
@@ -55,45 +64,51 @@ impl Table {
 
     fn put_name(&mut self, alloc: Global, line: &str) -> Result<(), Unread> {
         let (name, words) = first(line)?;
-        let mut bytes = Vec::new(alloc);
-        put_hex(alloc, words, &mut bytes)?;
+        let bytes = bytes_of(alloc, words)?;
         let name = String::from_str(alloc, name)?;
         let named = Named { name, bytes };
         Ok(self.named.push(named).map_err(AllocError::from)?)
+    }
+
+    fn put(&self, alloc: Global, name: &str, parts: &mut Vec<CodePart>) -> Result<(), Unread> {
+        put_part(alloc, self.find(name)?, parts)
     }
 
     /// The classes of these names.
     fn parts(&self, alloc: Global, names: &str) -> Result<Vec<CodePart>, Unread> {
         let mut parts = Vec::new(alloc);
         for name in names.split(' ') {
-            let part = part_of(alloc, self.find(name)?)?;
-            parts.push(part).map_err(AllocError::from)?;
+            if let Err(why) = self.put(alloc, name, &mut parts) {
+                drop(parts);
+                return Err(why);
+            }
         }
         Ok(parts)
     }
 
-    /// Compares a program with its moved program, and keeps both.
-    fn keep(&mut self, alloc: Global, pair: Pair) -> Result<String, Unread> {
-        let found = compared(alloc, &pair)?;
-        self.pair = Some(pair);
-        Ok(found)
+    /// What is answered of the program of these names.
+    fn answer(&self, alloc: Global, names: &str, question: Option<&str>) -> Result<String, Unread> {
+        let parts = self.parts(alloc, names)?;
+        answered(alloc, parts, question)
     }
 
     /// What differs first between the program of these classes and its moved program; where there is none, why.
     fn program(&mut self, alloc: Global, names: &str) -> Result<String, Unread> {
-        let parts = self.parts(alloc, names)?;
-        self.pair = None;
-        match pair_of(alloc, parts) {
-            Ok(pair) => self.keep(alloc, pair),
-            Err(Unmoved::Memory) => Err(Unread::Memory),
-            Err(why) => Ok(why.to_string(alloc)?),
-        }
+        self.asked = String::from_str(alloc, names)?;
+        self.answer(alloc, names, None)
     }
 
-    fn ask(&self, alloc: Global, question: &str) -> Result<String, Unread> {
-        match &self.pair {
-            Some(pair) => selected(alloc, pair, question),
-            None => Err(Unread::Line),
+    /// What both programs select, where a question asks it of the last ones.
+    fn select(&self, alloc: Global, question: &str) -> Result<String, Unread> {
+        self.answer(alloc, self.asked.as_str(), Some(question))
+    }
+
+    /// The answer to a question of a kind.
+    fn found(&mut self, alloc: Global, kind: &str, question: &str) -> Result<String, Unread> {
+        match kind {
+            "program" => self.program(alloc, question),
+            "select" => self.select(alloc, question),
+            _ => Err(Unread::Line),
         }
     }
 
@@ -109,12 +124,8 @@ impl Table {
             self.put_name(alloc, rest)?;
             return Ok(Line::Known);
         }
-        let (wanted, rest) = first(rest)?;
-        let found = match kind {
-            "program" => self.program(alloc, rest)?,
-            "select" => self.ask(alloc, rest)?,
-            _ => return Err(Unread::Line),
-        };
+        let (wanted, question) = first(rest)?;
+        let found = self.found(alloc, kind, question)?;
         Ok(Line::Row(wanted, found))
     }
 }
