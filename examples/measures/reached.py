@@ -1,0 +1,146 @@
+#!/usr/bin/env python3
+"""reached.py: how many lines of definitions the contracts of `javasec` and `dispatch` reach, for docs/THEOREMS.md.
+
+From the names in those contracts it follows, declaration by declaration, what each names, through all of crates/*/specs; and the Rust types
+that they name. Imports, comments and blank lines aren't counted."""
+import collections, glob, os, re
+
+CRATES = os.path.join(os.path.dirname(os.path.abspath(__file__)), "..", "..", "crates")
+SIGNATURE = re.compile(r"^(\s*)((?:(?:abbrev|unfoldable|pub)\s+)*)(record|data)?\s*([^\s:(){}]+)\s*(?=[:({\s])")
+IMPORT = re.compile(r"^(?:ghost )?use Rattle\.([^\s{;]+?)(?:\.\{(.*?)\}| as (\w+))?;?$")
+TOKEN = re.compile(r"[^\s(){}\[\],;λ→×]+")
+
+
+def imports(lines):
+    """The names and the aliases that a file brings in, each with the module that it comes from."""
+    names, aliases = {}, {}
+    for line in lines:
+        found = IMPORT.match(line)
+        if not found:
+            continue
+        module, inside, alias = found.groups()
+        if inside is None:
+            aliases[alias or module.split(".")[-1]] = module
+            continue
+        for name in inside.split(","):
+            first, _, other = name.strip().partition(" as ")
+            names[other or first] = (module, first)
+    return names, aliases
+
+
+def declarations(lines):
+    """The declarations of a module of definitions: by name, the numbers of its lines."""
+    found, now, indent, heads = {}, None, 0, []
+    for number, line in enumerate(lines):
+        words = line.strip()
+        if not words or words.startswith("--") or line.startswith("use "):
+            continue
+        depth = len(line) - len(line.lstrip())
+        if words.startswith("module _"):
+            heads = [(depth, number)]
+            now = None
+            continue
+        heads = [head for head in heads if head[0] < depth]
+        begins = SIGNATURE.match(line)
+        named = begins and (begins.group(2).strip() or begins.group(3))
+        plain = begins and depth in (0, 2) and re.match(r"^\s*[^\s:(){}]+\s+:\s", line)
+        if (named or plain) and (now is None or depth <= indent):
+            now, indent = begins.group(4), depth
+            found[now] = [head[1] for head in heads] + [number]
+        elif now is None:
+            now, indent = words.split()[0], depth
+            found.setdefault(now, []).append(number)
+        else:
+            found[now].append(number)
+    return found
+
+
+class Definitions:
+    def __init__(self):
+        self.modules, self.types, self.sources = {}, {}, {}
+        for path in glob.glob(CRATES + "/*/specs/**/*.antt", recursive=True):
+            crate, _, module = os.path.relpath(path, CRATES)[:-5].partition("/specs/")
+            lines = open(path).read().split("\n")
+            self.modules[crate + ".specs." + module.replace("/", ".")] = (lines, declarations(lines), imports(lines))
+        for path in glob.glob(CRATES + "/*/src/**/*.rt", recursive=True):
+            crate, _, module = os.path.relpath(path, CRATES)[:-3].partition("/src/")
+            text = open(path).read()
+            lines = text.split("\n")
+            self.sources[(crate, module.replace("/", "."))] = set(re.findall(r"\b(\w+)::", text))
+            for first, line in enumerate(lines):
+                named = re.match(r"^(?:pub(?:\(crate\))? )?(?:enum|struct) (\w+)", line)
+                if named:
+                    last = first
+                    while not lines[last].startswith("}") and not lines[last].endswith(";"):
+                        last += 1
+                    self.types[(crate, module.replace("/", "."), named.group(1))] = lines[first : last + 1]
+        self.reached, self.reached_types, self.later = set(), set(), []
+
+    def reach(self, module, name):
+        parts = module.split(".")
+        if "declared" in parts:
+            self.reached_types.add((parts[0], ".".join(parts[3:-1]), parts[-1]))
+            self.reached_types.add((parts[0], ".".join(parts[3:]), name))
+            return
+        if module not in self.modules:
+            return
+        lines, found, _ = self.modules[module]
+        if name not in found:
+            member = re.compile(r"^\s*(?:pub )?" + re.escape(name) + r" :")
+            name = next((n for n, own in found.items() if any(member.match(lines[i]) for i in own)), None)
+        if name and (module, name) not in self.reached:
+            self.reached.add((module, name))
+            self.later.append((module, name))
+
+    def reach_text(self, text, names, aliases, module=None):
+        for token in set(TOKEN.findall(text)):
+            first, _, rest = token.partition(".")
+            if first in names:
+                self.reach(*names[first])
+            elif module and first in self.modules[module][1]:
+                self.reach(module, first)
+            elif rest and first in aliases:
+                self.reach(aliases[first], rest.split(".")[0])
+
+    def reach_contract(self, crate, function):
+        for path in glob.glob(f"{CRATES}/{crate}/src/*.rt"):
+            text = open(path).read()
+            head = re.search(r"pub fn " + function + r"<.*?\n\{", text, re.S)
+            if head:
+                self.reach_text(head.group(0), *imports(text.split("\n")))
+
+    def close(self):
+        while self.later:
+            module, name = self.later.pop()
+            lines, found, (names, aliases) = self.modules[module]
+            self.reach_text("\n".join(re.sub(r"--.*", "", lines[i]) for i in found[name]), names, aliases, module)
+        self.reached_types &= set(self.types)
+        later = list(self.reached_types)
+        while later:
+            crate, module, name = later.pop()
+            text = "\n".join(line for line in self.types[(crate, module, name)] if not line.strip().startswith("//"))
+            words = set(re.findall(r"\w+", text))
+            for other in self.types:
+                near = other[0] == crate or other[0] in self.sources[(crate, module)]
+                if other not in self.reached_types and near and other[2] in words:
+                    self.reached_types.add(other)
+                    later.append(other)
+
+
+def main():
+    all = Definitions()
+    for function in ("javasec", "dispatch"):
+        all.reach_contract("jdriver", function)
+    all.close()
+    lines, types = collections.Counter(), collections.Counter()
+    for module in {module for module, _ in all.reached}:
+        _, found, _ = all.modules[module]
+        lines[module.split(".")[0]] += len({i for name in found if (module, name) in all.reached for i in found[name]})
+    for key in all.reached_types:
+        types[key[0]] += sum(1 for line in all.types[key] if line.strip() and not line.strip().startswith(("//", "#")))
+    for crate in sorted(set(lines) | set(types)):
+        print(f"{crate:12} {lines[crate]:6} {types[crate]:6}")
+    print(f"{len(all.reached)} definitions of {sum(lines.values())} lines; types of {sum(types.values())} lines")
+
+
+main()
