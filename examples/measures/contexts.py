@@ -61,7 +61,7 @@ def taken(program, folder, runs):
         run = subprocess.Popen([program, "run", "--form=plain", "job"], cwd=folder, stdout=subprocess.PIPE)
         said = run.stdout.read()
         _, status, used = os.wait4(run.pid, 0)
-        assert status == 0 and said == b"end ok\n", (status, said)
+        assert status == 0 and said == b"end finished\n", (status, said)
         least = used.ru_utime if least is None else min(least, used.ru_utime)
         most = max(most, used.ru_maxrss)
     return least, most
