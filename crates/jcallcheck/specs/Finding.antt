@@ -10,11 +10,11 @@ use Rattle.jlib.specs.declared.calls.RtCall.TheVariants as rt
 use Rattle.jops.specs.declared.value.Value.{Value}
 use Rattle.jops.specs.declared.value.Value.TheVariants.{Ctx}
 use Rattle.jmachine.specs.Acts.{Row}
-use Rattle.jmachine.specs.Asked.{Ask, Checks, ChecksKept, asking_site, checks}
+use Rattle.jmachine.specs.Asked.{Ask, Checks, ChecksKept, checks}
 use Rattle.jmachine.specs.Doing.{run}
 use Rattle.jmachine.specs.Security.{Rules, checked}
 use Rattle.jmachine.specs.Sites.{Site}
-use Rattle.jmachine.specs.Steps.{entries, own_fields, site}
+use Rattle.jmachine.specs.Steps.{entries, own_fields, site, site_of}
 use Rattle.jstate.specs.Framed.{Framed, all}
 use Rattle.jcore.specs.declared.machine.Machine.{Machine}
 use Rattle.jcore.specs.Answering.{asked_of}
@@ -50,7 +50,7 @@ context_in v = None
 module _ {E : Type 0} (m : Machine E) (f : Framed E) where
   -- where it stands
   abbrev pub here : Site
-  here = asking_site m.side m.calls m.plan.now (state_of m) f.newest f.below
+  here = site_of m.calls m.plan.now (state_of m) f.newest f.below
 
   -- its row
   abbrev pub row_of : LibCall → Rules ℕ E → List (Value ℕ) → Option (Row ℕ E)

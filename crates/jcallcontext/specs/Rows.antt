@@ -3,11 +3,11 @@ use Rattle.std.specs.Prelude.{◌≡◌, ℕ, List, Option, Some, None, take}
 use Rattle.jops.specs.declared.value.Value.{Value}
 use Rattle.jlib.specs.declared.calls.LibCall.{LibCall}
 use Rattle.jmachine.specs.Acts.{Row, State}
-use Rattle.jmachine.specs.Asked.{Ask, asking_site}
+use Rattle.jmachine.specs.Asked.{Ask}
 use Rattle.jmachine.specs.Doing.{run}
 use Rattle.jmachine.specs.Security.{Rules}
 use Rattle.jmachine.specs.Sites.{Site}
-use Rattle.jmachine.specs.Steps.{entries, own_fields, site}
+use Rattle.jmachine.specs.Steps.{entries, own_fields, site, site_of}
 use Rattle.jguard.specs.Standing.{AskedOnce}
 use Rattle.jrun.specs.declared.came.Came.{Came}
 use Rattle.jstate.specs.Framed.{Framed, all}
@@ -22,7 +22,7 @@ use Rattle.jcore.specs.Machines.{AreRules, state_of, store_of}
 module _ {E : Type 0} (m : Machine E) (f : Framed E) where
   -- where it stands
   abbrev pub here : Site
-  here = asking_site m.side m.calls m.plan.now (state_of m) f.newest f.below
+  here = site_of m.calls m.plan.now (state_of m) f.newest f.below
 
   -- its row
   abbrev pub row_of : LibCall → Rules ℕ E → List (Value ℕ) → Option (Row ℕ E)

@@ -17,7 +17,8 @@ use Rattle.jrule.specs.Forms.{by_form}
 use Rattle.jrule.specs.Here.{Here}
 use Rattle.jrule.specs.Seen.{seen}
 use Rattle.jtyping.specs.Declared.{Written}
-use Rattle.jtyping.specs.Methods.{Method, covers}
+use Rattle.jtyping.specs.Methods.{Method}
+use Rattle.jcode.specs.Instructions.{covers}
 use Rattle.jtyping.specs.Typing.{handler_fits, handler_test, handlers_fit}
 use Rattle.jcheck.specs.declared.held.Arriving.{Arriving}
 use Rattle.jcheck.specs.declared.held.Held.{Held}

@@ -2,14 +2,14 @@
 use Rattle.std.specs.Prelude.{◌≡◌, ◌≤◌, ℕ, ℤ, Bool, true, IsTrue, List, Option, Some, None, length, slice_get}
 use Rattle.std.specs.List.{list_any}
 use Rattle.jcode.specs.declared.op.Placed.{Placed}
-use Rattle.jcode.specs.Instructions.{Rises}
+use Rattle.jcode.specs.Instructions.{covers, Rises}
 use Rattle.jmaps.specs.Frames.{maps}
 use Rattle.jclass.specs.declared.class.CodeBody.{CodeBody}
 use Rattle.jprogram.specs.Classes.{Program}
 use Rattle.jrule.specs.declared.frame.FrameRef.{FrameRef}
 use Rattle.jrule.specs.declared.place.HereRef.{HereRef}
 use Rattle.jtyping.specs.Declared.{Written, frames_in}
-use Rattle.jtyping.specs.Methods.{Method, covers}
+use Rattle.jtyping.specs.Methods.{Method}
 use Rattle.juses.specs.Tables.{pool_at}
 use Rattle.juses.specs.Uses.{AreUses}
 use Rattle.jcheck.specs.declared.walk.Checking.{Checking}

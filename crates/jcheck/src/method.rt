@@ -15,7 +15,7 @@ use jbase::Seq;
 use jclass::{Access, Attribute, ClassParts, CodeAttribute, MemberInfo};
 use jcode::{Handler, Placed};
 use jpool::{DescError, Descriptor, FieldType, read_descriptor};
-use jprogram::{ClassRef, NamedProgram, member_desc, member_name, super_name};
+use jprogram::{ClassRef, NamedProgram, is_init, member_desc, super_name};
 use juses::{TypeRef, class_there, params_in, return_in};
 use std::alloc::{AllocError, Global};
 
@@ -78,12 +78,6 @@ fn is_static(method: &MemberInfo) -> bool
     ensures { result ≡ Parts.is_static method.now.flags }
 {
     method.flags.contains(Access::STATIC)
-}
-
-fn is_init(class: &ClassParts, method: &MemberInfo) -> bool
-    ensures { result ≡ Methods.is_init class.now method.now }
-{
-    member_name(class, method) == b"<init>".as_slice() && !is_static(method)
 }
 
 /// The class that a class extends, where the program has it.

@@ -2,6 +2,7 @@ ghost use Rattle.std.specs.Prelude.{◌≡◌, ◌≤◌, ◌||◌, ◌⊎◌, L
 ghost use Rattle.std.specs.List.{list_all, list_any};
 ghost use Rattle.jcode.specs.Forms as forms;
 ghost use Rattle.jcode.specs.Forms.{branches, form};
+ghost use Rattle.jcode.specs.Instructions;
 ghost use Rattle.juses.specs.Types.{named};
 ghost use Rattle.jtypes.specs.Frames.{Frame};
 ghost use Rattle.jpool.specs.declared.entry.Entry.{Entry};
@@ -43,7 +44,7 @@ const THROWABLE: ClassRef = ClassRef::Lib(LibClass::Thrown(Thrown::Throwable));
 
 /// Whether an instruction at a place is one of those that a handler covers (JVMS 4.7.3).
 fn covers(at: u32, h: &Handler) -> bool
-    ensures { result ≡ Methods.covers at h.now }
+    ensures { result ≡ Instructions.covers at h.now }
 {
     h.start <= at && at < h.end
 }
@@ -82,7 +83,7 @@ impl<'a> Checking<'a> {
 
     /// Whether a handler covers a place.
     fn is_covered(&self, at: u32) -> bool
-        ensures { result ≡ list_any (Methods.covers at) (method_of self.now).body.handlers }
+        ensures { result ≡ list_any (Instructions.covers at) (method_of self.now).body.handlers }
     {
         let method = self.method;
         let handlers = method.body.handlers;
@@ -147,7 +148,7 @@ impl<'a> Checking<'a> {
         requires checking { IsChecking self.now }
         requires held { IsHeld self.now f.now }
         ensures { result
-            ≡ (Methods.covers since h.now
+            ≡ (Instructions.covers since h.now
             || Typing.handler_test (program_of self.now) (method_of self.now) (frames_of self.now) at (held_seen (program_of self.now) f.now) h.now) }
     {
         if covers(since, h) {
@@ -160,7 +161,7 @@ impl<'a> Checking<'a> {
     fn later_fit(&self, since: u32, at: u32, f: &Held) -> bool
         requires checking { IsChecking self.now }
         requires held { IsHeld self.now f.now }
-        ensures { result ≡ list_all (λ h. Methods.covers since h
+        ensures { result ≡ list_all (λ h. Instructions.covers since h
             || Typing.handler_test (program_of self.now) (method_of self.now) (frames_of self.now) at (held_seen (program_of self.now) f.now) h)
             (method_of self.now).body.handlers }
     {

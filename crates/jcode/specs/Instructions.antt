@@ -1,5 +1,5 @@
 -- Instructions, and code: instructions one behind the other (JVMS 4.7.3, 6.5).
-use Rattle.std.specs.Prelude.{◌≡◌, ℕ, ◌+◌, ◌<◌, ◌==◌, ℤ, pos, ◌+ℤ◌, Bool, IsTrue, ◌&&◌, if◌then◌else◌, List, [], ◌∷◌, length, get_or, position, Option, Some, None, option_map, Result, Ok, Err}
+use Rattle.std.specs.Prelude.{◌≡◌, ℕ, ◌+◌, ◌<◌, ◌==◌, ℤ, pos, ◌+ℤ◌, Bool, IsTrue, ◌&&◌, if◌then◌else◌, List, [], ◌∷◌, length, get_or, position, nat_le, nat_lt, Option, Some, None, option_map, Result, Ok, Err}
 use Rattle.std.specs.List.{list_all, list_any}
 use Rattle.std.specs.Ordering.{int_eq}
 use Rattle.jbase.specs.Stops.{◌>>=◌}
@@ -24,6 +24,7 @@ use Rattle.jcode.specs.declared.op.NewOp.TheVariants as news
 use Rattle.jcode.specs.declared.op.Switch.{Switch}
 use Rattle.jcode.specs.declared.op.Switch.TheVariants as switches
 use Rattle.jcode.specs.declared.op.Placed.{Placed}
+use Rattle.jcode.specs.declared.op.Handler.{Handler}
 use Rattle.jcode.specs.declared.head.Head.{Head}
 use Rattle.jcode.specs.declared.head.Head.TheVariants as heads
 use Rattle.jcode.specs.declared.head.Plain.{Plain}
@@ -255,3 +256,7 @@ Spells bytes ps = IsTrue (code.fits ps) × (bytes ≡ code.spell ps)
 -- Each instruction stands behind the one before it.
 abbrev pub Rises : List Placed → Type 0
 Rises ps = (i j : ℕ) (d : Placed) → i < j → j < length ps → (get_or ps i d).at < (get_or ps j d).at
+
+-- a handler covers the places from its start up to its end, the end left out (JVMS 4.7.3)
+abbrev pub covers : ℕ → Handler → Bool
+covers at h = nat_le h.start at && nat_lt at h.«end»

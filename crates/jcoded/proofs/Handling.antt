@@ -37,7 +37,8 @@ use Rattle.juses.specs.Instructions.{Instruction, body_in}
 use Rattle.juses.specs.Meanings.{as_class, class_at}
 use Rattle.jrule.proofs.Both.{and_true}
 use Rattle.jmachine.specs.Steps as steps
-use Rattle.jmachine.specs.Unwinding.{catches, covers, handler_at, handler_from, handler_in, is_caught, number_at, takes}
+use Rattle.jmachine.specs.Unwinding.{catches, handler_at, handler_from, handler_in, is_caught, number_at, takes}
+use Rattle.jcode.specs.Instructions.{covers}
 use Rattle.jmachine.specs.World.{World, is_instance, world}
 use Rattle.jrewrite.specs.Program.{moved}
 use Rattle.jrewrite.proofs.Bodies.{caught}

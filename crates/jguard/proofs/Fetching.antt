@@ -8,11 +8,11 @@ use Rattle.juses.specs.Instructions.{Instruction, Used}
 use Rattle.juses.specs.Meanings.{Call, CallMeaning}
 use Rattle.jmachine.specs.declared.plan.Plan.{Plan}
 use Rattle.jmachine.specs.Acts.{FrameOf, State}
-use Rattle.jmachine.specs.Asked.{asked_by, asked_on, asking_site, asks, call_asks, call_taken, called_asks, used_asks}
+use Rattle.jmachine.specs.Asked.{asked_by, asked_on, asks, call_asks, call_taken, called_asks, used_asks}
 use Rattle.jmachine.specs.Calls.{Target, target}
 use Rattle.jmachine.specs.Operands.{Taken}
 use Rattle.jmachine.specs.Sites.{Site}
-use Rattle.jmachine.specs.Steps.{fetched}
+use Rattle.jmachine.specs.Steps.{fetched, site_of}
 use Rattle.jguard.specs.Fetched.{AsksAsCalled, AsksAsFetched}
 
 module _ {K E : Type 0} (side : Side) (p : Program) (plan : Plan) (s : State K E) (f : FrameOf K E) (below : List (FrameOf K E)) (frames : s.running.frames ≡ f ∷ below) where
@@ -21,7 +21,7 @@ module _ {K E : Type 0} (side : Side) (p : Program) (plan : Plan) (s : State K E
   as_fetched i e = ap (asked_on side p plan s) frames ∙ ap (asked_by side p plan s f below) e
 
   abbrev at : Site
-  at = asking_site side p plan s f below
+  at = site_of p plan s f below
 
   as_taken : (by : How) (c : CallMeaning) (t : Taken K) → call_taken side at s.store by c f.operands ≡ Some t → used_asks side at s.store by c f.operands ≡ call_asks side at s.store by c t.values
   unfolding used_asks

@@ -7,10 +7,10 @@ use Rattle.juses.specs.Instructions.{Instruction, Used}
 use Rattle.juses.specs.Meanings.{Call, CallMeaning}
 use Rattle.jmachine.specs.declared.plan.Plan.{Plan}
 use Rattle.jmachine.specs.Acts.{FrameOf, State}
-use Rattle.jmachine.specs.Asked.{asked_by, asking_site, asks, call_taken, called_asks}
+use Rattle.jmachine.specs.Asked.{asked_by, asks, call_taken, called_asks}
 use Rattle.jmachine.specs.Calls.{Target, target}
 use Rattle.jmachine.specs.Operands.{Taken}
-use Rattle.jmachine.specs.Steps.{fetched}
+use Rattle.jmachine.specs.Steps.{fetched, site_of}
 
 -- A step asks what its instruction asks,
 abbrev pub AsksAsFetched : Type 0 → Type 0 → Type 0
@@ -21,6 +21,6 @@ AsksAsFetched K E = (side : Side) (p : Program) (plan : Plan) (s : State K E) (f
 abbrev pub AsksAsCalled : Type 0 → Type 0 → Type 0
 AsksAsCalled K E = (side : Side) (p : Program) (plan : Plan) (s : State K E) (f : FrameOf K E) (below : List (FrameOf K E)) (by : How) (c : CallMeaning)
     → s.running.frames ≡ f ∷ below → fetched p f.method f.place ≡ Some (Used (Call by c))
-    → (t : Taken K) → call_taken side (asking_site side p plan s f below) s.store by c f.operands ≡ Some t
-    → (to : Option Target) → target (asking_site side p plan s f below) s.store by c t.values ≡ to
-    → asks side p plan s ≡ option_and_then (called_asks side (asking_site side p plan s f below) s.store t.values) to
+    → (t : Taken K) → call_taken side (site_of p plan s f below) s.store by c f.operands ≡ Some t
+    → (to : Option Target) → target (site_of p plan s f below) s.store by c t.values ≡ to
+    → asks side p plan s ≡ option_and_then (called_asks side (site_of p plan s f below) s.store t.values) to

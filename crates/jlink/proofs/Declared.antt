@@ -28,9 +28,9 @@ use Rattle.jprogram.specs.Classes.{Class, Lib, Program, User, find, found_at, pl
 use Rattle.jprogram.specs.Members.{field_at, field_in, init, lib_field, lib_method, method_at, method_id, method_in, resolve_field, resolve_method}
 use Rattle.jprogram.specs.Naming.{naming_fault}
 use Rattle.jprogram.specs.Supers.{supers_fault}
-use Rattle.jmembers.specs.Declares.{again_test, at_member, class_fault, desc_left_out, field_left_out, field_left_out_test, field_test, fields_fault, is_context, is_floating, members_fault, method_left_out, method_left_out_test, method_test, methods_fault, param_left_out, return_left_out, text_left_out, types_test}
+use Rattle.jmembers.specs.Declares.{again_test, at_member, class_fault, desc_left_out, field_left_out, field_left_out_test, field_test, fields_fault, members_fault, method_left_out, method_left_out_test, method_test, methods_fault, param_left_out, return_left_out, text_left_out, types_test}
+use Rattle.jprogram.specs.LeftOut.{is_context, is_floating}
 use Rattle.jreferring.specs.Code.{code_fault}
-use Rattle.jreferring.specs.Operands.{is_float}
 use Rattle.jlink.specs.Coded.{AreFiles}
 use Rattle.jlink.specs.Links.{Links, link_fault}
 use Rattle.jlink.specs.Sound.{IsFieldText, IsMethodText, gives_float, is_sound_field, is_sound_method}
@@ -65,13 +65,13 @@ of_field text h =
 neither : (a b : Bool) → a ≡ false → b ≡ false → (a || b) ≡ false
 neither a b one two = rw (one, two) refl
 
-params_float : (ts : List FieldType) → list_any param_left_out ts ≡ false → list_any is_float ts ≡ false
+params_float : (ts : List FieldType) → list_any param_left_out ts ≡ false → list_any is_floating ts ≡ false
 params_float [] e = refl
 params_float (t ∷ ts) e =
     let both = or_parts (param_left_out t) (list_any param_left_out ts) e in
-    let one : is_float t ≡ false = (or_parts (is_floating t) _ both.0).0 in
-    let rest : list_any is_float ts ≡ false = params_float ts both.1 in
-    neither (is_float t) (list_any is_float ts) one rest
+    let one : is_floating t ≡ false = (or_parts (is_floating t) _ both.0).0 in
+    let rest : list_any is_floating ts ≡ false = params_float ts both.1 in
+    neither (is_floating t) (list_any is_floating ts) one rest
 
 return_float : (ret : Option FieldType) → return_left_out ret ≡ false → gives_float ret ≡ false
 return_float None e = refl
@@ -85,7 +85,7 @@ method_text desc has left =
     let both = or_parts (list_any param_left_out d.0.0) (return_left_out d.0.1) out in
     let params = params_float d.0.0 both.0 in
     let ret = return_float d.0.1 both.1 in
-    let sound : is_sound_method (Some (method d.0)) ≡ true = ap not (neither (list_any is_float d.0.0) (gives_float d.0.1) params ret) in
+    let sound : is_sound_method (Some (method d.0)) ≡ true = ap not (neither (list_any is_floating d.0.0) (gives_float d.0.1) params ret) in
     ap is_sound_method d.1 ∙ sound
 
 field_text : (desc : List ℕ) → IsSome (field_of desc) → text_left_out desc ≡ false → IsFieldText desc
@@ -93,7 +93,7 @@ unfolding text_left_out
 field_text desc has left =
     let d = of_field desc has in
     let out : desc_left_out (Some (field d.0)) ≡ false = sym (ap desc_left_out d.1) ∙ left in
-    let float : is_float d.0 ≡ false = (or_parts (is_floating d.0) (is_context d.0) out).0 in
+    let float : is_floating d.0 ≡ false = (or_parts (is_floating d.0) (is_context d.0) out).0 in
     let sound : is_sound_field (Some (field d.0)) ≡ true = ap not float in
     ap is_sound_field d.1 ∙ sound
 

@@ -31,7 +31,8 @@ use Rattle.juses.specs.Typed.{Called, Held, Typed, array_over, called, class_by,
 use Rattle.juses.specs.Typed as says
 use Rattle.jreferring.specs.Names as names
 use Rattle.jreferring.specs.Names.{array_or, class_test, desc_test, is_array, return_test, type_named, type_test}
-use Rattle.jreferring.specs.Operands.{class_use, is_barred_array, is_barred_operand, is_context, is_float, operand_test, type_use}
+use Rattle.jreferring.specs.Operands.{class_use, is_barred_array, is_barred_operand, operand_test, type_use}
+use Rattle.jprogram.specs.LeftOut.{is_context, is_floating}
 use Rattle.jlink.specs.Sound.{IsFieldText, IsMethodText, gives_float, is_sound_field, is_sound_method}
 use Rattle.jlink.proofs.Having.{each_has, has_some, map_has}
 
@@ -79,27 +80,27 @@ base_by false false false false false false true true l n base float = absurd cc
 base_there : (b : ℕ) (n : Name) → is_base b ≡ true → (b == byte "F" || b == byte "D") ≡ false → IsSome (element_of b n)
 base_there b n base float = base_by (b == byte "Z") (b == byte "C") (b == byte "B") (b == byte "S") (b == byte "I") (b == byte "J") (b == byte "D") (b == byte "F") (b == byte "L") n base float
 
-element_by : (p : Program) (from : List ℕ) (t : FieldType) (sign : Bool) → (if sign then is_class_name t.class else is_base t.base && length t.class == 0) ≡ true → is_float t ≡ false
+element_by : (p : Program) (from : List ℕ) (t : FieldType) (sign : Bool) → (if sign then is_class_name t.class else is_base t.base && length t.class == 0) ≡ true → is_floating t ≡ false
     → (if sign then class_test p from t.class else None) ≡ None → IsSome (if sign then option_map elements.Class (there p t.class) else element_of t.base (name t.class))
 element_by p from t true good float e = rw (class_there p from t.class e) refl
 element_by p from t false good float e = base_there t.base (name t.class) (first_true (is_base t.base) (length t.class == 0) good) float
 
-element_there : (p : Program) (from : List ℕ) (t : FieldType) → is_type t ≡ true → is_float t ≡ false → type_test p from t ≡ None → IsSome (element_in p t)
+element_there : (p : Program) (from : List ℕ) (t : FieldType) → is_type t ≡ true → is_floating t ≡ false → type_test p from t ≡ None → IsSome (element_in p t)
 unfolding type_test
 element_there p from t good float e =
     element_by p from t (is_class_sign t.base) (second_true (nat_lt t.depth (2 ^ 32)) (if is_class_sign t.base then is_class_name t.class else is_base t.base && length t.class == 0) good) float e
 
-pub type_there : (p : Program) (from : List ℕ) (t : FieldType) → is_type t ≡ true → is_float t ≡ false → type_test p from t ≡ None → IsSome (type_in p t)
+pub type_there : (p : Program) (from : List ℕ) (t : FieldType) → is_type t ≡ true → is_floating t ≡ false → type_test p from t ≡ None → IsSome (type_in p t)
 unfolding type_in
 type_there p from t good float e = map_has (type_of t.depth) (element_in p t) (element_there p from t good float e)
 
 -- ---- descriptors
 
-params_there : (p : Program) (from : List ℕ) (ts : List FieldType) → list_all is_type ts ≡ true → list_any is_float ts ≡ false → first_some (type_test p from) ts ≡ None → AllByRecursion (λ t. IsSome (type_in p t)) ts
+params_there : (p : Program) (from : List ℕ) (ts : List FieldType) → list_all is_type ts ≡ true → list_any is_floating ts ≡ false → first_some (type_test p from) ts ≡ None → AllByRecursion (λ t. IsSome (type_in p t)) ts
 unfolding first_some
 params_there p from [] good float e = tt
 params_there p from (t ∷ ts) good float e =
-    let f = or_parts (is_float t) (list_any is_float ts) float in
+    let f = or_parts (is_floating t) (list_any is_floating ts) float in
     let n = none_of (type_test p from t) (first_some (type_test p from) ts) e in
     let one : IsSome (type_in p t) = type_there p from t (first_true (is_type t) (list_all is_type ts) good) f.0 n.0 in
     (one, params_there p from ts (second_true (is_type t) (list_all is_type ts) good) f.1 n.1)
@@ -128,7 +129,7 @@ unfolding is_well_formed
 field_held p from text None is sound e = absurd cc
 field_held p from text (Some (descriptors.Method params ret)) is sound e = absurd cc
 field_held p from text (Some (descriptors.Field t)) is sound e =
-    held_is (type_in p t) (type_there p from t ((descriptor_take text (descriptors.Field t) is).0) (not_true (is_float t) sound) e)
+    held_is (type_in p t) (type_there p from t ((descriptor_take text (descriptors.Field t) is).0) (not_true (is_floating t) sound) e)
 
 -- what the descriptor of a field says
 pub field_says : (p : Program) (from desc : List ℕ) → IsFieldText desc → desc_test p from (descriptor_of desc) ≡ None → (t : VType) × (typed p desc ≡ Held t)
@@ -141,7 +142,7 @@ method_called p from text None is sound e = absurd cc
 method_called p from text (Some (descriptors.Field t)) is sound e = absurd cc
 method_called p from text (Some (descriptors.Method params ret)) is sound e =
     let good = first_true (list_all is_type params && is_return ret) _ ((descriptor_take text (descriptors.Method params ret) is).0) in
-    let float = or_parts (list_any is_float params) (gives_float ret) (not_true (list_any is_float params || gives_float ret) sound) in
+    let float = or_parts (list_any is_floating params) (gives_float ret) (not_true (list_any is_floating params || gives_float ret) sound) in
     let named = none_of (first_some (type_test p from) params) (return_test p from ret) e in
     called_is (each_some (type_in p) params) (return_in p ret)
     (each_has (type_in p) params (params_there p from params (first_true (list_all is_type params) (is_return ret) good) float.0 named.0))
@@ -206,9 +207,9 @@ unfolding is_barred_operand is_barred_array is_well_formed descriptor_text
 array_is p from text t is array e =
     let n = none_of (type_test p from t) (fault_if (is_barred_operand t) LeftOut) e in
     let barred = no_fault (is_barred_operand t) LeftOut n.1 in
-    let inside : (is_array t && (is_context t || is_float t)) ≡ false = (or_parts (is_context t) (is_barred_array t) barred).1 in
-    let neither : (is_context t || is_float t) ≡ false = ap (λ (b : Bool). b && (is_context t || is_float t)) (sym array) ∙ inside in
-    let float = (or_parts (is_context t) (is_float t) neither).1 in
+    let inside : (is_array t && (is_context t || is_floating t)) ≡ false = (or_parts (is_context t) (is_barred_array t) barred).1 in
+    let neither : (is_context t || is_floating t) ≡ false = ap (λ (b : Bool). b && (is_context t || is_floating t)) (sym array) ∙ inside in
+    let float = (or_parts (is_context t) (is_floating t) neither).1 in
     let took = descriptor_take text (descriptors.Field t) is in
     let a = array_at p text t t.depth refl array (depth_short text t took.1) (element_there p from t took.0 float n.0) in
     record {

@@ -5,20 +5,20 @@ use Rattle.jpool.specs.declared.descriptor.Descriptor.{Descriptor}
 use Rattle.jpool.specs.declared.descriptor.Descriptor.TheVariants as descriptors
 use Rattle.jpool.specs.declared.descriptor.FieldType.{FieldType}
 use Rattle.jpool.specs.Descriptors.{descriptor_of}
-use Rattle.jreferring.specs.Operands.{is_float}
+use Rattle.jprogram.specs.LeftOut.{is_floating}
 
 abbrev pub gives_float : Option FieldType → Bool
 gives_float None = false
-gives_float (Some t) = is_float t
+gives_float (Some t) = is_floating t
 
 -- the descriptor of a field
 abbrev pub is_sound_field : Option Descriptor → Bool
-is_sound_field (Some (descriptors.Field t)) = not (is_float t)
+is_sound_field (Some (descriptors.Field t)) = not (is_floating t)
 is_sound_field d = false
 
 -- the descriptor of a method
 abbrev pub is_sound_method : Option Descriptor → Bool
-is_sound_method (Some (descriptors.Method params ret)) = not (list_any is_float params || gives_float ret)
+is_sound_method (Some (descriptors.Method params ret)) = not (list_any is_floating params || gives_float ret)
 is_sound_method d = false
 
 abbrev pub IsFieldText : List ℕ → Type 0

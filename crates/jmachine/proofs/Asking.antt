@@ -24,7 +24,7 @@ use Rattle.juses.specs.Meanings.{CallMeaning}
 use Rattle.jrule.specs.Uses.{of_call}
 use Rattle.jmachine.specs.declared.plan.Plan.{Plan}
 use Rattle.jmachine.specs.Acts.{FrameOf, State}
-use Rattle.jmachine.specs.Asked.{Ask, Checks, ChecksKept, Privileges, action_of, ask_map, asked_by, asked_on, asking_site, asks, call_asks, call_taken, called_asks, checks, checks_kept, context_asks, controller_asks, inherits, instruction_asks, privileges, privileges_by, privileges_limited, privileges_within, rt_asks, run_asks, thread_asks, used_asks, where_run}
+use Rattle.jmachine.specs.Asked.{Ask, Checks, ChecksKept, Privileges, action_of, ask_map, asked_by, asked_on, asks, call_asks, call_taken, called_asks, checks, checks_kept, context_asks, controller_asks, inherits, instruction_asks, privileges, privileges_by, privileges_limited, privileges_within, rt_asks, run_asks, thread_asks, used_asks, where_run}
 use Rattle.jmachine.specs.Asking.{domain_of}
 use Rattle.jmachine.specs.Calls.{Target, Fails, Pushes, Runs, by_interface, target}
 use Rattle.jmachine.specs.Maps.{frame_map, frames_map, object_map, state_map, store_map, taken_map, value_map, values_map}
@@ -34,7 +34,7 @@ use Rattle.jmachine.specs.Operands.{Taken}
 use Rattle.jmachine.specs.Privileges.{given, limits, run_action}
 use Rattle.jmachine.specs.Security.{kept_in, permission_in}
 use Rattle.jmachine.specs.Sites.{Site}
-use Rattle.jmachine.specs.Steps.{fetched}
+use Rattle.jmachine.specs.Steps.{fetched, site_of}
 use Rattle.jmachine.specs.Store.{Store, object_at, object_of}
 use Rattle.jmachine.specs.Turns.{thread_of}
 use Rattle.jmachine.specs.World.{world}
@@ -322,7 +322,7 @@ module _ {K L E F : Type 0} (f : K → L) (g : E → F) (side : Side) (p : Progr
   abbrev u : State L F
   u = state_map f g s
 
-  pub site_alike : (x : FrameOf K E) (below : List (FrameOf K E)) → asking_site side p plan s x below ≡ asking_site side p plan u (frame_map f g x) (frames_map f g below)
+  pub site_alike : (x : FrameOf K E) (below : List (FrameOf K E)) → site_of p plan s x below ≡ site_of p plan u (frame_map f g x) (frames_map f g below)
   site_alike x below = ap (λ n. site_with n (nat_le plan.depth (length (x ∷ below)))) (applying.thread_alike f g s) ∙ ap (λ n. site_with (thread_of u) (nat_le plan.depth n)) (sym (length-map (x ∷ below) (frame_map f g)))
     where
       site_with : ℕ → Bool → Site
@@ -331,7 +331,7 @@ module _ {K L E F : Type 0} (f : K → L) (g : E → F) (side : Side) (p : Progr
   by_alike : (x : FrameOf K E) (below : List (FrameOf K E)) (o : Option Instruction) → option_map (ask_map f) (asked_by side p plan s x below o) ≡ asked_by side p plan u (frame_map f g x) (frames_map f g below) o
   by_alike x below None = refl
   by_alike x below (Some i) =
-      instruction_alike f side (asking_site side p plan s x below) s.store i x.operands
+      instruction_alike f side (site_of p plan s x below) s.store i x.operands
       ∙ ap (λ (at : Site). instruction_asks side at (store_map f s.store) i (values_map f x.operands)) (site_alike x below)
 
   on_alike : (frames : List (FrameOf K E)) → option_map (ask_map f) (asked_on side p plan s frames) ≡ asked_on side p plan u (frames_map f g frames)

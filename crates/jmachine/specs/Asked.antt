@@ -32,7 +32,7 @@ use Rattle.jmachine.specs.Operands.{Taken, taken}
 use Rattle.jmachine.specs.Privileges.{given, limits, run_action}
 use Rattle.jmachine.specs.Security.{Privilege, Rules, kept_in, permission_in}
 use Rattle.jmachine.specs.Sites.{Site}
-use Rattle.jmachine.specs.Steps.{fetched}
+use Rattle.jmachine.specs.Steps.{fetched, site_of}
 use Rattle.jmachine.specs.Store.{Store, object_at, object_of}
 use Rattle.jmachine.specs.Turns.{thread_of}
 use Rattle.jmachine.specs.World.{world}
@@ -165,12 +165,9 @@ module _ {K : Type 0} (side : Side) (at : Site) (s : Store K) where
 -- ---- what a step asks
 
 module _ {K E : Type 0} (side : Side) (p : Program) (plan : Plan) (s : State K E) where
-  abbrev pub asking_site : FrameOf K E → List (FrameOf K E) → Site
-  asking_site f below = record { world = world p; class = f.method.class; thread = thread_of s; full = nat_le plan.depth (length (f ∷ below)); cwd = plan.cwd; table = s.table }
-
   abbrev pub asked_by : FrameOf K E → List (FrameOf K E) → Option Instruction → Option (Ask K)
   asked_by f below None = None
-  asked_by f below (Some i) = instruction_asks side (asking_site f below) s.store i f.operands
+  asked_by f below (Some i) = instruction_asks side (site_of p plan s f below) s.store i f.operands
 
   abbrev pub asked_on : List (FrameOf K E) → Option (Ask K)
   asked_on [] = None

@@ -56,6 +56,10 @@ is_init p m = bytes_eq (members.name_of p (Method m)) members.init && not (membe
 abbrev pub own_fields : Program → MethodId → Member → Bool
 own_fields p m = is_own p (is_init p m) ((world p).named m.class)
 
+-- what the rows of an instruction know of its frame and of those below
+abbrev pub site_of : {K E : Type 0} → Program → Plan → State K E → FrameOf K E → List (FrameOf K E) → Site
+site_of p plan s f below = record { world = world p; class = f.method.class; thread = thread_of s; full = nat_le plan.depth (length (f ∷ below)); cwd = plan.cwd; table = s.table }
+
 module _ {K E : Type 0} (r : Rules K E) (p : Program) (plan : Plan) (s : State K E) where
   -- ---- outcomes
 
@@ -118,7 +122,7 @@ module _ {K E : Type 0} (r : Rules K E) (p : Program) (plan : Plan) (s : State K
   -- ---- an instruction
 
   abbrev pub site : FrameOf K E → List (FrameOf K E) → Site
-  site f below = record { world = world p; class = f.method.class; thread = thread_of s; full = nat_le plan.depth (length (f ∷ below)); cwd = plan.cwd; table = s.table }
+  site f below = site_of p plan s f below
 
   abbrev pub done : List (FrameOf K E) → Option (Doing K E) → Outcome (State K E)
   done below None = NoStep

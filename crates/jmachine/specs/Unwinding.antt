@@ -1,5 +1,5 @@
 -- Which frame handles what is thrown, and where it goes on (JVMS 2.10).
-use Rattle.std.specs.Prelude.{ℕ, Bool, false, ◌&&◌, ◌||◌, ◌==◌, List, [], ◌∷◌, map, Option, Some, None, option_and_then, slice_get, nat_le, nat_lt, if◌then◌else◌}
+use Rattle.std.specs.Prelude.{ℕ, Bool, false, ◌&&◌, ◌||◌, ◌==◌, List, [], ◌∷◌, map, Option, Some, None, option_and_then, slice_get, if◌then◌else◌}
 use Rattle.std.specs.List.{find, position}
 use Rattle.std.specs.Str.{byte}
 use Rattle.jops.specs.declared.value.Value.{Value}
@@ -7,6 +7,7 @@ use Rattle.jops.specs.declared.value.Value.TheVariants.{Ref}
 use Rattle.jpool.specs.declared.entry.Entry.{Entry}
 use Rattle.jcode.specs.declared.op.Handler.{Handler}
 use Rattle.jcode.specs.declared.op.Placed.{Placed}
+use Rattle.jcode.specs.Instructions.{covers}
 use Rattle.jclass.specs.declared.class.ClassParts.{ClassParts}
 use Rattle.jclass.specs.declared.class.CodeBody.{CodeBody}
 use Rattle.jlib.specs.declared.classes.LibClass.{LibClass}
@@ -40,10 +41,6 @@ told_name (types.Object c) = map dotted (units_of c.0)
 told_name t = []
 
 -- ---- handlers
-
--- its range holds a place of the code
-abbrev pub covers : ℕ → Handler → Bool
-covers at h = nat_le h.start at && nat_lt at h.end
 
 abbrev pub is_caught : Program → VType → Option VType → Bool
 is_caught p thrown None = false

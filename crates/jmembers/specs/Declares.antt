@@ -1,7 +1,7 @@
 -- The third phase of linking: what members a class may declare (JVMS 4.5, 4.6, 5.4.5).
-use Rattle.std.specs.Prelude.{ℕ, ◌+◌, Bool, false, ◌&&◌, ◌||◌, not, ◌==◌, List, [], ◌∷◌, ◌++◌, length, take, Option, Some, None, nat_lt, codes, if◌then◌else◌}
+use Rattle.std.specs.Prelude.{ℕ, ◌+◌, Bool, false, ◌&&◌, ◌||◌, not, List, [], ◌∷◌, ◌++◌, length, take, Option, Some, None, nat_lt, codes, if◌then◌else◌}
 use Rattle.std.specs.List.{list_any}
-use Rattle.std.specs.Str.{byte, bytes_eq}
+use Rattle.std.specs.Str.{bytes_eq}
 use Rattle.jbase.specs.First.{fault_if, first_along, or_else}
 use Rattle.jpool.specs.declared.descriptor.Descriptor.{Descriptor}
 use Rattle.jpool.specs.declared.descriptor.Descriptor.TheVariants as descriptors
@@ -20,6 +20,7 @@ use Rattle.jprogram.specs.declared.fault.LinkKind.TheVariants.{FinalMethod, Left
 use Rattle.jprogram.specs.declared.fault.LinkFault.{LinkFault}
 use Rattle.jprogram.specs.declared.member.Member.{Member}
 use Rattle.jprogram.specs.declared.member.Member.TheVariants.{Method}
+use Rattle.jprogram.specs.LeftOut.{is_context, is_floating}
 use Rattle.jprogram.specs.Parts as parts
 use Rattle.jprogram.specs.Parts.{has_code, is_called, member_desc, member_name, super_name}
 use Rattle.jprogram.specs.Classes.{Class, Lib, Program, find, onward, up}
@@ -43,17 +44,6 @@ unfoldable pub again_test : ClassParts → List MemberInfo → MemberInfo → Op
 again_test c before m = fault_if (is_again c before m) Twice
 
 -- ---- what is left out of descriptors
-
--- the class of security contexts
-abbrev pub context : List ℕ
-context = codes "sps/Ctx"
-
-abbrev pub is_context : FieldType → Bool
-is_context t = bytes_eq t.class context
-
--- 'F' and 'D', also in an array
-abbrev pub is_floating : FieldType → Bool
-is_floating t = t.base == byte "F" || t.base == byte "D"
 
 -- a context may be a parameter, but stands in no array
 abbrev pub param_left_out : FieldType → Bool

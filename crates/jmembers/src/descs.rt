@@ -8,22 +8,10 @@ ghost use Rattle.jmembers.specs.Known.{desc_marks, marks_in, marks_of};
 
 use crate::numbers::entry_text;
 use jpool::{DescError, Descriptor, Entry, FieldType, read_descriptor};
-use jprogram::NamedProgram;
+use jprogram::{NamedProgram, is_context, is_floating};
 use std::alloc::{AllocError, Global};
 
 // ---- what is left out
-
-fn is_context(one: &FieldType) -> bool
-    ensures { result ≡ Declares.is_context one.now }
-{
-    one.class.as_slice() == b"sps/Ctx".as_slice()
-}
-
-fn is_floating(one: &FieldType) -> bool
-    ensures { result ≡ Declares.is_floating one.now }
-{
-    one.base == b'F' || one.base == b'D'
-}
 
 fn param_left_out(one: &FieldType) -> bool
     ensures { result ≡ Declares.param_left_out one.now }

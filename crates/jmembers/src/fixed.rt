@@ -1,4 +1,4 @@
-ghost use Rattle.std.specs.Prelude.{◌≡◌, ◌+◌, length};
+ghost use Rattle.std.specs.Prelude.{◌≡◌};
 ghost use Rattle.std.specs.List.{list_any};
 ghost use Rattle.jlib.specs.Calls.{fixes};
 ghost use Rattle.jlib.specs.Classes.{open_classes};
@@ -10,17 +10,6 @@ use bitflags::Flags;
 use jclass::{Access, ClassParts, MemberInfo};
 use jlib::open_classes;
 use jprogram::{ClassRef, LinkKind, NamedProgram, member_desc, member_name, super_name};
-
-/// How many classes the library has, both sides' together.
-const LIBRARY: usize = 46;
-
-/// How many steps a walk upwards takes at most: as many as there are classes known, and one more.
-#[tactic(auto, using(jprogram::proofs::Chains::known_count))]
-pub fn most_steps(program: &NamedProgram) -> usize
-    ensures { result ≡ length (Classes.known program.now) + 1 }
-{
-    program.parts().len() + LIBRARY + 1
-}
 
 /// Whether an open class of the library has a concrete instance method of this name and descriptor.
 fn is_fixed_somewhere(name: &[u8], desc: &[u8]) -> bool
@@ -43,7 +32,7 @@ fn is_fixed_upwards(program: &NamedProgram, name: &[u8], desc: &[u8], from: &[u8
     ensures { result ≡ list_any (Declares.is_fixed_at program.now name.now desc.now) (Classes.up program.now from.now) }
 {
     let mut at = from;
-    let steps = most_steps(program);
+    let steps = program.most_steps();
     for step in 0..steps {
         if is_fixed_at(program, name, desc, at) {
             return true;

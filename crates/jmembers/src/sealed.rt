@@ -8,30 +8,14 @@ ghost use Rattle.jmembers.specs.Declares;
 ghost use Rattle.jmembers.specs.Sealed.{Looks, bars, has, shows};
 
 use crate::class_texts::ClassTexts;
-use crate::fixed::most_steps;
 use crate::numbers::note;
 use jclass::MemberInfo;
 use jprogram::{
     Key, LinkKind, Member, MethodId, NamedProgram, Reach, key_of, member_desc, member_name,
-    same_package, super_name,
+    package_of, same_package, super_name,
 };
 use std::alloc::{AllocError, Global};
 use std::collections::BTreeMap;
-
-/// The text in front of the last `/` of a class's name (JVMS 5.3).
-fn package_of(name: &[u8]) -> &[u8]
-    ensures { result.now ≡ Parts.package_of name.now }
-{
-    let mut end = name.len();
-    while 0 < end {
-        end -= 1;
-        if name[end] == b'/' {
-            let (front, _) = name.split_at(end);
-            return front;
-        }
-    }
-    &[]
-}
 
 fn is_shown(reach: Reach) -> bool
     ensures { result ≡ Shortly.is_shown reach }
@@ -143,7 +127,7 @@ fn overrides_final(
 {
     let mut shown = BTreeMap::new(alloc);
     let mut at = program.at(from);
-    let steps = most_steps(program);
+    let steps = program.most_steps();
     for step in 0..steps {
         let above = program.method_here(key, at);
         if look_at(alloc, program, below, &mut shown, above, step)? {

@@ -10,7 +10,8 @@ use Rattle.jmove.specs.declared.method.MoveError.{MoveError}
 use Rattle.jmove.specs.Additions.{Adding, Refused, giving, with_class, ◌>>◌}
 use Rattle.jmove.proofs.Growing.{giving_grows}
 use Rattle.jprogram.specs.Parts.{is_static, this_name}
-use Rattle.jmoveclass.specs.Beginning.{class_name, is_init, is_reference, item, params_of, this_item, with_beginning, with_item, with_this}
+use Rattle.jmoveclass.specs.Beginning.{class_name, is_reference, item, params_of, this_item, with_beginning, with_item, with_this}
+use Rattle.jprogram.specs.Members.{is_init}
 use Rattle.jmoveclass.specs.Puts.{with_each}
 use Rattle.jmoveclass.proofs.Growth.{others_grow}
 use Rattle.jmoveclass.proofs.Turning.{first_refused, then_is}

@@ -17,7 +17,8 @@ use Rattle.jmove.specs.Moved.{moved_by}
 use Rattle.jmove.proofs.Growing.{Grows, body_grows, class_grows, entry_grows, giving_grows, then_grows}
 use Rattle.jprogram.specs.Classes.{Program}
 use Rattle.jprogram.specs.Parts.{is_static, this_name}
-use Rattle.jmoveclass.specs.Beginning.{class_name, is_init, is_reference, item, params_of, this_item, with_beginning, with_item, with_this}
+use Rattle.jmoveclass.specs.Beginning.{class_name, is_reference, item, params_of, this_item, with_beginning, with_item, with_this}
+use Rattle.jprogram.specs.Members.{is_init}
 use Rattle.jmoveclass.specs.Calls.{expands}
 use Rattle.jmoveclass.specs.Methods.{frames_in, kept_alone, method_in, moved_code, moved_member, new_desc, with_attribute, with_code, with_first, with_method, with_moved}
 use Rattle.jmoveclass.specs.Puts.{with_each}

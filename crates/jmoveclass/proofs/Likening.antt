@@ -19,7 +19,8 @@ use Rattle.jmove.specs.declared.method.Expand.{Expand}
 use Rattle.jmove.specs.Additions.{giving, with_class, ◌>>◌}
 use Rattle.jmove.specs.Limits.{Alike, bare_frame, bare_type}
 use Rattle.jprogram.specs.Parts.{is_static, this_name}
-use Rattle.jmoveclass.specs.Beginning.{bare_beginning, bare_this, class_name, is_init, is_reference, item, params_of, this_item, with_beginning, with_item, with_this}
+use Rattle.jmoveclass.specs.Beginning.{bare_beginning, bare_this, class_name, is_reference, item, params_of, this_item, with_beginning, with_item, with_this}
+use Rattle.jprogram.specs.Members.{is_init}
 use Rattle.jmoveclass.specs.Methods.{frames_in, frames_of, method_in, or_none, with_first}
 use Rattle.jmoveclass.specs.Puts.{with_each}
 

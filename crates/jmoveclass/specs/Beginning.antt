@@ -1,7 +1,7 @@
 -- What the locals of a method hold where it begins, as its frames say it (JVMS 4.7.4, 4.10.1.6): `this`, where there is one, and the
 -- parameters.
 use Rattle.std.specs.Prelude.{ℕ, ◌+◌, Bool, ◌&&◌, ◌||◌, not, ◌==◌, List, [], ◌∷◌, ◌++◌, map, Option, Some, nat_lt, if◌then◌else◌}
-use Rattle.std.specs.Str.{byte, bytes_eq}
+use Rattle.std.specs.Str.{byte}
 use Rattle.jpool.specs.declared.descriptor.Descriptor.{Descriptor}
 use Rattle.jpool.specs.declared.descriptor.Descriptor.TheVariants as descriptors
 use Rattle.jpool.specs.declared.descriptor.FieldType.{FieldType}
@@ -11,8 +11,8 @@ use Rattle.jmaps.specs.declared.types.MapType.TheVariants as items
 use Rattle.jclass.specs.declared.class.ClassParts.{ClassParts}
 use Rattle.jclass.specs.declared.class.MemberInfo.{MemberInfo}
 use Rattle.jmove.specs.Additions.{Adding, giving, with_class, ◌>>◌}
-use Rattle.jprogram.specs.Members.{init}
-use Rattle.jprogram.specs.Parts.{is_static, member_desc, member_name, this_name}
+use Rattle.jprogram.specs.Members.{is_init}
+use Rattle.jprogram.specs.Parts.{is_static, member_desc, this_name}
 use Rattle.jmoveclass.specs.Puts.{with_each}
 
 -- ---- what a method is handed
@@ -32,10 +32,6 @@ this_slots m = if is_static m.flags then 0 else 1
 -- the slots of its parameters, `this` included
 abbrev pub slots : ClassParts → MemberInfo → ℕ
 slots c m = slots_of (params_of c m) + this_slots m
-
--- a constructor, and not a static method of that name
-abbrev pub is_init : ClassParts → MemberInfo → Bool
-is_init c m = bytes_eq (member_name c m) init && not (is_static m.flags)
 
 -- ---- as items of frames
 

@@ -11,7 +11,7 @@ use jclass::{Access, ClassParts, MemberInfo};
 use jmaps::MapType;
 use jmove::{MoveError, put_class};
 use jpool::{Adder, DescError, Descriptor, FieldType, read_descriptor, slots_of};
-use jprogram::{member_desc, member_name, this_name};
+use jprogram::{is_init, member_desc, this_name};
 use std::alloc::{AllocError, Global};
 
 // ---- what a method is handed
@@ -36,12 +36,6 @@ fn is_static(method: &MemberInfo) -> bool
     ensures { result ≡ Parts.is_static method.now.flags }
 {
     method.flags.contains(Access::STATIC)
-}
-
-fn is_init(class: &ClassParts, method: &MemberInfo) -> bool
-    ensures { result ≡ Beginning.is_init class.now method.now }
-{
-    member_name(class, method) == b"<init>".as_slice() && !is_static(method)
 }
 
 /// The slots of a method's parameters, `this` included.

@@ -27,7 +27,8 @@ use Rattle.jclass.specs.Rules.{is_plain_class, names_class}
 use Rattle.jclass.specs.Stored.{IsIn}
 use Rattle.jmove.specs.Additions.{IsFront, giving, with_class, ◌>>◌}
 use Rattle.jprogram.specs.Parts.{is_static, member_desc, or_empty, this_name}
-use Rattle.jmoveclass.specs.Beginning.{class_name, is_init, is_reference, item, params_in, params_of, this_item, with_beginning, with_item, with_this}
+use Rattle.jmoveclass.specs.Beginning.{class_name, is_reference, item, params_in, params_of, this_item, with_beginning, with_item, with_this}
+use Rattle.jprogram.specs.Members.{is_init}
 use Rattle.jmoveclass.specs.Methods.{with_first}
 use Rattle.jmoveclass.specs.Puts.{with_each}
 use Rattle.jmoveclass.proofs.Fronts.{class_stays}

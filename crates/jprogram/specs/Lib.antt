@@ -6,6 +6,7 @@ pub mod Faces
 pub mod Heights
 pub mod Implementing
 pub mod Layers
+pub mod LeftOut
 pub mod Lines
 pub mod Members
 pub mod Names

@@ -1,6 +1,6 @@
 -- The members of classes: which member a name and a descriptor stand for (JVMS 5.4.3), who may use it (5.4.4), which method overrides
 -- which (5.4.5), and which is selected (5.4.6).
-use Rattle.std.specs.Prelude.{ℕ, Bool, true, false, ◌&&◌, ◌||◌, not, ◌==◌, List, [], ◌∷◌, Option, Some, None, option_map, option_and_then, slice_get, codes, if◌then◌else◌}
+use Rattle.std.specs.Prelude.{◌≡◌, ℕ, Bool, true, false, ◌&&◌, ◌||◌, not, ◌==◌, List, [], ◌∷◌, Option, Some, None, option_map, option_and_then, slice_get, codes, if◌then◌else◌}
 use Rattle.std.specs.List.{filter_map, find, position}
 use Rattle.std.specs.Str.{bytes_eq}
 use Rattle.jbase.specs.First.{first_some, or_else}
@@ -64,6 +64,10 @@ field_at p name desc class = option_and_then (λ c. field_in p.side c name desc)
 
 abbrev pub init : List ℕ
 init = codes "<init>"
+
+-- a constructor, and not a static method of that name
+abbrev pub is_init : ClassParts → MemberInfo → Bool
+is_init c m = bytes_eq (parts.member_name c m) init && not (parts.is_static m.flags)
 
 -- a method (5.4.3.3, 5.4.3.4): the first in the class and those above it, else the first in their superinterfaces; a constructor in the
 -- class alone
@@ -271,3 +275,7 @@ main_in side _ = None
 -- `main` of the class of a name: public and static, with code
 unfoldable pub main_of : Program → List ℕ → Option MethodId
 main_of p name = main_in p.side (classes.find p name)
+
+-- a method is the `main` of one of the program's classes
+abbrev pub IsMain : Program → MethodId → Type 0
+IsMain p main = (name : List ℕ) × (main_of p name ≡ Some main)

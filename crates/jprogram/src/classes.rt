@@ -270,7 +270,7 @@ impl NamedProgram {
 
     /// How many steps a walk upwards takes at most: as many as there are classes known, and one more.
     #[tactic(auto, using(crate::proofs::Chains::known_count))]
-    pub(crate) fn most_steps(&self) -> usize
+    pub fn most_steps(&self) -> usize
         ensures { result ≡ length (Classes.known self.now) + 1 }
     {
         self.parts.len() + LIBRARY + 1

@@ -15,7 +15,7 @@ use jlib::{LibClass, class};
 use std::alloc::{AllocError, Global};
 
 /// A height above those of all classes of the library.
-const LIBRARY: u32 = 48;
+const ABOVE_LIBRARY: u32 = 48;
 
 /// A class whose supers are being gone through, its interfaces and then its superclass: its place, the next of them, and the least
 /// number so far of a class without a height that it stands below.
@@ -117,7 +117,7 @@ impl Climb {
             waiting: Vec::new(alloc),
             open: Vec::new(alloc),
             count: 0,
-            height: LIBRARY,
+            height: ABOVE_LIBRARY,
         })
     }
 

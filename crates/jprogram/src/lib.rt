@@ -9,6 +9,7 @@
 //! - `Layers`: what a search of interfaces goes through, each once.
 //! - `Shortly`: overriding and selection computed along a chain, by what the code does.
 //! - `Naming`, `Supers`: the first two phases of linking, names and superclasses, as lists of tests with places.
+//! - `LeftOut`: the class of contexts in a descriptor, and floats and doubles.
 //! - `Heights`: heights, which classes of one circle may share, by which a class that is higher than what stands directly above it
 //!   doesn't stand above itself; so only classes of circles are searched.
 //! - `Faces`: the number of each interface among the interfaces.
@@ -42,6 +43,7 @@ mod found;
 mod heights;
 mod implemented;
 mod laws;
+mod left_out;
 mod library;
 mod lines;
 mod main_method;
@@ -65,11 +67,12 @@ pub use fault::{LinkFault, LinkKind};
 pub use firsts::{Key, key_of};
 pub use implemented::Interfaces;
 pub use laws::{number_laws, program_laws};
+pub use left_out::{is_context, is_floating};
 pub use lines::At;
 pub use member::{CallKind, ClassId, Member, MethodId, Selected};
 pub use part::{ClassRef, CodePart};
 pub use parts::{
-    class_text, has_code, is_called, member_desc, member_name, reach_of, same_package, super_name,
-    text_at, this_name,
+    class_text, has_code, is_called, is_init, member_desc, member_name, package_of, reach_of,
+    same_package, super_name, text_at, this_name,
 };
 pub use reach::Reach;

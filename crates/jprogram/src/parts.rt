@@ -1,4 +1,5 @@
 ghost use Rattle.std.specs.Prelude.{◌≡◌, option_map, length};
+ghost use Rattle.jprogram.specs.Members;
 ghost use Rattle.jprogram.specs.Parts;
 
 use crate::reach::Reach;
@@ -71,6 +72,13 @@ pub fn is_called(class: &ClassParts, name: &[u8], desc: &[u8], member: &MemberIn
     member_name(class, member) == name && member_desc(class, member) == desc
 }
 
+/// Whether a method is a constructor, and not a static method of that name (JVMS 2.9.1).
+pub fn is_init(class: &ClassParts, method: &MemberInfo) -> bool
+    ensures { result ≡ Members.is_init class.now method.now }
+{
+    member_name(class, method) == b"<init>".as_slice() && !method.flags.contains(Access::STATIC)
+}
+
 /// Whether a method has code.
 #[tactic(auto, unfolding(crate::specs::Parts::code_of, jbase::specs::First::first_some))]
 pub fn has_code(method: &MemberInfo) -> bool
@@ -105,7 +113,8 @@ pub fn reach_of(flags: Access) -> Reach
 
 // ---- packages
 
-fn package_of(name: &[u8]) -> &[u8]
+/// The text in front of the last `/` of a class's name, empty where there is none (JVMS 5.3).
+pub fn package_of(name: &[u8]) -> &[u8]
     ensures { result.now ≡ Parts.package_of name.now }
 {
     let mut end = name.len();

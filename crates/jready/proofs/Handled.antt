@@ -8,7 +8,8 @@ use Rattle.jcode.specs.declared.op.Placed.{Placed}
 use Rattle.jtypes.specs.declared.vtype.VType.{VType}
 use Rattle.jprogram.specs.Classes.{Program}
 use Rattle.juses.specs.Meanings.{class_at}
-use Rattle.jmachine.specs.Unwinding.{covers, is_caught, number_at, takes}
+use Rattle.jmachine.specs.Unwinding.{is_caught, number_at, takes}
+use Rattle.jcode.specs.Instructions.{covers}
 use Rattle.jready.specs.declared.handlers.HandlerRow.{HandlerRow}
 use Rattle.jready.specs.Handling.{AreHandlers, IsHandler, handled, row_takes}
 

@@ -8,7 +8,8 @@ use Rattle.jtypes.specs.declared.vtype.VType.{VType}
 use Rattle.jprogram.specs.Classes.{Program}
 use Rattle.juses.specs.Meanings.{class_at}
 use Rattle.juses.specs.Tables.{Pairs}
-use Rattle.jmachine.specs.Unwinding.{covers, is_caught, number_at}
+use Rattle.jmachine.specs.Unwinding.{is_caught, number_at}
+use Rattle.jcode.specs.Instructions.{covers}
 use Rattle.jready.specs.declared.handlers.HandlerRow.{HandlerRow}
 
 -- its range holds the number of an instruction

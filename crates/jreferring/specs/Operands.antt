@@ -1,27 +1,19 @@
 -- What a Class entry may be used for: as the operand of an instruction, as a catch type and in a frame (JVMS 4.7.3, 4.7.4, 6.5).
-use Rattle.std.specs.Prelude.{ℕ, Bool, ◌&&◌, ◌||◌, ◌==◌, List, Option, codes}
-use Rattle.std.specs.Str.{byte, bytes_eq}
+use Rattle.std.specs.Prelude.{ℕ, Bool, ◌&&◌, ◌||◌, List, Option}
 use Rattle.jbase.specs.First.{fault_if, or_else}
 use Rattle.jpool.specs.declared.descriptor.FieldType.{FieldType}
 use Rattle.jprogram.specs.declared.fault.LinkKind.{LinkKind}
 use Rattle.jprogram.specs.declared.fault.LinkKind.TheVariants.{BadUse, LeftOut}
+use Rattle.jprogram.specs.LeftOut.{is_context, is_floating}
 use Rattle.jprogram.specs.Classes.{Class, Program, find, holds, is_abstract, is_interface}
 use Rattle.jreferring.specs.declared.judged.ClassUse.{ClassUse}
 use Rattle.jreferring.specs.Names.{is_array, type_named, type_test}
 
 -- ---- types that are left out
 
--- the class of contexts, or an array of them
-abbrev pub is_context : FieldType → Bool
-is_context t = bytes_eq t.class (codes "sps/Ctx")
-
--- a float or a double, or an array of them
-abbrev pub is_float : FieldType → Bool
-is_float t = t.base == byte "F" || t.base == byte "D"
-
 -- an array of contexts, of floats or of doubles
 unfoldable pub is_barred_array : FieldType → Bool
-is_barred_array t = is_array t && (is_context t || is_float t)
+is_barred_array t = is_array t && (is_context t || is_floating t)
 
 -- the class of contexts may stand in a frame, and nowhere else
 unfoldable pub is_barred_operand : FieldType → Bool

@@ -23,7 +23,7 @@ use Rattle.jreferring.specs.declared.judged.OwnerUse.{OwnerUse}
 use Rattle.jreferring.specs.declared.judged.Sort.{Sort}
 use Rattle.jreferring.specs.declared.judged.Sort.TheVariants as sort
 use Rattle.jreferring.specs.Names.{desc_test, is_array, type_named, type_test}
-use Rattle.jreferring.specs.Operands.{is_context}
+use Rattle.jprogram.specs.LeftOut.{is_context}
 
 -- ---- contexts in descriptors
 

@@ -7,31 +7,15 @@ use crate::names::{is_array, type_named, type_test};
 use bitflags::Flags;
 use jclass::{Access, ClassFile};
 use jpool::FieldType;
-use jprogram::{ClassRef, NamedProgram};
+use jprogram::{ClassRef, NamedProgram, is_context, is_floating};
 use std::alloc::{AllocError, Global};
-
-/// The class of contexts.
-const CONTEXT: &[u8] = b"sps/Ctx";
-
-/// Whether it is the class of contexts, or an array of them.
-pub fn is_context(one: &FieldType) -> bool
-    ensures { result ≡ Operands.is_context one.now }
-{
-    one.class.as_slice() == CONTEXT
-}
-
-fn is_float(one: &FieldType) -> bool
-    ensures { result ≡ Operands.is_float one.now }
-{
-    one.base == b'F' || one.base == b'D'
-}
 
 /// Whether it is an array of contexts, of floats or of doubles.
 #[tactic(auto, unfolding(crate::specs::Operands::is_barred_array))]
 fn is_barred_array(one: &FieldType) -> bool
     ensures { result ≡ Operands.is_barred_array one.now }
 {
-    is_array(one) && (is_context(one) || is_float(one))
+    is_array(one) && (is_context(one) || is_floating(one))
 }
 
 /// Whether it may be neither an operand nor a catch type.

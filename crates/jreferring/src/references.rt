@@ -6,9 +6,8 @@ ghost use Rattle.jreferring.specs.References;
 
 use crate::judged::{DescUse, MemberFacts, MemberUse, OwnerUse, Sort};
 use crate::names::{desc_test, descriptor_in, is_array, type_named, type_test};
-use crate::operands::is_context;
 use jpool::{Descriptor, FieldType, method_slots};
-use jprogram::{LinkKind, Member, NamedProgram, Reach};
+use jprogram::{LinkKind, Member, NamedProgram, Reach, is_context};
 use std::alloc::{AllocError, Global};
 
 /// The texts of a reference: the name of its class, its own name, and its descriptor.

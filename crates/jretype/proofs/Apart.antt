@@ -9,7 +9,7 @@ use Rattle.jformat.proofs.Steps.{first_true, second_true}
 use Rattle.jcode.specs.declared.op.Op.{Op}
 use Rattle.jcode.specs.declared.op.Handler.{Handler}
 use Rattle.jcode.specs.declared.op.Placed.{Placed}
-use Rattle.jcode.specs.Instructions.{size, code, is_place}
+use Rattle.jcode.specs.Instructions.{code, covers, is_place, size}
 use Rattle.jmove.specs.declared.method.Expand.{Expand}
 use Rattle.jmove.specs.declared.method.Setting.{Setting}
 use Rattle.jmove.specs.Lines.{Line, Label, Do, end_of, place_of, reach}
@@ -23,7 +23,6 @@ use Rattle.jmoved.proofs.Leading.{first_of, within}
 use Rattle.jmoved.proofs.Numbering.{fetched}
 use Rattle.jmoved.proofs.Placing.{ends, rise}
 use Rattle.jmoved.proofs.Ranging.{at_label, labelled, ranges, there}
-use Rattle.jtyping.specs.Methods.{covers}
 use Rattle.jretype.specs.Places.{IsApart}
 
 -- ---- places by themselves

@@ -82,7 +82,7 @@ use Rattle.jprogram.specs.declared.member.MethodId.{MethodId}
 use Rattle.jprogram.specs.declared.part.ClassRef.{ClassRef}
 use Rattle.jprogram.specs.declared.part.CodePart.{CodePart}
 use Rattle.jprogram.specs.Classes.{Class, Program, find, ref_of}
-use Rattle.jprogram.specs.Members.{method_id}
+use Rattle.jprogram.specs.Members.{is_init, method_id}
 use Rattle.jprogram.specs.Naming.{desc_reserved, is_reserved, return_reserved, text_reserved, type_reserved}
 use Rattle.jpool.specs.declared.descriptor.Descriptor.{Descriptor}
 use Rattle.jprogram.specs.Parts.{code_of, is_static, member_desc, or_empty, this_name}
@@ -414,10 +414,10 @@ module _ (p : Program) (is : IsLinked p) (well : WellTyped p) (free : limits p �
     said : Says p part.class m
     said = says p is well free i part at j m in_class
 
-    params_are : old.params ≡ receiver (is_static m.flags) (begun.is_init part.class m) (name (this_name part.class)) ++ said.params
+    params_are : old.params ≡ receiver (is_static m.flags) (is_init part.class m) (name (this_name part.class)) ++ said.params
     params_are =
-        ap (λ (t : Typed). receiver (is_static m.flags) (begun.is_init part.class m) (name (this_name part.class)) ++ params_of t) said.types
-        ∙ ap (λ (vs : List VType). receiver (is_static m.flags) (begun.is_init part.class m) (name (this_name part.class)) ++ vs) (reverse-reverse said.params)
+        ap (λ (t : Typed). receiver (is_static m.flags) (is_init part.class m) (name (this_name part.class)) ++ params_of t) said.types
+        ∙ ap (λ (vs : List VType). receiver (is_static m.flags) (is_init part.class m) (name (this_name part.class)) ++ vs) (reverse-reverse said.params)
 
     new_params : each_some (type_in (moved p)) (begun.params_of part.class m) ≡ Some said.params
     unfolding text_reserved
@@ -511,7 +511,7 @@ module _ (p : Program) (is : IsLinked p) (well : WellTyped p) (free : limits p �
         let params : length (places_of said.params) ≡ slots_of (begun.params_of part.class m) =
         params_slots p (member_desc part.class m) said.ps said.ret said.params said.back said.reads said.types
         ∙ sym (ap (λ (o : Option Descriptor). slots_of (params_in o)) said.reads) in
-        all_places (is_static m.flags) (begun.is_init part.class m) (name (this_name part.class)) said.params (slots_of (begun.params_of part.class m)) params
+        all_places (is_static m.flags) (is_init part.class m) (name (this_name part.class)) said.params (slots_of (begun.params_of part.class m)) params
         ∙ ap (λ (vs : List VType). length (places_of vs)) (sym params_are)
 
     caught_same : (h : Handler) → IsIn h k.b.handlers → caught_type (moved p) (y became) (moved_handler (to became) h) ≡ caught_type p old h
@@ -585,7 +585,7 @@ module _ (p : Program) (is : IsLinked p) (well : WellTyped p) (free : limits p �
         good = typed_old.good;
         slots_is = slots_is;
         some = first_there k.b.ops (length (code.spell k.b.ops)) (code_laid k.b.ops can.is_code) (has_bytes part.class.pool k.b fit);
-        params_stay = all_stay p (to became) (is_static m.flags) (begun.is_init part.class m) (name (this_name part.class)) (member_desc part.class m);
+        params_stay = all_stay p (to became) (is_static m.flags) (is_init part.class m) (name (this_name part.class)) (member_desc part.class m);
         behind = under_local k.b.max_locals (begun.slots part.class m + 1) k.b.max_locals (omega arith);
         behind_slots = over_slots k.b.max_locals (begun.slots part.class m);
       }

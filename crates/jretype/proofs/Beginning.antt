@@ -9,7 +9,7 @@ use Rattle.jcode.specs.declared.names.Access.TheVariants.{Load, Store}
 use Rattle.jcode.specs.declared.op.Handler.{Handler}
 use Rattle.jcode.specs.declared.op.Placed.{Placed}
 use Rattle.jcode.specs.Forms.{form}
-use Rattle.jcode.specs.Instructions.{code, size}
+use Rattle.jcode.specs.Instructions.{code, covers, size}
 use Rattle.jlib.specs.declared.calls.RtCall.TheVariants as rt
 use Rattle.jtypes.specs.declared.vtype.VType.{VType}
 use Rattle.jtypes.specs.declared.vtype.VType.TheVariants.{Top, Int, Ctx}
@@ -39,7 +39,6 @@ use Rattle.jrule.proofs.Sharper.{LocalsSharp}
 use Rattle.jrule.proofs.SharpLocals.{locals_of}
 use Rattle.jstands.specs.Expanding.{keep, load, push, rt_meaning}
 use Rattle.jtyping.specs.Declared.{declared_at, filled, first_frame}
-use Rattle.jtyping.specs.Methods.{covers}
 use Rattle.jtyping.specs.Typed.{AreFrames, Follows}
 use Rattle.jtyping.specs.Typing.{begun, handler_fits, handler_test, handlers_fit, onward}
 use Rattle.jtyping.proofs.Chosen.{also_at}

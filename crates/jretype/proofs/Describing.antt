@@ -22,7 +22,7 @@ use Rattle.jmovefile.proofs.Members.{Like}
 use Rattle.jmovefile.proofs.Texts.{good_types}
 use Rattle.jprogram.specs.declared.part.CodePart.{CodePart}
 use Rattle.jprogram.specs.Classes.{Program, find}
-use Rattle.jprogram.specs.Members.{init}
+use Rattle.jprogram.specs.Members.{init, is_init}
 use Rattle.jprogram.specs.Naming.{is_reserved}
 use Rattle.jprogram.specs.Parts.{is_static, member_desc, member_name, super_name, this_name}
 use Rattle.jrewrite.specs.Linking.{IsLinked}
@@ -39,7 +39,6 @@ use Rattle.jrewrite.proofs.Standing.{AllPlain, IsPlain, missing_name, names_stay
 use Rattle.jrewrite.proofs.Starting.{are_there, return_some}
 use Rattle.jrewrite.proofs.Walking.{known_of}
 use Rattle.jtyping.specs.Methods.{Method, method_of, params_of, receiver, return_of}
-use Rattle.jtyping.specs.Methods as typing
 use Rattle.jtyping.specs.Typing.{WellTyped}
 use Rattle.juses.specs.Typed.{Called, Typed, called, name, return_in, there, type_in, typed, typed_as}
 use Rattle.jcoded.proofs.Types.{typed_handed}
@@ -127,7 +126,7 @@ module _ (p : Program) (is : IsLinked p) (well : WellTyped p) (free : limits p �
     abbrev x : Method
     x = method_of p part.class m b
 
-    init_same : typing.is_init (moved_class p part.domain part.class) n ≡ typing.is_init part.class m
+    init_same : is_init (moved_class p part.domain part.class) n ≡ is_init part.class m
     init_same =
         let k = (moving_of p is well free i part at).0 in
         ap (λ (t : List ℕ). bytes_eq t init && not (is_static n.flags)) (name_same part.class (moved_class p part.domain part.class) m n k (j, in_class) like)
@@ -154,11 +153,11 @@ module _ (p : Program) (is : IsLinked p) (well : WellTyped p) (free : limits p �
     all_params : (method_of (moved p) (moved_class p part.domain part.class) n now).params ≡ x.params ++ Ctx ∷ []
     all_params =
         let dd = moved_class p part.domain part.class in
-        ap (λ (f : _). receiver (is_static f) (typing.is_init dd n) (name (this_name dd)) ++ params_of (typed (moved p) (member_desc dd n))) like.flags
+        ap (λ (f : _). receiver (is_static f) (is_init dd n) (name (this_name dd)) ++ params_of (typed (moved p) (member_desc dd n))) like.flags
         ∙ ap (λ (v : Bool). receiver (is_static m.flags) v (name (this_name dd)) ++ params_of (typed (moved p) (member_desc dd n))) init_same
-        ∙ ap (λ (v : Name). receiver (is_static m.flags) (typing.is_init part.class m) v ++ params_of (typed (moved p) (member_desc dd n))) class_same
-        ∙ ap (λ (v : List VType). receiver (is_static m.flags) (typing.is_init part.class m) (name (this_name part.class)) ++ v) params_new
-        ∙ sym (joined (receiver (is_static m.flags) (typing.is_init part.class m) (name (this_name part.class))) (params_of (typed p (member_desc part.class m))) (Ctx ∷ []))
+        ∙ ap (λ (v : Name). receiver (is_static m.flags) (is_init part.class m) v ++ params_of (typed (moved p) (member_desc dd n))) class_same
+        ∙ ap (λ (v : List VType). receiver (is_static m.flags) (is_init part.class m) (name (this_name part.class)) ++ v) params_new
+        ∙ sym (joined (receiver (is_static m.flags) (is_init part.class m) (name (this_name part.class))) (params_of (typed p (member_desc part.class m))) (Ctx ∷ []))
 
     pub method_is : record {
       class = x.class;

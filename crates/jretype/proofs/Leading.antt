@@ -12,7 +12,7 @@ use Rattle.jcode.specs.declared.op.Op.{Op}
 use Rattle.jcode.specs.declared.op.Op.TheVariants as op
 use Rattle.jcode.specs.declared.op.Placed.{Placed}
 use Rattle.jcode.specs.Forms.{branches, form, goes_on}
-use Rattle.jcode.specs.Instructions.{is_place, placed_at}
+use Rattle.jcode.specs.Instructions.{covers, is_place, placed_at}
 use Rattle.jclass.specs.Codes.{begins}
 use Rattle.jclass.specs.Stored.{IsIn}
 use Rattle.jtypes.specs.declared.vtype.VType.{VType}
@@ -36,7 +36,6 @@ use Rattle.jrule.proofs.Ordered.{precise_fits}
 use Rattle.jrule.proofs.Precise.{item_itself}
 use Rattle.jrule.proofs.Sharper.{LocalsSharp, StackSharp}
 use Rattle.jtyping.specs.Declared.{Written, declared_at}
-use Rattle.jtyping.specs.Methods.{covers}
 use Rattle.jtyping.specs.Typing.{branch_fits, branches_fit, caught_fits, caught_type, frame_fits, handler_fits, handler_test, handlers_fit, leads_in, lets_in}
 use Rattle.jtyping.proofs.Tests.{all_in, both_of, where_holds}
 use Rattle.jretype.specs.Places.{IsApart}

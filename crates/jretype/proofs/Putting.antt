@@ -22,7 +22,8 @@ use Rattle.jtypes.specs.declared.vtype.VType.{VType}
 use Rattle.jtypes.specs.declared.vtype.VType.TheVariants.{UninitThis, Object}
 use Rattle.jmove.specs.Additions.{IsFront, giving, with_class, with_text, ◌>>◌}
 use Rattle.jmove.proofs.Growing.{front_on, front_self}
-use Rattle.jmoveclass.specs.Beginning.{class_name, is_init, is_reference, params_of, this_item, with_beginning, with_item, with_this}
+use Rattle.jmoveclass.specs.Beginning.{class_name, is_reference, params_of, this_item, with_beginning, with_item, with_this}
+use Rattle.jprogram.specs.Members.{is_init}
 use Rattle.jmoveclass.specs.Beginning as begun
 use Rattle.jmoveclass.specs.Kept.{method_keeps}
 use Rattle.jmoveclass.specs.Methods.{new_desc, with_attribute, with_code, with_method}

@@ -6,7 +6,7 @@ use Rattle.jcode.specs.declared.op.Handler.{Handler}
 use Rattle.jcode.specs.declared.op.Op.{Op}
 use Rattle.jcode.specs.declared.op.Placed.{Placed}
 use Rattle.jcode.specs.Forms.{branches, form, goes_on}
-use Rattle.jcode.specs.Instructions.{is_place, size}
+use Rattle.jcode.specs.Instructions.{covers, is_place, size}
 use Rattle.jclass.specs.Stored.{IsIn}
 use Rattle.jtypes.specs.declared.vtype.VType.{VType}
 use Rattle.jtypes.specs.declared.vtype.VType.TheVariants.{Int, Ctx}
@@ -29,7 +29,6 @@ use Rattle.jrule.specs.Operands.{with_stack}
 use Rattle.jrule.specs.Rule.{rule}
 use Rattle.jrule.proofs.Forming.{form_agrees}
 use Rattle.jtyping.specs.Declared.{declared_at}
-use Rattle.jtyping.specs.Methods.{covers}
 use Rattle.jtyping.specs.Typing.{begun, branch_fits, handler_fits, handlers_fit, onward, walk}
 use Rattle.jtyping.proofs.Bodies.{AllServe}
 use Rattle.jtyping.proofs.Steps.{Begins, onward_of, sent}

@@ -12,7 +12,7 @@ use Rattle.jcode.specs.declared.op.Placed.{Placed}
 use Rattle.jcode.specs.declared.op.Switch.{Switch as SwitchOp}
 use Rattle.jcode.specs.Forms as codes_of
 use Rattle.jcode.specs.Forms.{branches, form, goes_on}
-use Rattle.jcode.specs.Instructions.{code}
+use Rattle.jcode.specs.Instructions.{code, covers}
 use Rattle.jclass.specs.declared.class.CodeAttribute.{CodeAttribute}
 use Rattle.jclass.specs.declared.class.CodeBody.{CodeBody}
 use Rattle.jclass.specs.Stored.{IsIn}
@@ -58,7 +58,7 @@ use Rattle.jrule.proofs.SharpLocals.{head_sharp, more_right, tail_sharp}
 use Rattle.jrule.proofs.Widening.{looks_no_further}
 use Rattle.jstands.specs.Expanding.{Asking, Place, asking_params, context, expanded, handed, load, push, rt_meaning, way_of}
 use Rattle.jtyping.specs.Declared.{Written, is_good, written}
-use Rattle.jtyping.specs.Methods.{Method, covers, here_of, makes}
+use Rattle.jtyping.specs.Methods.{Method, here_of, makes}
 use Rattle.jtyping.specs.Typing.{caught_type}
 use Rattle.jcoded.proofs.Instructing.{Each, Means}
 use Rattle.jretype.specs.Places.{Renames, gone, renamed, renamed_type}

@@ -34,7 +34,8 @@ use Rattle.jlib.specs.declared.calls.LibCall.TheVariants as call
 use Rattle.jlib.specs.Calls as library
 use Rattle.jlib.specs.Calls.{desc_of, fixes, is_concrete, members, name_of_call}
 use Rattle.jlib.specs.Classes.{is_open, open_classes}
-use Rattle.jmembers.specs.Declares.{is_context, is_fixed, is_fixed_at, is_fixed_by, names_above, desc_left_out, desc_missing, is_again, is_native, is_synchronized, is_too_long, method_left_out, param_left_out, return_left_out, return_missing, text_left_out, text_missing, type_missing}
+use Rattle.jmembers.specs.Declares.{is_fixed, is_fixed_at, is_fixed_by, names_above, desc_left_out, desc_missing, is_again, is_native, is_synchronized, is_too_long, method_left_out, param_left_out, return_left_out, return_missing, text_left_out, text_missing, type_missing}
+use Rattle.jprogram.specs.LeftOut.{is_context}
 use Rattle.jmove.specs.Additions.{IsFront, context_type, moved_descriptor}
 use Rattle.jprogram.specs.Classes.{Class, Lib, Program, User, find}
 use Rattle.jprogram.specs.Naming.{desc_reserved, return_reserved, text_reserved, type_reserved}

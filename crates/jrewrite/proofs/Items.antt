@@ -18,7 +18,8 @@ use Rattle.jmaps.specs.Full.{expand_from, full_forms, locals_after, locals_befor
 use Rattle.jmove.specs.Additions.{IsFront, giving, with_class, ◌>>◌}
 use Rattle.jmove.specs.Frames.{moved_frame, moved_type, unsaid, widths}
 use Rattle.jprogram.specs.Parts.{is_static, this_name}
-use Rattle.jmoveclass.specs.Beginning.{class_name, is_init, is_reference, item, params_of, this_item, with_beginning, with_item, with_this}
+use Rattle.jmoveclass.specs.Beginning.{class_name, is_reference, item, params_of, this_item, with_beginning, with_item, with_this}
+use Rattle.jprogram.specs.Members.{is_init}
 use Rattle.jmoveclass.specs.Methods.{frames_in, frames_of, or_none, with_first}
 use Rattle.jmoveclass.specs.Puts.{with_each}
 use Rattle.jmoveclass.proofs.Fronts.{class_name_stays}

@@ -29,7 +29,8 @@ use Rattle.jprogram.specs.Naming.{desc_reserved, member_reserved, return_reserve
 use Rattle.jprogram.specs.Parts.{member_desc, or_empty, package_of, same_package, this_name}
 use Rattle.jprogram.specs.Supers.{is_missing}
 use Rattle.jreferring.specs.Names.{array_or, class_test, class_type, is_array, type_named, type_test}
-use Rattle.jreferring.specs.Operands.{class_use, is_barred_array, is_context, is_float}
+use Rattle.jreferring.specs.Operands.{class_use, is_barred_array}
+use Rattle.jprogram.specs.LeftOut.{is_context, is_floating}
 use Rattle.jmoveclass.specs.Beginning.{class_name, is_reference, params_in, params_of}
 use Rattle.jmoveclass.proofs.Stored.{is_method_of}
 use Rattle.jmovefile.proofs.Texts.{good_types}
@@ -154,7 +155,7 @@ unbarred_by false c f h = refl
 
 unbarred : (t : FieldType) → param_left_out t ≡ false → is_barred_array t ≡ false
 unfolding is_barred_array
-unbarred t h = unbarred_by (is_array t) (is_context t) (is_float t) h
+unbarred t h = unbarred_by (is_array t) (is_context t) (is_floating t) h
 
 sign_name : (t : FieldType) → IsTrue (is_type t) → is_class_sign t.base ≡ true → is_class_name t.class ≡ true
 sign_name t good sign =

@@ -22,14 +22,16 @@ use Rattle.jtypes.specs.declared.vtype.VType.{VType}
 use Rattle.jtypes.specs.declared.vtype.VType.TheVariants as types
 use Rattle.jtypes.specs.Frames.{places}
 use Rattle.jmove.specs.Frames.{width}
-use Rattle.jmembers.specs.Declares.{is_floating, param_left_out, return_left_out, return_missing, type_missing}
+use Rattle.jmembers.specs.Declares.{param_left_out, return_left_out, return_missing, type_missing}
+use Rattle.jprogram.specs.LeftOut.{is_floating}
 use Rattle.jprogram.specs.Classes.{Program, find}
 use Rattle.jprogram.specs.Parts.{is_static, member_desc, this_name}
 use Rattle.jprogram.specs.Supers.{is_missing}
 use Rattle.juses.specs.Typed.{called, element_in, name, return_in, there, type_in, type_of, typed}
 use Rattle.jtyping.specs.Methods as typing
 use Rattle.jtyping.specs.Methods.{method_of, receiver, this_type}
-use Rattle.jmoveclass.specs.Beginning.{bare_beginning, bare_this, is_init, is_reference, item, this_item}
+use Rattle.jmoveclass.specs.Beginning.{bare_beginning, bare_this, is_reference, item, this_item}
+use Rattle.jprogram.specs.Members.{is_init}
 use Rattle.jrewrite.proofs.Widths.{Under, some_place, under_append}
 
 -- ---- what a type's letter stands for
@@ -163,5 +165,5 @@ pub begun_under : (p : Program) (c : ClassParts) (m : MemberInfo) (b : CodeBody)
     → Under (bare_beginning c m) (method_of p c m b).params
 unfolding bare_beginning
 begun_under p c m b ts ret is there back =
-    rw is (subst (λ (vs : List VType). Under (bare_this c m ++ map (item 0) ts) (receiver (is_static m.flags) (typing.is_init c m) (name (this_name c)) ++ vs)) (sym (params_are p (member_desc c m) ts ret is there back))
-    (under_append (bare_this c m) (map (item 0) ts) (receiver (is_static m.flags) (typing.is_init c m) (name (this_name c))) there.values (this_under (is_static m.flags) (is_init c m) (name (this_name c))) there.under))
+    rw is (subst (λ (vs : List VType). Under (bare_this c m ++ map (item 0) ts) (receiver (is_static m.flags) (is_init c m) (name (this_name c)) ++ vs)) (sym (params_are p (member_desc c m) ts ret is there back))
+    (under_append (bare_this c m) (map (item 0) ts) (receiver (is_static m.flags) (is_init c m) (name (this_name c))) there.values (this_under (is_static m.flags) (is_init c m) (name (this_name c))) there.under))

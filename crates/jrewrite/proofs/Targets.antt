@@ -44,7 +44,7 @@ use Rattle.jreferring.specs.declared.judged.Sort.TheVariants as sort
 use Rattle.jreferring.specs.Entries.{judge}
 use Rattle.jreferring.specs.Looking.{named_use}
 use Rattle.jreferring.specs.Names.{desc_test, is_array, return_test, type_named, type_test}
-use Rattle.jreferring.specs.Operands.{is_context}
+use Rattle.jprogram.specs.LeftOut.{is_context}
 use Rattle.jreferring.specs.References.{facts_of, gives_context, has_contexts, is_crossed, is_enter, member_use, misplaces_context}
 use Rattle.jreferring.specs.Units.{member_at, member_in}
 use Rattle.jlink.specs.Sound.{is_sound_method}

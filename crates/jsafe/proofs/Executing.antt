@@ -10,13 +10,12 @@ use Rattle.jprogram.specs.declared.member.Member.TheVariants.{Method as AMethod}
 use Rattle.jprogram.specs.declared.member.MethodId.{MethodId}
 use Rattle.jprogram.specs.declared.part.CodePart.{CodePart}
 use Rattle.jprogram.specs.Classes.{Program}
-use Rattle.jprogram.specs.Members.{init, is_static}
+use Rattle.jprogram.specs.Members.{init, is_init as is_constructor, is_static}
 use Rattle.jprogram.specs.Parts.{code_of, member_name, this_name}
 use Rattle.juses.specs.Instructions.{Instruction, body_in, code_at, goes_on, instruction, instruction_at, instruction_in}
 use Rattle.juses.specs.Typed.{name}
 use Rattle.jrule.specs.Rule.{is_own}
 use Rattle.jtyping.specs.Declared.{written}
-use Rattle.jtyping.specs.Methods as typing
 use Rattle.jtyping.specs.Methods.{here_of}
 use Rattle.jtyping.specs.Typed.{IsTyped, Serves}
 use Rattle.jtyping.proofs.Chosen.{also_at}
@@ -96,7 +95,7 @@ module _ (p : Program) (sound : IsFounded p) (m : MethodId) (x : Coded p m) (typ
 -- ---- where it stands
 
 module _ (p : Program) (m : MethodId) (x : Coded p m) where
-  begins_same : is_init p m ≡ typing.is_init x.part.class x.info
+  begins_same : is_init p m ≡ is_constructor x.part.class x.info
   begins_same =
       ap (λ (n : List ℕ). bytes_eq n init && not (is_static p (AMethod m))) (name_is p m x.part x.info x.stands x.declared)
       ∙ ap (λ b. bytes_eq (member_name x.part.class x.info) init && not b) (static_is p m x.part x.info x.stands x.declared)
@@ -105,8 +104,8 @@ module _ (p : Program) (m : MethodId) (x : Coded p m) where
   unfolding world
   named_same = ap name (user_name p m.class x.part x.stands)
 
-  own_same : own_fields p m ≡ is_own p (typing.is_init x.part.class x.info) (name (this_name x.part.class))
-  own_same = ap (λ b. is_own p b ((world p).named m.class)) begins_same ∙ ap (is_own p (typing.is_init x.part.class x.info)) named_same
+  own_same : own_fields p m ≡ is_own p (is_constructor x.part.class x.info) (name (this_name x.part.class))
+  own_same = ap (λ b. is_own p b ((world p).named m.class)) begins_same ∙ ap (is_own p (is_constructor x.part.class x.info)) named_same
 
   pub is_at : (at : Site) (k : ℕ) → at.world ≡ world p → at.class ≡ m.class → IsAt p at (own_fields p m) (here_of p (method p m x) k)
   is_at at k in_world class = record {

@@ -22,6 +22,7 @@ use Rattle.jprogram.specs.declared.fault.LinkKind.TheVariants.{LeftOut}
 use Rattle.jprogram.specs.declared.member.MethodId.{MethodId}
 use Rattle.jprogram.specs.declared.part.CodePart.{CodePart}
 use Rattle.jprogram.specs.Classes.{Program}
+use Rattle.jprogram.specs.Members.{is_init}
 use Rattle.jprogram.specs.Naming.{naming_fault}
 use Rattle.jprogram.specs.Supers.{supers_fault}
 use Rattle.jprogram.specs.Parts as parts
@@ -37,7 +38,6 @@ use Rattle.jlink.proofs.Filed as filed
 use Rattle.jlink.proofs.There.{third_none}
 use Rattle.jlink.proofs.Typed.{no_fault}
 use Rattle.jtyping.specs.Methods.{params_of, receiver}
-use Rattle.jtyping.specs.Methods as typing
 use Rattle.jtyped.specs.Calling.{AllHaveCode, Coded, IsParameter, method}
 use Rattle.jtyped.specs.Fitting.{IsValueType}
 use Rattle.jtyped.proofs.Dimensions.{IsNamed, IsTypedNamed, all_append, all_reversed_by, typed_named}
@@ -83,7 +83,7 @@ this_param false false class = (refl, tt)
 
 pub params_are : (p : Program) (m : MethodId) (x : Coded p m) → AllByRecursion IsParameter (method p m x).params
 params_are p m x =
-    let begins = typing.is_init x.part.class x.info in
+    let begins = is_init x.part.class x.info in
     let class = name (parts.this_name x.part.class) in
     let said = typed p (member_desc x.part.class x.info) in
     all_append IsParameter (receiver (parts.is_static x.info.flags) begins class) (params_of said)

@@ -31,7 +31,7 @@ use Rattle.jlib.specs.Classes as library
 use Rattle.jlib.specs.Classes.{same_side}
 use Rattle.jtypes.specs.Fitting.{array_fits}
 use Rattle.jprogram.specs.declared.member.MethodId.{MethodId}
-use Rattle.jprogram.specs.Members.{is_main, main_desc, main_in, main_of, method_id}
+use Rattle.jprogram.specs.Members.{is_init, is_main, main_desc, main_in, main_of, method_id}
 use Rattle.jprogram.specs.Parts as parts
 use Rattle.jprogram.specs.Parts.{member_desc, member_name, this_name}
 use Rattle.jprogram.specs.Standing.{StandsInOrder}
@@ -221,7 +221,7 @@ module _ (p : Program) (sound : IsFounded p) where
       → IsGiven p s m None (vs ++ Ref n ∷ [])
   main_may s m x vs n are is =
       let ps = run_given p.side ++ types.Array arguments_type ∷ [] in
-      let begins = typing.is_init x.coded.part.class x.coded.info in
+      let begins = is_init x.coded.part.class x.coded.info in
       let params : (method p m x.coded).params ≡ reverse ps =
       ap (λ b. typing.receiver b begins (name (this_name x.coded.part.class)) ++ params_of (typed p (member_desc x.coded.part.class x.coded.info))) x.static ∙ ap params_of x.says in
       let here = within p (method p m x.coded) in

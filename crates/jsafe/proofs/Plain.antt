@@ -30,7 +30,8 @@ use Rattle.juses.specs.Typed as says
 use Rattle.jlayout.specs.Layout.{field_type, is_static, statics_of}
 use Rattle.jlayout.specs.Layout as laid
 use Rattle.jlayout.specs.Numbered.{all_statics}
-use Rattle.jmembers.specs.Declares.{again_test, at_member, class_fault, desc_left_out, desc_missing, field_left_out, field_left_out_test, field_test, fields_fault, is_context, is_floating, methods_fault, text_left_out, text_missing, type_missing, types_test}
+use Rattle.jmembers.specs.Declares.{again_test, at_member, class_fault, desc_left_out, desc_missing, field_left_out, field_left_out_test, field_test, fields_fault, methods_fault, text_left_out, text_missing, type_missing, types_test}
+use Rattle.jprogram.specs.LeftOut.{is_context, is_floating}
 use Rattle.jlink.specs.Coded.{AreFiles}
 use Rattle.jlink.specs.Fields.{is_plain}
 use Rattle.jlink.specs.Links.{Links}

@@ -17,9 +17,6 @@ use jprogram::{ClassRef, Interfaces, NamedProgram};
 use std::alloc::{AllocError, Global};
 use std::marker::Model;
 
-/// How many classes the library has, both sides' together.
-const LIBRARY: usize = 46;
-
 /// What stands above the classes of a program that links: classes, and interfaces, each by its number. Contracts see the program.
 #[derive(Drop)]
 pub struct Ancestors<'p> {
@@ -150,7 +147,7 @@ impl<'p> Ancestors<'p> {
         ensures { result ≡ list_any (bytes_eq (name_at self.now d)) (Classes.up self.now (name_at self.now c)) }
     {
         let mut at = c;
-        let steps = self.named().parts().len() + LIBRARY + 1;
+        let steps = self.named().most_steps();
         for step in 0..steps {
             if self.are_same(at, d) {
                 return true;

@@ -32,7 +32,8 @@ use Rattle.jprogram.specs.Members.{is_public_at, may_name}
 use Rattle.jprogram.specs.Supers.{is_missing}
 use Rattle.jprogram.proofs.Settling.{name_equal}
 use Rattle.jprogram.proofs.Standing.{Stands, Users, Libs, Nowhere, all_append, all_of_map, stands}
-use Rattle.jmembers.specs.Declares.{desc_left_out, desc_missing, is_context, is_floating, text_left_out, text_missing, type_missing}
+use Rattle.jmembers.specs.Declares.{desc_left_out, desc_missing, text_left_out, text_missing, type_missing}
+use Rattle.jprogram.specs.LeftOut.{is_context, is_floating}
 use Rattle.jlayout.specs.Layout.{field_type, is_instance, layout, own_types}
 use Rattle.jlayout.specs.Layout as layouts
 use Rattle.juses.specs.Typed.{Held, Typed, array_over, class_by, class_of, class_type, element_in, held, name, there, type_in, type_of, typed, typed_as}

@@ -12,10 +12,6 @@ use Rattle.jmachine.specs.Security.{Rules}
 use Rattle.jyield.specs.Laws.{AreSided}
 use Rattle.jsafe.specs.States.{IsTypedRun}
 
--- The `main` of a class is the method with which a run begins.
-abbrev pub IsMain : Program → MethodId → Type 0
-IsMain p main = (name : List ℕ) × (main_of p name ≡ Some main)
-
 -- Behind each number of steps the state of its run is typed and has a step, from the `main` of any of its classes, on any plan, by any rules that
 -- hand contexts over by their side.
 abbrev pub LinkedRunsTyped : Type 0 → Type 0 → Type 0

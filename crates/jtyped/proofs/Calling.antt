@@ -30,7 +30,7 @@ use Rattle.jprogram.specs.declared.part.ClassRef.{ClassRef}
 use Rattle.jprogram.specs.declared.part.ClassRef.TheVariants as refs
 use Rattle.jprogram.specs.declared.part.CodePart.{CodePart}
 use Rattle.jprogram.specs.Classes.{Program, extends, name_at, object, super_at, tree}
-use Rattle.jprogram.specs.Members.{as_selected, desc_of, init, is_abstract, is_static, name_of, name_of_id, select}
+use Rattle.jprogram.specs.Members.{as_selected, desc_of, init, is_abstract, is_init, is_static, name_of, name_of_id, select}
 use Rattle.jprogram.specs.Parts as parts
 use Rattle.jprogram.specs.Parts.{code_of, member_desc, this_name}
 use Rattle.jprogram.specs.Standing.{StandsInOrder}
@@ -47,7 +47,7 @@ use Rattle.juses.specs.Typed.{Called, name, typed}
 use Rattle.jrule.specs.Effects.{Fits, Want}
 use Rattle.jrule.specs.Here.{Here}
 use Rattle.jrule.specs.Uses.{arguments, of_library}
-use Rattle.jtyping.specs.Methods.{is_init, params_of, receiver as this_of, return_of}
+use Rattle.jtyping.specs.Methods.{params_of, receiver as this_of, return_of}
 use Rattle.jmachine.specs.Calls.{Target, Fails, by_class, by_interface, from_above, is_hidden, no_access, null_pointer, on_object, on_value, reached, receiver, special, target, unless, wrong_class}
 use Rattle.jmachine.specs.Objects.{Object, Instance, Thrown, Text, Builder, Piece, Permission, Context, Thread, Bare, Array, class_of, id_of}
 use Rattle.jmachine.specs.Sites.{Site}

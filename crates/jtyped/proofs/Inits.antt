@@ -25,7 +25,7 @@ use Rattle.jprogram.specs.declared.member.Selected.TheVariants as selected
 use Rattle.jprogram.specs.declared.part.ClassRef.TheVariants as refs
 use Rattle.jprogram.specs.declared.part.CodePart.{CodePart}
 use Rattle.jprogram.specs.Classes.{Program, extends, name_at, tree}
-use Rattle.jprogram.specs.Members.{as_selected, desc_of, init, is_abstract, is_static, name_of}
+use Rattle.jprogram.specs.Members.{as_selected, desc_of, init, is_abstract, is_init, is_static, name_of}
 use Rattle.jprogram.specs.Parts as parts
 use Rattle.jprogram.specs.Parts.{code_of, member_desc, member_name, this_name}
 use Rattle.jprogram.specs.Standing.{StandsInOrder}
@@ -46,7 +46,7 @@ use Rattle.jrule.specs.Objects.{all_replaced, init_of, init_on, is_it, is_named,
 use Rattle.jrule.specs.Operands.{below, given, taken as types_taken, with_stack}
 use Rattle.jrule.specs.Rule.{rule}
 use Rattle.jrule.specs.Uses.{arguments}
-use Rattle.jtyping.specs.Methods.{is_init, params_of, receiver as this_of, return_of}
+use Rattle.jtyping.specs.Methods.{params_of, receiver as this_of, return_of}
 use Rattle.jmachine.specs.Acts.{FrameOf}
 use Rattle.jmachine.specs.Calls.{Pushes, begun_on, init_taken, is_begun, may_begin, on_object, on_value, reached, receiver, target}
 use Rattle.jmachine.specs.Doing.{by_taken, call, called, doing, used}

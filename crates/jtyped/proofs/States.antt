@@ -19,7 +19,7 @@ use Rattle.jprogram.specs.declared.member.Member.TheVariants.{Method}
 use Rattle.jprogram.specs.declared.member.MethodId.{MethodId}
 use Rattle.jprogram.specs.declared.part.CodePart.{CodePart}
 use Rattle.jprogram.specs.Classes.{Program, tree}
-use Rattle.jprogram.specs.Members.{desc_of, part_of}
+use Rattle.jprogram.specs.Members.{desc_of, is_init, part_of}
 use Rattle.jprogram.specs.Parts.{code_of, member_desc, this_name}
 use Rattle.jprogram.specs.Standing.{StandsInOrder}
 use Rattle.jlink.proofs.Having.{then_is}
@@ -29,14 +29,15 @@ use Rattle.juses.specs.Typed.{Called, Held, Typed, Untyped, name, typed}
 use Rattle.jrule.specs.Operands.{with_stack}
 use Rattle.jrule.specs.Uses.{throwable}
 use Rattle.jtyping.specs.Declared.{declared_at, written}
-use Rattle.jtyping.specs.Methods.{is_init, params_of, receiver, return_of}
+use Rattle.jtyping.specs.Methods.{params_of, receiver, return_of}
 use Rattle.jtyping.specs.Typing.{caught_fits, caught_type, leads_in}
 use Rattle.jtyping.proofs.Chosen.{also_at}
 use Rattle.jmachine.specs.Acts.{FrameOf}
 use Rattle.jmachine.specs.Frames.{standing}
 use Rattle.jmachine.specs.Objects.{Object, class_of}
 use Rattle.jmachine.specs.Store.{Store, object_at}
-use Rattle.jmachine.specs.Unwinding.{catches, caught, covers, handler_at, handler_from, handler_in, is_caught, number_at, resumed, takes, unwound}
+use Rattle.jmachine.specs.Unwinding.{catches, caught, handler_at, handler_from, handler_in, is_caught, number_at, resumed, takes, unwound}
+use Rattle.jcode.specs.Instructions.{covers}
 use Rattle.jmachine.specs.World.{World, fits as runs_fits, world}
 use Rattle.jtypes.specs.Tree.{Tree}
 use Rattle.jtyped.specs.Calling.{Coded, method}

@@ -145,8 +145,8 @@ FramesBegin K E = (w : World) (s : Store K) (here : Here) (news : News) (m : Met
 
 -- A call is done: its operands are taken, and it comes to a method or raises an exception. What is left suits the frame behind, but for what
 -- is returned.
-pub record CanCall {K E : Type 0} (r : Rules K E) (at : Site) (own : Member → Bool) (s : Store K) (entries : List E) (inherited : Option K) (p : Program) (here : Here) (news : News)
-    (by : How) (c : CallMeaning) (behind : Frame) (f : FrameOf K E) : Type 0 where
+pub record CanCall {K E : Type 0} (r : Rules K E) (at : Site) (own : Member → Bool) (s : Store K) (entries : List E) (inherited : Option K) (p : Program)
+    (here : Here) (news : News) (by : How) (c : CallMeaning) (behind : Frame) (f : FrameOf K E) : Type 0 where
   pub values : List (Value K)
   pub under : List (Value K)
   pub target : Target
@@ -206,8 +206,8 @@ IsUsable {K} t n = (x : Object K) × (object_at t n ≡ Some x) × (is_whole x �
 
 -- A call of an `<init>` is done. What is left suits the frame behind, but for what is returned, in each store behind in which the object that it
 -- was called on may be used; a user's may be already.
-pub record CanInit {K E : Type 0} (r : Rules K E) (at : Site) (own : Member → Bool) (s : Store K) (entries : List E) (inherited : Option K) (p : Program) (here : Here) (news : News)
-    (c : CallMeaning) (behind : Frame) (f : FrameOf K E) : Type 0 where
+pub record CanInit {K E : Type 0} (r : Rules K E) (at : Site) (own : Member → Bool) (s : Store K) (entries : List E) (inherited : Option K) (p : Program)
+    (here : Here) (news : News) (c : CallMeaning) (behind : Frame) (f : FrameOf K E) : Type 0 where
   pub values : List (Value K)
   pub under : List (Value K)
   pub target : Target

@@ -10,7 +10,8 @@ use Rattle.jtypes.specs.Tree.{Tree}
 use Rattle.jprogram.specs.Classes.{Program, tree}
 use Rattle.jrule.specs.Forms.{by_form}
 use Rattle.jtyping.specs.Declared.{Written, declared_at}
-use Rattle.jtyping.specs.Methods.{Method, covers, here_of}
+use Rattle.jtyping.specs.Methods.{Method, here_of}
+use Rattle.jcode.specs.Instructions.{covers}
 use Rattle.jtyping.specs.Typing.{begun, branch_fits, branches_fit, handler_fits, handler_test, handlers_fit, lets_in, onward, step}
 use Rattle.jtyping.specs.Typed.{Arrives, Follows}
 use Rattle.jtyping.proofs.Tests.{all_in, holds_where, in_all, some_is, where_holds}

@@ -20,7 +20,8 @@ use Rattle.jrule.specs.Rule.{rule}
 use Rattle.jrule.specs.Uses.{throwable}
 use Rattle.jrule.proofs.Forming.{form_agrees}
 use Rattle.jtyping.specs.Declared.{Written, declared_at, first_frame}
-use Rattle.jtyping.specs.Methods.{Method, covers, here_of}
+use Rattle.jtyping.specs.Methods.{Method, here_of}
+use Rattle.jcode.specs.Instructions.{covers}
 use Rattle.jtyping.specs.Typing.{caught_fits, caught_type, frame_fits, leads_in}
 use Rattle.jtyping.specs.Typed.{AreFrames, Arrives, Caught, Continues, FitsAt, Follows, Serves}
 use Rattle.jtyping.proofs.Chosen.{also_at, declared_there}

@@ -1,23 +1,22 @@
 -- What typing has to know of a method with code (JVMS 4.10.1.6).
-use Rattle.std.specs.Prelude.{ℕ, Bool, ◌&&◌, not, List, [], ◌∷◌, ◌++◌, reverse, Option, Some, None, option_and_then, ◌==◌, nat_le, nat_lt, if◌then◌else◌}
+use Rattle.std.specs.Prelude.{ℕ, Bool, List, [], ◌∷◌, ◌++◌, reverse, Option, Some, None, option_and_then, ◌==◌, if◌then◌else◌}
 use Rattle.std.specs.List.{find, list_any}
-use Rattle.std.specs.Str.{bytes_eq}
 use Rattle.jpool.specs.declared.entry.Entry.{Entry}
 use Rattle.jcode.specs.declared.form.Form.{Form}
 use Rattle.jcode.specs.declared.form.Form.TheVariants as forms
 use Rattle.jcode.specs.declared.form.PoolForm.TheVariants.{New}
-use Rattle.jcode.specs.declared.op.Handler.{Handler}
 use Rattle.jcode.specs.declared.op.Placed.{Placed}
 use Rattle.jcode.specs.Forms.{form}
+use Rattle.jcode.specs.Instructions.{covers}
 use Rattle.jclass.specs.declared.class.ClassParts.{ClassParts}
 use Rattle.jclass.specs.declared.class.CodeBody.{CodeBody}
 use Rattle.jclass.specs.declared.class.MemberInfo.{MemberInfo}
 use Rattle.jtypes.specs.declared.vtype.Name.{Name}
 use Rattle.jtypes.specs.declared.vtype.VType.{VType}
 use Rattle.jtypes.specs.declared.vtype.VType.TheVariants.{UninitThis, Object}
-use Rattle.jprogram.specs.Parts.{is_static, member_desc, member_name, super_name, this_name}
+use Rattle.jprogram.specs.Parts.{is_static, member_desc, super_name, this_name}
 use Rattle.jprogram.specs.Classes.{Program}
-use Rattle.jprogram.specs.Members.{init}
+use Rattle.jprogram.specs.Members.{is_init}
 use Rattle.juses.specs.Meanings.{Meaning, Make, meant}
 use Rattle.juses.specs.Typed.{Typed, Called, name, there, typed}
 use Rattle.jrule.specs.Here.{Here}
@@ -38,9 +37,6 @@ pub record Method : Type 0 where
   pub body : CodeBody
 
 -- ---- a method of a class
-
-abbrev pub is_init : ClassParts → MemberInfo → Bool
-is_init c m = bytes_eq (member_name c m) init && not (is_static m.flags)
 
 -- `this` of an `<init>` isn't initialised yet
 abbrev pub this_type : Bool → Name → VType
@@ -90,10 +86,6 @@ abbrev pub makes : Program → Method → ℕ → Option Name
 makes p m = made_in p m.pool m.body.ops
 
 -- ---- places in it
-
--- an instruction at a place is one of those that a handler covers (JVMS 4.7.3)
-abbrev pub covers : ℕ → Handler → Bool
-covers at h = nat_le h.start at && nat_lt at h.«end»
 
 -- what the rule has to know of a place
 abbrev pub here_of : Program → Method → ℕ → Here

@@ -20,7 +20,8 @@ use Rattle.jrule.specs.Forms.{by_form}
 use Rattle.jrule.specs.Operands.{with_stack}
 use Rattle.jrule.specs.Uses.{throwable}
 use Rattle.jtyping.specs.Declared.{Written, declared_at, first_frame, is_good, written}
-use Rattle.jtyping.specs.Methods.{Method, covers, here_of, method_of}
+use Rattle.jtyping.specs.Methods.{Method, here_of, method_of}
+use Rattle.jcode.specs.Instructions.{covers}
 
 -- ---- from one frame to another
 

@@ -9,7 +9,8 @@ ghost use Rattle.juses.specs.Instructions as instructions;
 ghost use Rattle.juses.specs.Instructions.{Instruction, instruction, targets};
 ghost use Rattle.jrule.specs.Rule.{rule};
 ghost use Rattle.jtyping.specs.Declared.{Written, declared_at, first_frame};
-ghost use Rattle.jtyping.specs.Methods.{Method, covers, here_of};
+ghost use Rattle.jtyping.specs.Methods.{Method, here_of};
+ghost use Rattle.jcode.specs.Instructions.{covers};
 ghost use Rattle.jtyping.specs.Typed.{AreFrames, Caught, Continues, FitsAt, HasFrame, ProgramIsTyped, Serves};
 ghost use Rattle.jtyping.specs.Typing.{WellTyped, frame_fits};
 
