@@ -138,7 +138,7 @@ pub fn make_array<M: Copy>(
     requires few { 1 ≤ length frames.old.newest.operands }
     ensures { IfOk result (λ way. HasMade (kinds.Array number) count frames.old heap.old way frames.new heap.new) }
 {
-    let made = heap.make(alloc, Kind::Array(number), count)?;
+    let made = heap.make(Kind::Array(number), count);
     Ok(put_made(frames, made))
 }
 

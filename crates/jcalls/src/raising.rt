@@ -69,7 +69,7 @@ pub fn raise<M: Copy, H: Handlers>(
     number_laws();
     built_laws();
     celled_laws();
-    let Some(object) = heap.make(alloc, Kind::Object(number), 1)? else {
+    let Some(object) = heap.make(Kind::Object(number), 1) else {
         return Ok(Raised::Full);
     };
     throw_object(frames, object, marks, handlers)

@@ -29,7 +29,7 @@ fn make_thrown(alloc: Global, heap: &mut Heap, number: u32, message: u32) -> Res
     number_laws();
     built_laws();
     celled_laws();
-    let Some(object) = heap.make(alloc, Kind::Object(number), 1)? else {
+    let Some(object) = heap.make(Kind::Object(number), 1) else {
         unreachable!()
     };
     heap.set_cell(object, 0, Value::Ref(message));

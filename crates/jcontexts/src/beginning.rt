@@ -87,7 +87,7 @@ pub fn fail_beginning<M>(alloc: Global, heap: &mut Heap, class: Thrown) -> Resul
     built_laws();
     celled_laws();
     let number = thrown_number(class);
-    let made = heap.make(alloc, Kind::Object(number), 1)?;
+    let made = heap.make(Kind::Object(number), 1);
     Ok(made.is_some())
 }
 

@@ -55,7 +55,7 @@ fn make_context(alloc: Global, heap: &mut Heap, place: u32) -> Result<u32, Alloc
     heap_laws();
     built_laws();
     celled_laws();
-    let Some(object) = heap.make(alloc, Kind::Object(43), 1)? else {
+    let Some(object) = heap.make(Kind::Object(43), 1) else {
         unreachable!()
     };
     heap.set_cell(object, 0, Value::Ref(place));

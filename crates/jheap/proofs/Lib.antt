@@ -1,3 +1,4 @@
 pub mod CellLaws
+pub mod Heading
 pub mod Lying
 pub mod RawLaws

@@ -1,5 +1,6 @@
 ghost use Rattle.std.specs.Prelude.{◌≡◌, ◌%◌, ◌^◌};
 ghost use Rattle.jheap.specs.Heaps;
+ghost use Rattle.jheap.specs.Laid;
 ghost use Rattle.jheap.specs.Raw;
 
 use jops::Value;
@@ -26,15 +27,6 @@ pub enum CellType {
     Ctx,
 }
 
-/// Where an object's cells stand.
-#[derive(Clone, Copy, Debug, PartialEq, Eq)]
-pub(crate) struct Header {
-    pub kind: Kind,
-    pub first: usize,
-    pub len: u32,
-    pub before: u32,
-}
-
 /// What an object of so many cells costs.
 #[inline]
 pub(crate) fn charge(kind: Kind, len: u32) -> u64
@@ -43,6 +35,46 @@ pub(crate) fn charge(kind: Kind, len: u32) -> u64
     match kind {
         Kind::Object(_) => 1 + u64::from(len),
         Kind::Array(_) | Kind::Text | Kind::Piece => 2 + u64::from(len),
+    }
+}
+
+/// The number that an object's first cell holds.
+#[inline]
+#[tactic(auto, unfolding(crate::specs::Laid::header))]
+pub(crate) fn header(kind: Kind) -> u64
+    ensures is { result ≡ Laid.header kind }
+    ensures back { Laid.kind_of (Laid.header kind) ≡ kind }
+{
+    match kind {
+        Kind::Object(n) => 4 * u64::from(n),
+        Kind::Array(n) => 4 * u64::from(n) + 1,
+        Kind::Text => 2,
+        Kind::Piece => 3,
+    }
+}
+
+/// The kind that an object's first cell says.
+#[inline]
+#[tactic(auto, unfolding(crate::specs::Laid::kind_of))]
+pub(crate) fn kind_of(n: u64) -> Kind
+    ensures { result ≡ Laid.kind_of n }
+{
+    match n % 4 {
+        0 => Kind::Object(low_32(n / 4)),
+        1 => Kind::Array(low_32(n / 4)),
+        2 => Kind::Text,
+        _ => Kind::Piece,
+    }
+}
+
+/// How many cells stand behind an object's own.
+#[inline]
+pub(crate) fn behind(kind: Kind) -> u32
+    ensures { result ≡ Laid.behind kind }
+{
+    match kind {
+        Kind::Object(_) => 0,
+        Kind::Array(_) | Kind::Text | Kind::Piece => 1,
     }
 }
 
@@ -61,7 +93,7 @@ pub(crate) fn raw(value: Value) -> u64
 
 /// The low 32 bits of a cell's number.
 #[inline]
-fn low_32(n: u64) -> u32
+pub(crate) fn low_32(n: u64) -> u32
     ensures { result ≡ n % 2 ^ 32 }
 {
     (n % 0x1_0000_0000) as u32

@@ -1,63 +1,73 @@
-ghost use Rattle.std.specs.Prelude.{◌≡◌, ◌+◌, ◌<◌, ◌^◌, ◌%◌, ◌∷◌, ◌++◌, [], IfOk, OnErr, OnOk, Some, length, replicate, slice_get, slice_set, get_or, is_some, true};
-ghost use Rattle.jheap.specs.Heaps;
+ghost use Rattle.std.specs.Prelude.{◌≡◌, ◌+◌, ◌<◌, ◌≤◌, ◌^◌, ◌%◌, ◌∷◌, ◌++◌, [], IfOk, OnErr, OnOk, Some, length, replicate, slice_set, get_or, is_some, true, vec_capacity};
+ghost use Rattle.jheap.specs.declared.cell.Kind.TheVariants as kinds;
 ghost use Rattle.jheap.specs.Heaps.{AreSmall, HasCell, Makes, before_at, cell_at, cells_at, kind_at, object_at, opened, with_before, with_cell, with_statics};
+ghost use Rattle.jheap.specs.Laid.{headed, header as header_of, kind_of as kind_in_header};
 ghost use Rattle.jheap.specs.Raw.{of_raw as raw_value, raw as raw_number};
+ghost use Rattle.jregion.specs.Regions.{next_block};
 
-use crate::cell::{CellType, Header, Kind, charge, of_raw, raw};
+use crate::cell::{CellType, Kind, behind, charge, header, kind_of, low_32, of_raw, raw};
 use jops::Value;
+use jregion::{Block, Region, region_laws};
 use std::alloc::{AllocError, Global};
 use std::marker::Model;
 
-/// Puts a header behind the others, and its cells, all of them 0. After an error all is as before.
-fn grow(headers: &mut Vec<Header>, cells: &mut Vec<u64>, header: Header) -> Result<(), AllocError>
-    requires { length cells.old.items + header.len < 2 ^ 64 }
-    ensures headers { OnOk result (headers.new.items ≡ headers.old.items ++ header ∷ []) }
-    ensures cells { OnOk result (cells.new.items ≡ cells.old.items ++ replicate header.len 0) }
-    ensures same_headers { OnErr result (headers.new.items ≡ headers.old.items) }
-    ensures same_cells { OnErr result (cells.new.items ≡ cells.old.items) }
+/// Places a block of so many cells that are left, and writes what its object is into the first one.
+fn place(region: &mut Region, kind: Kind, cells: u32) -> Block
+    requires some { 1 ≤ cells }
+    requires room { cells ≤ region.old.room }
+    ensures block { result ≡ next_block region.old cells }
+    ensures region { region.new ≡ headed region.old cells (header_of kind) }
+    ensures back { kind_in_header (header_of kind) ≡ kind }
 {
-    let before = cells.len();
-    cells.resize(before + header.len as usize, 0)?;
-    if headers.push(header).is_err() {
-        cells.truncate(before);
-        return Err(AllocError);
-    }
-    Ok(())
+    let Some(block) = region.place(cells) else {
+        unreachable!()
+    };
+    region.write(block, 0, header(kind));
+    block
+}
+
+/// Puts a block behind the others, for which there is room.
+fn list(blocks: &mut Vec<Block>, block: Block)
+    requires { length blocks.old.items < vec_capacity blocks.old }
+    ensures items { blocks.new.items ≡ blocks.old.items ++ block ∷ [] }
+    ensures capacity { vec_capacity blocks.old ≤ vec_capacity blocks.new }
+{
+    blocks.push(block).unwrap();
 }
 
 /// The heap. Contracts see its objects in order of making, each with its kind, its cells as numbers, and of a piece the number of
 /// the one in front of it; the statics as numbers; and the cells that are left.
 #[derive(Drop)]
 pub struct Heap {
-    headers: Vec<Header>,
-    cells: Vec<u64>,
+    region: Region,
+    blocks: Vec<Block>,
     kept: Vec<u64>,
-    unused: u32,
 }
 
 impl Model for Heap {
-    ghost use Rattle.std.specs.Prelude.{◌≡◌, ◌<◌, ◌+◌, ◌^◌, length};
+    ghost use Rattle.std.specs.Prelude.{◌≡◌, ◌<◌, ◌≤◌, ◌+◌, ◌^◌, length, vec_capacity};
     ghost use Rattle.jheap.specs.Heaps.{Heaped};
-    ghost use Rattle.jheap.specs.Laid.{IsLaid, end_of, objects_of};
+    ghost use Rattle.jheap.specs.Laid.{AreWhole, objects_of};
+    ghost use Rattle.jregion.specs.Blocks.{AreBlocks, blocks_of};
 
     ghost Value = { Heaped };
 
-    ghost view = { λ h. record { objects = objects_of h.headers.items h.cells.items; statics = h.kept.items; left = h.unused } };
+    ghost view = { λ h. record { objects = objects_of h.region h.blocks.items; statics = h.kept.items; left = h.region.room } };
 
-    ghost invariant = { λ h. IsLaid 0 h.headers.items × (end_of 0 h.headers.items ≡ length h.cells.items) × (length h.cells.items + length h.headers.items + h.unused < 2 ^ 31) };
+    ghost invariant = { λ h. AreBlocks h.blocks.items h.region × AreWhole (blocks_of h.region h.blocks.items)
+        × (length h.blocks.items + h.region.room ≤ vec_capacity h.blocks) × (length h.blocks.items + h.region.room < 2 ^ 31) × (length h.region.cells + h.region.room < 2 ^ 31) };
 }
 
 impl Heap {
-    /// A heap with so many cells, fewer than 2 ^ 31, without objects and statics. It takes no memory.
+    /// A heap with so many cells, fewer than 2 ^ 31, without objects and statics. All memory of its objects is taken here.
     pub fn open(alloc: Global, cells: u32) -> Result<Heap, AllocError>
         requires { cells < 2 ^ 31 }
         ensures { IfOk result (λ h. h ≡ opened cells) }
     {
         Ok(Heap {
-            headers: Vec::new(alloc),
-            cells: Vec::new(alloc),
+            region: Region::open(alloc, cells)?,
+            blocks: Vec::with_capacity(alloc, cells as usize)?,
             kept: Vec::new(alloc),
-            unused: cells,
         })
     }
 
@@ -65,7 +75,7 @@ impl Heap {
     pub fn small(&self)
         ensures { AreSmall self.now }
     {
-        let _ = self.cells.len();
+        let _ = self.region.room();
     }
 
     /// The cells that are left.
@@ -73,29 +83,23 @@ impl Heap {
     pub fn left(&self) -> u32
         ensures { result ≡ self.now.left }
     {
-        self.unused
+        self.region.room()
     }
 
     /// Makes an object of so many cells, all of them 0, and answers its number. None is answered exactly where its charge is above
-    /// what is left, and then nothing changes; so it is after an error.
-    #[tactic(auto, using(crate::proofs::Lying::laid_one_more, crate::proofs::Lying::objects_one_more))]
-    pub fn make(&mut self, alloc: Global, kind: Kind, len: u32) -> Result<Option<u32>, AllocError>
-        ensures ok { IfOk result (λ o. Makes kind len self.old self.new o) }
-        ensures err { OnErr result (self.new ≡ self.old) }
+    /// what is left, and then nothing changes. It takes no memory.
+    #[inline]
+    pub fn make(&mut self, kind: Kind, len: u32) -> Option<u32>
+        ensures { Makes kind len self.old self.new result }
     {
+        region_laws();
         let cost = charge(kind, len);
-        if u64::from(self.unused) < cost {
-            return Ok(None);
+        if u64::from(self.region.room()) < cost {
+            return None;
         }
-        let header = Header {
-            kind,
-            first: self.cells.len(),
-            len,
-            before: 0,
-        };
-        grow(&mut self.headers, &mut self.cells, header)?;
-        self.unused -= cost as u32;
-        Ok(Some(self.headers.len() as u32))
+        let block = place(&mut self.region, kind, cost as u32);
+        list(&mut self.blocks, block);
+        Some(self.blocks.len() as u32)
     }
 
     /// The number that a cell holds.
@@ -104,8 +108,7 @@ impl Heap {
         requires { HasCell self.now o i }
         ensures { result ≡ cell_at self.now o i }
     {
-        let header = &self.headers[(o - 1) as usize];
-        self.cells[header.first + i as usize]
+        self.region.read(self.blocks[(o - 1) as usize], i + 1)
     }
 
     /// Puts a number into a cell.
@@ -114,8 +117,8 @@ impl Heap {
         requires { HasCell self.old o i }
         ensures { self.new ≡ with_cell self.old o i n }
     {
-        let at = self.headers[(o - 1) as usize].first + i as usize;
-        self.cells[at] = n;
+        region_laws();
+        self.region.write(self.blocks[(o - 1) as usize], i + 1, n);
     }
 
     /// The value of a cell of an object or an array, read as a type. The cell is there.
@@ -142,7 +145,8 @@ impl Heap {
         requires { is_some (object_at self.now o) ≡ true }
         ensures { Some result ≡ kind_at self.now o }
     {
-        self.headers[(o - 1) as usize].kind
+        region_laws();
+        kind_of(self.region.read(self.blocks[(o - 1) as usize], 0))
     }
 
     /// What the object of a number is, where there is one.
@@ -150,13 +154,10 @@ impl Heap {
     pub fn found(&self, o: u32) -> Option<Kind>
         ensures { result ≡ kind_at self.now o }
     {
-        if o == 0 {
+        if o == 0 || (o - 1) as usize >= self.blocks.len() {
             return None;
         }
-        match self.headers.get((o - 1) as usize) {
-            None => None,
-            Some(header) => Some(header.kind),
-        }
+        Some(self.kind(o))
     }
 
     /// How many cells an object has. It is there.
@@ -165,7 +166,9 @@ impl Heap {
         requires { is_some (object_at self.now o) ≡ true }
         ensures { result ≡ length (cells_at self.now o) }
     {
-        self.headers[(o - 1) as usize].len
+        region_laws();
+        let block = self.blocks[(o - 1) as usize];
+        block.len() - 1 - behind(kind_of(self.region.read(block, 0)))
     }
 
     /// A unit of a text or a piece. The cell is there.
@@ -186,22 +189,31 @@ impl Heap {
         self.set_number(o, i, u64::from(unit));
     }
 
-    /// The number of the piece in front of a piece, 0 for none. It is there.
+    /// The number of the piece in front of a piece, 0 for none, and 0 of what is no piece. It is there.
     #[inline]
     pub fn before(&self, o: u32) -> u32
         requires { is_some (object_at self.now o) ≡ true }
         ensures { Some result ≡ before_at self.now o }
     {
-        self.headers[(o - 1) as usize].before
+        region_laws();
+        let block = self.blocks[(o - 1) as usize];
+        match kind_of(self.region.read(block, 0)) {
+            Kind::Object(_) => 0,
+            Kind::Array(_) => 0,
+            Kind::Text => 0,
+            Kind::Piece => low_32(self.region.read(block, block.len() - 1)),
+        }
     }
 
-    /// Says which piece stands in front of a piece. It is there.
+    /// Says which piece stands in front of a piece.
     #[inline]
     pub fn set_before(&mut self, o: u32, before: u32)
-        requires { is_some (object_at self.old o) ≡ true }
+        requires { kind_at self.old o ≡ Some kinds.Piece }
         ensures { self.new ≡ with_before self.old o before }
     {
-        self.headers[(o - 1) as usize].before = before;
+        region_laws();
+        let block = self.blocks[(o - 1) as usize];
+        self.region.write(block, block.len() - 1, u64::from(before));
     }
 
     /// Makes so many statics, all of them 0, where none are there. After an error all is as before.

@@ -55,7 +55,7 @@ fn make_object<M: Copy>(
     requires place { frames.old.newest.place + 1 < 2 ^ 32 }
     ensures { IfOk result (λ way. HasNew (kinds.Object number) count frames.old heap.old way frames.new heap.new) }
 {
-    let made = heap.make(alloc, Kind::Object(number), count)?;
+    let made = heap.make(Kind::Object(number), count);
     push_made(frames, made)
 }
 

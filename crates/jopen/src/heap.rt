@@ -47,7 +47,7 @@ fn with_out(
     celled_laws();
     let mut heap = Heap::open(alloc, cells)?;
     let out = Kind::Object(library_number(LibClass::PrintStream));
-    match heap.make(alloc, out, 0)? {
+    match heap.make(out, 0) {
         None => Ok(None),
         Some(_) => Ok(Some(heap)),
     }
@@ -95,7 +95,7 @@ pub(crate) fn begin<'p>(
         return Ok(None);
     };
     let mut heap = strings.heap;
-    let Some(array) = heap.make(alloc, Kind::Array(shaped.strings), 0)? else {
+    let Some(array) = heap.make(Kind::Array(shaped.strings), 0) else {
         return Ok(None);
     };
     put_statics(alloc, &strings.constants, rows, &mut heap)?;

@@ -19,6 +19,16 @@ pub struct Region {
     unused: u32,
 }
 
+impl Block {
+    /// How many cells the block has.
+    #[inline]
+    pub fn len(self) -> u32
+        ensures { result ≡ self.len }
+    {
+        self.len
+    }
+}
+
 impl Model for Region {
     ghost use Rattle.std.specs.Prelude.{◌<◌, ◌≤◌, ◌+◌, ◌^◌, length, vec_capacity};
     ghost use Rattle.jregion.specs.Regions.{Regioned};

@@ -1,7 +1,7 @@
 -- What an append leaves: one more piece, and the builder that names it.
 use Rattle.std.proofs.Common.{◌≡◌, ◌∙◌, ℕ, zero, suc, ◌+◌, ◌-◌, ◌%◌, ◌^◌, ◌<◌, ◌≤◌, List, [], ◌∷◌, ◌++◌, length, get_or, Some, None, refl, ap, ap₂, arith, add-one, length-append, rules, subst}
 use Rattle.std.specs.List.{AllByRecursion}
-use Rattle.std.specs.Prelude.{slice_get, slice_set, option_map, nat_le, is_some, true, false}
+use Rattle.std.specs.Prelude.{slice_get, slice_set, option_map, nat_le, false}
 use Rattle.std.proofs.lemmas.Bool.{le-leb}
 use Rattle.std.proofs.lemmas.List.{length-map, set-append_left}
 use Rattle.std.proofs.lemmas.Option.{slice_get_within}
@@ -104,7 +104,7 @@ set_before h us last =
     ap (λ (os : List heaps.Object). record h { objects = os; left = h.left - (2 + length us) })
     (changed_last (λ x. record x { before = last }) h.objects (piece_of us 0))
 
-pub piece_there : (h new : Heaped) (us : List ℕ) (o : ℕ) → Puts kinds.Piece us h new (Some o) → is_some (heaps.object_at new o) ≡ true
+pub piece_there : (h new : Heaped) (us : List ℕ) (o : ℕ) → Puts kinds.Piece us h new (Some o) → heaps.kind_at new o ≡ Some kinds.Piece
 piece_there h new us o (few, number, is) =
     let at : o ≡ suc (length h.objects) = number ∙ add-one (length h.objects) in
     rw (is, at, last_get h.objects (piece_of us 0)) refl

@@ -1,5 +1,6 @@
-ghost use Rattle.std.specs.Prelude.{◌≡◌, ◌≤◌, ◌∷◌, [], ℕ, List, IfOk, OnOk, Some, false, is_some, length as len, reverse, true};
-ghost use Rattle.jheap.specs.Heaps.{HasCell, object_at, with_before, with_cell};
+ghost use Rattle.std.specs.Prelude.{◌≡◌, ◌≤◌, ◌∷◌, [], ℕ, List, IfOk, OnOk, Some, false, length as len, reverse};
+ghost use Rattle.jheap.specs.Heaps.{HasCell, kind_at, with_before, with_cell};
+ghost use Rattle.jheap.specs.declared.cell.Kind.TheVariants as kinds;
 ghost use Rattle.jops.specs.declared.value.Value.{Value as Held};
 ghost use Rattle.jops.specs.declared.value.Value.TheVariants as values;
 ghost use Rattle.jlib.specs.declared.calls.BuilderCall.TheVariants as calls;
@@ -54,7 +55,7 @@ fn builder_of(heap: &Heap, value: Value) -> Option<u32>
 #[inline]
 fn name_piece(heap: &mut Heap, b: u32, o: u32, last: u32)
     requires cell { HasCell heap.old b 0 }
-    requires piece { is_some (object_at heap.old o) ≡ true }
+    requires piece { kind_at heap.old o ≡ Some kinds.Piece }
     ensures { heap.new ≡ with_cell (with_before heap.old o last) b 0 o }
 {
     heap.set_before(o, last);

@@ -46,7 +46,7 @@ pub(crate) fn put_units(
     if units.len() >= heap.left() as usize {
         return Ok(None);
     }
-    let made = heap.make(alloc, kind, units.len() as u32)?;
+    let made = heap.make(kind, units.len() as u32);
     if let Some(o) = made {
         write_units(heap, o, units);
     }

@@ -1,40 +1,50 @@
-use Rattle.std.proofs.Common.{◌≡◌, ◌∙◌, ◌+◌, ◌-◌, ◌++◌, ◌∷◌, [], List, ℕ, length, replicate, sym, ap, ap₂, arith}
-use Rattle.std.proofs.lemmas.List.{length-append, length-replicate, length-map}
-use Rattle.jheap.specs.declared.cell.Header.{Header}
-use Rattle.jheap.specs.Heaps.{Object, fresh}
-use Rattle.jheap.specs.Laid.{object_of, objects_of}
-use Rattle.jheap.proofs.Lying.{laid_one_more, objects_one_more, costs_more}
+use Rattle.std.proofs.Common.{◌≡◌, ◌∙◌, ◌+◌, ◌-◌, ◌<◌, ◌≤◌, ◌++◌, ◌∷◌, [], List, ℕ, length, ap, ap₂, arith}
+use Rattle.std.specs.Prelude.{◌^◌, vec_capacity}
+use Rattle.std.proofs.lemmas.List.{length-append, length-map}
+use Rattle.jregion.specs.Regions.{Regioned, cells_of, next_block}
+use Rattle.jregion.specs.Blocks.{blocks_of}
+use Rattle.jheap.specs.Heaps.{Object, charge, fresh}
+use Rattle.jheap.specs.Laid.{headed, header, object_in, objects_of}
+use Rattle.jheap.proofs.Lying.{costs, one_more}
 use Rattle.jheap.proofs.heap.Heap.make.Goals as goal
 
-pub invariant_of-self-2 : goal.invariant_of-self-2
-invariant_of-self-2 c =
-    let hs = c.self.inside.headers.items in
-    let cells = c.self.inside.cells.items in
-    let h : Header = record { kind = c.args.kind; first = c.len.result; len = c.args.len; before = 0 } in
-    let at : c.len.result ≡ length cells = omega (arith, c.len.ensures, c.self.inside.cells.ok.0) in
-    let laid = laid_one_more 0 hs h c.self.invariant.0 (at ∙ sym c.self.invariant.1) in
-    let more = costs_more c.args.kind c.args.len in
-    let zeros : List ℕ = replicate c.args.len 0 in
-    let longer : length (cells ++ zeros) ≡ length cells + c.args.len = length-append cells zeros ∙ ap (λ n. length cells + n) (length-replicate {A = ℕ} c.args.len 0) in
-    let headers : length (hs ++ h ∷ []) ≡ length hs + 1 = length-append hs (h ∷ []) in
-    rw (c.in_ok-grow.ensures.headers, c.in_ok-grow.ensures.cells) (
-      laid.0,
-      laid.1 ∙ omega (arith, c.self.invariant.1, longer),
-      omega (arith, more, c.charge-cost.ensures, c.self.invariant.2, c.from.ensures, c.if-from-cost.false, longer, headers),
-    )
+pub invariant_of-self : goal.invariant_of-self
+invariant_of-self c =
+    let r = c.self.inside.region in
+    let bs = c.self.inside.blocks.items in
+    let kept = c.self.inside.kept.items in
+    let kind = c.args.kind in
+    let cost = c.charge-cost.ensures in
+    let block = next_block r (charge kind c.args.len) in
+    let m = one_more c.region_laws.ensures.adds c.region_laws.ensures.writes r bs kind c.args.len c.place-block.ensures.back c.self.invariant.0 c.self.invariant.1 in
+    let region : c.place-block.new.region ≡ headed r (charge kind c.args.len) (header kind) = c.place-block.ensures.region ∙ ap (λ n. headed r n (header kind)) cost in
+    let items : c.list.new.blocks.items ≡ bs ++ block ∷ [] = c.list.ensures.items ∙ ap (λ b. bs ++ b ∷ []) (c.place-block.ensures.block ∙ ap (next_block r) cost) in
+    let many : length (bs ++ block ∷ []) ≡ length bs + 1 = length-append bs (block ∷ []) in
+    let enough : charge kind c.args.len ≤ r.room = omega (arith, c.if-from-cost.false, c.from.ensures, c.room.ensures, cost) in
+    let some = costs kind c.args.len in
+    let room : length (bs ++ block ∷ []) + (r.room - charge kind c.args.len) ≤ vec_capacity c.list.new.blocks = omega (arith, many, enough, some, c.self.invariant.2, c.list.ensures.capacity) in
+    let fewer : length (bs ++ block ∷ []) + (r.room - charge kind c.args.len) < 2 ^ 31 = omega (arith, many, enough, some, c.self.invariant.3) in
+    let few : length (headed r (charge kind c.args.len) (header kind)).cells + (r.room - charge kind c.args.len) < 2 ^ 31 = omega (arith, m.cells, enough, c.self.invariant.4) in
+    rw (region, items) (m.blocks, m.whole, room, fewer, few)
 
-pub returns-clause-ok : goal.returns-clause-ok
-returns-clause-ok c =
-    let hs = c.self.inside.headers.items in
-    let cells = c.self.inside.cells.items in
-    let h : Header = record { kind = c.args.kind; first = c.len.result; len = c.args.len; before = 0 } in
-    let at : c.len.result ≡ length cells = omega (arith, c.len.ensures, c.self.inside.cells.ok.0) in
-    let headers : length (hs ++ h ∷ []) ≡ length hs + 1 = length-append hs (h ∷ []) in
-    let count : length (objects_of hs cells) ≡ length hs = length-map hs (object_of cells) in
-    let objects : objects_of c.grow.new.headers.items c.grow.new.cells.items ≡ objects_of hs cells ++ fresh c.args.kind c.args.len ∷ [] =
-    rw (c.in_ok-grow.ensures.headers, c.in_ok-grow.ensures.cells, at) (objects_one_more hs cells c.args.kind c.args.len c.self.invariant.0 c.self.invariant.1) in
+pub returns : goal.returns
+returns c =
+    let r = c.self.inside.region in
+    let bs = c.self.inside.blocks.items in
+    let kept = c.self.inside.kept.items in
+    let kind = c.args.kind in
+    let cost = c.charge-cost.ensures in
+    let block = next_block r (charge kind c.args.len) in
+    let m = one_more c.region_laws.ensures.adds c.region_laws.ensures.writes r bs kind c.args.len c.place-block.ensures.back c.self.invariant.0 c.self.invariant.1 in
+    let region : c.place-block.new.region ≡ headed r (charge kind c.args.len) (header kind) = c.place-block.ensures.region ∙ ap (λ n. headed r n (header kind)) cost in
+    let items : c.list.new.blocks.items ≡ bs ++ block ∷ [] = c.list.ensures.items ∙ ap (λ b. bs ++ b ∷ []) (c.place-block.ensures.block ∙ ap (next_block r) cost) in
+    let many : length (bs ++ block ∷ []) ≡ length bs + 1 = length-append bs (block ∷ []) in
+    let enough : charge kind c.args.len ≤ r.room = omega (arith, c.if-from-cost.false, c.from.ensures, c.room.ensures, cost) in
+    let objects : objects_of c.place-block.new.region c.list.new.blocks.items ≡ objects_of r bs ++ fresh kind c.args.len ∷ [] = ap₂ objects_of region items ∙ m.objects in
+    let left : c.place-block.new.region.room ≡ r.room - charge kind c.args.len = ap (λ (s : Regioned). s.room) region in
+    let count : length (objects_of r bs) ≡ length bs = length-map (blocks_of r bs) object_in ∙ length-map bs (cells_of r) in
     rw (← c.self.view_is) (
-      omega (arith, c.charge-cost.ensures, c.from.ensures, c.if-from-cost.false),
-      omega (arith, c.len-2.ensures, c.grow.new.headers.ok.0, ap length c.in_ok-grow.ensures.headers, headers, count),
-      ap₂ (λ (os : List Object) (n : ℕ). record { objects = os; statics = c.self.inside.kept.items; left = n }) objects (ap (λ n. c.self.inside.unused - n) c.charge-cost.ensures),
+      omega (arith, enough),
+      omega (arith, c.len.ensures, c.list.new.blocks.ok.0, ap length items, many, count),
+      ap₂ (λ (os : List Object) (n : ℕ). record { objects = os; statics = kept; left = n }) objects left,
     )

@@ -5,6 +5,4 @@ use Rattle.jheap.proofs.heap.Heap.small.Goals as goal
 
 pub returns : goal.returns
 returns c =
-    let hs = c.self.inside.headers.items in
-    let cells = c.self.inside.cells.items in
-    subst AreSmall c.self.view_is (small hs cells c.self.inside.kept.items c.self.inside.unused (omega (arith, c.self.invariant.2)))
+    subst AreSmall c.self.view_is (small c.self.inside.region c.self.inside.blocks.items c.self.inside.kept.items (omega (arith, c.self.invariant.4)))
