@@ -84,7 +84,7 @@ pub fn begin_thread<M: Copy>(alloc: Global, m: &mut Machine<'_, '_, M>) -> Resul
 {
     begin_laws::<M>();
     if m.guests.running.runnable == 0 {
-        let came = end_thread(alloc, m, false, Seq::new(alloc))?;
+        let came = end_thread(m, false, Seq::new(alloc))?;
         return Ok(came);
     }
     let came = begin_run(alloc, m)?;

@@ -48,6 +48,6 @@ pub(crate) fn fail_run<M: Copy>(
     let mut told = Seq::new(alloc);
     let thrown = ClassRef::Lib(LibClass::Thrown(class));
     tell_uncaught(alloc, m, thrown, &mut told)?;
-    let came = end_thread(alloc, m, true, told)?;
+    let came = end_thread(m, true, told)?;
     Ok(came)
 }

@@ -7,7 +7,8 @@ use Rattle.jlib.specs.declared.calls.ThreadCall.{ThreadCall}
 use Rattle.jlib.specs.declared.calls.ThreadCall.TheVariants as threads
 use Rattle.jlib.specs.declared.side.Side.{Side}
 use Rattle.jmachine.specs.Acts.{FrameOf, Went}
-use Rattle.jmachine.specs.Asked.{Answer, Ask, Inherits, Kept, answer_in, asking_site, carried}
+use Rattle.jmachine.specs.Asked.{Answer, Ask, Inherits, Kept, answer_in, carried}
+use Rattle.jmachine.specs.Steps.{site_of}
 use Rattle.jmachine.specs.Security.{Rules}
 use Rattle.jrun.specs.declared.came.Came.{Came}
 use Rattle.jrun.specs.declared.came.Came.TheVariants as stepped
@@ -94,7 +95,7 @@ module _ {E : Type 0} (m : Machine E) (side : Side) (count : ℕ) where
   pub init_asked : InitAsks → (x : Given) → IsGivenIn m side count x → (f : Framed E) → m.guests.running.frames ≡ Some f
       → asked_of m f (calls.Thread call) count ≡ Some (Inherits x.context)
   init_asked asks x given f frames =
-      asks m.side side (asking_site m.side m.calls m.plan.now (state_of m) f.newest f.below) m.calls m.fixed.shapes.now (things_of m) m.constants.constants m.heap
+      asks m.side side (site_of m.calls m.plan.now (state_of m) f.newest f.below) m.calls m.fixed.shapes.now (things_of m) m.constants.constants m.heap
       (take count f.newest.operands) x (given f frames)
 
   -- where it is given what it needs it asks something
@@ -130,7 +131,7 @@ module _ {E : Type 0} (m : Machine E) (side : Side) (count : ℕ) where
   pub init_silent : InitAsksNothing → Named side count m.guests m.heap None → (f : Framed E) → m.guests.running.frames ≡ Some f
       → asked_of m f (calls.Thread call) count ≡ None
   init_silent nothing none f frames =
-      nothing m.side side (asking_site m.side m.calls m.plan.now (state_of m) f.newest f.below) m.calls m.fixed.shapes.now (things_of m) m.constants.constants m.heap
+      nothing m.side side (site_of m.calls m.plan.now (state_of m) f.newest f.below) m.calls m.fixed.shapes.now (things_of m) m.constants.constants m.heap
       (take count f.newest.operands) (none f frames)
 
   pub stuck_answered : {K F : Type 0} (old new : ℕ → Option K) (old_marks new_marks : E → Option F) (rules : Rules K F) → InitAsksNothing → InitIsStuck E

@@ -19,7 +19,6 @@ use std::alloc::{AllocError, Global};
 /// Does a call of Thread that makes none, by the threads of the machine.
 #[tactic(auto, using(crate::proofs::Standing::may_call))]
 fn turn_threads<M: Copy>(
-    alloc: Global,
     m: &mut Machine<'_, '_, M>,
     call: ThreadCall,
     count: usize,
@@ -32,15 +31,15 @@ fn turn_threads<M: Copy>(
     let schedule = m.plan.schedule.as_slice();
     match call {
         ThreadCall::Yield => {
-            let done = yield_turn(alloc, &mut m.guests, &m.heap, schedule, count)?;
+            let done = yield_turn(&mut m.guests, &m.heap, schedule, count)?;
             Ok(done)
         }
         ThreadCall::Start => {
-            let done = start(alloc, &mut m.guests, &m.heap, schedule, count)?;
+            let done = start(&mut m.guests, &m.heap, schedule, count)?;
             Ok(done)
         }
         ThreadCall::Join => {
-            let done = join(alloc, &mut m.guests, &m.heap, schedule, count)?;
+            let done = join(&mut m.guests, &m.heap, schedule, count)?;
             Ok(done)
         }
         ThreadCall::Init(_) => unreachable!(),
@@ -83,7 +82,7 @@ pub(crate) fn call_turn<M: Copy>(
 {
     guest_laws::<M>();
     machine_laws::<M>();
-    let done = turn_threads(alloc, m, call, count)?;
+    let done = turn_threads(m, call, count)?;
     match done {
         Threaded::Went => Ok(went(alloc)),
         Threaded::Turned(done) => Ok(behind_turn(alloc, done)),

@@ -2,7 +2,8 @@
 use Rattle.std.specs.Prelude.{◌≡◌, ◌≤◌, ℕ, Option, Some, length, take}
 use Rattle.jlib.specs.declared.calls.LibCall.{LibCall}
 use Rattle.jmachine.specs.Acts.{Outcome, State}
-use Rattle.jmachine.specs.Asked.{Answer, Ask, answer_in, asking_site, carried, run_asks}
+use Rattle.jmachine.specs.Asked.{Answer, Ask, answer_in, carried, run_asks}
+use Rattle.jmachine.specs.Steps.{site_of}
 use Rattle.jmachine.specs.Security.{Rules}
 use Rattle.jrun.specs.declared.came.Came.{Came}
 use Rattle.jguests.specs.Guested.{Lives}
@@ -32,7 +33,7 @@ outcome_of m f call count r = asking r m.calls m.plan.now (state_of m) f count c
 -- what it asks
 abbrev pub asked_of : {E : Type 0} → Machine E → Framed E → LibCall → ℕ → Option (Ask ℕ)
 asked_of m f call count =
-    run_asks m.side (asking_site m.side m.calls m.plan.now (state_of m) f.newest f.below) (store_of m) call (take count f.newest.operands)
+    run_asks m.side (site_of m.calls m.plan.now (state_of m) f.newest f.below) (store_of m) call (take count f.newest.operands)
 
 -- ---- asks and answers
 

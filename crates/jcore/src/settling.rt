@@ -21,7 +21,6 @@ use std::alloc::{AllocError, Global};
 /// Ends the running thread, by an exception or not, behind these events, and gives another its turn.
 #[tactic(auto, using(crate::proofs::Settled::ends_goes, crate::proofs::Settled::ends_over))]
 pub fn end_thread<M: Copy>(
-    alloc: Global,
     m: &mut Machine<'_, '_, M>,
     failed: bool,
     told: Seq<Event>,
@@ -32,10 +31,7 @@ pub fn end_thread<M: Copy>(
     ensures ready { IfOk result (GoesOn m.new) }
     ensures fixed { OnOk result (StaysFixed m.old m.new) }
 {
-    match m
-        .guests
-        .end_turn(alloc, m.plan.schedule.as_slice(), failed)?
-    {
+    match m.guests.end_turn(m.plan.schedule.as_slice(), failed)? {
         Turned::Goes => Ok(Came::Went { events: told }),
         Turned::Ends(end) => Ok(Came::Ended { events: told, end }),
     }
@@ -101,7 +97,7 @@ pub fn settle_raised<M: Copy>(
         }
         Raised::Uncaught => {
             tell_uncaught(alloc, m, class, &mut told)?;
-            let came = end_thread(alloc, m, true, told)?;
+            let came = end_thread(m, true, told)?;
             Ok(came)
         }
     }
@@ -136,7 +132,7 @@ pub fn settle<M: Copy>(
     match came {
         jstep::Stepped::Went => Ok(Came::Went { events: told }),
         jstep::Stepped::Ended => {
-            let done = end_thread(alloc, m, false, told)?;
+            let done = end_thread(m, false, told)?;
             Ok(done)
         }
         jstep::Stepped::Handled(class) => {

@@ -8,9 +8,9 @@ ghost use Rattle.jguests.specs.declared.turns.Turned.TheVariants as turns;
 ghost use Rattle.jguests.specs.Turning.{EndsTurn, Turns};
 
 use crate::guests::{Guest, Guests, guest_laws, husk};
-use jthreads::{Joined, pick, thread_laws};
+use jthreads::{Joined, thread_laws};
 use jtrace::End;
-use std::alloc::{AllocError, Global};
+use std::alloc::AllocError;
 
 /// What a turn came to.
 #[derive(Clone, Copy, Debug, PartialEq, Eq)]
@@ -76,7 +76,7 @@ impl<M: Copy> Guests<M> {
     /// Gives the thread its turn that the schedule picks among those that can run. Where none can, the run has ended, and nothing changes.
     /// After an error nothing is said of the threads.
     #[tactic(auto, using(crate::proofs::Staying::same_stay))]
-    pub fn turn(&mut self, alloc: Global, schedule: &[u32]) -> Result<Turned, AllocError>
+    pub fn turn(&mut self, schedule: &[u32]) -> Result<Turned, AllocError>
         requires { AreGuests self.old }
         ensures are { OnOk result (AreGuests self.new) }
         ensures turn { IfOk result (λ done. Turns schedule.now self.old done self.new) }
@@ -85,8 +85,7 @@ impl<M: Copy> Guests<M> {
         ensures stay { OnOk result (HaveStayed self.old self.new) }
     {
         thread_laws();
-        let numbers = self.table.runnable(alloc)?;
-        let Some(t) = pick(schedule, self.turns, numbers.as_slice()) else {
+        let Some(t) = self.table.pick(schedule, self.turns) else {
             return Ok(Turned::Ends(self.end()));
         };
         let Some(turns) = self.turns.checked_add(1) else {
@@ -142,12 +141,7 @@ impl<M: Copy> Guests<M> {
 
     /// Ends the thread that runs, by an exception or not, and gives another its turn. Where none can run the run has ended. After an error
     /// nothing is said of the threads.
-    pub fn end_turn(
-        &mut self,
-        alloc: Global,
-        schedule: &[u32],
-        failed: bool,
-    ) -> Result<Turned, AllocError>
+    pub fn end_turn(&mut self, schedule: &[u32], failed: bool) -> Result<Turned, AllocError>
         requires are { AreGuests self.old }
         requires lives { Lives self.old }
         ensures are { OnOk result (AreGuests self.new) }
@@ -157,6 +151,6 @@ impl<M: Copy> Guests<M> {
     {
         guest_laws::<M>();
         self.end_running(failed);
-        self.turn(alloc, schedule)
+        self.turn(schedule)
     }
 }

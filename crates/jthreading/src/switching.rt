@@ -54,7 +54,6 @@ fn lose<M: Copy>(guests: &mut Guests<M>, count: usize)
 
 /// Thread's `yield`: another thread may run.
 pub fn yield_turn<M: Copy>(
-    alloc: Global,
     guests: &mut Guests<M>,
     heap: &Heap,
     schedule: &[u32],
@@ -74,7 +73,7 @@ pub fn yield_turn<M: Copy>(
         return Ok(Threaded::Stuck);
     }
     go_on(guests, count);
-    let done = guests.turn(alloc, schedule)?;
+    let done = guests.turn(schedule)?;
     Ok(Threaded::Turned(done))
 }
 
@@ -99,7 +98,6 @@ fn operand<M: Copy>(guests: &Guests<M>) -> Value
 
 /// Thread's `start`: the thread of an object may run from now on, and another may at once. One that was started raises an exception.
 pub fn start<M: Copy>(
-    alloc: Global,
     guests: &mut Guests<M>,
     heap: &Heap,
     schedule: &[u32],
@@ -126,13 +124,12 @@ pub fn start<M: Copy>(
         return Ok(Threaded::Raises(Thrown::IllegalThreadStateException));
     }
     go_on(guests, count);
-    let done = guests.turn(alloc, schedule)?;
+    let done = guests.turn(schedule)?;
     Ok(Threaded::Turned(done))
 }
 
 /// Thread's `join`: the thread that calls waits until another has ended, which was started and has not ended; else it goes on.
 pub fn join<M: Copy>(
-    alloc: Global,
     guests: &mut Guests<M>,
     heap: &Heap,
     schedule: &[u32],
@@ -158,7 +155,7 @@ pub fn join<M: Copy>(
     match guests.join(t) {
         Joined::AtOnce => Ok(Threaded::Went),
         Joined::Waits => {
-            let done = guests.turn(alloc, schedule)?;
+            let done = guests.turn(schedule)?;
             Ok(Threaded::Turned(done))
         }
     }

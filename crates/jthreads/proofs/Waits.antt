@@ -1,6 +1,6 @@
 -- After the end of a thread nobody waits for it, and who waited for it is runnable.
 use Rattle.std.proofs.Common.{◌≡◌, ◌≢◌, ◌<◌, ℕ, List, Option, Some, None, Bool, true, false, length, refl, ap, ◌∙◌, arith, rules}
-use Rattle.std.specs.Prelude.{if◌then◌else◌, slice_set}
+use Rattle.std.specs.Prelude.{IfSome, if◌then◌else◌, slice_set}
 use Rattle.std.specs.Option.{option_map}
 use Rattle.std.proofs.lemmas.Bool.{eq-eqb, eqb-false}
 use Rattle.std.proofs.lemmas.List.{get_or-map, get_or-set_other, length-set}
@@ -29,3 +29,19 @@ runs_again threads t n lt other lives waits =
     let inside : n < length set = omega (arith, lt, length-set threads t (record (thread_at threads t) { ended = true })) in
     let is : thread_at (table_after_end t threads) n ≡ woken t (thread_at threads n) = get_or-map (woken t) set n unstarted unstarted inside ∙ ap (woken t) (get_or-set_other threads t n (record (thread_at threads t) { ended = true }) unstarted other) in
     rw is (woken_runs t (thread_at threads n) lives waits)
+
+-- ---- waking
+
+twice_by : (t : ℕ) (x : Thread) (b : Bool) → is_at t x.waits_for ≡ b → woken t (if b then record x { waits_for = None } else x) ≡ (if b then record x { waits_for = None } else x)
+twice_by t x true f = refl
+twice_by t x false f = ap (λ b. if b then record x { waits_for = None } else x) f
+
+pub woken_twice : (t : ℕ) (x : Thread) → woken t (woken t x) ≡ woken t x
+woken_twice t x = twice_by t x (is_at t x.waits_for) refl
+
+pub woken_named : (P : ℕ → Type 0) (t : ℕ) (x : Thread) → IfSome x.waits_for P → IfSome (woken t x).waits_for P
+woken_named P t x h = by (is_at t x.waits_for)
+  where
+    by : (b : Bool) → IfSome (if b then record x { waits_for = None } else x).waits_for P
+    by true = tt
+    by false = h

@@ -1,8 +1,9 @@
-//! Guest threads: which of them runs next (`pick`), and the table of them (`Threads`), which contracts see as the list of threads by
-//! their numbers. The machine's threads (`jguests`) stand on it.
+//! Guest threads: the table of them (`Threads`), which contracts see as the list of threads by their numbers, and which of them runs next
+//! (`Threads::pick`). The machine's threads (`jguests`) stand on it.
 //!
 //! - `Schedule`: the number at a place of the schedule, and the thread that it picks.
 //! - `Table`: a thread as started, ended, waits for; the runnable numbers; the table after each call.
+//! - `Kept`: what the table keeps so that nothing is sought: the runnable numbers in order, and how many wait for each thread.
 //!
 //! Proved: `pick` is the schedule's pick, None exactly where no thread is runnable; each call changes the table by one equation;
 //! `thread_laws`: the runnable numbers rise and are exactly those of runnable threads, a thread that was never started isn't among
@@ -12,11 +13,12 @@
 #![tactic(auto)]
 
 mod laws;
+mod order;
+mod queue;
 mod schedule;
 mod table;
 mod thread;
 
 pub use laws::thread_laws;
-pub use schedule::pick;
 pub use table::{Joined, Threads};
 pub use thread::Thread;

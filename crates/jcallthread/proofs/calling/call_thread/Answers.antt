@@ -1,6 +1,6 @@
 use Rattle.std.proofs.Common.{rules}
 use Rattle.std.specs.Prelude.{take}
-use Rattle.jmachine.specs.Asked.{asking_site}
+use Rattle.jmachine.specs.Steps.{site_of}
 use Rattle.jthreading.specs.Laws.{IsNoInit}
 use Rattle.jguard.proofs.Once.{asked_nothing}
 use Rattle.jlib.specs.declared.calls.LibCall.TheVariants as calls
@@ -14,7 +14,7 @@ returns-in_ok-done-in_default-clause-answered g c f frames =
     let m = c.args.m.now in
     let free : IsNoInit c.args.call = search rules in
     let asked =
-    c.init_laws.ensures.others m.side (asking_site m.side m.calls m.plan.now (state_of m) f.newest f.below) (store_of m) c.args.call (take c.args.count f.newest.operands) free in
+    c.init_laws.ensures.others m.side (site_of m.calls m.plan.now (state_of m) f.newest f.below) (store_of m) c.args.call (take c.args.count f.newest.operands) free in
     none_answered m c.call_turn.new.m c.args.call c.args.count c.in_ok-done-in_default.done _ _ _ _ _ f asked (c.in_ok-done-in_default.ensures.comes f frames)
 
 pub returns-in_ok-done-in_default-clause-once : goal.returns-in_ok-done-in_default-clause-once
@@ -22,4 +22,4 @@ returns-in_ok-done-in_default-clause-once g c f frames =
     let m = c.args.m.now in
     let free : IsNoInit c.args.call = search rules in
     asked_nothing g.G.Guard.asked c.args.guard.now (asked_of m f (calls.Thread c.args.call) c.args.count)
-    (c.init_laws.ensures.others m.side (asking_site m.side m.calls m.plan.now (state_of m) f.newest f.below) (store_of m) c.args.call (take c.args.count f.newest.operands) free)
+    (c.init_laws.ensures.others m.side (site_of m.calls m.plan.now (state_of m) f.newest f.below) (store_of m) c.args.call (take c.args.count f.newest.operands) free)
