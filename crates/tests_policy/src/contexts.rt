@@ -1,8 +1,8 @@
 use crate::permissions::reads;
 use jctx::{Context, enter, privileged, top};
 use jdomain::{Domains, Verdict};
-use jnumbered::Contexts;
 use jperm::Permission;
+use jtable::Table;
 use jtext::Units;
 use std::alloc::{AllocError, Global};
 use tests_rows::{Unread, first, number};
@@ -92,7 +92,35 @@ pub fn context(alloc: Global, directory: &Units, words: &str) -> Result<String, 
     Ok(text)
 }
 
-/// What the walk of a context answers.
+/// A verdict as a text.
+fn told(alloc: Global, verdict: &Verdict) -> Result<String, Unread> {
+    match verdict {
+        Verdict::Granted => Ok(String::from_str(alloc, "granted")?),
+        Verdict::Denied(domain) => Ok(format!(in alloc; "denied by {domain}")?),
+    }
+}
+
+/// What the context of the number that words make answers.
+fn verdict_by_number(
+    alloc: Global,
+    directory: &Units,
+    domains: &Domains,
+    words: &str,
+    asked: &Permission,
+) -> Result<String, Unread> {
+    let mut contexts = Table::open(alloc)?;
+    let n = if words == "-" {
+        0
+    } else {
+        number_of(alloc, directory, &mut contexts, words, 0)?
+    };
+    if n >= contexts.len() {
+        return Err(Unread::Line);
+    }
+    told(alloc, &contexts.verdict(n, domains, asked))
+}
+
+/// What the walk of a context answers, and that of its number too.
 pub fn verdict(
     alloc: Global,
     directory: &Units,
@@ -101,17 +129,19 @@ pub fn verdict(
     asked: &Permission,
 ) -> Result<String, Unread> {
     let context = context_of(alloc, directory, words)?;
-    match context.verdict(domains, asked) {
-        Verdict::Granted => Ok(String::from_str(alloc, "granted")?),
-        Verdict::Denied(domain) => Ok(format!(in alloc; "denied by {domain}")?),
+    let text = told(alloc, &context.verdict(domains, asked))?;
+    let by_number = verdict_by_number(alloc, directory, domains, words, asked)?;
+    if by_number.as_str() != text.as_str() {
+        return Ok(String::from_str(alloc, "by its number it is another")?);
     }
+    Ok(text)
 }
 
 /// The number of a context behind one more word, where the words before have this number.
 fn number_behind(
     alloc: Global,
     directory: &Units,
-    contexts: &mut Contexts,
+    contexts: &mut Table,
     word: &str,
     n: u64,
 ) -> Result<u64, Unread> {
@@ -134,7 +164,7 @@ fn number_behind(
 fn number_of(
     alloc: Global,
     directory: &Units,
-    contexts: &mut Contexts,
+    contexts: &mut Table,
     words: &str,
     n: u64,
 ) -> Result<u64, Unread> {
@@ -145,25 +175,39 @@ fn number_of(
     Ok(number)
 }
 
-/// What the context of a number shows, and how many contexts have numbers.
-fn counted(alloc: Global, contexts: &Contexts, n: u64) -> Result<String, Unread> {
-    let len = contexts.len();
-    if n >= len {
-        return Err(Unread::Line);
-    }
-    let text = shown(alloc, contexts.get(n))?;
-    Ok(format!(in alloc; "{}, {len}", text.as_str())?)
-}
-
-/// What contexts by number show where words stand behind those of a loop, so often: each turn begins with the same context.
+/// The numbers of contexts where words stand behind those of a loop, so often: each turn begins with the same context. That of the
+/// first words, that of the last turn, and how many contexts have numbers.
 pub fn turns(alloc: Global, directory: &Units, fields: &str) -> Result<String, Unread> {
     let (times, fields) = first(fields)?;
     let (base, words) = first(fields)?;
-    let mut contexts = Contexts::open(alloc)?;
+    let mut contexts = Table::open(alloc)?;
     let from = number_of(alloc, directory, &mut contexts, base, 0)?;
     let mut last = from;
     for _ in 0..number::<u32>(times)? {
         last = number_of(alloc, directory, &mut contexts, words, from)?;
     }
-    counted(alloc, &contexts, last)
+    let len = contexts.len();
+    Ok(format!(in alloc; "{from}, {last}, {len}")?)
+}
+
+/// The number of the context of so many domains, each called by the one before.
+fn risen(alloc: Global, contexts: &mut Table, count: u32) -> Result<u64, Unread> {
+    let mut n = 0;
+    for domain in 0..count {
+        if n >= contexts.len() {
+            return Err(Unread::Line);
+        }
+        n = contexts.enter(alloc, n, domain)?;
+    }
+    Ok(n)
+}
+
+/// The numbers of the contexts of so many domains, made twice, and how many contexts have numbers.
+pub fn rising(alloc: Global, count: &str) -> Result<String, Unread> {
+    let count = number(count)?;
+    let mut contexts = Table::open(alloc)?;
+    let once = risen(alloc, &mut contexts, count)?;
+    let again = risen(alloc, &mut contexts, count)?;
+    let len = contexts.len();
+    Ok(format!(in alloc; "{once}, {again}, {len}")?)
 }

@@ -114,6 +114,7 @@ impl Table {
             "context" => contexts::context(alloc, &self.directory, fields),
             "verdict" => self.verdict(alloc, fields),
             "turns" => contexts::turns(alloc, &self.directory, fields),
+            "rising" => contexts::rising(alloc, fields),
             _ => self.found_below(alloc, kind, fields),
         }
     }

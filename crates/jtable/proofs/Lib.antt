@@ -1,0 +1,12 @@
+pub mod Chaining
+pub mod Cutting
+pub mod Finding
+pub mod Growing
+pub mod Listing
+pub mod Naming
+pub mod Placing
+pub mod Remembering
+pub mod Results
+pub mod Sameness
+pub mod Storing
+pub mod Tabling

@@ -1,0 +1,13 @@
+use Rattle.std.proofs.Common.{◌∙◌, length, take, ap}
+use Rattle.jtable.specs.Lists.{lists_of}
+use Rattle.jtable.proofs.Listing.{cut_lists, cut_within}
+use Rattle.jtable.proofs.lists.Lists.truncate.Goals as goal
+
+pub invariant_of-self : goal.invariant_of-self
+invariant_of-self c = rw c.truncate.ensures.items (cut_within c.args.count (length c.self.inside.pairs) c.self.inside.entries.items c.self.invariant)
+
+pub returns : goal.returns
+returns c =
+    ap (lists_of c.self.inside.pairs) c.truncate.ensures.items
+    ∙ cut_lists c.args.count c.self.inside.pairs c.self.inside.entries.items
+    ∙ ap (take c.args.count) c.self.view_is

@@ -1,0 +1,20 @@
+-- Lists of pairs by number, one behind the other.
+use Rattle.std.specs.Prelude.{◌≡◌, ℕ, ◌+◌, ◌≤◌, List, ◌++◌, Some, drop, map, slice_get, take}
+use Rattle.jtable.specs.declared.lists.Entry.{Entry}
+use Rattle.jtable.specs.declared.pairs.Pair.{Pair}
+
+-- the pairs of an entry
+abbrev pub list_of : List Pair → Entry → List Pair
+list_of pairs e = take e.count (drop e.first pairs)
+
+abbrev pub lists_of : List Pair → List Entry → List (List Pair)
+lists_of pairs entries = map (list_of pairs) entries
+
+-- Each entry's pairs are there.
+abbrev pub AreWithin : ℕ → List Entry → Type 0
+AreWithin count entries = (i : ℕ) (e : Entry) → slice_get entries i ≡ Some e → e.first + e.count ≤ count
+
+-- A list is another one with more behind.
+pub record Extends {T : Type 0} (old new : List T) : Type 0 where
+  pub more : List T
+  pub is : new ≡ old ++ more

@@ -1,0 +1,53 @@
+ghost use Rattle.std.specs.Prelude.{◌≡◌, ◌<◌, [], get_or, length};
+ghost use Rattle.jtable.specs.Tables.{alike, same_limits, same_pair};
+
+use crate::lists::Lists;
+use crate::pairs::Pair;
+use jctx::Limits;
+use jperm::Permission;
+
+/// Whether permissions are the same, one by one.
+fn same_members(a: &[Permission], b: &[Permission]) -> bool
+    ensures { result ≡ same_limits a.now b.now }
+{
+    if a.len() != b.len() {
+        return false;
+    }
+    for i in 0..a.len() {
+        if !a[i].equal(&b[i]) {
+            return false;
+        }
+    }
+    true
+}
+
+/// Whether limits are the same, one by one.
+pub fn are_same(a: &Limits, b: &Limits) -> bool
+    ensures { result ≡ same_limits a.now b.now }
+{
+    same_members(a.as_slice(), b.as_slice())
+}
+
+/// Whether pairs are the same.
+#[inline]
+fn same_pair(a: Pair, b: Pair) -> bool
+    ensures { result ≡ same_pair a b }
+{
+    a.limits == b.limits && a.domain == b.domain
+}
+
+/// Whether a list by its number has just these pairs. It is there.
+pub fn holds_at(lists: &Lists, n: usize, pairs: &[Pair]) -> bool
+    requires { n < length lists.now }
+    ensures { result ≡ alike same_pair (get_or lists.now n []) pairs.now }
+{
+    if lists.count(n) != pairs.len() {
+        return false;
+    }
+    for i in 0..pairs.len() {
+        if !same_pair(lists.read(n, i), pairs[i]) {
+            return false;
+        }
+    }
+    true
+}

@@ -1,0 +1,203 @@
+ghost use Rattle.std.specs.Prelude.{◌≡◌, ◌<◌, ◌∷◌, [], IfSome, OnOk, get_or, length, map, option_map};
+ghost use Rattle.std.specs.Option.{option_copied};
+ghost use Rattle.jdomain.specs.Domains.{has};
+ghost use Rattle.jctx.specs.Contexts as contexts;
+ghost use Rattle.jctx.specs.Growing.{added, hidden, joined};
+ghost use Rattle.jctx.specs.Items as items;
+ghost use Rattle.jtable.specs.Lists.{Extends};
+ghost use Rattle.jtable.specs.Stores.{AllNamed, AreNamed, item_of, items_of};
+
+use crate::lists::Lists;
+use crate::pairs::Pair;
+use crate::sets::Sets;
+use jdomain::{Domains, Verdict};
+use jperm::Permission;
+use std::alloc::{AllocError, Global};
+
+/// Whether an item has another's domain and only limits that the other has too.
+fn covers(sets: &Sets, a: Pair, b: Pair) -> bool
+    requires a { a.limits < length sets.now }
+    requires b { b.limits < length sets.now }
+    ensures { result ≡ items.covers (item_of sets.now a) (item_of sets.now b) }
+{
+    if a.domain != b.domain {
+        return false;
+    }
+    sets.is_within(a.limits, b.limits)
+}
+
+/// Whether one of the items covers an item.
+fn hides(sets: &Sets, made: &[Pair], pair: Pair) -> bool
+    requires made { AreNamed (length sets.now) made.now }
+    requires pair { pair.limits < length sets.now }
+    ensures { result ≡ hidden (items_of sets.now made.now) (item_of sets.now pair) }
+{
+    for earlier in made {
+        if covers(sets, *earlier, pair) {
+            return true;
+        }
+    }
+    false
+}
+
+/// Puts an item behind the others, unless one of them covers it.
+fn add(sets: &Sets, made: &mut Vec<Pair>, pair: Pair) -> Result<(), AllocError>
+    requires made { AreNamed (length sets.now) made.old.items }
+    requires pair { pair.limits < length sets.now }
+    ensures added { OnOk result (items_of sets.now made.new.items ≡ added (items_of sets.now made.old.items) (item_of sets.now pair)) }
+    ensures named { OnOk result (AreNamed (length sets.now) made.new.items) }
+{
+    if hides(sets, made, pair) {
+        return Ok(());
+    }
+    made.push(pair)?;
+    Ok(())
+}
+
+/// Adds each item of a list, unless one before it covers it.
+pub fn add_all(sets: &Sets, lists: &Lists, made: &mut Vec<Pair>, n: usize) -> Result<(), AllocError>
+    requires there { n < length lists.now }
+    requires lists { AllNamed (length sets.now) lists.now }
+    requires made { AreNamed (length sets.now) made.old.items }
+    ensures added { OnOk result (items_of sets.now made.new.items ≡ joined (items_of sets.now made.old.items) (items_of sets.now (get_or lists.now n []))) }
+    ensures named { OnOk result (AreNamed (length sets.now) made.new.items) }
+{
+    for i in 0..lists.count(n) {
+        add(sets, made, lists.read(n, i))?;
+    }
+    Ok(())
+}
+
+/// Adds an item with the limits, unless one of the others covers it.
+fn add_limited(
+    alloc: Global,
+    sets: &mut Sets,
+    made: &mut Vec<Pair>,
+    pair: Pair,
+    limits: &[Permission],
+) -> Result<(), AllocError>
+    requires made { AreNamed (length sets.old) made.old.items }
+    requires pair { pair.limits < length sets.old }
+    ensures added { OnOk result (items_of sets.new made.new.items ≡ added (items_of sets.old made.old.items) (items.with_limits limits.now (item_of sets.old pair))) }
+    ensures named { OnOk result (AreNamed (length sets.new) made.new.items) }
+    ensures more { Extends sets.old sets.new }
+{
+    let n = sets.add(alloc, pair.limits, limits)?;
+    let limited = Pair {
+        limits: n,
+        domain: pair.domain,
+    };
+    add(sets, made, limited)
+}
+
+/// Adds each item of a list with the limits, unless one before it covers it.
+fn add_all_limited(
+    alloc: Global,
+    sets: &mut Sets,
+    lists: &Lists,
+    made: &mut Vec<Pair>,
+    n: usize,
+    limits: &[Permission],
+) -> Result<(), AllocError>
+    requires there { n < length lists.now }
+    requires lists { AllNamed (length sets.old) lists.now }
+    requires made { AreNamed (length sets.old) made.old.items }
+    ensures added { OnOk result (items_of sets.new made.new.items
+        ≡ joined (items_of sets.old made.old.items) (map (items.with_limits limits.now) (items_of sets.old (get_or lists.now n [])))) }
+    ensures named { OnOk result (AreNamed (length sets.new) made.new.items) }
+    ensures more { Extends sets.old sets.new }
+{
+    for i in 0..lists.count(n) {
+        add_limited(alloc, sets, made, lists.read(n, i), limits)?;
+    }
+    Ok(())
+}
+
+/// Begins with a domain without limits.
+pub fn begin(sets: &Sets, made: &mut Vec<Pair>, d: u32) -> Result<(), AllocError>
+    ensures begun { OnOk result (items_of sets.now made.new.items ≡ items.plain d ∷ []) }
+    ensures named { OnOk result (AreNamed (length sets.now) made.new.items) }
+{
+    sets.distinct();
+    made.clear();
+    made.push(Pair {
+        limits: 0,
+        domain: d,
+    })?;
+    Ok(())
+}
+
+/// Adds what isn't covered of a context that was given, if one was.
+pub fn add_given(
+    sets: &Sets,
+    lists: &Lists,
+    made: &mut Vec<Pair>,
+    given: Option<u64>,
+) -> Result<(), AllocError>
+    requires there { IfSome given (λ g. g < length lists.now) }
+    requires lists { AllNamed (length sets.now) lists.now }
+    requires made { AreNamed (length sets.now) made.old.items }
+    ensures added { OnOk result (items_of sets.now made.new.items
+        ≡ joined (items_of sets.now made.old.items) (contexts.given_items (option_map (λ g. items_of sets.now (get_or lists.now g [])) given))) }
+    ensures named { OnOk result (AreNamed (length sets.now) made.new.items) }
+{
+    match given {
+        Some(n) => add_all(sets, lists, made, n as usize),
+        None => Ok(()),
+    }
+}
+
+/// Adds what a privilege takes over of the context behind it.
+pub fn add_behind(
+    alloc: Global,
+    sets: &mut Sets,
+    lists: &Lists,
+    made: &mut Vec<Pair>,
+    limits: Option<&[Permission]>,
+    n: usize,
+) -> Result<(), AllocError>
+    requires there { n < length lists.now }
+    requires lists { AllNamed (length sets.old) lists.now }
+    requires made { AreNamed (length sets.old) made.old.items }
+    ensures added { OnOk result (items_of sets.new made.new.items
+        ≡ joined (items_of sets.old made.old.items) (contexts.limited (option_copied limits.entry) (items_of sets.old (get_or lists.now n [])))) }
+    ensures named { OnOk result (AreNamed (length sets.new) made.new.items) }
+    ensures more { Extends sets.old sets.new }
+{
+    match limits {
+        Some(limits) => add_all_limited(alloc, sets, lists, made, n, limits),
+        None => Ok(()),
+    }
+}
+
+/// Whether a domain lacks a permission and none of the limits implies it.
+fn fails(sets: &Sets, pair: Pair, domains: &Domains, asked: &Permission) -> bool
+    requires { pair.limits < length sets.now }
+    ensures { result ≡ items.fails (has domains.now) asked.now (item_of sets.now pair) }
+{
+    if domains.implies(pair.domain, asked) {
+        return false;
+    }
+    !sets.get(pair.limits).imply(asked)
+}
+
+/// What a list decides for a permission.
+pub fn decide(
+    sets: &Sets,
+    lists: &Lists,
+    n: usize,
+    domains: &Domains,
+    asked: &Permission,
+) -> Verdict
+    requires there { n < length lists.now }
+    requires lists { AllNamed (length sets.now) lists.now }
+    ensures { result ≡ contexts.verdict (has domains.now) asked.now (items_of sets.now (get_or lists.now n [])) }
+{
+    for i in 0..lists.count(n) {
+        let pair = lists.read(n, i);
+        if fails(sets, pair, domains, asked) {
+            return Verdict::Denied(pair.domain);
+        }
+    }
+    Verdict::Granted
+}
