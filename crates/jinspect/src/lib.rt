@@ -6,11 +6,15 @@
 //! keep that; a check and the entering of a method leave it as it is. `run_inspect` writes exactly the text of the definition's run of
 //! a checked program by these rules, answers its end, and at a fault leaves a front of the text.
 //!
+//! `count_inspect` answers how many lines of each kind that text has, and its end, and holds no text.
+//!
 //! Rooms of jobs and the top may name it.
 #![tactic(auto)]
 
+mod counting;
 mod inspector;
 mod running;
 
+pub use counting::count_inspect;
 pub use inspector::Inspector;
 pub use running::run_inspect;

@@ -5,7 +5,7 @@ use Rattle.jdomain.specs.Stacks.{Stack}
 use Rattle.jctx.specs.declared.item.Item.{Item}
 use Rattle.jlib.specs.declared.side.Side.TheVariants.{Passing, Source}
 use Rattle.jprogram.specs.Classes.{Program}
-use Rattle.jprogram.specs.Members.{main_of}
+use Rattle.jprogram.specs.Members.{IsMain, main_of}
 use Rattle.jrewrite.specs.Linking.{IsLinked}
 use Rattle.jtyping.specs.Typing.{WellTyped}
 use Rattle.jmachine.specs.declared.plan.Plan.{Plan}
@@ -20,7 +20,7 @@ use Rattle.jcount.specs.Counting.{HasStep}
 use Rattle.jyield.specs.Laws.{AreSided}
 use Rattle.jsafe.specs.Sound.{IsSound}
 use Rattle.jsafe.specs.States.{ComesTo, IsTypedRun, RunsTyped}
-use Rattle.jsound.specs.Runs.{IsMain, LinkedRunsTyped}
+use Rattle.jsound.specs.Runs.{LinkedRunsTyped}
 use Rattle.jpass.specs.Passing.{NeverStuck, Passes, PassesUnstuck, inspected, passed}
 
 has_step : {K E : Type 0} (r : Rules K E) (p : Program) (plan : Plan) (x : Run (State K E)) → IsTypedRun r p plan x → HasStep (step r p plan) x

@@ -22,5 +22,6 @@ mod laws;
 mod machines;
 mod running;
 
+pub use jplain::{count_plain, run_plain};
 pub use laws::{moved_laws, pass_law, stand_law};
 pub use running::run_pass;

@@ -8,7 +8,7 @@ ghost use Rattle.jmachine.specs.Runs.{ending, run_text};
 ghost use Rattle.jmachine.specs.Steps.{step};
 ghost use Rattle.jrules.specs.Inspecting.{rules as inspecting};
 ghost use Rattle.jrules.specs.Plain.{rules as plain};
-ghost use Rattle.jsound.specs.Runs.{IsMain};
+ghost use Rattle.jprogram.specs.Members.{IsMain};
 ghost use Rattle.jpass.specs.Passing.{NeverStuck, inspected, passed};
 ghost use Rattle.jpass.specs.Running.{AfterSome, IsMoved, OnceEnded, Tells};
 ghost use Rattle.jsmall.specs.Small.{HasSmall};

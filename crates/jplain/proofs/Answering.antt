@@ -1,6 +1,6 @@
 -- What the guard answers stands for what the plain rules answer.
-use Rattle.std.proofs.Common.{◌≡◌, ◌∙◌, ℕ, ◌<◌, Bool, List, [], length, reverse, Option, Some, None, option_map, refl, sym, ap, subst}
-use Rattle.std.specs.Prelude.{IfOk, IfSome, OnOk, Result, Ok, Err, slice_get}
+use Rattle.std.proofs.Common.{◌≡◌, ◌∙◌, ℕ, ◌<◌, Bool, List, [], length, reverse, Option, Some, None, sym, ap, subst}
+use Rattle.std.specs.Prelude.{IfOk, IfSome, OnOk, Result, Ok, Err}
 use Rattle.std.specs.Borrow.{Bor}
 use Rattle.std.specs.Option.{option_copied}
 use Rattle.std.proofs.lemmas.Option.{slice_get_within}
@@ -9,8 +9,6 @@ use Rattle.jdomain.specs.declared.verdict.Verdict.{Verdict}
 use Rattle.jctx.specs.declared.item.Item.{Item}
 use Rattle.jctx.specs.Contexts.{enter, verdict}
 use Rattle.jctx.specs.Contexts as contexts
-use Rattle.jnumbered.specs.declared.numbered.Numbered.{Numbered}
-use Rattle.jnumbered.specs.Numbers.{IsEntered, IsPrivileged, IsThat, context_at, number_or_first}
 use Rattle.jmachine.specs.Asked.{Ask, Checks, ChecksKept, Snapshots, Inherits, Enters, Privileges, Answer, Decided, Kept, Entered, Allowed}
 use Rattle.jrules.specs.Plain.{given_context, rules, told}
 use Rattle.jguard.specs.declared.ask.Answer.{Answer as AnswerSaid}
@@ -18,7 +16,7 @@ use Rattle.jguard.specs.declared.ask.Ask.{Ask as AskSaid}
 use Rattle.jguard.specs.declared.ask.Ask.TheVariants as asks
 use Rattle.jguard.specs.Said.{given_by, said}
 use Rattle.jguard.specs.Standing.{AnswersFor, IsAskKnown}
-use Rattle.jplain.specs.Plains.{Becomes, IsContext, IsDecided, IsHanded, Plains}
+use Rattle.jplain.specs.Plains.{Becomes, IsContext, IsDecided, IsEntered, IsHanded, IsPrivileged, IsThat, Plains, context_at, number_or_first}
 
 -- ---- what is said of an ask by another that stands for the same
 
@@ -57,17 +55,13 @@ domain_in a = 0
 same_item : {A : Type 0} (x y : A) → Some x ≡ Some y → x ≡ y
 same_item x y e = cc
 
-at_item : (o : Option Numbered) (c : List Item) → option_map (λ (one : Numbered). one.context) o ≡ Some c → (one : Numbered) × (o ≡ Some one)
-at_item None c e = cc
-at_item (Some one) c e = (one, refl)
-
 pub first_in : (old new : Plains) → old ≡ new → context_at old.contexts 0 ≡ Some [] → context_at new.contexts 0 ≡ Some []
 first_in old new = subst (λ (p : Plains). context_at p.contexts 0 ≡ Some [])
 
-module _ (all : List Numbered) where
+module _ (all : List (List Item)) where
   -- a number that stands for a context was given
   there : (n : ℕ) (c : List Item) → context_at all n ≡ Some c → n < length all
-  there n c e = let found = at_item (slice_get all n) c e in slice_get_within all n found.0 found.1
+  there n c e = slice_get_within all n c e
 
   first_stands : context_at all 0 ≡ Some [] → (n : Option ℕ) (c : Option (List Item)) → IsThat all n c → context_at all (number_or_first n) ≡ Some (given_context c)
   first_stands first None None e = first
@@ -142,7 +136,7 @@ module _ (all : List Numbered) where
 abbrev frame : Unit {0} → Option (Unit {0})
 frame m = Some tt
 
-module _ (has : ℕ → Permission → Bool) (old new : List Numbered) (marks : List (Unit {0})) (inherited : Option ℕ) where
+module _ (has : ℕ → Permission → Bool) (old new : List (List Item)) (marks : List (Unit {0})) (inherited : Option ℕ) where
   abbrev For : Ask ℕ → Answer ℕ (Unit {0}) → Type 0
   For ask given = AnswersFor (context_at old) (context_at new) frame frame (rules has) ask (reverse marks) inherited given
 
@@ -181,7 +175,7 @@ module _ (has : ℕ → Permission → Bool) (old new : List Numbered) (marks : 
   snapshot_answers : old ≡ new → context_at old 0 ≡ Some [] → (n : Option ℕ) → For (Snapshots n) (Kept (number_or_first n))
   unfolding rules
   snapshot_answers same first n (Snapshots c) cs s e those that =
-      ap kept_here (ap (λ (x : List Numbered). context_at x (number_or_first n)) (sym same) ∙ first_stands old first n c (ap ctx_in e))
+      ap kept_here (ap (λ (x : List (List Item)). context_at x (number_or_first n)) (sym same) ∙ first_stands old first n c (ap ctx_in e))
   snapshot_answers same first n (Checks asked c) cs s e those that = cc
   snapshot_answers same first n (ChecksKept asked k) cs s e those that = cc
   snapshot_answers same first n (Inherits c) cs s e those that = cc
@@ -191,7 +185,7 @@ module _ (has : ℕ → Permission → Bool) (old new : List Numbered) (marks : 
   inherit_answers : old ≡ new → context_at old 0 ≡ Some [] → (n : Option ℕ) → For (Inherits n) (Kept (number_or_first n))
   unfolding rules
   inherit_answers same first n (Inherits c) cs s e those that =
-      ap kept_here (ap (λ (x : List Numbered). context_at x (number_or_first n)) (sym same) ∙ first_stands old first n c (ap ctx_in e))
+      ap kept_here (ap (λ (x : List (List Item)). context_at x (number_or_first n)) (sym same) ∙ first_stands old first n c (ap ctx_in e))
   inherit_answers same first n (Checks asked c) cs s e those that = cc
   inherit_answers same first n (ChecksKept asked k) cs s e those that = cc
   inherit_answers same first n (Snapshots c) cs s e those that = cc

@@ -7,12 +7,16 @@
 //! the text of the machine's run by these rules under the plan's heap, depth and steps, answers its end, and at a fault leaves a front of the
 //! text.
 //!
+//! `count_plain` answers how many lines of each kind that text has, and its end, and holds no text.
+//!
 //! Jobs and the top may name it.
 #![tactic(auto)]
 
+mod counting;
 mod plain;
 mod running;
 
+pub use counting::count_plain;
 pub use jwhole::is_sound;
 pub use plain::Plain;
 pub use running::run_plain;

@@ -1,21 +1,20 @@
-ghost use Rattle.std.specs.Prelude.{◌≡◌, ◌<◌, IfOk, IfSome, length};
+ghost use Rattle.std.specs.Prelude.{◌≡◌, ◌<◌, [], IfOk, IfSome, Some, length};
 ghost use Rattle.std.specs.Option.{option_copied};
 ghost use Rattle.jdomain.specs.Domains.{has};
-ghost use Rattle.jnumbered.specs.Numbers.{GrowsByOne};
-ghost use Rattle.jplain.specs.Plains.{IsContext, IsDecided, IsHanded};
+ghost use Rattle.jplain.specs.Plains.{GrowsByOne, IsContext, IsDecided, IsHanded, context_at, number_or_first};
 
 use jdomain::{Domains, Verdict};
 use jguard::{Answer, Ask, Guard, OnPassing};
-use jnumbered::Contexts;
 use jperm::Permission;
+use jtable::Table;
 use std::alloc::{AllocError, Global};
 use std::marker::Model;
 
-/// The guard of the plain machine, over contexts by number and a job's domains. Contracts see the contexts, with what each last became,
-/// and the permissions of each domain.
+/// The guard of the plain machine, over a table of contexts and a job's domains. Contracts see the contexts by number, and the permissions
+/// of each domain.
 #[derive(Drop)]
 pub struct Plain<'d> {
-    contexts: Contexts,
+    contexts: Table,
     domains: &'d Domains,
 }
 
@@ -27,12 +26,21 @@ impl<'d> Model for Plain<'d> {
     ghost view = { λ p. record { contexts = p.contexts; domains = p.domains.now } };
 }
 
+/// The number that was given, and where none was, that of the context that restricts nothing.
+fn number_or_first(contexts: &Table, n: Option<u64>) -> u64
+    ensures value { result ≡ number_or_first n }
+    ensures first { context_at contexts.now 0 ≡ Some [] }
+{
+    contexts.distinct();
+    n.unwrap_or(0)
+}
+
 impl<'d> Plain<'d> {
     /// A guard that gave no number yet but that of the context that restricts nothing.
     pub fn open(alloc: Global, domains: &'d Domains) -> Result<Plain<'d>, AllocError>
         ensures { IfOk result (λ p. p.domains ≡ domains.now) }
     {
-        let contexts = Contexts::open(alloc)?;
+        let contexts = Table::open(alloc)?;
         Ok(Plain { contexts, domains })
     }
 
@@ -41,7 +49,7 @@ impl<'d> Plain<'d> {
         requires { n < length self.now.contexts }
         ensures { IsDecided (has self.now.domains) asked.now self.now.contexts n result }
     {
-        self.contexts.get(n).verdict(self.domains, asked)
+        self.contexts.verdict(n, self.domains, asked)
     }
 
     /// The context of a method of a domain that is called in the context of a number.
@@ -83,8 +91,7 @@ impl<'d> Guard for Plain<'d> {
     ghost use Rattle.jdomain.specs.Domains.{has};
     ghost use Rattle.jctx.specs.declared.item.Item.{Item};
     ghost use Rattle.jrules.specs.Plain.{rules as plain};
-    ghost use Rattle.jnumbered.specs.Numbers.{context_at};
-    ghost use Rattle.jplain.specs.Plains.{Becomes};
+    ghost use Rattle.jplain.specs.Plains.{Becomes, context_at};
 
     type On = OnPassing;
 
@@ -111,7 +118,7 @@ impl<'d> Guard for Plain<'d> {
 
     #[tactic(auto, unfolding(jrules::specs::Plain::rules))]
     fn first(&mut self, alloc: Global) -> Result<Option<u64>, AllocError> {
-        Ok(Some(self.contexts.number_or_first(None)))
+        Ok(Some(number_or_first(&self.contexts, None)))
     }
 
     fn secure(
@@ -124,19 +131,19 @@ impl<'d> Guard for Plain<'d> {
         match ask {
             Ask::Enter { ctx, domain } => self.enter(alloc, ctx, domain),
             Ask::Check { asked, ctx } => {
-                let n = self.contexts.number_or_first(ctx);
+                let n = number_or_first(&self.contexts, ctx);
                 Ok(Answer::Verdict(self.check(asked, n)))
             }
             Ask::CheckKept { asked, kept } => Ok(Answer::Verdict(self.check(asked, kept))),
-            Ask::Snapshot { ctx } => Ok(Answer::Kept(self.contexts.number_or_first(ctx))),
-            Ask::Inherit { ctx } => Ok(Answer::Kept(self.contexts.number_or_first(ctx))),
+            Ask::Snapshot { ctx } => Ok(Answer::Kept(number_or_first(&self.contexts, ctx))),
+            Ask::Inherit { ctx } => Ok(Answer::Kept(number_or_first(&self.contexts, ctx))),
             Ask::Privileged {
                 domain,
                 ctx,
                 given,
                 limits,
             } => {
-                let n = self.contexts.number_or_first(ctx);
+                let n = number_or_first(&self.contexts, ctx);
                 self.privilege(alloc, domain.unwrap_or(0), given, limits, n)
             }
         }

@@ -5,7 +5,7 @@ ghost use Rattle.jtrace.specs.declared.fault.RunFault.TheVariants.{Sink as SinkF
 ghost use Rattle.jmachine.specs.Machine.{run as run_of};
 ghost use Rattle.jmachine.specs.Runs.{ending, run_text};
 ghost use Rattle.jrules.specs.Plain.{rules as plain};
-ghost use Rattle.jsound.specs.Runs.{IsMain};
+ghost use Rattle.jprogram.specs.Members.{IsMain};
 
 use crate::plain::Plain;
 use jcheck::PlainProgram;

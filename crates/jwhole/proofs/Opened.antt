@@ -24,7 +24,7 @@ use Rattle.jopen.specs.Opened as opened
 use Rattle.jcore.specs.declared.machine.Machine.{Machine}
 use Rattle.jcore.specs.Machines.{state_of}
 use Rattle.jsafe.specs.States.{IsTypedState, OpensTyped}
-use Rattle.jsound.specs.Runs.{IsMain}
+use Rattle.jprogram.specs.Members.{IsMain}
 use Rattle.jwhole.specs.Engines.{IsEngine, IsSafe}
 use Rattle.jwhole.specs.Grounds.{BegunOr, IsBegun, StartsOr}
 use Rattle.jwhole.proofs.Asking.{marked}

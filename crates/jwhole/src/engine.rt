@@ -9,7 +9,7 @@ ghost use Rattle.jrun.specs.Coming.{ComesTo, WhereWent, came_as};
 ghost use Rattle.jyield.specs.Laws.{AreSided};
 ghost use Rattle.jwhole.specs.Courses;
 ghost use Rattle.jwhole.specs.Courses.{AreLive, Holds, Runs, Stands, asks_of, end_in, end_of, is_lost, left_by, steps};
-ghost use Rattle.jsound.specs.Runs.{IsMain};
+ghost use Rattle.jprogram.specs.Members.{IsMain};
 ghost use Rattle.jwhole.specs.Grounds.{IsGround};
 
 use crate::grounds::Ground;

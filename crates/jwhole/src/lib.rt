@@ -25,17 +25,22 @@
 //! and marks keep what they stand for, where the step asks something the guard was asked it once, and where it asks nothing the guard
 //! is as before; where a step found no memory each later one finds none. `guard` lends the guard as it stands.
 //!
+//! `count` runs in the same way and counts instead of writing (`jtally`), step by step, so that no text is held: `Tallied` is what is told of a
+//! run, `Standing` where an engine stands in one.
+//!
 //! Rooms of the machine may name it.
 #![tactic(auto)]
 
 mod advancing;
 mod beginning;
+mod counting;
 mod engine;
 mod grounds;
 mod moving;
 mod running;
 mod safety;
 
+pub use counting::count;
 pub use engine::Engine;
 pub use grounds::Ground;
 pub use running::run;

@@ -8,7 +8,7 @@ ghost use Rattle.jmachine.specs.Runs.{ending, run_text};
 ghost use Rattle.jmachine.specs.Security;
 ghost use Rattle.jopen.specs.Opened;
 ghost use Rattle.jyield.specs.Laws.{AreSided};
-ghost use Rattle.jsound.specs.Runs.{IsMain};
+ghost use Rattle.jprogram.specs.Members.{IsMain};
 ghost use Rattle.jwhole.specs.Engines.{IsSafe};
 ghost use Rattle.jwhole.specs.Grounds.{IsGround, StartsOr};
 

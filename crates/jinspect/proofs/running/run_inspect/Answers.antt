@@ -8,7 +8,8 @@ use Rattle.jmachine.specs.Machine.{run as run_of}
 use Rattle.jmachine.specs.Runs.{run_text}
 use Rattle.jrules.specs.Inspecting.{rules as inspecting}
 use Rattle.jinspect.specs.Inspects.{Inspects}
-use Rattle.jinspect.proofs.Sided.{at_err, same_side}
+use Rattle.jinspect.proofs.Sided.{same_side}
+use Rattle.jwhole.proofs.Opened.{at_err}
 use Rattle.jinspect.proofs.running.run_inspect.Goals as goal
 
 pub run-requires-clause-typed : goal.run-requires-clause-typed

@@ -7,7 +7,8 @@ use Rattle.jdomain.specs.Domains.{has}
 use Rattle.jmachine.specs.Machine.{run as run_of}
 use Rattle.jmachine.specs.Runs.{run_text}
 use Rattle.jrules.specs.Plain.{rules as plain}
-use Rattle.jplain.proofs.Sided.{at_err, same_side}
+use Rattle.jplain.proofs.Sided.{same_side}
+use Rattle.jwhole.proofs.Opened.{at_err}
 use Rattle.jplain.proofs.running.run_plain.Goals as goal
 
 pub run-requires-clause-typed : goal.run-requires-clause-typed
