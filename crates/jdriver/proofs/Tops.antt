@@ -9,7 +9,7 @@ use Rattle.jshow.specs.declared.status.Status.TheVariants as statuses
 use Rattle.jshow.specs.Answering.{Answer, Answers}
 use Rattle.jtask.specs.declared.task.Task.{Task}
 use Rattle.jtask.specs.Stages.{Stopped, Missing, Misses}
-use Rattle.jtask.specs.Tasks.{built, task}
+use Rattle.jtask.specs.Tasks.{reads, task}
 use Rattle.jdriver.specs.Answers.{accepted, answer, stopped_or_shown}
 
 pub answer_is : (c : Command) (files : List File) (read : Result Task Stopped) → task c files ≡ read → answer c files ≡ stopped_or_shown read
@@ -54,10 +54,10 @@ pub no_command : (words : List Word) → command words ≡ None → accepted wor
 unfolding accepted
 no_command words h = rw h refl
 
-pub not_built : (words : List Word) (c : Command) → command words ≡ Some c → built c ≡ false → accepted words ≡ None
+pub not_built : (words : List Word) (c : Command) → command words ≡ Some c → reads c ≡ false → accepted words ≡ None
 unfolding accepted
 not_built words c h b = rw h (ap (λ (it : Bool). if it then Some c else None) b)
 
-pub is_accepted : (words : List Word) (c : Command) → command words ≡ Some c → built c ≡ true → accepted words ≡ Some c
+pub is_accepted : (words : List Word) (c : Command) → command words ≡ Some c → reads c ≡ true → accepted words ≡ Some c
 unfolding accepted
 is_accepted words c h b = rw h (ap (λ (it : Bool). if it then Some c else None) b)

@@ -20,7 +20,7 @@ use Rattle.jshow.specs.Statuses.{status_of}
 use Rattle.jtask.specs.declared.task.Task.{Task}
 use Rattle.jtask.specs.declared.task.Task.TheVariants as tasks
 use Rattle.jtask.specs.Stages.{Stopped, Missing, Refused, Misses}
-use Rattle.jtask.specs.Tasks.{built, stores, task}
+use Rattle.jtask.specs.Tasks.{reads, stores, task}
 use Rattle.jdriver.specs.Folders.{files_below}
 use Rattle.jdriver.specs.Storing.{StoresFront, with_files}
 
@@ -63,7 +63,7 @@ answer c files = stopped_or_shown (task c files)
 -- ---- words
 
 abbrev pub if_built : Command → Option Command
-if_built c = if built c then Some c else None
+if_built c = if reads c then Some c else None
 
 -- the command that words are, where it is built
 unfoldable pub accepted : List Word → Option Command

@@ -9,7 +9,8 @@ ghost use Rattle.jrules.specs.Plain.{rules as plain};
 ghost use Rattle.jshow.specs.declared.status.Status.TheVariants.{Finished, ReadFault, StoreFault, Usage, WriteFault};
 ghost use Rattle.jshow.specs.Answering.{Answers, listed};
 ghost use Rattle.jshow.specs.Listings.{listing};
-ghost use Rattle.jtask.specs.Tasks.{HasMain, IsWhole, is_stored};
+ghost use Rattle.jprogram.specs.Members.{IsMain};
+ghost use Rattle.jtask.specs.Tasks.{IsWhole, is_stored};
 ghost use Rattle.jdriver.specs.Answers.{Stores, ran, rewrote, shown, usage_answer};
 ghost use Rattle.jdriver.specs.Folders.{files_below};
 
@@ -21,8 +22,7 @@ use jio::{Part, Shelf, ShelfError, Sink, put_all, write_line};
 use jjob::Text;
 use jmachine::Plan;
 use jmoving::RewrittenProgram;
-use jpass::run_pass;
-use jplain::run_plain;
+use jpass::{run_pass, run_plain};
 use jshow::{Status, put_listing, show_checked, status_of};
 use jtask::Task;
 use jtrace::RunFault;
@@ -52,7 +52,7 @@ fn show_run<K: Sink>(
     plan: &Plan,
     out: &mut K,
 ) -> Status
-    requires main { HasMain program.now plan.now.main }
+    requires main { IsMain program.now plan.now.main }
     requires side { program.now.side ≡ Source }
     ensures answer { Answers (ran (run (inspecting (has domains.now)) program.now plan.now plan.now.steps)) result (K.out out.old) (K.out out.new) }
     ensures later { K.faults out.old ≤ K.faults out.new }
@@ -77,7 +77,7 @@ fn show_plain<K: Sink>(
     plan: &Plan,
     out: &mut K,
 ) -> Status
-    requires main { HasMain program.now plan.now.main }
+    requires main { IsMain program.now plan.now.main }
     ensures answer { Answers (ran (run (plain (has domains.now)) program.now plan.now plan.now.steps)) result (K.out out.old) (K.out out.new) }
     ensures later { K.faults out.old ≤ K.faults out.new }
     ensures cause { result ≡ WriteFault → Rose (K.faults out.old) (K.faults out.new) }
@@ -101,7 +101,7 @@ fn show_pass<K: Sink>(
     plan: &Plan,
     out: &mut K,
 ) -> Status
-    requires main { HasMain program.now plan.now.main }
+    requires main { IsMain program.now plan.now.main }
     ensures answer { Answers (ran (run (plain (has domains.now)) program.now plan.now plan.now.steps)) result (K.out out.old) (K.out out.new) }
     ensures later { K.faults out.old ≤ K.faults out.new }
     ensures cause { result ≡ WriteFault → Rose (K.faults out.old) (K.faults out.new) }

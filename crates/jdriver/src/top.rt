@@ -6,7 +6,7 @@ ghost use Rattle.jjob.specs.Words.{words_of};
 ghost use Rattle.jshow.specs.declared.status.Status.TheVariants.{ReadFault, StoreFault, Usage, WriteFault};
 ghost use Rattle.jshow.specs.Answering.{Answers};
 ghost use Rattle.jtask.specs.Stages.{Misses};
-ghost use Rattle.jtask.specs.Tasks.{built, stores, task};
+ghost use Rattle.jtask.specs.Tasks.{reads, stores, task};
 ghost use Rattle.jdriver.specs.Answers.{Calm, Complete, MissesAny, Stores, UsageExactly, accepted, answer, answered, any_stores};
 ghost use Rattle.jdriver.specs.Headline.{AnswersAll, AnswersSome};
 
@@ -15,7 +15,7 @@ use jio::{Shelf, Sink};
 use jjob::{Command, WordsError, read_words};
 use jpass::moved_laws;
 use jshow::{Status, show_refusal};
-use jtask::{Halt, is_built, task_of};
+use jtask::{Halt, reads_files, task_of};
 use std::alloc::Global;
 
 /// Does what a command asks for: reads the files that it names from a shelf, stores there what it makes, and writes to a sink. Condition: the command's verb and
@@ -26,7 +26,7 @@ pub fn dispatch<S: Shelf, K: Sink>(
     shelf: &mut S,
     out: &mut K,
 ) -> Status
-    requires { IsTrue (built command.now) }
+    requires { IsTrue (reads command.now) }
     // The bytes that are written, and the status, are the answer to the command over the bytes of the files.
     ensures answer { (files : List File) → S.held shelf.old ≡ Some files → Answers (answer command.now files) result (K.out out.old) (K.out out.new) }
     // Of a run in the pass form they answer what the inspecting run of the program as it was written has told after some of its steps, and
@@ -106,7 +106,7 @@ pub fn javasec<S: Shelf, K: Sink>(
         Err(WordsError::Usage) => return show_usage(out),
         Err(WordsError::Memory) => return Status::OutOfMemory,
     };
-    if !is_built(&command) {
+    if !reads_files(&command) {
         return show_usage(out);
     }
     dispatch(alloc, &command, shelf, out)

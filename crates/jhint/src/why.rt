@@ -1,5 +1,5 @@
 ghost use Rattle.std.specs.Prelude.{◌≡◌, ◌≤◌, IfSome, IsTrue};
-ghost use Rattle.jtask.specs.Tasks.{built};
+ghost use Rattle.jtask.specs.Tasks.{reads};
 
 use crate::checks::say_check;
 use crate::classes::say_class;
@@ -18,17 +18,17 @@ use jlib::Side;
 use jpolicy::PolicyFault;
 use jprogram::NamedProgram;
 use jshow::Refusal;
-use jtask::{Halt, is_built, task_of};
+use jtask::{Halt, reads_files, task_of};
 use jtext::Units;
 use std::alloc::Global;
 
 // ---- the command
 
 fn command_of(alloc: Global, words: &[String]) -> Option<Command>
-    ensures { IfSome result (λ c. IsTrue (built c)) }
+    ensures { IfSome result (λ c. IsTrue (reads c)) }
 {
     let command = read_words(alloc, words).ok()?;
-    if !is_built(&command) {
+    if !reads_files(&command) {
         return None;
     }
     Some(command)
@@ -61,7 +61,7 @@ fn side_of(command: &Command) -> Side {
 }
 
 fn refusal_of<S: Shelf>(alloc: Global, command: &Command, shelf: &mut S) -> Option<Refusal>
-    requires { IsTrue (built command.now) }
+    requires { IsTrue (reads command.now) }
     ensures held { S.held shelf.new ≡ S.held shelf.old }
     ensures stored { S.write_faults shelf.new ≡ S.write_faults shelf.old }
     ensures later { S.read_faults shelf.old ≤ S.read_faults shelf.new }

@@ -11,7 +11,8 @@ ghost use Rattle.jshow.specs.Statuses.{number};
 mod faults;
 
 use crate::faults::{say_unread, say_unstored};
-use jdriver::{Status, javasec};
+use jdriver::Status;
+pub use jdriver::javasec;
 use jhint::say_why;
 use jio::{RealShelf, RealSink};
 use std::alloc::Global;

@@ -3,12 +3,11 @@ use Rattle.std.proofs.Common.{◌≡◌, ◌∙◌, ℕ, List, Option, Some, Non
 use Rattle.std.specs.Prelude.{Ok}
 use Rattle.jprogram.specs.declared.member.MethodId.{MethodId}
 use Rattle.jprogram.specs.Classes.{Program}
-use Rattle.jprogram.specs.Members.{main_of}
+use Rattle.jprogram.specs.Members.{IsMain, main_of}
 use Rattle.jtyping.specs.Typing.{Place, type_fault}
 use Rattle.jshow.specs.declared.refusal.Refusal.{Refusal}
 use Rattle.jtask.specs.Checking.{checked, unless_untyped}
 use Rattle.jtask.specs.Stages.{judged}
-use Rattle.jtask.specs.Tasks.{HasMain}
 
 pub found_is : (r : Refusal) (o : Option MethodId) (m : MethodId) → judged r o ≡ Ok m → o ≡ Some m
 found_is r None m e = absurd (let x = e in cc)
@@ -23,9 +22,9 @@ unfolding checked
 checked_is p q e = unless_is p q (type_fault p) e
 
 -- so it is where the program is checked behind it
-pub run_main : (r : Refusal) (p q : Program) (name : List ℕ) (m : MethodId) → judged r (main_of p name) ≡ Ok m → checked p ≡ Ok q → HasMain q m
+pub run_main : (r : Refusal) (p q : Program) (name : List ℕ) (m : MethodId) → judged r (main_of p name) ≡ Ok m → checked p ≡ Ok q → IsMain q m
 run_main r p q name m found typed = (name, subst (λ (x : Program). main_of x name ≡ Some m) (checked_is p q typed) (found_is r (main_of p name) m found))
 
 -- and in a program in which the `main` of each class is the same method
-pub same_main : (p q : Program) (m : MethodId) → ((name : List ℕ) → main_of q name ≡ main_of p name) → HasMain p m → HasMain q m
+pub same_main : (p q : Program) (m : MethodId) → ((name : List ℕ) → main_of q name ≡ main_of p name) → IsMain p m → IsMain q m
 same_main p q m same (name, is) = (name, same name ∙ is)

@@ -26,7 +26,7 @@ use Rattle.jlib.specs.declared.side.Side.TheVariants.{Source, Passing}
 use Rattle.jprogram.specs.declared.part.CodePart.{CodePart}
 use Rattle.jprogram.specs.declared.member.MethodId.{MethodId}
 use Rattle.jprogram.specs.Classes.{Program, program}
-use Rattle.jprogram.specs.Members.{main_of}
+use Rattle.jprogram.specs.Members.{IsMain, main_of}
 use Rattle.jmachine.specs.declared.plan.Plan.{Plan}
 use Rattle.jperm.specs.declared.permission.Permission.{Permission}
 use Rattle.jshow.specs.declared.refusal.Refusal.TheVariants.{BadJob, BadPolicy, BadClass, NoMain}
@@ -160,20 +160,20 @@ rewrite_at files to path = bytes_at files path >>= λ text. rewrite_of_text file
 unfoldable pub policy_at : List File → List ℕ → Result Task Stopped
 policy_at files path = ground_at files path >>= λ g. Ok (tasks.Policy g.sources g.domains)
 
--- the commands that are built
-abbrev pub built : Command → Bool
-built (commands.Run form path) = true
-built (commands.Check form path) = true
-built (commands.Rewrite path to) = true
-built (commands.Policy path) = true
-built _ = false
+-- the commands that read files; the others make theirs
+abbrev pub reads : Command → Bool
+reads (commands.Run form path) = true
+reads (commands.Check form path) = true
+reads (commands.Rewrite path to) = true
+reads (commands.Policy path) = true
+reads _ = false
 
 -- the commands that store files
 abbrev pub stores : Command → Bool
 stores (commands.Rewrite path to) = true
 stores _ = false
 
--- What a command asks for. The others aren't built, and nobody comes with one.
+-- What a command that reads files asks for. Nobody comes with another.
 unfoldable pub task : Command → List File → Result Task Stopped
 task (commands.Run form path) files = run_at files form path
 task (commands.Check form path) files = check_at files (side_of form) path
@@ -188,15 +188,11 @@ RunClasses _ files = Unit {0}
 
 -- ---- tasks
 
--- a method is the `main` of one of a program's classes
-abbrev pub HasMain : Program → MethodId → Type 0
-HasMain p main = (name : List ℕ) × (main_of p name ≡ Some main)
-
 -- a program is run from the `main` of one of its classes, by the stacks of its frames on the source side; and each code source has its permissions
 abbrev pub IsWhole : Task → Type 0
-IsWhole (tasks.Run program domains plan) = HasMain program plan.main × (program.side ≡ Source)
-IsWhole (tasks.RunPlain program domains plan) = HasMain program plan.main
-IsWhole (tasks.RunPass program domains plan) = HasMain program plan.main
+IsWhole (tasks.Run program domains plan) = IsMain program plan.main × (program.side ≡ Source)
+IsWhole (tasks.RunPlain program domains plan) = IsMain program plan.main
+IsWhole (tasks.RunPass program domains plan) = IsMain program plan.main
 IsWhole (tasks.Check program) = Unit {0}
 IsWhole (tasks.Rewrite program job to) = Unit {0}
 IsWhole (tasks.Policy sources domains) = length domains ≡ length sources

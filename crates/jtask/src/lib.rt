@@ -9,9 +9,9 @@
 //! - `Checking`: a program that is well typed, or the refusal by the first place that isn't.
 //! - `Rewriting`: the moved program, or the refusal by the first limit that is broken.
 //!
-//! Proved: `task_of` answers the task of a command that is built, or its refusal, over the files that the shelf holds, and leaves them
+//! Proved: `task_of` answers the task of a command that reads files, or its refusal, over the files that the shelf holds, and leaves them
 //! as they are; a fault of reading is told only where the shelf counted one, or where a file is missing or too long; what was read for
-//! a run are parts that may be linked, each of them a class file. `is_built` says which commands are built.
+//! a run are parts that may be linked, each of them a class file. `reads_files` says which commands do.
 //!
 //! Rooms of jobs and the top may name it.
 #![tactic(auto)]
@@ -29,4 +29,4 @@ pub use halt::Halt;
 pub use linking::units_in;
 pub use reading::text_in;
 pub use task::Task;
-pub use tasks::{is_built, task_of};
+pub use tasks::{reads_files, task_of};

@@ -4,13 +4,13 @@ ghost use Rattle.jio.specs.Held.{File};
 ghost use Rattle.jtext.specs.Modified.{group};
 ghost use Rattle.jjob.specs.declared.command.Form.TheVariants.{Pass};
 ghost use Rattle.jlib.specs.declared.side.Side.TheVariants.{Passing, Source};
-ghost use Rattle.jprogram.specs.Members.{main_of};
+ghost use Rattle.jprogram.specs.Members.{IsMain, main_of};
 ghost use Rattle.jtask.specs.declared.halt.Halt.TheVariants.{Read};
 ghost use Rattle.jtask.specs.declared.task.Task.TheVariants.{RunPlain};
 ghost use Rattle.jtask.specs.Rewriting;
 ghost use Rattle.jtask.specs.Stages.{Excused, Follows, judged};
 ghost use Rattle.jtask.specs.Linking.{AreClasses};
-ghost use Rattle.jtask.specs.Tasks.{GroundClasses, HasMain, IsWhole, JobClasses, RunClasses, built, check_at, check_of_ground, check_of_parts, is_stored};
+ghost use Rattle.jtask.specs.Tasks.{GroundClasses, IsWhole, JobClasses, RunClasses, check_at, check_of_ground, check_of_parts, is_stored, reads};
 ghost use Rattle.jtask.specs.Tasks.{policy_at, run_at, run_in, run_of_ground, run_of_parts, runnable};
 ghost use Rattle.jtask.specs.Tasks.{moved_of_parts, rewrite_at, rewrite_of_ground, rewrite_of_parts, rewrite_of_text, side_of, stores, task};
 
@@ -35,9 +35,9 @@ use jshow::Refusal;
 use jtext::{Units, bytes_of};
 use std::alloc::Global;
 
-/// Whether a command is built.
-pub fn is_built(command: &Command) -> bool
-    ensures { result ≡ built command.now }
+/// Whether a command reads files. The others make theirs.
+pub fn reads_files(command: &Command) -> bool
+    ensures { result ≡ reads command.now }
 {
     match command {
         Command::Run { .. }
@@ -90,7 +90,7 @@ fn runnable(
     ensures value { Follows (λ x. x) result (runnable side name.now parts) }
     ensures classes { OnOk result (AreClasses parts) }
     ensures side { IfOk result (λ x. x.0.side ≡ side) }
-    ensures main { IfOk result (λ x. HasMain x.0 x.1) }
+    ensures main { IfOk result (λ x. IsMain x.0 x.1) }
     ensures unread { result ≡ Err Read → ⊥ }
 {
     let joined = linked(alloc, parts, side)?;
@@ -133,7 +133,7 @@ fn run_moved(
     plan: Plan,
 ) -> Result<Task, Halt>
     requires side { program.side ≡ Source }
-    requires main { HasMain program plan.main }
+    requires main { IsMain program plan.main }
     ensures value { Follows (λ x. x) result (run_in Pass program domains plan) }
     ensures whole { IfOk result IsWhole }
     ensures kind { IfOk result (λ t. is_stored t ≡ false) }
@@ -162,7 +162,7 @@ fn run_in(
     plan: Plan,
 ) -> Result<Task, Halt>
     requires side { program.side ≡ side_of form }
-    requires main { HasMain program plan.main }
+    requires main { IsMain program plan.main }
     ensures value { Follows (λ x. x) result (run_in form program domains plan) }
     ensures whole { IfOk result IsWhole }
     ensures kind { IfOk result (λ t. is_stored t ≡ false) }
@@ -387,10 +387,10 @@ fn policy_at<S: Shelf>(alloc: Global, path: &str, shelf: &mut S) -> Result<Task,
     })
 }
 
-/// What a command that is built asks for.
+/// What a command that reads files asks for.
 #[tactic(auto, unfolding(crate::specs::Tasks::task))]
 pub fn task_of<S: Shelf>(alloc: Global, command: &Command, shelf: &mut S) -> Result<Task, Halt>
-    requires { IsTrue (built command.now) }
+    requires { IsTrue (reads command.now) }
     ensures value { (files : List File) → S.held shelf.old ≡ Some files → Follows (λ x. x) result (task command.now files) }
     // What was read for a run are parts that may be linked, each of them a class file.
     ensures classes { (files : List File) → S.held shelf.old ≡ Some files → OnOk result (RunClasses command.now files) }

@@ -1,6 +1,6 @@
 use crate::rows::{Asked, Faults, Row, Stored};
-use jdriver::javasec;
 use jio::{MemoryShelf, MemorySink, Shelf};
+use jmain::javasec;
 use std::alloc::{AllocError, Global};
 
 /// Files by their paths, with what they hold.
