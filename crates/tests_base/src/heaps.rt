@@ -1,4 +1,4 @@
-use crate::words::pair;
+use crate::words::{first, pair};
 use jheap::{CellType, Heap, Kind};
 use jops::Value;
 use std::alloc::Global;
@@ -19,8 +19,29 @@ fn made(alloc: Global, words: &str) -> Result<String, Unread> {
     let (kind, rest) = pair(words)?;
     let (len, cells) = pair(rest)?;
     let mut heap = Heap::open(alloc, u32::from(number::<u16>(cells)?))?;
-    let made = heap.make(alloc, kind_of(kind)?, number::<u32>(len)?)?;
+    let made = heap.make(kind_of(kind)?, number::<u32>(len)?);
     Ok(format!(in alloc; "{made:?} {}", heap.left())?)
+}
+
+/// What a heap with so many cells answers to each word: a kind and a length make an object; `left`; `found` with a number.
+fn steps(alloc: Global, words: &str) -> Result<String, Unread> {
+    let (cells, rest) = first(words);
+    let cells = number::<u32>(cells)?;
+    if cells >= 0x8000_0000 {
+        return Err(Unread::Line);
+    }
+    let mut heap = Heap::open(alloc, cells)?;
+    let mut found = String::new(alloc);
+    for step in rest.split(", ") {
+        let (word, count) = first(step);
+        let one = match word {
+            "left" => format!(in alloc; " {}", heap.left())?,
+            "found" => format!(in alloc; " {:?}", heap.found(number::<u32>(count)?))?,
+            _ => format!(in alloc; " {:?}", heap.make(kind_of(word)?, number::<u32>(count)?))?,
+        };
+        found.push_str(one.as_str())?;
+    }
+    Ok(found)
 }
 
 /// The second of two statics as it is at first and with -1 in it, then the first with the least long in it, and the second again.
@@ -40,6 +61,7 @@ fn statics(alloc: Global) -> Result<String, Unread> {
 pub fn found(alloc: Global, kind: &str, words: &str) -> Result<String, Unread> {
     match kind {
         "make" => made(alloc, words),
+        "heap" => steps(alloc, words),
         "statics" => statics(alloc),
         _ => Err(Unread::Line),
     }

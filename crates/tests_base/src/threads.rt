@@ -2,9 +2,24 @@ ghost use Rattle.std.specs.Prelude.{◌≡◌, ◌∷◌, [], IfOk};
 ghost use Rattle.jthreads.specs.Table.{running};
 
 use crate::words::{numbers, pair};
-use jthreads::{Threads, pick};
+use jthreads::Threads;
 use std::alloc::{AllocError, Global};
 use tests_rows::{Unread, number};
+
+/// Threads 0 to 8, of which these can run: the others aren't started, and thread 0 waits for itself.
+fn table_of(alloc: Global, runnable: &[u32]) -> Result<Threads, AllocError> {
+    let mut threads = Threads::open(alloc)?;
+    if !runnable.contains(&0) {
+        threads.join(0, 0);
+    }
+    for t in 1..9 {
+        let made = threads.add(alloc)?;
+        if runnable.contains(&t) {
+            threads.start(made);
+        }
+    }
+    Ok(threads)
+}
 
 /// Which thread is picked: by a schedule, how many of its numbers were taken, and the threads that can run.
 fn picked(alloc: Global, words: &str) -> Result<String, Unread> {
@@ -12,12 +27,21 @@ fn picked(alloc: Global, words: &str) -> Result<String, Unread> {
     let (taken, runnable) = pair(rest)?;
     let schedule = numbers(alloc, schedule)?;
     let runnable = numbers(alloc, runnable)?;
-    let found = pick(
-        schedule.as_slice(),
-        number::<u64>(taken)?,
-        runnable.as_slice(),
-    );
+    let threads = table_of(alloc, runnable.as_slice())?;
+    let found = threads.pick(schedule.as_slice(), number::<u64>(taken)?);
     Ok(format!(in alloc; "{found:?}")?)
+}
+
+/// The threads that can run, each picked by its place.
+fn runnable(alloc: Global, threads: &Threads) -> Result<Vec<u32>, AllocError> {
+    let mut numbers = Vec::new(alloc);
+    for place in 0..9u32 {
+        match threads.pick(&[place], 0) {
+            Some(t) if !numbers.as_slice().contains(&t) => numbers.push(t)?,
+            _ => return Ok(numbers),
+        }
+    }
+    Ok(numbers)
 }
 
 /// Threads 0 and 1, both started.
@@ -47,10 +71,10 @@ fn starts(alloc: Global) -> Result<String, AllocError> {
     let mut threads = Threads::open(alloc)?;
     let one = threads.add(alloc)?;
     let two = threads.add(alloc)?;
-    let before = threads.runnable(alloc)?;
+    let before = runnable(alloc, &threads)?;
     let (first, again, zero) = (threads.start(1), threads.start(1), threads.start(0));
     let joined = threads.join(0, 2);
-    let behind = threads.runnable(alloc)?;
+    let behind = runnable(alloc, &threads)?;
     let (before, behind) = (before.as_slice(), behind.as_slice());
     format!(in alloc; "{one} {two} {before:?} {first} {again} {zero} {joined:?} {behind:?}")
 }
@@ -58,13 +82,13 @@ fn starts(alloc: Global) -> Result<String, AllocError> {
 /// Of four threads two wait for the second, and the last for itself; the second ends, and one that waited does so again.
 fn wakes(alloc: Global) -> Result<String, AllocError> {
     let mut threads = four(alloc)?;
-    let all = threads.runnable(alloc)?;
+    let all = runnable(alloc, &threads)?;
     let (one, two, own) = (threads.join(0, 1), threads.join(2, 1), threads.join(3, 3));
-    let before = threads.runnable(alloc)?;
+    let before = runnable(alloc, &threads)?;
     threads.end(1);
-    let behind = threads.runnable(alloc)?;
+    let behind = runnable(alloc, &threads)?;
     let (again, started) = (threads.join(0, 1), threads.start(1));
-    let last = threads.runnable(alloc)?;
+    let last = runnable(alloc, &threads)?;
     let (all, before) = (all.as_slice(), before.as_slice());
     let (behind, last) = (behind.as_slice(), last.as_slice());
     format!(in alloc;
@@ -79,12 +103,12 @@ fn ends(alloc: Global) -> Result<String, AllocError> {
     let before = threads.all_ended();
     threads.end(0);
     let behind = threads.all_ended();
-    let runnable = threads.runnable(alloc)?;
+    let runs = runnable(alloc, &threads)?;
     let started = threads.start(1);
     let last = threads.all_ended();
     format!(in alloc;
         "{one} {before} {behind} {:?} {started} {last}",
-        runnable.as_slice()
+        runs.as_slice()
     )
 }
 
