@@ -22,6 +22,20 @@ def entering(c, domains, called):
     return b"\x2b" + first + enter + b"\x4e\x2d" + second + enter + b"\x4e"
 
 
+def calling(c, domains, called):
+    """Enters each of some domains from the same context."""
+    enter = call(c, "sps/Rt", ENTER) if called else POP
+    return b"".join(b"\x2b\x10" + bytes([d]) + enter + POP for d in domains)
+
+
+def finding(c, called):
+    """Enters two domains from two contexts: both are remembered in one place, so that each is looked for in the table. The second context is
+    entered too, which is remembered, and isn't counted."""
+    enter = call(c, "sps/Rt", ENTER)
+    end = (enter if called else POP) + POP
+    return b"\x2b\x04" + enter + b"\x03" + end + b"\x2b\x10\x1f" + end
+
+
 def keeping(c, called):
     """Keeps the context, and leaves what that gives alone."""
     return b"\x2b" + (call(c, "sps/Rt", SNAPSHOT) if called else b"") + POP
@@ -83,5 +97,8 @@ if __name__ == "__main__":
     program = os.path.realpath(sys.argv[1])
     row(program, "enter within a domain", 5_000_000, 2, 0, lambda c, called: entering(c, (0, 0), called))
     row(program, "enter across two domains by turns", 5_000_000, 2, 0, lambda c, called: entering(c, (1, 0), called))
+    row(program, "enter of three domains in turn", 3_000_000, 3, 0, lambda c, called: calling(c, range(1, 4), called))
+    row(program, "enter of 100 domains in turn", 100_000, 100, 0, lambda c, called: calling(c, range(1, 101), called))
+    row(program, "enter that is found in the table", 2_000_000, 2, 0, finding)
     for depth in (0, 1_000):
         row(program, "snapshot at depth %d" % (depth + 3), 2_000_000, 1, depth, keeping)
