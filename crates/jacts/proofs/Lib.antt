@@ -10,3 +10,4 @@ pub mod Keeping
 pub mod Moving
 pub mod NewArrays
 pub mod Puts
+pub mod Resting

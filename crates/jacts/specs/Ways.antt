@@ -1,5 +1,5 @@
 -- What a row came to, by what the machine's definition says that its instruction does.
-use Rattle.std.specs.Prelude.{◌≡◌, ◌+◌, ℕ, ℤ, slice_get, Bool, true, false, List, [], Option, Some, None, nat_le, if◌then◌else◌}
+use Rattle.std.specs.Prelude.{◌≡◌, ⊤, ◌+◌, ℕ, ℤ, slice_get, Bool, true, false, List, [], Option, Some, None, nat_le, if◌then◌else◌}
 use Rattle.jops.specs.declared.value.Value.{Value}
 use Rattle.jops.specs.declared.value.Value.TheVariants.{Int}
 use Rattle.jtrace.specs.declared.event.Event.{Event}
@@ -78,3 +78,11 @@ GoesFree E = (f : FrameOf ℕ E) (s t : Store ℕ) (told : List Event) (g : Fram
 abbrev pub ActsWhere : {E : Type 0} → (Site → (Member → Bool) → Type 0) → Instruction → FrameOf ℕ E → Store ℕ → Left E → Type 0
 ActsWhere {E} C i f s l =
     (r : Rules ℕ E) (at : Site) (own : Member → Bool) (entries : List E) (inherited : Option ℕ) → C at own → Comes f s (doing r at own s entries inherited i f) l
+
+-- ---- what doesn't go on
+
+-- What raises, throws or finds too few cells has left this as it was.
+abbrev pub Rests : {A : Type 0} → Way → A → A → Type 0
+Rests ways.Went x y = ⊤
+Rests ways.Stuck x y = ⊤
+Rests way x y = y ≡ x

@@ -11,7 +11,7 @@ ghost use Rattle.jstate.specs.Seen.{Things, array_at as shape_at, store_by};
 ghost use Rattle.jacts.specs.Accesses;
 ghost use Rattle.jacts.specs.Accesses.{with_items};
 ghost use Rattle.jacts.specs.Items.{array_seen};
-ghost use Rattle.jacts.specs.Ways.{Acts, leaves};
+ghost use Rattle.jacts.specs.Ways.{Acts, Rests, leaves};
 
 use crate::arrays::{Found, array_at};
 use crate::jumps::int_at;
@@ -171,6 +171,7 @@ pub fn array_load<M: Copy>(frames: &mut Frames<M>, heap: &Heap, shapes: &Shapes,
     ensures row { (p : Program) (things : Things) (constants : List (List ℕ × ℕ)) →
         let s = store_by p shapes.now things constants heap.now in Acts (instructions.Array (forms.Load e)) frames.old.newest s (leaves result [] frames.new.newest s) }
     ensures below { frames.new.below ≡ frames.old.below }
+    ensures rests { Rests result frames.old frames.new }
 {
     let Some(i) = int_at(frames, 0) else {
         return Way::Stuck;

@@ -15,7 +15,7 @@ ghost use Rattle.jstate.specs.declared.shapes.Shapes.{Shapes};
 ghost use Rattle.jstate.specs.Celled.{StayCelled};
 ghost use Rattle.jstate.specs.Seen.{AreBuilt, Things, array_at as shape_at, store_by};
 ghost use Rattle.jacts.specs.Items.{HasMade, array_seen, row_of};
-ghost use Rattle.jacts.specs.Ways.{Acts, leaves};
+ghost use Rattle.jacts.specs.Ways.{Acts, Rests, leaves};
 
 use crate::jumps::int_at;
 use crate::straight::give_for;
@@ -81,6 +81,7 @@ pub fn array_length<M: Copy>(frames: &mut Frames<M>, heap: &Heap) -> Way
     ensures row { (p : Program) (shapes : Shapes) (things : Things) (constants : List (List ℕ × ℕ)) →
         let s = store_by p shapes things constants heap.now in Acts (instructions.Array forms.Length) frames.old.newest s (leaves result [] frames.new.newest s) }
     ensures below { frames.new.below ≡ frames.old.below }
+    ensures rests { Rests result frames.old frames.new }
 {
     match array_at(frames, heap, 0) {
         Found::Other => Way::Stuck,
@@ -156,6 +157,8 @@ pub fn new_array<M: Copy>(
         array_named p (shape_at shapes number) ≡ row_of kind → Acts (instructions.Array (forms.New kind)) frames.old.newest (store_by p shapes things constants heap.old)
         (leaves way [] frames.new.newest (store_by p shapes things constants heap.new))) }
     ensures below { OnOk result (frames.new.below ≡ frames.old.below) }
+    ensures rests { IfOk result (λ way. Rests way frames.old frames.new) }
+    ensures kept { IfOk result (λ way. Rests way heap.old heap.new) }
     ensures built { OnOk result (AreBuilt heap.new.objects) }
     ensures celled { OnOk result (StayCelled heap.old.objects heap.new.objects) }
 {

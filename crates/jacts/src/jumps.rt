@@ -4,7 +4,7 @@ ghost use Rattle.jops.specs.declared.value.Value.TheVariants as values;
 ghost use Rattle.juses.specs.Instructions as instructions;
 ghost use Rattle.jmachine.specs.Straight.{case_of};
 ghost use Rattle.jstate.specs.Framed.{with_newest};
-ghost use Rattle.jacts.specs.Ways.{Does, NoKey, branched, int_in};
+ghost use Rattle.jacts.specs.Ways.{Does, NoKey, Rests, branched, int_in};
 
 use crate::way::Way;
 use jnames::Compare;
@@ -57,6 +57,7 @@ pub fn branch<M: Copy>(frames: &mut Frames<M>, n: usize, holds: bool, to: u32)
 pub fn goto<M: Copy>(frames: &mut Frames<M>, to: u32) -> Way
     ensures row { Does (instructions.Jump instructions.Always to) frames.old.newest result frames.new.newest }
     ensures below { frames.new.below ≡ frames.old.below }
+    ensures rests { Rests result frames.old frames.new }
 {
     frames.go_to(to);
     Way::Went
@@ -69,6 +70,7 @@ pub fn jump_if<M: Copy>(frames: &mut Frames<M>, c: Compare, to: u32) -> Way
     requires { frames.old.newest.place + 1 < 2 ^ 32 }
     ensures row { Does (instructions.Jump (instructions.If c) to) frames.old.newest result frames.new.newest }
     ensures below { frames.new.below ≡ frames.old.below }
+    ensures rests { Rests result frames.old frames.new }
 {
     let Some(x) = int_at(frames, 0) else {
         return Way::Stuck;
@@ -84,6 +86,7 @@ pub fn jump_if_int<M: Copy>(frames: &mut Frames<M>, c: Compare, to: u32) -> Way
     requires { frames.old.newest.place + 1 < 2 ^ 32 }
     ensures row { Does (instructions.Jump (instructions.IfInt c) to) frames.old.newest result frames.new.newest }
     ensures below { frames.new.below ≡ frames.old.below }
+    ensures rests { Rests result frames.old frames.new }
 {
     let Some(y) = int_at(frames, 0) else {
         return Way::Stuck;
@@ -110,6 +113,7 @@ pub fn switch<M: Copy>(frames: &mut Frames<M>, key: i32, to: u32) -> Way
     requires { Some key ≡ int_in (slice_get frames.old.newest.operands 0) }
     ensures row { (cases : List (ℤ × ℕ)) (other : ℕ) → to ≡ case_of key cases other → Does (instructions.Switch cases other) frames.old.newest result frames.new.newest }
     ensures below { frames.new.below ≡ frames.old.below }
+    ensures rests { Rests result frames.old frames.new }
 {
     frames.shrink(1);
     frames.go_to(to);

@@ -8,8 +8,8 @@
 //! - `Moves`: the newest items of the stack, and what comes in their place.
 //!
 //! Proved: each row is jmachine's row of its instruction: where that goes on, jumps, raises or is stuck, so does the row, and of
-//! exceptions it raises the one that the definition names first; the frames below are left as they are, and what holds of the pieces of
-//! builders and of the objects' cells stays.
+//! exceptions it raises the one that the definition names first; where it raises or finds too few cells it has changed nothing (`Rests`);
+//! the frames below are left as they are, and what holds of the pieces of builders and of the objects' cells stays.
 //!
 //! Rooms of the machine may name it.
 #![tactic(auto)]

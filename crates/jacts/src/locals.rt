@@ -8,7 +8,7 @@ ghost use Rattle.jops.specs.Shuffles;
 ghost use Rattle.juses.specs.Instructions as instructions;
 ghost use Rattle.jmachine.specs.Straight.{places, with_local};
 ghost use Rattle.jstate.specs.Framed.{keeping};
-ghost use Rattle.jacts.specs.Ways.{Does, int_in};
+ghost use Rattle.jacts.specs.Ways.{Does, Rests, int_in};
 
 use crate::straight::push;
 use crate::way::Way;
@@ -67,6 +67,7 @@ fn load<M: Copy>(frames: &mut Frames<M>, kind: LocalKind, n: u16) -> Result<Way,
     requires { frames.old.newest.place + 1 < 2 ^ 32 }
     ensures row { IfOk result (λ way. Does (instructions.Local (Move Load kind n)) frames.old.newest way frames.new.newest) }
     ensures below { OnOk result (frames.new.below ≡ frames.old.below) }
+    ensures rests { IfOk result (λ way. Rests way frames.old frames.new) }
 {
     match frames.local(n as usize) {
         None => Ok(Way::Stuck),
@@ -85,6 +86,7 @@ fn store<M: Copy>(frames: &mut Frames<M>, kind: LocalKind, n: u16) -> Way
     requires { frames.old.newest.place + 1 < 2 ^ 32 }
     ensures row { Does (instructions.Local (Move Store kind n)) frames.old.newest result frames.new.newest }
     ensures below { frames.new.below ≡ frames.old.below }
+    ensures rests { Rests result frames.old frames.new }
 {
     if frames.count() < 1 {
         return Way::Stuck;
@@ -137,6 +139,7 @@ fn increment<M: Copy>(frames: &mut Frames<M>, n: u16, by: i16) -> Way
     requires { frames.old.newest.place + 1 < 2 ^ 32 }
     ensures row { Does (instructions.Local (Increment n by)) frames.old.newest result frames.new.newest }
     ensures below { frames.new.below ≡ frames.old.below }
+    ensures rests { Rests result frames.old frames.new }
 {
     let Some(x) = int_of(frames.local(n as usize)) else {
         return Way::Stuck;
@@ -152,6 +155,7 @@ pub fn local<M: Copy>(frames: &mut Frames<M>, form: LocalForm) -> Result<Way, Al
     requires { frames.old.newest.place + 1 < 2 ^ 32 }
     ensures row { IfOk result (λ way. Does (instructions.Local form) frames.old.newest way frames.new.newest) }
     ensures below { OnOk result (frames.new.below ≡ frames.old.below) }
+    ensures rests { IfOk result (λ way. Rests way frames.old frames.new) }
 {
     match form {
         LocalForm::Move(Access::Load, kind, n) => load(frames, kind, n),

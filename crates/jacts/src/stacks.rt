@@ -4,7 +4,7 @@ ghost use Rattle.jmachine.specs.Frames.{standing};
 ghost use Rattle.jmachine.specs.Straight.{moved};
 ghost use Rattle.jstate.specs.Framed.{holding, with_newest};
 ghost use Rattle.jacts.specs.Moves.{laid as move_of, top_seen};
-ghost use Rattle.jacts.specs.Ways.{Does};
+ghost use Rattle.jacts.specs.Ways.{Does, Rests};
 ghost use Rattle.jacts.specs.declared.way.Way.TheVariants as ways;
 
 use crate::locals::is_long;
@@ -139,6 +139,7 @@ pub fn stack<M: Copy>(frames: &mut Frames<M>, op: Shuffle) -> Result<Way, AllocE
     requires { frames.old.newest.place + 1 < 2 ^ 32 }
     ensures row { IfOk result (λ way. Does (instructions.Stack op) frames.old.newest way frames.new.newest) }
     ensures below { OnOk result (frames.new.below ≡ frames.old.below) }
+    ensures rests { IfOk result (λ way. Rests way frames.old frames.new) }
 {
     shuffle_laws::<Value>();
     let a = top_at(frames, 0);

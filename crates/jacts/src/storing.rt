@@ -15,7 +15,7 @@ ghost use Rattle.jstate.specs.Celled.{StayCelled};
 ghost use Rattle.jstate.specs.Seen.{AreBuilt, Things, store_by};
 ghost use Rattle.jmachine.specs.Arrays as rows;
 ghost use Rattle.jacts.specs.Accesses.{HasPut, kept_if};
-ghost use Rattle.jacts.specs.Ways.{Acts, leaves};
+ghost use Rattle.jacts.specs.Ways.{Acts, Rests, leaves};
 
 use crate::access::{array_type, items_at, within};
 use crate::arrays::Found;
@@ -137,6 +137,8 @@ pub fn array_store<M: Copy>(
         Acts (instructions.Array (forms.Store e)) frames.old.newest (store_by p shapes.now things constants heap.old)
         (leaves result [] frames.new.newest (store_by p shapes.now things constants heap.new)) }
     ensures below { frames.new.below ≡ frames.old.below }
+    ensures rests { Rests result frames.old frames.new }
+    ensures kept { Rests result heap.old heap.new }
     ensures built { AreBuilt heap.old.objects → AreBuilt heap.new.objects }
     ensures celled { StayCelled heap.old.objects heap.new.objects }
 {

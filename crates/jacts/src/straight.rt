@@ -4,7 +4,7 @@ ghost use Rattle.jcode.specs.declared.form.Simple.TheVariants as simples;
 ghost use Rattle.jops.specs.declared.value.Value.TheVariants as values;
 ghost use Rattle.jmachine.specs.Frames.{onward, standing};
 ghost use Rattle.jstate.specs.Framed.{with_newest};
-ghost use Rattle.jacts.specs.Ways.{Does};
+ghost use Rattle.jacts.specs.Ways.{Does, Rests};
 ghost use Rattle.jacts.specs.declared.way.Way.TheVariants as ways;
 
 use crate::ops::{division_of, one_of, two_of};
@@ -74,6 +74,7 @@ fn compute_two<M: Copy>(frames: &mut Frames<M>, op: OpTwo) -> Way
     requires { frames.old.newest.place + 1 < 2 ^ 32 }
     ensures row { Does (instructions.Simple (simples.Two op)) frames.old.newest result frames.new.newest }
     ensures below { frames.new.below ≡ frames.old.below }
+    ensures rests { Rests result frames.old frames.new }
 {
     if frames.count() < 2 {
         return Way::Stuck;
@@ -93,6 +94,7 @@ fn compute_one<M: Copy>(frames: &mut Frames<M>, op: OpOne) -> Way
     requires { frames.old.newest.place + 1 < 2 ^ 32 }
     ensures row { Does (instructions.Simple (simples.One op)) frames.old.newest result frames.new.newest }
     ensures below { frames.new.below ≡ frames.old.below }
+    ensures rests { Rests result frames.old frames.new }
 {
     if frames.count() < 1 {
         return Way::Stuck;
@@ -112,6 +114,7 @@ fn divide<M: Copy>(frames: &mut Frames<M>, op: Division) -> Way
     requires { frames.old.newest.place + 1 < 2 ^ 32 }
     ensures row { Does (instructions.Simple (simples.Divide op)) frames.old.newest result frames.new.newest }
     ensures below { frames.new.below ≡ frames.old.below }
+    ensures rests { Rests result frames.old frames.new }
 {
     if frames.count() < 2 {
         return Way::Stuck;
@@ -133,6 +136,7 @@ pub fn simple<M: Copy>(frames: &mut Frames<M>, form: Simple) -> Result<Way, Allo
     requires { frames.old.newest.place + 1 < 2 ^ 32 }
     ensures row { IfOk result (λ way. Does (instructions.Simple form) frames.old.newest way frames.new.newest) }
     ensures below { OnOk result (frames.new.below ≡ frames.old.below) }
+    ensures rests { IfOk result (λ way. Rests way frames.old frames.new) }
 {
     match form {
         Simple::Nothing => {

@@ -1,54 +1,25 @@
 -- A quick try to make a step: what it came to, for the frames of a thread and for its machine.
-use Rattle.std.proofs.Common.{◌≡◌, ◌∙◌, ◌+◌, ◌<◌, ◌≤◌, ℕ, zero, suc, add-one, arith, Bool, true, false, List, [], length, Option, Some, None, refl, sym, ap, subst}
-use Rattle.std.specs.Prelude.{⊤, IfOk, Ok, Err, Result, option_and_then, option_map, slice_get}
-use Rattle.jcode.specs.declared.form.Simple.TheVariants as simples
-use Rattle.jcode.specs.declared.names.FieldOp.{FieldOp}
-use Rattle.jdomain.specs.declared.verdict.Verdict.TheVariants.{Granted}
-use Rattle.jheap.specs.declared.cell.CellType.TheVariants as cells
+use Rattle.std.proofs.Common.{◌≡◌, ◌∙◌, ◌+◌, ◌<◌, ◌≤◌, ℕ, zero, suc, add-one, arith, Bool, true, false, List, [], length, Option, Some, refl, sym, ap, subst}
+use Rattle.std.specs.Prelude.{⊤, IfOk, Ok, Err, Result}
 use Rattle.jheap.specs.Heaps.{Heaped}
-use Rattle.jlib.specs.declared.side.Side.TheVariants.{Passing}
-use Rattle.jpool.specs.declared.entry.Entry.{Entry}
 use Rattle.jprogram.specs.Classes.{Program}
-use Rattle.jprogram.specs.declared.member.Member.{Member}
-use Rattle.juses.specs.Instructions.{Instruction, Simple, Local, Stack, Switch, Used}
-use Rattle.juses.specs.Meanings as meanings
-use Rattle.juses.specs.Meanings.{AClass, AConstant, AField, AMethod, EntryMeaning, entry_meant, field_used}
-use Rattle.juses.specs.Numbered.{keys_from}
-use Rattle.juses.specs.Tables.{pool_at}
-use Rattle.jmachine.specs.Acts.{FrameOf}
-use Rattle.jmachine.specs.Doing.{doing}
-use Rattle.jmachine.specs.Security.{Rules}
-use Rattle.jmachine.specs.Sites.{Site}
-use Rattle.jmachine.specs.Steps.{own_fields, step}
-use Rattle.jmachine.specs.Store.{Store}
-use Rattle.jmachine.specs.World.{world}
-use Rattle.jready.specs.declared.instr.FlowInstr.{FlowInstr}
-use Rattle.jready.specs.declared.instr.FlowInstr.TheVariants as flow
+use Rattle.jmachine.specs.Steps.{step}
 use Rattle.jready.specs.declared.instr.Instr.{Instr}
 use Rattle.jready.specs.declared.instr.Instr.TheVariants as instr
-use Rattle.jready.specs.declared.instr.Narrow.TheVariants as narrows
 use Rattle.jready.specs.declared.instr.Plain.{Plain}
-use Rattle.jready.specs.declared.instr.Plain.TheVariants as plain
 use Rattle.jready.specs.declared.instr.Push.{Push}
-use Rattle.jready.specs.declared.instr.Push.TheVariants as push
-use Rattle.jready.specs.declared.tables.Tables.{Tables}
-use Rattle.jready.specs.Laid.{Within}
-use Rattle.jready.specs.Meant.{flow_meant, meant, plain_meant, push_meant}
-use Rattle.jready.specs.Tabled.{part}
-use Rattle.jstate.specs.declared.shapes.Shapes.{Shapes}
 use Rattle.jstate.specs.Celled.{AreCelled}
 use Rattle.jstate.specs.Framed.{Framed, all}
-use Rattle.jstate.specs.Seen.{AreBuilt, Things, store_by}
+use Rattle.jstate.specs.Seen.{AreBuilt, Things}
 use Rattle.jacts.specs.declared.way.Way.{Way}
 use Rattle.jacts.specs.declared.way.Way.TheVariants as ways
-use Rattle.jacts.specs.Ways.{leaves}
+use Rattle.jacts.specs.Ways.{Rests}
 use Rattle.jcalls.specs.declared.ready.Counts.{Counts}
 use Rattle.jcalls.specs.Marks.{AreStanding, Stand}
 use Rattle.jcalls.specs.Readiness.{AreCounted}
 use Rattle.jguests.specs.Guested.{RunsAs, with_frames}
 use Rattle.jinvoke.specs.Laws.{StepsAt}
 use Rattle.jshapes.specs.Alike.{KeptLast, LeavesAlike, PermissionsLast}
-use Rattle.jrefs.specs.declared.lasting.Lasting.{Lasting}
 use Rattle.jrefs.specs.References as refs
 use Rattle.jrefs.specs.References.{RunsAlike, StaysStuck}
 use Rattle.jobjs.specs.Staying as staying
@@ -59,7 +30,6 @@ use Rattle.jstep.specs.Behind.{Follows}
 use Rattle.jstep.specs.Rows.{IsHere, Runs, Stays}
 use Rattle.jstep.specs.Stepping.{IsFixed, IsQuiet, Settles, StepsAlike}
 use Rattle.jstep.proofs.Executed.{all_done, row_steps}
-use Rattle.jstep.proofs.Meaning.{Means, means}
 use Rattle.jstep.proofs.Settled.{stands_for}
 use Rattle.jcore.specs.declared.machine.Machine.{Machine}
 use Rattle.jcore.specs.Comings as comings
@@ -68,190 +38,14 @@ use Rattle.jcore.specs.Machines.{IsReady, counts_of, state_of, things_of}
 use Rattle.jcore.proofs.Ready.{went_ready}
 use Rattle.jcore.proofs.Settled.{settled_went}
 use Rattle.jrun.specs.declared.came.Came.TheVariants as done
-use Rattle.jexecute.specs.declared.hastening.Haste.{Haste}
-use Rattle.jexecute.specs.declared.hastening.Haste.TheVariants as haste
 use Rattle.jexecute.specs.declared.hastening.Hasty.{Hasty}
 use Rattle.jexecute.specs.Advancing.{Advances, Fetches, IsThere, lasting_by}
 use Rattle.jexecute.specs.Executing.{CameTo, HasRules, Moves, moved}
-use Rattle.jexecute.specs.Hastening.{Closes, EndsSo, HasThings, Hastens, IsCalm, IsQuick, IsQuickFlow, IsQuickOf, IsQuickOfField, IsQuickPlain, IsQuickRef, IsStaticOp, Leads, Makes, Quietly, Tries, WereMade, program_of, quick_as}
+use Rattle.jexecute.specs.Hastening.{Closes, EndsSo, HasThings, Hastens, Leads, Makes, Quietly, Tries, WereMade, program_of, quick_as}
 use Rattle.jexecute.proofs.Advanced.{all_stand, is_there, others_advance}
-use Rattle.jexecute.proofs.Calm.{IsCalmOne, comes_calm, doing_calm}
 use Rattle.jexecute.proofs.Ended.{moved_lives, moved_machine, moved_stands, settled}
 use Rattle.jexecute.proofs.Moved.{one_moves}
 use Rattle.jexecute.proofs.Referred.{ok_refs_advance, row_stands}
-
--- ---- what a quick instruction stands for
-
-mapped : {A : Type 0} (make : A → Instruction) (o : Option A) (i : Instruction) → ((x : A) → IsCalmOne (make x)) → option_map make o ≡ Some i → IsCalmOne i
-mapped make None i calm e = absurd cc
-mapped make (Some x) i calm e = let same : make x ≡ i = cc in subst IsCalmOne same (calm x)
-
-given : (j i : Instruction) → IsCalmOne j → Some j ≡ Some i → IsCalmOne i
-given j i calm e = let same : j ≡ i = cc in subst IsCalmOne same calm
-
-plain_calm : (t : Tables) (f : Plain) → IsQuickPlain f → (i : Instruction) → plain_meant t f ≡ Some i → IsCalmOne i
-plain_calm t plain.Nothing quick i e = given (Simple simples.Nothing) i tt e
-plain_calm t plain.Null quick i e = given (Simple simples.Null) i tt e
-plain_calm t (plain.Int n) quick i e = given (Simple (simples.Int n)) i tt e
-plain_calm t (plain.Long k) quick i e = mapped (λ n. Simple (simples.Long n)) (slice_get t.longs k) i (λ n. tt) e
-plain_calm t (plain.Two op) quick i e = given (Simple (simples.Two op)) i tt e
-plain_calm t (plain.Divide op) quick i e = absurd quick
-plain_calm t (plain.One op) quick i e = given (Simple (simples.One op)) i tt e
-
-push_calm : (p : Program) (pool : List Entry) (t : Tables) (f : Push) → IsQuick (instr.Push f) → (i : Instruction) → push_meant p pool t f ≡ Some i → IsCalmOne i
-push_calm p pool t (push.Int n) quick i e = given (Used (meanings.Push (meanings.Int n))) i tt e
-push_calm p pool t (push.Long k) quick i e = mapped (λ n. Used (meanings.Push (meanings.Long n))) (slice_get t.longs k) i (λ n. tt) e
-push_calm p pool t (push.Text k) quick i e = absurd quick
-
-flow_calm : (f : FlowInstr) → IsQuickFlow f → (i : Instruction) → Some (flow_meant f) ≡ Some i → IsCalmOne i
-flow_calm (flow.Jump test to) quick i e = given (flow_meant (flow.Jump test to)) i tt e
-flow_calm (flow.Return kind) quick i e = absurd quick
-flow_calm flow.Throw quick i e = absurd quick
-
-calm_meant : (p : Program) (t : Tables) (class : ℕ) (one : Instr) → IsQuick one → (i : Instruction) → meant p t class one ≡ Some i → IsCalmOne i
-unfolding meant
-calm_meant p t class instr.Off quick i e = absurd quick
-calm_meant p t class (instr.Plain f) quick i e = plain_calm t f quick i e
-calm_meant p t class (instr.Push f) quick i e = push_calm p (pool_at p class) t f quick i e
-calm_meant p t class (instr.Local f) quick i e = given (Local f) i tt e
-calm_meant p t class (instr.Stack f) quick i e = given (Stack f) i tt e
-calm_meant p t class (instr.Flow f) quick i e = flow_calm f quick i e
-calm_meant p t class (instr.Table c) quick i e = mapped (Switch (keys_from c.low (part t.targets (c.first + 1) c.count))) (slice_get t.targets c.first) i (λ n. tt) e
-calm_meant p t class (instr.Lookup c) quick i e = given _ i tt e
-calm_meant p t class (instr.Array f) quick i e = absurd quick
-calm_meant p t class (instr.Object f) quick i e = absurd quick
-calm_meant p t class (instr.Field op cell narrow n slot owner) quick i e = absurd quick
-calm_meant p t class (instr.Call way n params method) quick i e = absurd quick
-calm_meant p t class (instr.Library way n params call) quick i e = absurd quick
-
--- it is here
-pub here_of : (one : Instr) → IsQuick one → IsHere one
-here_of instr.Off quick = absurd quick
-here_of (instr.Plain f) quick = tt
-here_of (instr.Push f) quick = quick
-here_of (instr.Local f) quick = tt
-here_of (instr.Stack f) quick = tt
-here_of (instr.Flow (flow.Jump test to)) quick = quick
-here_of (instr.Flow (flow.Return kind)) quick = absurd quick
-here_of (instr.Flow flow.Throw) quick = absurd quick
-here_of (instr.Table c) quick = tt
-here_of (instr.Lookup c) quick = tt
-here_of (instr.Array f) quick = absurd quick
-here_of (instr.Object f) quick = absurd quick
-here_of (instr.Field op cell narrow i slot owner) quick = absurd quick
-here_of (instr.Call way i params method) quick = absurd quick
-here_of (instr.Library way i params call) quick = absurd quick
-
--- ---- with a static, or with references
-
-branch_calm : (f : FlowInstr) → refs.IsFlowHere f → (i : Instruction) → Some (flow_meant f) ≡ Some i → IsCalmOne i
-branch_calm (flow.Jump test to) quick i e = given (flow_meant (flow.Jump test to)) i tt e
-branch_calm (flow.Return kind) quick i e = absurd quick
-branch_calm flow.Throw quick i e = absurd quick
-
-field_calm : (op : FieldOp) (o : Option EntryMeaning) → IsStaticOp op → (i : Instruction) → option_map Used (option_and_then (field_used op) o) ≡ Some i → IsCalmOne i
-field_calm op None quick i e = absurd cc
-field_calm op (Some (AConstant c)) quick i e = absurd cc
-field_calm op (Some (AClass t)) quick i e = absurd cc
-field_calm op (Some (AField g)) quick i e = given (Used (meanings.Field op g)) i quick e
-field_calm op (Some (AMethod init c)) quick i e = absurd cc
-
-ref_calm : (p : Program) (t : Tables) (class : ℕ) (one : Instr) → IsQuickRef one → (i : Instruction) → meant p t class one ≡ Some i → IsCalmOne i
-unfolding meant meanings.meant
-ref_calm p t class instr.Off quick i e = absurd quick
-ref_calm p t class (instr.Plain f) quick i e = absurd quick
-ref_calm p t class (instr.Push f) quick i e = absurd quick
-ref_calm p t class (instr.Local f) quick i e = absurd quick
-ref_calm p t class (instr.Stack f) quick i e = absurd quick
-ref_calm p t class (instr.Flow f) quick i e = branch_calm f quick i e
-ref_calm p t class (instr.Table c) quick i e = absurd quick
-ref_calm p t class (instr.Lookup c) quick i e = absurd quick
-ref_calm p t class (instr.Array f) quick i e = absurd quick
-ref_calm p t class (instr.Object f) quick i e = absurd quick
-ref_calm p t class (instr.Field op cell narrow n slot owner) quick i e = field_calm op (entry_meant p (pool_at p class) (slice_get (pool_at p class) n)) quick i e
-ref_calm p t class (instr.Call way n params method) quick i e = absurd quick
-ref_calm p t class (instr.Library way n params call) quick i e = absurd quick
-
-pub ref_here : (one : Instr) → IsQuickRef one → refs.IsHere one
-ref_here instr.Off quick = absurd quick
-ref_here (instr.Plain f) quick = absurd quick
-ref_here (instr.Push f) quick = absurd quick
-ref_here (instr.Local f) quick = absurd quick
-ref_here (instr.Stack f) quick = absurd quick
-ref_here (instr.Flow f) quick = quick
-ref_here (instr.Table c) quick = absurd quick
-ref_here (instr.Lookup c) quick = absurd quick
-ref_here (instr.Array f) quick = absurd quick
-ref_here (instr.Object f) quick = absurd quick
-ref_here (instr.Field op cell narrow i slot owner) quick = tt
-ref_here (instr.Call way i params method) quick = absurd quick
-ref_here (instr.Library way i params call) quick = absurd quick
-
--- ---- their rows neither raise, throw nor cost
-
--- some rules, whose frames carry what one carries
-rules : {E : Type 0} → E → Rules ℕ E
-rules e = record {
-  side = Passing;
-  entry_of = λ domain. e;
-  first = None;
-  enter = λ k domain. k;
-  check = λ asked given entries inherited. Granted;
-  check_kept = λ asked k. Granted;
-  snapshot = λ given entries inherited. 0;
-  inherit = λ given entries inherited. 0;
-  privileged = λ domain given context limits entries. record { caller = e; context = None };
-}
-
-abbrev site_in : Program → ℕ → Site
-site_in p class = record { world = world p; class = class; thread = 0; full = false; cwd = []; table = [] }
-
-module _ {E : Type 0} (one : Instr) (f : FrameOf ℕ E) (h : Heaped) (way : Way) (g : FrameOf ℕ E) (k : Heaped) where
-  nowhere : Program
-  nowhere = record { side = Passing; parts = [] }
-
-  pub calm_row : (tables : Tables) (shapes : Shapes) → IsQuick one → Within tables one → Runs tables shapes one f h way g k → IsCalm way
-  calm_row tables shapes quick within runs = by_meaning (means nowhere tables 0 one (here_of one quick) within)
-    where
-      things : Things
-      things = record { permissions = []; kept = [] }
-
-      s : Store ℕ
-      s = store_by nowhere shapes things [] h
-
-      own : Member → Bool
-      own m = false
-
-      by_meaning : Means (meant nowhere tables 0 one) → IsCalm way
-      by_meaning (i, is, basic) =
-          comes_calm f s (doing (rules f.entry) (site_in nowhere 0) own s [] None i f) (leaves way [] g (store_by nowhere shapes things [] k))
-          (doing_calm (rules f.entry) (site_in nowhere 0) own s [] None f i (calm_meant nowhere tables 0 one quick i is))
-          (runs nowhere 0 things [] i is (rules f.entry) (site_in nowhere 0) own [] None)
-
-  pub calm_ref : (x : Lasting) (counts : Counts) → HasThings counts → IsQuickRef one → refs.Runs x counts one f h way g k → StaysStuck x one f way → IsCalm way
-  calm_ref x counts has quick runs missing = by_meaning (meant p tables f.method.class one) refl
-    where
-      p : Program
-      p = x.ancestors.now
-
-      tables : Tables
-      tables = x.ready.now.methods.tables
-
-      at : Site
-      at = site_in p f.method.class
-
-      own : Member → Bool
-      own = own_fields p f.method
-
-      s : Store ℕ
-      s = store_by p x.shapes.now has.things [] h
-
-      by_meaning : (o : Option Instruction) → meant p tables f.method.class one ≡ o → IsCalm way
-      by_meaning None none = subst IsCalm (sym (missing none)) tt
-      by_meaning (Some i) is =
-          comes_calm f s (doing (rules f.entry) at own s [] None i f) (leaves way [] g (store_by p x.shapes.now has.things [] k))
-          (doing_calm (rules f.entry) at own s [] None f i (ref_calm p tables f.method.class one quick i is))
-          (runs i is has.things [] has.counted (rules f.entry) at own [] None (record { world = refl; class = refl; owns = λ m. refl }))
 
 -- ---- the step behind such a row
 
@@ -264,20 +58,20 @@ stuck_settles marks p f h r plan s shapes things constants marked same = refl
 module _ {E : Type 0} (p : Program) (x : Fixed E) (counts : Counts) (one : Instr) (f u : Framed E) (h v : Heaped) (law : StepsAt E) (follows : Follows E)
     (fixed : IsFixed p x) (fetches : Fetches p x f.newest one) (below : u.below ≡ f.below) where
   -- with numbers
-  row_advances : (way : Way) (done : Stepped) → IsQuick one → Runs x.tables.now x.shapes.now one f.newest h way u.newest v → IsQuiet done
+  row_advances : (way : Way) (done : Stepped) → IsHere one → Runs x.tables.now x.shapes.now one f.newest h way u.newest v → IsQuiet done
       → Settles x.marks.now p way u v done u v → (constants : List (List ℕ × ℕ)) → Advances p x counts constants f h done constants u v
   row_advances way done quick runs quiet settles constants =
       let r : Result Stepped ⊤ = Ok done in
-      let did = all_done p x one f u u h v v r way follows (here_of one quick) fetches.within runs below quiet settles in
+      let did = all_done p x one f u u h v v r way follows quick fetches.within runs below quiet settles in
       others_advance p x counts f u h v r constants constants refl (row_steps law p x counts f u h v r p refl one fetches.means did)
 
   -- with references
-  ref_advances : (way : Way) (done : Stepped) → IsQuickRef one → refs.Runs (lasting_by x) counts one f.newest h way u.newest v
+  ref_advances : (way : Way) (done : Stepped) → refs.IsHere one → refs.Runs (lasting_by x) counts one f.newest h way u.newest v
       → StaysStuck (lasting_by x) one f.newest way → IsQuiet done
       → Settles x.marks.now p way u v done u v → (constants : List (List ℕ × ℕ)) → Advances p x counts constants f h done constants u v
   ref_advances way done quick runs missing quiet settles constants =
       let r : Result Stepped ⊤ = Ok done in
-      ok_refs_advance p x counts one f u h v way law follows fixed (ref_here one quick) fetches runs missing below u v r settles quiet constants
+      ok_refs_advance p x counts one f u h v way law follows fixed quick fetches runs missing below u v r settles quiet constants
 
 module _ {E : Type 0} (x : Fixed E) (counts : Counts) (one : Instr) (f u : Framed E) (h v : Heaped) (law : StepsAt E) (follows : Follows E)
     (fixed : IsFixed (program_of x) x) (fetches : Fetches (program_of x) x f.newest one) (below : u.below ≡ f.below)
@@ -285,9 +79,9 @@ module _ {E : Type 0} (x : Fixed E) (counts : Counts) (one : Instr) (f u : Frame
   abbrev p : Program
   p = program_of x
 
-  pub row_hastens : (way : Way) → IsCalm way → IsQuick one → Runs x.tables.now x.shapes.now one f.newest h way u.newest v → Stays way f.newest u.newest
+  pub row_hastens : (way : Way) → Rests way f u → Rests way h v → IsHere one → Runs x.tables.now x.shapes.now one f.newest h way u.newest v → Stays way f.newest u.newest
       → ((q : Program) (things : Things) → LeavesAlike q x.shapes.now things way h.objects v.objects) → Hastens x counts f h (quick_as way) u v
-  row_hastens ways.Went calm quick runs stays alike = (
+  row_hastens ways.Went rests kept quick runs stays alike = (
     record {
       row = row_advances p x counts one f u h v law follows fixed fetches below ways.Went steps.Went quick runs tt (went_settles x.marks.now p u v);
       stands = stands_for f u (length x.marks.now) ways.Went stays below stand;
@@ -297,21 +91,21 @@ module _ {E : Type 0} (x : Fixed E) (counts : Counts) (one : Instr) (f u : Frame
     },
     stays,
   )
-  row_hastens ways.Stuck calm quick runs stays alike = record {
+  row_hastens ways.Stuck rests kept quick runs stays alike = record {
     row = row_advances p x counts one f u h v law follows fixed fetches below ways.Stuck steps.Stuck quick runs tt (stuck_settles x.marks.now p u v);
     stands = tt;
     alike = λ things counted. tt;
     built = built;
     celled = celled;
   }
-  row_hastens (ways.Raises class) calm quick runs stays alike = absurd calm
-  row_hastens (ways.Throws n) calm quick runs stays alike = absurd calm
-  row_hastens ways.Full calm quick runs stays alike = absurd calm
+  row_hastens (ways.Raises class) rests kept quick runs stays alike = (rests, kept)
+  row_hastens (ways.Throws n) rests kept quick runs stays alike = (rests, kept)
+  row_hastens ways.Full rests kept quick runs stays alike = (rests, kept)
 
-  pub ref_hastens : (way : Way) → IsCalm way → IsQuickRef one → refs.Runs (lasting_by x) counts one f.newest h way u.newest v
+  pub ref_hastens : (way : Way) → Rests way f u → Rests way h v → refs.IsHere one → refs.Runs (lasting_by x) counts one f.newest h way u.newest v
       → StaysStuck (lasting_by x) one f.newest way → staying.Stays way f.newest u.newest → RunsAlike (lasting_by x) counts way h.objects v.objects
       → Hastens x counts f h (quick_as way) u v
-  ref_hastens ways.Went calm quick runs missing stays alike = (
+  ref_hastens ways.Went rests kept quick runs missing stays alike = (
     record {
       row = ref_advances p x counts one f u h v law follows fixed fetches below ways.Went steps.Went quick runs missing tt (went_settles x.marks.now p u v);
       stands = row_stands f u (length x.marks.now) ways.Went stays below stand;
@@ -321,26 +115,20 @@ module _ {E : Type 0} (x : Fixed E) (counts : Counts) (one : Instr) (f u : Frame
     },
     stays,
   )
-  ref_hastens ways.Stuck calm quick runs missing stays alike = record {
+  ref_hastens ways.Stuck rests kept quick runs missing stays alike = record {
     row = ref_advances p x counts one f u h v law follows fixed fetches below ways.Stuck steps.Stuck quick runs missing tt (stuck_settles x.marks.now p u v);
     stands = tt;
     alike = λ things counted. tt;
     built = built;
     celled = celled;
   }
-  ref_hastens (ways.Raises class) calm quick runs missing stays alike = absurd calm
-  ref_hastens (ways.Throws n) calm quick runs missing stays alike = absurd calm
-  ref_hastens ways.Full calm quick runs missing stays alike = absurd calm
-
--- which rows have a field's instruction, by what it does alone
-pub field_haste : (op : FieldOp) (rows : Haste) → IsQuickOfField op rows → IsQuickOf (instr.Field op cells.Int narrows.Whole 0 0 0) rows
-field_haste op haste.Row quick = absurd quick
-field_haste op haste.Reference quick = quick
-field_haste op haste.None quick = tt
+  ref_hastens (ways.Raises class) rests kept quick runs missing stays alike = (rests, kept)
+  ref_hastens (ways.Throws n) rests kept quick runs missing stays alike = (rests, kept)
+  ref_hastens ways.Full rests kept quick runs missing stays alike = (rests, kept)
 
 -- ---- where such an instruction stands the frames may go on
 
-quick_there : (one : Instr) → IsQuick one → IsThere one
+quick_there : (one : Instr) → IsHere one → IsThere one
 quick_there instr.Off quick = absurd quick
 quick_there (instr.Plain f) quick = tt
 quick_there (instr.Push f) quick = tt
@@ -350,12 +138,12 @@ quick_there (instr.Flow f) quick = tt
 quick_there (instr.Table c) quick = tt
 quick_there (instr.Lookup c) quick = tt
 quick_there (instr.Array f) quick = tt
-quick_there (instr.Object f) quick = tt
-quick_there (instr.Field op cell narrow i slot owner) quick = tt
-quick_there (instr.Call way i params method) quick = tt
-quick_there (instr.Library way i params call) quick = tt
+quick_there (instr.Object f) quick = absurd quick
+quick_there (instr.Field op cell narrow i slot owner) quick = absurd quick
+quick_there (instr.Call way i params method) quick = absurd quick
+quick_there (instr.Library way i params call) quick = absurd quick
 
-ref_there : (one : Instr) → IsQuickRef one → IsThere one
+ref_there : (one : Instr) → refs.IsHere one → IsThere one
 ref_there instr.Off quick = absurd quick
 ref_there (instr.Plain f) quick = tt
 ref_there (instr.Push f) quick = tt
@@ -371,10 +159,10 @@ ref_there (instr.Call way i params method) quick = tt
 ref_there (instr.Library way i params call) quick = tt
 
 module _ {E : Type 0} (p : Program) (x : Fixed E) (f : Framed E) (one : Instr) (fetches : Fetches p x f.newest one) (classes : ℕ) (stand : AreStanding classes f) where
-  pub quick_stands : IsQuick one → Stand classes (all f)
+  pub quick_stands : IsHere one → Stand classes (all f)
   quick_stands quick = all_stand p x f one fetches classes stand (is_there one (quick_there one quick))
 
-  pub ref_stands : IsQuickRef one → Stand classes (all f)
+  pub ref_stands : refs.IsHere one → Stand classes (all f)
   ref_stands quick = all_stand p x f one fetches classes stand (is_there one (ref_there one quick))
 
 -- ---- some steps of a thread

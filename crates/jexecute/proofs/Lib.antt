@@ -5,5 +5,4 @@ pub mod Fetched
 pub mod Loaded
 pub mod Moved
 pub mod Referred
-pub mod Calm
 pub mod Hastened

@@ -1,15 +1,8 @@
 -- A quick try to make a step of a running thread: of which instructions it is made, and what it came to.
 use Rattle.std.specs.Prelude.{◌≡◌, ◌≤◌, ◌<◌, ⊤, ℕ, zero, suc, Bool, true, false, [], List, length}
-use Rattle.jcode.specs.declared.names.FieldOp.{FieldOp}
-use Rattle.jcode.specs.declared.names.FieldOp.TheVariants as fields
 use Rattle.jheap.specs.Heaps.{Heaped}
 use Rattle.jprogram.specs.Classes.{Program}
-use Rattle.jready.specs.declared.instr.FlowInstr.{FlowInstr}
-use Rattle.jready.specs.declared.instr.FlowInstr.TheVariants as flow
 use Rattle.jready.specs.declared.instr.Instr.{Instr}
-use Rattle.jready.specs.declared.instr.Instr.TheVariants as instr
-use Rattle.jready.specs.declared.instr.Plain.{Plain}
-use Rattle.jready.specs.declared.instr.Plain.TheVariants as plain
 use Rattle.jrun.specs.declared.came.Came.TheVariants as done
 use Rattle.jstate.specs.Celled.{AreCelled}
 use Rattle.jstate.specs.Framed.{Framed}
@@ -22,7 +15,7 @@ use Rattle.jrefs.specs.References as refs
 use Rattle.jstep.specs.declared.fixed.Fixed.{Fixed}
 use Rattle.jstep.specs.declared.outcomes.Stepped.{Stepped}
 use Rattle.jstep.specs.declared.outcomes.Stepped.TheVariants as steps
-use Rattle.jstep.specs.Rows.{IsNumberPush, IsNumberTest}
+use Rattle.jstep.specs.Rows as rows
 use Rattle.jstep.specs.Stepping.{StepsAlike, StoodAs}
 use Rattle.jcore.specs.declared.machine.Machine.{Machine}
 use Rattle.jcore.specs.Machines.{StaysFixed}
@@ -36,59 +29,19 @@ use Rattle.jexecute.specs.Executing.{CameTo}
 
 -- ---- which instructions
 
--- with operands alone, but no division
-abbrev pub IsQuickPlain : Plain → Type 0
-IsQuickPlain (plain.Divide op) = ⊥
-IsQuickPlain f = ⊤
-
-abbrev pub IsQuickFlow : FlowInstr → Type 0
-IsQuickFlow (flow.Jump test to) = IsNumberTest test
-IsQuickFlow f = ⊥
-
--- one with numbers, with a local or with the newest items of the stack, which neither raises nor costs
-abbrev pub IsQuick : Instr → Type 0
-IsQuick (instr.Plain f) = IsQuickPlain f
-IsQuick (instr.Push f) = IsNumberPush f
-IsQuick (instr.Local f) = ⊤
-IsQuick (instr.Stack f) = ⊤
-IsQuick (instr.Flow f) = IsQuickFlow f
-IsQuick (instr.Table c) = ⊤
-IsQuick (instr.Lookup c) = ⊤
-IsQuick one = ⊥
-
-abbrev pub IsStaticOp : FieldOp → Type 0
-IsStaticOp fields.GetStatic = ⊤
-IsStaticOp fields.PutStatic = ⊤
-IsStaticOp op = ⊥
-
--- one with a user's static, or a branch that tests references
-abbrev pub IsQuickRef : Instr → Type 0
-IsQuickRef (instr.Field op cell narrow i slot owner) = IsStaticOp op
-IsQuickRef (instr.Flow f) = refs.IsFlowHere f
-IsQuickRef one = ⊥
-
--- which rows have it, if any that are quick do
+-- which rows have it, if any do
 abbrev pub IsQuickOf : Instr → Haste → Type 0
-IsQuickOf one haste.Row = IsQuick one
-IsQuickOf one haste.Reference = IsQuickRef one
+IsQuickOf one haste.Row = rows.IsHere one
+IsQuickOf one haste.Reference = refs.IsHere one
 IsQuickOf one haste.None = ⊤
-
-abbrev pub IsQuickOfField : FieldOp → Haste → Type 0
-IsQuickOfField op haste.Row = ⊥
-IsQuickOfField op haste.Reference = IsStaticOp op
-IsQuickOfField op haste.None = ⊤
 
 -- ---- what a row came to
 
--- It neither raises, throws nor costs.
-abbrev pub IsCalm : Way → Type 0
-IsCalm ways.Went = ⊤
-IsCalm ways.Stuck = ⊤
-IsCalm way = ⊥
-
+-- It went on, or there is no step, or it has changed nothing and is left to be done.
 abbrev pub quick_as : Way → Quick
 quick_as ways.Went = tries.Went
-quick_as way = tries.Stuck
+quick_as ways.Stuck = tries.Stuck
+quick_as way = tries.Left
 
 -- ---- a step of a thread
 

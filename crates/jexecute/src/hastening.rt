@@ -1,4 +1,5 @@
 ghost use Rattle.std.specs.Prelude.{◌≡◌, ℕ, IfOk, OnOk, length};
+ghost use Rattle.jready.specs.declared.instr.ArrayInstr.TheVariants as arrays;
 ghost use Rattle.jready.specs.declared.instr.FlowInstr.TheVariants as flows;
 ghost use Rattle.jready.specs.declared.instr.Instr.TheVariants as instrs;
 ghost use Rattle.jready.specs.Prepared.{IsRow};
@@ -10,17 +11,17 @@ ghost use Rattle.jstep.specs.Stepping.{IsFixed};
 ghost use Rattle.jcore.specs.Machines.{IsReady, StaysFixed};
 ghost use Rattle.jexecute.specs.Advancing.{Fetches, lasting_by};
 ghost use Rattle.jexecute.specs.Executing.{HasRules};
-ghost use Rattle.jexecute.specs.Hastening.{HasThings, Hastens, IsCalm, IsQuickOf, IsQuickOfField, Tries, WereMade, program_of, quick_as};
+ghost use Rattle.jexecute.specs.Hastening.{HasThings, Hastens, IsQuickOf, Tries, WereMade, program_of, quick_as};
 
 use crate::executing::{kept_counts, linked};
 use jacts::Way;
 use jcalls::Counts;
-use jcode::FieldOp;
+use jcode::Element;
 use jcore::Machine;
 use jguests::guest_laws;
 use jheap::Heap;
 use jinvoke::step_laws;
-use jready::{FlowInstr, Instr, MethodRow, Plain, Push};
+use jready::{ArrayInstr, FlowInstr, Instr, MethodRow, Push};
 use jrefs::Lasting;
 use jshapes::alike_laws;
 use jstate::Frames;
@@ -39,33 +40,18 @@ enum Quick {
     Left,
 }
 
-/// Which rows have an instruction whose step is made quickly.
+/// Which rows have an instruction.
 #[derive(Clone, Copy, Debug, PartialEq, Eq)]
 enum Haste {
-    /// Those with numbers, a local, or the newest items of the stack.
+    /// Those with numbers, a local, the newest items of the stack, or an array of numbers.
     Row,
-    /// Those with a static or with references.
+    /// Those with references.
     Reference,
     /// None.
     None,
 }
 
 // ---- which instructions
-
-#[inline]
-fn haste_of_plain(f: Plain) -> Haste
-    ensures { IsQuickOf (instrs.Plain f) result }
-{
-    match f {
-        Plain::Nothing => Haste::Row,
-        Plain::Null => Haste::Row,
-        Plain::Int(_) => Haste::Row,
-        Plain::Long(_) => Haste::Row,
-        Plain::Two(_) => Haste::Row,
-        Plain::Divide(_) => Haste::None,
-        Plain::One(_) => Haste::Row,
-    }
-}
 
 #[inline]
 fn haste_of_push(f: Push) -> Haste
@@ -102,14 +88,28 @@ fn haste_of_flow(f: FlowInstr) -> Haste
 }
 
 #[inline]
-fn haste_of_field(op: FieldOp) -> Haste
-    ensures { IsQuickOfField op result }
+fn haste_of_store(e: Element) -> Haste
+    ensures { IsQuickOf (instrs.Array (arrays.Store e)) result }
 {
-    match op {
-        FieldOp::GetStatic => Haste::Reference,
-        FieldOp::PutStatic => Haste::Reference,
-        FieldOp::GetField => Haste::None,
-        FieldOp::PutField => Haste::None,
+    match e {
+        Element::Int => Haste::Row,
+        Element::Long => Haste::Row,
+        Element::Ref => Haste::Reference,
+        Element::Byte => Haste::Row,
+        Element::Char => Haste::Row,
+        Element::Short => Haste::Row,
+    }
+}
+
+#[inline]
+fn haste_of_array(f: ArrayInstr) -> Haste
+    ensures { IsQuickOf (instrs.Array f) result }
+{
+    match f {
+        ArrayInstr::New(_) => Haste::Row,
+        ArrayInstr::Load(_) => Haste::Row,
+        ArrayInstr::Store(e) => haste_of_store(e),
+        ArrayInstr::Length => Haste::Row,
     }
 }
 
@@ -120,16 +120,16 @@ fn haste_of(one: Instr) -> Haste
 {
     match one {
         Instr::Off => Haste::None,
-        Instr::Plain(f) => haste_of_plain(f),
+        Instr::Plain(_) => Haste::Row,
         Instr::Push(f) => haste_of_push(f),
         Instr::Local(_) => Haste::Row,
         Instr::Stack(_) => Haste::Row,
         Instr::Flow(f) => haste_of_flow(f),
         Instr::Table(_) => Haste::Row,
         Instr::Lookup(_) => Haste::Row,
-        Instr::Array(_) => Haste::None,
-        Instr::Object(_) => Haste::None,
-        Instr::Field { op, .. } => haste_of_field(op),
+        Instr::Array(f) => haste_of_array(f),
+        Instr::Object(_) => Haste::Reference,
+        Instr::Field { .. } => Haste::Reference,
         Instr::Call { .. } => Haste::None,
         Instr::Library { .. } => Haste::None,
     }
@@ -137,18 +137,17 @@ fn haste_of(one: Instr) -> Haste
 
 // ---- their rows
 
-/// What a step came to whose row neither raises, throws nor costs.
+/// What a row came to. One that raises, throws or finds too few cells has changed nothing, so that it is left to be done.
 #[inline]
 fn quick_of(way: Way) -> Quick
-    requires { IsCalm way }
     ensures { result ≡ quick_as way }
 {
     match way {
         Way::Went => Quick::Went,
         Way::Stuck => Quick::Stuck,
-        Way::Raises(_) => unreachable!(),
-        Way::Throws(_) => unreachable!(),
-        Way::Full => unreachable!(),
+        Way::Raises(_) => Quick::Left,
+        Way::Throws(_) => Quick::Left,
+        Way::Full => Quick::Left,
     }
 }
 

@@ -5,6 +5,7 @@ pub mod News
 pub mod Putting
 pub mod RefStores
 pub mod Refs
+pub mod Resting
 pub mod Served
 pub mod Statics
 pub mod Testing

@@ -7,7 +7,7 @@ ghost use Rattle.juses.specs.Types.{array_named};
 ghost use Rattle.jstate.specs.Celled.{StayCelled};
 ghost use Rattle.jstate.specs.Seen.{AreBuilt, Things, array_at as shape_at, store_by};
 ghost use Rattle.jstate.specs.declared.shapes.Shapes.{Shapes};
-ghost use Rattle.jacts.specs.Ways.{Acts, leaves};
+ghost use Rattle.jacts.specs.Ways.{Acts, Rests, leaves};
 ghost use Rattle.jobjs.specs.Staying.{Stays};
 
 use jacts::{Way, count_of, make_array, switch_key};
@@ -31,6 +31,8 @@ pub fn new_refs<M: Copy>(
         (leaves way [] frames.new.newest (store_by p shapes things constants heap.new))) }
     ensures stays { IfOk result (λ way. Stays way frames.old.newest frames.new.newest) }
     ensures below { OnOk result (frames.new.below ≡ frames.old.below) }
+    ensures rests { IfOk result (λ way. Rests way frames.old frames.new) }
+    ensures kept { IfOk result (λ way. Rests way heap.old heap.new) }
     ensures built { OnOk result (AreBuilt heap.new.objects) }
     ensures celled { OnOk result (StayCelled heap.old.objects heap.new.objects) }
 {

@@ -5,7 +5,7 @@ ghost use Rattle.jmachine.specs.Straight as straight;
 ghost use Rattle.jops.specs.declared.value.Value.TheVariants as values;
 ghost use Rattle.jprogram.specs.declared.member.Member.{Member};
 ghost use Rattle.juses.specs.Instructions as instructions;
-ghost use Rattle.jacts.specs.Ways.{ActsWhere, leaves};
+ghost use Rattle.jacts.specs.Ways.{ActsWhere, Rests, leaves};
 ghost use Rattle.jobjs.specs.Branching.{ServeTest, null_test, ref_in, same_test};
 ghost use Rattle.jobjs.specs.Staying.{Stays};
 
@@ -60,6 +60,7 @@ pub fn if_null<M: Copy>(frames: &mut Frames<M>, null: bool, to: u32, serve: bool
         (instructions.Jump (instructions.IfRef (null_test null)) to) frames.old.newest s (leaves result [] frames.new.newest s) }
     ensures stays { Stays result frames.old.newest frames.new.newest }
     ensures below { frames.new.below ≡ frames.old.below }
+    ensures rests { Rests result frames.old frames.new }
 {
     way_laws::<M>();
     if !serve {
@@ -81,6 +82,7 @@ pub fn if_same<M: Copy>(frames: &mut Frames<M>, same: bool, to: u32, serve: bool
         (instructions.Jump (instructions.IfRef (same_test same)) to) frames.old.newest s (leaves result [] frames.new.newest s) }
     ensures stays { Stays result frames.old.newest frames.new.newest }
     ensures below { frames.new.below ≡ frames.old.below }
+    ensures rests { Rests result frames.old frames.new }
 {
     way_laws::<M>();
     if !serve {

@@ -7,7 +7,7 @@ ghost use Rattle.jprogram.specs.declared.member.Member.{Member};
 ghost use Rattle.jtypes.specs.declared.vtype.VType.{VType};
 ghost use Rattle.juses.specs.Instructions as instructions;
 ghost use Rattle.juses.specs.Meanings as meanings;
-ghost use Rattle.jacts.specs.Ways.{ActsWhere, leaves};
+ghost use Rattle.jacts.specs.Ways.{ActsWhere, Rests, leaves};
 ghost use Rattle.jobjs.specs.Serving.{IsOne, Serve, bit, named_seen};
 ghost use Rattle.jobjs.specs.Staying.{Stays};
 
@@ -56,6 +56,7 @@ pub fn check_cast<M: Copy>(frames: &mut Frames<M>, serve: bool, is: bool) -> Way
         (instructions.Used (meanings.Cast ops.CheckCast t)) frames.old.newest s (leaves result [] frames.new.newest s) }
     ensures stays { Stays result frames.old.newest frames.new.newest }
     ensures below { frames.new.below ≡ frames.old.below }
+    ensures rests { Rests result frames.old frames.new }
 {
     way_laws::<M>();
     if !serve {
@@ -99,6 +100,7 @@ pub fn instance_of<M: Copy>(frames: &mut Frames<M>, serve: bool, is: bool) -> Wa
         (instructions.Used (meanings.Cast ops.InstanceOf t)) frames.old.newest s (leaves result [] frames.new.newest s) }
     ensures stays { Stays result frames.old.newest frames.new.newest }
     ensures below { frames.new.below ≡ frames.old.below }
+    ensures rests { Rests result frames.old frames.new }
 {
     way_laws::<M>();
     if !serve {

@@ -16,7 +16,7 @@ ghost use Rattle.jstate.specs.Celled.{StayCelled};
 ghost use Rattle.jstate.specs.Seen.{AreBuilt, Things, store_by};
 ghost use Rattle.jstate.specs.declared.shapes.Shapes.{Shapes};
 ghost use Rattle.jstate.specs.Framed.{with_newest};
-ghost use Rattle.jacts.specs.Ways.{Acts, ActsWhere, leaves};
+ghost use Rattle.jacts.specs.Ways.{Acts, ActsWhere, Rests, leaves};
 ghost use Rattle.jacts.specs.declared.way.Way.TheVariants as ways;
 ghost use Rattle.jobjs.specs.Fielded.{HoldsOnly, KeepsAs, StandsAt, StandsStatic};
 ghost use Rattle.jobjs.specs.Serving.{Serve};
@@ -73,6 +73,7 @@ pub fn get_field<M: Copy>(
         (instructions.Used (meanings.Field ops.GetField f)) frames.old.newest s (leaves result [] frames.new.newest s) }
     ensures stays { Stays result frames.old.newest frames.new.newest }
     ensures below { frames.new.below ≡ frames.old.below }
+    ensures rests { Rests result frames.old frames.new }
 {
     heap_laws();
     cell_laws();
@@ -118,6 +119,7 @@ pub fn get_static<M: Copy>(
         (instructions.Used (meanings.Field ops.GetStatic f)) frames.old.newest s (leaves way [] frames.new.newest s)) }
     ensures stays { IfOk result (λ way. Stays way frames.old.newest frames.new.newest) }
     ensures below { OnOk result (frames.new.below ≡ frames.old.below) }
+    ensures rests { IfOk result (λ way. Rests way frames.old frames.new) }
 {
     cell_laws();
     way_laws::<M>();
@@ -132,6 +134,7 @@ pub fn get_out<M: Copy>(frames: &mut Frames<M>) -> Result<Way, AllocError>
         → Acts (instructions.Used (meanings.Field ops.GetStatic f)) frames.old.newest s (leaves way [] frames.new.newest s)) }
     ensures stays { IfOk result (λ way. Stays way frames.old.newest frames.new.newest) }
     ensures below { OnOk result (frames.new.below ≡ frames.old.below) }
+    ensures rests { IfOk result (λ way. Rests way frames.old frames.new) }
 {
     way_laws::<M>();
     push_one(frames, Value::Ref(1))
@@ -167,6 +170,8 @@ pub fn put_static<M: Copy>(
         (instructions.Used (meanings.Field ops.PutStatic f)) frames.old.newest s (leaves result [] frames.new.newest (store_by p shapes things constants heap.new)) }
     ensures stays { Stays result frames.old.newest frames.new.newest }
     ensures below { frames.new.below ≡ frames.old.below }
+    ensures rests { Rests result frames.old frames.new }
+    ensures kept { Rests result heap.old heap.new }
     ensures objects { heap.new.objects ≡ heap.old.objects }
 {
     heap_laws();
@@ -202,6 +207,8 @@ pub fn put_field<M: Copy>(
         (instructions.Used (meanings.Field ops.PutField f)) frames.old.newest s (leaves result [] frames.new.newest (store_by p shapes things constants heap.new)) }
     ensures stays { Stays result frames.old.newest frames.new.newest }
     ensures below { frames.new.below ≡ frames.old.below }
+    ensures rests { Rests result frames.old frames.new }
+    ensures kept { Rests result heap.old heap.new }
     ensures built { AreBuilt heap.old.objects → AreBuilt heap.new.objects }
     ensures celled { StayCelled heap.old.objects heap.new.objects }
 {

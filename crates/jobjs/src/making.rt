@@ -14,7 +14,7 @@ ghost use Rattle.jstate.specs.Celled.{AreCelled, StayCelled};
 ghost use Rattle.jstate.specs.Framed.{with_newest};
 ghost use Rattle.jstate.specs.Seen.{AreBuilt, Things, store_by};
 ghost use Rattle.jstate.specs.declared.shapes.Shapes.{Shapes as ShapesOf};
-ghost use Rattle.jacts.specs.Ways.{ActsWhere, leaves};
+ghost use Rattle.jacts.specs.Ways.{ActsWhere, Rests, leaves};
 ghost use Rattle.jacts.specs.declared.way.Way.TheVariants as ways;
 ghost use Rattle.jobjs.specs.Made.{HasNew, HasShape};
 ghost use Rattle.jstate.specs.declared.shapes.Shape.{Shape as ShapeOf};
@@ -74,6 +74,8 @@ pub fn new_library<M: Copy>(
         (store_by p shapes things constants heap.old) (leaves way [] frames.new.newest (store_by p shapes things constants heap.new))) }
     ensures stays { IfOk result (λ way. Stays way frames.old.newest frames.new.newest) }
     ensures below { OnOk result (frames.new.below ≡ frames.old.below) }
+    ensures rests { IfOk result (λ way. Rests way frames.old frames.new) }
+    ensures kept { IfOk result (λ way. Rests way heap.old heap.new) }
     ensures built { OnOk result (AreBuilt heap.new.objects) }
     ensures celled { OnOk result (StayCelled heap.old.objects heap.new.objects) }
 {
@@ -128,6 +130,8 @@ pub fn new_object<M: Copy>(
         (store_by p shapes.now things constants heap.old) (leaves way [] frames.new.newest (store_by p shapes.now things constants heap.new))) }
     ensures stays { IfOk result (λ way. Stays way frames.old.newest frames.new.newest) }
     ensures below { OnOk result (frames.new.below ≡ frames.old.below) }
+    ensures rests { IfOk result (λ way. Rests way frames.old frames.new) }
+    ensures kept { IfOk result (λ way. Rests way heap.old heap.new) }
     ensures built { OnOk result (AreBuilt heap.new.objects) }
     ensures celled { OnOk result (AreCelled shapes.now heap.old.objects → AreCelled shapes.now heap.new.objects) }
 {

@@ -11,7 +11,7 @@ ghost use Rattle.juses.specs.Instructions as instructions;
 ghost use Rattle.jstate.specs.Celled.{StayCelled};
 ghost use Rattle.jstate.specs.Seen.{AreBuilt, Things, store_by};
 ghost use Rattle.jstate.specs.declared.shapes.Shapes.{Shapes};
-ghost use Rattle.jacts.specs.Ways.{ActsWhere, leaves};
+ghost use Rattle.jacts.specs.Ways.{ActsWhere, Rests, leaves};
 ghost use Rattle.jobjs.specs.Stored.{HasStored, MayStore, ServeStore, held_seen};
 ghost use Rattle.jobjs.specs.Staying.{Stays};
 
@@ -97,6 +97,8 @@ pub fn store_ref<M: Copy>(frames: &mut Frames<M>, heap: &mut Heap, serve: bool, 
         (instructions.Array (forms.Store items.Ref)) frames.old.newest s (leaves result [] frames.new.newest (store_by p shapes things constants heap.new)) }
     ensures stays { Stays result frames.old.newest frames.new.newest }
     ensures below { frames.new.below ≡ frames.old.below }
+    ensures rests { Rests result frames.old frames.new }
+    ensures kept { Rests result heap.old heap.new }
     ensures built { AreBuilt heap.old.objects → AreBuilt heap.new.objects }
     ensures celled { StayCelled heap.old.objects heap.new.objects }
 {

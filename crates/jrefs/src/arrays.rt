@@ -6,6 +6,7 @@ ghost use Rattle.jstate.specs.Celled.{AreCelled};
 ghost use Rattle.jstate.specs.Seen.{AreBuilt};
 ghost use Rattle.jobjs.specs.Staying.{Stays};
 ghost use Rattle.jrefs.specs.Seen.{SeenActs};
+ghost use Rattle.jacts.specs.Ways.{Rests};
 
 use crate::lasting::Lasting;
 use crate::serving::{holds_stored, serves_store};
@@ -29,6 +30,8 @@ pub(crate) fn store<M: Copy>(
     ensures row { SeenActs x.now counts (instructions.Array (forms.Store items.Ref)) frames.old.newest heap.old result frames.new.newest heap.new }
     ensures stays { Stays result frames.old.newest frames.new.newest }
     ensures below { frames.new.below ≡ frames.old.below }
+    ensures rests { Rests result frames.old frames.new }
+    ensures kept { Rests result heap.old heap.new }
     ensures built { AreBuilt heap.new.objects }
     ensures celled { AreCelled x.now.shapes.now heap.new.objects }
 {

@@ -2,6 +2,7 @@ ghost use Rattle.std.specs.Prelude.{◌≡◌, ◌<◌, ◌+◌, ◌^◌};
 ghost use Rattle.juses.specs.Instructions as instructions;
 ghost use Rattle.jobjs.specs.Staying.{Stays};
 ghost use Rattle.jrefs.specs.Seen.{SeenActs};
+ghost use Rattle.jacts.specs.Ways.{Rests};
 
 use crate::lasting::Lasting;
 use crate::serving::serves_test;
@@ -26,6 +27,7 @@ pub(crate) fn branch<M: Copy>(
     ensures row { SeenActs x.now counts (instructions.Jump (instructions.IfRef test) to) frames.old.newest heap.now result frames.new.newest heap.now }
     ensures stays { Stays result frames.old.newest frames.new.newest }
     ensures below { frames.new.below ≡ frames.old.below }
+    ensures rests { Rests result frames.old frames.new }
 {
     let serve = serves_test(frames, heap, x, counts, test);
     match test {

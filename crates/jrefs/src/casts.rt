@@ -9,6 +9,7 @@ ghost use Rattle.jacts.specs.declared.way.Way.TheVariants as ways;
 ghost use Rattle.jobjs.specs.Staying.{Stays};
 ghost use Rattle.jrefs.specs.References.{IsLasting};
 ghost use Rattle.jrefs.specs.Seen.{SeenActs};
+ghost use Rattle.jacts.specs.Ways.{Rests};
 
 use crate::lasting::Lasting;
 use crate::looking::cast_used;
@@ -35,6 +36,7 @@ pub(crate) fn cast<M: Copy>(
     ensures row { SeenActs x.now counts (instructions.Used (meanings.Cast op (named x.now.ancestors.now t))) frames.old.newest heap.now result frames.new.newest heap.now }
     ensures stays { Stays result frames.old.newest frames.new.newest }
     ensures below { frames.new.below ≡ frames.old.below }
+    ensures rests { Rests result frames.old frames.new }
 {
     let serve = serves_cast(frames, heap, x, counts);
     let is = is_of(frames, heap, x, counts, t);
@@ -60,6 +62,7 @@ pub(crate) fn cast_named<M: Copy>(
     ensures missing { meanings.meant x.now.ancestors.now (pool_at x.now.ancestors.now frames.old.newest.method.class) (forms.Cast op pool) ≡ None → result ≡ ways.Stuck }
     ensures stays { Stays result frames.old.newest frames.new.newest }
     ensures below { frames.new.below ≡ frames.old.below }
+    ensures rests { Rests result frames.old frames.new }
 {
     let Some(t) = cast_used(x, frames.method().class, op, pool) else {
         return Way::Stuck;

@@ -14,6 +14,7 @@ ghost use Rattle.jobjs.specs.Staying.{Stays};
 ghost use Rattle.jrefs.specs.Naming.{NamesField};
 ghost use Rattle.jrefs.specs.References.{IsLasting};
 ghost use Rattle.jrefs.specs.Seen.{SeenActs};
+ghost use Rattle.jacts.specs.Ways.{Rests};
 
 use crate::lasting::Lasting;
 use crate::looking::{FieldAt, held_of, owner_of};
@@ -56,6 +57,7 @@ pub(crate) fn read<M: Copy>(
         → SeenActs x.now counts (instructions.Used (meanings.Field a.op f)) frames.old.newest heap.now result frames.new.newest heap.now }
     ensures stays { Stays result frames.old.newest frames.new.newest }
     ensures below { frames.new.below ≡ frames.old.below }
+    ensures rests { Rests result frames.old frames.new }
 {
     heap_laws();
     let Some(owner) = owner_of(x, frames.method().class, a) else {
@@ -85,6 +87,8 @@ pub(crate) fn write<M: Copy>(
         → SeenActs x.now counts (instructions.Used (meanings.Field a.op f)) frames.old.newest heap.old result frames.new.newest heap.new }
     ensures stays { Stays result frames.old.newest frames.new.newest }
     ensures below { frames.new.below ≡ frames.old.below }
+    ensures rests { Rests result frames.old frames.new }
+    ensures kept { Rests result heap.old heap.new }
     ensures built { AreBuilt heap.new.objects }
     ensures celled { AreCelled x.now.shapes.now heap.new.objects }
 {

@@ -13,6 +13,7 @@ ghost use Rattle.jcalls.specs.declared.ready.Counts.{Counts as CountsOf};
 ghost use Rattle.jobjs.specs.Staying.{Stays};
 ghost use Rattle.jrefs.specs.References.{IsLasting};
 ghost use Rattle.jrefs.specs.Seen.{SeenActs};
+ghost use Rattle.jacts.specs.Ways.{Rests};
 
 use crate::lasting::Lasting;
 use jacts::Way;
@@ -42,6 +43,8 @@ pub(crate) fn make_user<M: Copy>(
         frames.old.newest heap.old way frames.new.newest heap.new) }
     ensures stays { IfOk result (λ way. Stays way frames.old.newest frames.new.newest) }
     ensures below { OnOk result (frames.new.below ≡ frames.old.below) }
+    ensures rests { IfOk result (λ way. Rests way frames.old frames.new) }
+    ensures kept { IfOk result (λ way. Rests way heap.old heap.new) }
     ensures built { OnOk result (AreBuilt heap.new.objects) }
     ensures celled { OnOk result (AreCelled x.now.shapes.now heap.new.objects) }
 {
@@ -68,6 +71,8 @@ pub(crate) fn make_library<M: Copy>(
         frames.old.newest heap.old way frames.new.newest heap.new) }
     ensures stays { IfOk result (λ way. Stays way frames.old.newest frames.new.newest) }
     ensures below { OnOk result (frames.new.below ≡ frames.old.below) }
+    ensures rests { IfOk result (λ way. Rests way frames.old frames.new) }
+    ensures kept { IfOk result (λ way. Rests way heap.old heap.new) }
     ensures built { OnOk result (AreBuilt heap.new.objects) }
     ensures celled { OnOk result (AreCelled x.now.shapes.now heap.new.objects) }
 {
@@ -91,6 +96,8 @@ pub(crate) fn make_array<M: Copy>(
         → SeenActs x.now counts (instructions.Used (meanings.MakeArray t)) frames.old.newest heap.old way frames.new.newest heap.new) }
     ensures stays { IfOk result (λ way. Stays way frames.old.newest frames.new.newest) }
     ensures below { OnOk result (frames.new.below ≡ frames.old.below) }
+    ensures rests { IfOk result (λ way. Rests way frames.old frames.new) }
+    ensures kept { IfOk result (λ way. Rests way heap.old heap.new) }
     ensures built { OnOk result (AreBuilt heap.new.objects) }
     ensures celled { OnOk result (AreCelled x.now.shapes.now heap.new.objects) }
 {

@@ -12,6 +12,7 @@ ghost use Rattle.jcalls.specs.declared.ready.Counts.{Counts as CountsOf};
 ghost use Rattle.jrefs.specs.Naming.{NamesField};
 ghost use Rattle.jrefs.specs.References.{IsExact, IsFetched, IsLasting, StaysStuck};
 ghost use Rattle.jrefs.specs.Seen.{SeenActs, SeenRuns};
+ghost use Rattle.jacts.specs.Ways.{Rests};
 
 use crate::casts::{cast, cast_named};
 use crate::fields::{read, write};
@@ -33,6 +34,7 @@ use std::alloc::{AllocError, Global};
 
 /// An instruction with a user's field (JVMS 6.5: getfield, putfield, getstatic, putstatic).
 #[inline]
+#[tactic(auto, using(jacts::proofs::Resting::same, jacts::proofs::Resting::ok_same))]
 pub(crate) fn field<M: Copy>(
     frames: &mut Frames<M>,
     heap: &mut Heap,
@@ -48,6 +50,8 @@ pub(crate) fn field<M: Copy>(
         → SeenActs x.now counts (instructions.Used (meanings.Field a.op f)) frames.old.newest heap.old way frames.new.newest heap.new) }
     ensures stays { IfOk result (λ way. Stays way frames.old.newest frames.new.newest) }
     ensures below { OnOk result (frames.new.below ≡ frames.old.below) }
+    ensures rests { IfOk result (λ way. Rests way frames.old frames.new) }
+    ensures kept { IfOk result (λ way. Rests way heap.old heap.new) }
     ensures built { OnOk result (AreBuilt heap.new.objects) }
     ensures celled { OnOk result (AreCelled x.now.shapes.now heap.new.objects) }
 {
@@ -72,6 +76,7 @@ pub(crate) fn system_out<M: Copy>(
         → SeenActs x.now counts (instructions.Used (meanings.Field op f)) frames.old.newest heap.now way frames.new.newest heap.now) }
     ensures stays { IfOk result (λ way. Stays way frames.old.newest frames.new.newest) }
     ensures below { OnOk result (frames.new.below ≡ frames.old.below) }
+    ensures rests { IfOk result (λ way. Rests way frames.old frames.new) }
 {
     match op {
         FieldOp::GetStatic => get_out(frames),
@@ -83,6 +88,7 @@ pub(crate) fn system_out<M: Copy>(
 
 /// An instruction with a class, or with the library's field.
 #[inline]
+#[tactic(auto, using(jacts::proofs::Resting::same, jacts::proofs::Resting::ok_same))]
 pub(crate) fn object<M: Copy>(
     alloc: Global,
     frames: &mut Frames<M>,
@@ -101,6 +107,8 @@ pub(crate) fn object<M: Copy>(
     ensures missing { IfOk result (λ way. StaysStuck x.now (instrs.Object f) frames.old.newest way) }
     ensures stays { IfOk result (λ way. Stays way frames.old.newest frames.new.newest) }
     ensures below { OnOk result (frames.new.below ≡ frames.old.below) }
+    ensures rests { IfOk result (λ way. Rests way frames.old frames.new) }
+    ensures kept { IfOk result (λ way. Rests way heap.old heap.new) }
     ensures built { OnOk result (AreBuilt heap.new.objects) }
     ensures celled { OnOk result (AreCelled x.now.shapes.now heap.new.objects) }
 {

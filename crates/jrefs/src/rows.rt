@@ -8,6 +8,7 @@ ghost use Rattle.jstate.specs.Seen.{AreBuilt};
 ghost use Rattle.jobjs.specs.Staying.{Stays};
 ghost use Rattle.jrefs.specs.References.{IsExact, IsFetched, IsFlowHere, IsHere, IsLasting, IsRefTest, Runs, RunsAlike, StaysStuck, StoresRef};
 ghost use Rattle.jrefs.specs.Seen.{SeenActs, SeenRuns};
+ghost use Rattle.jacts.specs.Ways.{Rests};
 
 use crate::arrays::store;
 use crate::branches::branch;
@@ -40,6 +41,7 @@ fn jump<M: Copy>(
     ensures row { SeenActs x.now counts (instructions.Jump (test_of when) to) frames.old.newest heap.now result frames.new.newest heap.now }
     ensures stays { Stays result frames.old.newest frames.new.newest }
     ensures below { frames.new.below ≡ frames.old.below }
+    ensures rests { Rests result frames.old frames.new }
 {
     match when {
         When::IfRef(test) => branch(frames, heap, x, counts, test, to),
@@ -63,6 +65,7 @@ fn flow<M: Copy>(
     ensures row { SeenActs x.now counts (flow_meant f) frames.old.newest heap.now result frames.new.newest heap.now }
     ensures stays { Stays result frames.old.newest frames.new.newest }
     ensures below { frames.new.below ≡ frames.old.below }
+    ensures rests { Rests result frames.old frames.new }
 {
     match f {
         FlowInstr::Jump(when, to) => jump(frames, heap, x, counts, when, to),
@@ -87,6 +90,8 @@ fn store_of<M: Copy>(
     ensures row { SeenActs x.now counts (array_instr (arrays.Store element)) frames.old.newest heap.old result frames.new.newest heap.new }
     ensures stays { Stays result frames.old.newest frames.new.newest }
     ensures below { frames.new.below ≡ frames.old.below }
+    ensures rests { Rests result frames.old frames.new }
+    ensures kept { Rests result heap.old heap.new }
     ensures built { AreBuilt heap.new.objects }
     ensures celled { AreCelled x.now.shapes.now heap.new.objects }
 {
@@ -102,6 +107,7 @@ fn store_of<M: Copy>(
 
 /// An instruction with an array, where that is such a store.
 #[inline]
+#[tactic(auto, using(jacts::proofs::Resting::same))]
 fn array<M: Copy>(
     frames: &mut Frames<M>,
     heap: &mut Heap,
@@ -116,6 +122,8 @@ fn array<M: Copy>(
     ensures row { SeenActs x.now counts (array_instr f) frames.old.newest heap.old result frames.new.newest heap.new }
     ensures stays { Stays result frames.old.newest frames.new.newest }
     ensures below { frames.new.below ≡ frames.old.below }
+    ensures rests { Rests result frames.old frames.new }
+    ensures kept { Rests result heap.old heap.new }
     ensures built { AreBuilt heap.new.objects }
     ensures celled { AreCelled x.now.shapes.now heap.new.objects }
 {
@@ -129,6 +137,7 @@ fn array<M: Copy>(
 
 /// The row of an instruction by number that is here.
 #[inline]
+#[tactic(auto, using(jacts::proofs::Resting::same, jacts::proofs::Resting::ok_same))]
 fn run_row<M: Copy>(
     alloc: Global,
     frames: &mut Frames<M>,
@@ -148,6 +157,8 @@ fn run_row<M: Copy>(
     ensures missing { IfOk result (λ way. StaysStuck x.now one frames.old.newest way) }
     ensures stays { IfOk result (λ way. Stays way frames.old.newest frames.new.newest) }
     ensures below { OnOk result (frames.new.below ≡ frames.old.below) }
+    ensures rests { IfOk result (λ way. Rests way frames.old frames.new) }
+    ensures kept { IfOk result (λ way. Rests way heap.old heap.new) }
     ensures built { OnOk result (AreBuilt heap.new.objects) }
     ensures celled { OnOk result (AreCelled x.now.shapes.now heap.new.objects) }
 {
@@ -201,6 +212,8 @@ pub fn run<M: Copy>(
     ensures alike { IfOk result (λ way. RunsAlike x.now counts way heap.old.objects heap.new.objects) }
     ensures stays { IfOk result (λ way. Stays way frames.old.newest frames.new.newest) }
     ensures below { OnOk result (frames.new.below ≡ frames.old.below) }
+    ensures rests { IfOk result (λ way. Rests way frames.old frames.new) }
+    ensures kept { IfOk result (λ way. Rests way heap.old heap.new) }
     ensures built { OnOk result (AreBuilt heap.new.objects) }
     ensures celled { OnOk result (AreCelled x.now.shapes.now heap.new.objects) }
 {

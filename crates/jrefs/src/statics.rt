@@ -8,6 +8,7 @@ ghost use Rattle.jobjs.specs.Staying.{Stays};
 ghost use Rattle.jrefs.specs.Naming.{NamesField};
 ghost use Rattle.jrefs.specs.References.{IsLasting};
 ghost use Rattle.jrefs.specs.Seen.{SeenActs};
+ghost use Rattle.jacts.specs.Ways.{Rests};
 
 use crate::fields::element_of;
 use crate::lasting::Lasting;
@@ -35,6 +36,7 @@ pub(crate) fn read_static<M: Copy>(
         → SeenActs x.now counts (instructions.Used (meanings.Field a.op f)) frames.old.newest heap.now way frames.new.newest heap.now) }
     ensures stays { IfOk result (λ way. Stays way frames.old.newest frames.new.newest) }
     ensures below { OnOk result (frames.new.below ≡ frames.old.below) }
+    ensures rests { IfOk result (λ way. Rests way frames.old frames.new) }
 {
     cell_laws();
     if a.slot as usize >= heap.static_count() {
@@ -59,6 +61,8 @@ pub(crate) fn write_static<M: Copy>(
         → SeenActs x.now counts (instructions.Used (meanings.Field a.op f)) frames.old.newest heap.old result frames.new.newest heap.new }
     ensures stays { Stays result frames.old.newest frames.new.newest }
     ensures below { frames.new.below ≡ frames.old.below }
+    ensures rests { Rests result frames.old frames.new }
+    ensures kept { Rests result heap.old heap.new }
     ensures objects { heap.new.objects ≡ heap.old.objects }
 {
     cell_laws();

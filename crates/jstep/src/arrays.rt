@@ -3,7 +3,7 @@ ghost use Rattle.jprogram.specs.Classes.{Program};
 ghost use Rattle.jready.specs.Meant.{array_instr};
 ghost use Rattle.jstate.specs.Celled.{StayCelled};
 ghost use Rattle.jstate.specs.Seen.{AreBuilt, Things, store_by};
-ghost use Rattle.jacts.specs.Ways.{Acts, leaves};
+ghost use Rattle.jacts.specs.Ways.{Acts, Rests, leaves};
 ghost use Rattle.jshapes.specs.Numbered.{AreRows};
 ghost use Rattle.jstep.specs.Rows.{StoresNumber};
 
@@ -16,7 +16,7 @@ use std::alloc::{AllocError, Global};
 
 /// An instruction with an array, but a store of a reference (JVMS 6.5).
 #[inline]
-#[tactic(auto, using(crate::proofs::Leaving::same_celled))]
+#[tactic(auto, using(jacts::proofs::Resting::same, crate::proofs::Leaving::same_celled))]
 pub fn array<M: Copy>(
     alloc: Global,
     frames: &mut Frames<M>,
@@ -33,6 +33,8 @@ pub fn array<M: Copy>(
         Acts (array_instr f) frames.old.newest (store_by p shapes.now things constants heap.old)
         (leaves way [] frames.new.newest (store_by p shapes.now things constants heap.new))) }
     ensures below { OnOk result (frames.new.below ≡ frames.old.below) }
+    ensures rests { IfOk result (λ way. Rests way frames.old frames.new) }
+    ensures kept { IfOk result (λ way. Rests way heap.old heap.new) }
     ensures built { OnOk result (AreBuilt heap.new.objects) }
     ensures celled { OnOk result (StayCelled heap.old.objects heap.new.objects) }
 {

@@ -8,6 +8,7 @@ ghost use Rattle.jready.specs.Meant.{plain_meant, push_meant};
 ghost use Rattle.jstate.specs.Framed.{with_newest};
 ghost use Rattle.jacts.specs.declared.way.Way.TheVariants as ways;
 ghost use Rattle.jstep.specs.Rows.{DoesAs, IsNumber, IsNumberPush, pushed};
+ghost use Rattle.jacts.specs.Ways.{Rests};
 
 use jacts::{Way, simple, way_laws};
 use jcode::Simple;
@@ -40,6 +41,7 @@ pub fn plain<M: Copy>(frames: &mut Frames<M>, tables: &Tables, f: Plain) -> Resu
     requires within { PlainWithin tables.now f }
     ensures row { IfOk result (λ way. DoesAs (plain_meant tables.now f) frames.old.newest way frames.new.newest) }
     ensures below { OnOk result (frames.new.below ≡ frames.old.below) }
+    ensures rests { IfOk result (λ way. Rests way frames.old frames.new) }
 {
     simple(frames, form_of(tables, f))
 }
@@ -79,6 +81,7 @@ pub fn push<M: Copy>(frames: &mut Frames<M>, tables: &Tables, f: Push) -> Result
     requires within { PushWithin tables.now f }
     ensures row { IfOk result (λ way. (p : Program) (pool : List Entry) → DoesAs (push_meant p pool tables.now f) frames.old.newest way frames.new.newest) }
     ensures below { OnOk result (frames.new.below ≡ frames.old.below) }
+    ensures rests { IfOk result (λ way. Rests way frames.old frames.new) }
 {
     way_laws::<M>();
     give(frames, value_of(tables, f))

@@ -3,7 +3,7 @@ ghost use Rattle.juses.specs.Instructions as instructions;
 ghost use Rattle.juses.specs.Numbered.{test_of};
 ghost use Rattle.jready.specs.Meant.{flow_meant, lookup_meant, table_meant};
 ghost use Rattle.jready.specs.Tabled.{AreThere};
-ghost use Rattle.jacts.specs.Ways.{Does};
+ghost use Rattle.jacts.specs.Ways.{Does, Rests};
 ghost use Rattle.jstep.specs.Rows.{DoesAs, IsFlowHere, IsNumberTest};
 
 use jacts::{Way, goto, jump_if, jump_if_int, switch, switch_key, switch_laws};
@@ -18,6 +18,7 @@ pub fn jump<M: Copy>(frames: &mut Frames<M>, when: When, to: u32) -> Way
     requires number { IsNumberTest when }
     ensures row { Does (instructions.Jump (test_of when) to) frames.old.newest result frames.new.newest }
     ensures below { frames.new.below ≡ frames.old.below }
+    ensures rests { Rests result frames.old frames.new }
 {
     match when {
         When::Always => goto(frames, to),
@@ -34,6 +35,7 @@ pub fn flow<M: Copy>(frames: &mut Frames<M>, f: FlowInstr) -> Way
     requires here { IsFlowHere f }
     ensures row { Does (flow_meant f) frames.old.newest result frames.new.newest }
     ensures below { frames.new.below ≡ frames.old.below }
+    ensures rests { Rests result frames.old frames.new }
 {
     match f {
         FlowInstr::Jump(when, to) => jump(frames, when, to),
@@ -48,6 +50,7 @@ pub fn table<M: Copy>(frames: &mut Frames<M>, tables: &Tables, c: Table) -> Way
     requires { (c.first + 1) + c.count ≤ length tables.now.targets }
     ensures row { DoesAs (table_meant tables.now c) frames.old.newest result frames.new.newest }
     ensures below { frames.new.below ≡ frames.old.below }
+    ensures rests { Rests result frames.old frames.new }
 {
     switch_laws::<M>();
     let Some(key) = switch_key(frames) else {
@@ -63,6 +66,7 @@ pub fn lookup<M: Copy>(frames: &mut Frames<M>, tables: &Tables, c: Lookup) -> Wa
     requires { AreThere tables.now.keys c.first c.count }
     ensures row { Does (lookup_meant tables.now c) frames.old.newest result frames.new.newest }
     ensures below { frames.new.below ≡ frames.old.below }
+    ensures rests { Rests result frames.old frames.new }
 {
     switch_laws::<M>();
     let Some(key) = switch_key(frames) else {

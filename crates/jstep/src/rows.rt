@@ -6,6 +6,7 @@ ghost use Rattle.jstate.specs.Seen.{AreBuilt, Things};
 ghost use Rattle.jshapes.specs.Alike.{LeavesAlike};
 ghost use Rattle.jshapes.specs.Numbered.{AreRows};
 ghost use Rattle.jstep.specs.Rows.{IsHere, Runs, Stays};
+ghost use Rattle.jacts.specs.Ways.{Rests};
 
 use crate::arrays::array;
 use crate::computing::{plain, push};
@@ -20,7 +21,7 @@ use std::alloc::{AllocError, Global};
 
 /// The row of an instruction by number that is here.
 #[inline]
-#[tactic(auto, using(crate::proofs::Leaving::same_celled, crate::proofs::Leaving::same_celled_if))]
+#[tactic(auto, using(jacts::proofs::Resting::same, jacts::proofs::Resting::ok_same, crate::proofs::Leaving::same_celled, crate::proofs::Leaving::same_celled_if))]
 fn run_row<M: Copy>(
     alloc: Global,
     frames: &mut Frames<M>,
@@ -35,6 +36,8 @@ fn run_row<M: Copy>(
     requires within { Within fixed.now.tables.now one }
     ensures row { IfOk result (λ way. Runs fixed.now.tables.now fixed.now.shapes.now one frames.old.newest heap.old way frames.new.newest heap.new) }
     ensures below { OnOk result (frames.new.below ≡ frames.old.below) }
+    ensures rests { IfOk result (λ way. Rests way frames.old frames.new) }
+    ensures kept { IfOk result (λ way. Rests way heap.old heap.new) }
     ensures built { OnOk result (AreBuilt heap.new.objects) }
     ensures celled { OnOk result (StayCelled heap.old.objects heap.new.objects) }
 {
@@ -69,6 +72,8 @@ pub fn run<M: Copy>(
     ensures row { IfOk result (λ way. Runs fixed.now.tables.now fixed.now.shapes.now one frames.old.newest heap.old way frames.new.newest heap.new) }
     ensures stays { IfOk result (λ way. Stays way frames.old.newest frames.new.newest) }
     ensures below { OnOk result (frames.new.below ≡ frames.old.below) }
+    ensures rests { IfOk result (λ way. Rests way frames.old frames.new) }
+    ensures kept { IfOk result (λ way. Rests way heap.old heap.new) }
     ensures built { OnOk result (AreBuilt heap.new.objects) }
     ensures celled { OnOk result (StayCelled heap.old.objects heap.new.objects) }
     ensures alike { IfOk result (λ way. (p : Program) (things : Things) → LeavesAlike p fixed.now.shapes.now things way heap.old.objects heap.new.objects) }

@@ -12,7 +12,7 @@ use jlib::Thrown;
 use jops::Value;
 use jstate::heap_laws;
 use jthreads::Joined;
-use std::alloc::{AllocError, Global};
+use std::alloc::AllocError;
 
 /// What a call of Thread came to.
 #[derive(Clone, Copy, Debug, PartialEq, Eq)]

@@ -1,9 +1,11 @@
 use Rattle.std.proofs.Common.{◌≡◌, ◌∙◌, Some, None, ap, of_z, pos, rules, sym, to_z}
 use Rattle.std.specs.Prelude.{slice_get}
 use Rattle.std.specs.Int.{w32}
+use Rattle.jheap.specs.declared.cell.Kind.TheVariants as kinds
 use Rattle.jstate.specs.Seen.{store_by}
 use Rattle.jacts.specs.Ways.{int_in}
 use Rattle.jacts.proofs.NewArrays.{made_all, made_celled, made_stays, new_negative, new_stuck, of_place}
+use Rattle.jacts.proofs.Resting.{made_frames, made_heap}
 use Rattle.jacts.proofs.arrays.new_array.Goals as goal
 
 pub returns-in_default-clause-row : goal.returns-in_default-clause-row
@@ -34,3 +36,11 @@ pub returns-in-Some-count_of-clause-celled : goal.returns-in-Some-count_of-claus
 returns-in-Some-count_of-clause-celled g c =
     made_celled c.celled_laws.ensures.made c.make_array.result c.args.number c.in-Some-count_of.count c.args.frames.now c.make_array.new.frames c.args.heap.now c.make_array.new.heap
     c.make_array.ensures
+
+pub returns-in-Some-count_of-clause-rests : goal.returns-in-Some-count_of-clause-rests
+returns-in-Some-count_of-clause-rests g c =
+    made_frames c.make_array.result (kinds.Array c.args.number) c.in-Some-count_of.count c.args.frames.now c.make_array.new.frames c.args.heap.now c.make_array.new.heap c.make_array.ensures
+
+pub returns-in-Some-count_of-clause-kept : goal.returns-in-Some-count_of-clause-kept
+returns-in-Some-count_of-clause-kept g c =
+    made_heap c.make_array.result (kinds.Array c.args.number) c.in-Some-count_of.count c.args.frames.now c.make_array.new.frames c.args.heap.now c.make_array.new.heap c.make_array.ensures

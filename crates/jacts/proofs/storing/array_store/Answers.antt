@@ -11,6 +11,7 @@ use Rattle.jacts.specs.Items.{array_seen}
 use Rattle.jacts.specs.Ways.{int_in}
 use Rattle.jacts.proofs.Accessing.{kept_array, second_there}
 use Rattle.jacts.proofs.Puts.{has_third, is_third, put_celled, put_row, put_stays, store_no_index, store_no_value, store_null, store_other}
+use Rattle.jacts.proofs.Resting.{put}
 use Rattle.jacts.proofs.storing.array_store.Goals as goal
 
 pub returns-in_default-clause-row : goal.returns-in_default-clause-row
@@ -61,3 +62,17 @@ returns-in-Array-clause-celled g c =
     let put = rw i_is at c.put_item.ensures in
     put_celled c.celled_laws.ensures.written c.args.frames.now c.put_item.new.frames c.args.heap.now c.put_item.new.heap c.in-Array.o c.held_by.result c.put_item.result
     (within (length (cells_at c.args.heap.now c.in-Array.o)) (place c.in-Some-int_at.i)) put
+
+pub returns-in-Array-clause-rests : goal.returns-in-Array-clause-rests
+returns-in-Array-clause-rests g c =
+    let i_is : to_z w32 (of_z w32 c.in-Some-int_at.i) ≡ c.in-Some-int_at.i = search rules in
+    let is = rw i_is at c.put_item.ensures in
+    (put c.in-Array.o c.held_by.result c.args.frames.now c.put_item.new.frames c.args.heap.now c.put_item.new.heap c.put_item.result
+    (within (length (cells_at c.args.heap.now c.in-Array.o)) (place c.in-Some-int_at.i)) is).0
+
+pub returns-in-Array-clause-kept : goal.returns-in-Array-clause-kept
+returns-in-Array-clause-kept g c =
+    let i_is : to_z w32 (of_z w32 c.in-Some-int_at.i) ≡ c.in-Some-int_at.i = search rules in
+    let is = rw i_is at c.put_item.ensures in
+    (put c.in-Array.o c.held_by.result c.args.frames.now c.put_item.new.frames c.args.heap.now c.put_item.new.heap c.put_item.result
+    (within (length (cells_at c.args.heap.now c.in-Array.o)) (place c.in-Some-int_at.i)) is).1

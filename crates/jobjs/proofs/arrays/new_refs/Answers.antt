@@ -7,6 +7,8 @@ use Rattle.jacts.specs.Ways.{int_in}
 use Rattle.jacts.proofs.Jumping.{has_one}
 use Rattle.jacts.proofs.NewArrays.{made_celled, made_stays, of_place}
 use Rattle.jobjs.proofs.Refs.{all_refs, refs_negative, refs_stuck}
+use Rattle.jheap.specs.declared.cell.Kind.TheVariants as kinds
+use Rattle.jacts.proofs.Resting.{made_frames, made_heap}
 use Rattle.jobjs.proofs.arrays.new_refs.Goals as goal
 
 pub returns-in_default-clause-row : goal.returns-in_default-clause-row
@@ -40,3 +42,11 @@ pub returns-in-Some-count_of-clause-celled : goal.returns-in-Some-count_of-claus
 returns-in-Some-count_of-clause-celled g c =
     made_celled c.celled_laws.ensures.made c.make_array.result c.args.number c.in-Some-count_of.count c.args.frames.now c.make_array.new.frames c.args.heap.now c.make_array.new.heap
     c.make_array.ensures
+
+pub returns-in-Some-count_of-clause-rests : goal.returns-in-Some-count_of-clause-rests
+returns-in-Some-count_of-clause-rests g c =
+    made_frames c.make_array.result (kinds.Array c.args.number) c.in-Some-count_of.count c.args.frames.now c.make_array.new.frames c.args.heap.now c.make_array.new.heap c.make_array.ensures
+
+pub returns-in-Some-count_of-clause-kept : goal.returns-in-Some-count_of-clause-kept
+returns-in-Some-count_of-clause-kept g c =
+    made_heap c.make_array.result (kinds.Array c.args.number) c.in-Some-count_of.count c.args.frames.now c.make_array.new.frames c.args.heap.now c.make_array.new.heap c.make_array.ensures

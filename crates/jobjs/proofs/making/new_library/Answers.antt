@@ -1,4 +1,6 @@
 use Rattle.jobjs.proofs.News.{library_celled, library_row, new_stays}
+use Rattle.jheap.specs.declared.cell.Kind.TheVariants as kinds
+use Rattle.jobjs.proofs.Resting.{new_frames, new_heap}
 use Rattle.jobjs.proofs.making.new_library.Goals as goal
 
 pub returns-clause-row : goal.returns-clause-row
@@ -14,3 +16,11 @@ pub returns-clause-celled : goal.returns-clause-celled
 returns-clause-celled g c =
     let made = rw (c.library_number.ensures, c.cells_of.ensures) at c.make_object.ensures in
     library_celled c.celled_laws.ensures.made c.celled_laws.ensures.wants c.make_object.result c.args.class c.args.frames.now c.make_object.new.frames c.args.heap.now c.make_object.new.heap made
+
+pub returns-clause-rests : goal.returns-clause-rests
+returns-clause-rests g c =
+    new_frames c.make_object.result (kinds.Object c.library_number.result) c.cells_of.result c.args.frames.now c.make_object.new.frames c.args.heap.now c.make_object.new.heap c.make_object.ensures
+
+pub returns-clause-kept : goal.returns-clause-kept
+returns-clause-kept g c =
+    new_heap c.make_object.result (kinds.Object c.library_number.result) c.cells_of.result c.args.frames.now c.make_object.new.frames c.args.heap.now c.make_object.new.heap c.make_object.ensures

@@ -1,6 +1,8 @@
 use Rattle.std.proofs.Common.{◌+◌}
 use Rattle.jobjs.proofs.News.{new_stays, user_celled, user_none, user_row}
 use Rattle.jstate.specs.Seen.{store_by}
+use Rattle.jheap.specs.declared.cell.Kind.TheVariants as kinds
+use Rattle.jobjs.proofs.Resting.{new_frames, new_heap}
 use Rattle.jobjs.proofs.making.new_object.Goals as goal
 
 pub returns-in-None-clause-row : goal.returns-in-None-clause-row
@@ -21,3 +23,11 @@ pub returns-in-Some-clause-celled : goal.returns-in-Some-clause-celled
 returns-in-Some-clause-celled g c =
     user_celled c.celled_laws.ensures.made c.celled_laws.ensures.wants c.make_object.result c.args.shapes.now c.args.class c.in-Some.count c.in-Some.ensures c.args.frames.now c.make_object.new.frames
     c.args.heap.now c.make_object.new.heap c.make_object.ensures
+
+pub returns-in-Some-clause-rests : goal.returns-in-Some-clause-rests
+returns-in-Some-clause-rests g c =
+    new_frames c.make_object.result (kinds.Object (46 + c.args.class)) c.in-Some.count c.args.frames.now c.make_object.new.frames c.args.heap.now c.make_object.new.heap c.make_object.ensures
+
+pub returns-in-Some-clause-kept : goal.returns-in-Some-clause-kept
+returns-in-Some-clause-kept g c =
+    new_heap c.make_object.result (kinds.Object (46 + c.args.class)) c.in-Some.count c.args.frames.now c.make_object.new.frames c.args.heap.now c.make_object.new.heap c.make_object.ensures

@@ -6,6 +6,7 @@ use Rattle.jmachine.specs.Arrays.{within}
 use Rattle.jmachine.specs.Narrowing.{place}
 use Rattle.jacts.specs.Ways.{int_in}
 use Rattle.jobjs.proofs.RefStores.{row_there, store_no_index, store_not, store_null, store_other, store_row, stored_celled, stored_stays, three_there}
+use Rattle.jobjs.proofs.Resting.{stored}
 use Rattle.jobjs.proofs.storing.store_ref.Goals as goal
 
 pub returns-then-not-serve-clause-row : goal.returns-then-not-serve-clause-row
@@ -60,3 +61,17 @@ returns-in-Array-clause-celled g c =
     let put = rw i_is at c.put_item.ensures in
     stored_celled c.celled_laws.ensures.written c.args.frames.now c.put_item.new.frames c.args.heap.now c.put_item.new.heap c.in-Array.o c.operand-value.result c.put_item.result
     c.args.is (within (length (cells_at c.args.heap.now c.in-Array.o)) (place c.in-Some.i)) put
+
+pub returns-in-Array-clause-rests : goal.returns-in-Array-clause-rests
+returns-in-Array-clause-rests g c =
+    let i_is : to_z w32 (of_z w32 c.in-Some.i) ≡ c.in-Some.i = search rules in
+    let is = rw i_is at c.put_item.ensures in
+    (stored c.in-Array.o c.operand-value.result c.args.frames.now c.put_item.new.frames c.args.heap.now c.put_item.new.heap c.put_item.result c.args.is
+    (within (length (cells_at c.args.heap.now c.in-Array.o)) (place c.in-Some.i)) is).0
+
+pub returns-in-Array-clause-kept : goal.returns-in-Array-clause-kept
+returns-in-Array-clause-kept g c =
+    let i_is : to_z w32 (of_z w32 c.in-Some.i) ≡ c.in-Some.i = search rules in
+    let is = rw i_is at c.put_item.ensures in
+    (stored c.in-Array.o c.operand-value.result c.args.frames.now c.put_item.new.frames c.args.heap.now c.put_item.new.heap c.put_item.result c.args.is
+    (within (length (cells_at c.args.heap.now c.in-Array.o)) (place c.in-Some.i)) is).1
