@@ -11,6 +11,7 @@ pub mod Leaving
 pub mod Made
 pub mod Matching
 pub mod Naming
+pub mod Reaching
 pub mod Resting
 pub mod Reversed
 pub mod Ruling

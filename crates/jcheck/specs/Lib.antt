@@ -1,3 +1,4 @@
+pub mod Before
 pub mod Chained
 pub mod Checking
 pub mod Checks

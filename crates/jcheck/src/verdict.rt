@@ -35,7 +35,7 @@ use std::alloc::{AllocError, Global};
 
 /// The frames of a method's StackMapTable, none where it has none.
 #[tactic(auto, unfolding(jbase::specs::First::first_some))]
-fn frames_in(attributes: &[CodeAttribute]) -> &[RawFrame]
+pub(crate) fn frames_in(attributes: &[CodeAttribute]) -> &[RawFrame]
     ensures { result.now ≡ Declared.or_none (first_some Declared.maps_of attributes.now) }
 {
     for attribute in attributes {
@@ -72,7 +72,7 @@ fn has_this(values: &[TypeRef]) -> bool
 }
 
 /// The frame with which a method begins; none where its parameters take more locals than there are.
-fn first_frame(
+pub(crate) fn first_frame(
     alloc: Global,
     p: &NamedProgram,
     m: &MethodRef<'_>,

@@ -61,7 +61,7 @@ fn nearer(at: u32, next: u32, h: &Handler) -> u32
 }
 
 /// A frame that arrives, of which nothing is known.
-fn first_of(frame: FrameRef) -> Arriving
+pub(crate) fn first_of(frame: FrameRef) -> Arriving
     ensures frame { result.held.frame ≡ frame }
     ensures known { result.held.known ≡ unknown }
     ensures comes { result.comes ≡ true }
@@ -392,7 +392,12 @@ impl<'a> Checking<'a> {
 
     /// What arrives behind an instruction by the frame before it; None where a test of it fails.
     #[tactic(auto, unfolding(jtyping::specs::Typing::step))]
-    fn step(&self, o: &Placed, rest: &[Placed], f: Held) -> Result<Option<Arriving>, AllocError>
+    pub(crate) fn step(
+        &self,
+        o: &Placed,
+        rest: &[Placed],
+        f: Held,
+    ) -> Result<Option<Arriving>, AllocError>
         requires checking { IsChecking self.now }
         requires short { o.now.at ≤ 0xffff }
         requires held { IsHeld self.now f }
@@ -411,7 +416,12 @@ impl<'a> Checking<'a> {
     }
 
     /// The frame with which the instruction at a place begins: the declared one, or else what arrives.
-    fn begun(&self, alloc: Global, at: u32, a: Arriving) -> Result<Option<Held>, AllocError>
+    pub(crate) fn begun(
+        &self,
+        alloc: Global,
+        at: u32,
+        a: Arriving,
+    ) -> Result<Option<Held>, AllocError>
         requires { IsHeld self.now a.held }
         ensures held { IfOk result (λ r. IfSome r (IsHeld self.now)) }
         ensures seen { IfOk result (λ r. option_map (held_seen (program_of self.now)) r
