@@ -1,9 +1,11 @@
 ghost use Rattle.std.specs.Prelude.{◌≡◌, ◌≤◌, ◌<◌, ◌^◌, IfSome, length};
 
+use crate::said::Said;
 use jclass::read_class;
 use jio::Shelf;
 use jjob::{Job, JobSource, Text, read_job};
 use jlib::Side;
+use jlink::{LinkedProgram, are_parts, link};
 use jprogram::{CodePart, NamedProgram};
 use std::alloc::Global;
 
@@ -20,81 +22,69 @@ pub fn bytes_at<S: Shelf>(alloc: Global, path: &str, shelf: &mut S) -> Option<Ve
     }
 }
 
-/// The job at a path.
-pub fn job_at<S: Shelf>(alloc: Global, path: &str, shelf: &mut S) -> Option<Job>
-    ensures held { S.held shelf.new ≡ S.held shelf.old }
-    ensures stored { S.write_faults shelf.new ≡ S.write_faults shelf.old }
-    ensures later { S.read_faults shelf.old ≤ S.read_faults shelf.new }
+/// The job of a text.
+pub fn job_of(alloc: Global, text: &[u8]) -> Option<Job>
+    requires { length text.now < 2 ^ 31 }
 {
-    let bytes = bytes_at(alloc, path, shelf)?;
-    match read_job(alloc, &bytes) {
+    match read_job(alloc, text) {
         Ok(job) => Some(job),
         Err(_) => None,
     }
 }
 
+/// Puts the class of a file behind others.
+fn add_part(file: &[u8], parts: &mut Vec<CodePart>, said: &mut Said) {
+    match read_class(said.alloc, file) {
+        Ok(class) => {
+            if parts.push(CodePart { domain: 0, class }).is_err() {
+                said.lose();
+            }
+        }
+        Err(_) => said.lose(),
+    }
+}
+
 /// Puts the class files at some paths behind others.
-fn add_parts<S: Shelf>(
-    alloc: Global,
-    paths: &[Text],
-    parts: &mut Vec<CodePart>,
-    shelf: &mut S,
-) -> Option<()>
+fn add_parts<S: Shelf>(paths: &[Text], parts: &mut Vec<CodePart>, shelf: &mut S, said: &mut Said)
     ensures held { S.held shelf.new ≡ S.held shelf.old }
     ensures stored { S.write_faults shelf.new ≡ S.write_faults shelf.old }
     ensures later { S.read_faults shelf.old ≤ S.read_faults shelf.new }
 {
     for path in paths {
-        let bytes = bytes_at(alloc, path.as_str(), shelf)?;
-        let class = read_class(alloc, &bytes).ok()?;
-        parts.push(CodePart { domain: 0, class }).ok()?;
+        match bytes_at(said.alloc, path.as_str(), shelf) {
+            Some(file) => add_part(&file, parts, said),
+            None => said.lose(),
+        }
     }
-    Some(())
 }
 
-fn parts_at<S: Shelf>(alloc: Global, sources: &[JobSource], shelf: &mut S) -> Option<Vec<CodePart>>
+/// The class files of a job.
+pub fn parts_at<S: Shelf>(sources: &[JobSource], shelf: &mut S, said: &mut Said) -> Vec<CodePart>
     ensures held { S.held shelf.new ≡ S.held shelf.old }
     ensures stored { S.write_faults shelf.new ≡ S.write_faults shelf.old }
     ensures later { S.read_faults shelf.old ≤ S.read_faults shelf.new }
 {
-    let mut parts = Vec::new(alloc);
+    let mut parts = Vec::new(said.alloc);
     for source in sources {
-        add_parts(alloc, source.classes.as_slice(), &mut parts, shelf)?;
+        add_parts(source.classes.as_slice(), &mut parts, shelf, said);
     }
-    Some(parts)
+    parts
 }
 
-fn named(alloc: Global, parts: Vec<CodePart>, side: Side) -> Option<NamedProgram> {
+/// The program of some classes, by their names.
+pub fn named(alloc: Global, parts: Vec<CodePart>, side: Side) -> Option<NamedProgram> {
     if 0xffff < parts.len() {
+        drop(parts);
         return None;
     }
     NamedProgram::of(alloc, parts, side).ok()
 }
 
-/// The classes of a job, by their names.
-pub fn program_of<S: Shelf>(
-    alloc: Global,
-    job: &Job,
-    side: Side,
-    shelf: &mut S,
-) -> Option<NamedProgram>
-    ensures held { S.held shelf.new ≡ S.held shelf.old }
-    ensures stored { S.write_faults shelf.new ≡ S.write_faults shelf.old }
-    ensures later { S.read_faults shelf.old ≤ S.read_faults shelf.new }
-{
-    let parts = parts_at(alloc, job.sources.as_slice(), shelf)?;
-    named(alloc, parts, side)
-}
-
-/// The path of a job's class file, by its place among all.
-pub fn path_of(sources: &[JobSource], place: usize) -> Option<&Text> {
-    let mut left = place;
-    for source in sources {
-        let paths = source.classes.as_slice();
-        if let Some(path) = paths.get(left) {
-            return Some(path);
-        }
-        left = left.saturating_sub(paths.len());
+/// The program of some classes, where they link.
+pub fn linked(alloc: Global, parts: Vec<CodePart>, side: Side) -> Option<LinkedProgram> {
+    if !are_parts(&parts) {
+        drop(parts);
+        return None;
     }
-    None
+    link(alloc, parts, side).ok()
 }

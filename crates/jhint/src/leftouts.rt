@@ -1,23 +1,31 @@
-use crate::references::{Sort, ops_of, reference_of};
-use crate::scene::Scene;
+use crate::references::{Sort, reference_at};
+use crate::scene::{Scene, Told};
 use bitflags::Flags;
 use jclass::{Access, MemberInfo};
-use jcode::{CallOp, Ldc, NewOp, Op};
+use jcode::{ArrayForm, CallOp, Form, Op, Placed, PoolForm, form_of};
 use jpool::Entry;
 use jprogram::{has_code, member_desc, member_name};
 
 const FLOATS: &str = "float and double are left out: whole numbers of a smaller unit";
 
+/// Whether a piece of a descriptor, up to a semicolon, has a float or a double in front of the class that it ends with.
+fn floats_in(piece: &[u8]) -> bool {
+    for byte in piece {
+        if *byte == b'L' {
+            return false;
+        }
+        if *byte == b'F' || *byte == b'D' {
+            return true;
+        }
+    }
+    false
+}
+
 /// Whether a descriptor has a float or a double, in an array too.
 fn has_floats(desc: &[u8]) -> bool {
     for piece in desc.split(|byte| *byte == b';') {
-        for byte in piece {
-            if *byte == b'L' {
-                break;
-            }
-            if *byte == b'F' || *byte == b'D' {
-                return true;
-            }
+        if floats_in(piece) {
+            return true;
         }
     }
     false
@@ -62,15 +70,17 @@ fn constant(scene: Scene<'_>, i: u16) -> Option<&'static str> {
 }
 
 /// What of a call is left out.
-fn called(scene: Scene<'_>, op: &Op, how: CallOp) -> Option<&'static str> {
-    let one = reference_of(scene, op)?;
+fn called(scene: Scene<'_>, how: CallOp, i: u16) -> Option<&'static str> {
+    let one = reference_at(scene, i)?;
     if let [b'[', ..] = one.owner {
         return Some("members of arrays, as `array.clone()`, are left out: a loop");
     }
-    if one.sort == Sort::InterfaceMethod && how != CallOp::Virtual {
-        return Some("static methods of interfaces, and those with code, are left out: a class");
+    match (one.sort, how) {
+        (Sort::InterfaceMethod, CallOp::Special | CallOp::Static) => Some(
+            "static methods of interfaces, and those with code, are left out: a class",
+        ),
+        _ => None,
     }
-    None
 }
 
 /// What of a class that an instruction names is left out.
@@ -84,26 +94,34 @@ fn classed(scene: Scene<'_>, i: u16) -> Option<&'static str> {
 
 /// What of an instruction is left out.
 fn written(scene: Scene<'_>, op: &Op) -> Option<&'static str> {
-    match op {
-        Op::Ldc(Ldc::Narrow(i)) => constant(scene, u16::from(*i)),
-        Op::Ldc(Ldc::Wide(i)) => constant(scene, *i),
-        Op::Ldc2(i) => constant(scene, *i),
-        Op::Call(how, _) => called(scene, op, *how),
-        Op::Cast(_, i) => classed(scene, *i),
-        Op::New(NewOp::RefArray(i)) => classed(scene, *i),
+    match form_of(op) {
+        Form::Pool(PoolForm::Constant(i)) => constant(scene, i),
+        Form::Pool(PoolForm::LongConstant(i)) => constant(scene, i),
+        Form::Pool(PoolForm::Call(how, i)) => called(scene, how, i),
+        Form::Pool(PoolForm::Cast(_, i)) => classed(scene, i),
+        Form::Array(ArrayForm::NewRef(i)) => classed(scene, i),
         _ => None,
     }
 }
 
-/// What is left out of a member, in words.
-pub fn left_out(scene: Scene<'_>, member: &MemberInfo) -> &'static str {
-    if let Some(words) = declared(scene, member) {
-        return words;
-    }
-    for placed in ops_of(member) {
+fn in_code(scene: Scene<'_>, ops: &[Placed]) -> Option<&'static str> {
+    for placed in ops {
         if let Some(words) = written(scene, &placed.op) {
-            return words;
+            return Some(words);
         }
     }
-    "it uses what is left out, as float, double, `sps/Ctx` or a member of an array"
+    None
+}
+
+const ELSE: &str = "it uses what is left out, as float, double, `sps/Ctx` or a member of an array";
+
+/// What is left out of a member, in words.
+pub fn left_out(scene: Scene<'_>, told: Told<'_>) -> &'static str {
+    if let Some(words) = declared(scene, told.info) {
+        return words;
+    }
+    match told.code {
+        Some(code) => in_code(scene, code.ops).unwrap_or(ELSE),
+        None => ELSE,
+    }
 }

@@ -2,7 +2,7 @@
 //!
 //! `say_why` does the command's task again over the shelf. A refused line of a job is told with its rule, a token of a policy with what
 //! could stand there, a byte of a class file with the part of the file in which it stands, a class or a member that is missing with its
-//! name, an instruction with what it takes. The room has no definitions.
+//! name, an instruction with what it takes and what it finds. The room has no definitions.
 //!
 //! Proved: it ends, and leaves the shelf's files and its faults of writing as they were. What it says is in no clause. A line goes out
 //! whole or not at all, but for a fault of the sink; where memory runs out nothing is said. Names and paths are written as texts are in
@@ -25,6 +25,7 @@ mod policies;
 mod references;
 mod said;
 mod scene;
+mod stacks;
 mod why;
 
 pub use why::{say_file, say_why};

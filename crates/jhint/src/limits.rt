@@ -1,6 +1,5 @@
-use crate::said::Said;
-use crate::scene::{member_of, scene_of};
-use jclass::{Attribute, ClassParts, MemberInfo};
+use crate::said::{Piece, Said};
+use crate::scene::{Scene, member_of, say_place, scene_of};
 use jmoveclass::RewriteKind;
 use jprogram::NamedProgram;
 use jtext::Units;
@@ -12,35 +11,22 @@ const MOST_CODE: u32 = 32_767;
 /// The most places of the stack that a method may have before it is moved.
 const MOST_STACK: u16 = 65_532;
 
-/// The most places of the stack, and the most locals, of a method's code.
-fn maxima(member: &MemberInfo) -> Option<(u16, u16)> {
-    for attribute in member.attributes.as_slice() {
-        if let Attribute::Code {
-            max_stack,
-            max_locals,
-            ..
-        } = attribute
-        {
-            return Some((*max_stack, *max_locals));
-        }
-    }
-    None
-}
-
-fn say_long(size: u32, said: &mut Said) {
-    said.words("its code would have ");
-    said.number(u64::from(size));
-    said.words(" bytes, ");
-    said.number(u64::from(size.saturating_sub(MOST_CODE)));
-    said.words(" too many: split the method");
-}
-
-fn say_stack(stack: u16, said: &mut Said) {
-    said.words("its operands take ");
-    said.number(u64::from(stack));
-    said.words(" places, ");
-    said.number(u64::from(stack.saturating_sub(MOST_STACK)));
-    said.words(" too many: smaller expressions");
+/// Says how much of something there is, and how much of it is too many.
+fn say_many(
+    front: &'static str,
+    count: u32,
+    unit: &'static str,
+    most: u32,
+    end: &'static str,
+    said: &mut Said,
+) {
+    said.say(&[
+        Piece::Words(front),
+        Piece::Number(u64::from(count)),
+        Piece::Words(unit),
+        Piece::Number(u64::from(count.saturating_sub(most))),
+        Piece::Words(end),
+    ]);
 }
 
 fn say_locals(locals: u16, said: &mut Said) {
@@ -51,46 +37,59 @@ fn say_locals(locals: u16, said: &mut Said) {
     said.words("its frames would have more than 16,777,216 locals and operands: a smaller method");
 }
 
-fn say_of_method(member: &MemberInfo, kind: RewriteKind, said: &mut Said) -> Option<()> {
-    let (stack, locals) = maxima(member)?;
+/// Says which limit the method of some maxima breaks.
+fn say_kind(kind: RewriteKind, stack: u16, locals: u16, entries: usize, said: &mut Said) {
     match kind {
+        RewriteKind::PoolFull => said.say(&[
+            Piece::Words("it would have more than 65,534 constants, and has "),
+            Piece::Number((entries as u64).saturating_sub(1)),
+            Piece::Words(" so far: split the class"),
+        ]),
+        RewriteKind::TooLong(size) => say_many(
+            "its code would have ",
+            size,
+            " bytes, ",
+            MOST_CODE,
+            " too many: split the method",
+            said,
+        ),
+        RewriteKind::Slots => said.words(
+            "its parameters fill 255 slots, which is one too many: fewer parameters",
+        ),
         RewriteKind::Locals => say_locals(locals, said),
-        _ => say_stack(stack, said),
+        _ => say_many(
+            "its operands take ",
+            u32::from(stack),
+            " places, ",
+            u32::from(MOST_STACK),
+            " too many: smaller expressions",
+            said,
+        ),
     }
-    Some(())
 }
 
-fn say_pool(class: &ClassParts, said: &mut Said) {
-    said.words("it would have more than 65,534 constants, and has ");
-    said.number((class.pool.entries().len() as u64).saturating_sub(1));
-    said.words(" so far: split the class");
+/// The most places of the stack, and the most locals, of the code of the method that a refusal names.
+fn maxima_of(alloc: Global, scene: Scene<'_>, member: &Option<Units>) -> Option<(u16, u16)> {
+    let Some(told) = member else {
+        return None;
+    };
+    let code = member_of(alloc, scene, told)?.code?;
+    Some((code.max_stack, code.max_locals))
 }
 
 /// Says which limit of moving a class breaks, and by how much.
 pub fn say_limit(
-    alloc: Global,
     program: &NamedProgram,
     name: &Units,
     member: &Option<Units>,
     kind: RewriteKind,
     said: &mut Said,
-) -> Option<()> {
-    let scene = scene_of(alloc, program, name)?;
-    said.words("class ");
-    said.units(name.as_slice());
-    if let Some(told) = member {
-        said.words(", ");
-        said.units(told.as_slice());
-    }
-    said.words(": ");
-    match (kind, member) {
-        (RewriteKind::PoolFull, _) => say_pool(scene.class, said),
-        (RewriteKind::TooLong(size), _) => say_long(size, said),
-        (RewriteKind::Slots, _) => said.words(
-            "its parameters fill 255 slots, which is one too many: fewer parameters",
-        ),
-        (_, Some(told)) => say_of_method(member_of(alloc, scene.class, told)?, kind, said)?,
-        _ => return None,
-    }
-    Some(())
+) {
+    let Some(scene) = scene_of(said.alloc, program, name) else {
+        said.lose();
+        return;
+    };
+    let (stack, locals) = maxima_of(said.alloc, scene, member).unwrap_or((0, 0));
+    say_place(name, member, said);
+    say_kind(kind, stack, locals, scene.class.pool.entries().len(), said);
 }

@@ -1,16 +1,15 @@
 ghost use Rattle.jprogram.specs.Layers.{IsLayered};
 
 use crate::leftouts::left_out;
-use crate::references::{Reference, bad_class, bad_member, ops_of, say_reference};
-use crate::said::Said;
-use crate::scene::{Scene, is_layered, member_of, scene_of};
-use jclass::{ClassParts, MemberInfo};
+use crate::references::{Reference, bad_class, bad_member, say_reference};
+use crate::said::{Piece, Said};
+use crate::scene::{Scene, Told, is_layered, member_of, say_place, scene_of};
+use jcode::Placed;
 use jlib::{Side, class, member};
 use jprogram::{LinkKind, NamedProgram, class_text, super_name};
 use jtext::{Units, bytes_of};
-use std::alloc::Global;
 
-// ---- where a class is that isn't there
+// ---- what isn't there
 
 /// The side whose library a program isn't linked against.
 fn other(side: Side) -> Side {
@@ -28,82 +27,63 @@ fn form_for(side: Side) -> &'static str {
     }
 }
 
-/// Where a class of a name is, which neither the job nor its side's library has.
-fn place_of(side: Side, name: &[u8]) -> &'static str {
-    if class(other(side), name).is_some() {
-        return form_for(side);
-    }
-    ", which neither the job nor the library has"
+/// Says a class that neither the job nor its side's library has.
+fn say_missing(side: Side, name: &[u8], said: &mut Said) {
+    let reason = match class(other(side), name) {
+        Some(_) => form_for(side),
+        None => ", which neither the job nor the library has",
+    };
+    said.say(&[Piece::Name(name), Piece::Words(reason)]);
 }
 
-/// Where a field or a method is, which its class hasn't on its side.
-fn owner_of(side: Side, one: Reference<'_>) -> &'static str {
-    if member(other(side), one.owner, one.name, one.desc).is_some() {
-        return form_for(side);
-    }
-    ", which neither that class nor one above it has"
-}
+// ---- a class by itself
 
-fn say_missing(alloc: Global, program: &NamedProgram, name: &[u8], said: &mut Said) {
-    said.name(alloc, name);
-    said.words(place_of(program.side(), name));
-}
-
-// ---- a class
-
-/// The first class that isn't there among those that a class extends or lists.
-fn missing_above<'a>(program: &NamedProgram, class: &'a ClassParts) -> Option<&'a [u8]> {
-    let above = super_name(class)?;
-    if program.class_of(above).is_none() {
-        return Some(above);
-    }
-    for face in class.interfaces.as_slice() {
-        let name = class_text(&class.pool, *face);
-        if program.class_of(name).is_none() {
-            return Some(name);
-        }
-    }
-    None
-}
-
-fn say_above(alloc: Global, program: &NamedProgram, class: &ClassParts, said: &mut Said) {
-    match missing_above(program, class) {
-        Some(name) => {
-            said.words("it extends or lists ");
-            say_missing(alloc, program, name, said);
-        }
-        None => said.words("it extends no class"),
-    }
-}
-
-/// The first interface that a class lists and that is none.
-fn listed_class<'a>(program: &NamedProgram, class: &'a ClassParts) -> Option<&'a [u8]> {
-    for face in class.interfaces.as_slice() {
-        let name = class_text(&class.pool, *face);
-        if !program.is_interface(name) {
-            return Some(name);
-        }
-    }
-    None
-}
-
-fn say_barred(alloc: Global, program: &NamedProgram, class: &ClassParts, said: &mut Said) {
-    if let Some(name) = listed_class(program, class) {
-        said.words("it lists ");
-        said.name(alloc, name);
-        said.words(" as an interface, which it isn't");
+/// Says the first class that isn't there among those that a class extends or lists.
+fn say_above(scene: Scene<'_>, said: &mut Said) {
+    let Some(above) = super_name(scene.class) else {
+        said.words("it extends no class");
+        return;
+    };
+    said.words("it extends or lists ");
+    if scene.program.class_of(above).is_none() {
+        say_missing(scene.program.side(), above, said);
         return;
     }
-    said.words("it extends ");
-    said.name(alloc, super_name(class).unwrap_or(b"nothing"));
-    said.words(", which is final, an interface, or no class that users may extend");
+    for face in scene.class.interfaces.as_slice() {
+        let name = class_text(&scene.class.pool, *face);
+        if scene.program.class_of(name).is_none() {
+            say_missing(scene.program.side(), name, said);
+            return;
+        }
+    }
+    said.lose();
+}
+
+/// Says the first interface that a class lists and that is none, or else the class that it may not extend.
+fn say_barred(scene: Scene<'_>, said: &mut Said) {
+    for face in scene.class.interfaces.as_slice() {
+        let name = class_text(&scene.class.pool, *face);
+        if !scene.program.is_interface(name) {
+            said.say(&[
+                Piece::Words("it lists "),
+                Piece::Name(name),
+                Piece::Words(" as an interface, which it isn't"),
+            ]);
+            return;
+        }
+    }
+    said.say(&[
+        Piece::Words("it extends "),
+        Piece::Name(super_name(scene.class).unwrap_or(b"nothing")),
+        Piece::Words(", which is final, an interface, or no class that users may extend"),
+    ]);
 }
 
 /// Says which rule a class breaks by itself.
-fn say_of_class(alloc: Global, scene: Scene<'_>, kind: LinkKind, said: &mut Said) {
+fn say_of_class(scene: Scene<'_>, kind: LinkKind, said: &mut Said) {
     match kind {
-        LinkKind::NoClass => say_above(alloc, scene.program, scene.class, said),
-        LinkKind::BadSuper => say_barred(alloc, scene.program, scene.class, said),
+        LinkKind::NoClass => say_above(scene, said),
+        LinkKind::BadSuper => say_barred(scene, said),
         LinkKind::Circular => said.words("it stands above itself: class files of two builds"),
         _ => said.words(
             "names that begin with sps/ are those of moved programs: another package, or `check --form=plain`",
@@ -112,125 +92,118 @@ fn say_of_class(alloc: Global, scene: Scene<'_>, kind: LinkKind, said: &mut Said
 }
 
 /// Says where the class stands whose name is taken.
-fn say_taken(side: Side, name: &[u8], said: &mut Said) {
-    if class(side, name).is_some() {
-        said.words("the library has a class of this name");
+fn say_taken(side: Side, name: &Units, said: &mut Said) {
+    let Ok(bytes) = bytes_of(said.alloc, name) else {
+        said.lose();
         return;
+    };
+    if class(side, bytes.as_slice()).is_some() {
+        said.words("the library has a class of this name");
+    } else {
+        said.words("an earlier line of the job names a class of this name");
     }
-    said.words("an earlier line of the job names a class of this name");
 }
 
-// ---- a member
+// ---- a class by a member
 
-fn say_bad_member(
-    alloc: Global,
-    scene: Scene<'_>,
-    kind: LinkKind,
-    member: &MemberInfo,
-    said: &mut Said,
-) -> Option<()>
+/// Why a field or a method may not be used.
+fn reason_of(scene: Scene<'_>, kind: LinkKind, one: Reference<'_>) -> &'static str {
+    let side = scene.program.side();
+    if let LinkKind::NotAccessible = kind {
+        return ", which may not be used so from there: private, of another package, or final";
+    }
+    match member(other(side), one.owner, one.name, one.desc) {
+        Some(_) => form_for(side),
+        None => ", which neither that class nor one above it has",
+    }
+}
+
+/// Says which field or method it is that a method's code names.
+fn say_bad_member(scene: Scene<'_>, kind: LinkKind, ops: &[Placed], said: &mut Said)
     requires { IsLayered scene.program.now }
 {
-    let one = bad_member(alloc, scene, kind, ops_of(member))?;
+    let Some(one) = bad_member(said.alloc, scene, kind, ops) else {
+        said.lose();
+        return;
+    };
     said.words("it uses ");
-    say_reference(alloc, one, said);
-    match kind {
-        LinkKind::NoMember => said.words(owner_of(scene.program.side(), one)),
-        _ => said.words(
-            ", which may not be used so from there: private, of another package, or final",
-        ),
+    say_reference(one, said);
+    said.words(reason_of(scene, kind, one));
+}
+
+/// The same of a member, where members can be resolved.
+fn say_used(scene: Scene<'_>, kind: LinkKind, told: Told<'_>, said: &mut Said) {
+    let Some(code) = told.code else {
+        said.lose();
+        return;
+    };
+    if is_layered(said.alloc, scene.program) {
+        say_bad_member(scene, kind, code.ops, said);
+    } else {
+        said.lose();
     }
-    Some(())
 }
 
 /// Says which class or member it is that a member names.
-fn say_named(
-    alloc: Global,
-    scene: Scene<'_>,
-    kind: LinkKind,
-    member: &MemberInfo,
-    said: &mut Said,
-) -> Option<()> {
-    if let Some(name) = bad_class(scene, kind, member) {
-        said.words("it names ");
-        match kind {
-            LinkKind::NoClass => say_missing(alloc, scene.program, name, said),
-            _ => {
-                said.name(alloc, name);
-                said.words(", which isn't public and stands in another package");
-            }
-        }
-        return Some(());
+fn say_named(scene: Scene<'_>, kind: LinkKind, told: Told<'_>, said: &mut Said) {
+    let Some(name) = bad_class(scene, kind, told) else {
+        say_used(scene, kind, told, said);
+        return;
+    };
+    said.words("it names ");
+    if let LinkKind::NoClass = kind {
+        say_missing(scene.program.side(), name, said);
+        return;
     }
-    if !is_layered(alloc, scene.program) {
-        return None;
-    }
-    say_bad_member(alloc, scene, kind, member, said)
+    said.say(&[
+        Piece::Name(name),
+        Piece::Words(", which isn't public and stands in another package"),
+    ]);
 }
 
-/// What a rule says that a member breaks by itself.
-fn rule_of(kind: LinkKind) -> &'static str {
+/// Says which rule a class breaks by a member.
+fn say_of_member(scene: Scene<'_>, kind: LinkKind, told: &Units, said: &mut Said) {
+    let Some(one) = member_of(said.alloc, scene, told) else {
+        said.lose();
+        return;
+    };
     match kind {
-        LinkKind::Twice => "an earlier member of the class has this name and descriptor",
-        LinkKind::OverridesLibrary =>
-            "it overrides a method of the library that has code: another name",
-        LinkKind::FinalMethod => "it overrides a final method of a class above",
-        _ => "it uses a class or a member otherwise than it is declared: class files of two builds",
-    }
-}
-
-fn say_of_member(
-    alloc: Global,
-    scene: Scene<'_>,
-    kind: LinkKind,
-    member: &MemberInfo,
-    said: &mut Said,
-) -> Option<()> {
-    match kind {
-        LinkKind::NoClass | LinkKind::NoMember => return say_named(
-            alloc, scene, kind, member, said,
+        LinkKind::NoClass | LinkKind::NoMember | LinkKind::NotAccessible => say_named(
+            scene, kind, one, said,
         ),
-        LinkKind::NotAccessible => return say_named(alloc, scene, kind, member, said),
-        LinkKind::LeftOut => said.words(left_out(scene, member)),
-        _ => said.words(rule_of(kind)),
+        LinkKind::LeftOut => said.words(left_out(scene, one)),
+        LinkKind::Twice => said.words(
+            "an earlier member of the class has this name and descriptor",
+        ),
+        LinkKind::OverridesLibrary => said.words(
+            "it overrides a method of the library that has code: another name",
+        ),
+        LinkKind::FinalMethod => said.words("it overrides a final method of a class above"),
+        _ => said.words(
+            "it uses a class or a member otherwise than it is declared: class files of two builds",
+        ),
     }
-    Some(())
 }
 
 /// Says which rule of linking a class breaks, by a member or by itself.
 pub fn say_link(
-    alloc: Global,
     program: &NamedProgram,
     name: &Units,
     member: &Option<Units>,
     kind: LinkKind,
     said: &mut Said,
-) -> Option<()> {
-    said.words("class ");
-    said.units(name.as_slice());
-    match (member, kind) {
-        (None, LinkKind::Twice) => {
-            let bytes = bytes_of(alloc, name).ok()?;
-            said.words(": ");
-            say_taken(program.side(), bytes.as_slice(), said);
-        }
-        (None, _) => {
-            said.words(": ");
-            say_of_class(alloc, scene_of(alloc, program, name)?, kind, said);
-        }
-        (Some(told), _) => {
-            let scene = scene_of(alloc, program, name)?;
-            said.words(", ");
-            said.units(told.as_slice());
-            said.words(": ");
-            say_of_member(
-                alloc,
-                scene,
-                kind,
-                member_of(alloc, scene.class, told)?,
-                said,
-            )?;
-        }
+) {
+    say_place(name, member, said);
+    if let (None, LinkKind::Twice) = (member, kind) {
+        say_taken(program.side(), name, said);
+        return;
     }
-    Some(())
+    let Some(scene) = scene_of(said.alloc, program, name) else {
+        said.lose();
+        return;
+    };
+    match member {
+        Some(told) => say_of_member(scene, kind, told, said),
+        None => say_of_class(scene, kind, said),
+    }
 }

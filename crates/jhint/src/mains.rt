@@ -1,11 +1,10 @@
-use crate::said::Said;
-use crate::scene::{say_member, scene_of};
+use crate::said::{Piece, Said};
+use crate::scene::scene_of;
 use bitflags::Flags;
 use jclass::{Access, ClassParts, MemberInfo};
 use jlib::Side;
 use jprogram::{NamedProgram, Reach, has_code, member_desc, member_name, reach_of};
 use jtext::Units;
-use std::alloc::Global;
 
 /// The descriptor of the method with which a run begins.
 fn desc_of(side: Side) -> &'static [u8] {
@@ -41,24 +40,25 @@ fn reason(side: Side, class: &ClassParts, method: &MemberInfo) -> &'static str {
     " serves"
 }
 
-fn say_mains(alloc: Global, side: Side, class: &ClassParts, said: &mut Said) {
+fn say_mains(side: Side, class: &ClassParts, said: &mut Said) {
     for method in class.methods.as_slice() {
         if member_name(class, method) == b"main".as_slice() {
-            said.words("; ");
-            say_member(alloc, class, method, said);
-            said.words(reason(side, class, method));
+            said.say(&[
+                Piece::Words("; main"),
+                Piece::Name(member_desc(class, method)),
+                Piece::Words(reason(side, class, method)),
+            ]);
         }
     }
 }
 
 /// Says of a class in which a run is to begin why it can't.
-pub fn say_main(alloc: Global, program: &NamedProgram, name: &Units, said: &mut Said) {
-    said.words("main ");
-    said.units(name.as_slice());
-    let Some(scene) = scene_of(alloc, program, name) else {
+pub fn say_main(program: &NamedProgram, name: &Units, said: &mut Said) {
+    said.say(&[Piece::Words("main "), Piece::Units(name.as_slice())]);
+    let Some(scene) = scene_of(said.alloc, program, name) else {
         said.words(": the job has no class of this name, which is written with slashes");
         return;
     };
     said.words(missing(program.side()));
-    say_mains(alloc, program.side(), scene.class, said);
+    say_mains(program.side(), scene.class, said);
 }

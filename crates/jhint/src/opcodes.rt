@@ -15,12 +15,10 @@ ifnonnull goto_w jsr_w";
 
 /// The name of an opcode.
 pub fn name_of(opcode: u8) -> &'static str {
-    for (i, name) in NAMES.split(' ').enumerate() {
-        if i == usize::from(opcode) {
-            return name;
-        }
-    }
-    "no instruction"
+    NAMES
+        .split(' ')
+        .nth(usize::from(opcode))
+        .unwrap_or("no instruction")
 }
 
 /// What makes an instruction that is left out, and what to write in its place.

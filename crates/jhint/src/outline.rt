@@ -1,253 +1,209 @@
-/// A place in bytes, from which they are read.
-#[derive(Clone, Copy)]
-struct Cursor<'a> {
-    bytes: &'a [u8],
-    at: usize,
-}
+use crate::said::Said;
 
-impl<'a> Cursor<'a> {
-    /// The next bytes, where there are so many.
-    fn run(&mut self, size: usize) -> Option<&'a [u8]> {
-        let end = self.at.checked_add(size)?;
-        let run = self.bytes.get(self.at..end)?;
-        self.at = end;
-        Some(run)
-    }
-
-    fn byte(&mut self) -> Option<u8> {
-        match self.run(1)? {
-            [a] => Some(*a),
-            _ => None,
-        }
-    }
-
-    fn short(&mut self) -> Option<u16> {
-        match self.run(2)? {
-            [a, b] => Some(u16::from_be_bytes([*a, *b])),
-            _ => None,
-        }
-    }
-
-    fn long(&mut self) -> Option<u32> {
-        match self.run(4)? {
-            [a, b, c, d] => Some(u32::from_be_bytes([*a, *b, *c, *d])),
-            _ => None,
-        }
-    }
-
-    /// Passes an entry of the pool (JVMS 4.4), and gives its text, empty where it is none, and how many indices it takes.
-    fn entry(&mut self) -> Option<(&'a [u8], u16)> {
-        let size = match self.byte()? {
-            1 => {
-                let size = self.short()?;
-                return Some((self.run(usize::from(size))?, 1));
-            }
-            5 | 6 => {
-                self.run(8)?;
-                return Some((&[], 2));
-            }
-            3 | 4 | 9 | 10 | 11 | 12 | 18 => 4,
-            7 | 8 | 16 => 2,
-            15 => 3,
-            _ => return None,
-        };
-        self.run(size)?;
-        Some((&[], 1))
-    }
-}
-
-/// A field or a method: the indices of its name and of its descriptor.
+/// A field or a method: which it is, and the indices of its name and of its descriptor.
 #[derive(Clone, Copy)]
 pub struct Naming {
-    pub name: u16,
-    pub desc: u16,
+    pub is_field: bool,
+    pub name: usize,
+    pub desc: usize,
 }
 
-/// In which part of a class file a byte stands.
+/// A part of a class file.
 #[derive(Clone, Copy)]
 pub enum Spot {
     Head,
     /// An entry of the pool.
-    Entry(u16),
+    Entry(usize),
     /// What the class says of itself, behind the pool.
     Class,
-    Field(Naming),
-    Method(Naming),
-    /// The code of a method, and the byte there.
-    Code(Naming, usize),
+    Member(Naming),
+    /// The code of a method.
+    Code(Naming),
     /// Attributes of the class.
     Behind,
 }
 
+/// A part, and the byte at which it begins.
 #[derive(Clone, Copy)]
-enum Sort {
-    Field,
-    Method,
+pub struct Part {
+    pub spot: Spot,
+    pub from: usize,
 }
 
-/// The text at an index of a class file's pool.
-pub fn text_in(file: &[u8], index: u16) -> Option<&[u8]> {
-    let mut cursor = Cursor { bytes: file, at: 8 };
-    let count = cursor.short()?;
-    let mut next: u16 = 1;
-    for _ in 1..count {
-        if count <= next {
-            return None;
+/// The parts of a class file, in their order (JVMS 4.1), as far as it is laid out so. An entry of the pool stands at its index.
+#[derive(Drop)]
+pub struct Outline<'a> {
+    file: &'a [u8],
+    parts: Vec<Part>,
+    /// Where the next part begins.
+    at: usize,
+    /// No memory was left for a part.
+    is_lost: bool,
+}
+
+/// The number of two bytes at a place, 0 where they aren't there.
+pub fn short(file: &[u8], at: usize) -> usize {
+    match file.get(at..at.saturating_add(2)) {
+        Some([a, b]) => usize::from(u16::from_be_bytes([*a, *b])),
+        _ => 0,
+    }
+}
+
+fn long(file: &[u8], at: usize) -> usize {
+    let low = short(file, at.saturating_add(2));
+    short(file, at).saturating_mul(0x1_0000).saturating_add(low)
+}
+
+/// The size of an entry of the pool by its tag (JVMS 4.4), the most there is where there is no such tag.
+fn entry_size(file: &[u8], at: usize) -> usize {
+    match file.get(at).copied() {
+        Some(1) => short(file, at.saturating_add(1)).saturating_add(3),
+        Some(5 | 6) => 9,
+        Some(3 | 4 | 9 | 10 | 11 | 12 | 18) => 5,
+        Some(7 | 8 | 16) => 3,
+        Some(15) => 4,
+        _ => usize::MAX,
+    }
+}
+
+/// Whether an entry of the pool is a long or a double, which takes two indices.
+fn is_wide(file: &[u8], at: usize) -> bool {
+    match file.get(at).copied() {
+        Some(5 | 6) => true,
+        _ => false,
+    }
+}
+
+impl<'a> Outline<'a> {
+    /// Puts a part of a size behind the others.
+    fn mark(&mut self, spot: Spot, size: usize) {
+        let part = Part {
+            spot,
+            from: self.at,
+        };
+        if self.parts.push(part).is_err() {
+            self.is_lost = true;
         }
-        let (text, taken) = cursor.entry()?;
-        if next == index {
-            return Some(text);
-        }
-        next = next.checked_add(taken)?;
+        self.at = self.at.saturating_add(size);
     }
-    None
-}
 
-/// Passes the pool. None is given where the byte stands there.
-fn pass_pool(cursor: &mut Cursor<'_>, at: usize, spot: &mut Spot) -> Option<()> {
-    let count = cursor.short()?;
-    let mut next: u16 = 1;
-    for _ in 1..count {
-        if count <= next {
-            break;
-        }
-        *spot = Spot::Entry(next);
-        let (_, taken) = cursor.entry()?;
-        if at < cursor.at {
-            return None;
-        }
-        next = next.checked_add(taken)?;
-    }
-    Some(())
-}
-
-/// Passes an attribute, and gives the place and the size of the code, where it has any.
-fn pass_attribute(cursor: &mut Cursor<'_>) -> Option<Option<(usize, usize)>> {
-    let name = cursor.short()?;
-    let size = cursor.long()?;
-    let found = code_in(*cursor, name);
-    cursor.run(size as usize)?;
-    Some(found)
-}
-
-/// Passes the attributes of a member, and gives the place and the size of its code.
-fn pass_attributes(cursor: &mut Cursor<'_>) -> Option<(usize, usize)> {
-    let count = cursor.short()?;
-    let mut code = (0, 0);
-    for _ in 0..count {
-        if let Some(found) = pass_attribute(cursor)? {
-            code = found;
-        }
-    }
-    Some(code)
-}
-
-/// The place and the size of the code in an attribute of a name, where it is a Code (JVMS 4.7.3).
-fn code_in(mut body: Cursor<'_>, name: u16) -> Option<(usize, usize)> {
-    if text_in(body.bytes, name)? != b"Code".as_slice() {
-        return None;
-    }
-    body.run(4)?;
-    let size = body.long()? as usize;
-    Some((body.at, size))
-}
-
-fn spot_of(sort: Sort, naming: Naming) -> Spot {
-    match sort {
-        Sort::Field => Spot::Field(naming),
-        Sort::Method => Spot::Method(naming),
-    }
-}
-
-/// Passes the flags, the name and the descriptor of a member.
-fn pass_naming(cursor: &mut Cursor<'_>) -> Option<Naming> {
-    match cursor.run(6)? {
-        [_, _, a, b, c, d] => Some(Naming {
-            name: u16::from_be_bytes([*a, *b]),
-            desc: u16::from_be_bytes([*c, *d]),
-        }),
-        _ => None,
-    }
-}
-
-/// Passes a member.
-fn pass_member(cursor: &mut Cursor<'_>, at: usize, sort: Sort, spot: &mut Spot) -> Option<()> {
-    let naming = pass_naming(cursor)?;
-    *spot = spot_of(sort, naming);
-    let (start, size) = pass_attributes(cursor)?;
-    let into = at.checked_sub(start)?;
-    if into < size {
-        *spot = Spot::Code(naming, into);
-        return None;
-    }
-    Some(())
-}
-
-fn pass_members(cursor: &mut Cursor<'_>, at: usize, sort: Sort, spot: &mut Spot) -> Option<()> {
-    let count = cursor.short()?;
-    for _ in 0..count {
-        pass_member(cursor, at, sort, spot)?;
-        if at < cursor.at {
-            return None;
+    /// Marks the entries of the pool.
+    fn mark_pool(&mut self) {
+        let mut is_second = false;
+        for index in 1..short(self.file, 8) {
+            if is_second {
+                self.mark(Spot::Entry(index), 0);
+                is_second = false;
+            } else {
+                is_second = is_wide(self.file, self.at);
+                self.mark(Spot::Entry(index), entry_size(self.file, self.at));
+            }
         }
     }
-    Some(())
-}
 
-/// Passes all that stands in front of the methods.
-fn pass_front(cursor: &mut Cursor<'_>, at: usize, spot: &mut Spot) -> Option<()> {
-    pass_pool(cursor, at, spot)?;
-    *spot = Spot::Class;
-    cursor.run(6)?;
-    let faces = cursor.short()?;
-    cursor.run(2 * usize::from(faces))?;
-    if at < cursor.at {
-        return None;
+    /// The text at an index of the pool, empty where none is there.
+    pub fn text(&self, index: usize) -> &'a [u8] {
+        let Some(part) = self.parts.get(index) else {
+            return b"";
+        };
+        let from = part.from;
+        if self.file.get(from).copied() != Some(1) {
+            return b"";
+        }
+        let size = short(self.file, from.saturating_add(1));
+        let begin = from.saturating_add(3);
+        self.file
+            .get(begin..begin.saturating_add(size))
+            .unwrap_or(b"")
     }
-    pass_members(cursor, at, Sort::Field, spot)
-}
 
-fn pass_all(cursor: &mut Cursor<'_>, at: usize, spot: &mut Spot) -> Option<()> {
-    pass_front(cursor, at, spot)?;
-    pass_members(cursor, at, Sort::Method, spot)?;
-    *spot = Spot::Behind;
-    Some(())
-}
-
-/// The part of a class file in which a byte stands. Where the file isn't laid out as class files are, it is the last part that is.
-pub fn spot_at(file: &[u8], at: usize) -> Spot {
-    let mut spot = Spot::Head;
-    if at < 10 {
-        return spot;
+    /// Passes an attribute, and marks the code in it, where it is a Code (JVMS 4.7.3).
+    fn mark_attribute(&mut self, naming: Naming) {
+        let size = long(self.file, self.at.saturating_add(2));
+        let end = self.at.saturating_add(6).saturating_add(size);
+        let name = short(self.file, self.at);
+        if self.text(name) == b"Code".as_slice() {
+            self.at = self.at.saturating_add(14);
+            let size = long(self.file, self.at.saturating_sub(4));
+            self.mark(Spot::Code(naming), size);
+            self.mark(Spot::Member(naming), 0);
+        }
+        self.at = end;
     }
-    let mut cursor = Cursor { bytes: file, at: 8 };
-    let _ = pass_all(&mut cursor, at, &mut spot);
-    spot
-}
 
-/// The next method's code, where its name and its descriptor behind it are these; the place behind the method else.
-fn code_if(cursor: &mut Cursor<'_>, member: &[u8]) -> Option<Option<usize>> {
-    let naming = pass_naming(cursor)?;
-    let (start, _) = pass_attributes(cursor)?;
-    let name = text_in(cursor.bytes, naming.name)?;
-    let desc = text_in(cursor.bytes, naming.desc)?;
-    if member.strip_prefix(name) == Some(desc) {
-        return Some(Some(start));
-    }
-    Some(None)
-}
-
-/// The opcode at a byte of the code of a method, by its name and its descriptor behind it.
-pub fn opcode_at(file: &[u8], member: &[u8], at: u32) -> Option<u8> {
-    let mut cursor = Cursor { bytes: file, at: 8 };
-    let mut spot = Spot::Head;
-    pass_front(&mut cursor, usize::MAX, &mut spot)?;
-    let count = cursor.short()?;
-    for _ in 0..count {
-        if let Some(start) = code_if(&mut cursor, member)? {
-            let place = start.checked_add(at as usize)?;
-            return file.get(place).copied();
+    /// Marks a member, with its flags, its name, its descriptor and its attributes.
+    fn mark_member(&mut self, is_field: bool) {
+        let naming = Naming {
+            is_field,
+            name: short(self.file, self.at.saturating_add(2)),
+            desc: short(self.file, self.at.saturating_add(4)),
+        };
+        let count = short(self.file, self.at.saturating_add(6));
+        self.mark(Spot::Member(naming), 8);
+        for _ in 0..count {
+            self.mark_attribute(naming);
         }
     }
-    None
+
+    fn mark_members(&mut self, is_field: bool) {
+        let count = short(self.file, self.at);
+        self.at = self.at.saturating_add(2);
+        for _ in 0..count {
+            self.mark_member(is_field);
+        }
+    }
+
+    /// The outline of a file. Where memory runs out nothing is said.
+    pub fn of(file: &'a [u8], said: &mut Said) -> Outline<'a> {
+        let mut outline = Outline {
+            file,
+            parts: Vec::new(said.alloc),
+            at: 0,
+            is_lost: false,
+        };
+        outline.mark(Spot::Head, 10);
+        outline.mark_pool();
+        let faces = short(file, outline.at.saturating_add(6));
+        outline.mark(Spot::Class, faces.saturating_mul(2).saturating_add(8));
+        outline.mark_members(true);
+        outline.mark_members(false);
+        outline.mark(Spot::Behind, 0);
+        if outline.is_lost {
+            said.lose();
+        }
+        outline
+    }
+
+    /// The part in which a byte stands.
+    pub fn part_at(&self, at: usize) -> Part {
+        let mut found = Part {
+            spot: Spot::Head,
+            from: 0,
+        };
+        for part in self.parts.as_slice() {
+            if part.from <= at {
+                found = *part;
+            }
+        }
+        found
+    }
+
+    /// Whether a part is the code of a member of this name, and of this descriptor behind it.
+    fn is_code(&self, spot: Spot, told: &[u8]) -> bool {
+        match spot {
+            Spot::Code(naming) => told.strip_prefix(self.text(naming.name))
+                == Some(self.text(naming.desc)),
+            _ => false,
+        }
+    }
+
+    /// The opcode at a byte of the code of a method.
+    pub fn opcode_at(&self, told: &[u8], at: usize) -> Option<u8> {
+        for part in self.parts.as_slice() {
+            if self.is_code(part.spot, told) {
+                return self.file.get(part.from.saturating_add(at)).copied();
+            }
+        }
+        None
+    }
 }

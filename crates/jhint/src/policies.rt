@@ -1,11 +1,8 @@
-ghost use Rattle.std.specs.Prelude.{◌≤◌, length};
-
-use crate::said::Said;
+use crate::said::{Piece, Said};
 use jbase::Stop;
 use jformat::At;
 use jpolicy::{PolicyFault, read_policy};
 use jtext::Units;
-use std::alloc::Global;
 
 /// The longest front of a policy of which is tried what could stand behind it.
 const MOST_TRIED: usize = 1_000_000;
@@ -21,23 +18,26 @@ const MARKS: &str = "; } { , * \"text\"";
 
 // ---- the place
 
-fn begins_character(byte: u8) -> bool {
-    byte < 0x80 || 0xc0 <= byte
-}
-
-/// The line and the column behind the front of a text, counted from 1.
-fn line_and_column(front: &[u8]) -> (u64, u64) {
+/// Says the file, and the line and the column behind the front of its text, counted from 1.
+fn say_place(path: &str, front: &[u8], said: &mut Said) {
     let mut line: u64 = 1;
     let mut column: u64 = 1;
     for byte in front {
         if *byte == b'\n' {
             line = line.saturating_add(1);
             column = 1;
-        } else if begins_character(*byte) {
+        } else if *byte < 0x80 || 0xc0 <= *byte {
             column = column.saturating_add(1);
         }
     }
-    (line, column)
+    said.say(&[
+        Piece::Text(path),
+        Piece::Words(", line "),
+        Piece::Number(line),
+        Piece::Words(", column "),
+        Piece::Number(column),
+        Piece::Words(": "),
+    ]);
 }
 
 fn is_word(byte: u8) -> bool {
@@ -46,153 +46,150 @@ fn is_word(byte: u8) -> bool {
 
 /// How many bytes at the front of a text are a string, as far as its line goes.
 fn string_size(text: &[u8]) -> usize {
-    for (i, byte) in text.iter().enumerate() {
+    let mut size: usize = 0;
+    for byte in text {
         if *byte == b'\n' || *byte == b'\r' {
-            return i;
+            return size;
         }
-        if *byte == b'"' && 0 < i {
-            return i + 1;
+        size = size.saturating_add(1);
+        if *byte == b'"' && 1 < size {
+            return size;
         }
     }
-    text.len()
+    size
 }
 
 fn word_size(text: &[u8]) -> usize {
-    match text.iter().position(|byte| !is_word(*byte)) {
-        Some(size) => size,
-        None => text.len(),
+    let mut size: usize = 0;
+    for byte in text {
+        if !is_word(*byte) {
+            return size;
+        }
+        size = size.saturating_add(1);
     }
+    size
 }
 
-/// The token at the front of a text, empty at its end.
-fn token(text: &[u8]) -> &[u8] {
-    let size = match text {
+/// The size of the token at the front of a text, 0 at its end.
+fn token_size(text: &[u8]) -> usize {
+    match text {
         [] => 0,
         [b'"', ..] => string_size(text),
         [b'/', b'*', ..] => 2,
-        [first, ..] => { if is_word(*first) { word_size(text) } else { 1 } }
-    };
-    text.get(..size).unwrap_or(text)
+        _ => word_size(text).max(1),
+    }
 }
 
 // ---- what may stand there
 
-/// Whether a token may stand behind the front of a policy: then its first fault isn't at that token.
-fn may_stand(alloc: Global, front: &[u8], token: &str, props: &[(Units, Units)]) -> Option<bool> {
-    let mut text = Vec::new(alloc);
-    text.extend_from_slice(front).ok()?;
-    text.extend_from_slice(b" ").ok()?;
-    let place = text.len();
-    text.extend_from_slice(token.as_bytes()).ok()?;
+/// The front of a policy with a token behind it.
+fn joined(front: &[u8], token: &str, said: &mut Said) -> Vec<u8> {
+    let mut text = Vec::new(said.alloc);
+    let no_front = text.extend_from_slice(front).is_err();
+    let no_space = text.extend_from_slice(b" ").is_err();
+    let no_token = text.extend_from_slice(token.as_bytes()).is_err();
+    if no_front || no_space || no_token {
+        said.lose();
+    }
+    text
+}
+
+/// Whether a policy's first fault, if it has any, isn't at a byte.
+fn is_good(text: &[u8], at: usize, props: &[(Units, Units)], said: &mut Said) -> bool {
     if 0x7fff_ffff < text.len() {
-        return None;
+        said.lose();
+        return false;
     }
-    match read_policy(alloc, &text, props) {
-        Err(Stop::Memory) => None,
-        Err(Stop::Fault(At { at, .. })) => Some(at as usize != place),
-        Ok(_) => Some(true),
+    match read_policy(said.alloc, text, props) {
+        Ok(policy) => {
+            drop(policy);
+            true
+        }
+        Err(Stop::Fault(At { at: found, .. })) => found as usize != at,
+        Err(Stop::Memory) => {
+            said.lose();
+            false
+        }
     }
+}
+
+/// Whether a token may stand behind the front of a policy: then its first fault isn't at that token.
+fn may_stand(front: &[u8], token: &str, props: &[(Units, Units)], said: &mut Said) -> bool {
+    let text = joined(front, token, said);
+    is_good(&text, front.len().saturating_add(1), props, said)
 }
 
 /// Says which of some tokens may stand behind the front of a policy.
-fn say_those(
-    alloc: Global,
-    front: &[u8],
-    tokens: &str,
-    props: &[(Units, Units)],
-    said: &mut Said,
-) -> Option<()> {
+fn say_those(front: &[u8], tokens: &str, props: &[(Units, Units)], said: &mut Said) {
     for token in tokens.split(' ') {
-        if may_stand(alloc, front, token, props)? {
-            said.words(" ");
-            said.words(token);
+        if may_stand(front, token, props, said) {
+            said.say(&[Piece::Words(" "), Piece::Words(token)]);
         }
     }
-    Some(())
 }
 
 /// Says what may stand behind the front of a policy.
-fn say_allowed(
-    alloc: Global,
-    front: &[u8],
-    props: &[(Units, Units)],
-    said: &mut Said,
-) -> Option<()> {
+fn say_allowed(front: &[u8], props: &[(Units, Units)], said: &mut Said) {
     said.words("; what may stand there:");
-    say_those(alloc, front, MARKS, props, said)?;
-    if may_stand(alloc, front, ANY, props)? {
+    say_those(front, MARKS, props, said);
+    if may_stand(front, ANY, props, said) {
         said.words(" a word");
-        return Some(());
+    } else {
+        say_those(front, WORDS, props, said);
     }
-    say_those(alloc, front, WORDS, props, said)
 }
 
 /// What is wrong with a token.
 fn wrong_of(token: &[u8]) -> &'static str {
+    let last = token.get(token.len().saturating_sub(1)).copied();
     match token {
-        [b'"', .., b'"'] => "` isn't allowed there",
+        [b'"', _, ..] if last == Some(b'"') => "` isn't allowed there",
         [b'"', ..] => "` is a string that its line doesn't end",
         [b'/', b'*'] => "` begins a comment that isn't closed",
         _ => "` isn't allowed there",
     }
 }
 
-fn say_token(alloc: Global, token: &[u8], said: &mut Said) {
+fn say_token(token: &[u8], said: &mut Said) {
     if token.is_empty() {
         said.words("the text ends there");
         return;
     }
-    said.words("`");
-    match str::from_utf8(token) {
-        Ok(token) => said.text(alloc, token),
-        Err(_) => said.words(".."),
-    }
-    said.words(wrong_of(token));
+    let shown = str::from_utf8(token).unwrap_or("..");
+    said.say(&[
+        Piece::Words("`"),
+        Piece::Text(shown),
+        Piece::Words(wrong_of(token)),
+    ]);
 }
 
-/// Says which token stands at a byte of a policy, and what may stand there.
-fn say_syntax(
-    alloc: Global,
-    front: &[u8],
-    rest: &[u8],
-    props: &[(Units, Units)],
-    said: &mut Said,
-) -> Option<()> {
-    say_token(alloc, token(rest), said);
-    if MOST_TRIED < front.len() {
-        return Some(());
+/// Says which token stands behind the front of a policy, and what may stand there.
+fn say_syntax(front: &[u8], rest: &[u8], props: &[(Units, Units)], said: &mut Said) {
+    say_token(rest.get(..token_size(rest)).unwrap_or(rest), said);
+    if front.len() <= MOST_TRIED {
+        say_allowed(front, props, said);
     }
-    say_allowed(alloc, front, props, said)
-}
-
-fn say_place(alloc: Global, path: &str, front: &[u8], said: &mut Said) {
-    let (line, column) = line_and_column(front);
-    said.text(alloc, path);
-    said.words(", line ");
-    said.number(line);
-    said.words(", column ");
-    said.number(column);
-    said.words(": ");
 }
 
 /// Says of a policy's text what is wrong at its byte of a number.
 pub fn say_policy(
-    alloc: Global,
     path: &str,
     text: &[u8],
     at: u32,
     kind: PolicyFault,
     props: &[(Units, Units)],
     said: &mut Said,
-) -> Option<()> {
-    let (front, rest) = text.split_at_checked(at as usize)?;
-    say_place(alloc, path, front, said);
+) {
+    let Some((front, rest)) = text.split_at_checked(at as usize) else {
+        said.lose();
+        return;
+    };
+    say_place(path, front, said);
     match kind {
         PolicyFault::NotUtf8 => said.words("the bytes there are no UTF-8"),
         PolicyFault::SelfExpansion => {
             said.words("`${{..}}` isn't read here: write what it stands for")
         }
-        PolicyFault::Syntax => return say_syntax(alloc, front, rest, props, said),
+        PolicyFault::Syntax => say_syntax(front, rest, props, said),
     }
-    Some(())
 }

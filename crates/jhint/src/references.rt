@@ -1,14 +1,14 @@
 ghost use Rattle.jprogram.specs.Layers.{IsLayered};
 
-use crate::said::Said;
-use crate::scene::Scene;
-use jclass::{Attribute, MemberInfo};
-use jcode::{FieldOp, Handler, NewOp, Op, Placed};
+use crate::said::{Piece, Said};
+use crate::scene::{Scene, Told};
+use jcode::{ArrayForm, FieldOp, Form, Handler, Op, Placed, PoolForm, form_of};
 use jpool::Entry;
 use jprogram::{LinkKind, Member, class_text, member_desc, text_at, this_name};
-use std::alloc::Global;
+use juses::CodeRef;
+use std::alloc::{AllocError, Global};
 
-#[derive(Clone, Copy, Debug, PartialEq, Eq)]
+#[derive(Clone, Copy)]
 pub enum Sort {
     Field,
     Method,
@@ -25,49 +25,37 @@ pub struct Reference<'a> {
 }
 
 /// Says a reference: its class, and its name and descriptor.
-pub fn say_reference(alloc: Global, one: Reference<'_>, said: &mut Said) {
-    said.name(alloc, one.owner);
-    said.words(".");
-    said.name(alloc, one.name);
-    if let Sort::Field = one.sort {
-        said.words(" ");
-    }
-    said.name(alloc, one.desc);
+pub fn say_reference(one: Reference<'_>, said: &mut Said) {
+    let mark = match one.sort {
+        Sort::Field => " ",
+        _ => "",
+    };
+    said.say(&[
+        Piece::Name(one.owner),
+        Piece::Words("."),
+        Piece::Name(one.name),
+        Piece::Words(mark),
+        Piece::Name(one.desc),
+    ]);
 }
 
 // ---- what code names
 
-/// The instructions of a method.
-pub fn ops_of(member: &MemberInfo) -> &[Placed] {
-    for attribute in member.attributes.as_slice() {
-        if let Attribute::Code { ops, .. } = attribute {
-            return ops.as_slice();
-        }
-    }
-    &[]
-}
-
-fn handlers_of(member: &MemberInfo) -> &[Handler] {
-    for attribute in member.attributes.as_slice() {
-        if let Attribute::Code { handlers, .. } = attribute {
-            return handlers.as_slice();
-        }
-    }
-    &[]
-}
-
 /// The entry of the pool that an instruction names, where it is a class or a member.
 fn index_of(op: &Op) -> Option<u16> {
-    match op {
-        Op::Field(_, i) | Op::Call(_, i) => Some(*i),
-        Op::CallInterface(i, _) => Some(*i),
-        Op::Cast(_, i) => Some(*i),
-        Op::New(NewOp::Object(i)) | Op::New(NewOp::RefArray(i)) => Some(*i),
+    match form_of(op) {
+        Form::Pool(PoolForm::Field(_, i)) => Some(i),
+        Form::Pool(PoolForm::Call(_, i)) => Some(i),
+        Form::Pool(PoolForm::CallInterface(i, _)) => Some(i),
+        Form::Pool(PoolForm::New(i)) => Some(i),
+        Form::Pool(PoolForm::Cast(_, i)) => Some(i),
+        Form::Array(ArrayForm::NewRef(i)) => Some(i),
         _ => None,
     }
 }
 
-fn reference_at(scene: Scene<'_>, i: u16) -> Option<Reference<'_>> {
+/// What an entry of the pool says of a field or a method.
+pub fn reference_at(scene: Scene<'_>, i: u16) -> Option<Reference<'_>> {
     let pool = &scene.class.pool;
     let (sort, class, both) = match pool.entry(i)? {
         Entry::Field(class, both) => (Sort::Field, *class, *both),
@@ -100,20 +88,24 @@ fn is_bad(scene: Scene<'_>, kind: LinkKind, name: &[u8]) -> bool {
     }
 }
 
-/// The name that a piece of a descriptor, up to a semicolon, ends with.
-fn name_in(piece: &[u8]) -> Option<&[u8]> {
-    let start = piece.iter().position(|byte| *byte == b'L')?;
-    let (_, rest) = piece.split_at(start);
-    rest.strip_prefix(b"L")
+/// The name that a piece of a descriptor, up to a semicolon, ends with; empty where there is none.
+fn name_in(piece: &[u8]) -> &[u8] {
+    let mut begin: usize = 0;
+    for byte in piece {
+        begin = begin.saturating_add(1);
+        if *byte == b'L' {
+            return piece.get(begin..piece.len()).unwrap_or(b"");
+        }
+    }
+    b""
 }
 
 /// The first class of a descriptor that breaks a rule.
 fn bad_in_desc<'a>(scene: Scene<'a>, kind: LinkKind, text: &'a [u8]) -> Option<&'a [u8]> {
     for piece in text.split(|byte| *byte == b';') {
-        if let Some(name) = name_in(piece) {
-            if is_bad(scene, kind, name) {
-                return Some(name);
-            }
+        let name = name_in(piece);
+        if !name.is_empty() && is_bad(scene, kind, name) {
+            return Some(name);
         }
     }
     None
@@ -162,64 +154,59 @@ fn bad_in_handlers<'a>(scene: Scene<'a>, kind: LinkKind, all: &[Handler]) -> Opt
     None
 }
 
+fn bad_in_code<'a>(scene: Scene<'a>, kind: LinkKind, code: CodeRef<'_>) -> Option<&'a [u8]> {
+    if let Some(name) = bad_in_ops(scene, kind, code.ops) {
+        return Some(name);
+    }
+    bad_in_handlers(scene, kind, code.handlers)
+}
+
 /// The first class that a member names and that breaks a rule: that isn't there, or may not be named from there.
-pub fn bad_class<'a>(scene: Scene<'a>, kind: LinkKind, member: &'a MemberInfo) -> Option<&'a [u8]> {
-    let desc = member_desc(scene.class, member);
-    if let Some(name) = bad_in_desc(scene, kind, desc) {
+pub fn bad_class<'a>(scene: Scene<'a>, kind: LinkKind, told: Told<'a>) -> Option<&'a [u8]> {
+    if let Some(name) = bad_in_desc(scene, kind, member_desc(scene.class, told.info)) {
         return Some(name);
     }
-    if let Some(name) = bad_in_ops(scene, kind, ops_of(member)) {
-        return Some(name);
-    }
-    bad_in_handlers(scene, kind, handlers_of(member))
+    bad_in_code(scene, kind, told.code?)
 }
 
 // ---- members
 
-fn resolved(alloc: Global, scene: Scene<'_>, one: Reference<'_>) -> Option<Option<Member>>
+fn resolved(
+    alloc: Global,
+    scene: Scene<'_>,
+    one: Reference<'_>,
+) -> Result<Option<Member>, AllocError>
     requires { IsLayered scene.program.now }
 {
-    let program = scene.program;
     match one.sort {
-        Sort::Field => program
-            .resolve_field(alloc, one.owner, one.name, one.desc)
-            .ok(),
-        _ => program
-            .resolve_method(alloc, one.owner, one.name, one.desc)
-            .ok(),
-    }
-}
-
-fn puts(op: &Op) -> bool {
-    match op {
-        Op::Field(FieldOp::PutStatic, _) | Op::Field(FieldOp::PutField, _) => true,
-        _ => false,
+        Sort::Field => scene
+            .program
+            .resolve_field(alloc, one.owner, one.name, one.desc),
+        _ => scene
+            .program
+            .resolve_method(alloc, one.owner, one.name, one.desc),
     }
 }
 
 /// Whether an instruction may use a member.
 fn may_use(scene: Scene<'_>, op: &Op, member: Member) -> bool {
     let from = this_name(scene.class);
-    if puts(op) && scene.program.is_final(member) && scene.program.owner_of(member) != from {
-        return false;
+    if let Form::Pool(PoolForm::Field(FieldOp::PutStatic | FieldOp::PutField, _)) = form_of(op) {
+        if scene.program.is_final(member) && scene.program.owner_of(member) != from {
+            return false;
+        }
     }
     scene.program.may_use(from, member)
 }
 
 /// Whether what an instruction refers to breaks a rule: it isn't there, or may not be used from there.
-fn breaks(
-    alloc: Global,
-    scene: Scene<'_>,
-    kind: LinkKind,
-    op: &Op,
-    one: Reference<'_>,
-) -> Option<bool>
+fn breaks(alloc: Global, scene: Scene<'_>, kind: LinkKind, op: &Op, one: Reference<'_>) -> bool
     requires { IsLayered scene.program.now }
 {
-    match (resolved(alloc, scene, one)?, kind) {
-        (None, LinkKind::NoMember) => Some(true),
-        (Some(member), LinkKind::NotAccessible) => Some(!may_use(scene, op, member)),
-        _ => Some(false),
+    match (resolved(alloc, scene, one), kind) {
+        (Ok(None), LinkKind::NoMember) => true,
+        (Ok(Some(member)), LinkKind::NotAccessible) => !may_use(scene, op, member),
+        _ => false,
     }
 }
 
@@ -234,7 +221,7 @@ pub fn bad_member<'a>(
 {
     for placed in ops {
         if let Some(one) = reference_of(scene, &placed.op) {
-            if breaks(alloc, scene, kind, &placed.op, one)? {
+            if breaks(alloc, scene, kind, &placed.op, one) {
                 return Some(one);
             }
         }

@@ -8,9 +8,24 @@ use std::alloc::Global;
 /// The most units of a text that are told.
 const MOST_UNITS: usize = 200;
 
-/// What is to be said: a line as it is put together. Where memory runs out it is lost.
+/// A piece of a sentence.
+#[derive(Clone, Copy)]
+pub enum Piece<'a> {
+    /// Words of the program's own.
+    Words(&'a str),
+    Number(u64),
+    /// A text of a file or of the command, as texts are written in lines; of a long one the front.
+    Units(&'a [u16]),
+    /// The same of a text of UTF-8.
+    Text(&'a str),
+    /// The same of a text of a class file; bytes that are no modified UTF-8 aren't told.
+    Name(&'a [u8]),
+}
+
+/// What is to be said: a line as it is put together. Where memory runs out, or what it speaks of isn't found, it is lost.
 #[derive(Drop)]
 pub struct Said {
+    pub alloc: Global,
     line: Vec<u8>,
     lost: bool,
 }
@@ -29,11 +44,17 @@ impl Said {
     /// A line that begins with the program's name.
     pub fn new(alloc: Global) -> Said {
         let mut said = Said {
+            alloc,
             line: Vec::new(alloc),
             lost: false,
         };
-        said.words("javasec: ");
+        said.put(b"javasec: ");
         said
+    }
+
+    /// Nothing is to be said.
+    pub fn lose(&mut self) {
+        self.lost = true;
     }
 
     fn put(&mut self, bytes: &[u8]) {
@@ -47,7 +68,7 @@ impl Said {
         self.put(words.as_bytes());
     }
 
-    pub fn number(&mut self, number: u64) {
+    fn number(&mut self, number: u64) {
         let mut digits = itoa::Buffer::new();
         self.put(digits.format(number).as_bytes());
     }
@@ -68,39 +89,55 @@ impl Said {
         self.put(&[b'\\', b'u', first, second, third, fourth]);
     }
 
-    /// A text of a file or of the command, as texts are written in lines; of a long one the front.
-    pub fn units(&mut self, units: &[u16]) {
-        for unit in units.iter().take(MOST_UNITS) {
+    fn units(&mut self, units: &[u16]) {
+        let told = units.get(..MOST_UNITS).unwrap_or(units);
+        for unit in told {
             self.unit(*unit);
         }
-        if MOST_UNITS < units.len() {
+        if told.len() < units.len() {
             self.put(b"..");
         }
     }
 
-    /// A text of UTF-8.
-    pub fn text(&mut self, alloc: Global, text: &str) {
-        match Units::from_text(alloc, text) {
+    /// A text of UTF-8, as texts are written in lines; of a long one the front.
+    pub fn text(&mut self, text: &str) {
+        match Units::from_text(self.alloc, text) {
             Ok(units) => self.units(units.as_slice()),
             Err(_) => self.lost = true,
         }
     }
 
-    /// A text of a class file; bytes that are no modified UTF-8 aren't told.
-    pub fn name(&mut self, alloc: Global, bytes: &[u8]) {
-        match units_of(alloc, bytes) {
+    /// The same of a text of a class file; bytes that are no modified UTF-8 are not told.
+    pub fn name(&mut self, bytes: &[u8]) {
+        match units_of(self.alloc, bytes) {
             Ok(units) => self.units(units.as_slice()),
             Err(Stop::Fault(_)) => {}
             Err(Stop::Memory) => self.lost = true,
         }
     }
 
+    fn piece(&mut self, piece: Piece<'_>) {
+        match piece {
+            Piece::Words(words) => self.put(words.as_bytes()),
+            Piece::Number(number) => self.number(number),
+            Piece::Units(units) => self.units(units),
+            Piece::Text(text) => self.text(text),
+            Piece::Name(bytes) => self.name(bytes),
+        }
+    }
+
+    /// Puts pieces behind the line.
+    pub fn say(&mut self, pieces: &[Piece<'_>]) {
+        for piece in pieces {
+            self.piece(*piece);
+        }
+    }
+
     /// Writes the line, unless it is lost.
     pub fn send<K: Sink>(mut self, out: &mut K) {
         self.put(b"\n");
-        if self.lost {
-            return;
+        if !self.lost {
+            let _ = put_all(out, self.line.as_slice());
         }
-        let _ = put_all(out, self.line.as_slice());
     }
 }

@@ -1,25 +1,21 @@
-ghost use Rattle.std.specs.Prelude.{◌≡◌, ◌≤◌, IfSome, IsTrue};
+ghost use Rattle.std.specs.Prelude.{◌≡◌, ◌≤◌, ◌<◌, ◌^◌, IfSome, IsTrue, length};
 ghost use Rattle.jtask.specs.Tasks.{reads};
 
 use crate::checks::say_check;
 use crate::classes::say_class;
-use crate::files::{bytes_at, job_at, path_of, program_of};
+use crate::files::{bytes_at, job_of, linked, named, parts_at};
 use crate::limits::say_limit;
 use crate::lines::say_line;
 use crate::links::say_link;
 use crate::mains::say_main;
 use crate::policies::say_policy;
-use crate::said::Said;
-use crate::scene::place_of;
-use jclass::ClassFault;
+use crate::said::{Piece, Said};
 use jio::{Shelf, Sink};
-use jjob::{Command, Form, Job, Text, read_words};
+use jjob::{Command, Form, Job, read_words};
 use jlib::Side;
-use jpolicy::PolicyFault;
-use jprogram::NamedProgram;
+use jprogram::{CodePart, NamedProgram};
 use jshow::Refusal;
 use jtask::{Halt, reads_files, task_of};
-use jtext::Units;
 use std::alloc::Global;
 
 // ---- the command
@@ -34,32 +30,40 @@ fn command_of(alloc: Global, words: &[String]) -> Option<Command>
     Some(command)
 }
 
-fn job_path(command: &Command) -> Option<&Text> {
+/// The path of a command's job, empty where it has none.
+fn job_path(command: &Command) -> &str {
     match command {
-        Command::Run { job, .. } => Some(job),
-        Command::Check { job, .. } => Some(job),
-        Command::Rewrite { job, .. } => Some(job),
-        Command::Policy { job } => Some(job),
-        Command::Gen { .. } => None,
-    }
-}
-
-fn form_of(command: &Command) -> Form {
-    match command {
-        Command::Run { form, .. } => *form,
-        Command::Check { form, .. } => *form,
-        _ => Form::Inspect,
+        Command::Run { job, .. } => job.as_str(),
+        Command::Check { job, .. } => job.as_str(),
+        Command::Rewrite { job, .. } => job.as_str(),
+        Command::Policy { job } => job.as_str(),
+        Command::Gen { .. } => "",
     }
 }
 
 /// The side against whose library a command's classes are linked.
 fn side_of(command: &Command) -> Side {
-    match form_of(command) {
-        Form::Plain => Side::Passing,
+    match command {
+        Command::Run {
+            form: Form::Plain,
+            ..
+        } => Side::Passing,
+        Command::Check {
+            form: Form::Plain,
+            ..
+        } => Side::Passing,
         _ => Side::Source,
     }
 }
 
+fn refused(halt: Halt) -> Option<Refusal> {
+    match halt {
+        Halt::Refused(refusal) => Some(refusal),
+        Halt::Read | Halt::Memory => None,
+    }
+}
+
+/// The refusal of a command, where it is refused.
 fn refusal_of<S: Shelf>(alloc: Global, command: &Command, shelf: &mut S) -> Option<Refusal>
     requires { IsTrue (reads command.now) }
     ensures held { S.held shelf.new ≡ S.held shelf.old }
@@ -67,167 +71,137 @@ fn refusal_of<S: Shelf>(alloc: Global, command: &Command, shelf: &mut S) -> Opti
     ensures later { S.read_faults shelf.old ≤ S.read_faults shelf.new }
 {
     match task_of(alloc, command, shelf) {
-        Err(Halt::Refused(refusal)) => Some(refusal),
-        _ => None,
+        Ok(task) => {
+            drop(task);
+            None
+        }
+        Err(halt) => refused(halt),
     }
 }
 
 // ---- by the file in which it stands
 
-fn of_job<S: Shelf>(
-    alloc: Global,
-    path: &Text,
-    line: u32,
-    shelf: &mut S,
-    said: &mut Said,
-) -> Option<()>
-    ensures held { S.held shelf.new ≡ S.held shelf.old }
-    ensures stored { S.write_faults shelf.new ≡ S.write_faults shelf.old }
-    ensures later { S.read_faults shelf.old ≤ S.read_faults shelf.new }
-{
-    let text = bytes_at(alloc, path.as_str(), shelf)?;
-    say_line(alloc, path.as_str(), &text, line, said);
-    Some(())
+/// The file of which a refusal is, where it is of one besides the job.
+fn path_of<'a>(job: &'a Job, refusal: &'a Refusal) -> Option<&'a str> {
+    match refusal {
+        Refusal::BadClass { path, .. } => Some(path.as_str()),
+        Refusal::BadPolicy { .. } => match &job.policy {
+            Some(path) => Some(path.as_str()),
+            None => None,
+        },
+        _ => None,
+    }
 }
 
-fn of_policy<S: Shelf>(
-    alloc: Global,
-    job: &Job,
-    at: u32,
-    kind: PolicyFault,
-    shelf: &mut S,
-    said: &mut Said,
-) -> Option<()>
-    ensures held { S.held shelf.new ≡ S.held shelf.old }
-    ensures stored { S.write_faults shelf.new ≡ S.write_faults shelf.old }
-    ensures later { S.read_faults shelf.old ≤ S.read_faults shelf.new }
-{
-    let Some(path) = &job.policy else {
-        return None;
-    };
-    let text = bytes_at(alloc, path.as_str(), shelf)?;
-    say_policy(
-        alloc,
-        path.as_str(),
-        &text,
-        at,
-        kind,
-        job.props.as_slice(),
-        said,
-    )
+/// Says what is wrong in a file.
+fn say_of_file(job: &Job, path: &str, bytes: &[u8], refusal: &Refusal, said: &mut Said) {
+    match refusal {
+        Refusal::BadClass { at, kind, .. } => say_class(path, bytes, *at, *kind, said),
+        Refusal::BadPolicy { at, kind } => {
+            say_policy(path, bytes, *at, *kind, job.props.as_slice(), said)
+        }
+        _ => said.lose(),
+    }
 }
 
-fn of_class<S: Shelf>(
-    alloc: Global,
-    path: &Text,
-    at: u32,
-    kind: ClassFault,
-    shelf: &mut S,
-    said: &mut Said,
-) -> Option<()>
-    ensures held { S.held shelf.new ≡ S.held shelf.old }
-    ensures stored { S.write_faults shelf.new ≡ S.write_faults shelf.old }
-    ensures later { S.read_faults shelf.old ≤ S.read_faults shelf.new }
-{
-    let file = bytes_at(alloc, path.as_str(), shelf)?;
-    say_class(alloc, path.as_str(), &file, at, kind, said)
-}
-
-fn of_code<S: Shelf>(
-    alloc: Global,
-    job: &Job,
-    program: &NamedProgram,
-    class: &Units,
-    member: &Units,
-    at: u32,
-    shelf: &mut S,
-    said: &mut Said,
-) -> Option<()>
-    ensures held { S.held shelf.new ≡ S.held shelf.old }
-    ensures stored { S.write_faults shelf.new ≡ S.write_faults shelf.old }
-    ensures later { S.read_faults shelf.old ≤ S.read_faults shelf.new }
-{
-    let place = place_of(alloc, program, class)?;
-    let path = path_of(job.sources.as_slice(), place)?;
-    let file = bytes_at(alloc, path.as_str(), shelf)?;
-    say_check(alloc, program, &file, class, member, at, said)
-}
-
-/// Says why the classes of a job make no program.
-fn of_program<S: Shelf>(
-    alloc: Global,
-    job: &Job,
-    program: &NamedProgram,
-    refusal: &Refusal,
-    shelf: &mut S,
-    said: &mut Said,
-) -> Option<()>
-    ensures held { S.held shelf.new ≡ S.held shelf.old }
-    ensures stored { S.write_faults shelf.new ≡ S.write_faults shelf.old }
-    ensures later { S.read_faults shelf.old ≤ S.read_faults shelf.new }
-{
+/// Says why the classes of a job make no program, or can't be run or moved.
+fn say_of_program(program: &NamedProgram, refusal: &Refusal, said: &mut Said) {
     match refusal {
         Refusal::BadLink {
             class,
             member,
             kind,
-        } => say_link(alloc, program, class, member, *kind, said),
-        Refusal::BadCheck { class, member, at } => {
-            of_code(alloc, job, program, class, member, *at, shelf, said)
-        }
+        } => say_link(program, class, member, *kind, said),
         Refusal::BadRewrite {
             class,
             member,
             kind,
-        } => say_limit(alloc, program, class, member, *kind, said),
-        Refusal::NoMain(name) => {
-            say_main(alloc, program, name, said);
-            Some(())
-        }
-        _ => None,
+        } => say_limit(program, class, member, *kind, said),
+        Refusal::NoMain(name) => say_main(program, name, said),
+        _ => said.lose(),
+    }
+}
+
+fn say_of_named(parts: Vec<CodePart>, side: Side, refusal: &Refusal, said: &mut Said) {
+    match named(said.alloc, parts, side) {
+        Some(program) => say_of_program(&program, refusal, said),
+        None => said.lose(),
+    }
+}
+
+/// Says why the classes of a job aren't well typed, or else the same as above.
+fn say_of_parts(parts: Vec<CodePart>, side: Side, refusal: &Refusal, said: &mut Said) {
+    let Refusal::BadCheck { class, member, at } = refusal else {
+        say_of_named(parts, side, refusal, said);
+        return;
+    };
+    match linked(said.alloc, parts, side) {
+        Some(program) => say_check(&program, class, member, *at, said),
+        None => said.lose(),
     }
 }
 
 /// Says why what a job names is refused.
-fn of_ground<S: Shelf>(
-    alloc: Global,
-    command: &Command,
-    job: &Job,
-    refusal: &Refusal,
-    shelf: &mut S,
-    said: &mut Said,
-) -> Option<()>
+fn say_ground<S: Shelf>(side: Side, job: &Job, refusal: &Refusal, shelf: &mut S, said: &mut Said)
     ensures held { S.held shelf.new ≡ S.held shelf.old }
     ensures stored { S.write_faults shelf.new ≡ S.write_faults shelf.old }
     ensures later { S.read_faults shelf.old ≤ S.read_faults shelf.new }
 {
-    match refusal {
-        Refusal::BadPolicy { at, kind } => of_policy(alloc, job, *at, *kind, shelf, said),
-        Refusal::BadClass { path, at, kind } => of_class(alloc, path, *at, *kind, shelf, said),
-        _ => {
-            let program = program_of(alloc, job, side_of(command), shelf)?;
-            of_program(alloc, job, &program, refusal, shelf, said)
-        }
+    let Some(path) = path_of(job, refusal) else {
+        let parts = parts_at(job.sources.as_slice(), shelf, said);
+        say_of_parts(parts, side, refusal, said);
+        return;
+    };
+    match bytes_at(said.alloc, path, shelf) {
+        Some(bytes) => say_of_file(job, path, &bytes, refusal, said),
+        None => said.lose(),
     }
 }
 
-fn say_refusal<S: Shelf>(
-    alloc: Global,
+fn say_job<S: Shelf>(
     command: &Command,
+    text: &[u8],
     refusal: &Refusal,
     shelf: &mut S,
     said: &mut Said,
-) -> Option<()>
+)
+    requires { length text.now < 2 ^ 31 }
     ensures held { S.held shelf.new ≡ S.held shelf.old }
     ensures stored { S.write_faults shelf.new ≡ S.write_faults shelf.old }
     ensures later { S.read_faults shelf.old ≤ S.read_faults shelf.new }
 {
-    let path = job_path(command)?;
     if let Refusal::BadJob { line } = refusal {
-        return of_job(alloc, path, *line, shelf, said);
+        say_line(job_path(command), text, *line, said);
+        return;
     }
-    let job = job_at(alloc, path.as_str(), shelf)?;
-    of_ground(alloc, command, &job, refusal, shelf, said)
+    match job_of(said.alloc, text) {
+        Some(job) => say_ground(side_of(command), &job, refusal, shelf, said),
+        None => said.lose(),
+    }
+}
+
+fn say_refusal<S: Shelf>(command: &Command, refusal: &Refusal, shelf: &mut S, said: &mut Said)
+    ensures held { S.held shelf.new ≡ S.held shelf.old }
+    ensures stored { S.write_faults shelf.new ≡ S.write_faults shelf.old }
+    ensures later { S.read_faults shelf.old ≤ S.read_faults shelf.new }
+{
+    match bytes_at(said.alloc, job_path(command), shelf) {
+        Some(text) => say_job(command, &text, refusal, shelf, said),
+        None => said.lose(),
+    }
+}
+
+/// What is said of a command's refusal, where it is refused.
+fn told_of<S: Shelf>(alloc: Global, command: &Command, shelf: &mut S) -> Option<Said>
+    requires { IsTrue (reads command.now) }
+    ensures held { S.held shelf.new ≡ S.held shelf.old }
+    ensures stored { S.write_faults shelf.new ≡ S.write_faults shelf.old }
+    ensures later { S.read_faults shelf.old ≤ S.read_faults shelf.new }
+{
+    let refusal = refusal_of(alloc, command, shelf)?;
+    let mut said = Said::new(alloc);
+    say_refusal(command, &refusal, shelf, &mut said);
+    Some(said)
 }
 
 /// Says in one line why the command of the words is refused, where it is: its task is done again, and the files are looked at. What is said
@@ -240,11 +214,7 @@ pub fn say_why<S: Shelf, K: Sink>(alloc: Global, words: &[String], shelf: &mut S
     let Some(command) = command_of(alloc, words) else {
         return;
     };
-    let Some(refusal) = refusal_of(alloc, &command, shelf) else {
-        return;
-    };
-    let mut said = Said::new(alloc);
-    if say_refusal(alloc, &command, &refusal, shelf, &mut said).is_some() {
+    if let Some(said) = told_of(alloc, &command, shelf) {
         said.send(out);
     }
 }
@@ -259,13 +229,12 @@ pub fn say_file<K: Sink>(
 ) {
     let mut said = Said::new(alloc);
     match path {
-        Some(path) => said.text(alloc, path),
+        Some(path) => said.text(path),
         None => said.words("a file"),
     }
     said.words(fault);
     if !reason.is_empty() {
-        said.words(": ");
-        said.words(reason);
+        said.say(&[Piece::Words(": "), Piece::Words(reason)]);
     }
     said.send(out);
 }
