@@ -1,5 +1,5 @@
 -- What a job says whose class files have other paths.
-use Rattle.std.proofs.Common.{◌≡◌, ℕ, zero, suc, ◌+◌, ◌<◌, ◌≤◌, List, [], ◌∷◌, ◌++◌, drop, length, map, refl, sym, ap, ap₂, ◌∙◌, arith, length-append}
+use Rattle.std.proofs.Common.{◌≡◌, ℕ, zero, suc, ◌+◌, ◌<◌, ◌≤◌, List, [], ◌∷◌, ◌++◌, Ok, drop, length, map, refl, sym, ap, ap₂, ◌∙◌, arith, length-append}
 use Rattle.std.proofs.lemmas.List.{length-map}
 use Rattle.std.proofs.lemmas.List.Sums.{sum_by-cons}
 use Rattle.url.specs.Parts.{Parts}
@@ -7,8 +7,10 @@ use Rattle.jdomain.specs.Domains.{granted}
 use Rattle.jpolicy.specs.declared.grant.Grant.{Grant}
 use Rattle.jjob.specs.declared.job.Job.{Job}
 use Rattle.jjob.specs.declared.job.JobSource.{JobSource}
-use Rattle.jagain.specs.Again.{classes_in, in_place, with_classes}
+use Rattle.jjob.specs.Jobs.{job}
+use Rattle.jagain.specs.Again.{JobIsSmall, classes_in, in_place, with_classes}
 use Rattle.jtask.specs.declared.ground.ClassPath.{ClassPath}
+use Rattle.jtask.specs.declared.ground.Ground.{Ground}
 use Rattle.jtask.specs.Grounds.{ground_of, paths_from, paths_with, urls_of}
 
 -- class files, each at the next of these paths
@@ -94,3 +96,17 @@ rise_from domain [] le = tt
 rise_from domain (one ∷ more) le =
     let later = rise_from (domain + 1) more (omega arith) in
     rise_both domain domain one.classes (paths_from (domain + 1) more) (omega arith) (omega arith) (rise_less domain (domain + 1) (domains_of (paths_from (domain + 1) more)) (omega arith) later)
+
+-- A job that was read has few class files, and its code sources are numbered in order.
+pub record Fine (g : Ground) : Type 0 where
+  pub few : length g.classes ≤ 0xffff
+  pub rise : Rise 0 (domains_of g.classes)
+
+pub is_fine : JobIsSmall → (text : List ℕ) (it : Job) (grants : List Grant) → job text ≡ Ok it → Fine (ground_of it grants)
+unfolding ground_of
+is_fine small text it grants is =
+    let few = small text it is in
+    record {
+      few = let n = few.1 in let m = length_from 0 it.sources in omega arith;
+      rise = rise_from 0 it.sources (let n = few.0 in omega arith);
+    }

@@ -6,7 +6,7 @@ use Rattle.jperm.specs.declared.permission.Permission.{Permission}
 use Rattle.jtrace.specs.declared.event.End.{End}
 use Rattle.jdomain.specs.Domains.{has}
 use Rattle.jjob.specs.declared.command.Command.{Command}
-use Rattle.jjob.specs.Words.{Word}
+use Rattle.jjob.specs.Words.{Word, command}
 use Rattle.jprogram.specs.Classes.{Program}
 use Rattle.jtyping.specs.Typing.{WellTyped}
 use Rattle.jrewrite.specs.Linking.{IsLinked}
@@ -25,7 +25,7 @@ use Rattle.jtask.specs.declared.task.Task.TheVariants as tasks
 use Rattle.jtask.specs.Stages.{Refused}
 use Rattle.jtask.specs.Tasks.{RunClasses, task}
 use Rattle.jtask.proofs.Sources.{Sources, linked_in, main_in, moved_in, sources, typed_in}
-use Rattle.jdriver.specs.Answers.{accepted, answer, ran, shown, stopped_or_shown}
+use Rattle.jdriver.specs.Answers.{answer, ran, shown, stopped_or_shown}
 use Rattle.jdriver.specs.Headline.{AnswersAll, AnswersSome, RunsPassed}
 
 -- runs that tell the same are answered alike
@@ -45,7 +45,7 @@ module _ (c : Command) (files : List File) (p : Program) (domains : List (List P
 
   answer_is : answer c files ≡ ran (passed (has domains) (moved p) plan plan.steps)
   unfolding answer shown
-  answer_is = ap stopped_or_shown task_is
+  answer_is = ap (λ (x : Command). answer x files) is.command ∙ ap stopped_or_shown (moved_in files is.path p domains plan source is.small)
 
   module _ (law : MovedPasses) (classes : RunClasses c files) (s : Status) (old new : Option (List ℕ)) (answers : Answers (answer c files) s old new) where
     linked : IsLinked p
@@ -95,7 +95,7 @@ module _ (c : Command) (files : List File) (refusal : Refusal) (s : Status) (old
 
 -- ---- where the words are no command
 
-module _ (words : List Word) (c : Command) (files : List File) (s : Status) (old new : Option (List ℕ)) (none : accepted words ≡ None) (is : accepted words ≡ Some c) where
+module _ (words : List Word) (c : Command) (files : List File) (s : Status) (old new : Option (List ℕ)) (none : command words ≡ None) (is : command words ≡ Some c) where
   no_command : {A : Type 0} → A
   no_command = absurd (let both = sym none ∙ is in cc)
 

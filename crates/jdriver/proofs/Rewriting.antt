@@ -45,7 +45,7 @@ ok_job it = Ok it
 abbrev ok_ground : Ground → Result Ground Stopped
 ok_ground g = Ok g
 
-job_is : (r : Result Job ℕ) (it : Job) → job_read r ≡ Ok it → r ≡ ok_job it
+pub job_is : (r : Result Job ℕ) (it : Job) → job_read r ≡ Ok it → r ≡ ok_job it
 job_is (Ok other) it e = let x = e in cc
 job_is (Err line) it e = absurd (let x = e in cc)
 
@@ -61,15 +61,15 @@ unlimited : (p q : Program) (o : Option Place) → unless_limited p o ≡ ok_pro
 unlimited p q None e = let x = e in (cc, refl)
 unlimited p q (Some place) e = absurd (let x = e in cc)
 
-links : (p q : Program) → linked p ≡ ok_program q → (p ≡ q) × (link_fault p ≡ None)
+pub links : (p q : Program) → linked p ≡ ok_program q → (p ≡ q) × (link_fault p ≡ None)
 unfolding linked
 links p q e = unbroken p q (link_fault p) e
 
-types : (p q : Program) → checked p ≡ ok_program q → (p ≡ q) × (type_fault p ≡ None)
+pub types : (p q : Program) → checked p ≡ ok_program q → (p ≡ q) × (type_fault p ≡ None)
 unfolding checked
 types p q e = untyped p q (type_fault p) e
 
-small : (p q : Program) → rewritten p ≡ ok_program q → (moved p ≡ q) × (limits p ≡ None)
+pub small : (p q : Program) → rewritten p ≡ ok_program q → (moved p ≡ q) × (limits p ≡ None)
 unfolding rewritten
 small p q e = unlimited p q (limits p) e
 
@@ -137,7 +137,7 @@ module _ (files : List File) (path to text : List ℕ) (read : readable files pa
         task = whole ∙ sym b.2 ∙ ap (λ (p : Program). ok_task (tasks.Rewrite p text to)) (sym m.same);
       }
 
-ground_is : (g h : Ground) → ok_ground g ≡ ok_ground h → g ≡ h
+pub ground_is : (g h : Ground) → ok_ground g ≡ ok_ground h → g ≡ h
 ground_is g h e = cc
 
 text_stage : (files : List File) (path to text : List ℕ) (t : Task) → readable files path ≡ Some text → task (commands.Rewrite path to) files ≡ ok_task t → rewrite_of_text files to text ≡ ok_task t → Rewrites files path to

@@ -43,7 +43,7 @@ use Rattle.jtask.specs.Tasks.{grants_at, grants_of, grants_read, ground_at, grou
 use Rattle.jdriver.specs.Answers.{answer, shown, stopped_or_shown}
 use Rattle.jdriver.specs.Folders.{all_below, class_below, files_below, job_below, path_of}
 use Rattle.jdriver.specs.Alike.{AreRead, IsStored, RunsAlike}
-use Rattle.jdriver.proofs.Grounds.{Rise, domains_of, ground_again, length_from, replaced, rise_from}
+use Rattle.jdriver.proofs.Grounds.{Fine, ground_again, is_fine, replaced}
 use Rattle.jdriver.proofs.Names.{is_name}
 use Rattle.jdriver.proofs.Parts.{AllHeld, ArePartsOf, ReadsBack, SpellsWhole, all_fit, are_parts, are_parts_of, domains_small, parts_again, paths_of}
 use Rattle.jdriver.proofs.Rewriting.{Rewrites, rewrites, stored_files}
@@ -102,16 +102,11 @@ module _ (again : JobAgain) (few : JobIsSmall) (spells : SpellsWhole) (back : Re
   of_classes : ArePartsOf g.classes r.parts
   of_classes = are_parts_of files g.classes r.parts s.bytes spells r.classes
 
-  rise : Rise 0 (domains_of g.classes)
-  unfolding ground_of
-  rise = rise_from 0 r.it.sources (let n = (few r.text r.it r.job).0 in omega arith)
-
-  count : length g.classes ≤ 0xffff
-  unfolding ground_of
-  count = let n = (few r.text r.it r.job).1 in let m = length_from 0 r.it.sources in omega arith
+  fine : Fine g
+  fine = is_fine few r.text r.it r.grants r.job
 
   is_linked : IsLinked p
-  is_linked = record { source = refl; links = record { parts = are_parts g.classes r.parts of_classes count rise; rules = r.links }; files = all_fit g.classes r.parts of_classes }
+  is_linked = record { source = refl; links = record { parts = are_parts g.classes r.parts of_classes fine.few fine.rise; rules = r.links }; files = all_fit g.classes r.parts of_classes }
 
   is_typed : WellTyped p
   unfolding WellTyped
@@ -184,7 +179,7 @@ module _ (again : JobAgain) (few : JobIsSmall) (spells : SpellsWhole) (back : Re
   names_of (x ∷ xs) h = (is_name to x.domain _ s.text s.line h.0, names_of xs h.1)
 
   names : AllByRecursion IsName paths
-  names = names_of r.parts (domains_small 0 g.classes r.parts of_classes rise)
+  names = names_of r.parts (domains_small 0 g.classes r.parts of_classes fine.rise)
 
   abbrev it : Job
   it = record r.it { sources = with_classes paths r.it.sources }

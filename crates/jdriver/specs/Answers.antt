@@ -1,5 +1,5 @@
 -- What the program answers to its words, over the files that are held.
-use Rattle.std.specs.Prelude.{◌≡◌, ◌⊎◌, ℕ, Bool, false, List, [], ◌++◌, length, Option, Some, None, Result, Ok, Err, codes, decimal, option_and_then, if◌then◌else◌, String}
+use Rattle.std.specs.Prelude.{◌≡◌, ◌≤◌, ◌⊎◌, ℕ, Bool, false, true, List, [], ◌++◌, length, Option, Some, None, Result, Ok, Err, codes, decimal, String}
 use Rattle.std.specs.declared.alloc.Global.{Global}
 use Rattle.jbase.specs.Causes.{Rose}
 use Rattle.jio.specs.Held.{File}
@@ -9,7 +9,10 @@ use Rattle.jmachine.specs.Runs.{Run, run_text, ending}
 use Rattle.jrules.specs.Inspecting.{rules as inspecting}
 use Rattle.jrules.specs.Plain.{rules as plain}
 use Rattle.jjob.specs.declared.command.Command.{Command}
-use Rattle.jjob.specs.Words.{Word, command, words_of}
+use Rattle.jjob.specs.declared.command.Command.TheVariants as commands
+use Rattle.jjob.specs.Limits.{most_size}
+use Rattle.jjob.specs.Words.{command, words_of}
+use Rattle.jdriver.specs.Making.{made}
 use Rattle.jshow.specs.declared.status.Status.{Status}
 use Rattle.jshow.specs.declared.status.Status.TheVariants as statuses
 use Rattle.jshow.specs.Answering.{Answer, listed, refused_answer}
@@ -20,7 +23,7 @@ use Rattle.jshow.specs.Statuses.{status_of}
 use Rattle.jtask.specs.declared.task.Task.{Task}
 use Rattle.jtask.specs.declared.task.Task.TheVariants as tasks
 use Rattle.jtask.specs.Stages.{Stopped, Missing, Refused, Misses}
-use Rattle.jtask.specs.Tasks.{reads, stores, task}
+use Rattle.jtask.specs.Tasks.{stores, task}
 use Rattle.jdriver.specs.Folders.{files_below}
 use Rattle.jdriver.specs.Storing.{StoresFront, with_files}
 
@@ -56,18 +59,23 @@ stopped_or_shown (Ok it) = shown it
 stopped_or_shown (Err (Refused refusal)) = refused_answer (refusal_line refusal)
 stopped_or_shown (Err Missing) = record { text = []; files = []; status = None }
 
--- the text, the files that are stored and the status at a command; there is none of these where a file that is to be read is missing or too long
+-- The text, the files that are stored and the status at a command. There is none of these where a file that is to be read is missing or too
+-- long. For `gen` the files are made, and none is read.
 unfoldable pub answer : Command → List File → Answer
+answer (commands.Gen seed size) files = made seed size
 answer c files = stopped_or_shown (task c files)
 
+-- the command makes the files of its job
+abbrev pub makes : Command → Bool
+makes (commands.Gen seed size) = true
+makes _ = false
+
+-- a job that is made has 1 to 1,000 classes
+abbrev pub IsSized : Command → Type 0
+IsSized (commands.Gen seed size) = (1 ≤ size) × (size ≤ most_size)
+IsSized _ = Unit {0}
+
 -- ---- words
-
-abbrev pub if_built : Command → Option Command
-if_built c = if reads c then Some c else None
-
--- the command that words are, where it is built
-unfoldable pub accepted : List Word → Option Command
-accepted words = option_and_then if_built (command words)
 
 abbrev pub answer_to : Option Command → List File → Answer
 answer_to None files = usage_answer
@@ -75,7 +83,7 @@ answer_to (Some c) files = answer c files
 
 -- what is answered to the words of the command line
 abbrev pub answered : List (String Global) → List File → Answer
-answered words = answer_to (accepted (words_of words))
+answered words = answer_to (command (words_of words))
 
 -- ---- what a call answers
 
@@ -87,7 +95,7 @@ Stores stored statuses.StoreFault old new = StoresFront stored old new
 Stores stored statuses.OutOfMemory old new = StoresFront stored old new
 Stores stored status old new = new ≡ with_files stored old
 
--- Usage comes exactly where the words are no command that is built; it yields to a fault of writing and to want of memory.
+-- Usage comes exactly where the words are no command; it yields to a fault of writing and to want of memory.
 abbrev pub UsageExactly : Option Command → Status → Type 0
 UsageExactly None statuses.Usage = Unit {0}
 UsageExactly None statuses.WriteFault = Unit {0}
@@ -105,7 +113,7 @@ Calm read_before read_now store_before store_now put_before put_now =
 abbrev pub Complete : (List File → Answer) → Option (List File) → Status → Type 0
 Complete answer_over held s = (files : List File) (own : Status) → held ≡ Some files → (answer_over files).status ≡ Some own → (s ≡ own) ⊎ (s ≡ statuses.OutOfMemory)
 
--- The words are a command that is built, and a file that is to be read for it is missing or too long.
+-- The words are a command, and a file that is to be read for it is missing or too long.
 abbrev pub MissesAny : Option (List File) → Option Command → Type 0
 MissesAny held None = ⊥
 MissesAny held (Some c) = Misses held (task c)
@@ -114,3 +122,14 @@ MissesAny held (Some c) = Misses held (task c)
 abbrev pub any_stores : Option Command → Bool
 any_stores None = false
 any_stores (Some c) = stores c
+
+-- The words are a command that makes the files of its job.
+abbrev pub any_makes : Option Command → Bool
+any_makes None = false
+any_makes (Some c) = makes c
+
+-- It is a fault neither of reading nor of storing.
+abbrev pub NoFileFault : Status → Type 0
+NoFileFault statuses.ReadFault = ⊥
+NoFileFault statuses.StoreFault = ⊥
+NoFileFault status = Unit {0}

@@ -2,4 +2,6 @@ pub mod Alike
 pub mod Answers
 pub mod Folders
 pub mod Headline
+pub mod Making
 pub mod Storing
+pub mod Unstuck

@@ -4,8 +4,10 @@
 //! - `Folders`: the files that a moved program is stored as.
 //! - `Storing`: files that are stored one after the other, and what stands where one fails.
 //! - `Answers`: the text, the files and the status of a task, one case a verb, and of words.
+//! - `Making`: the files of a job that is made, what is told of its two runs, and the answer to `gen`.
 //! - `Headline`: what a run in the pass form answers of the program as it was written.
 //! - `Alike`: when a shelf holds what a rewriting stored, and what is answered over it.
+//! - `Unstuck`: which runs are never stuck.
 //!
 //! Proved: **the theorem on `javasec(alloc, words, shelf, out)`**, and on `dispatch(alloc, command, shelf, out)`, which is the same
 //! behind the words (docs/THEOREMS.md). `alike_law`, a function without a body: over a shelf that holds what `rewrite` stored, with the policy
@@ -14,11 +16,14 @@
 //! Rooms of jobs and the top may name it, and tests.
 #![tactic(auto)]
 
+mod counting;
+mod held;
 mod laws;
+mod making;
 mod showing;
 mod storing;
 mod top;
 
 pub use jshow::Status;
-pub use laws::alike_law;
+pub use laws::{alike_law, unstuck_law};
 pub use top::{dispatch, javasec};

@@ -9,8 +9,8 @@ ghost use Rattle.jrules.specs.Plain.{rules as plain};
 ghost use Rattle.jshow.specs.declared.status.Status.TheVariants.{Finished, ReadFault, StoreFault, Usage, WriteFault};
 ghost use Rattle.jshow.specs.Answering.{Answers, listed};
 ghost use Rattle.jshow.specs.Listings.{listing};
-ghost use Rattle.jprogram.specs.Members.{IsMain};
 ghost use Rattle.jtask.specs.Tasks.{IsWhole, is_stored};
+ghost use Rattle.jprogram.specs.Members.{IsMain};
 ghost use Rattle.jdriver.specs.Answers.{Stores, ran, rewrote, shown, usage_answer};
 ghost use Rattle.jdriver.specs.Folders.{files_below};
 

@@ -38,7 +38,7 @@ fn explain(rt: &HostRuntime, status: Status) {
     let told = match status {
         Status::Usage => {
             eprintln!(rt;
-                "javasec: the commands are `run JOB`, `check JOB`, `rewrite JOB OUT` and `policy JOB`; the first two take --form=inspect, --form=pass or --form=plain"
+                "javasec: the commands are `run JOB`, `check JOB`, `rewrite JOB OUT`, `policy JOB`, `gen SEED SIZE`; the first two take --form=inspect, --form=pass or --form=plain"
             )
         }
         Status::WriteFault => eprintln!(rt; "javasec: the output could not be written"),

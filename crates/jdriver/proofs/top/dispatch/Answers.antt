@@ -1,94 +1,53 @@
-use Rattle.std.proofs.Common.{◌∙◌, sym, ap, subst, Ok, Err, arith, List, Option}
+use Rattle.std.proofs.Common.{List, refl, subst, sym}
 use Rattle.jio.specs.Held.{File}
-use Rattle.jshow.specs.declared.status.Status.TheVariants.{OutOfMemory, ReadFault}
 use Rattle.jshow.specs.Answering.{Answer, Answers}
-use Rattle.jtask.specs.declared.halt.Halt.{Halt}
-use Rattle.jtask.specs.Stages.{Refused}
-use Rattle.jdriver.specs.Answers.{Stores, answer, shown}
-use Rattle.jdriver.proofs.Headlines.{answers_all, answers_some, any_all, any_some, refused_all, refused_some, unread, unwritten}
-use Rattle.jdriver.proofs.StoredFiles.{front_same, stores_nothing}
-use Rattle.jdriver.proofs.Tops.{answer_is, own_status, no_fault}
+use Rattle.jdriver.specs.Answers.{Stores, answer}
+use Rattle.jdriver.proofs.Made.{made_all, made_is, made_some, no_file_fault, no_files, not_both, sized}
+use Rattle.jdriver.proofs.StoredFiles.{stores_nothing}
+use Rattle.jdriver.proofs.Tops.{own_status}
 use Rattle.jdriver.proofs.top.dispatch.Goals as goal
 
-pub returns-in-Ok-clause-answer : goal.returns-in-Ok-clause-answer
-returns-in-Ok-clause-answer g c = λ files told. subst (λ (a : Answer). Answers a c.show.result (g.K.Sink.out c.args.out.now) (g.K.Sink.out c.show.new.out)) (sym (answer_is c.args.command.now files (Ok c.in-Ok.task) (c.in-Ok.ensures.value files told))) c.show.ensures.answer
+pub show_made-requires-clause-least : goal.show_made-requires-clause-least
+show_made-requires-clause-least g c = (sized c.args.command.now c.in-Some.seed c.in-Some.size c.in-Some.ensures.some c.requires).0
 
-pub returns-in-Ok-clause-files : goal.returns-in-Ok-clause-files
-returns-in-Ok-clause-files g c = λ files told.
-    let here : Stores (shown c.in-Ok.task).files c.show.result (g.S.Shelf.held c.args.shelf.now) (g.S.Shelf.held c.show.new.shelf) =
-    subst (λ (o : Option (List File)). Stores (shown c.in-Ok.task).files c.show.result o (g.S.Shelf.held c.show.new.shelf)) c.in-Ok.ensures.held c.show.ensures.files in
-    subst (λ (a : Answer). Stores a.files c.show.result (g.S.Shelf.held c.args.shelf.now) (g.S.Shelf.held c.show.new.shelf)) (sym (answer_is c.args.command.now files (Ok c.in-Ok.task) (c.in-Ok.ensures.value files told))) here
+pub show_made-requires-clause-most : goal.show_made-requires-clause-most
+show_made-requires-clause-most g c = (sized c.args.command.now c.in-Some.seed c.in-Some.size c.in-Some.ensures.some c.requires).1
 
-pub returns-in-Ok-clause-held : goal.returns-in-Ok-clause-held
-returns-in-Ok-clause-held g c = λ quiet. c.show.ensures.held (c.in-Ok.ensures.kind ∙ quiet) ∙ c.in-Ok.ensures.held
+pub do_task-requires : goal.do_task-requires
+do_task-requires g c = c.in-None.ensures.none
 
-pub returns-in-Ok-clause-stored : goal.returns-in-Ok-clause-stored
-returns-in-Ok-clause-stored g c = λ quiet. c.show.ensures.stored (c.in-Ok.ensures.kind ∙ quiet) ∙ c.in-Ok.ensures.stored
+pub returns-in-Some-clause-answer : goal.returns-in-Some-clause-answer
+returns-in-Some-clause-answer g c = λ files told.
+    subst (λ (a : Answer). Answers a c.show_made.result (g.K.Sink.out c.args.out.now) (g.K.Sink.out c.show_made.new.out))
+    (sym (made_is c.args.command.now c.in-Some.seed c.in-Some.size c.in-Some.ensures.some files)) c.show_made.ensures.answer
 
-pub returns-in-Ok-clause-read : goal.returns-in-Ok-clause-read
-returns-in-Ok-clause-read g c = λ is. absurd (c.show.ensures.read is)
+pub returns-in-Some-clause-passes : goal.returns-in-Some-clause-passes
+returns-in-Some-clause-passes g c = λ files told.
+    made_some c.args.command.now c.in-Some.seed c.in-Some.size c.in-Some.ensures.some files c.show_made.result (g.K.Sink.out c.args.out.now) (g.K.Sink.out c.show_made.new.out)
 
-pub returns-in-Ok-clause-write : goal.returns-in-Ok-clause-write
-returns-in-Ok-clause-write g c = c.show.ensures.cause
+pub returns-in-Some-clause-whole : goal.returns-in-Some-clause-whole
+returns-in-Some-clause-whole g c = λ files told.
+    made_all c.args.command.now c.in-Some.seed c.in-Some.size c.in-Some.ensures.some files c.show_made.result (g.K.Sink.out c.args.out.now) (g.K.Sink.out c.show_made.new.out)
 
-pub returns-in-Ok-clause-store : goal.returns-in-Ok-clause-store
-returns-in-Ok-clause-store g c = λ s. omega (arith, c.show.ensures.store s, c.in-Ok.ensures.stored)
+pub returns-in-Some-clause-files : goal.returns-in-Some-clause-files
+returns-in-Some-clause-files g c = λ files told.
+    subst (λ (fs : List File). Stores fs c.show_made.result (g.S.Shelf.held c.args.shelf.now) (g.S.Shelf.held c.args.shelf.now))
+    (sym (no_files c.args.command.now c.in-Some.seed c.in-Some.size c.in-Some.ensures.some files))
+    (stores_nothing c.show_made.result (g.S.Shelf.held c.args.shelf.now) (g.S.Shelf.held c.args.shelf.now) refl)
 
-pub returns-in-Ok-clause-complete : goal.returns-in-Ok-clause-complete
-returns-in-Ok-clause-complete g c = λ calm files status told is.
-    own_status (answer c.args.command.now files) c.show.result status (g.K.Sink.out c.args.out.now) (g.K.Sink.out c.show.new.out) (returns-in-Ok-clause-answer g c files told) is c.show.ensures.read
-    (λ s. calm.1 (returns-in-Ok-clause-store g c s)) (λ w. calm.2 (c.show.ensures.cause w))
+pub returns-in-Some-clause-read : goal.returns-in-Some-clause-read
+returns-in-Some-clause-read g c = λ is. absurd (c.show_made.ensures.read is)
 
-pub returns-in-Err-Refused-clause-answer : goal.returns-in-Err-Refused-clause-answer
-returns-in-Err-Refused-clause-answer g c = λ files told. subst (λ (a : Answer). Answers a c.show_refusal.result (g.K.Sink.out c.args.out.now) (g.K.Sink.out c.show_refusal.new.out)) (sym (answer_is c.args.command.now files (Err (Refused c.in-Err-Refused.refusal)) ((rw c.in-Err-Refused.field-0-is at c.in-Err-Refused.ensures.value) files told))) c.show_refusal.ensures.answer
+pub returns-in-Some-clause-store : goal.returns-in-Some-clause-store
+returns-in-Some-clause-store g c = λ is. absurd (c.show_made.ensures.store is)
 
-pub returns-in-Err-Refused-clause-files : goal.returns-in-Err-Refused-clause-files
-returns-in-Err-Refused-clause-files g c = λ files told. subst (λ (a : Answer). Stores a.files c.show_refusal.result (g.S.Shelf.held c.args.shelf.now) (g.S.Shelf.held c.task_of.new.shelf)) (sym (answer_is c.args.command.now files (Err (Refused c.in-Err-Refused.refusal)) ((rw c.in-Err-Refused.field-0-is at c.in-Err-Refused.ensures.value) files told))) (stores_nothing c.show_refusal.result (g.S.Shelf.held c.args.shelf.now) (g.S.Shelf.held c.task_of.new.shelf) c.in-Err-Refused.ensures.held)
+pub returns-in-Some-clause-complete : goal.returns-in-Some-clause-complete
+returns-in-Some-clause-complete g c = λ calm files status told is.
+    own_status (answer c.args.command.now files) c.show_made.result status (g.K.Sink.out c.args.out.now) (g.K.Sink.out c.show_made.new.out)
+    (returns-in-Some-clause-answer g c files told) is c.show_made.ensures.read c.show_made.ensures.store (λ w. calm.2 (c.show_made.ensures.cause w))
 
-pub returns-in-Err-Refused-clause-complete : goal.returns-in-Err-Refused-clause-complete
-returns-in-Err-Refused-clause-complete g c = λ calm files status told is.
-    own_status (answer c.args.command.now files) c.show_refusal.result status (g.K.Sink.out c.args.out.now) (g.K.Sink.out c.show_refusal.new.out) (returns-in-Err-Refused-clause-answer g c files told) is c.show_refusal.ensures.read
-    c.show_refusal.ensures.store (λ w. calm.2 (c.show_refusal.ensures.cause w))
+pub returns-in-Some-clause-made : goal.returns-in-Some-clause-made
+returns-in-Some-clause-made g c = λ makes. no_file_fault c.show_made.result c.show_made.ensures.read c.show_made.ensures.store
 
-pub returns-in-Err-Read-clause-complete : goal.returns-in-Err-Read-clause-complete
-returns-in-Err-Read-clause-complete g c = λ calm files status told is.
-    absurd (no_fault (g.S.Shelf.read_faults c.args.shelf.now) (g.S.Shelf.read_faults c.task_of.new.shelf) c.args.command.now (g.S.Shelf.held c.args.shelf.now) files status told (c.in-Err-Read.ensures.cause (ap (λ (h : Halt). Err h) c.in-Err-Read.field-0-is)) calm.0 is)
-
-pub returns-in-Err-Memory-clause-files : goal.returns-in-Err-Memory-clause-files
-returns-in-Err-Memory-clause-files g c = λ files told. front_same (answer c.args.command.now files).files (g.S.Shelf.held c.args.shelf.now) (g.S.Shelf.held c.task_of.new.shelf) c.in-Err-Memory.ensures.held
-
-pub returns-in-Ok-clause-passes : goal.returns-in-Ok-clause-passes
-returns-in-Ok-clause-passes g c = λ files told.
-    answers_some c.moved_laws.ensures.runs c.args.command.now files (c.in-Ok.ensures.classes files told) c.show.result (g.K.Sink.out c.args.out.now) (g.K.Sink.out c.show.new.out)
-    (returns-in-Ok-clause-answer g c files told)
-
-pub returns-in-Ok-clause-whole : goal.returns-in-Ok-clause-whole
-returns-in-Ok-clause-whole g c = λ files told.
-    answers_all c.moved_laws.ensures.runs c.args.command.now files (c.in-Ok.ensures.classes files told) c.show.result (g.K.Sink.out c.args.out.now) (g.K.Sink.out c.show.new.out)
-    (returns-in-Ok-clause-answer g c files told)
-
-pub returns-in-Err-Refused-clause-passes : goal.returns-in-Err-Refused-clause-passes
-returns-in-Err-Refused-clause-passes g c = λ files told.
-    refused_some c.args.command.now files c.in-Err-Refused.refusal c.show_refusal.result (g.K.Sink.out c.args.out.now) (g.K.Sink.out c.show_refusal.new.out)
-    ((rw c.in-Err-Refused.field-0-is at c.in-Err-Refused.ensures.value) files told)
-
-pub returns-in-Err-Refused-clause-whole : goal.returns-in-Err-Refused-clause-whole
-returns-in-Err-Refused-clause-whole g c = λ files told.
-    refused_all c.args.command.now files c.in-Err-Refused.refusal c.show_refusal.result (g.K.Sink.out c.args.out.now) (g.K.Sink.out c.show_refusal.new.out)
-    ((rw c.in-Err-Refused.field-0-is at c.in-Err-Refused.ensures.value) files told)
-
-pub returns-in-Err-Read-clause-passes : goal.returns-in-Err-Read-clause-passes
-returns-in-Err-Read-clause-passes g c = λ files told.
-    any_some c.args.command.now files ReadFault (g.K.Sink.out c.args.out.now) (g.K.Sink.out c.args.out.now) (unread (g.K.Sink.out c.args.out.now))
-
-pub returns-in-Err-Read-clause-whole : goal.returns-in-Err-Read-clause-whole
-returns-in-Err-Read-clause-whole g c = λ files told.
-    any_all c.args.command.now files ReadFault (g.K.Sink.out c.args.out.now) (g.K.Sink.out c.args.out.now) (unread (g.K.Sink.out c.args.out.now))
-
-pub returns-in-Err-Memory-clause-passes : goal.returns-in-Err-Memory-clause-passes
-returns-in-Err-Memory-clause-passes g c = λ files told.
-    any_some c.args.command.now files OutOfMemory (g.K.Sink.out c.args.out.now) (g.K.Sink.out c.args.out.now) (unwritten (g.K.Sink.out c.args.out.now))
-
-pub returns-in-Err-Memory-clause-whole : goal.returns-in-Err-Memory-clause-whole
-returns-in-Err-Memory-clause-whole g c = λ files told.
-    any_all c.args.command.now files OutOfMemory (g.K.Sink.out c.args.out.now) (g.K.Sink.out c.args.out.now) (unwritten (g.K.Sink.out c.args.out.now))
+pub returns-in-None-clause-made : goal.returns-in-None-clause-made
+returns-in-None-clause-made g c = λ makes. not_both c.args.command.now c.in-None.ensures.none makes

@@ -1,0 +1,7 @@
+use Rattle.std.proofs.Common.{◌≡◌, map}
+use Rattle.jio.specs.Memory.{files_of}
+use Rattle.jdriver.specs.Making.{as_held}
+use Rattle.jdriver.proofs.held.held_files.Given as goal
+
+abbrev pub invariant-loop-file : goal.invariant-loop-file
+invariant-loop-file l = files_of l.files.items ≡ map as_held l.yielded

@@ -1,0 +1,48 @@
+ghost use Rattle.std.specs.Prelude.{◌≡◌, ◌≤◌, IfOk};
+ghost use Rattle.jio.specs.Memory.{file_of, files_of};
+ghost use Rattle.jdriver.specs.Making.{as_held, held};
+
+use jgen::{MadeFile, make_job};
+use jio::MemoryShelf;
+use std::alloc::{AllocError, Global};
+
+/// A made file, as a shelf in memory holds it. A path that isn't UTF-8, which none is, is want of memory.
+fn held_file(alloc: Global, file: MadeFile) -> Result<(String, Vec<u8>), AllocError>
+    ensures { IfOk result (λ one. file_of one ≡ as_held file) }
+{
+    let Ok(path) = str::from_utf8(file.path.as_slice()) else {
+        return Err(AllocError);
+    };
+    let path = String::from_str(alloc, path)?;
+    Ok((path, file.bytes.into_vec()))
+}
+
+/// The files that a seed and a size make, as a shelf in memory holds them.
+#[tactic(auto, unfolding(crate::specs::Making::held))]
+fn held_files(alloc: Global, seed: u64, size: u32) -> Result<Vec<(String, Vec<u8>)>, AllocError>
+    requires least { 1 ≤ size }
+    requires most { size ≤ 1000 }
+    ensures { IfOk result (λ files. files_of files.items ≡ held seed size) }
+{
+    let job = make_job(alloc, seed, size)?;
+    let mut files = Vec::new(alloc);
+    for file in job.files.into_vec() {
+        let one = held_file(alloc, file)?;
+        files.push(one)?;
+    }
+    Ok(files)
+}
+
+/// A shelf in memory of the files that a seed and a size make. That two of their paths are one, which none are, is want of memory.
+pub fn made_shelf(alloc: Global, seed: u64, size: u32) -> Result<MemoryShelf, AllocError>
+    requires least { 1 ≤ size }
+    requires most { size ≤ 1000 }
+    ensures { IfOk result (λ shelf. shelf.files ≡ held seed size) }
+{
+    let files = held_files(alloc, seed, size)?;
+    if !MemoryShelf::paths_differ(&files) {
+        return Err(AllocError);
+    }
+    let shelf = MemoryShelf::open(alloc, files, Vec::new(alloc), Vec::new(alloc))?;
+    Ok(shelf)
+}
