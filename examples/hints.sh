@@ -96,8 +96,10 @@ of_class 'class Main: names that begin with sps/ are those of moved programs: an
 of_class 'main Main: the class has no `public static void main(String[])`; main([Ljava/lang/String;)V isn'\''t static' not_static.class run --form=inspect job
 of_class 'main Main: the class has no `public static void main(String[])`; main()V takes or gives something else' takes_nothing.class run --form=inspect job
 of_class 'main Main: the job has no class of this name, which is written with slashes' empty.class run --form=inspect job
-of_class 'class Main, main([Ljava/lang/String;)V at 0: pop; what is there then, or the frame declared there or behind it, doesn'\''t fit: compile anew' pops.class check job
-of_class 'class Main, main([Ljava/lang/String;)V at 0: goto, which takes nothing; what is there then, or the frame declared there or behind it, doesn'\''t fit: compile anew' goto.class check job
+of_class 'class Main, main([Ljava/lang/String;)V at 0: pop; the stack is empty; that, or the frame declared there or behind it, doesn'\''t fit: compile anew' pops.class check job
+of_class 'class Main, main([Ljava/lang/String;)V at 0: goto, which takes nothing; the stack is empty; that, or the frame declared there or behind it, doesn'\''t fit: compile anew' goto.class check job
+of_class 'class Main, main([Ljava/lang/String;)V at 1: areturn, which takes an object or an array; on the stack: an int; that, or the frame declared there or behind it, doesn'\''t fit: compile anew' returns_int.class check job
+of_class 'class Main, main([Ljava/lang/String;)V at 3: invokestatic of java/security/AccessController.checkPermission(Ljava/security/Permission;)V; on the stack: a new object, not initialised; that, or the frame declared there or behind it, doesn'\''t fit: compile anew' unset.class check job
 of_class 'class Main, main([Ljava/lang/String;)V: it has 65,535 locals, and there is room for no more: a smaller method' full_locals.class rewrite job out
 of_class 'class Main, main([Ljava/lang/String;)V: its frames would have more than 16,777,216 locals and operands: a smaller method' many_frames.class rewrite job out
 of_class 'class Main, main([Ljava/lang/String;)V: its operands take 65533 places, 1 too many: smaller expressions' full_stack.class rewrite job out

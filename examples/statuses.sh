@@ -20,7 +20,7 @@ check() {
   fi
 }
 
-commands='javasec: the commands are `run JOB`, `check JOB`, `rewrite JOB OUT` and `policy JOB`; the first two take --form=inspect, --form=pass or --form=plain'
+commands='javasec: the commands are `run JOB`, `check JOB`, `rewrite JOB OUT`, `policy JOB`, `gen SEED SIZE`; the first two take --form=inspect, --form=pass or --form=plain'
 out=/dev/null
 check 0 '' policy audit.job
 check 2 "$commands"

@@ -43,9 +43,12 @@ row() {
 
 row StaticInt 0 40000000 instruction 0
 row Locals 0 44000000 instruction 0
+row ObjectField 0 44000000 instruction 0
 row StaticCall 0 40000000 instruction 0
 row Across 0 40000000 instruction 0
 row VirtualCall 0 39000000 instruction 0
+row InterfaceCall 0 39000000 instruction 0
+row Objects 0 4000000 object 0
 row Appends 0 2000000 append 0
 for depth in 10 100 1000 10000; do row Checks $depth 20000 check 0; done
 for depth in 10 100 1000 10000; do row Privileged $depth 20000 check 0; done
