@@ -1,5 +1,6 @@
 -- Each opcode has its own number.
 use Rattle.std.proofs.Common.{◌≡◌, ℕ, eqb, ltb, List, [], ◌∷◌, Option, Some, None, Result, Ok, Err, refl, sym, ap, ◌∙◌, inl, inr}
+use Rattle.std.specs.List.{find}
 use Rattle.std.proofs.lemmas.Bool.{cases_Bool, eqb-true}
 use Rattle.jcode.specs.declared.names.LocalKind.{LocalKind}
 use Rattle.jcode.specs.declared.names.LocalKind.TheVariants as kinds
@@ -36,15 +37,15 @@ use Rattle.jcode.specs.declared.head.BranchHead.{BranchHead}
 use Rattle.jcode.specs.declared.head.BranchHead.TheVariants as branch
 use Rattle.jcode.specs.declared.head.OtherHead.{OtherHead}
 use Rattle.jcode.specs.declared.head.OtherHead.TheVariants as other
-use Rattle.jcode.specs.Opcodes.{head_number, plain_number, byte_number, index_number, branch_number, other_number, with_number, all_heads, or_fault, head_at}
+use Rattle.jcode.specs.Opcodes.{head_number, plain_number, byte_number, index_number, branch_number, other_number, all_heads, or_fault, head_at}
 
 -- ---- what is found has the number
 
-found_has : {H : Type 0} (number : H → ℕ) (n : ℕ) (hs : List H) (h : H) → with_number number n hs ≡ Some h → number h ≡ n
+found_has : {H : Type 0} (number : H → ℕ) (n : ℕ) (hs : List H) (h : H) → find (λ x. eqb (number x) n) hs ≡ Some h → number h ≡ n
 found_has number n [] h e = absurd cc
 found_has {H} number n (x ∷ xs) h e = elim (cases_Bool (eqb (number x) n)) [
   | inl hit ↦ let e' : Some x ≡ Some h = rw hit at e in let same : x ≡ h = cc in ap number (sym same) ∙ eqb-true _ _ hit
-  | inr miss ↦ let e' : with_number number n xs ≡ Some h = rw miss at e in found_has number n xs h e'
+  | inr miss ↦ let e' : find (λ x. eqb (number x) n) xs ≡ Some h = rw miss at e in found_has number n xs h e'
 ]
 
 abbrev refused : CodeFault → Result Head CodeFault
@@ -60,7 +61,7 @@ unless_fault n None h e = elim (cases_Bool (ltb n 202)) [
 -- A byte that names an opcode is its number.
 pub number_of_head : (n : ℕ) (h : Head) → head_at n ≡ Ok h → head_number h ≡ n
 unfolding head_at
-number_of_head n h e = found_has head_number n all_heads h (unless_fault n (with_number head_number n all_heads) h e)
+number_of_head n h e = found_has head_number n all_heads h (unless_fault n (find (λ x. eqb (head_number x) n) all_heads) h e)
 
 -- ---- a number names its opcode
 

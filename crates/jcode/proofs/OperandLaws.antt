@@ -23,7 +23,7 @@ use Rattle.jcode.specs.declared.head.Head.{Head}
 use Rattle.jcode.specs.declared.head.Head.TheVariants as heads
 use Rattle.jcode.specs.declared.head.OtherHead.{OtherHead}
 use Rattle.jcode.specs.declared.head.OtherHead.TheVariants as other
-use Rattle.jcode.specs.Operands.{u1, u2, u4, i1, i2, i4, nil, nils, padding, bounds, bounded, span, table_from, table_parts, table_switch, case_count, falls, case_from, case_parts, case_behind, key_of, lookup_from, lookup_parts, lookup_switch, call_from, call_parts, interface_call, array_number, array_case, array_cases, array_type, local_number, local_of, increment_of, wide_local, wide_cases, not_wide, wide, other_operands, operands}
+use Rattle.jcode.specs.Operands.{u1, u2, u4, i1, i2, i4, nil, nils, padding, bounds, bounded, span, table_switch, case_count, falls, case_behind, key_of, lookup_switch, interface_call, array_number, array_case, array_cases, array_type, local_number, local_of, increment_of, wide_local, wide_cases, not_wide, wide, other_operands, operands}
 
 -- ---- numbers
 
@@ -75,16 +75,16 @@ bounded_law = then_law bounds (λ b. counted (known (span b.0 b.1)) i4) (such_la
 
 table_law : (at : ℕ) → IsFormat (table_switch at)
 unfolding table_switch
-table_law at = via_law table_from table_parts (padding at · i4 · bounded) (λ p fit. refl) (λ s fit. refl) (pair_law (padding at) (i4 · bounded) (nils_law (3 - at % 4)) (pair_law i4 bounded i4_law bounded_law))
+table_law at = via_law _ _ (padding at · i4 · bounded) (λ p fit. refl) (λ s fit. refl) (pair_law (padding at) (i4 · bounded) (nils_law (3 - at % 4)) (pair_law i4 bounded i4_law bounded_law))
 
 keyed_law : (before : Option ℤ) → IsFormat (case_behind before)
-keyed_law before = via_law case_from case_parts (such (falls before) i4 · i4) (λ p fit. refl) (λ c fit. refl) (pair_law (such (falls before) i4) i4 (such_law (falls before) i4 i4_law) i4_law)
+keyed_law before = via_law _ _ (such (falls before) i4 · i4) (λ p fit. refl) (λ c fit. refl) (pair_law (such (falls before) i4) i4 (such_law (falls before) i4 i4_law) i4_law)
 
 lookup_law : (at : ℕ) → IsFormat (lookup_switch at)
 unfolding lookup_switch
 lookup_law at =
     let cases = counted_from_law case_count case_behind key_of (such_law (λ n. fault_if _ BadOperand) u4 u4_law) keyed_law None in
-    via_law lookup_from lookup_parts (padding at · i4 · counted_from case_count case_behind key_of None) (λ p fit. refl) (λ s fit. refl)
+    via_law _ _ (padding at · i4 · counted_from case_count case_behind key_of None) (λ p fit. refl) (λ s fit. refl)
     (pair_law (padding at) (i4 · counted_from case_count case_behind key_of None) (nils_law (3 - at % 4)) (pair_law i4 (counted_from case_count case_behind key_of None) i4_law cases))
 
 -- ---- calls by an interface, arrays, wide instructions
@@ -93,7 +93,7 @@ call_law : IsFormat interface_call
 unfolding interface_call
 call_law =
     let slots = such_law (λ n. fault_if (eqb n 0) BadOperand) u1 u1_law in
-    via_law call_from call_parts (u2 · such (λ n. fault_if (eqb n 0) BadOperand) u1 · nil) (λ p fit. refl) (λ s fit. refl)
+    via_law _ _ (u2 · such (λ n. fault_if (eqb n 0) BadOperand) u1 · nil) (λ p fit. refl) (λ s fit. refl)
     (pair_law u2 (such (λ n. fault_if (eqb n 0) BadOperand) u1 · nil) u2_law (pair_law (such (λ n. fault_if (eqb n 0) BadOperand) u1) nil slots nil_law))
 
 array_once : (a : ArrayType) → IsOnce array_cases a

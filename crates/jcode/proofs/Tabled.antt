@@ -1,9 +1,10 @@
 -- The table of first bytes holds what their definition says.
-use Rattle.std.proofs.Common.{◌≡◌, ℕ, zero, suc, ◌+◌, ◌<◌, ◌≤◌, ltb, true, false, List, [], ◌∷◌, Option, None, Err, refl, sym, ap, ◌∙◌, get_or, arith}
+use Rattle.std.proofs.Common.{◌≡◌, ℕ, zero, suc, ◌+◌, ◌<◌, ◌≤◌, eqb, ltb, true, false, List, [], ◌∷◌, Option, None, Err, refl, sym, ap, ◌∙◌, get_or, arith}
+use Rattle.std.specs.List.{find}
 use Rattle.std.proofs.lemmas.Bool.{lt-ltb, le-ltb}
 use Rattle.jcode.specs.declared.head.Head.{Head}
 use Rattle.jcode.specs.declared.fault.CodeFault.TheVariants.{LeftOut, UnknownOpcode}
-use Rattle.jcode.specs.Opcodes.{head_number, with_number, all_heads, or_fault, head_at}
+use Rattle.jcode.specs.Opcodes.{head_number, all_heads, or_fault, head_at}
 
 -- a function's values at so many numbers from one on
 abbrev pub from_on : {A : Type 0} → (ℕ → A) → ℕ → ℕ → List A
@@ -17,7 +18,7 @@ from_on_at f n (suc k) (suc i) d lt = let e : n + suc i ≡ n + 1 + i = omega ar
 
 -- the opcode of a number, if any
 abbrev pub named : ℕ → Option Head
-named n = with_number head_number n all_heads
+named n = find (λ h. eqb (head_number h) n) all_heads
 
 -- the opcodes of all bytes
 abbrev pub table : List (Option Head)

@@ -1,19 +1,13 @@
 -- What instructions do, whichever of their spellings they have, and the kinds of their operands (JVMS 6.5).
-use Rattle.std.specs.Prelude.{ℕ, ℤ, pos, negsuc, Bool, true, false, map, List, [], ◌∷◌, Option, Some, None}
+use Rattle.std.specs.Prelude.{ℕ, ℤ, pos, ◌-ℤ◌, Bool, true, false, map, List, [], ◌∷◌, Option, Some, None}
 use Rattle.std.specs.Borrow.{Bor}
 use Rattle.jcode.specs.declared.names.LocalKind.{LocalKind}
 use Rattle.jcode.specs.declared.names.LocalKind.TheVariants as locals
 use Rattle.jcode.specs.declared.names.Access.TheVariants.{Load, Store}
-use Rattle.jcode.specs.declared.names.Slot.{Slot}
-use Rattle.jcode.specs.declared.names.Slot.TheVariants as slots
-use Rattle.jcode.specs.declared.names.SmallInt.{SmallInt}
-use Rattle.jcode.specs.declared.names.SmallInt.TheVariants as ints
-use Rattle.jcode.specs.declared.names.SmallLong.{SmallLong}
-use Rattle.jcode.specs.declared.names.SmallLong.TheVariants as longs
 use Rattle.jcode.specs.declared.names.Element.{Element}
 use Rattle.jcode.specs.declared.names.Element.TheVariants as elements
 use Rattle.jcode.specs.declared.names.RefTest.{RefTest}
-use Rattle.jcode.specs.declared.names.RefTest.TheVariants.{Same, Other, Null, NonNull}
+use Rattle.jcode.specs.declared.names.RefTest.TheVariants.{Null, NonNull}
 use Rattle.jcode.specs.declared.names.Returned.{Returned}
 use Rattle.jcode.specs.declared.names.Returned.TheVariants as results
 use Rattle.jcode.specs.declared.names.ObjectOp.{ObjectOp}
@@ -45,6 +39,7 @@ use Rattle.jcode.specs.declared.form.Flow.TheVariants as flows
 use Rattle.jcode.specs.declared.form.ArrayForm.{ArrayForm}
 use Rattle.jcode.specs.declared.form.ArrayForm.TheVariants as arrays
 use Rattle.jcode.specs.declared.form.PoolForm.TheVariants as pool
+use Rattle.jcode.specs.Opcodes.{int_step, long_step, slot_step}
 use Rattle.jnames.specs.Effects.{gives, takes, two_effect, division_effect, one_effect}
 use Rattle.jnames.specs.declared.kinds.Kind.{Kind}
 use Rattle.jnames.specs.declared.kinds.Kind.TheVariants as kinds
@@ -54,27 +49,9 @@ use Rattle.jnames.specs.declared.kinds.Effect.{Effect}
 
 -- ---- values that opcodes name
 
-abbrev pub int_value : SmallInt → ℤ
-int_value ints.MinusOne = negsuc 0
-int_value ints.Zero = pos 0
-int_value ints.One = pos 1
-int_value ints.Two = pos 2
-int_value ints.Three = pos 3
-int_value ints.Four = pos 4
-int_value ints.Five = pos 5
-
-abbrev pub long_value : SmallLong → ℤ
-long_value longs.Zero = pos 0
-long_value longs.One = pos 1
-
-abbrev pub slot_value : Slot → ℕ
-slot_value slots.Zero = 0
-slot_value slots.One = 1
-slot_value slots.Two = 2
-slot_value slots.Three = 3
-
+-- the first of iconst_m1, iconst_0 .. iconst_5 puts -1
 abbrev pub const_value : IntConst → ℤ
-const_value (consts.Small n) = int_value n
+const_value (consts.Small n) = pos (int_step n) -ℤ pos 1
 const_value (consts.Byte n) = n
 const_value (consts.Short n) = n
 
@@ -90,7 +67,7 @@ distance (gotos.Wide by) = by
 
 abbrev pub local_form : LocalKind → LocalOp → LocalForm
 local_form kind (moves.At access n) = Move access kind n
-local_form kind (moves.Slot access slot) = Move access kind (slot_value slot)
+local_form kind (moves.Slot access slot) = Move access kind (slot_step slot)
 
 abbrev pub wide_form : Wide → LocalForm
 wide_form (wides.Local kind access n) = Move access kind n
@@ -111,7 +88,7 @@ unfoldable pub form : Op → Form Switch
 form ops.Nop = forms.Simple simple.Nothing
 form ops.AconstNull = forms.Simple simple.Null
 form (ops.IntConst n) = forms.Simple (simple.Int (const_value n))
-form (ops.LongConst n) = forms.Simple (simple.Long (long_value n))
+form (ops.LongConst n) = forms.Simple (simple.Long (pos (long_step n)))
 form (ops.Ldc op) = forms.Pool (pool.Constant (ldc_index op))
 form (ops.Ldc2 n) = forms.Pool (pool.LongConstant n)
 form (ops.IntLocal op) = forms.Local (local_form locals.Int op)
@@ -186,10 +163,9 @@ local_effect (Move Store kind n) = takes (taken.One (local kind))
 local_effect (Increment n by) = takes taken.None
 
 abbrev pub compared : RefTest → Kinds
-compared Same = taken.Two kinds.Ref kinds.Ref
-compared Other = taken.Two kinds.Ref kinds.Ref
 compared Null = taken.One kinds.Ref
 compared NonNull = taken.One kinds.Ref
+compared _ = taken.Two kinds.Ref kinds.Ref
 
 abbrev pub returned : Returned → Kinds
 returned results.Int = taken.One kinds.Int
@@ -208,12 +184,9 @@ flow_effect flows.Throw = takes (taken.One kinds.Ref)
 
 -- what is loaded from an array and stored into it
 abbrev pub element : Element → Kind
-element elements.Int = kinds.Int
 element elements.Long = kinds.Long
 element elements.Ref = kinds.Ref
-element elements.Byte = kinds.Int
-element elements.Char = kinds.Int
-element elements.Short = kinds.Int
+element _ = kinds.Int
 
 abbrev pub array_effect : ArrayForm → Effect
 array_effect (arrays.New kind) = gives (taken.One kinds.Int) kinds.Array
@@ -244,8 +217,7 @@ flow_branches (flows.IfInt test by) = by ∷ []
 flow_branches (flows.IfRef test by) = by ∷ []
 flow_branches (flows.Goto by) = by ∷ []
 flow_branches (flows.Switch switch) = switch_branches switch
-flow_branches (flows.Return kind) = []
-flow_branches flows.Throw = []
+flow_branches _ = []
 
 -- The distances to which a form may lead, from its instruction's own place; of a switch, the default first.
 unfoldable pub branches : Form Switch → List ℤ
@@ -256,10 +228,7 @@ abbrev pub flow_goes_on : {S : Type 0} → Flow S → Bool
 flow_goes_on (flows.If test by) = true
 flow_goes_on (flows.IfInt test by) = true
 flow_goes_on (flows.IfRef test by) = true
-flow_goes_on (flows.Goto by) = false
-flow_goes_on (flows.Switch switch) = false
-flow_goes_on (flows.Return kind) = false
-flow_goes_on flows.Throw = false
+flow_goes_on _ = false
 
 -- the instruction behind a form's own may follow it
 unfoldable pub goes_on : {S : Type 0} → Form S → Bool

@@ -1,5 +1,6 @@
 -- The opcodes (JVMS 6.5): the number of each, and which stands for a number.
 use Rattle.std.specs.Prelude.{ℕ, ◌+◌, ◌==◌, nat_lt, if◌then◌else◌, map, List, [], ◌∷◌, ◌++◌, Option, Some, None, Result, Ok, Err}
+use Rattle.std.specs.List.{find}
 use Rattle.jcode.specs.declared.names.LocalKind.{LocalKind}
 use Rattle.jcode.specs.declared.names.LocalKind.TheVariants as kinds
 use Rattle.jcode.specs.declared.names.Access.{Access}
@@ -289,11 +290,6 @@ all_others = other.Bipush ∷ other.Sipush ∷ other.Iinc ∷ other.TableSwitch 
 abbrev pub all_heads : List Head
 all_heads = map heads.Plain all_plain ++ map heads.Byte all_bytes ++ map heads.Index all_indices ++ map heads.Branch all_branches ++ map heads.Other all_others
 
--- the first of these with a number
-abbrev pub with_number : {H : Type 0} → (H → ℕ) → ℕ → List H → Option H
-with_number number n [] = None
-with_number number n (h ∷ hs) = if number h == n then Some h else with_number number n hs
-
 -- Other numbers below 0xca are of opcodes that are left out; there are no opcodes from 0xca on.
 abbrev pub or_fault : ℕ → Option Head → Result Head CodeFault
 or_fault n (Some h) = Ok h
@@ -301,4 +297,4 @@ or_fault n None = if nat_lt n 0xca then Err (LeftOut n) else Err (UnknownOpcode 
 
 -- what a first byte says
 unfoldable pub head_at : ℕ → Result Head CodeFault
-head_at n = or_fault n (with_number head_number n all_heads)
+head_at n = or_fault n (find (λ h. head_number h == n) all_heads)

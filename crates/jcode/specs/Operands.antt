@@ -74,14 +74,10 @@ span low high = unsigned_abs (high -ℤ low) + 1
 unfoldable pub bounded : Format CodeFault ((ℤ × ℤ) × List ℤ)
 bounded = bounds ▹ λ b. counted (known (span b.0 b.1)) i4
 
-abbrev pub table_from : Unit {0} × (ℤ × ((ℤ × ℤ) × List ℤ)) → TableSwitch
-table_from p = record { default = p.1.0; low = p.1.1.0.0; high = p.1.1.0.1; branches = p.1.1.1 }
-
-abbrev pub table_parts : TableSwitch → Unit {0} × (ℤ × ((ℤ × ℤ) × List ℤ))
-table_parts s = (tt, (s.default, ((s.low, s.high), s.branches)))
-
 unfoldable pub table_switch : ℕ → Format CodeFault TableSwitch
-table_switch at = via table_from table_parts (padding at · i4 · bounded)
+table_switch at =
+    via (λ p. record { default = p.1.0; low = p.1.1.0.0; high = p.1.1.0.1; branches = p.1.1.1 }) (λ s. (tt, (s.default, ((s.low, s.high), s.branches))))
+    (padding at · i4 · bounded)
 
 -- a number of cases, which isn't negative as a signed number
 abbrev pub case_count : Format CodeFault ℕ
@@ -92,38 +88,21 @@ abbrev pub falls : Option ℤ → ℤ → Option CodeFault
 falls None key = None
 falls (Some before) key = if int_lt before key then None else Some BadOperand
 
-abbrev pub case_from : ℤ × ℤ → Case
-case_from p = record { key = p.0; branch = p.1 }
-
-abbrev pub case_parts : Case → ℤ × ℤ
-case_parts c = (c.key, c.branch)
-
 abbrev pub case_behind : Option ℤ → Format CodeFault Case
-case_behind before = via case_from case_parts (such (falls before) i4 · i4)
+case_behind before = via (λ p. record { key = p.0; branch = p.1 }) (λ c. (c.key, c.branch)) (such (falls before) i4 · i4)
 
 abbrev pub key_of : Option ℤ → Case → Option ℤ
 key_of before c = Some c.key
 
-abbrev pub lookup_from : Unit {0} × (ℤ × List Case) → LookupSwitch
-lookup_from p = record { default = p.1.0; cases = p.1.1 }
-
-abbrev pub lookup_parts : LookupSwitch → Unit {0} × (ℤ × List Case)
-lookup_parts s = (tt, (s.default, s.cases))
-
 unfoldable pub lookup_switch : ℕ → Format CodeFault LookupSwitch
-lookup_switch at = via lookup_from lookup_parts (padding at · i4 · counted_from case_count case_behind key_of None)
+lookup_switch at =
+    via (λ p. record { default = p.1.0; cases = p.1.1 }) (λ s. (tt, (s.default, s.cases))) (padding at · i4 · counted_from case_count case_behind key_of None)
 
 -- ---- calls by an interface, arrays, wide instructions
 
-abbrev pub call_from : ℕ × (ℕ × Unit {0}) → ℕ × ℕ
-call_from p = (p.0, p.1.0)
-
-abbrev pub call_parts : ℕ × ℕ → ℕ × (ℕ × Unit {0})
-call_parts p = (p.0, (p.1, tt))
-
 -- the method, the number of argument slots, which isn't 0, and a zero byte
 unfoldable pub interface_call : Format CodeFault (ℕ × ℕ)
-interface_call = via call_from call_parts (u2 · such (λ n. fault_if (n == 0) BadOperand) u1 · nil)
+interface_call = via (λ p. (p.0, p.1.0)) (λ p. (p.0, (p.1, tt))) (u2 · such (λ n. fault_if (n == 0) BadOperand) u1 · nil)
 
 abbrev pub array_number : ArrayType → ℕ
 array_number arrays.Boolean = 4

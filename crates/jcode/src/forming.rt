@@ -1,13 +1,14 @@
-ghost use Rattle.std.specs.Prelude.{◌≡◌};
+ghost use Rattle.std.specs.Prelude.{◌≡◌, pos, ◌-ℤ◌};
 ghost use Rattle.jcode.specs.Forms;
-ghost use Rattle.jcode.specs.Forms.{const_value, distance, int_value, ldc_index, local_form, long_value, new_form, object_form, seen, slot_value, wide_form};
+ghost use Rattle.jcode.specs.Forms.{const_value, distance, ldc_index, local_form, new_form, object_form, seen, wide_form};
+ghost use Rattle.jcode.specs.Opcodes.{int_step, long_step, slot_step};
 
 use crate::form::{ArrayForm, Flow, Form, LocalForm, PoolForm, Simple};
 use crate::names::{LocalKind, ObjectOp, Slot, SmallInt, SmallLong};
 use crate::op::{Goto, IntConst, Ldc, LocalOp, NewOp, Op, Switch, Wide};
 
 fn int_value(n: SmallInt) -> i32
-    ensures { result ≡ int_value n }
+    ensures { result ≡ pos (int_step n) -ℤ pos 1 }
 {
     match n {
         SmallInt::MinusOne => -1,
@@ -21,7 +22,7 @@ fn int_value(n: SmallInt) -> i32
 }
 
 fn long_value(n: SmallLong) -> i64
-    ensures { result ≡ long_value n }
+    ensures { result ≡ pos (long_step n) }
 {
     match n {
         SmallLong::Zero => 0,
@@ -30,7 +31,7 @@ fn long_value(n: SmallLong) -> i64
 }
 
 fn slot_value(slot: Slot) -> u16
-    ensures { result ≡ slot_value slot }
+    ensures { result ≡ slot_step slot }
 {
     match slot {
         Slot::Zero => 0,

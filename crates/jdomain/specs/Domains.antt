@@ -1,8 +1,8 @@
 -- What a policy grants to the code of each source, and which permissions a domain has (policy file documentation, "Policy File Syntax").
-use Rattle.std.specs.Prelude.{ℕ, Bool, false, List, Option, Some, None, Result, Ok, Err, filter, flat_map, map, slice_get, if◌then◌else◌}
+use Rattle.std.specs.Prelude.{ℕ, Bool, false, List, Option, Some, None, unwrap_or, option_map, filter, flat_map, map, slice_get, if◌then◌else◌}
+use Rattle.std.specs.Result.{result_unwrap_or}
 use Rattle.url.specs.Parts.{Parts}
 use Rattle.jperm.specs.declared.making.PermClass.{PermClass}
-use Rattle.jperm.specs.declared.making.PermError.{PermError}
 use Rattle.jperm.specs.declared.permission.Permission.{Permission}
 use Rattle.jperm.specs.declared.permission.Permission.TheVariants.{Unresolved}
 use Rattle.jperm.specs.Made.{made}
@@ -14,15 +14,10 @@ use Rattle.jdomain.specs.Sources.{matches}
 
 -- ---- the permission of an entry
 
--- what a constructor made, or what stands for a class whose constructor made nothing
-abbrev pub resolved : List ℕ → Result Permission PermError → Permission
-resolved class (Ok permission) = permission
-resolved class (Err error) = Unresolved class
-
 -- the permission that a class makes of an entry in a directory, where there is a class
 abbrev pub made_by : List ℕ → Option PermClass → GrantEntry → Permission
 made_by directory None entry = Unresolved entry.class
-made_by directory (Some class) entry = resolved entry.class (made class entry.name entry.actions directory)
+made_by directory (Some class) entry = result_unwrap_or (made class entry.name entry.actions directory) (Unresolved entry.class)
 
 -- the permission of an entry; it is unresolved where the entry asks for a signer, its class is unknown, or its name or actions make none
 unfoldable pub permission_of : List ℕ → GrantEntry → Permission
@@ -42,11 +37,6 @@ granted directory policy source =
 
 -- ---- what a domain has
 
--- whether a list, where there is one, covers a permission
-abbrev pub covered_by : Option (List Permission) → Permission → Bool
-covered_by None asked = false
-covered_by (Some list) asked = covers list asked
-
 -- whether a domain has a permission: the list of that number covers it; a number without a list has none
 abbrev pub has : List (List Permission) → ℕ → Permission → Bool
-has lists domain asked = covered_by (slice_get lists domain) asked
+has lists domain asked = unwrap_or (option_map (λ list. covers list asked) (slice_get lists domain)) false

@@ -1,5 +1,5 @@
 -- Code sources, and the code that a code base stands for (policy file documentation, "codeBase"; URL Standard, "URL record").
-use Rattle.std.specs.Prelude.{◌≡◌, ℕ, Bool, true, false, ◌&&◌, ◌||◌, ◌==◌, List, ◌++◌, length, nat_eq, nat_le, codes, [], Option, Some, None, unwrap_or, option_map, option_and_then, Result, Ok, Err, encode_utf8_all, if◌then◌else◌}
+use Rattle.std.specs.Prelude.{◌≡◌, ℕ, Bool, true, false, ◌&&◌, ◌||◌, ◌==◌, List, ◌++◌, length, nat_eq, nat_le, codes, [], Option, Some, None, unwrap_or, ok_or, option_map, option_and_then, Result, Ok, Err, encode_utf8_all, if◌then◌else◌}
 use Rattle.std.specs.List.{starts_with, ends_with}
 use Rattle.std.specs.Result.{result_ok}
 use Rattle.std.specs.Str.{bytes_eq}
@@ -7,6 +7,7 @@ use Rattle.std.specs.Char.Utf16.{has_unpaired_surrogate, utf16_lossy_chars}
 use Rattle.url.specs.Host.{host_text}
 use Rattle.url.specs.Parser.{parse_url}
 use Rattle.url.specs.Parts.{Parts, nonempty_host}
+use Rattle.jbase.specs.Stops.{◌>>=◌}
 use Rattle.jperm.specs.Names.{but_last}
 use Rattle.jpolicy.specs.declared.grant.Grant.{Grant}
 use Rattle.jdomain.specs.declared.code.Code.{Code}
@@ -38,14 +39,9 @@ url_of_units units = option_and_then url_of (text_of units)
 abbrev pub ends_in_slash : List ℕ → Bool
 ends_in_slash path = ends_with nat_eq path (codes "/")
 
--- a URL whose path is that of a directory
-abbrev pub in_directory : Option Parts → Result Parts SourceError
-in_directory None = Err NotUrl
-in_directory (Some url) = if ends_in_slash url.path then Ok url else Err NotDirectory
-
 -- the code source that a text is, or why it is none
 unfoldable pub source_of : List ℕ → Result Parts SourceError
-source_of text = in_directory (url_of text)
+source_of text = ok_or (url_of text) NotUrl >>= λ url. if ends_in_slash url.path then Ok url else Err NotDirectory
 
 -- the call answers what the definition gives, unless memory runs out
 abbrev pub SourceGives : Result Parts SourceError → Result Parts SourceError → Type 0
@@ -82,15 +78,10 @@ stands_for base source =
 
 -- ---- the code that a grant is for
 
--- the code for which a code base stands: none, where it is no URL
-abbrev pub code_under : Option Parts → Code
-code_under None = Nothing
-code_under (Some url) = Under url
-
--- without a code base it is all code
+-- without a code base it is all code, and none where a code base is no URL
 abbrev pub code_of_base : Option (List ℕ) → Code
 code_of_base None = All
-code_of_base (Some base) = code_under (url_of_units base)
+code_of_base (Some base) = unwrap_or (option_map Under (url_of_units base)) Nothing
 
 -- a grant that asks for a signer or a principal is for no code, since no code here has one
 unfoldable pub code_of : Grant → Code

@@ -13,7 +13,8 @@ use Rattle.jpool.specs.declared.adder.AddError.TheVariants as add
 use Rattle.jpool.specs.Adding.{added, laid, put_behind, same}
 use Rattle.jpool.specs.Pools.{is_utf8}
 use Rattle.jgen.specs.declared.laying.Draft.{Draft}
-use Rattle.jgen.specs.Items.{Adding, ◌>>◌, found_or, with_bytes, with_entry, with_index, with_small, IsPut, Puts}
+use Rattle.jmove.specs.Additions.{Adding, found_or, with_entry, ◌>>◌}
+use Rattle.jgen.specs.Items.{with_bytes, with_index, with_small, IsPut, Puts}
 
 -- ---- one entry
 
@@ -68,7 +69,7 @@ text_there (Err x) pool e text is h = tt
 
 -- ---- one after another
 
-then_put : (m n : ℕ) (f : Adding) (g : ℕ → Adding) (old mid new : List Entry) (x i : ℕ) → IsPut m f x old mid → IsPut n (g x) i mid new → IsPut (m + n) (f >> g) i old new
+then_put : (m n : ℕ) (f : Adding ℕ) (g : ℕ → Adding ℕ) (old mid new : List Entry) (x i : ℕ) → IsPut m f x old mid → IsPut n (g x) i mid new → IsPut (m + n) (f >> g) i old new
 unfolding ◌>>◌
 then_put m n f g old mid new x i p q = record {
   value = ap (λ (a : ℕ × List Entry). g a.0 a.1) p.value ∙ q.value;
@@ -76,7 +77,7 @@ then_put m n f g old mid new x i p q = record {
   within = q.within;
 }
 
-pub then_puts : {E : Type 0} (m n : ℕ) (f : Adding) (g : ℕ → Adding) (r : Result ℕ E) (old mid new : List Entry) (x : ℕ) → IsPut m f x old mid → Puts n (g x) r mid new → Puts (m + n) (f >> g) r old new
+pub then_puts : {E : Type 0} (m n : ℕ) (f : Adding ℕ) (g : ℕ → Adding ℕ) (r : Result ℕ E) (old mid new : List Entry) (x : ℕ) → IsPut m f x old mid → Puts n (g x) r mid new → Puts (m + n) (f >> g) r old new
 then_puts m n f g (Ok i) old mid new x p q = then_put m n f g old mid new x i p q
 then_puts m n f g (Err e) old mid new x p q = tt
 
@@ -85,12 +86,12 @@ then_puts m n f g (Err e) old mid new x p q = tt
 abbrev pub draft : List Entry → List ℕ → Draft
 draft pool body = record { pool = pool; body = body }
 
-pub index_put : {T E : Type 0} (most : ℕ) (f : Adding) (i : ℕ) (d : Draft) (pool : List Entry) (body : List ℕ) (r : Result T E) → IsPut most f i d.pool pool → OnOk r (body ≡ d.body ++ to_be_bytes w16 i)
+pub index_put : {T E : Type 0} (most : ℕ) (f : Adding ℕ) (i : ℕ) (d : Draft) (pool : List Entry) (body : List ℕ) (r : Result T E) → IsPut most f i d.pool pool → OnOk r (body ≡ d.body ++ to_be_bytes w16 i)
     → OnOk r (draft pool body ≡ with_index (f d.pool) d)
 index_put most f i d pool body (Ok x) p h = ap (λ (l : List ℕ). draft pool l) h ∙ ap (λ (a : ℕ × List Entry). with_index a d) (sym p.value)
 index_put most f i d pool body (Err x) p h = tt
 
-pub small_put : {T E : Type 0} (most : ℕ) (f : Adding) (i : ℕ) (d : Draft) (pool : List Entry) (body : List ℕ) (r : Result T E) → IsPut most f i d.pool pool → OnOk r (body ≡ d.body ++ i ∷ [])
+pub small_put : {T E : Type 0} (most : ℕ) (f : Adding ℕ) (i : ℕ) (d : Draft) (pool : List Entry) (body : List ℕ) (r : Result T E) → IsPut most f i d.pool pool → OnOk r (body ≡ d.body ++ i ∷ [])
     → OnOk r (draft pool body ≡ with_small (f d.pool) d)
 small_put most f i d pool body (Ok x) p h = ap (λ (l : List ℕ). draft pool l) h ∙ ap (λ (a : ℕ × List Entry). with_small a d) (sym p.value)
 small_put most f i d pool body (Err x) p h = tt

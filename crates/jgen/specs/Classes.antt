@@ -1,7 +1,7 @@
 -- The class files of a made job.
 use Rattle.std.specs.Prelude.{ℕ, zero, suc, ◌+◌, Bool, List, [], ◌∷◌, ◌++◌, codes, decimal, ◌==◌, if◌then◌else◌}
 use Rattle.jpool.specs.declared.entry.Entry.TheVariants.{Unused}
-use Rattle.jpool.specs.Pools.{pool}
+use Rattle.jpool.specs.Entries.{shape}
 use Rattle.jgen.specs.declared.draws.Kind.{Kind}
 use Rattle.jgen.specs.declared.laying.Draft.{Draft}
 use Rattle.jgen.specs.Items.{Item, U1, U2, Text, Class, Field, Method, Str, block, with_items}
@@ -14,9 +14,6 @@ name i = codes "G" ++ decimal i
 
 abbrev pub object : List ℕ
 object = codes "java/lang/Object"
-
-abbrev pub action : List ℕ
-action = codes "java/security/PrivilegedAction"
 
 abbrev pub controller : List ℕ
 controller = codes "java/security/AccessController"
@@ -40,10 +37,6 @@ code stack locals instructions handlers attributes = Text (codes "Code") ∷ blo
 -- code without handlers and attributes
 abbrev pub plain : List Item → List Item
 plain instructions = code 1 1 instructions (U2 0 ∷ []) (U2 0 ∷ [])
-
--- aload_0; invokespecial Object.<init>; return
-abbrev pub init_code : List Item
-init_code = U1 0x2a ∷ U1 0xb7 ∷ Method object (codes "<init>") (codes "()V") ∷ U1 0xb1 ∷ []
 
 -- aload_0; getfield n; invokestatic f of the next class; aconst_null; areturn
 abbrev pub run_code : List ℕ → List ℕ → List Item
@@ -102,12 +95,13 @@ calls i (suc n) = call (name i) ++ calls (i + 1) n
 
 abbrev pub head : List ℕ → ℕ → List Item
 head own methods =
-    U2 0x21 ∷ Class own ∷ Class object ∷ U2 1 ∷ Class action
+    U2 0x21 ∷ Class own ∷ Class object ∷ U2 1 ∷ Class (codes "java/security/PrivilegedAction")
     ∷ U2 1 ∷ U2 1 ∷ Text (codes "n") ∷ Text (codes "I") ∷ U2 0
     ∷ U2 methods ∷ []
 
+-- aload_0; invokespecial Object.<init>; return
 abbrev pub init_method : List Item
-init_method = method 1 (codes "<init>") (codes "()V") (plain init_code)
+init_method = method 1 (codes "<init>") (codes "()V") (plain (U1 0x2a ∷ U1 0xb7 ∷ Method object (codes "<init>") (codes "()V") ∷ U1 0xb1 ∷ []))
 
 abbrev pub run_method : List ℕ → List ℕ → List Item
 run_method own next = method 1 (codes "run") (codes "()Ljava/lang/Object;") (plain (run_code own next))
@@ -142,7 +136,7 @@ blank = record { pool = Unused ∷ []; body = [] }
 
 -- the bytes of a class file: the magic number, version 52.0, the pool, and what stands behind it
 abbrev pub spelled : Draft → List ℕ
-spelled d = 0xca ∷ 0xfe ∷ 0xba ∷ 0xbe ∷ 0 ∷ 0 ∷ 0 ∷ 52 ∷ pool.spell d.pool ++ d.body
+spelled d = 0xca ∷ 0xfe ∷ 0xba ∷ 0xbe ∷ 0 ∷ 0 ∷ 0 ∷ 52 ∷ shape.spell d.pool ++ d.body
 
 unfoldable pub class_bytes : ℕ → ℕ → Kind → List ℕ
 class_bytes size i kind = spelled (with_items (class_items size i kind) blank)

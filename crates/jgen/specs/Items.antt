@@ -1,60 +1,32 @@
 -- What stands in a class file behind its pool, item by item, and the entries that its items put into the pool.
-use Rattle.std.specs.Prelude.{◌≡◌, ℕ, ◌+◌, ◌≤◌, ◌<◌, Bool, true, ◌&&◌, nat_le, List, [], ◌∷◌, ◌++◌, length, Option, Some, None, Result, IfOk}
-use Rattle.std.specs.List.{position}
+use Rattle.std.specs.Prelude.{◌≡◌, ℕ, ◌+◌, ◌≤◌, ◌<◌, Bool, true, ◌&&◌, nat_le, List, [], ◌∷◌, ◌++◌, length, Result, IfOk}
 use Rattle.std.specs.Int.{w16, w32, to_be_bytes}
 use Rattle.jpool.specs.declared.entry.Entry.{Entry}
 use Rattle.jpool.specs.declared.entry.Entry.TheVariants as entries
-use Rattle.jpool.specs.Adding.{laid, same}
+use Rattle.jmove.specs.Additions.{Adding, ◌>>◌, with_class, with_entry, with_member, with_text}
 use Rattle.jgen.specs.declared.piece.Piece.{Piece}
 use Rattle.jgen.specs.declared.piece.Piece.TheVariants as pieces
 use Rattle.jgen.specs.declared.laying.Draft.{Draft}
 
 -- ---- entries
 
--- What is put into a pool's entries: an index, and the entries then.
-abbrev pub Adding : Type 0
-Adding = List Entry → ℕ × List Entry
-
--- one after another, which may use the index that the first gave
-infixl 10 ◌>>◌
-unfoldable pub ◌>>◌ : Adding → (ℕ → Adding) → Adding
-f >> g = λ pool. g (f pool).0 (f pool).1
-
-abbrev pub found_or : Entry → List Entry → Option ℕ → ℕ × List Entry
-found_or e pool (Some i) = (i, pool)
-found_or e pool None = (length pool, pool ++ laid e)
-
--- an entry: the least index of an equal one, or the index behind the others, where it is put
-unfoldable pub with_entry : Entry → Adding
-with_entry e = λ pool. found_or e pool (position (same e) pool)
-
-abbrev pub with_text : List ℕ → Adding
-with_text text = with_entry (entries.Utf8 text)
-
-unfoldable pub with_class : List ℕ → Adding
-with_class name = with_text name >> λ n. with_entry (entries.Class n)
-
-unfoldable pub with_string : List ℕ → Adding
+unfoldable pub with_string : List ℕ → Adding ℕ
 with_string text = with_text text >> λ n. with_entry (entries.Str n)
 
--- a name and a type
-unfoldable pub with_both : List ℕ → List ℕ → Adding
-with_both name type = with_text name >> λ n. with_text type >> λ t. with_entry (entries.NameAndType n t)
+unfoldable pub with_field : List ℕ → List ℕ → List ℕ → Adding ℕ
+with_field class name type = with_class class >> λ c. with_member name type >> λ b. with_entry (entries.Field c b)
 
-unfoldable pub with_field : List ℕ → List ℕ → List ℕ → Adding
-with_field class name type = with_class class >> λ c. with_both name type >> λ b. with_entry (entries.Field c b)
-
-unfoldable pub with_method : List ℕ → List ℕ → List ℕ → Adding
-with_method class name type = with_class class >> λ c. with_both name type >> λ b. with_entry (entries.Method c b)
+unfoldable pub with_method : List ℕ → List ℕ → List ℕ → Adding ℕ
+with_method class name type = with_class class >> λ c. with_member name type >> λ b. with_entry (entries.Method c b)
 
 -- An index and the entries are those of an addition, which puts at most so many.
-pub record IsPut (most : ℕ) (f : Adding) (i : ℕ) (old new : List Entry) : Type 0 where
+pub record IsPut (most : ℕ) (f : Adding ℕ) (i : ℕ) (old new : List Entry) : Type 0 where
   pub value : f old ≡ (i, new)
   pub few : length new ≤ length old + most
   pub within : i < length new
 
 -- The call put what it was to put.
-abbrev pub Puts : {E : Type 0} → ℕ → Adding → Result ℕ E → List Entry → List Entry → Type 0
+abbrev pub Puts : {E : Type 0} → ℕ → Adding ℕ → Result ℕ E → List Entry → List Entry → Type 0
 Puts most f result old new = IfOk result (λ i. IsPut most f i old new)
 
 -- ---- items

@@ -2,7 +2,8 @@ ghost use Rattle.std.specs.Prelude.{◌≡◌, ◌≤◌, ◌+◌, IfOk, IsTrue,
 ghost use Rattle.jpool.specs.declared.entry.Entry.TheVariants as entries;
 ghost use Rattle.jpool.specs.Adding.{has_spelling, laid, names_text};
 ghost use Rattle.jpool.specs.Pools.{is_utf8};
-ghost use Rattle.jgen.specs.Items.{Puts, with_both, with_class, with_entry, with_field, with_method, with_string, with_text};
+ghost use Rattle.jmove.specs.Additions.{with_class, with_entry, with_member, with_text};
+ghost use Rattle.jgen.specs.Items.{Puts, with_field, with_method, with_string};
 
 use jbase::Seq;
 use jpool::{AddError, Adder, Entry};
@@ -67,7 +68,7 @@ fn put_both(alloc: Global, pool: &mut Adder, name: &[u8], text: &[u8]) -> Result
     requires name { length name.now ≤ 0xffff }
     requires text { length text.now ≤ 0xffff }
     requires room { length pool.old + 3 ≤ 0xffff }
-    ensures { Puts 3 (with_both name.now text.now) result pool.old pool.new }
+    ensures { Puts 3 (with_member name.now text.now) result pool.old pool.new }
 {
     let name = put_text(alloc, pool, name)?;
     let text = put_text(alloc, pool, text)?;

@@ -153,6 +153,7 @@ fn put_class(
 }
 
 /// The bytes of a class file.
+#[tactic(auto, unfolding(jpool::specs::Pools::pool))]
 fn spelled(alloc: Global, draft: &Draft) -> Result<Seq<u8>, AllocError>
     ensures { IfOk result (λ bytes. bytes ≡ Classes.spelled draft.now) }
 {

@@ -199,13 +199,12 @@ thrown_methods thrown.Throwable = call.GetMessage ∷ []
 thrown_methods _ = []
 
 abbrev pub permission_members : PermissionClass → List LibCall
-permission_members permission.Permission = []
-permission_members permission.BasicPermission = []
 permission_members permission.AllPermission = call.PermissionInit init.All ∷ []
 permission_members permission.RuntimePermission = call.PermissionInit init.Runtime ∷ call.PermissionInit init.RuntimeActions ∷ []
 permission_members permission.SecurityPermission = call.PermissionInit init.Security ∷ call.PermissionInit init.SecurityActions ∷ []
 permission_members permission.PropertyPermission = call.PermissionInit init.Property ∷ []
 permission_members permission.FilePermission = call.PermissionInit init.File ∷ []
+permission_members _ = []
 
 abbrev pub members : LibClass → List LibCall
 members lib.Object = call.ObjectInit ∷ []
@@ -218,9 +217,6 @@ members lib.StringBuilder =
     ∷ call.Builder (builder.Append piece.Bool) ∷ call.Builder (builder.Append piece.Text) ∷ call.Builder builder.ToString ∷ []
 members lib.System = call.Out ∷ []
 members lib.PrintStream = call.PrintEnd ∷ call.Print piece.Int ∷ call.Print piece.Long ∷ call.Print piece.Char ∷ call.Print piece.Bool ∷ call.Print piece.Text ∷ []
-members lib.Void = []
-members lib.Cloneable = []
-members lib.Serializable = []
 members lib.Runnable = call.Run Source ∷ call.Run Passing ∷ []
 members lib.Thread =
     call.Thread (thread.Init Source) ∷ call.Thread (thread.Init Passing) ∷ call.Thread thread.Start ∷ call.Thread thread.Join ∷ call.Thread thread.Yield ∷ []
@@ -232,7 +228,7 @@ members lib.AccessControlContext = call.ContextCheck ∷ []
 members (lib.Permission one) = permission_members one
 members lib.Rt =
     call.Rt rt.Enter ∷ call.Rt rt.Check ∷ call.Rt rt.Snapshot ∷ call.Rt rt.Privileged ∷ call.Rt rt.PrivilegedWith ∷ call.Rt rt.PrivilegedLimited ∷ []
-members lib.Ctx = []
+members _ = []
 
 -- it has this name and descriptor
 abbrev pub is_called : List ℕ → List ℕ → LibCall → Bool

@@ -1,5 +1,5 @@
 -- The classes of the library, on either side: names, superclasses, and what users may do with them.
-use Rattle.std.specs.Prelude.{ℕ, zero, suc, Bool, true, false, ◌&&◌, List, [], ◌∷◌, length, Option, Some, None, codes}
+use Rattle.std.specs.Prelude.{ℕ, zero, suc, Bool, true, false, ◌&&◌, List, [], ◌∷◌, ◌++◌, map, length, Option, Some, None, codes}
 use Rattle.std.specs.List.{filter, find}
 use Rattle.std.specs.Str.{bytes_eq}
 use Rattle.jlib.specs.declared.side.Side.{Side}
@@ -166,41 +166,20 @@ is_abstract c = abstract_kind (class_row c).kind
 -- all of both sides, the open ones first
 abbrev pub classes : List LibClass
 classes =
-    lib.Object
-    ∷ lib.Thrown thrown.Throwable
-    ∷ lib.Thrown thrown.Exception
-    ∷ lib.Thrown thrown.Error
-    ∷ lib.Thrown thrown.RuntimeException
-    ∷ lib.Thrown thrown.InterruptedException
-    ∷ lib.Thrown thrown.ArithmeticException
-    ∷ lib.Thrown thrown.NullPointerException
-    ∷ lib.Thrown thrown.ClassCastException
-    ∷ lib.Thrown thrown.NegativeArraySizeException
-    ∷ lib.Thrown thrown.ArrayStoreException
-    ∷ lib.Thrown thrown.IllegalArgumentException
-    ∷ lib.Thrown thrown.IllegalStateException
-    ∷ lib.Thrown thrown.IndexOutOfBoundsException
-    ∷ lib.Thrown thrown.SecurityException
-    ∷ lib.Thrown thrown.IllegalThreadStateException
-    ∷ lib.Thrown thrown.ArrayIndexOutOfBoundsException
-    ∷ lib.Thrown thrown.StringIndexOutOfBoundsException
-    ∷ lib.Thrown thrown.LinkageError
-    ∷ lib.Thrown thrown.VirtualMachineError
-    ∷ lib.Thrown thrown.IncompatibleClassChangeError
-    ∷ lib.Thrown thrown.AbstractMethodError
-    ∷ lib.Thrown thrown.IllegalAccessError
-    ∷ lib.Thrown thrown.StackOverflowError
-    ∷ lib.AccessControlException
+    lib.Object ∷ map lib.Thrown (
+    thrown.Throwable ∷ thrown.Exception ∷ thrown.Error ∷ thrown.RuntimeException ∷ thrown.InterruptedException ∷ thrown.ArithmeticException
+    ∷ thrown.NullPointerException ∷ thrown.ClassCastException ∷ thrown.NegativeArraySizeException ∷ thrown.ArrayStoreException
+    ∷ thrown.IllegalArgumentException ∷ thrown.IllegalStateException ∷ thrown.IndexOutOfBoundsException ∷ thrown.SecurityException
+    ∷ thrown.IllegalThreadStateException ∷ thrown.ArrayIndexOutOfBoundsException ∷ thrown.StringIndexOutOfBoundsException ∷ thrown.LinkageError
+    ∷ thrown.VirtualMachineError ∷ thrown.IncompatibleClassChangeError ∷ thrown.AbstractMethodError ∷ thrown.IllegalAccessError ∷ thrown.StackOverflowError
+    ∷ [])
+    ++ lib.AccessControlException
     ∷ lib.String ∷ lib.StringBuilder ∷ lib.System ∷ lib.PrintStream ∷ lib.Void ∷ lib.Cloneable ∷ lib.Serializable ∷ lib.Runnable
     ∷ lib.Thread ∷ lib.PrivilegedAction ∷ lib.AccessController ∷ lib.AccessControlContext
-    ∷ lib.Permission permission.Permission
-    ∷ lib.Permission permission.BasicPermission
-    ∷ lib.Permission permission.AllPermission
-    ∷ lib.Permission permission.RuntimePermission
-    ∷ lib.Permission permission.SecurityPermission
-    ∷ lib.Permission permission.PropertyPermission
-    ∷ lib.Permission permission.FilePermission
-    ∷ lib.Rt ∷ lib.Ctx ∷ []
+    ∷ map lib.Permission (
+    permission.Permission ∷ permission.BasicPermission ∷ permission.AllPermission ∷ permission.RuntimePermission
+    ∷ permission.SecurityPermission ∷ permission.PropertyPermission ∷ permission.FilePermission ∷ [])
+    ++ lib.Rt ∷ lib.Ctx ∷ []
 
 -- the class of a side that has a name
 abbrev pub class_named : Side → List ℕ → Option LibClass

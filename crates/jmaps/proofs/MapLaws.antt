@@ -1,5 +1,5 @@
 -- The laws of types, frames and stack maps as formats.
-use Rattle.std.proofs.Common.{◌≡◌, ℕ, ◌&&◌, ltb, List, [], ◌∷◌, ◌++◌, length, Option, Some, None, Ok, refl, sym, ap, subst, ◌∙◌, arith}
+use Rattle.std.proofs.Common.{◌≡◌, ℕ, ◌&&◌, eqb, ltb, true, List, [], ◌∷◌, ◌++◌, length, Option, Some, None, Ok, refl, sym, ap, subst, ◌∙◌, arith}
 use Rattle.std.specs.Prelude.{IsTrue}
 use Rattle.std.specs.Int.{w16, to_be_bytes}
 use Rattle.std.specs.List.{flat_map, list_all}
@@ -22,7 +22,7 @@ use Rattle.jmaps.specs.declared.types.RawFrame.{RawFrame}
 use Rattle.jmaps.specs.declared.types.Number.{Number}
 use Rattle.jmaps.specs.declared.types.Number.TheVariants.{Given, Written}
 use Rattle.jmaps.specs.declared.types.Row.{Row}
-use Rattle.jmaps.specs.Frames.{is_top, is_int, is_long, is_null, is_uninit_this, class_of, new_of, type_cases, no_type, map_type, row, given, part, frame_from, frame_parts, body, or_kind, frame, frames, map_kinds, maps}
+use Rattle.jmaps.specs.Frames.{alone, tag, class_of, new_of, type_cases, no_type, map_type, row, given, part, body, or_kind, frame, frames, map_kinds, maps}
 
 type_once : {K : Type 0} (cut : K) (a : MapType) → IsOnce (type_cases cut) a
 type_once cut Top = (refl, refl)
@@ -33,13 +33,16 @@ type_once cut UninitThis = (refl, refl)
 type_once cut (Object n) = (refl, refl)
 type_once cut (Uninit n) = (refl, refl)
 
+alone_law : {K : Type 0} (one : MapType) → IsCases (alone {K = K} one)
+alone_law one = let same : eqb (tag one) (tag one) ≡ true = grind arith in sole_law (λ other. eqb (tag other) (tag one)) same
+
 cases_law : {K : Type 0} (cut : K) → IsCases (type_cases cut)
 cases_law cut =
-    either_law refl (sole_law is_top refl)
-    (either_law refl (sole_law is_int refl)
-    (either_law refl (sole_law is_long refl)
-    (either_law refl (sole_law is_null refl)
-    (either_law refl (sole_law is_uninit_this refl)
+    either_law refl (alone_law Top)
+    (either_law refl (alone_law Int)
+    (either_law refl (alone_law Long)
+    (either_law refl (alone_law Null)
+    (either_law refl (alone_law UninitThis)
     (either_law refl (case_law class_of (λ p. refl) (number_law w16 cut wide16))
     (case_law new_of (λ p. refl) (number_law w16 cut wide16)))))))
 
@@ -76,7 +79,7 @@ body_law cut item I r =
 
 pub frame_law : {K : Type 0} (kinds : Kinds K) (item : Format K MapType) → IsFormat item → IsFormat (frame kinds item)
 unfolding frame
-frame_law kinds item I = via_law frame_from frame_parts (rows kinds.truncated (λ t. or_kind kinds.reserved (row t)) (body kinds.truncated item)) (λ p fit. refl) (λ f fit. refl)
+frame_law kinds item I = via_law _ _ (rows kinds.truncated (λ t. or_kind kinds.reserved (row t)) (body kinds.truncated item)) (λ p fit. refl) (λ f fit. refl)
     (rows_law kinds.truncated (λ t. or_kind kinds.reserved (row t)) (body kinds.truncated item) (body_law kinds.truncated item I))
 
 pub frames_law : {K : Type 0} (kinds : Kinds K) (item : Format K MapType) → IsFormat item → IsBody (frames kinds item)

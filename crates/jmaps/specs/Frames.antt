@@ -1,5 +1,5 @@
 -- Stack maps as they are written: the content of a StackMapTable (JVMS 4.7.4).
-use Rattle.std.specs.Prelude.{ℕ, ◌-◌, ◌==◌, nat_lt, Bool, true, false, if◌then◌else◌, List, [], Option, Some, None, Result, Ok, Err}
+use Rattle.std.specs.Prelude.{ℕ, ◌-◌, ◌==◌, nat_lt, true, if◌then◌else◌, List, [], Option, Some, None, Result, Ok, Err}
 use Rattle.std.specs.Int.{w16}
 use Rattle.jformat.specs.Format.{Answer, Format, number, ◌·◌, via}
 use Rattle.jformat.specs.Bodies.{Body, counted, whole}
@@ -17,25 +17,19 @@ use Rattle.jmaps.specs.declared.types.Row.{Row}
 
 -- ---- types
 
-abbrev pub is_top : MapType → Bool
-is_top Top = true
-is_top _ = false
+-- the tags of types; 2 is float's and 3 is double's
+abbrev pub tag : MapType → ℕ
+tag Top = 0
+tag Int = 1
+tag Long = 4
+tag Null = 5
+tag UninitThis = 6
+tag (Object n) = 7
+tag (Uninit n) = 8
 
-abbrev pub is_int : MapType → Bool
-is_int Int = true
-is_int _ = false
-
-abbrev pub is_long : MapType → Bool
-is_long Long = true
-is_long _ = false
-
-abbrev pub is_null : MapType → Bool
-is_null Null = true
-is_null _ = false
-
-abbrev pub is_uninit_this : MapType → Bool
-is_uninit_this UninitThis = true
-is_uninit_this _ = false
+-- a type that is its tag alone
+abbrev pub alone : {K : Type 0} → MapType → Cases K MapType
+alone one = sole (tag one) one (λ other. tag other == tag one)
 
 abbrev pub class_of : MapType → Option ℕ
 class_of (Object n) = Some n
@@ -45,9 +39,8 @@ abbrev pub new_of : MapType → Option ℕ
 new_of (Uninit n) = Some n
 new_of _ = None
 
--- the types by their tags; 2 is float and 3 is double
 abbrev pub type_cases : {K : Type 0} → K → Cases K MapType
-type_cases cut = sole 0 Top is_top ∣ sole 1 Int is_int ∣ sole 4 Long is_long ∣ sole 5 Null is_null ∣ sole 6 UninitThis is_uninit_this
+type_cases cut = alone Top ∣ alone Int ∣ alone Long ∣ alone Null ∣ alone UninitThis
     ∣ case 7 Object class_of (number w16 cut) ∣ case 8 Uninit new_of (number w16 cut)
 
 abbrev pub no_type : {K : Type 0} → Kinds K → ℕ → K
@@ -77,15 +70,6 @@ abbrev pub part : {K : Type 0} → K → Number → Format K ℕ
 part cut (Given n) = given n
 part cut Written = number w16 cut
 
-abbrev pub FrameParts : Type 0
-FrameParts = ℕ × (ℕ × (List MapType × List MapType))
-
-abbrev pub frame_from : FrameParts → RawFrame
-frame_from p = record { form = p.0; delta = p.1.0; locals = p.1.1.0; stack = p.1.1.1 }
-
-abbrev pub frame_parts : RawFrame → FrameParts
-frame_parts f = (f.form, (f.delta, (f.locals, f.stack)))
-
 -- behind the type byte
 abbrev pub body : {K : Type 0} → K → Format K MapType → Row → Format K (ℕ × (List MapType × List MapType))
 body cut item r = part cut r.delta · counted (part cut r.locals) item · counted (part cut r.stack) item
@@ -96,7 +80,8 @@ or_kind kind None = Err kind
 
 -- a frame, whose items have this format
 unfoldable pub frame : {K : Type 0} → Kinds K → Format K MapType → Format K RawFrame
-frame kinds item = via frame_from frame_parts (rows kinds.truncated (λ t. or_kind kinds.reserved (row t)) (body kinds.truncated item))
+frame kinds item = via (λ p. record { form = p.0; delta = p.1.0; locals = p.1.1.0; stack = p.1.1.1 }) (λ f. (f.form, (f.delta, (f.locals, f.stack))))
+    (rows kinds.truncated (λ t. or_kind kinds.reserved (row t)) (body kinds.truncated item))
 
 -- the frames, behind their number, and nothing behind them
 unfoldable pub frames : {K : Type 0} → Kinds K → Format K MapType → Body K (List RawFrame)

@@ -31,15 +31,6 @@ abbrev pub long_by_int : Effect
 long_by_int = gives (kinds.Two Int Long) Long
 
 abbrev pub two_effect : OpTwo → Effect
-two_effect two.Iadd = ints
-two_effect two.Isub = ints
-two_effect two.Imul = ints
-two_effect two.Ishl = ints
-two_effect two.Ishr = ints
-two_effect two.Iushr = ints
-two_effect two.Iand = ints
-two_effect two.Ior = ints
-two_effect two.Ixor = ints
 two_effect two.Ladd = longs
 two_effect two.Lsub = longs
 two_effect two.Lmul = longs
@@ -50,21 +41,18 @@ two_effect two.Lshl = long_by_int
 two_effect two.Lshr = long_by_int
 two_effect two.Lushr = long_by_int
 two_effect two.Lcmp = gives (kinds.Two Long Long) Int
+two_effect _ = ints
 
 abbrev pub one_effect : OpOne → Effect
-one_effect one.Ineg = gives (kinds.One Int) Int
 one_effect one.Lneg = gives (kinds.One Long) Long
 one_effect one.I2l = gives (kinds.One Int) Long
 one_effect one.L2i = gives (kinds.One Long) Int
-one_effect one.I2b = gives (kinds.One Int) Int
-one_effect one.I2c = gives (kinds.One Int) Int
-one_effect one.I2s = gives (kinds.One Int) Int
+one_effect _ = gives (kinds.One Int) Int
 
 abbrev pub division_effect : Division → Effect
-division_effect divisions.Idiv = ints
-division_effect divisions.Irem = ints
 division_effect divisions.Ldiv = longs
 division_effect divisions.Lrem = longs
+division_effect _ = ints
 
 -- Two ints are compared by each, two references by these alone.
 abbrev pub compares_references : Compare → Bool

@@ -22,61 +22,25 @@ moves n comes = record { taken = n; put = comes }
 abbrev pub move : {V : Type 0} → ℕ → List V → Option (Move V)
 move n comes = Some (moves n comes)
 
--- ---- the forms of each instruction; None where no form fits the newest items
-
-abbrev pub pop : {V : Type 0} → List (Item V) → Option (Move V)
-pop (One a ∷ _) = move 1 []
-pop _ = None
-
-abbrev pub pop2 : {V : Type 0} → List (Item V) → Option (Move V)
-pop2 (One a ∷ One b ∷ _) = move 2 []
-pop2 (Two a ∷ _) = move 1 []
-pop2 _ = None
-
-abbrev pub dup : {V : Type 0} → List (Item V) → Option (Move V)
-dup (One a ∷ _) = move 1 (a ∷ a ∷ [])
-dup _ = None
-
-abbrev pub dup_x1 : {V : Type 0} → List (Item V) → Option (Move V)
-dup_x1 (One a ∷ One b ∷ _) = move 2 (a ∷ b ∷ a ∷ [])
-dup_x1 _ = None
-
-abbrev pub dup_x2 : {V : Type 0} → List (Item V) → Option (Move V)
-dup_x2 (One a ∷ One b ∷ One c ∷ _) = move 3 (a ∷ b ∷ c ∷ a ∷ [])
-dup_x2 (One a ∷ Two b ∷ _) = move 2 (a ∷ b ∷ a ∷ [])
-dup_x2 _ = None
-
-abbrev pub dup2 : {V : Type 0} → List (Item V) → Option (Move V)
-dup2 (One a ∷ One b ∷ _) = move 2 (a ∷ b ∷ a ∷ b ∷ [])
-dup2 (Two a ∷ _) = move 1 (a ∷ a ∷ [])
-dup2 _ = None
-
-abbrev pub dup2_x1 : {V : Type 0} → List (Item V) → Option (Move V)
-dup2_x1 (One a ∷ One b ∷ One c ∷ _) = move 3 (a ∷ b ∷ c ∷ a ∷ b ∷ [])
-dup2_x1 (Two a ∷ One b ∷ _) = move 2 (a ∷ b ∷ a ∷ [])
-dup2_x1 _ = None
-
-abbrev pub dup2_x2 : {V : Type 0} → List (Item V) → Option (Move V)
-dup2_x2 (One a ∷ One b ∷ One c ∷ One d ∷ _) = move 4 (a ∷ b ∷ c ∷ d ∷ a ∷ b ∷ [])
-dup2_x2 (Two a ∷ One b ∷ One c ∷ _) = move 3 (a ∷ b ∷ c ∷ a ∷ [])
-dup2_x2 (One a ∷ One b ∷ Two c ∷ _) = move 3 (a ∷ b ∷ c ∷ a ∷ b ∷ [])
-dup2_x2 (Two a ∷ Two b ∷ _) = move 2 (a ∷ b ∷ a ∷ [])
-dup2_x2 _ = None
-
-abbrev pub swap : {V : Type 0} → List (Item V) → Option (Move V)
-swap (One a ∷ One b ∷ _) = move 2 (b ∷ a ∷ [])
-swap _ = None
-
+-- The forms of each instruction; None where no form fits the newest items.
 unfoldable pub shuffle : {V : Type 0} → Shuffle → List (Item V) → Option (Move V)
-shuffle Pop = pop
-shuffle Pop2 = pop2
-shuffle Dup = dup
-shuffle DupX1 = dup_x1
-shuffle DupX2 = dup_x2
-shuffle Dup2 = dup2
-shuffle Dup2X1 = dup2_x1
-shuffle Dup2X2 = dup2_x2
-shuffle Swap = swap
+shuffle Pop (One a ∷ _) = move 1 []
+shuffle Pop2 (One a ∷ One b ∷ _) = move 2 []
+shuffle Pop2 (Two a ∷ _) = move 1 []
+shuffle Dup (One a ∷ _) = move 1 (a ∷ a ∷ [])
+shuffle DupX1 (One a ∷ One b ∷ _) = move 2 (a ∷ b ∷ a ∷ [])
+shuffle DupX2 (One a ∷ One b ∷ One c ∷ _) = move 3 (a ∷ b ∷ c ∷ a ∷ [])
+shuffle DupX2 (One a ∷ Two b ∷ _) = move 2 (a ∷ b ∷ a ∷ [])
+shuffle Dup2 (One a ∷ One b ∷ _) = move 2 (a ∷ b ∷ a ∷ b ∷ [])
+shuffle Dup2 (Two a ∷ _) = move 1 (a ∷ a ∷ [])
+shuffle Dup2X1 (One a ∷ One b ∷ One c ∷ _) = move 3 (a ∷ b ∷ c ∷ a ∷ b ∷ [])
+shuffle Dup2X1 (Two a ∷ One b ∷ _) = move 2 (a ∷ b ∷ a ∷ [])
+shuffle Dup2X2 (One a ∷ One b ∷ One c ∷ One d ∷ _) = move 4 (a ∷ b ∷ c ∷ d ∷ a ∷ b ∷ [])
+shuffle Dup2X2 (Two a ∷ One b ∷ One c ∷ _) = move 3 (a ∷ b ∷ c ∷ a ∷ [])
+shuffle Dup2X2 (One a ∷ One b ∷ Two c ∷ _) = move 3 (a ∷ b ∷ c ∷ a ∷ b ∷ [])
+shuffle Dup2X2 (Two a ∷ Two b ∷ _) = move 2 (a ∷ b ∷ a ∷ [])
+shuffle Swap (One a ∷ One b ∷ _) = move 2 (b ∷ a ∷ [])
+shuffle _ _ = None
 
 -- ---- values as items
 

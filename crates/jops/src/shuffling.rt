@@ -1,4 +1,5 @@
 ghost use Rattle.std.specs.Prelude.{◌≡◌, ◌≤◌, [], ◌∷◌, Some, IsSome};
+ghost use Rattle.jnames.specs.declared.names.Shuffle.TheVariants.{Pop2, DupX2, Dup2, Dup2X1, Dup2X2};
 ghost use Rattle.jops.specs.Shuffles;
 ghost use Rattle.jops.specs.Shuffles.{item, items, moved, moves};
 
@@ -101,9 +102,10 @@ fn put_6(taken: u32, a: Value, b: Value, c: Value, d: Value, e: Value, f: Value)
 }
 
 #[inline]
+#[tactic(auto, unfolding(crate::specs::Shuffles::shuffle))]
 fn pop2(a: Value, b: Value, c: Value, d: Value) -> Shuffled
-    requires { IsSome (Shuffles.pop2 (item a ∷ item b ∷ item c ∷ item d ∷ [])) }
-    ensures { Some (moved result) ≡ Shuffles.pop2 (item a ∷ item b ∷ item c ∷ item d ∷ []) }
+    requires { IsSome (Shuffles.shuffle Pop2 (item a ∷ item b ∷ item c ∷ item d ∷ [])) }
+    ensures { Some (moved result) ≡ Shuffles.shuffle Pop2 (item a ∷ item b ∷ item c ∷ item d ∷ []) }
 {
     if is_long(a) {
         return put_none(1);
@@ -112,9 +114,10 @@ fn pop2(a: Value, b: Value, c: Value, d: Value) -> Shuffled
 }
 
 #[inline]
+#[tactic(auto, unfolding(crate::specs::Shuffles::shuffle))]
 fn dup_x2(a: Value, b: Value, c: Value, d: Value) -> Shuffled
-    requires { IsSome (Shuffles.dup_x2 (item a ∷ item b ∷ item c ∷ item d ∷ [])) }
-    ensures { Some (moved result) ≡ Shuffles.dup_x2 (item a ∷ item b ∷ item c ∷ item d ∷ []) }
+    requires { IsSome (Shuffles.shuffle DupX2 (item a ∷ item b ∷ item c ∷ item d ∷ [])) }
+    ensures { Some (moved result) ≡ Shuffles.shuffle DupX2 (item a ∷ item b ∷ item c ∷ item d ∷ []) }
 {
     if is_long(b) {
         return put_3(2, a, b, a);
@@ -123,9 +126,10 @@ fn dup_x2(a: Value, b: Value, c: Value, d: Value) -> Shuffled
 }
 
 #[inline]
+#[tactic(auto, unfolding(crate::specs::Shuffles::shuffle))]
 fn dup2(a: Value, b: Value, c: Value, d: Value) -> Shuffled
-    requires { IsSome (Shuffles.dup2 (item a ∷ item b ∷ item c ∷ item d ∷ [])) }
-    ensures { Some (moved result) ≡ Shuffles.dup2 (item a ∷ item b ∷ item c ∷ item d ∷ []) }
+    requires { IsSome (Shuffles.shuffle Dup2 (item a ∷ item b ∷ item c ∷ item d ∷ [])) }
+    ensures { Some (moved result) ≡ Shuffles.shuffle Dup2 (item a ∷ item b ∷ item c ∷ item d ∷ []) }
 {
     if is_long(a) {
         return put_2(1, a, a);
@@ -134,9 +138,10 @@ fn dup2(a: Value, b: Value, c: Value, d: Value) -> Shuffled
 }
 
 #[inline]
+#[tactic(auto, unfolding(crate::specs::Shuffles::shuffle))]
 fn dup2_x1(a: Value, b: Value, c: Value, d: Value) -> Shuffled
-    requires { IsSome (Shuffles.dup2_x1 (item a ∷ item b ∷ item c ∷ item d ∷ [])) }
-    ensures { Some (moved result) ≡ Shuffles.dup2_x1 (item a ∷ item b ∷ item c ∷ item d ∷ []) }
+    requires { IsSome (Shuffles.shuffle Dup2X1 (item a ∷ item b ∷ item c ∷ item d ∷ [])) }
+    ensures { Some (moved result) ≡ Shuffles.shuffle Dup2X1 (item a ∷ item b ∷ item c ∷ item d ∷ []) }
 {
     if is_long(a) {
         return put_3(2, a, b, a);
@@ -145,9 +150,10 @@ fn dup2_x1(a: Value, b: Value, c: Value, d: Value) -> Shuffled
 }
 
 #[inline]
+#[tactic(auto, unfolding(crate::specs::Shuffles::shuffle))]
 fn dup2_x2(a: Value, b: Value, c: Value, d: Value) -> Shuffled
-    requires { IsSome (Shuffles.dup2_x2 (item a ∷ item b ∷ item c ∷ item d ∷ [])) }
-    ensures moved { Some (moved result) ≡ Shuffles.dup2_x2 (item a ∷ item b ∷ item c ∷ item d ∷ []) }
+    requires { IsSome (Shuffles.shuffle Dup2X2 (item a ∷ item b ∷ item c ∷ item d ∷ [])) }
+    ensures moved { Some (moved result) ≡ Shuffles.shuffle Dup2X2 (item a ∷ item b ∷ item c ∷ item d ∷ []) }
     ensures put { result.put ≤ 6 }
 {
     if is_long(a) {

@@ -227,7 +227,7 @@ fn dup2_x1(p: &NamedProgram, mut stack: Stack) -> Result<Option<Stack>, AllocErr
 fn dup2_x2_long(p: &NamedProgram, a: TypeRef, mut stack: Stack) -> Result<Option<Stack>, AllocError>
     ensures { IfOk result (λ r. option_map (map (named p.now)) r
         ≡ option_map (moved (named p.now a ∷ map (named p.now) stack))
-        (slots.dup2_x2 (slots.Two (named p.now a) ∷ items (map (named p.now) stack)))) }
+        (slots.shuffle Shuffle.Dup2X2 (slots.Two (named p.now a) ∷ items (map (named p.now) stack)))) }
 {
     match pop_item(p, &mut stack) {
         None => Ok(None),
@@ -256,7 +256,7 @@ fn dup2_x2_pair(
 ) -> Result<Option<Stack>, AllocError>
     ensures { IfOk result (λ r. option_map (map (named p.now)) r
         ≡ option_map (moved (named p.now a ∷ named p.now b ∷ map (named p.now) stack))
-        (slots.dup2_x2 (slots.One (named p.now a) ∷ slots.One (named p.now b) ∷ items (map (named p.now) stack)))) }
+        (slots.shuffle Shuffle.Dup2X2 (slots.One (named p.now a) ∷ slots.One (named p.now b) ∷ items (map (named p.now) stack)))) }
 {
     match pop_item(p, &mut stack) {
         None => Ok(None),

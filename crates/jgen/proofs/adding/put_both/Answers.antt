@@ -1,10 +1,10 @@
 use Rattle.jpool.specs.declared.entry.Entry.TheVariants.{NameAndType}
-use Rattle.jgen.specs.Items.{with_both, with_entry, with_text, ◌>>◌}
+use Rattle.jmove.specs.Additions.{with_entry, with_member, with_text, ◌>>◌}
 use Rattle.jgen.proofs.Putting.{then_puts}
 use Rattle.jgen.proofs.adding.put_both.Goals as goal
 
 pub returns : goal.returns
-unfolding with_both
+unfolding with_member
 returns c =
     let n = c.in_ok-name.name in
     then_puts 1 2 (with_text c.args.name.now) (λ n. with_text c.args.text.now >> λ t. with_entry (NameAndType n t)) c.put.result c.args.pool.now c.put_text.new.pool c.put.new.pool n c.in_ok-name.ensures.value

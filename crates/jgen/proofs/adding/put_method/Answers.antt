@@ -1,5 +1,6 @@
 use Rattle.jpool.specs.declared.entry.Entry.TheVariants.{Method}
-use Rattle.jgen.specs.Items.{with_both, with_class, with_entry, with_method, ◌>>◌}
+use Rattle.jmove.specs.Additions.{with_class, with_entry, with_member, ◌>>◌}
+use Rattle.jgen.specs.Items.{with_method}
 use Rattle.jgen.proofs.Putting.{then_puts}
 use Rattle.jgen.proofs.adding.put_method.Goals as goal
 
@@ -7,5 +8,5 @@ pub returns : goal.returns
 unfolding with_method
 returns c =
     let k = c.in_ok-class.class in
-    then_puts 2 4 (with_class c.args.class.now) (λ k. with_both c.args.name.now c.args.text.now >> λ b. with_entry (Method k b)) c.put.result c.args.pool.now c.put_class.new.pool c.put.new.pool k c.in_ok-class.ensures
-    (then_puts 3 1 (with_both c.args.name.now c.args.text.now) (λ b. with_entry (Method k b)) c.put.result c.put_class.new.pool c.put_both.new.pool c.put.new.pool c.in_ok-both.both c.in_ok-both.ensures c.put.ensures.value)
+    then_puts 2 4 (with_class c.args.class.now) (λ k. with_member c.args.name.now c.args.text.now >> λ b. with_entry (Method k b)) c.put.result c.args.pool.now c.put_class.new.pool c.put.new.pool k c.in_ok-class.ensures
+    (then_puts 3 1 (with_member c.args.name.now c.args.text.now) (λ b. with_entry (Method k b)) c.put.result c.put_class.new.pool c.put_both.new.pool c.put.new.pool c.in_ok-both.both c.in_ok-both.ensures c.put.ensures.value)

@@ -1,5 +1,6 @@
 use Rattle.jpool.specs.declared.entry.Entry.TheVariants.{Str}
-use Rattle.jgen.specs.Items.{with_entry, with_string, with_text}
+use Rattle.jmove.specs.Additions.{with_entry, with_text}
+use Rattle.jgen.specs.Items.{with_string}
 use Rattle.jgen.proofs.Putting.{then_puts}
 use Rattle.jgen.proofs.adding.put_string.Goals as goal
 

@@ -1,4 +1,5 @@
-use Rattle.jgen.specs.Items.{with_class, with_item}
+use Rattle.jmove.specs.Additions.{with_class}
+use Rattle.jgen.specs.Items.{with_item}
 use Rattle.jgen.proofs.Putting.{index_put}
 use Rattle.jgen.proofs.laying.put_class_index.Goals as goal
 

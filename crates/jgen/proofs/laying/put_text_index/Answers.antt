@@ -1,4 +1,5 @@
-use Rattle.jgen.specs.Items.{with_text, with_item}
+use Rattle.jmove.specs.Additions.{with_text}
+use Rattle.jgen.specs.Items.{with_item}
 use Rattle.jgen.proofs.Putting.{index_put}
 use Rattle.jgen.proofs.laying.put_text_index.Goals as goal
 
