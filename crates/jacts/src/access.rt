@@ -156,9 +156,10 @@ fn item_at(heap: &Heap, of: CellType, o: u32, i: i32) -> Option<Value>
     ensures item { result ≡ Accesses.item_in heap.now of o i }
     ensures there { is_some result ≡ is_some (rows.within (length (cells_at heap.now o)) (place_of i)) }
 {
-    match within(heap.len(o), i) {
+    let look = heap.looked(o);
+    match within(look.len, i) {
         None => None,
-        Some(k) => Some(heap.cell(o, k, of)),
+        Some(k) => Some(heap.at(look, k, of)),
     }
 }
 

@@ -30,6 +30,6 @@ pub use arrays::{array_length, count_of, make_array, new_array};
 pub use jumps::{branch, goto, int_at, jump_if, jump_if_int, switch, switch_key, switch_laws};
 pub use locals::local;
 pub use stacks::stack;
-pub use storing::{array_store, narrowed, put_cell};
+pub use storing::{array_store, narrowed, put_at};
 pub use straight::simple;
 pub use way::{Way, way_laws};

@@ -1,5 +1,6 @@
 ghost use Rattle.std.specs.Prelude.{◌≡◌, ◌<◌, ◌∷◌, List, IfSome, option_map, ℕ};
 ghost use Rattle.jops.specs.declared.value.Value.{Value as Operand};
+ghost use Rattle.jnames.specs.declared.names.Shuffle.TheVariants.{Pop, Pop2, Dup, DupX1, DupX2, Dup2, Dup2X1, Dup2X2, Swap};
 ghost use Rattle.jops.specs.Shuffles;
 ghost use Rattle.jops.specs.Shuffles.{Item};
 ghost use Rattle.jacts.specs.Moves.{four, laid, on};
@@ -27,8 +28,9 @@ pub(crate) enum Laid {
 }
 
 #[inline]
+#[tactic(auto, unfolding(jops::specs::Shuffles::shuffle))]
 fn pop(a: Top) -> Option<Laid>
-    ensures moves { (below : List (Item (Operand ℕ))) → option_map laid result ≡ Shuffles.pop (on a below) }
+    ensures moves { (below : List (Item (Operand ℕ))) → option_map laid result ≡ Shuffles.shuffle Pop (on a below) }
     ensures some { IfSome result (λ l. 0 < (laid l).taken) }
 {
     match a {
@@ -39,8 +41,9 @@ fn pop(a: Top) -> Option<Laid>
 }
 
 #[inline]
+#[tactic(auto, unfolding(jops::specs::Shuffles::shuffle))]
 fn pop2(a: Top, b: Top) -> Option<Laid>
-    ensures moves { (below : List (Item (Operand ℕ))) → option_map laid result ≡ Shuffles.pop2 (on a (on b below)) }
+    ensures moves { (below : List (Item (Operand ℕ))) → option_map laid result ≡ Shuffles.shuffle Pop2 (on a (on b below)) }
     ensures some { IfSome result (λ l. 0 < (laid l).taken) }
 {
     match a {
@@ -55,8 +58,9 @@ fn pop2(a: Top, b: Top) -> Option<Laid>
 }
 
 #[inline]
+#[tactic(auto, unfolding(jops::specs::Shuffles::shuffle))]
 fn dup(a: Top) -> Option<Laid>
-    ensures moves { (below : List (Item (Operand ℕ))) → option_map laid result ≡ Shuffles.dup (on a below) }
+    ensures moves { (below : List (Item (Operand ℕ))) → option_map laid result ≡ Shuffles.shuffle Dup (on a below) }
     ensures some { IfSome result (λ l. 0 < (laid l).taken) }
 {
     match a {
@@ -67,8 +71,9 @@ fn dup(a: Top) -> Option<Laid>
 }
 
 #[inline]
+#[tactic(auto, unfolding(jops::specs::Shuffles::shuffle))]
 fn dup_x1(a: Top, b: Top) -> Option<Laid>
-    ensures moves { (below : List (Item (Operand ℕ))) → option_map laid result ≡ Shuffles.dup_x1 (on a (on b below)) }
+    ensures moves { (below : List (Item (Operand ℕ))) → option_map laid result ≡ Shuffles.shuffle DupX1 (on a (on b below)) }
     ensures some { IfSome result (λ l. 0 < (laid l).taken) }
 {
     match a {
@@ -83,8 +88,9 @@ fn dup_x1(a: Top, b: Top) -> Option<Laid>
 }
 
 #[inline]
+#[tactic(auto, unfolding(jops::specs::Shuffles::shuffle))]
 fn dup_x2(a: Top, b: Top, c: Top) -> Option<Laid>
-    ensures moves { (below : List (Item (Operand ℕ))) → option_map laid result ≡ Shuffles.dup_x2 (on a (on b (on c below))) }
+    ensures moves { (below : List (Item (Operand ℕ))) → option_map laid result ≡ Shuffles.shuffle DupX2 (on a (on b (on c below))) }
     ensures some { IfSome result (λ l. 0 < (laid l).taken) }
 {
     match a {
@@ -103,8 +109,9 @@ fn dup_x2(a: Top, b: Top, c: Top) -> Option<Laid>
 }
 
 #[inline]
+#[tactic(auto, unfolding(jops::specs::Shuffles::shuffle))]
 fn dup2(a: Top, b: Top) -> Option<Laid>
-    ensures moves { (below : List (Item (Operand ℕ))) → option_map laid result ≡ Shuffles.dup2 (on a (on b below)) }
+    ensures moves { (below : List (Item (Operand ℕ))) → option_map laid result ≡ Shuffles.shuffle Dup2 (on a (on b below)) }
     ensures some { IfSome result (λ l. 0 < (laid l).taken) }
 {
     match a {
@@ -119,8 +126,9 @@ fn dup2(a: Top, b: Top) -> Option<Laid>
 }
 
 #[inline]
+#[tactic(auto, unfolding(jops::specs::Shuffles::shuffle))]
 fn dup2_x1(a: Top, b: Top, c: Top) -> Option<Laid>
-    ensures moves { (below : List (Item (Operand ℕ))) → option_map laid result ≡ Shuffles.dup2_x1 (on a (on b (on c below))) }
+    ensures moves { (below : List (Item (Operand ℕ))) → option_map laid result ≡ Shuffles.shuffle Dup2X1 (on a (on b (on c below))) }
     ensures some { IfSome result (λ l. 0 < (laid l).taken) }
 {
     match a {
@@ -144,8 +152,9 @@ fn dup2_x1(a: Top, b: Top, c: Top) -> Option<Laid>
 
 /// The forms of dup2_x2 whose newest item is a long.
 #[inline]
+#[tactic(auto, unfolding(jops::specs::Shuffles::shuffle))]
 fn dup_long_x2(x: Value, b: Top, c: Top) -> Option<Laid>
-    ensures moves { (below : List (Item (Operand ℕ))) → option_map laid result ≡ Shuffles.dup2_x2 (Shuffles.Two x ∷ on b (on c below)) }
+    ensures moves { (below : List (Item (Operand ℕ))) → option_map laid result ≡ Shuffles.shuffle Dup2X2 (Shuffles.Two x ∷ on b (on c below)) }
     ensures some { IfSome result (λ l. 0 < (laid l).taken) }
 {
     match b {
@@ -161,8 +170,9 @@ fn dup_long_x2(x: Value, b: Top, c: Top) -> Option<Laid>
 
 /// The forms of dup2_x2 whose newest item is no long.
 #[inline]
+#[tactic(auto, unfolding(jops::specs::Shuffles::shuffle))]
 fn dup_two_x2(x: Value, b: Top, c: Top, d: Top) -> Option<Laid>
-    ensures moves { (below : List (Item (Operand ℕ))) → option_map laid result ≡ Shuffles.dup2_x2 (Shuffles.One x ∷ on b (on c (on d below))) }
+    ensures moves { (below : List (Item (Operand ℕ))) → option_map laid result ≡ Shuffles.shuffle Dup2X2 (Shuffles.One x ∷ on b (on c (on d below))) }
     ensures some { IfSome result (λ l. 0 < (laid l).taken) }
 {
     match b {
@@ -181,8 +191,9 @@ fn dup_two_x2(x: Value, b: Top, c: Top, d: Top) -> Option<Laid>
 }
 
 #[inline]
+#[tactic(auto, unfolding(jops::specs::Shuffles::shuffle))]
 fn dup2_x2(a: Top, b: Top, c: Top, d: Top) -> Option<Laid>
-    ensures moves { (below : List (Item (Operand ℕ))) → option_map laid result ≡ Shuffles.dup2_x2 (on a (on b (on c (on d below)))) }
+    ensures moves { (below : List (Item (Operand ℕ))) → option_map laid result ≡ Shuffles.shuffle Dup2X2 (on a (on b (on c (on d below)))) }
     ensures some { IfSome result (λ l. 0 < (laid l).taken) }
 {
     match a {
@@ -193,8 +204,9 @@ fn dup2_x2(a: Top, b: Top, c: Top, d: Top) -> Option<Laid>
 }
 
 #[inline]
+#[tactic(auto, unfolding(jops::specs::Shuffles::shuffle))]
 fn swap(a: Top, b: Top) -> Option<Laid>
-    ensures moves { (below : List (Item (Operand ℕ))) → option_map laid result ≡ Shuffles.swap (on a (on b below)) }
+    ensures moves { (below : List (Item (Operand ℕ))) → option_map laid result ≡ Shuffles.shuffle Swap (on a (on b below)) }
     ensures some { IfSome result (λ l. 0 < (laid l).taken) }
 {
     match a {

@@ -2,7 +2,7 @@ ghost use Rattle.std.specs.Prelude.{◌≡◌, ◌<◌, ◌≤◌, ◌+◌, ◌^
 ghost use Rattle.jcode.specs.Forms;
 ghost use Rattle.jcode.specs.declared.names.Element.TheVariants as items;
 ghost use Rattle.jcode.specs.declared.form.ArrayForm.TheVariants as forms;
-ghost use Rattle.jheap.specs.Heaps.{HasCell, cells_at, object_at, with_cell};
+ghost use Rattle.jheap.specs.Heaps.{cells_at, look_at, object_at, with_cell};
 ghost use Rattle.jheap.specs.Raw;
 ghost use Rattle.jmachine.specs.Narrowing;
 ghost use Rattle.jops.specs.Kinds.{is_of};
@@ -22,7 +22,7 @@ use crate::arrays::Found;
 use crate::jumps::int_at;
 use crate::way::Way;
 use jcode::Element;
-use jheap::{Heap, raw_laws};
+use jheap::{Heap, Look, raw_laws};
 use jlib::{LibClass, Thrown};
 use jnames::{Kind, OpOne};
 use jops::{Value, one};
@@ -62,15 +62,16 @@ fn held_by(a: ArrayRef, value: Value) -> Value
     narrowed(a.element, value)
 }
 
-/// Puts a value into a cell that is there. The cell gives it back.
+/// Puts a value into a cell, which is there, of an object that was looked at. The cell gives it back.
 #[inline]
-pub fn put_cell(heap: &mut Heap, o: u32, k: u32, value: Value)
-    requires { HasCell heap.old o k }
-    ensures heap { heap.new ≡ with_cell heap.old o k (Raw.raw value) }
+pub fn put_at(heap: &mut Heap, look: Look, k: u32, value: Value)
+    requires good { look_at heap.old look.object ≡ Some look }
+    requires there { k < look.len }
+    ensures heap { heap.new ≡ with_cell heap.old look.object k (Raw.raw value) }
     ensures back { Raw.of_raw (Raw.type_of value) (Raw.raw value) ≡ value }
 {
     raw_laws();
-    heap.set_cell(o, k, value);
+    heap.set_at(look, k, value);
 }
 
 /// The kind of what an array holds.
@@ -111,10 +112,11 @@ fn put_item<M: Copy>(frames: &mut Frames<M>, heap: &mut Heap, o: u32, i: i32, va
     requires there { is_some (object_at heap.old o) ≡ true }
     ensures { HasPut o value frames.old heap.old result frames.new heap.new (rows.within (length (cells_at heap.old o)) (Narrowing.place i)) }
 {
-    match within(heap.len(o), i) {
+    let look = heap.looked(o);
+    match within(look.len, i) {
         None => Way::Raises(LibClass::Thrown(Thrown::ArrayIndexOutOfBoundsException)),
         Some(k) => {
-            put_cell(heap, o, k, value);
+            put_at(heap, look, k, value);
             frames.shrink(3);
             frames.go_on();
             Way::Went

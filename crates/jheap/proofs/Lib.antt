@@ -1,4 +1,5 @@
 pub mod CellLaws
 pub mod Heading
+pub mod Looking
 pub mod Lying
 pub mod RawLaws

@@ -1,5 +1,5 @@
 -- Objects in the blocks of a region.
-use Rattle.std.proofs.Common.{◌≡◌, ◌≢◌, ◌∙◌, ℕ, zero, suc, ◌+◌, ◌-◌, ◌<◌, ◌≤◌, List, [], ◌∷◌, ◌++◌, length, replicate, take, drop, map, Option, Some, None, refl, sym, ap, ap₂, subst, arith}
+use Rattle.std.proofs.Common.{◌≡◌, ◌∙◌, ℕ, zero, suc, ◌+◌, ◌-◌, ◌<◌, ◌≤◌, List, [], ◌∷◌, ◌++◌, length, replicate, take, drop, map, Option, Some, None, refl, sym, ap, ap₂, subst, arith}
 use Rattle.std.specs.Prelude.{◌^◌, ◌%◌, get_or, slice_get, slice_set, unwrap_or, is_some, true}
 use Rattle.std.specs.Option.{option_map}
 use Rattle.std.proofs.lemmas.Option.{get_or_from_slice_get, slice_get-map, slice_get_read}
@@ -57,7 +57,7 @@ last_set [] x y (suc n) e = absurd (omega (arith, e))
 last_set (z ∷ xs) x y zero e = absurd (omega (arith, e))
 last_set (z ∷ xs) x y (suc n) e = ap (λ zs. z ∷ zs) (last_set xs x y n (omega (arith, e)))
 
-same : {A : Type 0} (x y : A) → Some x ≡ Some y → x ≡ y
+pub same : {A : Type 0} (x y : A) → Some x ≡ Some y → x ≡ y
 same x y e = ap (λ o. unwrap_or o x) e
 
 -- ---- one object's cells
@@ -200,7 +200,7 @@ block_is r bs kept o l b read =
     let place : o - 1 ≡ l.place = omega (arith, l.number) in
     same b l.block (sym (slice_get_read bs (length bs) l.place b refl l.listed (read ∙ ap (λ k. get_or bs k b) place)) ∙ l.at)
 
-whole_at : (xs : List (List ℕ)) (n : ℕ) (c : List ℕ) → AreWhole xs → slice_get xs n ≡ Some c → IsWhole c
+pub whole_at : (xs : List (List ℕ)) (n : ℕ) (c : List ℕ) → AreWhole xs → slice_get xs n ≡ Some c → IsWhole c
 whole_at [] n c all at = cc
 whole_at (x ∷ xs) zero c all at = subst IsWhole (same x c at) all.0
 whole_at (x ∷ xs) (suc n) c all at = whole_at xs n c all.1 at

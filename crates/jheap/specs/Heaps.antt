@@ -1,9 +1,10 @@
 -- The heap: objects by their numbers, which count from 1 in order of making, statics, and the cells that are left.
-use Rattle.std.specs.Prelude.{◌≡◌, ℕ, zero, suc, ◌+◌, ◌-◌, ◌<◌, ◌^◌, ◌⊎◌, List, [], ◌∷◌, ◌++◌, length, replicate, Option, Some, None, unwrap_or, slice_get, slice_set}
+use Rattle.std.specs.Prelude.{◌≡◌, ℕ, zero, suc, ◌+◌, ◌-◌, ◌<◌, ◌^◌, ◌⊎◌, List, [], ◌∷◌, ◌++◌, length, replicate, take, Option, Some, None, unwrap_or, slice_get, slice_set}
 use Rattle.std.specs.Option.{option_map}
 use Rattle.std.proofs.Common.{◌≢◌}
 use Rattle.jheap.specs.declared.cell.Kind.{Kind}
 use Rattle.jheap.specs.declared.cell.Kind.TheVariants.{Object as ObjectKind}
+use Rattle.jheap.specs.declared.cell.Look.{Look}
 
 -- an object: its kind, its cells, and of a piece the number of the one in front of it
 pub record Object : Type 0 where
@@ -83,6 +84,26 @@ with_before h o b = with_object (λ x. record x { before = b }) h o
 
 abbrev pub with_statics : Heaped → List ℕ → Heaped
 with_statics h values = record h { statics = values }
+
+-- ---- looks
+
+-- how many cells these objects cost
+abbrev pub cost : List Object → ℕ
+cost [] = 0
+cost (x ∷ xs) = charge x.kind (length x.cells) + cost xs
+
+-- what a look at an object tells: its number, what it is, how many cells it has, and where they lie, behind those that were taken before
+abbrev pub look_by : ℕ → ℕ → Object → Look
+look_by o first x = record {
+  object = o;
+  kind = x.kind;
+  len = length x.cells;
+  block = record { first = first; len = charge x.kind (length x.cells) };
+}
+
+-- a look at the object of a number
+abbrev pub look_at : Heaped → ℕ → Option Look
+look_at h o = option_map (look_by o (cost (take (o - 1) h.objects))) (object_at h o)
 
 -- ---- laws
 

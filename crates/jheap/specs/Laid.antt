@@ -1,6 +1,6 @@
 -- How an object lies in a block of a region: a number first that says its kind, then its cells. An object of a class has no more; an
 -- array, a text and a piece have one more cell at the end, which holds the number of the piece in front of a piece.
-use Rattle.std.specs.Prelude.{◌≡◌, ℕ, zero, suc, ◌+◌, ◌-◌, ◌*◌, ◌/◌, ◌%◌, ◌^◌, ◌≤◌, List, [], ◌∷◌, get_or, length, take, map, ⊤}
+use Rattle.std.specs.Prelude.{ℕ, zero, suc, ◌+◌, ◌-◌, ◌*◌, ◌/◌, ◌%◌, ◌^◌, ◌≤◌, List, [], ◌∷◌, get_or, length, take, map, ⊤}
 use Rattle.jheap.specs.declared.cell.Kind.{Kind}
 use Rattle.jheap.specs.declared.cell.Kind.TheVariants.{Object as ObjectKind, Array as ArrayKind, Text as TextKind, Piece as PieceKind}
 use Rattle.jheap.specs.Heaps.{Object}

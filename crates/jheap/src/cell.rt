@@ -4,6 +4,7 @@ ghost use Rattle.jheap.specs.Laid;
 ghost use Rattle.jheap.specs.Raw;
 
 use jops::Value;
+use jregion::Block;
 
 /// What an object is.
 #[derive(Clone, Copy, Debug, PartialEq, Eq)]
@@ -16,6 +17,15 @@ pub enum Kind {
     Text,
     /// What an `append` makes: a unit a cell, and the piece in front of it.
     Piece,
+}
+
+/// A look at an object: its number, what it is, how many cells it has, and where they lie. An object stays where it was made.
+#[derive(Clone, Copy, Debug, PartialEq, Eq)]
+pub struct Look {
+    pub object: u32,
+    pub kind: Kind,
+    pub len: u32,
+    pub(crate) block: Block,
 }
 
 /// The type of the value that a cell holds.

@@ -1,11 +1,11 @@
 ghost use Rattle.std.specs.Prelude.{◌≡◌, ◌+◌, ◌<◌, ◌≤◌, ◌^◌, ◌%◌, ◌∷◌, ◌++◌, [], IfOk, OnErr, OnOk, Some, length, replicate, slice_set, get_or, is_some, true, vec_capacity};
 ghost use Rattle.jheap.specs.declared.cell.Kind.TheVariants as kinds;
-ghost use Rattle.jheap.specs.Heaps.{AreSmall, HasCell, Makes, before_at, cell_at, cells_at, kind_at, object_at, opened, with_before, with_cell, with_statics};
+ghost use Rattle.jheap.specs.Heaps.{AreSmall, HasCell, Makes, before_at, cell_at, cells_at, kind_at, look_at, object_at, opened, with_before, with_cell, with_statics};
 ghost use Rattle.jheap.specs.Laid.{headed, header as header_of, kind_of as kind_in_header};
 ghost use Rattle.jheap.specs.Raw.{of_raw as raw_value, raw as raw_number};
 ghost use Rattle.jregion.specs.Regions.{next_block};
 
-use crate::cell::{CellType, Kind, behind, charge, header, kind_of, low_32, of_raw, raw};
+use crate::cell::{CellType, Kind, Look, behind, charge, header, kind_of, low_32, of_raw, raw};
 use jops::Value;
 use jregion::{Block, Region, region_laws};
 use std::alloc::{AllocError, Global};
@@ -158,6 +158,60 @@ impl Heap {
             return None;
         }
         Some(self.kind(o))
+    }
+
+    /// A look at an object that is there.
+    #[inline]
+    pub fn looked(&self, o: u32) -> Look
+        requires { is_some (object_at self.now o) ≡ true }
+        ensures look { Some result ≡ look_at self.now o }
+        ensures good { look_at self.now result.object ≡ Some result }
+        ensures object { result.object ≡ o }
+        ensures len { result.len ≡ length (cells_at self.now o) }
+    {
+        region_laws();
+        let block = self.blocks[(o - 1) as usize];
+        let kind = kind_of(self.region.read(block, 0));
+        let len = block.len() - 1 - behind(kind);
+        Look {
+            object: o,
+            kind,
+            len,
+            block,
+        }
+    }
+
+    /// A look at the object of a number, where there is one.
+    #[inline]
+    pub fn look(&self, o: u32) -> Option<Look>
+        ensures { result ≡ look_at self.now o }
+    {
+        if o == 0 || (o - 1) as usize >= self.blocks.len() {
+            return None;
+        }
+        Some(self.looked(o))
+    }
+
+    /// The value of a cell of an object that was looked at, read as a type. The cell is there.
+    #[inline]
+    pub fn at(&self, look: Look, i: u32, of: CellType) -> Value
+        requires good { look_at self.now look.object ≡ Some look }
+        requires there { i < look.len }
+        ensures { result ≡ raw_value of (cell_at self.now look.object i) }
+    {
+        region_laws();
+        of_raw(of, self.region.read(look.block, i + 1))
+    }
+
+    /// Puts a value into a cell of an object that was looked at. The cell is there.
+    #[inline]
+    pub fn set_at(&mut self, look: Look, i: u32, value: Value)
+        requires good { look_at self.old look.object ≡ Some look }
+        requires there { i < look.len }
+        ensures { self.new ≡ with_cell self.old look.object i (raw_number value) }
+    {
+        region_laws();
+        self.region.write(look.block, i + 1, raw(value));
     }
 
     /// How many cells an object has. It is there.

@@ -23,7 +23,7 @@ ghost use Rattle.jobjs.specs.Serving.{Serve};
 ghost use Rattle.jobjs.specs.Staying.{Stays};
 
 use crate::target::{Target, target_at};
-use jacts::{Way, narrowed, put_cell, way_laws};
+use jacts::{Way, narrowed, put_at, way_laws};
 use jheap::{CellType, Heap, raw_laws};
 use jlib::{LibClass, Thrown};
 use jops::Value;
@@ -37,10 +37,11 @@ fn slot_at(heap: &Heap, o: u32, slot: u32, of: CellType) -> Option<Value>
     requires { is_some (object_at heap.now o) ≡ true }
     ensures { result ≡ option_map (raw_value of) (slice_get (cells_at heap.now o) slot) }
 {
-    if slot >= heap.len(o) {
+    let look = heap.looked(o);
+    if slot >= look.len {
         return None;
     }
-    Some(heap.cell(o, slot, of))
+    Some(heap.at(look, slot, of))
 }
 
 /// The frame goes on behind its instruction with an operand in the place of its newest, which is there.
@@ -228,11 +229,12 @@ pub fn put_field<M: Copy>(
             if n < 46 {
                 return Way::Stuck;
             }
-            if slot >= heap.len(o) {
+            let look = heap.looked(o);
+            if slot >= look.len {
                 return Way::Stuck;
             }
             let value = narrowed(narrow, frames.operand(0));
-            put_cell(heap, o, slot, value);
+            put_at(heap, look, slot, value);
             frames.shrink(2);
             frames.go_on();
             Way::Went

@@ -15,7 +15,7 @@ ghost use Rattle.jacts.specs.Ways.{ActsWhere, Rests, leaves};
 ghost use Rattle.jobjs.specs.Stored.{HasStored, MayStore, ServeStore, held_seen};
 ghost use Rattle.jobjs.specs.Staying.{Stays};
 
-use jacts::{Way, int_at, put_cell, way_laws, within};
+use jacts::{Way, int_at, put_at, way_laws, within};
 use jheap::{Heap, Kind};
 use jlib::{LibClass, Thrown};
 use jops::Value;
@@ -72,13 +72,14 @@ fn put_item<M: Copy>(
     requires there { is_some (object_at heap.old o) ≡ true }
     ensures { HasStored is o value frames.old heap.old result frames.new heap.new (rows.within (length (cells_at heap.old o)) (place_of i)) }
 {
-    match within(heap.len(o), i) {
+    let look = heap.looked(o);
+    match within(look.len, i) {
         None => Way::Raises(LibClass::Thrown(Thrown::ArrayIndexOutOfBoundsException)),
         Some(k) => {
             if !is {
                 return Way::Raises(LibClass::Thrown(Thrown::ArrayStoreException));
             }
-            put_cell(heap, o, k, value);
+            put_at(heap, look, k, value);
             frames.shrink(3);
             frames.go_on();
             Way::Went

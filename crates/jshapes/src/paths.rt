@@ -81,6 +81,5 @@ pub(crate) fn cells_of(
     ensures { IfOk result (λ cells. cells ≡ Fielded.cells_at p.now class) }
 {
     let path = path_from(alloc, p, lines, class)?;
-    let cells = cells_along(alloc, p, lines, path)?;
-    Ok(cells)
+    cells_along(alloc, p, lines, path)
 }

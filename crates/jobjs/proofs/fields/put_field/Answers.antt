@@ -28,8 +28,8 @@ returns-then-n-lt46-clause-row g c p shapes things constants f of =
     let low : c.in-Object.n < library_count = search rules in
     rw serve (put_low p shapes things constants c.args.heap.now c.args.frames.now.newest f c.args.slot of c.args.narrow c.heap_laws.ensures.each c.in-Object.o c.in-Object.n c.in-Object.ensures low c.args.frames.now.newest)
 
-pub returns-then-slot-len-clause-row : goal.returns-then-slot-len-clause-row
-returns-then-slot-len-clause-row g c p shapes things constants f of =
+pub returns-then-slot-look-clause-row : goal.returns-then-slot-look-clause-row
+returns-then-slot-look-clause-row g c p shapes things constants f of =
     let serve : c.args.serve ≡ true = search rules in
     let high : length (cells_at c.args.heap.now c.in-Object.o) ≤ c.args.slot = search rules in
     rw serve
@@ -39,20 +39,20 @@ returns-then-slot-len-clause-row g c p shapes things constants f of =
 pub shrink-requires : goal.shrink-requires
 shrink-requires g c = two_there c.args.heap.now c.args.frames.now.newest.operands c.in-Object.o c.in-Object.n c.in-Object.ensures
 
-pub returns-else-slot-len-clause-row : goal.returns-else-slot-len-clause-row
-returns-else-slot-len-clause-row g c p shapes things constants f of =
+pub returns-else-slot-look-clause-row : goal.returns-else-slot-look-clause-row
+returns-else-slot-look-clause-row g c p shapes things constants f of =
     let serve : c.args.serve ≡ true = search rules in
     let few : c.args.slot < length (cells_at c.args.heap.now c.in-Object.o) = search rules in
-    rw (serve, c.go_on.ensures, c.shrink.ensures, c.put_cell.ensures.heap)
+    rw (serve, c.go_on.ensures, c.shrink.ensures, c.put_at.ensures.heap, c.looked-look.ensures.object)
     (put_inside p shapes things constants c.args.heap.now c.args.frames.now.newest f c.args.slot of c.args.narrow c.heap_laws.ensures.each c.in-Object.o c.in-Object.n c.in-Object.ensures c.cell_laws.ensures.reads
-    c.heap_laws.ensures.writes c.heap_laws.ensures.field c.way_laws.ensures few c.operand.result c.narrowed-value.result c.operand.ensures (c.narrowed-value.ensures p) c.put_cell.ensures.back)
+    c.heap_laws.ensures.writes c.heap_laws.ensures.field c.way_laws.ensures few c.operand.result c.narrowed-value.result c.operand.ensures (c.narrowed-value.ensures p) c.put_at.ensures.back)
 
-pub returns-else-slot-len-clause-built : goal.returns-else-slot-len-clause-built
-returns-else-slot-len-clause-built g c built =
+pub returns-else-slot-look-clause-built : goal.returns-else-slot-look-clause-built
+returns-else-slot-look-clause-built g c built =
     let high : library_count ≤ c.in-Object.n = search rules in
-    rw c.put_cell.ensures.heap
+    rw (c.put_at.ensures.heap, c.looked-look.ensures.object)
     (put_stays c.built_laws.ensures.written c.args.heap.now c.args.frames.now.newest.operands c.in-Object.o c.in-Object.n c.args.slot (raw c.narrowed-value.result) c.in-Object.ensures high built)
 
-pub returns-else-slot-len-clause-celled : goal.returns-else-slot-len-clause-celled
-returns-else-slot-len-clause-celled g c shapes all =
-    rw c.put_cell.ensures.heap (c.celled_laws.ensures.written c.args.heap.now c.in-Object.o c.args.slot (raw c.narrowed-value.result) shapes all)
+pub returns-else-slot-look-clause-celled : goal.returns-else-slot-look-clause-celled
+returns-else-slot-look-clause-celled g c shapes all =
+    rw (c.put_at.ensures.heap, c.looked-look.ensures.object) (c.celled_laws.ensures.written c.args.heap.now c.in-Object.o c.args.slot (raw c.narrowed-value.result) shapes all)
