@@ -1,5 +1,5 @@
 -- What has a digest is looked for along the chain of its digest.
-use Rattle.std.proofs.Common.{◌≡◌, ◌≢◌, ◌∙◌, ◌⊎◌, inl, inr, ℕ, zero, suc, ◌-◌, ◌<◌, ◌≤◌, ◌%◌, List, length, Some, map, option_map, refl, sym, ap, subst, arith}
+use Rattle.std.proofs.Common.{◌≡◌, ◌≢◌, ◌∙◌, ◌⊎◌, inl, inr, ℕ, zero, suc, Bool, true, false, ◌-◌, ◌<◌, ◌≤◌, ◌%◌, List, length, Some, map, option_map, refl, sym, ap, subst, arith}
 use Rattle.std.specs.Prelude.{slice_get}
 use Rattle.std.proofs.lemmas.List.{length-map}
 use Rattle.std.proofs.lemmas.Option.{slice_get-map, slice_get_within}
@@ -15,7 +15,21 @@ pub record Gone {T : Type 0} (digest : T → ℕ) (all : List T) (c : T) (at : �
   pub here : (j : ℕ) → at ≡ suc j → Stands (map digest all) (digest c % 65536) j
   pub past : (i : ℕ) → at ≤ i → slice_get all i ≢ Some c
 
+pub not_alike : (t : Bool) → (t ≡ true → ⊥) → false ≡ t
+not_alike true other = absurd (other refl)
+not_alike false other = refl
+
 module _ {T : Type 0} (digest : T → ℕ) where
+  same_number : (a b : ℕ) → Some a ≡ Some b → a ≡ b
+  same_number a b e = cc
+
+  -- what has another digest is another thing
+  pub digest_tells : (all : List T) (ds : List ℕ) (i d : ℕ) (one c : T) → ds ≡ map digest all → slice_get all i ≡ Some one → slice_get ds i ≡ Some d → d ≢ digest c → one ≢ c
+  digest_tells all ds i d one c are at there other is =
+      other
+      (same_number d (digest c)
+      (sym there ∙ ap (λ (es : List ℕ). slice_get es i) are ∙ slice_get-map digest all i ∙ ap (λ o. option_map digest o) at ∙ ap (λ (x : T). Some (digest x)) is))
+
   -- an entry that is the thing has its digest's remainder
   its : (all : List T) (c : T) (i : ℕ) → slice_get all i ≡ Some c → Stands (map digest all) (digest c % 65536) i
   its all c i is = ap (λ o. option_map (λ d. d % 65536) o) (slice_get-map digest all i ∙ ap (λ o. option_map digest o) is)

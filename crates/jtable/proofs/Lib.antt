@@ -1,5 +1,6 @@
 pub mod Chaining
 pub mod Cutting
+pub mod Entering
 pub mod Finding
 pub mod Growing
 pub mod Listing

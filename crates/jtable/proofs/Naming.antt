@@ -1,6 +1,6 @@
 -- Limits by number, each once, and the items of pairs.
 use Rattle.std.proofs.Common.{◌≡◌, ◌∙◌, ◌⊎◌, inl, inr, ℕ, suc, ◌<◌, Bool, true, ◌&&◌, List, [], ◌∷◌, ◌++◌, length, map, Option, Some, None, option_map, refl, sym, ap, ap₂, subst, arith, ◌||◌, false, append_assoc}
-use Rattle.std.specs.Prelude.{Result, OnOk, slice_get, get_or}
+use Rattle.std.specs.Prelude.{slice_get, get_or}
 use Rattle.std.specs.List.{list_any}
 use Rattle.std.proofs.lemmas.List.{length-append, map-append, append-nil}
 use Rattle.std.proofs.lemmas.Option.{slice_get-map, slice_get-get_or, get_or_from_slice_get}
@@ -57,7 +57,7 @@ within_read sets a b la lb at other = ap₂ is_within (sym (get_or_from_slice_ge
 pub longer : {T : Type 0} (old new : List T) (n : ℕ) → Extends old new → n < length old → n < length new
 longer old new n extends lt = omega (arith, lt, ap length extends.is, length-append old extends.more)
 
-limits_more : (old new : List (List Permission)) (n : ℕ) → Extends old new → n < length old → limits_at new n ≡ limits_at old n
+pub limits_more : (old new : List (List Permission)) (n : ℕ) → Extends old new → n < length old → limits_at new n ≡ limits_at old n
 limits_more old new n extends lt = ap (λ (s : List (List Permission)). limits_at s n) extends.is ∙ front_or n [] old extends.more lt
 
 abbrev item : List Permission → ℕ → Item
@@ -115,14 +115,19 @@ pub named_at : (count : ℕ) (lists : List (List Pair)) (n i : ℕ) (p : Pair) �
 named_at count lists n i p named lt is = named n (get_or lists n []) (slice_get-get_or lists n [] lt) i p (sym is)
 
 -- an item whose limits are those of another with new ones added
-pub limited_added : {T F : Type 0} (r : Result T F) (old new : List (List Permission)) (pairs made : List Pair) (p : Pair) (n : ℕ) (limits : List Permission)
+pub limited_added : (old new : List (List Permission)) (pairs made : List Pair) (p : Pair) (n : ℕ) (limits : List Permission)
     → Extends old new → AreNamed (length old) pairs → slice_get new n ≡ Some (add_limits (limits_at old p.limits) limits)
-    → OnOk r (items_of new made ≡ added (items_of new pairs) (item_of new (record { limits = n; domain = p.domain })))
-    → OnOk r (items_of new made ≡ added (items_of old pairs) (with_limits limits (item_of old p)))
-limited_added r old new pairs made p n limits extends named at given =
-    subst (λ (is : List Item). OnOk r (items_of new made ≡ added is (with_limits limits (item_of old p)))) (items_more old new pairs extends named)
-    (subst (λ (i : Item). OnOk r (items_of new made ≡ added (items_of new pairs) i))
+    → items_of new made ≡ added (items_of new pairs) (item_of new (record { limits = n; domain = p.domain }))
+    → items_of new made ≡ added (items_of old pairs) (with_limits limits (item_of old p))
+limited_added old new pairs made p n limits extends named at given =
+    subst (λ (is : List Item). items_of new made ≡ added is (with_limits limits (item_of old p))) (items_more old new pairs extends named)
+    (subst (λ (i : Item). items_of new made ≡ added (items_of new pairs) i)
     (ap (λ (l : List Permission). item l p.domain) (get_or_from_slice_get new n (add_limits (limits_at old p.limits) limits) [] at)) given)
+
+-- the number of limits with new ones added stays one
+pub extended_known : (old new : List (List Permission)) (n m : ℕ) (limits : List Permission) → Extends old new → n < length old
+    → slice_get new m ≡ Some (add_limits (limits_at old n) limits) → slice_get new m ≡ Some (add_limits (limits_at new n) limits)
+extended_known old new n m limits extends lt is = is ∙ ap (λ (l : List Permission). Some (add_limits l limits)) (sym (limits_more old new n extends lt))
 
 -- ---- equal items are of equal pairs
 

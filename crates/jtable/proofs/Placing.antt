@@ -37,45 +37,43 @@ stay_pushed old new cells is = (
 )
 
 -- more regions change nothing
-pub stay_pairs : (old new : List (List ℕ)) (n : ℕ) → n ≤ 32768 * length old → StayRegions old new → pairs_to new n ≡ pairs_to old n
+pub stay_pairs : (old new : List (List ℕ)) (n : ℕ) → n ≤ 65536 * length old → StayRegions old new → pairs_to new n ≡ pairs_to old n
 stay_pairs old new n within stay =
-    same_to old new n (λ k lt. ap (λ (cells : List ℕ). pair_in cells (k % 32768 * 2)) (stay.1 (k / 32768) (omega (arith, lt, within))))
+    same_to old new n (λ k lt. ap (λ (cells : List ℕ). pair_in cells (k % 65536)) (stay.1 (k / 65536) (omega (arith, lt, within))))
 
 abbrev pair_of : ℕ → ℕ → Pair
-pair_of l d = record { limits = l; domain = d % 2 ^ 32 }
+pair_of l d = record { limits = l; domain = d }
 
--- another pair of the same cells
-others_stay : (i j : ℕ) (old new : List ℕ) → AreOthers i old new → j ≢ i → j ≢ i + 1 → j + 1 ≢ i → pair_in new j ≡ pair_in old j
-others_stay i j old new others a b c =
-    ap₂ (λ (l d : ℕ). pair_of l d) (others j a b) (others (j + 1) c (λ e. a (omega (arith, e))))
+-- a cell with both numbers of a pair
+pub packed : (n : ℕ) (p : Pair) → p.domain < 2 ^ 32 → n ≡ p.limits * 2 ^ 32 + p.domain → pair_of (n / 2 ^ 32) (n % 2 ^ 32) ≡ p
+packed n p small is = ap₂ (λ (l d : ℕ). pair_of l d) (omega (arith, small, is)) (omega (arith, small, is))
 
 -- a pair that is written behind the others
-pub placed : (regions : List (List ℕ)) (n : ℕ) (cells : List ℕ) (p : Pair) → n < 32768 * length regions
-    → pair_in cells (n % 32768 * 2) ≡ p → AreOthers (n % 32768 * 2) (get_or regions (n / 32768) []) cells
-    → pairs_to (slice_set regions (n / 32768) cells) (n + 1) ≡ pairs_to regions n ++ p ∷ []
+pub placed : (regions : List (List ℕ)) (n : ℕ) (cells : List ℕ) (p : Pair) → n < 65536 * length regions
+    → pair_in cells (n % 65536) ≡ p → AreOthers (n % 65536) (get_or regions (n / 65536) []) cells
+    → pairs_to (slice_set regions (n / 65536) cells) (n + 1) ≡ pairs_to regions n ++ p ∷ []
 placed regions n cells p within is others =
     let next : n + 1 ≡ suc n = omega arith in
     ap (pairs_to new) next ∙ ap₂ (λ (ps : List Pair) (q : Pair). ps ++ q ∷ []) (same_to regions new n each) here
   where
     new : List (List ℕ)
-    new = slice_set regions (n / 32768) cells
+    new = slice_set regions (n / 65536) cells
 
-    lt : n / 32768 < length regions
+    lt : n / 65536 < length regions
     lt = omega (arith, within)
 
-    written : get_or (slice_set regions (n / 32768) cells) (n / 32768) [] ≡ cells
-    written = put_here (n / 32768) [] cells regions lt
+    written : get_or (slice_set regions (n / 65536) cells) (n / 65536) [] ≡ cells
+    written = put_here (n / 65536) [] cells regions lt
 
     here : pair_at new n ≡ p
-    here = ap (λ (cs : List ℕ). pair_in cs (n % 32768 * 2)) written ∙ is
+    here = ap (λ (cs : List ℕ). pair_in cs (n % 65536)) written ∙ is
 
-    by_case : (k : ℕ) → k < n → (k / 32768 ≡ n / 32768) ⊎ (k / 32768 ≢ n / 32768) → pair_at new k ≡ pair_at regions k
+    by_case : (k : ℕ) → k < n → (k / 65536 ≡ n / 65536) ⊎ (k / 65536 ≢ n / 65536) → pair_at new k ≡ pair_at regions k
     by_case k below (inl e) =
-        ap (λ (cs : List ℕ). pair_in cs (k % 32768 * 2)) (ap (λ (q : ℕ). get_or new q []) e ∙ written)
-        ∙ others_stay (n % 32768 * 2) (k % 32768 * 2) (get_or regions (n / 32768) []) cells others
-        (λ x. absurd (omega (arith, x, e, below))) (λ x. absurd (omega (arith, x))) (λ x. absurd (omega (arith, x)))
-        ∙ ap (λ (q : ℕ). pair_in (get_or regions q []) (k % 32768 * 2)) (sym e)
-    by_case k below (inr ne) = ap (λ (cs : List ℕ). pair_in cs (k % 32768 * 2)) (put_there (n / 32768) (k / 32768) [] cells regions ne)
+        ap (λ (cs : List ℕ). pair_in cs (k % 65536)) (ap (λ (q : ℕ). get_or new q []) e ∙ written)
+        ∙ ap (λ (c : ℕ). pair_of (c / 2 ^ 32) (c % 2 ^ 32)) (others (k % 65536) (λ x. absurd (omega (arith, x, e, below))))
+        ∙ ap (λ (q : ℕ). pair_in (get_or regions q []) (k % 65536)) (sym e)
+    by_case k below (inr ne) = ap (λ (cs : List ℕ). pair_in cs (k % 65536)) (put_there (n / 65536) (k / 65536) [] cells regions ne)
 
     each : (k : ℕ) → k < n → pair_at new k ≡ pair_at regions k
-    each k below = by_case k below (nat_cases (k / 32768) (n / 32768))
+    each k below = by_case k below (nat_cases (k / 65536) (n / 65536))

@@ -1,5 +1,5 @@
--- Pairs of numbers in the cells of regions, two cells a pair.
-use Rattle.std.specs.Prelude.{◌≡◌, ℕ, zero, suc, ◌+◌, ◌*◌, ◌/◌, ◌%◌, ◌^◌, ◌<◌, List, [], ◌∷◌, ◌++◌, length, get_or}
+-- Pairs of numbers in the cells of regions, a cell a pair.
+use Rattle.std.specs.Prelude.{◌≡◌, ℕ, zero, suc, ◌+◌, ◌/◌, ◌%◌, ◌^◌, ◌<◌, List, [], ◌∷◌, ◌++◌, length, get_or}
 use Rattle.std.proofs.Common.{◌≢◌}
 use Rattle.jtable.specs.declared.pairs.Pair.{Pair}
 
@@ -7,17 +7,17 @@ use Rattle.jtable.specs.declared.pairs.Pair.{Pair}
 abbrev pub at : List ℕ → ℕ → ℕ
 at cells i = get_or cells i 0
 
--- the pair of the two cells from a place on
+-- the pair of a cell: its upper half is the number of the limits, its lower half that of the domain
 abbrev pub pair_in : List ℕ → ℕ → Pair
-pair_in cells i = record { limits = at cells i; domain = at cells (i + 1) % 2 ^ 32 }
+pair_in cells i = record { limits = at cells i / 2 ^ 32; domain = at cells i % 2 ^ 32 }
 
--- All cells but the two from a place on are as before.
+-- All cells but one are as before.
 abbrev pub AreOthers : ℕ → List ℕ → List ℕ → Type 0
-AreOthers i old new = (j : ℕ) → j ≢ i → j ≢ i + 1 → at new j ≡ at old j
+AreOthers i old new = (j : ℕ) → j ≢ i → at new j ≡ at old j
 
--- the pair of a place: a region holds 32,768
+-- the pair of a place: a region holds 65,536
 abbrev pub pair_at : List (List ℕ) → ℕ → Pair
-pair_at regions k = pair_in (get_or regions (k / 32768) []) (k % 32768 * 2)
+pair_at regions k = pair_in (get_or regions (k / 65536) []) (k % 65536)
 
 -- the first pairs
 abbrev pub pairs_to : List (List ℕ) → ℕ → List Pair

@@ -22,8 +22,12 @@ digest_permission sum (Unresolved class) = digest_text (stepped sum 5) class
 abbrev pub digest_limits : List Permission → ℕ
 digest_limits limits = fold digest_permission 0 limits
 
+-- a pair as one number
+abbrev pub number_of : Pair → ℕ
+number_of p = p.limits * 1000003 + p.domain
+
 abbrev pub digest_pair : ℕ → Pair → ℕ
-digest_pair sum p = stepped (stepped sum p.limits) p.domain
+digest_pair sum p = stepped sum (number_of p)
 
 abbrev pub digest_pairs : List Pair → ℕ
 digest_pairs pairs = fold digest_pair 0 pairs

@@ -1,6 +1,7 @@
 pub mod Cells
 pub mod Chains
 pub mod Digests
+pub mod Extending
 pub mod Lists
 pub mod Remembered
 pub mod Sets

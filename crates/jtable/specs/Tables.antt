@@ -1,5 +1,5 @@
 -- Contexts by number, each once.
-use Rattle.std.specs.Prelude.{◌≡◌, ℕ, Bool, true, false, ◌&&◌, ◌==◌, List, [], ◌∷◌, ◌++◌, length, Option, Some, option_map, slice_get}
+use Rattle.std.specs.Prelude.{◌≡◌, ℕ, Bool, true, false, ◌&&◌, ◌==◌, not, List, [], ◌∷◌, ◌++◌, length, Option, Some, filter, option_map, slice_get}
 use Rattle.std.proofs.Common.{◌⊎◌, ◌≢◌}
 use Rattle.jperm.specs.declared.permission.Permission.{Permission}
 use Rattle.jperm.specs.Permissions.{equal}
@@ -40,6 +40,10 @@ AreKept contexts = (i : ℕ) (c : List Item) → slice_get contexts i ≡ Some c
 -- The table begins with the context that restricts nothing, and holds each once.
 abbrev pub AreTabled : List (List Item) → Type 0
 AreTabled contexts = (slice_get contexts 0 ≡ Some []) × AreDistinct contexts × AreKept contexts
+
+-- the items of other domains
+abbrev pub others : ℕ → List Item → List Item
+others d c = filter (λ i. not (d == i.domain)) c
 
 -- a context begins with a domain without limits
 abbrev pub begins_with : List Item → ℕ → Bool

@@ -3,7 +3,7 @@ ghost use Rattle.jtable.specs.Tables.{alike, same_limits, same_pair};
 
 use crate::lists::Lists;
 use crate::pairs::Pair;
-use jctx::Limits;
+use jbase::Seq;
 use jperm::Permission;
 
 /// Whether permissions are the same, one by one.
@@ -22,7 +22,7 @@ fn same_members(a: &[Permission], b: &[Permission]) -> bool
 }
 
 /// Whether limits are the same, one by one.
-pub fn are_same(a: &Limits, b: &Limits) -> bool
+pub fn are_same(a: &Seq<Permission>, b: &Seq<Permission>) -> bool
     ensures { result ≡ same_limits a.now b.now }
 {
     same_members(a.as_slice(), b.as_slice())

@@ -2,7 +2,7 @@ ghost use Rattle.std.specs.Prelude.{◌≡◌};
 ghost use Rattle.jtable.specs.Digests;
 
 use crate::pairs::Pair;
-use jctx::Limits;
+use jbase::Seq;
 use jperm::Permission;
 
 /// A digest with one more number.
@@ -37,7 +37,7 @@ fn digest_permission(sum: u64, p: &Permission) -> u64
 }
 
 /// A number by which most limits are told apart.
-pub fn digest_limits(limits: &Limits) -> u64
+pub fn digest_limits(limits: &Seq<Permission>) -> u64
     ensures { result ≡ Digests.digest_limits limits.now }
 {
     let mut sum = 0;
@@ -47,13 +47,22 @@ pub fn digest_limits(limits: &Limits) -> u64
     sum
 }
 
+/// A pair as one number, in whose lower bits both of its numbers tell.
+#[inline]
+fn number_of(p: Pair) -> u64
+    ensures { result ≡ Digests.number_of p }
+{
+    let limits = u64::from(p.limits) * 1_000_003;
+    limits + u64::from(p.domain)
+}
+
 /// A number by which most lists of pairs are told apart.
 pub fn digest_pairs(pairs: &[Pair]) -> u64
     ensures { result ≡ Digests.digest_pairs pairs.now }
 {
     let mut sum = 0;
     for p in pairs {
-        sum = stepped(stepped(sum, p.limits), u64::from(p.domain));
+        sum = stepped(sum, number_of(*p));
     }
     sum
 }

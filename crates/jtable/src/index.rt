@@ -1,4 +1,4 @@
-ghost use Rattle.std.specs.Prelude.{◌≡◌, ◌<◌, ◌%◌, ℕ, ◌∷◌, ◌++◌, [], IfOk, OnErr, OnOk, length};
+ghost use Rattle.std.specs.Prelude.{◌≡◌, ◌<◌, ◌%◌, ℕ, ◌∷◌, ◌++◌, [], IfOk, OnErr, OnOk, Some, length, slice_get};
 ghost use Rattle.jtable.specs.Chains.{IsLast, Stands};
 
 use std::alloc::{AllocError, Global};
@@ -59,6 +59,15 @@ impl Index {
             digests: Vec::new(alloc),
             earlier: Vec::new(alloc),
         })
+    }
+
+    /// The digest of an entry. It is there.
+    #[inline]
+    pub fn digest(&self, i: usize) -> u64
+        requires { i < length self.now }
+        ensures { slice_get self.now i ≡ Some result }
+    {
+        self.digests[i]
     }
 
     /// The number behind the last entry whose digest has the remainder of this one, 0 where there is none.

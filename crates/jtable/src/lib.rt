@@ -4,6 +4,7 @@
 //! - `Tables`: what a number stands for, and how a table grows.
 //! - `Stores`, `Sets`, `Lists`, `Cells`: contexts as lists of pairs, limits by number, pairs in the cells of regions.
 //! - `Chains`, `Digests`: chains by which limits and contexts are found, which no contract above sees.
+//! - `Extending`: limits with new ones added, by their numbers.
 //! - `Remembered`: what is remembered of contexts that domains enter.
 //!
 //! Proved: `enter` and `privileged` answer a number whose context is the definition's; each adds at most one context, at the end, and no
@@ -18,6 +19,7 @@ mod cells;
 mod digest;
 mod entered;
 mod index;
+mod limits;
 mod lists;
 mod making;
 mod pairs;

@@ -1,12 +1,17 @@
-ghost use Rattle.std.specs.Prelude.{◌≡◌, ◌<◌, ◌∷◌, [], IfSome, OnOk, get_or, length, map, option_map};
+ghost use Rattle.std.specs.Prelude.{◌≡◌, ◌<◌, ◌∷◌, ◌++◌, [], IfOk, IfSome, OnOk, Some, get_or, length, map, option_map, slice_get};
 ghost use Rattle.std.specs.Option.{option_copied};
 ghost use Rattle.jdomain.specs.Domains.{has};
 ghost use Rattle.jctx.specs.Contexts as contexts;
 ghost use Rattle.jctx.specs.Growing.{added, hidden, joined};
 ghost use Rattle.jctx.specs.Items as items;
+ghost use Rattle.jctx.specs.Limits.{add_limits};
 ghost use Rattle.jtable.specs.Lists.{Extends};
+ghost use Rattle.jtable.specs.Extending.{AreExtended};
+ghost use Rattle.jtable.specs.Sets.{limits_at};
 ghost use Rattle.jtable.specs.Stores.{AllNamed, AreNamed, item_of, items_of};
+ghost use Rattle.jtable.specs.Tables.{others};
 
+use crate::limits::imply;
 use crate::lists::Lists;
 use crate::pairs::Pair;
 use crate::sets::Sets;
@@ -68,26 +73,95 @@ pub fn add_all(sets: &Sets, lists: &Lists, made: &mut Vec<Pair>, n: usize) -> Re
     Ok(())
 }
 
-/// Adds an item with the limits, unless one of the others covers it.
+/// Puts an item behind the others, unless it is of a domain.
+fn add_other(sets: &Sets, made: &mut Vec<Pair>, pair: Pair, d: u32) -> Result<(), AllocError>
+    requires made { AreNamed (length sets.now) made.old.items }
+    requires pair { pair.limits < length sets.now }
+    ensures added { OnOk result (items_of sets.now made.new.items ≡ items_of sets.now made.old.items ++ others d (item_of sets.now pair ∷ [])) }
+    ensures named { OnOk result (AreNamed (length sets.now) made.new.items) }
+{
+    if d == pair.domain {
+        return Ok(());
+    }
+    made.push(pair)?;
+    Ok(())
+}
+
+/// Puts each item of a list but those of a domain behind the others.
+pub fn add_others(
+    sets: &Sets,
+    lists: &Lists,
+    made: &mut Vec<Pair>,
+    n: usize,
+    d: u32,
+) -> Result<(), AllocError>
+    requires there { n < length lists.now }
+    requires lists { AllNamed (length sets.now) lists.now }
+    requires made { AreNamed (length sets.now) made.old.items }
+    ensures added { OnOk result (items_of sets.now made.new.items ≡ items_of sets.now made.old.items ++ others d (items_of sets.now (get_or lists.now n []))) }
+    ensures named { OnOk result (AreNamed (length sets.now) made.new.items) }
+{
+    for i in 0..lists.count(n) {
+        add_other(sets, made, lists.read(n, i), d)?;
+    }
+    Ok(())
+}
+
+/// The number of a list of limits with new ones added, and that of the list without them.
+#[derive(Clone, Copy)]
+pub struct Extended {
+    from: u32,
+    to: u32,
+}
+
+/// The number of limits with new ones added, where the last such number may be known.
+fn limited_by(
+    alloc: Global,
+    sets: &mut Sets,
+    known: Option<Extended>,
+    n: u32,
+    limits: &[Permission],
+) -> Result<u32, AllocError>
+    requires there { n < length sets.old }
+    requires known { IfSome known (AreExtended sets.old limits.now) }
+    ensures ok { IfOk result (λ m. slice_get sets.new m ≡ Some (add_limits (limits_at sets.old n) limits.now)) }
+    ensures more { Extends sets.old sets.new }
+{
+    if let Some(known) = known {
+        if known.from == n {
+            return Ok(known.to);
+        }
+    }
+    sets.add(alloc, n, limits)
+}
+
+/// Adds an item with the limits, unless one of the others covers it. The last such limits may be known, and are afterwards.
 fn add_limited(
     alloc: Global,
     sets: &mut Sets,
     made: &mut Vec<Pair>,
+    known: Option<Extended>,
     pair: Pair,
     limits: &[Permission],
-) -> Result<(), AllocError>
+) -> Result<Extended, AllocError>
     requires made { AreNamed (length sets.old) made.old.items }
+    requires known { IfSome known (AreExtended sets.old limits.now) }
     requires pair { pair.limits < length sets.old }
+    ensures known { IfOk result (AreExtended sets.new limits.now) }
     ensures added { OnOk result (items_of sets.new made.new.items ≡ added (items_of sets.old made.old.items) (items.with_limits limits.now (item_of sets.old pair))) }
     ensures named { OnOk result (AreNamed (length sets.new) made.new.items) }
     ensures more { Extends sets.old sets.new }
 {
-    let n = sets.add(alloc, pair.limits, limits)?;
+    let n = limited_by(alloc, sets, known, pair.limits, limits)?;
     let limited = Pair {
         limits: n,
         domain: pair.domain,
     };
-    add(sets, made, limited)
+    add(sets, made, limited)?;
+    Ok(Extended {
+        from: pair.limits,
+        to: n,
+    })
 }
 
 /// Adds each item of a list with the limits, unless one before it covers it.
@@ -107,8 +181,10 @@ fn add_all_limited(
     ensures named { OnOk result (AreNamed (length sets.new) made.new.items) }
     ensures more { Extends sets.old sets.new }
 {
+    let mut known = None;
     for i in 0..lists.count(n) {
-        add_limited(alloc, sets, made, lists.read(n, i), limits)?;
+        let last = add_limited(alloc, sets, made, known, lists.read(n, i), limits)?;
+        known = Some(last);
     }
     Ok(())
 }
@@ -178,7 +254,7 @@ fn fails(sets: &Sets, pair: Pair, domains: &Domains, asked: &Permission) -> bool
     if domains.implies(pair.domain, asked) {
         return false;
     }
-    !sets.get(pair.limits).imply(asked)
+    !imply(sets.get(pair.limits).as_slice(), asked)
 }
 
 /// What a list decides for a permission.

@@ -6,16 +6,16 @@ use std::alloc::{AllocError, Global};
 use std::marker::Model;
 
 /// How many pairs a region holds.
-const PAIRS: usize = 32768;
+const PAIRS: usize = 65536;
 
 /// An item by numbers: that of its limits, which is 0 where it has none, and its domain's.
 #[derive(Clone, Copy, Debug, PartialEq, Eq)]
 pub struct Pair {
-    pub limits: u64,
+    pub limits: u32,
     pub domain: u32,
 }
 
-/// Pairs one behind the other in regions, two cells each. Contracts see the list of them.
+/// Pairs one behind the other in regions, a cell each. Contracts see the list of them.
 #[derive(Drop)]
 pub struct Pairs {
     regions: Vec<Cells>,
@@ -31,35 +31,37 @@ impl Model for Pairs {
 
     ghost view = { λ p. pairs_to p.regions.items p.count };
 
-    ghost invariant = { λ p. p.count ≤ 32768 * length p.regions.items };
+    ghost invariant = { λ p. p.count ≤ 65536 * length p.regions.items };
 }
 
-/// The pair of the two cells from a place on. The upper half of a domain's cell isn't looked at.
+/// The pair of a cell.
 #[inline]
 fn read_pair(cells: &Cells, i: u32) -> Pair
-    requires { i < 65535 }
+    requires { i < 65536 }
     ensures { result ≡ pair_in cells.now i }
 {
-    let limits = cells.read(i);
-    let domain = (cells.read(i + 1) % (1 << 32)) as u32;
+    let cell = cells.read(i);
+    let limits = (cell / (1 << 32)) as u32;
+    let domain = (cell % (1 << 32)) as u32;
     Pair { limits, domain }
 }
 
-/// Writes a pair into the two cells from a place on.
+/// Writes a pair into a cell.
+#[tactic(auto, using(crate::proofs::Placing::packed))]
 #[inline]
 fn write_pair(cells: &mut Cells, i: u32, pair: Pair)
-    requires { i < 65535 }
+    requires { i < 65536 }
     ensures here { pair_in cells.new i ≡ pair }
     ensures others { AreOthers i cells.old cells.new }
 {
-    cells.write(i, pair.limits);
-    cells.write(i + 1, u64::from(pair.domain));
+    let limits = u64::from(pair.limits) * (1 << 32);
+    cells.write(i, limits + u64::from(pair.domain));
 }
 
 /// Opens a region where those that are there are full.
 fn open_room(alloc: Global, regions: &mut Vec<Cells>, count: usize) -> Result<(), AllocError>
-    requires { count ≤ 32768 * length regions.old.items }
-    ensures room { OnOk result (count < 32768 * length regions.new.items) }
+    requires { count ≤ 65536 * length regions.old.items }
+    ensures room { OnOk result (count < 65536 * length regions.new.items) }
     ensures stay { StayRegions regions.old.items regions.new.items }
 {
     let at = count / PAIRS;
@@ -97,7 +99,7 @@ impl Pairs {
         requires { k < length self.now }
         ensures { Some result ≡ slice_get self.now k }
     {
-        let i = (k % PAIRS) as u32 * 2;
+        let i = (k % PAIRS) as u32;
         read_pair(&self.regions[k / PAIRS], i)
     }
 
@@ -110,7 +112,7 @@ impl Pairs {
             return Err(AllocError);
         };
         open_room(alloc, &mut self.regions, self.count)?;
-        let i = (self.count % PAIRS) as u32 * 2;
+        let i = (self.count % PAIRS) as u32;
         write_pair(&mut self.regions[self.count / PAIRS], i, pair);
         self.count = count;
         Ok(())

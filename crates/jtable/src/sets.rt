@@ -1,14 +1,15 @@
-ghost use Rattle.std.specs.Prelude.{◌≡◌, ◌<◌, ◌∷◌, ◌++◌, [], IfOk, IfSome, None, OnErr, OnOk, Some, length, slice_get};
+ghost use Rattle.std.specs.Prelude.{◌≡◌, ◌<◌, ◌∷◌, ◌++◌, [], IfOk, IfSome, None, OnErr, OnOk, Some, length, map, slice_get};
 ghost use Rattle.jctx.specs.Limits as limits;
 ghost use Rattle.jtable.specs.Digests;
 ghost use Rattle.jtable.specs.Lists.{Extends};
 ghost use Rattle.jtable.specs.Sets.{AreSets, limits_at};
-ghost use Rattle.jtable.specs.Tables.{IsNew};
+ghost use Rattle.jtable.specs.Tables.{IsNew, same_limits};
 
 use crate::alike::are_same;
 use crate::digest::digest_limits;
 use crate::index::Index;
-use jctx::Limits;
+use crate::limits::{are_within, with_new};
+use jbase::Seq;
 use jperm::{Permission, permission_laws};
 use std::alloc::{AllocError, Global};
 use std::marker::Model;
@@ -16,7 +17,7 @@ use std::marker::Model;
 /// Lists of limits by number, each once. Number 0 is none. Contracts see the list of them.
 #[derive(Drop)]
 pub struct Sets {
-    sets: Vec<Limits>,
+    sets: Vec<Seq<Permission>>,
     index: Index,
 }
 
@@ -35,9 +36,9 @@ impl Model for Sets {
 
 /// Puts limits and their digest behind the others. After an error all is as before.
 fn put_behind(
-    sets: &mut Vec<Limits>,
+    sets: &mut Vec<Seq<Permission>>,
     index: &mut Index,
-    limits: Limits,
+    limits: Seq<Permission>,
     digest: u64,
 ) -> Result<(), AllocError>
     ensures sets { OnOk result (sets.new.items ≡ sets.old.items ++ limits ∷ []) }
@@ -54,13 +55,44 @@ fn put_behind(
     Ok(())
 }
 
+/// Whether a list of limits is that of a number. It is looked at only where the digests are equal.
+fn is_at(
+    sets: &Vec<Seq<Permission>>,
+    index: &Index,
+    i: usize,
+    limits: &Seq<Permission>,
+    digest: u64,
+) -> bool
+    requires there { i < length sets.now.items }
+    requires index { index.now ≡ map Digests.digest_limits sets.now.items }
+    requires digest { digest ≡ Digests.digest_limits limits.now }
+    ensures { result ≡ same_limits (limits_at sets.now.items i) limits.now }
+{
+    permission_laws();
+    let held = index.digest(i);
+    if held != digest {
+        return false;
+    }
+    are_same(&sets[i], limits)
+}
+
+/// A number that fits half a cell; that of more than 4,294,967,296 lists of limits doesn't.
+fn narrowed(n: u64) -> Result<u32, AllocError>
+    ensures { IfOk result (λ m. m ≡ n) }
+{
+    match u32::try_from(n) {
+        Ok(m) => Ok(m),
+        Err(_) => Err(AllocError),
+    }
+}
+
 impl Sets {
     /// No limits alone.
     pub fn open(alloc: Global) -> Result<Sets, AllocError>
         ensures { IfOk result (λ s. s ≡ [] ∷ []) }
     {
         let mut sets = Vec::new(alloc);
-        let limits = Limits::new(alloc);
+        let limits: Seq<Permission> = Seq::new(alloc);
         let mut index = Index::open(alloc)?;
         index.add(digest_limits(&limits))?;
         sets.push(limits)?;
@@ -76,7 +108,7 @@ impl Sets {
 
     /// The limits of a number. They are there.
     #[inline]
-    pub fn get(&self, n: u64) -> &Limits
+    pub fn get(&self, n: u32) -> &Seq<Permission>
         requires { n < length self.now }
         ensures { slice_get self.now n ≡ Some result.now }
     {
@@ -85,7 +117,7 @@ impl Sets {
 
     /// Whether each of the limits of a number is one of those of another.
     #[tactic(auto, using(crate::proofs::Naming::within_none, crate::proofs::Naming::within_equal, crate::proofs::Naming::within_read))]
-    pub fn is_within(&self, a: u64, b: u64) -> bool
+    pub fn is_within(&self, a: u32, b: u32) -> bool
         requires a { a < length self.now }
         requires b { b < length self.now }
         ensures { result ≡ limits.is_within (limits_at self.now a) (limits_at self.now b) }
@@ -98,11 +130,11 @@ impl Sets {
         if a == b {
             return true;
         }
-        self.get(a).is_within(self.get(b))
+        are_within(self.get(a).as_slice(), self.get(b).as_slice())
     }
 
     /// The number of limits, where they are there.
-    fn find(&self, limits: &Limits, digest: u64) -> Option<u64>
+    fn find(&self, limits: &Seq<Permission>, digest: u64) -> Option<u64>
         requires { digest ≡ Digests.digest_limits limits.now }
         ensures found { IfSome result (λ n. slice_get self.now n ≡ Some limits.now) }
         ensures only { result ≡ None → IsNew self.now limits.now }
@@ -111,7 +143,7 @@ impl Sets {
         let mut at = self.index.last(digest);
         while at != 0 {
             let i = at - 1;
-            if are_same(&self.sets[i], limits) {
+            if is_at(&self.sets, &self.index, i, limits, digest) {
                 return Some(i as u64);
             }
             at = self.index.before(i);
@@ -119,28 +151,27 @@ impl Sets {
         None
     }
 
-    /// The number of limits, which are put behind the others where they aren't there. After an error all is as before.
-    fn intern(&mut self, limits: Limits) -> Result<u64, AllocError>
+    /// The number of limits, which are put behind the others where they aren't there.
+    fn intern(&mut self, limits: Seq<Permission>) -> Result<u32, AllocError>
         ensures ok { IfOk result (λ n. slice_get self.new n ≡ Some limits) }
         ensures more { Extends self.old self.new }
     {
         let digest = digest_limits(&limits);
         if let Some(n) = self.find(&limits, digest) {
-            return Ok(n);
+            return narrowed(n);
         }
         let n = self.sets.len();
         put_behind(&mut self.sets, &mut self.index, limits, digest)?;
-        Ok(n as u64)
+        narrowed(n as u64)
     }
 
     /// The number of the limits of another with new ones added.
-    pub fn add(&mut self, alloc: Global, n: u64, new: &[Permission]) -> Result<u64, AllocError>
+    pub fn add(&mut self, alloc: Global, n: u32, new: &[Permission]) -> Result<u32, AllocError>
         requires { n < length self.old }
         ensures ok { IfOk result (λ m. slice_get self.new m ≡ Some (limits.add_limits (limits_at self.old n) new.now)) }
         ensures more { Extends self.old self.new }
     {
-        let mut limits = self.get(n).copy(alloc)?;
-        limits.add(alloc, new)?;
+        let limits = with_new(alloc, self.get(n), new)?;
         self.intern(limits)
     }
 }

@@ -1,18 +1,19 @@
-ghost use Rattle.std.specs.Prelude.{◌≡◌, ◌<◌, ◌∷◌, ◌++◌, [], IfOk, IfSome, None, OnErr, OnOk, Some, length, option_map, slice_get, true};
+ghost use Rattle.std.specs.Prelude.{◌≡◌, ◌<◌, ◌∷◌, ◌++◌, [], IfOk, IfSome, None, OnErr, OnOk, Some, get_or, length, map, option_map, slice_get, true};
 ghost use Rattle.std.specs.Option.{option_copied};
 ghost use Rattle.jdomain.specs.Domains.{has};
 ghost use Rattle.jctx.specs.Contexts as contexts;
+ghost use Rattle.jctx.specs.Laws.{IsKept};
 ghost use Rattle.jtable.specs.Digests;
 ghost use Rattle.jtable.specs.Lists.{Extends};
 ghost use Rattle.jtable.specs.Sets.{AreSets};
 ghost use Rattle.jtable.specs.Stores.{AllNamed, AreNamed, HoldsList, Stored, context_in, items_of};
-ghost use Rattle.jtable.specs.Tables.{IsNew, begins_with};
+ghost use Rattle.jtable.specs.Tables.{IsNew, alike, begins_with, same_pair};
 
 use crate::alike::holds_at;
 use crate::digest::digest_pairs;
 use crate::index::Index;
 use crate::lists::Lists;
-use crate::making::{add_all, add_behind, add_given, begin, decide};
+use crate::making::{add_behind, add_given, add_others, begin, decide};
 use crate::pairs::Pair;
 use crate::sets::Sets;
 use jdomain::{Domains, Verdict};
@@ -62,6 +63,20 @@ fn put_behind(
     Ok(())
 }
 
+/// Whether a list is that of a number. It is looked at only where the digests are equal.
+fn is_at(lists: &Lists, index: &Index, i: usize, pairs: &[Pair], digest: u64) -> bool
+    requires there { i < length lists.now }
+    requires index { index.now ≡ map Digests.digest_pairs lists.now }
+    requires digest { digest ≡ Digests.digest_pairs pairs.now }
+    ensures { result ≡ alike same_pair (get_or lists.now i []) pairs.now }
+{
+    let held = index.digest(i);
+    if held != digest {
+        return false;
+    }
+    holds_at(lists, i, pairs)
+}
+
 impl Store {
     /// The empty context alone.
     pub fn open(alloc: Global) -> Result<Store, AllocError>
@@ -107,15 +122,16 @@ impl Store {
         self.sets.get(pair.limits).as_slice().len() == 0
     }
 
-    /// Makes what a domain makes of a context that it enters.
+    /// Makes what a domain makes of a context that it enters, none of whose items is covered by an earlier one: its own, and those of other
+    /// domains.
     pub fn entered(&self, made: &mut Vec<Pair>, c: u64, d: u32) -> Result<(), AllocError>
-        requires { c < length self.now.lists }
+        requires there { c < length self.now.lists }
+        requires kept { IsKept (context_in self.now c) }
         ensures made { OnOk result (items_of self.now.sets made.new.items ≡ contexts.enter (context_in self.now c) d) }
         ensures named { OnOk result (AreNamed (length self.now.sets) made.new.items) }
     {
-        permission_laws();
         begin(&self.sets, made, d)?;
-        add_all(&self.sets, &self.lists, made, c as usize)
+        add_others(&self.sets, &self.lists, made, c as usize, d)
     }
 
     /// Makes the context of a privilege that a method of a domain takes in a context. There may be more limits behind.
@@ -151,7 +167,7 @@ impl Store {
         let mut at = self.index.last(digest);
         while at != 0 {
             let i = at - 1;
-            if holds_at(&self.lists, i, pairs) {
+            if is_at(&self.lists, &self.index, i, pairs, digest) {
                 return Some(i as u64);
             }
             at = self.index.before(i);

@@ -9,7 +9,7 @@ use Rattle.jtable.proofs.Naming.{extends_both, extends_itself, item_more, longer
 use Rattle.jtable.proofs.making.add_all_limited.Goals as goal
 
 pub loop-i-init : goal.loop-i-init
-loop-i-init c = (refl_of _, c.requires.made, extends_itself c.args.sets.now)
+loop-i-init c = (refl_of _, c.requires.made, extends_itself c.args.sets.now, tt)
   where
     refl_of : (x : List Item) → x ≡ x
     refl_of x = refl
@@ -22,18 +22,19 @@ add_limited-requires-clause-pair c =
     longer c.args.sets.now c.loop-i.sets c.read.result.limits c.loop-i.invariant.2
     (named_at (length c.args.sets.now) c.args.lists.now c.args.n c.loop-i.i c.read.result c.requires.lists c.requires.there c.read.ensures)
 
-pub returns-in_err-add_limited-clause-more : goal.returns-in_err-add_limited-clause-more
-returns-in_err-add_limited-clause-more c = extends_both c.args.sets.now c.loop-i.sets c.add_limited.new.sets c.loop-i.invariant.2 c.add_limited.ensures.more
+pub returns-in_err-last-clause-more : goal.returns-in_err-last-clause-more
+returns-in_err-last-clause-more c = extends_both c.args.sets.now c.loop-i.sets c.add_limited.new.sets c.loop-i.invariant.2 c.add_limited.ensures.more
 
 pub loop-i-preserved : goal.loop-i-preserved
 loop-i-preserved c =
     let named = named_at (length c.args.sets.now) c.args.lists.now c.args.n c.loop-i.i c.read.result c.requires.lists c.requires.there c.read.ensures in (
       changed_next (item_of c.args.sets.now) (get_or c.args.lists.now c.args.n []) (with_limits c.args.limits.now) _ _ _ c.loop-i.i c.read.result c.read.ensures
-          (c.in_ok-add_limited.ensures.added ∙ ap (λ (i : Item). added (items_of c.loop-i.sets c.loop-i.made.items) (with_limits c.args.limits.now i))
+          (c.in_ok-last.ensures.added ∙ ap (λ (i : Item). added (items_of c.loop-i.sets c.loop-i.made.items) (with_limits c.args.limits.now i))
           (item_more c.args.sets.now c.loop-i.sets c.read.result c.loop-i.invariant.2 named))
           c.loop-i.invariant.0,
-      c.in_ok-add_limited.ensures.named,
-      extends_both c.args.sets.now c.loop-i.sets c.add_limited.new.sets c.loop-i.invariant.2 c.in_ok-add_limited.ensures.more,
+      c.in_ok-last.ensures.named,
+      extends_both c.args.sets.now c.loop-i.sets c.add_limited.new.sets c.loop-i.invariant.2 c.in_ok-last.ensures.more,
+      c.in_ok-last.ensures.known,
     )
 
 pub returns-clause-added : goal.returns-clause-added

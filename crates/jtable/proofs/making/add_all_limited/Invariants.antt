@@ -1,7 +1,8 @@
 use Rattle.std.proofs.Common.{◌≡◌, [], drop, length, map}
-use Rattle.std.specs.Prelude.{get_or}
+use Rattle.std.specs.Prelude.{IfSome, get_or}
 use Rattle.jctx.specs.Growing.{joined}
 use Rattle.jctx.specs.Items.{with_limits}
+use Rattle.jtable.specs.Extending.{AreExtended}
 use Rattle.jtable.specs.Lists.{Extends}
 use Rattle.jtable.specs.Stores.{AreNamed, items_of}
 use Rattle.jtable.proofs.making.add_all_limited.Given as goal
@@ -13,3 +14,4 @@ invariant-loop-i l =
     ≡ joined (items_of l.fn.sets l.fn.made.items) (map (with_limits l.limits) (items_of l.fn.sets (get_or l.lists l.n []))))
     × AreNamed (length l.sets) l.made.items
     × Extends l.fn.sets l.sets
+    × IfSome l.known (AreExtended l.sets l.limits)

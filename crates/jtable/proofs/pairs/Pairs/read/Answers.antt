@@ -1,4 +1,4 @@
-use Rattle.std.proofs.Common.{◌∙◌, ◌<◌, ◌*◌, ◌/◌, ◌%◌, ℕ, List, [], length, Some, sym, ap, arith}
+use Rattle.std.proofs.Common.{◌∙◌, ◌<◌, ◌/◌, ◌%◌, ℕ, List, [], length, Some, sym, ap, arith}
 use Rattle.std.specs.Prelude.{slice_get}
 use Rattle.std.proofs.lemmas.List.{get_or_read}
 use Rattle.jtable.specs.declared.pairs.Pair.{Pair}
@@ -15,7 +15,7 @@ returns c =
     let regions : List (List ℕ) = c.self.inside.regions.items in
     let k = c.args.k in
     let below : k < c.self.inside.count = omega (arith, c.requires, ap length c.self.view_is, length_to regions c.self.inside.count) in
-    let there : k / 32768 < length regions = omega (arith, below, c.self.invariant) in
-    ap (λ (p : Pair). Some p) (c.read_pair.ensures ∙ ap (λ (cells : List ℕ). pair_in cells (k % 32768 * 2)) (get_or_read regions (k / 32768) c.index.result.now there c.index.ensures []))
+    let there : k / 65536 < length regions = omega (arith, below, c.self.invariant) in
+    ap (λ (p : Pair). Some p) (c.read_pair.ensures ∙ ap (λ (cells : List ℕ). pair_in cells (k % 65536)) (get_or_read regions (k / 65536) c.index.result.now there c.index.ensures []))
     ∙ sym (place_at regions c.self.inside.count k below)
     ∙ ap (λ (ps : List Pair). slice_get ps k) c.self.view_is

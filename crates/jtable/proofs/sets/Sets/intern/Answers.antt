@@ -1,4 +1,4 @@
-use Rattle.std.proofs.Common.{◌≡◌, ◌∙◌, ◌++◌, ◌∷◌, [], List, length, map, sym, ap, subst}
+use Rattle.std.proofs.Common.{◌≡◌, ◌∙◌, ◌++◌, ◌∷◌, [], ℕ, List, Some, length, map, sym, ap, subst}
 use Rattle.std.specs.Prelude.{slice_get}
 use Rattle.std.proofs.lemmas.List.{map-append}
 use Rattle.std.proofs.lemmas.Option.{slice_get_within}
@@ -6,6 +6,7 @@ use Rattle.jperm.specs.declared.permission.Permission.{Permission}
 use Rattle.jtable.specs.Digests.{digest_limits}
 use Rattle.jtable.specs.Tables.{IsNew}
 use Rattle.jtable.proofs.Chaining.{at_end, front}
+use Rattle.jtable.proofs.Results.{if_that}
 use Rattle.jtable.proofs.Tabling.{distinct_more}
 use Rattle.jtable.proofs.sets.Sets.intern.Goals as goal
 
@@ -27,9 +28,10 @@ pub returns-clause-ok : goal.returns-clause-ok
 returns-clause-ok c =
     let sets : List (List Permission) = c.self.inside.sets.items in
     let n : c.len-n.result ≡ length sets = c.len-n.ensures ∙ c.self.inside.sets.ok.0 in
-    ap (λ (s : List (List Permission)). slice_get s c.len-n.result) c.in_ok-put_behind.ensures.sets
+    if_that (λ (m : ℕ). slice_get c.put_behind.new.sets.items m ≡ Some c.args.limits) c.narrowed-2.result c.len-n.result c.narrowed-2.ensures
+    (ap (λ (s : List (List Permission)). slice_get s c.len-n.result) c.in_ok-put_behind.ensures.sets
     ∙ ap (slice_get (sets ++ c.args.limits ∷ [])) n
-    ∙ at_end sets c.args.limits
+    ∙ at_end sets c.args.limits)
 
 pub returns-clause-more : goal.returns-clause-more
 returns-clause-more c =

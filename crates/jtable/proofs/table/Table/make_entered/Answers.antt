@@ -1,12 +1,18 @@
 use Rattle.std.proofs.Common.{◌∙◌, List, length, sym, ap, subst}
 use Rattle.jtable.specs.declared.pairs.Pair.{Pair}
 use Rattle.jtable.specs.Stores.{AreNamed, context_in, contexts_of, items_of}
+use Rattle.jtable.proofs.Naming.{context_there}
 use Rattle.jtable.proofs.Results.{on_err}
 use Rattle.jtable.proofs.Storing.{number_there, contexts_same, entered_here, kept_entered, same_table, table_here}
 use Rattle.jtable.proofs.table.Table.make_entered.Goals as goal
 
-pub entered-requires : goal.entered-requires
-entered-requires c = number_there c.self.inside.store c.args.self.now c.args.c c.self.view_is c.requires
+pub entered-requires-clause-there : goal.entered-requires-clause-there
+entered-requires-clause-there c = number_there c.self.inside.store c.args.self.now c.args.c c.self.view_is c.requires
+
+pub entered-requires-clause-kept : goal.entered-requires-clause-kept
+entered-requires-clause-kept c =
+    c.self.invariant.0.2 c.args.c (context_in c.self.inside.store c.args.c)
+    (context_there c.self.inside.store c.args.c (number_there c.self.inside.store c.args.self.now c.args.c c.self.view_is c.requires))
 
 pub returns-in_err-n-clause-err : goal.returns-in_err-n-clause-err
 returns-in_err-n-clause-err c =
