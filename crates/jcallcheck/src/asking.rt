@@ -30,13 +30,7 @@ pub(crate) fn ask<G: Guard>(
     let marks = m.marks();
     let inherited = m.guests.running.inherited;
     match whom {
-        Whom::Thread(ctx) => {
-            let verdict = ask_check(alloc, guard, asked, ctx, marks, inherited)?;
-            Ok(verdict)
-        }
-        Whom::Kept(number) => {
-            let verdict = ask_kept_check(alloc, guard, asked, number, marks, inherited)?;
-            Ok(verdict)
-        }
+        Whom::Thread(ctx) => ask_check(alloc, guard, asked, ctx, marks, inherited),
+        Whom::Kept(number) => ask_kept_check(alloc, guard, asked, number, marks, inherited),
     }
 }

@@ -97,10 +97,7 @@ pub fn call_check<G: Guard>(
     check_laws::<G::Mark>();
     match checked_by(m, call, count) {
         None => Ok(Came::Stuck),
-        Some(one) => {
-            let done = check_for(alloc, m, guard, call, count, one)?;
-            Ok(done)
-        }
+        Some(one) => check_for(alloc, m, guard, call, count, one),
     }
 }
 
@@ -129,9 +126,6 @@ pub fn call_kept_check<G: Guard>(
     check_laws::<G::Mark>();
     match kept_check_of(m, count) {
         None => Ok(Came::Stuck),
-        Some(one) => {
-            let done = check_for(alloc, m, guard, LibCall::ContextCheck, count, one)?;
-            Ok(done)
-        }
+        Some(one) => check_for(alloc, m, guard, LibCall::ContextCheck, count, one),
     }
 }

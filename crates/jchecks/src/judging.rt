@@ -15,7 +15,7 @@ use jcalls::{Handlers, Raised, raise_with};
 use jdomain::Verdict;
 use jheap::Heap;
 use jlib::LibClass;
-use jperm::Permission;
+use jperm::{PARTS, Permission, text_laws};
 use jstate::Frames;
 use jtext::Units;
 use std::alloc::{AllocError, Global};
@@ -38,12 +38,15 @@ const DENIED: [u16; 14] = [
 const NUMBER: u32 = 31;
 
 /// The message of the exception of a denied check.
+#[tactic(auto, using(crate::proofs::Messages::no_part, crate::proofs::Messages::all_parts))]
 fn message_of(alloc: Global, asked: &Permission) -> Result<Units, AllocError>
     ensures { IfOk result (λ units. units ≡ denial_message asked.now) }
 {
-    let text = asked.text(alloc)?;
+    text_laws();
     let mut units = Vec::from_slice(alloc, &DENIED)?;
-    units.extend_from_slice(text.as_slice())?;
+    for at in 0..PARTS {
+        units.extend_from_slice(asked.part(at))?;
+    }
     Ok(Units::from_vec(units))
 }
 
@@ -121,9 +124,6 @@ pub fn judge<M: Copy, H: Handlers>(
             go_on(frames, count);
             Ok(Judged::Granted)
         }
-        Verdict::Denied(domain) => {
-            let way = deny(alloc, frames, heap, asked, domain, count, marks, handlers)?;
-            Ok(way)
-        }
+        Verdict::Denied(domain) => deny(alloc, frames, heap, asked, domain, count, marks, handlers),
     }
 }

@@ -34,15 +34,15 @@ fn units_held(alloc: Global, bytes: &[u8]) -> Result<Units, AllocError>
     }
 }
 
-/// A text with dots for its slashes.
-fn with_dots(alloc: Global, units: &Units) -> Result<Units, AllocError>
-    ensures { IfOk result (λ told. told ≡ map Unwinding.dotted units.now) }
+/// Puts a dot in the place of each slash of a text.
+fn with_dots(units: Units) -> Units
+    ensures { result ≡ map Unwinding.dotted units }
 {
-    let mut told = Vec::new(alloc);
-    for unit in units.as_slice() {
-        told.push(dotted(*unit))?;
+    let mut told = units.into_vec();
+    for unit in told.iter_mut() {
+        *unit = dotted(*unit);
     }
-    Ok(Units::from_vec(told))
+    Units::from_vec(told)
 }
 
 /// The name of a class as it is told, with dots.
@@ -55,5 +55,5 @@ pub(crate) fn told_name(
     ensures { IfOk result (λ units. units ≡ told_name (types.Object (class_named program.now class))) }
 {
     let units = units_held(alloc, program.name_of(class))?;
-    with_dots(alloc, &units)
+    Ok(with_dots(units))
 }
