@@ -1,13 +1,11 @@
 -- A quick try to make a step: what it came to, for the frames of a thread and for its machine.
-use Rattle.std.proofs.Common.{◌≡◌, ◌∙◌, ◌+◌, ◌<◌, ◌≤◌, ℕ, zero, suc, add-one, arith, Bool, true, false, List, [], length, Option, Some, refl, sym, ap, subst}
-use Rattle.std.specs.Prelude.{⊤, IfOk, Ok, Err, Result}
+use Rattle.std.proofs.Common.{◌≡◌, ◌∙◌, ◌+◌, ◌-◌, ◌<◌, ◌≤◌, ℕ, zero, suc, add-one, arith, List, [], length, Option, Some, refl, sym, ap, subst}
+use Rattle.std.specs.Prelude.{⊤, IfOk, OnOk, Ok, Err, Result, None}
 use Rattle.jheap.specs.Heaps.{Heaped}
 use Rattle.jprogram.specs.Classes.{Program}
 use Rattle.jmachine.specs.Steps.{step}
 use Rattle.jready.specs.declared.instr.Instr.{Instr}
 use Rattle.jready.specs.declared.instr.Instr.TheVariants as instr
-use Rattle.jready.specs.declared.instr.Plain.{Plain}
-use Rattle.jready.specs.declared.instr.Push.{Push}
 use Rattle.jstate.specs.Celled.{AreCelled}
 use Rattle.jstate.specs.Framed.{Framed, all}
 use Rattle.jstate.specs.Seen.{AreBuilt, Things}
@@ -16,8 +14,9 @@ use Rattle.jacts.specs.declared.way.Way.TheVariants as ways
 use Rattle.jacts.specs.Ways.{Rests}
 use Rattle.jcalls.specs.declared.ready.Counts.{Counts}
 use Rattle.jcalls.specs.Marks.{AreStanding, Stand}
-use Rattle.jcalls.specs.Readiness.{AreCounted}
-use Rattle.jguests.specs.Guested.{RunsAs, with_frames}
+use Rattle.jguests.specs.Guested.{Lives, RunsAs, with_frames}
+use Rattle.jlink.specs.Links.{Links}
+use Rattle.jtold.specs.Telling.{TellsWhatMay}
 use Rattle.jinvoke.specs.Laws.{StepsAt}
 use Rattle.jshapes.specs.Alike.{KeptLast, LeavesAlike, PermissionsLast}
 use Rattle.jrefs.specs.References as refs
@@ -28,23 +27,27 @@ use Rattle.jstep.specs.declared.outcomes.Stepped.{Stepped}
 use Rattle.jstep.specs.declared.outcomes.Stepped.TheVariants as steps
 use Rattle.jstep.specs.Behind.{Follows}
 use Rattle.jstep.specs.Rows.{IsHere, Runs, Stays}
-use Rattle.jstep.specs.Stepping.{IsFixed, IsQuiet, Settles, StepsAlike}
+use Rattle.jstep.specs.Stepping.{IsFixed, IsQuiet, Settles, Steps, StepsAlike, StoodAs}
 use Rattle.jstep.proofs.Executed.{all_done, row_steps}
 use Rattle.jstep.proofs.Settled.{stands_for}
 use Rattle.jcore.specs.declared.machine.Machine.{Machine}
 use Rattle.jcore.specs.Comings as comings
-use Rattle.jcore.specs.Comings.{Comes, any}
-use Rattle.jcore.specs.Machines.{IsReady, counts_of, state_of, things_of}
+use Rattle.jcore.specs.Comings.{Comes, LeftStand, any}
+use Rattle.jcore.specs.Machines.{IsReady, StaysFixed, counts_of, state_of}
 use Rattle.jcore.proofs.Ready.{went_ready}
 use Rattle.jcore.proofs.Settled.{settled_went}
 use Rattle.jrun.specs.declared.came.Came.TheVariants as done
-use Rattle.jexecute.specs.declared.hastening.Hasty.{Hasty}
+use Rattle.jexecute.specs.declared.executing.Executed.{Executed}
+use Rattle.jexecute.specs.declared.hastening.Hurried.{Hurried}
+use Rattle.jexecute.specs.declared.hastening.Quick.{Quick}
+use Rattle.jexecute.specs.declared.hastening.Quick.TheVariants as tries
+use Rattle.jexecute.specs.declared.hastening.Within.{Within}
 use Rattle.jexecute.specs.Advancing.{Advances, Fetches, IsThere, lasting_by}
-use Rattle.jexecute.specs.Executing.{CameTo, HasRules, Moves, moved}
-use Rattle.jexecute.specs.Hastening.{Closes, EndsSo, HasThings, Hastens, Leads, Makes, Quietly, Tries, WereMade, program_of, quick_as}
+use Rattle.jexecute.specs.Executing.{CameTo, Finishes, HasRules, Moves, StaysMachine, moved}
+use Rattle.jexecute.specs.Hastening.{AreFew, AreFewBehind, Began, Begins, EndsSo, Hastens, Leads, Makes, Quietly, StayedWithin, Tries, WereMade, quick_as, turned_as}
 use Rattle.jexecute.proofs.Advanced.{all_stand, is_there, others_advance}
-use Rattle.jexecute.proofs.Ended.{moved_lives, moved_machine, moved_stands, settled}
-use Rattle.jexecute.proofs.Moved.{one_moves}
+use Rattle.jexecute.proofs.Ended.{executes, moved_lives, moved_machine, moved_stands, settled}
+use Rattle.jexecute.proofs.Moved.{one_moves, returned, stays_fixed}
 use Rattle.jexecute.proofs.Referred.{ok_refs_advance, row_stands}
 
 -- ---- the step behind such a row
@@ -73,14 +76,11 @@ module _ {E : Type 0} (p : Program) (x : Fixed E) (counts : Counts) (one : Instr
       let r : Result Stepped ⊤ = Ok done in
       ok_refs_advance p x counts one f u h v way law follows fixed quick fetches runs missing below u v r settles quiet constants
 
-module _ {E : Type 0} (x : Fixed E) (counts : Counts) (one : Instr) (f u : Framed E) (h v : Heaped) (law : StepsAt E) (follows : Follows E)
-    (fixed : IsFixed (program_of x) x) (fetches : Fetches (program_of x) x f.newest one) (below : u.below ≡ f.below)
+module _ {E : Type 0} (p : Program) (x : Fixed E) (counts : Counts) (one : Instr) (f u : Framed E) (h v : Heaped) (law : StepsAt E) (follows : Follows E)
+    (fixed : IsFixed p x) (fetches : Fetches p x f.newest one) (below : u.below ≡ f.below)
     (stand : Stand (length x.marks.now) (all f)) (built : AreBuilt v.objects) (celled : AreCelled x.shapes.now v.objects) where
-  abbrev p : Program
-  p = program_of x
-
   pub row_hastens : (way : Way) → Rests way f u → Rests way h v → IsHere one → Runs x.tables.now x.shapes.now one f.newest h way u.newest v → Stays way f.newest u.newest
-      → ((q : Program) (things : Things) → LeavesAlike q x.shapes.now things way h.objects v.objects) → Hastens x counts f h (quick_as way) u v
+      → ((q : Program) (things : Things) → LeavesAlike q x.shapes.now things way h.objects v.objects) → Hastens p x counts f h (quick_as way) u v
   row_hastens ways.Went rests kept quick runs stays alike = (
     record {
       row = row_advances p x counts one f u h v law follows fixed fetches below ways.Went steps.Went quick runs tt (went_settles x.marks.now p u v);
@@ -104,7 +104,7 @@ module _ {E : Type 0} (x : Fixed E) (counts : Counts) (one : Instr) (f u : Frame
 
   pub ref_hastens : (way : Way) → Rests way f u → Rests way h v → refs.IsHere one → refs.Runs (lasting_by x) counts one f.newest h way u.newest v
       → StaysStuck (lasting_by x) one f.newest way → staying.Stays way f.newest u.newest → RunsAlike (lasting_by x) counts way h.objects v.objects
-      → Hastens x counts f h (quick_as way) u v
+      → Hastens p x counts f h (quick_as way) u v
   ref_hastens ways.Went rests kept quick runs missing stays alike = (
     record {
       row = ref_advances p x counts one f u h v law follows fixed fetches below ways.Went steps.Went quick runs missing tt (went_settles x.marks.now p u v);
@@ -125,6 +125,29 @@ module _ {E : Type 0} (x : Fixed E) (counts : Counts) (one : Instr) (f u : Frame
   ref_hastens (ways.Raises class) rests kept quick runs missing stays alike = (rests, kept)
   ref_hastens (ways.Throws n) rests kept quick runs missing stays alike = (rests, kept)
   ref_hastens ways.Full rests kept quick runs missing stays alike = (rests, kept)
+
+-- a call or a return
+module _ {E : Type 0} (p : Program) (x : Fixed E) (counts : Counts) (f u : Framed E) (h v : Heaped) (built : AreBuilt v.objects) (celled : AreCelled x.shapes.now v.objects) where
+  abbrev Turns : Stepped → Type 0
+  Turns came = Steps p x counts f h came u v × StoodAs (length x.marks.now) came u × ((things : Things) → StepsAlike p x.shapes.now things came h.objects v.objects)
+
+  turn_makes : (came : Stepped) → Turns came → Makes p x counts f h came u v
+  turn_makes came (done, stands, alike) = record {
+    row = λ constants. let r : Result Stepped ⊤ = Ok came in others_advance p x counts f u h v r constants constants refl done;
+    stands = stands;
+    alike = λ things counted. alike things;
+    built = built;
+    celled = celled;
+  }
+
+  pub turn_hastens : (came : Stepped) → Turns came → Hastens p x counts f h (turned_as came) u v
+  turn_hastens steps.Went turns = turn_makes steps.Went turns
+  turn_hastens steps.Ended turns = turn_makes steps.Ended turns
+  turn_hastens (steps.Handled class) turns = turn_makes (steps.Handled class) turns
+  turn_hastens (steps.Uncaught class) turns = turn_makes (steps.Uncaught class) turns
+  turn_hastens (steps.Asks call count) turns = turn_makes (steps.Asks call count) turns
+  turn_hastens steps.Full turns = turn_makes steps.Full turns
+  turn_hastens steps.Stuck turns = turn_makes steps.Stuck turns
 
 -- ---- where such an instruction stands the frames may go on
 
@@ -165,27 +188,85 @@ module _ {E : Type 0} (p : Program) (x : Fixed E) (f : Framed E) (one : Instr) (
   pub ref_stands : refs.IsHere one → Stand classes (all f)
   ref_stands quick = all_stand p x f one fetches classes stand (is_there one (ref_there one quick))
 
+  pub turn_stands : IsThere one → Stand classes (all f)
+  turn_stands there = all_stand p x f one fetches classes stand (is_there one there)
+
 -- ---- some steps of a thread
 
-module _ {E : Type 0} (x : Fixed E) (counts : Counts) where
-  pub none_quiet : (f : Framed E) (h : Heaped) → Quietly x counts 0 f h f h
+module _ {E : Type 0} (p : Program) (x : Fixed E) (counts : Counts) where
+  pub none_quiet : (f : Framed E) (h : Heaped) → Quietly p x counts 0 f h f h
   unfolding Quietly
   none_quiet f h = (refl, refl)
 
-  pub more_quiet : (n : ℕ) (f u g : Framed E) (h v k : Heaped) → Quietly x counts n f h u v → Makes x counts u v steps.Went g k → Quietly x counts (n + 1) f h g k
+  pub more_quiet : (n : ℕ) (f u g : Framed E) (h v k : Heaped) → Quietly p x counts n f h u v → Makes p x counts u v steps.Went g k → Quietly p x counts (n + 1) f h g k
   unfolding Quietly
   more_quiet n f u g h v k before makes =
-      let all : Quietly x counts (suc n) f h g k = (u, v, before, makes) in
-      subst (λ (i : ℕ). Quietly x counts i f h g k) (sym (add-one n)) all
+      let all_of : Quietly p x counts (suc n) f h g k = (u, v, before, makes) in
+      subst (λ (i : ℕ). Quietly p x counts i f h g k) (sym (add-one n)) all_of
 
-  module _ (most n : ℕ) (f u g : Framed E) (h v k : Heaped) (quiet : Quietly x counts n f h u v) where
-    -- behind them there is no step
-    pub stuck_made : Makes x counts u v steps.Stuck g k → n < most → WereMade x counts most f h (record { steps = n; stuck = true }) g k
-    stuck_made makes few = record { frames = u; heap = v; quiet = quiet; ends = makes; few = (omega (arith, few), λ is. few) }
+  pub both_quiet : (n m : ℕ) (f u g : Framed E) (h v k : Heaped) → Quietly p x counts n f h u v → Quietly p x counts m u v g k → Quietly p x counts (n + m) f h g k
+  unfolding Quietly
+  both_quiet n zero f u g h v k before (same, also) =
+      let is : n ≡ n + 0 = omega arith in
+      let there : Quietly p x counts n f h u k = subst (λ (b : Heaped). Quietly p x counts n f h u b) (sym also) before in
+      subst (λ (i : ℕ). Quietly p x counts i f h g k) is (subst (λ (a : Framed E). Quietly p x counts n f h a k) (sym same) there)
+  both_quiet n (suc m) f u g h v k before (a, b, more, makes) =
+      let is : suc (n + m) ≡ n + suc m = omega arith in
+      let all_of : Quietly p x counts (suc (n + m)) f h g k = (a, b, both_quiet n m f u a h v b before more, makes) in
+      subst (λ (i : ℕ). Quietly p x counts i f h g k) is all_of
+
+  module _ (most n : ℕ) (f u g : Framed E) (h v k : Heaped) (quiet : Quietly p x counts n f h u v) where
+    -- behind them one came to something else
+    pub came_made : (came : Stepped) → Makes p x counts u v came g k → n < most → WereMade p x counts most f h (record { steps = n; last = Some came }) g k
+    came_made came makes few = record { frames = u; heap = v; quiet = quiet; ends = makes; few = few }
 
     -- or nothing has changed
-    pub left_made : (g ≡ u) × (k ≡ v) → n ≤ most → WereMade x counts most f h (record { steps = n; stuck = false }) g k
-    left_made same few = record { frames = u; heap = v; quiet = quiet; ends = same; few = (few, λ is. absurd cc) }
+    pub left_made : (g ≡ u) × (k ≡ v) → n ≤ most → WereMade p x counts most f h (record { steps = n; last = None }) g k
+    left_made same few = record { frames = u; heap = v; quiet = quiet; ends = same; few = few }
+
+  -- behind some within a method
+  module _ (most n : ℕ) (f u g : Framed E) (h v k : Heaped) (before : Quietly p x counts n f h u v) (made : Within) (few : n < most)
+      (stayed : StayedWithin p x counts (most - n) u v made g k) where
+    quiet_so_far : Quietly p x counts (n + made.steps) f h stayed.frames stayed.heap
+    quiet_so_far = both_quiet n made.steps f u stayed.frames h v stayed.heap before stayed.quiet
+
+    last_is : (quick : Quick) → made.last ≡ quick → Hastens p x counts stayed.frames stayed.heap quick g k
+    last_is quick is = subst (λ (q : Quick). Hastens p x counts stayed.frames stayed.heap q g k) is stayed.last
+
+    few_are : (quick : Quick) → made.last ≡ quick → AreFewBehind (most - n) made.steps quick
+    few_are quick is = subst (λ (q : Quick). AreFewBehind (most - n) made.steps q) is stayed.few
+
+    -- the step behind them was made too
+    pub went_makes : made.last ≡ tries.Went → Makes p x counts stayed.frames stayed.heap steps.Went g k × (n + made.steps < most)
+    went_makes is = let few_now = few_are tries.Went is in ((last_is tries.Went is).0, omega arith)
+
+    pub turned_makes : made.last ≡ tries.Turned → Makes p x counts stayed.frames stayed.heap steps.Went g k × (n + made.steps < most)
+    turned_makes is = let few_now = few_are tries.Turned is in (last_is tries.Turned is, omega arith)
+
+    pub more_made : Makes p x counts stayed.frames stayed.heap steps.Went g k → Quietly p x counts (n + made.steps + 1) f h g k
+    more_made makes = more_quiet (n + made.steps) f stayed.frames g h stayed.heap k quiet_so_far makes
+
+    -- or it came to something else, or is left
+    pub came_so : (came : Stepped) → made.last ≡ tries.Came came → WereMade p x counts most f h (record { steps = n + made.steps; last = Some came }) g k
+    came_so came is =
+        let few_now = few_are (tries.Came came) is in
+        came_made most (n + made.steps) f stayed.frames g h stayed.heap k quiet_so_far came (last_is (tries.Came came) is) (omega arith)
+
+    pub left_so : made.last ≡ tries.Left → WereMade p x counts most f h (record { steps = n + made.steps; last = None }) g k
+    left_so is =
+        let few_now = few_are tries.Left is in
+        left_made most (n + made.steps) f stayed.frames g h stayed.heap k quiet_so_far (last_is tries.Left is) (omega arith)
+
+-- of a program that is the same
+pub within_so : {E : Type 0} (p q : Program) (x : Fixed E) (counts : Counts) (most n : ℕ) (u g : Framed E) (v k : Heaped) (made : Within) → q ≡ p
+    → StayedWithin q x counts (most - n) u v made g k → StayedWithin p x counts (most - n) u v made g k
+within_so p q x counts most n u g v k made is stayed = subst (λ (r : Program). StayedWithin r x counts (most - n) u v made g k) is stayed
+
+pub few_behind : (most n : ℕ) (quick : Quick) → n < most → AreFewBehind most n quick
+few_behind most n tries.Went few = few
+few_behind most n tries.Turned few = few
+few_behind most n (tries.Came came) few = few
+few_behind most n tries.Left few = omega arith
 
 -- ---- the machine
 
@@ -194,12 +275,9 @@ module _ {E : Type 0} (m : Machine E) (f g : Framed E) (k : Heaped) (runs : m.gu
   abbrev n : Machine E
   n = moved m g k m.constants
 
-  moves : (came : Stepped) → Makes m.fixed (counts_of m) f m.heap came g k → Moves m came n
+  moves : (came : Stepped) → Makes m.calls m.fixed (counts_of m) f m.heap came g k → Moves m came n
   moves came makes =
-      let A : Program → Type 0 = λ p. Advances p m.fixed (counts_of m) m.constants.constants f m.heap came m.constants.constants g k in
-      let B : Program → Type 0 = λ p. (things : Things) → AreCounted (counts_of m) things → StepsAlike p m.fixed.shapes.now things came m.heap.objects k.objects in
-      one_moves m f g k m.constants ready.machine refl makes.built makes.celled permissions kept runs came
-      (subst A ready.machine.fixed.ready (makes.row m.constants.constants)) makes.stands (subst B ready.machine.fixed.ready makes.alike)
+      one_moves m f g k m.constants ready.machine refl makes.built makes.celled permissions kept runs came (makes.row m.constants.constants) makes.stands makes.alike
 
   -- behind a step that went on the machine is settled as it stands
   went_settled : (so : Moves m steps.Went n) → Comes m any (λ r. step r m.calls m.plan.now (state_of m)) (done.Went []) n
@@ -207,21 +285,12 @@ module _ {E : Type 0} (m : Machine E) (f g : Framed E) (k : Heaped) (runs : m.gu
       let P : Machine E → Type 0 = λ x. comings.Settles x steps.Went (done.Went []) n in
       settled m so.before so.after so.heap so.constants so.runs law steps.Went (done.Went []) n so.comes (subst P so.is (settled_went n [] refl))
 
-  went_leads : Makes m.fixed (counts_of m) f m.heap steps.Went g k → CameTo m (done.Went []) n
+  went_leads : Makes m.calls m.fixed (counts_of m) f m.heap steps.Went g k → CameTo m (done.Went []) n
   went_leads makes =
       let so = moves steps.Went makes in
       record {
         comes = went_settled so;
         ready = went_ready n steps.Went refl (moved_machine m n steps.Went so) (moved_lives m n steps.Went so ready.lives) (moved_stands m n steps.Went so);
-        silent = (so.comes has.rules has.are).asked;
-      }
-
-  stuck_closes : Makes m.fixed (counts_of m) f m.heap steps.Stuck g k → CameTo m done.Stuck n
-  stuck_closes makes =
-      let so = moves steps.Stuck makes in
-      record {
-        comes = record { over = state_of m; comes = λ r are like. (so.comes r are).outcome };
-        ready = tt;
         silent = (so.comes has.rules has.are).asked;
       }
 
@@ -253,7 +322,7 @@ module _ {E : Type 0} (m : Machine E) (f : Framed E) (runs : m.guests.running.fr
   same_there : (g u : Framed E) (k v : Heaped) → g ≡ u → k ≡ v → at g k ≡ at u v
   same_there g u k v same also = ap (λ (x : Framed E). at x k) same ∙ ap (λ (x : Heaped). at u x) also
 
-  leads : (count : ℕ) (g : Framed E) (k : Heaped) → Quietly m.fixed (counts_of m) count f m.heap g k → Leads count m (at g k) × IsReady (at g k)
+  leads : (count : ℕ) (g : Framed E) (k : Heaped) → Quietly m.calls m.fixed (counts_of m) count f m.heap g k → Leads count m (at g k) × IsReady (at g k)
   unfolding Quietly Leads
   leads zero g k (same, also) =
       let is : at g k ≡ m = same_there g f k m.heap same also ∙ with_own in
@@ -263,39 +332,88 @@ module _ {E : Type 0} (m : Machine E) (f : Framed E) (runs : m.guests.running.fr
       let went : CameTo (at u v) (done.Went []) (at g k) = went_leads (at u v) u g k refl law (has_there u v) led.1 permissions kept makes in
       ((at u v, led.0, went, record { fixed = refl; plan = refl; side = refl; calls = refl }), went.ready)
 
-  closes : (stuck : Bool) (u g : Framed E) (v k : Heaped) → IsReady (at u v) → EndsSo m.fixed (counts_of m) stuck u v g k → Closes stuck (at u v) (at g k)
-  closes true u g v k ready_there makes = stuck_closes (at u v) u g k refl law (has_there u v) ready_there permissions kept makes
-  closes false u g v k ready_there (same, also) = same_there g u k v same also
+  begun : (last : Option Stepped) (u g : Framed E) (v k : Heaped) → IsReady (at u v) → EndsSo m.calls m.fixed (counts_of m) last u v g k → Began last (at u v) (at g k)
+  begun (Some came) u g v k ready_there makes = moves (at u v) u g k refl law (has_there u v) ready_there permissions kept came makes
+  begun None u g v k ready_there (same, also) = same_there g u k v same also
 
-  trying : (most : ℕ) (made : Hasty) (g : Framed E) (k : Heaped) → WereMade m.fixed (counts_of m) most f m.heap made g k → Tries most m made (at g k)
-  trying most made g k were =
+  begins : (most : ℕ) (made : Hurried) (g : Framed E) (k : Heaped) → WereMade m.calls m.fixed (counts_of m) most f m.heap made g k → Begins most m made (at g k)
+  begins most made g k were =
       let led = leads made.steps were.frames were.heap were.quiet in
       record {
         behind = at were.frames were.heap;
         leads = led.0;
-        closes = closes made.stuck were.frames g were.heap k led.1 were.ends;
+        ready = led.1;
+        rules = has_there were.frames were.heap;
+        stays = record { fixed = refl; plan = refl; side = refl; calls = refl };
+        began = begun made.last were.frames g were.heap k led.1 were.ends;
         few = were.few;
       }
 
-  pub all_tries : {F : Type 0} (r : Result Hasty F) (counts : Counts) (most : ℕ) (g : Framed E) (k : Heaped) → counts ≡ counts_of m
-      → IfOk r (λ made. WereMade m.fixed counts most f m.heap made g k) → IfOk r (λ made. Tries most m made (at g k))
-  all_tries (Ok made) counts most g k is were =
-      trying most made g k (subst (λ (c : Counts). WereMade m.fixed c most f m.heap made g k) is were)
-  all_tries (Err e) counts most g k is were = tt
+  pub all_begin : {F : Type 0} (r : Result Hurried F) (counts : Counts) (most : ℕ) (g : Framed E) (k : Heaped) (calls : Program) → counts ≡ counts_of m
+      → OnOk r (calls ≡ m.calls) → IfOk r (λ made. WereMade m.calls m.fixed counts most f m.heap made g k)
+      → IfOk r (λ made. Begins most m made (returned m g k m.constants calls))
+  all_begin (Ok made) counts most g k calls is same were =
+      subst (λ (q : Program). Begins most m made (returned m g k m.constants q)) (sym same)
+      (begins most made g k (subst (λ (c : Counts). WereMade m.calls m.fixed c most f m.heap made g k) is were))
+  all_begin (Err e) counts most g k calls is same were = tt
+
+  pub all_fixed : {F : Type 0} (r : Result Hurried F) (g : Framed E) (k : Heaped) (calls : Program) → OnOk r (calls ≡ m.calls)
+      → OnOk r (StaysFixed m (returned m g k m.constants calls))
+  all_fixed (Ok made) g k calls same = stays_fixed m g k m.constants calls same
+  all_fixed (Err e) g k calls same = tt
 
 -- ---- what is wanted
 
--- what stands is that of the program that is ready
-pub fixed_itself : {E : Type 0} (p : Program) (x : Fixed E) → IsFixed p x → IsFixed (program_of x) x
-fixed_itself {E} p x fixed = subst (λ (q : Program). IsFixed q x) (sym fixed.ready) fixed
-
-pub has_things : {E : Type 0} (m : Machine E) (counts : Counts) → counts ≡ counts_of m → HasThings counts
-has_things m counts is = rw is (record { things = things_of m; counted = record { permissions = refl; contexts = refl } })
-
 -- none was made
-pub none_made : {E : Type 0} (x : Fixed E) (counts : Counts) (most : ℕ) (f : Framed E) (h : Heaped) → WereMade x counts most f h (record { steps = 0; stuck = false }) f h
-none_made x counts most f h = left_made x counts most 0 f f f h h h (none_quiet x counts f h) (refl, refl) (omega arith)
+pub none_made : {E : Type 0} (p : Program) (x : Fixed E) (counts : Counts) (most : ℕ) (f : Framed E) (h : Heaped)
+    → WereMade p x counts most f h (record { steps = 0; last = None }) f h
+none_made p x counts most f h = left_made p x counts most 0 f f f h h h (none_quiet p x counts f h) (refl, refl) (omega arith)
 
-pub none_tried : {E : Type 0} (most : ℕ) (m : Machine E) → Tries most m (record { steps = 0; stuck = false }) m
+pub none_begun : {E : Type 0} (most : ℕ) (m : Machine E) → IsReady m → HasRules m → Begins most m (record { steps = 0; last = None }) m
 unfolding Leads
-none_tried most m = record { behind = m; leads = refl; closes = refl; few = (omega arith, λ no. absurd cc) }
+none_begun most m ready rules = record {
+  behind = m;
+  leads = refl;
+  ready = ready;
+  rules = rules;
+  stays = record { fixed = refl; plan = refl; side = refl; calls = refl };
+  began = refl;
+  few = omega arith;
+}
+
+-- ---- the last one
+
+module _ {E : Type 0} (most : ℕ) (m n : Machine E) (made : Hurried) (b : Begins most m made n) where
+  pub none_closes : made.last ≡ None → Tries most m (record { steps = made.steps; last = None }) n
+  none_closes none = record {
+    behind = b.behind;
+    leads = b.leads;
+    ready = b.ready;
+    stays = b.stays;
+    closes = subst (λ (o : Option Stepped). Began o b.behind n) none b.began;
+    few = subst (λ (o : Option Stepped). AreFew most made.steps o) none b.few;
+  }
+
+  module _ (came : Stepped) (is : made.last ≡ Some came) where
+    pub last_moves : Moves b.behind came n
+    last_moves = subst (λ (o : Option Stepped). Began o b.behind n) is b.began
+
+    pub last_machine : StaysMachine came n
+    last_machine = moved_machine b.behind n came last_moves
+
+    pub last_lives : Lives n.guests
+    last_lives = moved_lives b.behind n came last_moves b.ready.lives
+
+    pub last_stands : LeftStand n came
+    last_stands = moved_stands b.behind n came last_moves
+
+    pub last_closes : RunsAs E → TellsWhatMay → Links m.calls → (done : Executed) (o : Machine E) → Finishes n came done o
+        → Tries most m (record { steps = made.steps; last = Some done }) o
+    last_closes law told links done o finishes = record {
+      behind = b.behind;
+      leads = b.leads;
+      ready = b.ready;
+      stays = b.stays;
+      closes = executes b.behind n came last_moves law b.rules told (subst (λ (q : Program). Links q) (sym b.stays.calls) links) b.ready.lives done o finishes;
+      few = subst (λ (o : Option Stepped). AreFew most made.steps o) is b.few;
+    }

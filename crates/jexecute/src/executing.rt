@@ -89,7 +89,7 @@ fn end_step<M: Copy>(
 
 /// Does what is left of a step behind the running thread's frames.
 #[inline]
-fn finish<M: Copy>(
+pub(crate) fn finish<M: Copy>(
     alloc: Global,
     m: &mut Machine<'_, '_, M>,
     came: jstep::Stepped,

@@ -11,31 +11,34 @@ ghost use Rattle.jstep.specs.Stepping.{IsFixed};
 ghost use Rattle.jcore.specs.Machines.{IsReady, StaysFixed};
 ghost use Rattle.jexecute.specs.Advancing.{Fetches, lasting_by};
 ghost use Rattle.jexecute.specs.Executing.{HasRules};
-ghost use Rattle.jexecute.specs.Hastening.{HasThings, Hastens, IsQuickOf, Tries, WereMade, program_of, quick_as};
+ghost use Rattle.jexecute.specs.Hastening.{Begins, Hastens, IsQuickOf, StayedWithin, Tries, WereMade, quick_as, turned_as};
 
-use crate::executing::{kept_counts, linked};
+use crate::executing::{Executed, finish, kept_counts, linked};
 use jacts::Way;
 use jcalls::Counts;
 use jcode::Element;
 use jcore::Machine;
 use jguests::guest_laws;
 use jheap::Heap;
-use jinvoke::step_laws;
+use jinvoke::{Calls, step_laws};
 use jready::{ArrayInstr, FlowInstr, Instr, MethodRow, Push};
 use jrefs::Lasting;
 use jshapes::alike_laws;
 use jstate::Frames;
-use jstep::{Fixed, behind_laws};
+use jstep::{Fixed, Stepped, behind_laws};
+use jtold::told_law;
 use juses::When;
 use std::alloc::{AllocError, Global};
 
 /// What a quick try to make a step came to.
 #[derive(Clone, Copy, Debug, PartialEq, Eq)]
 enum Quick {
-    /// It was made: the run goes on, and nothing is told.
+    /// It was made in its method: the run goes on, and nothing is told.
     Went,
-    /// There is no step.
-    Stuck,
+    /// It was made by a call or a return: the run goes on in another frame, and nothing is told.
+    Turned,
+    /// It came to something else.
+    Came(Stepped),
     /// It is left to be made.
     Left,
 }
@@ -47,6 +50,8 @@ enum Haste {
     Row,
     /// Those with references.
     Reference,
+    /// Calls and returns.
+    Turn,
     /// None.
     None,
 }
@@ -82,7 +87,7 @@ fn haste_of_flow(f: FlowInstr) -> Haste
 {
     match f {
         FlowInstr::Jump(when, _) => haste_of_jump(when),
-        FlowInstr::Return(_) => Haste::None,
+        FlowInstr::Return(_) => Haste::Turn,
         FlowInstr::Throw => Haste::None,
     }
 }
@@ -130,7 +135,7 @@ fn haste_of(one: Instr) -> Haste
         Instr::Array(f) => haste_of_array(f),
         Instr::Object(_) => Haste::Reference,
         Instr::Field { .. } => Haste::Reference,
-        Instr::Call { .. } => Haste::None,
+        Instr::Call { .. } => Haste::Turn,
         Instr::Library { .. } => Haste::None,
     }
 }
@@ -144,10 +149,26 @@ fn quick_of(way: Way) -> Quick
 {
     match way {
         Way::Went => Quick::Went,
-        Way::Stuck => Quick::Stuck,
+        Way::Stuck => Quick::Came(Stepped::Stuck),
         Way::Raises(_) => Quick::Left,
         Way::Throws(_) => Quick::Left,
         Way::Full => Quick::Left,
+    }
+}
+
+/// What a call or a return came to.
+#[inline]
+fn turned_of(came: Stepped) -> Quick
+    ensures { result ≡ turned_as came }
+{
+    match came {
+        Stepped::Went => Quick::Turned,
+        Stepped::Ended => Quick::Came(Stepped::Ended),
+        Stepped::Handled(class) => Quick::Came(Stepped::Handled(class)),
+        Stepped::Uncaught(class) => Quick::Came(Stepped::Uncaught(class)),
+        Stepped::Asks { call, count } => Quick::Came(Stepped::Asks { call, count }),
+        Stepped::Full => Quick::Came(Stepped::Full),
+        Stepped::Stuck => Quick::Came(Stepped::Stuck),
     }
 }
 
@@ -158,17 +179,18 @@ fn hasten_at<M: Copy>(
     frames: &mut Frames<M>,
     heap: &mut Heap,
     fixed: &Fixed<'_, '_, M>,
+    calls: &mut Calls<'_>,
     counts: Counts,
     one: Instr,
 ) -> Result<Quick, AllocError>
-    requires fixed { IsFixed (program_of fixed.now) fixed.now }
+    requires fixed { IsFixed calls.old fixed.now }
     requires lasting { IsLasting (lasting_by fixed.now) }
-    requires fetches { Fetches (program_of fixed.now) fixed.now frames.old.newest one }
+    requires fetches { Fetches calls.old fixed.now frames.old.newest one }
     requires stand { AreStanding (length fixed.now.marks.now) frames.old }
     requires built { AreBuilt heap.old.objects }
     requires celled { AreCelled fixed.now.shapes.now heap.old.objects }
-    requires things { HasThings counts }
-    ensures { IfOk result (λ quick. Hastens fixed.now counts frames.old heap.old quick frames.new heap.new) }
+    ensures row { IfOk result (λ quick. Hastens calls.old fixed.now counts frames.old heap.old quick frames.new heap.new) }
+    ensures same { calls.new ≡ calls.old }
 {
     step_laws::<M>();
     behind_laws::<M>();
@@ -186,90 +208,154 @@ fn hasten_at<M: Copy>(
             let way = jrefs::run(alloc, frames, heap, &x, counts, one)?;
             Ok(quick_of(way))
         }
+        Haste::Turn => {
+            let came = jstep::step(alloc, frames, heap, fixed, calls, counts, one)?;
+            Ok(turned_of(came))
+        }
         Haste::None => Ok(Quick::Left),
     }
 }
 
-/// Steps that were made, one after the other, each quick to make.
+/// Steps of a thread within a method, and the one behind them.
 #[derive(Clone, Copy, Debug, PartialEq, Eq)]
-pub struct Hasty {
-    /// So many went on and told nothing.
+struct Within {
+    /// So many went on in the method and told nothing.
     pub steps: u64,
-    /// Behind them there is no step.
-    pub stuck: bool,
+    /// The one behind them came to this.
+    pub last: Quick,
 }
 
-/// At most so many steps of a thread within the method of its newest frame, as long as they are quick to make.
+/// At most so many steps of a thread whose newest frame is of the method of a row, as long as they are quick to make and stay in it. Where
+/// so many were made, the one behind them is left.
 fn hasten_within<M: Copy>(
     alloc: Global,
     frames: &mut Frames<M>,
     heap: &mut Heap,
     fixed: &Fixed<'_, '_, M>,
+    calls: &mut Calls<'_>,
     counts: Counts,
     row: MethodRow,
     most: u64,
-) -> Result<Hasty, AllocError>
-    requires fixed { IsFixed (program_of fixed.now) fixed.now }
+) -> Result<Within, AllocError>
+    requires fixed { IsFixed calls.old fixed.now }
     requires lasting { IsLasting (lasting_by fixed.now) }
     requires row { IsRow fixed.now.ready.now row }
     requires method { row.id ≡ frames.old.newest.method }
     requires stand { AreStanding (length fixed.now.marks.now) frames.old }
     requires built { AreBuilt heap.old.objects }
     requires celled { AreCelled fixed.now.shapes.now heap.old.objects }
-    requires things { HasThings counts }
-    ensures { IfOk result (λ made. WereMade fixed.now counts most frames.old heap.old made frames.new heap.new) }
+    ensures made { IfOk result (λ made. StayedWithin calls.old fixed.now counts most frames.old heap.old made frames.new heap.new) }
+    ensures same { OnOk result (calls.new ≡ calls.old) }
 {
     let mut steps = 0u64;
     while steps < most {
         let one = fixed.ready.fetch(&row, frames.place());
-        match hasten_at(alloc, frames, heap, fixed, counts, one)? {
+        match hasten_at(alloc, frames, heap, fixed, calls, counts, one)? {
             Quick::Went => steps += 1,
-            Quick::Stuck => return Ok(Hasty { steps, stuck: true }),
-            Quick::Left => {
-                return Ok(Hasty {
-                    steps,
-                    stuck: false,
-                });
-            }
+            last => return Ok(Within { steps, last }),
         }
     }
-    Ok(Hasty {
+    Ok(Within {
         steps,
-        stuck: false,
+        last: Quick::Left,
     })
 }
 
+/// Steps of a thread that were made, one after the other, each quick to make.
+#[derive(Clone, Copy, Debug, PartialEq, Eq)]
+pub(crate) struct Hurried {
+    /// So many went on and told nothing.
+    pub steps: u64,
+    /// Behind them one came to this.
+    pub last: Option<Stepped>,
+}
+
 /// None was made.
-const NONE: Hasty = Hasty {
+const NONE: Hurried = Hurried {
     steps: 0,
-    stuck: false,
+    last: None,
 };
 
-/// The same of a thread that has frames.
+/// At most so many steps of a thread, as long as they are quick to make.
 fn hasten_frames<M: Copy>(
     alloc: Global,
     frames: &mut Frames<M>,
     heap: &mut Heap,
     fixed: &Fixed<'_, '_, M>,
+    calls: &mut Calls<'_>,
     counts: Counts,
     most: u64,
-) -> Result<Hasty, AllocError>
-    requires fixed { IsFixed (program_of fixed.now) fixed.now }
+) -> Result<Hurried, AllocError>
+    requires fixed { IsFixed calls.old fixed.now }
     requires lasting { IsLasting (lasting_by fixed.now) }
     requires stand { AreStanding (length fixed.now.marks.now) frames.old }
     requires built { AreBuilt heap.old.objects }
     requires celled { AreCelled fixed.now.shapes.now heap.old.objects }
-    requires things { HasThings counts }
-    ensures { IfOk result (λ made. WereMade fixed.now counts most frames.old heap.old made frames.new heap.new) }
+    ensures made { IfOk result (λ made. WereMade calls.old fixed.now counts most frames.old heap.old made frames.new heap.new) }
+    ensures same { OnOk result (calls.new ≡ calls.old) }
 {
-    match fixed.ready.row_of(frames.method()) {
+    let mut steps = 0u64;
+    while steps < most {
+        let Some(row) = fixed.ready.row_of(frames.method()) else {
+            return Ok(Hurried { steps, last: None });
+        };
+        let made = hasten_within(alloc, frames, heap, fixed, calls, counts, row, most - steps)?;
+        steps += made.steps;
+        match made.last {
+            Quick::Went => steps += 1,
+            Quick::Turned => steps += 1,
+            Quick::Came(came) => {
+                return Ok(Hurried {
+                    steps,
+                    last: Some(came),
+                });
+            }
+            Quick::Left => return Ok(Hurried { steps, last: None }),
+        }
+    }
+    Ok(Hurried { steps, last: None })
+}
+
+/// The same of a machine's running thread. What is left of the last step behind its frames is still to be done.
+fn hurry<M: Copy>(
+    alloc: Global,
+    m: &mut Machine<'_, '_, M>,
+    most: u64,
+) -> Result<Hurried, AllocError>
+    requires ready { IsReady m.old }
+    requires rules { HasRules m.old }
+    ensures begins { IfOk result (λ made. Begins most m.old made m.new) }
+    ensures fixed { OnOk result (StaysFixed m.old m.new) }
+{
+    guest_laws::<M>();
+    alike_laws::<M>();
+    linked(m);
+    let counts = kept_counts(m);
+    match &mut m.guests.running.frames {
+        Some(frames) => hasten_frames(
+            alloc,
+            frames,
+            &mut m.heap,
+            &m.fixed,
+            &mut m.calls,
+            counts,
+            most,
+        ),
         None => Ok(NONE),
-        Some(row) => hasten_within(alloc, frames, heap, fixed, counts, row, most),
     }
 }
 
-/// At most so many steps of the running thread, as long as they are quick to make: they go on and tell nothing. The first that isn't is
-/// left to be made. After an error nothing is said of the machine.
+/// Steps of a machine that were made, one after the other, each quick to make.
+#[derive(Debug, Drop)]
+pub struct Hasty {
+    /// So many went on and told nothing.
+    pub steps: u64,
+    /// Behind them one came to this.
+    pub last: Option<Executed>,
+}
+
+/// At most so many steps of the running thread, as long as they are quick to make: they go on and tell nothing, but the last one, if that came to
+/// something else. The first that isn't quick is left to be made. After an error nothing is said of the machine.
 pub fn hasten<M: Copy>(
     alloc: Global,
     m: &mut Machine<'_, '_, M>,
@@ -280,12 +366,21 @@ pub fn hasten<M: Copy>(
     ensures tries { IfOk result (λ made. Tries most m.old made m.new) }
     ensures fixed { OnOk result (StaysFixed m.old m.new) }
 {
+    told_law();
     guest_laws::<M>();
-    alike_laws::<M>();
     linked(m);
-    let counts = kept_counts(m);
-    match &mut m.guests.running.frames {
-        Some(frames) => hasten_frames(alloc, frames, &mut m.heap, &m.fixed, counts, most),
-        None => Ok(NONE),
+    let made = hurry(alloc, m, most)?;
+    match made.last {
+        None => Ok(Hasty {
+            steps: made.steps,
+            last: None,
+        }),
+        Some(came) => {
+            let done = finish(alloc, m, came)?;
+            Ok(Hasty {
+                steps: made.steps,
+                last: Some(done),
+            })
+        }
     }
 }

@@ -1,23 +1,25 @@
 -- Some steps of an engine, of which all but the last were quick to make.
-use Rattle.std.proofs.Common.{◌≡◌, ◌∙◌, ℕ, zero, suc, Bool, true, false, [], Option, Some, refl, ap, subst, sym}
+use Rattle.std.proofs.Common.{◌≡◌, ◌∙◌, ℕ, zero, suc, [], Option, Some, None, refl, ap, subst, sym}
 use Rattle.jmachine.specs.Acts.{Outcome, State}
 use Rattle.jmachine.specs.Security.{Rules}
 use Rattle.jmachine.specs.Steps.{step}
-use Rattle.jguard.specs.Guarded.{GuardedStep}
+use Rattle.jguard.specs.Guarded.{GuardedStep, StepKnown}
 use Rattle.jguard.specs.Standing.{Keeps, StandsFor}
-use Rattle.jrun.specs.Coming.{ComesTo, Goes, Quietly, came_as}
+use Rattle.jrun.specs.Coming.{ComesTo, Goes, Quietly, WhereWent, came_as}
 use Rattle.jrun.specs.declared.came.Came.{Came}
 use Rattle.jrun.specs.declared.came.Came.TheVariants as done
 use Rattle.jrun.specs.declared.stepping.Stepped.{Stepped}
 use Rattle.jcore.specs.declared.machine.Machine.{Machine}
 use Rattle.jcore.specs.Answering.{Answered}
+use Rattle.jcore.specs.Comings.{GoesOn}
 use Rattle.jcore.specs.Machines.{StaysFixed, state_of}
 use Rattle.jexecute.specs.declared.hastening.Hasty.{Hasty}
-use Rattle.jexecute.specs.Executing.{CameTo}
+use Rattle.jexecute.specs.declared.executing.Executed.{Executed}
+use Rattle.jexecute.specs.Executing.{CameTo, Executes}
 use Rattle.jexecute.specs.Hastening.{Closes, Leads, Tries}
 use Rattle.jsafe.specs.States.{StatesStep}
-use Rattle.jwhole.specs.Engines.{IsEngine, asks_next, next_of}
-use Rattle.jwhole.proofs.Arriving.{engine_again, engine_steps, never_stuck, same_steps}
+use Rattle.jwhole.specs.Engines.{IsEngine, WasExecuted, asks_next, next_of}
+use Rattle.jwhole.proofs.Arriving.{engine_again, engine_steps, knows, never_stuck, same_steps}
 use Rattle.jwhole.proofs.Asking.{answers_none}
 
 module _ {M K E : Type 0} (kept : ℕ → Option K) (entry : M → Option E) (mark : ℕ → M) (rules : Rules K E) (law : GuardedStep M K E)
@@ -79,15 +81,68 @@ module _ {M K E : Type 0} (kept : ℕ → Option K) (entry : M → Option E) (ma
     abbrev fixed : StaysFixed m tries.behind
     fixed = leads_fixed made.steps m tries.behind tries.leads
 
-    -- behind them there is a step
-    pub isnt_stuck : made.stuck ≡ true → ⊥
-    isnt_stuck stuck =
-        let did : CameTo tries.behind done.Stuck n = subst (λ (b : Bool). Closes b tries.behind n) stuck tries.closes in
-        never_stuck kept entry mark rules tries.behind done.Stuck (λ t. StandsFor kept entry (state_of n) t) types there (came_so tries.behind n done.Stuck there did) refl
+    -- the last one was executed
+    module _ (found : Executed) (is : made.last ≡ Some found) (stays : StaysFixed m n) where
+      last_executes : Executes tries.behind found n
+      last_executes = subst (λ (o : Option Executed). Closes o tries.behind n) is tries.closes
 
-    module _ (goes : made.stuck ≡ false) where
+      behind_fixed : StaysFixed tries.behind n
+      behind_fixed = record {
+        fixed = stays.fixed ∙ sym fixed.fixed;
+        plan = stays.plan ∙ sym fixed.plan;
+        side = stays.side ∙ sym fixed.side;
+        calls = stays.calls ∙ sym fixed.calls;
+      }
+
+      pub executed : StepKnown M K E → WasExecuted kept entry mark found n
+      executed known = record {
+        before = tries.behind;
+        executes = last_executes;
+        fixed = behind_fixed;
+        carry = there.carry;
+        known = knows kept entry mark rules tries.behind known there;
+      }
+
+      module _ (new : ℕ → Option K) (new_marks : M → Option E) (after : Machine M) (came : Came) (keeps : Keeps kept new) (keeps_marks : Keeps entry new_marks)
+          (all_answered : (before : Machine M) → Executes before found n → StaysFixed before n
+          → Answered kept new entry new_marks rules before (asks_next before) (next_of before) came after) where
+        answered_so : Answered kept new entry new_marks rules tries.behind (asks_next tries.behind) (next_of tries.behind) came after
+        answered_so = all_answered tries.behind last_executes behind_fixed
+
+        comes : (s : State K E) → StandsFor kept entry (state_of tries.behind) s
+            → ComesTo (λ t. StandsFor new new_marks (state_of after) t) (step rules tries.behind.calls tries.behind.plan.now s) came
+        comes s stands = engine_steps kept new entry new_marks mark rules tries.behind after came law keeps keeps_marks there answered_so s stands
+
+        -- there is a step
+        pub isnt_stuck : came ≡ done.Stuck → ⊥
+        isnt_stuck stuck = never_stuck kept entry mark rules tries.behind came (λ t. StandsFor new new_marks (state_of after) t) types there comes stuck
+
+        pub executed_goes : (last : Stepped) → came_as last ≡ came → (s : State K E) → StandsFor kept entry (state_of m) s
+            → Goes (λ u. StandsFor new new_marks (state_of after) u) (step rules m.calls m.plan.now) s (record { quiet = made.steps; last = Some last })
+        executed_goes last is_last s stands =
+            let led = leads_quietly made.steps m tries.behind tries.leads e s stands in
+            let same = sym (same_step m tries.behind fixed led.0) in
+            let P : Came → Type 0 = λ c. ComesTo (λ u. StandsFor new new_marks (state_of after) u) (step rules tries.behind.calls tries.behind.plan.now led.0) c in (
+              led.0,
+              led.1,
+              subst (λ (o : Outcome (State K E)). ComesTo (λ u. StandsFor new new_marks (state_of after) u) o (came_as last)) same
+                  (subst P (sym is_last) (comes led.0 led.2)),
+            )
+
+        pub executed_engine : StaysFixed n after → GoesOn after came → WhereWent (IsEngine new new_marks mark rules after) came
+        executed_engine later ready =
+            engine_again kept new entry new_marks mark rules tries.behind after came law types keeps keeps_marks there answered_so
+            (record {
+              fixed = later.fixed ∙ behind_fixed.fixed;
+              plan = later.plan ∙ behind_fixed.plan;
+              side = later.side ∙ behind_fixed.side;
+              calls = later.calls ∙ behind_fixed.calls;
+            })
+            ready
+
+    module _ (none : made.last ≡ None) where
       abbrev same_machine : n ≡ tries.behind
-      same_machine = subst (λ (b : Bool). Closes b tries.behind n) goes tries.closes
+      same_machine = subst (λ (o : Option Executed). Closes o tries.behind n) none tries.closes
 
       pub engine_then : IsEngine kept entry mark rules n
       engine_then = subst (IsEngine kept entry mark rules) (sym same_machine) there

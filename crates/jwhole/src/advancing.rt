@@ -7,9 +7,11 @@ ghost use Rattle.jcallplain.specs.Running.{MayTell};
 ghost use Rattle.jcallcontext.specs.Rows.{CallAnswered, CallKnown, CallOnce, CallQuiet};
 ghost use Rattle.jcore.specs.Answering.{Answered, AsksKnown, Calling};
 ghost use Rattle.jcore.specs.Comings.{GoesOn};
+ghost use Rattle.jcore.specs.declared.machine.Machine.{Machine as MachineOf};
 ghost use Rattle.jcore.specs.Machines.{IsReady, StaysFixed};
+ghost use Rattle.jexecute.specs.Executing.{Executes};
 ghost use Rattle.jwhole.specs.Calls.{AsksFor};
-ghost use Rattle.jwhole.specs.Engines.{asks_next, next_of};
+ghost use Rattle.jwhole.specs.Engines.{WasExecuted, asks_next, next_of};
 
 use jbegin::begin_thread;
 use jcallcheck::{call_check, call_kept_check};
@@ -132,6 +134,35 @@ fn call_library<G: Guard>(
     }
 }
 
+/// What is left of a step that was executed: where it has come to a call of the library, that is made, and a guard is asked what it asks of
+/// access control.
+pub(crate) fn answer<G: Guard>(
+    alloc: Global,
+    m: &mut Machine<'_, '_, G::Mark>,
+    guard: &mut G,
+    found: Executed,
+) -> Result<Came, AllocError>
+    requires { WasExecuted (G.kept guard.old) (G.entry guard.old) G.mark found m.old }
+    ensures answered { IfOk result (λ came. (before : MachineOf G.Mark) → Executes before found m.old → StaysFixed before m.old
+        → Answered (G.kept guard.old) (G.kept guard.new) (G.entry guard.old) (G.entry guard.new) (G.rules guard.old)
+        before (asks_next before) (next_of before) came m.new) }
+    ensures ready { IfOk result (GoesOn m.new) }
+    ensures fixed { OnOk result (StaysFixed m.old m.new) }
+    ensures rules { G.rules guard.new ≡ G.rules guard.old }
+    ensures keeps { Keeps (G.kept guard.old) (G.kept guard.new) }
+    ensures marks { Keeps (G.entry guard.old) (G.entry guard.new) }
+    ensures quiet { (before : MachineOf G.Mark) → Executes before found m.old → asks_next before ≡ None → guard.new ≡ guard.old }
+    ensures once { OnOk result ((before : MachineOf G.Mark) → Executes before found m.old → AskedOnce G.asked guard.old guard.new (asks_next before)) }
+{
+    match found {
+        Executed::Done(came) => Ok(came),
+        Executed::Asks { call, count } => {
+            let came = call_library(alloc, m, guard, call, count)?;
+            Ok(came)
+        }
+    }
+}
+
 /// One step of a machine: of an instruction, of a call of the library, for which a guard is asked what it asks of access control, or the
 /// beginning of a thread.
 pub(crate) fn advance<G: Guard>(
@@ -157,11 +188,6 @@ pub(crate) fn advance<G: Guard>(
         return Ok(came);
     }
     let found = execute(alloc, m)?;
-    match found {
-        Executed::Done(came) => Ok(came),
-        Executed::Asks { call, count } => {
-            let came = call_library(alloc, m, guard, call, count)?;
-            Ok(came)
-        }
-    }
+    let done = answer(alloc, m, guard, found)?;
+    Ok(done)
 }

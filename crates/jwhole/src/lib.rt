@@ -14,7 +14,8 @@
 //! Proved: `advance` comes to jmachine's step by all rules by numbers that answer as the guard did what the step asks, be it an
 //! instruction (`jexecute`), a call of the library (`jcallplain`, `jcallcheck`, `jcallcontext`, `jcallthread`) or the beginning of a
 //! thread (`jbegin`); so a machine and its guard (`Moving`) are a machine that `jrun` runs, whose steps are jmachine's by the guard's
-//! own rules: as many quick ones (`jexecute`'s `hasten`) as there are, and one that `advance` makes. `run` writes exactly the text of
+//! own rules: as many quick ones (`jexecute`'s `hasten`) as there are, and one behind them, whose call of the library `answer` makes, or
+//! that `advance` makes. `run` writes exactly the text of
 //! jmachine's run by the guard's rules under the plan's heap, depth and steps, answers its end, and at a fault leaves a front of the
 //! text.
 //!

@@ -7,7 +7,7 @@ ghost use Rattle.jrun.specs.Coming.{AreFew, ComesTo, Goes, WhereGoes, WhereWent,
 ghost use Rattle.jcore.specs.Machines.{state_of};
 ghost use Rattle.jwhole.specs.Engines.{IsEngine, asks_next};
 
-use crate::advancing::advance;
+use crate::advancing::{advance, answer};
 use crate::safety::ByRules;
 use jcore::Machine;
 use jexecute::hasten;
@@ -52,8 +52,8 @@ pub(crate) fn move_on<G: Guard>(
     Ok(stepped(came))
 }
 
-/// Some steps of a machine, at least one and at most so many: those that are quick to make, of which none asks anything, and the one behind
-/// them. After an error nothing is said of the machine.
+/// Some steps of a machine, at least one and at most so many: those that are quick to make, of which none but the last asks anything, and the one
+/// behind them, if the last wasn't one that told, asked or ended something. After an error nothing is said of the machine.
 fn make_steps<G: Guard>(
     alloc: Global,
     machine: &mut Machine<'_, '_, G::Mark>,
@@ -72,20 +72,26 @@ fn make_steps<G: Guard>(
     guard_laws::<G>();
     states_laws::<ByRules<G>>();
     let made = hasten(alloc, machine, most)?;
-    if made.stuck {
-        unreachable!();
+    let quiet = made.steps;
+    match made.last {
+        Some(found) => {
+            let came = answer(alloc, machine, guard, found)?;
+            Ok(Stretch {
+                quiet,
+                last: Some(stepped(came)),
+            })
+        }
+        None => {
+            if quiet < most {
+                let came = move_on(alloc, machine, guard)?;
+                return Ok(Stretch {
+                    quiet,
+                    last: Some(came),
+                });
+            }
+            Ok(Stretch { quiet, last: None })
+        }
     }
-    if made.steps < most {
-        let came = move_on(alloc, machine, guard)?;
-        return Ok(Stretch {
-            quiet: made.steps,
-            last: Some(came),
-        });
-    }
-    Ok(Stretch {
-        quiet: made.steps,
-        last: None,
-    })
 }
 
 /// A machine by numbers, and the guard that answers what it asks of access control.
@@ -111,7 +117,6 @@ impl<'a, 'p, G: Guard> Stepping for Moving<'a, 'p, G::Mark, G> {
     ghost ready = { λ e. IsEngine (G.kept e.guard) (G.entry e.guard) G.mark (G.rules e.guard) e.machine };
 
     fn go(&mut self, alloc: Global, most: u64) -> Result<Stretch, AllocError> {
-        let made = make_steps(alloc, &mut self.machine, &mut self.guard, most)?;
-        Ok(made)
+        make_steps(alloc, &mut self.machine, &mut self.guard, most)
     }
 }

@@ -7,7 +7,8 @@ use Rattle.jexecute.proofs.hastening.hasten_within.Given as goal
 
 abbrev pub invariant-loop-steps : goal.invariant-loop-steps
 invariant-loop-steps g l = record {
-  quiet : Quietly l.fixed l.counts l.steps l.initial.frames l.initial.heap l.frames l.heap;
+  same : l.calls ≡ l.initial.calls;
+  quiet : Quietly l.initial.calls l.fixed l.counts l.steps l.initial.frames l.initial.heap l.frames l.heap;
   method : l.row.id ≡ l.frames.newest.method;
   stand : AreStanding (length l.fixed.marks.now) l.frames;
   built : AreBuilt l.heap.objects;
