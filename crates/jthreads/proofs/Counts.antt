@@ -1,5 +1,5 @@
 -- How many wait for a thread: with another thread in a place, and where it is nobody.
-use Rattle.std.proofs.Common.{◌≡◌, ◌<◌, ℕ, ◌+◌, List, ◌∷◌, [], Bool, true, false, Option, Some, None, length, refl, ap, sym, ◌∙◌, arith, cond, map, rules}
+use Rattle.std.proofs.Common.{◌≡◌, ◌<◌, ℕ, ◌+◌, List, ◌∷◌, [], Bool, true, false, Some, None, length, refl, ap, ◌∙◌, arith, cond, map}
 use Rattle.std.specs.Prelude.{if◌then◌else◌, slice_set}
 use Rattle.std.specs.List.{sum_by}
 use Rattle.std.proofs.lemmas.List.Sums.{sum_by-append, sum_by-set}

@@ -1,7 +1,7 @@
 -- What a table keeps, when another thread is put in a place.
-use Rattle.std.proofs.Common.{◌≡◌, ◌<◌, ◌≤◌, ◌^◌, ℕ, ◌+◌, ◌++◌, List, ◌∷◌, [], Bool, true, false, Option, Some, None, length, refl, ap, sym, ◌∙◌, arith, cond, inl, inr, rules, subst}
+use Rattle.std.proofs.Common.{◌≡◌, ◌<◌, ◌≤◌, ◌^◌, ℕ, ◌+◌, ◌++◌, List, ◌∷◌, Bool, Option, Some, None, length, refl, ap, sym, ◌∙◌, arith, cond, inl, inr, rules, subst}
 use Rattle.std.specs.Prelude.{IfSome, OnSome, IsSome, slice_set, get_or}
-use Rattle.std.specs.List.{All, filter, range_with_len, remove}
+use Rattle.std.specs.List.{filter, range_with_len, remove}
 use Rattle.std.proofs.lemmas.Bool.{cases_order, eq-eqb}
 use Rattle.std.proofs.lemmas.List.{get_or-set_other, get_or-set_same, get_or_default, length-append, length-set}
 use Rattle.std.proofs.lemmas.List.FromFn.{length-range_with_len}

@@ -1,11 +1,11 @@
 -- The runnable numbers around one thread: those before it, itself where it can run, those behind it.
-use Rattle.std.proofs.Common.{◌≡◌, ◌<◌, ◌≤◌, ℕ, ◌+◌, ◌-◌, List, ◌∷◌, ◌++◌, [], suc, zero, Bool, true, false, length, refl, ap, sym, ◌∙◌, arith, cond, inl, inr}
+use Rattle.std.proofs.Common.{◌≡◌, ◌<◌, ◌≤◌, ℕ, ◌+◌, ◌-◌, List, ◌∷◌, ◌++◌, [], suc, zero, Bool, true, false, length, refl, ap, ◌∙◌, arith, cond, inl, inr}
 use Rattle.std.specs.Prelude.{get_or, take, drop, slice_set, nat_lt}
 use Rattle.std.specs.List.{All, filter, insert, range_with_len, remove}
 use Rattle.std.specs.List.Sorted.{IsPartitionPoint, IsPartitionedBy}
 use Rattle.std.proofs.lemmas.Bool.{cases_order, lt-ltb, ltb-false, ltb-true}
 use Rattle.std.proofs.lemmas.List.{get_or-append_right, get_or-set_other, get_or-set_same, get_or_append_left, length-append, length-set}
-use Rattle.std.proofs.lemmas.List.Elements.{All-append, All-filter, filter-append}
+use Rattle.std.proofs.lemmas.List.Elements.{All-filter, filter-append}
 use Rattle.std.proofs.lemmas.List.FromFn.{get_or-range_with_len, length-range_with_len}
 use Rattle.std.proofs.Math.Seq.{drop-append-add, drop-append_seam, take-append_seam}
 use Rattle.jthreads.specs.declared.thread.Thread.{Thread}

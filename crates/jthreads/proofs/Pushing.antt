@@ -1,5 +1,5 @@
 -- What a table keeps, with one thread more that isn't started.
-use Rattle.std.proofs.Common.{◌≡◌, ◌<◌, ◌≤◌, ℕ, ◌+◌, ◌++◌, List, ◌∷◌, [], suc, zero, Bool, true, false, Option, Some, None, length, refl, ap, sym, ◌∙◌, arith, cond, inl, inr, rules}
+use Rattle.std.proofs.Common.{◌≡◌, ◌<◌, ◌≤◌, ℕ, ◌+◌, ◌++◌, List, ◌∷◌, [], suc, Bool, false, Option, Some, None, length, refl, ap, sym, ◌∙◌, arith, cond, inl, inr, rules}
 use Rattle.std.specs.Prelude.{get_or}
 use Rattle.std.specs.List.{filter, range_with_len, sum_by}
 use Rattle.std.proofs.lemmas.Bool.{cases_order, ne_eqb}

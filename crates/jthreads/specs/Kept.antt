@@ -1,9 +1,9 @@
 -- What a table keeps beside its threads, so that nothing is sought when a thread ends or another gets its turn.
-use Rattle.std.specs.Prelude.{◌≡◌, ◌<◌, ◌+◌, ◌-◌, ℕ, List, [], ◌∷◌, length, get_or, cond, Bool, Option, Some}
+use Rattle.std.specs.Prelude.{◌≡◌, ◌<◌, ◌≤◌, ◌+◌, ◌-◌, ◌^◌, ℕ, List, [], ◌∷◌, length, get_or, cond, Bool, Some}
 use Rattle.std.specs.List.{All, count_by, filter, range_with_len}
 use Rattle.jthreads.specs.declared.queue.Queue.{Queue}
 use Rattle.jthreads.specs.declared.thread.Thread.{Thread}
-use Rattle.jthreads.specs.Table.{is_at, is_runnable, thread_at}
+use Rattle.jthreads.specs.Table.{is_at, is_runnable, runnable_numbers, thread_at}
 
 -- ---- who waits
 
@@ -45,3 +45,11 @@ alone here t = cond here (t ∷ []) []
 -- numbers below t, and numbers above it
 abbrev pub IsBetween : List ℕ → ℕ → List ℕ → Type 0
 IsBetween front t back = All (λ i. i < t) front × All (λ i. t < i) back
+
+-- ---- the table
+
+-- what is kept of a table's threads: of each who waits for it, and in order the numbers of those that can run, with room for the numbers of
+-- all and one more
+abbrev pub IsTable : List Thread → List Queue → List ℕ → ℕ → Type 0
+IsTable threads queues order room =
+    (length threads ≤ 2 ^ 32) × AreCounted threads queues × AreNamed threads × (order ≡ runnable_numbers threads) × (length threads < room)

@@ -1,9 +1,9 @@
-ghost use Rattle.std.specs.Prelude.{◌≡◌, ◌↔◌, ◌<◌, ◌≤◌, ◌^◌, ◌∷◌, [], IfOk, IfSome, IsTrue, OnErr, length, map, not, slice_set};
+ghost use Rattle.std.specs.Prelude.{◌≡◌, ◌↔◌, ◌<◌, ◌∷◌, [], IfOk, IfSome, IsTrue, OnErr, length, map, not, slice_set};
 ghost use Rattle.std.specs.List.{Contains};
 ghost use Rattle.std.specs.Option.{is_none};
 ghost use Rattle.std.specs.VecDeque.{deque_capacity};
 ghost use Rattle.jthreads.specs.Schedule.{picked};
-ghost use Rattle.jthreads.specs.Table.{added, have_ended, is_started, join_answer, joined, lives_at, opened, runnable_numbers, table_after_end, table_after_start, thread_at, woken};
+ghost use Rattle.jthreads.specs.Table.{added, have_ended, is_started, join_answer, joined, lives_at, opened, runnable_numbers, table_after_end, table_after_start, woken};
 
 use crate::order::keep_order;
 use crate::queue::{Queue, list, one_less, one_more};
@@ -42,17 +42,16 @@ pub struct Threads {
 }
 
 impl Model for Threads {
-    ghost use Rattle.std.specs.Prelude.{◌≡◌, List, ◌<◌, ◌≤◌, ◌^◌, length};
+    ghost use Rattle.std.specs.Prelude.{List};
     ghost use Rattle.std.specs.VecDeque.{deque_capacity};
     ghost use Rattle.jthreads.specs.declared.thread.Thread.{Thread};
-    ghost use Rattle.jthreads.specs.Kept.{AreCounted, AreNamed};
-    ghost use Rattle.jthreads.specs.Table.{runnable_numbers};
+    ghost use Rattle.jthreads.specs.Kept.{IsTable};
 
     ghost Value = { List Thread };
 
     ghost view = { λ a. a.all.items };
 
-    ghost invariant = { λ a. (length a.all.items ≤ 2 ^ 32) × AreCounted a.all.items a.queues.items × AreNamed a.all.items × (a.order.items ≡ runnable_numbers a.all.items) × (length a.all.items < deque_capacity a.order) };
+    ghost invariant = { λ a. IsTable a.all.items a.queues.items a.order.items (deque_capacity a.order) };
 }
 
 impl Threads {

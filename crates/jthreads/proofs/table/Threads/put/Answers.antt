@@ -1,6 +1,6 @@
-use Rattle.std.proofs.Common.{◌≡◌, ◌<◌, ap, arith, length, sym, ◌∙◌}
+use Rattle.std.proofs.Common.{◌<◌, ap, arith, length, sym, ◌∙◌}
 use Rattle.std.proofs.lemmas.List.{length-set}
-use Rattle.jthreads.specs.Table.{is_runnable, thread_at}
+use Rattle.jthreads.specs.Table.{is_runnable}
 use Rattle.jthreads.proofs.Keeping.{here, less_named, less_some, put_counted, put_named, put_order, runnable_few, within}
 use Rattle.jthreads.proofs.table.Threads.put.Goals as goal
 

@@ -1,4 +1,4 @@
-use Rattle.std.proofs.Common.{◌≡◌, ◌<◌, ap, arith, length, map, subst, sym, ◌∙◌}
+use Rattle.std.proofs.Common.{◌<◌, ap, arith, length, map, subst, sym, ◌∙◌}
 use Rattle.std.specs.Prelude.{IfSome}
 use Rattle.std.proofs.Math.Seq.{map-set_same}
 use Rattle.jthreads.specs.Table.{thread_at, unstarted, woken}
