@@ -73,8 +73,7 @@ impl<'a> Checking<'a> {
         if !self.enters(&first) {
             return Ok(None);
         }
-        let frame = self.frame_at(alloc, first, place)?;
-        Ok(frame)
+        self.frame_at(alloc, first, place)
     }
 }
 
@@ -131,8 +130,7 @@ fn frame_of(
         return Ok(None);
     };
     let m = method_of(alloc, p, i, class, method, body)?;
-    let frame = frame_in(alloc, p, uses, &m, place)?;
-    Ok(frame)
+    frame_in(alloc, p, uses, &m, place)
 }
 
 /// The frame before the instruction at a place of a method, where all that is tested before that one holds; None where something isn't, or
@@ -152,6 +150,5 @@ pub fn frame_before(
     let Some(method) = class.methods.as_slice().get(m.method as usize) else {
         return Ok(None);
     };
-    let frame = frame_of(alloc, p.named(), p.uses(), m.class, class, method, place)?;
-    Ok(frame)
+    frame_of(alloc, p.named(), p.uses(), m.class, class, method, place)
 }

@@ -187,8 +187,7 @@ fn with_this(
     if is_static {
         return Ok(in_order(p, params));
     }
-    let all = behind_this(p, class, is_init, params)?;
-    Ok(all)
+    behind_this(p, class, is_init, params)
 }
 
 /// A method with code of the class at a place, as typing sees it.

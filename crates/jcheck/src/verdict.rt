@@ -110,8 +110,7 @@ fn body_fault(
     if !c.enters(&first) {
         return Ok(Some(0));
     }
-    let at = c.walk(alloc, first)?;
-    Ok(at)
+    c.walk(alloc, first)
 }
 
 /// The place of the first test of a method that fails.
@@ -167,8 +166,7 @@ fn member_fault(
         return Ok(None);
     };
     let m = method_of(alloc, p, i, class, method, body)?;
-    let at = method_fault(alloc, p, uses, &m)?;
-    Ok(at)
+    method_fault(alloc, p, uses, &m)
 }
 
 /// The first test of the methods of a class that fails.
@@ -212,8 +210,7 @@ fn class_fault(
     ensures { IfOk result (λ o. option_map place_of o ≡ Typing.class_fault p.now i part.now) }
 {
     let class = part.class.parts();
-    let fault = methods_fault(alloc, p, uses, i, class)?;
-    Ok(fault)
+    methods_fault(alloc, p, uses, i, class)
 }
 
 /// The first test of a program's methods that fails: class by class, and in each method by method.
@@ -233,8 +230,7 @@ fn type_fault(alloc: Global, p: &NamedProgram, uses: &Uses) -> Result<Option<Pla
 fn fault_of(alloc: Global, p: &LinkedProgram) -> Result<Option<Place>, AllocError>
     ensures { IfOk result (λ o. option_map place_of o ≡ Typing.type_fault p.now) }
 {
-    let fault = type_fault(alloc, p.named(), p.uses())?;
-    Ok(fault)
+    type_fault(alloc, p.named(), p.uses())
 }
 
 /// Accepts a program exactly where it is well typed (JVMS 4.10.1.6), else hands it back unchanged with the first place where it isn't, or

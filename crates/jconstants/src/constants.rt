@@ -68,8 +68,7 @@ impl<'p> Constants<'p> {
         if known != 0 {
             return Ok(Some(known));
         }
-        let object = found(alloc, &self.table, class, index)?;
-        Ok(object)
+        found(alloc, &self.table, class, index)
     }
 
     /// The object of the constant whose text stands at an index of a class's pool. It is made where none of its units was; then it is
@@ -95,8 +94,7 @@ impl<'p> Constants<'p> {
         if known != 0 {
             return Ok(Some(known));
         }
-        let object = first_get::<M>(alloc, &mut self.table, heap, class, index)?;
-        Ok(object)
+        first_get::<M>(alloc, &mut self.table, heap, class, index)
     }
 
     /// The load of a string constant (JVMS 6.5: ldc), whose text stands at an index of a class's pool.

@@ -71,8 +71,7 @@ fn object_for<M>(
     if let Some(object) = object_of(&table.objects, units.as_slice()) {
         return Ok(Some(object));
     }
-    let object = make::<M>(alloc, table, heap, class, index, units)?;
-    Ok(object)
+    make::<M>(alloc, table, heap, class, index, units)
 }
 
 /// The object of the constant at an index of a class's pool, which isn't known by its index. From now on it is.

@@ -1,5 +1,5 @@
 -- What is answered to a command that makes the files of its job.
-use Rattle.std.proofs.Common.{◌≡◌, ◌≤◌, ◌∙◌, ℕ, List, [], Option, Some, None, Result, Ok, Err, refl, sym, ap, subst, arith}
+use Rattle.std.proofs.Common.{◌≡◌, ◌≤◌, ◌∙◌, ℕ, List, [], Option, Result, Ok, Err, refl, sym, ap, subst}
 use Rattle.std.specs.Prelude.{false, true}
 use Rattle.jio.specs.Held.{File}
 use Rattle.jperm.specs.declared.permission.Permission.{Permission}

@@ -1,5 +1,5 @@
 -- Words that are a command to make a job give it 1 to 1,000 classes.
-use Rattle.std.proofs.Common.{◌≡◌, ◌==◌, ◌≤◌, ◌<◌, ◌&&◌, ◌∙◌, ℕ, Bool, true, false, List, [], ◌∷◌, Option, Some, None, if◌then◌else◌, nat_le, refl, sym, ap, subst, arith}
+use Rattle.std.proofs.Common.{◌≡◌, ◌==◌, ◌≤◌, ◌&&◌, ℕ, Bool, true, false, List, [], ◌∷◌, Option, Some, None, if◌then◌else◌, nat_le, refl, subst, arith}
 use Rattle.std.specs.Prelude.{codes, is_some, length, option_and_then, option_map}
 use Rattle.std.specs.Str.{bytes_eq}
 use Rattle.std.specs.Str.Parse.{digits_value}
@@ -9,7 +9,7 @@ use Rattle.jjob.specs.declared.command.Command.TheVariants as commands
 use Rattle.jjob.specs.declared.command.Form.{Form}
 use Rattle.jjob.specs.JobNumbers.{is_number, number_up_to}
 use Rattle.jjob.specs.Limits.{most_seed, most_size}
-use Rattle.jjob.specs.Words.{Said, Word, by_verb, command, form_or_pass, generated, rewriting, said, sized, with_one, with_two}
+use Rattle.jjob.specs.Words.{Said, Word, by_verb, command, form_or_pass, said, sized, with_one, with_two}
 use Rattle.jdriver.specs.Answers.{IsSized}
 
 -- of each command that there may be

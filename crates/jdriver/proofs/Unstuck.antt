@@ -1,5 +1,5 @@
 -- No run that a job asks for is stuck: its program links, is of class files and well typed, and begins with the `main` of one of its classes.
-use Rattle.std.proofs.Common.{◌≡◌, ◌∙◌, ◌≤◌, ℕ, Bool, List, Option, Some, None, Result, Ok, length, refl, sym, ap, subst, arith}
+use Rattle.std.proofs.Common.{◌≡◌, ◌∙◌, ℕ, Bool, List, Some, None, Result, Ok, refl, sym, ap, subst}
 use Rattle.std.specs.List.{flat_map}
 use Rattle.jbase.specs.Each.{each}
 use Rattle.jbase.specs.Stops.{◌>>=◌}
@@ -13,7 +13,6 @@ use Rattle.jlib.specs.declared.side.Side.{Side}
 use Rattle.jlib.specs.declared.side.Side.TheVariants.{Passing, Source}
 use Rattle.jlink.specs.Coded.{AreFiles}
 use Rattle.jlink.specs.Links.{Links, link_fault}
-use Rattle.jpolicy.specs.declared.grant.Grant.{Grant}
 use Rattle.jprogram.specs.declared.member.MethodId.{MethodId}
 use Rattle.jprogram.specs.declared.part.CodePart.{CodePart}
 use Rattle.jprogram.specs.Classes.{Program, program}
@@ -40,7 +39,6 @@ use Rattle.jjob.specs.declared.command.Command.{Command}
 use Rattle.jjob.specs.declared.command.Command.TheVariants as commands
 use Rattle.jjob.specs.declared.command.Form.{Form}
 use Rattle.jjob.specs.declared.command.Form.TheVariants.{Inspect, Pass, Plain}
-use Rattle.jjob.specs.declared.job.Job.{Job}
 use Rattle.jjob.specs.Jobs.{job}
 use Rattle.jagain.specs.Again.{JobIsSmall}
 use Rattle.jpass.specs.Passing.{inspected, passed}
@@ -55,7 +53,6 @@ use Rattle.jtask.specs.Rewriting.{rewritten}
 use Rattle.jtask.specs.Stages.{Stopped, bytes_at, judged}
 use Rattle.jtask.specs.Tasks.{grants_at, ground_at, ground_in, job_read, part_at, run_at, run_in, run_of_ground, run_of_parts, runnable, side_of, task}
 use Rattle.jtask.proofs.Mains.{found_is}
-use Rattle.jdriver.specs.Headline.{RunsPassed}
 use Rattle.jdriver.specs.Unstuck.{AllGoOn, BothGoOn, ContextsGoOn, FramesGoOn, GoesOn, HoldBytes}
 use Rattle.jdriver.proofs.Binds.{bound}
 use Rattle.jdriver.proofs.Grounds.{Fine, is_fine}

@@ -11,7 +11,8 @@
 //!
 //! Proved: **the theorem on `javasec(alloc, words, shelf, out)`**, and on `dispatch(alloc, command, shelf, out)`, which is the same
 //! behind the words (docs/THEOREMS.md). `alike_law`, a function without a body: over a shelf that holds what `rewrite` stored, with the policy
-//! as it was, the form plain answers what the form pass answers of the first job: the same text and the same status.
+//! as it was, the form plain answers what the form pass answers of the first job: the same text and the same status. `unstuck_law`, likewise:
+//! no run that files ask for is ever stuck, in any form, and neither machine of the theorem is.
 //!
 //! Rooms of jobs and the top may name it, and tests.
 #![tactic(auto)]

@@ -168,7 +168,6 @@ impl Kept {
         requires inherited { Below (length self.now) inherited }
         ensures { IfOk result (λ v. v ≡ walk (has domains.now) asked.now (stack_of (things self.now) marks.now inherited)) }
     {
-        let verdict = self.table.walk(alloc, domains, marks, inherited, asked)?;
-        Ok(verdict)
+        self.table.walk(alloc, domains, marks, inherited, asked)
     }
 }

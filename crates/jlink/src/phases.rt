@@ -18,8 +18,7 @@ fn inner_fault(alloc: Global, program: &NamedProgram) -> Result<Option<LinkFault
     if let Some(fault) = members_fault(alloc, program)? {
         return Ok(Some(fault));
     }
-    let fault = code_fault(alloc, program)?;
-    Ok(fault)
+    code_fault(alloc, program)
 }
 
 /// The first rule of linking that a program breaks (JVMS 5.4): the phases one after the other, each over all classes in order.
@@ -36,6 +35,5 @@ pub(crate) fn link_fault(
     if let Some(fault) = program.supers_fault(alloc)? {
         return Ok(Some(fault));
     }
-    let fault = inner_fault(alloc, program)?;
-    Ok(fault)
+    inner_fault(alloc, program)
 }

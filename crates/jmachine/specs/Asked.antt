@@ -1,5 +1,5 @@
 -- What a step asks of access control: at most one thing, exactly where its call of the library passes its own tests; and what is answered.
-use Rattle.std.specs.Prelude.{◌≡◌, ℕ, List, [], ◌∷◌, length, map, Option, Some, None, IfSome, option_map, option_and_then, nat_le}
+use Rattle.std.specs.Prelude.{◌≡◌, ℕ, List, [], ◌∷◌, map, Option, Some, None, IfSome, option_map, option_and_then}
 use Rattle.std.specs.Int.{w32, cast_unsigned}
 use Rattle.jperm.specs.declared.permission.Permission as perms
 use Rattle.jdomain.specs.declared.verdict.Verdict.{Verdict}
@@ -34,7 +34,6 @@ use Rattle.jmachine.specs.Security.{Privilege, Rules, kept_in, permission_in}
 use Rattle.jmachine.specs.Sites.{Site}
 use Rattle.jmachine.specs.Steps.{fetched, site_of}
 use Rattle.jmachine.specs.Store.{Store, object_at, object_of}
-use Rattle.jmachine.specs.Turns.{thread_of}
 use Rattle.jmachine.specs.World.{world}
 
 -- ---- asks and answers

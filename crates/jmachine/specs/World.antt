@@ -1,5 +1,5 @@
 -- What the rows of the machine ask of a program. A moved program has the same world.
-use Rattle.std.specs.Prelude.{ℕ, Bool, true, false, ◌||◌, List, Option, Some, option_map}
+use Rattle.std.specs.Prelude.{ℕ, Bool, false, ◌||◌, List, Option, Some, option_map}
 use Rattle.jlib.specs.declared.classes.Thrown.TheVariants as thrown
 use Rattle.jlib.specs.declared.classes.LibClass.TheVariants as lib
 use Rattle.jtypes.specs.declared.vtype.Name.{Name}

@@ -143,8 +143,7 @@ fn class_fault(
     if let Some(fault) = methods_fault(alloc, &texts)? {
         return Ok(Some(fault));
     }
-    let fault = fields_fault(alloc, &texts)?;
-    Ok(fault)
+    fields_fault(alloc, &texts)
 }
 
 /// The first member that a class of a program may not declare: the place of its class, and its own among the methods, or past them among

@@ -1,6 +1,6 @@
 -- What the locals of a method hold where it begins, as its frames say it (JVMS 4.7.4, 4.10.1.6): `this`, where there is one, and the
 -- parameters.
-use Rattle.std.specs.Prelude.{ℕ, ◌+◌, Bool, ◌&&◌, ◌||◌, not, ◌==◌, List, [], ◌∷◌, ◌++◌, map, Option, Some, nat_lt, if◌then◌else◌}
+use Rattle.std.specs.Prelude.{ℕ, ◌+◌, Bool, ◌||◌, ◌==◌, List, [], ◌∷◌, ◌++◌, map, Option, Some, nat_lt, if◌then◌else◌}
 use Rattle.std.specs.Str.{byte}
 use Rattle.jpool.specs.declared.descriptor.Descriptor.{Descriptor}
 use Rattle.jpool.specs.declared.descriptor.Descriptor.TheVariants as descriptors

@@ -79,8 +79,7 @@ fn method_limit(
     let Some(b) = code_in(m) else {
         return Ok(slots_limit(c.class, m, params.as_slice()));
     };
-    let limit = code_limit(alloc, c, m, params.as_slice(), b)?;
-    Ok(limit)
+    code_limit(alloc, c, m, params.as_slice(), b)
 }
 
 /// The first limit that the methods of a class would break.

@@ -140,8 +140,7 @@ impl NamedProgram {
         if let Some(kind) = self.super_test(class) {
             return Ok(Some(kind));
         }
-        let circle = self.circle_unless(alloc, class, heights, ordered)?;
-        Ok(circle)
+        self.circle_unless(alloc, class, heights, ordered)
     }
 
     /// The first class that has no superclass or stands below one that isn't there, or below one that may not stand there, or above

@@ -68,8 +68,7 @@ impl Tables {
         ensures there { IfOk result (λ k. k < length self.new.longs) }
         ensures grown { IfOk result (λ k. Grown self.old self.new) }
     {
-        let number = put(&mut self.longs, n)?;
-        Ok(number)
+        put(&mut self.longs, n)
     }
 
     /// The number of a target.
@@ -77,8 +76,7 @@ impl Tables {
         ensures there { IfOk result (λ k. (k ≡ length self.old.targets) × (self.new.targets ≡ self.old.targets ++ to ∷ [])) }
         ensures grown { IfOk result (λ k. Grown self.old self.new) }
     {
-        let number = put(&mut self.targets, to)?;
-        Ok(number)
+        put(&mut self.targets, to)
     }
 
     /// Where some targets stand.
@@ -86,8 +84,7 @@ impl Tables {
         ensures there { IfOk result (λ s. (s.first ≡ length self.old.targets) × (s.count ≡ length more.now) × (self.new.targets ≡ self.old.targets ++ more.now)) }
         ensures grown { IfOk result (λ k. Grown self.old self.new) }
     {
-        let number = put_all(&mut self.targets, more)?;
-        Ok(number)
+        put_all(&mut self.targets, more)
     }
 
     /// Where some keys stand.
@@ -96,8 +93,7 @@ impl Tables {
         ensures there { IfOk result (λ s. AreThere self.new.keys s.first s.count) }
         ensures grown { IfOk result (λ k. Grown self.old self.new) }
     {
-        let number = put_all(&mut self.keys, more)?;
-        Ok(number)
+        put_all(&mut self.keys, more)
     }
 
     /// The number of a type of arrays.
@@ -105,8 +101,7 @@ impl Tables {
         ensures there { IfOk result (λ k. slice_get self.new.arrays k ≡ Some array) }
         ensures grown { IfOk result (λ k. Grown self.old self.new) }
     {
-        let number = put(&mut self.arrays, array)?;
-        Ok(number)
+        put(&mut self.arrays, array)
     }
 }
 

@@ -86,6 +86,5 @@ pub fn first_frame_test(
     if !any_frames(attributes) {
         return Ok(None);
     }
-    let fault = handed_at(alloc, home, handed, desc)?;
-    Ok(fault)
+    handed_at(alloc, home, handed, desc)
 }

@@ -72,8 +72,7 @@ fn method_test(
                 return Ok(Some(kind));
             }
             let attributes = attributes.as_slice();
-            let fault = frames_test(alloc, home, handed, table, method.desc, attributes)?;
-            return Ok(fault);
+            return frames_test(alloc, home, handed, table, method.desc, attributes);
         }
     }
     Ok(None)
@@ -123,8 +122,7 @@ fn class_fault(
         pool: &parts.pool,
     };
     let table = judge_pool(alloc, program, parts)?;
-    let fault = methods_fault(alloc, i, home, table.as_slice(), parts.methods.as_slice())?;
-    Ok(fault)
+    methods_fault(alloc, i, home, table.as_slice(), parts.methods.as_slice())
 }
 
 /// The first unit of a method's code that names a class that isn't there or that its class may not name, or what is left out, or a

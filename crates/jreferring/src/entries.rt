@@ -46,8 +46,7 @@ fn nameless_use(
         name: &[],
         desc: &[],
     };
-    let one = use_by_texts(alloc, home, sort, None, texts)?;
-    Ok(one)
+    use_by_texts(alloc, home, sort, None, texts)
 }
 
 /// What a reference may be used for that has these texts.
@@ -63,8 +62,7 @@ fn named_use(
         ≡ Looking.named_use home.entry.program.now home.entry.from.now sort texts.entry.owner.now texts.entry.name.now texts.entry.desc.now) }
 {
     let member = resolved(alloc, home.program, sort, texts)?;
-    let one = use_by_texts(alloc, home, sort, member, texts)?;
-    Ok(one)
+    use_by_texts(alloc, home, sort, member, texts)
 }
 
 /// What a reference may be used for that isn't one to a Class entry and a NameAndType entry.
@@ -81,16 +79,14 @@ fn odd_reference(
 {
     let owner = class_text(home.pool, class);
     let Some((name, desc)) = home.pool.name_and_type(both) else {
-        let one = nameless_use(alloc, home, sort, owner)?;
-        return Ok(one);
+        return nameless_use(alloc, home, sort, owner);
     };
     let texts = Texts {
         owner,
         name: text_at(home.pool, name),
         desc: text_at(home.pool, desc),
     };
-    let one = named_use(alloc, home, sort, texts)?;
-    Ok(one)
+    named_use(alloc, home, sort, texts)
 }
 
 /// What a reference may be used for, by the indices of its class and of its name and type.
@@ -109,11 +105,9 @@ fn reference(
     ensures kept { OnOk result (AreKnown home.entry.program.now home.entry.from.now home.entry.pool.now known.new) }
 {
     let Some(at) = Indices::of(home.pool, class, both) else {
-        let one = odd_reference(alloc, home, sort, class, both)?;
-        return Ok(one);
+        return odd_reference(alloc, home, sort, class, both);
     };
-    let one = named_at(alloc, home, known, sort, at)?;
-    Ok(one)
+    named_at(alloc, home, known, sort, at)
 }
 
 fn member(
@@ -199,6 +193,5 @@ pub fn judge_pool(
         from: this_name(class),
         pool: &class.pool,
     };
-    let table = judge_all(alloc, home, class.pool.entries())?;
-    Ok(table)
+    judge_all(alloc, home, class.pool.entries())
 }

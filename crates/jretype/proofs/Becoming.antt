@@ -61,7 +61,7 @@ use Rattle.jmoved.specs.Ranges.{IsRange}
 use Rattle.jmoved.proofs.Framing.{written}
 use Rattle.jmoved.proofs.Leading.{within}
 use Rattle.jmoveclass.specs.Beginning as begun
-use Rattle.jmoveclass.specs.Beginning.{bare_beginning, params_in, slots, with_beginning}
+use Rattle.jmoveclass.specs.Beginning.{params_in, slots}
 use Rattle.jmoveclass.specs.Calls.{expands}
 use Rattle.jmoveclass.specs.Methods as class
 use Rattle.jmoveclass.specs.Methods.{frames_of, maps_name, method_in, moved_maps, or_none, with_code, with_first}
@@ -88,12 +88,12 @@ use Rattle.jpool.specs.declared.descriptor.Descriptor.{Descriptor}
 use Rattle.jprogram.specs.Parts.{code_of, is_static, member_desc, or_empty, this_name}
 use Rattle.jprogram.proofs.Numbers.{own_number}
 use Rattle.juses.specs.Instructions.{instruction, instruction_at}
-use Rattle.juses.specs.Meanings.{Call, CallMeaning, as_class}
+use Rattle.juses.specs.Meanings.{as_class}
 use Rattle.juses.specs.Meanings as meanings
 use Rattle.juses.specs.Typed.{Typed, is_context, name, there, type_in, type_of}
 use Rattle.jrule.specs.Uses.{throwable}
 use Rattle.jtyping.specs.Declared as typing
-use Rattle.jtyping.specs.Declared.{Written, item, or_top}
+use Rattle.jtyping.specs.Declared.{item, or_top}
 use Rattle.jtyping.specs.Methods.{Method, method_of, params_of, receiver}
 use Rattle.jtyping.specs.Typed.{IsTyped}
 use Rattle.jtyping.specs.Typing.{WellTyped, caught_type, method_fault}

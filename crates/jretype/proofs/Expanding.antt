@@ -22,7 +22,7 @@ use Rattle.juses.specs.declared.meaning.How.TheVariants as how
 use Rattle.juses.specs.Instructions as instructions
 use Rattle.juses.specs.Instructions.{Array, Instruction, Jump, Local, Return, Simple, Stack, Switch, Test, Throw, Used}
 use Rattle.juses.specs.Meanings as meanings
-use Rattle.juses.specs.Meanings.{Call, CallMeaning, array_meant, meant}
+use Rattle.juses.specs.Meanings.{Call, CallMeaning}
 use Rattle.jlink.proofs.Having.{map_is, then_is}
 use Rattle.jrule.specs.Here.{Here}
 use Rattle.jrule.specs.Operands.{with_stack}

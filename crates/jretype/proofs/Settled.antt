@@ -22,7 +22,7 @@ use Rattle.jprogram.specs.declared.member.Member.{Member}
 use Rattle.jprogram.specs.Classes.{Program}
 use Rattle.jprogram.specs.Members.{resolve_field, resolve_method}
 use Rattle.juses.specs.Meanings as meanings
-use Rattle.juses.specs.Meanings.{AClass, AConstant, AField, AMethod, CallMeaning, EntryMeaning, FieldMeaning, Meaning, Reference, array_made, array_meant, as_class, call_as, call_meant, class_at, entry_meant, field_as, field_meant, meant, reference, used}
+use Rattle.juses.specs.Meanings.{AClass, AConstant, AField, AMethod, CallMeaning, EntryMeaning, Meaning, Reference, array_made, array_meant, as_class, call_as, call_meant, class_at, entry_meant, field_as, field_meant, meant, reference, used}
 use Rattle.juses.specs.Typed.{Called, Held, Typed, Untyped, array_over, called, class_by, class_of, class_type, element_in, held, is_context, name, return_in, there, type_in, type_of, typed, typed_as}
 use Rattle.jrule.specs.Further.{is_unready}
 use Rattle.jrule.proofs.Swapping.{any_reversed}

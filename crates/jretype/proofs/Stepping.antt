@@ -11,7 +11,7 @@ use Rattle.jcode.specs.declared.op.Op.{Op}
 use Rattle.jcode.specs.declared.op.Placed.{Placed}
 use Rattle.jcode.specs.declared.op.Switch.{Switch as SwitchOp}
 use Rattle.jcode.specs.Forms as codes_of
-use Rattle.jcode.specs.Forms.{branches, form, goes_on}
+use Rattle.jcode.specs.Forms.{form}
 use Rattle.jcode.specs.Instructions.{code, covers}
 use Rattle.jclass.specs.declared.class.CodeAttribute.{CodeAttribute}
 use Rattle.jclass.specs.declared.class.CodeBody.{CodeBody}
@@ -24,7 +24,7 @@ use Rattle.jtypes.specs.declared.vtype.Name.{Name}
 use Rattle.jtypes.specs.declared.vtype.VType.{VType}
 use Rattle.jtypes.specs.declared.vtype.VType.TheVariants.{Top, Int, Long, Null, UninitThis, Uninit, Object, Array, Ctx}
 use Rattle.jtypes.specs.Frames as frames
-use Rattle.jtypes.specs.Frames.{Frame, all_fit, slots, within}
+use Rattle.jtypes.specs.Frames.{Frame, slots}
 use Rattle.jtypes.specs.Tree.{Tree}
 use Rattle.jmove.specs.declared.method.Expand.{Expand}
 use Rattle.jmove.specs.declared.method.Setting.{Setting}

@@ -1,6 +1,5 @@
 -- Runs of programs that link and are well typed.
 use Rattle.std.specs.Prelude.{◌≡◌, ℕ, List, Some}
-use Rattle.jprogram.specs.declared.member.MethodId.{MethodId}
 use Rattle.jprogram.specs.Classes.{Program}
 use Rattle.jprogram.specs.Members.{main_of}
 use Rattle.jlink.specs.Coded.{AreFiles}

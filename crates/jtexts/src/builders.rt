@@ -283,8 +283,7 @@ fn units_of(alloc: Global, heap: &Heap, b: u32) -> Result<Vec<u16>, AllocError>
     ensures { IfOk result (λ units. units.items ≡ built_from heap.now.objects (last_piece heap.now b)) }
 {
     let pieces = pieces_of(alloc, heap, last_of(heap, b))?;
-    let units = read_pieces(alloc, heap, pieces)?;
-    Ok(units)
+    read_pieces(alloc, heap, pieces)
 }
 
 /// StringBuilder's `toString`: a new string of what it holds.

@@ -29,8 +29,7 @@ fn decimal_int(alloc: Global, x: i32) -> Result<Units, AllocError>
     ensures { IfOk result (λ units. units ≡ signed_decimal x) }
 {
     let mut digits = Buffer::new();
-    let units = widened(alloc, digits.format(x).as_bytes())?;
-    Ok(units)
+    widened(alloc, digits.format(x).as_bytes())
 }
 
 /// A long in decimal digits.
@@ -38,8 +37,7 @@ fn decimal_long(alloc: Global, x: i64) -> Result<Units, AllocError>
     ensures { IfOk result (λ units. units ≡ signed_decimal x) }
 {
     let mut digits = Buffer::new();
-    let units = widened(alloc, digits.format(x).as_bytes())?;
-    Ok(units)
+    widened(alloc, digits.format(x).as_bytes())
 }
 
 /// The lowest 16 bits of an int, as a text of one unit.
@@ -56,11 +54,9 @@ fn flag_text(alloc: Global, x: i32) -> Result<Units, AllocError>
     ensures { IfOk result (λ units. units ≡ zero_text (int_eq x (pos 0))) }
 {
     if x == 0 {
-        let units = widened(alloc, b"false")?;
-        return Ok(units);
+        return widened(alloc, b"false");
     }
-    let units = widened(alloc, b"true")?;
-    Ok(units)
+    widened(alloc, b"true")
 }
 
 /// The int that a value is.
@@ -134,8 +130,7 @@ fn value_text(alloc: Global, piece: Piece, value: Value) -> Result<Option<Units>
     let Some(x) = int_of(value) else {
         return Ok(None);
     };
-    let text = int_text(alloc, piece, x)?;
-    Ok(text)
+    int_text(alloc, piece, x)
 }
 
 /// What a value is printed as where it is a long.
@@ -159,25 +154,10 @@ pub(crate) fn shown(
     ensures { IfOk result (λ units. units ≡ shown_as heap.now piece value) }
 {
     match piece {
-        Piece::Text => {
-            let text = text_shown(alloc, heap, value)?;
-            Ok(text)
-        }
-        Piece::Long => {
-            let text = long_text(alloc, value)?;
-            Ok(text)
-        }
-        Piece::Int => {
-            let text = value_text(alloc, Piece::Int, value)?;
-            Ok(text)
-        }
-        Piece::Char => {
-            let text = value_text(alloc, Piece::Char, value)?;
-            Ok(text)
-        }
-        Piece::Bool => {
-            let text = value_text(alloc, Piece::Bool, value)?;
-            Ok(text)
-        }
+        Piece::Text => text_shown(alloc, heap, value),
+        Piece::Long => long_text(alloc, value),
+        Piece::Int => value_text(alloc, Piece::Int, value),
+        Piece::Char => value_text(alloc, Piece::Char, value),
+        Piece::Bool => value_text(alloc, Piece::Bool, value),
     }
 }

@@ -25,7 +25,7 @@ use Rattle.jmachine.specs.Doing.{run}
 use Rattle.jmachine.specs.Library.{library}
 use Rattle.jmachine.specs.Objects.{Object, Permission}
 use Rattle.jmachine.specs.Permissions as rows
-use Rattle.jmachine.specs.Permissions.{Given, class_of, constructed, fault_class, made_in, named, named_with, text, with_value}
+use Rattle.jmachine.specs.Permissions.{class_of, constructed, fault_class, made_in, text, with_value}
 use Rattle.jmachine.specs.Security.{Rules}
 use Rattle.jmachine.specs.Sites.{Site}
 use Rattle.jmachine.specs.Store.{Store, object_at, with_object}

@@ -1,9 +1,8 @@
 -- The references that the code of a class names, by the place among a method's instructions.
-use Rattle.std.proofs.Common.{◌≡◌, ℕ, Option, Some, None, refl, sym, ◌∙◌}
+use Rattle.std.proofs.Common.{◌≡◌, ℕ, Option, Some, None, refl, sym}
 use Rattle.std.specs.Prelude.{option_and_then, option_map, slice_get}
 use Rattle.jcode.specs.declared.op.Placed.{Placed}
 use Rattle.jcode.specs.Forms.{form}
-use Rattle.jclass.specs.declared.class.ClassParts.{ClassParts}
 use Rattle.jclass.specs.declared.class.CodeBody.{CodeBody}
 use Rattle.jclass.specs.declared.class.MemberInfo.{MemberInfo}
 use Rattle.jprogram.specs.declared.member.MethodId.{MethodId}
