@@ -5,6 +5,7 @@ use Rattle.std.proofs.lemmas.List.{length-map}
 use Rattle.std.proofs.lemmas.Option.{slice_get-map}
 use Rattle.jcode.specs.declared.names.Element.{Element}
 use Rattle.jcode.specs.declared.names.Element.TheVariants as items
+use Rattle.jcode.specs.declared.names.ArrayType.{ArrayType as ArrayKind}
 use Rattle.jcode.specs.declared.form.ArrayForm.TheVariants as forms
 use Rattle.jnames.specs.declared.kinds.Kind.TheVariants as wanted
 use Rattle.jheap.specs.declared.cell.CellType.{CellType}
@@ -38,10 +39,12 @@ use Rattle.jmachine.specs.Operands.{Taken, serves, serves_as, taken}
 use Rattle.jmachine.specs.Store.{Store, object_at}
 use Rattle.jmachine.specs.World.{World}
 use Rattle.jstate.specs.declared.shapes.Shapes.{Shapes}
-use Rattle.jstate.specs.Seen.{Things, array_at, item_type, store_by}
+use Rattle.jstate.specs.Arrays.{element_of, numbers_at}
+use Rattle.jstate.specs.Seen.{Things, array_at, element_type, item_type, row_at, store_by}
+use Rattle.jstate.proofs.Saying.{typed_row, typed_said}
 use Rattle.jacts.specs.declared.arrays.Found.{Found}
 use Rattle.jacts.specs.declared.arrays.Found.TheVariants as found
-use Rattle.jacts.specs.Accesses.{held_as, item_in, items_by, with_items}
+use Rattle.jacts.specs.Accesses.{cell_for, held_as, item_in, items_by, with_items}
 use Rattle.jacts.specs.Items.{array_found, array_seen}
 use Rattle.jacts.specs.Ways.{Acts, int_in, leaves}
 use Rattle.jacts.specs.declared.way.Way.TheVariants as ways
@@ -63,6 +66,69 @@ held_named p (elements.Class c) = refl
 
 pub items_named : (p : Program) (a : ArrayRef) → items_of (array_named p a) ≡ items_by a
 items_named p a = ap (λ e. if nat_lt 1 a.depth then items.Ref else e) (held_named p a.element)
+
+-- where the number of the arrays says them,
+pub items_said : (shapes : Shapes) (n : ℕ) (kind : ArrayKind) → Some kind ≡ numbers_at n → held_as (element_of kind) ≡ items_by (array_at shapes n)
+items_said shapes n kind says = sym (ap items_by (typed_said shapes n kind says))
+
+-- and where it is a row
+pub items_row : (shapes : Shapes) (n : ℕ) → None ≡ numbers_at n → items_by (row_at shapes n) ≡ items_by (array_at shapes n)
+items_row shapes n none = sym (ap items_by (typed_row shapes n none))
+
+pub same_is : (x y : Element) → same_items x y ≡ true → x ≡ y
+same_is items.Int items.Int h = refl
+same_is items.Int items.Long h = cc
+same_is items.Int items.Ref h = cc
+same_is items.Int items.Byte h = cc
+same_is items.Int items.Char h = cc
+same_is items.Int items.Short h = cc
+same_is items.Long items.Int h = cc
+same_is items.Long items.Long h = refl
+same_is items.Long items.Ref h = cc
+same_is items.Long items.Byte h = cc
+same_is items.Long items.Char h = cc
+same_is items.Long items.Short h = cc
+same_is items.Ref items.Int h = cc
+same_is items.Ref items.Long h = cc
+same_is items.Ref items.Ref h = refl
+same_is items.Ref items.Byte h = cc
+same_is items.Ref items.Char h = cc
+same_is items.Ref items.Short h = cc
+same_is items.Byte items.Int h = cc
+same_is items.Byte items.Long h = cc
+same_is items.Byte items.Ref h = cc
+same_is items.Byte items.Byte h = refl
+same_is items.Byte items.Char h = cc
+same_is items.Byte items.Short h = cc
+same_is items.Char items.Int h = cc
+same_is items.Char items.Long h = cc
+same_is items.Char items.Ref h = cc
+same_is items.Char items.Byte h = cc
+same_is items.Char items.Char h = refl
+same_is items.Char items.Short h = cc
+same_is items.Short items.Int h = cc
+same_is items.Short items.Long h = cc
+same_is items.Short items.Ref h = cc
+same_is items.Short items.Byte h = cc
+same_is items.Short items.Char h = cc
+same_is items.Short items.Short h = refl
+
+-- the cells of arrays with such items
+held_cell : (el : ElementRef) → element_type el ≡ cell_for (held_as el)
+held_cell elements.Boolean = refl
+held_cell elements.Char = refl
+held_cell elements.Byte = refl
+held_cell elements.Short = refl
+held_cell elements.Int = refl
+held_cell elements.Long = refl
+held_cell (elements.Class c) = refl
+
+pub cell_is : (e : Element) (a : ArrayRef) → e ≡ items_by a → item_type a ≡ cell_for e
+cell_is e a same = by (nat_lt 1 a.depth) refl ∙ ap cell_for (sym same)
+  where
+    by : (b : Bool) → nat_lt 1 a.depth ≡ b → item_type a ≡ cell_for (items_by a)
+    by true is = rw is refl
+    by false is = rw is (held_cell a.element)
 
 -- what is no array has no items
 type_no_items : (e : Element) (t : VType) → rules.is_array t ≡ false → rules.holds e t ≡ false
@@ -113,6 +179,9 @@ module _ (shapes : Shapes) where
       neither : (t : Bool) → found.Null ≡ (if t then found.Array m b else found.Other) → found.Null ≡ found.Array m b
       neither true h = cc
       neither false h = cc
+
+  pub cell_kept : (e : Element) (n a : ℕ) (x : Found) → found.Array n a ≡ with_items shapes e x → item_type (array_at shapes a) ≡ cell_for e
+  cell_kept e n a x h = cell_is e (array_at shapes a) (same_is e (items_by (array_at shapes a)) (kept_array e n a x h).1)
 
 module _ (p : Program) (shapes : Shapes) (things : Things) (constants : List (List ℕ × ℕ)) (h : Heaped) where
   abbrev known : Store ℕ

@@ -6,13 +6,12 @@ use Rattle.std.proofs.lemmas.List.{length-map}
 use Rattle.jcode.specs.declared.names.Element.{Element}
 use Rattle.jcode.specs.declared.names.Element.TheVariants as items
 use Rattle.jcode.specs.declared.form.ArrayForm.TheVariants as forms
+use Rattle.jcode.specs.declared.names.ArrayType.{ArrayType as ArrayKind}
 use Rattle.jcode.specs.Forms.{element}
 use Rattle.jnames.specs.declared.kinds.Kind.{Kind}
 use Rattle.jnames.specs.declared.kinds.Kind.TheVariants as wanted
 use Rattle.jheap.specs.declared.cell.Kind.{Kind as CellKind}
 use Rattle.jheap.specs.declared.cell.Kind.TheVariants as kinds
-use Rattle.jheap.specs.declared.cell.CellType.{CellType}
-use Rattle.jheap.specs.declared.cell.CellType.TheVariants as cells
 use Rattle.jheap.specs.Heaps as heaps
 use Rattle.jheap.specs.Heaps.{Heaped, cells_at, with_cell}
 use Rattle.jheap.specs.Raw.{of_raw, raw}
@@ -33,10 +32,8 @@ use Rattle.jtypes.specs.declared.vtype.VType.{VType}
 use Rattle.jtypes.specs.declared.vtype.VType.TheVariants as types
 use Rattle.jtypes.specs.Described.{alone, in_brackets}
 use Rattle.juses.specs.declared.types.ArrayRef.{ArrayRef}
-use Rattle.juses.specs.declared.types.ElementRef.{ElementRef}
-use Rattle.juses.specs.declared.types.ElementRef.TheVariants as refs
 use Rattle.juses.specs.Instructions as instructions
-use Rattle.juses.specs.Types.{array_named}
+use Rattle.juses.specs.Types.{array_named, element_named}
 use Rattle.jmachine.specs.Acts.{FrameOf}
 use Rattle.jmachine.specs.Arrays as rows
 use Rattle.jmachine.specs.Arrays.{Items}
@@ -50,59 +47,23 @@ use Rattle.jmachine.specs.World.{World, is_instance}
 use Rattle.jstate.specs.declared.shapes.Shapes.{Shapes}
 use Rattle.jstate.specs.Celled.{StayCelled, WrittenStaysCelled}
 use Rattle.jstate.specs.Framed.{Framed}
-use Rattle.jstate.specs.Seen.{AreBuilt, Things, array_at, element_type, item_type, kind_by, store_by}
+use Rattle.jstate.specs.Arrays.{element_of, numbers_at}
+use Rattle.jstate.specs.Seen.{AreBuilt, Things, array_at, item_type, kind_by, row_at, store_by}
 use Rattle.jstate.specs.SeenLaws.{IsNoPiece, NamesNone, Writes, WritesItem, WrittenStaysBuilt}
+use Rattle.jstate.proofs.Saying.{typed_row, typed_said}
 use Rattle.jacts.specs.declared.arrays.Found.TheVariants as found
-use Rattle.jacts.specs.Accesses.{HasPut, held_as, items_by, kept_if, with_items}
+use Rattle.jacts.specs.Accesses.{HasPut, cell_for, items_by, kept_if, with_items}
 use Rattle.jacts.specs.Items.{array_found, array_seen}
 use Rattle.jacts.specs.Ways.{Acts, int_in, leaves}
 use Rattle.jacts.specs.declared.way.Way.{Way}
 use Rattle.jacts.specs.declared.way.Way.TheVariants as ways
-use Rattle.jacts.proofs.Accessing.{array_items, items_named, kept_array, kept_null, serves_not}
+use Rattle.jacts.proofs.Accessing.{array_items, cell_is, items_named, kept_array, kept_null, same_is, serves_not}
 use Rattle.jacts.proofs.Arraying.{IsHere, front_null, is_here}
 use Rattle.jacts.proofs.Costs.{goes_free}
 use Rattle.jacts.proofs.Jumping.{no_int}
 use Rattle.jacts.proofs.Numbers.{IsNumber, none_of, serves_by}
 
 -- ---- numbers in arrays
-
-same_is : (x y : Element) → same_items x y ≡ true → x ≡ y
-same_is items.Int items.Int h = refl
-same_is items.Int items.Long h = cc
-same_is items.Int items.Ref h = cc
-same_is items.Int items.Byte h = cc
-same_is items.Int items.Char h = cc
-same_is items.Int items.Short h = cc
-same_is items.Long items.Int h = cc
-same_is items.Long items.Long h = refl
-same_is items.Long items.Ref h = cc
-same_is items.Long items.Byte h = cc
-same_is items.Long items.Char h = cc
-same_is items.Long items.Short h = cc
-same_is items.Ref items.Int h = cc
-same_is items.Ref items.Long h = cc
-same_is items.Ref items.Ref h = refl
-same_is items.Ref items.Byte h = cc
-same_is items.Ref items.Char h = cc
-same_is items.Ref items.Short h = cc
-same_is items.Byte items.Int h = cc
-same_is items.Byte items.Long h = cc
-same_is items.Byte items.Ref h = cc
-same_is items.Byte items.Byte h = refl
-same_is items.Byte items.Char h = cc
-same_is items.Byte items.Short h = cc
-same_is items.Char items.Int h = cc
-same_is items.Char items.Long h = cc
-same_is items.Char items.Ref h = cc
-same_is items.Char items.Byte h = cc
-same_is items.Char items.Char h = refl
-same_is items.Char items.Short h = cc
-same_is items.Short items.Int h = cc
-same_is items.Short items.Long h = cc
-same_is items.Short items.Ref h = cc
-same_is items.Short items.Byte h = cc
-same_is items.Short items.Char h = cc
-same_is items.Short items.Short h = refl
 
 abbrev IsNumbers : Element → Type 0
 IsNumbers e = same_items items.Ref e ≡ false
@@ -187,31 +148,6 @@ may_be_stored w s e n v of t same =
 
 -- ---- cells of numbers
 
-abbrev cell_for : Element → CellType
-cell_for items.Long = cells.Long
-cell_for e = cells.Int
-
-held_cell : (el : ElementRef) → IsNumbers (held_as el) → element_type el ≡ cell_for (held_as el)
-held_cell refs.Boolean n = refl
-held_cell refs.Char n = refl
-held_cell refs.Byte n = refl
-held_cell refs.Short n = refl
-held_cell refs.Int n = refl
-held_cell refs.Long n = refl
-held_cell (refs.Class c) n = cc
-
-cell_is : (e : Element) → IsNumbers e → (a : ArrayRef) → e ≡ items_by a → item_type a ≡ cell_for e
-cell_is e n a same = by (nat_lt 1 a.depth) refl
-  where
-    by : (b : Bool) → nat_lt 1 a.depth ≡ b → item_type a ≡ cell_for e
-    by true is =
-        let ref : e ≡ items.Ref = same ∙ ap (λ b. if b then items.Ref else held_as a.element) is in
-        let other = ap (same_items items.Ref) (sym ref) ∙ n in
-        cc
-    by false is =
-        let one : e ≡ held_as a.element = same ∙ ap (λ b. if b then items.Ref else held_as a.element) is in
-        rw (is, one) (held_cell a.element (ap (same_items items.Ref) (sym one) ∙ n))
-
 kept_type : (e : Element) → IsNumbers e → (held : Option elements_of.Element) (v : Value ℕ) → is_of (element e) v ≡ true → numbers.type_of (narrowed held v) ≡ cell_for e
 kept_type items.Int n None (Int x) h = refl
 kept_type items.Int n (Some el) (Int x) h = refl
@@ -242,6 +178,16 @@ kept_type items.Short n (Some el) (Int x) h = refl
 kept_type items.Short n held (Long x) h = cc
 kept_type items.Short n held (Ref m) h = cc
 kept_type items.Short n held (Ctx k) h = cc
+
+-- what is left of a value, where the number of the arrays says what they hold,
+pub held_said : (p : Program) (shapes : Shapes) (n : ℕ) (kind : ArrayKind) (v : Value ℕ) → Some kind ≡ numbers_at n
+    → narrowed (Some (element_named p (element_of kind))) v ≡ narrowed (held_by (array_named p (array_at shapes n))) v
+held_said p shapes n kind v says = sym (ap (λ (a : ArrayRef). narrowed (held_by (array_named p a)) v) (typed_said shapes n kind says))
+
+-- and where it is a row
+pub held_row : (p : Program) (shapes : Shapes) (n : ℕ) (v : Value ℕ) → None ≡ numbers_at n
+    → narrowed (held_by (array_named p (row_at shapes n))) v ≡ narrowed (held_by (array_named p (array_at shapes n))) v
+held_row p shapes n v none = sym (ap (λ (a : ArrayRef). narrowed (held_by (array_named p a)) v) (typed_row shapes n none))
 
 -- ---- operands
 
@@ -444,7 +390,7 @@ module _ {E : Type 0} (law : Writes) (item : WritesItem) (p : Program) (shapes :
   put_by way (Some k) at (went, inside, back, heap, frames) =
       let seen = (kept_array shapes e o a (array_seen h (slice_get s.newest.operands 2)) is) in
       let there = is_there h o a (slice_get s.newest.operands 2) seen.0 in
-      let type = cell_is e n (array_at shapes a) (same_is e (items_by (array_at shapes a)) seen.1) in
+      let type = cell_is e (array_at shapes a) (same_is e (items_by (array_at shapes a)) seen.1) in
       let same : item_type (array_at shapes a) ≡ numbers.type_of kept = type ∙ sym (ap numbers.type_of narrow ∙ kept_type e n (held_by (array_named p (array_at shapes a))) v third.of) in
       let gives = ap (λ c. of_raw c (raw kept)) same ∙ back in
       let store = is_put p shapes things constants h law item o a k kept there gives in

@@ -3,6 +3,7 @@ use Rattle.std.specs.Prelude.{◌≡◌, ◌<◌, ◌+◌, ℕ, ℤ, drop, lengt
 use Rattle.jcode.specs.declared.names.Element.{Element}
 use Rattle.jcode.specs.declared.names.Element.TheVariants as items
 use Rattle.jheap.specs.declared.cell.CellType.{CellType}
+use Rattle.jheap.specs.declared.cell.CellType.TheVariants as cells
 use Rattle.jheap.specs.Heaps.{Heaped, cells_at, with_cell}
 use Rattle.jheap.specs.Raw.{of_raw, raw, type_of}
 use Rattle.jlib.specs.declared.classes.LibClass.{LibClass}
@@ -39,6 +40,12 @@ held_as (elements.Class c) = items.Ref
 -- an array of more dimensions than one holds arrays
 abbrev pub items_by : ArrayRef → Element
 items_by a = if nat_lt 1 a.depth then items.Ref else held_as a.element
+
+-- the type of the cells of arrays with such items
+abbrev pub cell_for : Element → CellType
+cell_for items.Long = cells.Long
+cell_for items.Ref = cells.Ref
+cell_for e = cells.Int
 
 -- an operand that is wanted to be an array with such items
 abbrev pub with_items : Shapes → Element → Found → Found

@@ -6,7 +6,6 @@ ghost use Rattle.jmachine.specs.Narrowing.{place as place_of};
 ghost use Rattle.jprogram.specs.Classes.{Program};
 ghost use Rattle.jrule.specs.Effects.{same_items};
 ghost use Rattle.juses.specs.Instructions as instructions;
-ghost use Rattle.jstate.specs.Seen;
 ghost use Rattle.jstate.specs.Seen.{Things, array_at as shape_at, store_by};
 ghost use Rattle.jacts.specs.Accesses;
 ghost use Rattle.jacts.specs.Accesses.{with_items};
@@ -21,49 +20,24 @@ use jcode::Element;
 use jheap::{CellType, Heap};
 use jlib::{LibClass, Thrown};
 use jops::Value;
-use jstate::{Frames, Shapes};
+use jstate::{Frames, Shapes, element_of, numbers_at, row_type};
 use juses::{ArrayRef, ElementRef};
 
-// ---- the types of arrays
+// ---- what arrays hold
 
-/// The type of the arrays of a number.
+/// The type of the cells of arrays with such items.
 #[inline]
-pub(crate) fn array_type(shapes: &Shapes, number: u32) -> ArrayRef
-    ensures { result ≡ shape_at shapes.now number }
+fn cell_for(e: Element) -> CellType
+    ensures { result ≡ Accesses.cell_for e }
 {
-    match shapes.arrays.as_slice().get(number as usize) {
-        None => ArrayRef {
-            depth: 1,
-            element: ElementRef::Int,
-        },
-        Some(a) => *a,
+    match e {
+        Element::Int => CellType::Int,
+        Element::Long => CellType::Long,
+        Element::Ref => CellType::Ref,
+        Element::Byte => CellType::Int,
+        Element::Char => CellType::Int,
+        Element::Short => CellType::Int,
     }
-}
-
-#[inline]
-fn element_type(element: ElementRef) -> CellType
-    ensures { result ≡ Seen.element_type element }
-{
-    match element {
-        ElementRef::Boolean => CellType::Int,
-        ElementRef::Char => CellType::Int,
-        ElementRef::Byte => CellType::Int,
-        ElementRef::Short => CellType::Int,
-        ElementRef::Int => CellType::Int,
-        ElementRef::Long => CellType::Long,
-        ElementRef::Class(_) => CellType::Ref,
-    }
-}
-
-/// The type of an array's cells.
-#[inline]
-fn item_type(a: ArrayRef) -> CellType
-    ensures { result ≡ Seen.item_type a }
-{
-    if 1 < a.depth {
-        return CellType::Ref;
-    }
-    element_type(a.element)
 }
 
 #[inline]
@@ -81,7 +55,7 @@ fn held_as(element: ElementRef) -> Element
     }
 }
 
-/// What an array holds, as loads and stores tell it apart.
+/// What an array of a type holds, as loads and stores tell it apart.
 #[inline]
 fn items_by(a: ArrayRef) -> Element
     ensures { result ≡ Accesses.items_by a }
@@ -90,6 +64,18 @@ fn items_by(a: ArrayRef) -> Element
         return Element::Ref;
     }
     held_as(a.element)
+}
+
+/// What the arrays of a number of the heap hold. Where the number says it, no type is looked up.
+#[inline]
+#[tactic(auto, using(crate::proofs::Accessing::items_said, crate::proofs::Accessing::items_row))]
+fn items_of(shapes: &Shapes, number: u32) -> Element
+    ensures { result ≡ Accesses.items_by (shape_at shapes.now number) }
+{
+    match numbers_at(number) {
+        None => items_by(row_type(shapes, number)),
+        Some(kind) => held_as(element_of(kind)),
+    }
 }
 
 #[inline]
@@ -121,7 +107,7 @@ pub(crate) fn items_at<M: Copy>(
         Found::Other => Found::Other,
         Found::Null => Found::Null,
         Found::Array(o, a) => {
-            if is_same(e, items_by(array_type(shapes, a))) {
+            if is_same(e, items_of(shapes, a)) {
                 return Found::Array(o, a);
             }
             Found::Other
@@ -180,7 +166,7 @@ pub fn array_load<M: Copy>(frames: &mut Frames<M>, heap: &Heap, shapes: &Shapes,
     match items_at(frames, heap, shapes, 1, e) {
         Found::Other => Way::Stuck,
         Found::Null => Way::Raises(LibClass::Thrown(Thrown::NullPointerException)),
-        Found::Array(o, a) => match item_at(heap, item_type(array_type(shapes, a)), o, i) {
+        Found::Array(o, _) => match item_at(heap, cell_for(e), o, i) {
             None => Way::Raises(LibClass::Thrown(Thrown::ArrayIndexOutOfBoundsException)),
             Some(value) => {
                 give_for(frames, 2, value);

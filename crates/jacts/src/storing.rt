@@ -12,12 +12,12 @@ ghost use Rattle.juses.specs.Instructions as instructions;
 ghost use Rattle.juses.specs.Types.{element_named, array_named};
 ghost use Rattle.jstate.specs.Framed.{with_newest};
 ghost use Rattle.jstate.specs.Celled.{StayCelled};
-ghost use Rattle.jstate.specs.Seen.{AreBuilt, Things, store_by};
+ghost use Rattle.jstate.specs.Seen.{AreBuilt, Things, array_at, store_by};
 ghost use Rattle.jmachine.specs.Arrays as rows;
 ghost use Rattle.jacts.specs.Accesses.{HasPut, kept_if};
 ghost use Rattle.jacts.specs.Ways.{Acts, Rests, leaves};
 
-use crate::access::{array_type, items_at, within};
+use crate::access::{items_at, within};
 use crate::arrays::Found;
 use crate::jumps::int_at;
 use crate::way::Way;
@@ -26,7 +26,9 @@ use jheap::{Heap, Look, raw_laws};
 use jlib::{LibClass, Thrown};
 use jnames::{Kind, OpOne};
 use jops::{Value, one};
-use jstate::{Frames, Shapes, built_laws, celled_laws, heap_laws};
+use jstate::{
+    Frames, Shapes, built_laws, celled_laws, element_of, heap_laws, numbers_at, row_type,
+};
 use juses::{ArrayRef, ElementRef};
 
 /// What is left of a value in an array of such elements.
@@ -60,6 +62,18 @@ fn held_by(a: ArrayRef, value: Value) -> Value
         return value;
     }
     narrowed(a.element, value)
+}
+
+/// What is left of a value in the arrays of a number of the heap. Where the number says what they hold, no type is looked up.
+#[inline]
+#[tactic(auto, using(crate::proofs::Puts::held_row))]
+fn held_in(shapes: &Shapes, number: u32, value: Value) -> Value
+    ensures { (p : Program) → result ≡ Narrowing.narrowed (Narrowing.held_by (array_named p (array_at shapes.now number))) value }
+{
+    match numbers_at(number) {
+        None => held_by(row_type(shapes, number), value),
+        Some(kind) => narrowed(element_of(kind), value),
+    }
 }
 
 /// Puts a value into a cell, which is there, of an object that was looked at. The cell gives it back.
@@ -156,6 +170,6 @@ pub fn array_store<M: Copy>(
     match items_at(frames, heap, shapes, 2, e) {
         Found::Other => Way::Stuck,
         Found::Null => Way::Raises(LibClass::Thrown(Thrown::NullPointerException)),
-        Found::Array(o, a) => put_item(frames, heap, o, i, held_by(array_type(shapes, a), value)),
+        Found::Array(o, a) => put_item(frames, heap, o, i, held_in(shapes, a, value)),
     }
 }

@@ -6,7 +6,6 @@ use Rattle.jperm.specs.declared.permission.Permission as perms
 use Rattle.jops.specs.declared.value.Value.{Value}
 use Rattle.jops.specs.declared.value.Value.TheVariants.{Ref}
 use Rattle.jheap.specs.declared.cell.CellType.{CellType}
-use Rattle.jheap.specs.declared.cell.CellType.TheVariants as cell_types
 use Rattle.jheap.specs.declared.cell.Kind.{Kind}
 use Rattle.jheap.specs.declared.cell.Kind.TheVariants as kinds
 use Rattle.jheap.specs.Heaps as heaps
@@ -16,7 +15,6 @@ use Rattle.jlib.specs.declared.classes.LibClass.TheVariants as lib
 use Rattle.jprogram.specs.declared.part.ClassRef.{ClassRef}
 use Rattle.jprogram.specs.declared.part.ClassRef.TheVariants as refs
 use Rattle.jprogram.specs.Classes.{Program}
-use Rattle.juses.specs.declared.types.ArrayRef.{ArrayRef}
 use Rattle.jmachine.specs.Arrays.{items_in}
 use Rattle.jmachine.specs.Objects.{Object}
 use Rattle.jmachine.specs.Privileges.{all_limits, limit, limits, limits_in, with_limit}
@@ -156,12 +154,6 @@ module _ (permissions : List perms.Permission) (h : Heaped) (of : CellType) (o :
       sym (left s seen) ∙ ap (λ ns. in_front before (all_limits s (map (of_raw of) ns))) (none_left all_cells i few) ∙ ap (λ ps. Some (Some ps)) (append-nil before)
 
 -- ---- arrays
-
-pub other_items : (shapes : Shapes) (n : ℕ) → None ≡ slice_get shapes.arrays n → cell_types.Int ≡ item_type (array_at shapes n)
-other_items shapes n is = rw (← is) refl
-
-pub known_items : (shapes : Shapes) (n : ℕ) (a : ArrayRef) → Some a ≡ slice_get shapes.arrays n → item_type a ≡ item_type (array_at shapes n)
-known_items shapes n a is = rw (← is) refl
 
 module _ (each : SeesEach) (permissions : List perms.Permission) (shapes : Shapes) (h : Heaped) where
   pub null_array : (o : ℕ) → o ≡ 0 → Limits permissions shapes h (Ref o) (Some None)

@@ -14,7 +14,7 @@ use jlib::LibClass;
 use jops::Value;
 use jperm::Permission;
 use jprogram::ClassRef;
-use jstate::{Shapes, class_numbered, heap_laws};
+use jstate::{Shapes, array_type, class_numbered, heap_laws};
 use juses::{ArrayRef, ElementRef};
 use std::alloc::{AllocError, Global};
 
@@ -157,14 +157,10 @@ fn item_type(a: ArrayRef) -> CellType
 }
 
 /// The type of the items of the arrays of one of the heap's numbers.
-#[tactic(auto, using(crate::proofs::Limiting::other_items, crate::proofs::Limiting::known_items))]
 fn items_of(shapes: &Shapes, number: u32) -> CellType
     ensures { result ≡ Seen.item_type (array_at shapes.now number) }
 {
-    match shapes.arrays.as_slice().get(number as usize) {
-        None => CellType::Int,
-        Some(a) => item_type(*a),
-    }
+    item_type(array_type(shapes, number))
 }
 
 /// The permissions that limit a privilege, of the array that an operand names: null where the array or one of its items is, and no answer

@@ -1,6 +1,6 @@
 -- What `new` and `anewarray` make.
 use Rattle.std.proofs.Common.{◌≡◌, ◌∙◌, ℕ, zero, suc, ◌+◌, ◌<◌, ◌^◌, ◌&&◌, Bool, true, false, List, Option, Some, None, refl, sym, ap, subst, arith}
-use Rattle.std.specs.Prelude.{is_some, nat_lt, option_and_then, option_map, slice_get, unwrap_or, ◌==◌, if◌then◌else◌}
+use Rattle.std.specs.Prelude.{is_some, nat_lt, option_and_then, option_map, slice_get, ◌==◌, if◌then◌else◌}
 use Rattle.std.specs.Str.{bytes_eq}
 use Rattle.std.proofs.lemmas.Option.{slice_get_within}
 use Rattle.jcode.specs.declared.form.PoolForm.TheVariants as forms
@@ -27,7 +27,6 @@ use Rattle.jtypes.specs.declared.vtype.VType.{VType}
 use Rattle.jtypes.specs.declared.vtype.VType.TheVariants as types
 use Rattle.jtypes.specs.Described.{in_brackets}
 use Rattle.juses.specs.declared.types.ArrayRef.{ArrayRef}
-use Rattle.juses.specs.declared.types.ElementRef.TheVariants as held
 use Rattle.juses.specs.Meanings as meanings
 use Rattle.juses.specs.Meanings.{AClass, AConstant, AField, AMethod, Cast, EntryMeaning, Make, Meaning, cast_by, entry_meant, field_entry, made, meant, method_entry, reference, used}
 use Rattle.juses.specs.Typed.{class_by, class_of, class_type, element_in, is_context, name, there, type_in, type_of}
@@ -37,6 +36,7 @@ use Rattle.jmachine.specs.World.{World, world}
 use Rattle.jready.specs.Exact.{MakesArray}
 use Rattle.jready.proofs.Growing.{get_grown, got}
 use Rattle.jstate.specs.Seen.{array_at}
+use Rattle.jstate.proofs.Saying.{typed_there}
 use Rattle.jobjs.specs.Made.{HasShape}
 use Rattle.jrefs.specs.declared.lasting.Lasting.{Lasting}
 use Rattle.jrefs.specs.References.{IsLasting}
@@ -206,4 +206,4 @@ module _ (x : Lasting) (l : IsLasting x) where
   pub array_is : (v : VType) (k : ℕ) → MakesArray p x.ready.now.methods.tables v k → types.Array (array_named p (array_at x.shapes.now k)) ≡ v
   array_is v k m =
       let at = get_grown x.ready.now.methods.tables.arrays x.shapes.now.arrays k l.tied.arrays (got x.ready.now.methods.tables.arrays k m.array m.there) ∙ m.there in
-      ap (λ (o : Option ArrayRef). types.Array (array_named p (unwrap_or o (record { depth = 1; element = held.Int })))) at ∙ sym m.type
+      ap (λ (a : ArrayRef). types.Array (array_named p a)) (typed_there x.shapes.now k m.array l.tied.few at) ∙ sym m.type

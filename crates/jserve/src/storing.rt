@@ -17,10 +17,10 @@ ghost use Rattle.jserve.specs.Valued.{IsStore};
 
 use crate::ancestors::Ancestors;
 use crate::casts::{is_stored, ref_at};
-use crate::values::{Objects, array_type, value_type};
+use crate::values::{Objects, value_type};
 use jheap::{Heap, Kind};
 use jops::Value;
-use jstate::{Frames, heap_laws};
+use jstate::{Frames, array_type, heap_laws};
 use juses::{ArrayRef, ElementRef, TypeRef};
 
 // ---- whether the operands serve

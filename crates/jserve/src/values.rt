@@ -1,6 +1,5 @@
 ghost use Rattle.std.specs.Prelude.{◌≡◌, ◌<◌, None, Some, option_and_then};
 ghost use Rattle.jheap.specs.Heaps.{object_at};
-ghost use Rattle.jstate.specs.Seen.{array_at};
 ghost use Rattle.jserve.specs.Valued;
 ghost use Rattle.jserve.specs.Valued.{type_in};
 
@@ -9,8 +8,8 @@ use jheap::{Heap, Kind};
 use jlib::LibClass;
 use jops::Value;
 use jprogram::ClassRef;
-use jstate::{Shapes, class_numbered};
-use juses::{ArrayRef, ElementRef, TypeRef};
+use jstate::{Shapes, array_type, class_numbered};
+use juses::TypeRef;
 
 /// The objects of a machine: the heap, what its numbers stand for, and how many permissions and contexts the machine keeps.
 #[derive(Clone, Copy)]
@@ -18,20 +17,6 @@ pub struct Objects<'a> {
     pub shapes: &'a Shapes,
     pub heap: &'a Heap,
     pub counts: Counts,
-}
-
-/// The type of the arrays of a number.
-#[inline]
-pub(crate) fn array_type(shapes: &Shapes, number: u32) -> ArrayRef
-    ensures { result ≡ array_at shapes.now number }
-{
-    match shapes.arrays.as_slice().get(number as usize) {
-        None => ArrayRef {
-            depth: 1,
-            element: ElementRef::Int,
-        },
-        Some(a) => *a,
-    }
 }
 
 /// The class of an object of a kind, or the type of an array.

@@ -2,7 +2,6 @@
 use Rattle.std.proofs.Common.{◌≡◌, ℕ, zero, suc, ◌+◌, ◌<◌, List, [], ◌∷◌, ◌++◌, length, get_or, take, Some, refl, sym, ap, subst, ◌∙◌, arith}
 use Rattle.std.specs.Prelude.{slice_get}
 use Rattle.std.proofs.lemmas.List.{take_more}
-use Rattle.juses.specs.Tables.{Grows}
 use Rattle.jlayout.proofs.Lists.{pushed_all}
 
 -- something holds of each item at its place
@@ -26,13 +25,3 @@ item_there (x ∷ xs) (suc i) lt = item_there xs i (omega arith)
 
 pub take_next : {A : Type 0} (xs : List A) (i : ℕ) (x : A) → i < length xs → x ≡ get_or xs i x → take (i + 1) xs ≡ take i xs ++ x ∷ []
 take_next {A} xs i x lt is = take_more xs i x lt ∙ ap (λ (z : A). take i xs ++ z ∷ []) (sym is)
-
--- ---- what stands in a list that grows
-
-pub kept : {A : Type 0} (xs ys : List A) (n : ℕ) (x : A) → Grows xs ys → slice_get xs n ≡ Some x → slice_get ys n ≡ Some x
-kept {A} xs ys n x g at = ap (λ (zs : List A). slice_get zs n) g.1 ∙ in_front xs g.0 n x at
-  where
-    in_front : (xs more : List A) (n : ℕ) (x : A) → slice_get xs n ≡ Some x → slice_get (xs ++ more) n ≡ Some x
-    in_front [] more n x at = absurd (none_there n x at)
-    in_front (y ∷ xs) more zero x at = at
-    in_front (y ∷ xs) more (suc n) x at = in_front xs more n x at

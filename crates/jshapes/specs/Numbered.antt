@@ -8,6 +8,7 @@ use Rattle.juses.specs.declared.types.ArrayRef.{ArrayRef}
 use Rattle.juses.specs.declared.types.ElementRef.{ElementRef}
 use Rattle.juses.specs.declared.types.ElementRef.TheVariants as elements
 use Rattle.jstate.specs.declared.shapes.Shapes.{Shapes}
+use Rattle.jstate.specs.Arrays.{array_of, element_of}
 use Rattle.jstate.specs.Seen.{array_at}
 use Rattle.jshapes.specs.declared.arrays.NumberArrays.{NumberArrays}
 
@@ -20,28 +21,13 @@ array_number rows numbers.Short = rows.short
 array_number rows numbers.Int = rows.int
 array_number rows numbers.Long = rows.long
 
-abbrev pub element_of : ArrayType → ElementRef
-element_of numbers.Boolean = elements.Boolean
-element_of numbers.Char = elements.Char
-element_of numbers.Byte = elements.Byte
-element_of numbers.Short = elements.Short
-element_of numbers.Int = elements.Int
-element_of numbers.Long = elements.Long
-
--- the type of the arrays of such elements
-abbrev pub array_of : ElementRef → ArrayRef
-array_of element = record { depth = 1; element = element }
-
 -- The type of such arrays has this number.
 abbrev pub HasArray : List ArrayRef → ElementRef → ℕ → Type 0
 HasArray arrays element n = slice_get arrays n ≡ Some (array_of element)
 
-abbrev pub HasRows : List ArrayRef → NumberArrays → Type 0
-HasRows arrays rows = (kind : ArrayType) → HasArray arrays (element_of kind) (array_number rows kind)
-
 -- These numbers are those of the arrays of numbers.
 abbrev pub AreRows : Shapes → NumberArrays → Type 0
-AreRows shapes rows = (kind : ArrayType) → array_at shapes (array_number rows kind) ≡ record { depth = 1; element = element_of kind }
+AreRows shapes rows = (kind : ArrayType) → array_at shapes (array_number rows kind) ≡ array_of (element_of kind)
 
 -- This number is that of the arrays of strings.
 abbrev pub IsStrings : Shapes → ℕ → Type 0

@@ -1,5 +1,5 @@
 -- What stands in a machine's cells is what its program lays out.
-use Rattle.std.specs.Prelude.{◌≡◌, ◌<◌, ℕ, map, length}
+use Rattle.std.specs.Prelude.{◌≡◌, ◌<◌, ◌≤◌, ◌^◌, ℕ, map, length}
 use Rattle.jclass.specs.declared.class.MemberInfo.{MemberInfo}
 use Rattle.jprogram.specs.declared.part.CodePart.{CodePart}
 use Rattle.jprogram.specs.Classes.{Program}
@@ -18,3 +18,5 @@ pub record AreTied (p : Program) (t : Tables) (shapes : Shapes) : Type 0 where
   pub statics : shapes.statics ≡ map (λ (x : CodePart × MemberInfo). field_cell p x.0 x.1) (all_statics p)
   -- arrays that instructions name stand first, by their numbers
   pub arrays : Grows t.arrays shapes.arrays
+  -- no more types than there are numbers for rows
+  pub few : length shapes.arrays ≤ 2 ^ 31

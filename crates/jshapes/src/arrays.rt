@@ -1,16 +1,18 @@
-ghost use Rattle.std.specs.Prelude.{◌≡◌, IfOk, OnOk};
+ghost use Rattle.std.specs.Prelude.{◌≡◌, ◌≤◌, ◌^◌, IfOk, OnOk, length};
 ghost use Rattle.jlib.specs.declared.classes.LibClass.TheVariants as lib;
 ghost use Rattle.jprogram.specs.declared.part.ClassRef.TheVariants as refs;
 ghost use Rattle.juses.specs.Tables.{Grows};
 ghost use Rattle.juses.specs.declared.types.ElementRef.TheVariants as elements;
+ghost use Rattle.jstate.specs.declared.shapes.Shapes.{Shapes};
 ghost use Rattle.jshapes.specs.Numbered;
-ghost use Rattle.jshapes.specs.Numbered.{HasArray, HasRows};
+ghost use Rattle.jshapes.specs.Numbered.{AreRows, HasArray};
 
 use jbase::Seq;
 use jcode::ArrayType;
 use jlib::LibClass;
 use jprogram::ClassRef;
 use jready::Tables;
+use jstate::{ROWS, array_number};
 use juses::{ArrayRef, ElementRef};
 use std::alloc::{AllocError, Global};
 
@@ -42,64 +44,58 @@ impl NumberArrays {
     }
 }
 
-/// The types of arrays, by the heap's numbers for them.
+/// The types of arrays that have rows, by the heap's numbers for them.
 #[derive(Drop)]
 pub(crate) struct Arrays {
     pub types: Seq<ArrayRef>,
-    pub numbers: NumberArrays,
     /// The number of the arrays of strings.
     pub strings: u32,
 }
 
-/// Puts the type of the arrays of such elements behind others, and answers its number. There is no room for more than 2 ^ 32 - 1.
-fn put(types: &mut Seq<ArrayRef>, element: ElementRef) -> Result<u32, AllocError>
-    ensures own { IfOk result (HasArray types.new element) }
-    ensures grows { OnOk result (Grows types.old types.new) }
+/// The heap's numbers for the arrays of numbers: they say themselves what their arrays hold, and have no row.
+pub(crate) fn number_arrays() -> NumberArrays
+    ensures { (shapes : Shapes) → AreRows shapes result }
 {
-    let number = types.as_slice().len();
-    if number > u32::MAX as usize {
-        return Err(AllocError);
-    }
-    types.push(ArrayRef { depth: 1, element })?;
-    Ok(number as u32)
-}
-
-/// Puts those of the arrays of numbers there.
-fn put_numbers(types: &mut Seq<ArrayRef>) -> Result<NumberArrays, AllocError>
-    ensures own { IfOk result (HasRows types.new) }
-    ensures grows { OnOk result (Grows types.old types.new) }
-{
-    let boolean = put(types, ElementRef::Boolean)?;
-    let char = put(types, ElementRef::Char)?;
-    let byte = put(types, ElementRef::Byte)?;
-    let short = put(types, ElementRef::Short)?;
-    let int = put(types, ElementRef::Int)?;
-    let long = put(types, ElementRef::Long)?;
-    Ok(NumberArrays {
+    let boolean = array_number(ArrayType::Boolean);
+    let char = array_number(ArrayType::Char);
+    let byte = array_number(ArrayType::Byte);
+    let short = array_number(ArrayType::Short);
+    let int = array_number(ArrayType::Int);
+    let long = array_number(ArrayType::Long);
+    NumberArrays {
         boolean,
         char,
         byte,
         short,
         int,
         long,
-    })
+    }
 }
 
-/// The types of all arrays: those that instructions name stand first.
+/// Puts the type of the arrays of such elements behind others, and answers its number. There is room for as many as there are numbers for rows.
+fn put(types: &mut Seq<ArrayRef>, element: ElementRef) -> Result<u32, AllocError>
+    ensures own { IfOk result (HasArray types.new element) }
+    ensures few { OnOk result (length types.new ≤ 2 ^ 31) }
+    ensures grows { OnOk result (Grows types.old types.new) }
+{
+    let number = types.as_slice().len();
+    if number >= ROWS as usize {
+        return Err(AllocError);
+    }
+    types.push(ArrayRef { depth: 1, element })?;
+    Ok(number as u32)
+}
+
+/// The types of all arrays but those of numbers: those that instructions name stand first.
 pub(crate) fn arrays_of(alloc: Global, tables: &Tables) -> Result<Arrays, AllocError>
     ensures grows { IfOk result (λ a. Grows tables.now.arrays a.types) }
-    ensures numbers { IfOk result (λ a. HasRows a.types a.numbers) }
+    ensures few { IfOk result (λ a. length a.types ≤ 2 ^ 31) }
     ensures strings { IfOk result (λ a. HasArray a.types (elements.Class (refs.Lib lib.String)) a.strings) }
 {
     let mut types = tables.arrays.copy(alloc)?;
-    let numbers = put_numbers(&mut types)?;
     let strings = put(
         &mut types,
         ElementRef::Class(ClassRef::Lib(LibClass::String)),
     )?;
-    Ok(Arrays {
-        types,
-        numbers,
-        strings,
-    })
+    Ok(Arrays { types, strings })
 }

@@ -1,5 +1,5 @@
 //! What stands in the cells of a program's objects, of its statics and of its arrays, from `jready`'s tables: of each class the cells
-//! of the classes above first, and the types of arrays of numbers and of strings behind those that instructions name. Its `alike_laws`
+//! of the classes above first, and the type of arrays of strings behind those that instructions name. Its `alike_laws`
 //! say that what the objects of a heap are doesn't depend on permissions and kept numbers that none of them names, and that rows,
 //! objects that are made and cells that are written keep it so.
 //!

@@ -8,7 +8,7 @@ ghost use Rattle.jshapes.specs.Fielded.{field_cell};
 ghost use Rattle.jshapes.specs.Numbered.{AreRows, IsStrings};
 ghost use Rattle.jshapes.specs.Tied.{AreTied};
 
-use crate::arrays::{NumberArrays, arrays_of};
+use crate::arrays::{NumberArrays, arrays_of, number_arrays};
 use crate::users::users_of;
 use jbase::Seq;
 use jheap::CellType;
@@ -52,8 +52,8 @@ fn statics_of(alloc: Global, ready: &Ready<'_>) -> Result<Seq<CellType>, AllocEr
 
 /// The shapes of a program's objects, of its statics and of its arrays: once and for all.
 ///
-/// An error says that no memory was left, or that an object had 2 ^ 32 cells or more, or that there were as many types of arrays, which no
-/// program has.
+/// An error says that no memory was left, or that an object had 2 ^ 32 cells or more, or that there were 2 ^ 31 types of arrays of
+/// references, which no program has.
 pub fn shapes_of(alloc: Global, ready: &Ready<'_>) -> Result<Shaped, AllocError>
     ensures tied { IfOk result (λ s. AreTied ready.now.program ready.now.methods.tables s.shapes) }
     ensures numbers { IfOk result (λ s. AreRows s.shapes s.numbers) }
@@ -69,7 +69,7 @@ pub fn shapes_of(alloc: Global, ready: &Ready<'_>) -> Result<Shaped, AllocError>
             arrays: arrays.types,
             statics,
         },
-        numbers: arrays.numbers,
+        numbers: number_arrays(),
         strings: arrays.strings,
     })
 }

@@ -1,3 +1,4 @@
+pub mod Arrays
 pub mod Celled
 pub mod Framed
 pub mod Numbers

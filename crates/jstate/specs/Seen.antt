@@ -3,6 +3,7 @@ use Rattle.std.specs.Prelude.{◌≡◌, ◌≤◌, ℕ, zero, suc, ◌%◌, ◌
 use Rattle.std.specs.List.{AllByRecursion}
 use Rattle.jperm.specs.declared.permission.Permission as perms
 use Rattle.jops.specs.declared.value.Value.{Value}
+use Rattle.jcode.specs.declared.names.ArrayType.{ArrayType}
 use Rattle.jheap.specs.declared.cell.CellType.{CellType}
 use Rattle.jheap.specs.declared.cell.CellType.TheVariants as cells
 use Rattle.jheap.specs.declared.cell.Kind.{Kind}
@@ -23,6 +24,7 @@ use Rattle.jmachine.specs.Objects.{Object, Instance, Thrown, Text, Builder, Piec
 use Rattle.jmachine.specs.Store.{Store}
 use Rattle.jstate.specs.declared.shapes.Shape.{Shape}
 use Rattle.jstate.specs.declared.shapes.Shapes.{Shapes}
+use Rattle.jstate.specs.Arrays.{array_of, element_of, numbers_at}
 use Rattle.jstate.specs.Numbers.{class_numbered}
 
 -- ---- cells
@@ -114,9 +116,17 @@ element_type x = cells.Int
 abbrev pub item_type : ArrayRef → CellType
 item_type a = if nat_lt 1 a.depth then cells.Ref else element_type a.element
 
--- the type of the arrays of a number; other numbers than those of the table are never used, and stand for arrays of ints
-abbrev pub array_at : Shapes → ℕ → ArrayRef
-array_at shapes n = unwrap_or (slice_get shapes.arrays n) (record { depth = 1; element = elements.Int })
+-- the type of a row of the table; other rows than those of the table are never used, and stand for arrays of ints
+abbrev pub row_at : Shapes → ℕ → ArrayRef
+row_at shapes n = unwrap_or (slice_get shapes.arrays n) (array_of elements.Int)
+
+-- the type of the arrays of a number: of the numbers that it says, or that of a row
+abbrev pub typed_by : ArrayRef → Option ArrayType → ArrayRef
+typed_by row None = row
+typed_by row (Some kind) = array_of (element_of kind)
+
+unfoldable pub array_at : Shapes → ℕ → ArrayRef
+array_at shapes n = typed_by (row_at shapes n) (numbers_at n)
 
 abbrev pub array_by : Program → ArrayRef → List ℕ → Object ℕ
 array_by p a cells = Array (array_named p a) (map (of_raw (item_type a)) cells)

@@ -1,11 +1,10 @@
-use Rattle.std.proofs.Common.{◌≡◌, ◌∙◌, None, ap, of_z, rules, to_z}
+use Rattle.std.proofs.Common.{◌≡◌, None, of_z, rules, to_z}
 use Rattle.std.specs.Prelude.{length, slice_get}
 use Rattle.std.specs.Int.{w32}
 use Rattle.jcode.specs.Forms.{element}
 use Rattle.jheap.specs.Heaps.{cells_at}
 use Rattle.jmachine.specs.Arrays.{within}
-use Rattle.jmachine.specs.Narrowing.{held_by, narrowed, place}
-use Rattle.juses.specs.Types.{array_named}
+use Rattle.jmachine.specs.Narrowing.{place}
 use Rattle.jacts.specs.Accesses.{kept_if}
 use Rattle.jacts.specs.Items.{array_seen}
 use Rattle.jacts.specs.Ways.{int_in}
@@ -44,15 +43,14 @@ returns-in-Array-clause-row g c p things constants =
     let third = is_third c.args.frames.now.newest.operands (element c.args.e) c.in-Some.value c.in-Some-int_at.i c.in-Some.ensures c.in-Some-int_at.ensures in
     let i_is : to_z w32 (of_z w32 c.in-Some-int_at.i) ≡ c.in-Some-int_at.i = search rules in
     let put = rw i_is at c.put_item.ensures in
-    let narrow = c.held_by.ensures p ∙ ap (λ a. narrowed (held_by (array_named p a)) c.in-Some.value) c.array_type.ensures in
     put_row c.heap_laws.ensures.writes c.heap_laws.ensures.item p c.args.shapes.now things constants c.args.frames.now c.put_item.new.frames c.args.heap.now c.put_item.new.heap c.args.e c.requires.number
-    c.in-Some.value c.held_by.result c.in-Some-int_at.i third c.in-Array.o c.in-Array.a c.in-Array.ensures narrow c.put_item.result put
+    c.in-Some.value c.held_in.result c.in-Some-int_at.i third c.in-Array.o c.in-Array.a c.in-Array.ensures (c.held_in.ensures p) c.put_item.result put
 
 pub returns-in-Array-clause-built : goal.returns-in-Array-clause-built
 returns-in-Array-clause-built g c built =
     let i_is : to_z w32 (of_z w32 c.in-Some-int_at.i) ≡ c.in-Some-int_at.i = search rules in
     let put = rw i_is at c.put_item.ensures in
-    put_stays c.built_laws.ensures.written c.args.frames.now c.put_item.new.frames c.args.heap.now c.put_item.new.heap c.in-Array.o c.in-Array.a c.held_by.result c.put_item.result
+    put_stays c.built_laws.ensures.written c.args.frames.now c.put_item.new.frames c.args.heap.now c.put_item.new.heap c.in-Array.o c.in-Array.a c.held_in.result c.put_item.result
     (slice_get c.args.frames.now.newest.operands 2) (within (length (cells_at c.args.heap.now c.in-Array.o)) (place c.in-Some-int_at.i))
     (kept_array c.args.shapes.now c.args.e c.in-Array.o c.in-Array.a (array_seen c.args.heap.now (slice_get c.args.frames.now.newest.operands 2)) c.in-Array.ensures).0 put built
 
@@ -60,19 +58,19 @@ pub returns-in-Array-clause-celled : goal.returns-in-Array-clause-celled
 returns-in-Array-clause-celled g c =
     let i_is : to_z w32 (of_z w32 c.in-Some-int_at.i) ≡ c.in-Some-int_at.i = search rules in
     let put = rw i_is at c.put_item.ensures in
-    put_celled c.celled_laws.ensures.written c.args.frames.now c.put_item.new.frames c.args.heap.now c.put_item.new.heap c.in-Array.o c.held_by.result c.put_item.result
+    put_celled c.celled_laws.ensures.written c.args.frames.now c.put_item.new.frames c.args.heap.now c.put_item.new.heap c.in-Array.o c.held_in.result c.put_item.result
     (within (length (cells_at c.args.heap.now c.in-Array.o)) (place c.in-Some-int_at.i)) put
 
 pub returns-in-Array-clause-rests : goal.returns-in-Array-clause-rests
 returns-in-Array-clause-rests g c =
     let i_is : to_z w32 (of_z w32 c.in-Some-int_at.i) ≡ c.in-Some-int_at.i = search rules in
     let is = rw i_is at c.put_item.ensures in
-    (put c.in-Array.o c.held_by.result c.args.frames.now c.put_item.new.frames c.args.heap.now c.put_item.new.heap c.put_item.result
+    (put c.in-Array.o c.held_in.result c.args.frames.now c.put_item.new.frames c.args.heap.now c.put_item.new.heap c.put_item.result
     (within (length (cells_at c.args.heap.now c.in-Array.o)) (place c.in-Some-int_at.i)) is).0
 
 pub returns-in-Array-clause-kept : goal.returns-in-Array-clause-kept
 returns-in-Array-clause-kept g c =
     let i_is : to_z w32 (of_z w32 c.in-Some-int_at.i) ≡ c.in-Some-int_at.i = search rules in
     let is = rw i_is at c.put_item.ensures in
-    (put c.in-Array.o c.held_by.result c.args.frames.now c.put_item.new.frames c.args.heap.now c.put_item.new.heap c.put_item.result
+    (put c.in-Array.o c.held_in.result c.args.frames.now c.put_item.new.frames c.args.heap.now c.put_item.new.heap c.put_item.result
     (within (length (cells_at c.args.heap.now c.in-Array.o)) (place c.in-Some-int_at.i)) is).1

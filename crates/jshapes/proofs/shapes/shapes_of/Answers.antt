@@ -1,6 +1,7 @@
 use Rattle.std.proofs.Common.{subst}
 use Rattle.juses.specs.Tables.{Grows}
 use Rattle.jready.specs.declared.tables.Tables.{Tables}
+use Rattle.jstate.proofs.Saying.{typed_there}
 use Rattle.jshapes.proofs.Laying.{has_shape}
 use Rattle.jshapes.proofs.shapes.shapes_of.Goals as goal
 
@@ -10,7 +11,11 @@ returns-clause-tied c = record {
   classes = c.in_ok-users.ensures.count;
   statics = c.in_ok-statics.ensures;
   arrays = subst (λ (t : Tables). Grows t.arrays c.in_ok-arrays.arrays.types) c.tables.ensures c.in_ok-arrays.ensures.grows;
+  few = c.in_ok-arrays.ensures.few;
 }
+
+pub returns-clause-strings : goal.returns-clause-strings
+returns-clause-strings c = typed_there _ c.in_ok-arrays.arrays.strings _ c.in_ok-arrays.ensures.few c.in_ok-arrays.ensures.strings
 
 pub returns-clause-small : goal.returns-clause-small
 returns-clause-small c = λ i shape at. (c.in_ok-users.ensures.each i shape at).few
