@@ -42,7 +42,7 @@ use Rattle.jinvoke.specs.declared.choosing.Answer.{Answer}
 use Rattle.jinvoke.specs.declared.choosing.Chosen.{Chosen}
 use Rattle.jinvoke.specs.declared.choosing.Chosen.TheVariants as chosens
 use Rattle.jinvoke.specs.declared.choosing.CallKey.{CallKey}
-use Rattle.jinvoke.specs.Answers.{answer, answer_by, answer_to, chosen, id_on, in_meaning, locals_in, number_by}
+use Rattle.jinvoke.specs.Answers.{answer, answer_by, answer_to, chosen, id_on, in_meaning, key, locals_in, number_by}
 use Rattle.jinvoke.specs.Invoking.{CallWithin, Invokes, IsMarked, answer_at, callee, marked}
 use Rattle.jinvoke.proofs.Classed.{instance_at}
 use Rattle.jinvoke.proofs.Within.{answer_marked, at_marked}
@@ -99,9 +99,6 @@ kind_on (kinds.Object n) = refl
 kind_on (kinds.Array a) = refl
 kind_on kinds.Text = refl
 kind_on kinds.Piece = refl
-
-abbrev key : ℕ → How → ℕ → Option ℕ → CallKey
-key class by pool on = record { class = class; pool = pool; by = by; on = on }
 
 pub static_marked : (p : Program) (class other : ℕ) (pool : ℕ) (a : Answer) (n : ℕ) → class ≡ other → n ≡ length p.parts → CallWithin p other how.Static pool
     → a ≡ answer p (key class how.Static pool None) → IsMarked n a.what

@@ -1,6 +1,7 @@
 mod Knowing
 mod Caught
 mod Picked
+mod Asking
 mod Classed
 mod Facing
 mod Invoked

@@ -98,6 +98,10 @@ called_at p k = in_meaning (meant p (pool_at p k.class) (call_form k.by k.pool))
 unfoldable pub answer : Program → CallKey → Answer
 answer p k = answer_to p k (called_at p k)
 
+-- what is asked about a call by such an entry
+abbrev pub key : (class : ℕ) → How → (pool : ℕ) → Option ℕ → CallKey
+key class by pool on = record { class = class; pool = pool; by = by; on = on }
+
 -- This is what a key's entry names, by the types that parameters have.
 abbrev pub IsCallAt : Program → CallKey → Option CallUse → Type 0
 IsCallAt p k call = (types : List TypeRef) × (option_map (call_named p types) call ≡ called_at p k)

@@ -1,4 +1,4 @@
-ghost use Rattle.std.specs.Prelude.{◌≡◌, List, option_map};
+ghost use Rattle.std.specs.Prelude.{◌≡◌, ℕ, List, option_map};
 ghost use Rattle.std.specs.Str.{bytes_eq};
 ghost use Rattle.jcalls.specs.Calling.{selected_on};
 ghost use Rattle.jmachine.specs.Calls;
@@ -14,7 +14,7 @@ ghost use Rattle.juses.specs.declared.types.TypeRef.{TypeRef};
 ghost use Rattle.juses.specs.Meanings.{call_named, meaning_of};
 ghost use Rattle.juses.specs.Types.{class_named};
 ghost use Rattle.jinvoke.specs.Answers;
-ghost use Rattle.jinvoke.specs.Answers.{IsCallAt, OwnerIs, id_on, in_meaning, number_by};
+ghost use Rattle.jinvoke.specs.Answers.{IsCallAt, OwnerIs, id_on, in_meaning, key, number_by};
 ghost use Rattle.jinvoke.specs.Faces.{face_answer};
 
 use crate::known::Known;
@@ -92,6 +92,21 @@ pub fn number_of(kind: Kind) -> Option<u32>
         Kind::Array(_) => None,
         Kind::Text => Some(32),
         Kind::Piece => Some(33),
+    }
+}
+
+/// What a call asks of the class of its object, which is of a kind: the heap's number for it. Where the class doesn't matter it asks nothing.
+#[inline]
+#[tactic(auto, using(crate::proofs::Asking::special_alike, crate::proofs::Asking::static_alike, crate::proofs::Asking::init_alike))]
+pub(crate) fn asked_of(by: How, kind: Kind) -> Option<u32>
+    ensures { (p : Program) (class pool : ℕ) → Answers.answer p (key class by pool result) ≡ Answers.answer p (key class by pool (number_by kind)) }
+{
+    match by {
+        How::Virtual => number_of(kind),
+        How::Special => None,
+        How::Static => None,
+        How::Interface => number_of(kind),
+        How::Init => None,
     }
 }
 

@@ -6,7 +6,7 @@ ghost use Rattle.juses.specs.declared.meaning.How.TheVariants as how;
 ghost use Rattle.jinvoke.specs.Invoking.{CallWithin, answer_at, Invokes, IsMarked, marked};
 
 use crate::answers::Calls;
-use crate::choosing::{Answer, CallKey, Chosen, number_of};
+use crate::choosing::{Answer, CallKey, Chosen, asked_of};
 use jcalls::{
     Called, Callee, Found, Receiver, Room, call_by_interface, call_on, call_static, receiver_at,
 };
@@ -47,20 +47,23 @@ const NOTHING: Answer = Answer {
 
 impl<'p> Calls<'p> {
     /// What is known of a call on an object.
-    #[inline]
-    fn answer_on(&mut self, class: u32, by: How, pool: u16, on: Receiver) -> Answer
+    #[inline(always)]
+    fn answer_on(&mut self, site: usize, class: u32, by: How, pool: u16, on: Receiver) -> Answer
         ensures answer { result ≡ answer_at self.old class by pool on }
         ensures same { self.new ≡ self.old }
     {
         match on {
             Receiver::Missing => NOTHING,
             Receiver::Null => NOTHING,
-            Receiver::Object(kind) => self.answer(CallKey {
-                class,
-                pool,
-                by,
-                on: number_of(kind),
-            }),
+            Receiver::Object(kind) => self.answer(
+                site,
+                CallKey {
+                    class,
+                    pool,
+                    by,
+                    on: asked_of(by, kind),
+                },
+            ),
         }
     }
 
@@ -71,6 +74,7 @@ impl<'p> Calls<'p> {
         &mut self,
         frames: &mut Frames<M>,
         heap: &Heap,
+        site: usize,
         pool: u16,
         count: usize,
         marks: &[M],
@@ -86,12 +90,15 @@ impl<'p> Calls<'p> {
         ensures same { self.new ≡ self.old }
     {
         let class = frames.method().class;
-        let answer = self.answer(CallKey {
-            class,
-            pool,
-            by: How::Static,
-            on: None,
-        });
+        let answer = self.answer(
+            site,
+            CallKey {
+                class,
+                pool,
+                by: How::Static,
+                on: None,
+            },
+        );
         let what = found_by(answer.what, marks);
         call_static(frames, count, what, room)
     }
@@ -103,6 +110,7 @@ impl<'p> Calls<'p> {
         &mut self,
         frames: &mut Frames<M>,
         heap: &Heap,
+        site: usize,
         by: How,
         pool: u16,
         count: usize,
@@ -121,7 +129,7 @@ impl<'p> Calls<'p> {
     {
         let class = frames.method().class;
         let on = receiver_at(frames, heap, count);
-        let answer = self.answer_on(class, by, pool, on);
+        let answer = self.answer_on(site, class, by, pool, on);
         let what = found_by(answer.what, marks);
         call_on(frames, on, count, what, room)
     }
@@ -133,6 +141,7 @@ impl<'p> Calls<'p> {
         &mut self,
         frames: &mut Frames<M>,
         heap: &Heap,
+        site: usize,
         pool: u16,
         count: usize,
         marks: &[M],
@@ -150,18 +159,20 @@ impl<'p> Calls<'p> {
         heap_laws();
         let class = frames.method().class;
         let on = receiver_at(frames, heap, count);
-        let answer = self.answer_on(class, How::Interface, pool, on);
+        let answer = self.answer_on(site, class, How::Interface, pool, on);
         let what = found_by(answer.what, marks);
         call_by_interface(frames, on, count, what, answer.has, answer.hidden, room)
     }
 
     /// A call by the entry at an index of the pool of the newest frame's class (JVMS 6.5: invokevirtual, invokespecial, invokestatic,
-    /// invokeinterface), which takes so many operands, where they serve. `marks` are what the frames of each class carry.
+    /// invokeinterface), which takes so many operands, where they serve. `marks` are what the frames of each class carry. `site` is a number
+    /// of the call among all, beside which its last answer is remembered; what it comes to is the same for any.
     #[inline]
     pub fn invoke<M: Copy>(
         &mut self,
         frames: &mut Frames<M>,
         heap: &Heap,
+        site: usize,
         by: How,
         pool: u16,
         count: usize,
@@ -178,11 +189,31 @@ impl<'p> Calls<'p> {
         ensures same { self.new ≡ self.old }
     {
         match by {
-            How::Static => self.invoke_static(frames, heap, pool, count, marks, room),
-            How::Interface => self.invoke_by_interface(frames, heap, pool, count, marks, room),
-            How::Virtual => self.invoke_on(frames, heap, How::Virtual, pool, count, marks, room),
-            How::Special => self.invoke_on(frames, heap, How::Special, pool, count, marks, room),
-            How::Init => self.invoke_on(frames, heap, How::Init, pool, count, marks, room),
+            How::Static => self.invoke_static(frames, heap, site, pool, count, marks, room),
+            How::Interface => self.invoke_by_interface(
+                frames, heap, site, pool, count, marks, room,
+            ),
+            How::Virtual => self.invoke_on(
+                frames,
+                heap,
+                site,
+                How::Virtual,
+                pool,
+                count,
+                marks,
+                room,
+            ),
+            How::Special => self.invoke_on(
+                frames,
+                heap,
+                site,
+                How::Special,
+                pool,
+                count,
+                marks,
+                room,
+            ),
+            How::Init => self.invoke_on(frames, heap, site, How::Init, pool, count, marks, room),
         }
     }
 }

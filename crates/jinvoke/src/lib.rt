@@ -1,6 +1,6 @@
 //! What calls and what is thrown ask of a program, by numbers: where a method's handlers go on for an object of a class, which method
-//! is selected, what an interface asks, and from these a whole call. What was asked about a call is remembered, by the place where it
-//! stands and the class of its object.
+//! is selected, what an interface asks, and from these a whole call. What was asked about a call is remembered: the last answer at a site
+//! beside it, and others by the entry that names the method and the class of the object.
 //!
 //! - `Faces`: what a call by an interface of the library comes to that the machine makes itself, such as that of an action's `run`.
 //! - `Answers`: what is known of a call: what is selected, whether its frames have code and how many locals, whether the object's class
@@ -23,6 +23,7 @@ mod faces;
 mod invoking;
 mod known;
 mod laws;
+mod sites;
 
 pub use answers::Calls;
 pub use catching::{ThrownAs, told_law};

@@ -79,7 +79,7 @@ fn taken<M: Copy>(
     Some(count_of(by, types.len()))
 }
 
-/// A step that calls a method, or comes to one of the library.
+/// A step that calls a method, or comes to one of the library, at a site.
 #[tactic(auto, using(crate::proofs::Leaving::same_celled, crate::proofs::Leaving::same_names))]
 pub(crate) fn step_call<M: Copy>(
     alloc: Global,
@@ -88,6 +88,7 @@ pub(crate) fn step_call<M: Copy>(
     fixed: &Fixed<'_, '_, M>,
     calls: &mut Calls<'_>,
     counts: Counts,
+    site: usize,
     by: How,
     pool: u16,
     params: Span,
@@ -113,7 +114,7 @@ pub(crate) fn step_call<M: Copy>(
         frames: frames.depth(),
         depth: fixed.depth,
     };
-    let called = calls.invoke(frames, heap, by, pool, count, fixed.marks, room)?;
+    let called = calls.invoke(frames, heap, site, by, pool, count, fixed.marks, room)?;
     let known = calls.known();
     settle_call(alloc, frames, heap, called, count, fixed.marks, known)
 }

@@ -86,7 +86,8 @@ fn step_flow<M: Copy>(
     }
 }
 
-/// A step of a thread, whose newest frame stands at an instruction that is here.
+/// A step of a thread, whose newest frame stands at an instruction that is here. A call is remembered by the number of its site, which may
+/// be any.
 #[inline]
 #[tactic(auto, using(crate::proofs::Leaving::same_celled, crate::proofs::Leaving::same_celled_if))]
 pub fn step<M: Copy>(
@@ -97,6 +98,7 @@ pub fn step<M: Copy>(
     calls: &mut Calls<'_>,
     counts: Counts,
     one: Instr,
+    site: usize,
 ) -> Result<Stepped, AllocError>
     requires fixed { IsFixed calls.old fixed.now }
     requires here { IsStep one }
@@ -133,12 +135,16 @@ pub fn step<M: Copy>(
             pool,
             params,
             ..
-        } => step_call(alloc, frames, heap, fixed, calls, counts, how, pool, params),
+        } => step_call(
+            alloc, frames, heap, fixed, calls, counts, site, how, pool, params,
+        ),
         Instr::Library {
             how,
             pool,
             params,
             ..
-        } => step_call(alloc, frames, heap, fixed, calls, counts, how, pool, params),
+        } => step_call(
+            alloc, frames, heap, fixed, calls, counts, site, how, pool, params,
+        ),
     }
 }
