@@ -1,7 +1,8 @@
 -- A quick try to make a step: what it came to, for the frames of a thread and for its machine.
 use Rattle.std.proofs.Common.{◌≡◌, ◌∙◌, ◌+◌, ◌-◌, ◌<◌, ◌≤◌, ℕ, zero, suc, add-one, arith, List, [], length, Option, Some, refl, sym, ap, subst}
-use Rattle.std.specs.Prelude.{⊤, IfOk, OnOk, Ok, Err, Result, None}
+use Rattle.std.specs.Prelude.{⊤, IfOk, OnOk, Ok, Err, Result, None, Bool, true, false}
 use Rattle.jheap.specs.Heaps.{Heaped}
+use Rattle.jprogram.specs.declared.member.MethodId.{MethodId}
 use Rattle.jprogram.specs.Classes.{Program}
 use Rattle.jmachine.specs.Steps.{step}
 use Rattle.jready.specs.declared.instr.Instr.{Instr}
@@ -39,12 +40,10 @@ use Rattle.jcore.proofs.Settled.{settled_went}
 use Rattle.jrun.specs.declared.came.Came.TheVariants as done
 use Rattle.jexecute.specs.declared.executing.Executed.{Executed}
 use Rattle.jexecute.specs.declared.hastening.Hurried.{Hurried}
-use Rattle.jexecute.specs.declared.hastening.Quick.{Quick}
-use Rattle.jexecute.specs.declared.hastening.Quick.TheVariants as tries
 use Rattle.jexecute.specs.declared.hastening.Within.{Within}
 use Rattle.jexecute.specs.Advancing.{Advances, Fetches, IsThere, lasting_by}
 use Rattle.jexecute.specs.Executing.{CameTo, Finishes, HasRules, Moves, StaysMachine, moved}
-use Rattle.jexecute.specs.Hastening.{AreFew, AreFewBehind, Began, Begins, EndsSo, Hastens, Leads, Makes, Quietly, StayedWithin, Tries, WereMade, quick_as, turned_as}
+use Rattle.jexecute.specs.Hastening.{AreFew, Began, Begins, EndsSo, Hastens, Leads, Makes, Quietly, StayedWithin, Tries, Turns, WereMade, program_of, quick_as, stuck_as, turned_as}
 use Rattle.jexecute.proofs.Advanced.{all_stand, is_there, others_advance}
 use Rattle.jexecute.proofs.Ended.{executes, moved_lives, moved_machine, moved_stands, settled}
 use Rattle.jexecute.proofs.Moved.{one_moves, returned, stays_fixed}
@@ -128,10 +127,10 @@ module _ {E : Type 0} (p : Program) (x : Fixed E) (counts : Counts) (one : Instr
 
 -- a call or a return
 module _ {E : Type 0} (p : Program) (x : Fixed E) (counts : Counts) (f u : Framed E) (h v : Heaped) (built : AreBuilt v.objects) (celled : AreCelled x.shapes.now v.objects) where
-  abbrev Turns : Stepped → Type 0
-  Turns came = Steps p x counts f h came u v × StoodAs (length x.marks.now) came u × ((things : Things) → StepsAlike p x.shapes.now things came h.objects v.objects)
+  abbrev Stood : Stepped → Type 0
+  Stood came = Steps p x counts f h came u v × StoodAs (length x.marks.now) came u × ((things : Things) → StepsAlike p x.shapes.now things came h.objects v.objects)
 
-  turn_makes : (came : Stepped) → Turns came → Makes p x counts f h came u v
+  turn_makes : (came : Stepped) → Stood came → Makes p x counts f h came u v
   turn_makes came (done, stands, alike) = record {
     row = λ constants. let r : Result Stepped ⊤ = Ok came in others_advance p x counts f u h v r constants constants refl done;
     stands = stands;
@@ -140,14 +139,14 @@ module _ {E : Type 0} (p : Program) (x : Fixed E) (counts : Counts) (f u : Frame
     celled = celled;
   }
 
-  pub turn_hastens : (came : Stepped) → Turns came → Hastens p x counts f h (turned_as came) u v
-  turn_hastens steps.Went turns = turn_makes steps.Went turns
-  turn_hastens steps.Ended turns = turn_makes steps.Ended turns
-  turn_hastens (steps.Handled class) turns = turn_makes (steps.Handled class) turns
-  turn_hastens (steps.Uncaught class) turns = turn_makes (steps.Uncaught class) turns
-  turn_hastens (steps.Asks call count) turns = turn_makes (steps.Asks call count) turns
-  turn_hastens steps.Full turns = turn_makes steps.Full turns
-  turn_hastens steps.Stuck turns = turn_makes steps.Stuck turns
+  pub all_turn : (came : Stepped) → Stood came → Turns p x counts f h (turned_as came) u v
+  all_turn steps.Went turns = turn_makes steps.Went turns
+  all_turn steps.Ended turns = turn_makes steps.Ended turns
+  all_turn (steps.Handled class) turns = turn_makes (steps.Handled class) turns
+  all_turn (steps.Uncaught class) turns = turn_makes (steps.Uncaught class) turns
+  all_turn (steps.Asks call count) turns = turn_makes (steps.Asks call count) turns
+  all_turn steps.Full turns = turn_makes steps.Full turns
+  all_turn steps.Stuck turns = turn_makes steps.Stuck turns
 
 -- ---- where such an instruction stands the frames may go on
 
@@ -225,48 +224,52 @@ module _ {E : Type 0} (p : Program) (x : Fixed E) (counts : Counts) where
     left_made same few = record { frames = u; heap = v; quiet = quiet; ends = same; few = few }
 
   -- behind some within a method
-  module _ (most n : ℕ) (f u g : Framed E) (h v k : Heaped) (before : Quietly p x counts n f h u v) (made : Within) (few : n < most)
-      (stayed : StayedWithin p x counts (most - n) u v made g k) where
-    quiet_so_far : Quietly p x counts (n + made.steps) f h stayed.frames stayed.heap
+  module _ (method : MethodId) (most n : ℕ) (f u g : Framed E) (h v k : Heaped) (before : Quietly p x counts n f h u v) (made : Within)
+      (stayed : StayedWithin p x counts method (most - n) u v made g k) where
+    pub quiet_so_far : Quietly p x counts (n + made.steps) f h stayed.frames stayed.heap
     quiet_so_far = both_quiet n made.steps f u stayed.frames h v stayed.heap before stayed.quiet
 
-    last_is : (quick : Quick) → made.last ≡ quick → Hastens p x counts stayed.frames stayed.heap quick g k
-    last_is quick is = subst (λ (q : Quick). Hastens p x counts stayed.frames stayed.heap q g k) is stayed.last
+    pub stuck_so : made.stuck ≡ true → n ≤ most → WereMade p x counts most f h (record { steps = n + made.steps; last = Some steps.Stuck }) g k
+    stuck_so is within =
+        let ends : EndsSo p x counts (stuck_as true) stayed.frames stayed.heap g k =
+        subst (λ (b : Bool). EndsSo p x counts (stuck_as b) stayed.frames stayed.heap g k) is stayed.ends in
+        let few : AreFew (most - n) made.steps (stuck_as true) = subst (λ (b : Bool). AreFew (most - n) made.steps (stuck_as b)) is stayed.few in
+        came_made most (n + made.steps) f stayed.frames g h stayed.heap k quiet_so_far steps.Stuck ends (omega arith)
 
-    few_are : (quick : Quick) → made.last ≡ quick → AreFewBehind (most - n) made.steps quick
-    few_are quick is = subst (λ (q : Quick). AreFewBehind (most - n) made.steps q) is stayed.few
+    module _ (is : made.stuck ≡ false) where
+      pub left_there : (g ≡ stayed.frames) × (k ≡ stayed.heap)
+      left_there = subst (λ (b : Bool). EndsSo p x counts (stuck_as b) stayed.frames stayed.heap g k) is stayed.ends
 
-    -- the step behind them was made too
-    pub went_makes : made.last ≡ tries.Went → Makes p x counts stayed.frames stayed.heap steps.Went g k × (n + made.steps < most)
-    went_makes is = let few_now = few_are tries.Went is in ((last_is tries.Went is).0, omega arith)
+      pub few_there : n ≤ most → n + made.steps ≤ most
+      few_there within =
+          let few : AreFew (most - n) made.steps (stuck_as false) = subst (λ (b : Bool). AreFew (most - n) made.steps (stuck_as b)) is stayed.few in
+          omega arith
 
-    pub turned_makes : made.last ≡ tries.Turned → Makes p x counts stayed.frames stayed.heap steps.Went g k × (n + made.steps < most)
-    turned_makes is = let few_now = few_are tries.Turned is in (last_is tries.Turned is, omega arith)
+      pub quiet_there : Quietly p x counts (n + made.steps) f h g k
+      quiet_there =
+          let here : Quietly p x counts (n + made.steps) f h g stayed.heap =
+          subst (λ (a : Framed E). Quietly p x counts (n + made.steps) f h a stayed.heap) (sym left_there.0) quiet_so_far in
+          subst (λ (b : Heaped). Quietly p x counts (n + made.steps) f h g b) (sym left_there.1) here
 
-    pub more_made : Makes p x counts stayed.frames stayed.heap steps.Went g k → Quietly p x counts (n + made.steps + 1) f h g k
-    more_made makes = more_quiet (n + made.steps) f stayed.frames g h stayed.heap k quiet_so_far makes
+      pub method_there : method ≡ g.newest.method
+      method_there = stayed.stays ∙ sym (ap (λ (a : Framed E). a.newest.method) left_there.0)
 
-    -- or it came to something else, or is left
-    pub came_so : (came : Stepped) → made.last ≡ tries.Came came → WereMade p x counts most f h (record { steps = n + made.steps; last = Some came }) g k
-    came_so came is =
-        let few_now = few_are (tries.Came came) is in
-        came_made most (n + made.steps) f stayed.frames g h stayed.heap k quiet_so_far came (last_is (tries.Came came) is) (omega arith)
+      pub stand_there : AreStanding (length x.marks.now) g
+      stand_there = subst (λ (a : Framed E). AreStanding (length x.marks.now) a) (sym left_there.0) stayed.stand
 
-    pub left_so : made.last ≡ tries.Left → WereMade p x counts most f h (record { steps = n + made.steps; last = None }) g k
-    left_so is =
-        let few_now = few_are tries.Left is in
-        left_made most (n + made.steps) f stayed.frames g h stayed.heap k quiet_so_far (last_is tries.Left is) (omega arith)
+      pub built_there : AreBuilt k.objects
+      built_there = subst (λ (b : Heaped). AreBuilt b.objects) (sym left_there.1) stayed.built
 
--- of a program that is the same
-pub within_so : {E : Type 0} (p q : Program) (x : Fixed E) (counts : Counts) (most n : ℕ) (u g : Framed E) (v k : Heaped) (made : Within) → q ≡ p
-    → StayedWithin q x counts (most - n) u v made g k → StayedWithin p x counts (most - n) u v made g k
-within_so p q x counts most n u g v k made is stayed = subst (λ (r : Program). StayedWithin r x counts (most - n) u v made g k) is stayed
+      pub celled_there : AreCelled x.shapes.now k.objects
+      celled_there = subst (λ (b : Heaped). AreCelled x.shapes.now b.objects) (sym left_there.1) stayed.celled
 
-pub few_behind : (most n : ℕ) (quick : Quick) → n < most → AreFewBehind most n quick
-few_behind most n tries.Went few = few
-few_behind most n tries.Turned few = few
-few_behind most n (tries.Came came) few = few
-few_behind most n tries.Left few = omega arith
+-- of the program that is ready
+pub within_so : {E : Type 0} (p : Program) (x : Fixed E) (counts : Counts) (method : MethodId) (most : ℕ) (u g : Framed E) (v k : Heaped) (made : Within) → program_of x ≡ p
+    → StayedWithin (program_of x) x counts method most u v made g k → StayedWithin p x counts method most u v made g k
+within_so p x counts method most u g v k made is stayed = subst (λ (r : Program). StayedWithin r x counts method most u v made g k) is stayed
+
+pub fixed_itself : {E : Type 0} (p : Program) (x : Fixed E) → IsFixed p x → IsFixed (program_of x) x
+fixed_itself {E} p x fixed = subst (λ (q : Program). IsFixed q x) (sym fixed.ready) fixed
 
 -- ---- the machine
 

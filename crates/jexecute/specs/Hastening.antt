@@ -1,6 +1,7 @@
 -- A quick try to make a step of a running thread: of which instructions it is made, and what it came to.
-use Rattle.std.specs.Prelude.{◌≡◌, ◌≤◌, ◌<◌, ⊤, ℕ, zero, suc, [], List, length, Option, Some, None}
+use Rattle.std.specs.Prelude.{◌≡◌, ◌≤◌, ◌<◌, ⊤, ℕ, zero, suc, Bool, true, false, [], List, length, Option, Some, None}
 use Rattle.jheap.specs.Heaps.{Heaped}
+use Rattle.jprogram.specs.declared.member.MethodId.{MethodId}
 use Rattle.jprogram.specs.Classes.{Program}
 use Rattle.jready.specs.declared.instr.Instr.{Instr}
 use Rattle.jrun.specs.declared.came.Came.TheVariants as done
@@ -10,6 +11,7 @@ use Rattle.jstate.specs.Seen.{AreBuilt, Things}
 use Rattle.jacts.specs.declared.way.Way.{Way}
 use Rattle.jacts.specs.declared.way.Way.TheVariants as ways
 use Rattle.jcalls.specs.declared.ready.Counts.{Counts}
+use Rattle.jcalls.specs.Marks.{AreStanding}
 use Rattle.jcalls.specs.Readiness.{AreCounted}
 use Rattle.jrefs.specs.References as refs
 use Rattle.jstep.specs.declared.fixed.Fixed.{Fixed}
@@ -26,6 +28,8 @@ use Rattle.jexecute.specs.declared.hastening.Hasty.{Hasty}
 use Rattle.jexecute.specs.declared.hastening.Hurried.{Hurried}
 use Rattle.jexecute.specs.declared.hastening.Quick.{Quick}
 use Rattle.jexecute.specs.declared.hastening.Quick.TheVariants as tries
+use Rattle.jexecute.specs.declared.hastening.Turned.{Turned}
+use Rattle.jexecute.specs.declared.hastening.Turned.TheVariants as turns
 use Rattle.jexecute.specs.declared.hastening.Within.{Within}
 use Rattle.jexecute.specs.Advancing.{Advances, IsThere}
 use Rattle.jexecute.specs.Executing.{CameTo, Executes, HasRules, Moves}
@@ -44,15 +48,19 @@ IsQuickOf one haste.None = ⊤
 -- It went on, or there is no step, or it has changed nothing and is left to be done.
 abbrev pub quick_as : Way → Quick
 quick_as ways.Went = tries.Went
-quick_as ways.Stuck = tries.Came steps.Stuck
+quick_as ways.Stuck = tries.Stuck
 quick_as way = tries.Left
 
--- It turned to another frame, or came to something else.
-abbrev pub turned_as : Stepped → Quick
-turned_as steps.Went = tries.Turned
-turned_as came = tries.Came came
+-- A call or a return went on, or came to something else.
+abbrev pub turned_as : Stepped → Turned
+turned_as steps.Went = turns.On
+turned_as came = turns.Came came
 
 -- ---- a step of a thread
+
+-- the program that is ready
+abbrev pub program_of : {E : Type 0} → Fixed E → Program
+program_of x = x.ready.now.program
 
 -- A step of a thread came to this, and has left these frames and this heap.
 pub record Makes {E : Type 0} (p : Program) (x : Fixed E) (counts : Counts) (f : Framed E) (h : Heaped) (came : Stepped) (g : Framed E) (k : Heaped) : Type 0 where
@@ -62,12 +70,17 @@ pub record Makes {E : Type 0} (p : Program) (x : Fixed E) (counts : Counts) (f :
   pub built : AreBuilt k.objects
   pub celled : AreCelled x.shapes.now k.objects
 
--- The step was made within its method, or by a call or a return, or it came to something else; or nothing has changed.
+-- The step was made within its method, or there is none; or nothing has changed.
 abbrev pub Hastens : {E : Type 0} → Program → Fixed E → Counts → Framed E → Heaped → Quick → Framed E → Heaped → Type 0
 Hastens p x counts f h tries.Went g k = Makes p x counts f h steps.Went g k × (g.newest.method ≡ f.newest.method)
-Hastens p x counts f h tries.Turned g k = Makes p x counts f h steps.Went g k
-Hastens p x counts f h (tries.Came came) g k = Makes p x counts f h came g k
+Hastens p x counts f h tries.Stuck g k = Makes p x counts f h steps.Stuck g k
 Hastens p x counts f h tries.Left g k = (g ≡ f) × (k ≡ h)
+
+-- The step was made by a call or a return, or it came to something else; or nothing has changed.
+abbrev pub Turns : {E : Type 0} → Program → Fixed E → Counts → Framed E → Heaped → Turned → Framed E → Heaped → Type 0
+Turns p x counts f h turns.On g k = Makes p x counts f h steps.Went g k
+Turns p x counts f h (turns.Came came) g k = Makes p x counts f h came g k
+Turns p x counts f h turns.Left g k = (g ≡ f) × (k ≡ h)
 
 -- ---- some steps of a thread
 
@@ -75,18 +88,6 @@ Hastens p x counts f h tries.Left g k = (g ≡ f) × (k ≡ h)
 unfoldable pub Quietly : {E : Type 0} → Program → Fixed E → Counts → ℕ → Framed E → Heaped → Framed E → Heaped → Type 0
 Quietly p x counts zero f h g k = (g ≡ f) × (k ≡ h)
 Quietly {E} p x counts (suc n) f h g k = (u : Framed E) × (v : Heaped) × Quietly p x counts n f h u v × Makes p x counts u v steps.Went g k
-
--- So many went on, and the one behind them came to this, which isn't made where as many were made as were to be.
-abbrev pub AreFewBehind : ℕ → ℕ → Quick → Type 0
-AreFewBehind most n tries.Left = n ≤ most
-AreFewBehind most n quick = n < most
-
-pub record StayedWithin {E : Type 0} (p : Program) (x : Fixed E) (counts : Counts) (most : ℕ) (f : Framed E) (h : Heaped) (made : Within) (g : Framed E) (k : Heaped) : Type 0 where
-  pub frames : Framed E
-  pub heap : Heaped
-  pub quiet : Quietly p x counts made.steps f h frames heap
-  pub last : Hastens p x counts frames heap made.last g k
-  pub few : AreFewBehind most made.steps made.last
 
 -- Behind them one came to this, where there is one; else nothing has changed.
 abbrev pub EndsSo : {E : Type 0} → Program → Fixed E → Counts → Option Stepped → Framed E → Heaped → Framed E → Heaped → Type 0
@@ -97,6 +98,24 @@ EndsSo p x counts None f h g k = (g ≡ f) × (k ≡ h)
 abbrev pub AreFew : {A : Type 0} → ℕ → ℕ → Option A → Type 0
 AreFew most n (Some x) = n < most
 AreFew most n None = n ≤ most
+
+-- what says that there is no step
+abbrev pub stuck_as : Bool → Option Stepped
+stuck_as true = Some steps.Stuck
+stuck_as false = None
+
+-- So many went on within a method, of at most so many; behind them there is no step, where that is said, else nothing has changed.
+pub record StayedWithin {E : Type 0} (p : Program) (x : Fixed E) (counts : Counts) (method : MethodId) (most : ℕ) (f : Framed E) (h : Heaped) (made : Within)
+    (g : Framed E) (k : Heaped) : Type 0 where
+  pub frames : Framed E
+  pub heap : Heaped
+  pub quiet : Quietly p x counts made.steps f h frames heap
+  pub stays : method ≡ frames.newest.method
+  pub stand : AreStanding (length x.marks.now) frames
+  pub built : AreBuilt heap.objects
+  pub celled : AreCelled x.shapes.now heap.objects
+  pub ends : EndsSo p x counts (stuck_as made.stuck) frames heap g k
+  pub few : AreFew most made.steps (stuck_as made.stuck)
 
 pub record WereMade {E : Type 0} (p : Program) (x : Fixed E) (counts : Counts) (most : ℕ) (f : Framed E) (h : Heaped) (made : Hurried) (g : Framed E) (k : Heaped) : Type 0 where
   pub frames : Framed E

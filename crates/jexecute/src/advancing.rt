@@ -15,7 +15,7 @@ use jcalls::Counts;
 use jconstants::Constants;
 use jheap::Heap;
 use jinvoke::{Calls, step_laws};
-use jready::Instr;
+use jready::{Instr, MethodRow};
 use jstate::Frames;
 use jstep::{Fixed, Stepped};
 use std::alloc::{AllocError, Global};
@@ -28,6 +28,21 @@ fn instr_at<M: Copy>(frames: &Frames<M>, fixed: &Fixed<'_, '_, M>) -> Instr
     match fixed.ready.row_of(frames.method()) {
         None => Instr::Off,
         Some(row) => fixed.ready.fetch(&row, frames.place()),
+    }
+}
+
+/// The number among all of the instruction at a place of a method.
+#[inline]
+pub(crate) fn site_of(row: &MethodRow, place: u32) -> usize {
+    row.first as usize + place as usize
+}
+
+/// The number of the instruction at which the newest frame of a thread stands.
+#[inline]
+fn site_at<M: Copy>(frames: &Frames<M>, fixed: &Fixed<'_, '_, M>) -> usize {
+    match fixed.ready.row_of(frames.method()) {
+        None => usize::MAX,
+        Some(row) => site_of(&row, frames.place()),
     }
 }
 
@@ -65,7 +80,10 @@ fn step_at<M: Copy>(
         Group::Off => Ok(Stepped::Stuck),
         Group::Text(index) => step_load(alloc, frames, heap, constants, fixed, index),
         Group::References => step_refs(alloc, frames, heap, fixed, calls.known(), counts, one),
-        Group::Others => jstep::step(alloc, frames, heap, fixed, calls, counts, one),
+        Group::Others => {
+            let site = site_at(frames, fixed);
+            jstep::step(alloc, frames, heap, fixed, calls, counts, one, site)
+        }
     }
 }
 

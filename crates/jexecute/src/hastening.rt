@@ -11,8 +11,9 @@ ghost use Rattle.jstep.specs.Stepping.{IsFixed};
 ghost use Rattle.jcore.specs.Machines.{IsReady, StaysFixed};
 ghost use Rattle.jexecute.specs.Advancing.{Fetches, lasting_by};
 ghost use Rattle.jexecute.specs.Executing.{HasRules};
-ghost use Rattle.jexecute.specs.Hastening.{Begins, Hastens, IsQuickOf, StayedWithin, Tries, WereMade, quick_as, turned_as};
+ghost use Rattle.jexecute.specs.Hastening.{Begins, Hastens, IsQuickOf, StayedWithin, Tries, Turns, WereMade, program_of, quick_as, turned_as};
 
+use crate::advancing::site_of;
 use crate::executing::{Executed, finish, kept_counts, linked};
 use jacts::Way;
 use jcalls::Counts;
@@ -33,12 +34,10 @@ use std::alloc::{AllocError, Global};
 /// What a quick try to make a step came to.
 #[derive(Clone, Copy, Debug, PartialEq, Eq)]
 enum Quick {
-    /// It was made in its method: the run goes on, and nothing is told.
+    /// It was made: the run goes on in the same method, and nothing is told.
     Went,
-    /// It was made by a call or a return: the run goes on in another frame, and nothing is told.
-    Turned,
-    /// It came to something else.
-    Came(Stepped),
+    /// There is no step.
+    Stuck,
     /// It is left to be made.
     Left,
 }
@@ -149,48 +148,30 @@ fn quick_of(way: Way) -> Quick
 {
     match way {
         Way::Went => Quick::Went,
-        Way::Stuck => Quick::Came(Stepped::Stuck),
+        Way::Stuck => Quick::Stuck,
         Way::Raises(_) => Quick::Left,
         Way::Throws(_) => Quick::Left,
         Way::Full => Quick::Left,
     }
 }
 
-/// What a call or a return came to.
-#[inline]
-fn turned_of(came: Stepped) -> Quick
-    ensures { result ≡ turned_as came }
-{
-    match came {
-        Stepped::Went => Quick::Turned,
-        Stepped::Ended => Quick::Came(Stepped::Ended),
-        Stepped::Handled(class) => Quick::Came(Stepped::Handled(class)),
-        Stepped::Uncaught(class) => Quick::Came(Stepped::Uncaught(class)),
-        Stepped::Asks { call, count } => Quick::Came(Stepped::Asks { call, count }),
-        Stepped::Full => Quick::Came(Stepped::Full),
-        Stepped::Stuck => Quick::Came(Stepped::Stuck),
-    }
-}
-
-/// A step of a thread, whose newest frame stands at this instruction, if it is quick to make.
+/// A step of a thread, whose newest frame stands at this instruction, if a row makes it quickly.
 #[inline]
 fn hasten_at<M: Copy>(
     alloc: Global,
     frames: &mut Frames<M>,
     heap: &mut Heap,
     fixed: &Fixed<'_, '_, M>,
-    calls: &mut Calls<'_>,
     counts: Counts,
     one: Instr,
 ) -> Result<Quick, AllocError>
-    requires fixed { IsFixed calls.old fixed.now }
+    requires fixed { IsFixed (program_of fixed.now) fixed.now }
     requires lasting { IsLasting (lasting_by fixed.now) }
-    requires fetches { Fetches calls.old fixed.now frames.old.newest one }
+    requires fetches { Fetches (program_of fixed.now) fixed.now frames.old.newest one }
     requires stand { AreStanding (length fixed.now.marks.now) frames.old }
     requires built { AreBuilt heap.old.objects }
     requires celled { AreCelled fixed.now.shapes.now heap.old.objects }
-    ensures row { IfOk result (λ quick. Hastens calls.old fixed.now counts frames.old heap.old quick frames.new heap.new) }
-    ensures same { calls.new ≡ calls.old }
+    ensures { IfOk result (λ quick. Hastens (program_of fixed.now) fixed.now counts frames.old heap.old quick frames.new heap.new) }
 {
     step_laws::<M>();
     behind_laws::<M>();
@@ -208,26 +189,88 @@ fn hasten_at<M: Copy>(
             let way = jrefs::run(alloc, frames, heap, &x, counts, one)?;
             Ok(quick_of(way))
         }
-        Haste::Turn => {
-            let came = jstep::step(alloc, frames, heap, fixed, calls, counts, one)?;
-            Ok(turned_of(came))
-        }
+        Haste::Turn => Ok(Quick::Left),
         Haste::None => Ok(Quick::Left),
     }
 }
 
-/// Steps of a thread within a method, and the one behind them.
+/// Steps of a thread within a method that were made, one after the other.
 #[derive(Clone, Copy, Debug, PartialEq, Eq)]
 struct Within {
-    /// So many went on in the method and told nothing.
+    /// So many went on and told nothing.
     pub steps: u64,
-    /// The one behind them came to this.
-    pub last: Quick,
+    /// Behind them there is no step.
+    pub stuck: bool,
 }
 
-/// At most so many steps of a thread whose newest frame is of the method of a row, as long as they are quick to make and stay in it. Where
-/// so many were made, the one behind them is left.
+/// At most so many steps of a thread whose newest frame is of the method of a row, as long as a row makes them quickly.
 fn hasten_within<M: Copy>(
+    alloc: Global,
+    frames: &mut Frames<M>,
+    heap: &mut Heap,
+    fixed: &Fixed<'_, '_, M>,
+    counts: Counts,
+    row: MethodRow,
+    most: u64,
+) -> Result<Within, AllocError>
+    requires fixed { IsFixed (program_of fixed.now) fixed.now }
+    requires lasting { IsLasting (lasting_by fixed.now) }
+    requires row { IsRow fixed.now.ready.now row }
+    requires method { row.id ≡ frames.old.newest.method }
+    requires stand { AreStanding (length fixed.now.marks.now) frames.old }
+    requires built { AreBuilt heap.old.objects }
+    requires celled { AreCelled fixed.now.shapes.now heap.old.objects }
+    ensures { IfOk result (λ made. StayedWithin (program_of fixed.now) fixed.now counts row.id most frames.old heap.old made frames.new heap.new) }
+{
+    let mut steps = 0u64;
+    while steps < most {
+        let one = fixed.ready.fetch(&row, frames.place());
+        match hasten_at(alloc, frames, heap, fixed, counts, one)? {
+            Quick::Went => steps += 1,
+            Quick::Stuck => return Ok(Within { steps, stuck: true }),
+            Quick::Left => {
+                return Ok(Within {
+                    steps,
+                    stuck: false,
+                });
+            }
+        }
+    }
+    Ok(Within {
+        steps,
+        stuck: false,
+    })
+}
+
+/// What a try to make a call or a return came to.
+#[derive(Clone, Copy, Debug, PartialEq, Eq)]
+enum Turned {
+    /// It was made: the run goes on, and nothing is told.
+    On,
+    /// It came to something else.
+    Came(Stepped),
+    /// There stands none.
+    Left,
+}
+
+/// What a call or a return came to.
+#[inline]
+fn turned_of(came: Stepped) -> Turned
+    ensures { result ≡ turned_as came }
+{
+    match came {
+        Stepped::Went => Turned::On,
+        Stepped::Ended => Turned::Came(Stepped::Ended),
+        Stepped::Handled(class) => Turned::Came(Stepped::Handled(class)),
+        Stepped::Uncaught(class) => Turned::Came(Stepped::Uncaught(class)),
+        Stepped::Asks { call, count } => Turned::Came(Stepped::Asks { call, count }),
+        Stepped::Full => Turned::Came(Stepped::Full),
+        Stepped::Stuck => Turned::Came(Stepped::Stuck),
+    }
+}
+
+/// A step of a thread whose newest frame is of the method of a row, if it stands at a call or a return; else nothing changes.
+fn turn<M: Copy>(
     alloc: Global,
     frames: &mut Frames<M>,
     heap: &mut Heap,
@@ -235,30 +278,27 @@ fn hasten_within<M: Copy>(
     calls: &mut Calls<'_>,
     counts: Counts,
     row: MethodRow,
-    most: u64,
-) -> Result<Within, AllocError>
+) -> Result<Turned, AllocError>
     requires fixed { IsFixed calls.old fixed.now }
-    requires lasting { IsLasting (lasting_by fixed.now) }
     requires row { IsRow fixed.now.ready.now row }
     requires method { row.id ≡ frames.old.newest.method }
     requires stand { AreStanding (length fixed.now.marks.now) frames.old }
     requires built { AreBuilt heap.old.objects }
     requires celled { AreCelled fixed.now.shapes.now heap.old.objects }
-    ensures made { IfOk result (λ made. StayedWithin calls.old fixed.now counts most frames.old heap.old made frames.new heap.new) }
-    ensures same { OnOk result (calls.new ≡ calls.old) }
+    ensures turns { IfOk result (λ turned. Turns calls.old fixed.now counts frames.old heap.old turned frames.new heap.new) }
+    ensures same { calls.new ≡ calls.old }
 {
-    let mut steps = 0u64;
-    while steps < most {
-        let one = fixed.ready.fetch(&row, frames.place());
-        match hasten_at(alloc, frames, heap, fixed, calls, counts, one)? {
-            Quick::Went => steps += 1,
-            last => return Ok(Within { steps, last }),
+    let one = fixed.ready.fetch(&row, frames.place());
+    match haste_of(one) {
+        Haste::Turn => {
+            let site = site_of(&row, frames.place());
+            let came = jstep::step(alloc, frames, heap, fixed, calls, counts, one, site)?;
+            Ok(turned_of(came))
         }
+        Haste::Row => Ok(Turned::Left),
+        Haste::Reference => Ok(Turned::Left),
+        Haste::None => Ok(Turned::Left),
     }
-    Ok(Within {
-        steps,
-        last: Quick::Left,
-    })
 }
 
 /// Steps of a thread that were made, one after the other, each quick to make.
@@ -299,18 +339,26 @@ fn hasten_frames<M: Copy>(
         let Some(row) = fixed.ready.row_of(frames.method()) else {
             return Ok(Hurried { steps, last: None });
         };
-        let made = hasten_within(alloc, frames, heap, fixed, calls, counts, row, most - steps)?;
+        let made = hasten_within(alloc, frames, heap, fixed, counts, row, most - steps)?;
         steps += made.steps;
-        match made.last {
-            Quick::Went => steps += 1,
-            Quick::Turned => steps += 1,
-            Quick::Came(came) => {
+        if made.stuck {
+            return Ok(Hurried {
+                steps,
+                last: Some(Stepped::Stuck),
+            });
+        }
+        if steps == most {
+            return Ok(Hurried { steps, last: None });
+        }
+        match turn(alloc, frames, heap, fixed, calls, counts, row)? {
+            Turned::On => steps += 1,
+            Turned::Came(came) => {
                 return Ok(Hurried {
                     steps,
                     last: Some(came),
                 });
             }
-            Quick::Left => return Ok(Hurried { steps, last: None }),
+            Turned::Left => return Ok(Hurried { steps, last: None }),
         }
     }
     Ok(Hurried { steps, last: None })

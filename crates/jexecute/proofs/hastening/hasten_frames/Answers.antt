@@ -1,7 +1,9 @@
-use Rattle.std.proofs.Common.{◌∙◌, arith, refl, subst, sym}
+use Rattle.std.proofs.Common.{◌∙◌, ◌+◌, ◌-◌, arith, refl, subst, sym}
 use Rattle.jprogram.specs.Classes.{Program}
 use Rattle.jstep.specs.Stepping.{IsFixed}
-use Rattle.jexecute.proofs.Hastened.{came_so, left_so, more_made, none_quiet, turned_makes, went_makes, within_so}
+use Rattle.jexecute.proofs.Hastened.{built_there, came_made, celled_there, few_there, fixed_itself, left_made, method_there, more_quiet, none_quiet, quiet_there, stand_there, stuck_so, within_so}
+use Rattle.jexecute.specs.Hastening.{Turns}
+use Rattle.jexecute.specs.declared.hastening.Turned.TheVariants as turns
 use Rattle.jexecute.proofs.hastening.hasten_frames.Goals as goal
 
 pub loop-steps-init : goal.loop-steps-init
@@ -15,50 +17,123 @@ loop-steps-init g c = record {
 }
 
 pub hasten_within-requires-clause-fixed : goal.hasten_within-requires-clause-fixed
-hasten_within-requires-clause-fixed g c = subst (λ (q : Program). IsFixed q c.args.fixed.now) (sym c.loop-steps.invariant.same) c.requires.fixed
+hasten_within-requires-clause-fixed g c = fixed_itself c.args.calls.now c.args.fixed.now c.requires.fixed
 
-pub loop-steps-preserved-in-Went : goal.loop-steps-preserved-in-Went
-loop-steps-preserved-in-Went g c =
-    let so = within_so c.args.calls.now c.loop-steps.calls c.args.fixed.now c.args.counts c.args.most c.loop-steps.steps c.loop-steps.frames c.hasten_within.new.frames
-    c.loop-steps.heap c.hasten_within.new.heap c.in_ok-made.made c.loop-steps.invariant.same c.in_ok-made.ensures.made in
-    let makes = went_makes c.args.calls.now c.args.fixed.now c.args.counts c.args.most c.loop-steps.steps c.args.frames.now c.loop-steps.frames c.hasten_within.new.frames
-    c.args.heap.now c.loop-steps.heap c.hasten_within.new.heap c.loop-steps.invariant.quiet c.in_ok-made.made c.loop-steps-test.true so c.in-Went.is in
-    record {
-      same = c.in_ok-made.ensures.same ∙ c.loop-steps.invariant.same;
-      quiet = more_made c.args.calls.now c.args.fixed.now c.args.counts c.args.most c.loop-steps.steps c.args.frames.now c.loop-steps.frames c.hasten_within.new.frames
-          c.args.heap.now c.loop-steps.heap c.hasten_within.new.heap c.loop-steps.invariant.quiet c.in_ok-made.made c.loop-steps-test.true so makes.0;
-      stand = makes.0.stands;
-      built = makes.0.built;
-      celled = makes.0.celled;
-      few = omega arith;
-    }
+pub returns-then-made-clause-made : goal.returns-then-made-clause-made
+returns-then-made-clause-made g c =
+    let x = c.args.fixed.now in
+    let p = c.args.calls.now in
+    let so = within_so p x c.args.counts c.in-Some.row.id (c.args.most - c.loop-steps.steps) c.loop-steps.frames c.hasten_within.new.frames c.loop-steps.heap c.hasten_within.new.heap
+    c.in_ok-made.made c.requires.fixed.ready c.in_ok-made.ensures in
+    stuck_so p x c.args.counts c.in-Some.row.id c.args.most c.loop-steps.steps c.args.frames.now c.loop-steps.frames c.hasten_within.new.frames
+    c.args.heap.now c.loop-steps.heap c.hasten_within.new.heap c.loop-steps.invariant.quiet c.in_ok-made.made so c.if-made.true c.loop-steps.invariant.few
+
+pub returns-then-steps-most-clause-made : goal.returns-then-steps-most-clause-made
+returns-then-steps-most-clause-made g c =
+    let x = c.args.fixed.now in
+    let p = c.args.calls.now in
+    let so = within_so p x c.args.counts c.in-Some.row.id (c.args.most - c.loop-steps.steps) c.loop-steps.frames c.hasten_within.new.frames c.loop-steps.heap c.hasten_within.new.heap
+    c.in_ok-made.made c.requires.fixed.ready c.in_ok-made.ensures in
+    left_made p x c.args.counts c.args.most (c.loop-steps.steps + c.in_ok-made.made.steps) c.args.frames.now c.hasten_within.new.frames c.hasten_within.new.frames
+    c.args.heap.now c.hasten_within.new.heap c.hasten_within.new.heap
+    (quiet_there p x c.args.counts c.in-Some.row.id c.args.most c.loop-steps.steps c.args.frames.now c.loop-steps.frames c.hasten_within.new.frames
+    c.args.heap.now c.loop-steps.heap c.hasten_within.new.heap c.loop-steps.invariant.quiet c.in_ok-made.made so c.if-made.false) (refl, refl)
+    (few_there p x c.args.counts c.in-Some.row.id c.args.most c.loop-steps.steps c.args.frames.now c.loop-steps.frames c.hasten_within.new.frames
+    c.args.heap.now c.loop-steps.heap c.hasten_within.new.heap c.loop-steps.invariant.quiet c.in_ok-made.made so c.if-made.false c.loop-steps.invariant.few)
+
+pub turn-requires-clause-fixed : goal.turn-requires-clause-fixed
+turn-requires-clause-fixed g c = subst (λ (q : Program). IsFixed q c.args.fixed.now) (sym c.loop-steps.invariant.same) c.requires.fixed
+
+pub turn-requires-clause-method : goal.turn-requires-clause-method
+turn-requires-clause-method g c =
+    let x = c.args.fixed.now in
+    let p = c.args.calls.now in
+    let so = within_so p x c.args.counts c.in-Some.row.id (c.args.most - c.loop-steps.steps) c.loop-steps.frames c.hasten_within.new.frames c.loop-steps.heap c.hasten_within.new.heap
+    c.in_ok-made.made c.requires.fixed.ready c.in_ok-made.ensures in
+    method_there p x c.args.counts c.in-Some.row.id c.args.most c.loop-steps.steps c.args.frames.now c.loop-steps.frames c.hasten_within.new.frames
+    c.args.heap.now c.loop-steps.heap c.hasten_within.new.heap c.loop-steps.invariant.quiet c.in_ok-made.made so c.if-made.false
+
+pub turn-requires-clause-stand : goal.turn-requires-clause-stand
+turn-requires-clause-stand g c =
+    let x = c.args.fixed.now in
+    let p = c.args.calls.now in
+    let so = within_so p x c.args.counts c.in-Some.row.id (c.args.most - c.loop-steps.steps) c.loop-steps.frames c.hasten_within.new.frames c.loop-steps.heap c.hasten_within.new.heap
+    c.in_ok-made.made c.requires.fixed.ready c.in_ok-made.ensures in
+    stand_there p x c.args.counts c.in-Some.row.id c.args.most c.loop-steps.steps c.args.frames.now c.loop-steps.frames c.hasten_within.new.frames
+    c.args.heap.now c.loop-steps.heap c.hasten_within.new.heap c.loop-steps.invariant.quiet c.in_ok-made.made so c.if-made.false
+
+pub turn-requires-clause-built : goal.turn-requires-clause-built
+turn-requires-clause-built g c =
+    let x = c.args.fixed.now in
+    let p = c.args.calls.now in
+    let so = within_so p x c.args.counts c.in-Some.row.id (c.args.most - c.loop-steps.steps) c.loop-steps.frames c.hasten_within.new.frames c.loop-steps.heap c.hasten_within.new.heap
+    c.in_ok-made.made c.requires.fixed.ready c.in_ok-made.ensures in
+    built_there p x c.args.counts c.in-Some.row.id c.args.most c.loop-steps.steps c.args.frames.now c.loop-steps.frames c.hasten_within.new.frames
+    c.args.heap.now c.loop-steps.heap c.hasten_within.new.heap c.loop-steps.invariant.quiet c.in_ok-made.made so c.if-made.false
+
+pub turn-requires-clause-celled : goal.turn-requires-clause-celled
+turn-requires-clause-celled g c =
+    let x = c.args.fixed.now in
+    let p = c.args.calls.now in
+    let so = within_so p x c.args.counts c.in-Some.row.id (c.args.most - c.loop-steps.steps) c.loop-steps.frames c.hasten_within.new.frames c.loop-steps.heap c.hasten_within.new.heap
+    c.in_ok-made.made c.requires.fixed.ready c.in_ok-made.ensures in
+    celled_there p x c.args.counts c.in-Some.row.id c.args.most c.loop-steps.steps c.args.frames.now c.loop-steps.frames c.hasten_within.new.frames
+    c.args.heap.now c.loop-steps.heap c.hasten_within.new.heap c.loop-steps.invariant.quiet c.in_ok-made.made so c.if-made.false
 
 pub loop-steps-preserved : goal.loop-steps-preserved
 loop-steps-preserved g c =
-    let so = within_so c.args.calls.now c.loop-steps.calls c.args.fixed.now c.args.counts c.args.most c.loop-steps.steps c.loop-steps.frames c.hasten_within.new.frames
-    c.loop-steps.heap c.hasten_within.new.heap c.in_ok-made.made c.loop-steps.invariant.same c.in_ok-made.ensures.made in
-    let makes = turned_makes c.args.calls.now c.args.fixed.now c.args.counts c.args.most c.loop-steps.steps c.args.frames.now c.loop-steps.frames c.hasten_within.new.frames
-    c.args.heap.now c.loop-steps.heap c.hasten_within.new.heap c.loop-steps.invariant.quiet c.in_ok-made.made c.loop-steps-test.true so c.in-Turned.is in
+    let x = c.args.fixed.now in
+    let p = c.args.calls.now in
+    let so = within_so p x c.args.counts c.in-Some.row.id (c.args.most - c.loop-steps.steps) c.loop-steps.frames c.hasten_within.new.frames c.loop-steps.heap c.hasten_within.new.heap
+    c.in_ok-made.made c.requires.fixed.ready c.in_ok-made.ensures in
+    let there : Turns c.loop-steps.calls x c.args.counts c.hasten_within.new.frames c.hasten_within.new.heap turns.On c.turn.new.frames c.turn.new.heap =
+    rw c.in-On.is at c.in_ok-turn.ensures.turns in
+    let turned : Turns p x c.args.counts c.hasten_within.new.frames c.hasten_within.new.heap turns.On c.turn.new.frames c.turn.new.heap =
+    subst (λ (q : Program). Turns q x c.args.counts c.hasten_within.new.frames c.hasten_within.new.heap turns.On c.turn.new.frames c.turn.new.heap) c.loop-steps.invariant.same there in
+    let quiet = quiet_there p x c.args.counts c.in-Some.row.id c.args.most c.loop-steps.steps c.args.frames.now c.loop-steps.frames c.hasten_within.new.frames
+    c.args.heap.now c.loop-steps.heap c.hasten_within.new.heap c.loop-steps.invariant.quiet c.in_ok-made.made so c.if-made.false in
+    let few = few_there p x c.args.counts c.in-Some.row.id c.args.most c.loop-steps.steps c.args.frames.now c.loop-steps.frames c.hasten_within.new.frames
+    c.args.heap.now c.loop-steps.heap c.hasten_within.new.heap c.loop-steps.invariant.quiet c.in_ok-made.made so c.if-made.false c.loop-steps.invariant.few in
     record {
-      same = c.in_ok-made.ensures.same ∙ c.loop-steps.invariant.same;
-      quiet = more_made c.args.calls.now c.args.fixed.now c.args.counts c.args.most c.loop-steps.steps c.args.frames.now c.loop-steps.frames c.hasten_within.new.frames
-          c.args.heap.now c.loop-steps.heap c.hasten_within.new.heap c.loop-steps.invariant.quiet c.in_ok-made.made c.loop-steps-test.true so makes.0;
-      stand = makes.0.stands;
-      built = makes.0.built;
-      celled = makes.0.celled;
+      same = c.in_ok-turn.ensures.same ∙ c.loop-steps.invariant.same;
+      quiet = more_quiet p x c.args.counts (c.loop-steps.steps + c.in_ok-made.made.steps) c.args.frames.now c.hasten_within.new.frames c.turn.new.frames
+          c.args.heap.now c.hasten_within.new.heap c.turn.new.heap quiet turned;
+      stand = turned.stands;
+      built = turned.built;
+      celled = turned.celled;
       few = omega arith;
     }
 
 pub returns-in-Came-clause-made : goal.returns-in-Came-clause-made
 returns-in-Came-clause-made g c =
-    let so = within_so c.args.calls.now c.loop-steps.calls c.args.fixed.now c.args.counts c.args.most c.loop-steps.steps c.loop-steps.frames c.hasten_within.new.frames
-    c.loop-steps.heap c.hasten_within.new.heap c.in_ok-made.made c.loop-steps.invariant.same c.in_ok-made.ensures.made in
-    came_so c.args.calls.now c.args.fixed.now c.args.counts c.args.most c.loop-steps.steps c.args.frames.now c.loop-steps.frames c.hasten_within.new.frames
-    c.args.heap.now c.loop-steps.heap c.hasten_within.new.heap c.loop-steps.invariant.quiet c.in_ok-made.made c.loop-steps-test.true so c.in-Came.came c.in-Came.is
+    let x = c.args.fixed.now in
+    let p = c.args.calls.now in
+    let so = within_so p x c.args.counts c.in-Some.row.id (c.args.most - c.loop-steps.steps) c.loop-steps.frames c.hasten_within.new.frames c.loop-steps.heap c.hasten_within.new.heap
+    c.in_ok-made.made c.requires.fixed.ready c.in_ok-made.ensures in
+    let there : Turns c.loop-steps.calls x c.args.counts c.hasten_within.new.frames c.hasten_within.new.heap (turns.Came c.in-Came.came) c.turn.new.frames c.turn.new.heap =
+    rw c.in-Came.is at c.in_ok-turn.ensures.turns in
+    let turned : Turns p x c.args.counts c.hasten_within.new.frames c.hasten_within.new.heap (turns.Came c.in-Came.came) c.turn.new.frames c.turn.new.heap =
+    subst (λ (q : Program). Turns q x c.args.counts c.hasten_within.new.frames c.hasten_within.new.heap (turns.Came c.in-Came.came) c.turn.new.frames c.turn.new.heap) c.loop-steps.invariant.same there in
+    let quiet = quiet_there p x c.args.counts c.in-Some.row.id c.args.most c.loop-steps.steps c.args.frames.now c.loop-steps.frames c.hasten_within.new.frames
+    c.args.heap.now c.loop-steps.heap c.hasten_within.new.heap c.loop-steps.invariant.quiet c.in_ok-made.made so c.if-made.false in
+    let few = few_there p x c.args.counts c.in-Some.row.id c.args.most c.loop-steps.steps c.args.frames.now c.loop-steps.frames c.hasten_within.new.frames
+    c.args.heap.now c.loop-steps.heap c.hasten_within.new.heap c.loop-steps.invariant.quiet c.in_ok-made.made so c.if-made.false c.loop-steps.invariant.few in
+    came_made p x c.args.counts c.args.most (c.loop-steps.steps + c.in_ok-made.made.steps) c.args.frames.now c.hasten_within.new.frames c.turn.new.frames
+    c.args.heap.now c.hasten_within.new.heap c.turn.new.heap quiet c.in-Came.came turned (omega arith)
 
 pub returns-in-Left-clause-made : goal.returns-in-Left-clause-made
 returns-in-Left-clause-made g c =
-    let so = within_so c.args.calls.now c.loop-steps.calls c.args.fixed.now c.args.counts c.args.most c.loop-steps.steps c.loop-steps.frames c.hasten_within.new.frames
-    c.loop-steps.heap c.hasten_within.new.heap c.in_ok-made.made c.loop-steps.invariant.same c.in_ok-made.ensures.made in
-    left_so c.args.calls.now c.args.fixed.now c.args.counts c.args.most c.loop-steps.steps c.args.frames.now c.loop-steps.frames c.hasten_within.new.frames
-    c.args.heap.now c.loop-steps.heap c.hasten_within.new.heap c.loop-steps.invariant.quiet c.in_ok-made.made c.loop-steps-test.true so c.in-Left.is
+    let x = c.args.fixed.now in
+    let p = c.args.calls.now in
+    let so = within_so p x c.args.counts c.in-Some.row.id (c.args.most - c.loop-steps.steps) c.loop-steps.frames c.hasten_within.new.frames c.loop-steps.heap c.hasten_within.new.heap
+    c.in_ok-made.made c.requires.fixed.ready c.in_ok-made.ensures in
+    let there : Turns c.loop-steps.calls x c.args.counts c.hasten_within.new.frames c.hasten_within.new.heap turns.Left c.turn.new.frames c.turn.new.heap =
+    rw c.in-Left.is at c.in_ok-turn.ensures.turns in
+    let turned : Turns p x c.args.counts c.hasten_within.new.frames c.hasten_within.new.heap turns.Left c.turn.new.frames c.turn.new.heap =
+    subst (λ (q : Program). Turns q x c.args.counts c.hasten_within.new.frames c.hasten_within.new.heap turns.Left c.turn.new.frames c.turn.new.heap) c.loop-steps.invariant.same there in
+    let quiet = quiet_there p x c.args.counts c.in-Some.row.id c.args.most c.loop-steps.steps c.args.frames.now c.loop-steps.frames c.hasten_within.new.frames
+    c.args.heap.now c.loop-steps.heap c.hasten_within.new.heap c.loop-steps.invariant.quiet c.in_ok-made.made so c.if-made.false in
+    let few = few_there p x c.args.counts c.in-Some.row.id c.args.most c.loop-steps.steps c.args.frames.now c.loop-steps.frames c.hasten_within.new.frames
+    c.args.heap.now c.loop-steps.heap c.hasten_within.new.heap c.loop-steps.invariant.quiet c.in_ok-made.made so c.if-made.false c.loop-steps.invariant.few in
+    left_made p x c.args.counts c.args.most (c.loop-steps.steps + c.in_ok-made.made.steps) c.args.frames.now c.hasten_within.new.frames c.turn.new.frames
+    c.args.heap.now c.hasten_within.new.heap c.turn.new.heap quiet turned few

@@ -1,16 +1,13 @@
-use Rattle.std.proofs.Common.{◌∙◌, arith, refl, subst, sym}
-use Rattle.jprogram.specs.Classes.{Program}
-use Rattle.jstep.specs.Stepping.{IsFixed}
+use Rattle.std.proofs.Common.{◌∙◌, arith, refl, sym}
 use Rattle.jexecute.proofs.Fetched.{fetches_some}
-use Rattle.jexecute.proofs.Hastened.{few_behind, more_quiet, none_quiet}
-use Rattle.jexecute.specs.Hastening.{Hastens}
+use Rattle.jexecute.proofs.Hastened.{more_quiet, none_quiet}
+use Rattle.jexecute.specs.Hastening.{Hastens, program_of}
 use Rattle.jexecute.specs.declared.hastening.Quick.TheVariants as tries
 use Rattle.jexecute.proofs.hastening.hasten_within.Goals as goal
 
 pub loop-steps-init : goal.loop-steps-init
 loop-steps-init g c = record {
-  same = refl;
-  quiet = none_quiet c.args.calls.now c.args.fixed.now c.args.counts c.args.frames.now c.args.heap.now;
+  quiet = none_quiet (program_of c.args.fixed.now) c.args.fixed.now c.args.counts c.args.frames.now c.args.heap.now;
   method = c.requires.method;
   stand = c.requires.stand;
   built = c.requires.built;
@@ -18,28 +15,20 @@ loop-steps-init g c = record {
   few = omega arith;
 }
 
-pub hasten_at-requires-clause-fixed : goal.hasten_at-requires-clause-fixed
-hasten_at-requires-clause-fixed g c = subst (λ (q : Program). IsFixed q c.args.fixed.now) (sym c.loop-steps.invariant.same) c.requires.fixed
-
 pub hasten_at-requires-clause-fetches : goal.hasten_at-requires-clause-fetches
 hasten_at-requires-clause-fetches g c =
     let x = c.args.fixed.now in
-    fetches_some c.loop-steps.calls x c.loop-steps.frames.newest (subst (λ (q : Program). IsFixed q x) (sym c.loop-steps.invariant.same) c.requires.fixed)
-    c.fetch-one.result c.args.row.id c.place.result c.loop-steps.invariant.method c.place.ensures
+    fetches_some (program_of x) x c.loop-steps.frames.newest c.requires.fixed c.fetch-one.result c.args.row.id c.place.result c.loop-steps.invariant.method c.place.ensures
     c.fetch-one.ensures.means c.fetch-one.ensures.within c.fetch-one.ensures.exact c.fetch-one.ensures.next
 
 pub loop-steps-preserved : goal.loop-steps-preserved
 loop-steps-preserved g c =
     let x = c.args.fixed.now in
-    let p = c.args.calls.now in
-    let there : Hastens c.loop-steps.calls x c.args.counts c.loop-steps.frames c.loop-steps.heap tries.Went c.hasten_at.new.frames c.hasten_at.new.heap =
-    rw c.in-Went.is at c.in_ok-last.ensures.row in
-    let went : Hastens p x c.args.counts c.loop-steps.frames c.loop-steps.heap tries.Went c.hasten_at.new.frames c.hasten_at.new.heap =
-    subst (λ (q : Program). Hastens q x c.args.counts c.loop-steps.frames c.loop-steps.heap tries.Went c.hasten_at.new.frames c.hasten_at.new.heap) c.loop-steps.invariant.same there in
+    let went : Hastens (program_of x) x c.args.counts c.loop-steps.frames c.loop-steps.heap tries.Went c.hasten_at.new.frames c.hasten_at.new.heap =
+    rw c.in-Went.is at c.in_ok-hasten_at.ensures in
     record {
-      same = c.in_ok-last.ensures.same ∙ c.loop-steps.invariant.same;
-      quiet = more_quiet p x c.args.counts c.loop-steps.steps c.args.frames.now c.loop-steps.frames c.hasten_at.new.frames c.args.heap.now c.loop-steps.heap c.hasten_at.new.heap
-          c.loop-steps.invariant.quiet went.0;
+      quiet = more_quiet (program_of x) x c.args.counts c.loop-steps.steps c.args.frames.now c.loop-steps.frames c.hasten_at.new.frames c.args.heap.now c.loop-steps.heap
+          c.hasten_at.new.heap c.loop-steps.invariant.quiet went.0;
       method = c.loop-steps.invariant.method ∙ sym went.1;
       stand = went.0.stands;
       built = went.0.built;
@@ -47,25 +36,49 @@ loop-steps-preserved g c =
       few = omega arith;
     }
 
-pub returns-clause-made : goal.returns-clause-made
-returns-clause-made g c = record {
-  frames = c.loop-steps.frames;
-  heap = c.loop-steps.heap;
-  quiet = c.loop-steps.invariant.quiet;
-  last = (refl, refl);
-  few = c.loop-steps.invariant.few;
-}
-
-pub returns-in_default-clause-made : goal.returns-in_default-clause-made
-returns-in_default-clause-made g c =
+pub returns-in-Stuck : goal.returns-in-Stuck
+returns-in-Stuck g c =
     let x = c.args.fixed.now in
-    let there : Hastens c.loop-steps.calls x c.args.counts c.loop-steps.frames c.loop-steps.heap c.in_ok-last.last c.hasten_at.new.frames c.hasten_at.new.heap =
-    c.in_ok-last.ensures.row in
+    let stuck : Hastens (program_of x) x c.args.counts c.loop-steps.frames c.loop-steps.heap tries.Stuck c.hasten_at.new.frames c.hasten_at.new.heap =
+    rw c.in-Stuck.is at c.in_ok-hasten_at.ensures in
     record {
       frames = c.loop-steps.frames;
       heap = c.loop-steps.heap;
       quiet = c.loop-steps.invariant.quiet;
-      last = subst (λ (q : Program). Hastens q x c.args.counts c.loop-steps.frames c.loop-steps.heap c.in_ok-last.last c.hasten_at.new.frames c.hasten_at.new.heap)
-          c.loop-steps.invariant.same there;
-      few = few_behind c.args.most c.loop-steps.steps c.in_ok-last.last (omega arith);
+      stays = c.loop-steps.invariant.method;
+      stand = c.loop-steps.invariant.stand;
+      built = c.loop-steps.invariant.built;
+      celled = c.loop-steps.invariant.celled;
+      ends = stuck;
+      few = omega arith;
     }
+
+pub returns-in-Left : goal.returns-in-Left
+returns-in-Left g c =
+    let x = c.args.fixed.now in
+    let left : Hastens (program_of x) x c.args.counts c.loop-steps.frames c.loop-steps.heap tries.Left c.hasten_at.new.frames c.hasten_at.new.heap =
+    rw c.in-Left.is at c.in_ok-hasten_at.ensures in
+    record {
+      frames = c.loop-steps.frames;
+      heap = c.loop-steps.heap;
+      quiet = c.loop-steps.invariant.quiet;
+      stays = c.loop-steps.invariant.method;
+      stand = c.loop-steps.invariant.stand;
+      built = c.loop-steps.invariant.built;
+      celled = c.loop-steps.invariant.celled;
+      ends = left;
+      few = c.loop-steps.invariant.few;
+    }
+
+pub returns : goal.returns
+returns g c = record {
+  frames = c.loop-steps.frames;
+  heap = c.loop-steps.heap;
+  quiet = c.loop-steps.invariant.quiet;
+  stays = c.loop-steps.invariant.method;
+  stand = c.loop-steps.invariant.stand;
+  built = c.loop-steps.invariant.built;
+  celled = c.loop-steps.invariant.celled;
+  ends = (refl, refl);
+  few = c.loop-steps.invariant.few;
+}

@@ -2,13 +2,12 @@ use Rattle.std.proofs.Common.{◌≡◌, ◌≤◌, ◌-◌, length}
 use Rattle.jcalls.specs.Marks.{AreStanding}
 use Rattle.jstate.specs.Celled.{AreCelled}
 use Rattle.jstate.specs.Seen.{AreBuilt}
-use Rattle.jexecute.specs.Hastening.{Quietly}
+use Rattle.jexecute.specs.Hastening.{Quietly, program_of}
 use Rattle.jexecute.proofs.hastening.hasten_within.Given as goal
 
 abbrev pub invariant-loop-steps : goal.invariant-loop-steps
 invariant-loop-steps g l = record {
-  same : l.calls ≡ l.initial.calls;
-  quiet : Quietly l.initial.calls l.fixed l.counts l.steps l.initial.frames l.initial.heap l.frames l.heap;
+  quiet : Quietly (program_of l.fixed) l.fixed l.counts l.steps l.initial.frames l.initial.heap l.frames l.heap;
   method : l.row.id ≡ l.frames.newest.method;
   stand : AreStanding (length l.fixed.marks.now) l.frames;
   built : AreBuilt l.heap.objects;
