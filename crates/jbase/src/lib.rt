@@ -7,8 +7,8 @@
 //! - `First`: the first test that fails.
 //! - `Each`: a function on each item of a list.
 //!
-//! Proved: lists are what contracts see; `first_along_laws`: the first failing test is found exactly where one fails; a loop over items
-//! (`each_some_of`, `all_again`) gives what the definition gives.
+//! Proved: lists are what contracts see; `first_along_laws`: the first failing test is found exactly where one fails; `all_again` gives the
+//! same values.
 //!
 //! Any room may name it.
 #![tactic(auto)]
@@ -18,7 +18,7 @@ mod laws;
 mod seq;
 mod stop;
 
-pub use each::{Again, EachSome, all_again, each_some_of};
+pub use each::{Again, all_again};
 pub use laws::first_along_laws;
 pub use seq::Seq;
 pub use stop::Stop;

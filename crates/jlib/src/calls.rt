@@ -318,13 +318,6 @@ impl LibCall {
         )
     }
 
-    /// Whether it is a method of an instance and has a body, constructors aside.
-    pub fn is_concrete(self) -> bool
-        ensures { result ≡ Calls.is_concrete self }
-    {
-        matches!(self.row().kind(), MemberKind::Method)
-    }
-
     /// Whether a side's library has it.
     pub fn stands_on(self, side: Side) -> bool
         ensures { result ≡ Calls.call_stands_on side self }

@@ -1,8 +1,8 @@
 ghost use Rattle.std.specs.Prelude.{◌≡◌};
-ghost use Rattle.jnames.specs.Effects.{compares_references, division_effect, gives, one_effect, takes, two_effect};
+ghost use Rattle.jnames.specs.Effects.{division_effect, gives, one_effect, takes, two_effect};
 
 use crate::kinds::{Effect, Kind, Kinds};
-use crate::names::{Compare, Division, OpOne, OpTwo};
+use crate::names::{Division, OpOne, OpTwo};
 
 impl Effect {
     /// What takes these operands and puts one of this kind.
@@ -72,14 +72,5 @@ impl Division {
             Division::Ldiv => Effect::giving(Kinds::Two(Kind::Long, Kind::Long), Kind::Long),
             Division::Lrem => Effect::giving(Kinds::Two(Kind::Long, Kind::Long), Kind::Long),
         }
-    }
-}
-
-impl Compare {
-    /// Whether two references are compared so, and not only two ints.
-    pub fn compares_references(self) -> bool
-        ensures { result ≡ compares_references self }
-    {
-        matches!(self, Compare::Eq | Compare::Ne)
     }
 }

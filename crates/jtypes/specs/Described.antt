@@ -1,6 +1,6 @@
--- The types that descriptors name (JVMS 4.3.2), as verification types. A descriptor is given by its parts: how many brackets stand in
--- front, the letter behind them, and the class's name behind `L`.
-use Rattle.std.specs.Prelude.{ℕ, zero, suc, ◌==◌, Option, Some, None, option_map, if◌then◌else◌}
+-- What the parts of a field descriptor name (JVMS 4.3.2): how many brackets stand in front, the letter behind them, and the class's name
+-- behind `L`.
+use Rattle.std.specs.Prelude.{ℕ, zero, suc, ◌==◌, Option, Some, None, if◌then◌else◌}
 use Rattle.std.specs.Str.{byte}
 use Rattle.jtypes.specs.declared.vtype.Name.{Name}
 use Rattle.jtypes.specs.declared.vtype.Element.{Element}
@@ -32,6 +32,3 @@ alone (elements.Class c) = Object c
 abbrev pub in_brackets : ℕ → Element → VType
 in_brackets zero x = alone x
 in_brackets (suc d) x = Array (record { depth = suc d; element = x })
-
-abbrev pub described : ℕ → ℕ → Name → Option VType
-described depth letter class = option_map (in_brackets depth) (element_of letter class)
