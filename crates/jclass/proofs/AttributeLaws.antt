@@ -8,12 +8,12 @@ use Rattle.jclass.specs.declared.access.Access.{Access}
 use Rattle.jclass.specs.declared.class.Attribute.{Attribute}
 use Rattle.jclass.specs.declared.class.Attribute.TheVariants.{ConstantValue, Code, Raw}
 use Rattle.jclass.specs.declared.fault.ClassFault.TheVariants.{Index}
-use Rattle.jclass.specs.Basics.{u2, run, flags_from, flags_parts, access}
+use Rattle.jclass.specs.Basics.{u2, run, access}
 use Rattle.jclass.specs.Attributes.{text_index, name_once, content, raw_from, raw_parts, class_attribute, constant, constant_from, constant_parts, is_constant, field_attribute}
 use Rattle.jclass.specs.AttributeLaws.{u2_law, run_law, index_law, content_law, name_once_law, constant_law}
 
 pub access_law : IsFormat access
-access_law = via_law flags_from flags_parts u2 (λ n fit. refl) (λ a fit. refl) u2_law
+access_law = via_law _ _ u2 (λ n fit. refl) (λ a fit. refl) u2_law
 
 -- ---- of a class
 

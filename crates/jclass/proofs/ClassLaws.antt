@@ -29,7 +29,7 @@ use Rattle.jclass.specs.declared.fault.ClassFault.TheVariants.{Trailing, Magic}
 use Rattle.jclass.specs.Basics.{u2, u4, run, access, index, told, told_as, pool_fault}
 use Rattle.jclass.specs.Rules.{names_class, names_super, is_code, field_descriptor, method_descriptor}
 use Rattle.jclass.specs.Shapes
-use Rattle.jclass.specs.Shapes.{HeadParts, magic, version_fault, major, entries, shape, has_shape}
+use Rattle.jclass.specs.Shapes.{HeadParts, magic, major, entries, shape, has_shape}
 use Rattle.jclass.specs.Judging
 use Rattle.jclass.specs.Judging.{entry_fault, no_fault, judged}
 use Rattle.jclass.specs.Attributes.{text_index, content, class_attribute, field_attribute, saw_constant}
@@ -94,7 +94,7 @@ magic_law : IsFormat magic
 magic_law = literal_law u4 Magic 3405691582 u4_law
 
 major_law : IsFormat major
-major_law = such_law version_fault u2 u2_law
+major_law = such_law _ u2 u2_law
 
 entries_law : IsFormat entries
 unfolding entries

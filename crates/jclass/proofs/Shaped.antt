@@ -19,7 +19,7 @@ use Rattle.jclass.specs.declared.class.CodeBody.{CodeBody}
 use Rattle.jclass.specs.declared.class.MemberInfo.{MemberInfo}
 use Rattle.jclass.specs.declared.fault.ClassFault.{ClassFault}
 use Rattle.jclass.specs.declared.fault.ClassFault.TheVariants.{Truncated, Index}
-use Rattle.jclass.specs.Basics.{u2, u4, run, flags_from, flags_parts, access}
+use Rattle.jclass.specs.Basics.{u2, u4, run, access}
 use Rattle.jclass.specs.Shapes
 use Rattle.jclass.specs.Rules.{is_code, field_descriptor, method_descriptor}
 use Rattle.jclass.specs.Attributes.{text_index, name_fault, name_once, content, raw_from, raw_parts, class_attribute, constant, constant_from, constant_parts, is_constant, field_attribute, saw_constant}
@@ -82,7 +82,10 @@ method_attribute_skim pool =
 -- ---- members
 
 flags_skim : Skims u2 access
-flags_skim = skims_via u2 flags_from flags_parts u2 (skims_itself u2 u2_law)
+flags_skim =
+    let make : ℕ → Access = λ n. record { 0 = n } in
+    let parts : Access → ℕ = λ a. a.0 in
+    skims_via u2 make parts u2 (skims_itself u2 u2_law)
 
 pub field_skim : (pool : List Entry) → Skims Shapes.member (field pool)
 unfolding field field_descriptor

@@ -48,12 +48,9 @@ class_attribute pool = as_case raw_from raw_parts (text_index pool · run)
 abbrev pub constant : List Entry → ℕ → Body ClassFault ℕ
 constant pool desc = whole Trailing (index (suits_field pool desc))
 
-abbrev pub constant_or_raw : ℕ → ℕ ⊎ List ℕ → Attribute
-constant_or_raw name (inl value) = ConstantValue name value
-constant_or_raw name (inr bytes) = Raw name bytes
-
 abbrev pub constant_from : ℕ × (ℕ ⊎ List ℕ) → Attribute
-constant_from p = constant_or_raw p.0 p.1
+constant_from (name, inl value) = ConstantValue name value
+constant_from (name, inr bytes) = Raw name bytes
 
 abbrev pub constant_parts : Attribute → Option (ℕ × (ℕ ⊎ List ℕ))
 constant_parts (ConstantValue name value) = Some (name, inl value)

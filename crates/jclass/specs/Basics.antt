@@ -24,14 +24,8 @@ u4 = number w32 Truncated
 abbrev pub run : Format ClassFault (List ℕ)
 run = sized u4 Truncated
 
-abbrev pub flags_from : ℕ → Access
-flags_from n = record { 0 = n }
-
-abbrev pub flags_parts : Access → ℕ
-flags_parts a = a.0
-
 abbrev pub access : Format ClassFault Access
-access = via flags_from flags_parts u2
+access = via (λ n. record { 0 = n }) (λ a. a.0) u2
 
 -- ---- tests
 

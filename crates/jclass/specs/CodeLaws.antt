@@ -30,7 +30,7 @@ use Rattle.jclass.specs.Basics.{u2, u4, index, told}
 use Rattle.jclass.specs.Rules.{names_caught, is_maps}
 use Rattle.jclass.specs.Attributes.{name_once, content}
 use Rattle.jclass.specs.Codes.{frame_kinds, plain_type, type_fault, named_type, maps, attribute_from, attribute_parts, attribute, saw_maps, code_fault, none_misnamed, ops}
-use Rattle.jclass.specs.Codes.{HandlerParts, handler_from, handler_parts, target_fault, handler, length_fault, code_length, behind_ops, body_from, body_parts, code_content, code_body}
+use Rattle.jclass.specs.Codes.{HandlerParts, handler_parts, target_fault, handler, length_fault, code_length, behind_ops, code_content, code_body}
 use Rattle.jclass.specs.AttributeLaws.{u2_law, u4_law, index_law, content_law, name_once_law}
 
 -- ---- frames
@@ -88,8 +88,8 @@ looser pool p fit =
 
 handler_law : (pool : List Entry) (ps : List Placed) → IsFormat (handler pool ps)
 unfolding handler
-handler_law pool ps = ahead_law (u2 · u2 · u2 · u2).read handler_parts (target_fault ps) (via handler_from handler_parts (u2 · u2 · u2 · index (names_caught pool)))
-    (via_law handler_from handler_parts (u2 · u2 · u2 · index (names_caught pool)) (λ p fit. refl) (λ h fit. refl) (three_law pool))
+handler_law pool ps = ahead_law (u2 · u2 · u2 · u2).read handler_parts (target_fault ps) (via (λ p. record { start = p.0; end = p.1.0; at = p.1.1.0; class = p.1.1.1 }) handler_parts (u2 · u2 · u2 · index (names_caught pool)))
+    (via_law _ handler_parts (u2 · u2 · u2 · index (names_caught pool)) (λ p fit. refl) (λ h fit. refl) (three_law pool))
     (λ h rest fit. four_law.again (handler_parts h) rest (looser pool (handler_parts h) fit)) four_law.reading.within
 
 -- ---- code
@@ -162,7 +162,7 @@ ops_law pool = record {
 
 pub code_content_law : (pool : List Entry) → IsFormat (code_content pool)
 unfolding code_content
-code_content_law pool = via_law body_from body_parts (u2 · u2 · (block code_length Truncated (ops pool) ▹ behind_ops pool)) (λ p fit. refl) (λ c fit. refl)
+code_content_law pool = via_law _ _ (u2 · u2 · (block code_length Truncated (ops pool) ▹ behind_ops pool)) (λ p fit. refl) (λ c fit. refl)
     (pair_law u2 _ u2_law (pair_law u2 _ u2_law (then_law (block code_length Truncated (ops pool)) (behind_ops pool)
     (block_law code_length Truncated (ops pool) code_length_law (ops_law pool))
     (λ ps. pair_law (counted u2 (handler pool ps)) (counted_from u2 (attribute pool) saw_maps false) (counted_law u2 (handler pool ps) u2_law (handler_law pool ps))

@@ -53,12 +53,9 @@ named_type pool = such (type_fault pool) plain_type
 unfoldable pub maps : List Entry → Body ClassFault (List RawFrame)
 maps pool = passes (frames frame_kinds plain_type).read (λ fs. fs) (λ _. frames frame_kinds (named_type pool))
 
-abbrev pub maps_or_raw : ℕ → List RawFrame ⊎ List ℕ → CodeAttribute
-maps_or_raw name (inl fs) = code.Maps name fs
-maps_or_raw name (inr bytes) = code.Raw name bytes
-
 abbrev pub attribute_from : ℕ × (List RawFrame ⊎ List ℕ) → CodeAttribute
-attribute_from p = maps_or_raw p.0 p.1
+attribute_from (name, inl fs) = code.Maps name fs
+attribute_from (name, inr bytes) = code.Raw name bytes
 
 abbrev pub attribute_parts : CodeAttribute → ℕ × (List RawFrame ⊎ List ℕ)
 attribute_parts (code.Maps name fs) = (name, inl fs)
@@ -106,9 +103,6 @@ ends ps at = at == length (Instructions.code.spell ps) || begins ps at
 abbrev pub HandlerParts : Type 0
 HandlerParts = ℕ × (ℕ × (ℕ × ℕ))
 
-abbrev pub handler_from : HandlerParts → Handler
-handler_from p = record { start = p.0; end = p.1.0; at = p.1.1.0; class = p.1.1.1 }
-
 abbrev pub handler_parts : Handler → HandlerParts
 handler_parts h = (h.start, (h.end, (h.at, h.class)))
 
@@ -118,7 +112,8 @@ target_fault ps p = unless (nat_lt p.0 p.1.0 && (begins ps p.0 && (ends ps p.1.0
 
 -- a handler: its places are looked at before the class that it catches
 unfoldable pub handler : List Entry → List Placed → Format ClassFault Handler
-handler pool ps = ahead (u2 · u2 · u2 · u2).read handler_parts (target_fault ps) (via handler_from handler_parts (u2 · u2 · u2 · index (names_caught pool)))
+handler pool ps = ahead (u2 · u2 · u2 · u2).read handler_parts (target_fault ps)
+    (via (λ p. record { start = p.0; end = p.1.0; at = p.1.1.0; class = p.1.1.1 }) handler_parts (u2 · u2 · u2 · index (names_caught pool)))
 
 -- ---- code
 
@@ -129,22 +124,18 @@ length_fault n = if n == 0 || nat_lt 0xffff n then Some kinds.Code else None
 abbrev pub code_length : Format ClassFault ℕ
 code_length = such length_fault u4
 
-abbrev pub CodeParts : Type 0
-CodeParts = ℕ × (ℕ × (List Placed × (List Handler × List CodeAttribute)))
-
 -- behind the instructions
 abbrev pub behind_ops : List Entry → List Placed → Format ClassFault (List Handler × List CodeAttribute)
 behind_ops pool ps = counted u2 (handler pool ps) · counted_from u2 (attribute pool) saw_maps false
 
-abbrev pub body_from : CodeParts → CodeBody
-body_from p = record { max_stack = p.0; max_locals = p.1.0; ops = p.1.1.0; handlers = p.1.1.1.0; attributes = p.1.1.1.1 }
-
-abbrev pub body_parts : CodeBody → CodeParts
-body_parts c = (c.max_stack, (c.max_locals, (c.ops, (c.handlers, c.attributes))))
+abbrev pub a_body : ℕ → ℕ → List Placed → List Handler → List CodeAttribute → CodeBody
+a_body stack locals ops handlers attributes = record { max_stack = stack; max_locals = locals; ops = ops; handlers = handlers; attributes = attributes }
 
 -- the content of a Code attribute
 unfoldable pub code_content : List Entry → Format ClassFault CodeBody
-code_content pool = via body_from body_parts (u2 · u2 · (block code_length Truncated (ops pool) ▹ behind_ops pool))
+code_content pool =
+    via (λ p. a_body p.0 p.1.0 p.1.1.0 p.1.1.1.0 p.1.1.1.1) (λ c. (c.max_stack, (c.max_locals, (c.ops, (c.handlers, c.attributes)))))
+    (u2 · u2 · (block code_length Truncated (ops pool) ▹ behind_ops pool))
 
 -- all of it
 abbrev pub code_body : List Entry → Body ClassFault CodeBody

@@ -19,7 +19,7 @@ use Rattle.jclass.specs.Basics.{u2, access}
 use Rattle.jclass.specs.Rules.{field_descriptor, method_descriptor, has_no_code, is_code}
 use Rattle.jclass.specs.Shapes
 use Rattle.jclass.specs.Attributes.{text_index, content, field_attribute, saw_constant}
-use Rattle.jclass.specs.Codes.{code_content, code_body}
+use Rattle.jclass.specs.Codes.{a_body, code_content, code_body}
 
 abbrev pub MemberParts : Type 0
 MemberParts = Access × (ℕ × (ℕ × List Attribute))
@@ -37,36 +37,18 @@ field pool = via member_from member_parts (access ▹ λ a. text_index pool · (
 
 -- ---- methods
 
-abbrev pub code_or_raw : ℕ → CodeBody ⊎ List ℕ → Attribute
-code_or_raw name (inl c) = Code name c.max_stack c.max_locals c.ops c.handlers c.attributes
-code_or_raw name (inr bytes) = Raw name bytes
-
 abbrev pub code_from : ℕ × (CodeBody ⊎ List ℕ) → Attribute
-code_from p = code_or_raw p.0 p.1
+code_from (name, inl c) = Code name c.max_stack c.max_locals c.ops c.handlers c.attributes
+code_from (name, inr bytes) = Raw name bytes
 
 abbrev pub code_parts : Attribute → Option (ℕ × (CodeBody ⊎ List ℕ))
-code_parts (Code name stack locals ops handlers attributes) = Some (
-  name,
-  inl (record {
-    max_stack = stack;
-    max_locals = locals;
-    ops = ops;
-    handlers = handlers;
-    attributes = attributes;
-  }),
-)
+code_parts (Code name stack locals ops handlers attributes) = Some (name, inl (a_body stack locals ops handlers attributes))
 code_parts (Raw name bytes) = Some (name, inr bytes)
 code_parts _ = None
 
 -- what stands in a Code attribute behind its name, if it is one
 abbrev pub body_of : Attribute → Option CodeBody
-body_of (Code name stack locals ops handlers attributes) = Some (record {
-  max_stack = stack;
-  max_locals = locals;
-  ops = ops;
-  handlers = handlers;
-  attributes = attributes;
-})
+body_of (Code name stack locals ops handlers attributes) = Some (a_body stack locals ops handlers attributes)
 body_of _ = None
 
 abbrev pub code_spell : List Entry → Attribute → List ℕ

@@ -1,5 +1,5 @@
 -- The first pass: the shape of a class file (JVMS 4.1), its attributes as runs of bytes.
-use Rattle.std.specs.Prelude.{ℕ, ◌||◌, List, Option, Some, None, Result, Ok, nat_lt, if◌then◌else◌}
+use Rattle.std.specs.Prelude.{ℕ, ◌||◌, List, Some, None, Result, Ok, nat_lt, if◌then◌else◌}
 use Rattle.jbase.specs.Stops.{◌>>=◌}
 use Rattle.jformat.specs.declared.error.Fault.{Fault}
 use Rattle.jformat.specs.Format.{Format, ◌·◌, such, literal}
@@ -13,12 +13,9 @@ use Rattle.jclass.specs.Basics.{u2, u4, run, told_as, pool_fault}
 abbrev pub magic : Format ClassFault (Unit {0})
 magic = literal u4 Magic 0xcafebabe
 
-abbrev pub version_fault : ℕ → Option ClassFault
-version_fault n = if nat_lt n 50 || nat_lt 52 n then Some Version else None
-
 -- the major version, of Java SE 6 to 8
 abbrev pub major : Format ClassFault ℕ
-major = such version_fault u2
+major = such (λ n. if nat_lt n 50 || nat_lt 52 n then Some Version else None) u2
 
 -- the number of indices, and the entries
 unfoldable pub entries : Format ClassFault (List Entry)

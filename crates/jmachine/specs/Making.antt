@@ -1,6 +1,6 @@
 -- Rows of instructions that push constants, make objects and look at their classes (JVMS 6.5: ldc, ldc2_w, new, checkcast, instanceof).
-use Rattle.std.specs.Prelude.{ℕ, zero, ◌+◌, pos, Bool, true, false, List, [], ◌∷◌, length, map, Option, Some, None, option_map, Ok, Result, Err}
-use Rattle.jformat.specs.declared.error.Fault.{Fault}
+use Rattle.std.specs.Prelude.{ℕ, zero, ◌+◌, pos, Bool, true, false, List, [], ◌∷◌, length, map, Option, Some, None, option_map}
+use Rattle.std.specs.Result.{result_unwrap_or}
 use Rattle.jtext.specs.Modified as modified
 use Rattle.jlib.specs.declared.classes.Thrown.TheVariants as thrown
 use Rattle.jlib.specs.declared.classes.LibClass.{LibClass}
@@ -24,13 +24,9 @@ use Rattle.jmachine.specs.World.{World, can_be_thrown, is_instance}
 
 -- ---- constants
 
-abbrev pub read_units : Result (List ℕ) (Fault (Unit {0})) → List ℕ
-read_units (Ok units) = units
-read_units (Err fault) = []
-
 -- the units of a text that a class file holds
 unfoldable pub units_of : List ℕ → List ℕ
-units_of bytes = read_units (modified.text.read bytes)
+units_of bytes = result_unwrap_or (modified.text.read bytes) []
 
 -- a new string
 abbrev pub text_made : {K E : Type 0} → Store K → List ℕ → Row K E

@@ -52,11 +52,8 @@ actions_text (Property text set) = words_of set
 actions_text (File path text set) = words_of set
 actions_text (Unresolved class) = []
 
-abbrev pub quote : List ℕ
-quote = codes "\""
-
 abbrev pub quoted : List ℕ → List ℕ
-quoted text = quote ++ (text ++ quote)
+quoted text = codes "\"" ++ (text ++ codes "\"")
 
 -- a text where it isn't empty
 abbrev pub unless_empty : List ℕ → List (List ℕ)

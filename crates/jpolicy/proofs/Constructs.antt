@@ -1,5 +1,6 @@
 -- Each production of policy files is exact.
 use Rattle.std.proofs.Common.{◌≡◌, ℕ, suc, ◌<◌, Bool, true, false, cond, not, ◌&&◌, eqb, List, [], ◌∷◌, ◌++◌, length, Option, Some, Ok, Err, refl, sym, ap, ◌∙◌, append_assoc, subst, length-append, ◌+◌, inl, inr, arith}
+use Rattle.std.specs.Prelude.{is_some}
 use Rattle.std.specs.Str.{byte}
 use Rattle.std.proofs.lemmas.Bool.{cases_Bool, eqb-true}
 use Rattle.std.proofs.lemmas.List.{append-nil}
@@ -18,9 +19,9 @@ use Rattle.jpolicy.specs.declared.stated.Stated.{Stated}
 use Rattle.jpolicy.specs.declared.stated.Stated.TheVariants.{Absent}
 use Rattle.jpolicy.specs.declared.clauses.Clauses.{Clauses}
 use Rattle.jpolicy.specs.Expansion.{Properties}
-use Rattle.jpolicy.specs.Walks.{walk, Ends}
+use Rattle.jpolicy.specs.Walks.{Ends, none_left, walk}
 use Rattle.jpolicy.specs.Productions as read
-use Rattle.jpolicy.specs.Productions.{Answer, next, behind, is_mark, is_word, is_text, is_keyword, names_principal, is_absent, is_there, given, entry_of, with_code_base, with_signers, with_principal, grant_of, with_one, no_clauses, skip_comma, no_tokens}
+use Rattle.jpolicy.specs.Productions.{Answer, next, behind, is_mark, is_word, is_text, is_keyword, names_principal, is_absent, given, entry_of, with_code_base, with_signers, with_principal, grant_of, with_one, no_clauses, skip_comma}
 use Rattle.jpolicy.specs.Grammar.{Grammar, Nothing, Marked, Keyed, Worded, Texted, ◌▹◌, Either, Only, Comma, Signers, BehindActions, BehindComma, Named, BehindName, Entry, Entries, PrincipalName, Principal, Clause, AllClauses, OneGrant, Another, Others, Keystore, Password, Item, Items, Begins, NotAllowed, Says, emptied}
 use Rattle.jpolicy.proofs.Walking.{bind_ok, walk_ends}
 use Rattle.jpolicy.proofs.Firm.{Firm, Seen, Alike, Said, plain, first, bind_err, picked, shrinks, and_false, same_next, firm_same, firm_wide, firm_if, firm_next, firm_none}
@@ -182,21 +183,21 @@ star_names (Text u) h = absurd cc
 star_names Bad h = absurd cc
 
 abbrev TextName : Properties → Grammar Bool
-TextName p = Texted p ▹ λ t. Nothing (not (is_there t))
+TextName p = Texted p ▹ λ t. Nothing (not (is_some t))
 
 principal_name : (p : Properties) → Law Any (read.principal_name_at p) (PrincipalName p)
-principal_name p = law_next Any star (seen_mark (byte "*") refl) (λ ts. Ok (false, ts)) (Nothing false) (λ ts. read.text_at p ts >>= λ t. Ok (not (is_there t.0), t.1)) (TextName p)
+principal_name p = law_next Any star (seen_mark (byte "*") refl) (λ ts. Ok (false, ts)) (Nothing false) (λ ts. read.text_at p ts >>= λ t. Ok (not (is_some t.0), t.1)) (TextName p)
     (law_none Any false)
-    (law_map Any (read.text_at p) (Texted p) (λ t. not (is_there t)) (law_text p))
-    (λ front a rest d follow. text_begins p star false (λ t. Nothing (not (is_there t))) (λ u. refl) front a rest d)
+    (law_map Any (read.text_at p) (Texted p) (λ t. not (is_some t)) (law_text p))
+    (λ front a rest d follow. text_begins p star false (λ t. Nothing (not (is_some t))) (λ u. refl) front a rest d)
 
 name_first : (p : Properties) (front : List Placed) (a : Bool) (rest : List Placed) → PrincipalName p front a → next names_principal (front ++ rest) ≡ true
 name_first p front a rest (inl d) = let q = front_of star (Nothing false) front a rest d in ap (next names_principal) q.2 ∙ star_names q.0.token q.3
-name_first p front a rest (inr d) = text_begins p names_principal true (λ t. Nothing (not (is_there t))) (λ u. refl) front a rest d
+name_first p front a rest (inr d) = text_begins p names_principal true (λ t. Nothing (not (is_some t))) (λ u. refl) front a rest d
 
 name_no_word : (p : Properties) (front : List Placed) (a : Bool) (rest : List Placed) → PrincipalName p front a → next is_word (front ++ rest) ≡ false
 name_no_word p front a rest (inl d) = begins star is_word (Nothing false) (mark_no_word (byte "*")) front a rest d
-name_no_word p front a rest (inr d) = text_begins p is_word false (λ t. Nothing (not (is_there t))) (λ u. refl) front a rest d
+name_no_word p front a rest (inr d) = text_begins p is_word false (λ t. Nothing (not (is_some t))) (λ u. refl) front a rest d
 
 -- behind `principal`, where no word stands
 abbrev starred_at : Properties → List Placed → Answer Bool
@@ -214,7 +215,7 @@ starred_complete p front a rest (inr (inl d)) follow =
     let alone : next names_principal (q.1 ++ rest) ≡ false = nothing_first (Not names_principal) false q.1 a rest q.4 follow in
     ap (starred_at p) q.2 ∙ rw (q.3, alone, q.4.0, q.4.1) refl
 starred_complete p front a rest (inr (inr d)) follow =
-    let unstarred : next star (front ++ rest) ≡ false = text_begins p star false (λ t. Nothing (not (is_there t))) (λ u. refl) front a rest d in
+    let unstarred : next star (front ++ rest) ≡ false = text_begins p star false (λ t. Nothing (not (is_some t))) (λ u. refl) front a rest d in
     let named = (principal_name p).complete front a rest (inr d) tt in
     rw unstarred (rw unstarred at named)
 
@@ -448,20 +449,20 @@ item_some p gs front a (inr (inr d)) = deeper_some (OneGrant p) (λ g. Nothing (
 no_end : (n : ℕ) → eqb (suc n) 0 ≡ true → ⊥
 no_end n h = let e : suc n ≡ 0 = eqb-true (suc n) 0 h in omega arith
 
-not_over : (ts : List Placed) → 0 < length ts → no_tokens ts ≡ false
+not_over : (ts : List Placed) → 0 < length ts → none_left ts ≡ false
 not_over [] h = absurd (omega arith)
 not_over (t ∷ ts) h = elim (cases_Bool (eqb (suc (length ts)) 0)) [ inl hit ↦ absurd (no_end (length ts) hit) | inr miss ↦ miss ]
 
 more_tokens : (front rest : List Placed) → 0 < length front → 0 < length (front ++ rest)
 more_tokens front rest h = let both : length (front ++ rest) ≡ length front + length rest = length-append front rest in omega arith
 
-same_end : (xs ys : List Placed) → first xs ≡ first ys → no_tokens xs ≡ no_tokens ys
+same_end : (xs ys : List Placed) → first xs ≡ first ys → none_left xs ≡ none_left ys
 same_end [] [] e = refl
 same_end [] (y ∷ ys) e = absurd cc
 same_end (x ∷ xs) [] e = absurd cc
 same_end (x ∷ xs) (y ∷ ys) e = not_over (x ∷ xs) (omega arith) ∙ sym (not_over (y ∷ ys) (omega arith))
 
-item_steps : (p : Properties) → Steps Any no_tokens (read.one_item p) (Item p)
+item_steps : (p : Properties) → Steps Any none_left (read.one_item p) (Item p)
 item_steps p = record {
   law = item p;
   some = item_some p;
@@ -473,31 +474,31 @@ item_steps p = record {
 
 -- ---- the policy
 
-over_is : (ts : List Placed) → no_tokens ts ≡ true → ts ≡ []
+over_is : (ts : List Placed) → none_left ts ≡ true → ts ≡ []
 over_is [] h = refl
 over_is (t ∷ ts) h = absurd (no_end (length ts) h)
 
 pub policy_sound : (p : Properties) (ts : List Placed) (gs : List Grant) → read.policy_at p ts ≡ Ok gs → Items p ts gs
 unfolding read.policy_at
 policy_sound p ts gs e =
-    let b = bind_ok (walk no_tokens (read.one_item p) (length ts) [] ts) (λ x. cond (no_tokens x.1) (Ok x.0) (read.not_allowed x.1)) gs e in
-    let done = picked (no_tokens b.0.1) b.0.0 (read.fault_at Syntax b.0.1) gs b.2 in
-    let s = (law_many Any no_tokens (read.one_item p) (Item p) [] (item_steps p)).firm.takes ts b.0 b.1 in
+    let b = bind_ok (walk none_left (read.one_item p) (length ts) [] ts) (λ x. cond (none_left x.1) (Ok x.0) (read.not_allowed x.1)) gs e in
+    let done = picked (none_left b.0.1) b.0.0 (read.fault_at Syntax b.0.1) gs b.2 in
+    let s = (law_many Any none_left (read.one_item p) (Item p) [] (item_steps p)).firm.takes ts b.0 b.1 in
     let all : ts ≡ s.0 = s.1 ∙ ap (λ (r : List Placed). s.0 ++ r) (over_is b.0.1 done.0) ∙ append-nil s.0 in
     subst (λ (t : List Placed). Items p t gs) (sym all) (subst (λ (g : List Grant). Items p s.0 g) done.1 s.2)
 
 pub policy_complete : (p : Properties) (ts : List Placed) (gs : List Grant) → Items p ts gs → read.policy_at p ts ≡ Ok gs
 unfolding read.policy_at
 policy_complete p ts gs d =
-    let l = law_many Any no_tokens (read.one_item p) (Item p) [] (item_steps p) in
-    let all : walk no_tokens (read.one_item p) (length (ts ++ [])) [] (ts ++ []) ≡ Ok (gs, []) = l.complete ts gs [] d refl in
-    let whole : walk no_tokens (read.one_item p) (length ts) [] ts ≡ Ok (gs, []) = ap (λ (t : List Placed). walk no_tokens (read.one_item p) (length t) [] t) (sym (append-nil ts)) ∙ all in
-    ap (λ (r : Answer (List Grant)). r >>= λ x. cond (no_tokens x.1) (Ok x.0) (read.not_allowed x.1)) whole
+    let l = law_many Any none_left (read.one_item p) (Item p) [] (item_steps p) in
+    let all : walk none_left (read.one_item p) (length (ts ++ [])) [] (ts ++ []) ≡ Ok (gs, []) = l.complete ts gs [] d refl in
+    let whole : walk none_left (read.one_item p) (length ts) [] ts ≡ Ok (gs, []) = ap (λ (t : List Placed). walk none_left (read.one_item p) (length t) [] t) (sym (append-nil ts)) ∙ all in
+    ap (λ (r : Answer (List Grant)). r >>= λ x. cond (none_left x.1) (Ok x.0) (read.not_allowed x.1)) whole
 
 -- ---- where a policy is at fault
 
-items : (p : Properties) → Firm (λ ts. walk no_tokens (read.one_item p) (length ts) [] ts) (Items p)
-items p = (law_many Any no_tokens (read.one_item p) (Item p) [] (item_steps p)).firm
+items : (p : Properties) → Firm (λ ts. walk none_left (read.one_item p) (length ts) [] ts) (Items p)
+items p = (law_many Any none_left (read.one_item p) (Item p) [] (item_steps p)).firm
 
 -- a walk over tokens ends at its test, at a fault, or with nothing left
 walk_of_steps : {S : Type 0} (F : List Placed → Type 0) (ends : List Placed → Bool) (goes : S → List Placed → Answer S) (R : S → Grammar S) → Steps F ends goes R → (s : S) (ts : List Placed) → Ends ends (walk ends goes (length ts) s ts)
@@ -509,38 +510,38 @@ clauses_walk p ts = walk_of_steps Between (next open_brace) (read.one_clause p) 
 pub entries_walk : (p : Properties) (ts : List Placed) → Ends (next close_brace) (walk (next close_brace) (read.one_entry p) (length ts) [] ts)
 entries_walk p ts = walk_of_steps Any (next close_brace) (read.one_entry p) (OneEntry p) (entry_steps p) [] ts
 
-pub items_walk : (p : Properties) (ts : List Placed) → Ends no_tokens (walk no_tokens (read.one_item p) (length ts) [] ts)
-items_walk p ts = walk_of_steps Any no_tokens (read.one_item p) (Item p) (item_steps p) [] ts
+pub items_walk : (p : Properties) (ts : List Placed) → Ends none_left (walk none_left (read.one_item p) (length ts) [] ts)
+items_walk p ts = walk_of_steps Any none_left (read.one_item p) (Item p) (item_steps p) [] ts
 
-ended : (x : List Grant × List Placed) (r : Answer (List Grant)) → Ends no_tokens r → r ≡ Ok x → x.1 ≡ []
-ended x r h e = elim (subst (λ (q : Answer (List Grant)). Ends no_tokens q) e h) [ inl over ↦ over_is x.1 over | inr none ↦ none ]
+ended : (x : List Grant × List Placed) (r : Answer (List Grant)) → Ends none_left r → r ≡ Ok x → x.1 ≡ []
+ended x r h e = elim (subst (λ (q : Answer (List Grant)). Ends none_left q) e h) [ inl over ↦ over_is x.1 over | inr none ↦ none ]
 
 -- the walk over items ends with nothing left
-items_end : (p : Properties) (ts : List Placed) (x : List Grant × List Placed) → walk no_tokens (read.one_item p) (length ts) [] ts ≡ Ok x → x.1 ≡ []
-items_end p ts x e = ended x (walk no_tokens (read.one_item p) (length ts) [] ts) (items_walk p ts) e
+items_end : (p : Properties) (ts : List Placed) (x : List Grant × List Placed) → walk none_left (read.one_item p) (length ts) [] ts ≡ Ok x → x.1 ≡ []
+items_end p ts x e = ended x (walk none_left (read.one_item p) (length ts) [] ts) (items_walk p ts) e
 
-behind_items : (p : Properties) (ts : List Placed) (d : Fault PolicyFault) → walk no_tokens (read.one_item p) (length ts) [] ts ≡ Err d → read.policy_at p ts ≡ Err d
+behind_items : (p : Properties) (ts : List Placed) (d : Fault PolicyFault) → walk none_left (read.one_item p) (length ts) [] ts ≡ Err d → read.policy_at p ts ≡ Err d
 unfolding read.policy_at
-behind_items p ts d e = ap (λ (r : Answer (List Grant)). r >>= λ x. cond (no_tokens x.1) (Ok x.0) (read.not_allowed x.1)) e
+behind_items p ts d e = ap (λ (r : Answer (List Grant)). r >>= λ x. cond (none_left x.1) (Ok x.0) (read.not_allowed x.1)) e
 
-at_fault : (p : Properties) (ts : List Placed) (d : Fault PolicyFault) → read.policy_at p ts ≡ Err d → walk no_tokens (read.one_item p) (length ts) [] ts ≡ Err d
+at_fault : (p : Properties) (ts : List Placed) (d : Fault PolicyFault) → read.policy_at p ts ≡ Err d → walk none_left (read.one_item p) (length ts) [] ts ≡ Err d
 unfolding read.policy_at
-at_fault p ts d e = elim (bind_err (walk no_tokens (read.one_item p) (length ts) [] ts) (λ x. cond (no_tokens x.1) (Ok x.0) (read.not_allowed x.1)) d e) [
+at_fault p ts d e = elim (bind_err (walk none_left (read.one_item p) (length ts) [] ts) (λ x. cond (none_left x.1) (Ok x.0) (read.not_allowed x.1)) d e) [
   | inl stop ↦ stop
   | inr b ↦ absurd (let none : b.0.1 ≡ [] = items_end p ts b.0 b.1 in let h = rw none at b.2 in cc)
 ]
 
-derived_no_fault : (p : Properties) (ts : List Placed) (gs : List Grant) (d : Fault PolicyFault) → Items p ts gs → walk no_tokens (read.one_item p) (length ts) [] ts ≡ Err d → ⊥
+derived_no_fault : (p : Properties) (ts : List Placed) (gs : List Grant) (d : Fault PolicyFault) → Items p ts gs → walk none_left (read.one_item p) (length ts) [] ts ≡ Err d → ⊥
 derived_no_fault p ts gs d derived e = let one = sym (policy_complete p ts gs derived) ∙ behind_items p ts d e in absurd cc
 
-begun_no_fault : (p : Properties) (d : Fault PolicyFault) (front : List Placed) (t : Placed) (begun : Begins (Items p) (front ++ t ∷ [])) → walk no_tokens (read.one_item p) (length (front ++ t ∷ begun.0)) [] (front ++ t ∷ begun.0) ≡ Err d → ⊥
+begun_no_fault : (p : Properties) (d : Fault PolicyFault) (front : List Placed) (t : Placed) (begun : Begins (Items p) (front ++ t ∷ [])) → walk none_left (read.one_item p) (length (front ++ t ∷ begun.0)) [] (front ++ t ∷ begun.0) ≡ Err d → ⊥
 begun_no_fault p d front t begun e =
     let joined = append_assoc front (t ∷ []) begun.0 in
     derived_no_fault p (front ++ t ∷ begun.0) begun.1 d (subst (λ (us : List Placed). Items p us begun.1) joined begun.2) e
 
 -- the walk stops at a fault, whatever stands behind the token
 abbrev StopsThere : Properties → Fault PolicyFault → List Placed → List Placed → Type 0
-StopsThere p d front rest = (other : List Placed) → Alike d.kind other rest → walk no_tokens (read.one_item p) (length (front ++ other)) [] (front ++ other) ≡ Err d
+StopsThere p d front rest = (other : List Placed) → Alike d.kind other rest → walk none_left (read.one_item p) (length (front ++ other)) [] (front ++ other) ≡ Err d
 
 itself_alike : (kind : PolicyFault) (xs : List Placed) (t : Placed) (ts : List Placed) → Alike kind (t ∷ xs) (t ∷ ts)
 itself_alike Syntax xs t ts = refl

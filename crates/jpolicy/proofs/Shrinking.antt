@@ -9,11 +9,11 @@ use Rattle.std.proofs.lemmas.List.{length-drop}
 use Rattle.jbase.specs.Stops.{◌>>=◌}
 use Rattle.jpolicy.specs.declared.token.Token.TheVariants.{Mark}
 use Rattle.jpolicy.specs.declared.token.Placed.{Placed}
-use Rattle.jpolicy.specs.Characters.{is_gap, is_mark, is_word_character, ends_line, is_octal, quote, backslash, slash, star}
+use Rattle.jpolicy.specs.Characters.{is_gap, is_mark, is_word_character, ends_line, is_octal}
 use Rattle.jpolicy.specs.Strings.{Part, meant, escape_at, character_at, at_quote, one_more, behind_quote, string_at}
-use Rattle.jpolicy.specs.Tokens.{Lexeme, token, gap, bad, line_end, behind_comment, closed, comment_at, quoted, word_at, lexeme_at, with_lexeme, no_text, more_at}
-use Rattle.jpolicy.specs.Expansion.{Properties, value_of, closes, named_up_to, piece_at, one_piece, is_done}
-use Rattle.jpolicy.specs.Walks.{walk, Ends}
+use Rattle.jpolicy.specs.Tokens.{Lexeme, token, gap, bad, behind_comment, closed, comment_at, quoted, word_at, lexeme_at, with_lexeme, more_at}
+use Rattle.jpolicy.specs.Expansion.{Properties, value_of, closes, named_up_to, piece_at, one_piece}
+use Rattle.jpolicy.specs.Walks.{Ends, none_left, walk}
 use Rattle.jpolicy.proofs.Walking.{Shrinks, bind_ok, chosen, walk_ends, walk_no_more}
 
 -- what holds of both sides of a choice
@@ -42,8 +42,8 @@ wider c cs (Err e) h = tt
 character_less : (text : List ℕ) → Less text (character_at text)
 unfolding character_at
 character_less [] = tt
-character_less (c ∷ cs) = either (Less (c ∷ cs)) (ends_line c) (Err tt) (cond (eqb c backslash) (escape_at cs) (Ok (c, cs))) (λ e. tt) (λ e.
-    either (Less (c ∷ cs)) (eqb c backslash) (escape_at cs) (Ok (c, cs)) (λ f. wider c cs (escape_at cs) (escape_less cs)) (λ f. (omega arith)))
+character_less (c ∷ cs) = either (Less (c ∷ cs)) (ends_line c) (Err tt) (cond (eqb c (byte "\\")) (escape_at cs) (Ok (c, cs))) (λ e. tt) (λ e.
+    either (Less (c ∷ cs)) (eqb c (byte "\\")) (escape_at cs) (Ok (c, cs)) (λ f. wider c cs (escape_at cs) (escape_less cs)) (λ f. (omega arith)))
 
 is_less : {A : Type 0} (text : List ℕ) (r : Part A) (x : A × List ℕ) → Less text r → r ≡ Ok x → length x.1 < length text
 is_less {A} text r x h e = subst (λ (q : Part A). Less text q) e h
@@ -60,7 +60,7 @@ string_ends text = walk_ends at_quote one_more string_shrinks (length text) [] t
 
 quote_rest : (text : List ℕ) (x : Unit {0} × List ℕ) → behind_quote text ≡ Ok x → length x.1 ≤ length text
 quote_rest [] x e = absurd cc
-quote_rest (c ∷ cs) x e = elim (chosen (eqb c quote) (Ok (tt, cs)) (Err tt) (Ok x) e) [
+quote_rest (c ∷ cs) x e = elim (chosen (eqb c (byte "\"")) (Ok (tt, cs)) (Err tt) (Ok x) e) [
   | inl hit ↦ (let h = hit.1 in let same : cs ≡ x.1 = cc in subst (λ (rest : List ℕ). length rest ≤ length (c ∷ cs)) same (omega arith))
   | inr miss ↦ absurd (let h = miss.1 in cc)
 ]
@@ -85,15 +85,15 @@ comment_rest : (text : List ℕ) → Within text (closed (behind_comment text))
 unfolding behind_comment
 comment_rest [] = omega arith
 comment_rest (c ∷ []) = omega arith
-comment_rest (c ∷ d ∷ cs) = either (λ (r : Option (List ℕ)). Within (c ∷ d ∷ cs) (closed r)) (eqb c star && eqb d slash) (Some cs) (behind_comment (d ∷ cs)) (λ e. (omega arith)) (λ e.
+comment_rest (c ∷ d ∷ cs) = either (λ (r : Option (List ℕ)). Within (c ∷ d ∷ cs) (closed r)) (eqb c (byte "*") && eqb d (byte "/")) (Some cs) (behind_comment (d ∷ cs)) (λ e. (omega arith)) (λ e.
     (let more : length (closed (behind_comment (d ∷ cs))).1 ≤ length (d ∷ cs) = comment_rest (d ∷ cs) in omega arith))
 
 comment_within : (cs : List ℕ) → Within cs (comment_at cs)
 unfolding comment_at
 comment_within [] = omega arith
-comment_within (c ∷ cs) = either (Within (c ∷ cs)) (eqb c slash) (gap (line_end cs)) (cond (eqb c star) (closed (behind_comment cs)) bad)
+comment_within (c ∷ cs) = either (Within (c ∷ cs)) (eqb c (byte "/")) (gap (drop (position_or_len ends_line cs) cs)) (cond (eqb c (byte "*")) (closed (behind_comment cs)) bad)
     (λ e. (let less = dropped (position_or_len ends_line cs) cs in omega arith))
-    (λ e. either (Within (c ∷ cs)) (eqb c star) (closed (behind_comment cs)) bad (λ f. (let less : length (closed (behind_comment cs)).1 ≤ length cs = comment_rest cs in omega arith)) (λ f. (omega arith)))
+    (λ e. either (Within (c ∷ cs)) (eqb c (byte "*")) (closed (behind_comment cs)) bad (λ f. (let less : length (closed (behind_comment cs)).1 ≤ length cs = comment_rest cs in omega arith)) (λ f. (omega arith)))
 
 quoted_within : (cs : List ℕ) (r : Part (List ℕ)) → string_at cs ≡ r → Within cs (quoted r)
 quoted_within cs (Ok (units, rest)) e = string_rest cs units rest e
@@ -108,25 +108,25 @@ word_within c cs is =
 lexeme_within : (c : ℕ) (cs : List ℕ) → Within cs (lexeme_at c cs)
 unfolding lexeme_at
 lexeme_within c cs =
-    either (Within cs) (is_gap c) (gap cs) (cond (is_mark c) (token (Mark c) cs) (cond (is_word_character c) (word_at (c ∷ cs)) (cond (eqb c quote) (quoted (string_at cs)) (cond (eqb c slash) (comment_at cs) bad)))) (λ e. (omega arith)) (λ e.
-    either (Within cs) (is_mark c) (token (Mark c) cs) (cond (is_word_character c) (word_at (c ∷ cs)) (cond (eqb c quote) (quoted (string_at cs)) (cond (eqb c slash) (comment_at cs) bad))) (λ f. (omega arith)) (λ f.
-    either (Within cs) (is_word_character c) (word_at (c ∷ cs)) (cond (eqb c quote) (quoted (string_at cs)) (cond (eqb c slash) (comment_at cs) bad)) (λ g. word_within c cs g) (λ g.
-    either (Within cs) (eqb c quote) (quoted (string_at cs)) (cond (eqb c slash) (comment_at cs) bad) (λ h. quoted_within cs (string_at cs) refl) (λ h.
-    either (Within cs) (eqb c slash) (comment_at cs) bad (λ i. comment_within cs) (λ i. (omega arith))))))
+    either (Within cs) (is_gap c) (gap cs) (cond (is_mark c) (token (Mark c) cs) (cond (is_word_character c) (word_at (c ∷ cs)) (cond (eqb c (byte "\"")) (quoted (string_at cs)) (cond (eqb c (byte "/")) (comment_at cs) bad)))) (λ e. (omega arith)) (λ e.
+    either (Within cs) (is_mark c) (token (Mark c) cs) (cond (is_word_character c) (word_at (c ∷ cs)) (cond (eqb c (byte "\"")) (quoted (string_at cs)) (cond (eqb c (byte "/")) (comment_at cs) bad))) (λ f. (omega arith)) (λ f.
+    either (Within cs) (is_word_character c) (word_at (c ∷ cs)) (cond (eqb c (byte "\"")) (quoted (string_at cs)) (cond (eqb c (byte "/")) (comment_at cs) bad)) (λ g. word_within c cs g) (λ g.
+    either (Within cs) (eqb c (byte "\"")) (quoted (string_at cs)) (cond (eqb c (byte "/")) (comment_at cs) bad) (λ h. quoted_within cs (string_at cs) refl) (λ h.
+    either (Within cs) (eqb c (byte "/")) (comment_at cs) bad (λ i. comment_within cs) (λ i. (omega arith))))))
 
 lexeme_rest : (tokens : List Placed) (left : ℕ) (l : Lexeme) (x : List Placed × List ℕ) → with_lexeme tokens left l ≡ Ok x → l.1 ≡ x.1
 lexeme_rest tokens left (Some one, rest) x e = cc
 lexeme_rest tokens left (None, rest) x e = cc
 
-text_shrinks : Shrinks no_text more_at
+text_shrinks : Shrinks none_left more_at
 text_shrinks tokens [] x on e = absurd cc
 text_shrinks tokens (c ∷ cs) x on e =
     let less : length (lexeme_at c cs).1 ≤ length cs = lexeme_within c cs in
     let same = lexeme_rest tokens (length (c ∷ cs)) (lexeme_at c cs) x e in
     subst (λ (rest : List ℕ). length rest < length (c ∷ cs)) same (omega arith)
 
-pub text_ends : (text : List ℕ) → Ends no_text (walk no_text more_at (length text) [] text)
-text_ends text = walk_ends no_text more_at text_shrinks (length text) [] text (walk no_text more_at (length text) [] text) (omega arith) refl
+pub text_ends : (text : List ℕ) → Ends none_left (walk none_left more_at (length text) [] text)
+text_ends text = walk_ends none_left more_at text_shrinks (length text) [] text (walk none_left more_at (length text) [] text) (omega arith) refl
 
 -- ---- properties
 
@@ -137,7 +137,7 @@ named_less p written text (Some end) u room x e =
     let same : drop (end + 1) text ≡ x.1 = let h = b.2 in cc in
     subst (λ (rest : List ℕ). length rest ≤ length text) same (dropped (end + 1) text)
 
-piece_less : (p : Properties) (text : List ℕ) (x : List ℕ × List ℕ) → is_done text ≡ false → piece_at p text ≡ Ok x → length x.1 < length text
+piece_less : (p : Properties) (text : List ℕ) (x : List ℕ × List ℕ) → none_left text ≡ false → piece_at p text ≡ Ok x → length x.1 < length text
 unfolding piece_at
 piece_less p [] x on e = absurd cc
 piece_less p (u ∷ []) x on e = let same : [] ≡ x.1 = cc in subst (λ (rest : List ℕ). length rest < length (u ∷ [])) same (omega arith)
@@ -146,12 +146,12 @@ piece_less p (u ∷ v ∷ us) x on e = elim (chosen (eqb u (byte "$") && eqb v (
   | inr miss ↦ (let h = miss.1 in let same : v ∷ us ≡ x.1 = cc in subst (λ (rest : List ℕ). length rest < length (u ∷ v ∷ us)) same (omega arith))
 ]
 
-expansion_shrinks : (p : Properties) → Shrinks is_done (one_piece p)
+expansion_shrinks : (p : Properties) → Shrinks none_left (one_piece p)
 expansion_shrinks p done text x on e =
     let b = bind_ok (piece_at p text) (λ y. Ok (done ++ y.0, y.1)) x e in
     let less : length b.0.1 < length text = piece_less p text b.0 on b.1 in
     let same : b.0.1 ≡ x.1 = let h = b.2 in cc in
     subst (λ (rest : List ℕ). length rest < length text) same less
 
-pub expansion_ends : (p : Properties) (text : List ℕ) → Ends is_done (walk is_done (one_piece p) (length text) [] text)
-expansion_ends p text = walk_ends is_done (one_piece p) (expansion_shrinks p) (length text) [] text (walk is_done (one_piece p) (length text) [] text) (omega arith) refl
+pub expansion_ends : (p : Properties) (text : List ℕ) → Ends none_left (walk none_left (one_piece p) (length text) [] text)
+expansion_ends p text = walk_ends none_left (one_piece p) (expansion_shrinks p) (length text) [] text (walk none_left (one_piece p) (length text) [] text) (omega arith) refl

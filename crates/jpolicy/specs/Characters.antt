@@ -21,15 +21,3 @@ is_mark c = (c == byte "{") || (c == byte "}") || (c == byte ",") || (c == byte 
 
 abbrev pub is_octal : ℕ → Bool
 is_octal c = nat_le (byte "0") c && nat_le c (byte "7")
-
-abbrev pub quote : ℕ
-quote = byte "\""
-
-abbrev pub backslash : ℕ
-backslash = byte "\\"
-
-abbrev pub slash : ℕ
-slash = byte "/"
-
-abbrev pub star : ℕ
-star = byte "*"

@@ -6,7 +6,7 @@ use Rattle.std.specs.Result.{result_ok}
 use Rattle.std.specs.Str.{bytes_eq, byte}
 use Rattle.jbase.specs.Stops.{◌>>=◌}
 use Rattle.jpolicy.specs.Strings.{Part}
-use Rattle.jpolicy.specs.Walks.{walk}
+use Rattle.jpolicy.specs.Walks.{none_left, walk}
 
 -- names and values of properties
 abbrev pub Properties : Type 0
@@ -40,12 +40,9 @@ piece_at properties (u ∷ v ∷ us) =
 abbrev pub one_piece : Properties → List ℕ → List ℕ → Part (List ℕ)
 one_piece properties done text = piece_at properties text >>= λ x. Ok (done ++ x.0, x.1)
 
-abbrev pub is_done : List ℕ → Bool
-is_done text = length text == 0
-
 -- the text with each name replaced by what it stands for, or none where a property is missing; values are not expanded again
 unfoldable pub expanded : Properties → List ℕ → Option (List ℕ)
-expanded properties text = result_ok (walk is_done (one_piece properties) (length text) [] text >>= λ x. Ok x.0)
+expanded properties text = result_ok (walk none_left (one_piece properties) (length text) [] text >>= λ x. Ok x.0)
 
 -- whether `${{` stands in a text
 unfoldable pub expands_itself : List ℕ → Bool

@@ -1,5 +1,5 @@
 -- The grammar of policy files (policy file documentation): which tokens each construct may be, and what it states.
-use Rattle.std.specs.Prelude.{◌≡◌, ℕ, zero, suc, Bool, true, false, not, ◌⊎◌, List, [], ◌∷◌, ◌++◌, Option}
+use Rattle.std.specs.Prelude.{◌≡◌, ℕ, zero, suc, Bool, true, false, not, ◌⊎◌, List, [], ◌∷◌, ◌++◌, Option, is_some}
 use Rattle.std.specs.Str.{byte}
 use Rattle.jpolicy.specs.declared.token.Token.{Token}
 use Rattle.jpolicy.specs.declared.token.Token.TheVariants.{Word, Text}
@@ -14,7 +14,7 @@ use Rattle.jpolicy.specs.declared.stated.Stated.{Stated}
 use Rattle.jpolicy.specs.declared.stated.Stated.TheVariants.{Absent}
 use Rattle.jpolicy.specs.declared.clauses.Clauses.{Clauses}
 use Rattle.jpolicy.specs.Expansion.{Properties, expanded, expands_itself}
-use Rattle.jpolicy.specs.Productions.{is_mark, is_word, is_keyword, given, is_absent, is_there, entry_of, no_clauses}
+use Rattle.jpolicy.specs.Productions.{is_mark, is_word, is_keyword, given, is_absent, entry_of, no_clauses}
 use Rattle.jpolicy.specs.Productions.{with_code_base, with_signers, with_principal, grant_of, with_one}
 
 -- which tokens a construct may be, each time with what it states
@@ -107,7 +107,7 @@ Entries properties = Many (λ entries. Entry properties ▹ λ e. Nothing (with_
 
 -- the string or `*` that names a principal: whether a property is missing in it
 abbrev pub PrincipalName : Properties → Grammar Bool
-PrincipalName properties = Either (Marked (byte "*") ▹ λ _. Nothing false) (Texted properties ▹ λ t. Nothing (not (is_there t)))
+PrincipalName properties = Either (Marked (byte "*") ▹ λ _. Nothing false) (Texted properties ▹ λ t. Nothing (not (is_some t)))
 
 -- behind `principal`: optionally a word or `*`, then a string or `*`
 abbrev pub Principal : Properties → Grammar Bool

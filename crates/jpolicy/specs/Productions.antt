@@ -1,6 +1,6 @@
 -- The productions of policy files, over the tokens (policy file documentation). Each gives what stands at the front and the tokens behind
 -- it, or the first token that isn't allowed.
-use Rattle.std.specs.Prelude.{ℕ, Bool, true, false, not, ◌&&◌, ◌||◌, ◌==◌, List, [], ◌∷◌, ◌++◌, length, Option, Some, None, Result, Ok, Err, if◌then◌else◌, codes}
+use Rattle.std.specs.Prelude.{ℕ, Bool, true, false, not, ◌&&◌, ◌||◌, ◌==◌, List, [], ◌∷◌, ◌++◌, length, Option, Some, None, is_some, Result, Ok, Err, if◌then◌else◌, codes}
 use Rattle.std.specs.Str.{byte}
 use Rattle.jbase.specs.Stops.{◌>>=◌}
 use Rattle.jformat.specs.declared.error.Fault.{Fault}
@@ -18,7 +18,7 @@ use Rattle.jpolicy.specs.declared.stated.Stated.{Stated}
 use Rattle.jpolicy.specs.declared.stated.Stated.TheVariants.{Absent, Missing, Given}
 use Rattle.jpolicy.specs.declared.clauses.Clauses.{Clauses}
 use Rattle.jpolicy.specs.Expansion.{Properties, expanded, expands_itself}
-use Rattle.jpolicy.specs.Walks.{walk}
+use Rattle.jpolicy.specs.Walks.{none_left, walk}
 
 -- what stands at the front and the tokens behind it, or a fault
 abbrev pub Answer : Type 0 → Type 0
@@ -143,12 +143,8 @@ kept Absent = Some None
 kept Missing = None
 kept (Given units) = Some (Some units)
 
-abbrev pub is_there : Option (List ℕ) → Bool
-is_there (Some units) = true
-is_there None = false
-
 abbrev pub entry_with : List ℕ → Option (Option (List ℕ)) → Option (Option (List ℕ)) → Option (Option (List ℕ)) → Option GrantEntry
-entry_with class (Some name) (Some actions) (Some signers) = Some (record { class = class; name = name; actions = actions; signed = is_there signers })
+entry_with class (Some name) (Some actions) (Some signers) = Some (record { class = class; name = name; actions = actions; signed = is_some signers })
 entry_with class _ _ _ = None
 
 -- the entry of its parts, or none where a property is missing in one
@@ -176,7 +172,7 @@ no_clauses = record { code_base = Absent; signers = Absent; has_principals = fal
 -- the string or `*` that names a principal: whether a property is missing in it
 abbrev pub principal_name_at : Properties → List Placed → Answer Bool
 principal_name_at properties ts =
-    if next (is_mark (byte "*")) ts then Ok (false, behind ts) else (text_at properties ts >>= λ t. Ok (not (is_there t.0), t.1))
+    if next (is_mark (byte "*")) ts then Ok (false, behind ts) else (text_at properties ts >>= λ t. Ok (not (is_some t.0), t.1))
 
 abbrev pub names_principal : Token → Bool
 names_principal token = is_text token || is_mark (byte "*") token
@@ -264,9 +260,6 @@ one_item properties grants ts =
     (if next (is_keyword keywords.PasswordUrl) ts then (password_at properties ts >>= λ k. Ok (grants, k.1)) else
     one_more_grant properties grants ts)
 
-abbrev pub no_tokens : List Placed → Bool
-no_tokens ts = length ts == 0
-
 -- items to the end of the text; grants with a missing property in a clause are left out
 unfoldable pub policy_at : Properties → List Placed → Result (List Grant) (Fault PolicyFault)
-policy_at properties ts = walk no_tokens (one_item properties) (length ts) [] ts >>= λ x. if no_tokens x.1 then Ok x.0 else not_allowed x.1
+policy_at properties ts = walk none_left (one_item properties) (length ts) [] ts >>= λ x. if none_left x.1 then Ok x.0 else not_allowed x.1

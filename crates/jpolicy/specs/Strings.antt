@@ -3,7 +3,7 @@ use Rattle.std.specs.Prelude.{ℕ, Bool, false, ◌||◌, ◌==◌, List, [], �
 use Rattle.std.specs.Str.{byte}
 use Rattle.std.specs.Char.Escape.{encode_utf16}
 use Rattle.jbase.specs.Stops.{◌>>=◌}
-use Rattle.jpolicy.specs.Characters.{ends_line, is_octal, quote, backslash}
+use Rattle.jpolicy.specs.Characters.{ends_line, is_octal}
 use Rattle.jpolicy.specs.Walks.{walk}
 
 -- a value and the characters behind it; where none stands there, there is no more to say
@@ -22,11 +22,11 @@ escape_at (c ∷ cs) = if ends_line c || is_octal c then Err tt else Ok (meant c
 -- a character of a string, which stands for itself or begins an escape; the line doesn't end there
 unfoldable pub character_at : List ℕ → Part ℕ
 character_at [] = Err tt
-character_at (c ∷ cs) = if ends_line c then Err tt else (if c == backslash then escape_at cs else Ok (c, cs))
+character_at (c ∷ cs) = if ends_line c then Err tt else (if c == byte "\\" then escape_at cs else Ok (c, cs))
 
 abbrev pub at_quote : List ℕ → Bool
 at_quote [] = false
-at_quote (c ∷ cs) = c == quote
+at_quote (c ∷ cs) = c == byte "\""
 
 -- one more character in UTF-16 units
 abbrev pub one_more : List ℕ → List ℕ → Part (List ℕ)
@@ -34,7 +34,7 @@ one_more units text = character_at text >>= λ x. Ok (units ++ encode_utf16 x.0,
 
 abbrev pub behind_quote : List ℕ → Part (Unit {0})
 behind_quote [] = Err tt
-behind_quote (c ∷ cs) = if c == quote then Ok (tt, cs) else Err tt
+behind_quote (c ∷ cs) = if c == byte "\"" then Ok (tt, cs) else Err tt
 
 -- characters up to the quote that ends the string
 unfoldable pub string_at : List ℕ → Part (List ℕ)

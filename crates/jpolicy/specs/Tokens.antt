@@ -1,13 +1,14 @@
 -- The tokens of a policy file (policy file documentation).
-use Rattle.std.specs.Prelude.{ℕ, Bool, ◌&&◌, ◌==◌, List, [], ◌∷◌, ◌++◌, length, drop, Option, Some, None, Ok, Err, if◌then◌else◌}
+use Rattle.std.specs.Prelude.{ℕ, ◌&&◌, ◌==◌, List, [], ◌∷◌, ◌++◌, length, drop, Option, Some, None, Ok, Err, if◌then◌else◌}
 use Rattle.std.specs.List.{flat_map, prefix_len, take_while, position_or_len}
+use Rattle.std.specs.Str.{byte}
 use Rattle.std.specs.Char.Escape.{encode_utf16}
 use Rattle.jpolicy.specs.declared.token.Token.{Token}
 use Rattle.jpolicy.specs.declared.token.Token.TheVariants.{Word, Text, Mark, Bad}
 use Rattle.jpolicy.specs.declared.token.Placed.{Placed}
-use Rattle.jpolicy.specs.Characters.{is_gap, is_mark, is_word_character, ends_line, quote, slash, star}
+use Rattle.jpolicy.specs.Characters.{is_gap, is_mark, is_word_character, ends_line}
 use Rattle.jpolicy.specs.Strings.{Part, string_at}
-use Rattle.jpolicy.specs.Walks.{walk}
+use Rattle.jpolicy.specs.Walks.{none_left, walk}
 
 -- a token, or none where only tokens are separated, and the characters behind it
 abbrev pub Lexeme : Type 0
@@ -23,15 +24,11 @@ gap rest = (None, rest)
 abbrev pub bad : Lexeme
 bad = (Some Bad, [])
 
--- what is left of a line at its end
-abbrev pub line_end : List ℕ → List ℕ
-line_end text = drop (position_or_len ends_line text) text
-
 -- what lies behind the end of a comment, if it ends
 unfoldable pub behind_comment : List ℕ → Option (List ℕ)
 behind_comment [] = None
 behind_comment (c ∷ []) = None
-behind_comment (c ∷ d ∷ cs) = if (c == star) && (d == slash) then Some cs else behind_comment (d ∷ cs)
+behind_comment (c ∷ d ∷ cs) = if (c == byte "*") && (d == byte "/") then Some cs else behind_comment (d ∷ cs)
 
 abbrev pub closed : Option (List ℕ) → Lexeme
 closed (Some rest) = gap rest
@@ -40,7 +37,7 @@ closed None = bad
 -- a comment, behind its first slash
 unfoldable pub comment_at : List ℕ → Lexeme
 comment_at [] = bad
-comment_at (c ∷ cs) = if c == slash then gap (line_end cs) else (if c == star then closed (behind_comment cs) else bad)
+comment_at (c ∷ cs) = if c == byte "/" then gap (drop (position_or_len ends_line cs) cs) else (if c == byte "*" then closed (behind_comment cs) else bad)
 
 abbrev pub quoted : Part (List ℕ) → Lexeme
 quoted (Ok (units, rest)) = token (Text units) rest
@@ -56,16 +53,13 @@ lexeme_at c cs =
     if is_gap c then gap cs else
     (if is_mark c then token (Mark c) cs else
     (if is_word_character c then word_at (c ∷ cs) else
-    (if c == quote then quoted (string_at cs) else
-    (if c == slash then comment_at cs else bad))))
+    (if c == byte "\"" then quoted (string_at cs) else
+    (if c == byte "/" then comment_at cs else bad))))
 
 -- tokens, and the one of a lexeme behind them, with the number of characters from its first one to the end of the text
 abbrev pub with_lexeme : List Placed → ℕ → Lexeme → Part (List Placed)
 with_lexeme tokens left (Some one, rest) = Ok (tokens ++ record { left = left; token = one } ∷ [], rest)
 with_lexeme tokens left (None, rest) = Ok (tokens, rest)
-
-abbrev pub no_text : List ℕ → Bool
-no_text text = length text == 0
 
 -- the tokens in front, and one lexeme more
 abbrev pub more_at : List Placed → List ℕ → Part (List Placed)
@@ -78,4 +72,4 @@ found (Err e) = []
 
 -- all tokens of a text in order; one that is bad is the last
 unfoldable pub tokens : List ℕ → List Placed
-tokens text = found (walk no_text more_at (length text) [] text)
+tokens text = found (walk none_left more_at (length text) [] text)

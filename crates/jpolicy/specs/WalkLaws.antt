@@ -2,15 +2,15 @@
 use Rattle.std.specs.Prelude.{ℕ, List, [], length}
 use Rattle.std.specs.Str.{byte}
 use Rattle.jpolicy.specs.declared.token.Placed.{Placed}
-use Rattle.jpolicy.specs.Walks.{walk, Ends}
-use Rattle.jpolicy.specs.Tokens.{no_text, more_at}
+use Rattle.jpolicy.specs.Walks.{Ends, none_left, walk}
+use Rattle.jpolicy.specs.Tokens.{more_at}
 use Rattle.jpolicy.specs.Strings.{at_quote, one_more}
-use Rattle.jpolicy.specs.Expansion.{Properties, is_done, one_piece}
-use Rattle.jpolicy.specs.Productions.{next, is_mark, no_clauses, no_tokens, one_clause, one_entry, one_item}
+use Rattle.jpolicy.specs.Expansion.{Properties, one_piece}
+use Rattle.jpolicy.specs.Productions.{next, is_mark, no_clauses, one_clause, one_entry, one_item}
 
 -- the walk over a text, which gives its tokens
 abbrev pub TextEnds : Type 0
-TextEnds = (text : List ℕ) → Ends no_text (walk no_text more_at (length text) [] text)
+TextEnds = (text : List ℕ) → Ends none_left (walk none_left more_at (length text) [] text)
 
 -- the walk over the characters of a string, up to its quote
 abbrev pub StringEnds : Type 0
@@ -18,7 +18,7 @@ StringEnds = (text : List ℕ) → Ends at_quote (walk at_quote one_more (length
 
 -- the walk over a string's text, which puts the properties in
 abbrev pub ExpansionEnds : Type 0
-ExpansionEnds = (properties : Properties) (text : List ℕ) → Ends is_done (walk is_done (one_piece properties) (length text) [] text)
+ExpansionEnds = (properties : Properties) (text : List ℕ) → Ends none_left (walk none_left (one_piece properties) (length text) [] text)
 
 -- the walk over a grant's clauses, up to the brace that opens
 abbrev pub ClausesEnd : Type 0
@@ -32,4 +32,4 @@ EntriesEnd = (properties : Properties) (ts : List Placed) →
 
 -- the walk over all items
 abbrev pub ItemsEnd : Type 0
-ItemsEnd = (properties : Properties) (ts : List Placed) → Ends no_tokens (walk no_tokens (one_item properties) (length ts) [] ts)
+ItemsEnd = (properties : Properties) (ts : List Placed) → Ends none_left (walk none_left (one_item properties) (length ts) [] ts)

@@ -1,6 +1,10 @@
 -- Going along a list, some items at a time, from one state to the next.
-use Rattle.std.specs.Prelude.{◌≡◌, ℕ, zero, suc, Bool, true, ◌⊎◌, List, [], Result, Ok, Err, if◌then◌else◌}
+use Rattle.std.specs.Prelude.{◌≡◌, ℕ, zero, suc, ◌==◌, Bool, true, ◌⊎◌, List, [], length, Result, Ok, Err, if◌then◌else◌}
 use Rattle.jbase.specs.Stops.{◌>>=◌}
+
+-- nothing is left
+abbrev pub none_left : {A : Type 0} → List A → Bool
+none_left xs = length xs == 0
 
 -- at most so many steps from a state, until the walk ends; the state there and the items that are left
 unfoldable pub walk : {S A F : Type 0} → (List A → Bool) → (S → List A → Result (S × List A) F) → ℕ → S → List A → Result (S × List A) F

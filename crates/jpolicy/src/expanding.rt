@@ -1,6 +1,7 @@
 ghost use Rattle.std.specs.Prelude.{◌≡◌, ◌<◌, IfOk, IfSome, MatchOption, None, Some, length, position};
 ghost use Rattle.jbase.specs.Stops.{Gives};
-ghost use Rattle.jpolicy.specs.Expansion.{closes, expanded, expands_itself, is_done, look_up, named_up_to, one_piece, piece_at, value_of};
+ghost use Rattle.jpolicy.specs.Expansion.{closes, expanded, expands_itself, look_up, named_up_to, one_piece, piece_at, value_of};
+ghost use Rattle.jpolicy.specs.Walks.{none_left};
 
 use crate::walk::{Walk, walk_of};
 use jbase::{Seq, Stop};
@@ -93,7 +94,7 @@ impl<'p> Walk for Expander<'p> {
 
     type Fault = ();
 
-    ghost ends = { λ _. is_done };
+    ghost ends = { λ _. none_left };
 
     ghost goes = { λ e. one_piece e.properties.now };
 

@@ -1,6 +1,7 @@
 ghost use Rattle.std.specs.Prelude.{◌≡◌};
 ghost use Rattle.jbase.specs.Stops.{Gives};
-ghost use Rattle.jpolicy.specs.Productions.{another_at, grant_at, grant_of, keystore_at, no_tokens, one_item, one_more_grant, others_at, password_at, policy_at};
+ghost use Rattle.jpolicy.specs.Productions.{another_at, grant_at, grant_of, keystore_at, one_item, one_more_grant, others_at, password_at, policy_at};
+ghost use Rattle.jpolicy.specs.Walks.{none_left};
 
 use crate::clauses::{Clauses, clauses_of};
 use crate::entry::entries_of;
@@ -157,7 +158,7 @@ impl<'p> Walk for Items<'p> {
 
     type Fault = jformat::Fault<PolicyFault>;
 
-    ghost ends = { λ _. no_tokens };
+    ghost ends = { λ _. none_left };
 
     ghost goes = { λ w. one_item w.properties.now };
 

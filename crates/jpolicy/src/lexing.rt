@@ -4,7 +4,8 @@ ghost use Rattle.std.specs.Char.Escape.{encode_utf16};
 ghost use Rattle.jbase.specs.Stops.{Gives};
 ghost use Rattle.jpolicy.specs.Characters.{ends_line, is_word_character};
 ghost use Rattle.jpolicy.specs.Strings.{string_at};
-ghost use Rattle.jpolicy.specs.Tokens.{behind_comment, comment_at, lexeme_at, more_at, no_text, quoted, tokens, with_lexeme, word_at};
+ghost use Rattle.jpolicy.specs.Tokens.{behind_comment, comment_at, lexeme_at, more_at, quoted, tokens, with_lexeme, word_at};
+ghost use Rattle.jpolicy.specs.Walks.{none_left};
 
 use crate::character::{ends_line, is_gap, is_mark, is_word_character};
 use crate::quoted::string_of;
@@ -169,7 +170,7 @@ impl Walk for Lexer {
 
     type Fault = ();
 
-    ghost ends = { λ _. no_text };
+    ghost ends = { λ _. none_left };
 
     ghost goes = { λ _. more_at };
 

@@ -121,16 +121,14 @@ access_test put m = fault_if (not m.allowed || (put && m.fixed)) NotAccessible
 -- getfield, putfield, getstatic and putstatic
 
 abbrev pub puts : FieldOp → Bool
-puts fields.GetStatic = false
 puts fields.PutStatic = true
-puts fields.GetField = false
 puts fields.PutField = true
+puts _ = false
 
 abbrev pub takes_static : FieldOp → Bool
 takes_static fields.GetStatic = true
 takes_static fields.PutStatic = true
-takes_static fields.GetField = false
-takes_static fields.PutField = false
+takes_static _ = false
 
 abbrev pub field_member_test : FieldOp → Option MemberFacts → Option LinkKind
 field_member_test op None = Some NoMember
@@ -143,13 +141,11 @@ field_test op u = or_else u.names (or_else (fault_if u.barred LeftOut) (field_me
 
 abbrev pub is_virtual : CallOp → Bool
 is_virtual calls.Virtual = true
-is_virtual calls.Special = false
-is_virtual calls.Static = false
+is_virtual _ = false
 
 abbrev pub calls_static : CallOp → Bool
-calls_static calls.Virtual = false
-calls_static calls.Special = false
 calls_static calls.Static = true
+calls_static _ = false
 
 -- invokevirtual calls neither a constructor nor a private method; invokespecial calls a constructor, or a method of its own class or of
 -- one above; invokestatic calls no constructor
