@@ -31,7 +31,7 @@ use Rattle.jlayout.specs.Layout.{field_type, is_static, statics_of}
 use Rattle.jlayout.specs.Layout as laid
 use Rattle.jlayout.specs.Numbered.{all_statics}
 use Rattle.jmembers.specs.Declares.{again_test, at_member, class_fault, desc_left_out, desc_missing, field_left_out, field_left_out_test, field_test, fields_fault, methods_fault, text_left_out, text_missing, type_missing, types_test}
-use Rattle.jprogram.specs.LeftOut.{is_context, is_floating}
+use Rattle.jprogram.specs.LeftOut.{context, is_context, is_floating}
 use Rattle.jlink.specs.Coded.{AreFiles}
 use Rattle.jlink.specs.Fields.{is_plain}
 use Rattle.jlink.specs.Links.{Links}
@@ -89,7 +89,7 @@ base_clear : (b : ℕ) (n : Name) → is_base b ≡ true → (b == byte "F" || b
 base_clear b n base float =
     base_by (b == byte "Z") (b == byte "C") (b == byte "B") (b == byte "S") (b == byte "I") (b == byte "J") (b == byte "D") (b == byte "F") (b == byte "L") n base float
 
-class_clear : (p : Program) (c : List ℕ) (found : Bool) → not found ≡ false → bytes_eq c says.context ≡ false
+class_clear : (p : Program) (c : List ℕ) (found : Bool) → not found ≡ false → bytes_eq c context ≡ false
     → IsClear (option_map elements.Class (if found then Some (name c) else None))
 unfolding IsClear
 class_clear p c true there clear = (elements.Class (name c), refl, clear)

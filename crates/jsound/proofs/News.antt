@@ -33,7 +33,7 @@ use Rattle.jprogram.specs.Supers.{is_missing}
 use Rattle.jprogram.proofs.Settling.{name_equal}
 use Rattle.jprogram.proofs.Standing.{Stands, Users, Libs, Nowhere, all_append, all_of_map, stands}
 use Rattle.jmembers.specs.Declares.{desc_left_out, desc_missing, text_left_out, text_missing, type_missing}
-use Rattle.jprogram.specs.LeftOut.{is_context, is_floating}
+use Rattle.jprogram.specs.LeftOut.{context, is_context, is_floating}
 use Rattle.jlayout.specs.Layout.{field_type, is_instance, layout, own_types}
 use Rattle.jlayout.specs.Layout as layouts
 use Rattle.juses.specs.Typed.{Held, Typed, array_over, class_by, class_of, class_type, element_in, held, name, there, type_in, type_of, typed, typed_as}
@@ -63,7 +63,7 @@ pick : (b : Bool) (y : Element) (o : Option Element) (x : Element) → says.is_c
 pick true y o x first rest e = let same : y ≡ x = cc in ap says.is_context (sym same) ∙ first
 pick false y o x first rest e = rest e
 
-letter_plain : (letter : ℕ) (class : List ℕ) (x : Element) → bytes_eq class says.context ≡ false → element_of letter (name class) ≡ Some x → says.is_context x ≡ false
+letter_plain : (letter : ℕ) (class : List ℕ) (x : Element) → bytes_eq class context ≡ false → element_of letter (name class) ≡ Some x → says.is_context x ≡ false
 letter_plain letter class x clear =
     pick (letter == byte "Z") elements.Boolean _ x refl
     (pick (letter == byte "C") elements.Char _ x refl
@@ -77,14 +77,14 @@ there_is : (p : Program) (class : List ℕ) (c : Name) (b : Bool) → (if b then
 there_is p class c true e = cc
 there_is p class c false e = absurd cc
 
-element_plain : (p : Program) (t : FieldType) (x : Element) → bytes_eq t.class says.context ≡ false → element_in p t ≡ Some x → says.is_context x ≡ false
+element_plain : (p : Program) (t : FieldType) (x : Element) → bytes_eq t.class context ≡ false → element_in p t ≡ Some x → says.is_context x ≡ false
 element_plain p t x clear e = by (t.base == byte "L") e
   where
     by : (b : Bool) → (if b then option_map elements.Class (there p t.class) else element_of t.base (name t.class)) ≡ Some x → says.is_context x ≡ false
     by true e =
         let c = map_is elements.Class (there p t.class) x e in
         let same : name t.class ≡ c.0 = there_is p t.class c.0 (is_some (find p t.class)) c.1 in
-        ap says.is_context (sym c.2) ∙ ap (λ (n : Name). bytes_eq n.0 says.context) (sym same) ∙ clear
+        ap says.is_context (sym c.2) ∙ ap (λ (n : Name). bytes_eq n.0 context) (sym same) ∙ clear
     by false e = letter_plain t.base t.class x clear e
 
 alone_plain : (depth : ℕ) (x : Element) → is_plain (in_brackets depth x) ≡ true
@@ -105,7 +105,7 @@ type_plain depth x clear = by (depth == 0) (says.is_context x) clear
     by true false e = alone_plain depth x
     by false c e = alone_plain depth x
 
-named_plain : (p : Program) (t : FieldType) (y : VType) → bytes_eq t.class says.context ≡ false → type_in p t ≡ Some y → is_plain y ≡ true
+named_plain : (p : Program) (t : FieldType) (y : VType) → bytes_eq t.class context ≡ false → type_in p t ≡ Some y → is_plain y ≡ true
 unfolding type_in
 named_plain p t y clear e =
     let x = map_is (type_of t.depth) (element_in p t) y e in

@@ -1,5 +1,5 @@
 -- The types that descriptors and class entries name in a program (JVMS 4.3.2, 4.3.3, 4.4.1).
-use Rattle.std.specs.Prelude.{ℕ, ◌+◌, ◌^◌, Bool, false, ◌&&◌, ◌==◌, List, reverse, Option, Some, None, is_some, option_map, nat_lt, codes, if◌then◌else◌}
+use Rattle.std.specs.Prelude.{ℕ, ◌+◌, ◌^◌, Bool, false, ◌&&◌, ◌==◌, List, reverse, Option, Some, None, is_some, option_map, nat_lt, if◌then◌else◌}
 use Rattle.std.specs.Str.{byte, bytes_eq}
 use Rattle.jbase.specs.Each.{each_some}
 use Rattle.jpool.specs.declared.descriptor.Descriptor.{Descriptor}
@@ -12,6 +12,7 @@ use Rattle.jtypes.specs.declared.vtype.Element.TheVariants as elements
 use Rattle.jtypes.specs.declared.vtype.VType.{VType}
 use Rattle.jtypes.specs.declared.vtype.VType.TheVariants as types
 use Rattle.jtypes.specs.Described.{element_of, in_brackets}
+use Rattle.jprogram.specs.LeftOut.{context}
 use Rattle.jprogram.specs.Classes.{Program, find}
 
 abbrev pub name : List ℕ → Name
@@ -24,9 +25,6 @@ there p text = if is_some (find p text) then Some (name text) else None
 -- ---- types
 
 -- the class of security contexts has a type of its own, outside of arrays
-abbrev pub context : List ℕ
-context = codes "sps/Ctx"
-
 abbrev pub is_context : Element → Bool
 is_context (elements.Class c) = bytes_eq c.0 context
 is_context x = false
