@@ -40,6 +40,7 @@ use Rattle.jlib.specs.declared.calls.LibCall.{LibCall}
 use Rattle.jlib.specs.declared.classes.LibClass.TheVariants as lib
 use Rattle.jlib.specs.Calls as library_calls
 use Rattle.jlib.specs.Classes as library
+use Rattle.jprogram.specs.LeftOut.{context}
 use Rattle.jprogram.specs.declared.fault.LinkKind.TheVariants.{BadUse, LeftOut}
 use Rattle.jprogram.specs.declared.member.Member.{Member}
 use Rattle.jprogram.specs.declared.member.Member.TheVariants.{Field, LibField}
@@ -285,7 +286,7 @@ pick : (b : Bool) (y : Element) (o : Option Element) (x : Element) → says.is_c
 pick true y o x first rest e = let same : y ≡ x = cc in ap says.is_context (sym same) ∙ first
 pick false y o x first rest e = rest e
 
-letter_plain : (letter : ℕ) (class : List ℕ) (x : Element) → bytes_eq class says.context ≡ false → element_of letter (name class) ≡ Some x → says.is_context x ≡ false
+letter_plain : (letter : ℕ) (class : List ℕ) (x : Element) → bytes_eq class context ≡ false → element_of letter (name class) ≡ Some x → says.is_context x ≡ false
 letter_plain letter class x clear =
     pick (letter == byte "Z") elements.Boolean _ x refl
     (pick (letter == byte "C") elements.Char _ x refl
@@ -299,14 +300,14 @@ there_is : (p : Program) (class : List ℕ) (c : Name) (b : Bool) → (if b then
 there_is p class c true e = cc
 there_is p class c false e = absurd cc
 
-element_plain : (p : Program) (t : FieldType) (x : Element) → bytes_eq t.class says.context ≡ false → element_in p t ≡ Some x → says.is_context x ≡ false
+element_plain : (p : Program) (t : FieldType) (x : Element) → bytes_eq t.class context ≡ false → element_in p t ≡ Some x → says.is_context x ≡ false
 element_plain p t x clear e = by (t.base == byte "L") e
   where
     by : (b : Bool) → (if b then option_map elements.Class (there p t.class) else element_of t.base (name t.class)) ≡ Some x → says.is_context x ≡ false
     by true e =
         let c = map_is elements.Class (there p t.class) x e in
         let same : name t.class ≡ c.0 = there_is p t.class c.0 (is_some (find p t.class)) c.1 in
-        ap says.is_context (sym c.2) ∙ ap (λ (n : Name). bytes_eq n.0 says.context) (sym same) ∙ clear
+        ap says.is_context (sym c.2) ∙ ap (λ (n : Name). bytes_eq n.0 context) (sym same) ∙ clear
     by false e = letter_plain t.base t.class x clear e
 
 alone_plain : (depth : ℕ) (x : Element) → is_plain (in_brackets depth x) ≡ true

@@ -218,6 +218,13 @@ impl LinkedProgram {
         &self.uses
     }
 
+    /// The table of the interfaces that its classes implement.
+    pub fn interfaces(&self) -> &Interfaces
+        ensures { AreInterfaces self.now result.now }
+    {
+        &self.interfaces
+    }
+
     fn member_at(&self, class: u32, pool: u16) -> Option<Member>
         ensures member { result ≡ Members.resolved self.now class pool }
         ensures links { Links self.now }

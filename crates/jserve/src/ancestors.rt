@@ -13,7 +13,7 @@ use crate::lines::{Line, lines_of};
 use jbase::Seq;
 use jlib::LibClass;
 use jlink::LinkedProgram;
-use jprogram::{ClassRef, Interfaces, NamedProgram};
+use jprogram::{ClassRef, NamedProgram};
 use std::alloc::{AllocError, Global};
 use std::marker::Model;
 
@@ -21,20 +21,18 @@ use std::marker::Model;
 #[derive(Drop)]
 pub struct Ancestors<'p> {
     program: &'p LinkedProgram,
-    interfaces: Interfaces,
     lines: Seq<Line>,
 }
 
 impl<'p> Model for Ancestors<'p> {
     ghost use Rattle.jprogram.specs.Classes.{Program};
-    ghost use Rattle.jprogram.specs.Implementing.{AreInterfaces};
     ghost use Rattle.jserve.specs.Lined.{AreLines};
 
     ghost Value = { Program };
 
     ghost view = { λ a. a.program.now };
 
-    ghost invariant = { λ a. AreInterfaces a.program.now a.interfaces × AreLines a.program.now a.lines };
+    ghost invariant = { λ a. AreLines a.program.now a.lines };
 }
 
 /// The program with its names. Its classes stand in order.
@@ -50,13 +48,8 @@ impl<'p> Ancestors<'p> {
     pub fn of(alloc: Global, program: &'p LinkedProgram) -> Result<Ancestors<'p>, AllocError>
         ensures { IfOk result (λ a. a ≡ program.now) }
     {
-        let interfaces = Interfaces::of(alloc, in_order(program))?;
         let lines = lines_of(alloc, in_order(program))?;
-        Ok(Ancestors {
-            program,
-            interfaces,
-            lines,
-        })
+        Ok(Ancestors { program, lines })
     }
 
     /// The program with its names.
@@ -179,7 +172,7 @@ impl<'p> Ancestors<'p> {
         requires second { IsNumber self.now d }
         ensures { result ≡ Classes.implements self.now (name_at self.now c) (name_at self.now d) }
     {
-        in_order(self.program).implements_at(&self.interfaces, c, d)
+        in_order(self.program).implements_at(self.program.interfaces(), c, d)
     }
 
     /// The same by their names, of any two numbers.
@@ -187,6 +180,6 @@ impl<'p> Ancestors<'p> {
         ensures { result ≡ Classes.implements self.now (name_at self.now c) (name_at self.now d) }
     {
         let p = in_order(self.program);
-        p.implements(&self.interfaces, p.name_of(c), p.name_of(d))
+        p.implements(self.program.interfaces(), p.name_of(c), p.name_of(d))
     }
 }

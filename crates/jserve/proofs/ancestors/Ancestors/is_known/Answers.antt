@@ -6,7 +6,7 @@ use Rattle.jserve.proofs.ancestors.Ancestors.is_known.Goals as goal
 
 pub returns-in-User : goal.returns-in-User
 returns-in-User c =
-    let kept = subst (λ (p : Program). AreLines p c.self.inside.lines) c.self.view_is c.self.invariant.1 in
+    let kept = subst (λ (p : Program). AreLines p c.self.inside.lines) c.self.view_is c.self.invariant in
     user_known c.args.self.now c.order_law.ensures c.args.c c.self.inside.lines c.as_slice.result.now kept c.as_slice.ensures c.in-User.i c.in-User.is
 
 pub returns-in-Lib : goal.returns-in-Lib
