@@ -87,6 +87,14 @@ impl<T: Copy> Pile<T> {
         self.items[at] = item;
     }
 
+    /// Takes room for so many more items, so that as many pushes behind it take no memory.
+    #[inline]
+    pub fn reserve(&mut self, more: usize) -> Result<(), AllocError>
+        ensures { self.new ≡ self.old }
+    {
+        self.items.reserve(more)
+    }
+
     /// Puts an item on the newest list. After an error the pile is unchanged.
     #[inline]
     pub fn push(&mut self, item: T) -> Result<(), AllocError>

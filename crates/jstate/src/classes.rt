@@ -107,6 +107,9 @@ pub fn cells_of(c: LibClass) -> u32
     }
 }
 
+/// How many classes the library has. The heap's numbers for a program's own classes begin with this one.
+pub const LIBRARY_CLASSES: u32 = 46;
+
 /// The classes of the library, in the order of the heap's numbers for them.
 const LIBRARY: [LibClass; 46] = [
     LibClass::Thrown(Thrown::Throwable),
@@ -163,8 +166,8 @@ const LIBRARY: [LibClass; 46] = [
 pub fn class_numbered(n: u32) -> ClassRef
     ensures { result ≡ Numbers.class_numbered n }
 {
-    if n >= 46 {
-        return ClassRef::User(n - 46);
+    if n >= LIBRARY_CLASSES {
+        return ClassRef::User(n - LIBRARY_CLASSES);
     }
     ClassRef::Lib(LIBRARY[n as usize])
 }

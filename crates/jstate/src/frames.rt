@@ -62,11 +62,13 @@ fn stand<M: Copy>(
 }
 
 impl<M: Copy> Frames<M> {
-    /// The one frame of a thread that begins: of a method with so many locals, with arguments, the newest last.
+    /// The one frame of a thread that begins: of a method with so many locals, with arguments, the newest last. There is room for so many
+    /// operands.
     pub fn open(
         alloc: Global,
         method: MethodId,
         most: u32,
+        stack: u32,
         arguments: &[Value],
         mark: M,
     ) -> Result<Frames<M>, AllocError>
@@ -76,6 +78,7 @@ impl<M: Copy> Frames<M> {
         locals.open_from::<Value, Places>(arguments, most, None)?;
         let mut operands = Pile::new(alloc);
         operands.open()?;
+        operands.reserve(stack as usize)?;
         let mut marks = Vec::new(alloc);
         marks.push(mark)?;
         Ok(Frames {
@@ -89,11 +92,12 @@ impl<M: Copy> Frames<M> {
     }
 
     /// Puts a frame of a method with so many locals on the others. Its arguments are the newest operands of the frame that calls,
-    /// which loses them. They are there. After an error nothing is said of the frames.
+    /// which loses them. They are there. Room for so many operands of its own is taken with it. After an error nothing is said of the frames.
     pub fn begin(
         &mut self,
         method: MethodId,
         most: u32,
+        stack: u32,
         arguments: usize,
         mark: M,
     ) -> Result<(), AllocError>
@@ -116,6 +120,7 @@ impl<M: Copy> Frames<M> {
         }
         self.at = At { method, place: 0 };
         self.mark = mark;
+        self.operands.reserve(stack as usize)?;
         Ok(())
     }
 
