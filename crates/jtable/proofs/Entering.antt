@@ -1,15 +1,11 @@
 -- What a domain makes of a context in which no item covers a later one: its own item, and those of the other domains.
-use Rattle.std.proofs.Common.{◌≡◌, ◌∙◌, ℕ, suc, ◌+◌, ◌≤◌, Bool, true, false, not, ◌&&◌, ◌||◌, ◌==◌, cond, List, [], ◌∷◌, ◌++◌, length, drop, map, Some, refl, sym, ap, arith, append_assoc}
-use Rattle.std.specs.Prelude.{slice_get}
-use Rattle.std.proofs.lemmas.List.{append-nil}
+use Rattle.std.proofs.Common.{◌≡◌, ◌∙◌, ℕ, suc, ◌+◌, ◌≤◌, Bool, true, false, not, ◌&&◌, ◌||◌, ◌==◌, cond, List, [], ◌∷◌, ◌++◌, length, refl, sym, ap, arith}
 use Rattle.std.proofs.lemmas.List.Folds.{list_any-append}
 use Rattle.jctx.specs.declared.item.Item.{Item}
 use Rattle.jctx.specs.Contexts.{enter, keep, keep_after}
 use Rattle.jctx.specs.Growing.{hidden}
 use Rattle.jctx.specs.Items.{covers, plain}
-use Rattle.jtable.specs.declared.pairs.Pair.{Pair}
 use Rattle.jtable.specs.Tables.{others}
-use Rattle.jtable.proofs.Cutting.{cut_at, cut_end}
 
 -- no more is kept than there is
 kept_few : (e c : List Item) → length (keep_after e c) ≤ length c
@@ -56,27 +52,3 @@ kept_others d e (i ∷ c) kept = go (hidden e i) refl kept (kept_others d (i ∷
 
 pub entered_others : (d : ℕ) (c start made : List Item) → keep c ≡ c → start ≡ plain d ∷ [] → made ≡ start ++ others d c → made ≡ enter c d
 entered_others d c start made kept first all = all ∙ ap (λ (l : List Item). l ++ others d c) first ∙ ap (λ (l : List Item). plain d ∷ l) (sym (kept_others d [] c kept))
-
--- ---- items of a list in turn
-
-pub others_new : (d : ℕ) (c : List Item) (i : Item) → (d == i.domain) ≡ false → c ++ i ∷ [] ≡ c ++ others d (i ∷ [])
-others_new d c i other = sym (ap (λ (t : Bool). c ++ cond (not t) (i ∷ []) []) other)
-
-one_more : (b : Bool) (i : Item) (c : List Item) → cond b (i ∷ []) [] ++ c ≡ cond b (i ∷ c) c
-one_more true i c = refl
-one_more false i c = refl
-
-module _ (f : Pair → Item) (list : List Pair) (d : ℕ) where
-  abbrev pub rest : ℕ → List Item
-  rest i = others d (map f (drop i list))
-
-  pub others_next : (cur new total : List Item) (i : ℕ) (p : Pair) → Some p ≡ slice_get list i → new ≡ cur ++ others d (f p ∷ []) → cur ++ rest i ≡ total
-      → new ++ rest (i + 1) ≡ total
-  others_next cur new total i p at is all =
-      ap (λ (l : List Item). l ++ rest (i + 1)) is
-      ∙ append_assoc cur (others d (f p ∷ [])) (rest (i + 1))
-      ∙ ap (λ (l : List Item). cur ++ l) (one_more (not (d == (f p).domain)) (f p) (rest (i + 1)))
-      ∙ sym (ap (λ (l : List Pair). cur ++ others d (map f l)) (cut_at list i p at)) ∙ all
-
-  pub others_end : (cur total : List Item) (i : ℕ) → length list ≤ i → cur ++ rest i ≡ total → cur ≡ total
-  others_end cur total i end all = sym (append-nil cur) ∙ sym (ap (λ (l : List Pair). cur ++ others d (map f l)) (cut_end list i end)) ∙ all

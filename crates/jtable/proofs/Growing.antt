@@ -5,12 +5,9 @@ use Rattle.std.proofs.lemmas.Bool.Decides.{Decides-eqb}
 use Rattle.std.proofs.lemmas.Option.{get_or_from_slice_get}
 use Rattle.std.proofs.lemmas.List.{at_drop_more}
 use Rattle.jperm.specs.declared.permission.Permission.{Permission}
-use Rattle.jdomain.specs.declared.verdict.Verdict.{Verdict}
-use Rattle.jdomain.specs.declared.verdict.Verdict.TheVariants.{Granted, Denied}
 use Rattle.jctx.specs.declared.item.Item.{Item}
-use Rattle.jctx.specs.Contexts.{verdict}
 use Rattle.jctx.specs.Growing.{added, hidden, joined}
-use Rattle.jctx.specs.Items.{covers, fails}
+use Rattle.jctx.specs.Items.{covers}
 use Rattle.jtable.specs.declared.pairs.Pair.{Pair}
 use Rattle.jtable.proofs.Cutting.{cut_at, cut_end}
 use Rattle.jtable.specs.Sets.{limits_at}
@@ -60,21 +57,6 @@ module _ (f : Pair → Item) (list : List Pair) where
 
     pub changed_end : (cur total : List Item) (i : ℕ) → length list ≤ i → joined cur (map g (map f (drop i list))) ≡ total → cur ≡ total
     changed_end cur total i end all = sym (ap (λ (l : List Pair). joined cur (map g (map f l))) (cut_end list i end)) ∙ all
-
-  module _ (has : ℕ → Permission → Bool) (asked : Permission) where
-    abbrev decides : List Pair → Verdict
-    decides pairs = verdict has asked (map f pairs)
-
-    pub decides_here : (i : ℕ) (p : Pair) (total : Verdict) → Some p ≡ slice_get list i → fails has asked (f p) ≡ true → decides (drop i list) ≡ total → Denied (f p).domain ≡ total
-    decides_here i p total at fails_ all =
-        sym (ap decides (cut_at list i p at) ∙ ap (λ (t : Bool). cond t (Denied (f p).domain) (decides (drop (i + 1) list))) fails_) ∙ all
-
-    pub decides_next : (i : ℕ) (p : Pair) (total : Verdict) → Some p ≡ slice_get list i → fails has asked (f p) ≡ false → decides (drop i list) ≡ total → decides (drop (i + 1) list) ≡ total
-    decides_next i p total at holds all =
-        sym (ap decides (cut_at list i p at) ∙ ap (λ (t : Bool). cond t (Denied (f p).domain) (decides (drop (i + 1) list))) holds) ∙ all
-
-    pub decides_end : (i : ℕ) (total : Verdict) → length list ≤ i → decides (drop i list) ≡ total → Granted ≡ total
-    decides_end i total end all = sym (ap decides (cut_end list i end)) ∙ all
 
 -- ---- whether a context begins with a domain without limits
 

@@ -1,5 +1,6 @@
 pub mod Chaining
 pub mod Cutting
+pub mod Digesting
 pub mod Entering
 pub mod Finding
 pub mod Growing
@@ -8,6 +9,7 @@ pub mod Naming
 pub mod Placing
 pub mod Remembering
 pub mod Results
+pub mod Running
 pub mod Sameness
 pub mod Storing
 pub mod Tabling

@@ -1,11 +1,11 @@
 -- Lists of pairs, one behind the other.
-use Rattle.std.proofs.Common.{◌≡◌, ◌∙◌, ℕ, zero, suc, ◌+◌, ◌<◌, ◌≤◌, List, [], ◌∷◌, ◌++◌, length, take, drop, Some, refl, sym, ap, ap₂, arith, ◌⊎◌, inl, inr, subst, Option, option_map, append_assoc}
+use Rattle.std.proofs.Common.{◌≡◌, ◌∙◌, ℕ, zero, suc, ◌+◌, ◌-◌, ◌<◌, ◌≤◌, List, [], ◌∷◌, ◌++◌, length, take, drop, Some, refl, sym, ap, ap₂, arith, ◌⊎◌, inl, inr, subst, Option, option_map, append_assoc}
 use Rattle.std.specs.Prelude.{slice_get, get_or}
-use Rattle.std.proofs.lemmas.List.{length-append, length-drop, length-map, length-take-le, take-append-le, drop-append-le, drop_at, take_all, take_more, map-append}
+use Rattle.std.proofs.lemmas.List.{length-append, length-drop, length-map, length-take-le, take-append-le, drop-append-le, drop-drop, drop-take, drop_at, take_all, take_more, map-append}
 use Rattle.std.proofs.lemmas.Option.{slice_get-map, slice_get_read, get_or_from_slice_get}
 use Rattle.jtable.specs.declared.lists.Entry.{Entry}
 use Rattle.jtable.specs.declared.pairs.Pair.{Pair}
-use Rattle.jtable.specs.Lists.{AreWithin, Extends, list_of, lists_of}
+use Rattle.jtable.specs.Lists.{AreWithin, BeginsWith, Extends, list_of, lists_of}
 use Rattle.jtable.proofs.Tabling.{stands, Old, Last}
 
 get_front : {T : Type 0} (n i : ℕ) (xs : List T) → i < n → slice_get (take n xs) i ≡ slice_get xs i
@@ -14,7 +14,7 @@ get_front (suc n) i [] lt = refl
 get_front (suc n) zero (x ∷ xs) lt = refl
 get_front (suc n) (suc i) (x ∷ xs) lt = get_front n i xs (omega (arith, lt))
 
-get_behind : {T : Type 0} (f i : ℕ) (xs : List T) → slice_get (drop f xs) i ≡ slice_get xs (f + i)
+pub get_behind : {T : Type 0} (f i : ℕ) (xs : List T) → slice_get (drop f xs) i ≡ slice_get xs (f + i)
 get_behind zero i xs = ap (slice_get xs) (omega arith)
 get_behind (suc f) i [] = refl
 get_behind (suc f) i (x ∷ xs) =
@@ -55,6 +55,18 @@ module _ (pairs : List Pair) (entries : List Entry) (now : List (List Pair)) (n 
 
   pub pair_here : (i : ℕ) → i < length (get_or now n []) → slice_get pairs (e.first + i) ≡ slice_get (get_or now n []) i
   pair_here i below = sym (pair_of pairs e i (omega (arith, below, count_here))) ∙ ap (λ (l : List Pair). slice_get l i) list_here
+
+  -- what begins the pairs from a place on begins the list from there on
+  pub run_here : (i : ℕ) (run : List Pair) → i < length (get_or now n []) → BeginsWith (take (e.count - i) (drop (e.first + i) pairs)) run → BeginsWith (drop i (get_or now n [])) run
+  run_here i run below begins = subst (λ (l : List Pair). BeginsWith l run) same begins
+    where
+      whole : i + (e.count - i) ≡ e.count
+      whole = omega (arith, below, count_here)
+
+      same : take (e.count - i) (drop (e.first + i) pairs) ≡ drop i (get_or now n [])
+      same =
+          ap (take (e.count - i)) (sym (drop-drop i e.first pairs)) ∙ sym (drop-take i (e.count - i) (drop e.first pairs))
+          ∙ ap (λ (k : ℕ). drop i (take k (drop e.first pairs))) whole ∙ ap (drop i) list_here
 
 list_stays : (pairs more : List Pair) (e : Entry) → e.first + e.count ≤ length pairs → list_of (pairs ++ more) e ≡ list_of pairs e
 list_stays pairs more e within =

@@ -1,79 +1,155 @@
--- Pairs in the cells of regions.
-use Rattle.std.proofs.Common.{◌≡◌, ◌≢◌, ◌∙◌, ◌⊎◌, inl, inr, ℕ, zero, suc, ◌+◌, ◌*◌, ◌/◌, ◌%◌, ◌^◌, ◌<◌, ◌≤◌, List, [], ◌∷◌, ◌++◌, length, Some, refl, sym, ap, ap₂, arith}
+-- Pairs in regions, one behind the other.
+use Rattle.std.proofs.Common.{◌≡◌, ◌∙◌, ℕ, zero, suc, ◌+◌, ◌-◌, ◌*◌, ◌/◌, ◌%◌, ◌<◌, ◌≤◌, List, [], ◌∷◌, ◌++◌, length, drop, take, Some, refl, sym, ap, arith, append_assoc}
 use Rattle.std.specs.Prelude.{slice_get, slice_set, get_or}
-use Rattle.std.proofs.lemmas.List.{length-append}
+use Rattle.std.proofs.lemmas.List.{length-append, length-drop, length-take-le, append-nil, drop-append-le, take-append-le, get_or_read}
+use Rattle.std.proofs.lemmas.Option.{slice_get-get_or}
+use Rattle.std.proofs.Math.Seq.{drop-append-add}
 use Rattle.jtable.specs.declared.pairs.Pair.{Pair}
-use Rattle.jtable.specs.Cells.{AreOthers, StayRegions, pair_at, pair_in, pairs_to}
-use Rattle.jtable.proofs.Chaining.{nat_cases, lt_or_eq, front, front_or, at_end, put_here, put_there}
+use Rattle.jtable.specs.Lists.{BeginsWith}
+use Rattle.jtable.specs.Regions.{AreFilled, IsFilled, all_of}
+use Rattle.jtable.proofs.Chaining.{front}
 
-pub length_to : (regions : List (List ℕ)) (n : ℕ) → length (pairs_to regions n) ≡ n
-length_to regions zero = refl
-length_to regions (suc n) = omega (arith, length-append (pairs_to regions n) (pair_at regions n ∷ []), length_to regions n)
+fits : (r : List Pair) (rs : List (List Pair)) → IsFilled r rs → length r ≤ 65536
+fits r [] f = f
+fits r (s ∷ rs) f = omega (arith, f)
 
-pub place_at : (regions : List (List ℕ)) (n k : ℕ) → k < n → slice_get (pairs_to regions n) k ≡ Some (pair_at regions k)
-place_at regions zero k lt = absurd (omega (arith, lt))
-place_at regions (suc n) k lt = by_case (place_at regions n k) (lt_or_eq k n (omega (arith, lt)))
-  where
-    by_case : (k < n → slice_get (pairs_to regions n) k ≡ Some (pair_at regions k)) → (k < n) ⊎ (k ≡ n)
-        → slice_get (pairs_to regions n ++ pair_at regions n ∷ []) k ≡ Some (pair_at regions k)
-    by_case old (inl l) = front k (pairs_to regions n) (pair_at regions n ∷ []) (omega (arith, l, length_to regions n)) ∙ old l
-    by_case old (inr e) =
-        ap (slice_get (pairs_to regions n ++ pair_at regions n ∷ [])) (e ∙ sym (length_to regions n))
-        ∙ at_end (pairs_to regions n) (pair_at regions n)
-        ∙ ap (λ (j : ℕ). Some (pair_at regions j)) (sym e)
+long_one : (r : List Pair) → length (all_of (r ∷ [])) ≡ length r
+long_one r = ap length (append-nil r)
 
-same_to : (old new : List (List ℕ)) (n : ℕ) → ((k : ℕ) → k < n → pair_at new k ≡ pair_at old k) → pairs_to new n ≡ pairs_to old n
-same_to old new zero same = refl
-same_to old new (suc n) same =
-    ap₂ (λ (ps : List Pair) (p : Pair). ps ++ p ∷ []) (same_to old new n (λ k lt. same k (omega (arith, lt)))) (same n (omega arith))
+long_all : (r : List Pair) (rs : List (List Pair)) → length (all_of (r ∷ rs)) ≡ length r + length (all_of rs)
+long_all r rs = length-append r (all_of rs)
 
-pub stay_same : (old new : List (List ℕ)) → new ≡ old → StayRegions old new
-stay_same old new same = (omega (arith, ap length same), λ r lt. ap (λ (rs : List (List ℕ)). get_or rs r []) same)
+-- ---- the region of a place
 
-pub stay_pushed : (old new : List (List ℕ)) (cells : List ℕ) → new ≡ old ++ cells ∷ [] → StayRegions old new
-stay_pushed old new cells is = (
-  omega (arith, ap length is, length-append old (cells ∷ [])),
-  λ r lt. ap (λ (rs : List (List ℕ)). get_or rs r []) is ∙ front_or r [] old (cells ∷ []) lt,
-)
+-- Where a pair stands: its region, its place there, and what stands behind that region.
+pub record Stands (rs : List (List Pair)) (k q i : ℕ) : Type 0 where
+  pub there : q < length rs
+  pub below : i < length (get_or rs q [])
+  pub more : List Pair
+  pub is : drop k (all_of rs) ≡ drop i (get_or rs q []) ++ more
 
--- more regions change nothing
-pub stay_pairs : (old new : List (List ℕ)) (n : ℕ) → n ≤ 65536 * length old → StayRegions old new → pairs_to new n ≡ pairs_to old n
-stay_pairs old new n within stay =
-    same_to old new n (λ k lt. ap (λ (cells : List ℕ). pair_in cells (k % 65536)) (stay.1 (k / 65536) (omega (arith, lt, within))))
+in_first : (r : List Pair) (rs : List (List Pair)) (i : ℕ) → IsFilled r rs → i < 65536 → i < length (all_of (r ∷ rs)) → i < length r
+in_first r [] i f small lt = omega (arith, lt, long_one r)
+in_first r (s ∷ rs) i f small lt = omega (arith, f, small)
 
-abbrev pair_of : ℕ → ℕ → Pair
-pair_of l d = record { limits = l; domain = d }
+pub stands : (rs : List (List Pair)) (k q i : ℕ) → k ≡ q * 65536 + i → i < 65536 → AreFilled rs → k < length (all_of rs) → Stands rs k q i
+stands [] k q i is small f lt = absurd (omega (arith, lt))
+stands (r ∷ rs) k zero i is small f lt =
+    let same : k ≡ i = omega (arith, is) in
+    let first : i < length r = in_first r rs i f.0 small (omega (arith, lt, same)) in
+    record {
+      there = omega arith;
+      below = first;
+      more = all_of rs;
+      is = ap (λ (j : ℕ). drop j (r ++ all_of rs)) same ∙ drop-append-le i r (all_of rs) (omega (arith, first));
+    }
+stands (r ∷ []) k (suc q) i is small f lt = absurd (omega (arith, lt, is, f.0, long_one r))
+stands (r ∷ s ∷ rs) k (suc q) i is small f lt =
+    let next : k ≡ length r + (q * 65536 + i) = omega (arith, is, f.0) in
+    let again = stands (s ∷ rs) (q * 65536 + i) q i refl small f.1 (omega (arith, next, lt, long_all r (s ∷ rs))) in
+    record {
+      there = omega (arith, again.there);
+      below = again.below;
+      more = again.more;
+      is = ap (λ (j : ℕ). drop j (r ++ all_of (s ∷ rs))) next ∙ drop-append-add r (all_of (s ∷ rs)) (q * 65536 + i) ∙ again.is;
+    }
 
--- a cell with both numbers of a pair
-pub packed : (n : ℕ) (p : Pair) → p.domain < 2 ^ 32 → n ≡ p.limits * 2 ^ 32 + p.domain → pair_of (n / 2 ^ 32) (n % 2 ^ 32) ≡ p
-packed n p small is = ap₂ (λ (l d : ℕ). pair_of l d) (omega (arith, small, is)) (omega (arith, small, is))
+pub stands_at : (rs : List (List Pair)) (k : ℕ) → AreFilled rs → k < length (all_of rs) → Stands rs k (k / 65536) (k % 65536)
+stands_at rs k f lt = stands rs k (k / 65536) (k % 65536) (omega arith) (omega arith) f lt
 
--- a pair that is written behind the others
-pub placed : (regions : List (List ℕ)) (n : ℕ) (cells : List ℕ) (p : Pair) → n < 65536 * length regions
-    → pair_in cells (n % 65536) ≡ p → AreOthers (n % 65536) (get_or regions (n / 65536) []) cells
-    → pairs_to (slice_set regions (n / 65536) cells) (n + 1) ≡ pairs_to regions n ++ p ∷ []
-placed regions n cells p within is others =
-    let next : n + 1 ≡ suc n = omega arith in
-    ap (pairs_to new) next ∙ ap₂ (λ (ps : List Pair) (q : Pair). ps ++ q ∷ []) (same_to regions new n each) here
-  where
-    new : List (List ℕ)
-    new = slice_set regions (n / 65536) cells
+-- ---- one more region
 
-    lt : n / 65536 < length regions
-    lt = omega (arith, within)
+pub few : (rs : List (List Pair)) → AreFilled rs → length (all_of rs) ≤ 65536 * length rs
+few [] f = omega arith
+few (r ∷ rs) f = omega (arith, fits r rs f.0, few rs f.1, long_all r rs)
 
-    written : get_or (slice_set regions (n / 65536) cells) (n / 65536) [] ≡ cells
-    written = put_here (n / 65536) [] cells regions lt
+pub opened : (rs : List (List Pair)) → AreFilled rs → length rs ≤ length (all_of rs) / 65536 → AreFilled (rs ++ [] ∷ [])
+opened [] f full = (omega arith, tt)
+opened (r ∷ []) f full = (omega (arith, full, f.0, long_one r), (omega arith, tt))
+opened (r ∷ s ∷ rs) f full = (f.0, opened (s ∷ rs) f.1 (omega (arith, full, f.0, long_all r (s ∷ rs))))
 
-    here : pair_at new n ≡ p
-    here = ap (λ (cs : List ℕ). pair_in cs (n % 65536)) written ∙ is
+pub opened_same : (rs : List (List Pair)) → all_of (rs ++ [] ∷ []) ≡ all_of rs
+opened_same [] = refl
+opened_same (r ∷ rs) = ap (λ (ps : List Pair). r ++ ps) (opened_same rs)
 
-    by_case : (k : ℕ) → k < n → (k / 65536 ≡ n / 65536) ⊎ (k / 65536 ≢ n / 65536) → pair_at new k ≡ pair_at regions k
-    by_case k below (inl e) =
-        ap (λ (cs : List ℕ). pair_in cs (k % 65536)) (ap (λ (q : ℕ). get_or new q []) e ∙ written)
-        ∙ ap (λ (c : ℕ). pair_of (c / 2 ^ 32) (c % 2 ^ 32)) (others (k % 65536) (λ x. absurd (omega (arith, x, e, below))))
-        ∙ ap (λ (q : ℕ). pair_in (get_or regions q []) (k % 65536)) (sym e)
-    by_case k below (inr ne) = ap (λ (cs : List ℕ). pair_in cs (k % 65536)) (put_there (n / 65536) (k / 65536) [] cells regions ne)
+-- ---- one more pair
 
-    each : (k : ℕ) → k < n → pair_at new k ≡ pair_at regions k
-    each k below = by_case k below (nat_cases (k / 65536) (n / 65536))
+still_filled : (r s x : List Pair) (rs : List (List Pair)) (at : ℕ) → IsFilled r (s ∷ rs) → IsFilled r (slice_set (s ∷ rs) at x)
+still_filled r s x rs zero f = f
+still_filled r s x rs (suc at) f = f
+
+-- all pairs with one more, which the region takes that has room
+pub record IsPut (rs : List (List Pair)) (at : ℕ) (p : Pair) : Type 0 where
+  pub all : all_of (slice_set rs at (get_or rs at [] ++ p ∷ [])) ≡ all_of rs ++ p ∷ []
+  pub filled : AreFilled (slice_set rs at (get_or rs at [] ++ p ∷ []))
+
+pub put_in : (rs : List (List Pair)) (at : ℕ) (p : Pair) → AreFilled rs → at ≡ length (all_of rs) / 65536 → at < length rs → IsPut rs at p
+put_in [] at p f is lt = absurd (omega (arith, lt))
+put_in (r ∷ []) zero p f is lt = record {
+  all = append-nil (r ++ p ∷ []) ∙ sym (ap (λ (ps : List Pair). ps ++ p ∷ []) (append-nil r));
+  filled = (omega (arith, is, f.0, long_one r, length-append r (p ∷ [])), tt);
+}
+put_in (r ∷ []) (suc at) p f is lt = absurd (omega (arith, lt))
+put_in (r ∷ s ∷ rs) zero p f is lt = absurd (omega (arith, is, f.0, long_all r (s ∷ rs)))
+put_in (r ∷ s ∷ rs) (suc at) p f is lt =
+    let again = put_in (s ∷ rs) at p f.1 (omega (arith, is, f.0, long_all r (s ∷ rs))) (omega (arith, lt)) in
+    record {
+      all = ap (λ (ps : List Pair). r ++ ps) again.all ∙ sym (append_assoc r (all_of (s ∷ rs)) (p ∷ []));
+      filled = (still_filled r s (get_or (s ∷ rs) at [] ++ p ∷ []) rs at f.0, again.filled);
+    }
+
+-- ---- a place that is there
+
+head_is : {T : Type 0} (k : ℕ) (xs : List T) → slice_get (drop k xs) 0 ≡ slice_get xs k
+head_is zero xs = refl
+head_is (suc k) [] = refl
+head_is (suc k) (x ∷ xs) = head_is k xs
+
+over : {T : Type 0} (xs ys : List T) (n : ℕ) → length xs ≤ n → take n (xs ++ ys) ≡ xs ++ take (n - length xs) ys
+over [] ys n le = let all : n ≡ n - 0 = omega arith in ap (λ (k : ℕ). take k ys) all
+over (x ∷ xs) ys zero le = absurd (omega (arith, le))
+over (x ∷ xs) ys (suc n) le =
+    let left : n - length xs ≡ suc n - suc (length xs) = omega arith in
+    ap (λ (l : List _). x ∷ l) (over xs ys n (omega (arith, le)) ∙ ap (λ (k : ℕ). xs ++ take k ys) left)
+
+module _ (rs : List (List Pair)) (all : List Pair) (k : ℕ) (view : all_of rs ≡ all) (filled : AreFilled rs) (lt : k < length all) where
+  its : Stands rs k (k / 65536) (k % 65536)
+  its = stands_at rs k filled (omega (arith, lt, ap length view))
+
+  pub region_there : k / 65536 < length rs
+  region_there = its.there
+
+  module _ (r : List Pair) (read : r ≡ get_or rs (k / 65536) r) where
+    same : r ≡ get_or rs (k / 65536) []
+    same = get_or_read rs (k / 65536) r region_there read []
+
+    pub place_there : k % 65536 < length r
+    place_there = omega (arith, its.below, ap length same)
+
+    from_there : drop k all ≡ drop (k % 65536) r ++ its.more
+    from_there = ap (drop k) (sym view) ∙ its.is ∙ ap (λ (l : List Pair). drop (k % 65536) l ++ its.more) (sym same)
+
+    some_left : 0 < length (drop (k % 65536) r)
+    some_left = omega (arith, length-drop (k % 65536) r, place_there)
+
+    pub pair_there : (d : Pair) → Some (get_or r (k % 65536) d) ≡ slice_get all k
+    pair_there d =
+        sym (slice_get-get_or r (k % 65536) d place_there) ∙ sym (head_is (k % 65536) r)
+        ∙ sym (front 0 (drop (k % 65536) r) its.more some_left) ∙ ap (λ (l : List Pair). slice_get l 0) (sym from_there) ∙ head_is k all
+
+    -- the pairs behind the place in its region, as many as are asked
+    pub run_short : (most : ℕ) (behind cut : List Pair) → behind ≡ drop (k % 65536) r → cut ≡ take most behind → 0 < most → most < length behind → BeginsWith (take most (drop k all)) cut
+    run_short most behind cut is short some few_ = record {
+      some = omega (arith, some, few_, ap length short, length-take-le most behind (omega (arith, few_)));
+      more = [];
+      is =
+          ap (take most) (from_there ∙ ap (λ (l : List Pair). l ++ its.more) (sym is))
+          ∙ take-append-le most behind its.more (omega (arith, few_)) ∙ sym short ∙ sym (append-nil cut);
+    }
+
+    pub run_whole : (most : ℕ) (behind : List Pair) → behind ≡ drop (k % 65536) r → length behind ≤ most → BeginsWith (take most (drop k all)) behind
+    run_whole most behind is many = record {
+      some = omega (arith, some_left, ap length is);
+      more = take (most - length behind) its.more;
+      is = ap (take most) (from_there ∙ ap (λ (l : List Pair). l ++ its.more) (sym is)) ∙ over behind its.more most many;
+    }

@@ -1,11 +1,8 @@
 -- What is alike is the same.
-use Rattle.std.proofs.Common.{◌≡◌, ◌≢◌, ◌∙◌, ◌↔◌, ℕ, Bool, true, false, ◌&&◌, ◌==◌, ◌+◌, ◌<◌, List, [], ◌∷◌, drop, length, Some, refl, sym, ap, ap₂, arith, eqb-true, eq-eqb}
-use Rattle.std.specs.Prelude.{slice_get, get_or}
-use Rattle.std.proofs.lemmas.Option.{slice_get-get_or}
+use Rattle.std.proofs.Common.{◌≡◌, ◌≢◌, ◌∙◌, ◌↔◌, ℕ, Bool, true, false, ◌&&◌, ◌==◌, List, [], ◌∷◌, length, refl, sym, ap, ap₂, arith, eqb-true, eq-eqb}
 use Rattle.jperm.specs.declared.permission.Permission.{Permission}
 use Rattle.jperm.specs.Permissions.{equal}
 use Rattle.jtable.specs.declared.pairs.Pair.{Pair}
-use Rattle.jtable.proofs.Cutting.{cut_at}
 use Rattle.jtable.specs.Tables.{pairwise, alike, same_limits, same_pair}
 
 pub and_left : (a b : Bool) → (a && b) ≡ true → a ≡ true
@@ -68,23 +65,3 @@ limits_differ same ps qs h is = differ (same_limits ps qs) h (ap (same_limits ps
 
 pub pairs_differ : (ps qs : List Pair) → alike same_pair ps qs ≡ false → ps ≢ qs
 pairs_differ ps qs h is = differ (alike same_pair ps qs) h (ap (alike same_pair ps) (sym is) ∙ alike_itself same_pair pair_itself ps)
-
--- ---- pairs that are compared one by one
-
-module _ (list pairs : List Pair) (i : ℕ) (x d : Pair) (at : Some x ≡ slice_get list i) (lt : i < length pairs) where
-  here : pairwise same_pair (drop i list) (drop i pairs) ≡ (same_pair x (get_or pairs i d) && pairwise same_pair (drop (i + 1) list) (drop (i + 1) pairs))
-  here = ap₂ (pairwise same_pair) (cut_at list i x at) (cut_at pairs i (get_or pairs i d) (sym (slice_get-get_or pairs i d lt)))
-
-  pub one_differs : length list ≡ length pairs → same_pair x (get_or pairs i d) ≡ false
-      → pairwise same_pair (drop i list) (drop i pairs) ≡ pairwise same_pair list pairs → false ≡ alike same_pair list pairs
-  one_differs long no_ all =
-      sym (none_behind (length list == length pairs) (pairwise same_pair list pairs)
-      (sym all ∙ here ∙ ap (λ (t : Bool). t && pairwise same_pair (drop (i + 1) list) (drop (i + 1) pairs)) no_))
-    where
-      none_behind : (a b : Bool) → b ≡ false → (a && b) ≡ false
-      none_behind true b e = e
-      none_behind false b e = refl
-
-  pub one_same : same_pair x (get_or pairs i d) ≡ true → pairwise same_pair (drop i list) (drop i pairs) ≡ pairwise same_pair list pairs
-      → pairwise same_pair (drop (i + 1) list) (drop (i + 1) pairs) ≡ pairwise same_pair list pairs
-  one_same yes_ all = sym (here ∙ ap (λ (t : Bool). t && pairwise same_pair (drop (i + 1) list) (drop (i + 1) pairs)) yes_) ∙ all

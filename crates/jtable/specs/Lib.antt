@@ -1,8 +1,8 @@
-pub mod Cells
 pub mod Chains
 pub mod Digests
 pub mod Extending
 pub mod Lists
+pub mod Regions
 pub mod Remembered
 pub mod Sets
 pub mod Stores

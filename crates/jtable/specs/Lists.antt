@@ -1,5 +1,5 @@
 -- Lists of pairs by number, one behind the other.
-use Rattle.std.specs.Prelude.{◌≡◌, ℕ, ◌+◌, ◌≤◌, List, ◌++◌, Some, drop, map, slice_get, take}
+use Rattle.std.specs.Prelude.{◌≡◌, ℕ, ◌+◌, ◌<◌, ◌≤◌, length, List, ◌++◌, Some, drop, map, slice_get, take}
 use Rattle.jtable.specs.declared.lists.Entry.{Entry}
 use Rattle.jtable.specs.declared.pairs.Pair.{Pair}
 
@@ -18,3 +18,9 @@ AreWithin count entries = (i : ℕ) (e : Entry) → slice_get entries i ≡ Some
 pub record Extends {T : Type 0} (old new : List T) : Type 0 where
   pub more : List T
   pub is : new ≡ old ++ more
+
+-- A list begins with another one, which isn't empty.
+pub record BeginsWith {T : Type 0} (whole front : List T) : Type 0 where
+  pub some : 0 < length front
+  pub more : List T
+  pub is : whole ≡ front ++ more

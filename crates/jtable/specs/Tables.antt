@@ -1,5 +1,5 @@
 -- Contexts by number, each once.
-use Rattle.std.specs.Prelude.{◌≡◌, ℕ, Bool, true, false, ◌&&◌, ◌==◌, not, List, [], ◌∷◌, ◌++◌, length, Option, Some, filter, option_map, slice_get}
+use Rattle.std.specs.Prelude.{◌≡◌, ℕ, suc, if◌then◌else◌, Bool, true, false, ◌&&◌, ◌==◌, not, List, [], ◌∷◌, ◌++◌, length, Option, Some, filter, option_map, slice_get}
 use Rattle.std.proofs.Common.{◌⊎◌, ◌≢◌}
 use Rattle.jperm.specs.declared.permission.Permission.{Permission}
 use Rattle.jperm.specs.Permissions.{equal}
@@ -44,6 +44,11 @@ AreTabled contexts = (slice_get contexts 0 ≡ Some []) × AreDistinct contexts 
 -- the items of other domains
 abbrev pub others : ℕ → List Item → List Item
 others d c = filter (λ i. not (d == i.domain)) c
+
+-- how many pairs stand before the first of a domain
+abbrev pub before : ℕ → List Pair → ℕ
+before d [] = 0
+before d (p ∷ ps) = if d == p.domain then 0 else suc (before d ps)
 
 -- a context begins with a domain without limits
 abbrev pub begins_with : List Item → ℕ → Bool

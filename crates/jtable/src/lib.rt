@@ -2,7 +2,7 @@
 //! pair of numbers, of its limits and its domain; pairs lie in regions, and lists of limits have one number each.
 //!
 //! - `Tables`: what a number stands for, and how a table grows.
-//! - `Stores`, `Sets`, `Lists`, `Cells`: contexts as lists of pairs, limits by number, pairs in the cells of regions.
+//! - `Stores`, `Sets`, `Lists`, `Regions`: contexts as lists of pairs, limits by number, pairs in regions.
 //! - `Chains`, `Digests`: chains by which limits and contexts are found, which no contract above sees.
 //! - `Extending`: limits with new ones added, by their numbers.
 //! - `Remembered`: what is remembered of contexts that domains enter.
@@ -15,7 +15,6 @@
 #![tactic(auto)]
 
 mod alike;
-mod cells;
 mod digest;
 mod entered;
 mod index;

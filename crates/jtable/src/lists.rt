@@ -1,5 +1,5 @@
-ghost use Rattle.std.specs.Prelude.{◌≡◌, ◌<◌, ◌≤◌, ◌∷◌, ◌++◌, [], OnErr, OnOk, Some, get_or, length, slice_get, take};
-ghost use Rattle.jtable.specs.Lists.{Extends};
+ghost use Rattle.std.specs.Prelude.{◌≡◌, ◌<◌, ◌≤◌, ◌∷◌, ◌++◌, [], OnErr, OnOk, Some, drop, get_or, length, slice_get, take};
+ghost use Rattle.jtable.specs.Lists.{BeginsWith, Extends};
 
 use crate::pairs::{Pair, Pairs};
 use std::alloc::{AllocError, Global};
@@ -81,6 +81,19 @@ impl Lists {
         let _ = self.pairs.len();
         let first = self.entries[n].first;
         self.pairs.read(first + i)
+    }
+
+    /// The pairs of a list from one on that lie in its region, lent. That one is there.
+    #[inline]
+    pub fn run(&self, n: usize, i: usize) -> &[Pair]
+        requires list { n < length self.now }
+        requires pair { i < length (get_or self.now n []) }
+        ensures { BeginsWith (drop i (get_or self.now n [])) result.now }
+    {
+        // What the proof needs: a pair's place fits its type.
+        let _ = self.pairs.len();
+        let entry = self.entries[n];
+        self.pairs.run(entry.first + i, entry.count - i)
     }
 
     /// Puts a list behind the others. After an error all is as before.

@@ -1,4 +1,4 @@
-ghost use Rattle.std.specs.Prelude.{◌≡◌, ◌<◌, ◌∷◌, ◌++◌, [], IfOk, IfSome, OnOk, Some, get_or, length, map, option_map, slice_get};
+ghost use Rattle.std.specs.Prelude.{◌≡◌, ◌<◌, ◌∷◌, ◌++◌, [], IfOk, IfSome, OnOk, Some, drop, get_or, length, map, option_map, slice_get};
 ghost use Rattle.std.specs.Option.{option_copied};
 ghost use Rattle.jdomain.specs.Domains.{has};
 ghost use Rattle.jctx.specs.Contexts as contexts;
@@ -9,7 +9,7 @@ ghost use Rattle.jtable.specs.Lists.{Extends};
 ghost use Rattle.jtable.specs.Extending.{AreExtended};
 ghost use Rattle.jtable.specs.Sets.{limits_at};
 ghost use Rattle.jtable.specs.Stores.{AllNamed, AreNamed, item_of, items_of};
-ghost use Rattle.jtable.specs.Tables.{others};
+ghost use Rattle.jtable.specs.Tables.{before, others};
 
 use crate::limits::imply;
 use crate::lists::Lists;
@@ -73,17 +73,43 @@ pub fn add_all(sets: &Sets, lists: &Lists, made: &mut Vec<Pair>, n: usize) -> Re
     Ok(())
 }
 
-/// Puts an item behind the others, unless it is of a domain.
-fn add_other(sets: &Sets, made: &mut Vec<Pair>, pair: Pair, d: u32) -> Result<(), AllocError>
+/// How many items stand in front of the first of a domain.
+fn before(run: &[Pair], d: u32) -> usize
+    ensures { result ≡ before d run.now }
+{
+    let mut i = 0;
+    while i < run.len() {
+        if d == run[i].domain {
+            return i;
+        }
+        i += 1;
+    }
+    i
+}
+
+/// The items behind the first, where there is one.
+fn without_first(run: &[Pair]) -> &[Pair]
+    ensures { result.now ≡ drop 1 run.now }
+{
+    match run {
+        [_, more @ ..] => more,
+        [] => run,
+    }
+}
+
+/// Puts each item but those of a domain behind the others.
+fn add_run(sets: &Sets, made: &mut Vec<Pair>, run: &[Pair], d: u32) -> Result<(), AllocError>
     requires made { AreNamed (length sets.now) made.old.items }
-    requires pair { pair.limits < length sets.now }
-    ensures added { OnOk result (items_of sets.now made.new.items ≡ items_of sets.now made.old.items ++ others d (item_of sets.now pair ∷ [])) }
+    requires run { AreNamed (length sets.now) run.now }
+    ensures added { OnOk result (items_of sets.now made.new.items ≡ items_of sets.now made.old.items ++ others d (items_of sets.now run.now)) }
     ensures named { OnOk result (AreNamed (length sets.now) made.new.items) }
 {
-    if d == pair.domain {
-        return Ok(());
+    let mut rest = run;
+    while !rest.is_empty() {
+        let (front, behind) = rest.split_at(before(rest, d));
+        made.extend_from_slice(front)?;
+        rest = without_first(behind);
     }
-    made.push(pair)?;
     Ok(())
 }
 
@@ -101,8 +127,12 @@ pub fn add_others(
     ensures added { OnOk result (items_of sets.now made.new.items ≡ items_of sets.now made.old.items ++ others d (items_of sets.now (get_or lists.now n []))) }
     ensures named { OnOk result (AreNamed (length sets.now) made.new.items) }
 {
-    for i in 0..lists.count(n) {
-        add_other(sets, made, lists.read(n, i), d)?;
+    let count = lists.count(n);
+    let mut i = 0;
+    while i < count {
+        let run = lists.run(n, i);
+        add_run(sets, made, run, d)?;
+        i += run.len();
     }
     Ok(())
 }
@@ -257,6 +287,19 @@ fn fails(sets: &Sets, pair: Pair, domains: &Domains, asked: &Permission) -> bool
     !imply(sets.get(pair.limits).as_slice(), asked)
 }
 
+/// What items decide for a permission.
+fn decide_run(sets: &Sets, run: &[Pair], domains: &Domains, asked: &Permission) -> Verdict
+    requires { AreNamed (length sets.now) run.now }
+    ensures { result ≡ contexts.verdict (has domains.now) asked.now (items_of sets.now run.now) }
+{
+    for pair in run {
+        if fails(sets, *pair, domains, asked) {
+            return Verdict::Denied(pair.domain);
+        }
+    }
+    Verdict::Granted
+}
+
 /// What a list decides for a permission.
 pub fn decide(
     sets: &Sets,
@@ -269,11 +312,14 @@ pub fn decide(
     requires lists { AllNamed (length sets.now) lists.now }
     ensures { result ≡ contexts.verdict (has domains.now) asked.now (items_of sets.now (get_or lists.now n [])) }
 {
-    for i in 0..lists.count(n) {
-        let pair = lists.read(n, i);
-        if fails(sets, pair, domains, asked) {
-            return Verdict::Denied(pair.domain);
+    let count = lists.count(n);
+    let mut i = 0;
+    while i < count {
+        let run = lists.run(n, i);
+        if let Verdict::Denied(d) = decide_run(sets, run, domains, asked) {
+            return Verdict::Denied(d);
         }
+        i += run.len();
     }
     Verdict::Granted
 }

@@ -1,7 +1,8 @@
-ghost use Rattle.std.specs.Prelude.{◌≡◌, ◌<◌, ◌≤◌, ◌*◌, ◌∷◌, ◌++◌, [], IfOk, OnErr, OnOk, Some, length, slice_get};
-ghost use Rattle.jtable.specs.Cells.{AreOthers, StayRegions, pair_in};
+ghost use Rattle.std.specs.Prelude.{◌≡◌, ◌<◌, ◌≤◌, ◌+◌, ◌/◌, ◌∷◌, ◌++◌, [], OnErr, OnOk, Some, drop, length, slice_get, take};
+ghost use Rattle.jtable.specs.Lists.{BeginsWith};
+ghost use Rattle.jtable.specs.Regions.{AreFilled, all_of};
 
-use crate::cells::Cells;
+use jbase::Seq;
 use std::alloc::{AllocError, Global};
 use std::marker::Model;
 
@@ -15,62 +16,51 @@ pub struct Pair {
     pub domain: u32,
 }
 
-/// Pairs one behind the other in regions, a cell each. Contracts see the list of them.
+/// Pairs one behind the other in regions. Contracts see the list of them.
 #[derive(Drop)]
 pub struct Pairs {
-    regions: Vec<Cells>,
+    regions: Vec<Seq<Pair>>,
     count: usize,
 }
 
 impl Model for Pairs {
-    ghost use Rattle.std.specs.Prelude.{◌≤◌, ◌*◌, List, length};
+    ghost use Rattle.std.specs.Prelude.{◌≡◌, List, length};
     ghost use Rattle.jtable.specs.declared.pairs.Pair.{Pair};
-    ghost use Rattle.jtable.specs.Cells.{pairs_to};
+    ghost use Rattle.jtable.specs.Regions.{AreFilled, all_of};
 
     ghost Value = { List Pair };
 
-    ghost view = { λ p. pairs_to p.regions.items p.count };
+    ghost view = { λ p. all_of p.regions.items };
 
-    ghost invariant = { λ p. p.count ≤ 65536 * length p.regions.items };
+    ghost invariant = { λ p. AreFilled p.regions.items × (p.count ≡ length (all_of p.regions.items)) };
 }
 
-/// The pair of a cell.
-#[inline]
-fn read_pair(cells: &Cells, i: u32) -> Pair
-    requires { i < 65536 }
-    ensures { result ≡ pair_in cells.now i }
+/// Opens a region where those that are there are full. No pair is lost, whatever the result.
+fn open_room(alloc: Global, regions: &mut Vec<Seq<Pair>>, at: usize) -> Result<(), AllocError>
+    requires filled { AreFilled regions.old.items }
+    requires at { at ≡ length (all_of regions.old.items) / 65536 }
+    ensures room { OnOk result (at < length regions.new.items) }
+    ensures same { all_of regions.new.items ≡ all_of regions.old.items }
+    ensures filled { AreFilled regions.new.items }
 {
-    let cell = cells.read(i);
-    let limits = (cell / (1 << 32)) as u32;
-    let domain = (cell % (1 << 32)) as u32;
-    Pair { limits, domain }
-}
-
-/// Writes a pair into a cell.
-#[tactic(auto, using(crate::proofs::Placing::packed))]
-#[inline]
-fn write_pair(cells: &mut Cells, i: u32, pair: Pair)
-    requires { i < 65536 }
-    ensures here { pair_in cells.new i ≡ pair }
-    ensures others { AreOthers i cells.old cells.new }
-{
-    let limits = u64::from(pair.limits) * (1 << 32);
-    cells.write(i, limits + u64::from(pair.domain));
-}
-
-/// Opens a region where those that are there are full.
-fn open_room(alloc: Global, regions: &mut Vec<Cells>, count: usize) -> Result<(), AllocError>
-    requires { count ≤ 65536 * length regions.old.items }
-    ensures room { OnOk result (count < 65536 * length regions.new.items) }
-    ensures stay { StayRegions regions.old.items regions.new.items }
-{
-    let at = count / PAIRS;
-    let len = regions.len();
-    if at < len {
+    if at < regions.len() {
         return Ok(());
     }
-    let cells = Cells::open(alloc)?;
-    regions.push(cells)?;
+    let region = Vec::with_capacity(alloc, PAIRS)?;
+    regions.push(Seq::from_vec(region))?;
+    Ok(())
+}
+
+/// Puts a pair into the region that has room. After an error all is as before.
+fn put(regions: &mut Vec<Seq<Pair>>, at: usize, pair: Pair) -> Result<(), AllocError>
+    requires filled { AreFilled regions.old.items }
+    requires at { at ≡ length (all_of regions.old.items) / 65536 }
+    requires room { at < length regions.old.items }
+    ensures ok { OnOk result (all_of regions.new.items ≡ all_of regions.old.items ++ pair ∷ []) }
+    ensures err { OnErr result (all_of regions.new.items ≡ all_of regions.old.items) }
+    ensures filled { AreFilled regions.new.items }
+{
+    regions[at].push(pair)?;
     Ok(())
 }
 
@@ -99,8 +89,22 @@ impl Pairs {
         requires { k < length self.now }
         ensures { Some result ≡ slice_get self.now k }
     {
-        let i = (k % PAIRS) as u32;
-        read_pair(&self.regions[k / PAIRS], i)
+        self.regions[k / PAIRS].as_slice()[k % PAIRS]
+    }
+
+    /// The pairs from a place on that lie in its region, and at most so many, lent. They are there.
+    #[inline]
+    pub fn run(&self, k: usize, most: usize) -> &[Pair]
+        requires some { 0 < most }
+        requires there { k + most ≤ length self.now }
+        ensures { BeginsWith (take most (drop k self.now)) result.now }
+    {
+        let region = self.regions[k / PAIRS].as_slice();
+        let (_, behind) = region.split_at(k % PAIRS);
+        if most < behind.len() {
+            return behind.split_at(most).0;
+        }
+        behind
     }
 
     /// Puts a pair behind the others. After an error all is as before.
@@ -111,9 +115,9 @@ impl Pairs {
         let Some(count) = self.count.checked_add(1) else {
             return Err(AllocError);
         };
-        open_room(alloc, &mut self.regions, self.count)?;
-        let i = (self.count % PAIRS) as u32;
-        write_pair(&mut self.regions[self.count / PAIRS], i, pair);
+        let at = self.count / PAIRS;
+        open_room(alloc, &mut self.regions, at)?;
+        put(&mut self.regions, at, pair)?;
         self.count = count;
         Ok(())
     }

@@ -1,17 +1,19 @@
-use Rattle.std.proofs.Common.{◌∙◌, [], sym}
+use Rattle.std.proofs.Common.{◌∙◌, [], sym, arith}
 use Rattle.std.specs.Prelude.{get_or}
-use Rattle.jtable.proofs.Sameness.{one_differs, one_same}
+use Rattle.jtable.proofs.Running.{no_further, run_differs, run_same}
 use Rattle.jtable.proofs.alike.holds_at.Goals as goal
 
-pub returns-then-not-same_pair : goal.returns-then-not-same_pair
-returns-then-not-same_pair c =
-    one_differs (get_or c.args.lists.now c.args.n []) c.args.pairs.now c.loop-i.i c.read.result _ c.read.ensures c.loop-i-test.true
-    (sym c.count.ensures ∙ c.if-count-pairs.false)
-    (sym c.same_pair.ensures ∙ c.if-not-same_pair.true)
-    c.loop-i.invariant
+pub split_at-requires : goal.split_at-requires
+split_at-requires c = omega (arith, no_further (get_or c.args.lists.now c.args.n []) c.run-run.result.now c.loop-i.i c.run-run.ensures, c.loop-i.invariant.1)
+
+pub returns-then-not-same_pairs : goal.returns-then-not-same_pairs
+returns-then-not-same_pairs c =
+    run_differs (get_or c.args.lists.now c.args.n []) c.run-run.result.now c.args.pairs.now c.loop-i.rest.now c.split_at.result.0.now c.loop-i.i c.run-run.ensures
+    c.split_at.ensures.front c.loop-i.invariant.1 (sym c.same_pairs.ensures ∙ c.if-not-same_pairs.true) c.loop-i.invariant.0
 
 pub loop-i-preserved : goal.loop-i-preserved
-loop-i-preserved c =
-    one_same (get_or c.args.lists.now c.args.n []) c.args.pairs.now c.loop-i.i c.read.result _ c.read.ensures c.loop-i-test.true
-    (sym c.same_pair.ensures ∙ c.if-not-same_pair.false)
-    c.loop-i.invariant
+loop-i-preserved c = (
+  run_same (get_or c.args.lists.now c.args.n []) c.run-run.result.now c.loop-i.rest.now c.split_at.result.0.now c.split_at.result.1.now c.loop-i.i c.run-run.ensures
+      c.split_at.ensures.front c.split_at.ensures.back c.loop-i.invariant.1 _ (sym c.same_pairs.ensures ∙ c.if-not-same_pairs.false) c.loop-i.invariant.0,
+  omega (arith, no_further (get_or c.args.lists.now c.args.n []) c.run-run.result.now c.loop-i.i c.run-run.ensures, c.loop-i.invariant.1, c.split_at.ensures.back_len),
+)

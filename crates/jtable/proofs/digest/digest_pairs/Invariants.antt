@@ -1,6 +1,9 @@
-use Rattle.std.proofs.Common.{◌≡◌, drop, fold}
+use Rattle.std.proofs.Common.{◌≡◌, fold, length}
 use Rattle.jtable.specs.Digests.{digest_pair, digest_pairs}
 use Rattle.jtable.proofs.digest.digest_pairs.Given as goal
 
-abbrev pub invariant-loop-p : goal.invariant-loop-p
-invariant-loop-p l = fold digest_pair l.sum (drop l.p-index l.pairs) ≡ digest_pairs l.pairs
+abbrev pub invariant-loop-rest : goal.invariant-loop-rest
+invariant-loop-rest l = fold digest_pair l.sum l.rest ≡ digest_pairs l.pairs
+
+abbrev pub decreases-loop-rest : goal.decreases-loop-rest
+decreases-loop-rest l = length l.rest

@@ -1,4 +1,4 @@
-use Rattle.std.proofs.Common.{◌≡◌, ◌++◌, [], drop, length}
+use Rattle.std.proofs.Common.{◌≡◌, ◌++◌, ◌-◌, ◌≤◌, [], drop, length}
 use Rattle.std.specs.Prelude.{get_or}
 use Rattle.jtable.specs.Stores.{AreNamed, items_of}
 use Rattle.jtable.specs.Tables.{others}
@@ -10,3 +10,7 @@ invariant-loop-i l =
     (items_of l.sets l.made.items ++ others l.d (items_of l.sets (drop l.i (get_or l.lists l.n [])))
     ≡ items_of l.sets l.fn.made.items ++ others l.d (items_of l.sets (get_or l.lists l.n [])))
     × AreNamed (length l.sets) l.made.items
+    × (l.i ≤ length (get_or l.lists l.n []))
+
+abbrev pub decreases-loop-i : goal.decreases-loop-i
+decreases-loop-i l = length (get_or l.lists l.n []) - l.i

@@ -1,31 +1,22 @@
-use Rattle.std.proofs.Common.{◌∙◌, [], length, sym, arith}
+use Rattle.std.proofs.Common.{[], sym, arith}
 use Rattle.std.specs.Prelude.{get_or}
 use Rattle.jdomain.specs.Domains.{has}
 use Rattle.jtable.specs.Stores.{item_of}
-use Rattle.jtable.proofs.Growing.{decides_here, decides_next, decides_end}
-use Rattle.jtable.proofs.Naming.{named_at}
+use Rattle.jtable.proofs.Running.{no_further, run_denies, run_grants}
 use Rattle.jtable.proofs.making.decide.Goals as goal
 
-pub read-pair-requires-clause-pair : goal.read-pair-requires-clause-pair
-read-pair-requires-clause-pair c = omega (arith, c.loop-i-test.true, c.count-i-end.ensures)
+pub returns-in-Denied : goal.returns-in-Denied
+returns-in-Denied c =
+    run_denies (item_of c.args.sets.now) (has c.args.domains.now) c.args.asked.now (get_or c.args.lists.now c.args.n []) c.run-run.result.now c.loop-i.i c.run-run.ensures
+    c.in-Denied.d _ (sym c.in-Denied.ensures) c.loop-i.invariant.0
 
-pub fails-requires : goal.fails-requires
-fails-requires c =
-    named_at (length c.args.sets.now) c.args.lists.now c.args.n c.loop-i.i c.read-pair.result c.requires.lists c.requires.there c.read-pair.ensures
-
-pub returns-then-fails : goal.returns-then-fails
-returns-then-fails c =
-    decides_here (item_of c.args.sets.now) (get_or c.args.lists.now c.args.n []) (has c.args.domains.now) c.args.asked.now c.loop-i.i c.read-pair.result _ c.read-pair.ensures
-    (sym c.fails.ensures ∙ c.if-fails.true)
-    c.loop-i.invariant
+pub overflow_add-i : goal.overflow_add-i
+overflow_add-i c =
+    omega (arith, no_further (get_or c.args.lists.now c.args.n []) c.run-run.result.now c.loop-i.i c.run-run.ensures, c.count-count.ensures, c.count-count.type_inv)
 
 pub loop-i-preserved : goal.loop-i-preserved
-loop-i-preserved c =
-    decides_next (item_of c.args.sets.now) (get_or c.args.lists.now c.args.n []) (has c.args.domains.now) c.args.asked.now c.loop-i.i c.read-pair.result _ c.read-pair.ensures
-    (sym c.fails.ensures ∙ c.if-fails.false)
-    c.loop-i.invariant
-
-pub returns : goal.returns
-returns c =
-    decides_end (item_of c.args.sets.now) (get_or c.args.lists.now c.args.n []) (has c.args.domains.now) c.args.asked.now c.loop-i.i _ (omega (arith, c.loop-i-test.false, c.count-i-end.ensures))
-    c.loop-i.invariant
+loop-i-preserved c = (
+  run_grants (item_of c.args.sets.now) (has c.args.domains.now) c.args.asked.now (get_or c.args.lists.now c.args.n []) c.run-run.result.now c.loop-i.i c.run-run.ensures
+      _ (sym c.in_default.ensures) c.loop-i.invariant.0,
+  no_further (get_or c.args.lists.now c.args.n []) c.run-run.result.now c.loop-i.i c.run-run.ensures,
+)

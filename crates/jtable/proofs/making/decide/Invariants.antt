@@ -1,4 +1,4 @@
-use Rattle.std.proofs.Common.{◌≡◌, [], drop}
+use Rattle.std.proofs.Common.{◌≡◌, ◌-◌, ◌≤◌, [], drop, length}
 use Rattle.std.specs.Prelude.{get_or}
 use Rattle.jdomain.specs.Domains.{has}
 use Rattle.jctx.specs.Contexts.{verdict}
@@ -8,4 +8,8 @@ use Rattle.jtable.proofs.making.decide.Given as goal
 -- what is left decides as the whole does
 abbrev pub invariant-loop-i : goal.invariant-loop-i
 invariant-loop-i l =
-    verdict (has l.domains) l.asked (items_of l.sets (drop l.i (get_or l.lists l.n []))) ≡ verdict (has l.domains) l.asked (items_of l.sets (get_or l.lists l.n []))
+    (verdict (has l.domains) l.asked (items_of l.sets (drop l.i (get_or l.lists l.n []))) ≡ verdict (has l.domains) l.asked (items_of l.sets (get_or l.lists l.n [])))
+    × (l.i ≤ length (get_or l.lists l.n []))
+
+abbrev pub decreases-loop-i : goal.decreases-loop-i
+decreases-loop-i l = length (get_or l.lists l.n []) - l.i

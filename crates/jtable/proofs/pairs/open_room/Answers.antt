@@ -1,25 +1,29 @@
-use Rattle.std.proofs.Common.{◌∷◌, [], length, ap, refl, arith}
+use Rattle.std.proofs.Common.{◌∙◌, ◌∷◌, ◌++◌, ◌≤◌, ◌/◌, List, [], length, sym, ap, subst, arith}
 use Rattle.std.proofs.lemmas.List.{length-append}
-use Rattle.jtable.proofs.Placing.{stay_same, stay_pushed}
+use Rattle.jtable.specs.declared.pairs.Pair.{Pair}
+use Rattle.jtable.specs.Regions.{AreFilled, all_of}
+use Rattle.jtable.proofs.Placing.{few, opened, opened_same}
 use Rattle.jtable.proofs.pairs.open_room.Goals as goal
-
-pub returns-then-at-len-clause-room : goal.returns-then-at-len-clause-room
-returns-then-at-len-clause-room c = omega (arith, c.if-at-len.true, c.len-len.ensures, c.args.regions.now.ok.0)
-
-pub returns-then-at-len-clause-stay : goal.returns-then-at-len-clause-stay
-returns-then-at-len-clause-stay c = stay_same c.args.regions.now.items c.args.regions.now.items refl
-
-pub returns-in_err-cells-clause-stay : goal.returns-in_err-cells-clause-stay
-returns-in_err-cells-clause-stay c = stay_same c.args.regions.now.items c.args.regions.now.items refl
 
 pub returns-clause-room : goal.returns-clause-room
 returns-clause-room c =
     omega (
       arith,
-      c.requires,
+      few c.args.regions.now.items c.requires.filled,
+      c.requires.at,
       ap length c.in_ok-push.ensures.items,
-      length-append c.args.regions.now.items (c.in_ok-cells.cells ∷ []),
+      length-append c.args.regions.now.items (c.from_vec.result ∷ []),
     )
 
-pub returns-clause-stay : goal.returns-clause-stay
-returns-clause-stay c = stay_pushed c.args.regions.now.items c.push.new.self.items c.in_ok-cells.cells c.in_ok-push.ensures.items
+pub returns-clause-same : goal.returns-clause-same
+returns-clause-same c =
+    ap all_of c.in_ok-push.ensures.items
+    ∙ ap (λ (r : List Pair). all_of (c.args.regions.now.items ++ r ∷ [])) (c.from_vec.ensures ∙ c.in_ok-region.ensures.items)
+    ∙ opened_same c.args.regions.now.items
+
+pub returns-clause-filled : goal.returns-clause-filled
+returns-clause-filled c =
+    let full : length c.args.regions.now.items ≤ length (all_of c.args.regions.now.items) / 65536 =
+    omega (arith, c.if-at-len.false, c.len.ensures, c.requires.at, c.args.regions.now.ok.0) in
+    subst AreFilled (sym (c.in_ok-push.ensures.items ∙ ap (λ (r : List Pair). c.args.regions.now.items ++ r ∷ []) (c.from_vec.ensures ∙ c.in_ok-region.ensures.items)))
+    (opened c.args.regions.now.items c.requires.filled full)

@@ -1,21 +1,21 @@
-use Rattle.std.proofs.Common.{◌∙◌, ◌<◌, ◌/◌, ◌%◌, ℕ, List, [], length, Some, sym, ap, arith}
-use Rattle.std.specs.Prelude.{slice_get}
-use Rattle.std.proofs.lemmas.List.{get_or_read}
+use Rattle.std.proofs.Common.{◌∙◌, ◌%◌, List, length, Some, ap, arith}
+use Rattle.std.specs.Prelude.{get_or}
 use Rattle.jtable.specs.declared.pairs.Pair.{Pair}
-use Rattle.jtable.specs.Cells.{pair_in}
-use Rattle.jtable.proofs.Placing.{length_to, place_at}
+use Rattle.jtable.proofs.Placing.{pair_there, place_there, region_there}
 use Rattle.jtable.proofs.pairs.Pairs.read.Goals as goal
 
 pub index-requires : goal.index-requires
-index-requires c =
-    omega (arith, c.requires, ap length c.self.view_is, length_to c.self.inside.regions.items c.self.inside.count, c.self.invariant, c.self.inside.regions.ok.0)
+index-requires c = omega (arith, region_there c.self.inside.regions.items c.args.self.now c.args.k c.self.view_is c.self.invariant.0 c.requires, c.self.inside.regions.ok.0)
+
+pub bounds-as_slice-k : goal.bounds-as_slice-k
+bounds-as_slice-k c =
+    omega (
+      arith,
+      place_there c.self.inside.regions.items c.args.self.now c.args.k c.self.view_is c.self.invariant.0 c.requires c.index.result.now c.index.ensures,
+      ap length c.as_slice.ensures,
+    )
 
 pub returns : goal.returns
 returns c =
-    let regions : List (List ℕ) = c.self.inside.regions.items in
-    let k = c.args.k in
-    let below : k < c.self.inside.count = omega (arith, c.requires, ap length c.self.view_is, length_to regions c.self.inside.count) in
-    let there : k / 65536 < length regions = omega (arith, below, c.self.invariant) in
-    ap (λ (p : Pair). Some p) (c.read_pair.ensures ∙ ap (λ (cells : List ℕ). pair_in cells (k % 65536)) (get_or_read regions (k / 65536) c.index.result.now there c.index.ensures []))
-    ∙ sym (place_at regions c.self.inside.count k below)
-    ∙ ap (λ (ps : List Pair). slice_get ps k) c.self.view_is
+    ap (λ (l : List Pair). Some (get_or l (c.args.k % 65536) (record { limits = 0; domain = 0 }))) c.as_slice.ensures
+    ∙ pair_there c.self.inside.regions.items c.args.self.now c.args.k c.self.view_is c.self.invariant.0 c.requires c.index.result.now c.index.ensures (record { limits = 0; domain = 0 })
