@@ -1,7 +1,7 @@
 -- Objects that may be used.
-use Rattle.std.proofs.Common.{◌≡◌, ◌∙◌, ℕ, zero, suc, ◌-◌, ◌<◌, ◌≤◌, Bool, true, false, List, [], length, map, Option, Some, None, refl, sym, ap, arith, rules, lt-ltb, inl, inr, ◌⊎◌}
+use Rattle.std.proofs.Common.{◌≡◌, ◌∙◌, ℕ, zero, suc, ◌-◌, ◌<◌, ◌≤◌, Bool, true, false, List, [], length, Option, Some, None, refl, sym, ap, arith, rules, lt-ltb, inl, inr, ◌⊎◌}
 use Rattle.std.specs.Prelude.{get_or, is_some, nat_lt, option_map, slice_get, unwrap_or}
-use Rattle.std.proofs.lemmas.Option.{slice_get-map, slice_get-get_or, slice_get_cases}
+use Rattle.std.proofs.lemmas.Option.{slice_get_cases}
 use Rattle.jnames.specs.declared.kinds.Kind.TheVariants as wanted
 use Rattle.jops.specs.declared.value.Value.{Value}
 use Rattle.jops.specs.declared.value.Value.TheVariants.{Int, Long, Ref, Ctx}
@@ -22,35 +22,13 @@ use Rattle.jmachine.specs.Operands.{found_type, ready_type, serves, serves_as}
 use Rattle.jmachine.specs.World.{World}
 use Rattle.jstate.specs.declared.shapes.Shape.{Shape}
 use Rattle.jstate.specs.declared.shapes.Shapes.{Shapes}
-use Rattle.jstate.specs.Numbers.{class_numbered, library_classes, library_count}
+use Rattle.jstate.specs.Numbers.{class_numbered}
 use Rattle.jstate.specs.Seen.{Things, class_by, first, kind_by, number_in, object_by, place_in, store_by, user_by}
 use Rattle.jstate.specs.SeenLaws.{SeesEach}
-use Rattle.jcalls.specs.declared.ready.TheConstants.{NEEDS}
 use Rattle.jcalls.specs.declared.ready.Needs.{Needs}
 use Rattle.jcalls.specs.declared.ready.Needs.TheVariants as needs
 use Rattle.jcalls.specs.declared.ready.Counts.{Counts}
 use Rattle.jcalls.specs.Readiness.{AreCounted, holds, holds_counted, is_ready_in, is_reference, is_within, needed, ready_by, ready_counted}
-
--- ---- classes by number
-
-pub users_need : (n : ℕ) → 46 ≤ n → needs.Nothing ≡ needed (class_numbered n)
-users_need n few = let b : nat_lt n library_count ≡ false = search rules in rw b refl
-
-abbrev library_needed : LibClass → Needs
-library_needed c = needed (refs.Lib c)
-
-listed : map library_needed library_classes ≡ NEEDS
-listed = refl
-
-pub library_needs : (n : ℕ) (d : Needs) → n < 46 → get_or NEEDS n d ≡ needed (class_numbered n)
-library_needs n d few =
-    let b : nat_lt n library_count ≡ true = lt-ltb n library_count few in
-    rw b (found (slice_get library_classes n) (get_or NEEDS n d) (sym (slice_get-get_or NEEDS n d few) ∙ ap (λ (xs : List Needs). slice_get xs n) (sym listed)
-    ∙ slice_get-map library_needed library_classes n))
-  where
-    found : (o : Option LibClass) (x : Needs) → Some x ≡ option_map library_needed o → x ≡ library_needed (unwrap_or o lib.Object)
-    found None x h = cc
-    found (Some c) x h = cc
 
 -- ---- cells that name things
 

@@ -1,6 +1,6 @@
 -- What unwinding comes to (JVMS 2.10).
-use Rattle.std.specs.Prelude.{◌≡◌, ℕ, Bool, true, false, ◌&&◌, ◌||◌, ◌==◌, List, [], ◌∷◌, Option, Some, None, option_and_then, nat_le, nat_lt}
-use Rattle.std.specs.List.{AllByRecursion, find}
+use Rattle.std.specs.Prelude.{◌≡◌, ℕ, Bool, true, false, List, [], ◌∷◌, Option, Some, None}
+use Rattle.std.specs.List.{AllByRecursion}
 use Rattle.jprogram.specs.declared.member.MethodId.{MethodId}
 use Rattle.jprogram.specs.Classes.{Program}
 use Rattle.jtypes.specs.declared.vtype.VType.{VType}
@@ -8,20 +8,7 @@ use Rattle.jops.specs.declared.value.Value.TheVariants.{Ref}
 use Rattle.jmachine.specs.Acts.{FrameOf}
 use Rattle.jmachine.specs.Unwinding.{handler_at, resumed, unwound}
 use Rattle.jstate.specs.Framed.{Framed, all}
-use Rattle.jcalls.specs.declared.handlers.HandlerRow.{HandlerRow}
 use Rattle.jcalls.specs.Marks.{marks_of}
-
--- ---- the handlers of a method
-
--- a row's range holds a place, and it catches a class by its number in the pool, where 0 is every class
-abbrev pub takes : (ℕ → Bool) → ℕ → HandlerRow → Bool
-takes catches place h = (nat_le h.start place && nat_lt place h.end) && ((h.class == 0) || catches h.class)
-
--- the number at which the first row goes on that takes what is thrown at a place
-abbrev pub handled : (ℕ → Bool) → ℕ → List HandlerRow → Option ℕ
-handled catches place rows = option_and_then (λ h. h.to) (find (takes catches place) rows)
-
--- ---- frames
 
 -- What is asked about a frame's method and place is where it goes on if something of this type is thrown.
 abbrev pub IsTold : {E : Type 0} → Program → VType → (MethodId → ℕ → Option ℕ) → FrameOf ℕ E → Type 0

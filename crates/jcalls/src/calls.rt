@@ -19,6 +19,8 @@ pub struct Callee<M> {
     pub has_code: bool,
     /// How many locals its frames have.
     pub most: u32,
+    /// For how many operands they have room.
+    pub stack: u32,
     /// What its frames carry.
     pub mark: M,
 }
@@ -92,7 +94,7 @@ fn enter<M: Copy>(
     if !callee.has_code {
         return Ok(Called::Stuck);
     }
-    frames.begin(callee.method, callee.most, count, callee.mark)?;
+    frames.begin(callee.method, callee.most, callee.stack, count, callee.mark)?;
     Ok(Called::Begun)
 }
 

@@ -5,7 +5,7 @@
 //! - `Returns`, `Calling`: what a step comes to that returns or calls, by the machine's definition of a step, with what it asks of
 //!   access control and which target it reaches.
 //! - `CallLaws`: the target and what is asked, by what a call came to.
-//! - `Unwinds`: which rows of handlers take what is thrown, and the frames that are left.
+//! - `Unwinds`: the frames that are left where something was thrown.
 //! - `Throws`: what a step comes to in which something is thrown, or an exception of the library is made and thrown.
 //! - `Telling`: the same, with a message.
 //! - `Readiness`: which objects of the heap may be used.
@@ -31,7 +31,7 @@ mod telling;
 mod unwinding;
 
 pub use calls::{Called, Callee, Found, Room, call_by_interface, call_on, call_static};
-pub use handlers::{Catches, HandlerRow, Handlers, first_handler};
+pub use handlers::Handlers;
 pub use laws::call_laws;
 pub use raising::{Raised, raise, throw_object};
 pub use ready::{Counts, Needs, first_cell, is_ready, needs_of};

@@ -1,12 +1,16 @@
 ghost use Rattle.std.specs.Prelude.{◌≡◌, is_some, true};
 ghost use Rattle.jheap.specs.Heaps.{cells_at, object_at};
-ghost use Rattle.jstate.specs.Numbers.{class_numbered};
+ghost use Rattle.jprogram.specs.declared.part.ClassRef.TheVariants as refs;
+ghost use Rattle.jstate.specs.Numbers;
 ghost use Rattle.jstate.specs.Seen.{Things, first, number_in};
 ghost use Rattle.jcalls.specs.Readiness;
 ghost use Rattle.jcalls.specs.Readiness.{AreCounted, holds_counted, needed, ready_by, ready_counted};
 
 use jheap::{CellType, Heap, Kind};
+use jlib::LibClass;
 use jops::Value;
+use jprogram::ClassRef;
+use jstate::class_numbered;
 
 /// What an object has to hold before it may be used.
 #[derive(Clone, Copy, Debug, PartialEq, Eq)]
@@ -29,66 +33,29 @@ pub struct Counts {
     pub contexts: usize,
 }
 
-/// What objects of the library's classes have to hold, by the heap's numbers for the classes.
-const NEEDS: [Needs; 46] = [
-    Needs::Nothing,
-    Needs::Nothing,
-    Needs::Nothing,
-    Needs::Nothing,
-    Needs::Nothing,
-    Needs::Nothing,
-    Needs::Nothing,
-    Needs::Nothing,
-    Needs::Nothing,
-    Needs::Nothing,
-    Needs::Nothing,
-    Needs::Nothing,
-    Needs::Nothing,
-    Needs::Nothing,
-    Needs::Nothing,
-    Needs::Nothing,
-    Needs::Nothing,
-    Needs::Nothing,
-    Needs::Nothing,
-    Needs::Nothing,
-    Needs::Nothing,
-    Needs::Nothing,
-    Needs::Nothing,
-    Needs::Permission,
-    Needs::Permission,
-    Needs::Permission,
-    Needs::Permission,
-    Needs::Permission,
-    Needs::Permission,
-    Needs::Permission,
-    Needs::Nothing,
-    Needs::Nothing,
-    Needs::Units,
-    Needs::Nothing,
-    Needs::Nothing,
-    Needs::Nothing,
-    Needs::Nothing,
-    Needs::Nothing,
-    Needs::Nothing,
-    Needs::Nothing,
-    Needs::Thread,
-    Needs::Nothing,
-    Needs::Nothing,
-    Needs::Context,
-    Needs::Nothing,
-    Needs::Nothing,
-];
+/// What an object of a class of the library has to hold.
+#[inline]
+fn library_needs(class: LibClass) -> Needs
+    ensures { result ≡ needed (refs.Lib class) }
+{
+    match class {
+        LibClass::String => Needs::Units,
+        LibClass::Permission(_) => Needs::Permission,
+        LibClass::AccessControlContext => Needs::Context,
+        LibClass::Thread => Needs::Thread,
+        _ => Needs::Nothing,
+    }
+}
 
 /// What an object of a class has to hold.
 #[inline]
-#[tactic(auto, using(crate::proofs::Readying::users_need, crate::proofs::Readying::library_needs))]
 pub fn needs_of(class: u32) -> Needs
-    ensures { result ≡ needed (class_numbered class) }
+    ensures { result ≡ needed (Numbers.class_numbered class) }
 {
-    if class >= 46 {
-        return Needs::Nothing;
+    match class_numbered(class) {
+        ClassRef::User(_) => Needs::Nothing,
+        ClassRef::Lib(c) => library_needs(c),
     }
-    NEEDS[class as usize]
 }
 
 /// Whether a number is that of one of so many things, which count from 1.

@@ -1,20 +1,20 @@
--- The handlers of a method's code are those of the machine's definition.
-use Rattle.std.proofs.Common.{◌≡◌, ◌∙◌, ℕ, List, [], ◌∷◌, Option, Some, None, refl, sym, ap}
+-- The handlers of a method by number are those of the machine's definition.
+use Rattle.std.proofs.Common.{◌≡◌, ◌∙◌, ℕ, List, [], ◌∷◌, Option, Some, None, refl, sym, ap, ap₂}
 use Rattle.std.specs.Prelude.{option_and_then, option_map, slice_get}
-use Rattle.std.specs.List.{AllByRecursion, find}
+use Rattle.std.specs.List.{AllByRecursion}
 use Rattle.jcalls.specs.Unwinds.{IsTold}
 use Rattle.jclass.specs.declared.class.ClassParts.{ClassParts}
 use Rattle.jclass.specs.declared.class.CodeBody.{CodeBody}
-use Rattle.jcode.specs.declared.op.Placed.{Placed}
 use Rattle.jmachine.specs.Acts.{FrameOf}
-use Rattle.jmachine.specs.Unwinding.{handler_at, handler_from, handler_in, number_at, takes}
+use Rattle.jmachine.specs.Unwinding.{handler_at, handler_from, handler_in}
 use Rattle.jprogram.specs.declared.member.MethodId.{MethodId}
 use Rattle.jprogram.specs.declared.part.CodePart.{CodePart}
 use Rattle.jprogram.specs.Classes.{Program}
+use Rattle.jready.specs.declared.handlers.HandlerRow.{HandlerRow}
+use Rattle.jready.specs.declared.methods.MethodRow.{MethodRow}
+use Rattle.jready.specs.Handling.{handled}
 use Rattle.jtypes.specs.declared.vtype.VType.{VType}
-use Rattle.juses.specs.declared.code.CodeRef.{CodeRef}
 use Rattle.juses.specs.Instructions.{body_in, code_at}
-use Rattle.juses.specs.Numbered.{seen_code}
 use Rattle.juses.specs.Tables.{pool_at, pool_in}
 
 abbrev part_class : CodePart → ClassParts
@@ -36,34 +36,22 @@ module _ (p : Program) (thrown : VType) (m : MethodId) (i : ℕ) where
   unfolding handler_at
   by_code = by_part (slice_get p.parts m.class)
 
-  pub without_code : (c : Option CodeRef) → option_map seen_code c ≡ code_at p m → c ≡ None → None ≡ handler_at p thrown m i
-  without_code c h e = sym (by_code ∙ ap (option_and_then in_body) (sym h ∙ ap (option_map seen_code) e))
+  pub unhandled : code_at p m ≡ None → handler_at p thrown m i ≡ None
+  unhandled none = by_code ∙ ap (option_and_then in_body) none
 
-  in_code : (c : Option CodeRef) (body : CodeRef) → option_map seen_code c ≡ code_at p m → c ≡ Some body → handler_at p thrown m i ≡ in_body (seen_code body)
-  in_code c body h e = by_code ∙ ap (option_and_then in_body) (sym h ∙ ap (option_map seen_code) e)
+module _ (p q : Program) (same : q ≡ p) (thrown : VType) (m : MethodId) (i : ℕ) where
+  pub without_code : code_at q m ≡ None → None ≡ handler_at p thrown m i
+  without_code none = sym (unhandled p thrown m i (ap (λ x. code_at x m) (sym same) ∙ none))
 
-  none_at : (body : CodeBody) (o : Option Placed) → option_map (λ (one : Placed). one.at) o ≡ None
-      → option_and_then (handler_from p (pool_at p m.class) thrown body) o ≡ None
-  none_at body None e = refl
-  none_at body (Some one) e = cc
+  module _ (row : MethodRow) (own : row.id ≡ m) where
+    pub behind_code : handler_at q thrown row.id i ≡ None → None ≡ handler_at p thrown m i
+    behind_code none = sym (ap₂ (λ x n. handler_at x thrown n i) (sym same) (sym own) ∙ none)
 
-  pub without_op : (c : Option CodeRef) (body : CodeRef) (at : Option ℕ) → option_map seen_code c ≡ code_at p m → c ≡ Some body
-      → at ≡ option_map (λ (one : Placed). one.at) (slice_get body.ops.now i) → at ≡ None → None ≡ handler_at p thrown m i
-  without_op c body at h e is none = sym (in_code c body h e ∙ none_at (seen_code body) (slice_get body.ops.now i) (sym is ∙ none))
-
-  some_at : (body : CodeBody) (o : Option Placed) (at : ℕ) → option_map (λ (one : Placed). one.at) o ≡ Some at
-      → option_and_then (handler_from p (pool_at p m.class) thrown body) o
-      ≡ option_and_then (λ h. number_at body.ops h.at) (find (takes p (pool_at p m.class) thrown at) body.handlers)
-  some_at body None at e = cc
-  some_at body (Some one) at e =
-      let same : one.at ≡ at = cc in
-      ap (λ a. option_and_then (λ h. number_at body.ops h.at) (find (takes p (pool_at p m.class) thrown a) body.handlers)) same
-
-  pub with_op : (c : Option CodeRef) (body : CodeRef) (o : Option ℕ) (at : ℕ) (to : Option ℕ) → option_map seen_code c ≡ code_at p m → c ≡ Some body
-      → o ≡ option_map (λ (one : Placed). one.at) (slice_get body.ops.now i) → o ≡ Some at
-      → to ≡ option_and_then (λ h. number_at body.ops.now h.at) (find (takes p (pool_at p m.class) thrown at) body.handlers.now)
-      → to ≡ handler_at p thrown m i
-  with_op c body o at to h e is some goes = goes ∙ sym (in_code c body h e ∙ some_at (seen_code body) (slice_get body.ops.now i) at (sym is ∙ some))
+    pub within_code : (rows : List HandlerRow) (to : Option ℕ) → handler_at q thrown row.id i ≡ handled q (pool_at q row.id.class) thrown i rows
+        → to ≡ handled p (pool_at p m.class) thrown i rows → to ≡ handler_at p thrown m i
+    within_code rows to is goes =
+        goes ∙ sym (ap₂ (λ x n. handler_at x thrown n i) (sym same) (sym own) ∙ is
+        ∙ ap₂ (λ x (n : MethodId). handled x (pool_at x n.class) thrown i rows) same own)
 
 -- where it is told that frames go on is where they do
 pub all_told : {E : Type 0} (p : Program) (thrown : VType) (frames : List (FrameOf ℕ E)) → AllByRecursion (IsTold p thrown (handler_at p thrown)) frames

@@ -42,7 +42,7 @@ use Rattle.jinvoke.specs.declared.choosing.Answer.{Answer}
 use Rattle.jinvoke.specs.declared.choosing.Chosen.{Chosen}
 use Rattle.jinvoke.specs.declared.choosing.Chosen.TheVariants as chosens
 use Rattle.jinvoke.specs.declared.choosing.CallKey.{CallKey}
-use Rattle.jinvoke.specs.Answers.{answer, answer_by, answer_to, chosen, id_on, in_meaning, key, locals_in, number_by}
+use Rattle.jinvoke.specs.Answers.{answer, answer_by, answer_to, chosen, id_on, in_meaning, key, locals_in, number_by, stack_in}
 use Rattle.jinvoke.specs.Invoking.{CallWithin, Invokes, IsMarked, answer_at, callee, marked}
 use Rattle.jinvoke.proofs.Classed.{instance_at}
 use Rattle.jinvoke.proofs.Within.{answer_marked, at_marked}
@@ -58,11 +58,11 @@ module _ {E : Type 0} (entry_of : ℕ → E) (p : Program) (what : Found E) wher
   coded (Some body) = refl
 
   method_found : (m : MethodId) (o : Option CodePart) → slice_get p.parts m.class ≡ o
-      → Some what ≡ option_map (λ mark. found.Method (callee m (is_some (code_at p m)) (locals_in (code_at p m)) mark)) (option_map entry_in o)
+      → Some what ≡ option_map (λ mark. found.Method (callee m (is_some (code_at p m)) (locals_in (code_at p m)) (stack_in (code_at p m)) mark)) (option_map entry_in o)
       → IsFound entry_of p what (selected.Method m)
   method_found m None at e = absurd cc
   method_found m (Some part) at e =
-      let same : found.Method (callee m (is_some (code_at p m)) (locals_in (code_at p m)) (entry_in part)) ≡ what = cc in
+      let same : found.Method (callee m (is_some (code_at p m)) (locals_in (code_at p m)) (stack_in (code_at p m)) (entry_in part)) ≡ what = cc in
       subst (λ w. IsFound entry_of p w (selected.Method m)) same (
         refl,
         record {
@@ -75,7 +75,7 @@ module _ {E : Type 0} (entry_of : ℕ → E) (p : Program) (what : Found E) wher
   pub is_found : (marks : List E) (s : Selected) → marks ≡ marks_of entry_of p → Some what ≡ marked marks (chosen p s) → IsFound entry_of p what s
   is_found marks (selected.Method m) are e =
       method_found m (slice_get p.parts m.class) refl
-      (e ∙ ap (option_map (λ mark. found.Method (callee m (is_some (code_at p m)) (locals_in (code_at p m)) mark)))
+      (e ∙ ap (option_map (λ mark. found.Method (callee m (is_some (code_at p m)) (locals_in (code_at p m)) (stack_in (code_at p m)) mark)))
       (ap (λ (ms : List E). slice_get ms m.class) are ∙ slice_get-map entry_in p.parts m.class))
   is_found marks (selected.Lib call) are e =
       let same : found.Lib call ≡ what = cc in
@@ -223,12 +223,12 @@ invokes_as p by case pool marks h count depth f g way e l = subst (λ b. IfOk wa
 
 module _ {E : Type 0} (marks : List E) where
   pub found_within : (what : Found E) (c : Chosen) → Some what ≡ marked marks c → IsMarked (length marks) c → FoundWithin (length marks) what
-  found_within what (chosens.Method m has_code most) e within = by_mark (slice_get marks m.class) e
+  found_within what (chosens.Method m has_code most stack) e within = by_mark (slice_get marks m.class) e
     where
-      by_mark : (o : Option E) → Some what ≡ option_map (λ mark. found.Method (callee m has_code most mark)) o → FoundWithin (length marks) what
+      by_mark : (o : Option E) → Some what ≡ option_map (λ mark. found.Method (callee m has_code most stack mark)) o → FoundWithin (length marks) what
       by_mark None h = absurd cc
       by_mark (Some mark) h =
-          let same : found.Method (callee m has_code most mark) ≡ what = cc in
+          let same : found.Method (callee m has_code most stack mark) ≡ what = cc in
           subst (λ w. FoundWithin (length marks) w) same within
   found_within what (chosens.Lib call) e within = let same : found.Lib call ≡ what = cc in subst (λ w. FoundWithin (length marks) w) same tt
   found_within what chosens.Abstract e within = let same : found.Abstract ≡ what = cc in subst (λ w. FoundWithin (length marks) w) same tt

@@ -25,16 +25,16 @@ use Rattle.jinvoke.specs.declared.choosing.Answer.{Answer}
 use Rattle.jinvoke.specs.declared.choosing.CallKey.{CallKey}
 use Rattle.jinvoke.specs.declared.choosing.Chosen.{Chosen}
 use Rattle.jinvoke.specs.declared.choosing.Chosen.TheVariants as chosens
-use Rattle.jinvoke.specs.Answers.{IsCallAt, OwnerIs, answer, answer_by, answer_to, chosen, has, hides, id_on, in_meaning, locals_in, nothing}
+use Rattle.jinvoke.specs.Answers.{IsCallAt, OwnerIs, answer, answer_by, answer_to, chosen, has, hides, id_on, in_meaning, locals_in, nothing, stack_in}
 
 abbrev by_code : MethodId → Option CodeBody → Chosen
-by_code m body = chosens.Method m (is_some body) (locals_in body)
+by_code m body = chosens.Method m (is_some body) (locals_in body) (stack_in body)
 
 module _ (p : Program) (m : MethodId) (c : Option CodeRef) (h : option_map seen_code c ≡ code_at p m) where
-  pub bare_is : c ≡ None → chosens.Method m false 0 ≡ chosen p (selected.Method m)
+  pub bare_is : c ≡ None → chosens.Method m false 0 0 ≡ chosen p (selected.Method m)
   bare_is e = ap (by_code m) (sym (ap (option_map seen_code) e) ∙ h)
 
-  pub coded_is : (body : CodeRef) → c ≡ Some body → chosens.Method m true body.max_locals ≡ chosen p (selected.Method m)
+  pub coded_is : (body : CodeRef) → c ≡ Some body → chosens.Method m true body.max_locals body.max_stack ≡ chosen p (selected.Method m)
   coded_is body e = ap (by_code m) (sym (ap (option_map seen_code) e) ∙ h)
 
 abbrev made : Chosen → Bool → Bool → Answer

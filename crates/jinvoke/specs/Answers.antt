@@ -55,9 +55,13 @@ abbrev pub locals_in : Option CodeBody → ℕ
 locals_in None = 0
 locals_in (Some body) = body.max_locals
 
--- what is selected, and how many locals its frames have where it has code
+abbrev pub stack_in : Option CodeBody → ℕ
+stack_in None = 0
+stack_in (Some body) = body.max_stack
+
+-- what is selected, and how many locals and operands its frames have at most where it has code
 abbrev pub chosen : Program → Selected → Chosen
-chosen p (selected.Method m) = chosens.Method m (is_some (code_at p m)) (locals_in (code_at p m))
+chosen p (selected.Method m) = chosens.Method m (is_some (code_at p m)) (locals_in (code_at p m)) (stack_in (code_at p m))
 chosen p (selected.Lib call) = chosens.Lib call
 chosen p (selected.Abstract m) = chosens.Abstract
 chosen p selected.Missing = chosens.Missing

@@ -32,15 +32,15 @@ use Rattle.jinvoke.specs.Answers.{answer, nothing, number_by}
 
 -- a user's method is of one of so many classes
 abbrev pub IsMarked : ℕ → Chosen → Type 0
-IsMarked count (chosens.Method m has_code most) = m.class < count
+IsMarked count (chosens.Method m has_code most stack) = m.class < count
 IsMarked count c = ⊤
 
-abbrev pub callee : {E : Type 0} → MethodId → Bool → ℕ → E → Callee E
-callee m has_code most mark = record { method = m; has_code = has_code; most = most; mark = mark }
+abbrev pub callee : {E : Type 0} → MethodId → Bool → ℕ → ℕ → E → Callee E
+callee m has_code most stack mark = record { method = m; has_code = has_code; most = most; stack = stack; mark = mark }
 
 -- with what the frames of its class carry
 abbrev pub marked : {E : Type 0} → List E → Chosen → Option (Found E)
-marked marks (chosens.Method m has_code most) = option_map (λ mark. found.Method (callee m has_code most mark)) (slice_get marks m.class)
+marked marks (chosens.Method m has_code most stack) = option_map (λ mark. found.Method (callee m has_code most stack mark)) (slice_get marks m.class)
 marked marks (chosens.Lib call) = Some (found.Lib call)
 marked marks chosens.Abstract = Some found.Abstract
 marked marks chosens.Missing = Some found.Missing

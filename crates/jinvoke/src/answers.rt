@@ -1,11 +1,14 @@
 ghost use Rattle.std.specs.Prelude.{◌≡◌, IfOk};
 ghost use Rattle.jinvoke.specs.Answers;
+ghost use Rattle.jinvoke.specs.Answers.{OwnerIs};
 
-use crate::choosing::{Answer, CallKey};
+use crate::choosing::{Answer, Beside, CallKey};
 use crate::known::Known;
 use crate::sites::Sites;
-use jlink::LinkedProgram;
 use jmemo::Memo;
+use jprogram::ClassRef;
+use jready::Ready;
+use juses::How;
 use std::alloc::{AllocError, Global};
 use std::marker::Model;
 
@@ -23,20 +26,21 @@ impl<'p> Model for Calls<'p> {
     ghost use Rattle.jmemo.specs.Memos.{Remembers};
     ghost use Rattle.jprogram.specs.Classes.{Program};
     ghost use Rattle.jinvoke.specs.Answers.{answer};
+    ghost use Rattle.jinvoke.specs.Sites.{Remember};
 
     ghost Value = { Program };
 
     ghost view = { λ c. c.known };
 
-    ghost invariant = { λ c. Remembers (answer c.known) c.sites × Remembers (answer c.known) c.answers };
+    ghost invariant = { λ c. Remember c.known (answer c.known) c.sites × Remembers (answer c.known) c.answers };
 }
 
 impl<'p> Calls<'p> {
-    /// Those of a program. Nothing was asked yet.
-    pub fn of(alloc: Global, program: &'p LinkedProgram) -> Result<Calls<'p>, AllocError>
-        ensures { IfOk result (λ c. c ≡ program.now) }
+    /// Those of a program that is ready. Nothing was asked yet.
+    pub fn of(alloc: Global, ready: &'p Ready<'p>) -> Result<Calls<'p>, AllocError>
+        ensures { IfOk result (λ c. c ≡ ready.now.program) }
     {
-        let known = Known::of(alloc, program)?;
+        let known = Known::of(ready);
         let sites = Sites::new(alloc);
         let answers = Memo::new(alloc)?;
         Ok(Calls {
@@ -73,7 +77,8 @@ impl<'p> Calls<'p> {
         ensures same { self.new ≡ self.old }
     {
         let answer = self.sought(key);
-        self.sites.put(site, key, answer);
+        let owner = self.known.owner_at(key.class, key.by, key.pool);
+        self.sites.put(site, key, Beside { answer, owner });
         answer
     }
 
@@ -87,5 +92,16 @@ impl<'p> Calls<'p> {
             return answer;
         }
         self.missed(site, key)
+    }
+
+    /// The class by which the entry at an index of the pool of a class names the method of such a call. `site` says where it is remembered.
+    #[inline(always)]
+    pub fn owner_at(&self, site: usize, class: u32, by: How, pool: u16) -> Option<ClassRef>
+        ensures { OwnerIs self.now class by pool result }
+    {
+        if let Some(owner) = self.sites.owner(site, class, by, pool) {
+            return owner;
+        }
+        self.known.owner_at(class, by, pool)
     }
 }

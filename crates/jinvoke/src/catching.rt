@@ -1,19 +1,16 @@
-ghost use Rattle.std.specs.Prelude.{◌≡◌, Option, option_and_then, option_map, slice_get};
+ghost use Rattle.std.specs.Prelude.{◌≡◌};
 ghost use Rattle.std.specs.List.{find};
-ghost use Rattle.jcode.specs.Instructions;
-ghost use Rattle.jmachine.specs.Unwinding;
-ghost use Rattle.jmachine.specs.Unwinding.{handler_at, number_at};
+ghost use Rattle.jmachine.specs.Unwinding.{handler_at};
+ghost use Rattle.jready.specs.Handling.{handled, row_takes};
 ghost use Rattle.jtypes.specs.declared.vtype.VType.TheVariants as types;
-ghost use Rattle.juses.specs.Numbered.{AreCode};
 ghost use Rattle.juses.specs.Tables.{pool_at};
 ghost use Rattle.juses.specs.Types.{class_named};
 ghost use Rattle.jinvoke.specs.Told.{Told};
 
 use crate::known::Known;
 use jcalls::Handlers;
-use jcode::{Handler, Placed, place_of};
 use jprogram::{ClassRef, MethodId};
-use juses::{CodeRef, code_at};
+use jready::HandlerRow;
 
 /// An object of a class is thrown, in a program.
 #[derive(Clone, Copy)]
@@ -23,16 +20,16 @@ pub struct ThrownAs<'k, 'p> {
 }
 
 /// Whether a handler handles what is thrown at a place of the code of a part.
-fn takes(known: &Known<'_>, thrown: ClassRef, class: u32, at: u32, handler: &Handler) -> bool
-    ensures { result ≡ Unwinding.takes known.now (pool_at known.now class) (types.Object (class_named known.now thrown)) at handler.now }
+fn takes(known: &Known<'_>, thrown: ClassRef, class: u32, place: u32, row: HandlerRow) -> bool
+    ensures { result ≡ row_takes known.now (pool_at known.now class) (types.Object (class_named known.now thrown)) place row }
 {
-    if at < handler.start || at >= handler.end {
+    if place < row.start || place >= row.end {
         return false;
     }
-    if handler.class == 0 {
+    if row.class == 0 {
         return true;
     }
-    known.is_caught(thrown, class, handler.class)
+    known.is_caught(thrown, class, row.class)
 }
 
 /// The first handler that handles it.
@@ -40,68 +37,49 @@ fn first_taking(
     known: &Known<'_>,
     thrown: ClassRef,
     class: u32,
-    at: u32,
-    handlers: &[Handler],
-) -> Option<Handler>
-    ensures { result ≡ find (Unwinding.takes known.now (pool_at known.now class) (types.Object (class_named known.now thrown)) at) handlers.now }
+    place: u32,
+    rows: &[HandlerRow],
+) -> Option<HandlerRow>
+    ensures { result ≡ find (row_takes known.now (pool_at known.now class) (types.Object (class_named known.now thrown)) place) rows.now }
 {
-    for handler in handlers {
-        if takes(known, thrown, class, at, handler) {
-            return Some(*handler);
+    for row in rows {
+        if takes(known, thrown, class, place, *row) {
+            return Some(*row);
         }
     }
     None
 }
 
-/// The number of the instruction that begins at a place.
-fn number_of(ops: &[Placed], at: u32) -> Option<u32>
-    requires { AreCode ops.now }
-    ensures { result ≡ Instructions.place_of ops.now at }
-{
-    let number = place_of(ops, at)?;
-    Some(number as u32)
-}
-
-/// The place at which an instruction begins.
-fn op_at(ops: &[Placed], number: u32) -> Option<u32>
-    ensures { result ≡ option_map (λ one. one.at) (slice_get ops.now number) }
-{
-    match ops.get(number as usize) {
-        None => None,
-        Some(one) => Some(one.at),
-    }
-}
-
-/// The number at which a method goes on that handles what is thrown at a place of its code.
+/// The number at which the first of them goes on that handles it.
 fn handled_at(
     known: &Known<'_>,
     thrown: ClassRef,
     class: u32,
-    at: u32,
-    body: CodeRef<'_>,
+    place: u32,
+    rows: &[HandlerRow],
 ) -> Option<u32>
-    requires { AreCode body.ops.now }
-    ensures { result ≡ option_and_then (λ h. number_at body.entry.ops.now h.at)
-        (find (Unwinding.takes known.now (pool_at known.now class) (types.Object (class_named known.now thrown)) at) body.entry.handlers.now) }
+    ensures { result ≡ handled known.now (pool_at known.now class) (types.Object (class_named known.now thrown)) place rows.now }
 {
-    match first_taking(known, thrown, class, at, body.handlers) {
+    match first_taking(known, thrown, class, place, rows) {
         None => None,
-        Some(handler) => number_of(body.ops, handler.at),
+        Some(row) => row.to,
     }
 }
 
 impl<'k, 'p> Handlers for ThrownAs<'k, 'p> {
     ghost goes = { λ t m i. handler_at t.known.now (types.Object (class_named t.known.now t.class)) m i };
 
-    #[tactic(auto, using(crate::proofs::Caught::without_code, crate::proofs::Caught::without_op, crate::proofs::Caught::with_op))]
+    #[tactic(auto, using(crate::proofs::Caught::without_code, crate::proofs::Caught::behind_code, crate::proofs::Caught::within_code))]
     fn find(&self, method: MethodId, place: u32) -> Option<u32> {
-        let Some(body) = code_at(self.known.program().named(), method) else {
+        let ready = self.known.ready();
+        let Some(row) = ready.row_of(method) else {
             return None;
         };
-        let Some(at) = op_at(body.ops, place) else {
+        let rows = ready.handlers(&row);
+        if place >= row.count {
             return None;
-        };
-        handled_at(self.known, self.class, method.class, at, body)
+        }
+        handled_at(self.known, self.class, method.class, place, rows)
     }
 }
 

@@ -23,7 +23,7 @@ use jheap::Kind;
 use jlib::{LibCall, LibClass};
 use jmemo::Key;
 use jprogram::{CallKind, ClassId, ClassRef, Member, MethodId, Reach, Selected};
-use jstate::class_numbered;
+use jstate::{class_numbered, library_number};
 use juses::{CallUse, How, Use, code_at};
 
 /// What is asked about a call: the class in whose code it stands, by its place among the parts, the index of its entry, how it calls, and
@@ -39,11 +39,12 @@ pub struct CallKey {
 /// What is selected where a method is called.
 #[derive(Clone, Copy, Debug, PartialEq, Eq)]
 pub enum Chosen {
-    /// A user's method, whether it has code, and how many locals its frames have.
+    /// A user's method, whether it has code, and how many locals and operands its frames have at most.
     Method {
         method: MethodId,
         has_code: bool,
         most: u32,
+        stack: u32,
     },
     Lib(LibCall),
     /// A method without code.
@@ -59,6 +60,14 @@ pub struct Answer {
     pub has: bool,
     /// What is selected isn't public. Both are asked where it is called by an interface.
     pub hidden: bool,
+}
+
+/// What is remembered beside the site of a call.
+#[derive(Clone, Copy, Debug, PartialEq, Eq)]
+pub(crate) struct Beside {
+    pub answer: Answer,
+    /// The class by which its entry names the method, if it names one.
+    pub owner: Option<ClassRef>,
 }
 
 impl Key for CallKey {
@@ -90,8 +99,8 @@ pub fn number_of(kind: Kind) -> Option<u32>
     match kind {
         Kind::Object(n) => Some(n),
         Kind::Array(_) => None,
-        Kind::Text => Some(32),
-        Kind::Piece => Some(33),
+        Kind::Text => Some(library_number(LibClass::String)),
+        Kind::Piece => Some(library_number(LibClass::StringBuilder)),
     }
 }
 
@@ -245,11 +254,13 @@ impl<'p> Known<'p> {
                 method,
                 has_code: false,
                 most: 0,
+                stack: 0,
             },
             Some(body) => Chosen::Method {
                 method,
                 has_code: true,
                 most: u32::from(body.max_locals),
+                stack: u32::from(body.max_stack),
             },
         }
     }

@@ -26,10 +26,12 @@ pub(crate) fn found_by<M: Copy>(what: Chosen, marks: &[M]) -> Found<M>
             method,
             has_code,
             most,
+            stack,
         } => Found::Method(Callee {
             method,
             has_code,
             most,
+            stack,
             mark: marks[method.class as usize],
         }),
         Chosen::Lib(call) => Found::Lib(call),

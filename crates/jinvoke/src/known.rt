@@ -1,11 +1,10 @@
-ghost use Rattle.std.specs.Prelude.{◌≡◌, IfOk, false};
+ghost use Rattle.std.specs.Prelude.{◌≡◌, false};
 ghost use Rattle.jlink.specs.Links.{Links};
 ghost use Rattle.jmachine.specs.Unwinding;
 ghost use Rattle.jmachine.specs.World;
 ghost use Rattle.jmachine.specs.World.{fits, own_tree, world};
 ghost use Rattle.jprogram.specs.Classes;
 ghost use Rattle.jprogram.specs.Classes.{name_at};
-ghost use Rattle.jprogram.specs.Implementing.{AreInterfaces};
 ghost use Rattle.jtypes.specs.Fitting.{class_fits};
 ghost use Rattle.jrule.specs.Uses.{throwable};
 ghost use Rattle.jtypes.specs.declared.vtype.ArrayType.{ArrayType};
@@ -15,63 +14,56 @@ ghost use Rattle.juses.specs.Tables.{pool_at};
 ghost use Rattle.juses.specs.Types.{class_named, named};
 
 use jlink::LinkedProgram;
-use jprogram::{ClassRef, Interfaces, number_laws};
+use jprogram::{ClassRef, number_laws};
+use jready::Ready;
 use juses::{TypeRef, stands_below};
-use std::alloc::{AllocError, Global};
 use std::marker::Model;
 
 /// A program, as it is asked where its methods are called and where something is thrown. Contracts see the program.
 #[derive(Drop)]
 pub struct Known<'p> {
     program: &'p LinkedProgram,
-    /// Which interfaces its classes implement.
-    faces: Interfaces,
+    /// The same, with its methods by number.
+    ready: &'p Ready<'p>,
 }
 
 impl<'p> Model for Known<'p> {
+    ghost use Rattle.std.specs.Prelude.{◌≡◌};
     ghost use Rattle.jlink.specs.Links.{Links};
     ghost use Rattle.jprogram.specs.Classes.{Program};
-    ghost use Rattle.jprogram.specs.Implementing.{AreInterfaces};
 
     ghost Value = { Program };
 
     ghost view = { λ k. k.program.now };
 
-    ghost invariant = { λ k. Links k.program.now × AreInterfaces k.program.now k.faces };
-}
-
-/// The table of the interfaces that a program's classes implement.
-#[tactic(auto, using(crate::proofs::Knowing::ordered))]
-fn faces_of(alloc: Global, program: &LinkedProgram) -> Result<Interfaces, AllocError>
-    ensures links { Links program.now }
-    ensures faces { IfOk result (AreInterfaces program.now) }
-{
-    let named = program.named();
-    Interfaces::of(alloc, named)
+    ghost invariant = { λ k. Links k.program.now × (k.ready.now.program ≡ k.program.now) };
 }
 
 /// Whether an interface is one of the class of another number.
 #[tactic(auto, using(crate::proofs::Knowing::ordered))]
-fn implements(
-    program: &LinkedProgram,
-    faces: &Interfaces,
-    class: ClassRef,
-    interface: ClassRef,
-) -> bool
-    requires { AreInterfaces program.now faces.now }
+fn implements(program: &LinkedProgram, class: ClassRef, interface: ClassRef) -> bool
     ensures { result ≡ Classes.implements program.now (name_at program.now class) (name_at program.now interface) }
 {
     let named = program.named();
-    named.implements(faces, named.name_of(class), named.name_of(interface))
+    let table = program.interfaces();
+    named.implements(table, named.name_of(class), named.name_of(interface))
 }
 
 impl<'p> Known<'p> {
-    /// What is known of a program. The table of its interfaces takes memory.
-    pub fn of(alloc: Global, program: &'p LinkedProgram) -> Result<Known<'p>, AllocError>
-        ensures { IfOk result (λ k. k ≡ program.now) }
+    /// What is known of a program that is ready.
+    pub fn of(ready: &'p Ready<'p>) -> Known<'p>
+        ensures { result ≡ ready.now.program }
     {
-        let faces = faces_of(alloc, program)?;
-        Ok(Known { program, faces })
+        let program = ready.program();
+        program.named();
+        Known { program, ready }
+    }
+
+    /// Its methods by number.
+    pub fn ready(&self) -> &'p Ready<'p>
+        ensures { result.now.program ≡ self.now }
+    {
+        self.ready
     }
 
     /// The program.
@@ -97,7 +89,7 @@ impl<'p> Known<'p> {
         if stands_below(self.program.named(), class, other) {
             return true;
         }
-        implements(self.program, &self.faces, class, other)
+        implements(self.program, class, other)
     }
 
     /// Whether an object of a class is one of a type.

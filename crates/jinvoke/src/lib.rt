@@ -1,12 +1,13 @@
 //! What calls and what is thrown ask of a program, by numbers: where a method's handlers go on for an object of a class, which method
 //! is selected, what an interface asks, and from these a whole call. What was asked about a call is remembered: the last answer at a site
-//! beside it, and others by the entry that names the method and the class of the object.
+//! beside it, with the class by which its entry names the method, and others by the entry that names the method and the class of the object.
 //!
 //! - `Faces`: what a call by an interface of the library comes to that the machine makes itself, such as that of an action's `run`.
-//! - `Answers`: what is known of a call: what is selected, whether its frames have code and how many locals, whether the object's class
-//!   has the interface, and whether what is selected isn't public.
+//! - `Answers`: what is known of a call: what is selected, whether it has code and how many locals and operands its frames have at most,
+//!   whether the object's class has the interface, and whether what is selected isn't public.
 //! - `Invoking`: what a step comes to that calls.
 //! - `Keys`: where answers are looked for.
+//! - `Sites`: what is remembered beside the sites of calls.
 //! - `Told`, `Laws`: what the laws say.
 //!
 //! Proved: `ThrownAs` tells of every frame where the machine's definition goes on; an answer is what the definition selects and asks,

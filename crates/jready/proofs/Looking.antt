@@ -129,6 +129,17 @@ handles_by p types t code handlers r thrown place (Some body) some is lt =
     ∙ sym (handled_is p (pool_at p r.id.class) thrown body.ops place one.item one.at body.handlers
     (part handlers r.handlers.first r.handlers.count) is.handles)
 
+unhandled_by : (p : Program) (types : List TypeRef) (t : Tables) (code : List Instr) (handlers : List HandlerRow) (r : MethodRow) (thrown : VType) (place : ℕ)
+    (o : Option CodeBody) → code_at p r.id ≡ o → Has p types t code handlers r o → r.count ≤ place → handler_at p thrown r.id place ≡ None
+unhandled_by p types t code handlers r thrown place None none is le =
+    handler_is p thrown r.id place
+    ∙ ap (option_and_then (λ (body : CodeBody). option_and_then (handler_from p (pool_at p r.id.class) thrown body) (slice_get body.ops place))) none
+unhandled_by p types t code handlers r thrown place (Some body) some is le =
+    let none : slice_get body.ops place ≡ None = past_end body.ops place (let n = is.count in omega arith) in
+    handler_is p thrown r.id place
+    ∙ ap (option_and_then (λ (body : CodeBody). option_and_then (handler_from p (pool_at p r.id.class) thrown body) (slice_get body.ops place))) some
+    ∙ ap (option_and_then (handler_from p (pool_at p r.id.class) thrown body)) none
+
 pub handles : (p : Program) (types : List TypeRef) (t : Tables) (code : List Instr) (handlers : List HandlerRow) (r : MethodRow) (thrown : VType)
     (place : ℕ) → IsMethod p types t code handlers r → place < r.count
     → handler_at p thrown r.id place ≡ handled p (pool_at p r.id.class) thrown place (part handlers r.handlers.first r.handlers.count)
@@ -213,6 +224,12 @@ pub handles_row : (r : Prepared) (row : MethodRow) (own : List HandlerRow) → I
 handles_row r row own ready is same thrown place lt =
     handles r.program r.uses.types r.methods.tables r.methods.code r.methods.handlers row thrown place (row_is r row ready is) lt
     ∙ ap (λ (l : List HandlerRow). handled r.program (pool_at r.program row.id.class) thrown place l) (sym same)
+
+pub unhandled_row : (r : Prepared) (row : MethodRow) → IsReady r → IsRow r row → (thrown : VType) (place : ℕ) → row.count ≤ place
+    → handler_at r.program thrown row.id place ≡ None
+unhandled_row r row ready is thrown place le =
+    unhandled_by r.program r.uses.types r.methods.tables r.methods.code r.methods.handlers row thrown place (code_at r.program row.id) refl
+    (row_is r row ready is).holds le
 
 -- ---- the numbers of methods
 

@@ -314,6 +314,7 @@ impl<'p> Ready<'p> {
     pub fn row_of(&self, m: MethodId) -> Option<MethodRow>
         ensures found { IfSome result (λ row. IsRow self.now row × (row.id ≡ m)) }
         ensures none { result ≡ None → (place : ℕ) → fetched self.now.program m place ≡ None }
+        ensures bare { result ≡ None → Instructions.code_at self.now.program m ≡ None }
     {
         match self.number_of(m) {
             Some(k) => self.called(k),
@@ -321,11 +322,12 @@ impl<'p> Ready<'p> {
         }
     }
 
-    /// The handlers of a method, in their order.
+    /// The handlers of a method, in their order. What is thrown behind its instructions it doesn't handle.
     pub fn handlers(&self, method: &MethodRow) -> &[HandlerRow]
         requires { IsRow self.now method.now }
-        ensures { (thrown : VType) (place : ℕ) → place < method.now.count
+        ensures within { (thrown : VType) (place : ℕ) → place < method.now.count
             → handler_at self.now.program thrown method.now.id place ≡ handled self.now.program (pool_at self.now.program method.now.id.class) thrown place result.now }
+        ensures behind { (thrown : VType) (place : ℕ) → method.now.count ≤ place → handler_at self.now.program thrown method.now.id place ≡ None }
     {
         let rows = self.methods.handlers.as_slice();
         let (_, behind) = rows.split_at(method.handlers.first as usize);
