@@ -18,7 +18,7 @@ use jlib::{LibClass, Thrown};
 use jperm::Permission;
 use jprogram::ClassRef;
 use jrun::Came;
-use jstate::heap_laws;
+use jstate::{heap_laws, thrown_number};
 use jtrace::Event;
 use std::alloc::{AllocError, Global};
 
@@ -49,7 +49,7 @@ fn raise_null<M: Copy>(
                 frames,
                 &mut m.heap,
                 class,
-                6,
+                thrown_number(class),
                 m.fixed.marks,
                 &handlers,
             )?;

@@ -1,4 +1,4 @@
-ghost use Rattle.std.specs.Prelude.{◌≡◌, ◌≤◌, ◌<◌, ◌+◌, ◌^◌, [], IfOk, OnOk, drop, length};
+ghost use Rattle.std.specs.Prelude.{◌≡◌, ◌≤◌, ◌<◌, ◌+◌, ◌^◌, [], IfOk, OnOk, codes, drop, length};
 ghost use Rattle.jdomain.specs.declared.verdict.Verdict.TheVariants as verdicts;
 ghost use Rattle.jmachine.specs.Frames.{onward};
 ghost use Rattle.jmachine.specs.Security.{denial_message};
@@ -16,7 +16,7 @@ use jdomain::Verdict;
 use jheap::Heap;
 use jlib::LibClass;
 use jperm::{PARTS, Permission, text_laws};
-use jstate::Frames;
+use jstate::{Frames, library_number};
 use jtext::Units;
 use std::alloc::{AllocError, Global};
 
@@ -29,13 +29,13 @@ pub enum Judged {
     Denied(Raised),
 }
 
-/// `access denied `.
-const DENIED: [u16; 14] = [
-    97, 99, 99, 101, 115, 115, 32, 100, 101, 110, 105, 101, 100, 32,
-];
-
-/// The heap's number for AccessControlException.
-const NUMBER: u32 = 31;
+/// What the message of a denied check begins with.
+fn denied(alloc: Global) -> Result<Vec<u16>, AllocError>
+    ensures { IfOk result (λ units. units.items ≡ codes "access denied ") }
+{
+    let units = Units::from_text(alloc, "access denied ")?.into_vec();
+    Ok(units)
+}
 
 /// The message of the exception of a denied check.
 #[tactic(auto, using(crate::proofs::Messages::no_part, crate::proofs::Messages::all_parts))]
@@ -43,7 +43,7 @@ fn message_of(alloc: Global, asked: &Permission) -> Result<Units, AllocError>
     ensures { IfOk result (λ units. units ≡ denial_message asked.now) }
 {
     text_laws();
-    let mut units = Vec::from_slice(alloc, &DENIED)?;
+    let mut units = denied(alloc)?;
     for at in 0..PARTS {
         units.extend_from_slice(asked.part(at))?;
     }
@@ -88,7 +88,7 @@ fn deny<M: Copy, H: Handlers>(
         frames,
         heap,
         class,
-        NUMBER,
+        library_number(class),
         units.as_slice(),
         marks,
         handlers,

@@ -69,7 +69,13 @@ pub fn act<M: Copy>(
     }
     leave_call(frames, count, caller, action)?;
     let handed = hand(frames, ctx)?;
-    frames.begin(callee.method, callee.most, handed + 1, callee.mark)?;
+    frames.begin(
+        callee.method,
+        callee.most,
+        callee.stack,
+        handed + 1,
+        callee.mark,
+    )?;
     Ok(Acted::Begun)
 }
 

@@ -37,16 +37,17 @@ fn first_frame<M: Copy>(
       below = [];
     }) }
 {
+    let Callee {
+        method,
+        most,
+        stack,
+        mark,
+        ..
+    } = callee;
     let object = Value::Ref(object);
     match ctx {
-        None => Frames::open(alloc, callee.method, callee.most, &[object], callee.mark),
-        Some(k) => Frames::open(
-            alloc,
-            callee.method,
-            callee.most,
-            &[object, Value::Ctx(k)],
-            callee.mark,
-        ),
+        None => Frames::open(alloc, method, most, stack, &[object], mark),
+        Some(k) => Frames::open(alloc, method, most, stack, &[object, Value::Ctx(k)], mark),
     }
 }
 

@@ -11,8 +11,9 @@ ghost use Rattle.jcontexts.specs.Snapshots.{MakesContext, Snapshots};
 
 use jbase::Seq;
 use jheap::{Heap, Kind};
+use jlib::LibClass;
 use jops::Value;
-use jstate::{Frames, built_laws, celled_laws, heap_laws};
+use jstate::{Frames, built_laws, celled_laws, heap_laws, library_number};
 use std::alloc::{AllocError, Global};
 
 /// Whether a number is the last of those that are kept.
@@ -55,7 +56,8 @@ fn make_context(alloc: Global, heap: &mut Heap, place: u32) -> Result<u32, Alloc
     heap_laws();
     built_laws();
     celled_laws();
-    let Some(object) = heap.make(Kind::Object(43), 1) else {
+    let number = library_number(LibClass::AccessControlContext);
+    let Some(object) = heap.make(Kind::Object(number), 1) else {
         unreachable!()
     };
     heap.set_cell(object, 0, Value::Ref(place));

@@ -31,7 +31,7 @@ pub struct Machine<'a, 'p, M> {
     /// What contexts keep, by number: numbers that the guard gave.
     pub kept: Seq<u64>,
     /// What was asked about calls.
-    pub calls: Calls<'p>,
+    pub calls: Calls<'a>,
 }
 
 impl<M: Copy> Machine<'_, '_, M> {

@@ -27,7 +27,7 @@ use jacts::{Way, narrowed, put_at, way_laws};
 use jheap::{CellType, Heap, raw_laws};
 use jlib::{LibClass, Thrown};
 use jops::Value;
-use jstate::{Frames, built_laws, cell_laws, celled_laws, heap_laws};
+use jstate::{Frames, LIBRARY_CLASSES, built_laws, cell_laws, celled_laws, heap_laws};
 use juses::ElementRef;
 use std::alloc::AllocError;
 
@@ -226,7 +226,7 @@ pub fn put_field<M: Copy>(
         Target::Null => Way::Raises(LibClass::Thrown(Thrown::NullPointerException)),
         Target::Object(o, n) => {
             // a class of the library
-            if n < 46 {
+            if n < LIBRARY_CLASSES {
                 return Way::Stuck;
             }
             let look = heap.looked(o);

@@ -12,6 +12,7 @@ ghost use Rattle.juses.specs.Meanings as meanings;
 ghost use Rattle.jstate.specs.Celled;
 ghost use Rattle.jstate.specs.Celled.{AreCelled, StayCelled};
 ghost use Rattle.jstate.specs.Framed.{with_newest};
+ghost use Rattle.jstate.specs.Numbers.{library_count};
 ghost use Rattle.jstate.specs.Seen.{AreBuilt, Things, store_by};
 ghost use Rattle.jstate.specs.declared.shapes.Shapes.{Shapes as ShapesOf};
 ghost use Rattle.jacts.specs.Ways.{ActsWhere, Rests, leaves};
@@ -26,8 +27,8 @@ use jheap::{Heap, Kind};
 use jlib::LibClass;
 use jops::Value;
 use jstate::{
-    Frames, Shape, Shapes, built_laws, celled_laws, cells_of, heap_laws, library_number,
-    number_laws,
+    Frames, LIBRARY_CLASSES, Shape, Shapes, built_laws, celled_laws, cells_of, heap_laws,
+    library_number, number_laws,
 };
 use std::alloc::{AllocError, Global};
 
@@ -122,7 +123,7 @@ pub fn new_object<M: Copy>(
 ) -> Result<Way, AllocError>
     requires place { frames.old.newest.place + 1 < 2 ^ 32 }
     requires built { AreBuilt heap.old.objects }
-    requires numbered { 46 + class < 2 ^ 32 }
+    requires numbered { library_count + class < 2 ^ 32 }
     requires small { (shape : ShapeOf) → slice_get shapes.now.users class ≡ Some shape → length shape.cells + 1 < 2 ^ 32 }
     ensures row { IfOk result (λ way. (p : Program) (things : Things) (constants : List (List ℕ × ℕ)) (c : Name) →
         ActsWhere (λ (at : Site) (own : Member → Bool). (at.world.class c ≡ Some (refs.User class))
@@ -141,6 +142,6 @@ pub fn new_object<M: Copy>(
     number_laws();
     match count_at(shapes, class) {
         None => Ok(Way::Stuck),
-        Some(count) => make_object(alloc, frames, heap, 46 + class, count),
+        Some(count) => make_object(alloc, frames, heap, LIBRARY_CLASSES + class, count),
     }
 }

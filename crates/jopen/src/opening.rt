@@ -53,11 +53,17 @@ fn first_frames<M: Copy>(
     let Some(body) = code_at(p.named(), first.main) else {
         unreachable!();
     };
+    let FirstFrame {
+        main,
+        mark,
+        context,
+    } = first;
     let most = u32::from(body.max_locals);
+    let stack = u32::from(body.max_stack);
     let array = Value::Ref(array);
-    match first.context {
-        None => Frames::open(alloc, first.main, most, &[array], first.mark),
-        Some(k) => Frames::open(alloc, first.main, most, &[array, Value::Ctx(k)], first.mark),
+    match context {
+        None => Frames::open(alloc, main, most, stack, &[array], mark),
+        Some(k) => Frames::open(alloc, main, most, stack, &[array, Value::Ctx(k)], mark),
     }
 }
 

@@ -104,7 +104,7 @@ pub(crate) fn step_call<M: Copy>(
     ensures stand { IfOk result (λ done. StoodAs (length fixed.now.marks.now) done frames.new) }
     ensures same { calls.new ≡ calls.old }
 {
-    let Some(owner) = calls.known().owner_at(frames.method().class, by, pool) else {
+    let Some(owner) = calls.owner_at(site, frames.method().class, by, pool) else {
         return Ok(Stepped::Stuck);
     };
     let Some(count) = taken(frames, heap, fixed, counts, by, owner, params) else {

@@ -2,7 +2,6 @@ ghost use Rattle.std.specs.Prelude.{◌≡◌, IfOk, OnOk, length};
 ghost use Rattle.jlib.specs.declared.classes.LibClass.TheVariants as lib;
 ghost use Rattle.jstate.specs.Celled.{StayCelled};
 ghost use Rattle.jstate.specs.Framed.{all};
-ghost use Rattle.jstate.specs.Numbers;
 ghost use Rattle.jstate.specs.Seen.{AreBuilt};
 ghost use Rattle.jcalls.specs.Calling.{IsThrown};
 ghost use Rattle.jcalls.specs.Marks.{Stand};
@@ -16,39 +15,8 @@ use jinvoke::{Known, ThrownAs, class_laws, class_numbered, number_of, told_law};
 use jlib::{LibClass, Thrown};
 use jprogram::ClassRef;
 use jshapes::alike_laws;
-use jstate::{Frames, heap_laws};
+use jstate::{Frames, heap_laws, thrown_number};
 use std::alloc::{AllocError, Global};
-
-/// The heap's number for a class of what can be thrown.
-fn thrown_number(c: Thrown) -> u32
-    ensures { result ≡ Numbers.thrown_number c }
-{
-    match c {
-        Thrown::Throwable => 0,
-        Thrown::Exception => 1,
-        Thrown::Error => 2,
-        Thrown::RuntimeException => 3,
-        Thrown::InterruptedException => 4,
-        Thrown::ArithmeticException => 5,
-        Thrown::NullPointerException => 6,
-        Thrown::ClassCastException => 7,
-        Thrown::NegativeArraySizeException => 8,
-        Thrown::ArrayStoreException => 9,
-        Thrown::IllegalArgumentException => 10,
-        Thrown::IllegalStateException => 11,
-        Thrown::IndexOutOfBoundsException => 12,
-        Thrown::SecurityException => 13,
-        Thrown::IllegalThreadStateException => 14,
-        Thrown::ArrayIndexOutOfBoundsException => 15,
-        Thrown::StringIndexOutOfBoundsException => 16,
-        Thrown::LinkageError => 17,
-        Thrown::VirtualMachineError => 18,
-        Thrown::IncompatibleClassChangeError => 19,
-        Thrown::AbstractMethodError => 20,
-        Thrown::IllegalAccessError => 21,
-        Thrown::StackOverflowError => 22,
-    }
-}
 
 /// A class of what can be thrown, as one.
 #[inline]

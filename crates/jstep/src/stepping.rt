@@ -88,7 +88,7 @@ fn step_flow<M: Copy>(
 
 /// A step of a thread, whose newest frame stands at an instruction that is here. A call is remembered by the number of its site, which may
 /// be any.
-#[inline]
+#[inline(always)]
 #[tactic(auto, using(crate::proofs::Leaving::same_celled, crate::proofs::Leaving::same_celled_if))]
 pub fn step<M: Copy>(
     alloc: Global,

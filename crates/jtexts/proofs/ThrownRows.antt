@@ -1,7 +1,6 @@
 -- Messages.
-use Rattle.std.proofs.Common.{◌≡◌, ◌∙◌, ℕ, zero, suc, ◌-◌, ◌<◌, ◌≤◌, Bool, true, false, List, [], ◌∷◌, drop, Option, Some, None, refl, sym, ap, arith, rules}
-use Rattle.std.specs.Prelude.{option_map, slice_get, unwrap_or, nat_lt, nat_eq, if◌then◌else◌}
-use Rattle.std.proofs.lemmas.Bool.{lt-ltb}
+use Rattle.std.proofs.Common.{◌≡◌, ◌∙◌, ℕ, zero, suc, List, [], ◌∷◌, drop, Option, Some, None, refl, sym, ap}
+use Rattle.std.specs.Prelude.{option_map, slice_get, unwrap_or}
 use Rattle.jops.specs.declared.value.Value.{Value}
 use Rattle.jops.specs.declared.value.Value.TheVariants.{Int, Long, Ref, Ctx}
 use Rattle.jheap.specs.declared.cell.Kind.{Kind}
@@ -17,14 +16,13 @@ use Rattle.jmachine.specs.Store.{Store, object_at}
 use Rattle.jmachine.specs.Throwables.{message, message_of}
 use Rattle.jstate.specs.declared.shapes.Shape.{Shape}
 use Rattle.jstate.specs.declared.shapes.Shapes.{Shapes}
-use Rattle.jstate.specs.Numbers.{class_numbered, library_at, library_count}
-use Rattle.jstate.specs.Seen.{Things, class_by, first, kind_by, named_by, object_by, store_by, user_by}
+use Rattle.jstate.specs.Numbers.{class_numbered}
+use Rattle.jstate.specs.Seen.{Things, class_by, first, kind_by, object_by, store_by, user_by}
 use Rattle.jstate.specs.SeenLaws.{SeesEach}
-use Rattle.jtexts.specs.Messages.{has_message, kind_told, message_by_shape, message_named, object_told, told_by}
+use Rattle.jtexts.specs.Messages.{kind_told, message_by_shape, message_named, object_told, told_by}
 use Rattle.jtexts.specs.Rans.{Comes, leaves}
 use Rattle.jtexts.specs.declared.ran.Ran.TheVariants as rans
 use Rattle.jtexts.proofs.Costs.{at_no_cost}
-use Rattle.jtexts.proofs.Numbered.{at_number}
 
 pub init_row : (E : Type 0) (s : Store ℕ) (v : Value ℕ) → Comes {E = E} s (object_init s (v ∷ [])) (leaves rans.Went [] s)
 init_row E s v = at_no_cost s s rans.Went [] (leaves rans.Full [] s)
@@ -97,26 +95,6 @@ module _ (E : Type 0) (each : SeesEach) (shapes : Shapes) (h : Heaped) (p : Prog
   message_stuck (Int x) e = refl
   message_stuck (Long x) e = refl
   message_stuck (Ctx k) e = refl
-
--- ---- classes of the library by their numbers
-
-abbrev low : ℕ → Bool
-low n = if nat_lt n 23 then true else nat_eq n 31
-
-has_low : (k : ℕ) → k < library_count → has_message (library_at k) ≡ low k
-has_low k h = at_number has_message low refl k h
-
-pub first_ones : (k : ℕ) → k < 23 → true ≡ has_message (library_at k)
-first_ones k h = let small : nat_lt k 23 ≡ true = lt-ltb k 23 h in sym (has_low k (omega (arith, h)) ∙ rw small refl)
-
-pub last_one : (k : ℕ) → 23 ≤ k → k < library_count → nat_eq k 31 ≡ has_message (library_at k)
-last_one k h less = let large : nat_lt k 23 ≡ false = search rules in sym (has_low k less ∙ rw large refl)
-
-pub library_told : (shapes : Shapes) (n : ℕ) (cells : List ℕ) → n < library_count → told_by shapes (class_numbered n) cells ≡ (if has_message (library_at n) then Some (named_by (first cells)) else None)
-library_told shapes n cells h = let small : nat_lt n library_count ≡ true = lt-ltb n library_count h in rw small refl
-
-pub users_told : (shapes : Shapes) (n : ℕ) (cells : List ℕ) → library_count ≤ n → Some (message_by_shape (slice_get shapes.users (n - library_count)) cells) ≡ told_by shapes (class_numbered n) cells
-users_told shapes n cells h = let large : nat_lt n library_count ≡ false = search rules in rw large refl
 
 -- ---- cells
 

@@ -21,11 +21,8 @@ use crate::thrown::named_at;
 use jheap::{Heap, Kind};
 use jlib::{LibClass, Piece, Thrown};
 use jops::Value;
-use jstate::{celled_laws, heap_laws, piece_laws};
+use jstate::{celled_laws, heap_laws, library_number, piece_laws};
 use std::alloc::{AllocError, Global};
-
-/// The heap's number for StringBuilder.
-const BUILDER: u32 = 33;
 
 /// The number of the builder that a value names, where it names one.
 #[inline]
@@ -38,7 +35,7 @@ fn builder_of(heap: &Heap, value: Value) -> Option<u32>
         Value::Ctx(_) => None,
         Value::Ref(o) => match heap.found(o) {
             Some(Kind::Object(class)) => {
-                if class == BUILDER {
+                if class == library_number(LibClass::StringBuilder) {
                     return Some(o);
                 }
                 None

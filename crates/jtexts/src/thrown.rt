@@ -6,15 +6,18 @@ ghost use Rattle.jmachine.specs.Store.{Store};
 ghost use Rattle.jlib.specs.declared.calls.ThrownInit.TheVariants as given;
 ghost use Rattle.jmachine.specs.Throwables.{init as thrown_init, message as message_row, told as told_row};
 ghost use Rattle.jstate.specs.Celled.{StayCelled};
-ghost use Rattle.jstate.specs.Numbers.{class_numbered, library_at, library_count};
+ghost use Rattle.jstate.specs.Numbers;
 ghost use Rattle.jstate.specs.Seen.{AreBuilt, Things, first, named_by, store_by};
-ghost use Rattle.jtexts.specs.Messages.{CanBeTold, CanTell, has_message, message_by_shape, message_named, message_place, named_as, place_by, shape_place, told_by};
+ghost use Rattle.jtexts.specs.Messages;
+ghost use Rattle.jtexts.specs.Messages.{CanBeTold, CanTell, message_by_shape, message_named, message_place, named_as, place_by, shape_place, told_by};
 ghost use Rattle.jtexts.specs.Rans.{Comes, leaves};
 
 use crate::ran::Ran;
 use jheap::{CellType, Heap, Kind};
+use jlib::LibClass;
 use jops::Value;
-use jstate::{Shapes, built_laws, celled_laws, heap_laws};
+use jprogram::ClassRef;
+use jstate::{Shapes, built_laws, celled_laws, class_numbered, heap_laws};
 
 /// The constructor of Object does nothing. `M` is what frames carry, which no call looks at.
 #[inline]
@@ -25,16 +28,15 @@ pub fn object_init<M>(object: Value) -> Ran
     Ran::Went
 }
 
-/// Whether objects of a class of the library have a message, by its number.
+/// Whether objects of a class of the library have a message.
 #[inline]
-fn is_thrown(class: u32) -> bool
-    requires { class < library_count }
-    ensures { result ≡ has_message (library_at class) }
+fn has_message(class: LibClass) -> bool
+    ensures { result ≡ Messages.has_message class }
 {
-    if class < 23 {
-        return true;
-    }
-    class == 31
+    matches!(
+        class,
+        LibClass::Thrown(_) | LibClass::AccessControlException
+    )
 }
 
 /// The object that a cell names, 0 where there is no such cell.
@@ -75,15 +77,17 @@ fn user_message(heap: &Heap, shapes: &Shapes, o: u32, class: usize) -> u32
 #[inline]
 fn class_message(heap: &Heap, shapes: &Shapes, o: u32, class: u32) -> Option<u32>
     requires { is_some (object_at heap.now o) ≡ true }
-    ensures { result ≡ told_by shapes.now (class_numbered class) (cells_at heap.now o) }
+    ensures { result ≡ told_by shapes.now (Numbers.class_numbered class) (cells_at heap.now o) }
 {
-    if class >= 46 {
-        return Some(user_message(heap, shapes, o, (class - 46) as usize));
+    match class_numbered(class) {
+        ClassRef::User(i) => Some(user_message(heap, shapes, o, i as usize)),
+        ClassRef::Lib(c) => {
+            if !has_message(c) {
+                return None;
+            }
+            Some(named_at(heap, o, 0))
+        }
     }
-    if is_thrown(class) {
-        return Some(named_at(heap, o, 0));
-    }
-    None
 }
 
 /// The message of the object that a value names, where it can have one.
@@ -137,15 +141,17 @@ fn user_place(shapes: &Shapes, class: usize) -> Option<usize>
 /// The place of the message among the cells of an object of a class, by the heap's number for it.
 #[inline]
 fn class_place(shapes: &Shapes, class: u32) -> Option<usize>
-    ensures { result ≡ place_by shapes.now (class_numbered class) }
+    ensures { result ≡ place_by shapes.now (Numbers.class_numbered class) }
 {
-    if class >= 46 {
-        return user_place(shapes, (class - 46) as usize);
+    match class_numbered(class) {
+        ClassRef::User(i) => user_place(shapes, i as usize),
+        ClassRef::Lib(c) => {
+            if !has_message(c) {
+                return None;
+            }
+            Some(0)
+        }
     }
-    if is_thrown(class) {
-        return Some(0);
-    }
-    None
 }
 
 /// The place of the message among the cells of the object of a number.

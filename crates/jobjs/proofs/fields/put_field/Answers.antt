@@ -22,8 +22,8 @@ returns-in-Null-clause-row g c p shapes things constants f of =
     let serve : c.args.serve ≡ true = search rules in
     rw serve (put_null p shapes things constants c.args.heap.now c.args.frames.now.newest f c.args.slot of c.args.narrow c.in-Null.ensures)
 
-pub returns-then-n-lt46-clause-row : goal.returns-then-n-lt46-clause-row
-returns-then-n-lt46-clause-row g c p shapes things constants f of =
+pub returns-then-n-lt-LIBRARY_CLASSES-clause-row : goal.returns-then-n-lt-LIBRARY_CLASSES-clause-row
+returns-then-n-lt-LIBRARY_CLASSES-clause-row g c p shapes things constants f of =
     let serve : c.args.serve ≡ true = search rules in
     let low : c.in-Object.n < library_count = search rules in
     rw serve (put_low p shapes things constants c.args.heap.now c.args.frames.now.newest f c.args.slot of c.args.narrow c.heap_laws.ensures.each c.in-Object.o c.in-Object.n c.in-Object.ensures low c.args.frames.now.newest)
