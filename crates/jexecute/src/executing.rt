@@ -70,7 +70,7 @@ fn move_on<M: Copy>(alloc: Global, m: &mut Machine<'_, '_, M>) -> Result<jstep::
 }
 
 /// Goes on behind a step that needn't ask the library.
-#[inline]
+#[inline(never)]
 fn end_step<M: Copy>(
     alloc: Global,
     m: &mut Machine<'_, '_, M>,
@@ -88,7 +88,7 @@ fn end_step<M: Copy>(
 }
 
 /// Does what is left of a step behind the running thread's frames.
-#[inline]
+#[inline(always)]
 pub(crate) fn finish<M: Copy>(
     alloc: Global,
     m: &mut Machine<'_, '_, M>,

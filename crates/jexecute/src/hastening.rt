@@ -1,4 +1,4 @@
-ghost use Rattle.std.specs.Prelude.{◌≡◌, ℕ, IfOk, OnOk, length};
+ghost use Rattle.std.specs.Prelude.{◌≡◌, ℕ, IfOk, None, OnOk, Some, length};
 ghost use Rattle.jready.specs.declared.instr.ArrayInstr.TheVariants as arrays;
 ghost use Rattle.jready.specs.declared.instr.FlowInstr.TheVariants as flows;
 ghost use Rattle.jready.specs.declared.instr.Instr.TheVariants as instrs;
@@ -135,7 +135,7 @@ fn haste_of(one: Instr) -> Haste
         Instr::Object(_) => Haste::Reference,
         Instr::Field { .. } => Haste::Reference,
         Instr::Call { .. } => Haste::Turn,
-        Instr::Library { .. } => Haste::None,
+        Instr::Library { .. } => Haste::Turn,
     }
 }
 
@@ -310,11 +310,24 @@ pub(crate) struct Hurried {
     pub last: Option<Stepped>,
 }
 
-/// None was made.
-const NONE: Hurried = Hurried {
-    steps: 0,
-    last: None,
-};
+/// So many steps, and none behind them.
+#[inline]
+fn alone(steps: u64) -> Hurried
+    ensures { result ≡ record { steps = steps; last = None } }
+{
+    Hurried { steps, last: None }
+}
+
+/// So many steps, and one behind them that came to this.
+#[inline]
+fn before(steps: u64, came: Stepped) -> Hurried
+    ensures { result ≡ record { steps = steps; last = Some came } }
+{
+    Hurried {
+        steps,
+        last: Some(came),
+    }
+}
 
 /// At most so many steps of a thread, as long as they are quick to make.
 fn hasten_frames<M: Copy>(
@@ -337,31 +350,23 @@ fn hasten_frames<M: Copy>(
     let mut steps = 0u64;
     while steps < most {
         let Some(row) = fixed.ready.row_of(frames.method()) else {
-            return Ok(Hurried { steps, last: None });
+            return Ok(alone(steps));
         };
         let made = hasten_within(alloc, frames, heap, fixed, counts, row, most - steps)?;
         steps += made.steps;
         if made.stuck {
-            return Ok(Hurried {
-                steps,
-                last: Some(Stepped::Stuck),
-            });
+            return Ok(before(steps, Stepped::Stuck));
         }
         if steps == most {
-            return Ok(Hurried { steps, last: None });
+            return Ok(alone(steps));
         }
         match turn(alloc, frames, heap, fixed, calls, counts, row)? {
             Turned::On => steps += 1,
-            Turned::Came(came) => {
-                return Ok(Hurried {
-                    steps,
-                    last: Some(came),
-                });
-            }
-            Turned::Left => return Ok(Hurried { steps, last: None }),
+            Turned::Came(came) => return Ok(before(steps, came)),
+            Turned::Left => return Ok(alone(steps)),
         }
     }
-    Ok(Hurried { steps, last: None })
+    Ok(alone(steps))
 }
 
 /// The same of a machine's running thread. What is left of the last step behind its frames is still to be done.
@@ -389,7 +394,7 @@ fn hurry<M: Copy>(
             counts,
             most,
         ),
-        None => Ok(NONE),
+        None => Ok(alone(0)),
     }
 }
 

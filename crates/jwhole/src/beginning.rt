@@ -12,7 +12,6 @@ use jcore::Machine;
 use jguests::Guests;
 use jinvoke::Calls;
 use jlib::Side;
-use jlink::LinkedProgram;
 use jmachine::Plan;
 use jopen::{FirstFrame, open};
 use jstep::Fixed;
@@ -41,22 +40,21 @@ fn fixed_by<'a, 'p, M>(base: &'a Ground<'p, M>, depth: u32) -> Fixed<'a, 'p, M>
 pub(crate) fn begin<'a, 'p, M: Copy>(
     alloc: Global,
     base: &'a Ground<'p, M>,
-    program: &'p LinkedProgram,
     plan: &'a Plan,
     side: Side,
     first: FirstFrame<M>,
 ) -> Result<Option<Machine<'a, 'p, M>>, AllocError>
-    requires base { (mark : ℕ → M) × IsGround program.now mark base.now }
+    requires base { (mark : ℕ → M) × IsGround base.now.ready.program mark base.now }
     requires main { first.main ≡ plan.now.main }
     requires most { plan.now.heap < 2 ^ 31 }
-    requires coded { is_some (code_at program.now plan.now.main) ≡ true }
-    requires files { AreFiles program.now }
-    ensures { IfOk result (BegunOr program.now plan.now side base.now.marks first) }
+    requires coded { is_some (code_at base.now.ready.program plan.now.main) ≡ true }
+    requires files { AreFiles base.now.ready.program }
+    ensures { IfOk result (BegunOr base.now.ready.program plan.now side base.now.marks first) }
 {
     let Some(opened) = open(alloc, &base.ready, &base.shaped, first, plan.heap)? else {
         return Ok(None);
     };
-    let Ok(calls) = Calls::of(alloc, program) else {
+    let Ok(calls) = Calls::of(alloc, &base.ready) else {
         drop(opened);
         return Err(AllocError);
     };

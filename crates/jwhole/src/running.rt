@@ -74,7 +74,7 @@ pub(crate) fn start<'a, 'p, G: Guard>(
         mark,
         context,
     };
-    let begun = begin(alloc, base, program, plan, G::On::SIDE, first)?;
+    let begun = begin(alloc, base, plan, G::On::SIDE, first)?;
     Ok(begun)
 }
 

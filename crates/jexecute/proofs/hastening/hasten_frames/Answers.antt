@@ -25,8 +25,9 @@ returns-then-made-clause-made g c =
     let p = c.args.calls.now in
     let so = within_so p x c.args.counts c.in-Some.row.id (c.args.most - c.loop-steps.steps) c.loop-steps.frames c.hasten_within.new.frames c.loop-steps.heap c.hasten_within.new.heap
     c.in_ok-made.made c.requires.fixed.ready c.in_ok-made.ensures in
-    stuck_so p x c.args.counts c.in-Some.row.id c.args.most c.loop-steps.steps c.args.frames.now c.loop-steps.frames c.hasten_within.new.frames
-    c.args.heap.now c.loop-steps.heap c.hasten_within.new.heap c.loop-steps.invariant.quiet c.in_ok-made.made so c.if-made.true c.loop-steps.invariant.few
+    rw c.before-then-made.ensures
+    (stuck_so p x c.args.counts c.in-Some.row.id c.args.most c.loop-steps.steps c.args.frames.now c.loop-steps.frames c.hasten_within.new.frames
+    c.args.heap.now c.loop-steps.heap c.hasten_within.new.heap c.loop-steps.invariant.quiet c.in_ok-made.made so c.if-made.true c.loop-steps.invariant.few)
 
 pub returns-then-steps-most-clause-made : goal.returns-then-steps-most-clause-made
 returns-then-steps-most-clause-made g c =
@@ -34,12 +35,13 @@ returns-then-steps-most-clause-made g c =
     let p = c.args.calls.now in
     let so = within_so p x c.args.counts c.in-Some.row.id (c.args.most - c.loop-steps.steps) c.loop-steps.frames c.hasten_within.new.frames c.loop-steps.heap c.hasten_within.new.heap
     c.in_ok-made.made c.requires.fixed.ready c.in_ok-made.ensures in
-    left_made p x c.args.counts c.args.most (c.loop-steps.steps + c.in_ok-made.made.steps) c.args.frames.now c.hasten_within.new.frames c.hasten_within.new.frames
+    rw c.alone-then-steps-most.ensures
+    (left_made p x c.args.counts c.args.most (c.loop-steps.steps + c.in_ok-made.made.steps) c.args.frames.now c.hasten_within.new.frames c.hasten_within.new.frames
     c.args.heap.now c.hasten_within.new.heap c.hasten_within.new.heap
     (quiet_there p x c.args.counts c.in-Some.row.id c.args.most c.loop-steps.steps c.args.frames.now c.loop-steps.frames c.hasten_within.new.frames
     c.args.heap.now c.loop-steps.heap c.hasten_within.new.heap c.loop-steps.invariant.quiet c.in_ok-made.made so c.if-made.false) (refl, refl)
     (few_there p x c.args.counts c.in-Some.row.id c.args.most c.loop-steps.steps c.args.frames.now c.loop-steps.frames c.hasten_within.new.frames
-    c.args.heap.now c.loop-steps.heap c.hasten_within.new.heap c.loop-steps.invariant.quiet c.in_ok-made.made so c.if-made.false c.loop-steps.invariant.few)
+    c.args.heap.now c.loop-steps.heap c.hasten_within.new.heap c.loop-steps.invariant.quiet c.in_ok-made.made so c.if-made.false c.loop-steps.invariant.few))
 
 pub turn-requires-clause-fixed : goal.turn-requires-clause-fixed
 turn-requires-clause-fixed g c = subst (λ (q : Program). IsFixed q c.args.fixed.now) (sym c.loop-steps.invariant.same) c.requires.fixed
@@ -118,8 +120,9 @@ returns-in-Came-clause-made g c =
     c.args.heap.now c.loop-steps.heap c.hasten_within.new.heap c.loop-steps.invariant.quiet c.in_ok-made.made so c.if-made.false in
     let few = few_there p x c.args.counts c.in-Some.row.id c.args.most c.loop-steps.steps c.args.frames.now c.loop-steps.frames c.hasten_within.new.frames
     c.args.heap.now c.loop-steps.heap c.hasten_within.new.heap c.loop-steps.invariant.quiet c.in_ok-made.made so c.if-made.false c.loop-steps.invariant.few in
-    came_made p x c.args.counts c.args.most (c.loop-steps.steps + c.in_ok-made.made.steps) c.args.frames.now c.hasten_within.new.frames c.turn.new.frames
-    c.args.heap.now c.hasten_within.new.heap c.turn.new.heap quiet c.in-Came.came turned (omega arith)
+    rw c.before-in-Came.ensures
+    (came_made p x c.args.counts c.args.most (c.loop-steps.steps + c.in_ok-made.made.steps) c.args.frames.now c.hasten_within.new.frames c.turn.new.frames
+    c.args.heap.now c.hasten_within.new.heap c.turn.new.heap quiet c.in-Came.came turned (omega arith))
 
 pub returns-in-Left-clause-made : goal.returns-in-Left-clause-made
 returns-in-Left-clause-made g c =
@@ -135,5 +138,18 @@ returns-in-Left-clause-made g c =
     c.args.heap.now c.loop-steps.heap c.hasten_within.new.heap c.loop-steps.invariant.quiet c.in_ok-made.made so c.if-made.false in
     let few = few_there p x c.args.counts c.in-Some.row.id c.args.most c.loop-steps.steps c.args.frames.now c.loop-steps.frames c.hasten_within.new.frames
     c.args.heap.now c.loop-steps.heap c.hasten_within.new.heap c.loop-steps.invariant.quiet c.in_ok-made.made so c.if-made.false c.loop-steps.invariant.few in
-    left_made p x c.args.counts c.args.most (c.loop-steps.steps + c.in_ok-made.made.steps) c.args.frames.now c.hasten_within.new.frames c.turn.new.frames
-    c.args.heap.now c.hasten_within.new.heap c.turn.new.heap quiet turned few
+    rw c.alone-in-Left.ensures
+    (left_made p x c.args.counts c.args.most (c.loop-steps.steps + c.in_ok-made.made.steps) c.args.frames.now c.hasten_within.new.frames c.turn.new.frames
+    c.args.heap.now c.hasten_within.new.heap c.turn.new.heap quiet turned few)
+
+pub returns-in_default-clause-made : goal.returns-in_default-clause-made
+returns-in_default-clause-made g c =
+    rw c.alone.ensures
+    (left_made c.args.calls.now c.args.fixed.now c.args.counts c.args.most c.loop-steps.steps c.args.frames.now c.loop-steps.frames c.loop-steps.frames
+    c.args.heap.now c.loop-steps.heap c.loop-steps.heap c.loop-steps.invariant.quiet (refl, refl) c.loop-steps.invariant.few)
+
+pub returns-clause-made : goal.returns-clause-made
+returns-clause-made g c =
+    rw c.alone-2.ensures
+    (left_made c.args.calls.now c.args.fixed.now c.args.counts c.args.most c.loop-steps.steps c.args.frames.now c.loop-steps.frames c.loop-steps.frames
+    c.args.heap.now c.loop-steps.heap c.loop-steps.heap c.loop-steps.invariant.quiet (refl, refl) c.loop-steps.invariant.few)

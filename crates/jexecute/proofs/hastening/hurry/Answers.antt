@@ -23,4 +23,4 @@ returns-in-Some-clause-fixed g c =
     c.alike_laws.ensures.kept c.hasten_frames.result c.hasten_frames.new.frames c.hasten_frames.new.heap c.hasten_frames.new.calls c.hasten_frames.ensures.same
 
 pub returns-in-None-clause-begins : goal.returns-in-None-clause-begins
-returns-in-None-clause-begins g c = none_begun c.args.most c.args.m.now c.requires.ready c.requires.rules
+returns-in-None-clause-begins g c = rw c.alone.ensures (none_begun c.args.most c.args.m.now c.requires.ready c.requires.rules)

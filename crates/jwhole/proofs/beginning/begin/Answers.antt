@@ -1,29 +1,24 @@
-use Rattle.std.proofs.Common.{◌<◌, refl, subst, sym}
-use Rattle.jprogram.specs.Classes.{Program}
-use Rattle.jmachine.specs.Opening.{opening_charge}
-use Rattle.jshapes.specs.Tied.{AreTied}
+use Rattle.std.proofs.Common.{refl}
 use Rattle.jopen.specs.Opened.{Opens}
 use Rattle.jcore.specs.declared.machine.Machine.{Machine}
 use Rattle.jwhole.proofs.Starting.{begun_by}
 use Rattle.jwhole.proofs.beginning.begin.Goals as goal
 
 pub open-requires-clause-tied : goal.open-requires-clause-tied
-open-requires-clause-tied g c =
-    let f = c.requires.base.1 in
-    subst (λ (p : Program). AreTied p c.args.base.now.ready.methods.tables c.args.base.now.shaped.shapes) (sym f.ready) f.tied
+open-requires-clause-tied g c = c.requires.base.1.tied
 
 pub open-requires-clause-strings : goal.open-requires-clause-strings
 open-requires-clause-strings g c = c.requires.base.1.strings
 
 pub open-requires-clause-coded : goal.open-requires-clause-coded
-open-requires-clause-coded g c = rw (c.requires.base.1.ready, c.requires.main) c.requires.coded
+open-requires-clause-coded g c = rw c.requires.main c.requires.coded
 
 pub returns-in_default : goal.returns-in_default
-returns-in_default g c = subst (λ (p : Program). c.args.plan.now.heap < opening_charge p) c.requires.base.1.ready (rw c.in_default.is at c.in_ok-opened.ensures)
+returns-in_default g c = rw c.in_default.is at c.in_ok-opened.ensures
 
 pub returns : goal.returns
 returns g c =
-    let p = c.args.program.now in
+    let p = c.args.base.now.ready.program in
     let mark = c.requires.base.0 in
     let f = c.requires.base.1 in
     let base = c.args.base.now in
