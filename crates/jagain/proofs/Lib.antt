@@ -6,4 +6,3 @@ mod Saying
 mod Fine
 mod Sources
 mod Jobs
-mod Few

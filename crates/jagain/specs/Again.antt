@@ -1,10 +1,10 @@
 -- A job that is stored with other class files, read again.
-use Rattle.std.specs.Prelude.{◌≡◌, ◌==◌, ◌<◌, ◌≤◌, ℕ, false, All, List, [], ◌∷◌, length, drop, Ok, IsUtf8}
-use Rattle.std.specs.List.{AllByRecursion, sum_by}
+use Rattle.std.specs.Prelude.{◌≡◌, ◌==◌, ◌<◌, ℕ, false, All, List, [], ◌∷◌, length, drop, Ok, IsUtf8}
+use Rattle.std.specs.List.{AllByRecursion}
 use Rattle.jjob.specs.declared.job.Job.{Job}
 use Rattle.jjob.specs.declared.job.JobSource.{JobSource}
 use Rattle.jjob.specs.Jobs.{job}
-use Rattle.jjob.specs.Limits.{most_classes, most_codes}
+use Rattle.jjob.specs.Limits.{IsWithin}
 use Rattle.jjob.specs.Storing.{stored_job}
 
 -- Bytes that a job may name a file by: a text that isn't empty and has no line feed.
@@ -29,10 +29,6 @@ abbrev pub JobAgain : Type 0
 JobAgain = (text : List ℕ) (paths : List (List ℕ)) (it : Job) → job text ≡ Ok it → AllByRecursion IsName paths
     → job (stored_job text paths) ≡ Ok (record it { sources = with_classes paths it.sources })
 
--- how many class files code sources have
-abbrev pub classes_in : List JobSource → ℕ
-classes_in sources = sum_by (λ s. length s.classes) sources
-
 -- A job that is read has no more code sources and class files than a job may have.
 abbrev pub JobIsSmall : Type 0
-JobIsSmall = (text : List ℕ) (it : Job) → job text ≡ Ok it → (length it.sources ≤ most_codes) × (classes_in it.sources ≤ most_classes)
+JobIsSmall = (text : List ℕ) (it : Job) → job text ≡ Ok it → IsWithin it

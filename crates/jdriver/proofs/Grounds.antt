@@ -1,17 +1,17 @@
 -- What a job says whose class files have other paths.
-use Rattle.std.proofs.Common.{◌≡◌, ℕ, zero, suc, ◌+◌, ◌<◌, ◌≤◌, List, [], ◌∷◌, ◌++◌, Ok, drop, length, map, refl, sym, ap, ap₂, ◌∙◌, arith, length-append}
+use Rattle.std.proofs.Common.{◌≡◌, ℕ, zero, suc, ◌+◌, List, [], ◌∷◌, ◌++◌, Ok, drop, length, map, refl, sym, ap, ap₂, ◌∙◌}
 use Rattle.std.proofs.lemmas.List.{length-map}
-use Rattle.std.proofs.lemmas.List.Sums.{sum_by-cons}
 use Rattle.url.specs.Parts.{Parts}
 use Rattle.jdomain.specs.Domains.{granted}
 use Rattle.jpolicy.specs.declared.grant.Grant.{Grant}
 use Rattle.jjob.specs.declared.job.Job.{Job}
 use Rattle.jjob.specs.declared.job.JobSource.{JobSource}
 use Rattle.jjob.specs.Jobs.{job}
-use Rattle.jagain.specs.Again.{JobIsSmall, classes_in, in_place, with_classes}
+use Rattle.jagain.specs.Again.{JobIsSmall, in_place, with_classes}
 use Rattle.jtask.specs.declared.ground.ClassPath.{ClassPath}
 use Rattle.jtask.specs.declared.ground.Ground.{Ground}
-use Rattle.jtask.specs.Grounds.{ground_of, paths_from, paths_with, urls_of}
+use Rattle.jtask.specs.Grounds.{ArePaths, ground_of, paths_from, paths_with, urls_of}
+use Rattle.jtask.proofs.Paths.{are_paths}
 
 -- class files, each at the next of these paths
 abbrev pub replaced : List (List ℕ) → List ClassPath → List ClassPath
@@ -65,48 +65,9 @@ ground_again it grants paths =
 
 -- ---- how many class files, and of which code sources
 
-pub length_from : (domain : ℕ) (sources : List JobSource) → length (paths_from domain sources) ≡ classes_in sources
-unfolding paths_from
-length_from domain [] = refl
-length_from domain (one ∷ more) =
-    let count : length (paths_with domain one.classes) ≡ length one.classes = length-map _ _ in
-    length-append (paths_with domain one.classes) (paths_from (domain + 1) more)
-    ∙ ap₂ (λ (a b : ℕ). a + b) count (length_from (domain + 1) more) ∙ sym (sum_by-cons (λ (s : JobSource). length s.classes) one more)
-
--- numbers that don't fall, all below 4,096
-abbrev pub Rise : ℕ → List ℕ → Type 0
-Rise least [] = Unit {0}
-Rise least (n ∷ more) = (least ≤ n) × ((n < 4096) × Rise n more)
-
-abbrev pub domains_of : List ClassPath → List ℕ
-domains_of classes = map (λ c. c.domain) classes
-
-rise_less : (least n : ℕ) (more : List ℕ) → least ≤ n → Rise n more → Rise least more
-rise_less least n [] le h = tt
-rise_less least n (m ∷ more) le h = let k = h.0 in (omega arith, h.1)
-
-rise_both : (least domain : ℕ) (paths : List (List ℕ)) (more : List ClassPath) → least ≤ domain → domain < 4096 → Rise domain (domains_of more)
-    → Rise least (domains_of (paths_with domain paths ++ more))
-rise_both least domain [] more le lt h = rise_less least domain (domains_of more) le h
-rise_both least domain (path ∷ paths) more le lt h = (le, (lt, rise_both domain domain paths more (omega arith) lt h))
-
-pub rise_from : (domain : ℕ) (sources : List JobSource) → domain + length sources ≤ 4096 → Rise domain (domains_of (paths_from domain sources))
-unfolding paths_from
-rise_from domain [] le = tt
-rise_from domain (one ∷ more) le =
-    let later = rise_from (domain + 1) more (omega arith) in
-    rise_both domain domain one.classes (paths_from (domain + 1) more) (omega arith) (omega arith) (rise_less domain (domain + 1) (domains_of (paths_from (domain + 1) more)) (omega arith) later)
-
 -- A job that was read has few class files, and its code sources are numbered in order.
-pub record Fine (g : Ground) : Type 0 where
-  pub few : length g.classes ≤ 0xffff
-  pub rise : Rise 0 (domains_of g.classes)
+abbrev pub Fine : Ground → Type 0
+Fine g = ArePaths g.classes
 
 pub is_fine : JobIsSmall → (text : List ℕ) (it : Job) (grants : List Grant) → job text ≡ Ok it → Fine (ground_of it grants)
-unfolding ground_of
-is_fine small text it grants is =
-    let few = small text it is in
-    record {
-      few = let n = few.1 in let m = length_from 0 it.sources in omega arith;
-      rise = rise_from 0 it.sources (let n = few.0 in omega arith);
-    }
+is_fine small text it grants is = are_paths it grants (small text it is)

@@ -4,6 +4,7 @@ mod Grounds
 pub mod Headlines
 pub mod Holding
 pub mod Made
+mod MadePaths
 mod Names
 mod Parts
 mod Rewriting

@@ -1,6 +1,7 @@
 -- What stands in the path of a class that is stored: printable ASCII.
 use Rattle.std.proofs.Common.{◌≡◌, ℕ, zero, suc, ◌+◌, ◌/◌, ◌%◌, ◌^◌, ◌<◌, ◌≤◌, ◌==◌, ◌&&◌, ◌||◌, Bool, true, false, cond, List, [], ◌∷◌, ◌++◌, Result, Ok, Err, IsAscii, codes, decimal, length, refl, ap, subst, arith, leb-true, ltb-true, ne_eqb}
 use Rattle.std.specs.Prelude.{nat_le, nat_lt}
+use Rattle.std.specs.Result.{result_unwrap_or}
 use Rattle.std.specs.Fmt.{digit_glyph}
 use Rattle.std.specs.List.{AllByRecursion}
 use Rattle.std.specs.Str.{byte}
@@ -9,7 +10,7 @@ use Rattle.jformat.specs.declared.error.Fault.{Fault}
 use Rattle.jformat.specs.Bodies.{many_at}
 use Rattle.jformat.specs.Format.{fault}
 use Rattle.jio.specs.Text.{written, written_unit}
-use Rattle.jtask.specs.Linking.{read_or_empty, units_in}
+use Rattle.jtask.specs.Linking.{units_in}
 use Rattle.jtext.specs.Modified.{goes_on, text, three, three_at, two, two_at, unit_at}
 use Rattle.jbase.specs.Stops.{◌>>=◌}
 use Rattle.jdriver.proofs.Binds.{bound}
@@ -98,7 +99,7 @@ many_small (suc n) (b ∷ bs) us e =
 pub units_small : (bytes : List ℕ) → Small (units_in bytes)
 units_small bytes = go (text.read bytes) refl
   where
-    go : (r : Result (List ℕ) (Fault (Unit {0}))) → text.read bytes ≡ r → Small (read_or_empty r)
+    go : (r : Result (List ℕ) (Fault (Unit {0}))) → text.read bytes ≡ r → Small (result_unwrap_or r [])
     go (Ok us) e = many_small (length bytes) bytes us e
     go (Err d) e = tt
 

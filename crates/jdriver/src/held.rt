@@ -1,4 +1,4 @@
-ghost use Rattle.std.specs.Prelude.{◌≡◌, ◌≤◌, IfOk};
+ghost use Rattle.std.specs.Prelude.{◌≡◌, ◌≤◌, IfOk, IsUtf8, string_bytes};
 ghost use Rattle.jio.specs.Memory.{file_of, files_of};
 ghost use Rattle.jdriver.specs.Making.{as_held, held};
 
@@ -6,14 +6,23 @@ use jgen::{MadeFile, make_job};
 use jio::MemoryShelf;
 use std::alloc::{AllocError, Global};
 
-/// A made file, as a shelf in memory holds it. A path that isn't UTF-8, which none is, is want of memory.
+/// The text of the path of a made file.
+fn made_path(alloc: Global, path: &[u8]) -> Result<String, AllocError>
+    requires { IsUtf8 path.now }
+    ensures { IfOk result (λ text. string_bytes text ≡ path.now) }
+{
+    match str::from_utf8(path) {
+        Ok(path) => String::from_str(alloc, path),
+        Err(_) => unreachable!(),
+    }
+}
+
+/// A made file, as a shelf in memory holds it.
 fn held_file(alloc: Global, file: MadeFile) -> Result<(String, Vec<u8>), AllocError>
+    requires { IsUtf8 file.path }
     ensures { IfOk result (λ one. file_of one ≡ as_held file) }
 {
-    let Ok(path) = str::from_utf8(file.path.as_slice()) else {
-        return Err(AllocError);
-    };
-    let path = String::from_str(alloc, path)?;
+    let path = made_path(alloc, file.path.as_slice())?;
     Ok((path, file.bytes.into_vec()))
 }
 

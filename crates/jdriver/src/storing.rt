@@ -84,23 +84,39 @@ fn put_class(domain: u32, units: &[u16], out: &mut Seq<u8>) -> Result<(), AllocE
     Ok(())
 }
 
-/// The path of a class below a folder: that of its domain, and there its name, written as texts are.
-fn class_path(alloc: Global, to: &str, domain: u32, name: &[u8]) -> Result<Text, AllocError>
+/// The bytes of the path of a class below a folder: that of its domain, and there its name, written as texts are.
+fn class_bytes(alloc: Global, to: &str, domain: u32, name: &[u8]) -> Result<Seq<u8>, AllocError>
     ensures { IfOk result (λ path. path ≡ class_path to.now domain name.now) }
 {
     let units = units_in(alloc, name)?;
     let mut out = Seq::from_slice(alloc, to.as_bytes())?;
     put_class(domain, units.as_slice(), &mut out)?;
-    text_in(alloc, out.as_slice())
+    Ok(out)
+}
+
+/// The path of a class below a folder.
+fn class_path(alloc: Global, to: &str, domain: u32, name: &[u8]) -> Result<Text, AllocError>
+    ensures { IfOk result (λ path. path ≡ class_path to.now domain name.now) }
+{
+    let path = class_bytes(alloc, to, domain, name)?;
+    text_in(alloc, path.as_slice())
+}
+
+/// The bytes of the path of the job in a folder.
+fn job_bytes(alloc: Global, to: &str) -> Result<Seq<u8>, AllocError>
+    ensures { IfOk result (λ path. path ≡ to.now ++ codes "/job") }
+{
+    let mut out = Seq::from_slice(alloc, to.as_bytes())?;
+    out.extend(b"/job")?;
+    Ok(out)
 }
 
 /// The path of the job in a folder.
 fn job_path(alloc: Global, to: &str) -> Result<Text, AllocError>
     ensures { IfOk result (λ path. path ≡ to.now ++ codes "/job") }
 {
-    let mut out = Seq::from_slice(alloc, to.as_bytes())?;
-    out.extend(b"/job")?;
-    text_in(alloc, out.as_slice())
+    let path = job_bytes(alloc, to)?;
+    text_in(alloc, path.as_slice())
 }
 
 // ---- files

@@ -205,11 +205,11 @@ bad_is lines line = go (is_kept line) (said_of line) refl refl
     go true None k s = rw (k, s) refl
     go true (Some said) k s = rw (k, s) (clashes_is (said_by lines) said ∙ ap (λ (b : Bool). clashes_otherwise (said_by lines) said || b) (sym (again_said lines line said k s)))
 
-said_more : (lines : List (List ℕ)) (line : List ℕ) → said_by (lines ++ line ∷ []) ≡ said_by lines ++ filter_map said_of (filter is_kept (line ∷ []))
+pub said_more : (lines : List (List ℕ)) (line : List ℕ) → said_by (lines ++ line ∷ []) ≡ said_by lines ++ filter_map said_of (filter is_kept (line ∷ []))
 unfolding said_by
 said_more lines line = ap (filter_map said_of) (filter-append is_kept lines (line ∷ [])) ∙ filter_map-append said_of (filter is_kept lines) (filter is_kept (line ∷ []))
 
-said_here : (line : List ℕ) (kept : Bool) → is_kept line ≡ kept → filter_map said_of (filter is_kept (line ∷ [])) ≡ cond kept (cons_option (said_of line) []) []
+pub said_here : (line : List ℕ) (kept : Bool) → is_kept line ≡ kept → filter_map said_of (filter is_kept (line ∷ [])) ≡ cond kept (cons_option (said_of line) []) []
 said_here line true is = rw is refl
 said_here line false is = rw is refl
 
@@ -242,13 +242,13 @@ take_front : (xs ys : List (List ℕ)) → take (length xs) (xs ++ ys) ≡ xs
 take_front [] ys = refl
 take_front (x ∷ xs) ys = ap (λ (l : List (List ℕ)). x ∷ l) (take_front xs ys)
 
-test_here : (behind : List (List ℕ) → List ℕ → Bool) (all before left : List (List ℕ)) (line : List ℕ) → before ++ left ≡ all
+pub test_here : (behind : List (List ℕ) → List ℕ → Bool) (all before left : List (List ℕ)) (line : List ℕ) → before ++ left ≡ all
     → test behind all (length before) line ≡ fault_if (behind before line) (length before + 1)
 test_here behind all before left line whole =
     let front : take (length before) all ≡ before = ap (take (length before)) (sym whole) ∙ take_front before left in
     ap (λ (ls : List (List ℕ)). fault_if (behind ls line) (length before + 1)) front
 
-along_step : (test : ℕ → List ℕ → Option ℕ) (i : ℕ) (line : List ℕ) (more : List (List ℕ))
+pub along_step : (test : ℕ → List ℕ → Option ℕ) (i : ℕ) (line : List ℕ) (more : List (List ℕ))
     → first_along test i (line ∷ more) ≡ or_else (test i line) (first_along test (i + 1) more)
 unfolding first_along
 along_step test i line more = refl
@@ -265,7 +265,7 @@ else_behind : {X : Type 0} (a b c : Option X) → or_else (or_else a b) c ≡ or
 else_behind None b c = refl
 else_behind (Some x) b c = refl
 
-longer : (before : List (List ℕ)) (line : List ℕ) → length (before ++ line ∷ []) ≡ length before + 1
+pub longer : (before : List (List ℕ)) (line : List ℕ) → length (before ++ line ∷ []) ≡ length before + 1
 longer before line = length-append before (line ∷ [])
 
 -- tests look at the lines before alone

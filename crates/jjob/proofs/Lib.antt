@@ -1,3 +1,4 @@
+pub mod JobBounds
 pub mod JobDigests
 pub mod JobNames
 pub mod JobNumbers

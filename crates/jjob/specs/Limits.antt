@@ -1,5 +1,8 @@
 -- How much words and a job may say, and what counts where a job doesn't say.
-use Rattle.std.specs.Prelude.{ℕ}
+use Rattle.std.specs.Prelude.{◌≤◌, ℕ, List, length}
+use Rattle.std.specs.List.{sum_by}
+use Rattle.jjob.specs.declared.job.Job.{Job}
+use Rattle.jjob.specs.declared.job.JobSource.{JobSource}
 
 -- the cells of the heap: where a job doesn't say, and the most
 abbrev pub default_heap : ℕ
@@ -28,6 +31,15 @@ most_codes = 4096
 
 abbrev pub most_classes : ℕ
 most_classes = 65535
+
+-- how many class files code sources have
+abbrev pub classes_in : List JobSource → ℕ
+classes_in sources = sum_by (λ s. length s.classes) sources
+
+-- a job has no more code sources than it may have, and no more class files in all
+pub record IsWithin (job : Job) : Type 0 where
+  pub codes : length job.sources ≤ most_codes
+  pub classes : classes_in job.sources ≤ most_classes
 
 -- the most numbers of a schedule, and the greatest of them
 abbrev pub most_picks : ℕ

@@ -1,6 +1,6 @@
 //! What the program is asked to do: the words of a command line, and jobs.
 //!
-//! - `Limits`: how much words and a job may say.
+//! - `Limits`: how much words and a job may say (`IsWithin`).
 //! - `Words`: what words say (`said`), and the command that they are.
 //! - `App`, `Rows`: the parser of the kit's `clap` that reads them, and what its rows say.
 //! - `JobNumbers`, `JobLines`: a job's numbers, and what a line says by itself.
@@ -12,9 +12,9 @@
 //! - `Storing`: the text of a job with other class files.
 //!
 //! Proved: `read_words` answers the command exactly where the words are one, and Usage exactly where they are none; `read_job` answers the
-//! job exactly where the bytes are one, and else the number of the first bad line. `clap`'s own walk over the words is shown to be `said`,
-//! by induction over the words and the states of the walk. `stored_job` gives the lines in their order, each ended, with other paths in the
-//! lines of class files.
+//! job exactly where the bytes are one, and else the number of the first bad line; the job has no more code sources and class files than it
+//! may have. `clap`'s own walk over the words is shown to be `said`, by induction over the words and the states of the walk. `stored_job`
+//! gives the lines in their order, each ended, with other paths in the lines of class files.
 //!
 //! Rooms of jobs and the top may name it, and tests.
 #![tactic(auto)]

@@ -4,6 +4,7 @@ ghost use Rattle.std.specs.Str.Lossy.{utf8_valid_len};
 ghost use Rattle.jjob.specs.Jobs.{JobGives, job, job_in, line_at, lines_of, number_of_lines};
 ghost use Rattle.jjob.specs.JobReading.{IsSkipped, Skips, TakesAll, TellsAll};
 ghost use Rattle.jjob.specs.JobTold.{IsTold};
+ghost use Rattle.jjob.specs.Limits.{IsWithin};
 
 use crate::job::{Job, JobError};
 use crate::names::{first_again_by, first_again_to};
@@ -19,7 +20,10 @@ use std::alloc::{AllocError, Global};
 #[tactic(auto, unfolding(crate::specs::Jobs::job))]
 pub fn read_job(alloc: Global, bytes: &[u8]) -> Result<Job, JobError>
     requires { length bytes.now < 0xffff_ffff }
-    ensures { JobGives result (job bytes.now) }
+    ensures value { JobGives result (job bytes.now) }
+    // A job has no more code sources and class files than it may have.
+    ensures within { IfOk result IsWithin }
+    ensures text { IfOk result (λ _. is_utf8 bytes.now ≡ true) }
 {
     match text_of(bytes) {
         Ok(text) => job_in(alloc, text),

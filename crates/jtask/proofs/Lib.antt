@@ -4,6 +4,7 @@ pub mod Mains
 pub mod Members
 pub mod Parts
 pub mod Paths
+pub mod PartsRead
 pub mod Sides
 pub mod Sources
 pub mod Wholes

@@ -1,5 +1,5 @@
 -- How a job's program is checked: the program, or the refusal by the first place where it isn't well typed.
-use Rattle.std.specs.Prelude.{ℕ, List, [], Option, Some, None, Result, Ok, Err, slice_get}
+use Rattle.std.specs.Prelude.{ℕ, List, [], Option, Some, None, unwrap_or, option_map, Result, Ok, Err, slice_get}
 use Rattle.jclass.specs.declared.class.ClassParts.{ClassParts}
 use Rattle.jclass.specs.declared.class.MemberInfo.{MemberInfo}
 use Rattle.jprogram.specs.declared.part.CodePart.{CodePart}
@@ -15,8 +15,7 @@ use Rattle.jtask.specs.Stages.{Stopped, Refused}
 
 -- a method's name and behind it its descriptor
 abbrev pub method_told : ClassParts → Option MemberInfo → List ℕ
-method_told c None = []
-method_told c (Some m) = member_text c m
+method_told c o = unwrap_or (option_map (member_text c) o) []
 
 -- the refusal of a class by the place of a method among its own and of a byte in it
 abbrev pub refusal_at : ℕ → ℕ → Option CodePart → Refusal

@@ -1,5 +1,5 @@
 -- What a job and its policy say, for each verb that reads a job.
-use Rattle.std.specs.Prelude.{ℕ, ◌+◌, List, [], ◌∷◌, ◌++◌, map}
+use Rattle.std.specs.Prelude.{◌<◌, ◌≤◌, ℕ, ◌+◌, List, [], ◌∷◌, ◌++◌, length, map}
 use Rattle.url.specs.Parts.{Parts}
 use Rattle.jdomain.specs.Domains.{granted}
 use Rattle.jpolicy.specs.declared.grant.Grant.{Grant}
@@ -23,6 +23,20 @@ paths_with domain paths = map (λ path. record { domain = domain; path = path })
 unfoldable pub paths_from : ℕ → List JobSource → List ClassPath
 paths_from domain [] = []
 paths_from domain (source ∷ sources) = paths_with domain source.classes ++ paths_from (domain + 1) sources
+
+-- numbers that don't fall, all below 4,096
+abbrev pub Rise : ℕ → List ℕ → Type 0
+Rise least [] = Unit {0}
+Rise least (n ∷ more) = (least ≤ n) × ((n < 4096) × Rise n more)
+
+-- the numbers of the code sources that class files are of
+abbrev pub domains_of : List ClassPath → List ℕ
+domains_of classes = map (λ c. c.domain) classes
+
+-- the class files at these paths are parts that may be linked: they are few, and come in the order of their code sources
+pub record ArePaths (classes : List ClassPath) : Type 0 where
+  pub few : length classes ≤ 0xffff
+  pub rise : Rise 0 (domains_of classes)
 
 -- what a job says, and what a policy grants to its code
 unfoldable pub ground_of : Job → List Grant → Ground

@@ -1,6 +1,6 @@
 -- How the classes of a job link: the program that they make, or the refusal by the first rule of linking that they break.
-use Rattle.std.specs.Prelude.{◌≡◌, ℕ, List, [], ◌++◌, Option, Some, None, option_map, Result, Ok, Err, IsTrue, slice_get}
-use Rattle.jformat.specs.declared.error.Fault.{Fault}
+use Rattle.std.specs.Prelude.{◌≡◌, ℕ, List, [], ◌++◌, Option, Some, None, option_map, option_and_then, Result, Ok, Err, IsTrue, slice_get}
+use Rattle.std.specs.Result.{result_unwrap_or}
 use Rattle.jtext.specs.Modified.{text}
 use Rattle.jclass.specs.declared.class.ClassParts.{ClassParts}
 use Rattle.jclass.specs.declared.class.MemberInfo.{MemberInfo}
@@ -16,13 +16,9 @@ use Rattle.jtask.specs.Stages.{Stopped, Refused}
 
 -- ---- names
 
-abbrev pub read_or_empty : Result (List ℕ) (Fault (Unit {0})) → List ℕ
-read_or_empty (Ok units) = units
-read_or_empty (Err fault) = []
-
 -- the text that bytes spell in modified UTF-8, as those of a class file that was read do
 abbrev pub units_in : List ℕ → List ℕ
-units_in bytes = read_or_empty (text.read bytes)
+units_in bytes = result_unwrap_or (text.read bytes) []
 
 -- a member's name and behind it its descriptor
 abbrev pub member_text : ClassParts → MemberInfo → List ℕ
@@ -33,8 +29,7 @@ abbrev pub member_at : ClassParts → ℕ → Option MemberInfo
 member_at c i = slice_get (c.methods ++ c.fields) i
 
 abbrev pub member_told : ClassParts → Option ℕ → Option (List ℕ)
-member_told c None = None
-member_told c (Some i) = option_map (member_text c) (member_at c i)
+member_told c o = option_and_then (λ i. option_map (member_text c) (member_at c i)) o
 
 -- parts that may be linked, each of them a class file
 pub record AreClasses (classes : List CodePart) : Type 0 where

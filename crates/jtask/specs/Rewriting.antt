@@ -1,5 +1,5 @@
 -- How a job's program is rewritten: the moved program, or the refusal by the first limit that is broken.
-use Rattle.std.specs.Prelude.{ℕ, List, [], Option, Some, None, Result, Ok, Err, slice_get}
+use Rattle.std.specs.Prelude.{ℕ, List, [], Option, Some, None, option_map, Result, Ok, Err, slice_get}
 use Rattle.jclass.specs.declared.class.ClassParts.{ClassParts}
 use Rattle.jmoveclass.specs.declared.limit.Limit.{Limit}
 use Rattle.jprogram.specs.declared.part.CodePart.{CodePart}
@@ -17,8 +17,7 @@ use Rattle.jtask.specs.Stages.{Stopped, Refused}
 
 -- a method by its place among those of its class, where a limit is a method's
 abbrev pub limited_told : ClassParts → Option ℕ → Option (List ℕ)
-limited_told c None = None
-limited_told c (Some method) = Some (method_told c (slice_get c.methods method))
+limited_told c o = option_map (λ method. method_told c (slice_get c.methods method)) o
 
 abbrev pub limit_told : Limit → Option CodePart → Refusal
 limit_told limit None = BadRewrite [] None limit.kind

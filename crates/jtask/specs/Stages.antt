@@ -1,5 +1,5 @@
 -- Stages of reading: what a call that reads files, or judges what was read, answers beside the value of its definition.
-use Rattle.std.specs.Prelude.{◌≡◌, ◌⊎◌, ℕ, List, Option, Some, None, Result, Ok, Err}
+use Rattle.std.specs.Prelude.{◌≡◌, ◌⊎◌, ℕ, List, Option, Some, ok_or, Result, Ok, Err}
 use Rattle.jbase.specs.Causes.{Rose}
 use Rattle.jio.specs.Held.{File, readable}
 use Rattle.jshow.specs.declared.refusal.Refusal.{Refusal}
@@ -12,12 +12,10 @@ pub data Stopped : Type 0 where
   Refused : Refusal → Stopped
 
 abbrev pub found : {A : Type 0} → Option A → Result A Stopped
-found (Some a) = Ok a
-found None = Err Missing
+found o = ok_or o Missing
 
 abbrev pub judged : {A : Type 0} → Refusal → Option A → Result A Stopped
-judged refusal (Some a) = Ok a
-judged refusal None = Err (Refused refusal)
+judged refusal o = ok_or o (Refused refusal)
 
 -- the bytes at a path
 abbrev pub bytes_at : List File → List ℕ → Result (List ℕ) Stopped

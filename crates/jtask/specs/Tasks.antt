@@ -3,6 +3,7 @@
 -- then the limits of moving are looked at where they are to be moved: to be stored, or to be run in the form `pass`.
 use Rattle.std.specs.Prelude.{◌≡◌, ℕ, ◌-◌, Bool, true, false, List, [], length, Option, Some, None, Result, Ok, Err}
 use Rattle.std.specs.List.{flat_map}
+use Rattle.std.specs.Result.{result_map_both}
 use Rattle.jbase.specs.Each.{each}
 use Rattle.jbase.specs.Stops.{◌>>=◌}
 use Rattle.jio.specs.Held.{File}
@@ -44,13 +45,11 @@ use Rattle.jtask.specs.Stages.{Stopped, Missing, Refused, judged, bytes_at}
 
 -- the job that is read, or its refusal at the first bad line
 abbrev pub job_read : Result Job ℕ → Result Job Stopped
-job_read (Ok it) = Ok it
-job_read (Err line) = Err (Refused (BadJob line))
+job_read r = result_map_both (λ it. it) (λ line. Refused (BadJob line)) r
 
 -- the grants that are read, or their refusal at the first fault
 abbrev pub grants_read : Result (List Grant) (At PolicyFault) → Result (List Grant) Stopped
-grants_read (Ok grants) = Ok grants
-grants_read (Err fault) = Err (Refused (BadPolicy fault.at fault.kind))
+grants_read r = result_map_both (λ grants. grants) (λ fault. Refused (BadPolicy fault.at fault.kind)) r
 
 -- the grants of a job's policy, expanded by the job's properties; a job without a policy has none
 abbrev pub grants_of : List File → List (List ℕ × List ℕ) → Option (List ℕ) → Result (List Grant) Stopped
@@ -72,8 +71,7 @@ ground_at files path = bytes_at files path >>= λ text. ground_in files text
 
 -- the class file that is read, or its refusal at the first fault
 abbrev pub class_read : List ℕ → List ℕ → Result ClassParts (Fault ClassFault) → Result ClassParts Stopped
-class_read path bytes (Ok class) = Ok class
-class_read path bytes (Err fault) = Err (Refused (BadClass path (length bytes - fault.left) fault.kind))
+class_read path bytes r = result_map_both (λ class. class) (λ fault. Refused (BadClass path (length bytes - fault.left) fault.kind)) r
 
 -- the class file at a path
 unfoldable pub class_at : List File → List ℕ → Result ClassParts Stopped

@@ -1,4 +1,5 @@
-ghost use Rattle.std.specs.Prelude.{◌≡◌, ◌++◌, IfOk, OnOk, map};
+ghost use Rattle.std.specs.Prelude.{◌≡◌, ◌≤◌, ◌++◌, IfOk, OnOk, length, map};
+ghost use Rattle.jjob.specs.Limits.{IsWithin, most_codes};
 ghost use Rattle.jtask.specs.Grounds.{ground_of, paths_from, paths_with, plan_of, urls_of};
 
 use jbase::Seq;
@@ -78,6 +79,7 @@ fn parted(
     alloc: Global,
     sources: Seq<JobSource>,
 ) -> Result<(Seq<CodeSource>, Seq<ClassPath>), AllocError>
+    requires { length sources ≤ most_codes }
     ensures { IfOk result (λ p. (p.0 ≡ urls_of sources) × (p.1 ≡ paths_from 0 sources)) }
 {
     let mut urls = Seq::new(alloc);
@@ -86,10 +88,7 @@ fn parted(
     for one in sources.into_vec() {
         urls.push(one.source)?;
         add_paths(domain, one.classes, &mut classes)?;
-        let Some(next) = domain.checked_add(1) else {
-            return Err(AllocError);
-        };
-        domain = next;
+        domain += 1;
     }
     Ok((urls, classes))
 }
@@ -97,6 +96,7 @@ fn parted(
 /// What a job says, and what a policy grants to its code.
 #[tactic(auto, unfolding(crate::specs::Grounds::ground_of))]
 pub fn ground_of(alloc: Global, job: Job, grants: &Policy) -> Result<Ground, AllocError>
+    requires { IsWithin job }
     ensures { IfOk result (λ g. g ≡ ground_of job grants.now) }
 {
     let (sources, classes) = parted(alloc, job.sources)?;

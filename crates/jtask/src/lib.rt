@@ -1,7 +1,8 @@
 //! What a command's files come to: the task that is to be done, or why there is none (`Halt`).
 //!
 //! - `Stages`: what a call that reads files answers beside its definition.
-//! - `Grounds`: what a job and its policy say, for each verb.
+//! - `Grounds`: what a job and its policy say, for each verb; its class files are few and come in the order of their code sources
+//!   (`ArePaths`), so that they may be linked.
 //! - `Tasks`: what is to be done at a command, one case a verb, and for a run one case a form; files are read in order, each judged before
 //!   the next. `IsWhole` says of a run that it begins with the `main` of one of its classes, and of a listing that each code source has
 //!   its permissions.

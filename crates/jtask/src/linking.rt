@@ -1,6 +1,6 @@
 ghost use Rattle.std.specs.Prelude.{◌≡◌, Err, IfOk, Option, Some, option_map};
 ghost use Rattle.jprogram.specs.Classes.{Program, program};
-ghost use Rattle.jlink.specs.Links.{LinkErrorIs};
+ghost use Rattle.jlink.specs.Links.{AreParts, LinkErrorIs};
 ghost use Rattle.jtask.specs.declared.halt.Halt.TheVariants.{Read};
 ghost use Rattle.jtask.specs.Stages.{Follows};
 ghost use Rattle.jtask.specs.Linking.{AreClasses, link_refusal, linked, member_at, member_text, member_told, refusal_in, units_in, unless_broken};
@@ -9,7 +9,7 @@ use crate::halt::Halt;
 use jbase::{Seq, Stop};
 use jclass::{ClassParts, MemberInfo};
 use jlib::Side;
-use jlink::{LinkError, LinkedProgram, are_parts, link_or_return};
+use jlink::{LinkError, LinkedProgram, link_or_return};
 use jprogram::{CodePart, LinkFault, member_desc, member_name, this_name};
 use jshow::Refusal;
 use jtext::{Units, units_of};
@@ -126,14 +126,11 @@ pub fn are_classes(program: &LinkedProgram)
 /// The program that classes make which link against a side's library.
 #[tactic(auto, unfolding(crate::specs::Linking::linked))]
 pub fn linked(alloc: Global, parts: Seq<CodePart>, side: Side) -> Result<LinkedProgram, Halt>
+    requires { AreParts parts }
     ensures value { Follows (λ p. p) result (linked (program side parts)) }
     ensures unread { result ≡ Err Read → ⊥ }
 {
-    let parts = parts.into_vec();
-    if !are_parts(&parts) {
-        return Err(Halt::Memory);
-    }
-    match link_or_return(alloc, parts, side) {
+    match link_or_return(alloc, parts.into_vec(), side) {
         Ok(program) => Ok(program),
         Err(failed) => not_linked(alloc, &failed.0, failed.1),
     }

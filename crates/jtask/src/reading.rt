@@ -1,11 +1,15 @@
-ghost use Rattle.std.specs.Prelude.{◌≡◌, ◌≤◌, ◌<◌, ◌^◌, ◌⊎◌, ℕ, IfOk, List, [], Err, Some, length};
+ghost use Rattle.std.specs.Prelude.{◌≡◌, ◌≤◌, ◌<◌, ◌^◌, ◌⊎◌, ℕ, IfOk, IsUtf8, List, [], Err, Some, length, true};
+ghost use Rattle.std.specs.Str.{is_utf8};
 ghost use Rattle.jbase.specs.Causes.{Rose};
 ghost use Rattle.jbase.specs.Each.{each};
 ghost use Rattle.jio.specs.Held.{File};
 ghost use Rattle.jclass.specs.Class.{class_file};
 ghost use Rattle.jjob.specs.Jobs.{job};
+ghost use Rattle.jjob.specs.Limits.{IsWithin};
+ghost use Rattle.jlink.specs.Links.{AreParts};
 ghost use Rattle.jpolicy.specs.Policies.{policy};
 ghost use Rattle.jtask.specs.declared.halt.Halt.TheVariants.{Read};
+ghost use Rattle.jtask.specs.Grounds.{ArePaths};
 ghost use Rattle.jtask.specs.Stages.{Excused, Follows, Refused, bytes_at};
 ghost use Rattle.jtask.specs.Tasks.{class_at, class_read, grants_at, grants_of, grants_read, ground_at, ground_in, job_read, part_at};
 
@@ -38,13 +42,14 @@ pub fn read_at<S: Shelf>(alloc: Global, path: &str, shelf: &mut S) -> Result<Vec
     }
 }
 
-/// The text of bytes. Bytes that aren't UTF-8, which neither a job nor a path is, are want of memory.
+/// The text of bytes that are UTF-8.
 pub fn text_in(alloc: Global, bytes: &[u8]) -> Result<Text, AllocError>
+    requires { IsUtf8 bytes.now }
     ensures { IfOk result (λ text. text ≡ bytes.now) }
 {
     match str::from_utf8(bytes) {
         Ok(text) => Text::from_str(alloc, text),
-        Err(_) => Err(AllocError),
+        Err(_) => unreachable!(),
     }
 }
 
@@ -53,6 +58,8 @@ pub fn text_in(alloc: Global, bytes: &[u8]) -> Result<Text, AllocError>
 fn job_read(alloc: Global, bytes: &[u8]) -> Result<Job, Halt>
     requires { length bytes.now < 2 ^ 31 }
     ensures value { Follows (λ x. x) result (job_read (job bytes.now)) }
+    ensures within { IfOk result IsWithin }
+    ensures text { IfOk result (λ _. is_utf8 bytes.now ≡ true) }
     ensures unread { result ≡ Err Read → ⊥ }
 {
     match read_job(alloc, bytes) {
@@ -110,8 +117,10 @@ fn grants_at<S: Shelf>(alloc: Global, job: &Job, shelf: &mut S) -> Result<Policy
 #[tactic(auto, unfolding(crate::specs::Tasks::ground_in))]
 pub fn ground_in<S: Shelf>(alloc: Global, text: &[u8], shelf: &mut S) -> Result<Ground, Halt>
     requires { length text.now < 2 ^ 31 }
+    ensures text { IfOk result (λ _. is_utf8 text.now ≡ true) }
     ensures value { (files : List File) → S.held shelf.old ≡ Some files → Follows (λ x. x) result (ground_in files text.now) }
     ensures whole { IfOk result (λ g. length g.domains ≡ length g.sources) }
+    ensures paths { IfOk result (λ g. ArePaths g.classes) }
     ensures held { S.held shelf.new ≡ S.held shelf.old }
     ensures stored { S.write_faults shelf.new ≡ S.write_faults shelf.old }
     ensures later { S.read_faults shelf.old ≤ S.read_faults shelf.new }
@@ -128,6 +137,7 @@ pub fn ground_in<S: Shelf>(alloc: Global, text: &[u8], shelf: &mut S) -> Result<
 pub fn ground_at<S: Shelf>(alloc: Global, path: &str, shelf: &mut S) -> Result<Ground, Halt>
     ensures value { (files : List File) → S.held shelf.old ≡ Some files → Follows (λ x. x) result (ground_at files path.now) }
     ensures whole { IfOk result (λ g. length g.domains ≡ length g.sources) }
+    ensures paths { IfOk result (λ g. ArePaths g.classes) }
     ensures held { S.held shelf.new ≡ S.held shelf.old }
     ensures stored { S.write_faults shelf.new ≡ S.write_faults shelf.old }
     ensures later { S.read_faults shelf.old ≤ S.read_faults shelf.new }
@@ -175,6 +185,7 @@ fn class_at<S: Shelf>(alloc: Global, path: &Text, shelf: &mut S) -> Result<Class
 #[tactic(auto, unfolding(crate::specs::Tasks::part_at))]
 fn part_at<S: Shelf>(alloc: Global, one: &ClassPath, shelf: &mut S) -> Result<CodePart, Halt>
     ensures value { (files : List File) → S.held shelf.old ≡ Some files → Follows (λ x. x) result (part_at files one.now) }
+    ensures domain { IfOk result (λ part. part.domain ≡ one.now.domain) }
     ensures held { S.held shelf.new ≡ S.held shelf.old }
     ensures stored { S.write_faults shelf.new ≡ S.write_faults shelf.old }
     ensures later { S.read_faults shelf.old ≤ S.read_faults shelf.new }
@@ -193,7 +204,10 @@ pub fn parts_at<S: Shelf>(
     paths: &[ClassPath],
     shelf: &mut S,
 ) -> Result<Seq<CodePart>, Halt>
+    requires { ArePaths paths.now }
     ensures value { (files : List File) → S.held shelf.old ≡ Some files → Follows (λ x. x) result (each (part_at files) paths.now) }
+    // They may be linked.
+    ensures parts { IfOk result (λ parts. AreParts parts) }
     ensures held { S.held shelf.new ≡ S.held shelf.old }
     ensures stored { S.write_faults shelf.new ≡ S.write_faults shelf.old }
     ensures later { S.read_faults shelf.old ≤ S.read_faults shelf.new }

@@ -4,11 +4,13 @@ ghost use Rattle.jio.specs.Held.{File};
 ghost use Rattle.jtext.specs.Modified.{group};
 ghost use Rattle.jjob.specs.declared.command.Form.TheVariants.{Pass};
 ghost use Rattle.jlib.specs.declared.side.Side.TheVariants.{Passing, Source};
+ghost use Rattle.jlink.specs.Links.{AreParts};
 ghost use Rattle.jprogram.specs.Members.{IsMain, main_of};
 ghost use Rattle.jtask.specs.declared.halt.Halt.TheVariants.{Read};
 ghost use Rattle.jtask.specs.declared.task.Task.TheVariants.{RunPlain};
 ghost use Rattle.jtask.specs.Rewriting;
 ghost use Rattle.jtask.specs.Stages.{Excused, Follows, judged};
+ghost use Rattle.jtask.specs.Grounds.{ArePaths};
 ghost use Rattle.jtask.specs.Linking.{AreClasses};
 ghost use Rattle.jtask.specs.Tasks.{GroundClasses, IsWhole, JobClasses, RunClasses, check_at, check_of_ground, check_of_parts, is_stored, reads};
 ghost use Rattle.jtask.specs.Tasks.{policy_at, run_at, run_in, run_of_ground, run_of_parts, runnable};
@@ -87,6 +89,7 @@ fn runnable(
     name: &Units,
     parts: Seq<CodePart>,
 ) -> Result<(CheckedProgram, MethodId), Halt>
+    requires { AreParts parts }
     ensures value { Follows (λ x. x) result (runnable side name.now parts) }
     ensures classes { OnOk result (AreClasses parts) }
     ensures side { IfOk result (λ x. x.0.side ≡ side) }
@@ -186,6 +189,7 @@ fn run_of_parts(
     ground: Ground,
     parts: Seq<CodePart>,
 ) -> Result<Task, Halt>
+    requires { AreParts parts }
     ensures value { Follows (λ x. x) result (run_of_parts form ground parts) }
     ensures classes { OnOk result (AreClasses parts) }
     ensures whole { IfOk result IsWhole }
@@ -204,6 +208,7 @@ fn run_of_ground<S: Shelf>(
     ground: Ground,
     shelf: &mut S,
 ) -> Result<Task, Halt>
+    requires { ArePaths ground.classes }
     ensures value { (files : List File) → S.held shelf.old ≡ Some files → Follows (λ x. x) result (run_of_ground files form ground) }
     ensures classes { (files : List File) → S.held shelf.old ≡ Some files → OnOk result (GroundClasses files ground) }
     ensures whole { IfOk result IsWhole }
@@ -235,6 +240,7 @@ fn run_at<S: Shelf>(alloc: Global, form: Form, path: &str, shelf: &mut S) -> Res
 // ---- a check
 
 fn check_of_parts(alloc: Global, side: Side, parts: Seq<CodePart>) -> Result<Task, Halt>
+    requires { AreParts parts }
     ensures value { Follows (λ x. x) result (check_of_parts side parts) }
     ensures whole { IfOk result IsWhole }
     ensures kind { IfOk result (λ t. is_stored t ≡ false) }
@@ -252,6 +258,7 @@ fn check_of_ground<S: Shelf>(
     ground: Ground,
     shelf: &mut S,
 ) -> Result<Task, Halt>
+    requires { ArePaths ground.classes }
     ensures value { (files : List File) → S.held shelf.old ≡ Some files → Follows (λ x. x) result (check_of_ground files side ground) }
     ensures whole { IfOk result IsWhole }
     ensures kind { IfOk result (λ t. is_stored t ≡ false) }
@@ -282,6 +289,7 @@ fn check_at<S: Shelf>(alloc: Global, side: Side, path: &str, shelf: &mut S) -> R
 
 /// The moved program of the classes that were read for a job.
 fn moved_of_parts(alloc: Global, parts: Seq<CodePart>) -> Result<RewrittenProgram, Halt>
+    requires { AreParts parts }
     ensures value { Follows (λ x. x) result (moved_of_parts parts) }
     ensures unread { result ≡ Err Read → ⊥ }
 {
@@ -292,6 +300,7 @@ fn moved_of_parts(alloc: Global, parts: Seq<CodePart>) -> Result<RewrittenProgra
 
 /// The rewriting of the classes that were read for a job.
 fn rewrite_of_parts(alloc: Global, text: Text, to: Text, parts: Seq<CodePart>) -> Result<Task, Halt>
+    requires { AreParts parts }
     ensures value { Follows (λ x. x) result (rewrite_of_parts text to parts) }
     ensures whole { IfOk result IsWhole }
     ensures kind { IfOk result (λ t. is_stored t ≡ true) }
@@ -319,6 +328,7 @@ fn rewrite_of_ground<S: Shelf>(
     ground: Ground,
     shelf: &mut S,
 ) -> Result<Task, Halt>
+    requires { ArePaths ground.classes }
     ensures value { (files : List File) → S.held shelf.old ≡ Some files → Follows (λ x. x) result (rewrite_of_ground files text to ground) }
     ensures whole { IfOk result IsWhole }
     ensures kind { IfOk result (λ t. is_stored t ≡ true) }

@@ -1,4 +1,4 @@
-use Rattle.jagain.proofs.Few.{is_small}
+use Rattle.jjob.proofs.JobBounds.{within}
 use Rattle.jagain.proofs.Jobs.{stored_again}
 use Rattle.jagain.proofs.laws.job_laws.Goals as goal
 
@@ -6,4 +6,4 @@ pub returns-clause-again : goal.returns-clause-again
 returns-clause-again c = λ text paths it e names. stored_again text paths it e names
 
 pub returns-clause-small : goal.returns-clause-small
-returns-clause-small c = λ text it e. is_small text it e
+returns-clause-small c = λ text it e. within text it e

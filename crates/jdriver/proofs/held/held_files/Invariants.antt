@@ -1,7 +1,12 @@
 use Rattle.std.proofs.Common.{◌≡◌, map}
+use Rattle.std.specs.Vec.Iter.{into_iter_items}
 use Rattle.jio.specs.Memory.{files_of}
 use Rattle.jdriver.specs.Making.{as_held}
+use Rattle.jdriver.proofs.MadePaths.{AreNamed}
 use Rattle.jdriver.proofs.held.held_files.Given as goal
 
 abbrev pub invariant-loop-file : goal.invariant-loop-file
-invariant-loop-file l = files_of l.files.items ≡ map as_held l.yielded
+invariant-loop-file l = record {
+  files : files_of l.files.items ≡ map as_held l.yielded;
+  named : AreNamed (into_iter_items l.file-iterator);
+}

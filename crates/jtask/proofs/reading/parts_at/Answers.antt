@@ -5,6 +5,7 @@ use Rattle.jbase.proofs.Loops.{each_more, each_ends}
 use Rattle.jtask.specs.declared.halt.Halt.{Halt}
 use Rattle.jtask.specs.declared.halt.Halt.TheVariants.{Read}
 use Rattle.jtask.specs.Tasks.{part_at}
+use Rattle.jtask.proofs.PartsRead.{domains_more, read_parts}
 use Rattle.jtask.proofs.Halting.{each_halts, rose_or_misses, err_is}
 use Rattle.jtask.proofs.reading.parts_at.Goals as goal
 
@@ -20,6 +21,7 @@ returns-in_err-part_at-clause-cause g c =
 
 pub loop-path-preserved : goal.loop-path-preserved
 loop-path-preserved g c = record {
+  domains = domains_more c.args.paths.now c.loop-path.path-index c.path-item.result c.loop-path.parts c.push.new.self c.in_ok-part_at.field-0 c.loop-path-test.true c.path-item.is c.in_ok-part_at.ensures.domain c.in_ok-push.ensures.ok c.loop-path.invariant.domains;
   held = c.in_ok-part_at.ensures.held ∙ c.loop-path.invariant.held;
   stored = c.in_ok-part_at.ensures.stored ∙ c.loop-path.invariant.stored;
   later = omega (arith, c.loop-path.invariant.later, c.in_ok-part_at.ensures.later);
@@ -28,3 +30,6 @@ loop-path-preserved g c = record {
 
 pub returns-clause-value : goal.returns-clause-value
 returns-clause-value g c = λ files told. each_ends (part_at files) c.loop-path.parts c.args.paths.now c.loop-path.path-index (each (part_at files) c.args.paths.now) (omega arith) (c.loop-path.invariant.so_far files told)
+
+pub returns-clause-parts : goal.returns-clause-parts
+returns-clause-parts g c = read_parts c.args.paths.now c.loop-path.path-index c.loop-path.parts (omega arith) c.loop-path.invariant.domains c.requires

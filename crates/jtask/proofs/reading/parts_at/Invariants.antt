@@ -1,12 +1,15 @@
-use Rattle.std.proofs.Common.{◌≡◌, ◌≤◌, drop, List, Some}
+use Rattle.std.proofs.Common.{◌≡◌, ◌≤◌, drop, take, List, Some}
 use Rattle.jbase.specs.Each.{each}
 use Rattle.jbase.proofs.Loops.{behind}
 use Rattle.jio.specs.Held.{File}
+use Rattle.jtask.specs.Grounds.{domains_of}
 use Rattle.jtask.specs.Tasks.{part_at}
+use Rattle.jtask.proofs.PartsRead.{domains_in}
 use Rattle.jtask.proofs.reading.parts_at.Given as goal
 
 abbrev pub invariant-loop-path : goal.invariant-loop-path
 invariant-loop-path g l = record {
+  domains : domains_in l.parts ≡ domains_of (take l.path-index l.paths);
   held : g.S.Shelf.held l.shelf ≡ g.S.Shelf.held l.fn.shelf;
   stored : g.S.Shelf.write_faults l.shelf ≡ g.S.Shelf.write_faults l.fn.shelf;
   later : g.S.Shelf.read_faults l.fn.shelf ≤ g.S.Shelf.read_faults l.shelf;
