@@ -2,13 +2,31 @@
 """reached.py: how many lines of definitions the contracts of `javasec` and `dispatch` reach, for docs/THEOREMS.md.
 
 From the names in those contracts it follows, declaration by declaration, what each names, through all of crates/*/specs; and the Rust types
-that they name. Imports, comments and blank lines aren't counted. `reached.py headline` counts what the two clauses on the pass form reach."""
+that they name. Imports, comments, attributes and blank lines aren't counted.
+Of a type with a `Model` a clause sees its Value alone: its head, its public fields and what it says of its Value are counted and followed, its
+private fields and the types that only these name aren't. Any other type is counted whole, with the types of all its fields, each found by
+the `use` lines of its file.
+`reached.py headline` counts what the two clauses on the pass form reach."""
 import collections, glob, os, re, sys
 
 CRATES = os.path.join(os.path.dirname(os.path.abspath(__file__)), "..", "..", "crates")
 SIGNATURE = re.compile(r"^(\s*)((?:(?:abbrev|unfoldable|pub)\s+)*)(record|data)?\s*([^\s:(){}]+)\s*(?=[:({\s])")
 IMPORT = re.compile(r"^(?:ghost )?use Rattle\.([^\s{;]+?)(?:\.\{(.*?)\}| as (\w+))?;?$")
 TOKEN = re.compile(r"[^\s(){}\[\],;λ→×]+")
+MODEL = re.compile(r"^impl(?:<[^>]*>)? Model for (\w+).*?^}", re.S | re.M)
+VALUE = re.compile(r"^    ghost Value = \{.*?\};$", re.S | re.M)
+RUST_USE = re.compile(r"^(?:pub )?use ([^;]+);", re.M)
+
+
+def rust_names(text):
+    """The names that the `use` lines of a Rust file bring in, each with its path."""
+    names = {}
+    for path in RUST_USE.findall(text):
+        front, _, inside = re.sub(r"\s+", " ", path).partition("{")
+        for name in inside.rstrip("} ").split(",") if inside else [""]:
+            first, _, other = (front + name.strip()).partition(" as ")
+            names[other or first.split("::")[-1]] = first.split("::")
+    return names
 
 
 def imports(lines):
@@ -57,7 +75,7 @@ def declarations(lines):
 
 class Definitions:
     def __init__(self):
-        self.modules, self.types, self.sources = {}, {}, {}
+        self.modules, self.types, self.models, self.uses = {}, {}, {}, {}
         for path in glob.glob(CRATES + "/*/specs/**/*.antt", recursive=True):
             crate, _, module = os.path.relpath(path, CRATES)[:-5].partition("/specs/")
             lines = open(path).read().split("\n")
@@ -66,21 +84,26 @@ class Definitions:
             crate, _, module = os.path.relpath(path, CRATES)[:-3].partition("/src/")
             text = open(path).read()
             lines = text.split("\n")
-            self.sources[(crate, module.replace("/", "."))] = set(re.findall(r"\b(\w+)::", text))
+            module = module.replace("/", ".")
+            self.uses[(crate, module)] = rust_names(text)
+            for model in MODEL.finditer(text):
+                self.models[(crate, module, model.group(1))] = model.group(0)
             for first, line in enumerate(lines):
                 named = re.match(r"^(?:pub(?:\(crate\))? )?(?:enum|struct) (\w+)", line)
                 if named:
                     last = first
                     while not lines[last].startswith("}") and not lines[last].endswith(";"):
                         last += 1
-                    self.types[(crate, module.replace("/", "."), named.group(1))] = lines[first : last + 1]
-        self.reached, self.reached_types, self.later = set(), set(), []
+                    self.types[(crate, module, named.group(1))] = lines[first : last + 1]
+        self.reached, self.reached_types, self.later, self.later_types = set(), set(), [], []
 
     def reach(self, module, name):
         parts = module.split(".")
         if "declared" in parts:
-            self.reached_types.add((parts[0], ".".join(parts[3:-1]), parts[-1]))
-            self.reached_types.add((parts[0], ".".join(parts[3:]), name))
+            if parts[-1] == "TheVariants":
+                parts, name = parts[:-1], parts[-2]
+            self.reach_type((parts[0], ".".join(parts[3:-1]), parts[-1]))
+            self.reach_type((parts[0], ".".join(parts[3:]), name))
             return
         if module not in self.modules:
             return
@@ -109,22 +132,45 @@ class Definitions:
             if head:
                 self.reach_text(head.group(0), *imports(text.split("\n")))
 
+    def reach_type(self, key):
+        if key in self.types and key not in self.reached_types:
+            self.reached_types.add(key)
+            self.later_types.append(key)
+
+    def reach_rust(self, crate, module, name):
+        """The type that a name stands for in a Rust file: its own, or the one that a `use` line brings, through what crates hand on."""
+        if (crate, module, name) in self.types:
+            return self.reach_type((crate, module, name))
+        path = self.uses.get((crate, module), {}).get(name)
+        if path and path[0] in ("crate", "self") and len(path) > 1:
+            self.reach_rust(crate, ".".join(path[1:-1]) or "lib", path[-1])
+        elif path and path[:-1] and (path[0], "lib") in self.uses:
+            self.reach_rust(path[0], ".".join(path[1:-1]) or "lib", path[-1])
+        elif path and path[:-1] and module == "lib":
+            self.reach_rust(crate, ".".join(path[:-1]), path[-1])
+
+    def shown(self, key):
+        """The lines of a type that a reader reads: all, or without the private fields where it has a Model."""
+        lines = [line for line in self.types[key] if line.strip() and not line.strip().startswith(("//", "#"))]
+        if key not in self.models or " enum " in " " + lines[0]:
+            return lines
+        fields = [line for line in lines[1:] if line.strip().startswith("pub ")]
+        return lines[:1] + fields + VALUE.search(self.models[key]).group(0).split("\n")
+
     def close(self):
-        while self.later:
-            module, name = self.later.pop()
-            lines, found, (names, aliases) = self.modules[module]
-            self.reach_text("\n".join(re.sub(r"--.*", "", lines[i]) for i in found[name]), names, aliases, module)
-        self.reached_types &= set(self.types)
-        later = list(self.reached_types)
-        while later:
-            crate, module, name = later.pop()
-            text = "\n".join(line for line in self.types[(crate, module, name)] if not line.strip().startswith("//"))
-            words = set(re.findall(r"\w+", text))
-            for other in self.types:
-                near = other[0] == crate or other[0] in self.sources[(crate, module)]
-                if other not in self.reached_types and near and other[2] in words:
-                    self.reached_types.add(other)
-                    later.append(other)
+        while self.later or self.later_types:
+            if self.later:
+                module, name = self.later.pop()
+                lines, found, (names, aliases) = self.modules[module]
+                self.reach_text("\n".join(re.sub(r"--.*", "", lines[i]) for i in found[name]), names, aliases, module)
+                continue
+            key = self.later_types.pop()
+            text = "\n".join(self.shown(key))
+            if key in self.models:
+                uses = [line.strip().removeprefix("ghost ") for line in self.models[key].split("\n") if "ghost use" in line]
+                self.reach_text(text, *imports(uses))
+            for word in set(re.findall(r"\w+", text)):
+                self.reach_rust(key[0], key[1], word)
 
 
 def main():
@@ -141,7 +187,7 @@ def main():
         _, found, _ = all.modules[module]
         lines[module.split(".")[0]] += len({i for name in found if (module, name) in all.reached for i in found[name]})
     for key in all.reached_types:
-        types[key[0]] += sum(1 for line in all.types[key] if line.strip() and not line.strip().startswith(("//", "#")))
+        types[key[0]] += len(all.shown(key))
     for crate in sorted(set(lines) | set(types)):
         print(f"{crate:12} {lines[crate]:6} {types[crate]:6}")
     print(f"{len(all.reached)} definitions of {sum(lines.values())} lines; types of {sum(types.values())} lines")
