@@ -92,7 +92,7 @@ class Definitions:
                 named = re.match(r"^(?:pub(?:\(crate\))? )?(?:enum|struct) (\w+)", line)
                 if named:
                     last = first
-                    while not lines[last].startswith("}") and not lines[last].endswith(";"):
+                    while not lines[last].startswith("}") and not lines[last].endswith((";", "}") if last == first else ";"):
                         last += 1
                     self.types[(crate, module, named.group(1))] = lines[first : last + 1]
         self.reached, self.reached_types, self.later, self.later_types = set(), set(), [], []
@@ -109,7 +109,7 @@ class Definitions:
             return
         lines, found, _ = self.modules[module]
         if name not in found:
-            member = re.compile(r"^\s*(?:pub )?" + re.escape(name) + r" :")
+            member = re.compile(r"^\s*(?:pub )?(?:\w+ )*" + re.escape(name) + r"(?: \w+)* :")
             name = next((n for n, own in found.items() if any(member.match(lines[i]) for i in own)), None)
         if name and (module, name) not in self.reached:
             self.reached.add((module, name))

@@ -7,8 +7,7 @@ fault_if test fault = if test then Some fault else None
 
 -- the first fault, else the second
 abbrev pub or_else : {F : Type 0} → Option F → Option F → Option F
-or_else (Some fault) later = Some fault
-or_else None later = later
+or_else x later = elim x [ Some fault ↦ Some fault | None ↦ later ]
 
 -- the first fault among the items, each given with its place; `i` is the place of the first item
 unfoldable pub first_along : {A F : Type 0} → (ℕ → A → Option F) → ℕ → List A → Option F

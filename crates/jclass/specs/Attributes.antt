@@ -36,8 +36,7 @@ abbrev pub raw_from : ℕ × List ℕ → Attribute
 raw_from p = Raw p.0 p.1
 
 abbrev pub raw_parts : Attribute → Option (ℕ × List ℕ)
-raw_parts (Raw name bytes) = Some (name, bytes)
-raw_parts _ = None
+raw_parts = elim [ Raw name bytes ↦ Some (name, bytes) | _ ↦ None ]
 
 unfoldable pub class_attribute : List Entry → Format ClassFault Attribute
 class_attribute pool = as_case raw_from raw_parts (text_index pool · run)
@@ -53,9 +52,7 @@ constant_from (name, inl value) = ConstantValue name value
 constant_from (name, inr bytes) = Raw name bytes
 
 abbrev pub constant_parts : Attribute → Option (ℕ × (ℕ ⊎ List ℕ))
-constant_parts (ConstantValue name value) = Some (name, inl value)
-constant_parts (Raw name bytes) = Some (name, inr bytes)
-constant_parts _ = None
+constant_parts = elim [ ConstantValue name value ↦ Some (name, inl value) | Raw name bytes ↦ Some (name, inr bytes) | _ ↦ None ]
 
 abbrev pub is_constant : List Entry → Access → ℕ → Bool
 is_constant pool a i = is_static a && is_constant_value pool i
@@ -66,5 +63,4 @@ field_attribute pool a desc seen = as_case constant_from constant_parts
     (name_once pool (is_constant pool a) Index seen ▹ λ i. content (is_constant pool a i) (constant pool desc))
 
 abbrev pub saw_constant : Bool → Attribute → Bool
-saw_constant seen (ConstantValue name value) = true
-saw_constant seen _ = seen
+saw_constant seen = elim [ ConstantValue name value ↦ true | _ ↦ seen ]

@@ -52,19 +52,14 @@ by_test test f g = record {
 -- ---- other names of faults
 
 abbrev pub told : {K L A : Type 0} → (K → L) → Result A (Fault K) → Result A (Fault L)
-told name (Ok a) = Ok a
-told name (Err d) = Err (record { left = d.left; kind = name d.kind })
+told name x = elim x [ Ok a ↦ Ok a | Err d ↦ Err (record { left = d.left; kind = name d.kind }) ]
 
 -- the same format, with other names of its faults
 abbrev pub told_as : {K L A : Type 0} → (K → L) → Format K A → Format L A
 told_as name f = record { spell = f.spell; fits = f.fits; read = λ bytes. told name (f.read bytes) }
 
 abbrev pub pool_fault : PoolFault → ClassFault
-pool_fault pool.Truncated = Truncated
-pool_fault pool.BadTag = Tag
-pool_fault pool.BadIndex = Index
-pool_fault pool.BadName = Name
-pool_fault pool.BadDescriptor = Descriptor
+pool_fault = elim [ pool.Truncated ↦ Truncated | pool.BadTag ↦ Tag | pool.BadIndex ↦ Index | pool.BadName ↦ Name | pool.BadDescriptor ↦ Descriptor ]
 
 -- what is behind a value that isn't looked at
 abbrev pub unseen : {K A : Type 0} → Answer K A → Answer K (Unit {0})

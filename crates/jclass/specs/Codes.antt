@@ -42,8 +42,7 @@ abbrev pub plain_type : Format ClassFault MapType
 plain_type = map_type frame_kinds
 
 abbrev pub type_fault : List Entry → MapType → Option ClassFault
-type_fault pool (Object i) = unless (is_class pool i) Index
-type_fault pool _ = None
+type_fault pool = elim [ Object i ↦ unless (is_class pool i) Index | _ ↦ None ]
 
 -- a type of an item, whose class is there
 abbrev pub named_type : List Entry → Format ClassFault MapType
@@ -58,16 +57,14 @@ attribute_from (name, inl fs) = code.Maps name fs
 attribute_from (name, inr bytes) = code.Raw name bytes
 
 abbrev pub attribute_parts : CodeAttribute → ℕ × (List RawFrame ⊎ List ℕ)
-attribute_parts (code.Maps name fs) = (name, inl fs)
-attribute_parts (code.Raw name bytes) = (name, inr bytes)
+attribute_parts = elim [ code.Maps name fs ↦ (name, inl fs) | code.Raw name bytes ↦ (name, inr bytes) ]
 
 -- an attribute of a code; `seen` where frames stood before it
 unfoldable pub attribute : List Entry → Bool → Format ClassFault CodeAttribute
 attribute pool seen = via attribute_from attribute_parts (name_once pool (is_maps pool) kinds.Maps seen ▹ λ i. content (is_maps pool i) (maps pool))
 
 abbrev pub saw_maps : Bool → CodeAttribute → Bool
-saw_maps seen (code.Maps name fs) = true
-saw_maps seen _ = seen
+saw_maps seen = elim [ code.Maps name fs ↦ true | _ ↦ seen ]
 
 -- ---- instructions
 
@@ -79,8 +76,7 @@ code_fault codes.BadOperand = Operand
 code_fault codes.BadTarget = Target
 
 abbrev pub none_misnamed : List ℕ → List Placed → Option ℕ → Result (List Placed) (Fault ClassFault)
-none_misnamed bytes ps None = Ok ps
-none_misnamed bytes ps (Some at) = Err (record { left = length bytes - at; kind = Index })
+none_misnamed bytes ps = elim [ None ↦ Ok ps | Some at ↦ Err (record { left = length bytes - at; kind = Index }) ]
 
 -- the instructions, and then what they name, each fault at its instruction
 unfoldable pub ops : List Entry → Body ClassFault (List Placed)

@@ -26,8 +26,7 @@ behind (Ok x) = Some x.1
 behind (Err d) = None
 
 abbrev pub text_fault : Entry → Option ClassFault
-text_fault (Utf8 bytes) = unless (is_modified bytes) Text
-text_fault _ = None
+text_fault = elim [ Utf8 bytes ↦ unless (is_modified bytes) Text | _ ↦ None ]
 
 -- the first fault of an entry among all
 unfoldable pub entry_fault : List Entry → Entry → Option ClassFault

@@ -48,8 +48,7 @@ code_parts _ = None
 
 -- what stands in a Code attribute behind its name, if it is one
 abbrev pub body_of : Attribute → Option CodeBody
-body_of (Code name stack locals ops handlers attributes) = Some (a_body stack locals ops handlers attributes)
-body_of _ = None
+body_of = elim [ Code name stack locals ops handlers attributes ↦ Some (a_body stack locals ops handlers attributes) | _ ↦ None ]
 
 abbrev pub code_spell : List Entry → Attribute → List ℕ
 code_spell pool a = part_spell (code_content pool) (body_of a)
@@ -73,9 +72,7 @@ abbrev pub names_at : List ℕ → Answer ClassFault (Access × List ℕ)
 names_at bytes = (access · u2 · u2).read bytes >>= λ x. counted_at u2.read name_at x.1 >>= λ y. Ok ((x.0.0, y.0), y.1)
 
 abbrev pub attribute_name : Attribute → ℕ
-attribute_name (ConstantValue name value) = name
-attribute_name (Code name stack locals ops handlers attributes) = name
-attribute_name (Raw name bytes) = name
+attribute_name = elim [ ConstantValue name value ↦ name | Code name stack locals ops handlers attributes ↦ name | Raw name bytes ↦ name ]
 
 abbrev pub names_of : MemberInfo → Access × List ℕ
 names_of m = (m.flags, map attribute_name m.attributes)

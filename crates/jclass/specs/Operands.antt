@@ -1,7 +1,7 @@
 -- What the instructions name in the pool (JVMS 6.5).
 use Rattle.std.specs.Prelude.{ℕ, Bool, true, false, ◌||◌, List, Option, Some, None, slice_get, if◌then◌else◌}
 use Rattle.jcode.specs.declared.names.CallOp.{CallOp}
-use Rattle.jcode.specs.declared.names.CallOp.TheVariants.{Virtual, Special, Static}
+use Rattle.jcode.specs.declared.names.CallOp.TheVariants.{Virtual}
 use Rattle.jcode.specs.declared.op.Op.{Op}
 use Rattle.jcode.specs.declared.op.Op.TheVariants as ops
 use Rattle.jcode.specs.declared.op.Ldc.TheVariants as ldcs
@@ -41,9 +41,7 @@ is_interface_method _ = false
 
 -- invokevirtual names a method of a class; invokespecial and invokestatic name one of a class or of an interface
 abbrev pub is_called : CallOp → Option Entry → Bool
-is_called Virtual one = is_method one
-is_called Special one = is_method one || is_interface_method one
-is_called Static one = is_method one || is_interface_method one
+is_called x one = elim x [ Virtual ↦ is_method one | _ ↦ is_method one || is_interface_method one ]
 
 -- whether an instruction names an entry of the kind that it must name
 unfoldable pub names_well : List Entry → Op → Bool

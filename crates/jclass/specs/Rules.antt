@@ -16,8 +16,7 @@ use Rattle.jclass.specs.Basics.{u2}
 -- ---- indices
 
 abbrev pub is_plain_class : Option (List ℕ) → Bool
-is_plain_class None = false
-is_plain_class (Some text) = is_class_name text
+is_plain_class = elim [ None ↦ false | Some text ↦ is_class_name text ]
 
 -- a class that is no array
 unfoldable pub names_class : List Entry → ℕ → Bool
@@ -33,8 +32,7 @@ names_caught pool i = i == 0 || is_class pool i
 
 -- a text is there and is this one
 abbrev pub is_text : Option (List ℕ) → List ℕ → Bool
-is_text (Some text) wanted = bytes_eq text wanted
-is_text None wanted = false
+is_text x wanted = elim x [ Some text ↦ bytes_eq text wanted | None ↦ false ]
 
 unfoldable pub is_constant_value : List Entry → ℕ → Bool
 is_constant_value pool i = is_text (utf8_at pool i) (codes "ConstantValue")
@@ -60,16 +58,14 @@ has_no_code a = has_flag 1024 a || has_flag 256 a
 -- ---- descriptors
 
 abbrev pub descriptor_fault : (List ℕ → Bool) → Option (List ℕ) → Option ClassFault
-descriptor_fault good None = Some Index
-descriptor_fault good (Some text) = unless (good text) Descriptor
+descriptor_fault good = elim [ None ↦ Some Index | Some text ↦ unless (good text) Descriptor ]
 
 -- the index of a field's descriptor
 unfoldable pub field_descriptor : List Entry → Format ClassFault ℕ
 field_descriptor pool = such (λ i. descriptor_fault is_field_descriptor (utf8_at pool i)) u2
 
 abbrev pub within : ℕ → Option ℕ → Bool
-within limit None = false
-within limit (Some n) = nat_le n limit
+within limit = elim [ None ↦ false | Some n ↦ nat_le n limit ]
 
 -- 255 slots of parameters, of which an instance method's `this` takes one
 abbrev pub most_slots : Access → ℕ
@@ -94,8 +90,7 @@ suits type (Some (Str text)) = bytes_eq type (codes "Ljava/lang/String;")
 suits type _ = false
 
 abbrev pub suits_type : Option (List ℕ) → Option Entry → Bool
-suits_type None one = false
-suits_type (Some type) one = suits type one
+suits_type x one = elim x [ None ↦ false | Some type ↦ suits type one ]
 
 -- whether the entry at an index suits the field whose descriptor stands at another
 unfoldable pub suits_field : List Entry → ℕ → ℕ → Bool

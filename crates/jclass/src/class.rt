@@ -24,37 +24,21 @@ pub struct CodeBody {
 }
 
 /// An attribute of a class, a field or a method (JVMS 4.7). `name` is the index of its name.
+#[rattlefmt::skip]
 #[derive(Debug, Drop)]
 pub enum Attribute {
     /// The constant value of a static field.
-    ConstantValue {
-        name: u16,
-        value: u16,
-    },
+    ConstantValue { name: u16, value: u16 },
     /// The code of a method.
-    Code {
-        name: u16,
-        max_stack: u16,
-        max_locals: u16,
-        ops: Seq<Placed>,
-        handlers: Seq<Handler>,
-        attributes: Seq<CodeAttribute>,
-    },
+    Code { name: u16, max_stack: u16, max_locals: u16, ops: Seq<Placed>, handlers: Seq<Handler>, attributes: Seq<CodeAttribute> },
     /// Any other attribute.
-    Raw {
-        name: u16,
-        bytes: Seq<u8>,
-    },
+    Raw { name: u16, bytes: Seq<u8> },
 }
 
 /// A field or a method (JVMS 4.5, 4.6). `name` and `desc` are indices of texts.
+#[rattlefmt::skip]
 #[derive(Debug, Drop)]
-pub struct MemberInfo {
-    pub flags: Access,
-    pub name: u16,
-    pub desc: u16,
-    pub attributes: Seq<Attribute>,
-}
+pub struct MemberInfo { pub flags: Access, pub name: u16, pub desc: u16, pub attributes: Seq<Attribute> }
 
 /// The parts of a class file (JVMS 4.1), in the order in which they are written.
 #[derive(Debug, Drop)]

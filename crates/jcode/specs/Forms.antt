@@ -51,27 +51,21 @@ use Rattle.jnames.specs.declared.kinds.Effect.{Effect}
 
 -- the first of iconst_m1, iconst_0 .. iconst_5 puts -1
 abbrev pub const_value : IntConst → ℤ
-const_value (consts.Small n) = pos (int_step n) -ℤ pos 1
-const_value (consts.Byte n) = n
-const_value (consts.Short n) = n
+const_value = elim [ consts.Small n ↦ pos (int_step n) -ℤ pos 1 | consts.Byte n ↦ n | consts.Short n ↦ n ]
 
 abbrev pub ldc_index : Ldc → ℕ
-ldc_index (ldcs.Narrow n) = n
-ldc_index (ldcs.Wide n) = n
+ldc_index = elim [ ldcs.Narrow n ↦ n | ldcs.Wide n ↦ n ]
 
 abbrev pub distance : Goto → ℤ
-distance (gotos.Narrow by) = by
-distance (gotos.Wide by) = by
+distance = elim [ gotos.Narrow by ↦ by | gotos.Wide by ↦ by ]
 
 -- ---- forms
 
 abbrev pub local_form : LocalKind → LocalOp → LocalForm
-local_form kind (moves.At access n) = Move access kind n
-local_form kind (moves.Slot access slot) = Move access kind (slot_step slot)
+local_form kind = elim [ moves.At access n ↦ Move access kind n | moves.Slot access slot ↦ Move access kind (slot_step slot) ]
 
 abbrev pub wide_form : Wide → LocalForm
-wide_form (wides.Local kind access n) = Move access kind n
-wide_form (wides.Iinc n by) = Increment n by
+wide_form = elim [ wides.Local kind access n ↦ Move access kind n | wides.Iinc n by ↦ Increment n by ]
 
 abbrev pub new_form : NewOp → Form Switch
 new_form (news.Object n) = forms.Pool (pool.New n)
@@ -79,8 +73,7 @@ new_form (news.Array element) = forms.Array (arrays.New element)
 new_form (news.RefArray n) = forms.Array (arrays.NewRef n)
 
 abbrev pub object_form : ObjectOp → Form Switch
-object_form ArrayLength = forms.Array arrays.Length
-object_form Throw = forms.Flow flows.Throw
+object_form = elim [ ArrayLength ↦ forms.Array arrays.Length | Throw ↦ forms.Flow flows.Throw ]
 
 -- The form of an instruction. Its spellings are one form: iload_1, iload 1 and wide iload 1; iconst_3, bipush 3 and sipush 3; goto
 -- and goto_w; ldc and ldc_w.
@@ -137,10 +130,7 @@ seen (forms.Pool f) = forms.Pool f
 
 -- kinds as a list, the newest first
 abbrev pub listed : Kinds → List Kind
-listed taken.None = []
-listed (taken.One a) = a ∷ []
-listed (taken.Two a b) = a ∷ b ∷ []
-listed (taken.Three a b c) = a ∷ b ∷ c ∷ []
+listed = elim [ taken.None ↦ [] | taken.One a ↦ a ∷ [] | taken.Two a b ↦ a ∷ b ∷ [] | taken.Three a b c ↦ a ∷ b ∷ c ∷ [] ]
 
 abbrev pub simple_effect : Simple → Effect
 simple_effect simple.Nothing = takes taken.None
@@ -153,9 +143,7 @@ simple_effect (simple.One op) = one_effect op
 
 -- what a local holds
 abbrev pub local : LocalKind → Kind
-local locals.Int = kinds.Int
-local locals.Long = kinds.Long
-local locals.Ref = kinds.Held
+local = elim [ locals.Int ↦ kinds.Int | locals.Long ↦ kinds.Long | locals.Ref ↦ kinds.Held ]
 
 abbrev pub local_effect : LocalForm → Effect
 local_effect (Move Load kind n) = gives taken.None (local kind)
@@ -163,15 +151,10 @@ local_effect (Move Store kind n) = takes (taken.One (local kind))
 local_effect (Increment n by) = takes taken.None
 
 abbrev pub compared : RefTest → Kinds
-compared Null = taken.One kinds.Ref
-compared NonNull = taken.One kinds.Ref
-compared _ = taken.Two kinds.Ref kinds.Ref
+compared = elim [ Null ↦ taken.One kinds.Ref | NonNull ↦ taken.One kinds.Ref | _ ↦ taken.Two kinds.Ref kinds.Ref ]
 
 abbrev pub returned : Returned → Kinds
-returned results.Int = taken.One kinds.Int
-returned results.Long = taken.One kinds.Long
-returned results.Ref = taken.One kinds.Ref
-returned results.Nothing = taken.None
+returned = elim [ results.Int ↦ taken.One kinds.Int | results.Long ↦ taken.One kinds.Long | results.Ref ↦ taken.One kinds.Ref | _ ↦ taken.None ]
 
 abbrev pub flow_effect : {S : Type 0} → Flow S → Effect
 flow_effect (flows.If test by) = takes (taken.One kinds.Int)
@@ -184,9 +167,7 @@ flow_effect flows.Throw = takes (taken.One kinds.Ref)
 
 -- what is loaded from an array and stored into it
 abbrev pub element : Element → Kind
-element elements.Long = kinds.Long
-element elements.Ref = kinds.Ref
-element _ = kinds.Int
+element = elim [ elements.Long ↦ kinds.Long | elements.Ref ↦ kinds.Ref | _ ↦ kinds.Int ]
 
 abbrev pub array_effect : ArrayForm → Effect
 array_effect (arrays.New kind) = gives (taken.One kinds.Int) kinds.Array
@@ -208,8 +189,7 @@ effect (forms.Pool f) = None
 -- ---- where the method goes on
 
 abbrev pub switch_branches : Switch → List ℤ
-switch_branches (switches.Table s) = s.default ∷ s.branches
-switch_branches (switches.Lookup s) = s.default ∷ map (λ c. c.branch) s.cases
+switch_branches = elim [ switches.Table s ↦ s.default ∷ s.branches | switches.Lookup s ↦ s.default ∷ map (λ c. c.branch) s.cases ]
 
 abbrev pub flow_branches : Flow Switch → List ℤ
 flow_branches (flows.If test by) = by ∷ []
@@ -221,16 +201,11 @@ flow_branches _ = []
 
 -- The distances to which a form may lead, from its instruction's own place; of a switch, the default first.
 unfoldable pub branches : Form Switch → List ℤ
-branches (forms.Flow f) = flow_branches f
-branches _ = []
+branches = elim [ forms.Flow f ↦ flow_branches f | _ ↦ [] ]
 
 abbrev pub flow_goes_on : {S : Type 0} → Flow S → Bool
-flow_goes_on (flows.If test by) = true
-flow_goes_on (flows.IfInt test by) = true
-flow_goes_on (flows.IfRef test by) = true
-flow_goes_on _ = false
+flow_goes_on x = elim x [ flows.If test by ↦ true | flows.IfInt test by ↦ true | flows.IfRef test by ↦ true | _ ↦ false ]
 
 -- the instruction behind a form's own may follow it
 unfoldable pub goes_on : {S : Type 0} → Form S → Bool
-goes_on (forms.Flow f) = flow_goes_on f
-goes_on _ = true
+goes_on x = elim x [ forms.Flow f ↦ flow_goes_on f | _ ↦ true ]

@@ -44,9 +44,7 @@ use Rattle.jcode.specs.Operands.{OtherOperand, Operand, operands}
 -- ---- an instruction as an opcode and its operands
 
 abbrev pub local_op : LocalKind → LocalOp → Op
-local_op kinds.Int = ops.IntLocal
-local_op kinds.Long = ops.LongLocal
-local_op kinds.Ref = ops.RefLocal
+local_op = elim [ kinds.Int ↦ ops.IntLocal | kinds.Long ↦ ops.LongLocal | kinds.Ref ↦ ops.RefLocal ]
 
 abbrev pub plain_op : Plain → Op
 plain_op plain.Nop = ops.Nop
@@ -64,8 +62,7 @@ plain_op (plain.Return kind) = ops.Return kind
 plain_op (plain.Object op) = ops.Object op
 
 abbrev pub byte_op : ByteHead → ℕ → Op
-byte_op byte.Ldc n = ops.Ldc (ldcs.Narrow n)
-byte_op (byte.Local kind access) n = local_op kind (locals.At access n)
+byte_op x n = elim x [ byte.Ldc ↦ ops.Ldc (ldcs.Narrow n) | byte.Local kind access ↦ local_op kind (locals.At access n) ]
 
 abbrev pub index_op : IndexHead → ℕ → Op
 index_op index.LdcWide n = ops.Ldc (ldcs.Wide n)
@@ -108,8 +105,7 @@ abbrev pub bare : Plain → Parts
 bare h = (heads.Plain h, tt)
 
 abbrev pub local_parts : LocalKind → LocalOp → Parts
-local_parts kind (locals.At access n) = (heads.Byte (byte.Local kind access), n)
-local_parts kind (locals.Slot access slot) = bare (plain.Local kind access slot)
+local_parts kind = elim [ locals.At access n ↦ (heads.Byte (byte.Local kind access), n) | locals.Slot access n ↦ bare (plain.Local kind access n) ]
 
 -- the opcode of an instruction, and its operands
 abbrev pub parts : Op → Parts
@@ -165,28 +161,21 @@ behind_fits at op = (operands at (parts op).0).fits (parts op).1
 
 -- a fault is named at the instruction's first byte
 abbrev pub at_front : {A : Type 0} → List ℕ → Answer CodeFault A → Answer CodeFault A
-at_front bytes (Ok x) = Ok x
-at_front bytes (Err d) = fault d.kind bytes
+at_front bytes y = elim y [ Ok x ↦ Ok x | Err d ↦ fault d.kind bytes ]
 
 -- an instruction behind its opcode
 unfoldable pub read_behind : ℕ → Head → List ℕ → Answer CodeFault Op
 read_behind at h bytes = (operands at h).read bytes >>= λ x. Ok (op_from h x.0, x.1)
 
 abbrev pub behind_head : ℕ → List ℕ → Result Head CodeFault → Answer CodeFault Op
-behind_head at rest (Ok h) = read_behind at h rest
-behind_head at rest (Err kind) = fault kind rest
+behind_head at rest = elim [ Ok h ↦ read_behind at h rest | Err kind ↦ fault kind rest ]
 
 abbrev pub instruction_at : ℕ → List ℕ → Answer CodeFault Op
-instruction_at at [] = fault Truncated []
-instruction_at at (t ∷ rest) = at_front (t ∷ rest) (behind_head at rest (head_at t))
+instruction_at at = elim [ [] ↦ fault Truncated [] | t ∷ rest ↦ at_front (t ∷ rest) (behind_head at rest (head_at t)) ]
 
 -- the opcode's byte, and behind it the operands
 unfoldable pub instruction : ℕ → Format CodeFault Op
-instruction at = record {
-  spell = λ op. head_number (op_head op) ∷ behind at op;
-  fits = behind_fits at;
-  read = instruction_at at;
-}
+instruction at = record { spell = λ op. head_number (op_head op) ∷ behind at op; fits = behind_fits at; read = instruction_at at }
 
 -- the number of bytes of an instruction at a place
 unfoldable pub size : ℕ → Op → ℕ

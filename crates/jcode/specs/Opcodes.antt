@@ -53,61 +53,28 @@ use Rattle.jcode.specs.declared.head.OtherHead.TheVariants as other
 -- ---- places in a row of opcodes
 
 abbrev pub slot_step : Slot → ℕ
-slot_step slots.Zero = 0
-slot_step slots.One = 1
-slot_step slots.Two = 2
-slot_step slots.Three = 3
+slot_step = elim [ slots.Zero ↦ 0 | slots.One ↦ 1 | slots.Two ↦ 2 | slots.Three ↦ 3 ]
 
 abbrev pub int_step : SmallInt → ℕ
-int_step ints.MinusOne = 0
-int_step ints.Zero = 1
-int_step ints.One = 2
-int_step ints.Two = 3
-int_step ints.Three = 4
-int_step ints.Four = 5
-int_step ints.Five = 6
+int_step = elim [ ints.MinusOne ↦ 0 | ints.Zero ↦ 1 | ints.One ↦ 2 | ints.Two ↦ 3 | ints.Three ↦ 4 | ints.Four ↦ 5 | ints.Five ↦ 6 ]
 
 abbrev pub long_step : SmallLong → ℕ
-long_step longs.Zero = 0
-long_step longs.One = 1
+long_step = elim [ longs.Zero ↦ 0 | longs.One ↦ 1 ]
 
 abbrev pub element_step : Element → ℕ
-element_step elements.Int = 0
-element_step elements.Long = 1
-element_step elements.Ref = 4
-element_step elements.Byte = 5
-element_step elements.Char = 6
-element_step elements.Short = 7
+element_step = elim [ elements.Int ↦ 0 | elements.Long ↦ 1 | elements.Ref ↦ 4 | elements.Byte ↦ 5 | elements.Char ↦ 6 | elements.Short ↦ 7 ]
 
 abbrev pub shuffle_step : Shuffle → ℕ
-shuffle_step Pop = 0
-shuffle_step Pop2 = 1
-shuffle_step Dup = 2
-shuffle_step DupX1 = 3
-shuffle_step DupX2 = 4
-shuffle_step Dup2 = 5
-shuffle_step Dup2X1 = 6
-shuffle_step Dup2X2 = 7
-shuffle_step Swap = 8
+shuffle_step = elim [ Pop ↦ 0 | Pop2 ↦ 1 | Dup ↦ 2 | DupX1 ↦ 3 | DupX2 ↦ 4 | Dup2 ↦ 5 | Dup2X1 ↦ 6 | Dup2X2 ↦ 7 | Swap ↦ 8 ]
 
 abbrev pub compare_step : Compare → ℕ
-compare_step Eq = 0
-compare_step Ne = 1
-compare_step Lt = 2
-compare_step Ge = 3
-compare_step Gt = 4
-compare_step Le = 5
+compare_step = elim [ Eq ↦ 0 | Ne ↦ 1 | Lt ↦ 2 | Ge ↦ 3 | Gt ↦ 4 | Le ↦ 5 ]
 
 abbrev pub field_step : FieldOp → ℕ
-field_step GetStatic = 0
-field_step PutStatic = 1
-field_step GetField = 2
-field_step PutField = 3
+field_step = elim [ GetStatic ↦ 0 | PutStatic ↦ 1 | GetField ↦ 2 | PutField ↦ 3 ]
 
 abbrev pub call_step : CallOp → ℕ
-call_step Virtual = 0
-call_step Special = 1
-call_step Static = 2
+call_step = elim [ Virtual ↦ 0 | Special ↦ 1 | Static ↦ 2 ]
 
 -- ---- the number of each opcode
 
@@ -141,29 +108,16 @@ two_number twos.Lxor = 0x83
 two_number twos.Lcmp = 0x94
 
 abbrev pub division_number : Division → ℕ
-division_number divisions.Idiv = 0x6c
-division_number divisions.Irem = 0x70
-division_number divisions.Ldiv = 0x6d
-division_number divisions.Lrem = 0x71
+division_number = elim [ divisions.Idiv ↦ 0x6c | divisions.Irem ↦ 0x70 | divisions.Ldiv ↦ 0x6d | divisions.Lrem ↦ 0x71 ]
 
 abbrev pub one_number : OpOne → ℕ
-one_number ones.Ineg = 0x74
-one_number ones.Lneg = 0x75
-one_number ones.I2l = 0x85
-one_number ones.L2i = 0x88
-one_number ones.I2b = 0x91
-one_number ones.I2c = 0x92
-one_number ones.I2s = 0x93
+one_number = elim [ ones.Ineg ↦ 0x74 | ones.Lneg ↦ 0x75 | ones.I2l ↦ 0x85 | ones.L2i ↦ 0x88 | ones.I2b ↦ 0x91 | ones.I2c ↦ 0x92 | ones.I2s ↦ 0x93 ]
 
 abbrev pub return_number : Returned → ℕ
-return_number results.Int = 0xac
-return_number results.Long = 0xad
-return_number results.Ref = 0xb0
-return_number results.Nothing = 0xb1
+return_number = elim [ results.Int ↦ 0xac | results.Long ↦ 0xad | results.Ref ↦ 0xb0 | results.Nothing ↦ 0xb1 ]
 
 abbrev pub object_number : ObjectOp → ℕ
-object_number ArrayLength = 0xbe
-object_number Throw = 0xbf
+object_number = elim [ ArrayLength ↦ 0xbe | Throw ↦ 0xbf ]
 
 abbrev pub plain_number : Plain → ℕ
 plain_number plain.Nop = 0x00
@@ -190,8 +144,7 @@ byte_number (byte.Local kinds.Long Store) = 0x37
 byte_number (byte.Local kinds.Ref Store) = 0x3a
 
 abbrev pub cast_number : CastOp → ℕ
-cast_number CheckCast = 0xc0
-cast_number InstanceOf = 0xc1
+cast_number = elim [ CheckCast ↦ 0xc0 | InstanceOf ↦ 0xc1 ]
 
 abbrev pub index_number : IndexHead → ℕ
 index_number index.LdcWide = 0x13
@@ -203,10 +156,7 @@ index_number index.NewRefArray = 0xbd
 index_number (index.Cast op) = cast_number op
 
 abbrev pub ref_test_number : RefTest → ℕ
-ref_test_number Same = 0xa5
-ref_test_number Other = 0xa6
-ref_test_number Null = 0xc6
-ref_test_number NonNull = 0xc7
+ref_test_number = elim [ Same ↦ 0xa5 | Other ↦ 0xa6 | Null ↦ 0xc6 | NonNull ↦ 0xc7 ]
 
 abbrev pub branch_number : BranchHead → ℕ
 branch_number (branch.If test) = 0x99 + compare_step test
@@ -292,8 +242,7 @@ all_heads = map heads.Plain all_plain ++ map heads.Byte all_bytes ++ map heads.I
 
 -- Other numbers below 0xca are of opcodes that are left out; there are no opcodes from 0xca on.
 abbrev pub or_fault : ℕ → Option Head → Result Head CodeFault
-or_fault n (Some h) = Ok h
-or_fault n None = if nat_lt n 0xca then Err (LeftOut n) else Err (UnknownOpcode n)
+or_fault n = elim [ Some h ↦ Ok h | None ↦ if nat_lt n 0xca then Err (LeftOut n) else Err (UnknownOpcode n) ]
 
 -- what a first byte says
 unfoldable pub head_at : ℕ → Result Head CodeFault

@@ -85,8 +85,7 @@ case_count = such (λ n. fault_if (nat_le 0x8000_0000 n) BadOperand) u4
 
 -- Each key is above the one before it.
 abbrev pub falls : Option ℤ → ℤ → Option CodeFault
-falls None key = None
-falls (Some before) key = if int_lt before key then None else Some BadOperand
+falls x key = elim x [ None ↦ None | Some before ↦ if int_lt before key then None else Some BadOperand ]
 
 abbrev pub case_behind : Option ℤ → Format CodeFault Case
 case_behind before = via (λ p. record { key = p.0; branch = p.1 }) (λ c. (c.key, c.branch)) (such (falls before) i4 · i4)
@@ -105,12 +104,7 @@ unfoldable pub interface_call : Format CodeFault (ℕ × ℕ)
 interface_call = via (λ p. (p.0, p.1.0)) (λ p. (p.0, (p.1, tt))) (u2 · such (λ n. fault_if (n == 0) BadOperand) u1 · nil)
 
 abbrev pub array_number : ArrayType → ℕ
-array_number arrays.Boolean = 4
-array_number arrays.Char = 5
-array_number arrays.Byte = 8
-array_number arrays.Short = 9
-array_number arrays.Int = 10
-array_number arrays.Long = 11
+array_number = elim [ arrays.Boolean ↦ 4 | arrays.Char ↦ 5 | arrays.Byte ↦ 8 | arrays.Short ↦ 9 | arrays.Int ↦ 10 | arrays.Long ↦ 11 ]
 
 abbrev pub array_case : ArrayType → Cases CodeFault ArrayType
 array_case one = sole (array_number one) one (λ other. array_number other == array_number one)
@@ -127,12 +121,10 @@ abbrev pub local_number : LocalKind → Access → ℕ
 local_number kind access = byte_number (byte.Local kind access)
 
 abbrev pub local_of : LocalKind → Access → Wide → Option ℕ
-local_of kind access (wides.Local other way n) = if local_number other way == local_number kind access then Some n else None
-local_of kind access (wides.Iinc n by) = None
+local_of kind access = elim [ wides.Local k way n ↦ if local_number k way == local_number kind access then Some n else None | wides.Iinc n by ↦ None ]
 
 abbrev pub increment_of : Wide → Option (ℕ × ℤ)
-increment_of (wides.Local kind access n) = None
-increment_of (wides.Iinc n by) = Some (n, by)
+increment_of = elim [ wides.Local kind access n ↦ None | wides.Iinc n by ↦ Some (n, by) ]
 
 abbrev pub wide_local : LocalKind → Access → Cases CodeFault Wide
 wide_local kind access = case (local_number kind access) (wides.Local kind access) (local_of kind access) u2

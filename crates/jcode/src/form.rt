@@ -44,17 +44,14 @@ pub enum LocalForm {
 }
 
 /// A form that says where the method goes on. A branch is the distance from the instruction's own place.
+#[rattlefmt::skip]
 #[derive(Clone, Copy, Debug)]
 pub enum Flow<S> {
     /// An int against zero.
     If(Compare, i32),
     /// An int against another.
     IfInt(Compare, i32),
-    IfRef(RefTest, i32),
-    Goto(i32),
-    Switch(S),
-    Return(Returned),
-    Throw,
+    IfRef(RefTest, i32), Goto(i32), Switch(S), Return(Returned), Throw,
 }
 
 /// A form with an array.

@@ -17,8 +17,7 @@ verdict has asked (i ∷ c) = if fails has asked i then Denied i.domain else ver
 -- the items that have none before them, among the earlier ones or here, that covers them
 abbrev pub keep_after : List Item → List Item → List Item
 keep_after earlier [] = []
-keep_after earlier (i ∷ c) =
-    if list_any (λ e. covers e i) earlier then keep_after (i ∷ earlier) c else i ∷ keep_after (i ∷ earlier) c
+keep_after earlier (i ∷ c) = if list_any (λ e. covers e i) earlier then keep_after (i ∷ earlier) c else i ∷ keep_after (i ∷ earlier) c
 
 -- the items of a context that no earlier item covers
 abbrev pub keep : List Item → List Item
@@ -30,13 +29,11 @@ enter c d = keep (plain d ∷ c)
 
 -- the items of a given context
 abbrev pub given_items : Option (List Item) → List Item
-given_items None = []
-given_items (Some c) = c
+given_items = elim [ None ↦ [] | Some c ↦ c ]
 
 -- what a privilege takes over of the context behind it: nothing, or each item with the limits added
 abbrev pub limited : Option (List Permission) → List Item → List Item
-limited None c = []
-limited (Some limits) c = map (with_limits limits) c
+limited x c = elim x [ None ↦ [] | Some limits ↦ map (with_limits limits) c ]
 
 -- the context of a privilege that a method of a domain takes in a context
 abbrev pub privileged : ℕ → Option (List Item) → Option (List Permission) → List Item → List Item

@@ -21,8 +21,7 @@ made_by directory (Some class) entry = result_unwrap_or (made class entry.name e
 
 -- the permission of an entry; it is unresolved where the entry asks for a signer, its class is unknown, or its name or actions make none
 unfoldable pub permission_of : List ℕ → GrantEntry → Permission
-permission_of directory entry =
-    if entry.signed then Unresolved entry.class else made_by directory (class_named entry.class) entry
+permission_of directory entry = if entry.signed then Unresolved entry.class else made_by directory (class_named entry.class) entry
 
 -- ---- what is granted
 
@@ -32,8 +31,7 @@ permissions_of directory grant = map (permission_of directory) grant.entries
 
 -- the permissions of all grants that are for the code of a source, in the order of the policy
 unfoldable pub granted : List ℕ → List Grant → Parts → List Permission
-granted directory policy source =
-    flat_map (permissions_of directory) (filter (λ grant. matches grant source) policy)
+granted directory policy source = flat_map (permissions_of directory) (filter (λ grant. matches grant source) policy)
 
 -- ---- what a domain has
 

@@ -80,8 +80,7 @@ stands_for base source =
 
 -- without a code base it is all code, and none where a code base is no URL
 abbrev pub code_of_base : Option (List ℕ) → Code
-code_of_base None = All
-code_of_base (Some base) = unwrap_or (option_map Under (url_of_units base)) Nothing
+code_of_base = elim [ None ↦ All | Some base ↦ unwrap_or (option_map Under (url_of_units base)) Nothing ]
 
 -- a grant that asks for a signer or a principal is for no code, since no code here has one
 unfoldable pub code_of : Grant → Code
@@ -89,9 +88,7 @@ code_of grant = if grant.asks_more then Nothing else code_of_base grant.code_bas
 
 -- whether some code is that of a source
 abbrev pub is_in : Code → Parts → Bool
-is_in All source = true
-is_in Nothing source = false
-is_in (Under base) source = stands_for base source
+is_in x source = elim x [ All ↦ true | Nothing ↦ false | Under base ↦ stands_for base source ]
 
 -- whether a grant is for the code of a source
 abbrev pub matches : Grant → Parts → Bool

@@ -24,8 +24,7 @@ mutual
 
 -- the first denial of two verdicts
 abbrev pub first_denial : Verdict → Verdict → Verdict
-first_denial (Denied domain) rest = Denied domain
-first_denial Granted rest = rest
+first_denial x rest = elim x [ Denied domain ↦ Denied domain | Granted ↦ rest ]
 
 -- whether one of the permissions by itself implies the asked one
 unfoldable pub some_implies : List Permission → Permission → Bool

@@ -67,8 +67,7 @@ answer c files = stopped_or_shown (task c files)
 
 -- the command makes the files of its job
 abbrev pub makes : Command → Bool
-makes (commands.Gen seed size) = true
-makes _ = false
+makes = elim [ commands.Gen seed size ↦ true | _ ↦ false ]
 
 -- a job that is made has 1 to 1,000 classes
 abbrev pub IsSized : Command → Type 0
@@ -78,8 +77,7 @@ IsSized _ = Unit {0}
 -- ---- words
 
 abbrev pub answer_to : Option Command → List File → Answer
-answer_to None files = usage_answer
-answer_to (Some c) files = answer c files
+answer_to x files = elim x [ None ↦ usage_answer | Some c ↦ answer c files ]
 
 -- what is answered to the words of the command line
 abbrev pub answered : List (String Global) → List File → Answer
@@ -120,13 +118,11 @@ MissesAny held (Some c) = Misses held (task c)
 
 -- The words are a command that stores files.
 abbrev pub any_stores : Option Command → Bool
-any_stores None = false
-any_stores (Some c) = stores c
+any_stores = elim [ None ↦ false | Some c ↦ stores c ]
 
 -- The words are a command that makes the files of its job.
 abbrev pub any_makes : Option Command → Bool
-any_makes None = false
-any_makes (Some c) = makes c
+any_makes = elim [ None ↦ false | Some c ↦ makes c ]
 
 -- It is a fault neither of reading nor of storing.
 abbrev pub NoFileFault : Status → Type 0

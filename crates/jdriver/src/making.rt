@@ -1,9 +1,6 @@
-ghost use Rattle.std.specs.Prelude.{◌≡◌, ◌≤◌, ◌<◌, Err, OnErr, OnOk, length};
-ghost use Rattle.jbase.specs.Causes.{IsCut, Rose, appended};
-ghost use Rattle.jtrace.specs.declared.fault.RunFault.TheVariants.{Sink as SinkFault};
+ghost use Rattle.std.specs.Prelude.{◌≤◌, ◌<◌, length};
 ghost use Rattle.jtally.specs.Counting.{tally_line};
-ghost use Rattle.jshow.specs.declared.status.Status.TheVariants.{ReadFault, StoreFault, Usage, WriteFault};
-ghost use Rattle.jshow.specs.Answering.{Answers, listed};
+ghost use Rattle.jshow.specs.Answering.{Puts, Shows, listed};
 ghost use Rattle.jdriver.specs.Making.{made, made_line, made_text, runs_text};
 
 use crate::counting::told_both;
@@ -16,10 +13,7 @@ use std::alloc::Global;
 
 /// Writes the line of a job that is made.
 fn put_line<K: Sink>(size: u32, out: &mut K) -> Result<(), RunFault>
-    ensures ok { OnOk result (K.out out.new ≡ appended (K.out out.old) (made_line size)) }
-    ensures err { OnErr result (IsCut (K.out out.old) (K.out out.new) (made_line size)) }
-    ensures later { K.faults out.old ≤ K.faults out.new }
-    ensures cause { result ≡ Err SinkFault → Rose (K.faults out.old) (K.faults out.new) }
+    ensures { Puts (made_line size) result K.out K.faults out.old out.new }
 {
     let parts = [
         Part::Plain("made "),
@@ -33,10 +27,7 @@ fn put_line<K: Sink>(size: u32, out: &mut K) -> Result<(), RunFault>
 /// Writes the line of a run, behind the word of its form.
 fn put_run<K: Sink>(word: &str, tally: Tally, out: &mut K) -> Result<(), RunFault>
     requires { length word.now < 100 }
-    ensures ok { OnOk result (K.out out.new ≡ appended (K.out out.old) (tally_line word.now tally)) }
-    ensures err { OnErr result (IsCut (K.out out.old) (K.out out.new) (tally_line word.now tally)) }
-    ensures later { K.faults out.old ≤ K.faults out.new }
-    ensures cause { result ≡ Err SinkFault → Rose (K.faults out.old) (K.faults out.new) }
+    ensures { Puts (tally_line word.now tally) result K.out K.faults out.old out.new }
 {
     put_tally(out, word, tally)?;
     Ok(())
@@ -44,10 +35,7 @@ fn put_run<K: Sink>(word: &str, tally: Tally, out: &mut K) -> Result<(), RunFaul
 
 /// Writes the lines of both runs.
 fn put_runs<K: Sink>(first: Tally, second: Tally, out: &mut K) -> Result<(), RunFault>
-    ensures ok { OnOk result (K.out out.new ≡ appended (K.out out.old) (runs_text first second)) }
-    ensures err { OnErr result (IsCut (K.out out.old) (K.out out.new) (runs_text first second)) }
-    ensures later { K.faults out.old ≤ K.faults out.new }
-    ensures cause { result ≡ Err SinkFault → Rose (K.faults out.old) (K.faults out.new) }
+    ensures { Puts (runs_text first second) result K.out K.faults out.old out.new }
 {
     put_run("inspect", first, out)?;
     put_run("pass", second, out)
@@ -55,10 +43,7 @@ fn put_runs<K: Sink>(first: Tally, second: Tally, out: &mut K) -> Result<(), Run
 
 /// Writes the line of a job that is made, and those of both runs.
 fn put_lines<K: Sink>(size: u32, first: Tally, second: Tally, out: &mut K) -> Result<(), RunFault>
-    ensures ok { OnOk result (K.out out.new ≡ appended (K.out out.old) (made_text size first second)) }
-    ensures err { OnErr result (IsCut (K.out out.old) (K.out out.new) (made_text size first second)) }
-    ensures later { K.faults out.old ≤ K.faults out.new }
-    ensures cause { result ≡ Err SinkFault → Rose (K.faults out.old) (K.faults out.new) }
+    ensures { Puts (made_text size first second) result K.out K.faults out.old out.new }
 {
     put_line(size, out)?;
     put_runs(first, second, out)
@@ -66,12 +51,7 @@ fn put_lines<K: Sink>(size: u32, first: Tally, second: Tally, out: &mut K) -> Re
 
 /// The same, with the status.
 fn put_made<K: Sink>(size: u32, first: Tally, second: Tally, out: &mut K) -> Status
-    ensures answer { Answers (listed (made_text size first second)) result (K.out out.old) (K.out out.new) }
-    ensures later { K.faults out.old ≤ K.faults out.new }
-    ensures cause { result ≡ WriteFault → Rose (K.faults out.old) (K.faults out.new) }
-    ensures read { result ≡ ReadFault → ⊥ }
-    ensures usage { result ≡ Usage → ⊥ }
-    ensures store { result ≡ StoreFault → ⊥ }
+    ensures { Shows (listed (made_text size first second)) result K.out K.faults out.old out.new }
 {
     match put_lines(size, first, second, out) {
         Ok(()) => Status::Finished,
@@ -87,12 +67,7 @@ fn put_made<K: Sink>(size: u32, first: Tally, second: Tally, out: &mut K) -> Sta
 pub fn show_made<K: Sink>(alloc: Global, seed: u64, size: u32, out: &mut K) -> Status
     requires least { 1 ≤ size }
     requires most { size ≤ 1000 }
-    ensures answer { Answers (made seed size) result (K.out out.old) (K.out out.new) }
-    ensures later { K.faults out.old ≤ K.faults out.new }
-    ensures cause { result ≡ WriteFault → Rose (K.faults out.old) (K.faults out.new) }
-    ensures read { result ≡ ReadFault → ⊥ }
-    ensures usage { result ≡ Usage → ⊥ }
-    ensures store { result ≡ StoreFault → ⊥ }
+    ensures { Shows (made seed size) result K.out K.faults out.old out.new }
 {
     match told_both(alloc, seed, size) {
         Ok((first, second)) => put_made(size, first, second, out),

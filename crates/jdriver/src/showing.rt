@@ -7,7 +7,7 @@ ghost use Rattle.jmachine.specs.Machine.{run};
 ghost use Rattle.jrules.specs.Inspecting.{rules as inspecting};
 ghost use Rattle.jrules.specs.Plain.{rules as plain};
 ghost use Rattle.jshow.specs.declared.status.Status.TheVariants.{Finished, ReadFault, StoreFault, Usage, WriteFault};
-ghost use Rattle.jshow.specs.Answering.{Answers, listed};
+ghost use Rattle.jshow.specs.Answering.{Answers, Shows, listed};
 ghost use Rattle.jshow.specs.Listings.{listing};
 ghost use Rattle.jtask.specs.Tasks.{IsWhole, is_stored};
 ghost use Rattle.jprogram.specs.Members.{IsMain};
@@ -54,12 +54,7 @@ fn show_run<K: Sink>(
 ) -> Status
     requires main { IsMain program.now plan.now.main }
     requires side { program.now.side ≡ Source }
-    ensures answer { Answers (ran (run (inspecting (has domains.now)) program.now plan.now plan.now.steps)) result (K.out out.old) (K.out out.new) }
-    ensures later { K.faults out.old ≤ K.faults out.new }
-    ensures cause { result ≡ WriteFault → Rose (K.faults out.old) (K.faults out.new) }
-    ensures read { result ≡ ReadFault → ⊥ }
-    ensures usage { result ≡ Usage → ⊥ }
-    ensures store { result ≡ StoreFault → ⊥ }
+    ensures { Shows (ran (run (inspecting (has domains.now)) program.now plan.now plan.now.steps)) result K.out K.faults out.old out.new }
 {
     match run_inspect(alloc, program, domains, plan, out) {
         Ok(end) => status_of(end),
@@ -78,12 +73,7 @@ fn show_plain<K: Sink>(
     out: &mut K,
 ) -> Status
     requires main { IsMain program.now plan.now.main }
-    ensures answer { Answers (ran (run (plain (has domains.now)) program.now plan.now plan.now.steps)) result (K.out out.old) (K.out out.new) }
-    ensures later { K.faults out.old ≤ K.faults out.new }
-    ensures cause { result ≡ WriteFault → Rose (K.faults out.old) (K.faults out.new) }
-    ensures read { result ≡ ReadFault → ⊥ }
-    ensures usage { result ≡ Usage → ⊥ }
-    ensures store { result ≡ StoreFault → ⊥ }
+    ensures { Shows (ran (run (plain (has domains.now)) program.now plan.now plan.now.steps)) result K.out K.faults out.old out.new }
 {
     match run_plain(alloc, program, domains, plan, out) {
         Ok(end) => status_of(end),
@@ -102,12 +92,7 @@ fn show_pass<K: Sink>(
     out: &mut K,
 ) -> Status
     requires main { IsMain program.now plan.now.main }
-    ensures answer { Answers (ran (run (plain (has domains.now)) program.now plan.now plan.now.steps)) result (K.out out.old) (K.out out.new) }
-    ensures later { K.faults out.old ≤ K.faults out.new }
-    ensures cause { result ≡ WriteFault → Rose (K.faults out.old) (K.faults out.new) }
-    ensures read { result ≡ ReadFault → ⊥ }
-    ensures usage { result ≡ Usage → ⊥ }
-    ensures store { result ≡ StoreFault → ⊥ }
+    ensures { Shows (ran (run (plain (has domains.now)) program.now plan.now plan.now.steps)) result K.out K.faults out.old out.new }
 {
     match run_pass(alloc, program, domains, plan, out) {
         Ok(end) => status_of(end),
@@ -124,12 +109,7 @@ fn show_listing<K: Sink>(
     out: &mut K,
 ) -> Status
     requires { length domains.now ≡ length sources.now }
-    ensures answer { Answers (listed (listing 0 sources.now domains.now)) result (K.out out.old) (K.out out.new) }
-    ensures later { K.faults out.old ≤ K.faults out.new }
-    ensures cause { result ≡ WriteFault → Rose (K.faults out.old) (K.faults out.new) }
-    ensures read { result ≡ ReadFault → ⊥ }
-    ensures usage { result ≡ Usage → ⊥ }
-    ensures store { result ≡ StoreFault → ⊥ }
+    ensures { Shows (listed (listing 0 sources.now domains.now)) result K.out K.faults out.old out.new }
 {
     match put_listing(alloc, sources, domains, out) {
         Ok(()) => Status::Finished,

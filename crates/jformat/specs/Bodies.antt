@@ -15,19 +15,15 @@ pub record Body (K A : Type 0) : Type 0 where
 abbrev pub all : {K : Type 0} → Body K (List ℕ)
 all = record { spell = λ text. text; fits = λ text. list_all (λ b. nat_lt b 256) text; read = λ bytes. Ok bytes }
 
-abbrev pub whole_at : {K A : Type 0} → K → (List ℕ → Answer K A) → List ℕ → Result A (Fault K)
-whole_at more read bytes = read bytes >>= λ x. if length x.1 == 0 then Ok x.0 else fault more x.1
-
 -- a value and nothing behind it
 abbrev pub whole : {K A : Type 0} → K → Format K A → Body K A
-whole more f = record { spell = f.spell; fits = f.fits; read = whole_at more f.read }
+whole more f = record { spell = f.spell; fits = f.fits; read = λ bytes. f.read bytes >>= λ x. if length x.1 == 0 then Ok x.0 else fault more x.1 }
 
 -- ---- texts inside others
 
 -- a fault inside a text, seen from outside: so many bytes lie behind the text
 abbrev pub outward : {K A : Type 0} → ℕ → Result A (Fault K) → Result A (Fault K)
-outward behind (Ok a) = Ok a
-outward behind (Err d) = Err (record { left = d.left + behind; kind = d.kind })
+outward behind x = elim x [ Ok a ↦ Ok a | Err d ↦ Err (record { left = d.left + behind; kind = d.kind }) ]
 
 -- a text of so many bytes
 abbrev pub inner_at : {K A : Type 0} → K → (List ℕ → Result A (Fault K)) → ℕ → List ℕ → Answer K A
@@ -74,8 +70,4 @@ many_at more read (suc n) (b ∷ bs) = read (b ∷ bs) >>= λ x. many_at more re
 
 -- values to the end of the bytes; each takes a byte at least
 abbrev pub many : {K A : Type 0} → K → Format K A → Body K (List A)
-many more f = record {
-  spell = flat_map f.spell;
-  fits = list_all f.fits;
-  read = λ bytes. many_at more f.read (length bytes) bytes;
-}
+many more f = record { spell = flat_map f.spell; fits = list_all f.fits; read = λ bytes. many_at more f.read (length bytes) bytes }

@@ -20,12 +20,10 @@ pub record Cases (K A : Type 0) : Type 0 where
   pub made : A → A
 
 abbrev pub case_spell : {K P : Type 0} → ℕ → Format K P → Option P → List ℕ
-case_spell t f (Some p) = t ∷ f.spell p
-case_spell t f None = []
+case_spell t f x = elim x [ Some p ↦ t ∷ f.spell p | None ↦ [] ]
 
 abbrev pub made_of : {A P : Type 0} → (P → A) → A → Option P → A
-made_of make a (Some p) = make p
-made_of make a None = a
+made_of make a x = elim x [ Some p ↦ make p | None ↦ a ]
 
 -- a form: its first byte, how its values are made of their parts, which parts a value has, and the parts' format
 abbrev pub case : {K A P : Type 0} → ℕ → (P → A) → (A → Option P) → Format K P → Cases K A
@@ -61,8 +59,7 @@ f ∣ g = record {
 }
 
 abbrev pub union_at : {K A : Type 0} → K → (ℕ → K) → Cases K A → List ℕ → Answer K A
-union_at cut unknown f [] = fault cut []
-union_at cut unknown f (t ∷ rest) = if is_in t f.begins then f.read t rest else fault (unknown t) (t ∷ rest)
+union_at cut unknown f x = elim x [ [] ↦ fault cut [] | t ∷ rest ↦ if is_in t f.begins then f.read t rest else fault (unknown t) (t ∷ rest) ]
 
 -- A byte that none of the forms begins with is a fault of its own kind.
 abbrev pub union : {K A : Type 0} → K → (ℕ → K) → Cases K A → Format K A

@@ -32,8 +32,7 @@ abbrev pub void : {K : Type 0} → Format K (Unit {0})
 void = record { spell = λ _. []; fits = λ _. true; read = λ bytes. Ok (tt, bytes) }
 
 abbrev pub byte_at : {K : Type 0} → K → List ℕ → Answer K ℕ
-byte_at cut [] = fault cut []
-byte_at cut (b ∷ rest) = Ok (b, rest)
+byte_at cut x = elim x [ [] ↦ fault cut [] | b ∷ rest ↦ Ok (b, rest) ]
 
 -- a byte
 abbrev pub byte : {K : Type 0} → K → Format K ℕ
@@ -86,19 +85,13 @@ f ▹ g = record {
 
 -- the same bytes for another type
 abbrev pub via : {K A B : Type 0} → (A → B) → (B → A) → Format K A → Format K B
-via make parts f = record {
-  spell = λ b. f.spell (parts b);
-  fits = λ b. f.fits (parts b);
-  read = λ bytes. f.read bytes >>= λ x. Ok (make x.0, x.1);
-}
+via make parts f = record { spell = λ b. f.spell (parts b); fits = λ b. f.fits (parts b); read = λ bytes. f.read bytes >>= λ x. Ok (make x.0, x.1) }
 
 abbrev pub part_spell : {K A : Type 0} → Format K A → Option A → List ℕ
-part_spell f (Some a) = f.spell a
-part_spell f None = []
+part_spell f x = elim x [ Some a ↦ f.spell a | None ↦ [] ]
 
 abbrev pub part_fits : {K A : Type 0} → Format K A → Option A → Bool
-part_fits f (Some a) = f.fits a
-part_fits f None = false
+part_fits f x = elim x [ Some a ↦ f.fits a | None ↦ false ]
 
 -- the values of one form
 abbrev pub as_case : {K A B : Type 0} → (A → B) → (B → Option A) → Format K A → Format K B
@@ -134,12 +127,10 @@ ended wrong f text = record {
 -- ---- tests
 
 abbrev pub passed : {K A : Type 0} → Option K → List ℕ → A × List ℕ → Answer K A
-passed None bytes x = Ok x
-passed (Some kind) bytes x = fault kind bytes
+passed y bytes x = elim y [ None ↦ Ok x | Some kind ↦ fault kind bytes ]
 
 abbrev pub is_good : {K : Type 0} → Option K → Bool
-is_good None = true
-is_good (Some kind) = false
+is_good x = elim x [ None ↦ true | Some kind ↦ false ]
 
 -- a kind of fault where a test fails
 abbrev pub unless : {K : Type 0} → Bool → K → Option K
@@ -147,16 +138,11 @@ unless good kind = if good then None else Some kind
 
 -- a value, where no fault was found
 abbrev pub unless_fault : {K A : Type 0} → A → Option (Fault K) → Result A (Fault K)
-unless_fault x None = Ok x
-unless_fault x (Some d) = Err d
+unless_fault x y = elim y [ None ↦ Ok x | Some d ↦ Err d ]
 
 -- only the values that pass a test; the fault stands at the value's first byte
 abbrev pub such : {K A : Type 0} → (A → Option K) → Format K A → Format K A
-such test f = record {
-  spell = f.spell;
-  fits = λ a. f.fits a && is_good (test a);
-  read = λ bytes. f.read bytes >>= λ x. passed (test x.0) bytes x;
-}
+such test f = record { spell = f.spell; fits = λ a. f.fits a && is_good (test a); read = λ bytes. f.read bytes >>= λ x. passed (test x.0) bytes x }
 
 -- this very number
 abbrev pub literal : {K : Type 0} → Format K ℕ → K → ℕ → Format K (Unit {0})

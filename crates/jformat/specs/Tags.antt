@@ -16,20 +16,16 @@ apart (t ∷ ts) us = not (is_in t us) && apart ts us
 -- ---- rows of a table
 
 abbrev pub row_spell : {K R A : Type 0} → (R → Format K A) → ℕ → A → Result R K → List ℕ
-row_spell f t a (Ok r) = t ∷ (f r).spell a
-row_spell f t a (Err k) = []
+row_spell f t a x = elim x [ Ok r ↦ t ∷ (f r).spell a | Err k ↦ [] ]
 
 abbrev pub row_fits : {K R A : Type 0} → (R → Format K A) → A → Result R K → Bool
-row_fits f a (Ok r) = (f r).fits a
-row_fits f a (Err k) = false
+row_fits f a x = elim x [ Ok r ↦ (f r).fits a | Err k ↦ false ]
 
 abbrev pub row_read : {K R A : Type 0} → (R → Format K A) → ℕ → List ℕ → Result R K → Answer K (ℕ × A)
-row_read f t rest (Ok r) = (f r).read rest >>= λ x. Ok ((t, x.0), x.1)
-row_read f t rest (Err k) = fault k (t ∷ rest)
+row_read f t rest y = elim y [ Ok r ↦ (f r).read rest >>= λ x. Ok ((t, x.0), x.1) | Err k ↦ fault k (t ∷ rest) ]
 
 abbrev pub rows_at : {K R A : Type 0} → K → (ℕ → Result R K) → (R → Format K A) → List ℕ → Answer K (ℕ × A)
-rows_at cut row f [] = fault cut []
-rows_at cut row f (t ∷ rest) = row_read f t rest (row t)
+rows_at cut row f x = elim x [ [] ↦ fault cut [] | t ∷ rest ↦ row_read f t rest (row t) ]
 
 -- a byte, and what the byte's row in a table says
 abbrev pub rows : {K R A : Type 0} → K → (ℕ → Result R K) → (R → Format K A) → Format K (ℕ × A)

@@ -4,18 +4,14 @@ ghost use Rattle.jformat.specs.Places;
 use jbase::Stop;
 
 /// What is wrong with bytes, and where: `left` is the number of bytes from the place of the fault to the end.
+#[rattlefmt::skip]
 #[derive(Clone, Copy, Debug, PartialEq, Eq)]
-pub struct Fault<K> {
-    pub left: usize,
-    pub kind: K,
-}
+pub struct Fault<K> { pub left: usize, pub kind: K }
 
 /// What is wrong with bytes, and where: `at` is the offset of the place of the fault.
+#[rattlefmt::skip]
 #[derive(Clone, Copy, Debug, PartialEq, Eq)]
-pub struct At<K> {
-    pub at: u32,
-    pub kind: K,
-}
+pub struct At<K> { pub at: u32, pub kind: K }
 
 /// Why a reader gave no value.
 pub type ReadError<K> = Stop<Fault<K>>;

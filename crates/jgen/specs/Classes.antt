@@ -40,10 +40,7 @@ plain instructions = code 1 1 instructions (U2 0 ∷ []) (U2 0 ∷ [])
 
 -- aload_0; getfield n; invokestatic f of the next class; aconst_null; areturn
 abbrev pub run_code : List ℕ → List ℕ → List Item
-run_code own next =
-    U1 0x2a ∷ U1 0xb4 ∷ Field own (codes "n") (codes "I")
-    ∷ U1 0xb8 ∷ Method next (codes "f") (codes "(I)V")
-    ∷ U1 1 ∷ U1 0xb0 ∷ []
+run_code own next = U1 0x2a ∷ U1 0xb4 ∷ Field own (codes "n") (codes "I") ∷ U1 0xb8 ∷ Method next (codes "f") (codes "(I)V") ∷ U1 1 ∷ U1 0xb0 ∷ []
 
 -- 0 iload_0; 1 ifne 19; 4 new PropertyPermission; 7 dup; 8 ldc "p"; 10 ldc "read"; 12 its <init>; 15 checkPermission; 18 return
 abbrev pub check_code : List Item

@@ -76,10 +76,7 @@ with_items (item ∷ items) d = with_items items (with_item item d)
 
 -- the number of an item's bytes
 abbrev pub width : Item → ℕ
-width (U1 n) = 1
-width (U4 n) = 4
-width (Str text) = 1
-width _ = 2
+width = elim [ U1 n ↦ 1 | U4 n ↦ 4 | Str text ↦ 1 | _ ↦ 2 ]
 
 unfoldable pub widths : List Item → ℕ
 widths [] = 0

@@ -10,11 +10,9 @@ use jpool::Adder;
 use std::alloc::{AllocError, Global};
 
 /// A class file under way: its pool, and what stands behind it.
+#[rattlefmt::skip]
 #[derive(Drop)]
-pub struct Draft {
-    pub pool: Adder,
-    pub body: Seq<u8>,
-}
+pub struct Draft { pub pool: Adder, pub body: Seq<u8> }
 
 fn put_text_index(alloc: Global, text: &[u8], draft: &mut Draft) -> Result<(), AllocError>
     requires short { length text.now ≤ 0xffff }

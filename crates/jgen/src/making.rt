@@ -9,11 +9,9 @@ use jbase::Seq;
 use std::alloc::{AllocError, Global};
 
 /// A file of a made job.
+#[rattlefmt::skip]
 #[derive(Drop)]
-pub struct MadeFile {
-    pub path: Seq<u8>,
-    pub bytes: Seq<u8>,
-}
+pub struct MadeFile { pub path: Seq<u8>, pub bytes: Seq<u8> }
 
 /// A made job: its files in their order.
 #[derive(Drop)]

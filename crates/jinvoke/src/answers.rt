@@ -8,6 +8,7 @@ use crate::sites::Sites;
 use jmemo::Memo;
 use jprogram::ClassRef;
 use jready::Ready;
+use jserve::Ancestors;
 use juses::How;
 use std::alloc::{AllocError, Global};
 use std::marker::Model;
@@ -37,10 +38,15 @@ impl<'p> Model for Calls<'p> {
 
 impl<'p> Calls<'p> {
     /// Those of a program that is ready. Nothing was asked yet.
-    pub fn of(alloc: Global, ready: &'p Ready<'p>) -> Result<Calls<'p>, AllocError>
+    pub fn of(
+        alloc: Global,
+        ready: &'p Ready<'p>,
+        ancestors: &'p Ancestors<'p>,
+    ) -> Result<Calls<'p>, AllocError>
+        requires { ancestors.now ≡ ready.now.program }
         ensures { IfOk result (λ c. c ≡ ready.now.program) }
     {
-        let known = Known::of(ready);
+        let known = Known::of(ready, ancestors);
         let sites = Sites::new(alloc);
         let answers = Memo::new(alloc)?;
         Ok(Calls {

@@ -3,8 +3,6 @@ ghost use Rattle.jlink.specs.Links.{Links};
 ghost use Rattle.jmachine.specs.Unwinding;
 ghost use Rattle.jmachine.specs.World;
 ghost use Rattle.jmachine.specs.World.{fits, own_tree, world};
-ghost use Rattle.jprogram.specs.Classes;
-ghost use Rattle.jprogram.specs.Classes.{name_at};
 ghost use Rattle.jtypes.specs.Fitting.{class_fits};
 ghost use Rattle.jrule.specs.Uses.{throwable};
 ghost use Rattle.jtypes.specs.declared.vtype.ArrayType.{ArrayType};
@@ -16,7 +14,8 @@ ghost use Rattle.juses.specs.Types.{class_named, named};
 use jlink::LinkedProgram;
 use jprogram::{ClassRef, number_laws};
 use jready::Ready;
-use juses::{TypeRef, stands_below};
+use jserve::{Ancestors, is_instance};
+use juses::TypeRef;
 use std::marker::Model;
 
 /// A program, as it is asked where its methods are called and where something is thrown. Contracts see the program.
@@ -25,6 +24,8 @@ pub struct Known<'p> {
     program: &'p LinkedProgram,
     /// The same, with its methods by number.
     ready: &'p Ready<'p>,
+    /// What stands above its classes.
+    ancestors: &'p Ancestors<'p>,
 }
 
 impl<'p> Model for Known<'p> {
@@ -36,27 +37,22 @@ impl<'p> Model for Known<'p> {
 
     ghost view = { λ k. k.program.now };
 
-    ghost invariant = { λ k. Links k.program.now × (k.ready.now.program ≡ k.program.now) };
-}
-
-/// Whether an interface is one of the class of another number.
-#[tactic(auto, using(crate::proofs::Knowing::ordered))]
-fn implements(program: &LinkedProgram, class: ClassRef, interface: ClassRef) -> bool
-    ensures { result ≡ Classes.implements program.now (name_at program.now class) (name_at program.now interface) }
-{
-    let named = program.named();
-    let table = program.interfaces();
-    named.implements(table, named.name_of(class), named.name_of(interface))
+    ghost invariant = { λ k. Links k.program.now × ((k.ready.now.program ≡ k.program.now) × (k.ancestors.now ≡ k.program.now)) };
 }
 
 impl<'p> Known<'p> {
-    /// What is known of a program that is ready.
-    pub fn of(ready: &'p Ready<'p>) -> Known<'p>
+    /// What is known of a program that is ready, with what stands above its classes.
+    pub fn of(ready: &'p Ready<'p>, ancestors: &'p Ancestors<'p>) -> Known<'p>
+        requires { ancestors.now ≡ ready.now.program }
         ensures { result ≡ ready.now.program }
     {
         let program = ready.program();
         program.named();
-        Known { program, ready }
+        Known {
+            program,
+            ready,
+            ancestors,
+        }
     }
 
     /// Its methods by number.
@@ -81,32 +77,18 @@ impl<'p> Known<'p> {
         self.program.named();
     }
 
-    /// Whether an object of the first class is one of the second, which is its class, or one above it, or an interface of one of them.
-    #[tactic(auto, using(crate::proofs::Knowing::below_is, crate::proofs::Knowing::face_is))]
-    pub fn is_of(&self, class: ClassRef, other: ClassRef) -> bool
-        ensures { result ≡ class_fits (own_tree (world self.now)) (class_named self.now class) (class_named self.now other) }
-    {
-        if stands_below(self.program.named(), class, other) {
-            return true;
-        }
-        implements(self.program, class, other)
-    }
-
     /// Whether an object of a class is one of a type.
     pub fn is_instance(&self, class: ClassRef, t: TypeRef) -> bool
         ensures { result ≡ World.is_instance (world self.now) (types.Object (class_named self.now class)) (named self.now t) }
     {
-        match t {
-            TypeRef::Top => true,
-            TypeRef::Int => false,
-            TypeRef::Long => false,
-            TypeRef::Null => false,
-            TypeRef::UninitThis => false,
-            TypeRef::Uninit(_) => false,
-            TypeRef::Object(other) => self.is_of(class, other),
-            TypeRef::Array(_) => false,
-            TypeRef::Ctx => false,
-        }
+        is_instance(self.ancestors, TypeRef::Object(class), t)
+    }
+
+    /// Whether an object of the first class is one of the second, which is its class, or one above it, or an interface of one of them.
+    pub fn is_of(&self, class: ClassRef, other: ClassRef) -> bool
+        ensures { result ≡ class_fits (own_tree (world self.now)) (class_named self.now class) (class_named self.now other) }
+    {
+        self.is_instance(class, TypeRef::Object(other))
     }
 
     /// Whether a handler of the class at an index of a part's pool catches an object of a class.

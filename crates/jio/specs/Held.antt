@@ -23,8 +23,7 @@ most_read = 67108864
 
 -- The bytes, where they are few enough to be read.
 abbrev pub short_enough : Option (List ℕ) → Option (List ℕ)
-short_enough None = None
-short_enough (Some bytes) = if nat_le (length bytes) most_read then Some bytes else None
+short_enough = elim [ None ↦ None | Some bytes ↦ if nat_le (length bytes) most_read then Some bytes else None ]
 
 -- What a read of the path gives.
 abbrev pub readable : List File → List ℕ → Option (List ℕ)

@@ -40,8 +40,7 @@ unfoldable pub schedule_said : List ℕ → Option Said
 schedule_said text = option_map Schedule (each_some (number_up_to greatest_pick) (slice_split (λ b. b == byte " ") text))
 
 abbrev pub frames_said : Option ℕ → Option Said
-frames_said None = None
-frames_said (Some frames) = if frames == 0 then None else Some (Depth frames)
+frames_said = elim [ None ↦ None | Some frames ↦ if frames == 0 then None else Some (Depth frames) ]
 
 -- the frames of a thread: at least one
 unfoldable pub depth_said : List ℕ → Option Said

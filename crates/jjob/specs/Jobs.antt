@@ -20,48 +20,37 @@ use Rattle.jjob.specs.JobLines.{is_kept, said_of}
 -- ---- what each thing says for a field
 
 abbrev pub policy_in : Said → Option (List ℕ)
-policy_in (Policy path) = Some path
-policy_in _ = None
+policy_in = elim [ Policy path ↦ Some path | _ ↦ None ]
 
 abbrev pub prop_in : Said → Option (List ℕ × List ℕ)
-prop_in (Prop name value) = Some (units_of_text name, units_of_text value)
-prop_in _ = None
+prop_in = elim [ Prop name value ↦ Some (units_of_text name, units_of_text value) | _ ↦ None ]
 
 abbrev pub name_in : Said → Option (List ℕ)
-name_in (Prop name value) = Some name
-name_in _ = None
+name_in = elim [ Prop name value ↦ Some name | _ ↦ None ]
 
 abbrev pub cwd_in : Said → Option (List ℕ)
-cwd_in (Cwd path) = Some (units_of_text path)
-cwd_in _ = None
+cwd_in = elim [ Cwd path ↦ Some (units_of_text path) | _ ↦ None ]
 
 abbrev pub code_in : Said → Option Parts
-code_in (Code source) = Some source
-code_in _ = None
+code_in = elim [ Code source ↦ Some source | _ ↦ None ]
 
 abbrev pub class_in : Said → Option (List ℕ)
-class_in (Class path) = Some path
-class_in _ = None
+class_in = elim [ Class path ↦ Some path | _ ↦ None ]
 
 abbrev pub main_in : Said → Option (List ℕ)
-main_in (Main name) = Some (units_of_text name)
-main_in _ = None
+main_in = elim [ Main name ↦ Some (units_of_text name) | _ ↦ None ]
 
 abbrev pub picks_in : Said → List ℕ
-picks_in (Schedule numbers) = numbers
-picks_in _ = []
+picks_in = elim [ Schedule numbers ↦ numbers | _ ↦ [] ]
 
 abbrev pub heap_in : Said → Option ℕ
-heap_in (Heap cells) = Some cells
-heap_in _ = None
+heap_in = elim [ Heap cells ↦ Some cells | _ ↦ None ]
 
 abbrev pub depth_in : Said → Option ℕ
-depth_in (Depth frames) = Some frames
-depth_in _ = None
+depth_in = elim [ Depth frames ↦ Some frames | _ ↦ None ]
 
 abbrev pub steps_in : Said → Option ℕ
-steps_in (Steps steps) = Some steps
-steps_in _ = None
+steps_in = elim [ Steps steps ↦ Some steps | _ ↦ None ]
 
 -- ---- what may not be said behind others
 
@@ -94,8 +83,7 @@ said_by lines = filter_map said_of (filter is_kept lines)
 
 -- whether what a line says, if it says something, is bad behind what was said before
 abbrev pub is_bad : List Said → Option Said → Bool
-is_bad before None = true
-is_bad before (Some said) = clashes before said
+is_bad before = elim [ None ↦ true | Some said ↦ clashes before said ]
 
 -- whether a line is bad behind the lines before it
 abbrev pub bad_behind : List (List ℕ) → List ℕ → Bool
@@ -152,12 +140,10 @@ line_at text place = count_by (λ b. b == 10) (take place text) + 1
 
 -- the job of lines none of which is bad; without a main class it ends too early
 abbrev pub with_main : List (List ℕ) → Option (List ℕ) → Result Job ℕ
-with_main lines None = Err (number_of_lines lines + 1)
-with_main lines (Some main) = Ok (job_of (said_by lines) main)
+with_main lines = elim [ None ↦ Err (number_of_lines lines + 1) | Some main ↦ Ok (job_of (said_by lines) main) ]
 
 abbrev pub unless_bad : List (List ℕ) → Option ℕ → Result Job ℕ
-unless_bad lines (Some number) = Err number
-unless_bad lines None = with_main lines (first_some main_in (said_by lines))
+unless_bad lines = elim [ Some number ↦ Err number | None ↦ with_main lines (first_some main_in (said_by lines)) ]
 
 -- the job of a text's lines, or the number of the first bad one
 unfoldable pub job_in : List ℕ → Result Job ℕ

@@ -9,8 +9,7 @@ names_class line = bytes_eq (take 6 line) (codes "class ")
 
 -- the line with this path in the place of its own
 abbrev pub with_first : List (List ℕ) → List ℕ → List ℕ
-with_first [] line = line
-with_first (path ∷ paths) line = codes "class " ++ path
+with_first x line = elim x [ [] ↦ line | path ∷ paths ↦ codes "class " ++ path ]
 
 -- a line that names a class file names the first of these paths, and any other is as it was
 abbrev pub line_with : List (List ℕ) → List ℕ → List ℕ

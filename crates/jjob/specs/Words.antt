@@ -67,8 +67,7 @@ form_named w = if bytes_eq w (codes "inspect") then Some Inspect
 
 -- the form that is named, and `pass` where none is
 abbrev pub form_or_pass : Option Word → Option Form
-form_or_pass None = Some Pass
-form_or_pass (Some w) = form_named w
+form_or_pass = elim [ None ↦ Some Pass | Some w ↦ form_named w ]
 
 -- a size isn't 0
 abbrev pub sized : ℕ → ℕ → Option Command

@@ -6,12 +6,9 @@ use std::alloc::AllocError;
 use thiserror::Error;
 
 /// What is done with the code of a job, or against which library it is checked.
+#[rattlefmt::skip]
 #[derive(Clone, Copy, Debug, PartialEq, Eq)]
-pub enum Form {
-    Inspect,
-    Pass,
-    Plain,
-}
+pub enum Form { Inspect, Pass, Plain }
 
 /// What the words of a command line ask for. A job and an output are named by their paths.
 #[derive(Debug, Drop)]

@@ -27,11 +27,9 @@ pub const MOST_CLASSES: usize = 65_535;
 pub const MOST_PICKS: usize = 1_000_000;
 
 /// A code source of a job, and the paths of its class files.
+#[rattlefmt::skip]
 #[derive(Drop)]
-pub struct JobSource {
-    pub source: CodeSource,
-    pub classes: Seq<Text>,
-}
+pub struct JobSource { pub source: CodeSource, pub classes: Seq<Text> }
 
 /// What a job file says, with what it doesn't say filled in.
 #[derive(Drop)]

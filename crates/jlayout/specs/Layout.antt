@@ -28,8 +28,7 @@ is_instance m = not (is_static m)
 -- ---- the fields of an object: those of the classes above first, in each class in its order
 
 abbrev pub held : Typed → VType
-held (Held t) = t
-held t = types.Top
+held = elim [ Held t ↦ t | _ ↦ types.Top ]
 
 abbrev pub field_type : Program → ClassParts → MemberInfo → VType
 field_type p c m = held (typed p (parts.member_desc c m))
@@ -68,8 +67,7 @@ place_among p i j c m =
 
 -- where a user's field stands: among the statics, or among the fields of each object that has it
 unfoldable pub slot : Program → Member → Option ℕ
-slot p (Field i j) = option_map (λ one. place_among p i j one.0 one.1) (info_of p (Field i j))
-slot p m = None
+slot p = elim [ Field i j ↦ option_map (λ one. place_among p i j one.0 one.1) (info_of p (Field i j)) | _ ↦ None ]
 
 -- ---- what a field holds
 

@@ -165,23 +165,19 @@ abbrev pub desc_of : LibCall → List ℕ
 desc_of m = (row_of m).desc
 
 abbrev pub field_kind : MemberKind → Bool
-field_kind kind.StaticField = true
-field_kind _ = false
+field_kind = elim [ kind.StaticField ↦ true | _ ↦ false ]
 
 abbrev pub is_field : LibCall → Bool
 is_field m = field_kind (row_of m).kind
 
 abbrev pub static_kind : MemberKind → Bool
-static_kind kind.StaticField = true
-static_kind kind.StaticMethod = true
-static_kind _ = false
+static_kind = elim [ kind.StaticField ↦ true | kind.StaticMethod ↦ true | _ ↦ false ]
 
 abbrev pub is_static : LibCall → Bool
 is_static m = static_kind (row_of m).kind
 
 abbrev pub concrete_kind : MemberKind → Bool
-concrete_kind kind.Method = true
-concrete_kind _ = false
+concrete_kind = elim [ kind.Method ↦ true | _ ↦ false ]
 
 -- a method of an instance that isn't abstract, constructors aside
 abbrev pub is_concrete : LibCall → Bool
@@ -195,8 +191,7 @@ call_stands_on side m = among (row_of m).sides side
 
 -- besides constructors
 abbrev pub thrown_methods : Thrown → List LibCall
-thrown_methods thrown.Throwable = call.GetMessage ∷ []
-thrown_methods _ = []
+thrown_methods = elim [ thrown.Throwable ↦ call.GetMessage ∷ [] | _ ↦ [] ]
 
 abbrev pub permission_members : PermissionClass → List LibCall
 permission_members permission.AllPermission = call.PermissionInit init.All ∷ []

@@ -24,24 +24,18 @@ same_side _ _ = false
 
 -- a side is among these
 abbrev pub among : Sides → Side → Bool
-among Both side = true
-among (Alone of) side = same_side side of
+among x side = elim x [ Both ↦ true | Alone of ↦ same_side side of ]
 
 -- ---- the kinds
 
 abbrev pub interface_kind : ClassKind → Bool
-interface_kind kind.Interface = true
-interface_kind _ = false
+interface_kind = elim [ kind.Interface ↦ true | _ ↦ false ]
 
 abbrev pub open_kind : ClassKind → Bool
-open_kind kind.Open = true
-open_kind kind.OpenAbstract = true
-open_kind _ = false
+open_kind = elim [ kind.Open ↦ true | kind.OpenAbstract ↦ true | _ ↦ false ]
 
 abbrev pub abstract_kind : ClassKind → Bool
-abstract_kind kind.OpenAbstract = true
-abstract_kind kind.ClosedAbstract = true
-abstract_kind _ = false
+abstract_kind = elim [ kind.OpenAbstract ↦ true | kind.ClosedAbstract ↦ true | _ ↦ false ]
 
 -- ---- what a row of the table of classes says
 

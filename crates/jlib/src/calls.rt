@@ -10,11 +10,9 @@ use crate::side::Side;
 use crate::table::table;
 
 /// What a constructor of a throwable is given.
+#[rattlefmt::skip]
 #[derive(Clone, Copy, Debug, PartialEq, Eq)]
-pub enum ThrownInit {
-    Message,
-    Nothing,
-}
+pub enum ThrownInit { Message, Nothing }
 
 /// What a member is.
 #[derive(Clone, Copy, Debug, PartialEq, Eq)]
@@ -29,23 +27,14 @@ pub(crate) enum MemberKind {
 }
 
 /// What is printed or appended.
+#[rattlefmt::skip]
 #[derive(Clone, Copy, Debug, PartialEq, Eq)]
-pub enum Piece {
-    Int,
-    Long,
-    Char,
-    Bool,
-    Text,
-}
+pub enum Piece { Int, Long, Char, Bool, Text }
 
 /// A method of String.
+#[rattlefmt::skip]
 #[derive(Clone, Copy, Debug, PartialEq, Eq)]
-pub enum StringCall {
-    Length,
-    CharAt,
-    Equals,
-    Concat,
-}
+pub enum StringCall { Length, CharAt, Equals, Concat }
 
 /// A member of StringBuilder.
 #[derive(Clone, Copy, Debug, PartialEq, Eq)]
@@ -98,28 +87,21 @@ pub enum PermissionInit {
 }
 
 /// A method of `sps/Rt`, of the passing side alone.
+#[rattlefmt::skip]
 #[derive(Clone, Copy, Debug, PartialEq, Eq)]
-pub enum RtCall {
-    Enter,
-    Check,
-    Snapshot,
-    Privileged,
-    PrivilegedWith,
-    PrivilegedLimited,
-}
+pub enum RtCall { Enter, Check, Snapshot, Privileged, PrivilegedWith, PrivilegedLimited }
 
 /// A member that a class of the library declares itself: the field `System.out`, a method or a constructor. All are public. A
 /// member whose descriptor differs between the sides is told apart by its side.
+#[rattlefmt::skip]
 #[derive(Clone, Copy, Debug, PartialEq, Eq)]
 pub enum LibCall {
-    ObjectInit,
-    ThrownInit(Thrown, ThrownInit),
+    ObjectInit, ThrownInit(Thrown, ThrownInit),
     /// The constructor of AccessControlException, which is given a message.
     AccessControlInit,
     /// Throwable's getMessage
     GetMessage,
-    String(StringCall),
-    Builder(BuilderCall),
+    String(StringCall), Builder(BuilderCall),
     /// The static field `out` of System, which is not to be written.
     Out,
     /// println of nothing
@@ -134,8 +116,7 @@ pub enum LibCall {
     Controller(ControllerCall),
     /// AccessControlContext's checkPermission
     ContextCheck,
-    PermissionInit(PermissionInit),
-    Rt(RtCall),
+    PermissionInit(PermissionInit), Rt(RtCall),
 }
 
 impl Piece {

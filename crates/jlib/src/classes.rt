@@ -5,67 +5,36 @@ use crate::class_row::{ClassRow, closed, closed_abstract, interface, open, open_
 use crate::side::Side;
 use crate::table::table;
 
+/// How many classes the library has, both sides' together.
+pub const LIBRARY_CLASSES: u32 = 46;
+
 /// A class of the library that can be thrown, and that has both constructors: of a message, and of nothing. These are
 /// `Throwable` and all below it but `AccessControlException`.
+#[rattlefmt::skip]
 #[derive(Clone, Copy, Debug, PartialEq, Eq)]
 pub enum Thrown {
-    Throwable,
-    Exception,
-    Error,
-    RuntimeException,
-    InterruptedException,
-    ArithmeticException,
-    NullPointerException,
-    ClassCastException,
-    NegativeArraySizeException,
-    ArrayStoreException,
-    IllegalArgumentException,
-    IllegalStateException,
-    IndexOutOfBoundsException,
-    SecurityException,
-    IllegalThreadStateException,
-    ArrayIndexOutOfBoundsException,
-    StringIndexOutOfBoundsException,
-    LinkageError,
-    VirtualMachineError,
-    IncompatibleClassChangeError,
-    AbstractMethodError,
-    IllegalAccessError,
-    StackOverflowError,
+    Throwable, Exception, Error, RuntimeException, InterruptedException, ArithmeticException, NullPointerException, ClassCastException,
+    NegativeArraySizeException, ArrayStoreException, IllegalArgumentException, IllegalStateException, IndexOutOfBoundsException,
+    SecurityException, IllegalThreadStateException, ArrayIndexOutOfBoundsException, StringIndexOutOfBoundsException, LinkageError,
+    VirtualMachineError, IncompatibleClassChangeError, AbstractMethodError, IllegalAccessError, StackOverflowError,
 }
 
 /// A class of permissions.
+#[rattlefmt::skip]
 #[derive(Clone, Copy, Debug, PartialEq, Eq)]
 pub enum PermissionClass {
-    Permission,
-    BasicPermission,
-    AllPermission,
-    RuntimePermission,
-    SecurityPermission,
-    PropertyPermission,
-    FilePermission,
+    Permission, BasicPermission, AllPermission, RuntimePermission, SecurityPermission, PropertyPermission, FilePermission,
 }
 
 /// A class or interface of the library, of either side. All are public.
+#[rattlefmt::skip]
 #[derive(Clone, Copy, Debug, PartialEq, Eq)]
 pub enum LibClass {
-    Object,
-    Thrown(Thrown),
+    Object, Thrown(Thrown),
     /// It can be thrown too, and its one constructor is given a message.
     AccessControlException,
-    String,
-    StringBuilder,
-    System,
-    PrintStream,
-    Void,
-    Cloneable,
-    Serializable,
-    Runnable,
-    Thread,
-    PrivilegedAction,
-    AccessController,
-    AccessControlContext,
-    Permission(PermissionClass),
+    String, StringBuilder, System, PrintStream, Void, Cloneable, Serializable, Runnable, Thread, PrivilegedAction, AccessController,
+    AccessControlContext, Permission(PermissionClass),
     /// `sps/Rt`, of the passing side alone
     Rt,
     /// `sps/Ctx`, the class of contexts, of the passing side alone

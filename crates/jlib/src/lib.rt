@@ -30,7 +30,7 @@ pub use calls::{
     BuilderCall, ControllerCall, LibCall, PermissionInit, Piece, RtCall, StringCall, ThreadCall,
     ThrownInit,
 };
-pub use classes::{LibClass, PermissionClass, Thrown};
+pub use classes::{LIBRARY_CLASSES, LibClass, PermissionClass, Thrown};
 pub use laws::{call_laws, class_laws};
 pub use lookup::{class, open_classes};
 pub use members::{member, member_in};

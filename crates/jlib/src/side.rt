@@ -3,18 +3,14 @@ ghost use Rattle.jlib.specs.Classes;
 
 /// One of the two libraries: the one that programs are written for, and the one that they are moved to, whose calls are given a
 /// context.
+#[rattlefmt::skip]
 #[derive(Clone, Copy, Debug, PartialEq, Eq)]
-pub enum Side {
-    Source,
-    Passing,
-}
+pub enum Side { Source, Passing }
 
 /// The libraries that have a class or a member.
+#[rattlefmt::skip]
 #[derive(Clone, Copy, Debug, PartialEq, Eq)]
-pub(crate) enum Sides {
-    Both,
-    Alone(Side),
-}
+pub(crate) enum Sides { Both, Alone(Side) }
 
 impl Sides {
     /// Whether a side is among them.

@@ -328,13 +328,17 @@ type_plain depth x clear = by (depth == 0) (says.is_context x) clear
     by true false e = alone_plain depth x
     by false c e = alone_plain depth x
 
-held_plain : (p : Program) (enter : Bool) (d : Option Descriptor) (t : VType) → misplaces_context enter d ≡ false → typed_as p d ≡ Held t → is_plain t ≡ true
+-- a type that a descriptor names is plain, where its class isn't that of contexts
+pub named_plain : (p : Program) (t : FieldType) (y : VType) → bytes_eq t.class context ≡ false → type_in p t ≡ Some y → is_plain y ≡ true
 unfolding type_in
+named_plain p t y clear e =
+    let x = map_is (type_of t.depth) (element_in p t) y e in
+    ap is_plain (sym x.2) ∙ type_plain t.depth x.0 (element_plain p t x.0 clear x.1)
+
+held_plain : (p : Program) (enter : Bool) (d : Option Descriptor) (t : VType) → misplaces_context enter d ≡ false → typed_as p d ≡ Held t → is_plain t ≡ true
 held_plain p enter None t clear e = absurd cc
 held_plain p enter (Some (descriptors.Method params ret)) t clear e = absurd (called_apart _ _ t e)
-held_plain p enter (Some (descriptors.Field ft)) t clear e =
-    let x = map_is (type_of ft.depth) (element_in p ft) t (held_type (type_in p ft) t e) in
-    ap is_plain (sym x.2) ∙ type_plain ft.depth x.0 (element_plain p ft x.0 clear x.1)
+held_plain p enter (Some (descriptors.Field ft)) t clear e = named_plain p ft t clear (held_type (type_in p ft) t e)
 
 -- ---- the tests of its use
 

@@ -1,7 +1,7 @@
 -- What fits as a class file: the entries that its instructions and its classes name, and the descriptors of its members.
-use Rattle.std.proofs.Common.{◌≡◌, ℕ, ◌≤◌, ◌⊎◌, Bool, true, false, List, [], length, Option, Some, None, refl, sym, ap, subst, ◌∙◌, inl, inr}
+use Rattle.std.proofs.Common.{◌≡◌, ℕ, ◌≤◌, ◌⊎◌, Bool, true, false, List, [], ◌∷◌, zero, suc, length, Option, Some, None, refl, sym, ap, subst, ◌∙◌, inl, inr}
 use Rattle.std.specs.Prelude.{IsTrue, is_some, option_map, slice_get}
-use Rattle.std.specs.List.{list_all}
+use Rattle.std.specs.List.{AllByRecursion, list_all}
 use Rattle.std.specs.Option.{IsSome}
 use Rattle.std.proofs.lemmas.Bool.{leb-true}
 use Rattle.jformat.specs.Format.{Format, ◌·◌, ◌▹◌, is_good, unless}
@@ -43,6 +43,8 @@ use Rattle.jclass.specs.Stored.{HasCode, IsIn}
 use Rattle.jclass.proofs.ClassLaws.{tail_methods}
 use Rattle.jclass.proofs.Stored.{code_branches, code_fits, code_items}
 use Rattle.jprogram.specs.Parts.{code_of, member_desc, or_empty, text, this_name}
+use Rattle.jprogram.specs.declared.part.CodePart.{CodePart}
+use Rattle.jlink.specs.Coded.{IsFile}
 use Rattle.jlink.proofs.Having.{first_in}
 
 -- ---- instructions
@@ -230,3 +232,15 @@ empty_barred (Some text) named e =
 pub has_name : (c : ClassParts) → IsTrue (class_file.fits c) → this_name c ≡ [] → ⊥
 unfolding names_class
 has_name c fit e = empty_barred (class_name_at c.pool c.this_class) (index_named c.pool c.this_class (tail_named c.pool (class_parts c).1 (tail_fits c fit))) e
+
+-- ---- parts
+
+-- what holds of all parts holds of each, and the other way round
+pub file_at : (parts : List CodePart) (i : ℕ) (part : CodePart) → AllByRecursion IsFile parts → slice_get parts i ≡ Some part → IsFile part
+file_at [] i part all at = absurd (let e = at in cc)
+file_at (one ∷ parts) zero part all at = let e : one ≡ part = (let f = at in cc) in subst IsFile e all.0
+file_at (one ∷ parts) (suc i) part all at = file_at parts i part all.1 at
+
+pub all_files : (parts : List CodePart) → ((i : ℕ) (part : CodePart) → slice_get parts i ≡ Some part → IsFile part) → AllByRecursion IsFile parts
+all_files [] files = tt
+all_files (part ∷ parts) files = (files 0 part refl, all_files parts (λ i. files (suc i)))

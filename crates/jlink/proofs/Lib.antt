@@ -8,6 +8,7 @@ pub mod Having
 pub mod Layered
 pub mod Library
 pub mod Meant
+pub mod Numbered
 pub mod Selecting
 pub mod There
 pub mod Typed

@@ -7,9 +7,13 @@ use Rattle.jprogram.specs.declared.part.CodePart.{CodePart}
 use Rattle.jprogram.specs.Classes.{Program}
 use Rattle.juses.specs.Instructions.{Instruction, targets}
 
--- each part is a class file (JVMS 4.1)
+-- a part is a class file (JVMS 4.1)
+abbrev pub IsFile : CodePart → Type 0
+IsFile part = IsTrue (class_file.fits part.class)
+
+-- each part is one
 abbrev pub AreFiles : Program → Type 0
-AreFiles p = (i : ℕ) (part : CodePart) → slice_get p.parts i ≡ Some part → IsTrue (class_file.fits part.class)
+AreFiles p = (i : ℕ) (part : CodePart) → slice_get p.parts i ≡ Some part → IsFile part
 
 -- each number to which an instruction leads is that of an instruction of the code
 abbrev pub LeadsWithin : CodeBody → Instruction → Type 0

@@ -219,7 +219,7 @@ impl LinkedProgram {
     }
 
     /// The table of the interfaces that its classes implement.
-    pub fn interfaces(&self) -> &Interfaces
+    pub(crate) fn interfaces(&self) -> &Interfaces
         ensures { AreInterfaces self.now result.now }
     {
         &self.interfaces

@@ -98,12 +98,10 @@ abbrev pub cells_of : ℕ → ℕ
 cells_of n = two + n
 
 abbrev pub message_cells : Option (List ℕ) → ℕ
-message_cells None = 0
-message_cells (Some units) = cells_of (length units)
+message_cells = elim [ None ↦ 0 | Some units ↦ cells_of (length units) ]
 
 abbrev pub raised_cells : {K E : Type 0} → Act K E → ℕ
-raised_cells (Raises events class message) = two + message_cells message
-raised_cells act = 0
+raised_cells x = elim x [ Raises events class message ↦ two + message_cells message | _ ↦ 0 ]
 
 -- the whole charge of a step
 abbrev pub charge_of : {K E : Type 0} → Row K E → ℕ

@@ -45,8 +45,7 @@ items_in x = None
 
 -- the index of an item that is there
 abbrev pub within : ℕ → Option ℕ → Option ℕ
-within count None = None
-within count (Some i) = if nat_lt i count then Some i else None
+within count = elim [ None ↦ None | Some i ↦ if nat_lt i count then Some i else None ]
 
 abbrev pub outside : {K E : Type 0} → Row K E
 outside = raises (lib.Thrown thrown.ArrayIndexOutOfBoundsException)
@@ -55,8 +54,7 @@ abbrev pub length_row : {K E : Type 0} → Store K → Items K → Row K E
 length_row s x = gives s (Int (pos (length x.items)) ∷ [])
 
 abbrev pub load_at : {K E : Type 0} → Store K → Items K → Option ℕ → Option (Row K E)
-load_at s x None = Some outside
-load_at s x (Some i) = option_map (λ v. gives s (v ∷ [])) (slice_get x.items i)
+load_at s x y = elim y [ None ↦ Some outside | Some i ↦ option_map (λ v. gives s (v ∷ [])) (slice_get x.items i) ]
 
 abbrev pub load : {K E : Type 0} → Store K → ℤ → Items K → Option (Row K E)
 load s i x = load_at s x (within (length x.items) (place i))
@@ -65,8 +63,7 @@ load s i x = load_at s x (within (length x.items) (place i))
 
 -- a value may be stored: a number always, and an object that is one of what the array holds
 abbrev pub is_stored : World → ArrayType → Option VType → Bool
-is_stored w a None = false
-is_stored w a (Some t) = is_instance w t (component a)
+is_stored w a = elim [ None ↦ false | Some t ↦ is_instance w t (component a) ]
 
 abbrev pub with_item : {K : Type 0} → Store K → ℕ → Items K → ℕ → Value K → Store K
 with_item s n x i v = with_object s n (Array x.type (slice_set x.items i (narrowed (held_by x.type) v)))

@@ -43,8 +43,7 @@ module _ {K E : Type 0} (r : Rules K E) (at : Site) (s : Store K) (entries : Lis
 
   -- checkPermission of an AccessControlContext
   abbrev pub kept_checked : Value K → Option K → Option (Row K E)
-  kept_checked v None = None
-  kept_checked v (Some k) = checked at s (λ asked. r.check_kept asked k) v
+  kept_checked v = elim [ None ↦ None | Some k ↦ checked at s (λ asked. r.check_kept asked k) v ]
 
   unfoldable pub context_row : List (Value K) → Option (Row K E)
   context_row (v ∷ Ref n ∷ []) = kept_checked v (kept_in (object_at s n))

@@ -55,22 +55,16 @@ overflow = lib.Thrown thrown.StackOverflowError
 
 -- the exception of the first test that fails, else what comes otherwise
 abbrev pub unless : Option LibClass → Target → Target
-unless None t = t
-unless (Some class) t = Fails class
+unless x t = elim x [ None ↦ t | Some class ↦ Fails class ]
 
 -- a method without code fails before the number of frames is looked at
 abbrev pub reached : Bool → Selected → Target
-reached full (selected.Method m) = unless (fault_if full overflow) (Pushes m)
-reached full (selected.Lib call) = Runs call
-reached full (selected.Abstract m) = Fails no_code
-reached full selected.Missing = Fails no_code
+reached full = elim [ selected.Method m ↦ unless (fault_if full overflow) (Pushes m) | selected.Lib call ↦ Runs call | _ ↦ Fails no_code ]
 
 -- ---- calls on an object
 
 abbrev pub is_hidden : World → Selected → Bool
-is_hidden w (selected.Method m) = not (w.is_public (Method m))
-is_hidden w (selected.Abstract m) = not (w.is_public m)
-is_hidden w s = false
+is_hidden w = elim [ selected.Method m ↦ not (w.is_public (Method m)) | selected.Abstract m ↦ not (w.is_public m) | _ ↦ false ]
 
 -- by an interface the object's class has to have, a method that has to be public
 abbrev pub by_interface : {K : Type 0} → World → Bool → CallMeaning → Object K → Target
@@ -83,8 +77,7 @@ abbrev pub by_class : {K : Type 0} → World → Bool → CallMeaning → Object
 by_class w full c x = reached full (w.select (id_of x) c.member kinds.Virtual)
 
 abbrev pub from_above : World → Member → Option ClassRef → Selected
-from_above w m None = selected.Missing
-from_above w m (Some r) = w.select (class_id r) m kinds.Special
+from_above w m = elim [ None ↦ selected.Missing | Some r ↦ w.select (class_id r) m kinds.Special ]
 
 -- a method of this class as it is, one of a class above as that class has it
 abbrev pub special : World → ℕ → CallMeaning → Selected
@@ -116,8 +109,7 @@ target at s by c values = option_and_then (on_value at s by c) (receiver values)
 
 -- an `<init>` is called on null, or on an object of its class or of one below, which may hold nothing yet
 abbrev pub is_begun : {K : Type 0} → World → Name → Option (Object K) → Bool
-is_begun w owner None = false
-is_begun w owner (Some x) = fits w (class_of w.named x) (types.Object owner)
+is_begun w owner y = elim y [ None ↦ false | Some x ↦ fits w (class_of w.named x) (types.Object owner) ]
 
 abbrev pub may_begin : {K : Type 0} → World → Store K → Name → Value K → Bool
 may_begin w s owner (Ref zero) = true

@@ -38,9 +38,7 @@ pub record Doing (K E : Type 0) : Type 0 where
 
 -- what an array instruction takes
 abbrev pub array_wants : ArrayForm → List Want
-array_wants (arrays.Load e) = operands e (arrays.Load e)
-array_wants (arrays.Store e) = operands e (arrays.Store e)
-array_wants form = of_kinds (array_effect form).takes
+array_wants = elim [ arrays.Load e ↦ operands e (arrays.Load e) | arrays.Store e ↦ operands e (arrays.Store e) | f ↦ of_kinds (array_effect f).takes ]
 
 module _ {K E : Type 0} (r : Rules K E) (at : Site) (own : Member → Bool) (s : Store K) (entries : List E) (inherited : Option K) where
   -- ---- calls
@@ -53,9 +51,7 @@ module _ {K E : Type 0} (r : Rules K E) (at : Site) (own : Member → Bool) (s :
   run call values = library at s call values
 
   abbrev pub called : List (Value K) → Target → Option (Row K E)
-  called values (Fails class) = Some (raises class)
-  called values (Pushes m) = Some (free (Calls m values None))
-  called values (Runs call) = run call values
+  called values = elim [ Fails class ↦ Some (raises class) | Pushes m ↦ Some (free (Calls m values None)) | Runs call ↦ run call values ]
 
   abbrev pub call : How → CallMeaning → List (Value K) → Option (Row K E)
   call by c values = option_and_then (called values) (target at s by c values)

@@ -23,8 +23,7 @@ with_place values v i = if nat_lt i (length values) then Some (slice_set values 
 -- ---- statics
 
 abbrev pub get_static : {K : Type 0} → World → Store K → Member → Option (Value K)
-get_static w s LibField = Some (Ref out)
-get_static w s m = option_and_then (slice_get s.statics) (w.slot m)
+get_static w s x = elim x [ LibField ↦ Some (Ref out) | m ↦ option_and_then (slice_get s.statics) (w.slot m) ]
 
 abbrev pub put_static : {K : Type 0} → World → Store K → Member → Value K → Option (Store K)
 put_static w s m v = option_map (with_statics s) (option_and_then (with_place s.statics (narrowed (w.element m) v)) (w.slot m))

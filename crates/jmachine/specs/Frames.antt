@@ -29,12 +29,10 @@ abbrev pub carrying : {K E : Type 0} → E → FrameOf K E → FrameOf K E
 carrying entry f = record { method = f.method; place = f.place; locals = f.locals; operands = f.operands; entry = entry }
 
 abbrev pub marked : {K E : Type 0} → Option E → FrameOf K E → FrameOf K E
-marked None f = f
-marked (Some entry) f = carrying entry f
+marked x f = elim x [ None ↦ f | Some entry ↦ carrying entry f ]
 
 abbrev pub all_marked : {K E : Type 0} → Option E → List (FrameOf K E) → List (FrameOf K E)
-all_marked entry [] = []
-all_marked entry (f ∷ below) = marked entry f ∷ below
+all_marked entry x = elim x [ [] ↦ [] | f ∷ below ↦ marked entry f ∷ below ]
 
 -- ---- frames that begin
 
@@ -60,8 +58,7 @@ begun p m entry arguments = option_map (frame_of m entry arguments) (code_at p m
 -- ---- domains
 
 abbrev pub domain_in : Option CodePart → ℕ
-domain_in None = 0
-domain_in (Some part) = part.domain
+domain_in = elim [ None ↦ 0 | Some part ↦ part.domain ]
 
 -- the domain of a method: that of the class that declares it
 abbrev pub domain_of : Program → MethodId → ℕ

@@ -34,16 +34,12 @@ text_made s units = costs (cells_of (length units)) (Goes (with_made s (Text (So
 
 -- a string constant is made when it is first loaded; later loads give the same object
 abbrev pub text_loaded : {K E : Type 0} → Store K → List ℕ → Option ℕ → Row K E
-text_loaded s units (Some n) = gives s (Ref n ∷ [])
-text_loaded s units None = text_made (with_constant s units) units
-
-abbrev pub text : {K E : Type 0} → Store K → List ℕ → Row K E
-text s units = text_loaded s units (constant_at s.constants units)
+text_loaded s units x = elim x [ Some n ↦ gives s (Ref n ∷ []) | None ↦ text_made (with_constant s units) units ]
 
 unfoldable pub push : {K E : Type 0} → Store K → Pushed → List (Value K) → Option (Row K E)
 push s (meanings.Int n) [] = Some (gives s (Int n ∷ []))
 push s (meanings.Long n) [] = Some (gives s (Long n ∷ []))
-push s (meanings.Text bytes) [] = Some (text s (units_of bytes))
+push s (meanings.Text bytes) [] = Some (text_loaded s (units_of bytes) (constant_at s.constants (units_of bytes)))
 push s constant values = None
 
 -- ---- new
@@ -68,37 +64,31 @@ library_object c = of 1 (Bare c)
 
 -- the cell of a message, where objects of the class can be thrown
 abbrev pub message_cell : Bool → ℕ
-message_cell true = 1
-message_cell false = 0
+message_cell = elim [ true ↦ 1 | false ↦ 0 ]
 
 abbrev pub user_object : {K : Type 0} → World → ℕ → New K
 user_object w i = of (1 + message_cell (can_be_thrown w (w.named i)) + length (w.layout i)) (Instance i 0 (map default (w.layout i)))
 
 abbrev pub object_of : {K : Type 0} → World → ClassRef → New K
-object_of w (refs.User i) = user_object w i
-object_of w (refs.Lib c) = library_object c
+object_of w x = elim x [ refs.User i ↦ user_object w i | refs.Lib c ↦ library_object c ]
 
 abbrev pub new : {K E : Type 0} → Store K → New K → Row K E
 new s x = costs x.cells (Goes (with_made s x.object) (Ref (next_number s) ∷ []) [])
 
 unfoldable pub make : {K E : Type 0} → World → Store K → Name → List (Value K) → Option (Row K E)
-make w s c [] = option_map (λ r. new s (object_of w r)) (w.class c)
-make w s c values = None
+make w s c x = elim x [ [] ↦ option_map (λ r. new s (object_of w r)) (w.class c) | _ ↦ None ]
 
 -- ---- casts
 
 -- a reference is one to an object of a type
 abbrev pub is_one : World → VType → Option VType → Bool
-is_one w t None = false
-is_one w t (Some a) = is_instance w a t
+is_one w t = elim [ None ↦ false | Some a ↦ is_instance w a t ]
 
 abbrev pub tested : {K E : Type 0} → Store K → Bool → Row K E
-tested s true = gives s (Int (pos 1) ∷ [])
-tested s false = gives s (Int (pos 0) ∷ [])
+tested s x = elim x [ true ↦ gives s (Int (pos 1) ∷ []) | false ↦ gives s (Int (pos 0) ∷ []) ]
 
 abbrev pub checked : {K E : Type 0} → Store K → Value K → Bool → Row K E
-checked s v true = gives s (v ∷ [])
-checked s v false = raises (lib.Thrown thrown.ClassCastException)
+checked s v x = elim x [ true ↦ gives s (v ∷ []) | false ↦ raises (lib.Thrown thrown.ClassCastException) ]
 
 -- null may be cast to each type, and is an instance of none
 unfoldable pub cast : {K E : Type 0} → World → Store K → CastOp → VType → List (Value K) → Option (Row K E)

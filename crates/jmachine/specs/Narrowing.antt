@@ -11,9 +11,7 @@ use Rattle.jtypes.specs.declared.vtype.VType.TheVariants as types
 
 -- what a place of a type holds before anything is put there: 0 or null
 abbrev pub default : {K : Type 0} → VType → Value K
-default types.Int = Int (pos 0)
-default types.Long = Long (pos 0)
-default t = Ref 0
+default x = elim x [ types.Int ↦ Int (pos 0) | types.Long ↦ Long (pos 0) | _ ↦ Ref 0 ]
 
 -- a boolean keeps the lowest bit, a byte 8, and a char and a short 16, of which a char has no sign
 abbrev pub narrowed_int : Element → ℤ → ℤ

@@ -58,11 +58,7 @@ class_of named (Array a items) = types.Array a
 -- It may be used: a string has its units, a permission and a Thread have their values from `<init>`, and an AccessControlContext has
 -- what it keeps.
 abbrev pub is_ready : {K : Type 0} → Object K → Bool
-is_ready (Text units) = is_some units
-is_ready (Permission c held) = is_some held
-is_ready (Context kept) = is_some kept
-is_ready (Thread number) = is_some number
-is_ready _ = true
+is_ready x = elim x [ Text units ↦ is_some units | Permission c p ↦ is_some p | Context k ↦ is_some k | Thread n ↦ is_some n | _ ↦ true ]
 
 -- the class at which the methods of an object are looked for
 abbrev pub id_of : {K : Type 0} → Object K → ClassId

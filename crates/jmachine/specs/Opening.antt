@@ -32,8 +32,7 @@ use Rattle.jmachine.specs.Store.{Store, constant_at}
 -- ---- the values of statics
 
 abbrev pub value_in : Attribute → Option ℕ
-value_in (attributes.ConstantValue name value) = Some value
-value_in a = None
+value_in = elim [ attributes.ConstantValue name value ↦ Some value | _ ↦ None ]
 
 -- the entry that a field's ConstantValue names
 abbrev pub constant_of : ClassParts → MemberInfo → Option Entry
@@ -104,8 +103,7 @@ abbrev pub arguments_number : Program → ℕ
 arguments_number p = out + length (strings p) + 1
 
 abbrev pub only : {K E : Type 0} → Option (FrameOf K E) → List (FrameOf K E)
-only None = []
-only (Some f) = f ∷ []
+only x = elim x [ None ↦ [] | Some f ↦ f ∷ [] ]
 
 -- a frame of `main`, which on the passing side is given a context
 abbrev pub main_frame : {K E : Type 0} → Rules K E → Program → MethodId → Option (FrameOf K E)

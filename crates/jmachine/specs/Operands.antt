@@ -16,8 +16,7 @@ abbrev pub ready_type : {K : Type 0} → World → Object K → Option VType
 ready_type w x = if is_ready x then Some (class_of w.named x) else None
 
 abbrev pub found_type : {K : Type 0} → World → Option (Object K) → Option VType
-found_type w None = None
-found_type w (Some x) = ready_type w x
+found_type w y = elim y [ None ↦ None | Some x ↦ ready_type w x ]
 
 abbrev pub reference_type : {K : Type 0} → World → Store K → ℕ → Option VType
 reference_type w s zero = Some types.Null
@@ -25,10 +24,7 @@ reference_type w s n = found_type w (object_at s n)
 
 -- the type of a value: of a reference that of the object or array that it names
 abbrev pub type_of : {K : Type 0} → World → Store K → Value K → Option VType
-type_of w s (Int x) = Some types.Int
-type_of w s (Long x) = Some types.Long
-type_of w s (Ref n) = reference_type w s n
-type_of w s (Ctx k) = Some types.Ctx
+type_of w s y = elim y [ Int x ↦ Some types.Int | Long x ↦ Some types.Long | Ref n ↦ reference_type w s n | Ctx k ↦ Some types.Ctx ]
 
 -- ---- what is wanted
 
@@ -40,8 +36,7 @@ meets w (Holds e) a = holds e a
 meets w (OrThis c this) a = fits w a (types.Object c) || fits w a (types.Object this)
 
 abbrev pub serves_as : World → Want → Option VType → Bool
-serves_as w want None = false
-serves_as w want (Some a) = meets w want a
+serves_as w want = elim [ None ↦ false | Some a ↦ meets w want a ]
 
 -- a value serves where this is wanted
 abbrev pub serves : {K : Type 0} → World → Store K → Want → Value K → Bool

@@ -38,8 +38,7 @@ abbrev pub named_with : {K : Type 0} → Store K → ℕ → Value K → Value K
 named_with s n name actions = option_and_then (λ x. option_map (λ y. record { name = x; actions = y; object = n }) (text s actions)) (text s name)
 
 abbrev pub number_of : {K : Type 0} → Value K → Option ℕ
-number_of (Ref n) = Some n
-number_of v = None
+number_of x = elim x [ Ref n ↦ Some n | _ ↦ None ]
 
 abbrev pub bare : ℕ → Given
 bare n = record { name = None; actions = None; object = n }
@@ -64,8 +63,7 @@ class_of inits.File = classes.File
 
 -- a name that is null, and any other fault
 abbrev pub fault_class : PermError → LibClass
-fault_class NoName = lib.Thrown thrown.NullPointerException
-fault_class e = lib.Thrown thrown.IllegalArgumentException
+fault_class = elim [ NoName ↦ lib.Thrown thrown.NullPointerException | _ ↦ lib.Thrown thrown.IllegalArgumentException ]
 
 abbrev pub with_value : {K : Type 0} → perms.Permission → Option (Object K) → Option (Object K)
 with_value p (Some (Permission c old)) = Some (Permission c (Some p))

@@ -41,8 +41,7 @@ all_limits s [] = Some (Some [])
 all_limits s (v ∷ values) = with_limit (limit s v) (all_limits s values)
 
 abbrev pub limits_in : {K : Type 0} → Store K → Option (Items K) → Option (Option (List perms.Permission))
-limits_in s None = None
-limits_in s (Some x) = all_limits s x.items
+limits_in s y = elim y [ None ↦ None | Some x ↦ all_limits s x.items ]
 
 -- of an array, or of null
 abbrev pub limits : {K : Type 0} → Store K → Value K → Option (Option (List perms.Permission))
@@ -62,8 +61,7 @@ acting n p (Pushes m) = Some (free (Calls m (option_to_list (option_map Ctx p.co
 acting n p (Runs call) = None
 
 abbrev pub acting_on : {K E : Type 0} → Site → Side → ℕ → Privilege K E → Option (Object K) → Option (Row K E)
-acting_on at side n p None = None
-acting_on at side n p (Some x) = acting n p (by_interface at.world at.full (run_action side) x)
+acting_on at side n p y = elim y [ None ↦ None | Some x ↦ acting n p (by_interface at.world at.full (run_action side) x) ]
 
 abbrev pub action : {K E : Type 0} → Site → Store K → Side → Value K → Privilege K E → Option (Row K E)
 action at s side (Ref zero) p = Some null
@@ -83,8 +81,7 @@ module _ {K E : Type 0} (r : Rules K E) (at : Site) (s : Store K) (entries : Lis
   within domain context v = option_and_then (privilege domain None None v) (given s context)
 
   abbrev pub limited_by : Option ℕ → Option K → Value K → Value K → Option (List perms.Permission) → Option (Row K E)
-  limited_by domain ctx context v None = Some null
-  limited_by domain ctx context v (Some ps) = option_and_then (privilege domain ctx (Some ps) v) (given s context)
+  limited_by domain ctx context v = elim [ None ↦ Some null | Some ps ↦ option_and_then (privilege domain ctx (Some ps) v) (given s context) ]
 
   -- an array that is null, and an item that is null, fail before the action does
   abbrev pub limited : Option ℕ → Option K → Value K → Value K → Value K → Option (Row K E)

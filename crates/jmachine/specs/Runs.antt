@@ -14,21 +14,15 @@ pub record Run (S : Type 0) : Type 0 where
 -- ---- what an outcome tells
 
 abbrev pub told_by : {S : Type 0} → Outcome S → List Event
-told_by (Went s events) = events
-told_by (Over s events end) = events
-told_by NoStep = []
+told_by x = elim x [ Went s events ↦ events | Over s events end ↦ events | NoStep ↦ [] ]
 
 -- the end that an outcome is, if it is one
 abbrev pub ended_by : {S : Type 0} → Outcome S → Option End
-ended_by (Went s events) = None
-ended_by (Over s events end) = Some end
-ended_by NoStep = None
+ended_by x = elim x [ Went s events ↦ None | Over s events end ↦ Some end | NoStep ↦ None ]
 
 -- the state behind an outcome; a stuck state stays as it is
 abbrev pub state_behind : {S : Type 0} → S → Outcome S → S
-state_behind s (Went t events) = t
-state_behind s (Over t events end) = t
-state_behind s NoStep = s
+state_behind s x = elim x [ Went t events ↦ t | Over t events end ↦ t | NoStep ↦ s ]
 
 -- ---- runs
 
@@ -39,8 +33,7 @@ module _ {S : Type 0} (step : S → Outcome S) where
 
   -- A run that has ended stays as it is.
   abbrev pub next_at : Run S → Option End → Run S
-  next_at r (Some end) = r
-  next_at r None = after r (step r.state)
+  next_at r = elim [ Some end ↦ r | None ↦ after r (step r.state) ]
 
   abbrev pub next : Run S → Run S
   next r = next_at r r.end

@@ -35,8 +35,7 @@ use Rattle.jmachine.specs.World.{world}
 
 -- an instruction that goes on has one behind it
 abbrev pub has_next : Option CodeBody → ℕ → Bool
-has_next None i = false
-has_next (Some body) i = nat_lt (i + 1) (length body.ops)
+has_next x i = elim x [ None ↦ false | Some body ↦ nat_lt (i + 1) (length body.ops) ]
 
 abbrev pub is_followed : Program → MethodId → ℕ → Instruction → Bool
 is_followed p m i it = not (goes_on it) || has_next (code_at p m) i
@@ -74,9 +73,7 @@ module _ {K E : Type 0} (r : Rules K E) (p : Program) (plan : Plan) (s : State K
   -- an object is thrown, which has a number
   abbrev pub thrown : List (FrameOf K E) → Store K → List Event → ℕ → Option (Object K) → Outcome (State K E)
   thrown frames store events n None = NoStep
-  thrown frames store events n (Some x) =
-      let class = class_of (world p).named x in
-      thrown_to store events class (unwound r.entry_of p class n frames)
+  thrown frames store events n (Some x) = let class = class_of (world p).named x in thrown_to store events class (unwound r.entry_of p class n frames)
 
   abbrev pub thrown_at : List (FrameOf K E) → Store K → List Event → ℕ → Outcome (State K E)
   thrown_at frames store events n = thrown frames store events n (object_at store n)
@@ -87,8 +84,7 @@ module _ {K E : Type 0} (r : Rules K E) (p : Program) (plan : Plan) (s : State K
 
   -- a frame is pushed, where the method has code
   abbrev pub pushed : List (FrameOf K E) → Store K → Option (FrameOf K E) → Outcome (State K E)
-  pushed frames store None = NoStep
-  pushed frames store (Some f) = went (f ∷ frames) store []
+  pushed frames store = elim [ None ↦ NoStep | Some f ↦ went (f ∷ frames) store [] ]
 
   -- the frame below goes on behind its call; where there is none the thread ends
   abbrev pub left : List (FrameOf K E) → Store K → List (Value K) → Outcome (State K E)
@@ -98,8 +94,7 @@ module _ {K E : Type 0} (r : Rules K E) (p : Program) (plan : Plan) (s : State K
   -- ---- what an act makes of the frames, of which the newest has its operands taken
 
   abbrev pub on_newest : List (FrameOf K E) → (FrameOf K E → List (FrameOf K E) → Outcome (State K E)) → Outcome (State K E)
-  on_newest [] go = NoStep
-  on_newest (f ∷ below) go = go f below
+  on_newest x go = elim x [ [] ↦ NoStep | f ∷ below ↦ go f below ]
 
   abbrev pub guest : ℕ → K → GuestOf K E
   guest runnable kept = record { frames = []; inherited = Some kept; runnable = runnable; failed = false }
@@ -125,8 +120,7 @@ module _ {K E : Type 0} (r : Rules K E) (p : Program) (plan : Plan) (s : State K
   site f below = site_of p plan s f below
 
   abbrev pub done : List (FrameOf K E) → Option (Doing K E) → Outcome (State K E)
-  done below None = NoStep
-  done below (Some d) = applied (d.frame ∷ below) d.row
+  done below = elim [ None ↦ NoStep | Some d ↦ applied (d.frame ∷ below) d.row ]
 
   abbrev pub entries : List (FrameOf K E) → List E
   entries frames = map (λ f. f.entry) frames
@@ -147,12 +141,10 @@ module _ {K E : Type 0} (r : Rules K E) (p : Program) (plan : Plan) (s : State K
   first_row n (Runs call) = None
 
   abbrev pub first_done : Option (Row K E) → Outcome (State K E)
-  first_done None = NoStep
-  first_done (Some row) = applied [] row
+  first_done = elim [ None ↦ NoStep | Some row ↦ applied [] row ]
 
   abbrev pub begun_on : ℕ → Option (Object K) → Outcome (State K E)
-  begun_on n None = NoStep
-  begun_on n (Some x) = first_done (first_row n (by_interface (world p) false run_call x))
+  begun_on n = elim [ None ↦ NoStep | Some x ↦ first_done (first_row n (by_interface (world p) false run_call x)) ]
 
   -- a thread without a Runnable ends at once
   abbrev pub begins : ℕ → Outcome (State K E)
@@ -162,8 +154,7 @@ module _ {K E : Type 0} (r : Rules K E) (p : Program) (plan : Plan) (s : State K
   -- ---- a step
 
   abbrev pub step_at : List (FrameOf K E) → Outcome (State K E)
-  step_at [] = begins s.running.runnable
-  step_at (f ∷ below) = executed f below (fetched p f.method f.place)
+  step_at = elim [ [] ↦ begins s.running.runnable | f ∷ below ↦ executed f below (fetched p f.method f.place) ]
 
 -- One step. There is none where the next instruction is missing or has none behind it, where an operand of the kind that it takes or a
 -- local that is set is missing, and where its class's pool names nothing for it.

@@ -24,8 +24,7 @@ object_at s (suc n) = slice_get s.objects n
 
 -- the object that a reference names
 abbrev pub object_of : {K : Type 0} → Store K → Value K → Option (Object K)
-object_of s (Ref n) = object_at s n
-object_of s _ = None
+object_of s x = elim x [ Ref n ↦ object_at s n | _ ↦ None ]
 
 -- the number of the object that is made next
 abbrev pub next_number : {K : Type 0} → Store K → ℕ

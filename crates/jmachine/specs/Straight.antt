@@ -33,8 +33,7 @@ abbrev pub gives_one : {K E : Type 0} → Store K → Option (Value K) → Optio
 gives_one s v = option_map (λ x. gives s (x ∷ [])) v
 
 abbrev pub quotient : {K E : Type 0} → Store K → Result (Value K) DivideByZero → Row K E
-quotient s (Ok v) = gives s (v ∷ [])
-quotient s (Err e) = raises (lib.Thrown thrown.ArithmeticException)
+quotient s x = elim x [ Ok v ↦ gives s (v ∷ []) | Err e ↦ raises (lib.Thrown thrown.ArithmeticException) ]
 
 unfoldable pub simple : {K E : Type 0} → Store K → Simple → List (Value K) → Option (Row K E)
 simple s simples.Nothing [] = Some (gives s [])
@@ -64,8 +63,7 @@ holds (IfRef test) values = compared test values
 holds test values = None
 
 abbrev pub branched : {K E : Type 0} → Store K → ℕ → Bool → Row K E
-branched s to true = free (Jumps to)
-branched s to false = gives s []
+branched s to x = elim x [ true ↦ free (Jumps to) | false ↦ gives s [] ]
 
 unfoldable pub jump : {K E : Type 0} → Store K → Test → ℕ → List (Value K) → Option (Row K E)
 jump s test to values = option_map (branched s to) (holds test values)
@@ -112,19 +110,15 @@ abbrev pub places : {K : Type 0} → Value K → List (Option (Value K))
 places v = if is_long v then Some v ∷ None ∷ [] else Some v ∷ []
 
 -- the second local of a long holds nothing
-abbrev pub with_second : {K : Type 0} → Value K → ℕ → List (Option (Value K)) → List (Option (Value K))
-with_second v n locals = if is_long v then slice_set locals (n + 1) None else locals
-
 abbrev pub with_local : {K : Type 0} → List (Option (Value K)) → ℕ → Value K → List (Option (Value K))
-with_local locals n v = with_second v n (slice_set locals n (Some v))
+with_local locals n v = if is_long v then slice_set (slice_set locals n (Some v)) (n + 1) None else slice_set locals n (Some v)
 
 abbrev pub stored : {K : Type 0} → Kind → ℕ → List (Option (Value K)) → List (Value K) → Option (Held K)
 stored kind n locals [] = None
 stored kind n locals (v ∷ operands) = if is_of kind v && nat_le (n + length (places v)) (length locals) then Some (holding (with_local locals n v) operands) else None
 
 abbrev pub increased : {K : Type 0} → Held K → ℕ → ℤ → Value K → Option (Held K)
-increased h n by (Int x) = Some (holding (slice_set h.locals n (Some (int (x +ℤ by)))) h.operands)
-increased h n by v = None
+increased h n by y = elim y [ Int x ↦ Some (holding (slice_set h.locals n (Some (int (x +ℤ by)))) h.operands) | _ ↦ None ]
 
 unfoldable pub local : {K : Type 0} → LocalForm → Held K → Option (Held K)
 local (Moves Load kind n) h = option_and_then (loaded (forms.local kind) h) (local_at h.locals n)

@@ -39,8 +39,7 @@ units_or_null s v = units s v
 
 -- the word of a boolean, of which is told whether its int is 0
 abbrev pub zero_text : Bool → List ℕ
-zero_text true = codes "false"
-zero_text false = codes "true"
+zero_text = elim [ true ↦ codes "false" | false ↦ codes "true" ]
 
 -- What a value is printed as, and appended as: of a char the lowest 16 bits of its int, and of a boolean `false` where its int is 0.
 unfoldable pub printed : {K : Type 0} → Store K → Piece → Value K → Option (List ℕ)
@@ -54,16 +53,14 @@ printed s piece v = None
 -- ---- String
 
 abbrev pub unit_given : {K E : Type 0} → Store K → Option ℕ → Row K E
-unit_given s None = raises (lib.Thrown thrown.StringIndexOutOfBoundsException)
-unit_given s (Some u) = gives s (Int (pos u) ∷ [])
+unit_given s x = elim x [ None ↦ raises (lib.Thrown thrown.StringIndexOutOfBoundsException) | Some u ↦ gives s (Int (pos u) ∷ []) ]
 
 abbrev pub char_at : {K E : Type 0} → Store K → ℤ → List ℕ → Row K E
 char_at s i us = unit_given s (option_and_then (slice_get us) (place i))
 
 -- it is a string of the same units
 abbrev pub equals : List ℕ → Option (List ℕ) → Bool
-equals us None = false
-equals us (Some vs) = bytes_eq us vs
+equals us = elim [ None ↦ false | Some vs ↦ bytes_eq us vs ]
 
 unfoldable pub string : {K E : Type 0} → Store K → StringCall → List (Value K) → Option (Row K E)
 string s strings.Length (v ∷ []) = option_map (λ us. gives s (Int (pos (length us)) ∷ [])) (units s v)
@@ -85,8 +82,7 @@ built s n = built_in (object_at s n)
 
 -- the builder of a number holds these units with more behind them, and what was appended takes cells of its own
 abbrev pub appended : {K E : Type 0} → Store K → ℕ → List (Value K) → List ℕ → List ℕ → Row K E
-appended s n results us more =
-    costs (cells_of (length more)) (Goes (with_made (with_object s n (Builder (us ++ more))) (Appended more)) results [])
+appended s n results us more = costs (cells_of (length more)) (Goes (with_made (with_object s n (Builder (us ++ more))) (Appended more)) results [])
 
 unfoldable pub builder : {K E : Type 0} → Store K → BuilderCall → List (Value K) → Option (Row K E)
 builder s builders.Init (Ref n ∷ []) = option_map (λ us. gives (with_object s n (Builder [])) []) (built s n)

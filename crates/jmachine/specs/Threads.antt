@@ -24,8 +24,7 @@ abbrev pub started : {K E : Type 0} → Site → ℕ → Row K E
 started at t = if is_started at.table t then raises (lib.Thrown thrown.IllegalThreadStateException) else free (Switches (table_after_start t at.table))
 
 abbrev pub joined_by : {K E : Type 0} → Site → Store K → ℕ → Joined → Row K E
-joined_by at s t AtOnce = gives s []
-joined_by at s t Waits = free (Switches (joined at.thread t at.table))
+joined_by at s t x = elim x [ AtOnce ↦ gives s [] | Waits ↦ free (Switches (joined at.thread t at.table)) ]
 
 -- the running thread waits until another has ended; one that isn't started, or has ended, isn't waited for
 abbrev pub waiting : {K E : Type 0} → Site → Store K → ℕ → Row K E

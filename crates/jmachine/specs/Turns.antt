@@ -41,16 +41,14 @@ abbrev pub run_by : {K E : Type 0} → State K E → ℕ → GuestOf K E → Sta
 run_by s t g = record s { earlier = take t (guests s); running = g; later = drop (t + 1) (guests s); turns = s.turns + 1 }
 
 abbrev pub given_to : {K E : Type 0} → State K E → List Event → ℕ → Option (GuestOf K E) → Outcome (State K E)
-given_to s events t None = NoStep
-given_to s events t (Some g) = Went (run_by s t g) events
+given_to s events t x = elim x [ None ↦ NoStep | Some g ↦ Went (run_by s t g) events ]
 
 -- how a run ends in which no thread can run
 abbrev pub end_of : {K E : Type 0} → State K E → End
 end_of s = if have_ended s.table then (if list_any (λ g. g.failed) (guests s) then Uncaught else Finished) else Deadlock
 
 abbrev pub turn_of : {K E : Type 0} → State K E → List Event → Option ℕ → Outcome (State K E)
-turn_of s events None = Over s events (end_of s)
-turn_of s events (Some t) = given_to s events t (slice_get (guests s) t)
+turn_of s events x = elim x [ None ↦ Over s events (end_of s) | Some t ↦ given_to s events t (slice_get (guests s) t) ]
 
 -- The thread that the schedule picks among those that can run takes its turn; where none can, the run ends and no number is taken.
 unfoldable pub turned : {K E : Type 0} → List ℕ → State K E → List Event → Outcome (State K E)

@@ -37,14 +37,12 @@ dotted u = if u == byte "/" then byte "." else u
 
 -- the name of a class as it is told, with dots
 unfoldable pub told_name : VType → List ℕ
-told_name (types.Object c) = map dotted (units_of c.0)
-told_name t = []
+told_name = elim [ types.Object c ↦ map dotted (units_of c.0) | _ ↦ [] ]
 
 -- ---- handlers
 
 abbrev pub is_caught : Program → VType → Option VType → Bool
-is_caught p thrown None = false
-is_caught p thrown (Some class) = is_instance (world p) thrown class
+is_caught p thrown = elim [ None ↦ false | Some class ↦ is_instance (world p) thrown class ]
 
 -- it catches any class, or this one or one above it
 abbrev pub catches : Program → List Entry → VType → Handler → Bool
@@ -73,8 +71,7 @@ abbrev pub resumed : {K E : Type 0} → (ℕ → E) → Program → FrameOf K E 
 resumed entry_of p f place operands = carrying (entry_of (domain_of p f.method)) (standing f place operands)
 
 abbrev pub caught : {K E : Type 0} → (ℕ → E) → Program → ℕ → FrameOf K E → List (FrameOf K E) → Option ℕ → Option (List (FrameOf K E)) → Option (List (FrameOf K E))
-caught entry_of p n f below (Some to) rest = Some (resumed entry_of p f to (Ref n ∷ []) ∷ below)
-caught entry_of p n f below None rest = rest
+caught entry_of p n f below x rest = elim x [ Some to ↦ Some (resumed entry_of p f to (Ref n ∷ []) ∷ below) | None ↦ rest ]
 
 -- The frames that are left where the object of a number is thrown: the newest one that handles its class goes on with it alone. None
 -- where no frame does.

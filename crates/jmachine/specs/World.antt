@@ -45,8 +45,7 @@ pub record World : Type 0 where
   pub is_public : Member → Bool
 
 abbrev pub class_id : ClassRef → ClassId
-class_id (refs.User i) = id.User i
-class_id (refs.Lib c) = id.Lib c
+class_id = elim [ refs.User i ↦ id.User i | refs.Lib c ↦ id.Lib c ]
 
 unfoldable pub world : Program → World
 world p = record {

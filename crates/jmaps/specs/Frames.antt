@@ -19,25 +19,17 @@ use Rattle.jmaps.specs.declared.types.Row.{Row}
 
 -- the tags of types; 2 is float's and 3 is double's
 abbrev pub tag : MapType → ℕ
-tag Top = 0
-tag Int = 1
-tag Long = 4
-tag Null = 5
-tag UninitThis = 6
-tag (Object n) = 7
-tag (Uninit n) = 8
+tag = elim [ Top ↦ 0 | Int ↦ 1 | Long ↦ 4 | Null ↦ 5 | UninitThis ↦ 6 | Object n ↦ 7 | Uninit n ↦ 8 ]
 
 -- a type that is its tag alone
 abbrev pub alone : {K : Type 0} → MapType → Cases K MapType
 alone one = sole (tag one) one (λ other. tag other == tag one)
 
 abbrev pub class_of : MapType → Option ℕ
-class_of (Object n) = Some n
-class_of _ = None
+class_of = elim [ Object n ↦ Some n | _ ↦ None ]
 
 abbrev pub new_of : MapType → Option ℕ
-new_of (Uninit n) = Some n
-new_of _ = None
+new_of = elim [ Uninit n ↦ Some n | _ ↦ None ]
 
 abbrev pub type_cases : {K : Type 0} → K → Cases K MapType
 type_cases cut = alone Top ∣ alone Int ∣ alone Long ∣ alone Null ∣ alone UninitThis
@@ -67,16 +59,14 @@ abbrev pub given : {K : Type 0} → ℕ → Format K ℕ
 given n = record { spell = λ _. []; fits = λ m. m == n; read = λ bytes. Ok (n, bytes) }
 
 abbrev pub part : {K : Type 0} → K → Number → Format K ℕ
-part cut (Given n) = given n
-part cut Written = number w16 cut
+part cut x = elim x [ Given n ↦ given n | Written ↦ number w16 cut ]
 
 -- behind the type byte
 abbrev pub body : {K : Type 0} → K → Format K MapType → Row → Format K (ℕ × (List MapType × List MapType))
 body cut item r = part cut r.delta · counted (part cut r.locals) item · counted (part cut r.stack) item
 
 abbrev pub or_kind : {K : Type 0} → K → Option Row → Result Row K
-or_kind kind (Some r) = Ok r
-or_kind kind None = Err kind
+or_kind kind x = elim x [ Some r ↦ Ok r | None ↦ Err kind ]
 
 -- a frame, whose items have this format
 unfoldable pub frame : {K : Type 0} → Kinds K → Format K MapType → Format K RawFrame

@@ -16,8 +16,7 @@ use Rattle.jmaps.specs.Frames.{own_type}
 
 -- the place of a frame: the earlier frame's place plus its delta plus one, and for the first its delta
 abbrev pub place_from : Option ℕ → ℕ → ℕ
-place_from None delta = delta
-place_from (Some earlier) delta = earlier + delta + 1
+place_from x delta = elim x [ None ↦ delta | Some earlier ↦ earlier + delta + 1 ]
 
 -- all locals but the last so many, where there are as many
 abbrev pub chopped : {A : Type 0} → ℕ → List A → Option (List A)
@@ -44,15 +43,13 @@ place_behind earlier delta = place_from (option_map (λ f. f.at) earlier) delta
 
 -- the locals before a frame: those of the earlier frame, or the first locals
 abbrev pub locals_before : List MapType → Option FullFrame → List MapType
-locals_before first None = first
-locals_before first (Some earlier) = earlier.locals
+locals_before first = elim [ None ↦ first | Some earlier ↦ earlier.locals ]
 
 abbrev pub locals_of : List MapType → RawFrame → Option (List MapType)
 locals_of before f = locals_after f.form f.locals before
 
 abbrev pub with_locals : Option FullFrame → RawFrame → Option (List MapType) → Option FullFrame
-with_locals earlier f None = None
-with_locals earlier f (Some locals) = Some (record { at = place_behind earlier f.delta; locals = locals; stack = f.stack })
+with_locals earlier f = elim [ None ↦ None | Some locals ↦ Some (record { at = place_behind earlier f.delta; locals = locals; stack = f.stack }) ]
 
 -- the frame in full, unless it takes away more locals than there are
 abbrev pub in_full : List MapType → Option FullFrame → RawFrame → Option FullFrame
@@ -60,8 +57,7 @@ in_full first earlier f = with_locals earlier f (locals_of (locals_before first 
 
 -- or the number of the frame
 abbrev pub or_number : ℕ → Option FullFrame → Result FullFrame ℕ
-or_number i None = Err i
-or_number i (Some full) = Ok full
+or_number i = elim [ None ↦ Err i | Some full ↦ Ok full ]
 
 -- The frames in full, or the number of the first that takes away more locals than there are; `i` is the first one's number.
 unfoldable pub expand_from : List MapType → ℕ → Option FullFrame → List RawFrame → Result (List FullFrame) ℕ
@@ -77,8 +73,7 @@ GivesFull (Err (Chop i)) value = value ≡ Err i
 
 -- how far a frame stands behind the earlier one, less one, or from the beginning
 abbrev pub delta_behind : Option ℕ → ℕ → ℕ
-delta_behind None at = at
-delta_behind (Some earlier) at = at - (earlier + 1)
+delta_behind x at = elim x [ None ↦ at | Some earlier ↦ at - (earlier + 1) ]
 
 abbrev pub is_behind : Option ℕ → ℕ → Bool
 is_behind None at = true

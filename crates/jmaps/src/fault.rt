@@ -24,14 +24,9 @@ pub enum MapFault {
 pub type MapError = Stop<At<MapFault>>;
 
 /// The names that a reader gives to the faults of stack maps.
+#[rattlefmt::skip]
 #[derive(Clone, Copy, Debug, PartialEq, Eq)]
-pub struct Kinds<K> {
-    pub truncated: K,
-    pub reserved: K,
-    pub bad_tag: K,
-    pub left_out: K,
-    pub trailing: K,
-}
+pub struct Kinds<K> { pub truncated: K, pub reserved: K, pub bad_tag: K, pub left_out: K, pub trailing: K }
 
 /// Why frames could not be expanded: the number of the first frame that takes away more locals than there are, or want of
 /// memory.

@@ -4,13 +4,10 @@ use jbase::Seq;
 use std::alloc::{AllocError, Global};
 
 /// What a local or a stack item of a frame holds (JVMS 4.7.4, verification_type_info). Float and double are left out.
+#[rattlefmt::skip]
 #[derive(Clone, Copy, Debug, PartialEq, Eq)]
 pub enum MapType {
-    Top,
-    Int,
-    Long,
-    Null,
-    UninitThis,
+    Top, Int, Long, Null, UninitThis,
     /// The object that the `new` at this place of the code made.
     Uninit(u16),
     /// An object or array of the class at this index of the pool.
@@ -19,13 +16,9 @@ pub enum MapType {
 
 /// A frame as it is written (JVMS 4.7.4, stack_map_frame): its type byte, its delta, and the items that stand in it. For a type
 /// from 0 to 127 the delta is the one that the type gives.
+#[rattlefmt::skip]
 #[derive(Debug, Drop)]
-pub struct RawFrame {
-    pub form: u8,
-    pub delta: u16,
-    pub locals: Seq<MapType>,
-    pub stack: Seq<MapType>,
-}
+pub struct RawFrame { pub form: u8, pub delta: u16, pub locals: Seq<MapType>, pub stack: Seq<MapType> }
 
 impl RawFrame {
     /// The same frame again.
@@ -42,12 +35,9 @@ impl RawFrame {
 }
 
 /// A frame with all that it says: the place in the code where it stands, all locals and all stack items.
+#[rattlefmt::skip]
 #[derive(Debug, Drop)]
-pub struct FullFrame {
-    pub at: u32,
-    pub locals: Seq<MapType>,
-    pub stack: Seq<MapType>,
-}
+pub struct FullFrame { pub at: u32, pub locals: Seq<MapType>, pub stack: Seq<MapType> }
 
 impl FullFrame {
     /// The same frame again.
@@ -72,9 +62,6 @@ pub enum Number {
 }
 
 /// What a type byte says of the frame behind it.
+#[rattlefmt::skip]
 #[derive(Clone, Copy, Debug, PartialEq, Eq)]
-pub struct Row {
-    pub delta: Number,
-    pub locals: Number,
-    pub stack: Number,
-}
+pub struct Row { pub delta: Number, pub locals: Number, pub stack: Number }

@@ -31,8 +31,7 @@ use Rattle.jprogram.specs.Supers.{is_missing}
 
 -- a fault of a member of the class at a place: methods count from 0, and fields go on behind them
 abbrev pub at_member : ℕ → ℕ → Option LinkKind → Option LinkFault
-at_member i k None = None
-at_member i k (Some kind) = Some (record { class = i; member = Some k; kind = kind })
+at_member i k = elim [ None ↦ None | Some kind ↦ Some (record { class = i; member = Some k; kind = kind }) ]
 
 -- ---- a member that stands already
 
@@ -54,8 +53,7 @@ abbrev pub type_left_out : FieldType → Bool
 type_left_out t = is_floating t || is_context t
 
 abbrev pub return_left_out : Option FieldType → Bool
-return_left_out None = false
-return_left_out (Some t) = type_left_out t
+return_left_out = elim [ None ↦ false | Some t ↦ type_left_out t ]
 
 abbrev pub desc_left_out : Option Descriptor → Bool
 desc_left_out None = false
@@ -75,8 +73,7 @@ is_synchronized a = has_flag 0x0020 a
 
 -- behind a method's parameters the passing form puts a context, of 9 bytes
 abbrev pub is_too_long : Side → List ℕ → Bool
-is_too_long Source desc = nat_lt 65526 (length desc)
-is_too_long Passing desc = false
+is_too_long x desc = elim x [ Source ↦ nat_lt 65526 (length desc) | Passing ↦ false ]
 
 -- a class initializer, native and synchronized methods, code in an interface, a descriptor too long for a context
 abbrev pub method_left_out : Side → ClassParts → MemberInfo → Bool
@@ -101,8 +98,7 @@ abbrev pub type_missing : Program → FieldType → Bool
 type_missing p t = is_class_sign t.base && is_missing p t.class
 
 abbrev pub return_missing : Program → Option FieldType → Bool
-return_missing p None = false
-return_missing p (Some t) = type_missing p t
+return_missing p = elim [ None ↦ false | Some t ↦ type_missing p t ]
 
 abbrev pub desc_missing : Program → Option Descriptor → Bool
 desc_missing p None = false

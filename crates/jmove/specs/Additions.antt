@@ -37,8 +37,7 @@ unfoldable pub ◌>>◌ : {A B : Type 0} → Adding A → (A → Adding B) → A
 f >> g = λ pool. g (f pool).0 (f pool).1
 
 abbrev pub found_or : Entry → List Entry → Option ℕ → ℕ × List Entry
-found_or e pool (Some i) = (i, pool)
-found_or e pool None = (length pool, pool ++ laid e)
+found_or e pool = elim [ Some i ↦ (i, pool) | None ↦ (length pool, pool ++ laid e) ]
 
 -- an entry: the least index of an equal one, or the index behind the others, where it is put
 unfoldable pub with_entry : Entry → Adding ℕ
@@ -84,8 +83,7 @@ abbrev pub context_type : FieldType
 context_type = record { depth = 0; base = byte "L"; class = codes "sps/Ctx" }
 
 abbrev pub with_context : Descriptor → Option (List ℕ)
-with_context (descriptors.Field t) = None
-with_context (descriptors.Method params ret) = Some (descriptor_text (descriptors.Method (params ++ context_type ∷ []) ret))
+with_context = elim [ descriptors.Field t ↦ None | descriptors.Method ps r ↦ Some (descriptor_text (descriptors.Method (ps ++ context_type ∷ []) r)) ]
 
 -- A method's descriptor with the context as one more parameter, the last; none where the text is no method's descriptor.
 unfoldable pub moved_descriptor : List ℕ → Option (List ℕ)
@@ -96,8 +94,7 @@ abbrev pub short : List ℕ → Option (List ℕ)
 short text = if nat_le (length text) 0xffff then Some text else None
 
 abbrev pub reference_by : Bool → ℕ → Option (ℕ × ℕ) → Option Reference
-reference_by interface class None = None
-reference_by interface class (Some both) = Some (record { interface = interface; class = class; name = both.0; descriptor = both.1 })
+reference_by interface class = elim [ None ↦ None | Some b ↦ Some (record { interface = interface; class = class; name = b.0; descriptor = b.1 }) ]
 
 abbrev pub reference_in : List Entry → Option Entry → Option Reference
 reference_in pool (Some (entries.Method class both)) = reference_by false class (name_and_type_at pool both)
@@ -120,12 +117,10 @@ unfoldable pub with_changed : Reference → List ℕ → Adding ℕ
 with_changed r text = with_text text >> λ d. with_entry (entries.NameAndType r.name d) >> λ b. with_entry (reference_entry r b)
 
 abbrev pub with_descriptor : ℕ → Reference → Option (List ℕ) → Adding ℕ
-with_descriptor i r None = giving i
-with_descriptor i r (Some text) = with_changed r text
+with_descriptor i r = elim [ None ↦ giving i | Some text ↦ with_changed r text ]
 
 abbrev pub with_reference : ℕ → Option Reference → Adding ℕ
-with_reference i None = giving i
-with_reference i (Some r) = λ pool. with_descriptor i r (changed_text pool r) pool
+with_reference i = elim [ None ↦ giving i | Some r ↦ λ pool. with_descriptor i r (changed_text pool r) pool ]
 
 -- The reference at an index, with the context as one more parameter. An index that names no method with such a descriptor stays.
 unfoldable pub with_call : ℕ → Adding ℕ
@@ -159,8 +154,7 @@ with_expansions (k ∷ ks) = with_number k >> λ i. with_expansions ks >> λ js.
 
 -- the class of contexts, where there are frames
 abbrev pub with_frames : List FullFrame → Adding ℕ
-with_frames [] = giving 0
-with_frames (f ∷ fs) = with_class (codes "sps/Ctx")
+with_frames = elim [ [] ↦ giving 0 | f ∷ fs ↦ with_class (codes "sps/Ctx") ]
 
 -- what a body calls first, then what its instructions call, then what its frames name
 unfoldable pub with_body : List Expand → List FullFrame → Adding Named

@@ -6,13 +6,11 @@ use Rattle.jmaps.specs.declared.types.FullFrame.{FullFrame}
 
 -- a type whose `new` stands at another place
 abbrev pub moved_type : (ℕ → ℕ) → MapType → MapType
-moved_type to (Uninit old) = Uninit (to old)
-moved_type to t = t
+moved_type to = elim [ Uninit old ↦ Uninit (to old) | t ↦ t ]
 
 -- how many locals a type takes
 abbrev pub width : MapType → ℕ
-width Long = 2
-width t = 1
+width = elim [ Long ↦ 2 | _ ↦ 1 ]
 
 abbrev pub widths : List MapType → ℕ
 widths [] = 0

@@ -46,8 +46,7 @@ abbrev pub lookup_with : (ℤ → ℤ) → LookupSwitch → LookupSwitch
 lookup_with f s = record { default = f s.default; cases = map (case_with f) s.cases }
 
 abbrev pub switch_with : (ℤ → ℤ) → AnySwitch → AnySwitch
-switch_with f (Table s) = Table (table_with f s)
-switch_with f (Lookup s) = Lookup (lookup_with f s)
+switch_with f = elim [ Table s ↦ Table (table_with f s) | Lookup s ↦ Lookup (lookup_with f s) ]
 
 -- an instruction with other distances of its branches
 abbrev pub with_branches : (ℤ → ℤ) → Op → Op

@@ -39,9 +39,7 @@ call_static n = ops.Call Static n
 
 -- a call by another reference, with one more argument; an interface call's count stays where it is 255
 abbrev pub calling : ℕ → Op → Op
-calling n (ops.Call op m) = ops.Call op n
-calling n (ops.CallInterface m slots) = ops.CallInterface n (if nat_lt slots 255 then slots + 1 else slots)
-calling n op = op
+calling n = elim [ ops.Call op m ↦ ops.Call op n | ops.CallInterface m s ↦ ops.CallInterface n (if nat_lt s 255 then s + 1 else s) | op ↦ op ]
 
 -- ---- lines
 

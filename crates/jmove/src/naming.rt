@@ -2,24 +2,14 @@ use crate::method::Expand;
 use jbase::Seq;
 
 /// A method of `sps/Rt`, which is static.
+#[rattlefmt::skip]
 #[derive(Clone, Copy, Debug, PartialEq, Eq)]
-pub enum Security {
-    Enter,
-    Check,
-    Snapshot,
-    Privileged,
-    PrivilegedWith,
-    PrivilegedLimited,
-}
+pub enum Security { Enter, Check, Snapshot, Privileged, PrivilegedWith, PrivilegedLimited }
 
 /// A method's reference: whether its class is an interface, and the indices of its class, its name and its descriptor.
+#[rattlefmt::skip]
 #[derive(Clone, Copy, Debug, PartialEq, Eq)]
-pub struct Reference {
-    pub interface: bool,
-    pub class: u16,
-    pub name: u16,
-    pub descriptor: u16,
-}
+pub struct Reference { pub interface: bool, pub class: u16, pub name: u16, pub descriptor: u16 }
 
 /// The indices that moved code names.
 #[derive(Debug, Drop)]

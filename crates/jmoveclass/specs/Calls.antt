@@ -40,9 +40,7 @@ calling n one = Same
 
 -- only calls change
 abbrev pub expand_by : (ℕ → Option Member) → Op → Expand
-expand_by stands_for (ops.Call op n) = calling n (stands_for n)
-expand_by stands_for (ops.CallInterface n slots) = calling n (stands_for n)
-expand_by stands_for op = Same
+expand_by stands_for = elim [ ops.Call op n ↦ calling n (stands_for n) | ops.CallInterface n slots ↦ calling n (stands_for n) | _ ↦ Same ]
 
 -- what the instructions of a class with this pool become
 unfoldable pub expands : Program → List Entry → List Placed → List Expand

@@ -12,15 +12,10 @@ abbrev pub is_one_of : List (List ℕ) → Option (List ℕ) → Bool
 is_one_of names text = list_any (is_text text) names
 
 -- of a class (JVMS 4.7): SourceFile, InnerClasses, Deprecated and Synthetic
-abbrev pub class_names : List (List ℕ)
-class_names = codes "SourceFile" ∷ codes "InnerClasses" ∷ codes "Deprecated" ∷ codes "Synthetic" ∷ []
+unfoldable pub class_keeps : List Entry → Attribute → Bool
+class_keeps pool a =
+    is_one_of (codes "SourceFile" ∷ codes "InnerClasses" ∷ codes "Deprecated" ∷ codes "Synthetic" ∷ []) (utf8_at pool (attribute_name a))
 
 -- of a method, besides its code: Exceptions, Deprecated and Synthetic
-abbrev pub method_names : List (List ℕ)
-method_names = codes "Exceptions" ∷ codes "Deprecated" ∷ codes "Synthetic" ∷ []
-
-unfoldable pub class_keeps : List Entry → Attribute → Bool
-class_keeps pool a = is_one_of class_names (utf8_at pool (attribute_name a))
-
 unfoldable pub method_keeps : List Entry → Attribute → Bool
-method_keeps pool a = is_one_of method_names (utf8_at pool (attribute_name a))
+method_keeps pool a = is_one_of (codes "Exceptions" ∷ codes "Deprecated" ∷ codes "Synthetic" ∷ []) (utf8_at pool (attribute_name a))

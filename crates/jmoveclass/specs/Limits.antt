@@ -21,12 +21,7 @@ use Rattle.jmoveclass.specs.Moved.{moved_class}
 
 -- a limit by its own name; the last two are no limits of a method
 abbrev pub kind_of : MoveError → RewriteKind
-kind_of errors.Slots = Slots
-kind_of errors.Locals = Locals
-kind_of errors.Stack = Stack
-kind_of (errors.TooLong n) = TooLong n
-kind_of errors.PoolFull = PoolFull
-kind_of errors.Memory = PoolFull
+kind_of = elim [ errors.Slots ↦ Slots | errors.Locals ↦ Locals | errors.Stack ↦ Stack | errors.TooLong n ↦ TooLong n | _ ↦ PoolFull ]
 
 -- a method without code has no slot for one more parameter
 abbrev pub slots_limit : ClassParts → MemberInfo → Option RewriteKind
@@ -36,16 +31,14 @@ abbrev pub code_limit : Program → ClassParts → MemberInfo → CodeBody → O
 code_limit p c m b = option_map kind_of (limit_of (method_in c m b (bare_beginning c m)) (expands p c.pool b.ops))
 
 abbrev pub limit_with : Program → ClassParts → MemberInfo → Option CodeBody → Option RewriteKind
-limit_with p c m None = slots_limit c m
-limit_with p c m (Some b) = code_limit p c m b
+limit_with p c m = elim [ None ↦ slots_limit c m | Some b ↦ code_limit p c m b ]
 
 -- the first limit that a method would break
 unfoldable pub method_limit : Program → ClassParts → MemberInfo → Option RewriteKind
 method_limit p c m = limit_with p c m (code_of m)
 
 abbrev pub at_method : ℕ → Option RewriteKind → Option Limit
-at_method j None = None
-at_method j (Some kind) = Some (record { method = Some j; kind = kind })
+at_method j = elim [ None ↦ None | Some kind ↦ Some (record { method = Some j; kind = kind }) ]
 
 -- none of the methods breaks a limit
 abbrev pub HasNone : Program → ClassParts → Type 0

@@ -28,20 +28,17 @@ use Rattle.jmoveclass.specs.Puts.{with_each}
 -- ---- the method that is moved
 
 abbrev pub maps_of : CodeAttribute → Option (List RawFrame)
-maps_of (code.Maps name frames) = Some frames
-maps_of (code.Raw name bytes) = None
+maps_of = elim [ code.Maps name frames ↦ Some frames | code.Raw name bytes ↦ None ]
 
 abbrev pub or_no_frames : Option (List RawFrame) → List RawFrame
-or_no_frames None = []
-or_no_frames (Some frames) = frames
+or_no_frames = elim [ None ↦ [] | Some frames ↦ frames ]
 
 -- the frames of a code's StackMapTable, as they are written (JVMS 4.7.4)
 abbrev pub frames_in : CodeBody → List RawFrame
 frames_in b = or_no_frames (first_some maps_of b.attributes)
 
 abbrev pub or_none : Result (List FullFrame) ℕ → List FullFrame
-or_none (Ok frames) = frames
-or_none (Err i) = []
+or_none = elim [ Ok frames ↦ frames | Err i ↦ [] ]
 
 -- The frames of a code in full, by what its locals hold where it begins. In a program that is well typed none of them takes away more
 -- locals than there are.
@@ -62,8 +59,7 @@ method_in c m b first = record {
 -- ---- its code
 
 abbrev pub maps_name : CodeAttribute → Option ℕ
-maps_name (code.Maps name frames) = Some name
-maps_name (code.Raw name bytes) = None
+maps_name = elim [ code.Maps name frames ↦ Some name | code.Raw name bytes ↦ None ]
 
 -- Frames are written full, under the name that the old ones had. A StackMapTable without frames is dropped, and so is each other
 -- attribute of a code (JVMS 4.7.3).
@@ -76,8 +72,7 @@ moved_code name b out = Code name out.max_stack out.max_locals out.ops out.handl
 
 -- where there are no frames none take over what the method begins with
 abbrev pub with_first : ClassParts → MemberInfo → List RawFrame → Adding (List MapType)
-with_first c m [] = giving []
-with_first c m (f ∷ fs) = with_beginning c m
+with_first c m = elim [ [] ↦ giving [] | f ∷ fs ↦ with_beginning c m ]
 
 abbrev pub with_moved : ℕ → List Expand → ℕ → CodeBody → MethodIn → Adding Attribute
 with_moved domain kinds name b m = with_body kinds m.frames >> λ x. giving (moved_code name b (moved_by m domain x.enter x.context x.kinds))
@@ -90,8 +85,7 @@ with_code p c domain m name b = with_first c m (frames_in b) >> λ first. with_m
 
 -- an attribute that isn't code
 abbrev pub kept_alone : List Entry → Attribute → List Attribute
-kept_alone pool (Raw name bytes) = if method_keeps pool (Raw name bytes) then Raw name bytes ∷ [] else []
-kept_alone pool _ = []
+kept_alone pool = elim [ Raw name bytes ↦ if method_keeps pool (Raw name bytes) then Raw name bytes ∷ [] else [] | _ ↦ [] ]
 
 -- its code is moved, and of the others some are kept
 abbrev pub with_attribute : Program → ClassParts → ℕ → MemberInfo → Attribute → Adding (List Attribute)

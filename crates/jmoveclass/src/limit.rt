@@ -20,11 +20,9 @@ pub enum RewriteKind {
 }
 
 /// The first limit that a class breaks: the place of the method among its methods, None where it is the pool's.
+#[rattlefmt::skip]
 #[derive(Clone, Copy, Debug, PartialEq, Eq)]
-pub struct Limit {
-    pub method: Option<u32>,
-    pub kind: RewriteKind,
-}
+pub struct Limit { pub method: Option<u32>, pub kind: RewriteKind }
 
 /// Why there is no moved class.
 #[derive(Clone, Copy, Debug, PartialEq, Eq)]

@@ -50,9 +50,7 @@ one_effect one.L2i = gives (kinds.One Long) Int
 one_effect _ = gives (kinds.One Int) Int
 
 abbrev pub division_effect : Division → Effect
-division_effect divisions.Ldiv = longs
-division_effect divisions.Lrem = longs
-division_effect _ = ints
+division_effect = elim [ divisions.Ldiv ↦ longs | divisions.Lrem ↦ longs | _ ↦ ints ]
 
 -- Two ints are compared by each, two references by these alone.
 abbrev pub compares_references : Compare → Bool

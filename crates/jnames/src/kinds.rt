@@ -14,17 +14,11 @@ pub enum Kind {
 }
 
 /// Kinds of operands, the newest first.
+#[rattlefmt::skip]
 #[derive(Clone, Copy, Debug, PartialEq, Eq)]
-pub enum Kinds {
-    None,
-    One(Kind),
-    Two(Kind, Kind),
-    Three(Kind, Kind, Kind),
-}
+pub enum Kinds { None, One(Kind), Two(Kind, Kind), Three(Kind, Kind, Kind) }
 
 /// The kinds that an instruction takes from the stack, and the kind that it puts there.
+#[rattlefmt::skip]
 #[derive(Clone, Copy, Debug, PartialEq, Eq)]
-pub struct Effect {
-    pub takes: Kinds,
-    pub gives: Option<Kind>,
-}
+pub struct Effect { pub takes: Kinds, pub gives: Option<Kind> }

@@ -25,9 +25,9 @@ ghost use Rattle.jobjs.specs.Staying.{Stays};
 use crate::target::{Target, target_at};
 use jacts::{Way, narrowed, put_at, way_laws};
 use jheap::{CellType, Heap, raw_laws};
-use jlib::{LibClass, Thrown};
+use jlib::{LIBRARY_CLASSES, LibClass, Thrown};
 use jops::Value;
-use jstate::{Frames, LIBRARY_CLASSES, built_laws, cell_laws, celled_laws, heap_laws};
+use jstate::{Frames, built_laws, cell_laws, celled_laws, heap_laws};
 use juses::ElementRef;
 use std::alloc::AllocError;
 

@@ -24,11 +24,11 @@ ghost use Rattle.jobjs.specs.Staying.{Stays};
 use crate::fields::push_one;
 use jacts::Way;
 use jheap::{Heap, Kind};
-use jlib::LibClass;
+use jlib::{LIBRARY_CLASSES, LibClass};
 use jops::Value;
 use jstate::{
-    Frames, LIBRARY_CLASSES, Shape, Shapes, built_laws, celled_laws, cells_of, heap_laws,
-    library_number, number_laws,
+    Frames, Shape, Shapes, built_laws, celled_laws, cells_of, heap_laws, library_number,
+    number_laws,
 };
 use std::alloc::{AllocError, Global};
 

@@ -28,8 +28,9 @@ use Rattle.jstate.specs.Seen.{AreBuilt, Things, store_by}
 use Rattle.jstate.specs.SeenLaws as laws
 use Rattle.jshapes.specs.Numbered.{IsStrings}
 use Rattle.jconstants.specs.Made.{Made}
+use Rattle.jlink.specs.Coded.{AreFiles}
+use Rattle.jlink.proofs.Filed.{all_files}
 use Rattle.jopen.specs.Begun.{AreStrings, Begins, IsOut}
-use Rattle.jopen.specs.Files.{AreFiles}
 use Rattle.jopen.specs.declared.heap.Begun.{Begun}
 use Rattle.jopen.specs.declared.heap.Strings.{Strings}
 use Rattle.jopen.specs.Rows.{texts_of, values_of}
@@ -109,7 +110,7 @@ types_are : (p : Program) (made : List (List ℕ × ℕ)) (types : List CellType
     → types ≡ map (cell_at p) (all_statics p) → map type_of (values_of p made rows) ≡ types
 types_are p made types rows files statics is =
     ap (map type_of) (sym (rows_values p made (all_statics p) rows statics)) ∙ map_map type_of (value_of p made) (all_statics p)
-    ∙ all_hold p made files ∙ sym is
+    ∙ all_hold p made (all_files p.parts files) ∙ sym is
 
 -- ---- by the rows
 

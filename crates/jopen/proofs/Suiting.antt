@@ -1,8 +1,8 @@
 -- A static holds at first what its cell can hold: a class file is one only where constants suit their fields (JVMS 4.7.2).
-use Rattle.std.proofs.Common.{◌≡◌, ◌+◌, ◌<◌, ◌≤◌, ℕ, Bool, true, false, cond, List, [], ◌∷◌, ◌++◌, length, get_or, map, take, Option, Some, None, refl, sym, ap, subst, ◌∙◌}
+use Rattle.std.proofs.Common.{◌≡◌, ◌+◌, ℕ, Bool, true, false, cond, List, [], ◌∷◌, ◌++◌, map, Option, Some, None, refl, sym, ap, ◌∙◌}
 use Rattle.std.specs.Prelude.{IsTrue, codes, is_some, option_and_then, option_map, slice_get, unwrap_or}
 use Rattle.std.specs.List.{AllByRecursion, filter, flat_map, list_all}
-use Rattle.std.proofs.lemmas.List.{map-append, take_all}
+use Rattle.std.proofs.lemmas.List.{map-append}
 use Rattle.jbase.specs.First.{first_some}
 use Rattle.jformat.proofs.Steps.{first_true, second_true}
 use Rattle.jheap.specs.declared.cell.CellType.{CellType}
@@ -22,7 +22,6 @@ use Rattle.jclass.specs.Rules.{suits, suits_field, suits_type}
 use Rattle.jprogram.specs.declared.part.CodePart.{CodePart}
 use Rattle.jprogram.specs.Classes.{Program, find}
 use Rattle.jprogram.specs.Parts.{member_desc, or_empty, text}
-use Rattle.jprogram.proofs.Standing.{all_append}
 use Rattle.jtypes.specs.declared.vtype.Element.TheVariants as elements
 use Rattle.jtypes.specs.declared.vtype.VType.{VType}
 use Rattle.jtypes.specs.declared.vtype.VType.TheVariants as types
@@ -38,8 +37,7 @@ use Rattle.jmachine.proofs.Constants.{class_fields, field_suits, held_by, int_he
 use Rattle.jobjs.specs.Made.{cell_of}
 use Rattle.jobjs.proofs.Statics.{kept_type}
 use Rattle.jshapes.specs.Fielded.{field_cell}
-use Rattle.jshapes.proofs.Growing.{take_next}
-use Rattle.jopen.specs.Files.{IsFile}
+use Rattle.jlink.specs.Coded.{IsFile}
 
 abbrev string_there : Bool → VType
 string_there b = held (typing.held (option_map (typing.type_of 0) (option_map elements.Class (cond b (Some (typing.name (codes "java/lang/String"))) None))))
@@ -152,13 +150,3 @@ parts_hold p made (part ∷ parts) h =
 -- what statics hold at first is of their cells' types
 pub all_hold : (p : Program) (made : List (List ℕ × ℕ)) → AllByRecursion IsFile p.parts → map (value_at p made) (all_statics p) ≡ map (cell_at p) (all_statics p)
 all_hold p made h = parts_hold p made p.parts h
-
--- ---- the parts
-
-pub files_next : (parts : List CodePart) (i : ℕ) (part : CodePart) → i < length parts → part ≡ get_or parts i part → IsFile part
-    → AllByRecursion IsFile (take i parts) → AllByRecursion IsFile (take (i + 1) parts)
-files_next parts i part lt is one h =
-    subst (AllByRecursion IsFile) (sym (take_next parts i part lt is)) (all_append IsFile (take i parts) (part ∷ []) h (one, tt))
-
-pub files_end : (parts : List CodePart) (i : ℕ) → length parts ≤ i → AllByRecursion IsFile (take i parts) → AllByRecursion IsFile parts
-files_end parts i le h = subst (AllByRecursion IsFile) (take_all i parts le) h

@@ -3,13 +3,12 @@ ghost use Rattle.jshapes.specs.Numbered.{IsStrings};
 ghost use Rattle.jshapes.specs.Tied.{AreTied};
 ghost use Rattle.jopen.specs.Begun.{BeginsOr, HasOut, HasStrings};
 
-use crate::files::are_files;
 use crate::statics::put_statics;
 use crate::texts::make_all;
 use jconstants::Constants;
 use jheap::{Heap, Kind};
 use jlib::LibClass;
-use jlink::LinkedProgram;
+use jlink::{LinkedProgram, are_files};
 use jready::{Ready, StaticRow};
 use jshapes::Shaped;
 use jstate::{built_laws, celled_laws, heap_laws, library_number};

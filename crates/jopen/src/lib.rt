@@ -4,7 +4,6 @@
 //! - `Opened`: what the opening comes to.
 //! - `Texts`, `Begun`: the heap string by string and step by step.
 //! - `Rows`: what statics hold at first, by `jready`'s rows.
-//! - `Files`: parts are class files, in which constants suit their fields.
 //!
 //! Proved: `open` answers none exactly where the opening's charge is above the heap's cells; else the heap, with the constants that
 //! were made, is `jmachine`'s opening store, each object has the cells that its class wants, and the frames are those of its main
@@ -13,7 +12,6 @@
 //! Rooms of the machine may name it.
 #![tactic(auto)]
 
-mod files;
 mod heap;
 mod opening;
 mod statics;

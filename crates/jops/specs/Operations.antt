@@ -3,7 +3,7 @@
 -- instruction takes. `K` is what stands for a security context.
 use Rattle.std.specs.Prelude.{ℕ, ◌/◌, ◌%◌, ◌^◌, ◌==◌, ℤ, pos, negsuc, ◌+ℤ◌, ◌-ℤ◌, ◌*ℤ◌, neg_ℤ, int_lt, int_le, int_div, int_rem}
 use Rattle.std.specs.Prelude.{Bool, false, not, if◌then◌else◌, Option, Some, None, option_map, Result, Ok, Err, ⊤}
-use Rattle.std.specs.Int.{Width, w8, w16, w32, w64, cast_unsigned, cast_signed, int_wrap, int_rem_euclid, int_shr, int_bit_and, int_bit_or, int_bit_xor}
+use Rattle.std.specs.Int.{w8, w16, w32, w64, cast_unsigned, cast_signed, int_wrap, int_rem_euclid, int_shr, int_bit_and, int_bit_or, int_bit_xor}
 use Rattle.std.specs.Ordering.{int_eq}
 use Rattle.jops.specs.declared.value.Value.{Value}
 use Rattle.jops.specs.declared.value.Value.TheVariants.{Int, Long, Ref}
@@ -28,12 +28,10 @@ IsLong (Long x) = ⊤
 IsLong _ = ⊥
 
 abbrev pub on_int : {K R : Type 0} → (ℤ → R) → Value K → Option R
-on_int f (Int x) = Some (f x)
-on_int f _ = None
+on_int f y = elim y [ Int x ↦ Some (f x) | _ ↦ None ]
 
 abbrev pub on_long : {K R : Type 0} → (ℤ → R) → Value K → Option R
-on_long f (Long x) = Some (f x)
-on_long f _ = None
+on_long f y = elim y [ Long x ↦ Some (f x) | _ ↦ None ]
 
 abbrev pub on_ints : {K R : Type 0} → (ℤ → ℤ → R) → Value K → Value K → Option R
 on_ints f (Int x) (Int y) = Some (f x y)
@@ -63,17 +61,14 @@ low_5 y = cast_unsigned w32 y % 32
 abbrev pub low_6 : ℤ → ℕ
 low_6 y = cast_unsigned w32 y % 64
 
--- the number without sign that has the same bits, shifted to the right: divided by a power of two, and rounded down
-abbrev pub shifted_unsigned : Width → ℤ → ℕ → ℤ
-shifted_unsigned w x by = cast_signed w (cast_unsigned w x / 2 ^ by)
-
 -- -1, 0 or 1, as x is less than y, equal or greater
 abbrev pub order : ℤ → ℤ → ℤ
 order x y = if int_lt x y then negsuc 0 else (if int_lt y x then pos 1 else pos 0)
 
 -- ---- instructions
 
--- `int_shr x k` is x divided by 2 ^ k and rounded down; the bits of two numbers are joined place by place
+-- `int_shr x k` is x divided by 2 ^ k and rounded down, and `/` does the same to the number without sign that has the same bits; the bits of
+-- two numbers are joined place by place
 unfoldable pub two : {K : Type 0} → OpTwo → Value K → Value K → Option (Value K)
 two Iadd = on_ints (λ x y. int (x +ℤ y))
 two Ladd = on_longs (λ x y. long (x +ℤ y))
@@ -85,8 +80,8 @@ two Ishl = on_ints (λ x y. int (x *ℤ pos (2 ^ low_5 y)))
 two Lshl = on_long_and_int (λ x y. long (x *ℤ pos (2 ^ low_6 y)))
 two Ishr = on_ints (λ x y. Int (int_shr x (low_5 y)))
 two Lshr = on_long_and_int (λ x y. Long (int_shr x (low_6 y)))
-two Iushr = on_ints (λ x y. Int (shifted_unsigned w32 x (low_5 y)))
-two Lushr = on_long_and_int (λ x y. Long (shifted_unsigned w64 x (low_6 y)))
+two Iushr = on_ints (λ x y. Int (cast_signed w32 (cast_unsigned w32 x / 2 ^ low_5 y)))
+two Lushr = on_long_and_int (λ x y. Long (cast_signed w64 (cast_unsigned w64 x / 2 ^ low_6 y)))
 two Iand = on_ints (λ x y. Int (int_bit_and w32 x y))
 two Land = on_longs (λ x y. Long (int_bit_and w64 x y))
 two Ior = on_ints (λ x y. Int (int_bit_or w32 x y))
@@ -128,10 +123,7 @@ abbrev pub long_remainder : {K : Type 0} → ℤ → ℤ → Result (Value K) Di
 long_remainder x y = unless_zero y (Long (int_rem x y))
 
 unfoldable pub divide : {K : Type 0} → Division → Value K → Value K → Option (Result (Value K) DivideByZero)
-divide Idiv = on_ints int_quotient
-divide Irem = on_ints int_remainder
-divide Ldiv = on_longs long_quotient
-divide Lrem = on_longs long_remainder
+divide x = elim x [ Idiv ↦ on_ints int_quotient | Irem ↦ on_ints int_remainder | Ldiv ↦ on_longs long_quotient | Lrem ↦ on_longs long_remainder ]
 
 -- two ints or two references are one
 abbrev pub same : {K : Type 0} → Value K → Value K → Option Bool

@@ -8,8 +8,7 @@ use Rattle.jops.specs.declared.shuffling.Shuffled.{Shuffled}
 
 -- an item of the stack by its category (JVMS 2.11.1): one slot, or two slots as a long fills
 pub data Item (V : Type 0) : Type 0 where
-  One : V → Item V
-  Two : V → Item V
+  One Two : V → Item V
 
 -- how many of the newest items go, and what comes in their place, newest first
 pub record Move (V : Type 0) : Type 0 where
@@ -19,34 +18,30 @@ pub record Move (V : Type 0) : Type 0 where
 abbrev pub moves : {V : Type 0} → ℕ → List V → Move V
 moves n comes = record { taken = n; put = comes }
 
-abbrev pub move : {V : Type 0} → ℕ → List V → Option (Move V)
-move n comes = Some (moves n comes)
-
 -- The forms of each instruction; None where no form fits the newest items.
 unfoldable pub shuffle : {V : Type 0} → Shuffle → List (Item V) → Option (Move V)
-shuffle Pop (One a ∷ _) = move 1 []
-shuffle Pop2 (One a ∷ One b ∷ _) = move 2 []
-shuffle Pop2 (Two a ∷ _) = move 1 []
-shuffle Dup (One a ∷ _) = move 1 (a ∷ a ∷ [])
-shuffle DupX1 (One a ∷ One b ∷ _) = move 2 (a ∷ b ∷ a ∷ [])
-shuffle DupX2 (One a ∷ One b ∷ One c ∷ _) = move 3 (a ∷ b ∷ c ∷ a ∷ [])
-shuffle DupX2 (One a ∷ Two b ∷ _) = move 2 (a ∷ b ∷ a ∷ [])
-shuffle Dup2 (One a ∷ One b ∷ _) = move 2 (a ∷ b ∷ a ∷ b ∷ [])
-shuffle Dup2 (Two a ∷ _) = move 1 (a ∷ a ∷ [])
-shuffle Dup2X1 (One a ∷ One b ∷ One c ∷ _) = move 3 (a ∷ b ∷ c ∷ a ∷ b ∷ [])
-shuffle Dup2X1 (Two a ∷ One b ∷ _) = move 2 (a ∷ b ∷ a ∷ [])
-shuffle Dup2X2 (One a ∷ One b ∷ One c ∷ One d ∷ _) = move 4 (a ∷ b ∷ c ∷ d ∷ a ∷ b ∷ [])
-shuffle Dup2X2 (Two a ∷ One b ∷ One c ∷ _) = move 3 (a ∷ b ∷ c ∷ a ∷ [])
-shuffle Dup2X2 (One a ∷ One b ∷ Two c ∷ _) = move 3 (a ∷ b ∷ c ∷ a ∷ b ∷ [])
-shuffle Dup2X2 (Two a ∷ Two b ∷ _) = move 2 (a ∷ b ∷ a ∷ [])
-shuffle Swap (One a ∷ One b ∷ _) = move 2 (b ∷ a ∷ [])
+shuffle Pop (One a ∷ _) = Some (moves 1 [])
+shuffle Pop2 (One a ∷ One b ∷ _) = Some (moves 2 [])
+shuffle Pop2 (Two a ∷ _) = Some (moves 1 [])
+shuffle Dup (One a ∷ _) = Some (moves 1 (a ∷ a ∷ []))
+shuffle DupX1 (One a ∷ One b ∷ _) = Some (moves 2 (a ∷ b ∷ a ∷ []))
+shuffle DupX2 (One a ∷ One b ∷ One c ∷ _) = Some (moves 3 (a ∷ b ∷ c ∷ a ∷ []))
+shuffle DupX2 (One a ∷ Two b ∷ _) = Some (moves 2 (a ∷ b ∷ a ∷ []))
+shuffle Dup2 (One a ∷ One b ∷ _) = Some (moves 2 (a ∷ b ∷ a ∷ b ∷ []))
+shuffle Dup2 (Two a ∷ _) = Some (moves 1 (a ∷ a ∷ []))
+shuffle Dup2X1 (One a ∷ One b ∷ One c ∷ _) = Some (moves 3 (a ∷ b ∷ c ∷ a ∷ b ∷ []))
+shuffle Dup2X1 (Two a ∷ One b ∷ _) = Some (moves 2 (a ∷ b ∷ a ∷ []))
+shuffle Dup2X2 (One a ∷ One b ∷ One c ∷ One d ∷ _) = Some (moves 4 (a ∷ b ∷ c ∷ d ∷ a ∷ b ∷ []))
+shuffle Dup2X2 (Two a ∷ One b ∷ One c ∷ _) = Some (moves 3 (a ∷ b ∷ c ∷ a ∷ []))
+shuffle Dup2X2 (One a ∷ One b ∷ Two c ∷ _) = Some (moves 3 (a ∷ b ∷ c ∷ a ∷ b ∷ []))
+shuffle Dup2X2 (Two a ∷ Two b ∷ _) = Some (moves 2 (a ∷ b ∷ a ∷ []))
+shuffle Swap (One a ∷ One b ∷ _) = Some (moves 2 (b ∷ a ∷ []))
 shuffle _ _ = None
 
 -- ---- values as items
 
 abbrev pub is_long : {K : Type 0} → Value K → Bool
-is_long (Long x) = true
-is_long _ = false
+is_long y = elim y [ Long x ↦ true | _ ↦ false ]
 
 abbrev pub item : {K : Type 0} → Value K → Item (Value K)
 item v = if is_long v then Two v else One v

@@ -20,19 +20,11 @@ file_actions = Read ∷ Write ∷ Execute ∷ Delete ∷ Readlink ∷ []
 
 -- the bit that stands for an action in a set of actions
 abbrev pub bit : Action → ℕ
-bit Read = 1
-bit Write = 2
-bit Execute = 4
-bit Delete = 8
-bit Readlink = 16
+bit = elim [ Read ↦ 1 | Write ↦ 2 | Execute ↦ 4 | Delete ↦ 8 | Readlink ↦ 16 ]
 
 -- the word that names an action
 abbrev pub word : Action → List ℕ
-word Read = codes "read"
-word Write = codes "write"
-word Execute = codes "execute"
-word Delete = codes "delete"
-word Readlink = codes "readlink"
+word = elim [ Read ↦ codes "read" | Write ↦ codes "write" | Execute ↦ codes "execute" | Delete ↦ codes "delete" | Readlink ↦ codes "readlink" ]
 
 -- whether a set of actions has all of another one
 abbrev pub has_all : ℕ → ℕ → Bool

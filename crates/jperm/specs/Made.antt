@@ -22,8 +22,7 @@ filled (Some (u ∷ us)) = Ok (u ∷ us)
 
 -- the set of actions of a kind that a text gives, where there is a text
 abbrev pub wanted : List Action → Option (List ℕ) → Result ℕ PermError
-wanted kind None = Err BadActions
-wanted kind (Some text) = ok_or (actions_of kind text) BadActions
+wanted kind = elim [ None ↦ Err BadActions | Some text ↦ ok_or (actions_of kind text) BadActions ]
 
 -- a permission that has a name and no actions
 abbrev pub made_basic : BasicClass → Option (List ℕ) → Result Permission PermError
@@ -35,8 +34,7 @@ made_property name actions = filled name >>= λ text. wanted property_actions ac
 
 -- a permission on a file, whose name is read in a directory; the name may be empty, and is looked at before the actions
 abbrev pub made_file : Option (List ℕ) → Option (List ℕ) → List ℕ → Result Permission PermError
-made_file name actions directory =
-    ok_or name NoName >>= λ text. wanted file_actions actions >>= λ set. Ok (File (path_of directory text) text set)
+made_file name actions directory = ok_or name NoName >>= λ text. wanted file_actions actions >>= λ set. Ok (File (path_of directory text) text set)
 
 -- the permission that a class makes
 abbrev pub made : PermClass → Option (List ℕ) → Option (List ℕ) → List ℕ → Result Permission PermError

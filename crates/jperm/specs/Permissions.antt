@@ -25,9 +25,7 @@ implies _ _ = false
 
 -- whether a permission is of a kind that has no actions
 abbrev pub stands_alone : Permission → Bool
-stands_alone (Property name actions) = false
-stands_alone (File path name actions) = false
-stands_alone _ = true
+stands_alone = elim [ Property name actions ↦ false | File path name actions ↦ false | _ ↦ true ]
 
 -- the actions that a permission gives on what is asked for: all of its own where it is of that kind and its name covers the asked one
 abbrev pub gives : Permission → Permission → ℕ

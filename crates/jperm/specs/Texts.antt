@@ -34,11 +34,7 @@ class_name (Unresolved class) = class
 
 -- the name of a permission, as it was written
 abbrev pub name_of : Permission → Option (List ℕ)
-name_of All = Some (codes "<all permissions>")
-name_of (Basic class text) = Some text
-name_of (Property text set) = Some text
-name_of (File path text set) = Some text
-name_of (Unresolved class) = None
+name_of = elim [ All ↦ Some (codes "<all permissions>") | Basic c t ↦ Some t | Property t s ↦ Some t | File p t s ↦ Some t | Unresolved c ↦ None ]
 
 -- the words of the actions in a set, in canonical order, joined by commas
 abbrev pub words_of : ℕ → List ℕ
@@ -46,24 +42,18 @@ words_of set = join_by word (codes ",") (filter (λ action. has_all set (bit act
 
 -- the actions of a permission, empty where it has none
 abbrev pub actions_text : Permission → List ℕ
-actions_text All = codes "<all actions>"
-actions_text (Basic class text) = []
-actions_text (Property text set) = words_of set
-actions_text (File path text set) = words_of set
-actions_text (Unresolved class) = []
+actions_text = elim [ All ↦ codes "<all actions>" | Property text set ↦ words_of set | File path text set ↦ words_of set | _ ↦ [] ]
 
 abbrev pub quoted : List ℕ → List ℕ
 quoted text = codes "\"" ++ (text ++ codes "\"")
 
 -- a text where it isn't empty
 abbrev pub unless_empty : List ℕ → List (List ℕ)
-unless_empty [] = []
-unless_empty (u ∷ us) = (u ∷ us) ∷ []
+unless_empty = elim [ [] ↦ [] | u ∷ us ↦ (u ∷ us) ∷ [] ]
 
 -- the text of a permission: its class, its name and its actions, each where it has one, in quotes
 abbrev pub text_of : Permission → List ℕ
-text_of p =
-    codes "(" ++ (join_by quoted (codes " ") (class_name p ∷ (option_to_list (name_of p) ++ unless_empty (actions_text p))) ++ codes ")")
+text_of p = codes "(" ++ (join_by quoted (codes " ") (class_name p ∷ (option_to_list (name_of p) ++ unless_empty (actions_text p))) ++ codes ")")
 
 -- ---- the same text in parts
 

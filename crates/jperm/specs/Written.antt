@@ -22,13 +22,11 @@ names_of path = fold next [] (pieces slash path)
 
 -- the path of some names: each behind a slash, and the root is a slash alone
 abbrev pub path_of_names : List (List ℕ) → List ℕ
-path_of_names [] = codes "/"
-path_of_names (name ∷ names) = flat_map (λ n. slash ∷ n) (name ∷ names)
+path_of_names = elim [ [] ↦ codes "/" | name ∷ names ↦ flat_map (λ n. slash ∷ n) (name ∷ names) ]
 
 -- the path that a name gives where it is read in a directory: behind it where the name doesn't begin with a slash, and then without `.`, `..` and needless slashes
 abbrev pub absolute : List ℕ → List ℕ → List ℕ
-absolute directory name =
-    path_of_names (names_of (if is_absolute name then name else directory ++ (codes "/" ++ name)))
+absolute directory name = path_of_names (names_of (if is_absolute name then name else directory ++ (codes "/" ++ name)))
 
 -- whether a name is a sign, or ends in a slash and the sign
 abbrev pub has_sign : List ℕ → List ℕ → Bool

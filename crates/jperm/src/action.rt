@@ -12,14 +12,9 @@ use jtext::same_ignoring_case;
 const COMMA: u16 = b',' as u16;
 
 /// An action on a property or a file.
+#[rattlefmt::skip]
 #[derive(Clone, Copy, Debug, PartialEq, Eq)]
-pub enum Action {
-    Read,
-    Write,
-    Execute,
-    Delete,
-    Readlink,
-}
+pub enum Action { Read, Write, Execute, Delete, Readlink }
 
 /// The actions on a property, in canonical order.
 pub const PROPERTY_ACTIONS: [Action; 2] = [Action::Read, Action::Write];

@@ -19,30 +19,19 @@ pub enum BasicClass {
 }
 
 /// A permission.
+#[rattlefmt::skip]
 #[derive(Debug, Drop)]
 pub enum Permission {
     /// `java.security.AllPermission`.
     All,
     /// A permission that has a name and no actions.
-    Basic {
-        class: BasicClass,
-        name: Units,
-    },
+    Basic { class: BasicClass, name: Units },
     /// `java.util.PropertyPermission`.
-    Property {
-        name: Units,
-        actions: PropertyActions,
-    },
+    Property { name: Units, actions: PropertyActions },
     /// `java.io.FilePermission`. The name is as it was written, and the path is what it names.
-    File {
-        path: FilePath,
-        name: Units,
-        actions: FileActions,
-    },
+    File { path: FilePath, name: Units, actions: FileActions },
     /// A permission of a policy that no class or constructor makes.
-    Unresolved {
-        class: Units,
-    },
+    Unresolved { class: Units },
 }
 
 impl Permission {

@@ -21,8 +21,7 @@ place_of text left = length (encode_utf8_all (take (length text - left) text))
 
 -- a fault by its place in the bytes
 abbrev pub outward : List ℕ → Result (List Grant) (Fault PolicyFault) → Result (List Grant) (At PolicyFault)
-outward text (Ok grants) = Ok grants
-outward text (Err fault) = Err (record { at = place_of text fault.left; kind = fault.kind })
+outward text = elim [ Ok grants ↦ Ok grants | Err fault ↦ Err (record { at = place_of text fault.left; kind = fault.kind }) ]
 
 -- the grants that characters spell
 abbrev pub policy_in : Properties → List ℕ → Result (List Grant) (At PolicyFault)

@@ -26,8 +26,7 @@ Answer A = Result (A × List Placed) (Fault PolicyFault)
 
 -- a fault of the next token; the end of the text counts as a token
 abbrev pub fault_at : PolicyFault → List Placed → Fault PolicyFault
-fault_at kind [] = record { left = 0; kind = kind }
-fault_at kind (t ∷ ts) = record { left = t.left; kind = kind }
+fault_at kind = elim [ [] ↦ record { left = 0; kind = kind } | t ∷ ts ↦ record { left = t.left; kind = kind } ]
 
 abbrev pub not_allowed : {A : Type 0} → List Placed → Result A (Fault PolicyFault)
 not_allowed ts = Err (fault_at Syntax ts)
@@ -36,20 +35,16 @@ not_allowed ts = Err (fault_at Syntax ts)
 
 -- the tokens behind the next one
 abbrev pub behind : List Placed → List Placed
-behind [] = []
-behind (t ∷ ts) = ts
+behind = elim [ [] ↦ [] | t ∷ ts ↦ ts ]
 
 abbrev pub is_mark : ℕ → Token → Bool
-is_mark c (Mark d) = d == c
-is_mark c _ = false
+is_mark c = elim [ Mark d ↦ d == c | _ ↦ false ]
 
 abbrev pub is_word : Token → Bool
-is_word (Word units) = true
-is_word _ = false
+is_word = elim [ Word units ↦ true | _ ↦ false ]
 
 abbrev pub is_text : Token → Bool
-is_text (Text units) = true
-is_text _ = false
+is_text = elim [ Text units ↦ true | _ ↦ false ]
 
 -- the letters of a keyword
 abbrev pub spelling : Keyword → List ℕ
@@ -63,12 +58,10 @@ spelling keywords.PasswordUrl = codes "keystorePasswordURL"
 
 -- whether a word is a keyword, whose case is unimportant
 abbrev pub is_keyword : Keyword → Token → Bool
-is_keyword keyword (Word units) = same_ignoring_case units (spelling keyword)
-is_keyword keyword _ = false
+is_keyword keyword = elim [ Word units ↦ same_ignoring_case units (spelling keyword) | _ ↦ false ]
 
 abbrev pub next : (Token → Bool) → List Placed → Bool
-next test [] = false
-next test (t ∷ ts) = test t.token
+next test = elim [ [] ↦ false | t ∷ ts ↦ test t.token ]
 
 abbrev pub one : (Token → Bool) → List Placed → Answer (Unit {0})
 one test ts = if next test ts then Ok (tt, behind ts) else not_allowed ts
@@ -81,12 +74,10 @@ abbrev pub keyword_at : Keyword → List Placed → Answer (Unit {0})
 keyword_at keyword ts = one (is_keyword keyword) ts
 
 abbrev pub units_of : Token → List Placed → List Placed → Answer (List ℕ)
-units_of (Word units) all rest = Ok (units, rest)
-units_of _ all rest = not_allowed all
+units_of x all rest = elim x [ Word units ↦ Ok (units, rest) | _ ↦ not_allowed all ]
 
 abbrev pub word_at : List Placed → Answer (List ℕ)
-word_at [] = not_allowed []
-word_at (t ∷ ts) = units_of t.token (t ∷ ts) ts
+word_at = elim [ [] ↦ not_allowed [] | t ∷ ts ↦ units_of t.token (t ∷ ts) ts ]
 
 abbrev pub value_of : Properties → Token → List Placed → List Placed → Answer (Option (List ℕ))
 value_of properties (Text units) all rest = if expands_itself units then Err (fault_at SelfExpansion all) else Ok (expanded properties units, rest)
@@ -94,20 +85,17 @@ value_of properties _ all rest = not_allowed all
 
 -- a string with its properties expanded, or none where one is missing
 unfoldable pub text_at : Properties → List Placed → Answer (Option (List ℕ))
-text_at properties [] = not_allowed []
-text_at properties (t ∷ ts) = value_of properties t.token (t ∷ ts) ts
+text_at properties = elim [ [] ↦ not_allowed [] | t ∷ ts ↦ value_of properties t.token (t ∷ ts) ts ]
 
 -- one more behind others, where there is one
 abbrev pub with_one : {A : Type 0} → List A → Option A → List A
-with_one xs (Some x) = xs ++ x ∷ []
-with_one xs None = xs
+with_one xs y = elim y [ Some x ↦ xs ++ x ∷ [] | None ↦ xs ]
 
 -- ---- entries
 
 -- a string that is there
 abbrev pub given : Option (List ℕ) → Stated
-given (Some units) = Given units
-given None = Missing
+given = elim [ Some units ↦ Given units | None ↦ Missing ]
 
 -- `signedBy` string
 unfoldable pub signer_at : Properties → List Placed → Answer Stated
@@ -128,8 +116,7 @@ abbrev pub name_at : Properties → List Placed → Answer Stated
 name_at properties ts = if next is_text ts then (text_at properties ts >>= λ n. Ok (given n.0, n.1)) else Ok (Absent, ts)
 
 abbrev pub is_absent : Stated → Bool
-is_absent Absent = true
-is_absent _ = false
+is_absent = elim [ Absent ↦ true | _ ↦ false ]
 
 -- behind the name: optionally a comma with actions or signers; without a name, signers may stand there with no comma
 abbrev pub behind_name : Properties → Stated → List Placed → Answer (Stated × Stated)
@@ -139,9 +126,7 @@ behind_name properties name ts =
 
 -- a string as an entry holds it, or none where a property is missing
 abbrev pub kept : Stated → Option (Option (List ℕ))
-kept Absent = Some None
-kept Missing = None
-kept (Given units) = Some (Some units)
+kept = elim [ Absent ↦ Some None | Missing ↦ None | Given units ↦ Some (Some units) ]
 
 abbrev pub entry_with : List ℕ → Option (Option (List ℕ)) → Option (Option (List ℕ)) → Option (Option (List ℕ)) → Option GrantEntry
 entry_with class (Some name) (Some actions) (Some signers) = Some (record { class = class; name = name; actions = actions; signed = is_some signers })
@@ -213,8 +198,7 @@ clauses_at properties ts = walk (next (is_mark (byte "{"))) (one_clause properti
 -- ---- grants
 
 abbrev pub is_missing : Stated → Bool
-is_missing Missing = true
-is_missing _ = false
+is_missing = elim [ Missing ↦ true | _ ↦ false ]
 
 abbrev pub grant_with : Option (Option (List ℕ)) → Bool → Bool → List GrantEntry → Option Grant
 grant_with (Some code_base) false asks_more entries = Some (record { code_base = code_base; asks_more = asks_more; entries = entries })
@@ -238,8 +222,7 @@ another_at properties ts = if next (is_mark (byte ",")) ts then (text_at propert
 
 -- optionally a comma and a string, and another one behind it
 abbrev pub others_at : Properties → List Placed → Answer (Unit {0})
-others_at properties ts =
-    if next (is_mark (byte ",")) ts then (text_at properties (behind ts) >>= λ t. another_at properties t.1) else Ok (tt, ts)
+others_at properties ts = if next (is_mark (byte ",")) ts then (text_at properties (behind ts) >>= λ t. another_at properties t.1) else Ok (tt, ts)
 
 -- `keystore` string, up to two more strings, `;`
 unfoldable pub keystore_at : Properties → List Placed → Answer (Unit {0})

@@ -16,25 +16,21 @@ meant c = if c == byte "n" then byte "\n" else (if c == byte "r" then byte "\r" 
 
 -- an escape, behind its backslash; it is not octal, and the line doesn't end in it
 abbrev pub escape_at : List ℕ → Part ℕ
-escape_at [] = Err tt
-escape_at (c ∷ cs) = if ends_line c || is_octal c then Err tt else Ok (meant c, cs)
+escape_at = elim [ [] ↦ Err tt | c ∷ cs ↦ if ends_line c || is_octal c then Err tt else Ok (meant c, cs) ]
 
 -- a character of a string, which stands for itself or begins an escape; the line doesn't end there
 unfoldable pub character_at : List ℕ → Part ℕ
-character_at [] = Err tt
-character_at (c ∷ cs) = if ends_line c then Err tt else (if c == byte "\\" then escape_at cs else Ok (c, cs))
+character_at = elim [ [] ↦ Err tt | c ∷ cs ↦ if ends_line c then Err tt else (if c == byte "\\" then escape_at cs else Ok (c, cs)) ]
 
 abbrev pub at_quote : List ℕ → Bool
-at_quote [] = false
-at_quote (c ∷ cs) = c == byte "\""
+at_quote = elim [ [] ↦ false | c ∷ cs ↦ c == byte "\"" ]
 
 -- one more character in UTF-16 units
 abbrev pub one_more : List ℕ → List ℕ → Part (List ℕ)
 one_more units text = character_at text >>= λ x. Ok (units ++ encode_utf16 x.0, x.1)
 
 abbrev pub behind_quote : List ℕ → Part (Unit {0})
-behind_quote [] = Err tt
-behind_quote (c ∷ cs) = if c == byte "\"" then Ok (tt, cs) else Err tt
+behind_quote = elim [ [] ↦ Err tt | c ∷ cs ↦ if c == byte "\"" then Ok (tt, cs) else Err tt ]
 
 -- characters up to the quote that ends the string
 unfoldable pub string_at : List ℕ → Part (List ℕ)

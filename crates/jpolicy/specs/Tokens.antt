@@ -31,8 +31,7 @@ behind_comment (c ∷ []) = None
 behind_comment (c ∷ d ∷ cs) = if (c == byte "*") && (d == byte "/") then Some cs else behind_comment (d ∷ cs)
 
 abbrev pub closed : Option (List ℕ) → Lexeme
-closed (Some rest) = gap rest
-closed None = bad
+closed = elim [ Some rest ↦ gap rest | None ↦ bad ]
 
 -- a comment, behind its first slash
 unfoldable pub comment_at : List ℕ → Lexeme
@@ -63,8 +62,7 @@ with_lexeme tokens left (None, rest) = Ok (tokens, rest)
 
 -- the tokens in front, and one lexeme more
 abbrev pub more_at : List Placed → List ℕ → Part (List Placed)
-more_at tokens [] = Ok (tokens, [])
-more_at tokens (c ∷ cs) = with_lexeme tokens (length (c ∷ cs)) (lexeme_at c cs)
+more_at tokens = elim [ [] ↦ Ok (tokens, []) | c ∷ cs ↦ with_lexeme tokens (length (c ∷ cs)) (lexeme_at c cs) ]
 
 abbrev pub found : Part (List Placed) → List Placed
 found (Ok (tokens, rest)) = tokens

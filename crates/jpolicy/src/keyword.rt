@@ -2,16 +2,9 @@ ghost use Rattle.std.specs.Prelude.{◌≡◌};
 ghost use Rattle.jpolicy.specs.Productions.{spelling};
 
 /// A keyword of policy files.
+#[rattlefmt::skip]
 #[derive(Clone, Copy, Debug, PartialEq, Eq)]
-pub enum Keyword {
-    Grant,
-    CodeBase,
-    SignedBy,
-    Principal,
-    Permission,
-    Keystore,
-    PasswordUrl,
-}
+pub enum Keyword { Grant, CodeBase, SignedBy, Principal, Permission, Keystore, PasswordUrl }
 
 impl Keyword {
     /// The letters of the keyword.

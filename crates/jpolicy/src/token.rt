@@ -14,8 +14,6 @@ pub enum Token {
 }
 
 /// A token and its place: `left` is the number of characters from its first one to the end of the text.
+#[rattlefmt::skip]
 #[derive(Debug, Drop)]
-pub struct Placed {
-    pub left: usize,
-    pub token: Token,
-}
+pub struct Placed { pub left: usize, pub token: Token }

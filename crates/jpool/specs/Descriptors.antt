@@ -61,8 +61,7 @@ slots_of [] = 0
 slots_of (t ∷ ts) = slots t + slots_of ts
 
 abbrev pub return_text : Option FieldType → List ℕ
-return_text None = byte "V" ∷ []
-return_text (Some t) = type_text t
+return_text = elim [ None ↦ byte "V" ∷ [] | Some t ↦ type_text t ]
 
 abbrev pub is_return : Option FieldType → Bool
 is_return None = true
@@ -76,8 +75,7 @@ abbrev pub is_method : List FieldType → Option FieldType → Bool
 is_method params ret = list_all is_type params && is_return ret && nat_le (slots_of params) 255
 
 unfoldable pub descriptor_text : Descriptor → List ℕ
-descriptor_text (descriptors.Field t) = type_text t
-descriptor_text (descriptors.Method params ret) = method_text params ret
+descriptor_text = elim [ descriptors.Field t ↦ type_text t | descriptors.Method params ret ↦ method_text params ret ]
 
 unfoldable pub is_well_formed : Descriptor → Bool
 is_well_formed (descriptors.Field t) = is_type t
@@ -100,8 +98,7 @@ class_at text = option_and_then (λ i. named (take i text) (drop (i + 1) text)) 
 
 -- a base type's letter, or 'L' with its class name
 unfoldable pub base_at : List ℕ → Option ((ℕ × List ℕ) × List ℕ)
-base_at [] = None
-base_at (b ∷ rest) = if is_class_sign b then class_at rest else if is_base b then Some ((b, []), rest) else None
+base_at = elim [ [] ↦ None | b ∷ rest ↦ if is_class_sign b then class_at rest else if is_base b then Some ((b, []), rest) else None ]
 
 abbrev pub typed : ℕ → (ℕ × List ℕ) × List ℕ → Option (FieldType × List ℕ)
 typed depth x = if nat_lt depth (2 ^ 32) then Some (record { depth = depth; base = x.0.0; class = x.0.1 }, x.1) else None
@@ -112,12 +109,10 @@ type_at text = option_and_then (typed (prefix_len is_bracket text)) (base_at (dr
 
 -- what is behind a closing parenthesis
 unfoldable pub closing_at : List ℕ → Option (List ℕ)
-closing_at [] = None
-closing_at (b ∷ rest) = if is_closing b then Some rest else None
+closing_at = elim [ [] ↦ None | b ∷ rest ↦ if is_closing b then Some rest else None ]
 
 abbrev pub closed_or : Option (List ℕ) → Option (List FieldType × List ℕ) → Option (List FieldType × List ℕ)
-closed_or (Some rest) more = Some ([], rest)
-closed_or None more = more
+closed_or x more = elim x [ Some rest ↦ Some ([], rest) | None ↦ more ]
 
 -- types up to a closing parenthesis, fewer than n
 unfoldable pub params_at : ℕ → List ℕ → Option (List FieldType × List ℕ)
@@ -129,8 +124,7 @@ abbrev pub slots_at : ℕ → List ℕ → Option (ℕ × List ℕ)
 slots_at n text = option_map (λ x. (slots_of x.0, x.1)) (params_at n text)
 
 unfoldable pub return_at : List ℕ → Option (Option FieldType × List ℕ)
-return_at [] = None
-return_at (b ∷ rest) = if is_void b then Some (None, rest) else option_map (λ x. (Some x.0, x.1)) (type_at (b ∷ rest))
+return_at = elim [ [] ↦ None | b ∷ rest ↦ if is_void b then Some (None, rest) else option_map (λ x. (Some x.0, x.1)) (type_at (b ∷ rest)) ]
 
 -- a value and nothing behind it
 abbrev pub ended : {A : Type 0} → A × List ℕ → Option A
@@ -147,8 +141,7 @@ returned x = option_and_then few_slots (option_map (λ ret. (x.0, ret)) (option_
 
 -- the parameters' types and the type of what is returned
 unfoldable pub method_of : List ℕ → Option (List FieldType × Option FieldType)
-method_of [] = None
-method_of (b ∷ rest) = if is_opening b then option_and_then returned (params_at (length rest) rest) else None
+method_of = elim [ [] ↦ None | b ∷ rest ↦ if is_opening b then option_and_then returned (params_at (length rest) rest) else None ]
 
 abbrev pub method : List FieldType × Option FieldType → Descriptor
 method m = descriptors.Method m.0 m.1
@@ -157,15 +150,13 @@ abbrev pub field : FieldType → Descriptor
 field t = descriptors.Field t
 
 unfoldable pub descriptor_of : List ℕ → Option Descriptor
-descriptor_of [] = None
-descriptor_of (b ∷ rest) = if is_opening b then option_map method (method_of (b ∷ rest)) else option_map field (field_of (b ∷ rest))
+descriptor_of = elim [ [] ↦ None | b ∷ bs ↦ if is_opening b then option_map method (method_of (b ∷ bs)) else option_map field (field_of (b ∷ bs)) ]
 
 unfoldable pub is_field_descriptor : List ℕ → Bool
 is_field_descriptor text = is_some (field_of text)
 
 abbrev pub is_array : Option FieldType → Bool
-is_array None = false
-is_array (Some t) = nat_lt 0 t.depth
+is_array = elim [ None ↦ false | Some t ↦ nat_lt 0 t.depth ]
 
 unfoldable pub is_array_descriptor : List ℕ → Bool
 is_array_descriptor text = is_array (field_of text)

@@ -43,60 +43,46 @@ handle = u1 · u2
 -- ---- the parts of an entry of each form
 
 abbrev pub utf8_parts : Entry → Option (List ℕ)
-utf8_parts (Utf8 text) = Some text
-utf8_parts _ = None
+utf8_parts = elim [ Utf8 text ↦ Some text | _ ↦ None ]
 
 abbrev pub integer_parts : Entry → Option ℤ
-integer_parts (Integer n) = Some n
-integer_parts _ = None
+integer_parts = elim [ Integer n ↦ Some n | _ ↦ None ]
 
 abbrev pub float_parts : Entry → Option ℕ
-float_parts (Float bits) = Some bits
-float_parts _ = None
+float_parts = elim [ Float bits ↦ Some bits | _ ↦ None ]
 
 abbrev pub long_parts : Entry → Option ℤ
-long_parts (Long n) = Some n
-long_parts _ = None
+long_parts = elim [ Long n ↦ Some n | _ ↦ None ]
 
 abbrev pub double_parts : Entry → Option ℕ
-double_parts (Double bits) = Some bits
-double_parts _ = None
+double_parts = elim [ Double bits ↦ Some bits | _ ↦ None ]
 
 abbrev pub class_parts : Entry → Option ℕ
-class_parts (Class name) = Some name
-class_parts _ = None
+class_parts = elim [ Class name ↦ Some name | _ ↦ None ]
 
 abbrev pub str_parts : Entry → Option ℕ
-str_parts (Str text) = Some text
-str_parts _ = None
+str_parts = elim [ Str text ↦ Some text | _ ↦ None ]
 
 abbrev pub field_parts : Entry → Option (ℕ × ℕ)
-field_parts (Field class both) = Some (class, both)
-field_parts _ = None
+field_parts = elim [ Field class both ↦ Some (class, both) | _ ↦ None ]
 
 abbrev pub method_parts : Entry → Option (ℕ × ℕ)
-method_parts (Method class both) = Some (class, both)
-method_parts _ = None
+method_parts = elim [ Method class both ↦ Some (class, both) | _ ↦ None ]
 
 abbrev pub interface_method_parts : Entry → Option (ℕ × ℕ)
-interface_method_parts (InterfaceMethod class both) = Some (class, both)
-interface_method_parts _ = None
+interface_method_parts = elim [ InterfaceMethod class both ↦ Some (class, both) | _ ↦ None ]
 
 abbrev pub name_and_type_parts : Entry → Option (ℕ × ℕ)
-name_and_type_parts (NameAndType name descriptor) = Some (name, descriptor)
-name_and_type_parts _ = None
+name_and_type_parts = elim [ NameAndType name descriptor ↦ Some (name, descriptor) | _ ↦ None ]
 
 abbrev pub handle_parts : Entry → Option (ℕ × ℕ)
-handle_parts (MethodHandle kind member) = Some (kind, member)
-handle_parts _ = None
+handle_parts = elim [ MethodHandle kind member ↦ Some (kind, member) | _ ↦ None ]
 
 abbrev pub method_type_parts : Entry → Option ℕ
-method_type_parts (MethodType descriptor) = Some descriptor
-method_type_parts _ = None
+method_type_parts = elim [ MethodType descriptor ↦ Some descriptor | _ ↦ None ]
 
 abbrev pub dynamic_parts : Entry → Option (ℕ × ℕ)
-dynamic_parts (InvokeDynamic bootstrap both) = Some (bootstrap, both)
-dynamic_parts _ = None
+dynamic_parts = elim [ InvokeDynamic bootstrap both ↦ Some (bootstrap, both) | _ ↦ None ]
 
 -- ---- an entry
 
@@ -144,13 +130,10 @@ is_above tag (b ∷ rest) = nat_lt tag b
 
 -- an entry that takes two indices
 abbrev pub is_wide : Entry → Bool
-is_wide (Long a) = true
-is_wide (Double a) = true
-is_wide _ = false
+is_wide = elim [ Long a ↦ true | Double a ↦ true | _ ↦ false ]
 
 abbrev pub begins_wide : List ℕ → Bool
-begins_wide [] = false
-begins_wide (b ∷ rest) = b == 5 || b == 6
+begins_wide = elim [ [] ↦ false | b ∷ rest ↦ b == 5 || b == 6 ]
 
 abbrev pub narrow_at : List ℕ → Answer PoolFault Entry
 narrow_at bytes = if begins_wide bytes then fault BadTag bytes else entry.read bytes
@@ -160,8 +143,7 @@ unfoldable pub narrow : Format PoolFault Entry
 narrow = record { spell = entry.spell; fits = λ e. entry.fits e && not (is_wide e); read = narrow_at }
 
 abbrev pub unused_parts : Entry → Option (Unit {0})
-unused_parts Unused = Some tt
-unused_parts _ = None
+unused_parts = elim [ Unused ↦ Some tt | _ ↦ None ]
 
 -- no bytes at all
 unfoldable pub unused : Format PoolFault Entry

@@ -11,8 +11,7 @@ abbrev pub is_name_byte : ℕ → Bool
 is_name_byte b = not (b == byte "." || b == byte ";" || b == byte "[")
 
 abbrev pub is_part : List ℕ → Bool
-is_part [] = false
-is_part part = list_all is_name_byte part
+is_part = elim [ [] ↦ false | part ↦ list_all is_name_byte part ]
 
 -- one or more parts joined by '/'
 unfoldable pub is_class_name : List ℕ → Bool

@@ -52,12 +52,10 @@ is_name_and_type entries i = is_some (both_in (slice_get entries i))
 -- ---- what an entry may name
 
 abbrev pub name_fault : Option (List ℕ) → Option PoolFault
-name_fault None = Some BadIndex
-name_fault (Some text) = if is_class_name text || is_array_descriptor text then None else Some BadName
+name_fault = elim [ None ↦ Some BadIndex | Some text ↦ if is_class_name text || is_array_descriptor text then None else Some BadName ]
 
 abbrev pub descriptor_fault : Option (List ℕ) → Option PoolFault
-descriptor_fault None = Some BadIndex
-descriptor_fault (Some text) = if is_field_descriptor text || is_method_descriptor text then None else Some BadDescriptor
+descriptor_fault = elim [ None ↦ Some BadIndex | Some t ↦ if is_field_descriptor t || is_method_descriptor t then None else Some BadDescriptor ]
 
 abbrev pub member_fault : List Entry → ℕ → ℕ → Option PoolFault
 member_fault entries class both = unless (is_class entries class && is_name_and_type entries both) BadIndex

@@ -21,14 +21,12 @@ pub struct FieldType {
 }
 
 /// What a descriptor says (JVMS 4.3).
+#[rattlefmt::skip]
 #[derive(Debug, Drop)]
 pub enum Descriptor {
     Field(FieldType),
     /// The types of the parameters and of what is returned, if anything is.
-    Method {
-        params: Seq<FieldType>,
-        ret: Option<FieldType>,
-    },
+    Method { params: Seq<FieldType>, ret: Option<FieldType> },
 }
 
 /// Why a text gave no descriptor.

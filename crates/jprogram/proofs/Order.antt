@@ -1,5 +1,5 @@
 -- Where heights are an order, a class that is higher than all directly above it doesn't stand above itself.
-use Rattle.std.proofs.Common.{◌≡◌, ℕ, zero, suc, ◌+◌, ◌<◌, ◌≤◌, ◌||◌, ◌&&◌, Bool, true, false, List, [], ◌∷◌, ◌++◌, length, Option, Some, None, refl, sym, ap, subst, arith, inl, inr}
+use Rattle.std.proofs.Common.{◌≡◌, ℕ, zero, suc, ◌+◌, ◌<◌, ◌≤◌, ◌^◌, ◌||◌, ◌&&◌, Bool, true, false, List, [], ◌∷◌, ◌++◌, length, Option, Some, None, refl, sym, ap, subst, arith, inl, inr}
 use Rattle.std.specs.Prelude.{IsTrue, is_some, not, slice_get}
 use Rattle.std.specs.List.{list_all, AllByRecursion}
 use Rattle.std.specs.Option.{option_to_list}
@@ -122,8 +122,8 @@ upward_most zero o = omega arith
 upward_most (suc n) None = omega arith
 upward_most (suc n) (Some c) = let ih = upward_most n (library.superclass c) in omega (arith, ih)
 
-pub height_most : (c : LibClass) → library.height c ≤ 46
-height_most c = upward_most 46 (library.superclass c)
+pub height_few : (c : LibClass) → library.height c < 2 ^ 16
+height_few c = let few : library.height c ≤ 46 = upward_most 46 (library.superclass c) in omega (arith, few)
 
 pub height_next : (c s : LibClass) → Some s ≡ library.superclass c → library.height c ≡ library.height s + 1
 height_next c s e = let one : library.height c ≡ suc (library.height s) = ap (λ (xs : List LibClass). length xs) (next_above c s (sym e)) in omega (arith, one)

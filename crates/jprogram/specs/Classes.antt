@@ -38,8 +38,7 @@ abbrev pub user_at : Program → ℕ → Option Class
 user_at p i = option_map (λ part. User i part.class) (slice_get p.parts i)
 
 abbrev pub found_at : Program → List ℕ → Option ℕ → Option Class
-found_at p name (Some i) = user_at p i
-found_at p name None = option_map Lib (library.class_named p.side name)
+found_at p name = elim [ Some i ↦ user_at p i | None ↦ option_map Lib (library.class_named p.side name) ]
 
 -- the class of a name: users' classes come first
 unfoldable pub find : Program → List ℕ → Option Class
@@ -48,51 +47,41 @@ find p name = found_at p name (place_of p.parts name)
 -- ---- what a class says
 
 abbrev pub name_of : Class → List ℕ
-name_of (User i c) = parts.this_name c
-name_of (Lib c) = library.name_of c
+name_of = elim [ User i c ↦ parts.this_name c | Lib c ↦ library.name_of c ]
 
 -- the name of the class that it extends; an interface extends Object
 abbrev pub above : Class → Option (List ℕ)
-above (User i c) = parts.super_name c
-above (Lib c) = option_map library.name_of (library.superclass c)
+above = elim [ User i c ↦ parts.super_name c | Lib c ↦ option_map library.name_of (library.superclass c) ]
 
 -- the names of the interfaces that it lists
 abbrev pub faces : Class → List (List ℕ)
-faces (User i c) = parts.interface_names c
-faces (Lib c) = option_to_list (option_map library.name_of (library.implemented c))
+faces = elim [ User i c ↦ parts.interface_names c | Lib c ↦ option_to_list (option_map library.name_of (library.implemented c)) ]
 
 abbrev pub is_interface : Class → Bool
-is_interface (User i c) = parts.is_interface c.flags
-is_interface (Lib c) = library.is_interface c
+is_interface = elim [ User i c ↦ parts.is_interface c.flags | Lib c ↦ library.is_interface c ]
 
 -- users may not extend it
 abbrev pub is_closed : Class → Bool
-is_closed (User i c) = parts.is_final c.flags
-is_closed (Lib c) = not (library.is_open c)
+is_closed = elim [ User i c ↦ parts.is_final c.flags | Lib c ↦ not (library.is_open c) ]
 
 -- none can be made of it, interfaces aside
 abbrev pub is_abstract : Class → Bool
-is_abstract (User i c) = parts.is_abstract c.flags
-is_abstract (Lib c) = library.is_abstract c
+is_abstract = elim [ User i c ↦ parts.is_abstract c.flags | Lib c ↦ library.is_abstract c ]
 
 abbrev pub is_public : Class → Bool
-is_public (User i c) = parts.is_public c.flags
-is_public (Lib c) = true
+is_public = elim [ User i c ↦ parts.is_public c.flags | Lib c ↦ true ]
 
 -- ---- the number of a class
 
 abbrev pub ref_of : Class → ClassRef
-ref_of (User i c) = refs.User i
-ref_of (Lib c) = refs.Lib c
+ref_of = elim [ User i c ↦ refs.User i | Lib c ↦ refs.Lib c ]
 
 -- the class of a number
 abbrev pub class_at : Program → ClassRef → Option Class
-class_at p (refs.User i) = user_at p i
-class_at p (refs.Lib c) = Some (Lib c)
+class_at p = elim [ refs.User i ↦ user_at p i | refs.Lib c ↦ Some (Lib c) ]
 
 abbrev pub named : Option Class → List ℕ
-named None = []
-named (Some c) = name_of c
+named = elim [ None ↦ [] | Some c ↦ name_of c ]
 
 -- the name of the class of a number; empty where there is none
 abbrev pub name_at : Program → ClassRef → List ℕ
@@ -106,12 +95,10 @@ super_at p r = option_map ref_of (option_and_then (find p) (option_and_then abov
 
 -- what holds of the class of a name, and of none
 abbrev pub holds : (Class → Bool) → Option Class → Bool
-holds test None = false
-holds test (Some c) = test c
+holds test = elim [ None ↦ false | Some c ↦ test c ]
 
 abbrev pub faces_of : Option Class → List (List ℕ)
-faces_of None = []
-faces_of (Some c) = faces c
+faces_of = elim [ None ↦ [] | Some c ↦ faces c ]
 
 -- the name of the class above the class of a name
 abbrev pub above_name : Program → List ℕ → Option (List ℕ)
@@ -128,8 +115,7 @@ known p = map (λ part. parts.this_name part.class) p.parts ++ map library.name_
 -- ---- upwards
 
 abbrev pub onward : (List ℕ → List (List ℕ)) → Option (List ℕ) → List (List ℕ)
-onward f None = []
-onward f (Some name) = f name
+onward f = elim [ None ↦ [] | Some name ↦ f name ]
 
 -- a class and those above it, nearest first, at most n
 unfoldable pub chain : Program → ℕ → List ℕ → List (List ℕ)

@@ -111,19 +111,14 @@ info_of p (Method m) = option_and_then (λ c. option_map (λ m. (c, m)) (slice_g
 info_of p _ = None
 
 abbrev pub user_is : (MemberInfo → Bool) → Option (ClassParts × MemberInfo) → Bool
-user_is test None = false
-user_is test (Some one) = test one.1
+user_is test = elim [ None ↦ false | Some one ↦ test one.1 ]
 
 unfoldable pub is_static : Program → Member → Bool
-is_static p LibField = true
-is_static p (LibMethod m) = library_calls.is_static m
-is_static p m = user_is (λ one. parts.is_static one.flags) (info_of p m)
+is_static p = elim [ LibField ↦ true | LibMethod m ↦ library_calls.is_static m | m ↦ user_is (λ one. parts.is_static one.flags) (info_of p m) ]
 
 -- the library's field may not be written
 unfoldable pub is_final : Program → Member → Bool
-is_final p LibField = true
-is_final p (LibMethod m) = false
-is_final p m = user_is (λ one. parts.is_final one.flags) (info_of p m)
+is_final p = elim [ LibField ↦ true | LibMethod m ↦ false | m ↦ user_is (λ one. parts.is_final one.flags) (info_of p m) ]
 
 -- the methods of the library's interfaces have no code
 unfoldable pub is_abstract : Program → Member → Bool
@@ -132,36 +127,26 @@ is_abstract p (LibMethod m) = library.is_interface (library_calls.owner m)
 is_abstract p m = user_is (λ one. parts.is_abstract one.flags) (info_of p m)
 
 abbrev pub reach_in : Option (ClassParts × MemberInfo) → Reach
-reach_in None = reach.Private
-reach_in (Some one) = parts.reach_of one.1.flags
+reach_in = elim [ None ↦ reach.Private | Some one ↦ parts.reach_of one.1.flags ]
 
 -- all that the library has is public
 unfoldable pub reach_of : Program → Member → Reach
-reach_of p LibField = reach.Public
-reach_of p (LibMethod m) = reach.Public
-reach_of p m = reach_in (info_of p m)
+reach_of p = elim [ LibField ↦ reach.Public | LibMethod m ↦ reach.Public | m ↦ reach_in (info_of p m) ]
 
 abbrev pub name_in : Option (ClassParts × MemberInfo) → List ℕ
-name_in None = []
-name_in (Some one) = parts.member_name one.0 one.1
+name_in = elim [ None ↦ [] | Some one ↦ parts.member_name one.0 one.1 ]
 
 unfoldable pub name_of : Program → Member → List ℕ
-name_of p LibField = library_calls.name_of_call calls.Out
-name_of p (LibMethod m) = library_calls.name_of_call m
-name_of p m = name_in (info_of p m)
+name_of p = elim [ LibField ↦ library_calls.name_of_call calls.Out | LibMethod m ↦ library_calls.name_of_call m | m ↦ name_in (info_of p m) ]
 
 abbrev pub desc_in : Option (ClassParts × MemberInfo) → List ℕ
-desc_in None = []
-desc_in (Some one) = parts.member_desc one.0 one.1
+desc_in = elim [ None ↦ [] | Some one ↦ parts.member_desc one.0 one.1 ]
 
 unfoldable pub desc_of : Program → Member → List ℕ
-desc_of p LibField = library_calls.desc_of calls.Out
-desc_of p (LibMethod m) = library_calls.desc_of m
-desc_of p m = desc_in (info_of p m)
+desc_of p = elim [ LibField ↦ library_calls.desc_of calls.Out | LibMethod m ↦ library_calls.desc_of m | m ↦ desc_in (info_of p m) ]
 
 abbrev pub owner_in : Option (ClassParts × MemberInfo) → List ℕ
-owner_in None = []
-owner_in (Some one) = parts.this_name one.0
+owner_in = elim [ None ↦ [] | Some one ↦ parts.this_name one.0 ]
 
 -- the name of the class that declares it
 unfoldable pub owner_of : Program → Member → List ℕ
@@ -191,15 +176,11 @@ may_use p from m = allows p (reach_of p m) (owner_of p m) from
 -- ---- overriding (JVMS 5.4.5)
 
 abbrev pub is_private : Reach → Bool
-is_private reach.Private = true
-is_private _ = false
+is_private = elim [ reach.Private ↦ true | _ ↦ false ]
 
 -- a method of such a reach may be overridden, by one of its package or of another
 abbrev pub gives_way : Reach → Bool → Bool
-gives_way reach.Public one_package = true
-gives_way reach.Protected one_package = true
-gives_way reach.Package one_package = one_package
-gives_way reach.Private one_package = false
+gives_way x one_package = elim x [ reach.Public ↦ true | reach.Protected ↦ true | reach.Package ↦ one_package | reach.Private ↦ false ]
 
 -- a method overrides one of its name and descriptor that stands above it, leaving aside those between
 unfoldable pub overrides_at_once : Program → Member → Member → Bool
@@ -214,9 +195,7 @@ overrides p m (b ∷ between) r = overrides p m between r || (overrides_at_once 
 -- ---- selection (JVMS 5.4.6)
 
 abbrev pub name_of_id : Program → ClassId → List ℕ
-name_of_id p (id.User i) = classes.name_at p (refs.User i)
-name_of_id p (id.Lib c) = library.name_of c
-name_of_id p id.Array = classes.object
+name_of_id p = elim [ id.User i ↦ classes.name_at p (refs.User i) | id.Lib c ↦ library.name_of c | id.Array ↦ classes.object ]
 
 abbrev pub same_method : Member → Member → Bool
 same_method (Method a) (Method b) = a.class == b.class && a.method == b.method
@@ -236,9 +215,7 @@ first_taking p r [] = None
 first_taking p r (m ∷ ms) = if takes_call p r m ms then Some m else first_taking p r ms
 
 abbrev pub first_by : Program → CallKind → Member → List Member → Option Member
-first_by p call.Virtual r ms = first_taking p r ms
-first_by p call.Interface r ms = find (λ m. not (is_static p m)) ms
-first_by p call.Special r ms = find (λ m. not (is_static p m)) ms
+first_by p x r ms = elim x [ call.Virtual ↦ first_taking p r ms | _ ↦ find (λ m. not (is_static p m)) ms ]
 
 -- the methods of a name and a descriptor in classes, in their order
 abbrev pub methods_along : Program → List ℕ → List ℕ → List (List ℕ) → List Member
@@ -262,8 +239,7 @@ select p on m call = as_selected p (first_by p call m (methods_along p (name_of 
 
 -- the descriptor of `main`, which on the passing side is given a context
 abbrev pub main_desc : Side → List ℕ
-main_desc side.Source = codes "([Ljava/lang/String;)V"
-main_desc side.Passing = codes "([Ljava/lang/String;Lsps/Ctx;)V"
+main_desc = elim [ side.Source ↦ codes "([Ljava/lang/String;)V" | side.Passing ↦ codes "([Ljava/lang/String;Lsps/Ctx;)V" ]
 
 abbrev pub is_main : Side → ClassParts → MemberInfo → Bool
 is_main side c m = parts.is_called c (codes "main") (main_desc side) m && (parts.is_public_reach (parts.reach_of m.flags) && parts.is_static m.flags && parts.has_code m)

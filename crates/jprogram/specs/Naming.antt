@@ -26,8 +26,7 @@ use Rattle.jprogram.specs.Classes.{Program, place_of}
 -- ---- faults at their places
 
 abbrev pub in_class : ℕ → Option LinkKind → Option LinkFault
-in_class i None = None
-in_class i (Some kind) = Some (record { class = i; member = None; kind = kind })
+in_class i = elim [ None ↦ None | Some kind ↦ Some (record { class = i; member = None; kind = kind }) ]
 
 -- ---- reserved names
 
@@ -39,8 +38,7 @@ abbrev pub type_reserved : FieldType → Bool
 type_reserved t = is_reserved t.class
 
 abbrev pub return_reserved : Option FieldType → Bool
-return_reserved None = false
-return_reserved (Some t) = type_reserved t
+return_reserved = elim [ None ↦ false | Some t ↦ type_reserved t ]
 
 -- a descriptor names such a class
 abbrev pub desc_reserved : Option Descriptor → Bool
@@ -57,9 +55,7 @@ class_reserved name = is_reserved name || text_reserved name
 
 -- what is looked at of a pool: the names of classes, and the descriptors of names and types
 abbrev pub entry_reserved : List Entry → Entry → Bool
-entry_reserved pool (entries.Class name) = class_reserved (text pool name)
-entry_reserved pool (entries.NameAndType name desc) = text_reserved (text pool desc)
-entry_reserved pool _ = false
+entry_reserved pool = elim [ entries.Class i ↦ class_reserved (text pool i) | entries.NameAndType i j ↦ text_reserved (text pool j) | _ ↦ false ]
 
 abbrev pub member_reserved : ClassParts → MemberInfo → Bool
 member_reserved c m = text_reserved (member_desc c m)
@@ -69,8 +65,7 @@ names_reserved c = list_any (entry_reserved c.pool) c.pool || (list_any (member_
 
 -- on the source side alone
 abbrev pub reserved_on : Side → ClassParts → Bool
-reserved_on Source c = names_reserved c
-reserved_on Passing c = false
+reserved_on x c = elim x [ Source ↦ names_reserved c | Passing ↦ false ]
 
 unfoldable pub reserved_test : Program → ClassParts → Option LinkKind
 reserved_test p c = fault_if (reserved_on p.side c) ReservedName
@@ -88,8 +83,7 @@ text_marks entries = map marks_in entries
 -- ---- names that stand twice
 
 abbrev pub is_before : ℕ → Option ℕ → Bool
-is_before i None = false
-is_before i (Some first) = nat_lt first i
+is_before i = elim [ None ↦ false | Some first ↦ nat_lt first i ]
 
 -- the first class of this name stands before a place
 abbrev pub stands_before : List CodePart → ℕ → List ℕ → Bool

@@ -1,9 +1,10 @@
 -- What the parts of a class file say by its pool (JVMS 4.1, 4.5, 4.6). A text that isn't there is empty, so each part says something.
 use Rattle.std.specs.Prelude.{ℕ, Bool, true, false, ◌&&◌, List, [], ◌∷◌, Option, Some, None, map, is_some, ◌==◌, if◌then◌else◌}
 use Rattle.std.specs.List.{list_any}
-use Rattle.std.specs.Str.{byte, bytes_eq}
+use Rattle.std.specs.Str.{bytes_eq}
 use Rattle.jbase.specs.First.{first_some}
 use Rattle.jpool.specs.declared.entry.Entry.{Entry}
+use Rattle.jpool.specs.Names.{is_slash}
 use Rattle.jpool.specs.Pools.{class_name_at, utf8_at}
 use Rattle.jclass.specs.declared.access.Access.{Access}
 use Rattle.jclass.specs.declared.class.ClassParts.{ClassParts}
@@ -17,8 +18,7 @@ use Rattle.jprogram.specs.declared.reach.Reach.TheVariants as reach
 -- ---- texts
 
 abbrev pub or_empty : Option (List ℕ) → List ℕ
-or_empty None = []
-or_empty (Some text) = text
+or_empty = elim [ None ↦ [] | Some text ↦ text ]
 
 -- the text at an index of a pool
 abbrev pub text : List Entry → ℕ → List ℕ
@@ -85,13 +85,9 @@ reach_of a =
     (if has_flag 0x0004 a then reach.Protected else reach.Package))
 
 abbrev pub is_public_reach : Reach → Bool
-is_public_reach reach.Public = true
-is_public_reach r = false
+is_public_reach = elim [ reach.Public ↦ true | _ ↦ false ]
 
 -- ---- packages (JVMS 5.3)
-
-abbrev pub is_slash : ℕ → Bool
-is_slash b = b == byte "/"
 
 -- the package of a class's name: the bytes behind which a `/` stands
 unfoldable pub package_of : List ℕ → List ℕ

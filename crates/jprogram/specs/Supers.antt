@@ -19,8 +19,7 @@ abbrev pub is_missing : Program → List ℕ → Bool
 is_missing p name = not (is_some (find p name))
 
 abbrev pub super_missing : Program → Option (List ℕ) → Bool
-super_missing p None = true
-super_missing p (Some name) = is_missing p name
+super_missing p = elim [ None ↦ true | Some name ↦ is_missing p name ]
 
 abbrev pub face_missing : Program → ClassParts → Bool
 face_missing p c = list_any (λ i. is_missing p (class_text c.pool i)) c.interfaces
@@ -36,8 +35,7 @@ abbrev pub is_barred : Class → Bool
 is_barred s = is_closed s || is_interface s
 
 abbrev pub super_barred : Program → Option (List ℕ) → Bool
-super_barred p None = true
-super_barred p (Some name) = holds is_barred (find p name)
+super_barred p = elim [ None ↦ true | Some name ↦ holds is_barred (find p name) ]
 
 abbrev pub is_no_interface : Program → List ℕ → Bool
 is_no_interface p name = not (holds is_interface (find p name))
@@ -46,8 +44,7 @@ abbrev pub lists_a_class : Program → ClassParts → Bool
 lists_a_class p c = list_any (λ i. is_no_interface p (class_text c.pool i)) c.interfaces
 
 abbrev pub is_object : Option (List ℕ) → Bool
-is_object None = false
-is_object (Some name) = bytes_eq name object
+is_object = elim [ None ↦ false | Some name ↦ bytes_eq name object ]
 
 -- the superclass may not be extended, or a class is listed, or an interface extends another class than Object
 unfoldable pub super_test : Program → ClassParts → Option LinkKind

@@ -19,15 +19,12 @@ use crate::parts::this_name;
 use crate::slots::{place_in, slots_of};
 use jbase::Seq;
 use jclass::ClassFile;
-use jlib::Side;
+use jlib::{LIBRARY_CLASSES, Side};
 use std::alloc::{AllocFailed, Global};
 use std::collections::BTreeMap;
 use std::marker::Model;
 
 pub(crate) const OBJECT: &[u8] = b"java/lang/Object";
-
-/// How many classes the library has, both sides' together.
-const LIBRARY: usize = 46;
 
 /// A program for a side's library: its parts, whose classes are found by name. Nothing is asked of the parts: classes may be missing,
 /// or stand twice, or stand in circles. Contracts see it as its side and its parts.
@@ -273,7 +270,7 @@ impl NamedProgram {
     pub fn most_steps(&self) -> usize
         ensures { result ≡ length (Classes.known self.now) + 1 }
     {
-        self.parts.len() + LIBRARY + 1
+        self.parts.len() + LIBRARY_CLASSES as usize + 1
     }
 
     /// Whether the second name is that of the first class or of one above it.

@@ -27,9 +27,6 @@ pub enum LinkKind {
 
 /// The first broken rule: the place of the class among the parts, and where a member breaks it its place among the methods, or past
 /// them among the fields.
+#[rattlefmt::skip]
 #[derive(Clone, Copy, Debug, PartialEq, Eq)]
-pub struct LinkFault {
-    pub class: u32,
-    pub member: Option<u32>,
-    pub kind: LinkKind,
-}
+pub struct LinkFault { pub class: u32, pub member: Option<u32>, pub kind: LinkKind }

@@ -10,8 +10,7 @@ use Rattle.jreferring.specs.Names.{params_test}
 
 -- a StackMapTable with frames
 abbrev pub has_frames : CodeAttribute → Bool
-has_frames (code.Maps name frames) = nat_lt 0 (length frames)
-has_frames (code.Raw name bytes) = false
+has_frames = elim [ code.Maps name frames ↦ nat_lt 0 (length frames) | code.Raw name bytes ↦ false ]
 
 -- Frames that are written are told against the first one. So where there are any, it names the classes of the parameters.
 unfoldable pub first_frame_test : Program → List ℕ → List ℕ → List CodeAttribute → Option LinkKind

@@ -37,8 +37,7 @@ method_test p from pool table m = option_and_then (body_test p from (text pool m
 
 -- a fault at the place of a method
 abbrev pub in_method : ℕ → ℕ → Option LinkKind → Option LinkFault
-in_method i j None = None
-in_method i j (Some kind) = Some (record { class = i; member = Some j; kind = kind })
+in_method i j = elim [ None ↦ None | Some kind ↦ Some (record { class = i; member = Some j; kind = kind }) ]
 
 abbrev pub methods_fault : Program → ℕ → List ℕ → List Entry → List Judged → List MemberInfo → Option LinkFault
 methods_fault p i from pool table ms = first_along (λ j m. in_method i j (method_test p from pool table m)) 0 ms

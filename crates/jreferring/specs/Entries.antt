@@ -19,17 +19,13 @@ use Rattle.jreferring.specs.References.{member_use}
 
 -- the entry of a reference
 abbrev pub entry_of : Sort → ℕ → ℕ → Entry
-entry_of sort.Field class both = entries.Field class both
-entry_of sort.Method class both = entries.Method class both
-entry_of sort.InterfaceMethod class both = entries.InterfaceMethod class both
+entry_of = elim [ sort.Field ↦ entries.Field | sort.Method ↦ entries.Method | sort.InterfaceMethod ↦ entries.InterfaceMethod ]
 
 abbrev pub name_in : List Entry → Option (ℕ × ℕ) → List ℕ
-name_in pool None = []
-name_in pool (Some both) = text pool both.0
+name_in pool = elim [ None ↦ [] | Some both ↦ text pool both.0 ]
 
 abbrev pub desc_in : List Entry → Option (ℕ × ℕ) → List ℕ
-desc_in pool None = []
-desc_in pool (Some both) = text pool both.1
+desc_in pool = elim [ None ↦ [] | Some both ↦ text pool both.1 ]
 
 -- by the indices of its class and of its name and type
 unfoldable pub reference : Program → List ℕ → List Entry → Sort → ℕ → ℕ → MemberUse

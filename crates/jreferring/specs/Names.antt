@@ -39,8 +39,7 @@ unfoldable pub type_test : Program → List ℕ → FieldType → Option LinkKin
 type_test p from t = if is_class_sign t.base then class_test p from t.class else None
 
 abbrev pub return_test : Program → List ℕ → Option FieldType → Option LinkKind
-return_test p from None = None
-return_test p from (Some t) = type_test p from t
+return_test p from = elim [ None ↦ None | Some t ↦ type_test p from t ]
 
 -- the types of a method's parameters, from left to right
 abbrev pub params_test : Program → List ℕ → Option Descriptor → Option LinkKind

@@ -35,8 +35,7 @@ abbrev pub has_contexts : FieldType → Bool
 has_contexts t = is_array t && is_context t
 
 abbrev pub gives_context : Option FieldType → Bool
-gives_context None = false
-gives_context (Some t) = is_context t
+gives_context = elim [ None ↦ false | Some t ↦ is_context t ]
 
 -- a context stands as a field's type, in an array, or as what a method returns, but for the method that may
 abbrev pub misplaces_context : Bool → Option Descriptor → Bool
@@ -51,14 +50,11 @@ is_barred owner enter desc = is_array owner || misplaces_context enter desc
 -- ---- a reference, seen from a class
 
 abbrev pub is_of_interface : Sort → Bool
-is_of_interface sort.InterfaceMethod = true
-is_of_interface _ = false
+is_of_interface = elim [ sort.InterfaceMethod ↦ true | _ ↦ false ]
 
 -- a Methodref of an interface, or an InterfaceMethodref of a class
 abbrev pub is_crossed : Sort → Bool → Bool
-is_crossed sort.Field interface = false
-is_crossed sort.Method interface = interface
-is_crossed sort.InterfaceMethod interface = not interface
+is_crossed x interface = elim x [ sort.Field ↦ false | sort.Method ↦ interface | sort.InterfaceMethod ↦ not interface ]
 
 -- the member that it stands for: whether the class may use it, and whether it is a final field that the class may not put, one of another class;
 -- `System.out` is such a field to all
@@ -111,8 +107,7 @@ member_use p from kind member owner name desc = record {
 -- ---- the tests of its uses
 
 abbrev pub differs : Bool → Bool → Bool
-differs true b = not b
-differs false b = b
+differs x b = elim x [ true ↦ not b | false ↦ b ]
 
 -- the class may use the member, and put it where it does
 abbrev pub access_test : Bool → MemberFacts → Option LinkKind
@@ -121,14 +116,10 @@ access_test put m = fault_if (not m.allowed || (put && m.fixed)) NotAccessible
 -- getfield, putfield, getstatic and putstatic
 
 abbrev pub puts : FieldOp → Bool
-puts fields.PutStatic = true
-puts fields.PutField = true
-puts _ = false
+puts = elim [ fields.PutStatic ↦ true | fields.PutField ↦ true | _ ↦ false ]
 
 abbrev pub takes_static : FieldOp → Bool
-takes_static fields.GetStatic = true
-takes_static fields.PutStatic = true
-takes_static _ = false
+takes_static = elim [ fields.GetStatic ↦ true | fields.PutStatic ↦ true | _ ↦ false ]
 
 abbrev pub field_member_test : FieldOp → Option MemberFacts → Option LinkKind
 field_member_test op None = Some NoMember
@@ -140,26 +131,21 @@ field_test op u = or_else u.names (or_else (fault_if u.barred LeftOut) (field_me
 -- invokevirtual, invokespecial and invokestatic
 
 abbrev pub is_virtual : CallOp → Bool
-is_virtual calls.Virtual = true
-is_virtual _ = false
+is_virtual = elim [ calls.Virtual ↦ true | _ ↦ false ]
 
 abbrev pub calls_static : CallOp → Bool
-calls_static calls.Static = true
-calls_static _ = false
+calls_static = elim [ calls.Static ↦ true | _ ↦ false ]
 
 -- invokevirtual calls neither a constructor nor a private method; invokespecial calls a constructor, or a method of its own class or of
 -- one above; invokestatic calls no constructor
 abbrev pub is_miscalled : CallOp → MemberUse → MemberFacts → Bool
-is_miscalled calls.Virtual u m = u.init || m.is_private
-is_miscalled calls.Special u m = not (u.init || u.upward)
-is_miscalled calls.Static u m = u.init
+is_miscalled x u m = elim x [ calls.Virtual ↦ u.init || m.is_private | calls.Special ↦ not (u.init || u.upward) | calls.Static ↦ u.init ]
 
 abbrev pub call_use_test : CallOp → MemberUse → MemberFacts → Option LinkKind
 call_use_test op u m = fault_if (differs (calls_static op) m.is_static || (u.crossed || is_miscalled op u m)) BadUse
 
 abbrev pub called_test : CallOp → MemberUse → Option MemberFacts → Option LinkKind
-called_test op u None = Some NoMember
-called_test op u (Some m) = or_else (access_test false m) (call_use_test op u m)
+called_test op u = elim [ None ↦ Some NoMember | Some m ↦ or_else (access_test false m) (call_use_test op u m) ]
 
 abbrev pub call_member_test : CallOp → MemberUse → Option LinkKind
 call_member_test op u = called_test op u u.member
@@ -175,15 +161,13 @@ call_test op u = or_else u.names (or_else (call_left_out_test op u) (call_member
 
 -- it counts the slots of the arguments and of the receiver
 abbrev pub counts : ℕ → Option ℕ → Bool
-counts count None = false
-counts count (Some slots) = slots + 1 == count
+counts count = elim [ None ↦ false | Some slots ↦ slots + 1 == count ]
 
 abbrev pub is_misused : ℕ → MemberUse → MemberFacts → Bool
 is_misused count u m = m.is_static || (u.crossed || (u.init || (m.is_private || not (counts count u.slots))))
 
 abbrev pub called_by_interface_test : ℕ → MemberUse → Option MemberFacts → Option LinkKind
-called_by_interface_test count u None = Some NoMember
-called_by_interface_test count u (Some m) = or_else (access_test false m) (fault_if (is_misused count u m) BadUse)
+called_by_interface_test count u = elim [ None ↦ Some NoMember | Some m ↦ or_else (access_test false m) (fault_if (is_misused count u m) BadUse) ]
 
 abbrev pub interface_member_test : ℕ → MemberUse → Option LinkKind
 interface_member_test count u = called_by_interface_test count u u.member

@@ -45,8 +45,7 @@ member_at table n = member_in (slice_get table n)
 
 -- another entry than a reference stands for no member
 abbrev pub or_no_member : (MemberUse → Option LinkKind) → Option MemberUse → Option LinkKind
-or_no_member test None = Some NoMember
-or_no_member test (Some u) = test u
+or_no_member test = elim [ None ↦ Some NoMember | Some u ↦ test u ]
 
 -- ldc pushes an int or a string; where it is of a class, this is named first
 abbrev pub constant_test : Option Judged → Option LinkKind
@@ -102,16 +101,13 @@ handler_test table h = if h.class == 0 then None else operand_at table h.class
 -- ---- frames
 
 abbrev pub item_names : List Judged → MapType → Option LinkKind
-item_names table (items.Object n) = option_and_then (λ u. u.names) (class_at table n)
-item_names table _ = None
+item_names table = elim [ items.Object n ↦ option_and_then (λ u. u.names) (class_at table n) | _ ↦ None ]
 
 abbrev pub is_barred_at : Option ClassUse → Bool
-is_barred_at None = false
-is_barred_at (Some u) = u.barred_item
+is_barred_at = elim [ None ↦ false | Some u ↦ u.barred_item ]
 
 abbrev pub is_barred : List Judged → MapType → Bool
-is_barred table (items.Object n) = is_barred_at (class_at table n)
-is_barred table _ = false
+is_barred table = elim [ items.Object n ↦ is_barred_at (class_at table n) | _ ↦ false ]
 
 -- what the locals name comes first, then what the stack names, and then what may not stand there
 unfoldable pub frame_test : List Judged → RawFrame → Option LinkKind
@@ -120,5 +116,4 @@ frame_test table f =
     (fault_if (list_any (is_barred table) f.locals || list_any (is_barred table) f.stack) LeftOut))
 
 abbrev pub attribute_test : List Judged → CodeAttribute → Option LinkKind
-attribute_test table (code.Maps name frames) = first_some (frame_test table) frames
-attribute_test table (code.Raw name bytes) = None
+attribute_test table = elim [ code.Maps name frames ↦ first_some (frame_test table) frames | code.Raw name bytes ↦ None ]

@@ -51,12 +51,9 @@ pub struct DescUse {
 }
 
 /// Which kind of entry a reference is.
+#[rattlefmt::skip]
 #[derive(Clone, Copy, Debug)]
-pub enum Sort {
-    Field,
-    Method,
-    InterfaceMethod,
-}
+pub enum Sort { Field, Method, InterfaceMethod }
 
 /// What a reference to a field or a method may be used for.
 #[derive(Clone, Copy, Debug)]

@@ -25,8 +25,7 @@ seen_part part = record { domain = part.domain; class = part.class }
 -- ---- limits
 
 abbrev pub at_class : ℕ → Option Limit → Option Place
-at_class i None = None
-at_class i (Some limit) = Some (record { class = i; limit = limit })
+at_class i = elim [ None ↦ None | Some limit ↦ Some (record { class = i; limit = limit }) ]
 
 -- the first limit that a class breaks, class by class
 unfoldable pub limits : Program → Option Place

@@ -9,8 +9,6 @@ pub struct MovedPart {
 }
 
 /// A limit that a class breaks, with the place of the class among the parts.
+#[rattlefmt::skip]
 #[derive(Clone, Copy, Debug, PartialEq, Eq)]
-pub struct Place {
-    pub class: u32,
-    pub limit: Limit,
-}
+pub struct Place { pub class: u32, pub limit: Limit }

@@ -24,8 +24,7 @@ use Rattle.jrule.specs.Operands.{exchanged, pushed, taken}
 
 -- an operand of a kind; the array is one with items of the instruction's
 abbrev pub wanted : items.Element → Kind → Want
-wanted e kinds.Array = Holds e
-wanted e k = Of k
+wanted e = elim [ kinds.Array ↦ Holds e | k ↦ Of k ]
 
 abbrev pub operands : items.Element → ArrayForm → List Want
 operands e f = map (wanted e) (listed (array_effect f).takes)

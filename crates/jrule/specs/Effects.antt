@@ -20,48 +20,30 @@ use Rattle.jtypes.specs.Tree.{Tree}
 -- ---- kinds of operands
 
 abbrev pub is_int : VType → Bool
-is_int Int = true
-is_int a = false
+is_int = elim [ Int ↦ true | _ ↦ false ]
 
 abbrev pub is_null : VType → Bool
-is_null Null = true
-is_null a = false
+is_null = elim [ Null ↦ true | _ ↦ false ]
 
 -- a reference, to an array too
 abbrev pub is_ref : VType → Bool
-is_ref Null = true
-is_ref (Object c) = true
-is_ref (Array a) = true
-is_ref a = false
+is_ref = elim [ Null ↦ true | Object c ↦ true | Array a ↦ true | _ ↦ false ]
 
 -- null stands for an array too
 abbrev pub is_array : VType → Bool
-is_array Null = true
-is_array (Array a) = true
-is_array a = false
+is_array = elim [ Null ↦ true | Array a ↦ true | _ ↦ false ]
 
 -- a reference, an object before its `<init>`, or a security context
 abbrev pub is_held : VType → Bool
-is_held UninitThis = true
-is_held (Uninit o) = true
-is_held Ctx = true
-is_held a = is_ref a
+is_held = elim [ UninitThis ↦ true | Uninit o ↦ true | Ctx ↦ true | a ↦ is_ref a ]
 
 -- a type is of a kind
 abbrev pub is_of : Kind → VType → Bool
-is_of kinds.Int a = is_int a
-is_of kinds.Long a = is_long a
-is_of kinds.Null a = is_null a
-is_of kinds.Ref a = is_ref a
-is_of kinds.Array a = is_array a
-is_of kinds.Held a = is_held a
+is_of = elim [ kinds.Int ↦ is_int | kinds.Long ↦ is_long | kinds.Null ↦ is_null | kinds.Ref ↦ is_ref | kinds.Array ↦ is_array | kinds.Held ↦ is_held ]
 
 -- the type of what is of a kind, where the kind says it
 abbrev pub typed : Kind → Option VType
-typed kinds.Int = Some Int
-typed kinds.Long = Some Long
-typed kinds.Null = Some Null
-typed k = None
+typed = elim [ kinds.Int ↦ Some Int | kinds.Long ↦ Some Long | kinds.Null ↦ Some Null | _ ↦ None ]
 
 -- ---- items of arrays
 
@@ -90,9 +72,7 @@ same_items x y = false
 
 -- an array with such items; null stands for one
 abbrev pub holds : items.Element → VType → Bool
-holds e Null = true
-holds e (Array a) = same_items e (items_of a)
-holds e a = false
+holds e = elim [ Null ↦ true | Array a ↦ same_items e (items_of a) | _ ↦ false ]
 
 -- ---- what is wanted
 
@@ -108,8 +88,7 @@ pub data Want : Type 0 where
   OrThis : Name → Name → Want
 
 abbrev pub is_uninit_this : VType → Bool
-is_uninit_this UninitThis = true
-is_uninit_this a = false
+is_uninit_this = elim [ UninitThis ↦ true | _ ↦ false ]
 
 -- a type meets it
 abbrev pub meets : Tree → Want → VType → Bool

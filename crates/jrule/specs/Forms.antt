@@ -20,13 +20,11 @@ use Rattle.jrule.specs.Rule.{rule, used}
 use Rattle.jrule.specs.Straight.{flow, simple}
 
 abbrev pub by_meaning : Program → Here → Option Meaning → Frame → Option Frame
-by_meaning p here None f = None
-by_meaning p here (Some m) f = used p here m f
+by_meaning p here x f = elim x [ None ↦ None | Some m ↦ used p here m f ]
 
 -- an array of references is made by an entry of the pool
 abbrev pub by_array : Program → Here → List Entry → ArrayForm → Frame → Option Frame
-by_array p here pool (arrays.NewRef i) = by_meaning p here (array_meant p pool i)
-by_array p here pool form = array (tree p) here.max_stack form
+by_array p here pool = elim [ arrays.NewRef i ↦ by_meaning p here (array_meant p pool i) | form ↦ array (tree p) here.max_stack form ]
 
 unfoldable pub by_form : {S : Type 0} → Program → Here → List Entry → Form S → Frame → Option Frame
 by_form p here pool (forms.Simple form) = simple (tree p) here.max_stack form

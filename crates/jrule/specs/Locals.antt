@@ -13,12 +13,10 @@ use Rattle.jrule.specs.Operands.{pushed}
 
 -- a local is there, and passes
 abbrev pub passes : (VType → Bool) → Option VType → Bool
-passes test None = false
-passes test (Some a) = test a
+passes test = elim [ None ↦ false | Some a ↦ test a ]
 
 abbrev pub is_top : VType → Bool
-is_top Top = true
-is_top a = false
+is_top = elim [ Top ↦ true | _ ↦ false ]
 
 -- ---- loads
 
@@ -27,8 +25,7 @@ abbrev pub is_whole : List VType → ℕ → VType → Bool
 is_whole locals n a = if is_long a then passes is_top (slice_get locals (n + 1)) else true
 
 abbrev pub load_from : ℕ → Kind → ℕ → Frame → Option VType → Option Frame
-load_from most k n f None = None
-load_from most k n f (Some a) = if is_of k a && is_whole f.locals n a then pushed most a f else None
+load_from most k n f = elim [ None ↦ None | Some a ↦ if is_of k a && is_whole f.locals n a then pushed most a f else None ]
 
 abbrev pub load : ℕ → Kind → ℕ → Frame → Option Frame
 load most k n f = load_from most k n f (slice_get f.locals n)

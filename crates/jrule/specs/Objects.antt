@@ -18,12 +18,10 @@ use Rattle.jrule.specs.Uses.{arguments}
 -- ---- objects before their `<init>`
 
 abbrev pub is_uninit : ℕ → VType → Bool
-is_uninit o (Uninit at) = at == o
-is_uninit o a = false
+is_uninit o = elim [ Uninit at ↦ at == o | _ ↦ false ]
 
 abbrev pub is_it : Unready → VType → Bool
-is_it unready.This a = is_uninit_this a
-is_it (unready.New o) a = is_uninit o a
+is_it x a = elim x [ unready.This ↦ is_uninit_this a | unready.New o ↦ is_uninit o a ]
 
 -- what stands for the object stands for another type
 abbrev pub replaced : Unready → VType → VType → VType
@@ -46,8 +44,7 @@ abbrev pub same_name : Name → Name → Bool
 same_name c d = bytes_eq c.0 d.0
 
 abbrev pub is_named : Name → Option Name → Bool
-is_named c None = false
-is_named c (Some d) = same_name c d
+is_named c = elim [ None ↦ false | Some d ↦ same_name c d ]
 
 -- an `<init>` of this class or of the one above it, where no handler could see `this` half done
 abbrev pub may_ready_this : Here → Name → Bool

@@ -27,8 +27,7 @@ abbrev pub pushed : ℕ → VType → Frame → Option Frame
 pushed most a f = with_room most f (a ∷ f.stack)
 
 abbrev pub given : ℕ → Option VType → Frame → Option Frame
-given most None f = Some f
-given most (Some a) f = pushed most a f
+given most x f = elim x [ None ↦ Some f | Some a ↦ pushed most a f ]
 
 -- what an instruction does that takes and gives so
 abbrev pub exchanged : Tree → ℕ → Exchange → Frame → Option Frame

@@ -29,13 +29,10 @@ abbrev pub by_table : Program → Here → Meaning → Frame → Option Frame
 by_table p here m = exchanged (tree p) here.max_stack (exchange (is_own p here.is_init here.class) here.class m)
 
 abbrev pub called : Program → Here → How → CallMeaning → Frame → Option Frame
-called p here how.Init c = init (tree p) here c
-called p here by c = by_table p here (meanings.Call by c)
+called p here x c = elim x [ how.Init ↦ init (tree p) here c | by ↦ by_table p here (meanings.Call by c) ]
 
 abbrev pub used : Program → Here → Meaning → Frame → Option Frame
-used p here (meanings.Call by c) = called p here by c
-used p here (meanings.Make c) = make here.max_stack here.at
-used p here m = by_table p here m
+used p here = elim [ meanings.Call by c ↦ called p here by c | meanings.Make c ↦ make here.max_stack here.at | m ↦ by_table p here m ]
 
 unfoldable pub rule : Program → Here → Instruction → Frame → Option Frame
 rule p here (Simple s) f = simple (tree p) here.max_stack s f

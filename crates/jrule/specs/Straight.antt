@@ -25,10 +25,7 @@ simple t most s = exchanged t most (by_effect (simple_effect s))
 -- ---- jumps
 
 abbrev pub tested : Test → Kinds
-tested Always = taken_kinds.None
-tested (If test) = taken_kinds.One kinds.Int
-tested (IfInt test) = taken_kinds.Two kinds.Int kinds.Int
-tested (IfRef test) = compared test
+tested = elim [ Always ↦ taken_kinds.None | If t ↦ taken_kinds.One kinds.Int | IfInt t ↦ taken_kinds.Two kinds.Int kinds.Int | IfRef t ↦ compared t ]
 
 abbrev pub jump : Tree → Test → Frame → Option Frame
 jump t test = taken t (of_kinds (tested test))
@@ -48,13 +45,11 @@ returns kind t = false
 
 -- an `<init>` doesn't end by `return` before another was called on `this`
 abbrev pub may_leave : Bool → Returned → Bool → Bool
-may_leave is_init results.Nothing flag = not (is_init && flag)
-may_leave is_init kind flag = true
+may_leave is_init x flag = elim x [ results.Nothing ↦ not (is_init && flag) | _ ↦ true ]
 
 -- from a method that returns such a type
 abbrev pub leave : Tree → Bool → Option VType → Returned → Frame → Option Frame
-leave t is_init ret kind f =
-    if returns kind ret && may_leave is_init kind f.flag then taken t (map Fits (option_to_list ret)) f else None
+leave t is_init ret kind f = if returns kind ret && may_leave is_init kind f.flag then taken t (map Fits (option_to_list ret)) f else None
 
 abbrev pub throw : Tree → Frame → Option Frame
 throw t = taken t (Fits throwable ∷ [])

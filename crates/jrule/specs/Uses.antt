@@ -34,9 +34,7 @@ throwable = of_library (lib.Thrown thrown.Throwable)
 -- ---- constants
 
 abbrev pub constant : Pushed → VType
-constant (meanings.Int n) = Int
-constant (meanings.Long n) = Long
-constant (meanings.Text s) = string
+constant = elim [ meanings.Int n ↦ Int | meanings.Long n ↦ Long | meanings.Text s ↦ string ]
 
 -- ---- fields
 
@@ -54,11 +52,7 @@ of_field own this fields.PutField f = takes (Fits f.held ∷ written (own f.memb
 
 -- the object on which a method is called; for that of an `<init>` there is a rule of its own
 abbrev pub receiver : Name → How → Name → List Want
-receiver this how.Virtual owner = Fits (Object owner) ∷ []
-receiver this how.Special owner = Fits (Object this) ∷ []
-receiver this how.Static owner = []
-receiver this how.Interface owner = Fits (Object owner) ∷ []
-receiver this how.Init owner = []
+receiver this x owner = elim x [ how.Special ↦ Fits (Object this) ∷ [] | how.Static ↦ [] | how.Init ↦ [] | _ ↦ Fits (Object owner) ∷ [] ]
 
 abbrev pub arguments : CallMeaning → List Want
 arguments c = map Fits c.params
@@ -69,8 +63,7 @@ of_call this by c = record { takes = arguments c ++ receiver this by c.owner; gi
 -- ---- casts
 
 abbrev pub of_cast : CastOp → VType → Exchange
-of_cast casts.CheckCast t = gives (Of kinds.Ref ∷ []) t
-of_cast casts.InstanceOf t = gives (Of kinds.Ref ∷ []) Int
+of_cast x t = elim x [ casts.CheckCast ↦ gives (Of kinds.Ref ∷ []) t | casts.InstanceOf ↦ gives (Of kinds.Ref ∷ []) Int ]
 
 -- ---- all
 

@@ -15,8 +15,7 @@ unmarked d = record { domain = d; mark = Unmarked }
 
 -- what a thread inherited; the first one nothing
 abbrev pub inherited_stack : Option Stack → Stack
-inherited_stack None = Bottom
-inherited_stack (Some s) = s
+inherited_stack = elim [ None ↦ Bottom | Some s ↦ s ]
 
 -- frames on a stack, the newest first
 abbrev pub on_stack : List Carried → Stack → Stack
@@ -28,13 +27,11 @@ abbrev pub stack_of : List Carried → Option Stack → Stack
 stack_of entries below = on_stack entries (inherited_stack below)
 
 abbrev pub given_by : Option Stack → Given
-given_by None = Nothing
-given_by (Some s) = Within s
+given_by = elim [ None ↦ Nothing | Some s ↦ Within s ]
 
 -- the frame that calls, marked
 abbrev pub marked : Mark → List Carried → Carried
-marked mark [] = record { domain = 0; mark = mark }
-marked mark (e ∷ entries) = record { domain = e.domain; mark = mark }
+marked mark = elim [ [] ↦ record { domain = 0; mark = mark } | e ∷ entries ↦ record { domain = e.domain; mark = mark } ]
 
 -- A call hands over no context, so that none is entered.
 unfoldable pub rules : (ℕ → Permission → Bool) → Rules Stack Carried

@@ -1,7 +1,5 @@
--- What can be thrown and what is a permission is no interface, and stands on both sides.
-use Rattle.std.proofs.Common.{◌≡◌, true, false, refl}
-use Rattle.jlib.specs.declared.side.Side.{Side}
-use Rattle.jlib.specs.declared.side.Side.TheVariants.{Source}
+-- What can be thrown and what is a permission is no interface.
+use Rattle.std.proofs.Common.{◌≡◌, false, refl}
 use Rattle.jlib.specs.declared.classes.Thrown.{Thrown}
 use Rattle.jlib.specs.declared.classes.Thrown.TheVariants as thrown
 use Rattle.jlib.specs.declared.classes.PermissionClass.{PermissionClass}
@@ -9,48 +7,36 @@ use Rattle.jlib.specs.declared.classes.PermissionClass.TheVariants as permission
 use Rattle.jlib.specs.declared.classes.LibClass.TheVariants as lib
 use Rattle.jlib.specs.Classes as library
 
-thrown_kind : (t : Thrown) → (side : Side) → (false ≡ library.is_interface (lib.Thrown t)) × (true ≡ library.stands_on side (lib.Thrown t))
-thrown_kind thrown.Throwable side = (refl, refl)
-thrown_kind thrown.Exception side = (refl, refl)
-thrown_kind thrown.Error side = (refl, refl)
-thrown_kind thrown.RuntimeException side = (refl, refl)
-thrown_kind thrown.InterruptedException side = (refl, refl)
-thrown_kind thrown.ArithmeticException side = (refl, refl)
-thrown_kind thrown.NullPointerException side = (refl, refl)
-thrown_kind thrown.ClassCastException side = (refl, refl)
-thrown_kind thrown.NegativeArraySizeException side = (refl, refl)
-thrown_kind thrown.ArrayStoreException side = (refl, refl)
-thrown_kind thrown.IllegalArgumentException side = (refl, refl)
-thrown_kind thrown.IllegalStateException side = (refl, refl)
-thrown_kind thrown.IndexOutOfBoundsException side = (refl, refl)
-thrown_kind thrown.SecurityException side = (refl, refl)
-thrown_kind thrown.IllegalThreadStateException side = (refl, refl)
-thrown_kind thrown.ArrayIndexOutOfBoundsException side = (refl, refl)
-thrown_kind thrown.StringIndexOutOfBoundsException side = (refl, refl)
-thrown_kind thrown.LinkageError side = (refl, refl)
-thrown_kind thrown.VirtualMachineError side = (refl, refl)
-thrown_kind thrown.IncompatibleClassChangeError side = (refl, refl)
-thrown_kind thrown.AbstractMethodError side = (refl, refl)
-thrown_kind thrown.IllegalAccessError side = (refl, refl)
-thrown_kind thrown.StackOverflowError side = (refl, refl)
-
-permission_kind : (t : PermissionClass) → (side : Side) → (false ≡ library.is_interface (lib.Permission t)) × (true ≡ library.stands_on side (lib.Permission t))
-permission_kind permission.Permission side = (refl, refl)
-permission_kind permission.BasicPermission side = (refl, refl)
-permission_kind permission.AllPermission side = (refl, refl)
-permission_kind permission.RuntimePermission side = (refl, refl)
-permission_kind permission.SecurityPermission side = (refl, refl)
-permission_kind permission.PropertyPermission side = (refl, refl)
-permission_kind permission.FilePermission side = (refl, refl)
-
 pub no_thrown : (t : Thrown) → false ≡ library.is_interface (lib.Thrown t)
-no_thrown t = (thrown_kind t Source).0
+no_thrown thrown.Throwable = refl
+no_thrown thrown.Exception = refl
+no_thrown thrown.Error = refl
+no_thrown thrown.RuntimeException = refl
+no_thrown thrown.InterruptedException = refl
+no_thrown thrown.ArithmeticException = refl
+no_thrown thrown.NullPointerException = refl
+no_thrown thrown.ClassCastException = refl
+no_thrown thrown.NegativeArraySizeException = refl
+no_thrown thrown.ArrayStoreException = refl
+no_thrown thrown.IllegalArgumentException = refl
+no_thrown thrown.IllegalStateException = refl
+no_thrown thrown.IndexOutOfBoundsException = refl
+no_thrown thrown.SecurityException = refl
+no_thrown thrown.IllegalThreadStateException = refl
+no_thrown thrown.ArrayIndexOutOfBoundsException = refl
+no_thrown thrown.StringIndexOutOfBoundsException = refl
+no_thrown thrown.LinkageError = refl
+no_thrown thrown.VirtualMachineError = refl
+no_thrown thrown.IncompatibleClassChangeError = refl
+no_thrown thrown.AbstractMethodError = refl
+no_thrown thrown.IllegalAccessError = refl
+no_thrown thrown.StackOverflowError = refl
 
 pub no_permission : (t : PermissionClass) → false ≡ library.is_interface (lib.Permission t)
-no_permission t = (permission_kind t Source).0
-
-pub thrown_stand : (t : Thrown) (side : Side) → true ≡ library.stands_on side (lib.Thrown t)
-thrown_stand t side = (thrown_kind t side).1
-
-pub permissions_stand : (t : PermissionClass) (side : Side) → true ≡ library.stands_on side (lib.Permission t)
-permissions_stand t side = (permission_kind t side).1
+no_permission permission.Permission = refl
+no_permission permission.BasicPermission = refl
+no_permission permission.AllPermission = refl
+no_permission permission.RuntimePermission = refl
+no_permission permission.SecurityPermission = refl
+no_permission permission.PropertyPermission = refl
+no_permission permission.FilePermission = refl

@@ -1,12 +1,10 @@
 -- Classes by number, upwards: two are one where their names are one, and the walk by numbers is the chain of names.
-use Rattle.std.proofs.Common.{◌≡◌, ◌∙◌, ℕ, zero, suc, ◌+◌, ◌-◌, ◌<◌, ◌≤◌, ◌||◌, Bool, true, false, List, [], ◌∷◌, length, Option, Some, None, nat_lt, refl, sym, ap, subst, arith}
+use Rattle.std.proofs.Common.{◌≡◌, ◌∙◌, ℕ, zero, suc, ◌+◌, ◌-◌, ◌<◌, ◌≤◌, ◌||◌, Bool, true, false, List, ◌∷◌, length, Option, Some, None, refl, sym, ap, arith}
 use Rattle.std.specs.Prelude.{option_and_then, option_map, slice_get}
 use Rattle.std.specs.List.{list_any}
 use Rattle.std.specs.Str.{bytes_eq}
-use Rattle.std.proofs.lemmas.Bool.{ltb-true}
 use Rattle.std.proofs.lemmas.Option.{slice_get_past}
 use Rattle.std.proofs.lemmas.Slice.Eq.{bytes_eq-Decides}
-use Rattle.jlib.specs.declared.side.Side.{Side}
 use Rattle.jlib.specs.declared.classes.LibClass.{LibClass}
 use Rattle.jlib.specs.Classes as library
 use Rattle.jlib.proofs.Found.{class_above}
@@ -19,17 +17,12 @@ use Rattle.jprogram.specs.Implementing.{IsNumber}
 use Rattle.jprogram.specs.Standing.{StandsInOrder}
 use Rattle.jprogram.proofs.Chains.{chain_at, chain_end}
 use Rattle.jprogram.proofs.Going.{some_is}
-use Rattle.jprogram.proofs.Numbers.{library_number, number_found, number_name, own_number}
+use Rattle.jprogram.proofs.Numbers.{library_number, number_found, number_name}
 use Rattle.jprogram.proofs.Rows.{lib_number_found}
 use Rattle.jprogram.proofs.Standing.{Libs, Nowhere, Stands, Users, stands}
 use Rattle.juses.specs.Types.{class_named}
 use Rattle.jserve.specs.declared.lines.Line.{Line}
 use Rattle.jserve.specs.Lined.{AreLines}
-
-item_there : {A : Type 0} (xs : List A) (i : ℕ) → i < length xs → (x : A) × (slice_get xs i ≡ Some x)
-item_there [] i lt = absurd (omega (arith, lt))
-item_there (x ∷ xs) zero lt = (x, refl)
-item_there (x ∷ xs) (suc i) lt = item_there xs i (omega (arith, lt))
 
 no_ref : (r : ClassRef) → None ≡ Some r → ⊥
 no_ref r e = cc
@@ -46,23 +39,8 @@ clash e = cc
 module _ (p : Program) where
   -- ---- numbers of the program's classes
 
-  user_number : StandsInOrder p → (lines : List Line) → AreLines p lines → (i : ℕ) → i < length lines → IsNumber p (refs.User i)
-  user_number good lines kept i lt =
-      let size = kept.count in
-      let there = item_there p.parts i (omega (arith, lt, size)) in
-      number_found p _ (refs.User i) (own_number p i there.0 good there.1)
-
   pub lib_known : StandsInOrder p → (c : LibClass) → library.stands_on p.side c ≡ true → IsNumber p (refs.Lib c)
   lib_known good c on = number_found p (library.name_of c) (refs.Lib c) (library_number p c good on)
-
-  module _ (good : StandsInOrder p) (c : ClassRef) where
-    pub user_known : (lines xs : List Line) → AreLines p lines → xs ≡ lines → (i : ℕ) → c ≡ refs.User i → nat_lt i (length xs) ≡ true → IsNumber p c
-    user_known lines xs kept same i is lt =
-        subst (IsNumber p) (sym is) (user_number good lines kept i (subst (λ (ys : List Line). i < length ys) same (ltb-true i (length xs) lt)))
-
-    pub known_lib : (l : LibClass) (side : Side) (b : Bool) → c ≡ refs.Lib l → side ≡ p.side → b ≡ library.stands_on side l → b ≡ true → IsNumber p c
-    known_lib l side b is same by on =
-        subst (IsNumber p) (sym is) (lib_known good l (ap (λ (s : Side). library.stands_on s l) (sym same) ∙ sym by ∙ on))
 
   -- ---- two classes
 

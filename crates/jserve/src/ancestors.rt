@@ -35,20 +35,12 @@ impl<'p> Model for Ancestors<'p> {
     ghost invariant = { λ a. AreLines a.program.now a.lines };
 }
 
-/// The program with its names. Its classes stand in order.
-fn in_order(p: &LinkedProgram) -> &NamedProgram
-    ensures same { result.now ≡ p.now }
-    ensures order { StandsInOrder p.now }
-{
-    p.named()
-}
-
 impl<'p> Ancestors<'p> {
     /// Those of a program.
     pub fn of(alloc: Global, program: &'p LinkedProgram) -> Result<Ancestors<'p>, AllocError>
         ensures { IfOk result (λ a. a ≡ program.now) }
     {
-        let lines = lines_of(alloc, in_order(program))?;
+        let lines = lines_of(alloc, program.in_order())?;
         Ok(Ancestors { program, lines })
     }
 
@@ -57,25 +49,21 @@ impl<'p> Ancestors<'p> {
         ensures same { result.now ≡ self.now }
         ensures order { StandsInOrder self.now }
     {
-        in_order(self.program)
+        self.program.in_order()
     }
 
     /// The law that its classes stand in order. It has no body to run; its contract is the law.
     fn order_law(&self)
         ensures { StandsInOrder self.now }
     {
-        in_order(self.program);
+        self.program.in_order();
     }
 
-    /// Whether a number is that of a class of the program: of a part, or of its side's library. Each number that a machine meets is.
+    /// Whether a number is that of a class of the program.
     pub(crate) fn is_known(&self, c: ClassRef) -> bool
         ensures { result ≡ true → IsNumber self.now c }
     {
-        self.order_law();
-        match c {
-            ClassRef::User(i) => (i as usize) < self.lines.as_slice().len(),
-            ClassRef::Lib(c) => columns::stands_on(c, self.named().side()),
-        }
+        self.program.is_known(c)
     }
 
     /// Whether two classes of the program are one.
@@ -166,20 +154,10 @@ impl<'p> Ancestors<'p> {
         self.is_upwards(c, d)
     }
 
-    /// Whether a class of the program has an interface, itself or by a class above it, directly or through others.
+    /// Whether a class has an interface, itself or by a class above it, directly or through others, of any two numbers.
     pub(crate) fn implements(&self, c: ClassRef, d: ClassRef) -> bool
-        requires first { IsNumber self.now c }
-        requires second { IsNumber self.now d }
         ensures { result ≡ Classes.implements self.now (name_at self.now c) (name_at self.now d) }
     {
-        in_order(self.program).implements_at(self.program.interfaces(), c, d)
-    }
-
-    /// The same by their names, of any two numbers.
-    pub(crate) fn implements_named(&self, c: ClassRef, d: ClassRef) -> bool
-        ensures { result ≡ Classes.implements self.now (name_at self.now c) (name_at self.now d) }
-    {
-        let p = in_order(self.program);
-        p.implements(self.program.interfaces(), p.name_of(c), p.name_of(d))
+        self.program.implements_at(c, d)
     }
 }

@@ -1,7 +1,7 @@
 ghost use Rattle.std.specs.Prelude.{◌≡◌, Some};
 ghost use Rattle.jlib.specs.Classes as library;
 
-use jlib::{LibClass, PermissionClass, Side, Thrown};
+use jlib::{LibClass, PermissionClass, Thrown};
 
 // What the table of the library's classes says of a class, without the rest of its row.
 
@@ -109,32 +109,5 @@ pub(crate) fn is_interface(class: LibClass) -> bool
         LibClass::AccessControlContext => false,
         LibClass::Rt => false,
         LibClass::Ctx => false,
-    }
-}
-
-/// Whether a side's library has a class. All but two stand on both sides.
-#[tactic(auto, using(crate::proofs::Kinded::thrown_stand, crate::proofs::Kinded::permissions_stand))]
-pub(crate) fn stands_on(class: LibClass, side: Side) -> bool
-    ensures { result ≡ library.stands_on side class }
-{
-    match class {
-        LibClass::Rt => matches!(side, Side::Passing),
-        LibClass::Ctx => matches!(side, Side::Passing),
-        LibClass::Thrown(_) => true,
-        LibClass::Permission(_) => true,
-        LibClass::Object => true,
-        LibClass::AccessControlException => true,
-        LibClass::String => true,
-        LibClass::StringBuilder => true,
-        LibClass::System => true,
-        LibClass::PrintStream => true,
-        LibClass::Void => true,
-        LibClass::Cloneable => true,
-        LibClass::Serializable => true,
-        LibClass::Runnable => true,
-        LibClass::Thread => true,
-        LibClass::PrivilegedAction => true,
-        LibClass::AccessController => true,
-        LibClass::AccessControlContext => true,
     }
 }

@@ -57,7 +57,7 @@ fn stranger_fits(a: &Ancestors<'_>, asked: Asked, c: ClassRef, d: ClassRef) -> b
     let p = a.named();
     match asked {
         Asked::Fits => stranger_is_interface(p, d) || stands_below(p, c, d),
-        Asked::IsOne => stands_below(p, c, d) || a.implements_named(c, d),
+        Asked::IsOne => stands_below(p, c, d) || a.implements(c, d),
     }
 }
 

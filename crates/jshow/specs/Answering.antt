@@ -1,7 +1,9 @@
--- Answers: a text, the files that are stored, and a status; and what a call wrote whose answer is one.
-use Rattle.std.specs.Prelude.{◌≡◌, ℕ, List, [], Option, Some}
-use Rattle.jbase.specs.Causes.{appended, IsCut}
+-- Answers: a text, the files that are stored, and a status; what a call wrote whose answer is one, and what a call does to its sink.
+use Rattle.std.specs.Prelude.{◌≡◌, ◌≤◌, ℕ, List, [], Option, Some, Result, Err, OnErr, OnOk}
+use Rattle.jbase.specs.Causes.{appended, IsCut, Rose}
 use Rattle.jio.specs.Held.{File}
+use Rattle.jtrace.specs.declared.fault.RunFault.{RunFault}
+use Rattle.jtrace.specs.declared.fault.RunFault.TheVariants as run_faults
 use Rattle.jshow.specs.declared.status.Status.{Status}
 use Rattle.jshow.specs.declared.status.Status.TheVariants as statuses
 
@@ -25,3 +27,21 @@ Answers a statuses.StoreFault old new = new ≡ old
 Answers a statuses.WriteFault old new = IsCut old new a.text
 Answers a statuses.OutOfMemory old new = IsCut old new a.text
 Answers a status old new = (a.status ≡ Some status) × (new ≡ appended old a.text)
+
+-- A call wrote this text to a sink, whose bytes and count of faults these are; where it failed, a front of the text. The count didn't fall,
+-- and a fault of the sink is told only where it rose.
+pub record Puts {S T : Type 0} (text : List ℕ) (result : Result T RunFault) (out : S → Option (List ℕ)) (faults : S → ℕ) (old new : S) : Type 0 where
+  pub ok : OnOk result (out new ≡ appended (out old) text)
+  pub err : OnErr result (IsCut (out old) (out new) text)
+  pub later : faults old ≤ faults new
+  pub cause : result ≡ Err run_faults.Sink → Rose (faults old) (faults new)
+
+-- A call that neither reads nor stores answered this and wrote its text to a sink. It tells a fault of writing only where the sink's count
+-- rose, no other fault, and no usage.
+pub record Shows {S : Type 0} (a : Answer) (status : Status) (out : S → Option (List ℕ)) (faults : S → ℕ) (old new : S) : Type 0 where
+  pub answer : Answers a status (out old) (out new)
+  pub later : faults old ≤ faults new
+  pub cause : status ≡ statuses.WriteFault → Rose (faults old) (faults new)
+  pub read : status ≡ statuses.ReadFault → ⊥
+  pub usage : status ≡ statuses.Usage → ⊥
+  pub store : status ≡ statuses.StoreFault → ⊥

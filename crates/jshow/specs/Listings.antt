@@ -9,13 +9,11 @@ use Rattle.jshow.specs.Refusals.{text_line}
 
 -- what a permission's line begins with
 unfoldable pub permission_word : Permission → List ℕ
-permission_word (Unresolved class) = codes "unresolved "
-permission_word _ = codes "permission "
+permission_word = elim [ Unresolved class ↦ codes "unresolved " | _ ↦ codes "permission " ]
 
 -- what its line tells: the class that makes no permission, or the permission
 unfoldable pub permission_units : Permission → List ℕ
-permission_units (Unresolved class) = class
-permission_units permission = text_of permission
+permission_units = elim [ Unresolved class ↦ class | permission ↦ text_of permission ]
 
 abbrev pub permission_line : Permission → List ℕ
 permission_line permission = text_line (permission_word permission) (permission_units permission)

@@ -47,14 +47,11 @@ class_word kinds.Maps = codes "maps"
 
 -- the opcode that it names, if it does
 unfoldable pub class_opcode : ClassFault → Option ℕ
-class_opcode (kinds.Opcode opcode) = Some opcode
-class_opcode (kinds.LeftOut opcode) = Some opcode
-class_opcode _ = None
+class_opcode = elim [ kinds.Opcode opcode ↦ Some opcode | kinds.LeftOut opcode ↦ Some opcode | _ ↦ None ]
 
 -- what stands behind the name, to the end of the line
 abbrev pub behind_word : Option ℕ → List ℕ
-behind_word None = codes "\n"
-behind_word (Some number) = codes " " ++ (decimal number ++ codes "\n")
+behind_word = elim [ None ↦ codes "\n" | Some number ↦ codes " " ++ (decimal number ++ codes "\n") ]
 
 abbrev pub class_text : List ℕ → ℕ → List ℕ → Option ℕ → List ℕ
 class_text path at word opcode = codes "refused class " ++ (path ++ (codes " at " ++ (decimal at ++ (codes " " ++ (word ++ behind_word opcode)))))
@@ -65,9 +62,7 @@ class_line path at kind = class_text (written (units_of_text path)) at (class_wo
 -- ---- the refusal of a policy
 
 unfoldable pub policy_word : PolicyFault → List ℕ
-policy_word policies.NotUtf8 = codes "not-utf8"
-policy_word policies.Syntax = codes "syntax"
-policy_word policies.SelfExpansion = codes "self-expansion"
+policy_word = elim [ policies.NotUtf8 ↦ codes "not-utf8" | policies.Syntax ↦ codes "syntax" | policies.SelfExpansion ↦ codes "self-expansion" ]
 
 abbrev pub policy_line : ℕ → PolicyFault → List ℕ
 policy_line at kind = codes "refused policy " ++ (decimal at ++ (codes " " ++ (policy_word kind ++ codes "\n")))
@@ -90,8 +85,7 @@ link_word links.BadUse = codes "baduse"
 
 -- a member's name and descriptor, or a dash where there is no member
 abbrev pub member_or_dash : Option (List ℕ) → List ℕ
-member_or_dash None = codes "-"
-member_or_dash (Some units) = written units
+member_or_dash = elim [ None ↦ codes "-" | Some units ↦ written units ]
 
 abbrev pub link_text : List ℕ → List ℕ → List ℕ → List ℕ
 link_text class member word = codes "refused link " ++ (class ++ (codes " " ++ (member ++ (codes " " ++ (word ++ codes "\n")))))
@@ -119,8 +113,7 @@ limit_word limits.PoolFull = codes "pool"
 
 -- how many bytes of code there would be, where that is the limit
 unfoldable pub limit_size : RewriteKind → Option ℕ
-limit_size (limits.TooLong n) = Some n
-limit_size _ = None
+limit_size = elim [ limits.TooLong n ↦ Some n | _ ↦ None ]
 
 abbrev pub rewrite_text : List ℕ → List ℕ → List ℕ → Option ℕ → List ℕ
 rewrite_text class member word size = codes "refused rewrite " ++ (class ++ (codes " " ++ (member ++ (codes " " ++ (word ++ behind_word size)))))

@@ -1,7 +1,5 @@
-ghost use Rattle.std.specs.Prelude.{◌≡◌, ◌≤◌, ◌⊎◌, IfSome, length};
-ghost use Rattle.jbase.specs.Causes.{Rose};
-ghost use Rattle.jshow.specs.declared.status.Status.TheVariants.{ReadFault, StoreFault, Usage, WriteFault};
-ghost use Rattle.jshow.specs.Answering.{Answers, listed};
+ghost use Rattle.std.specs.Prelude.{◌≡◌, IfSome, length};
+ghost use Rattle.jshow.specs.Answering.{Shows, listed};
 ghost use Rattle.jshow.specs.Counting.{checked_line, methods_in, methods_of};
 
 use crate::status::Status;
@@ -38,12 +36,7 @@ fn methods_of(parts: &[CodePart]) -> Option<u64>
 
 /// Writes the line of a program that is checked.
 fn put_checked<K: Sink>(classes: u64, methods: u64, out: &mut K) -> Status
-    ensures answer { Answers (listed (checked_line classes methods)) result (K.out out.old) (K.out out.new) }
-    ensures later { K.faults out.old ≤ K.faults out.new }
-    ensures cause { result ≡ WriteFault → Rose (K.faults out.old) (K.faults out.new) }
-    ensures read { result ≡ ReadFault → ⊥ }
-    ensures usage { result ≡ Usage → ⊥ }
-    ensures store { result ≡ StoreFault → ⊥ }
+    ensures { Shows (listed (checked_line classes methods)) result K.out K.faults out.old out.new }
 {
     let parts = [
         Part::Plain("checked "),
@@ -60,12 +53,7 @@ fn put_checked<K: Sink>(classes: u64, methods: u64, out: &mut K) -> Status
 
 /// Writes how much of a program was checked. Where its methods can't be counted in 64 bits, the answer is that no memory was left.
 pub fn show_checked<K: Sink>(parts: &[CodePart], out: &mut K) -> Status
-    ensures answer { Answers (listed (checked_line (length parts.now) (methods_of parts.now))) result (K.out out.old) (K.out out.new) }
-    ensures later { K.faults out.old ≤ K.faults out.new }
-    ensures cause { result ≡ WriteFault → Rose (K.faults out.old) (K.faults out.new) }
-    ensures read { result ≡ ReadFault → ⊥ }
-    ensures usage { result ≡ Usage → ⊥ }
-    ensures store { result ≡ StoreFault → ⊥ }
+    ensures { Shows (listed (checked_line (length parts.now) (methods_of parts.now))) result K.out K.faults out.old out.new }
 {
     match methods_of(parts) {
         Some(methods) => put_checked(parts.len() as u64, methods, out),

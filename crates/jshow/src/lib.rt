@@ -1,6 +1,7 @@
 //! What is written beside a run, and the statuses with which the program ends. `Refusal` is what is refused.
 //!
-//! - `Answering`: an answer is a text, the files that are stored and a status; what a call wrote whose answer is one (`Answers`).
+//! - `Answering`: an answer is a text, the files that are stored and a status; what a call wrote whose answer is one (`Answers`); and what a
+//!   call does to its sink that writes a text (`Puts`) or such an answer (`Shows`).
 //! - `Statuses`: the exit number of each status, and what a run's end is as a status.
 //! - `Refusals`: the lines of refusals.
 //! - `Listings`: the lines of the verb `policy`.

@@ -1,7 +1,6 @@
-ghost use Rattle.std.specs.Prelude.{◌≡◌, ◌≤◌, ◌<◌, ◌^◌, Err, IfOk, OnErr, OnOk, length};
-ghost use Rattle.jbase.specs.Causes.{IsCut, Rose, appended};
+ghost use Rattle.std.specs.Prelude.{◌≡◌, ◌<◌, ◌^◌, IfOk, length};
 ghost use Rattle.jio.specs.LineOf.{line_of, room_of};
-ghost use Rattle.jtrace.specs.declared.fault.RunFault.TheVariants.{Sink as SinkFault};
+ghost use Rattle.jshow.specs.Answering.{Puts};
 ghost use Rattle.jshow.specs.Refusals.{text_line};
 ghost use Rattle.jshow.specs.Listings.{domain_line, domain_lines, listing, permission_line, permission_lines, permission_units, permission_word};
 
@@ -46,10 +45,7 @@ fn permission_units(alloc: Global, permission: &Permission) -> Result<Units, All
 /// Writes a line of these parts.
 fn put_line<K: Sink>(parts: &[Part<'_>], out: &mut K) -> Result<(), RunFault>
     requires { room_of parts.now < 2 ^ 64 }
-    ensures ok { OnOk result (K.out out.new ≡ appended (K.out out.old) (line_of parts.now)) }
-    ensures err { OnErr result (IsCut (K.out out.old) (K.out out.new) (line_of parts.now)) }
-    ensures later { K.faults out.old ≤ K.faults out.new }
-    ensures cause { result ≡ Err SinkFault → Rose (K.faults out.old) (K.faults out.new) }
+    ensures { Puts (line_of parts.now) result K.out K.faults out.old out.new }
 {
     write_line(out, parts)?;
     Ok(())
@@ -58,10 +54,7 @@ fn put_line<K: Sink>(parts: &[Part<'_>], out: &mut K) -> Result<(), RunFault>
 /// Writes a line of a few words and a text. Where the text has more than 2,147,483,647 units, the answer is that no memory was left.
 fn put_text<K: Sink>(words: &str, units: &[u16], out: &mut K) -> Result<(), RunFault>
     requires { length words.now < 2 ^ 32 }
-    ensures ok { OnOk result (K.out out.new ≡ appended (K.out out.old) (text_line words.now units.now)) }
-    ensures err { OnErr result (IsCut (K.out out.old) (K.out out.new) (text_line words.now units.now)) }
-    ensures later { K.faults out.old ≤ K.faults out.new }
-    ensures cause { result ≡ Err SinkFault → Rose (K.faults out.old) (K.faults out.new) }
+    ensures { Puts (text_line words.now units.now) result K.out K.faults out.old out.new }
 {
     if MOST_UNITS < units.len() {
         return Err(RunFault::Memory);
@@ -75,10 +68,7 @@ fn put_permission<K: Sink>(
     permission: &Permission,
     out: &mut K,
 ) -> Result<(), RunFault>
-    ensures ok { OnOk result (K.out out.new ≡ appended (K.out out.old) (permission_line permission.now)) }
-    ensures err { OnErr result (IsCut (K.out out.old) (K.out out.new) (permission_line permission.now)) }
-    ensures later { K.faults out.old ≤ K.faults out.new }
-    ensures cause { result ≡ Err SinkFault → Rose (K.faults out.old) (K.faults out.new) }
+    ensures { Puts (permission_line permission.now) result K.out K.faults out.old out.new }
 {
     let units = permission_units(alloc, permission)?;
     put_text(permission_word(permission), units.as_slice(), out)
@@ -90,10 +80,7 @@ fn put_permissions<K: Sink>(
     permissions: &[Permission],
     out: &mut K,
 ) -> Result<(), RunFault>
-    ensures ok { OnOk result (K.out out.new ≡ appended (K.out out.old) (permission_lines permissions.now)) }
-    ensures err { OnErr result (IsCut (K.out out.old) (K.out out.new) (permission_lines permissions.now)) }
-    ensures later { K.faults out.old ≤ K.faults out.new }
-    ensures cause { result ≡ Err SinkFault → Rose (K.faults out.old) (K.faults out.new) }
+    ensures { Puts (permission_lines permissions.now) result K.out K.faults out.old out.new }
 {
     for permission in permissions {
         put_permission(alloc, permission, out)?;
@@ -105,10 +92,7 @@ fn put_permissions<K: Sink>(
 
 /// Writes the line of a domain.
 fn put_source<K: Sink>(d: u32, source: &CodeSource, out: &mut K) -> Result<(), RunFault>
-    ensures ok { OnOk result (K.out out.new ≡ appended (K.out out.old) (domain_line d source.now)) }
-    ensures err { OnErr result (IsCut (K.out out.old) (K.out out.new) (domain_line d source.now)) }
-    ensures later { K.faults out.old ≤ K.faults out.new }
-    ensures cause { result ≡ Err SinkFault → Rose (K.faults out.old) (K.faults out.new) }
+    ensures { Puts (domain_line d source.now) result K.out K.faults out.old out.new }
 {
     let url = source.text();
     if MOST_BYTES < url.len() {
@@ -131,10 +115,7 @@ fn put_domain<K: Sink>(
     permissions: &[Permission],
     out: &mut K,
 ) -> Result<(), RunFault>
-    ensures ok { OnOk result (K.out out.new ≡ appended (K.out out.old) (domain_lines d source.now permissions.now)) }
-    ensures err { OnErr result (IsCut (K.out out.old) (K.out out.new) (domain_lines d source.now permissions.now)) }
-    ensures later { K.faults out.old ≤ K.faults out.new }
-    ensures cause { result ≡ Err SinkFault → Rose (K.faults out.old) (K.faults out.new) }
+    ensures { Puts (domain_lines d source.now permissions.now) result K.out K.faults out.old out.new }
 {
     put_source(d, source, out)?;
     put_permissions(alloc, permissions, out)
@@ -148,10 +129,7 @@ pub fn put_listing<K: Sink>(
     out: &mut K,
 ) -> Result<(), RunFault>
     requires { length domains.now ≡ length sources.now }
-    ensures ok { OnOk result (K.out out.new ≡ appended (K.out out.old) (listing 0 sources.now domains.now)) }
-    ensures err { OnErr result (IsCut (K.out out.old) (K.out out.new) (listing 0 sources.now domains.now)) }
-    ensures later { K.faults out.old ≤ K.faults out.new }
-    ensures cause { result ≡ Err SinkFault → Rose (K.faults out.old) (K.faults out.new) }
+    ensures { Puts (listing 0 sources.now domains.now) result K.out K.faults out.old out.new }
 {
     for (at, source) in sources.iter().enumerate() {
         let Ok(d) = u32::try_from(at) else {

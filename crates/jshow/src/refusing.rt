@@ -1,9 +1,7 @@
-ghost use Rattle.std.specs.Prelude.{◌≡◌, ◌≤◌, ◌<◌, ◌^◌, IfSome, length};
-ghost use Rattle.jbase.specs.Causes.{Rose};
+ghost use Rattle.std.specs.Prelude.{◌≡◌, ◌<◌, ◌^◌, IfSome, length};
 ghost use Rattle.jio.specs.LineOf.{line_of, part_of, part_room, room_of};
 ghost use Rattle.jio.specs.Text.{written};
-ghost use Rattle.jshow.specs.declared.status.Status.TheVariants.{ReadFault, StoreFault, Usage, WriteFault};
-ghost use Rattle.jshow.specs.Answering.{Answers, refused_answer};
+ghost use Rattle.jshow.specs.Answering.{Shows, refused_answer};
 ghost use Rattle.jshow.specs.Refusals.{check_line, check_text, class_line, job_line, link_line, member_or_dash, policy_line, refusal_line, text_line};
 ghost use Rattle.jshow.specs.Refusals.{class_opcode, class_text, class_word, limit_size, limit_word, link_text, link_word, policy_word, rewrite_line, rewrite_text};
 
@@ -51,12 +49,7 @@ fn member_part(member: &Option<Units>) -> Option<Part<'_>>
 /// Writes a refusal's line of these parts.
 fn refuse<K: Sink>(parts: &[Part<'_>], out: &mut K) -> Status
     requires { room_of parts.now < 2 ^ 64 }
-    ensures answer { Answers (refused_answer (line_of parts.now)) result (K.out out.old) (K.out out.new) }
-    ensures later { K.faults out.old ≤ K.faults out.new }
-    ensures cause { result ≡ WriteFault → Rose (K.faults out.old) (K.faults out.new) }
-    ensures read { result ≡ ReadFault → ⊥ }
-    ensures usage { result ≡ Usage → ⊥ }
-    ensures store { result ≡ StoreFault → ⊥ }
+    ensures { Shows (refused_answer (line_of parts.now)) result K.out K.faults out.old out.new }
 {
     match write_line(out, parts) {
         Ok(()) => Status::Refused,
@@ -67,12 +60,7 @@ fn refuse<K: Sink>(parts: &[Part<'_>], out: &mut K) -> Status
 /// Writes a line of a few words and a name.
 fn show_name<'a, K: Sink>(words: &'a str, name: &'a Units, out: &mut K) -> Status
     requires { length words.now < 2 ^ 32 }
-    ensures answer { Answers (refused_answer (text_line words.now name.now)) result (K.out out.old) (K.out out.new) }
-    ensures later { K.faults out.old ≤ K.faults out.new }
-    ensures cause { result ≡ WriteFault → Rose (K.faults out.old) (K.faults out.new) }
-    ensures read { result ≡ ReadFault → ⊥ }
-    ensures usage { result ≡ Usage → ⊥ }
-    ensures store { result ≡ StoreFault → ⊥ }
+    ensures { Shows (refused_answer (text_line words.now name.now)) result K.out K.faults out.old out.new }
 {
     let Some(name) = name_part(name) else {
         return Status::OutOfMemory;
@@ -83,12 +71,7 @@ fn show_name<'a, K: Sink>(words: &'a str, name: &'a Units, out: &mut K) -> Statu
 // ---- jobs
 
 fn show_job<K: Sink>(line: u32, out: &mut K) -> Status
-    ensures answer { Answers (refused_answer (job_line line)) result (K.out out.old) (K.out out.new) }
-    ensures later { K.faults out.old ≤ K.faults out.new }
-    ensures cause { result ≡ WriteFault → Rose (K.faults out.old) (K.faults out.new) }
-    ensures read { result ≡ ReadFault → ⊥ }
-    ensures usage { result ≡ Usage → ⊥ }
-    ensures store { result ≡ StoreFault → ⊥ }
+    ensures { Shows (refused_answer (job_line line)) result K.out K.faults out.old out.new }
 {
     let line = u64::from(line);
     refuse(&[Part::Plain("refused job "), Part::Number(line)], out)
@@ -109,12 +92,7 @@ fn policy_word(kind: PolicyFault) -> &'static str
 }
 
 fn show_policy<K: Sink>(at: u32, kind: PolicyFault, out: &mut K) -> Status
-    ensures answer { Answers (refused_answer (policy_line at kind)) result (K.out out.old) (K.out out.new) }
-    ensures later { K.faults out.old ≤ K.faults out.new }
-    ensures cause { result ≡ WriteFault → Rose (K.faults out.old) (K.faults out.new) }
-    ensures read { result ≡ ReadFault → ⊥ }
-    ensures usage { result ≡ Usage → ⊥ }
-    ensures store { result ≡ StoreFault → ⊥ }
+    ensures { Shows (refused_answer (policy_line at kind)) result K.out K.faults out.old out.new }
 {
     let parts = [
         Part::Plain("refused policy "),
@@ -172,12 +150,7 @@ fn put_class<'a, K: Sink>(
 ) -> Status
     requires path { part_room path < 2 ^ 34 }
     requires word { length word.now < 32 }
-    ensures answer { Answers (refused_answer (class_text (part_of path.entry) at word.now opcode)) result (K.out out.old) (K.out out.new) }
-    ensures later { K.faults out.old ≤ K.faults out.new }
-    ensures cause { result ≡ WriteFault → Rose (K.faults out.old) (K.faults out.new) }
-    ensures read { result ≡ ReadFault → ⊥ }
-    ensures usage { result ≡ Usage → ⊥ }
-    ensures store { result ≡ StoreFault → ⊥ }
+    ensures { Shows (refused_answer (class_text (part_of path.entry) at word.now opcode)) result K.out K.faults out.old out.new }
 {
     let at = u64::from(at);
     match opcode {
@@ -209,12 +182,7 @@ fn put_class<'a, K: Sink>(
 }
 
 fn show_class<K: Sink>(alloc: Global, path: &Text, at: u32, kind: ClassFault, out: &mut K) -> Status
-    ensures answer { Answers (refused_answer (class_line path.now at kind)) result (K.out out.old) (K.out out.new) }
-    ensures later { K.faults out.old ≤ K.faults out.new }
-    ensures cause { result ≡ WriteFault → Rose (K.faults out.old) (K.faults out.new) }
-    ensures read { result ≡ ReadFault → ⊥ }
-    ensures usage { result ≡ Usage → ⊥ }
-    ensures store { result ≡ StoreFault → ⊥ }
+    ensures { Shows (refused_answer (class_line path.now at kind)) result K.out K.faults out.old out.new }
 {
     let Ok(units) = Units::from_text(alloc, path.as_str()) else {
         return Status::OutOfMemory;
@@ -252,12 +220,7 @@ fn put_link<'a, K: Sink>(class: Part<'a>, member: Part<'a>, word: &'a str, out: 
     requires class { part_room class < 2 ^ 34 }
     requires member { part_room member < 2 ^ 34 }
     requires word { length word.now < 32 }
-    ensures answer { Answers (refused_answer (link_text (part_of class.entry) (part_of member.entry) word.now)) result (K.out out.old) (K.out out.new) }
-    ensures later { K.faults out.old ≤ K.faults out.new }
-    ensures cause { result ≡ WriteFault → Rose (K.faults out.old) (K.faults out.new) }
-    ensures read { result ≡ ReadFault → ⊥ }
-    ensures usage { result ≡ Usage → ⊥ }
-    ensures store { result ≡ StoreFault → ⊥ }
+    ensures { Shows (refused_answer (link_text (part_of class.entry) (part_of member.entry) word.now)) result K.out K.faults out.old out.new }
 {
     let parts = [
         Part::Plain("refused link "),
@@ -271,12 +234,7 @@ fn put_link<'a, K: Sink>(class: Part<'a>, member: Part<'a>, word: &'a str, out: 
 }
 
 fn show_link<K: Sink>(class: &Units, member: &Option<Units>, kind: LinkKind, out: &mut K) -> Status
-    ensures answer { Answers (refused_answer (link_line class.now member.now kind)) result (K.out out.old) (K.out out.new) }
-    ensures later { K.faults out.old ≤ K.faults out.new }
-    ensures cause { result ≡ WriteFault → Rose (K.faults out.old) (K.faults out.new) }
-    ensures read { result ≡ ReadFault → ⊥ }
-    ensures usage { result ≡ Usage → ⊥ }
-    ensures store { result ≡ StoreFault → ⊥ }
+    ensures { Shows (refused_answer (link_line class.now member.now kind)) result K.out K.faults out.old out.new }
 {
     let Some(class) = name_part(class) else {
         return Status::OutOfMemory;
@@ -293,12 +251,7 @@ fn show_link<K: Sink>(class: &Units, member: &Option<Units>, kind: LinkKind, out
 fn put_check<'a, K: Sink>(class: Part<'a>, member: Part<'a>, at: u32, out: &mut K) -> Status
     requires class { part_room class < 2 ^ 34 }
     requires member { part_room member < 2 ^ 34 }
-    ensures answer { Answers (refused_answer (check_text (part_of class.entry) (part_of member.entry) at)) result (K.out out.old) (K.out out.new) }
-    ensures later { K.faults out.old ≤ K.faults out.new }
-    ensures cause { result ≡ WriteFault → Rose (K.faults out.old) (K.faults out.new) }
-    ensures read { result ≡ ReadFault → ⊥ }
-    ensures usage { result ≡ Usage → ⊥ }
-    ensures store { result ≡ StoreFault → ⊥ }
+    ensures { Shows (refused_answer (check_text (part_of class.entry) (part_of member.entry) at)) result K.out K.faults out.old out.new }
 {
     let at = u64::from(at);
     let parts = [
@@ -313,12 +266,7 @@ fn put_check<'a, K: Sink>(class: Part<'a>, member: Part<'a>, at: u32, out: &mut 
 }
 
 fn show_check<K: Sink>(class: &Units, member: &Units, at: u32, out: &mut K) -> Status
-    ensures answer { Answers (refused_answer (check_line class.now member.now at)) result (K.out out.old) (K.out out.new) }
-    ensures later { K.faults out.old ≤ K.faults out.new }
-    ensures cause { result ≡ WriteFault → Rose (K.faults out.old) (K.faults out.new) }
-    ensures read { result ≡ ReadFault → ⊥ }
-    ensures usage { result ≡ Usage → ⊥ }
-    ensures store { result ≡ StoreFault → ⊥ }
+    ensures { Shows (refused_answer (check_line class.now member.now at)) result K.out K.faults out.old out.new }
 {
     let Some(class) = name_part(class) else {
         return Status::OutOfMemory;
@@ -366,12 +314,7 @@ fn put_limit<'a, K: Sink>(
     requires class { part_room class < 2 ^ 34 }
     requires member { part_room member < 2 ^ 34 }
     requires word { length word.now < 32 }
-    ensures answer { Answers (refused_answer (rewrite_text (part_of class.entry) (part_of member.entry) word.now size)) result (K.out out.old) (K.out out.new) }
-    ensures later { K.faults out.old ≤ K.faults out.new }
-    ensures cause { result ≡ WriteFault → Rose (K.faults out.old) (K.faults out.new) }
-    ensures read { result ≡ ReadFault → ⊥ }
-    ensures usage { result ≡ Usage → ⊥ }
-    ensures store { result ≡ StoreFault → ⊥ }
+    ensures { Shows (refused_answer (rewrite_text (part_of class.entry) (part_of member.entry) word.now size)) result K.out K.faults out.old out.new }
 {
     match size {
         None => refuse(
@@ -407,12 +350,7 @@ fn show_rewrite<K: Sink>(
     kind: RewriteKind,
     out: &mut K,
 ) -> Status
-    ensures answer { Answers (refused_answer (rewrite_line class.now member.now kind)) result (K.out out.old) (K.out out.new) }
-    ensures later { K.faults out.old ≤ K.faults out.new }
-    ensures cause { result ≡ WriteFault → Rose (K.faults out.old) (K.faults out.new) }
-    ensures read { result ≡ ReadFault → ⊥ }
-    ensures usage { result ≡ Usage → ⊥ }
-    ensures store { result ≡ StoreFault → ⊥ }
+    ensures { Shows (refused_answer (rewrite_line class.now member.now kind)) result K.out K.faults out.old out.new }
 {
     let Some(class) = name_part(class) else {
         return Status::OutOfMemory;
@@ -425,12 +363,7 @@ fn show_rewrite<K: Sink>(
 
 /// Writes a refusal's line.
 pub fn show_refusal<K: Sink>(alloc: Global, refusal: &Refusal, out: &mut K) -> Status
-    ensures answer { Answers (refused_answer (refusal_line refusal.now)) result (K.out out.old) (K.out out.new) }
-    ensures later { K.faults out.old ≤ K.faults out.new }
-    ensures cause { result ≡ WriteFault → Rose (K.faults out.old) (K.faults out.new) }
-    ensures read { result ≡ ReadFault → ⊥ }
-    ensures usage { result ≡ Usage → ⊥ }
-    ensures store { result ≡ StoreFault → ⊥ }
+    ensures { Shows (refused_answer (refusal_line refusal.now)) result K.out K.faults out.old out.new }
 {
     match refusal {
         Refusal::BadJob { line } => show_job(*line, out),

@@ -4,7 +4,6 @@ use Rattle.std.proofs.Common.{ap, subst, arith}
 use Rattle.std.specs.Prelude.{is_some, option_and_then, option_map, slice_get, nat_lt, if◌then◌else◌}
 use Rattle.std.specs.List.{AllByRecursion, filter, flat_map}
 use Rattle.std.specs.Option.{IsSome}
-use Rattle.std.specs.Str.{byte, bytes_eq}
 use Rattle.std.proofs.lemmas.Bool.{ne_eqb, or_parts}
 use Rattle.std.proofs.lemmas.Option.{slice_get-map}
 use Rattle.jbase.specs.First.{fault_if, or_else}
@@ -22,7 +21,7 @@ use Rattle.jtypes.specs.declared.vtype.Element.TheVariants as elements
 use Rattle.jtypes.specs.declared.vtype.Name.{Name}
 use Rattle.jtypes.specs.declared.vtype.VType.{VType}
 use Rattle.jtypes.specs.declared.vtype.VType.TheVariants as types
-use Rattle.jtypes.specs.Described.{element_of, in_brackets}
+use Rattle.jtypes.specs.Described.{in_brackets}
 use Rattle.jprogram.specs.declared.fault.LinkKind.TheVariants.{NoClass, NotAccessible}
 use Rattle.jprogram.specs.declared.part.ClassRef.TheVariants as refs
 use Rattle.jprogram.specs.declared.part.CodePart.{CodePart}
@@ -33,7 +32,7 @@ use Rattle.jprogram.specs.Supers.{is_missing}
 use Rattle.jprogram.proofs.Settling.{name_equal}
 use Rattle.jprogram.proofs.Standing.{Stands, Users, Libs, Nowhere, all_append, all_of_map, stands}
 use Rattle.jmembers.specs.Declares.{desc_left_out, desc_missing, text_left_out, text_missing, type_missing}
-use Rattle.jprogram.specs.LeftOut.{context, is_context, is_floating}
+use Rattle.jprogram.specs.LeftOut.{is_context, is_floating}
 use Rattle.jlayout.specs.Layout.{field_type, is_instance, layout, own_types}
 use Rattle.jlayout.specs.Layout as layouts
 use Rattle.juses.specs.Typed.{Held, Typed, array_over, class_by, class_of, class_type, element_in, held, name, there, type_in, type_of, typed, typed_as}
@@ -47,6 +46,7 @@ use Rattle.jrule.specs.Effects.{is_ref}
 use Rattle.jlink.specs.Coded.{AreFiles}
 use Rattle.jlink.specs.Fields.{is_plain}
 use Rattle.jlink.specs.Links.{Links}
+use Rattle.jlink.proofs.Fielded.{named_plain}
 use Rattle.jlink.proofs.Filed.{field_desc}
 use Rattle.jlink.proofs.Having.{has_some, map_is}
 use Rattle.jlink.proofs.Typed.{class_is, type_there}
@@ -55,61 +55,6 @@ use Rattle.jtyped.specs.Values.{HasDimensions}
 use Rattle.jtyped.proofs.Dimensions.{class_type_named}
 use Rattle.jsound.proofs.Codes.{field_kept, field_known}
 use Rattle.jsound.proofs.Entries.{IsClassEntry}
-
--- ---- types without contexts
-
-pick : (b : Bool) (y : Element) (o : Option Element) (x : Element) → says.is_context y ≡ false → (o ≡ Some x → says.is_context x ≡ false) → (if b then Some y else o) ≡ Some x
-    → says.is_context x ≡ false
-pick true y o x first rest e = let same : y ≡ x = cc in ap says.is_context (sym same) ∙ first
-pick false y o x first rest e = rest e
-
-letter_plain : (letter : ℕ) (class : List ℕ) (x : Element) → bytes_eq class context ≡ false → element_of letter (name class) ≡ Some x → says.is_context x ≡ false
-letter_plain letter class x clear =
-    pick (letter == byte "Z") elements.Boolean _ x refl
-    (pick (letter == byte "C") elements.Char _ x refl
-    (pick (letter == byte "B") elements.Byte _ x refl
-    (pick (letter == byte "S") elements.Short _ x refl
-    (pick (letter == byte "I") elements.Int _ x refl
-    (pick (letter == byte "J") elements.Long _ x refl
-    (pick (letter == byte "L") (elements.Class (name class)) None x clear (λ e. absurd (cc))))))))
-
-there_is : (p : Program) (class : List ℕ) (c : Name) (b : Bool) → (if b then Some (name class) else None) ≡ Some c → name class ≡ c
-there_is p class c true e = cc
-there_is p class c false e = absurd cc
-
-element_plain : (p : Program) (t : FieldType) (x : Element) → bytes_eq t.class context ≡ false → element_in p t ≡ Some x → says.is_context x ≡ false
-element_plain p t x clear e = by (t.base == byte "L") e
-  where
-    by : (b : Bool) → (if b then option_map elements.Class (there p t.class) else element_of t.base (name t.class)) ≡ Some x → says.is_context x ≡ false
-    by true e =
-        let c = map_is elements.Class (there p t.class) x e in
-        let same : name t.class ≡ c.0 = there_is p t.class c.0 (is_some (find p t.class)) c.1 in
-        ap says.is_context (sym c.2) ∙ ap (λ (n : Name). bytes_eq n.0 context) (sym same) ∙ clear
-    by false e = letter_plain t.base t.class x clear e
-
-alone_plain : (depth : ℕ) (x : Element) → is_plain (in_brackets depth x) ≡ true
-alone_plain zero elements.Boolean = refl
-alone_plain zero elements.Char = refl
-alone_plain zero elements.Byte = refl
-alone_plain zero elements.Short = refl
-alone_plain zero elements.Int = refl
-alone_plain zero elements.Long = refl
-alone_plain zero (elements.Class c) = refl
-alone_plain (suc depth) x = refl
-
-type_plain : (depth : ℕ) (x : Element) → says.is_context x ≡ false → is_plain (type_of depth x) ≡ true
-type_plain depth x clear = by (depth == 0) (says.is_context x) clear
-  where
-    by : (b c : Bool) → c ≡ false → is_plain (if b && c then types.Ctx else in_brackets depth x) ≡ true
-    by true true e = absurd cc
-    by true false e = alone_plain depth x
-    by false c e = alone_plain depth x
-
-named_plain : (p : Program) (t : FieldType) (y : VType) → bytes_eq t.class context ≡ false → type_in p t ≡ Some y → is_plain y ≡ true
-unfolding type_in
-named_plain p t y clear e =
-    let x = map_is (type_of t.depth) (element_in p t) y e in
-    ap is_plain (sym x.2) ∙ type_plain t.depth x.0 (element_plain p t x.0 clear x.1)
 
 -- ---- types that are there
 

@@ -2,7 +2,7 @@ ghost use Rattle.std.specs.Prelude.{◌≡◌};
 ghost use Rattle.jstate.specs.Celled;
 ghost use Rattle.jstate.specs.Numbers;
 
-use jlib::{LibClass, PermissionClass, Thrown};
+use jlib::{LIBRARY_CLASSES, LibClass, PermissionClass, Thrown};
 use jprogram::ClassRef;
 
 /// The heap's number for a class of what can be thrown.
@@ -107,11 +107,8 @@ pub fn cells_of(c: LibClass) -> u32
     }
 }
 
-/// How many classes the library has. The heap's numbers for a program's own classes begin with this one.
-pub const LIBRARY_CLASSES: u32 = 46;
-
 /// The classes of the library, in the order of the heap's numbers for them.
-const LIBRARY: [LibClass; 46] = [
+const LIBRARY: [LibClass; LIBRARY_CLASSES as usize] = [
     LibClass::Thrown(Thrown::Throwable),
     LibClass::Thrown(Thrown::Exception),
     LibClass::Thrown(Thrown::Error),

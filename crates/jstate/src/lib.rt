@@ -26,7 +26,7 @@ mod places;
 mod shapes;
 
 pub use arrays::{ROWS, array_laws, array_number, array_type, element_of, numbers_at, row_type};
-pub use classes::{LIBRARY_CLASSES, cells_of, class_numbered, library_number, thrown_number};
+pub use classes::{cells_of, class_numbered, library_number, thrown_number};
 pub use frames::Frames;
 pub use shapes::{
     Shape, Shapes, built_laws, cell_laws, celled_laws, heap_laws, number_laws, piece_laws,

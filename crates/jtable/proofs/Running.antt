@@ -1,5 +1,6 @@
 -- Lists that are gone through run by run.
-use Rattle.std.proofs.Common.{◌≡◌, ◌∙◌, ◌+◌, ◌≤◌, ℕ, zero, suc, Bool, true, false, ◌&&◌, ◌==◌, cond, List, [], ◌∷◌, ◌++◌, length, drop, take, map, not, refl, sym, ap, ap₂, arith, append_assoc}
+use Rattle.std.proofs.Common.{◌≡◌, ◌∙◌, ◌+◌, ◌≤◌, ℕ, zero, suc, Bool, true, false, ◌&&◌, ◌==◌, cond, List, [], ◌∷◌, ◌++◌, length, drop, take, map, not, Some, refl, sym, ap, ap₂, arith, append_assoc}
+use Rattle.std.specs.Prelude.{slice_get}
 use Rattle.std.proofs.lemmas.List.{length-append, length-drop, length-take-le, drop-drop, map-append, take-append-drop}
 use Rattle.std.proofs.lemmas.List.Elements.{filter-append}
 use Rattle.std.proofs.Math.Seq.{drop-append_seam}
@@ -89,6 +90,13 @@ module _ (f : Pair → Item) (has : ℕ → Permission → Bool) (asked : Permis
 
   pub run_grants : (total : Verdict) → decides run ≡ Granted → decides (drop i list) ≡ total → decides (drop (i + length run) list) ≡ total
   run_grants total is all = sym (ap decides (split list run i begins) ∙ verdict_both f has asked run (drop (i + length run) list) is) ∙ all
+
+-- a list of one pair decides as the pair's item does
+pub one_decides : (f : Pair → Item) (has : ℕ → Permission → Bool) (asked : Permission) (list : List Pair) (p : Pair) → length list ≡ 1 → Some p ≡ slice_get list 0
+    → verdict has asked (f p ∷ []) ≡ verdict has asked (map f list)
+one_decides f has asked [] p one is = absurd (omega (arith, one))
+one_decides f has asked (q ∷ []) p one is = cc
+one_decides f has asked (q ∷ r ∷ list) p one is = absurd (omega (arith, one))
 
 -- ---- runs that are compared
 

@@ -14,6 +14,14 @@ lists_of pairs entries = map (list_of pairs) entries
 abbrev pub AreWithin : ℕ → List Entry → Type 0
 AreWithin count entries = (i : ℕ) (e : Entry) → slice_get entries i ≡ Some e → e.first + e.count ≤ count
 
+-- A pair is a list's first, where that has one.
+abbrev pub IsHead : List Pair → Pair → Type 0
+IsHead list pair = 0 < length list → Some pair ≡ slice_get list 0
+
+-- Each entry keeps its list's first pair.
+abbrev pub KeepHeads : List Pair → List Entry → Type 0
+KeepHeads pairs entries = (i : ℕ) (e : Entry) → slice_get entries i ≡ Some e → IsHead (list_of pairs e) e.head
+
 -- A list is another one with more behind.
 pub record Extends {T : Type 0} (old new : List T) : Type 0 where
   pub more : List T

@@ -1,15 +1,16 @@
 ghost use Rattle.std.specs.Prelude.{◌≡◌, ◌<◌, ◌≤◌, ◌∷◌, ◌++◌, [], OnErr, OnOk, Some, drop, get_or, length, slice_get, take};
-ghost use Rattle.jtable.specs.Lists.{BeginsWith, Extends};
+ghost use Rattle.jtable.specs.Lists.{BeginsWith, Extends, IsHead};
 
 use crate::pairs::{Pair, Pairs};
 use std::alloc::{AllocError, Global};
 use std::marker::Model;
 
-/// A list of pairs: the place of its first, and how many they are.
+/// A list of pairs: the place of its first, how many they are, and its first itself. Without pairs that is any.
 #[derive(Clone, Copy)]
 pub struct Entry {
     first: usize,
     count: usize,
+    head: Pair,
 }
 
 /// Lists of pairs by number. Contracts see the list of them.
@@ -22,13 +23,13 @@ pub struct Lists {
 impl Model for Lists {
     ghost use Rattle.std.specs.Prelude.{List, length};
     ghost use Rattle.jtable.specs.declared.pairs.Pair.{Pair};
-    ghost use Rattle.jtable.specs.Lists.{AreWithin, lists_of};
+    ghost use Rattle.jtable.specs.Lists.{AreWithin, KeepHeads, lists_of};
 
     ghost Value = { List (List Pair) };
 
     ghost view = { λ l. lists_of l.pairs l.entries.items };
 
-    ghost invariant = { λ l. AreWithin (length l.pairs) l.entries.items };
+    ghost invariant = { λ l. AreWithin (length l.pairs) l.entries.items × KeepHeads l.pairs l.entries.items };
 }
 
 /// Puts pairs behind the others. After an error some of them are there.
@@ -40,6 +41,19 @@ fn push_all(alloc: Global, pairs: &mut Pairs, list: &[Pair]) -> Result<(), Alloc
         pairs.push(alloc, *pair)?;
     }
     Ok(())
+}
+
+/// A list's first pair, or any where it has none.
+fn head_of(list: &[Pair]) -> Pair
+    ensures { IsHead list.now result }
+{
+    match list {
+        [pair, ..] => *pair,
+        [] => Pair {
+            limits: 0,
+            domain: 0,
+        },
+    }
 }
 
 impl Lists {
@@ -68,6 +82,16 @@ impl Lists {
         ensures { result ≡ length (get_or self.now n []) }
     {
         self.entries[n].count
+    }
+
+    /// The first pair of a list. It is there.
+    #[inline]
+    pub fn head(&self, n: usize) -> Pair
+        requires list { n < length self.now }
+        requires pair { 0 < length (get_or self.now n []) }
+        ensures { Some result ≡ slice_get (get_or self.now n []) 0 }
+    {
+        self.entries[n].head
     }
 
     /// A pair of a list. It is there.
@@ -104,7 +128,8 @@ impl Lists {
         let first = self.pairs.len();
         let count = list.len();
         push_all(alloc, &mut self.pairs, list)?;
-        self.entries.push(Entry { first, count })?;
+        let head = head_of(list);
+        self.entries.push(Entry { first, count, head })?;
         Ok(())
     }
 

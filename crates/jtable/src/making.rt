@@ -287,21 +287,32 @@ fn fails(sets: &Sets, pair: Pair, domains: &Domains, asked: &Permission) -> bool
     !imply(sets.get(pair.limits).as_slice(), asked)
 }
 
+/// What an item decides for a permission.
+fn decide_item(sets: &Sets, pair: Pair, domains: &Domains, asked: &Permission) -> Verdict
+    requires { pair.limits < length sets.now }
+    ensures { result ≡ contexts.verdict (has domains.now) asked.now (item_of sets.now pair ∷ []) }
+{
+    if fails(sets, pair, domains, asked) {
+        return Verdict::Denied(pair.domain);
+    }
+    Verdict::Granted
+}
+
 /// What items decide for a permission.
 fn decide_run(sets: &Sets, run: &[Pair], domains: &Domains, asked: &Permission) -> Verdict
     requires { AreNamed (length sets.now) run.now }
     ensures { result ≡ contexts.verdict (has domains.now) asked.now (items_of sets.now run.now) }
 {
     for pair in run {
-        if fails(sets, *pair, domains, asked) {
-            return Verdict::Denied(pair.domain);
+        if let Verdict::Denied(d) = decide_item(sets, *pair, domains, asked) {
+            return Verdict::Denied(d);
         }
     }
     Verdict::Granted
 }
 
-/// What a list decides for a permission.
-pub fn decide(
+/// What the items of a list decide for a permission, run by run.
+fn decide_runs(
     sets: &Sets,
     lists: &Lists,
     n: usize,
@@ -322,4 +333,22 @@ pub fn decide(
         i += run.len();
     }
     Verdict::Granted
+}
+
+/// What a list decides for a permission. One of a single item is decided without runs.
+pub fn decide(
+    sets: &Sets,
+    lists: &Lists,
+    n: usize,
+    domains: &Domains,
+    asked: &Permission,
+) -> Verdict
+    requires there { n < length lists.now }
+    requires lists { AllNamed (length sets.now) lists.now }
+    ensures { result ≡ contexts.verdict (has domains.now) asked.now (items_of sets.now (get_or lists.now n [])) }
+{
+    if lists.count(n) == 1 {
+        return decide_item(sets, lists.head(n), domains, asked);
+    }
+    decide_runs(sets, lists, n, domains, asked)
 }

@@ -115,7 +115,7 @@ impl Store {
         if self.lists.count(c) == 0 {
             return false;
         }
-        let pair = self.lists.read(c, 0);
+        let pair = self.lists.head(c);
         if pair.domain != d {
             return false;
         }

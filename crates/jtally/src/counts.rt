@@ -4,20 +4,14 @@ ghost use Rattle.jtally.specs.Events.{counted, none, with_event};
 use jtrace::{End, Event};
 
 /// How many checks were granted and denied, how many exceptions were raised, and how many texts were printed.
+#[rattlefmt::skip]
 #[derive(Clone, Copy, Debug, PartialEq, Eq)]
-pub struct Counts {
-    pub grants: u64,
-    pub denials: u64,
-    pub throws: u64,
-    pub outs: u64,
-}
+pub struct Counts { pub grants: u64, pub denials: u64, pub throws: u64, pub outs: u64 }
 
 /// What is told of a run that is counted: its counts, and how it ended.
+#[rattlefmt::skip]
 #[derive(Clone, Copy, Debug, PartialEq, Eq)]
-pub struct Tally {
-    pub counts: Counts,
-    pub end: End,
-}
+pub struct Tally { pub counts: Counts, pub end: End }
 
 impl Counts {
     /// Nothing was told.

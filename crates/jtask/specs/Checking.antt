@@ -27,8 +27,7 @@ abbrev pub check_refusal : List CodePart → Place → Refusal
 check_refusal parts place = refusal_at place.method place.at (slice_get parts place.class)
 
 abbrev pub unless_untyped : Program → Option Place → Result Program Stopped
-unless_untyped p (Some place) = Err (Refused (check_refusal p.parts place))
-unless_untyped p None = Ok p
+unless_untyped p = elim [ Some place ↦ Err (Refused (check_refusal p.parts place)) | None ↦ Ok p ]
 
 -- a program that is well typed, or its refusal
 unfoldable pub checked : Program → Result Program Stopped

@@ -47,8 +47,7 @@ abbrev pub link_refusal : List CodePart → LinkFault → Refusal
 link_refusal parts fault = refusal_in fault (slice_get parts fault.class)
 
 abbrev pub unless_broken : Program → Option LinkFault → Result Program Stopped
-unless_broken p (Some fault) = Err (Refused (link_refusal p.parts fault))
-unless_broken p None = Ok p
+unless_broken p = elim [ Some fault ↦ Err (Refused (link_refusal p.parts fault)) | None ↦ Ok p ]
 
 -- a program that links, or its refusal
 unfoldable pub linked : Program → Result Program Stopped

@@ -28,8 +28,7 @@ abbrev pub limit_refusal : List CodePart → Place → Refusal
 limit_refusal parts place = limit_told place.limit (slice_get parts place.class)
 
 abbrev pub unless_limited : Program → Option Place → Result Program Stopped
-unless_limited p (Some place) = Err (Refused (limit_refusal p.parts place))
-unless_limited p None = Ok (moved p)
+unless_limited p = elim [ Some place ↦ Err (Refused (limit_refusal p.parts place)) | None ↦ Ok (moved p) ]
 
 -- the moved program, or the refusal of a program that can't be moved
 unfoldable pub rewritten : Program → Result Program Stopped

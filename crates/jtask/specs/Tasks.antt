@@ -53,8 +53,7 @@ grants_read r = result_map_both (λ grants. grants) (λ fault. Refused (BadPolic
 
 -- the grants of a job's policy, expanded by the job's properties; a job without a policy has none
 abbrev pub grants_of : List File → List (List ℕ × List ℕ) → Option (List ℕ) → Result (List Grant) Stopped
-grants_of files props None = Ok []
-grants_of files props (Some path) = bytes_at files path >>= λ bytes. grants_read (policy props bytes)
+grants_of files props = elim [ None ↦ Ok [] | Some path ↦ bytes_at files path >>= λ bytes. grants_read (policy props bytes) ]
 
 unfoldable pub grants_at : List File → Job → Result (List Grant) Stopped
 grants_at files it = grants_of files it.props it.policy
@@ -83,8 +82,7 @@ part_at files one = class_at files one.path >>= λ class. Ok (record { domain = 
 
 -- the library against which a form is linked and checked: the passing side's for classes that are moved already, and else the source side's
 abbrev pub side_of : Form → Side
-side_of Plain = Passing
-side_of _ = Source
+side_of = elim [ Plain ↦ Passing | _ ↦ Source ]
 
 -- ---- a run
 
@@ -168,8 +166,7 @@ reads _ = false
 
 -- the commands that store files
 abbrev pub stores : Command → Bool
-stores (commands.Rewrite path to) = true
-stores _ = false
+stores = elim [ commands.Rewrite path to ↦ true | _ ↦ false ]
 
 -- What a command that reads files asks for. Nobody comes with another.
 unfoldable pub task : Command → List File → Result Task Stopped

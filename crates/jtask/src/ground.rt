@@ -12,11 +12,9 @@ use jtext::Units;
 use std::alloc::{AllocError, Global};
 
 /// The path of a class file, with the number of the code source that it is of.
+#[rattlefmt::skip]
 #[derive(Drop)]
-pub struct ClassPath {
-    pub domain: u32,
-    pub path: Text,
-}
+pub struct ClassPath { pub domain: u32, pub path: Text }
 
 /// What a job says of its run, besides the program and the method that it begins with.
 #[derive(Drop)]

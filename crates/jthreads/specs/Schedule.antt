@@ -7,5 +7,4 @@ number_at schedule taken = slice_index schedule taken
 
 -- none of none, else the entry at the place s modulo the number of entries, where s is the schedule's number at `taken`
 abbrev pub picked : List ℕ → ℕ → List ℕ → Option ℕ
-picked schedule taken [] = None
-picked schedule taken (t ∷ ts) = slice_get (t ∷ ts) (number_at schedule taken % length (t ∷ ts))
+picked schedule taken = elim [ [] ↦ None | t ∷ ts ↦ slice_get (t ∷ ts) (number_at schedule taken % length (t ∷ ts)) ]

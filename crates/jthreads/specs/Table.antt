@@ -25,8 +25,7 @@ abbrev pub is_runnable : Thread → Bool
 is_runnable x = is_alive x && is_none x.waits_for
 
 abbrev pub is_at : ℕ → Option ℕ → Bool
-is_at t None = false
-is_at t (Some other) = other == t
+is_at t = elim [ None ↦ false | Some other ↦ other == t ]
 
 -- a thread that waits for t waits no longer
 abbrev pub woken : ℕ → Thread → Thread

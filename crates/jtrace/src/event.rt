@@ -2,34 +2,19 @@ use jperm::Permission;
 use jtext::Units;
 
 /// What happened in a step of a run. A thread is named by its number.
+#[rattlefmt::skip]
 #[derive(Debug, Drop)]
 pub enum Event {
     /// A text was printed.
-    Out {
-        thread: u32,
-        text: Units,
-    },
+    Out { thread: u32, text: Units },
     /// A check of the asked permission was granted.
-    Grant {
-        thread: u32,
-        asked: Permission,
-    },
+    Grant { thread: u32, asked: Permission },
     /// A check of the asked permission was denied by a domain.
-    Deny {
-        thread: u32,
-        asked: Permission,
-        domain: u32,
-    },
+    Deny { thread: u32, asked: Permission, domain: u32 },
     /// An exception of a class, its name written with dots, was raised.
-    Throw {
-        thread: u32,
-        class: Units,
-    },
+    Throw { thread: u32, class: Units },
     /// An exception of a class left the last frame of its thread.
-    Uncaught {
-        thread: u32,
-        class: Units,
-    },
+    Uncaught { thread: u32, class: Units },
 }
 
 /// How a run ended.

@@ -21,13 +21,7 @@ element_of letter class =
 
 -- a boolean, byte, char or short outside of arrays is an int
 abbrev pub alone : Element → VType
-alone elements.Boolean = Int
-alone elements.Char = Int
-alone elements.Byte = Int
-alone elements.Short = Int
-alone elements.Int = Int
-alone elements.Long = Long
-alone (elements.Class c) = Object c
+alone = elim [ elements.Long ↦ Long | elements.Class c ↦ Object c | _ ↦ Int ]
 
 abbrev pub in_brackets : ℕ → Element → VType
 in_brackets zero x = alone x

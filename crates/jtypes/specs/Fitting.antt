@@ -30,8 +30,7 @@ element_fits t x y = false
 
 -- every array fits what an array of this element holds
 abbrev pub is_above_array : (Name → Bool) → Element → Bool
-is_above_array above (elements.Class c) = above c
-is_above_array above x = false
+is_above_array above = elim [ elements.Class c ↦ above c | _ ↦ false ]
 
 -- An array fits another where what it holds fits what the other holds. Each is given by its dimensions and its element, and so is
 -- what it holds, with one dimension less. An element alone has none: where the descent ends it is what an array holds, and no type of

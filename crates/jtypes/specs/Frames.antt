@@ -14,8 +14,7 @@ pub record Frame : Type 0 where
   pub flag : Bool
 
 abbrev pub is_long : VType → Bool
-is_long Long = true
-is_long a = false
+is_long = elim [ Long ↦ true | _ ↦ false ]
 
 -- ---- places
 

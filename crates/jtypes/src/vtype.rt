@@ -5,24 +5,18 @@ use jbase::Seq;
 pub struct Name(pub Seq<u8>);
 
 /// What arrays of one dimension hold (JVMS 4.3.2). Arrays of float and double are left out.
+#[rattlefmt::skip]
 #[derive(Debug, Drop)]
 pub enum Element {
-    Boolean,
-    Char,
-    Byte,
-    Short,
-    Int,
-    Long,
+    Boolean, Char, Byte, Short, Int, Long,
     /// Objects of a class or an interface.
     Class(Name),
 }
 
 /// The type of an array: how many dimensions it has, at least 1, and what stands behind them.
+#[rattlefmt::skip]
 #[derive(Debug, Drop)]
-pub struct ArrayType {
-    pub depth: u32,
-    pub element: Element,
-}
+pub struct ArrayType { pub depth: u32, pub element: Element }
 
 /// A verification type: what is known of the value of a local or of an operand (JVMS 4.10.1.2).
 #[derive(Debug, Drop)]

@@ -25,8 +25,7 @@ use Rattle.jtyping.specs.Methods.{Method, makes}
 
 -- in a program that links each class is there
 abbrev pub or_top : Option VType → VType
-or_top None = types.Top
-or_top (Some t) = t
+or_top = elim [ None ↦ types.Top | Some t ↦ t ]
 
 abbrev pub item : Program → List Entry → MapType → VType
 item p pool items.Top = types.Top
@@ -69,12 +68,10 @@ written_from p pool most earlier before (f ∷ fs) =
 -- ---- of a method
 
 abbrev pub maps_of : CodeAttribute → Option (List RawFrame)
-maps_of (Maps name frames) = Some frames
-maps_of (Raw name bytes) = None
+maps_of = elim [ Maps name frames ↦ Some frames | Raw name bytes ↦ None ]
 
 abbrev pub or_none : Option (List RawFrame) → List RawFrame
-or_none None = []
-or_none (Some frames) = frames
+or_none = elim [ None ↦ [] | Some frames ↦ frames ]
 
 -- the frames of its StackMapTable
 abbrev pub frames_in : CodeBody → List RawFrame
@@ -95,15 +92,13 @@ declared_at ws at = option_and_then (λ w. w.frame) (find (λ w. int_eq (pos w.a
 
 -- a `new` stands where one is named
 abbrev pub is_there : (ℕ → Option Name) → VType → Bool
-is_there made (types.Uninit o) = is_some (made o)
-is_there made t = true
+is_there made = elim [ types.Uninit o ↦ is_some (made o) | _ ↦ true ]
 
 abbrev pub has_room : CodeBody → Frame → Bool
 has_room body f = nat_le (length f.locals) body.max_locals && within body.max_stack f.stack
 
 abbrev pub holds : CodeBody → (ℕ → Option Name) → Option Frame → Bool
-holds body made None = false
-holds body made (Some f) = has_room body f && (list_all (is_there made) f.locals && list_all (is_there made) f.stack)
+holds body made = elim [ None ↦ false | Some f ↦ has_room body f && (list_all (is_there made) f.locals && list_all (is_there made) f.stack) ]
 
 -- A frame stands at an instruction, takes away no more locals than there are, keeps to the maxima, and names `new`s that are there.
 abbrev pub is_good : Program → Method → Written → Bool

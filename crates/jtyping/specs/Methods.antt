@@ -48,12 +48,10 @@ receiver is_static is_init class = if is_static then [] else this_type is_init c
 
 -- The parameters by a descriptor. In a program that links it is one of a method, and all that it names is there.
 abbrev pub params_of : Typed → List VType
-params_of (Called params ret) = reverse params
-params_of t = []
+params_of = elim [ Called params ret ↦ reverse params | _ ↦ [] ]
 
 abbrev pub return_of : Typed → Option VType
-return_of (Called params ret) = ret
-return_of t = None
+return_of = elim [ Called params ret ↦ ret | _ ↦ None ]
 
 -- a method of a class with its code
 abbrev pub method_of : Program → ClassParts → MemberInfo → CodeBody → Method

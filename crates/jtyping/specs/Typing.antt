@@ -30,13 +30,11 @@ frame_fits t = frames.frame_fits (fits t)
 
 -- a frame that arrives fits the declared one, where there is one
 abbrev pub lets_in : Tree → Frame → Option Frame → Bool
-lets_in t f None = true
-lets_in t f (Some d) = frame_fits t f d
+lets_in t f = elim [ None ↦ true | Some d ↦ frame_fits t f d ]
 
 -- there is a declared frame, and a frame fits it
 abbrev pub leads_in : Tree → Frame → Option Frame → Bool
-leads_in t f None = false
-leads_in t f (Some d) = frame_fits t f d
+leads_in t f = elim [ None ↦ false | Some d ↦ frame_fits t f d ]
 
 -- ---- handlers
 
@@ -46,8 +44,7 @@ caught_type p m h = if h.class == 0 then Some throwable else class_at p m.pool h
 
 -- what is caught extends Throwable, and alone on the stack it goes on at the handler
 abbrev pub caught_fits : Tree → Frame → Option Frame → Option VType → Bool
-caught_fits t f at None = false
-caught_fits t f at (Some c) = fits t c throwable && leads_in t (with_stack f (c ∷ [])) at
+caught_fits t f at = elim [ None ↦ false | Some c ↦ fits t c throwable && leads_in t (with_stack f (c ∷ [])) at ]
 
 abbrev pub handler_fits : Program → Method → List Written → Frame → Handler → Bool
 handler_fits p m ws f h = caught_fits (tree p) f (declared_at ws (pos h.at)) (caught_type p m h)
@@ -85,19 +82,16 @@ step p m ws o rest f =
 
 -- the frame with which an instruction begins: the declared one, or else what arrives
 abbrev pub begun : Option Frame → Option Frame → Option Frame
-begun (Some d) arriving = Some d
-begun None arriving = arriving
+begun x arriving = elim x [ Some d ↦ Some d | None ↦ arriving ]
 
 -- the fault at a place, or what comes behind it
 abbrev pub or_at : {A : Type 0} → ℕ → (A → Option ℕ) → Option A → Option ℕ
-or_at at rest None = Some at
-or_at at rest (Some x) = rest x
+or_at at rest y = elim y [ None ↦ Some at | Some x ↦ rest x ]
 
 -- the first instruction with a test that fails, from one on; an instruction without a frame fails
 unfoldable pub walk : Program → Method → List Written → List Placed → Option Frame → Option ℕ
 walk p m ws [] arriving = None
-walk p m ws (o ∷ rest) arriving =
-    or_at o.at (λ f. or_at o.at (walk p m ws rest) (step p m ws o rest f)) (begun (declared_at ws (pos o.at)) arriving)
+walk p m ws (o ∷ rest) arriving = or_at o.at (λ f. or_at o.at (walk p m ws rest) (step p m ws o rest f)) (begun (declared_at ws (pos o.at)) arriving)
 
 -- ---- a method
 
@@ -111,8 +105,7 @@ room_fault m = fault_if (nat_lt m.body.max_locals (length (places_of m.params)))
 
 -- a frame fits where these instructions begin
 abbrev pub enters : Program → List Written → Frame → List Placed → Bool
-enters p ws f [] = true
-enters p ws f (o ∷ rest) = lets_in (tree p) f (declared_at ws (pos o.at))
+enters p ws f = elim [ [] ↦ true | o ∷ rest ↦ lets_in (tree p) f (declared_at ws (pos o.at)) ]
 
 -- they fit where the method begins
 abbrev pub entry_fault : Program → Method → List Written → Option ℕ
@@ -135,8 +128,7 @@ pub record Place : Type 0 where
   pub at : ℕ
 
 abbrev pub in_method : ℕ → ℕ → Option ℕ → Option Place
-in_method i j None = None
-in_method i j (Some at) = Some (record { class = i; method = j; at = at })
+in_method i j = elim [ None ↦ None | Some at ↦ Some (record { class = i; method = j; at = at }) ]
 
 -- a method without code has none
 unfoldable pub member_fault : Program → ClassParts → MemberInfo → Option ℕ

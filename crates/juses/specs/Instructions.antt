@@ -75,8 +75,7 @@ cases ops at (switches.Table s) = keyed ops at s.low s.branches
 cases ops at (switches.Lookup s) = each_some (λ c. option_map (λ to. (c.key, to)) (target ops at c.branch)) s.cases
 
 abbrev pub default : SwitchOp → ℤ
-default (switches.Table s) = s.default
-default (switches.Lookup s) = s.default
+default = elim [ switches.Table s ↦ s.default | switches.Lookup s ↦ s.default ]
 
 abbrev pub switch : List Placed → ℕ → SwitchOp → Option Instruction
 switch ops at s = option_and_then (λ found. option_map (Switch found) (target ops at (default s))) (cases ops at s)
@@ -93,8 +92,7 @@ flow ops at (flows.Return kind) = Some (Return kind)
 flow ops at flows.Throw = Some Throw
 
 abbrev pub array : Program → List Entry → ArrayForm → Option Instruction
-array p pool (arrays.NewRef i) = option_map Used (array_meant p pool i)
-array p pool f = Some (Array f)
+array p pool = elim [ arrays.NewRef i ↦ option_map Used (array_meant p pool i) | f ↦ Some (Array f) ]
 
 abbrev pub by_form : Program → List Entry → List Placed → ℕ → Form SwitchOp → Option Instruction
 by_form p pool ops at (forms.Simple f) = Some (Simple f)

@@ -33,8 +33,7 @@ use Rattle.juses.specs.Typed.{Typed, Held, Called, array_over, class_type, name,
 -- ---- meanings
 
 pub data Pushed : Type 0 where
-  Int : ℤ → Pushed
-  Long : ℤ → Pushed
+  Int Long : ℤ → Pushed
   -- a string of this text
   Text : List ℕ → Pushed
 
@@ -132,22 +131,17 @@ long_constant (AConstant (Long n)) = Some (Push (Long n))
 long_constant _ = None
 
 abbrev pub field_used : FieldOp → EntryMeaning → Option Meaning
-field_used op (AField f) = Some (Field op f)
-field_used op _ = None
+field_used op = elim [ AField f ↦ Some (Field op f) | _ ↦ None ]
 
 -- a special call of an `<init>` is a case of its own
 abbrev pub how_of : CallOp → Bool → How
-how_of calls.Virtual is_init = how.Virtual
-how_of calls.Special is_init = if is_init then how.Init else how.Special
-how_of calls.Static is_init = how.Static
+how_of x is_init = elim x [ calls.Virtual ↦ how.Virtual | calls.Special ↦ if is_init then how.Init else how.Special | calls.Static ↦ how.Static ]
 
 abbrev pub called_by : CallOp → EntryMeaning → Option Meaning
-called_by op (AMethod is_init c) = Some (Call (how_of op is_init) c)
-called_by op _ = None
+called_by op = elim [ AMethod is_init c ↦ Some (Call (how_of op is_init) c) | _ ↦ None ]
 
 abbrev pub called_by_interface : EntryMeaning → Option Meaning
-called_by_interface (AMethod is_init c) = Some (Call how.Interface c)
-called_by_interface _ = None
+called_by_interface = elim [ AMethod is_init c ↦ Some (Call how.Interface c) | _ ↦ None ]
 
 -- no object is made of an array's class
 abbrev pub made : EntryMeaning → Option Meaning
@@ -155,12 +149,10 @@ made (AClass (types.Object c)) = Some (Make c)
 made _ = None
 
 abbrev pub array_made : EntryMeaning → Option Meaning
-array_made (AClass t) = option_map MakeArray (array_over t)
-array_made _ = None
+array_made = elim [ AClass t ↦ option_map MakeArray (array_over t) | _ ↦ None ]
 
 abbrev pub cast_by : CastOp → EntryMeaning → Option Meaning
-cast_by op (AClass t) = Some (Cast op t)
-cast_by op _ = None
+cast_by op = elim [ AClass t ↦ Some (Cast op t) | _ ↦ None ]
 
 abbrev pub used : PoolForm → EntryMeaning → Option Meaning
 used (forms.Constant i) e = short_constant e
@@ -195,8 +187,7 @@ member_meant (Call by c) = Some c.member
 member_meant m = None
 
 abbrev pub as_class : EntryMeaning → Option VType
-as_class (AClass t) = Some t
-as_class _ = None
+as_class = elim [ AClass t ↦ Some t | _ ↦ None ]
 
 -- the type of the class at an index
 unfoldable pub class_at : Program → List Entry → ℕ → Option VType

@@ -26,8 +26,7 @@ there p text = if is_some (find p text) then Some (name text) else None
 
 -- the class of security contexts has a type of its own, outside of arrays
 abbrev pub is_context : Element → Bool
-is_context (elements.Class c) = bytes_eq c.0 context
-is_context x = false
+is_context = elim [ elements.Class c ↦ bytes_eq c.0 context | _ ↦ false ]
 
 -- the type of an array of so many dimensions, or of an element alone
 abbrev pub type_of : ℕ → Element → VType
@@ -69,16 +68,14 @@ pub data Typed : Type 0 where
   Called : List VType → Option VType → Typed
 
 abbrev pub held : Option VType → Typed
-held None = Untyped
-held (Some t) = Held t
+held = elim [ None ↦ Untyped | Some t ↦ Held t ]
 
 abbrev pub called : Option (List VType) → Option (Option VType) → Typed
 called (Some params) (Some ret) = Called (reverse params) ret
 called params ret = Untyped
 
 abbrev pub return_in : Program → Option FieldType → Option (Option VType)
-return_in p None = Some None
-return_in p (Some t) = option_map Some (type_in p t)
+return_in p = elim [ None ↦ Some None | Some t ↦ option_map Some (type_in p t) ]
 
 abbrev pub typed_as : Program → Option Descriptor → Typed
 typed_as p None = Untyped

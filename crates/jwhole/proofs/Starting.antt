@@ -1,7 +1,6 @@
 -- How a run begins, by numbers.
 use Rattle.std.proofs.Common.{◌≡◌, ◌∙◌, ℕ, zero, suc, ◌+◌, ◌<◌, ◌≤◌, true, false, List, [], ◌∷◌, ◌++◌, map, length, take, drop, Option, Some, None, refl, sym, ap, ap₂, subst, arith, inl, inr}
-use Rattle.std.specs.Prelude.{get_or, is_some, option_and_then, option_map, slice_get, slice_set}
-use Rattle.std.specs.List.{AllByRecursion}
+use Rattle.std.specs.Prelude.{get_or, is_some, option_and_then, option_map, slice_set}
 use Rattle.std.proofs.lemmas.List.{map_more}
 use Rattle.std.proofs.lemmas.Option.{slice_get_cases}
 use Rattle.jthreads.specs.declared.thread.Thread.{Thread}
@@ -31,7 +30,6 @@ use Rattle.jlibrary.specs.Held.{AreHeld}
 use Rattle.jcontexts.specs.Kept.{AreKept}
 use Rattle.jopen.specs.declared.opening.FirstFrame.{FirstFrame}
 use Rattle.jopen.specs.declared.opening.Opened.{Opened}
-use Rattle.jopen.specs.Files.{IsFile}
 use Rattle.jopen.specs.Opened.{BeginsMain, IsAlone, Opens}
 use Rattle.jcore.specs.declared.machine.Machine.{Machine}
 use Rattle.jcore.specs.Machines.{GuestStands, IsMachine, classes_of, store_of, things_of}
@@ -39,12 +37,6 @@ use Rattle.jwhole.specs.declared.grounds.Ground.{Ground}
 use Rattle.jwhole.specs.Grounds.{IsBegun, IsGround}
 
 -- ---- the program
-
--- what holds of all parts holds of each
-pub file_at : (parts : List CodePart) (i : ℕ) (part : CodePart) → AllByRecursion IsFile parts → slice_get parts i ≡ Some part → IsFile part
-file_at [] i part all at = absurd (let e = at in cc)
-file_at (one ∷ parts) zero part all at = let e : one ≡ part = (let f = at in cc) in subst IsFile e all.0
-file_at (one ∷ parts) (suc i) part all at = file_at parts i part all.1 at
 
 -- what is put behind the images of a front is that of what follows it
 pub mapped_more : {A B : Type 0} (f : A → B) (xs : List A) (i : ℕ) (x : A) (ys zs : List B) (y : B) → i < length xs → x ≡ get_or xs i x → y ≡ f x

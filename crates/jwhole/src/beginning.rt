@@ -54,7 +54,7 @@ pub(crate) fn begin<'a, 'p, M: Copy>(
     let Some(opened) = open(alloc, &base.ready, &base.shaped, first, plan.heap)? else {
         return Ok(None);
     };
-    let Ok(calls) = Calls::of(alloc, &base.ready) else {
+    let Ok(calls) = Calls::of(alloc, &base.ready, &base.ancestors) else {
         drop(opened);
         return Err(AllocError);
     };

@@ -1,7 +1,7 @@
 use Rattle.std.proofs.Common.{◌<◌, subst, refl, arith}
 use Rattle.jprogram.specs.Classes.{Program}
+use Rattle.jlink.specs.Coded.{AreFiles}
 use Rattle.jopen.specs.Begun.{AreStrings}
-use Rattle.jopen.specs.Files.{AreFiles}
 use Rattle.jopen.specs.Rows.{texts_of}
 use Rattle.jopen.specs.Texts.{texts_charge}
 use Rattle.jopen.proofs.Seeing.{begins, few_for_array, few_for_texts}

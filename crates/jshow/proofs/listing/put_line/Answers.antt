@@ -1,8 +1,8 @@
 use Rattle.std.proofs.lemmas.Result.{err_from_is_err_and}
-use Rattle.jbase.proofs.Cuts.{cut_at}
+use Rattle.jshow.proofs.Lines.{wrote_cut}
 use Rattle.jshow.proofs.listing.put_line.Goals as goal
 
-pub returns-in_err-write_line-clause-err : goal.returns-in_err-write_line-clause-err
-returns-in_err-write_line-clause-err g c =
+pub returns-in_err-write_line : goal.returns-in_err-write_line
+returns-in_err-write_line g c =
     let p = err_from_is_err_and c.from_residual.result c.from_residual.ensures.1 in
-    rw p.1 (cut_at _ _ _ _ c.in_err-write_line.ensures.err.out)
+    rw p.1 (wrote_cut g.K.Sink.out g.K.Sink.faults _ _ _ _ _ _ c.in_err-write_line.ensures.err c.in_err-write_line.ensures.cause)

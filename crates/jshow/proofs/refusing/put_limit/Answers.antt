@@ -1,7 +1,7 @@
 use Rattle.jshow.proofs.refusing.put_limit.Goals as goal
 
-pub returns-in-None-clause-answer : goal.returns-in-None-clause-answer
-returns-in-None-clause-answer g c = rw c.in-None.is c.refuse.ensures.answer
+pub returns-in-None : goal.returns-in-None
+returns-in-None g c = rw c.in-None.is c.refuse.ensures
 
-pub returns-in-Some-clause-answer : goal.returns-in-Some-clause-answer
-returns-in-Some-clause-answer g c = rw (c.in-Some.is, ← c.from.ensures) c.refuse-in-Some.ensures.answer
+pub returns-in-Some : goal.returns-in-Some
+returns-in-Some g c = rw (c.in-Some.is, ← c.from.ensures) c.refuse-in-Some.ensures

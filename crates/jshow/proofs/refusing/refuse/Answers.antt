@@ -1,5 +1,5 @@
-use Rattle.jshow.proofs.Lines.{cut_line}
+use Rattle.jshow.proofs.Lines.{showed_cut}
 use Rattle.jshow.proofs.refusing.refuse.Goals as goal
 
-pub returns-in-Err-clause-answer : goal.returns-in-Err-clause-answer
-returns-in-Err-clause-answer g c = cut_line _ _ _ c.in-Err.field-0.written c.in-Err.ensures.err
+pub returns-in-Err : goal.returns-in-Err
+returns-in-Err g c = showed_cut g.K.Sink.out g.K.Sink.faults _ _ _ _ _ c.in-Err.ensures.err c.in-Err.ensures.cause

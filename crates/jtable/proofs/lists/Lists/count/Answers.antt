@@ -8,4 +8,4 @@ pub index-requires : goal.index-requires
 index-requires c = omega (arith, c.requires, ap length c.self.view_is, length-map c.self.inside.entries.items (list_of c.self.inside.pairs), c.self.inside.entries.ok.0)
 
 pub returns : goal.returns
-returns c = count_here c.self.inside.pairs c.self.inside.entries.items c.args.self.now c.args.n c.index.result.now c.self.view_is c.self.invariant c.requires c.index.ensures
+returns c = count_here c.self.inside.pairs c.self.inside.entries.items c.args.self.now c.args.n c.index.result.now c.self.view_is c.self.invariant.0 c.requires c.index.ensures

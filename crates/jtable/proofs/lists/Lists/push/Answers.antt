@@ -2,41 +2,50 @@ use Rattle.std.proofs.Common.{◌∙◌, ◌∷◌, ◌++◌, ℕ, List, [], len
 use Rattle.jtable.specs.declared.lists.Entry.{Entry}
 use Rattle.jtable.specs.declared.pairs.Pair.{Pair}
 use Rattle.jtable.specs.Lists.{lists_of}
-use Rattle.jtable.proofs.Listing.{pushed, pushed_within, stay_lists, stay_within}
+use Rattle.jtable.proofs.Listing.{pushed, pushed_heads, pushed_within, stay_heads, stay_lists, stay_within}
 use Rattle.jtable.proofs.Results.{on_err}
 use Rattle.jtable.proofs.lists.Lists.push.Goals as goal
 
-abbrev entry_of : ℕ → ℕ → Entry
-entry_of first count = record { first = first; count = count }
+abbrev entry_of : ℕ → ℕ → Pair → Entry
+entry_of first count head = record { first = first; count = count; head = head }
 
 pub invariant_of-self : goal.invariant_of-self
-invariant_of-self c = stay_within c.self.inside.pairs c.push_all.new.pairs c.self.inside.entries.items c.self.invariant c.push_all.ensures.more
+invariant_of-self c = (
+  stay_within c.self.inside.pairs c.push_all.new.pairs c.self.inside.entries.items c.self.invariant.0 c.push_all.ensures.more,
+  stay_heads c.self.inside.pairs c.push_all.new.pairs c.self.inside.entries.items c.self.invariant.0 c.self.invariant.1 c.push_all.ensures.more,
+)
 
 pub returns-in_err-push_all-clause-err : goal.returns-in_err-push_all-clause-err
 returns-in_err-push_all-clause-err c =
     on_err c.from_residual.result
-    (stay_lists c.self.inside.pairs c.push_all.new.pairs c.self.inside.entries.items c.self.invariant c.push_all.ensures.more ∙ c.self.view_is)
+    (stay_lists c.self.inside.pairs c.push_all.new.pairs c.self.inside.entries.items c.self.invariant.0 c.push_all.ensures.more ∙ c.self.view_is)
 
 pub invariant_of-self-in_err-push : goal.invariant_of-self-in_err-push
 invariant_of-self-in_err-push c =
-    rw c.in_err-push.ensures.items (stay_within c.self.inside.pairs c.push_all.new.pairs c.self.inside.entries.items c.self.invariant c.push_all.ensures.more)
+    rw c.in_err-push.ensures.items (
+      stay_within c.self.inside.pairs c.push_all.new.pairs c.self.inside.entries.items c.self.invariant.0 c.push_all.ensures.more,
+      stay_heads c.self.inside.pairs c.push_all.new.pairs c.self.inside.entries.items c.self.invariant.0 c.self.invariant.1 c.push_all.ensures.more,
+    )
 
 pub returns-in_err-push-clause-err : goal.returns-in_err-push-clause-err
 returns-in_err-push-clause-err c =
     on_err c.from_residual-in_err-push.result
     (ap (lists_of c.push_all.new.pairs) c.in_err-push.ensures.items
-    ∙ stay_lists c.self.inside.pairs c.push_all.new.pairs c.self.inside.entries.items c.self.invariant c.push_all.ensures.more
+    ∙ stay_lists c.self.inside.pairs c.push_all.new.pairs c.self.inside.entries.items c.self.invariant.0 c.push_all.ensures.more
     ∙ c.self.view_is)
 
 pub invariant_of-self-2 : goal.invariant_of-self-2
 invariant_of-self-2 c =
-    rw c.in_ok-push.ensures.items
-    (pushed_within c.self.inside.pairs c.push_all.new.pairs c.args.list.now c.self.inside.entries.items (entry_of c.len-first.result (length c.args.list.now)) c.self.invariant
-    c.in_ok-push_all.ensures.ok c.len-first.ensures refl)
+    rw c.in_ok-push.ensures.items (
+      pushed_within c.self.inside.pairs c.push_all.new.pairs c.args.list.now c.self.inside.entries.items (entry_of c.len-first.result (length c.args.list.now) c.head_of-head.result)
+          c.self.invariant.0 c.in_ok-push_all.ensures.ok c.len-first.ensures refl,
+      pushed_heads c.self.inside.pairs c.push_all.new.pairs c.args.list.now c.self.inside.entries.items (entry_of c.len-first.result (length c.args.list.now) c.head_of-head.result)
+          c.self.invariant.0 c.self.invariant.1 c.in_ok-push_all.ensures.ok c.len-first.ensures refl c.head_of-head.ensures,
+    )
 
 pub returns-clause-ok : goal.returns-clause-ok
 returns-clause-ok c =
     ap (lists_of c.push_all.new.pairs) c.in_ok-push.ensures.items
-    ∙ pushed c.self.inside.pairs c.push_all.new.pairs c.args.list.now c.self.inside.entries.items (entry_of c.len-first.result (length c.args.list.now)) c.self.invariant
+    ∙ pushed c.self.inside.pairs c.push_all.new.pairs c.args.list.now c.self.inside.entries.items (entry_of c.len-first.result (length c.args.list.now) c.head_of-head.result) c.self.invariant.0
     c.in_ok-push_all.ensures.ok c.len-first.ensures refl
     ∙ ap (λ (ls : List (List Pair)). ls ++ c.args.list.now ∷ []) c.self.view_is

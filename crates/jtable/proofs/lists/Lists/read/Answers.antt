@@ -12,16 +12,16 @@ pub overflow_add-first : goal.overflow_add-first
 overflow_add-first c =
     omega (
       arith,
-      place_there c.self.inside.pairs c.self.inside.entries.items c.args.self.now c.args.n c.index.result.now c.self.view_is c.self.invariant c.requires.list c.index.ensures c.args.i c.requires.pair,
+      place_there c.self.inside.pairs c.self.inside.entries.items c.args.self.now c.args.n c.index.result.now c.self.view_is c.self.invariant.0 c.requires.list c.index.ensures c.args.i c.requires.pair,
       c.len.ensures,
       c.len.type_inv,
     )
 
 pub read-requires : goal.read-requires
 read-requires c =
-    place_there c.self.inside.pairs c.self.inside.entries.items c.args.self.now c.args.n c.index.result.now c.self.view_is c.self.invariant c.requires.list c.index.ensures c.args.i c.requires.pair
+    place_there c.self.inside.pairs c.self.inside.entries.items c.args.self.now c.args.n c.index.result.now c.self.view_is c.self.invariant.0 c.requires.list c.index.ensures c.args.i c.requires.pair
 
 pub returns : goal.returns
 returns c =
     c.read.ensures
-    ∙ pair_here c.self.inside.pairs c.self.inside.entries.items c.args.self.now c.args.n c.index.result.now c.self.view_is c.self.invariant c.requires.list c.index.ensures c.args.i c.requires.pair
+    ∙ pair_here c.self.inside.pairs c.self.inside.entries.items c.args.self.now c.args.n c.index.result.now c.self.view_is c.self.invariant.0 c.requires.list c.index.ensures c.args.i c.requires.pair

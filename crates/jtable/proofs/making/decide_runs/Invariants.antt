@@ -3,7 +3,7 @@ use Rattle.std.specs.Prelude.{get_or}
 use Rattle.jdomain.specs.Domains.{has}
 use Rattle.jctx.specs.Contexts.{verdict}
 use Rattle.jtable.specs.Stores.{items_of}
-use Rattle.jtable.proofs.making.decide.Given as goal
+use Rattle.jtable.proofs.making.decide_runs.Given as goal
 
 -- what is left decides as the whole does
 abbrev pub invariant-loop-i : goal.invariant-loop-i

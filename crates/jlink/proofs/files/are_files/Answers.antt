@@ -2,9 +2,9 @@ use Rattle.std.proofs.Common.{◌≤◌, List, length, ap, arith, subst}
 use Rattle.std.specs.List.{AllByRecursion}
 use Rattle.std.proofs.lemmas.List.{take_all}
 use Rattle.jprogram.specs.declared.part.CodePart.{CodePart}
-use Rattle.jopen.specs.Files.{IsFile}
-use Rattle.jwhole.proofs.Starting.{file_at}
-use Rattle.jwhole.proofs.safety.are_files.Goals as goal
+use Rattle.jlink.specs.Coded.{IsFile}
+use Rattle.jlink.proofs.Filed.{file_at}
+use Rattle.jlink.proofs.files.are_files.Goals as goal
 
 pub returns : goal.returns
 returns c i part at =

@@ -1,9 +1,9 @@
-ghost use Rattle.jopen.specs.Files.{AreFiles};
+ghost use Rattle.jlink.specs.Coded.{AreFiles};
 
-use jlink::LinkedProgram;
+use crate::linked::LinkedProgram;
 
 /// Each part of a program is a class file: it was read as one.
-pub(crate) fn are_files(p: &LinkedProgram)
+pub fn are_files(p: &LinkedProgram)
     ensures { AreFiles p.now }
 {
     for part in p.parts() {
