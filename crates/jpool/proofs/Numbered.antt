@@ -1,9 +1,12 @@
 -- The numbers beside a pool: each entry's is its least index.
-use Rattle.std.proofs.Common.{◌≡◌, ℕ, suc, ◌+◌, ◌≤◌, ◌<◌, Bool, true, false, cond, List, [], ◌∷◌, ◌++◌, length, get_or, take, Option, Some, None, Ok, refl, sym, ap, ◌∙◌, arith, inl, inr, append_assoc, add-one}
+use Rattle.std.proofs.Common.{◌≡◌, ℕ, suc, ◌+◌, ◌≤◌, ◌<◌, Bool, true, false, cond, List, [], ◌∷◌, ◌++◌, length, get_or, take, Option, Some, None, Ok, refl, sym, ap, subst, ◌∙◌, arith, inl, inr, append_assoc, add-one}
 use Rattle.std.specs.Prelude.{IsTrue, slice_get, is_some, ◌⊎◌}
 use Rattle.std.specs.Global.{Vec}
 use Rattle.std.specs.List.{position, position_from}
-use Rattle.std.specs.Map.{lookup}
+use Rattle.std.specs.HashMap as hash
+use Rattle.std.specs.HashMap.{HashMap}
+use Rattle.std.specs.Map.{lookup, KeepsOthers}
+use Rattle.std.specs.Cmp.Lexicographic.{nat_list_eq_equiv}
 use Rattle.std.specs.Option.{option_or}
 use Rattle.std.specs.Str.{bytes_eq}
 use Rattle.std.proofs.lemmas.Iterator.Adapters.{position_from-zero}
@@ -15,14 +18,12 @@ use Rattle.std.proofs.Math.Seq.{take-suc}
 use Rattle.std.proofs.lemmas.List.{length-append, length-take-le, take_all}
 use Rattle.jformat.specs.declared.error.Fault.{Fault}
 use Rattle.jformat.proofs.Steps.{ok_is}
-use Rattle.indexmap.specs.IndexMap.{IndexMap, get_by, insert_entry}
-use Rattle.indexmap.proofs.CallerLemmas.{insert_entry-new}
 use Rattle.jpool.specs.declared.entry.Entry.{Entry}
 use Rattle.jpool.specs.declared.entry.Entry.TheVariants.{Unused}
 use Rattle.jpool.specs.declared.fault.PoolFault.{PoolFault}
 use Rattle.jpool.specs.Entries.{entry, is_wide, first_slot}
 use Rattle.jpool.specs.Pools.{IsPool}
-use Rattle.jpool.specs.Adding.{AreLeast, IsLeast, IsNumbered, Notes, added, has_spelling, laid, number_in, put_behind, same}
+use Rattle.jpool.specs.Adding.{AreLeast, IsLeast, IsNumbered, Notes, added, has_spelling, laid, number_at, number_in, put_behind, same}
 use Rattle.jpool.proofs.EntryLaws.{entry_law, entry_some}
 use Rattle.jpool.proofs.Grown.{each_is, laid_slots}
 use Rattle.jpool.proofs.Spelling.{fits_spelling}
@@ -48,27 +49,70 @@ position_push p xs x =
     ∙ ap (λ (k : ℕ). option_or (position_from p 0 xs) (cond (p x) (Some k) None)) n
     ∙ ap (λ (o : Option ℕ). option_or o (cond (p x) (Some (length xs)) None)) (sym (position_from-zero p xs))
 
-lookup_push : {K : Type 0} (test : K → Bool) (rows : List (K × ℕ)) (k : K) (i : ℕ) → lookup test (rows ++ (k, i) ∷ []) ≡ option_or (lookup test rows) (cond (test k) (Some i) None)
-lookup_push test [] k i = refl
-lookup_push test (r ∷ rows) k i = one_more (test r.0) r.1 (lookup test rows) (cond (test k) (Some i) None) (lookup test (rows ++ (k, i) ∷ [])) (lookup_push test rows k i)
-
 pub or_none : (o : Option ℕ) → option_or o None ≡ o
 or_none None = refl
 or_none (Some i) = refl
 
 -- ---- one more number
 
+-- how the map compares its keys
+abbrev pub alike : Vec ℕ → Vec ℕ → Bool
+alike x y = bytes_eq x.items y.items
+
+apart : (qs ts ks : List ℕ) → bytes_eq qs ts ≡ false → bytes_eq ts ks ≡ true → bytes_eq qs ks ≡ false
+apart qs ts ks n y = nat_list_eq_equiv.symm qs ks ∙ sym (nat_list_eq_equiv.congr ts ks qs y) ∙ nat_list_eq_equiv.symm ts qs ∙ n
+
 no_some : {A : Type 0} (o : Option A) → is_some o ≡ false → o ≡ None
 no_some None h = refl
 no_some (Some x) h = absurd cc
 
-pub put_last : {S : Type 0} (text : Vec ℕ) (i : ℕ) (old : IndexMap (Vec ℕ) ℕ S) → is_some (get_by (λ k. bytes_eq text.items k.items) old) ≡ false → insert_entry (λ x y. bytes_eq x.items y.items) old.entries text i ≡ old.entries ++ (text, i) ∷ []
-put_last text i old absent = insert_entry-new (λ x y. bytes_eq x.items y.items) old text i (no_some (get_by (λ k. bytes_eq text.items k.items) old) absent)
+-- a spelling that had no number gets the new one, and each other one keeps what it has
+pub noted : {S : Type 0} (one : Entry) (i : ℕ) (text : Vec ℕ) (old new : HashMap (Vec ℕ) ℕ S) → text.items ≡ entry.spell one → is_some (number_at old text.items) ≡ false
+    → hash.UpdatesBy alike (λ k. bytes_eq text.items k.items) old new (Some i) → Notes one i old new
+unfolding KeepsOthers
+noted one i text old new is absent h e fit = elim (cases_Bool (same e one)) [
+  | inl y ↦
+      let here : text.items ≡ entry.spell e = is ∙ sym ((bytes_eq-Decides (entry.spell e) (entry.spell one)).0 y) in
+      let now : number_in new e ≡ Some i = subst (λ (t : List ℕ). number_at new t ≡ Some i) here h.1 in
+      let none : number_in old e ≡ None = no_some (number_in old e) (subst (λ (t : List ℕ). is_some (number_at old t) ≡ false) here absent) in
+      rw (now, none, y) refl
+  | inr n ↦
+      let away : bytes_eq (entry.spell e) text.items ≡ false = ap (bytes_eq (entry.spell e)) is ∙ n in
+      let now : number_in new e ≡ number_in old e =
+      h.3 (λ k. bytes_eq (entry.spell e) k.items) (λ x y. nat_list_eq_equiv.congr (entry.spell e) x.items y.items) (λ k hit. apart (entry.spell e) text.items k.items away hit) in
+      rw (now, n) (sym (or_none (number_in old e)))
+]
 
-pub noted : {S : Type 0} (one : Entry) (i : ℕ) (text : Vec ℕ) (old new : IndexMap (Vec ℕ) ℕ S) → text.items ≡ entry.spell one → new.entries ≡ old.entries ++ (text, i) ∷ [] → Notes one i old new
-noted one i text old new is added e fit =
-    let test : Vec ℕ → Bool = λ k. bytes_eq (entry.spell e) k.items in
-    ap (lookup test) added ∙ lookup_push test old.entries text i ∙ ap (λ (bs : List ℕ). option_or (number_in old e) (cond (bytes_eq (entry.spell e) bs) (Some i) None)) is
+-- ---- the numbers in another order
+
+alike_found : (t u : Vec ℕ → Bool) → ((k : Vec ℕ) → t k ≡ u k) → (rows : List (Vec ℕ × ℕ)) → lookup t rows ≡ lookup u rows
+alike_found t u h [] = refl
+alike_found t u h (r ∷ rows) = rw (h r.0, alike_found t u h rows) refl
+
+-- a key passes, or nothing is found
+found_or_none : (t : Vec ℕ → Bool) (rows : List (Vec ℕ × ℕ)) → ((k : Vec ℕ) × (t k ≡ true)) ⊎ (lookup t rows ≡ None)
+found_or_none t [] = inr refl
+found_or_none t (r ∷ rows) = elim (cases_Bool (t r.0)) [
+  | inl y ↦ inl (r.0, y)
+  | inr n ↦ elim (found_or_none t rows) [
+      | inl found ↦ inl found
+      | inr none ↦ inr (rw (n, none) refl)
+    ]
+]
+
+pub reordered : {S : Type 0} (old new : HashMap (Vec ℕ) ℕ S) → ((k : Vec ℕ) → hash.get alike new k ≡ hash.get alike old k) → (q : List ℕ) → number_at new q ≡ number_at old q
+reordered old new h q =
+    let test : Vec ℕ → Bool = λ k. bytes_eq q k.items in
+    let by_key : (k : Vec ℕ) → test k ≡ true → number_at new q ≡ number_at old q = λ k hit.
+        let one : (y : Vec ℕ) → test y ≡ alike k y = λ y. nat_list_eq_equiv.congr q k.items y.items hit in
+        alike_found test (alike k) one new.entries ∙ h k ∙ sym (alike_found test (alike k) one old.entries) in
+    elim (found_or_none test old.entries) [
+      | inl found ↦ by_key found.0 found.1
+      | inr none ↦ elim (found_or_none test new.entries) [
+          | inl found ↦ by_key found.0 found.1
+          | inr gone ↦ gone ∙ sym none
+        ]
+    ]
 
 -- ---- where an entry stands
 
@@ -125,26 +169,26 @@ position_laid e one es true fit =
     ap (position (same e)) parts ∙ position_push (same e) (es ++ one ∷ []) Unused ∙ ap (λ (o : Option ℕ). option_or (position (same e) (es ++ one ∷ [])) o) none
     ∙ or_none (position (same e) (es ++ one ∷ [])) ∙ position_push (same e) es one
 
-pub least_laid : {S : Type 0} (one : Entry) (es : List Entry) (old new : IndexMap (Vec ℕ) ℕ S) → AreLeast old es → Notes one (length es) old new → AreLeast new (es ++ laid one)
+pub least_laid : {S : Type 0} (one : Entry) (es : List Entry) (old new : HashMap (Vec ℕ) ℕ S) → AreLeast old es → Notes one (length es) old new → AreLeast new (es ++ laid one)
 least_laid one es old new least notes e fit =
     notes e fit ∙ ap (λ (o : Option ℕ). option_or o (cond (same e one) (Some (length es)) None)) (least e fit) ∙ sym (position_laid e one es (is_wide one) fit)
 
 -- nothing has a number where there are no entries
-pub least_begin : {S : Type 0} (numbers : IndexMap (Vec ℕ) ℕ S) → numbers.entries ≡ [] → AreLeast numbers []
+pub least_begin : {S : Type 0} (numbers : HashMap (Vec ℕ) ℕ S) → numbers.entries ≡ [] → AreLeast numbers []
 least_begin numbers none e fit = ap (lookup (λ k. bytes_eq (entry.spell e) k.items)) none
 
-pub least_next : {S : Type 0} (es : List Entry) (i : ℕ) (one : Entry) (old new : IndexMap (Vec ℕ) ℕ S) → i < length es → one ≡ get_or es i one → AreLeast old (take i es) → Notes one i old new → AreLeast new (take (i + 1) es)
+pub least_next : {S : Type 0} (es : List Entry) (i : ℕ) (one : Entry) (old new : HashMap (Vec ℕ) ℕ S) → i < length es → one ≡ get_or es i one → AreLeast old (take i es) → Notes one i old new → AreLeast new (take (i + 1) es)
 least_next es i one old new lt is least notes e fit =
     let n : length (take i es) ≡ i = length-take-le i es (omega arith) in
     let more : take (i + 1) es ≡ take i es ++ one ∷ [] = rw (add-one, take-suc es i one, ← is) refl in
     notes e fit ∙ ap (λ (o : Option ℕ). option_or o (cond (same e one) (Some i) None)) (least e fit)
     ∙ sym (ap (position (same e)) more ∙ position_push (same e) (take i es) one ∙ ap (λ (k : ℕ). option_or (position (same e) (take i es)) (cond (same e one) (Some k) None)) n)
 
-pub least_end : {S : Type 0} (es : List Entry) (i : ℕ) (numbers : IndexMap (Vec ℕ) ℕ S) → length es ≤ i → AreLeast numbers (take i es) → AreLeast numbers es
+pub least_end : {S : Type 0} (es : List Entry) (i : ℕ) (numbers : HashMap (Vec ℕ) ℕ S) → length es ≤ i → AreLeast numbers (take i es) → AreLeast numbers es
 least_end es i numbers le least e fit = least e fit ∙ ap (position (same e)) (take_all i es le)
 
 -- an entry that isn't there gets no number
-pub notes_none : {S : Type 0} (i : ℕ) (numbers : IndexMap (Vec ℕ) ℕ S) → Notes Unused i numbers numbers
+pub notes_none : {S : Type 0} (i : ℕ) (numbers : HashMap (Vec ℕ) ℕ S) → Notes Unused i numbers numbers
 notes_none i numbers e fit =
     let none : cond (same e Unused) (Some i) None ≡ None = rw (unlike_none e fit) refl in
     sym (ap (λ (o : Option ℕ). option_or (number_in numbers e) o) none ∙ or_none (number_in numbers e))
@@ -158,19 +202,22 @@ spelled_or_none es i x P lt is =
 
 -- ---- an entry behind the others
 
-pub numbered_with : {S : Type 0} (e : Entry) (es : List Entry) (text : Vec ℕ) (numbers ready new : IndexMap (Vec ℕ) ℕ S) → IsNumbered numbers es → IsPool (es ++ laid e) → IsTrue (entry.fits e) → text.items ≡ entry.spell e → position (same e) es ≡ None → ready.entries ≡ numbers.entries
-    → new.entries ≡ insert_entry (λ x y. bytes_eq x.items y.items) ready.entries text (length es) → IsNumbered new (es ++ laid e)
+pub numbered_still : {S : Type 0} (es : List Entry) (numbers ready : HashMap (Vec ℕ) ℕ S) → IsNumbered numbers es → ((k : Vec ℕ) → hash.get alike ready k ≡ hash.get alike numbers k) → IsNumbered ready es
+numbered_still es numbers ready N still = record {
+  pool = N.pool;
+  begun = N.begun;
+  least = λ e fit. reordered numbers ready still (entry.spell e) ∙ N.least e fit;
+}
+
+pub numbered_with : {S : Type 0} (e : Entry) (es : List Entry) (text : Vec ℕ) (numbers ready new : HashMap (Vec ℕ) ℕ S) → IsNumbered numbers es → IsPool (es ++ laid e) → IsTrue (entry.fits e) → text.items ≡ entry.spell e → position (same e) es ≡ None
+    → ((k : Vec ℕ) → hash.get alike ready k ≡ hash.get alike numbers k) → hash.UpdatesBy alike (λ k. bytes_eq text.items k.items) ready new (Some (length es)) → IsNumbered new (es ++ laid e)
 numbered_with e es text numbers ready new N P fit is absent still put =
-    let test : Vec ℕ → Bool = λ k. bytes_eq text.items k.items in
-    let none : number_in numbers e ≡ None = N.least e fit ∙ absent in
-    let free : is_some (get_by test ready) ≡ false =
-    ap (λ (rows : List (Vec ℕ × ℕ)). is_some (lookup test rows)) still ∙ ap (λ (bs : List ℕ). is_some (lookup (λ (k : Vec ℕ). bytes_eq bs k.items) numbers.entries)) is ∙ ap is_some none in
-    let added : new.entries ≡ numbers.entries ++ (text, length es) ∷ [] = put ∙ put_last text (length es) ready free ∙ ap (λ (rows : List (Vec ℕ × ℕ)). rows ++ (text, length es) ∷ []) still in
+    let none : number_at ready text.items ≡ None = reordered numbers ready still text.items ∙ ap (number_at numbers) is ∙ N.least e fit ∙ absent in
     let more : length (es ++ laid e) ≡ length es + length (laid e) = length-append es (laid e) in
     record {
       pool = P;
       begun = let some = N.begun in omega arith;
-      least = least_laid e es numbers new N.least (noted e (length es) text numbers new is added);
+      least = least_laid e es ready new (numbered_still es numbers ready N still).least (noted e (length es) text ready new is (ap is_some none) put);
     }
 
 pub least_with : (e : Entry) (es : List Entry) → IsPool (es ++ laid e) → IsTrue (entry.fits e) → position (same e) es ≡ None → IsLeast e (es ++ laid e) (length es)
@@ -178,13 +225,13 @@ least_with e es P fit absent =
     let hit : cond (same e e) (Some (length es)) None ≡ Some (length es) = rw (same_self e) refl in
     least_is e (es ++ laid e) (length es) P fit (position_laid e e es (is_wide e) fit ∙ ap (λ (o : Option ℕ). option_or o (cond (same e e) (Some (length es)) None)) absent ∙ hit)
 
-pub added_there : {S : Type 0} (e : Entry) (es : List Entry) (numbers : IndexMap (Vec ℕ) ℕ S) (i : ℕ) → IsNumbered numbers es → IsTrue (entry.fits e) → Some i ≡ number_in numbers e → added e es ≡ Some (i, es)
+pub added_there : {S : Type 0} (e : Entry) (es : List Entry) (numbers : HashMap (Vec ℕ) ℕ S) (i : ℕ) → IsNumbered numbers es → IsTrue (entry.fits e) → Some i ≡ number_in numbers e → added e es ≡ Some (i, es)
 unfolding added
 added_there e es numbers i N fit is = let there : position (same e) es ≡ Some i = sym (N.least e fit) ∙ sym is in rw there refl
 
-pub least_there : {S : Type 0} (e : Entry) (es : List Entry) (numbers : IndexMap (Vec ℕ) ℕ S) (i : ℕ) → IsNumbered numbers es → IsTrue (entry.fits e) → Some i ≡ number_in numbers e → IsLeast e es i
+pub least_there : {S : Type 0} (e : Entry) (es : List Entry) (numbers : HashMap (Vec ℕ) ℕ S) (i : ℕ) → IsNumbered numbers es → IsTrue (entry.fits e) → Some i ≡ number_in numbers e → IsLeast e es i
 least_there e es numbers i N fit is = least_is e es i N.pool fit (sym (N.least e fit) ∙ sym is)
 
-pub added_behind : {S : Type 0} (e : Entry) (es : List Entry) (numbers : IndexMap (Vec ℕ) ℕ S) → IsNumbered numbers es → IsTrue (entry.fits e) → None ≡ number_in numbers e → added e es ≡ put_behind e es
+pub added_behind : {S : Type 0} (e : Entry) (es : List Entry) (numbers : HashMap (Vec ℕ) ℕ S) → IsNumbered numbers es → IsTrue (entry.fits e) → None ≡ number_in numbers e → added e es ≡ put_behind e es
 unfolding added
 added_behind e es numbers N fit is = let none : position (same e) es ≡ None = sym (N.least e fit) ∙ sym is in rw none refl

@@ -11,9 +11,9 @@ use crate::coding::put_entry;
 use crate::entry::Entry;
 use crate::pool::Pool;
 use crate::slots::is_wide;
-use indexmap::IndexMap;
 use jbase::Seq;
 use std::alloc::{AllocError, Global};
+use std::collections::HashMap;
 use std::marker::Model;
 
 /// Why an entry wasn't added.
@@ -52,7 +52,7 @@ fn width(one: &Entry) -> usize
 }
 
 /// The number at a spelling.
-fn number_of(numbers: &IndexMap<Vec<u8>, u16>, text: &[u8]) -> Option<u16>
+fn number_of(numbers: &HashMap<Vec<u8>, u16>, text: &[u8]) -> Option<u16>
     ensures { result ≡ number_at numbers.now text.now }
 {
     numbers.get(text).copied()
@@ -61,7 +61,7 @@ fn number_of(numbers: &IndexMap<Vec<u8>, u16>, text: &[u8]) -> Option<u16>
 /// Gives an entry a number, unless an equal one has one already. `Unused` gets none.
 fn note(
     alloc: Global,
-    numbers: &mut IndexMap<Vec<u8>, u16>,
+    numbers: &mut HashMap<Vec<u8>, u16>,
     one: &Entry,
     i: u16,
 ) -> Result<(), AllocError>
@@ -80,11 +80,11 @@ fn note(
 }
 
 /// The least index of each entry of a pool.
-fn numbers_of(alloc: Global, entries: &[Entry]) -> Result<IndexMap<Vec<u8>, u16>, AllocError>
+fn numbers_of(alloc: Global, entries: &[Entry]) -> Result<HashMap<Vec<u8>, u16>, AllocError>
     requires { IsPool entries.now }
     ensures { IfOk result (λ numbers. AreLeast numbers entries.now) }
 {
-    let mut numbers = IndexMap::new(alloc);
+    let mut numbers = HashMap::new(alloc);
     for (i, one) in entries.iter().enumerate() {
         note(alloc, &mut numbers, one, i as u16)?;
     }
@@ -98,7 +98,7 @@ pub struct Adder {
     alloc: Global,
     pool: Pool,
     /// The least index of each entry, by the bytes that spell it.
-    numbers: IndexMap<Vec<u8>, u16>,
+    numbers: HashMap<Vec<u8>, u16>,
 }
 
 impl Model for Adder {
@@ -182,7 +182,8 @@ impl Adder {
         }
         self.numbers.reserve(1)?;
         self.pool.push(e)?;
-        self.numbers.insert(text, i as u16).unwrap();
+        let put: Result<_, _> = self.numbers.insert(text, i as u16);
+        put.unwrap();
         Ok(i as u16)
     }
 }
