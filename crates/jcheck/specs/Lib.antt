@@ -1,9 +1,1 @@
-pub mod Before
-pub mod Chained
-pub mod Checking
 pub mod Checks
-pub mod First
-pub mod Given
-pub mod Keeping
-pub mod News
-pub mod Numbered

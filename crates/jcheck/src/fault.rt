@@ -3,14 +3,6 @@ ghost use Rattle.jcheck.specs.declared.fault.TypeFault.TheVariants.{Memory};
 
 use std::alloc::AllocError;
 
-/// A place in a method: the place of its class among the parts, its own among the methods, and the byte of its code.
-#[derive(Clone, Copy, Debug)]
-pub(crate) struct Place {
-    pub class: u32,
-    pub method: u32,
-    pub at: u32,
-}
-
 /// Why a program isn't accepted.
 #[derive(Clone, Copy, Debug, PartialEq, Eq)]
 pub enum TypeFault {

@@ -4,13 +4,13 @@ use crate::references::{reference_of, say_reference};
 use crate::said::{Piece, Said};
 use crate::scene::{Scene, scene_of, told_in};
 use crate::stacks::say_found;
-use jcheck::frame_before;
 use jclass::write_class;
 use jcode::{Op, Placed, effect_of, form_of};
 use jlink::LinkedProgram;
 use jnames::{Kind, Kinds};
 use jprogram::{CodePart, MethodId};
 use jtext::{Units, bytes_of};
+use jwalk::frame_before;
 
 fn word_of(kind: Kind) -> &'static str {
     match kind {

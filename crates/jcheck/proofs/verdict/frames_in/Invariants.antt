@@ -1,7 +1,0 @@
-use Rattle.std.proofs.Common.{◌≡◌, drop}
-use Rattle.jbase.specs.First.{first_some}
-use Rattle.jtyping.specs.Declared.{maps_of}
-use Rattle.jcheck.proofs.verdict.frames_in.Given as goal
-
-abbrev pub invariant-loop-attribute : goal.invariant-loop-attribute
-invariant-loop-attribute l = first_some maps_of (drop l.attribute-index l.attributes) ≡ first_some maps_of l.attributes

@@ -1,0 +1,74 @@
+-- The rule at a place of a method that is being checked.
+use Rattle.std.proofs.Common.{◌≡◌, ℕ, Bool, List, length, Option, Some, None, refl, sym, subst, ap, ◌∙◌}
+use Rattle.std.specs.Borrow.{Bor}
+use Rattle.std.specs.Prelude.{IfSome, option_map}
+use Rattle.std.proofs.lemmas.List.{length-map}
+use Rattle.jpool.specs.declared.entry.Entry.{Entry}
+use Rattle.jcode.specs.declared.form.Flow.{Flow}
+use Rattle.jcode.specs.declared.form.Flow.TheVariants as flows
+use Rattle.jcode.specs.declared.form.Form.{Form}
+use Rattle.jcode.specs.declared.form.Form.TheVariants as forms
+use Rattle.jcode.specs.declared.op.Switch.{Switch}
+use Rattle.jcode.specs.declared.op.Placed.{Placed}
+use Rattle.jcode.specs.Forms.{form, seen as seen_form, seen_flow}
+use Rattle.jtypes.specs.declared.vtype.VType.{VType}
+use Rattle.jtypes.specs.Frames.{Frame}
+use Rattle.jtypes.specs.Tree.{Tree}
+use Rattle.jprogram.specs.Classes.{Program, tree}
+use Rattle.juses.specs.Types.{named}
+use Rattle.jrule.specs.declared.frame.FrameRef.{FrameRef}
+use Rattle.jrule.specs.Forms.{by_form}
+use Rattle.jrule.specs.Here.{Here}
+use Rattle.jrule.specs.Seen.{seen, seen_here}
+use Rattle.jrule.specs.Straight.{flow}
+use Rattle.juses.specs.Tables.{pool_at}
+use Rattle.jrule.specs.declared.place.HereRef.{HereRef}
+use Rattle.jrule.proofs.Newing.{asks_places}
+use Rattle.jtyping.specs.Methods.{here_of, makes}
+use Rattle.jwalk.specs.declared.walk.Checking.{Checking}
+use Rattle.jwalk.specs.Checking.{IsChecking, IsHere, here_in, method_of, program_of}
+use Rattle.jwalk.specs.News.{made_at}
+use Rattle.jwalk.proofs.Counting.{Keeps, form_keeps}
+
+-- ---- how a switch is lent doesn't count
+
+flow_seen : (t : Tree) (is_init : Bool) (ret : Option VType) (form : Flow (Bor Switch)) (f : Frame) → flow t is_init ret (seen_flow form) f ≡ flow t is_init ret form f
+flow_seen t is_init ret (flows.If test by) f = refl
+flow_seen t is_init ret (flows.IfInt test by) f = refl
+flow_seen t is_init ret (flows.IfRef test by) f = refl
+flow_seen t is_init ret (flows.Goto by) f = refl
+flow_seen t is_init ret (flows.Switch s) f = refl
+flow_seen t is_init ret (flows.Return kind) f = refl
+flow_seen t is_init ret flows.Throw f = refl
+
+pub form_seen : (p : Program) (here : Here) (pool : List Entry) (form : Form (Bor Switch)) (f : Frame) → by_form p here pool (seen_form form) f ≡ by_form p here pool form f
+unfolding by_form
+form_seen p here pool (forms.Simple form) f = refl
+form_seen p here pool (forms.Local form) f = refl
+form_seen p here pool (forms.Stack form) f = refl
+form_seen p here pool (forms.Flow form) f = flow_seen (tree p) here.is_init here.returns form f
+form_seen p here pool (forms.Array form) f = refl
+form_seen p here pool (forms.Pool form) f = refl
+
+-- ---- the number of locals
+
+kept_in : (p : Program) (f : FrameRef) (r : Option FrameRef) → Keeps (seen p f) (option_map (seen p) r) → (most : ℕ) → length f.locals ≡ most → IfSome r (λ g. length g.locals ≡ most)
+kept_in p f None keeps most count = tt
+kept_in p f (Some g) keeps most count = sym (length-map g.locals (named p)) ∙ keeps ∙ length-map f.locals (named p) ∙ count
+
+pub counted : (p : Program) (here : Here) (pool : List Entry) (form : Form (Bor Switch)) (f : FrameRef) (r : Option FrameRef) (most : ℕ)
+    → option_map (seen p) r ≡ by_form p here pool form (seen p f) → length f.locals ≡ most → IfSome r (λ g. length g.locals ≡ most)
+counted p here pool form f r most e count = kept_in p f r (subst (Keeps (seen p f)) (sym e) (form_keeps p here pool form (seen p f))) most count
+
+-- ---- at a place
+
+pub ruled : (c : Checking) (o : Placed) (h : HereRef) (f : FrameRef) (one : Form (Bor Switch)) (r : Option FrameRef)
+    → IsChecking c → IsHere c o.at h → seen_form one ≡ form o.op
+    → option_map (seen (program_of c)) r ≡ by_form (program_of c) (seen_here (program_of c) (made_at c.news.now) h) (pool_at (program_of c) h.class) one (seen (program_of c) f)
+    → option_map (seen (program_of c)) r ≡ by_form (program_of c) (here_of (program_of c) (method_of c) o.at) (method_of c).pool (form o.op) (seen (program_of c) f)
+ruled c o h f one r checking here is e =
+    e
+    ∙ ap (λ (x : HereRef). by_form (program_of c) (seen_here (program_of c) (made_at c.news.now) x) (pool_at (program_of c) x.class) one (seen (program_of c) f)) here
+    ∙ asks_places (Bor Switch) (program_of c) (seen_here (program_of c) (made_at c.news.now) (here_in c o.at)) (makes (program_of c) (method_of c)) (method_of c).pool one (seen (program_of c) f) checking.news
+    ∙ sym (form_seen (program_of c) (here_of (program_of c) (method_of c) o.at) (method_of c).pool one (seen (program_of c) f))
+    ∙ ap (λ (x : Form Switch). by_form (program_of c) (here_of (program_of c) (method_of c) o.at) (method_of c).pool x (seen (program_of c) f)) is

@@ -1,0 +1,18 @@
+use Rattle.std.proofs.Common.{◌≡◌, ◌∙◌, sym}
+use Rattle.jcode.specs.declared.form.Form.TheVariants as forms
+use Rattle.jcode.specs.Forms.{form}
+use Rattle.jrule.specs.Seen.{seen}
+use Rattle.jwalk.proofs.Resting.{form_rests}
+use Rattle.jwalk.proofs.Stored.{local_form}
+use Rattle.jwalk.proofs.Walking.{told}
+use Rattle.jwalk.proofs.storing.rests.Goals as goal
+
+pub returns-then-is_quiet : goal.returns-then-is_quiet
+returns-then-is_quiet c truth here pool =
+    form_rests c.args.p.now here pool (form c.args.op.now) (seen c.args.p.now c.args.f.now) (sym c.is_quiet.ensures ∙ c.if-is_quiet.true)
+
+pub returns-in-Some : goal.returns-in-Some
+returns-in-Some c truth here pool =
+    local_form c.args.p.now here pool (form c.args.op.now) c.in-Some.form (seen c.args.p.now c.args.f.now)
+    (told (λ l. form c.args.op.now ≡ forms.Local l) c.local_of.result c.in-Some.form c.local_of.ensures c.in-Some.is)
+    (c.local_rests.ensures truth here.max_stack)

@@ -1,0 +1,17 @@
+use Rattle.std.proofs.Common.{◌≡◌, ℕ, drop, Some}
+use Rattle.jrule.specs.Seen.{seen}
+use Rattle.jtyping.specs.Typing as typing
+use Rattle.jrule.specs.declared.frame.FrameRef.{FrameRef}
+use Rattle.jwalk.specs.declared.held.Arriving.{Arriving}
+use Rattle.jwalk.specs.declared.walk.Checking.{Checking}
+use Rattle.jwalk.specs.Checking.{IsHeld, frames_of, method_of, program_of}
+use Rattle.jwalk.specs.Keeping.{arrived}
+use Rattle.jwalk.proofs.walk.Checking.walk.Given as goal
+
+pub record Walks (c : Checking) (i : ℕ) (arriving : Arriving) (first : FrameRef) : Type 0 where
+  pub held : IsHeld c arriving.held
+  pub left : typing.walk (program_of c) (method_of c) (frames_of c) (drop i (method_of c).body.ops) (arrived (program_of c) arriving)
+      ≡ typing.walk (program_of c) (method_of c) (frames_of c) (method_of c).body.ops (Some (seen (program_of c) first))
+
+abbrev pub invariant-loop-i : goal.invariant-loop-i
+invariant-loop-i l = Walks l.self l.i l.arriving l.fn.first

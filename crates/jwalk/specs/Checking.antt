@@ -1,0 +1,76 @@
+-- A method that is being checked, by number, and what it stands for.
+use Rattle.std.specs.Prelude.{◌≡◌, ◌≤◌, ℕ, ℤ, Bool, true, IsTrue, List, Option, Some, None, length, slice_get}
+use Rattle.std.specs.List.{list_any}
+use Rattle.jcode.specs.declared.op.Placed.{Placed}
+use Rattle.jcode.specs.Instructions.{covers, Rises}
+use Rattle.jmaps.specs.Frames.{maps}
+use Rattle.jclass.specs.declared.class.CodeBody.{CodeBody}
+use Rattle.jprogram.specs.Classes.{Program}
+use Rattle.jrule.specs.declared.frame.FrameRef.{FrameRef}
+use Rattle.jrule.specs.declared.place.HereRef.{HereRef}
+use Rattle.jtyping.specs.Declared.{Written, frames_in}
+use Rattle.jtyping.specs.Methods.{Method}
+use Rattle.juses.specs.Tables.{pool_at}
+use Rattle.juses.specs.Uses.{AreUses}
+use Rattle.jwalk.specs.declared.walk.Checking.{Checking}
+use Rattle.jwalk.specs.declared.held.Held.{Held}
+use Rattle.jwalk.specs.Given.{all_written}
+use Rattle.jwalk.specs.Keeping.{IsKnown, held_seen}
+use Rattle.jwalk.specs.News.{AreNews, made_at}
+use Rattle.jwalk.specs.Numbered.{seen_method}
+
+abbrev pub program_of : Checking → Program
+program_of c = c.p.now
+
+abbrev pub method_of : Checking → Method
+method_of c = seen_method c.p.now c.method.now
+
+-- the frames that it declares
+abbrev pub frames_of : Checking → List Written
+frames_of c = all_written c.p.now c.declared.now
+
+-- the places of its instructions are of two bytes
+abbrev pub AreShort : List Placed → Type 0
+AreShort ops = (i : ℕ) (o : Placed) → slice_get ops i ≡ Some o → o.at ≤ 0xffff
+
+-- a frame has as many locals as the method
+abbrev pub IsCounted : Checking → FrameRef → Type 0
+IsCounted c f = length f.locals ≡ c.declared.now.most
+
+-- the same of one with what is known of it, which holds
+pub record IsHeld (c : Checking) (h : Held) : Type 0 where
+  pub count : IsCounted c h.frame
+  pub known : IsKnown (program_of c) (method_of c) (frames_of c) (held_seen (program_of c) h).locals h.frame.flag h.known
+
+-- what the rule has to know of a place in it
+abbrev pub here_in : Checking → ℕ → HereRef
+here_in c at = record {
+  class = c.method.now.class;
+  above = c.method.now.above;
+  is_init = c.method.now.is_init;
+  returns = c.method.now.returns;
+  max_stack = c.method.now.body.max_stack;
+  at = at;
+  covered = list_any (covers at) c.method.now.body.handlers.now;
+}
+
+abbrev pub IsHere : Checking → ℕ → HereRef → Type 0
+IsHere c at h = h ≡ here_in c at
+
+-- a test of a branch, if there is one
+abbrev pub branch_test : (ℤ → Bool) → Option ℤ → Bool
+branch_test test None = true
+branch_test test (Some by) = test by
+
+-- the tables are those of the program and of the method
+pub record IsChecking (c : Checking) : Type 0 where
+  pub uses : AreUses c.p.now c.uses.now
+  pub news : AreNews c.p.now (pool_at c.p.now c.method.now.class) c.method.now.body.ops.now (made_at c.news.now)
+  pub short : AreShort c.method.now.body.ops.now
+  pub most : c.declared.now.most ≡ c.method.now.body.max_locals
+
+-- what is known of the code of a class file
+pub record IsGood (body : CodeBody) : Type 0 where
+  pub rises : Rises body.ops
+  pub short : AreShort body.ops
+  pub frames : IsTrue (maps.fits (frames_in body))

@@ -1,0 +1,9 @@
+pub mod Before
+pub mod Chained
+pub mod Checking
+pub mod First
+pub mod Given
+pub mod Keeping
+pub mod News
+pub mod Numbered
+pub mod Places
