@@ -11,10 +11,10 @@ ghost use Rattle.juses.specs.Meanings.{class_at};
 ghost use Rattle.juses.specs.Tables.{pool_at};
 ghost use Rattle.juses.specs.Types.{class_named, named};
 
+use jfits::{Ancestors, is_instance};
 use jlink::LinkedProgram;
 use jprogram::{ClassRef, number_laws};
 use jready::Ready;
-use jserve::{Ancestors, is_instance};
 use juses::TypeRef;
 use std::marker::Model;
 
@@ -78,6 +78,7 @@ impl<'p> Known<'p> {
     }
 
     /// Whether an object of a class is one of a type.
+    #[tactic(auto, unfolding(jmachine::specs::World::world))]
     pub fn is_instance(&self, class: ClassRef, t: TypeRef) -> bool
         ensures { result ≡ World.is_instance (world self.now) (types.Object (class_named self.now class)) (named self.now t) }
     {

@@ -1,5 +1,5 @@
+use jfits::Ancestors;
 use jready::Ready;
-use jserve::Ancestors;
 use jstate::Shapes;
 
 /// What lasts as long as a program runs, as rows with references look at it.

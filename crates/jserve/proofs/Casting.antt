@@ -31,9 +31,10 @@ use Rattle.jmachine.specs.Making.{is_one}
 use Rattle.jmachine.specs.Operands.{serves_as, taken, type_of}
 use Rattle.jmachine.specs.Sites.{Site}
 use Rattle.jmachine.specs.Store.{Store}
-use Rattle.jmachine.specs.World.{World, is_instance, world}
+use Rattle.jmachine.specs.World.{World, world}
 use Rattle.jobjs.specs.Serving.{IsOne, Serve}
 use Rattle.jstate.specs.SeenLaws.{SeesEach}
+use Rattle.jfits.specs.Asked.{is_instance}
 use Rattle.jserve.specs.declared.values.Objects.{Objects}
 use Rattle.jserve.specs.Served.{ServeThrown, one_serves, serves_in}
 use Rattle.jserve.specs.Valued.{IsStore, type_in}
@@ -101,8 +102,9 @@ pub none_is : (p : Program) (x : Objects) (v : Value ℕ) (t : TypeRef) → None
 none_is p x v t e = ap (λ (o : Option TypeRef). is_one (world p) (named p t) (option_map (named p) o)) e
 
 pub some_is : (p : Program) (x : Objects) (v : Value ℕ) (t own : TypeRef) (b : Bool) → Some own ≡ type_in x v
-    → b ≡ is_instance (world p) (named p own) (named p t)
+    → b ≡ is_instance p (named p own) (named p t)
     → b ≡ is_one (world p) (named p t) (option_map (named p) (type_in x v))
+unfolding world
 some_is p x v t own b e h = h ∙ ap (λ (o : Option TypeRef). is_one (world p) (named p t) (option_map (named p) o)) e
 
 module _ (law : SeesEach) (p : Program) (x : Objects) (s : Store ℕ) (store : IsStore p x s) where

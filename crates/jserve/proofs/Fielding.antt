@@ -20,9 +20,10 @@ use Rattle.jrule.specs.Uses.{exchange, written}
 use Rattle.jmachine.specs.Operands.{serves_as, taken}
 use Rattle.jmachine.specs.Sites.{Site}
 use Rattle.jmachine.specs.Store.{Store}
-use Rattle.jmachine.specs.World.{World, fits, world}
+use Rattle.jmachine.specs.World.{World, world}
 use Rattle.jobjs.specs.Serving.{Serve}
 use Rattle.jstate.specs.SeenLaws.{SeesEach}
+use Rattle.jfits.specs.Asked.{fits}
 use Rattle.jserve.specs.declared.values.Objects.{Objects}
 use Rattle.jserve.specs.Served.{one_serves, serves_in}
 use Rattle.jserve.specs.Valued.{IsStore, type_in}
@@ -39,8 +40,9 @@ module _ (p : Program) (x : Objects) (own : Bool) (this owner : ClassRef) (v : V
   no_type e = ap (λ (t : Option TypeRef). serves_as (world p) (written own (class_named p this) (class_named p owner)) (option_map (named p) t)) e
 
   pub own_type : (t : TypeRef) (b : Bool) → own ≡ true → Some t ≡ type_in x v
-      → b ≡ (fits (world p) (named p t) (named p (types.Object owner)) || fits (world p) (named p t) (named p (types.Object this)))
+      → b ≡ (fits p (named p t) (named p (types.Object owner)) || fits p (named p t) (named p (types.Object this)))
       → b ≡ serves_in p x (written own (class_named p this) (class_named p owner)) v
+  unfolding world
   own_type t b is e h =
       h ∙ ap (λ (o : Option TypeRef). serves_as (world p) (written true (class_named p this) (class_named p owner)) (option_map (named p) o)) e
       ∙ ap (λ (o : Bool). serves_in p x (written o (class_named p this) (class_named p owner)) v) (sym is)

@@ -1,11 +1,7 @@
 pub mod Called
 pub mod Casting
-pub mod Comparing
 pub mod Few
 pub mod Fielding
-pub mod Kinded
-pub mod Lining
 pub mod Stored
-pub mod Upward
 pub mod Valuing
 pub mod Wanting

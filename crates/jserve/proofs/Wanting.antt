@@ -10,8 +10,9 @@ use Rattle.juses.specs.Types.{named}
 use Rattle.jrule.specs.Effects.{Fits, Want}
 use Rattle.jmachine.specs.Operands.{Taken, serves, serves_as, taken, with_value}
 use Rattle.jmachine.specs.Store.{Store}
-use Rattle.jmachine.specs.World.{World, fits, world}
+use Rattle.jmachine.specs.World.{World, world}
 use Rattle.jstate.specs.SeenLaws.{SeesEach}
+use Rattle.jfits.specs.Asked.{fits}
 use Rattle.jserve.specs.declared.values.Objects.{Objects}
 use Rattle.jserve.specs.Served.{all_serve, one_serves, serves_in, took_if}
 use Rattle.jserve.specs.Valued.{IsStore, type_in}
@@ -23,8 +24,9 @@ pub no_type : (p : Program) (x : Objects) (want : TypeRef) (v : Value ℕ) → N
 no_type p x want v e = ap (λ (t : Option TypeRef). serves_as (world p) (Fits (named p want)) (option_map (named p) t)) e
 
 pub of_type : (p : Program) (x : Objects) (want : TypeRef) (v : Value ℕ) (t : TypeRef) (b : Bool) → Some t ≡ type_in x v
-    → b ≡ fits (world p) (named p t) (named p want)
+    → b ≡ fits p (named p t) (named p want)
     → b ≡ serves_in p x (Fits (named p want)) v
+unfolding world
 of_type p x want v t b e h = h ∙ ap (λ (t : Option TypeRef). serves_as (world p) (Fits (named p want)) (option_map (named p) t)) e
 
 -- as the definition has it

@@ -7,10 +7,9 @@ ghost use Rattle.jserve.specs.Calls;
 ghost use Rattle.jserve.specs.Calls.{CallServes, IsCall, begins_in, count_of};
 ghost use Rattle.jserve.specs.Valued.{IsStore};
 
-use crate::ancestors::Ancestors;
-use crate::fitting::fits;
 use crate::serving::{object_serves, params_serve};
 use crate::values::{Objects, kind_type};
+use jfits::{Ancestors, fits};
 use jops::Value;
 use jprogram::ClassRef;
 use jstate::{Frames, heap_laws};
@@ -18,6 +17,7 @@ use juses::{How, TypeRef};
 
 /// Whether an `<init>` of a class may be called on the object of a number, which may hold nothing yet.
 #[inline]
+#[tactic(auto, unfolding(jmachine::specs::World::world))]
 fn begins_on(a: &Ancestors<'_>, x: &Objects<'_>, owner: ClassRef, o: u32) -> bool
     ensures { result ≡ Calls.begins_as a.now x.now owner (kind_at x.now.heap.now o) }
 {

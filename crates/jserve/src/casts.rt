@@ -21,11 +21,10 @@ ghost use Rattle.jtypes.specs.Described;
 ghost use Rattle.jserve.specs.Served.{ServeThrown, one_serves, serves_in};
 ghost use Rattle.jserve.specs.Valued.{IsStore, type_in};
 
-use crate::ancestors::Ancestors;
-use crate::fitting::is_instance;
 use crate::serving::serves_at;
 use crate::values::{Objects, value_type};
 use jcode::RefTest;
+use jfits::{Ancestors, is_instance};
 use jlib::{LibClass, Thrown};
 use jops::Value;
 use jprogram::ClassRef;

@@ -12,10 +12,9 @@ ghost use Rattle.juses.specs.Types.{class_named, named};
 ghost use Rattle.jserve.specs.Served.{one_serves, serves_in};
 ghost use Rattle.jserve.specs.Valued.{IsStore};
 
-use crate::ancestors::Ancestors;
-use crate::fitting::fits;
 use crate::serving::{serves, serves_at};
 use crate::values::{Objects, value_type};
+use jfits::{Ancestors, fits};
 use jops::Value;
 use jprogram::ClassRef;
 use jstate::{Frames, heap_laws};

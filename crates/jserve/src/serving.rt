@@ -3,9 +3,8 @@ ghost use Rattle.jrule.specs.Effects.{Fits};
 ghost use Rattle.juses.specs.Types.{named};
 ghost use Rattle.jserve.specs.Served.{all_serve, one_serves, serves_in};
 
-use crate::ancestors::Ancestors;
-use crate::fitting::fits;
 use crate::values::{Objects, value_type};
+use jfits::{Ancestors, fits};
 use jops::Value;
 use jstate::Frames;
 use juses::TypeRef;

@@ -15,9 +15,9 @@ ghost use Rattle.jserve.specs.Served.{one_serves, serves_in};
 ghost use Rattle.jserve.specs.Storing.{number_found, number_held};
 ghost use Rattle.jserve.specs.Valued.{IsStore};
 
-use crate::ancestors::Ancestors;
 use crate::casts::{is_stored, ref_at};
 use crate::values::{Objects, value_type};
+use jfits::Ancestors;
 use jheap::{Heap, Kind};
 use jops::Value;
 use jstate::{Frames, array_type, heap_laws};

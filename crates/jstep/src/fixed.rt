@@ -1,5 +1,5 @@
+use jfits::Ancestors;
 use jready::{Ready, Tables};
-use jserve::Ancestors;
 use jshapes::NumberArrays;
 use jstate::Shapes;
 

@@ -3,10 +3,10 @@ ghost use Rattle.jcalls.specs.Marks.{marks_of};
 ghost use Rattle.jwhole.specs.Grounds.{IsGround, IsShaped};
 
 use jbase::Seq;
+use jfits::Ancestors;
 use jguard::Guard;
 use jlink::LinkedProgram;
 use jready::Ready;
-use jserve::Ancestors;
 use jshapes::{Shaped, shapes_of};
 use std::alloc::{AllocError, Global};
 

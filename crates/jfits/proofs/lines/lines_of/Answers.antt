@@ -1,5 +1,5 @@
-use Rattle.jserve.proofs.Lining.{lines_more}
-use Rattle.jserve.proofs.lines.lines_of.Goals as goal
+use Rattle.jfits.proofs.Lining.{lines_more}
+use Rattle.jfits.proofs.lines.lines_of.Goals as goal
 
 pub loop-i-preserved : goal.loop-i-preserved
 loop-i-preserved c =

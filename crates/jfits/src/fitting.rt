@@ -1,12 +1,11 @@
 ghost use Rattle.std.specs.Prelude.{◌≡◌, true};
-ghost use Rattle.jmachine.specs.World;
-ghost use Rattle.jmachine.specs.World.{world};
 ghost use Rattle.jtypes.specs.declared.vtype.VType.TheVariants as types;
 ghost use Rattle.jtypes.specs.Fitting;
 ghost use Rattle.jprogram.specs.Classes.{tree};
 ghost use Rattle.jprogram.specs.Implementing.{IsNumber};
 ghost use Rattle.juses.specs.Types.{class_named, element_named, named};
-ghost use Rattle.jserve.specs.Asked.{above_by, tree_by};
+ghost use Rattle.jfits.specs.Asked as comparing;
+ghost use Rattle.jfits.specs.Asked.{above_by, tree_by};
 
 use crate::ancestors::Ancestors;
 use jlib::LibClass;
@@ -39,9 +38,8 @@ fn stranger_is_interface(p: &NamedProgram, d: ClassRef) -> bool
     p.is_interface(p.name_of(d))
 }
 
-#[tactic(auto, unfolding(jmachine::specs::World::world))]
 fn stranger_is_above(a: &Ancestors<'_>, asked: Asked, d: ClassRef) -> bool
-    ensures { result ≡ above_by (world a.now) asked (class_named a.now d) }
+    ensures { result ≡ above_by a.now asked (class_named a.now d) }
 {
     let above = stranger_above_arrays(a.named(), d);
     match asked {
@@ -50,9 +48,8 @@ fn stranger_is_above(a: &Ancestors<'_>, asked: Asked, d: ClassRef) -> bool
     }
 }
 
-#[tactic(auto, unfolding(jmachine::specs::World::world))]
 fn stranger_fits(a: &Ancestors<'_>, asked: Asked, c: ClassRef, d: ClassRef) -> bool
-    ensures { result ≡ Fitting.class_fits (tree_by (world a.now) asked) (class_named a.now c) (class_named a.now d) }
+    ensures { result ≡ Fitting.class_fits (tree_by a.now asked) (class_named a.now c) (class_named a.now d) }
 {
     let p = a.named();
     match asked {
@@ -74,9 +71,8 @@ fn is_above_arrays(a: &Ancestors<'_>, d: ClassRef) -> bool
 }
 
 /// Whether every array fits a class or an interface.
-#[tactic(auto, unfolding(jmachine::specs::World::world))]
 fn is_above(a: &Ancestors<'_>, asked: Asked, d: ClassRef) -> bool
-    ensures { result ≡ above_by (world a.now) asked (class_named a.now d) }
+    ensures { result ≡ above_by a.now asked (class_named a.now d) }
 {
     if !a.is_known(d) {
         return stranger_is_above(a, asked, d);
@@ -89,11 +85,10 @@ fn is_above(a: &Ancestors<'_>, asked: Asked, d: ClassRef) -> bool
 }
 
 /// Whether an object of the first class fits the second one.
-#[tactic(auto, unfolding(jmachine::specs::World::world))]
 fn known_fits(a: &Ancestors<'_>, asked: Asked, c: ClassRef, d: ClassRef) -> bool
     requires first { IsNumber a.now c }
     requires second { IsNumber a.now d }
-    ensures { result ≡ Fitting.class_fits (tree_by (world a.now) asked) (class_named a.now c) (class_named a.now d) }
+    ensures { result ≡ Fitting.class_fits (tree_by a.now asked) (class_named a.now c) (class_named a.now d) }
 {
     match asked {
         Asked::Fits => a.is_interface(d) || a.extends(c, d),
@@ -103,7 +98,7 @@ fn known_fits(a: &Ancestors<'_>, asked: Asked, c: ClassRef, d: ClassRef) -> bool
 
 /// The same of any two numbers.
 fn class_fits(a: &Ancestors<'_>, asked: Asked, c: ClassRef, d: ClassRef) -> bool
-    ensures { result ≡ Fitting.class_fits (tree_by (world a.now) asked) (class_named a.now c) (class_named a.now d) }
+    ensures { result ≡ Fitting.class_fits (tree_by a.now asked) (class_named a.now c) (class_named a.now d) }
 {
     if !a.is_known(c) {
         return stranger_fits(a, asked, c, d);
@@ -153,7 +148,7 @@ fn is_object(d: ClassRef) -> bool
 /// The same, where the two are mostly one, or the second is Object.
 #[inline]
 fn class_fits_soon(a: &Ancestors<'_>, asked: Asked, c: ClassRef, d: ClassRef) -> bool
-    ensures { result ≡ Fitting.class_fits (tree_by (world a.now) asked) (class_named a.now c) (class_named a.now d) }
+    ensures { result ≡ Fitting.class_fits (tree_by a.now asked) (class_named a.now c) (class_named a.now d) }
 {
     if are_one(c, d) {
         return true;
@@ -167,7 +162,7 @@ fn class_fits_soon(a: &Ancestors<'_>, asked: Asked, c: ClassRef, d: ClassRef) ->
 // ---- arrays
 
 fn is_above_array(a: &Ancestors<'_>, asked: Asked, x: ElementRef) -> bool
-    ensures { result ≡ Fitting.is_above_array (above_by (world a.now) asked) (element_named a.now x) }
+    ensures { result ≡ Fitting.is_above_array (above_by a.now asked) (element_named a.now x) }
 {
     match x {
         ElementRef::Class(c) => is_above(a, asked, c),
@@ -177,7 +172,7 @@ fn is_above_array(a: &Ancestors<'_>, asked: Asked, x: ElementRef) -> bool
 
 /// Whether what an array of one dimension holds fits what another one holds.
 fn element_fits(a: &Ancestors<'_>, asked: Asked, x: ElementRef, y: ElementRef) -> bool
-    ensures { result ≡ Fitting.element_fits (tree_by (world a.now) asked) (element_named a.now x) (element_named a.now y) }
+    ensures { result ≡ Fitting.element_fits (tree_by a.now asked) (element_named a.now x) (element_named a.now y) }
 {
     match y {
         ElementRef::Boolean => matches!(x, ElementRef::Boolean),
@@ -196,7 +191,7 @@ fn element_fits(a: &Ancestors<'_>, asked: Asked, x: ElementRef, y: ElementRef) -
 /// Whether an array fits another one.
 #[tactic(auto, using(crate::proofs::Comparing::fewer, crate::proofs::Comparing::more, crate::proofs::Comparing::as_many))]
 fn array_fits(a: &Ancestors<'_>, asked: Asked, x: ArrayRef, y: ArrayRef) -> bool
-    ensures { result ≡ Fitting.array_fits (above_by (world a.now) asked) (tree_by (world a.now) asked) x.depth (element_named a.now x.element)
+    ensures { result ≡ Fitting.array_fits (above_by a.now asked) (tree_by a.now asked) x.depth (element_named a.now x.element)
         y.depth (element_named a.now y.element) }
 {
     if x.depth < y.depth {
@@ -213,7 +208,7 @@ fn array_fits(a: &Ancestors<'_>, asked: Asked, x: ArrayRef, y: ArrayRef) -> bool
 /// Whether a value of a type fits a class or an interface.
 #[inline]
 fn object_fits(a: &Ancestors<'_>, asked: Asked, x: TypeRef, d: ClassRef) -> bool
-    ensures { result ≡ Fitting.fits_where (above_by (world a.now) asked) (tree_by (world a.now) asked) (named a.now x) (types.Object (class_named a.now d)) }
+    ensures { result ≡ Fitting.fits_where (above_by a.now asked) (tree_by a.now asked) (named a.now x) (types.Object (class_named a.now d)) }
 {
     match x {
         TypeRef::Null => true,
@@ -225,7 +220,7 @@ fn object_fits(a: &Ancestors<'_>, asked: Asked, x: TypeRef, d: ClassRef) -> bool
 
 #[inline]
 fn type_fits(a: &Ancestors<'_>, asked: Asked, x: TypeRef, y: TypeRef) -> bool
-    ensures { result ≡ Fitting.fits_where (above_by (world a.now) asked) (tree_by (world a.now) asked) (named a.now x) (named a.now y) }
+    ensures { result ≡ Fitting.fits_where (above_by a.now asked) (tree_by a.now asked) (named a.now x) (named a.now y) }
 {
     match y {
         TypeRef::Top => true,
@@ -250,7 +245,7 @@ fn type_fits(a: &Ancestors<'_>, asked: Asked, x: TypeRef, y: TypeRef) -> bool
 /// Whether a value of the first type may stand where one of the second is wanted, where a machine runs: every array fits every interface.
 #[inline]
 pub fn fits(a: &Ancestors<'_>, x: TypeRef, y: TypeRef) -> bool
-    ensures { result ≡ World.fits (world a.now) (named a.now x) (named a.now y) }
+    ensures { result ≡ comparing.fits a.now (named a.now x) (named a.now y) }
 {
     type_fits(a, Asked::Fits, x, y)
 }
@@ -259,7 +254,7 @@ pub fn fits(a: &Ancestors<'_>, x: TypeRef, y: TypeRef) -> bool
 /// aastore).
 #[inline]
 pub fn is_instance(a: &Ancestors<'_>, x: TypeRef, y: TypeRef) -> bool
-    ensures { result ≡ World.is_instance (world a.now) (named a.now x) (named a.now y) }
+    ensures { result ≡ comparing.is_instance a.now (named a.now x) (named a.now y) }
 {
     type_fits(a, Asked::IsOne, x, y)
 }

@@ -21,8 +21,8 @@ use Rattle.jprogram.proofs.Numbers.{library_number, number_found, number_name}
 use Rattle.jprogram.proofs.Rows.{lib_number_found}
 use Rattle.jprogram.proofs.Standing.{Libs, Nowhere, Stands, Users, stands}
 use Rattle.juses.specs.Types.{class_named}
-use Rattle.jserve.specs.declared.lines.Line.{Line}
-use Rattle.jserve.specs.Lined.{AreLines}
+use Rattle.jfits.specs.declared.lines.Line.{Line}
+use Rattle.jfits.specs.Lined.{AreLines}
 
 no_ref : (r : ClassRef) → None ≡ Some r → ⊥
 no_ref r e = cc

@@ -11,10 +11,9 @@ use Rattle.jprogram.specs.Classes.{Program, extends}
 use Rattle.jlib.specs.declared.classes.LibClass.TheVariants as lib
 use Rattle.juses.specs.Types.{class_named}
 use Rattle.jlink.specs.Standing.{itself}
-use Rattle.jmachine.specs.World.{world}
-use Rattle.jserve.specs.declared.fitting.Asked.{Asked}
-use Rattle.jserve.specs.declared.fitting.Asked.TheVariants as asked
-use Rattle.jserve.specs.Asked.{tree_by}
+use Rattle.jfits.specs.declared.fitting.Asked.{Asked}
+use Rattle.jfits.specs.declared.fitting.Asked.TheVariants as asked
+use Rattle.jfits.specs.Asked.{tree_by}
 
 or_true : (a b : Bool) → b ≡ true → (a || b) ≡ true
 or_true true b h = refl
@@ -24,23 +23,22 @@ true_or : (a b : Bool) → a ≡ true → (a || b) ≡ true
 true_or true b h = refl
 true_or false b h = cc
 
-same_fits : (p : Program) (a : Asked) (c : ClassRef) → class_fits (tree_by (world p) a) (class_named p c) (class_named p c) ≡ true
-unfolding world
+same_fits : (p : Program) (a : Asked) (c : ClassRef) → class_fits (tree_by p a) (class_named p c) (class_named p c) ≡ true
 same_fits p asked.Fits c = or_true _ _ (itself p (class_named p c))
 same_fits p asked.IsOne c = true_or _ _ (itself p (class_named p c))
 
 -- a class fits itself
-pub one_fits : (p : Program) (a : Asked) (c d : ClassRef) → c ≡ d → true ≡ class_fits (tree_by (world p) a) (class_named p c) (class_named p d)
-one_fits p a c d e = sym (ap (λ (x : ClassRef). class_fits (tree_by (world p) a) (class_named p c) (class_named p x)) (sym e) ∙ same_fits p a c)
+pub one_fits : (p : Program) (a : Asked) (c d : ClassRef) → c ≡ d → true ≡ class_fits (tree_by p a) (class_named p c) (class_named p d)
+one_fits p a c d e = sym (ap (λ (x : ClassRef). class_fits (tree_by p a) (class_named p c) (class_named p x)) (sym e) ∙ same_fits p a c)
 
-top_fits : (p : Program) (a : Asked) (c : Name) → class_fits (tree_by (world p) a) c (class_named p (refs.Lib lib.Object)) ≡ true
-unfolding world extends
+top_fits : (p : Program) (a : Asked) (c : Name) → class_fits (tree_by p a) c (class_named p (refs.Lib lib.Object)) ≡ true
+unfolding extends
 top_fits p asked.Fits c = or_true _ _ refl
 top_fits p asked.IsOne c = refl
 
 -- every class fits Object
-pub under_object : (p : Program) (a : Asked) (c d : ClassRef) → d ≡ refs.Lib lib.Object → true ≡ class_fits (tree_by (world p) a) (class_named p c) (class_named p d)
-under_object p a c d e = sym (ap (λ (x : ClassRef). class_fits (tree_by (world p) a) (class_named p c) (class_named p x)) e ∙ top_fits p a (class_named p c))
+pub under_object : (p : Program) (a : Asked) (c d : ClassRef) → d ≡ refs.Lib lib.Object → true ≡ class_fits (tree_by p a) (class_named p c) (class_named p d)
+under_object p a c d e = sym (ap (λ (x : ClassRef). class_fits (tree_by p a) (class_named p c) (class_named p x)) e ∙ top_fits p a (class_named p c))
 
 -- ---- arrays by their numbers of dimensions
 

@@ -1,5 +1,5 @@
-use Rattle.jserve.proofs.Upward.{walk_ends, walk_found, walk_goes_on, walk_over}
-use Rattle.jserve.proofs.ancestors.Ancestors.is_upwards.Goals as goal
+use Rattle.jfits.proofs.Upward.{walk_ends, walk_found, walk_goes_on, walk_over}
+use Rattle.jfits.proofs.ancestors.Ancestors.is_upwards.Goals as goal
 
 pub returns-then-are_same : goal.returns-then-are_same
 returns-then-are_same c =

@@ -4,8 +4,8 @@ use Rattle.std.specs.Prelude.{slice_get}
 use Rattle.std.proofs.lemmas.List.{length-append}
 use Rattle.jprogram.specs.declared.part.ClassRef.TheVariants as refs
 use Rattle.jprogram.specs.Classes.{Program}
-use Rattle.jserve.specs.declared.lines.Line.{Line}
-use Rattle.jserve.specs.Lined.{AreLinesTo, IsLine}
+use Rattle.jfits.specs.declared.lines.Line.{Line}
+use Rattle.jfits.specs.Lined.{AreLinesTo, IsLine}
 
 none_there : {A : Type 0} (j : ℕ) (y : A) → slice_get [] j ≡ Some y → ⊥
 none_there j y e = cc

@@ -4,7 +4,7 @@ use Rattle.jprogram.specs.declared.part.ClassRef.{ClassRef}
 use Rattle.jprogram.specs.declared.part.ClassRef.TheVariants as refs
 use Rattle.jprogram.specs.Classes.{Program, super_at, tree}
 use Rattle.juses.specs.Types.{class_named}
-use Rattle.jserve.specs.declared.lines.Line.{Line}
+use Rattle.jfits.specs.declared.lines.Line.{Line}
 
 -- the class above a class, and whether it is an interface
 pub record IsLine (p : Program) (c : ClassRef) (x : Line) : Type 0 where

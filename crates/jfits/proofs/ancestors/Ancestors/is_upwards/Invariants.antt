@@ -3,7 +3,7 @@ use Rattle.std.specs.List.{list_any}
 use Rattle.std.specs.Str.{bytes_eq}
 use Rattle.jprogram.specs.Classes.{chain, known, name_at}
 use Rattle.jprogram.specs.Implementing.{IsNumber}
-use Rattle.jserve.proofs.ancestors.Ancestors.is_upwards.Given as goal
+use Rattle.jfits.proofs.ancestors.Ancestors.is_upwards.Given as goal
 
 abbrev pub invariant-loop-step : goal.invariant-loop-step
 invariant-loop-step l =

@@ -1,5 +1,5 @@
-use Rattle.jserve.proofs.Comparing.{one_fits, under_object}
-use Rattle.jserve.proofs.fitting.class_fits_soon.Goals as goal
+use Rattle.jfits.proofs.Comparing.{one_fits, under_object}
+use Rattle.jfits.proofs.fitting.class_fits_soon.Goals as goal
 
 pub returns-then-are_one : goal.returns-then-are_one
 returns-then-are_one c = one_fits c.args.a.now c.args.asked c.args.c c.args.d (c.are_one.ensures c.if-are_one.true)

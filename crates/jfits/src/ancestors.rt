@@ -26,7 +26,7 @@ pub struct Ancestors<'p> {
 
 impl<'p> Model for Ancestors<'p> {
     ghost use Rattle.jprogram.specs.Classes.{Program};
-    ghost use Rattle.jserve.specs.Lined.{AreLines};
+    ghost use Rattle.jfits.specs.Lined.{AreLines};
 
     ghost Value = { Program };
 

@@ -1,8 +1,8 @@
 use Rattle.std.proofs.Common.{subst}
 use Rattle.jprogram.specs.Classes.{Program}
-use Rattle.jserve.specs.Lined.{AreLines}
-use Rattle.jserve.proofs.Upward.{none_face}
-use Rattle.jserve.proofs.ancestors.Ancestors.is_interface.Goals as goal
+use Rattle.jfits.specs.Lined.{AreLines}
+use Rattle.jfits.proofs.Upward.{none_face}
+use Rattle.jfits.proofs.ancestors.Ancestors.is_interface.Goals as goal
 
 pub returns-in-None : goal.returns-in-None
 returns-in-None c =

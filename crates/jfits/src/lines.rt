@@ -1,5 +1,5 @@
 ghost use Rattle.std.specs.Prelude.{◌≡◌, IfOk};
-ghost use Rattle.jserve.specs.Lined.{AreLines, IsLine};
+ghost use Rattle.jfits.specs.Lined.{AreLines, IsLine};
 
 use jbase::Seq;
 use jprogram::{ClassRef, NamedProgram};

@@ -1,0 +1,4 @@
+pub mod Comparing
+pub mod Kinded
+pub mod Lining
+pub mod Upward
