@@ -9,8 +9,7 @@ use crate::pushing::push_run;
 use jbase::Seq;
 use jcontexts::begin_laws;
 use jcore::{Machine, end_thread};
-use jinvoke::Target;
-use jlib::{LibCall, LibClass};
+use jinvoke::{Face, Target};
 use jrun::Came;
 use std::alloc::{AllocError, Global};
 
@@ -24,8 +23,7 @@ fn run_target<M: Copy>(m: &mut Machine<'_, '_, M>) -> Target<M>
     m.calls.by_interface(
         &m.heap,
         m.guests.running.runnable,
-        LibClass::Runnable,
-        LibCall::Run(m.side),
+        Face::Runnable(m.side),
         false,
         m.fixed.marks,
     )

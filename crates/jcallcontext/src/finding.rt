@@ -9,8 +9,8 @@ ghost use Rattle.jcallcontext.specs.Finding.{ActionTarget, FoundEntering, FoundP
 
 use jcontexts::{Entering, Form, Privileging, find_entering, find_privilege, snapshotting};
 use jcore::Machine;
-use jinvoke::Target;
-use jlib::{ControllerCall, LibCall, LibClass, RtCall, Side};
+use jinvoke::{Face, Target};
+use jlib::{ControllerCall, LibCall, RtCall, Side};
 use std::alloc::{AllocError, Global};
 
 /// The side on which a call is getContext.
@@ -125,12 +125,6 @@ pub(crate) fn action_target<M: Copy>(
     ensures within { TargetWithin (classes_of m.old) result }
     ensures same { m.new ≡ m.old }
 {
-    m.calls.by_interface(
-        &m.heap,
-        action,
-        LibClass::PrivilegedAction,
-        LibCall::RunAction(m.side),
-        full,
-        m.fixed.marks,
-    )
+    m.calls
+        .by_interface(&m.heap, action, Face::Action(m.side), full, m.fixed.marks)
 }

@@ -1,7 +1,7 @@
 pub mod Answers
+pub mod Asked
 pub mod Faces
 pub mod Invoking
-pub mod Keys
 pub mod Laws
 pub mod Sites
 pub mod Told

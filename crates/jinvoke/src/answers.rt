@@ -1,7 +1,10 @@
 ghost use Rattle.std.specs.Prelude.{◌≡◌, IfOk};
 ghost use Rattle.jinvoke.specs.Answers;
 ghost use Rattle.jinvoke.specs.Answers.{OwnerIs};
+ghost use Rattle.jinvoke.specs.Asked.{call_of, class_of, told};
+ghost use Rattle.jinvoke.specs.Faces;
 
+use crate::asked::{Asked, Face};
 use crate::choosing::{Answer, Beside, CallKey};
 use crate::known::Known;
 use crate::sites::Sites;
@@ -19,21 +22,22 @@ pub struct Calls<'p> {
     known: Known<'p>,
     /// The last answer at each site.
     sites: Sites,
-    /// Other answers, for a site whose objects are of many classes.
-    answers: Memo<CallKey, Answer>,
+    /// Other answers: for a site whose objects are of many classes, and of calls that the machine makes itself.
+    answers: Memo<Asked, Answer>,
 }
 
 impl<'p> Model for Calls<'p> {
     ghost use Rattle.jmemo.specs.Memos.{Remembers};
     ghost use Rattle.jprogram.specs.Classes.{Program};
     ghost use Rattle.jinvoke.specs.Answers.{answer};
+    ghost use Rattle.jinvoke.specs.Asked.{told};
     ghost use Rattle.jinvoke.specs.Sites.{Remember};
 
     ghost Value = { Program };
 
     ghost view = { λ c. c.known };
 
-    ghost invariant = { λ c. Remember c.known (answer c.known) c.sites × Remembers (answer c.known) c.answers };
+    ghost invariant = { λ c. Remember c.known (answer c.known) c.sites × Remembers (told c.known) c.answers };
 }
 
 impl<'p> Calls<'p> {
@@ -63,26 +67,34 @@ impl<'p> Calls<'p> {
         &self.known
     }
 
-    /// What is known of a call, by its key, where that wasn't the last answer at its site.
-    fn sought(&mut self, key: CallKey) -> Answer
-        ensures answer { result ≡ Answers.answer self.old key }
+    /// What is known of what is asked, which is remembered from now on.
+    fn sought(&mut self, asked: Asked) -> Answer
+        ensures answer { result ≡ told self.old asked }
         ensures same { self.new ≡ self.old }
     {
-        if let Some(answer) = self.answers.get(key) {
+        if let Some(answer) = self.answers.get(asked) {
             return answer;
         }
-        let answer = self.known.answer(key);
-        self.answers.put(key, answer);
+        let answer = self.known.told(asked);
+        self.answers.put(asked, answer);
         answer
     }
 
-    /// The same, which is remembered beside the site from now on.
+    /// What is known of a call that the machine makes itself, on an object of the class of one of the heap's numbers.
+    pub(crate) fn face_answer(&mut self, face: Face, on: Option<u32>) -> Answer
+        ensures answer { result ≡ Faces.face_answer self.old (class_of face) (call_of face) on }
+        ensures same { self.new ≡ self.old }
+    {
+        self.sought(Asked::Face { face, on })
+    }
+
+    /// What is known of a call, by its key, where that wasn't the last answer at its site. It stands beside the site from now on.
     #[inline(never)]
     fn missed(&mut self, site: usize, key: CallKey) -> Answer
         ensures answer { result ≡ Answers.answer self.old key }
         ensures same { self.new ≡ self.old }
     {
-        let answer = self.sought(key);
+        let answer = self.sought(Asked::Call(key));
         let owner = self.known.owner_at(key.class, key.by, key.pool);
         self.sites.put(site, key, Beside { answer, owner });
         answer

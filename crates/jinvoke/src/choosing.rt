@@ -15,13 +15,14 @@ ghost use Rattle.juses.specs.Meanings.{call_named, meaning_of};
 ghost use Rattle.juses.specs.Types.{class_named};
 ghost use Rattle.jinvoke.specs.Answers;
 ghost use Rattle.jinvoke.specs.Answers.{IsCallAt, OwnerIs, id_on, in_meaning, key, number_by};
+ghost use Rattle.jinvoke.specs.Asked.{call_of, class_of, told};
 ghost use Rattle.jinvoke.specs.Faces.{face_answer};
 
+use crate::asked::{Asked, Face};
 use crate::known::Known;
 use jcode::{CallOp, PoolForm};
 use jheap::Kind;
 use jlib::{LibCall, LibClass};
-use jmemo::Key;
 use jprogram::{CallKind, ClassId, ClassRef, Member, MethodId, Reach, Selected};
 use jstate::{class_numbered, library_number};
 use juses::{CallUse, How, Use, code_at};
@@ -68,25 +69,6 @@ pub(crate) struct Beside {
     pub answer: Answer,
     /// The class by which its entry names the method, if it names one.
     pub owner: Option<ClassRef>,
-}
-
-impl Key for CallKey {
-    ghost use Rattle.jinvoke.specs.Keys.{key_number};
-
-    ghost numbered = { key_number };
-
-    ghost use Rattle.std.proofs.Common.{rules};
-
-    ghost exact = { Prim.search rules };
-
-    #[inline]
-    fn number(self) -> u64 {
-        let site = u64::from(self.class) * 31 + u64::from(self.pool);
-        match self.on {
-            None => site,
-            Some(n) => site * 7 + u64::from(n),
-        }
-    }
 }
 
 // ---- classes of objects
@@ -359,14 +341,18 @@ impl<'p> Known<'p> {
         }
     }
 
-    /// What is known of a call of a method of an interface of the library, which no entry names, on an object.
-    pub(crate) fn face_answer(&self, face: LibClass, call: LibCall, on: Option<u32>) -> Answer
-        ensures { result ≡ face_answer self.now face call on }
+    /// What is known of a call that the machine makes itself, on an object of the class of one of the heap's numbers.
+    fn face_answer(&self, face: Face, on: Option<u32>) -> Answer
+        ensures { result ≡ face_answer self.now (class_of face) (call_of face) on }
     {
-        let found = self.select(id_of(on), Member::LibMethod(call), CallKind::Interface);
+        let found = self.select(
+            id_of(on),
+            Member::LibMethod(face.call()),
+            CallKind::Interface,
+        );
         Answer {
             what: self.chosen(found),
-            has: self.is_one_of(on, ClassRef::Lib(face)),
+            has: self.is_one_of(on, ClassRef::Lib(face.class())),
             hidden: self.is_hidden(found),
         }
     }
@@ -383,6 +369,16 @@ impl<'p> Known<'p> {
                 has: false,
                 hidden: false,
             },
+        }
+    }
+
+    /// What is known of what is asked.
+    pub(crate) fn told(&self, asked: Asked) -> Answer
+        ensures { result ≡ told self.now asked }
+    {
+        match asked {
+            Asked::Call(key) => self.answer(key),
+            Asked::Face { face, on } => self.face_answer(face, on),
         }
     }
 }

@@ -6,15 +6,17 @@ ghost use Rattle.jmachine.specs.Calls.{no_access, reached as reached_target, unl
 ghost use Rattle.jprogram.specs.declared.member.Selected.{Selected};
 ghost use Rattle.jprogram.specs.Classes.{Program};
 ghost use Rattle.jinvoke.specs.Answers.{chosen};
+ghost use Rattle.jinvoke.specs.Asked.{call_of, class_of};
 ghost use Rattle.jinvoke.specs.Faces.{FaceTarget, TargetAs, TargetWithin};
 ghost use Rattle.jinvoke.specs.Invoking.{IsMarked};
 
 use crate::answers::Calls;
+use crate::asked::Face;
 use crate::choosing::{Answer, number_of};
 use crate::invoking::found_by;
 use jcalls::{Callee, Found};
 use jheap::Heap;
-use jlib::{LibCall, LibClass, Thrown};
+use jlib::Thrown;
 use jstate::heap_laws;
 
 /// What a call by an interface of the library comes to.
@@ -72,13 +74,12 @@ impl<'p> Calls<'p> {
         &mut self,
         heap: &Heap,
         o: u32,
-        face: LibClass,
-        call: LibCall,
+        face: Face,
         full: bool,
         marks: &[M],
     ) -> Target<M>
         requires marks { length marks.now ≡ length self.old.parts }
-        ensures target { FaceTarget self.old marks.now heap.now face call full o result }
+        ensures target { FaceTarget self.old marks.now heap.now (class_of face) (call_of face) full o result }
         ensures within { TargetWithin (length marks.now) result }
         ensures same { self.new ≡ self.old }
     {
@@ -86,7 +87,7 @@ impl<'p> Calls<'p> {
         match heap.found(o) {
             None => Target::Stuck,
             Some(kind) => {
-                let answer = self.known().face_answer(face, call, number_of(kind));
+                let answer = self.face_answer(face, number_of(kind));
                 target_by(answer, full, marks)
             }
         }
