@@ -119,7 +119,7 @@ pub fn thrown_serves<M: Copy>(a: &Ancestors<'_>, x: &Objects<'_>, frames: &Frame
 
 /// Whether what a value names is one of a type.
 #[inline]
-#[tactic(auto, using(crate::proofs::Casting::none_is, crate::proofs::Casting::some_is))]
+#[tactic(auto, using(crate::proofs::Casting::none_is, crate::proofs::Casting::some_is), unfolding(jmachine::specs::World::world))]
 fn value_is(a: &Ancestors<'_>, x: &Objects<'_>, value: Value, t: TypeRef) -> bool
     ensures { result ≡ Making.is_one (world a.now) (named a.now t) (option_map (named a.now) (type_in x.now value)) }
 {

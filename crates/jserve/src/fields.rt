@@ -53,7 +53,7 @@ pub fn put_static_serves<M: Copy>(
 /// Whether a value serves as the object whose field is written. An object of the class `this` does, too, where this is one of its own fields
 /// and an `<init>` writes it.
 #[inline]
-#[tactic(auto, using(crate::proofs::Fielding::not_own, crate::proofs::Fielding::no_type, crate::proofs::Fielding::own_type))]
+#[tactic(auto, using(crate::proofs::Fielding::not_own, crate::proofs::Fielding::no_type, crate::proofs::Fielding::own_type), unfolding(jmachine::specs::World::world))]
 fn written_serves(
     a: &Ancestors<'_>,
     x: &Objects<'_>,

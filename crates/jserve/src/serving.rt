@@ -11,7 +11,7 @@ use juses::TypeRef;
 
 /// Whether a value serves where one of a type is wanted.
 #[inline]
-#[tactic(auto, using(crate::proofs::Wanting::no_type, crate::proofs::Wanting::of_type))]
+#[tactic(auto, using(crate::proofs::Wanting::no_type, crate::proofs::Wanting::of_type), unfolding(jmachine::specs::World::world))]
 pub(crate) fn serves(a: &Ancestors<'_>, x: &Objects<'_>, want: TypeRef, value: Value) -> bool
     ensures { result ≡ serves_in a.now x.now (Fits (named a.now want)) value }
 {
