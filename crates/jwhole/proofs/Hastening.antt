@@ -18,9 +18,10 @@ use Rattle.jexecute.specs.declared.executing.Executed.{Executed}
 use Rattle.jexecute.specs.Executing.{CameTo, Executes}
 use Rattle.jexecute.specs.Hastening.{Closes, Leads, Tries}
 use Rattle.jsafe.specs.States.{StatesStep}
-use Rattle.jwhole.specs.Engines.{IsEngine, WasExecuted, asks_next, next_of}
-use Rattle.jwhole.proofs.Arriving.{engine_again, engine_steps, knows, never_stuck, same_steps}
-use Rattle.jwhole.proofs.Asking.{answers_none}
+use Rattle.jengine.specs.Engines.{IsEngine, asks_next, next_of}
+use Rattle.jengine.proofs.Arriving.{engine_again, engine_steps, knows, never_stuck, same_steps}
+use Rattle.jengine.proofs.Asking.{answers_none}
+use Rattle.jwhole.specs.Executed.{WasExecuted}
 
 module _ {M K E : Type 0} (kept : ℕ → Option K) (entry : M → Option E) (mark : ℕ → M) (rules : Rules K E) (law : GuardedStep M K E)
     (types : StatesStep K E) where

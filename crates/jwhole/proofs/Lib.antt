@@ -1,7 +1,4 @@
-pub mod Arriving
-pub mod Asking
-pub mod Coursing
+pub mod Called
 pub mod Hastening
 pub mod Opened
-pub mod Starting
 pub mod Stood

@@ -1,73 +1,18 @@
--- A run by numbers begins where the run by the guard's rules does.
-use Rattle.std.proofs.Common.{◌≡◌, ◌∙◌, ℕ, ◌<◌, ◌≤◌, Bool, false, [], List, Option, Some, None, refl, sym, ap, subst, arith, rules, le-leb}
+-- The run of a machine that stands at its beginning, and of none.
+use Rattle.std.proofs.Common.{◌≡◌, ◌∙◌, ℕ, ◌<◌, Bool, false, [], Option, Some, None, ap, arith, rules}
 use Rattle.std.specs.Prelude.{Err, Ok, OnErr, Result, nat_le, if◌then◌else◌}
 use Rattle.jtrace.specs.declared.event.End.{End}
 use Rattle.jtrace.specs.declared.event.End.TheVariants as ends
-use Rattle.jlib.specs.declared.side.Side.{Side}
 use Rattle.jprogram.specs.Classes.{Program}
 use Rattle.jmachine.specs.declared.plan.Plan.{Plan}
 use Rattle.jmachine.specs.Acts.{Outcome, State}
-use Rattle.jmachine.specs.Frames.{domain_of}
 use Rattle.jmachine.specs.Machine.{opening, run}
 use Rattle.jmachine.specs.Opening.{opening_charge, opening_state}
 use Rattle.jmachine.specs.Runs.{run_from}
-use Rattle.jmachine.specs.Security as security
 use Rattle.jmachine.specs.Security.{Rules}
 use Rattle.jmachine.specs.Steps.{step}
-use Rattle.jcalls.specs.Marks.{marks_of}
-use Rattle.jguard.specs.Guarded.{GuardedOpening, MarksStand}
-use Rattle.jguard.specs.Standing.{IsThat, StandsFor}
-use Rattle.jrun.specs.Coming.{Begins}
 use Rattle.jrun.proofs.Courses as courses
-use Rattle.jopen.specs.declared.opening.FirstFrame.{FirstFrame}
-use Rattle.jopen.specs.Opened as opened
 use Rattle.jcore.specs.declared.machine.Machine.{Machine}
-use Rattle.jcore.specs.Machines.{state_of}
-use Rattle.jsafe.specs.States.{IsTypedState, OpensTyped}
-use Rattle.jprogram.specs.Members.{IsMain}
-use Rattle.jwhole.specs.Engines.{IsEngine, IsSafe}
-use Rattle.jwhole.specs.Grounds.{BegunOr, IsBegun, StartsOr}
-use Rattle.jwhole.proofs.Asking.{marked}
-
--- The first state by numbers stands for the first by the guard's rules,
-pub first_stands : {M K E : Type 0} (kept : ℕ → Option K) (entry : M → Option E) (mark : ℕ → M) (rules : Rules K E) (p : Program) (plan : Plan) (side : Side) (first : FirstFrame M)
-    (given : Option ℕ) (marks : List M) (m : Machine M) → GuardedOpening M K E → MarksStand entry mark rules → IsThat kept given rules.first → rules.side ≡ side
-    → first.mark ≡ mark (domain_of p plan.main) → security.handed side given ≡ opened.handed first.context → IsBegun p plan side marks first m
-    → StandsFor kept entry (state_of m) (opening_state rules p plan.main plan.heap)
-first_stands {M} kept entry mark rules p plan side first given marks m law stand that sided carried handed begun =
-    let r = marked side mark given in
-    subst (λ (s : State ℕ M). StandsFor kept entry s (opening_state rules p plan.main plan.heap)) (sym (begun.state r (sym carried) handed))
-    (law kept entry mark rules stand r (record { side = sym sided; marks = λ d. refl }) that p plan.main plan.heap)
-
--- which is typed,
-pub first_typed : {K E : Type 0} (rules : Rules K E) (p : Program) (plan : Plan) → OpensTyped K E → IsSafe rules p → IsMain p plan.main
-    → IsTypedState p rules.side (opening_state rules p plan.main plan.heap)
-first_typed rules p plan law safe main = law rules p main.0 plan.main plan.heap safe.sound safe.side safe.sided main.1
-
--- so the machine and the guard are an engine,
-pub engine_begun : {M K E : Type 0} (kept : ℕ → Option K) (entry : M → Option E) (mark : ℕ → M) (rules : Rules K E) (p : Program) (plan : Plan) (side : Side) (first : FirstFrame M)
-    (marks : List M) (m : Machine M) → MarksStand entry mark rules → rules.side ≡ side → marks ≡ marks_of mark p → IsBegun p plan side marks first m
-    → StandsFor kept entry (state_of m) (opening_state rules p plan.main plan.heap) → IsSafe rules p → IsTypedState p rules.side (opening_state rules p plan.main plan.heap)
-    → IsEngine kept entry mark rules m
-engine_begun kept entry mark rules p plan side first marks m stand sided carry begun stands safe typed = record {
-  ready = begun.ready;
-  side = begun.sided ∙ sym sided;
-  carry = begun.carry ∙ carry ∙ ap (marks_of mark) (sym begun.calls);
-  marks = stand;
-  safe = subst (λ (q : Program). IsSafe rules q) (sym begun.calls) safe;
-  stands = (opening_state rules p plan.main plan.heap, stands);
-  typed = subst (λ (q : Program). IsTypedState q rules.side (opening_state rules p plan.main plan.heap)) (sym begun.calls) typed;
-}
-
--- and the run has not begun.
-pub run_begins : {M K E : Type 0} (kept : ℕ → Option K) (entry : M → Option E) (rules : Rules K E) (p : Program) (plan : Plan) (m : Machine M)
-    → opening_charge p ≤ plan.heap → StandsFor kept entry (state_of m) (opening_state rules p plan.main plan.heap)
-    → Begins (λ s. StandsFor kept entry (state_of m) s) (opening rules p plan)
-run_begins kept entry rules p plan m room stands = record {
-  state = stands;
-  events = refl;
-  end = ap (λ (b : Bool). if b then None else Some ends.HeapFull) (le-leb (opening_charge p) plan.heap room);
-}
 
 -- Where the heap has too few cells the run has ended before its first step.
 pub ended : {K E : Type 0} (r : Rules K E) (p : Program) (plan : Plan) (k : ℕ) → plan.heap < opening_charge p
@@ -78,21 +23,6 @@ ended r p plan k few =
     let over : (opening r p plan).end ≡ Some ends.HeapFull = ap (λ (b : Bool). if b then None else Some ends.HeapFull) short in
     courses.stays (step r p plan) (opening r p plan) 0 k ends.HeapFull (omega arith) over
     ∙ ap (λ (b : Option End). record { state = opening_state r p plan.main plan.heap; events = []; end = b }) over
-
--- So the run by numbers starts, or the heap has too few cells for it.
-pub starts : {M K E : Type 0} (kept : ℕ → Option K) (entry : M → Option E) (mark : ℕ → M) (rules : Rules K E) (p : Program) (plan : Plan) (side : Side) (first : FirstFrame M)
-    (given : Option ℕ) (marks : List M) (o : Option (Machine M)) → GuardedOpening M K E → MarksStand entry mark rules → IsThat kept given rules.first → rules.side ≡ side
-    → first.mark ≡ mark (domain_of p plan.main) → security.handed side given ≡ opened.handed first.context → marks ≡ marks_of mark p
-    → IsSafe rules p → IsTypedState p rules.side (opening_state rules p plan.main plan.heap)
-    → BegunOr p plan side marks first o → StartsOr kept entry mark rules p plan o
-starts kept entry mark rules p plan side first given marks None law stand that sided carried handed carry safe typed begun = begun
-starts kept entry mark rules p plan side first given marks (Some m) law stand that sided carried handed carry safe typed begun =
-    let stands = first_stands kept entry mark rules p plan side first given marks m law stand that sided carried handed begun in
-    record {
-      engine = engine_begun kept entry mark rules p plan side first marks m stand sided carry begun stands safe typed;
-      begins = run_begins kept entry rules p plan m begun.room stands;
-      steps = rw (begun.calls, begun.planned) refl;
-    }
 
 -- A run by steps that are those of the rules is the run.
 runs_as : {K E : Type 0} (rules : Rules K E) (p : Program) (plan : Plan) (k : ℕ) (steps : State K E → Outcome (State K E)) → steps ≡ step rules p plan

@@ -13,7 +13,7 @@ use Rattle.jrun.specs.declared.stepping.Stepped.{Stepped}
 use Rattle.jrun.specs.declared.stepping.Stepped.TheVariants as done
 use Rattle.jrun.specs.Coming.{ComesTo, WhereWent, came_as}
 use Rattle.jrun.specs.Running.{told_in}
-use Rattle.jwhole.specs.Courses.{end_in}
+use Rattle.jengine.specs.Courses.{end_in}
 use Rattle.jtally.specs.declared.counts.Counts.{Counts}
 use Rattle.jtally.specs.Counting.{counts_in}
 use Rattle.jtally.specs.Events.{counted, none, with_event}

@@ -1,6 +1,4 @@
 pub mod Calls
-pub mod Courses
-pub mod Engines
-pub mod Grounds
+pub mod Executed
 pub mod Standing
 pub mod Tallied

@@ -11,7 +11,8 @@ ghost use Rattle.jcore.specs.declared.machine.Machine.{Machine as MachineOf};
 ghost use Rattle.jcore.specs.Machines.{IsReady, StaysFixed};
 ghost use Rattle.jexecute.specs.Executing.{Executes};
 ghost use Rattle.jwhole.specs.Calls.{AsksFor};
-ghost use Rattle.jwhole.specs.Engines.{WasExecuted, asks_next, next_of};
+ghost use Rattle.jengine.specs.Engines.{asks_next, next_of};
+ghost use Rattle.jwhole.specs.Executed.{WasExecuted};
 
 use jbegin::begin_thread;
 use jcallcheck::{call_check, call_kept_check};

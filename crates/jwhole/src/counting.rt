@@ -8,13 +8,13 @@ ghost use Rattle.jrun.specs.Running.{told_in};
 ghost use Rattle.jtally.specs.Events.{counted};
 ghost use Rattle.jyield.specs.Laws.{AreSided};
 ghost use Rattle.jprogram.specs.Members.{IsMain};
-ghost use Rattle.jwhole.specs.Courses.{Stands, end_of, steps};
-ghost use Rattle.jwhole.specs.Grounds.{IsGround};
+ghost use Rattle.jengine.specs.Courses.{Stands, end_of, steps};
+ghost use Rattle.jengine.specs.Grounds.{IsGround};
 ghost use Rattle.jwhole.specs.Standing.{IsAt};
 ghost use Rattle.jwhole.specs.Tallied.{tally_of};
 
 use crate::engine::Engine;
-use crate::grounds::Ground;
+use jengine::Ground;
 use jguard::Guard;
 use jlink::LinkedProgram;
 use jmachine::Plan;

@@ -7,16 +7,12 @@ ghost use Rattle.jmachine.specs.Steps.{step as steps_by};
 ghost use Rattle.jguard.specs.Standing.{AskedOnce, Keeps};
 ghost use Rattle.jrun.specs.Coming.{ComesTo, WhereWent, came_as};
 ghost use Rattle.jyield.specs.Laws.{AreSided};
-ghost use Rattle.jwhole.specs.Courses;
-ghost use Rattle.jwhole.specs.Courses.{AreLive, Holds, Runs, Stands, asks_of, end_in, end_of, is_lost, left_by, steps};
+ghost use Rattle.jengine.specs.Courses.{AreLive, Holds, Runs, Stands, asks_of, end_in, end_of, is_lost, steps};
 ghost use Rattle.jprogram.specs.Members.{IsMain};
-ghost use Rattle.jwhole.specs.Grounds.{IsGround};
+ghost use Rattle.jengine.specs.Grounds.{IsGround};
 
-use crate::grounds::Ground;
 use crate::moving::move_on;
-use crate::running::start;
-use crate::safety::is_sound;
-use jcore::Machine;
+use jengine::{Course, Ground, course_of, is_sound, leave, put, start};
 use jguard::Guard;
 use jlink::LinkedProgram;
 use jmachine::Plan;
@@ -24,18 +20,6 @@ use jrun::Stepped;
 use jtrace::End;
 use std::alloc::{AllocError, Global};
 use std::marker::Model;
-use std::mem::replace;
-
-/// Where the run of an engine is.
-#[derive(Drop)]
-enum Course<'a, 'p, M> {
-    /// It goes on.
-    Runs { machine: Machine<'a, 'p, M> },
-    /// It has ended.
-    Ended { end: End },
-    /// A step found no memory.
-    Lost,
-}
 
 /// The run of a program, step by step, by the rules of a guard that answers what its steps ask (class documentation of AccessController).
 /// Contracts see the states that its numbers and marks stand for, by what its guard gave. Between steps the machine and its guard are such as
@@ -47,23 +31,13 @@ pub struct Engine<'a, 'p, G: Guard> {
 }
 
 impl<'a, 'p, G: Guard> Model for Engine<'a, 'p, G> {
-    ghost use Rattle.jwhole.specs.Courses.{Coursed, Holds};
+    ghost use Rattle.jengine.specs.Courses.{Coursed, Holds};
 
     ghost Value = { Coursed G G.Mark };
 
     ghost view = { λ e. record { guard = e.guard; course = e.course } };
 
     ghost invariant = { λ e. Holds (G.kept e.guard) (G.entry e.guard) G.mark (G.rules e.guard) e.course };
-}
-
-/// A course begins with a machine; where there is none, the heap had too few cells.
-fn course_of<'a, 'p, M>(begun: Option<Machine<'a, 'p, M>>) -> Course<'a, 'p, M>
-    ensures { result ≡ Courses.course_of begun.entry }
-{
-    match begun {
-        None => Course::Ended { end: End::HeapFull },
-        Some(machine) => Course::Runs { machine },
-    }
 }
 
 /// One step of a course. After an error nothing is said of it.
@@ -93,24 +67,6 @@ fn go_on<G: Guard>(
         }
         Course::Ended { .. } => unreachable!(),
         Course::Lost => Err(AllocError),
-    }
-}
-
-/// A course is another from here.
-fn put<'a, 'p, M: Copy>(course: &mut Course<'a, 'p, M>, new: Course<'a, 'p, M>)
-    ensures { course.new ≡ new.entry }
-{
-    let old = replace(course, new);
-    drop(old);
-}
-
-/// Where a step leaves a course: one that ended the run is its end.
-fn leave<M: Copy>(course: &mut Course<'_, '_, M>, came: &Stepped)
-    ensures { course.new ≡ left_by course.old came.now }
-{
-    match came {
-        Stepped::Went { .. } => {}
-        Stepped::Ended { end, .. } => put(course, Course::Ended { end: *end }),
     }
 }
 

@@ -2,14 +2,10 @@
 //! control.
 //!
 //! - `Calls`: what a call of the library asks of access control (`AsksFor`), by which its step is chosen.
-//! - `Engines`: what is asked of a program and of rules, so that no run is stuck (`IsSafe`), and what holds between steps of a machine and a
-//!   guard (`IsEngine`): that, the machine is ready, its frames' marks are the guard's, and there is a typed state for which its own stands.
-//! - `Grounds`: what stands as long as a program runs (`IsGround`), and how a run begins: by numbers for all rules that hand `main` the
-//!   same (`IsBegun`), and by the guard's rules (`Starts`), or the heap has too few cells.
-//! - `Courses`: where the run of an engine is: its end, if it has one (`end_of`), whether a step found no memory (`is_lost`), the
-//!   states for which it stands (`Stands`), what is so of the threads of each such state (`AreLive`), what a step of the guard's rules
-//!   comes to (`steps`), and what holds of it between steps (`Holds`). That is the invariant of `Engine`, whose `step` asks only that
-//!   the run has not ended; contracts see an engine as its guard and where its run is (`Coursed`).
+//! - `Executed`: a step that was executed, of which a call of the library may be left to make.
+//!
+//! What a machine and a guard are together, how a run begins and where it is, is `jengine`'s; what its `Holds` says between steps is the
+//! invariant of `Engine`, whose `step` asks only that the run has not ended.
 //!
 //! Proved: `advance` comes to jmachine's step by all rules by numbers that answer as the guard did what the step asks, be it an
 //! instruction (`jexecute`), a call of the library (`jcallplain`, `jcallcheck`, `jcallcontext`, `jcallthread`) or the beginning of a
@@ -33,16 +29,12 @@
 #![tactic(auto)]
 
 mod advancing;
-mod beginning;
 mod counting;
 mod engine;
-mod grounds;
 mod moving;
 mod running;
-mod safety;
 
 pub use counting::count;
 pub use engine::Engine;
-pub use grounds::Ground;
+pub use jengine::{Ground, is_sound};
 pub use running::run;
-pub use safety::is_sound;

@@ -5,11 +5,11 @@ ghost use Rattle.jguard.specs.Standing.{AskedOnce, Keeps, StandsFor};
 ghost use Rattle.jrun.specs.declared.came.Came.TheVariants.{Stuck};
 ghost use Rattle.jrun.specs.Coming.{AreFew, ComesTo, Goes, WhereGoes, WhereWent, came_as};
 ghost use Rattle.jcore.specs.Machines.{state_of};
-ghost use Rattle.jwhole.specs.Engines.{IsEngine, asks_next};
+ghost use Rattle.jengine.specs.Engines.{IsEngine, asks_next};
 
 use crate::advancing::{advance, answer};
-use crate::safety::ByRules;
 use jcore::Machine;
+use jengine::ByRules;
 use jexecute::hasten;
 use jguard::{Guard, guard_laws};
 use jrun::{Came, Stepped, Stepping, Stretch};
@@ -106,7 +106,7 @@ impl<'a, 'p, G: Guard> Stepping for Moving<'a, 'p, G::Mark, G> {
     ghost use Rattle.jmachine.specs.Steps.{step as steps_by};
     ghost use Rattle.jguard.specs.Standing.{StandsFor};
     ghost use Rattle.jcore.specs.Machines.{state_of};
-    ghost use Rattle.jwhole.specs.Engines.{IsEngine};
+    ghost use Rattle.jengine.specs.Engines.{IsEngine};
 
     ghost State = { StateOf G.Kept G.Entry };
 

@@ -2,81 +2,22 @@ ghost use Rattle.std.specs.Prelude.{◌≡◌, ◌<◌, ◌≤◌, ◌^◌, IfOk
 ghost use Rattle.jbase.specs.Causes.{IsCut, Rose, appended};
 ghost use Rattle.jtrace.specs.declared.fault.RunFault.TheVariants.{Sink as SinkFault};
 ghost use Rattle.jtyping.specs.Typing.{WellTyped};
-ghost use Rattle.jmachine.specs.Frames;
 ghost use Rattle.jmachine.specs.Machine.{run as run_of};
 ghost use Rattle.jmachine.specs.Runs.{ending, run_text};
-ghost use Rattle.jmachine.specs.Security;
-ghost use Rattle.jopen.specs.Opened;
 ghost use Rattle.jyield.specs.Laws.{AreSided};
 ghost use Rattle.jprogram.specs.Members.{IsMain};
-ghost use Rattle.jwhole.specs.Engines.{IsSafe};
-ghost use Rattle.jwhole.specs.Grounds.{IsGround, StartsOr};
+ghost use Rattle.jengine.specs.Engines.{IsSafe};
+ghost use Rattle.jengine.specs.Grounds.{IsGround};
 
-use crate::beginning::begin;
-use crate::grounds::Ground;
 use crate::moving::Moving;
-use crate::safety::{ByRules, is_sound};
-use jcore::Machine;
-use jguard::{Guard, Sided, guard_laws};
+use jengine::{Ground, is_sound, start};
+use jguard::Guard;
 use jio::Sink;
-use jlib::Side;
 use jlink::LinkedProgram;
 use jmachine::Plan;
-use jopen::FirstFrame;
-use jprogram::MethodId;
 use jrun::close;
-use jsafe::states_laws;
 use jtrace::{End, RunFault};
-use std::alloc::{AllocError, Global};
-
-/// What `main` is given of a context: on the passing side the first, on the other none.
-fn handed(side: Side, first: Option<u64>) -> Option<u64>
-    ensures { Security.handed side first ≡ Opened.handed result }
-{
-    match side {
-        Side::Source => None,
-        Side::Passing => first,
-    }
-}
-
-/// The domain of a method's class.
-fn domain_of(program: &LinkedProgram, m: MethodId) -> u32
-    ensures { result ≡ Frames.domain_of program.now m }
-{
-    match program.parts().get(m.class as usize) {
-        None => 0,
-        Some(part) => part.domain,
-    }
-}
-
-/// The machine at the beginning of a run, for a guard that gave what `main` is handed: none exactly where the heap has too few cells.
-pub(crate) fn start<'a, 'p, G: Guard>(
-    alloc: Global,
-    base: &'a Ground<'p, G::Mark>,
-    program: &'p LinkedProgram,
-    plan: &'a Plan,
-    guard: &mut G,
-) -> Result<Option<Machine<'a, 'p, G::Mark>>, AllocError>
-    requires base { IsGround program.now G.mark base.now }
-    requires most { plan.now.heap < 2 ^ 31 }
-    requires main { IsMain program.now plan.now.main }
-    requires safe { IsSafe (G.rules guard.old) program.now }
-    ensures starts { IfOk result (StartsOr (G.kept guard.new) (G.entry guard.new) G.mark (G.rules guard.old) program.now plan.now) }
-    ensures rules { G.rules guard.new ≡ G.rules guard.old }
-{
-    guard_laws::<G>();
-    states_laws::<ByRules<G>>();
-    let mark = guard.mark_of(domain_of(program, plan.main));
-    let given = guard.first(alloc)?;
-    let context = handed(G::On::SIDE, given);
-    let first = FirstFrame {
-        main: plan.main,
-        mark,
-        context,
-    };
-    let begun = begin(alloc, base, plan, G::On::SIDE, first)?;
-    Ok(begun)
-}
+use std::alloc::Global;
 
 /// Runs a program by what stands as long as it runs, as `run` does, under a plan that has few enough cells.
 fn run_on<'p, G: Guard + Drop, K: Sink>(

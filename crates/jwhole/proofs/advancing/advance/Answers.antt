@@ -1,8 +1,9 @@
 use Rattle.std.proofs.Common.{◌∙◌, ap}
 use Rattle.std.specs.Prelude.{not}
 use Rattle.jguard.proofs.Once.{asked_nothing}
-use Rattle.jwhole.specs.Engines.{asks_next}
-use Rattle.jwhole.proofs.Asking.{answers_none, asks_nothing, fixed_then, has_frames, has_rules, without}
+use Rattle.jengine.specs.Engines.{asks_next}
+use Rattle.jengine.proofs.Asking.{answers_none, asks_nothing, fixed_then, without}
+use Rattle.jwhole.proofs.Called.{has_frames, has_rules}
 use Rattle.jwhole.proofs.advancing.advance.Goals as goal
 
 pub begin_thread-requires-clause-none : goal.begin_thread-requires-clause-none

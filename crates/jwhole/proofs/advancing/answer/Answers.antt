@@ -1,8 +1,9 @@
 use Rattle.std.proofs.Common.{◌∙◌, sym}
 use Rattle.jguard.proofs.Once.{asked_alike, asked_nothing}
 use Rattle.jexecute.specs.Executing.{CameTo, StandsAt}
-use Rattle.jwhole.specs.Engines.{asks_next}
-use Rattle.jwhole.proofs.Asking.{answered_at, answers_none, carry_then, known_at, tells_at}
+use Rattle.jengine.specs.Engines.{asks_next}
+use Rattle.jengine.proofs.Asking.{answers_none, carry_then}
+use Rattle.jwhole.proofs.Called.{answered_at, known_at, tells_at}
 use Rattle.jwhole.proofs.advancing.answer.Goals as goal
 
 pub returns-in-Done-clause-answered : goal.returns-in-Done-clause-answered

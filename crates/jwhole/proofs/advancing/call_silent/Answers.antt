@@ -1,6 +1,6 @@
 use Rattle.jguard.proofs.Once.{asked_nothing}
 use Rattle.jcore.specs.Answering.{asked_of, outcome_of}
-use Rattle.jwhole.proofs.Asking.{answers_none, free_asks}
+use Rattle.jengine.proofs.Asking.{answers_none, free_asks}
 use Rattle.jwhole.proofs.advancing.call_silent.Goals as goal
 
 pub returns-clause-answered : goal.returns-clause-answered

@@ -1,6 +1,6 @@
 use Rattle.std.proofs.Common.{◌≡◌, ◌∙◌, ap, arith, sym}
 use Rattle.jtrace.specs.declared.event.End.{End}
-use Rattle.jwhole.specs.Courses.{Stands, end_of, steps}
+use Rattle.jengine.specs.Courses.{Stands, end_of, steps}
 use Rattle.jwhole.proofs.Stood.{at_end, at_first, at_last, at_next}
 use Rattle.jwhole.proofs.counting.count_all.Goals as goal
 

@@ -1,5 +1,5 @@
 use Rattle.std.proofs.Common.{◌≤◌, ◌-◌}
-use Rattle.jwhole.specs.Courses.{Stands, end_of, steps}
+use Rattle.jengine.specs.Courses.{Stands, end_of, steps}
 use Rattle.jwhole.proofs.Stood.{AreAt}
 use Rattle.jwhole.proofs.counting.count_all.Given as goal
 

@@ -1,6 +1,6 @@
 use Rattle.std.proofs.Common.{◌∙◌, ap}
 use Rattle.jrun.proofs.Courses.{if_ok}
-use Rattle.jwhole.specs.Courses.{Stands, end_of, steps}
+use Rattle.jengine.specs.Courses.{Stands, end_of, steps}
 use Rattle.jtally.specs.Events.{counted}
 use Rattle.jwhole.proofs.Stood.{stands_next, told_next}
 use Rattle.jwhole.proofs.counting.count_step.Goals as goal

@@ -1,4 +1,4 @@
-use Rattle.jwhole.proofs.Coursing.{comes_on}
+use Rattle.jengine.proofs.Coursing.{comes_on}
 use Rattle.jwhole.proofs.engine.go_on.Goals as goal
 
 pub returns-in_ok-came-in-Runs-clause-comes : goal.returns-in_ok-came-in-Runs-clause-comes

@@ -1,8 +1,8 @@
 use Rattle.std.proofs.Common.{subst, sym}
 use Rattle.jmachine.specs.Security.{Rules}
 use Rattle.jrun.specs.Coming.{WhereWent}
-use Rattle.jwhole.specs.Engines.{IsEngine}
-use Rattle.jwhole.proofs.Asking.{has_rules}
+use Rattle.jengine.specs.Engines.{IsEngine}
+use Rattle.jwhole.proofs.Called.{has_rules}
 use Rattle.jwhole.proofs.Hastening.{engine_then, executed, executed_engine, executed_goes, isnt_stuck, last_goes, quietly_then}
 use Rattle.jwhole.proofs.moving.make_steps.Goals as goal
 

@@ -3,8 +3,8 @@ use Rattle.jmachine.specs.Security.{Rules}
 use Rattle.jrun.specs.Coming.{WhereWent}
 use Rattle.jguard.specs.Standing.{StandsFor}
 use Rattle.jcore.specs.Machines.{state_of}
-use Rattle.jwhole.specs.Engines.{IsEngine}
-use Rattle.jwhole.proofs.Arriving.{engine_again, engine_steps, knows, never_stuck, same_steps}
+use Rattle.jengine.specs.Engines.{IsEngine}
+use Rattle.jengine.proofs.Arriving.{engine_again, engine_steps, knows, never_stuck, same_steps}
 use Rattle.jwhole.proofs.moving.move_on.Goals as goal
 
 pub advance-requires-clause-ready : goal.advance-requires-clause-ready

@@ -7,8 +7,8 @@ use Rattle.jmachine.specs.Opening.{opening_charge}
 use Rattle.jmachine.specs.Runs.{Run, ending, run_text}
 use Rattle.jmachine.specs.Security.{Rules}
 use Rattle.jrun.proofs.Courses.{if_ok, on_err, on_ok}
-use Rattle.jwhole.specs.Engines.{IsEngine}
-use Rattle.jwhole.specs.Grounds.{Starts}
+use Rattle.jengine.specs.Engines.{IsEngine}
+use Rattle.jengine.specs.Grounds.{Starts}
 use Rattle.jwhole.proofs.Opened.{at_err, ended, runs_by}
 use Rattle.jwhole.proofs.running.run_on.Goals as goal
 

@@ -1,5 +1,5 @@
-use Rattle.jwhole.specs.Courses.{course_of}
-use Rattle.jwhole.proofs.Coursing.{ended_first, found_first, holds_first, live_in, stands_first, steps_first}
+use Rattle.jengine.specs.Courses.{course_of}
+use Rattle.jengine.proofs.Coursing.{ended_first, found_first, holds_first, live_in, stands_first, steps_first}
 use Rattle.jwhole.proofs.engine.Engine.open.Goals as goal
 
 pub start-requires-clause-safe : goal.start-requires-clause-safe

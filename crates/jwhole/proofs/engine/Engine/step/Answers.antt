@@ -1,5 +1,5 @@
-use Rattle.jwhole.specs.Courses.{left_by}
-use Rattle.jwhole.proofs.Coursing.{comes_left, ended_left, found_left, holds_left, live_in, same_left}
+use Rattle.jengine.specs.Courses.{left_by}
+use Rattle.jengine.proofs.Coursing.{comes_left, ended_left, found_left, holds_left, live_in, same_left}
 use Rattle.jwhole.proofs.engine.Engine.step.Goals as goal
 
 pub returns-in-Ok-clause-comes : goal.returns-in-Ok-clause-comes

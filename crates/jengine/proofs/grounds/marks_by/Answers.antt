@@ -2,8 +2,8 @@ use Rattle.std.proofs.Common.{◌≡◌, ◌<◌, ◌≤◌, ◌∙◌, List, le
 use Rattle.std.specs.Prelude.{get_or}
 use Rattle.std.proofs.lemmas.List.{take_all}
 use Rattle.jprogram.specs.declared.part.CodePart.{CodePart}
-use Rattle.jwhole.proofs.Starting.{mapped_more}
-use Rattle.jwhole.proofs.grounds.marks_by.Goals as goal
+use Rattle.jengine.proofs.Starting.{mapped_more}
+use Rattle.jengine.proofs.grounds.marks_by.Goals as goal
 
 pub loop-part-preserved : goal.loop-part-preserved
 loop-part-preserved g c =

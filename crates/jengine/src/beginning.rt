@@ -4,7 +4,7 @@ ghost use Rattle.jprogram.specs.Classes.{Program};
 ghost use Rattle.jlink.specs.Coded.{AreFiles};
 ghost use Rattle.jshapes.specs.Tied.{AreTied};
 ghost use Rattle.jstep.specs.Stepping.{IsFixed};
-ghost use Rattle.jwhole.specs.Grounds.{BegunOr, IsGround};
+ghost use Rattle.jengine.specs.Grounds.{BegunOr, IsGround};
 
 use crate::grounds::Ground;
 use jbase::Seq;

@@ -7,8 +7,8 @@ use jsafe::OneMachine;
 use jsound::sound_law;
 use std::marker::PhantomData;
 
-/// The machine by a guard's rules.
-pub(crate) struct ByRules<G> {
+/// The machine by a guard's rules, of which laws of typed states (`states_laws`) are asked.
+pub struct ByRules<G> {
     guard: PhantomData<G>,
 }
 

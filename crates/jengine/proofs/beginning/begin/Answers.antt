@@ -1,8 +1,8 @@
 use Rattle.std.proofs.Common.{refl}
 use Rattle.jopen.specs.Opened.{Opens}
 use Rattle.jcore.specs.declared.machine.Machine.{Machine}
-use Rattle.jwhole.proofs.Starting.{begun_by}
-use Rattle.jwhole.proofs.beginning.begin.Goals as goal
+use Rattle.jengine.proofs.Starting.{begun_by}
+use Rattle.jengine.proofs.beginning.begin.Goals as goal
 
 pub open-requires-clause-tied : goal.open-requires-clause-tied
 open-requires-clause-tied g c = c.requires.base.1.tied

@@ -20,8 +20,8 @@ use Rattle.jcore.specs.Comings.{GoesOn, outcome_by}
 use Rattle.jcore.specs.Machines.{AreRules, StaysFixed, state_of}
 use Rattle.jsafe.specs.States as states
 use Rattle.jsafe.specs.States.{IsTypedState, StatesStep}
-use Rattle.jwhole.specs.Engines.{IsEngine, IsSafe, asks_next, next_of}
-use Rattle.jwhole.proofs.Asking.{carry_then}
+use Rattle.jengine.specs.Engines.{IsEngine, IsSafe, asks_next, next_of}
+use Rattle.jengine.proofs.Asking.{carry_then}
 
 -- ---- marks
 

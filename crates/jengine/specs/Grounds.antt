@@ -20,8 +20,8 @@ use Rattle.jguard.specs.Standing.{StandsFor}
 use Rattle.jrun.specs.Coming.{Begins}
 use Rattle.jcore.specs.declared.machine.Machine.{Machine}
 use Rattle.jcore.specs.Machines.{IsReady, state_of}
-use Rattle.jwhole.specs.declared.grounds.Ground.{Ground}
-use Rattle.jwhole.specs.Engines.{IsEngine}
+use Rattle.jengine.specs.declared.grounds.Ground.{Ground}
+use Rattle.jengine.specs.Engines.{IsEngine}
 
 -- The program is ready, and this is what stands in its heap's cells.
 pub record IsShaped (p : Program) (r : Prepared) (x : Shaped) : Type 0 where

@@ -9,9 +9,9 @@ use Rattle.jlink.specs.Coded.{AreFiles}
 use Rattle.jlib.specs.declared.side.Side.{Side}
 use Rattle.jmachine.specs.Security.{handed}
 use Rattle.jopen.specs.Opened as opened
-use Rattle.jwhole.specs.Grounds.{BegunOr, IsGround}
-use Rattle.jwhole.proofs.Opened.{first_typed, starts}
-use Rattle.jwhole.proofs.running.start.Goals as goal
+use Rattle.jengine.specs.Grounds.{BegunOr, IsGround}
+use Rattle.jengine.proofs.Opened.{first_typed, starts}
+use Rattle.jengine.proofs.opening.start.Goals as goal
 
 of_program : {M : Type 0} {p q : Program} (plan : Plan) (side : Side) (marks : List M) (first : FirstFrame M) (m : Option (Machine M)) → p ≡ q
     → BegunOr p plan side marks first m → BegunOr q plan side marks first m

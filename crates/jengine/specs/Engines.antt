@@ -9,10 +9,7 @@ use Rattle.jcalls.specs.Marks.{marks_of}
 use Rattle.jguard.specs.Guarded.{MarksStand}
 use Rattle.jguard.specs.Standing.{StandsFor}
 use Rattle.jcore.specs.declared.machine.Machine.{Machine}
-use Rattle.jcore.specs.Answering.{AsksKnown}
-use Rattle.jcore.specs.Machines.{IsReady, StaysFixed, state_of}
-use Rattle.jexecute.specs.declared.executing.Executed.{Executed}
-use Rattle.jexecute.specs.Executing.{Executes}
+use Rattle.jcore.specs.Machines.{IsReady, state_of}
 use Rattle.jyield.specs.Laws.{AreSided}
 use Rattle.jsafe.specs.Sound.{IsSound}
 use Rattle.jsafe.specs.States.{IsTypedState}
@@ -42,13 +39,3 @@ asks_next m = asks m.side m.calls m.plan.now (state_of m)
 -- what that comes to
 abbrev pub next_of : {M : Type 0} → Machine M → Rules ℕ M → Outcome (State ℕ M)
 next_of m r = step r m.calls m.plan.now (state_of m)
-
--- ---- a step that was executed
-
--- A step of a machine came to this, and has left another, for which what it asks of access control is known to the guard.
-pub record WasExecuted {M K E : Type 0} (kept : ℕ → Option K) (entry : M → Option E) (mark : ℕ → M) (found : Executed) (n : Machine M) : Type 0 where
-  pub before : Machine M
-  pub executes : Executes before found n
-  pub fixed : StaysFixed before n
-  pub carry : before.fixed.marks.now ≡ marks_of mark before.calls
-  pub known : AsksKnown kept entry before (asks_next before)

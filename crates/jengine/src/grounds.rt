@@ -1,6 +1,6 @@
 ghost use Rattle.std.specs.Prelude.{◌≡◌, IfOk};
 ghost use Rattle.jcalls.specs.Marks.{marks_of};
-ghost use Rattle.jwhole.specs.Grounds.{IsGround, IsShaped};
+ghost use Rattle.jengine.specs.Grounds.{IsGround, IsShaped};
 
 use jbase::Seq;
 use jfits::Ancestors;

@@ -13,9 +13,9 @@ use Rattle.jrun.specs.declared.stepping.Stepped.{Stepped}
 use Rattle.jrun.specs.declared.stepping.Stepped.TheVariants as done
 use Rattle.jcore.specs.declared.machine.Machine.{Machine}
 use Rattle.jcore.specs.Machines.{state_of}
-use Rattle.jwhole.specs.declared.engine.Course.{Course}
-use Rattle.jwhole.specs.declared.engine.Course.TheVariants as course
-use Rattle.jwhole.specs.Engines.{IsEngine, asks_next}
+use Rattle.jengine.specs.declared.course.Course.{Course}
+use Rattle.jengine.specs.declared.course.Course.TheVariants as course
+use Rattle.jengine.specs.Engines.{IsEngine, asks_next}
 
 -- the end of a run, if it has ended
 abbrev pub end_of : {M : Type 0} → Course M → Option End

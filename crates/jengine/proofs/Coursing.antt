@@ -21,10 +21,10 @@ use Rattle.jrun.specs.declared.stepping.Stepped.{Stepped}
 use Rattle.jrun.specs.declared.stepping.Stepped.TheVariants as done
 use Rattle.jcore.specs.declared.machine.Machine.{Machine}
 use Rattle.jcore.specs.Machines.{state_of, store_of}
-use Rattle.jwhole.specs.declared.engine.Course.{Course}
-use Rattle.jwhole.specs.declared.engine.Course.TheVariants as course
-use Rattle.jwhole.specs.Courses.{AreLive, Holds, Runs, Stands, course_of, end_in, end_of, is_lost, left_by, steps}
-use Rattle.jwhole.specs.Grounds.{StartsOr}
+use Rattle.jengine.specs.declared.course.Course.{Course}
+use Rattle.jengine.specs.declared.course.Course.TheVariants as course
+use Rattle.jengine.specs.Courses.{AreLive, Holds, Runs, Stands, course_of, end_in, end_of, is_lost, left_by, steps}
+use Rattle.jengine.specs.Grounds.{StartsOr}
 
 -- ---- the beginning
 

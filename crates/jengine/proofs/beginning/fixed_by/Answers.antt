@@ -2,7 +2,7 @@ use Rattle.std.proofs.Common.{◌∙◌, length, ap, subst, sym}
 use Rattle.std.proofs.lemmas.List.{length-map}
 use Rattle.jready.specs.declared.tables.Tables.{Tables}
 use Rattle.jshapes.specs.Tied.{AreTied}
-use Rattle.jwhole.proofs.beginning.fixed_by.Goals as goal
+use Rattle.jengine.proofs.beginning.fixed_by.Goals as goal
 
 pub returns-clause-fixed : goal.returns-clause-fixed
 returns-clause-fixed g c p mark f = record {

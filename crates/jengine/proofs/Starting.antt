@@ -33,8 +33,8 @@ use Rattle.jopen.specs.declared.opening.Opened.{Opened}
 use Rattle.jopen.specs.Opened.{BeginsMain, IsAlone, Opens}
 use Rattle.jcore.specs.declared.machine.Machine.{Machine}
 use Rattle.jcore.specs.Machines.{GuestStands, IsMachine, classes_of, store_of, things_of}
-use Rattle.jwhole.specs.declared.grounds.Ground.{Ground}
-use Rattle.jwhole.specs.Grounds.{IsBegun, IsGround}
+use Rattle.jengine.specs.declared.grounds.Ground.{Ground}
+use Rattle.jengine.specs.Grounds.{IsBegun, IsGround}
 
 -- ---- the program
 

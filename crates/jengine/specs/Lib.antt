@@ -1,0 +1,3 @@
+pub mod Courses
+pub mod Engines
+pub mod Grounds
