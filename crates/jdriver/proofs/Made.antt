@@ -12,7 +12,8 @@ use Rattle.jshow.specs.declared.status.Status.TheVariants as statuses
 use Rattle.jtally.specs.declared.counts.Tally.{Tally}
 use Rattle.jtask.specs.Stages.{Missing, Refused, Stopped}
 use Rattle.jtask.specs.Tasks.{reads as reads_files}
-use Rattle.jdriver.specs.Making.{held, made, stopped_or_made, told_both}
+use Rattle.jstore.specs.Made.{held}
+use Rattle.jdriver.specs.Making.{made, stopped_or_made, told_both}
 use Rattle.jdriver.specs.Answers.{IsSized, NoFileFault, answer, makes}
 use Rattle.jdriver.specs.Headline.{AnswersAll, AnswersSome, RunsPassed}
 

@@ -17,8 +17,8 @@ use Rattle.jtask.specs.declared.ground.ClassPath.{ClassPath}
 use Rattle.jtask.specs.Grounds.{Rise, domains_of}
 use Rattle.jtask.specs.Stages.{Stopped, bytes_at, found}
 use Rattle.jtask.specs.Tasks.{class_at, class_read, part_at}
-use Rattle.jdriver.specs.Folders.{path_of}
-use Rattle.jdriver.proofs.Binds.{bound}
+use Rattle.jstore.specs.Folders.{path_of}
+use Rattle.jstore.proofs.Binds.{bound}
 use Rattle.jdriver.proofs.Grounds.{replaced}
 
 -- ---- the bytes of files

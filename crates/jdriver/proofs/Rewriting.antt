@@ -26,9 +26,9 @@ use Rattle.jtask.specs.Linking.{linked, unless_broken}
 use Rattle.jtask.specs.Rewriting.{rewritten, unless_limited}
 use Rattle.jtask.specs.Stages.{Missing, Refused, Stopped, bytes_at}
 use Rattle.jtask.specs.Tasks.{grants_at, ground_in, job_read, moved_of_parts, part_at, rewrite_at, rewrite_of_ground, rewrite_of_parts, rewrite_of_text, task}
+use Rattle.jstore.specs.Folders.{files_below}
+use Rattle.jstore.proofs.Binds.{bound}
 use Rattle.jdriver.specs.Answers.{answer, shown, stopped_or_shown}
-use Rattle.jdriver.specs.Folders.{files_below}
-use Rattle.jdriver.proofs.Binds.{bound}
 use Rattle.jdriver.proofs.Parts.{found_is}
 
 -- ---- stage by stage

@@ -40,11 +40,11 @@ use Rattle.jtask.specs.Linking.{linked, unless_broken}
 use Rattle.jtask.specs.Rewriting.{rewritten, unless_limited}
 use Rattle.jtask.specs.Stages.{Stopped, found, judged}
 use Rattle.jtask.specs.Tasks.{grants_at, grants_of, grants_read, ground_at, ground_in, job_read, part_at, run_at, run_in, run_of_ground, run_of_parts, runnable, task}
+use Rattle.jstore.specs.Folders.{all_below, class_below, files_below, job_below, path_of}
+use Rattle.jstore.proofs.Names.{is_name}
 use Rattle.jdriver.specs.Answers.{answer, shown, stopped_or_shown}
-use Rattle.jdriver.specs.Folders.{all_below, class_below, files_below, job_below, path_of}
 use Rattle.jdriver.specs.Alike.{AreRead, IsStored, RunsAlike}
 use Rattle.jdriver.proofs.Grounds.{Fine, ground_again, is_fine, replaced}
-use Rattle.jdriver.proofs.Names.{is_name}
 use Rattle.jdriver.proofs.Parts.{AllHeld, ArePartsOf, ReadsBack, SpellsWhole, all_fit, are_parts, are_parts_of, domains_small, parts_again, paths_of}
 use Rattle.jdriver.proofs.Rewriting.{Rewrites, rewrites, stored_files}
 

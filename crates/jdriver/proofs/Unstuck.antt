@@ -53,8 +53,8 @@ use Rattle.jtask.specs.Rewriting.{rewritten}
 use Rattle.jtask.specs.Stages.{Stopped, bytes_at, judged}
 use Rattle.jtask.specs.Tasks.{grants_at, ground_at, ground_in, job_read, part_at, run_at, run_in, run_of_ground, run_of_parts, runnable, side_of, task}
 use Rattle.jtask.proofs.Mains.{found_is}
+use Rattle.jstore.proofs.Binds.{bound}
 use Rattle.jdriver.specs.Unstuck.{AllGoOn, BothGoOn, ContextsGoOn, FramesGoOn, GoesOn, HoldBytes}
-use Rattle.jdriver.proofs.Binds.{bound}
 use Rattle.jdriver.proofs.Grounds.{Fine, is_fine}
 use Rattle.jdriver.proofs.Headlines.{task_is}
 use Rattle.jdriver.proofs.Parts.{SpellsWhole, all_fit, are_parts, are_parts_of}

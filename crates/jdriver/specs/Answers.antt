@@ -24,8 +24,8 @@ use Rattle.jtask.specs.declared.task.Task.{Task}
 use Rattle.jtask.specs.declared.task.Task.TheVariants as tasks
 use Rattle.jtask.specs.Stages.{Stopped, Missing, Refused, Misses}
 use Rattle.jtask.specs.Tasks.{stores, task}
-use Rattle.jdriver.specs.Folders.{files_below}
-use Rattle.jdriver.specs.Storing.{StoresFront, with_files}
+use Rattle.jstore.specs.Folders.{files_below}
+use Rattle.jstore.specs.Storing.{StoresFront, with_files}
 
 abbrev pub usage_line : List ℕ
 usage_line = codes "usage: javasec VERB ARGUMENTS\n"

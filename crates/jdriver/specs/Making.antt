@@ -1,5 +1,5 @@
 -- The answer to `gen`: the job that a seed and a size make is run in the forms `inspect` and `pass`, and both runs are counted.
-use Rattle.std.specs.Prelude.{ℕ, List, [], ◌++◌, map, Option, Some, None, Result, Ok, Err, codes, decimal}
+use Rattle.std.specs.Prelude.{ℕ, List, [], ◌++◌, Option, Some, None, Result, Ok, Err, codes, decimal}
 use Rattle.jbase.specs.Stops.{◌>>=◌}
 use Rattle.jio.specs.Held.{File}
 use Rattle.jdomain.specs.Domains.{has}
@@ -10,8 +10,6 @@ use Rattle.jrules.specs.Plain.{rules as plain}
 use Rattle.jjob.specs.declared.command.Command.TheVariants as commands
 use Rattle.jjob.specs.declared.command.Form.{Form}
 use Rattle.jjob.specs.declared.command.Form.TheVariants.{Inspect, Pass}
-use Rattle.jgen.specs.declared.making.MadeFile.{MadeFile}
-use Rattle.jgen.specs.Files.{made_job}
 use Rattle.jshow.specs.Answering.{Answer, listed, refused_answer}
 use Rattle.jshow.specs.Refusals.{refusal_line}
 use Rattle.jtally.specs.declared.counts.Tally.{Tally}
@@ -20,14 +18,7 @@ use Rattle.jtask.specs.declared.task.Task.{Task}
 use Rattle.jtask.specs.declared.task.Task.TheVariants as tasks
 use Rattle.jtask.specs.Stages.{Missing, Refused, Stopped, found}
 use Rattle.jtask.specs.Tasks.{task}
-
--- a made file, as a shelf holds it
-abbrev pub as_held : MadeFile → File
-as_held file = record { path = file.path; bytes = file.bytes }
-
--- the made files
-unfoldable pub held : ℕ → ℕ → List File
-held seed size = map as_held (made_job seed size).files
+use Rattle.jstore.specs.Made.{held}
 
 -- ---- both runs
 

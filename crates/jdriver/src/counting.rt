@@ -2,13 +2,14 @@ ghost use Rattle.std.specs.Prelude.{◌≡◌, ◌≤◌, IfOk, Some, codes};
 ghost use Rattle.jjob.specs.declared.command.Command.TheVariants.{Run};
 ghost use Rattle.jtask.specs.Stages.{Follows};
 ghost use Rattle.jtask.specs.Tasks.{IsWhole, task};
-ghost use Rattle.jdriver.specs.Making.{held, told, told_both, told_in};
+ghost use Rattle.jstore.specs.Made.{held};
+ghost use Rattle.jdriver.specs.Making.{told, told_both, told_in};
 
-use crate::held::made_shelf;
 use jinspect::count_inspect;
 use jio::MemoryShelf;
 use jjob::{Command, Form, Text};
 use jpass::count_plain;
+use jstore::made_shelf;
 use jtally::Tally;
 use jtask::{Halt, Task, task_of};
 use std::alloc::{AllocError, Global};

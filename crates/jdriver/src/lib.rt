@@ -1,10 +1,8 @@
-//! What the program does with its words: the task is found (`jtask`), its files are stored, and what it tells is written (`jshow`, and
-//! for a run `jinspect`, `jplain` or `jpass`).
+//! What the program does with its words: the task is found (`jtask`), its files are stored (`jstore`), and what it tells is written (`jshow`,
+//! and for a run `jinspect`, `jplain` or `jpass`).
 //!
-//! - `Folders`: the files that a moved program is stored as.
-//! - `Storing`: files that are stored one after the other, and what stands where one fails.
 //! - `Answers`: the text, the files and the status of a task, one case a verb, and of words.
-//! - `Making`: the files of a job that is made, what is told of its two runs, and the answer to `gen`.
+//! - `Making`: what is told of the two runs of a job that is made, and the answer to `gen`.
 //! - `Headline`: what a run in the pass form answers of the program as it was written.
 //! - `Alike`: when a shelf holds what a rewriting stored, and what is answered over it.
 //! - `Unstuck`: which runs are never stuck.
@@ -18,11 +16,9 @@
 #![tactic(auto)]
 
 mod counting;
-mod held;
 mod laws;
 mod making;
 mod showing;
-mod storing;
 mod top;
 
 pub use jshow::Status;

@@ -112,7 +112,7 @@ pub fn dispatch<S: Shelf, K: Sink>(
 
 /// Does all that the program does with its words: reads the files that they name from a shelf, stores there what it makes, and writes to a
 /// sink.
-#[tactic(auto, using(crate::proofs::StoredFiles::stores_nothing, crate::proofs::StoredFiles::front_same))]
+#[tactic(auto, using(crate::proofs::StoredFiles::stores_nothing, jstore::proofs::StoredFiles::front_same))]
 pub fn javasec<S: Shelf, K: Sink>(
     alloc: Global,
     words: &[String],

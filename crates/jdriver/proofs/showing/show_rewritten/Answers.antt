@@ -2,9 +2,9 @@ use Rattle.std.proofs.Common.{◌≡◌, ◌∙◌, ℕ, List, length, ap, subst
 use Rattle.jprogram.specs.declared.part.CodePart.{CodePart}
 use Rattle.jprogram.specs.Classes.{Program}
 use Rattle.jshow.specs.Answering.{Answers}
+use Rattle.jstore.specs.Folders.{files_below}
+use Rattle.jstore.proofs.StoredFiles.{front_none}
 use Rattle.jdriver.specs.Answers.{rewrote}
-use Rattle.jdriver.specs.Folders.{files_below}
-use Rattle.jdriver.proofs.StoredFiles.{front_none}
 use Rattle.jdriver.proofs.showing.show_rewritten.Goals as goal
 
 pub returns-in_default-clause-files : goal.returns-in_default-clause-files

@@ -4,9 +4,10 @@ use Rattle.jshow.specs.declared.status.Status.TheVariants.{OutOfMemory, ReadFaul
 use Rattle.jshow.specs.Answering.{Answer, Answers}
 use Rattle.jtask.specs.declared.halt.Halt.{Halt}
 use Rattle.jtask.specs.Stages.{Refused}
+use Rattle.jstore.proofs.StoredFiles.{front_same}
 use Rattle.jdriver.specs.Answers.{Stores, answer, shown}
 use Rattle.jdriver.proofs.Headlines.{answers_all, answers_some, any_all, any_some, refused_all, refused_some, unread, unwritten}
-use Rattle.jdriver.proofs.StoredFiles.{front_same, stores_nothing}
+use Rattle.jdriver.proofs.StoredFiles.{stores_nothing}
 use Rattle.jdriver.proofs.Tops.{answer_is, own_status, no_fault}
 use Rattle.jdriver.proofs.top.do_task.Goals as goal
 

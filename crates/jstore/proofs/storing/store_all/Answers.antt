@@ -1,7 +1,7 @@
 use Rattle.std.proofs.Common.{◌∙◌, refl, sym, arith}
 use Rattle.jbase.specs.Causes.{Rose}
-use Rattle.jdriver.proofs.StoredFiles.{front_at, store_more, with_none}
-use Rattle.jdriver.proofs.storing.store_all.Goals as goal
+use Rattle.jstore.proofs.StoredFiles.{front_at, store_more, with_none}
+use Rattle.jstore.proofs.storing.store_all.Goals as goal
 
 pub loop-file-init : goal.loop-file-init
 loop-file-init g c = record { held = sym (with_none (g.S.Shelf.held c.args.shelf.now)); reads = refl; later = omega arith }

@@ -7,7 +7,7 @@ use Rattle.std.proofs.lemmas.List.{map-append}
 use Rattle.jio.specs.Held.{File}
 use Rattle.jio.specs.Memory.{file_of, files_of}
 use Rattle.jgen.specs.declared.making.MadeFile.{MadeFile}
-use Rattle.jdriver.specs.Making.{as_held}
+use Rattle.jstore.specs.Made.{as_held}
 
 -- the files before one, and that one
 pub held_more : (done : List MadeFile) (one : MadeFile) (files now : List (String Global × Vec ℕ)) (file : String Global × Vec ℕ) → file_of file ≡ as_held one → now ≡ files ++ file ∷ []

@@ -1,9 +1,9 @@
 use Rattle.std.proofs.Common.{◌≡◌, map}
 use Rattle.std.specs.Vec.Iter.{into_iter_items}
 use Rattle.jio.specs.Memory.{files_of}
-use Rattle.jdriver.specs.Making.{as_held}
-use Rattle.jdriver.proofs.MadePaths.{AreNamed}
-use Rattle.jdriver.proofs.held.held_files.Given as goal
+use Rattle.jstore.specs.Made.{as_held}
+use Rattle.jstore.proofs.MadePaths.{AreNamed}
+use Rattle.jstore.proofs.held.held_files.Given as goal
 
 abbrev pub invariant-loop-file : goal.invariant-loop-file
 invariant-loop-file l = record {

@@ -3,8 +3,8 @@ ghost use Rattle.std.specs.Fmt.{digit_glyph};
 ghost use Rattle.jbase.specs.Causes.{Rose};
 ghost use Rattle.jio.specs.Text.{written, written_unit};
 ghost use Rattle.jio.specs.declared.shelf.ShelfError.TheVariants.{Failed};
-ghost use Rattle.jdriver.specs.Folders.{all_below, class_path, files_below, place_of};
-ghost use Rattle.jdriver.specs.Storing.{StoresFront, seen, with_files};
+ghost use Rattle.jstore.specs.Folders.{all_below, class_path, files_below, place_of};
+ghost use Rattle.jstore.specs.Storing.{StoresFront, seen, with_files};
 
 use jbase::Seq;
 use jio::{Shelf, ShelfError};

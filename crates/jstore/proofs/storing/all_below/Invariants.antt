@@ -1,7 +1,7 @@
 use Rattle.std.proofs.Common.{◌≡◌, map}
-use Rattle.jdriver.specs.Folders.{class_below, path_of}
-use Rattle.jdriver.specs.Storing.{seen}
-use Rattle.jdriver.proofs.storing.all_below.Given as goal
+use Rattle.jstore.specs.Folders.{class_below, path_of}
+use Rattle.jstore.specs.Storing.{seen}
+use Rattle.jstore.proofs.storing.all_below.Given as goal
 
 abbrev pub invariant-loop-file : goal.invariant-loop-file
 invariant-loop-file l = record {

@@ -13,7 +13,7 @@ use Rattle.jio.specs.Text.{written, written_unit}
 use Rattle.jtask.specs.Linking.{units_in}
 use Rattle.jtext.specs.Modified.{goes_on, text, three, three_at, two, two_at, unit_at}
 use Rattle.jbase.specs.Stops.{◌>>=◌}
-use Rattle.jdriver.proofs.Binds.{bound}
+use Rattle.jstore.proofs.Binds.{bound}
 
 -- ---- units of a name
 

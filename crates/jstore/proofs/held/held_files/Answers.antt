@@ -1,8 +1,8 @@
 use Rattle.std.proofs.Common.{◌∙◌, sym, ap, subst}
 use Rattle.jgen.specs.declared.making.MadeJob.{MadeJob}
 use Rattle.jio.specs.Memory.{files_of}
-use Rattle.jdriver.proofs.MadePaths.{AreNamed, all_named, named_front}
-use Rattle.jdriver.proofs.held.held_files.Goals as goal
+use Rattle.jstore.proofs.MadePaths.{AreNamed, all_named, named_front}
+use Rattle.jstore.proofs.held.held_files.Goals as goal
 
 pub held_file-requires : goal.held_file-requires
 held_file-requires c = named_front _ _ c.in-Some.file c.in-Some.ensures.steps.0 c.loop-file.invariant.named

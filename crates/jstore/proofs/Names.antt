@@ -4,9 +4,9 @@ use Rattle.std.proofs.lemmas.List.Elements.{All-append, All-from_recursion}
 use Rattle.std.proofs.lemmas.Str.{IsUtf8-append, IsUtf8-from_ascii}
 use Rattle.jio.specs.Text.{written}
 use Rattle.jagain.specs.Again.{IsName}
-use Rattle.jdriver.specs.Folders.{class_path, place_of}
+use Rattle.jstore.specs.Folders.{class_path, place_of}
 use Rattle.jtask.specs.Linking.{units_in}
-use Rattle.jdriver.proofs.Units.{AllPrint, Prints, Small, decimal_prints, is_ascii, no_feeds, print_both, units_small, written_prints}
+use Rattle.jstore.proofs.Units.{AllPrint, Prints, Small, decimal_prints, is_ascii, no_feeds, print_both, units_small, written_prints}
 
 prints : (b : ℕ) → 32 < b → b < 126 → Prints b
 prints b low high = (omega arith, omega arith)

@@ -1,7 +1,7 @@
 use Rattle.std.proofs.Common.{◌≡◌, ◌∙◌, refl, ap}
-use Rattle.jdriver.specs.Folders.{class_path, path_of}
-use Rattle.jdriver.proofs.StoredFiles.{below_more, paths_more}
-use Rattle.jdriver.proofs.storing.all_below.Goals as goal
+use Rattle.jstore.specs.Folders.{class_path, path_of}
+use Rattle.jstore.proofs.StoredFiles.{below_more, paths_more}
+use Rattle.jstore.proofs.storing.all_below.Goals as goal
 
 pub loop-file-preserved : goal.loop-file-preserved
 loop-file-preserved c =

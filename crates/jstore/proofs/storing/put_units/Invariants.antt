@@ -1,6 +1,6 @@
 use Rattle.std.proofs.Common.{◌≡◌, ◌++◌, take}
 use Rattle.jio.specs.Text.{written}
-use Rattle.jdriver.proofs.storing.put_units.Given as goal
+use Rattle.jstore.proofs.storing.put_units.Given as goal
 
 abbrev pub invariant-loop-unit : goal.invariant-loop-unit
 invariant-loop-unit l = l.out ≡ l.fn.out ++ written (take l.unit-index l.units)

@@ -1,6 +1,6 @@
 use Rattle.std.proofs.Common.{◌≡◌, ◌≤◌, map, take}
-use Rattle.jdriver.specs.Storing.{seen, with_files}
-use Rattle.jdriver.proofs.storing.store_all.Given as goal
+use Rattle.jstore.specs.Storing.{seen, with_files}
+use Rattle.jstore.proofs.storing.store_all.Given as goal
 
 abbrev pub invariant-loop-file : goal.invariant-loop-file
 invariant-loop-file g l = record {

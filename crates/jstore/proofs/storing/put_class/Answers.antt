@@ -1,7 +1,7 @@
 use Rattle.std.specs.Prelude.{codes, decimal}
 use Rattle.jio.specs.Text.{written}
-use Rattle.jdriver.proofs.WrittenUnits.{five}
-use Rattle.jdriver.proofs.storing.put_class.Goals as goal
+use Rattle.jstore.proofs.WrittenUnits.{five}
+use Rattle.jstore.proofs.storing.put_class.Goals as goal
 
 pub returns : goal.returns
 returns c = five c.args.out.now c.extend.new.self c.put_number.new.out c.extend-2.new.self c.put_units.new.out c.extend-3.new.self (codes "/d") (decimal c.args.domain) (codes "/") (written c.args.units.now) (codes ".class")

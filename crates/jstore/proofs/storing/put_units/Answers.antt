@@ -1,6 +1,6 @@
 use Rattle.std.proofs.Common.{arith}
-use Rattle.jdriver.proofs.WrittenUnits.{written_more, written_none}
-use Rattle.jdriver.proofs.storing.put_units.Goals as goal
+use Rattle.jstore.proofs.WrittenUnits.{written_more, written_none}
+use Rattle.jstore.proofs.storing.put_units.Goals as goal
 
 pub loop-unit-init : goal.loop-unit-init
 loop-unit-init c = written_none c.args.out.now
