@@ -22,8 +22,6 @@ use Rattle.jmachine.specs.World.{World, world}
 use Rattle.jstate.specs.declared.shapes.Shapes.{Shapes}
 use Rattle.jstate.specs.Seen.{array_at}
 use Rattle.jstate.specs.SeenLaws.{SeesEach}
-use Rattle.jobjs.specs.declared.storing.Held.{Held}
-use Rattle.jobjs.specs.declared.storing.Held.TheVariants as helds
 use Rattle.jobjs.specs.Stored.{MayStore, ServeStore, held_found, held_seen}
 use Rattle.jcalls.specs.Readiness.{ready_counted}
 use Rattle.jserve.specs.declared.values.Objects.{Objects}
