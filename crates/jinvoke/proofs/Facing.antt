@@ -7,7 +7,6 @@ use Rattle.jheap.specs.Heaps as heaps
 use Rattle.jheap.specs.Heaps.{Heaped, kind_at}
 use Rattle.jlib.specs.declared.calls.LibCall.{LibCall}
 use Rattle.jlib.specs.declared.classes.LibClass.{LibClass}
-use Rattle.jlib.specs.declared.classes.LibClass.TheVariants as lib
 use Rattle.jlib.specs.declared.classes.Thrown.TheVariants as thrown
 use Rattle.jops.specs.declared.value.Value.{Value}
 use Rattle.jops.specs.declared.value.Value.TheVariants.{Ref}
@@ -15,7 +14,6 @@ use Rattle.jprogram.specs.declared.member.CallKind.TheVariants as call_kinds
 use Rattle.jprogram.specs.declared.member.ClassId.{ClassId}
 use Rattle.jprogram.specs.declared.member.Member.TheVariants.{LibMethod}
 use Rattle.jprogram.specs.declared.member.Selected.{Selected}
-use Rattle.jprogram.specs.declared.member.Selected.TheVariants as selected
 use Rattle.jprogram.specs.Classes.{Program}
 use Rattle.jtypes.specs.declared.vtype.VType.TheVariants as types
 use Rattle.jmachine.specs.Calls as targets
