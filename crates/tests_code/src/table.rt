@@ -1,25 +1,54 @@
-use crate::{classes, code, pools, stack_maps};
+use crate::move_table::Moves;
+use crate::{classes, code, gen_asking, pools, stack_maps, trips};
 use jpool::{Adder, Pool};
 use std::alloc::Global;
 use tests_rows::{Line, Unread, first, hex_of};
 
+/// What the rows of a section are about.
+#[derive(Clone, Copy)]
+enum About {
+    /// Class files and their parts.
+    Parts,
+    /// Jobs that are made.
+    Jobs,
+    /// Methods that are moved.
+    Moves,
+}
+
+impl About {
+    /// What the rows of the section of a name are about.
+    fn of(name: &str) -> About {
+        match name {
+            "made jobs" => About::Jobs,
+            "moved methods" => About::Moves,
+            _ => About::Parts,
+        }
+    }
+}
+
 /// What was read so far.
 #[derive(Drop)]
 pub struct Table {
+    /// What the rows of the section are about.
+    about: About,
     /// What stands in front of the rest of a class file.
     front: Vec<u8>,
     /// The pool that is asked.
     pool: Option<Pool>,
     /// The pool that grows.
     adder: Option<Adder>,
+    /// The method that is moved.
+    moves: Moves,
 }
 
 impl Table {
     pub fn new(alloc: Global) -> Table {
         Table {
+            about: About::Parts,
             front: Vec::new(alloc),
             pool: None,
             adder: None,
+            moves: Moves::new(alloc),
         }
     }
 
@@ -72,6 +101,7 @@ impl Table {
             "branches" => code::branches(alloc, fields),
             "file" => classes::read(alloc, &[], fields),
             "behind" => classes::read(alloc, self.front.as_slice(), fields),
+            "back" => trips::back(alloc, fields),
             _ => Err(Unread::Line),
         }
     }
@@ -95,15 +125,9 @@ impl Table {
         Ok(true)
     }
 
-    /// Reads a line, and answers where it asks something.
-    pub fn read<'a>(&mut self, alloc: Global, line: &'a str) -> Result<Line<'a>, Unread> {
-        if line.is_empty() || line.starts_with('#') {
-            return Ok(Line::Known);
-        }
+    /// Reads a line about class files and their parts, and answers where it asks something.
+    fn read_part<'a>(&mut self, alloc: Global, line: &'a str) -> Result<Line<'a>, Unread> {
         let (kind, fields) = first(line)?;
-        if kind == "section" {
-            return Ok(Line::Section(fields));
-        }
         if self.known(alloc, kind, fields)? {
             return Ok(Line::Known);
         }
@@ -112,5 +136,21 @@ impl Table {
         };
         let found = self.found(alloc, kind, asked)?;
         Ok(Line::Row(wanted, found))
+    }
+
+    /// Reads a line, and answers where it asks something.
+    pub fn read<'a>(&mut self, alloc: Global, line: &'a str) -> Result<Line<'a>, Unread> {
+        if line.is_empty() || line.starts_with('#') {
+            return Ok(Line::Known);
+        }
+        if let Some(name) = line.strip_prefix("section | ") {
+            self.about = About::of(name);
+            return Ok(Line::Section(name));
+        }
+        match self.about {
+            About::Parts => self.read_part(alloc, line),
+            About::Jobs => gen_asking::read(alloc, line),
+            About::Moves => self.moves.read(alloc, line),
+        }
     }
 }

@@ -1,6 +1,6 @@
-use crate::asking::{answer, descriptor};
+use crate::move_asking::{answer, descriptor};
 use std::alloc::{AllocError, Global};
-use tests_rows::{Unread, first, hex_of};
+use tests_rows::{Line, Unread, first, hex_of};
 
 /// A pool with a name.
 #[derive(Drop)]
@@ -9,25 +9,17 @@ struct Named {
     bytes: Vec<u8>,
 }
 
-/// What was read so far.
+/// What was read so far about methods that are moved.
 #[derive(Drop)]
-pub struct Table {
+pub struct Moves {
     pools: Vec<Named>,
     /// The method of which something is asked, with the name of its pool first.
     given: String,
 }
 
-/// What a line is.
-pub enum Line<'a> {
-    /// One that says nothing, or that later lines are read by.
-    Known,
-    /// The answer that it wants, and the one that was found.
-    Row(&'a str, String),
-}
-
-impl Table {
-    pub fn new(alloc: Global) -> Table {
-        Table {
+impl Moves {
+    pub fn new(alloc: Global) -> Moves {
+        Moves {
             pools: Vec::new(alloc),
             given: String::new(alloc),
         }
@@ -71,11 +63,8 @@ impl Table {
         answer(alloc, self.find(pool)?, given, word, rest)
     }
 
-    /// Reads a line, and answers where it asks something.
+    /// Reads a line about methods that are moved, and answers where it asks something.
     pub fn read<'a>(&mut self, alloc: Global, line: &'a str) -> Result<Line<'a>, Unread> {
-        if line.is_empty() || line.starts_with('#') {
-            return Ok(Line::Known);
-        }
         let Some((kind, rest)) = line.split_once(' ') else {
             return Err(Unread::Line);
         };

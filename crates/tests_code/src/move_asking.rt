@@ -1,5 +1,5 @@
-use crate::given::method_of;
-use crate::reading::{Given, read};
+use crate::move_given::method_of;
+use crate::move_reading::{Given, read};
 use jbase::Seq;
 use jcode::{Handler, decode};
 use jmaps::{FullFrame, MapType};

@@ -2,7 +2,7 @@ use jbase::Stop;
 use jclass::{read_class, write_class};
 use jgen::{MadeFile, MadeJob, make_job};
 use std::alloc::{AllocError, Global};
-use tests_rows::{Unread, number};
+use tests_rows::{Line, Unread, first, number};
 
 /// The job of a seed and a size.
 fn job_of(alloc: Global, words: &str) -> Result<MadeJob, Unread> {
@@ -83,7 +83,7 @@ fn classes_text(alloc: Global, files: &[MadeFile]) -> Result<String, AllocError>
 }
 
 /// What is answered to a question.
-pub fn answer(alloc: Global, question: &str) -> Result<String, Unread> {
+fn answer(alloc: Global, question: &str) -> Result<String, Unread> {
     let Some((word, words)) = question.split_once(' ') else {
         return Err(Unread::Line);
     };
@@ -97,4 +97,11 @@ pub fn answer(alloc: Global, question: &str) -> Result<String, Unread> {
         "classes" => Ok(classes_text(alloc, files)?),
         _ => Err(Unread::Line),
     }
+}
+
+/// Reads a line about made jobs, and answers it.
+pub fn read<'a>(alloc: Global, line: &'a str) -> Result<Line<'a>, Unread> {
+    let (question, wanted) = first(line)?;
+    let found = answer(alloc, question)?;
+    Ok(Line::Row(wanted, found))
 }

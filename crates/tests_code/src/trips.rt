@@ -4,10 +4,11 @@ use jcode::{decode, encode};
 use jmaps::{put_frames, read_maps};
 use jpool::{read_pool, write_pool};
 use std::alloc::{AllocError, Global};
+use tests_rows::{Unread, first, hex_of, yes_or_no};
 
 /// A part of a class file.
-#[derive(Clone, Copy, Debug, PartialEq, Eq)]
-pub enum Part {
+#[derive(Clone, Copy)]
+enum Part {
     /// The constant pool, its count in front (JVMS 4.4).
     Pool,
     /// The content of a StackMapTable attribute (JVMS 4.7.4).
@@ -18,15 +19,14 @@ pub enum Part {
     Class,
 }
 
-/// The part that a line has, and its bytes as hexadecimal text.
-pub fn part_of(line: &str) -> Option<(Part, &str)> {
-    let (kind, digits) = line.split_once(' ')?;
-    match kind {
-        "pool" => Some((Part::Pool, digits)),
-        "maps" => Some((Part::Maps, digits)),
-        "code" => Some((Part::Code, digits)),
-        "class" => Some((Part::Class, digits)),
-        _ => None,
+/// The part that a word names.
+fn part_of(word: &str) -> Result<Part, Unread> {
+    match word {
+        "pool" => Ok(Part::Pool),
+        "maps" => Ok(Part::Maps),
+        "code" => Ok(Part::Code),
+        "class" => Ok(Part::Class),
+        _ => Err(Unread::Line),
     }
 }
 
@@ -71,14 +71,20 @@ fn class_comes_back(alloc: Global, bytes: &[u8]) -> Result<bool, AllocError> {
 }
 
 /// Whether a part is written byte for byte as it was read. What can't be read doesn't come back.
-pub fn comes_back(alloc: Global, part: Part, digits: &str) -> Result<bool, AllocError> {
-    let Ok(bytes) = hex::decode(alloc, digits) else {
-        return Ok(false);
-    };
+fn comes_back(alloc: Global, part: Part, bytes: &[u8]) -> Result<bool, AllocError> {
     match part {
-        Part::Pool => pool_comes_back(alloc, &bytes),
-        Part::Maps => maps_come_back(alloc, &bytes),
-        Part::Code => code_comes_back(alloc, &bytes),
-        Part::Class => class_comes_back(alloc, &bytes),
+        Part::Pool => pool_comes_back(alloc, bytes),
+        Part::Maps => maps_come_back(alloc, bytes),
+        Part::Code => code_comes_back(alloc, bytes),
+        Part::Class => class_comes_back(alloc, bytes),
     }
+}
+
+/// Whether the part of fields, by its word and its bytes, comes back.
+pub fn back(alloc: Global, fields: &str) -> Result<String, Unread> {
+    let (word, words) = first(fields)?;
+    let part = part_of(word)?;
+    let bytes = hex_of(alloc, words)?;
+    let back = comes_back(alloc, part, bytes.as_slice())?;
+    Ok(String::from_str(alloc, yes_or_no(back))?)
 }

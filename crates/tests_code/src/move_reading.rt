@@ -1,4 +1,4 @@
-use crate::given::Sizes;
+use crate::move_given::Sizes;
 use jbase::Seq;
 use jcode::{Handler, decode};
 use jmaps::{FullFrame, MapType};
