@@ -95,23 +95,23 @@ found_or_none t [] = inr refl
 found_or_none t (r ∷ rows) = elim (cases_Bool (t r.0)) [
   | inl y ↦ inl (r.0, y)
   | inr n ↦ elim (found_or_none t rows) [
-      | inl found ↦ inl found
-      | inr none ↦ inr (rw (n, none) refl)
-    ]
+    | inl found ↦ inl found
+    | inr none ↦ inr (rw (n, none) refl)
+  ]
 ]
 
 pub reordered : {S : Type 0} (old new : HashMap (Vec ℕ) ℕ S) → ((k : Vec ℕ) → hash.get alike new k ≡ hash.get alike old k) → (q : List ℕ) → number_at new q ≡ number_at old q
 reordered old new h q =
     let test : Vec ℕ → Bool = λ k. bytes_eq q k.items in
     let by_key : (k : Vec ℕ) → test k ≡ true → number_at new q ≡ number_at old q = λ k hit.
-        let one : (y : Vec ℕ) → test y ≡ alike k y = λ y. nat_list_eq_equiv.congr q k.items y.items hit in
-        alike_found test (alike k) one new.entries ∙ h k ∙ sym (alike_found test (alike k) one old.entries) in
+    let one : (y : Vec ℕ) → test y ≡ alike k y = λ y. nat_list_eq_equiv.congr q k.items y.items hit in
+    alike_found test (alike k) one new.entries ∙ h k ∙ sym (alike_found test (alike k) one old.entries) in
     elim (found_or_none test old.entries) [
       | inl found ↦ by_key found.0 found.1
       | inr none ↦ elim (found_or_none test new.entries) [
-          | inl found ↦ by_key found.0 found.1
-          | inr gone ↦ gone ∙ sym none
-        ]
+        | inl found ↦ by_key found.0 found.1
+        | inr gone ↦ gone ∙ sym none
+      ]
     ]
 
 -- ---- where an entry stands
