@@ -146,8 +146,9 @@ class Definitions:
             self.reach_rust(crate, ".".join(path[1:-1]) or "lib", path[-1])
         elif path and path[:-1] and (path[0], "lib") in self.uses:
             self.reach_rust(path[0], ".".join(path[1:-1]) or "lib", path[-1])
-        elif path and path[:-1] and module == "lib":
-            self.reach_rust(crate, ".".join(path[:-1]), path[-1])
+        elif path and path[:-1]:
+            inner = [] if module == "lib" else module.split(".")
+            self.reach_rust(crate, ".".join(inner + path[:-1]), path[-1])
 
     def shown(self, key):
         """The lines of a type that a reader reads: all, or without the private fields where it has a Model."""

@@ -2,7 +2,7 @@
 use Rattle.std.proofs.Common.{◌≡◌, ℕ, suc, ◌+◌, ◌==◌, ◌||◌, List, [], ◌∷◌, ◌++◌, Option, Some, None, length, map, option_map, is_some, bytes_eq, refl, sym, ap, ap₂}
 use Rattle.std.specs.Prelude.{nat_le, nat_lt}
 use Rattle.std.specs.List.{cons_option, filter_map, flat_map, list_any}
-use Rattle.jbase.specs.First.{first_some, or_else}
+use Rattle.jground.specs.jbase.First.{first_some, or_else}
 use Rattle.jjob.specs.declared.line.Said.{Said}
 use Rattle.jjob.specs.declared.line.Said.TheVariants.{Policy, Prop, Cwd, Code, Class, Main, Schedule, Heap, Depth, Steps}
 use Rattle.jjob.specs.Jobs.{class_in, clashes, code_in, count_of, cwd_in, depth_in, has, heap_in, is_bad, main_in, name_in, picks_in, policy_in, prop_in, steps_in}

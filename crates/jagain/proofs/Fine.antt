@@ -3,7 +3,7 @@ use Rattle.std.proofs.Common.{◌≡◌, ℕ, ◌+◌, ◌&&◌, Bool, true, fal
 use Rattle.std.specs.List.{AllByRecursion}
 use Rattle.std.proofs.lemmas.List.{length-append, map-append, take_at}
 use Rattle.std.proofs.lemmas.List.Elements.{filter-append, filter_map-append}
-use Rattle.jbase.specs.First.{fault_if, first_along, or_else}
+use Rattle.jground.specs.jbase.First.{fault_if, first_along, or_else}
 use Rattle.jjob.specs.declared.line.Said.{Said}
 use Rattle.jjob.specs.declared.line.Said.TheVariants.{Policy, Prop, Cwd, Code, Class, Main, Schedule, Heap, Depth, Steps}
 use Rattle.jjob.specs.JobLines.{is_kept, said_of}

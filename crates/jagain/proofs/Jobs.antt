@@ -4,7 +4,7 @@ use Rattle.std.specs.List.{AllByRecursion}
 use Rattle.std.specs.Str.{is_utf8}
 use Rattle.std.specs.Str.Lossy.{utf8_valid_len}
 use Rattle.std.proofs.lemmas.Str.{IsUtf8-from_is_utf8, is_utf8-from_IsUtf8}
-use Rattle.jbase.specs.First.{first_some}
+use Rattle.jground.specs.jbase.First.{first_some}
 use Rattle.jjob.specs.declared.job.Job.{Job}
 use Rattle.jjob.specs.declared.line.Said.{Said}
 use Rattle.jjob.specs.Jobs.{cwd_in, depth_in, first_bad, heap_in, job, job_in, job_of, line_at, lines_of, main_in, picks_in, policy_in, prop_in, said_by, sources_of, steps_in, unless_bad, with_main}

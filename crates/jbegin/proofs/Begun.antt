@@ -1,37 +1,37 @@
 -- What a step comes to that begins a thread.
 use Rattle.std.proofs.Common.{◌≡◌, ◌∙◌, ◌⊎◌, ℕ, ◌<◌, Bool, true, false, List, [], ◌∷◌, ◌++◌, Option, Some, None, refl, subst, sym, ap, arith}
-use Rattle.jheap.specs.Heaps.{Heaped}
+use Rattle.jground.specs.jheap.Heaps.{Heaped}
 use Rattle.jlib.specs.declared.calls.LibCall.{LibCall}
 use Rattle.jlib.specs.declared.classes.LibClass.TheVariants as lib
 use Rattle.jlib.specs.declared.classes.Thrown.{Thrown as ThrownClass}
 use Rattle.jlib.specs.declared.side.Side.{Side}
-use Rattle.jtrace.specs.declared.event.End.TheVariants.{HeapFull}
-use Rattle.jtrace.specs.declared.event.Event.{Event}
-use Rattle.jtrace.specs.declared.event.Event.TheVariants.{Throw, Uncaught}
-use Rattle.jtypes.specs.declared.vtype.VType.{VType}
-use Rattle.jmachine.specs.Acts.{State, Went}
-use Rattle.jmachine.specs.Calls as targets
-use Rattle.jmachine.specs.Security.{Rules}
-use Rattle.jmachine.specs.Turns.{ended}
-use Rattle.jmachine.specs.Unwinding.{told_name}
-use Rattle.jrun.specs.declared.came.Came.{Came}
-use Rattle.jrun.specs.declared.came.Came.TheVariants as stepped
-use Rattle.jstate.specs.Celled.{StayCelled}
-use Rattle.jstate.specs.Framed.{Framed}
-use Rattle.jstate.specs.Seen.{AreBuilt}
-use Rattle.jcalls.specs.declared.calls.Callee.{Callee}
-use Rattle.jcalls.specs.Marks.{AreStanding}
-use Rattle.jcalls.specs.Throws.{RaisedHeap}
-use Rattle.jguests.specs.Guested.{Lives, frames_of}
-use Rattle.jinvoke.specs.declared.faces.Target.{Target}
-use Rattle.jinvoke.specs.declared.faces.Target.TheVariants as ways
-use Rattle.jstep.specs.Stepping.{type_of}
-use Rattle.jcontexts.specs.Beginning.{Begins, BeginsStanding, EndsUnbegun, FailedAs, FailsFirst, IsUnbegun, StuckUnbegun, begins_by}
-use Rattle.jcore.specs.declared.machine.Machine.{Machine}
-use Rattle.jcore.specs.Comings.{Comes, EndsThread, any}
-use Rattle.jcore.specs.Left.{IsNumbered, LeftIsBehind, LeftIsMachine, RaisedIsMachine, left_as}
-use Rattle.jcore.specs.Machines.{AreRules, IsMachine, IsReady, classes_of, state_of, store_of, things_of}
-use Rattle.jcore.specs.Raising.{thrown_ref}
+use Rattle.jrights.specs.declared.jtrace.event.End.TheVariants.{HeapFull}
+use Rattle.jrights.specs.declared.jtrace.event.Event.{Event}
+use Rattle.jrights.specs.declared.jtrace.event.Event.TheVariants.{Throw, Uncaught}
+use Rattle.jground.specs.declared.jtypes.vtype.VType.{VType}
+use Rattle.jmodel.specs.jmachine.Acts.{State, Went}
+use Rattle.jmodel.specs.jmachine.Calls as targets
+use Rattle.jmodel.specs.jmachine.Security.{Rules}
+use Rattle.jmodel.specs.jmachine.Turns.{ended}
+use Rattle.jmodel.specs.jmachine.Unwinding.{told_name}
+use Rattle.jmodel.specs.declared.jrun.came.Came.{Came}
+use Rattle.jmodel.specs.declared.jrun.came.Came.TheVariants as stepped
+use Rattle.jmodel.specs.jstate.Celled.{StayCelled}
+use Rattle.jmodel.specs.jstate.Framed.{Framed}
+use Rattle.jmodel.specs.jstate.Seen.{AreBuilt}
+use Rattle.jrows.specs.declared.jcalls.calls.Callee.{Callee}
+use Rattle.jrows.specs.jcalls.Marks.{AreStanding}
+use Rattle.jrows.specs.jcalls.Throws.{RaisedHeap}
+use Rattle.jmodel.specs.jguests.Guested.{Lives, frames_of}
+use Rattle.jserving.specs.declared.jinvoke.faces.Target.{Target}
+use Rattle.jserving.specs.declared.jinvoke.faces.Target.TheVariants as ways
+use Rattle.jstepping.specs.jstep.Stepping.{type_of}
+use Rattle.jlibcalls.specs.jcontexts.Beginning.{Begins, BeginsStanding, EndsUnbegun, FailedAs, FailsFirst, IsUnbegun, StuckUnbegun, begins_by}
+use Rattle.jstepping.specs.declared.jcore.machine.Machine.{Machine}
+use Rattle.jstepping.specs.jcore.Comings.{Comes, EndsThread, any}
+use Rattle.jstepping.specs.jcore.Left.{IsNumbered, LeftIsBehind, LeftIsMachine, RaisedIsMachine, left_as}
+use Rattle.jstepping.specs.jcore.Machines.{AreRules, IsMachine, IsReady, classes_of, state_of, store_of, things_of}
+use Rattle.jstepping.specs.jcore.Raising.{thrown_ref}
 use Rattle.jbegin.specs.Beginning.{BeginsAs, FailsIn, RunTarget, step_of}
 
 module _ {E : Type 0} (m : Machine E) where

@@ -1,20 +1,20 @@
 -- How a thread begins that was started (class documentation of Thread, Runnable): by a call of its Runnable's `run`.
 use Rattle.std.specs.Prelude.{◌≡◌, ℕ, Bool, false}
-use Rattle.jheap.specs.Heaps.{Heaped}
+use Rattle.jground.specs.jheap.Heaps.{Heaped}
 use Rattle.jlib.specs.declared.calls.LibCall.TheVariants as calls
 use Rattle.jlib.specs.declared.classes.LibClass.TheVariants as lib
 use Rattle.jlib.specs.declared.classes.Thrown.{Thrown as ThrownClass}
-use Rattle.jmachine.specs.Acts.{Outcome, State}
-use Rattle.jmachine.specs.Security.{Rules}
-use Rattle.jmachine.specs.Steps.{step}
-use Rattle.jrun.specs.declared.came.Came.{Came}
-use Rattle.jinvoke.specs.declared.faces.Target.{Target}
-use Rattle.jinvoke.specs.Faces.{FaceTarget}
-use Rattle.jcontexts.specs.Beginning.{FailsFirst}
-use Rattle.jcore.specs.declared.machine.Machine.{Machine}
-use Rattle.jcore.specs.Comings.{Comes, any}
-use Rattle.jcore.specs.Left.{left_as}
-use Rattle.jcore.specs.Machines.{IsMachine, state_of, things_of}
+use Rattle.jmodel.specs.jmachine.Acts.{Outcome, State}
+use Rattle.jmodel.specs.jmachine.Security.{Rules}
+use Rattle.jmodel.specs.jmachine.Steps.{step}
+use Rattle.jmodel.specs.declared.jrun.came.Came.{Came}
+use Rattle.jserving.specs.declared.jinvoke.faces.Target.{Target}
+use Rattle.jserving.specs.jinvoke.Faces.{FaceTarget}
+use Rattle.jlibcalls.specs.jcontexts.Beginning.{FailsFirst}
+use Rattle.jstepping.specs.declared.jcore.machine.Machine.{Machine}
+use Rattle.jstepping.specs.jcore.Comings.{Comes, any}
+use Rattle.jstepping.specs.jcore.Left.{left_as}
+use Rattle.jstepping.specs.jcore.Machines.{IsMachine, state_of, things_of}
 
 -- what the machine's step comes to
 abbrev pub step_of : {E : Type 0} → Machine E → Rules ℕ E → Outcome (State ℕ E)

@@ -1,16 +1,16 @@
 ghost use Rattle.std.specs.Prelude.{◌≡◌, ◌<◌, IfOk, None, OnOk};
-ghost use Rattle.jinvoke.specs.Faces.{TargetWithin};
-ghost use Rattle.jcore.specs.Comings.{Comes, GoesOn, any};
-ghost use Rattle.jcore.specs.Machines.{IsMachine, IsReady, StaysFixed, classes_of};
+ghost use Rattle.jserving.specs.jinvoke.Faces.{TargetWithin};
+ghost use Rattle.jstepping.specs.jcore.Comings.{Comes, GoesOn, any};
+ghost use Rattle.jstepping.specs.jcore.Machines.{IsMachine, IsReady, StaysFixed, classes_of};
 ghost use Rattle.jbegin.specs.Beginning.{BeginsAs, RunTarget, step_of};
 
 use crate::failing::fail_run;
 use crate::pushing::push_run;
-use jbase::Seq;
-use jcontexts::begin_laws;
-use jcore::{Machine, end_thread};
-use jinvoke::{Face, Target};
-use jrun::Came;
+use jground::jbase::Seq;
+use jlibcalls::jcontexts::begin_laws;
+use jmodel::jrun::Came;
+use jserving::jinvoke::{Face, Target};
+use jstepping::jcore::{Machine, end_thread};
 use std::alloc::{AllocError, Global};
 
 /// What a call of `run` comes to on the object that the running thread was given.

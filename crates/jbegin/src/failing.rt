@@ -1,15 +1,15 @@
 ghost use Rattle.std.specs.Prelude.{◌≡◌, ◌<◌, IfOk, None, OnOk};
-ghost use Rattle.jinvoke.specs.declared.faces.Target.TheVariants as targets;
-ghost use Rattle.jcore.specs.Comings.{GoesOn};
-ghost use Rattle.jcore.specs.Machines.{IsMachine, IsReady, StaysFixed};
+ghost use Rattle.jserving.specs.declared.jinvoke.faces.Target.TheVariants as targets;
+ghost use Rattle.jstepping.specs.jcore.Comings.{GoesOn};
+ghost use Rattle.jstepping.specs.jcore.Machines.{IsMachine, IsReady, StaysFixed};
 ghost use Rattle.jbegin.specs.Beginning.{BeginsAs, FailsIn};
 
-use jbase::Seq;
-use jcontexts::fail_beginning;
-use jcore::{Machine, end_thread, full, machine_laws, tell_uncaught};
+use jground::jbase::Seq;
 use jlib::{LibClass, Thrown};
+use jlibcalls::jcontexts::fail_beginning;
+use jmodel::jrun::Came;
 use jprogram::ClassRef;
-use jrun::Came;
+use jstepping::jcore::{Machine, end_thread, full, machine_laws, tell_uncaught};
 use std::alloc::{AllocError, Global};
 
 /// Raises an exception of a class where the running thread is to begin, if the cells for it are left.

@@ -1,14 +1,14 @@
 ghost use Rattle.std.specs.Prelude.{◌≡◌, ◌<◌, IfOk, None, OnOk};
-ghost use Rattle.jinvoke.specs.declared.faces.Target.TheVariants as targets;
-ghost use Rattle.jcore.specs.Comings.{GoesOn};
-ghost use Rattle.jcore.specs.Machines.{IsReady, StaysFixed, classes_of};
+ghost use Rattle.jserving.specs.declared.jinvoke.faces.Target.TheVariants as targets;
+ghost use Rattle.jstepping.specs.jcore.Comings.{GoesOn};
+ghost use Rattle.jstepping.specs.jcore.Machines.{IsReady, StaysFixed, classes_of};
 ghost use Rattle.jbegin.specs.Beginning.{BeginsAs};
 
-use jbase::Seq;
-use jcalls::Callee;
-use jcontexts::begin;
-use jcore::{Machine, machine_laws};
-use jrun::Came;
+use jground::jbase::Seq;
+use jlibcalls::jcontexts::begin;
+use jmodel::jrun::Came;
+use jrows::jcalls::Callee;
+use jstepping::jcore::{Machine, machine_laws};
 use std::alloc::{AllocError, Global};
 
 /// The running thread, which has no frames, begins with a user's method, where this has code.

@@ -1,18 +1,18 @@
 -- The inspecting machine answers as the first of the machines between, and the second of these as the plain machine.
 use Rattle.std.proofs.Common.{◌≡◌, ℕ, List, [], ◌∷◌, map, Option, Some, None, option_map, refl, sym, ap, ◌∙◌}
-use Rattle.jperm.specs.declared.permission.Permission.{Permission}
-use Rattle.jdomain.specs.Stacks as stacks
-use Rattle.jdomain.specs.Stacks.{Stack}
+use Rattle.jrights.specs.declared.jperm.permission.Permission.{Permission}
+use Rattle.jrights.specs.jdomain.Stacks as stacks
+use Rattle.jrights.specs.jdomain.Stacks.{Stack}
 use Rattle.jctx.specs.declared.item.Item.{Item}
 use Rattle.jctx.specs.Contexts.{along, along_given, along_mark, privileged, verdict}
 use Rattle.jctx.specs.Laws.{DecidesAsTheWalk}
-use Rattle.jmachine.specs.Maps.{privilege_map}
-use Rattle.jmachine.specs.Natural.{RunAlike, StepAlike}
-use Rattle.jmachine.specs.Security.{Privilege}
-use Rattle.jrules.specs.Inspecting as inspecting
-use Rattle.jrules.specs.Inspecting.{Carried, given_by, stack_of}
-use Rattle.jrules.specs.Plain as plain
-use Rattle.jrules.specs.Plain.{given_context, told}
+use Rattle.jmodel.specs.jmachine.Maps.{privilege_map}
+use Rattle.jmodel.specs.jmachine.Natural.{RunAlike, StepAlike}
+use Rattle.jmodel.specs.jmachine.Security.{Privilege}
+use Rattle.jmodel.specs.jrules.Inspecting as inspecting
+use Rattle.jmodel.specs.jrules.Inspecting.{Carried, given_by, stack_of}
+use Rattle.jmodel.specs.jrules.Plain as plain
+use Rattle.jmodel.specs.jrules.Plain.{given_context, told}
 use Rattle.jbeside.specs.Alike.{ShadowedAgree, ShadowedRuns, ShadowedSteps, SourcedAgree, SourcedRuns, SourcedSteps, left_out, the_same}
 use Rattle.jbeside.specs.Beside as beside
 use Rattle.jbeside.specs.Beside.{Noted, context_of, mark_along, noted_along, shadowed, sourced, within_mark}

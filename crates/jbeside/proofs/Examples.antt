@@ -1,12 +1,12 @@
 -- The contexts of frames, computed: of a privilege in the middle, with what it was given and with limits, and of what a thread inherited.
 use Rattle.std.proofs.Common.{◌≡◌, [], ◌∷◌, Some, None, refl}
 use Rattle.std.specs.Prelude.{codes}
-use Rattle.jperm.specs.declared.permission.Permission.{Permission}
-use Rattle.jperm.specs.declared.permission.Permission.TheVariants.{Property}
-use Rattle.jdomain.specs.Stacks as stacks
+use Rattle.jrights.specs.declared.jperm.permission.Permission.{Permission}
+use Rattle.jrights.specs.declared.jperm.permission.Permission.TheVariants.{Property}
+use Rattle.jrights.specs.jdomain.Stacks as stacks
 use Rattle.jctx.specs.Items.{plain, with_limits}
 use Rattle.jctx.specs.Contexts.{along}
-use Rattle.jrules.specs.Inspecting.{Carried, stack_of}
+use Rattle.jmodel.specs.jrules.Inspecting.{Carried, stack_of}
 use Rattle.jbeside.specs.Beside.{Privileged, context_of, marked, noted_along, unmarked}
 
 abbrev asked : Permission

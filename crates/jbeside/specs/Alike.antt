@@ -1,20 +1,20 @@
 -- Laws: the inspecting machine does what the first of the machines between does, and the second of these what the plain machine does. Of one
 -- program they take the same steps, and their runs tell the same events and end alike.
 use Rattle.std.specs.Prelude.{◌≡◌, ℕ, Bool, List}
-use Rattle.jperm.specs.declared.permission.Permission.{Permission}
-use Rattle.jdomain.specs.Stacks.{Stack}
+use Rattle.jrights.specs.declared.jperm.permission.Permission.{Permission}
+use Rattle.jrights.specs.jdomain.Stacks.{Stack}
 use Rattle.jprogram.specs.Classes.{Program}
 use Rattle.jctx.specs.declared.item.Item.{Item}
 use Rattle.jctx.specs.Contexts.{along}
-use Rattle.jmachine.specs.declared.plan.Plan.{Plan}
-use Rattle.jmachine.specs.Acts.{State}
-use Rattle.jmachine.specs.Machine.{run}
-use Rattle.jmachine.specs.Maps.{outcome_map, run_map, state_map}
-use Rattle.jmachine.specs.Natural.{RulesAgree}
-use Rattle.jmachine.specs.Steps.{step}
-use Rattle.jrules.specs.Inspecting as inspecting
-use Rattle.jrules.specs.Inspecting.{Carried}
-use Rattle.jrules.specs.Plain as plain
+use Rattle.jmodel.specs.declared.jmachine.plan.Plan.{Plan}
+use Rattle.jmodel.specs.jmachine.Acts.{State}
+use Rattle.jmodel.specs.jmachine.Machine.{run}
+use Rattle.jmodel.specs.jmachine.Maps.{outcome_map, run_map, state_map}
+use Rattle.jmodel.specs.jmachine.Natural.{RulesAgree}
+use Rattle.jmodel.specs.jmachine.Steps.{step}
+use Rattle.jmodel.specs.jrules.Inspecting as inspecting
+use Rattle.jmodel.specs.jrules.Inspecting.{Carried}
+use Rattle.jmodel.specs.jrules.Plain as plain
 use Rattle.jbeside.specs.Beside.{Noted, noted_along, shadowed, sourced}
 
 -- ---- what corresponds

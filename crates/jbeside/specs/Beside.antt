@@ -3,14 +3,14 @@
 -- that it is handed, and never looks at its frames. So they differ in the programs that they run, and in where they have contexts from; in
 -- what they keep and carry they don't.
 use Rattle.std.specs.Prelude.{ℕ, Bool, List, [], ◌∷◌, Option, Some, None}
-use Rattle.jperm.specs.declared.permission.Permission.{Permission}
-use Rattle.jdomain.specs.Stacks as stacks
+use Rattle.jrights.specs.declared.jperm.permission.Permission.{Permission}
+use Rattle.jrights.specs.jdomain.Stacks as stacks
 use Rattle.jlib.specs.declared.side.Side.TheVariants.{Source, Passing}
 use Rattle.jctx.specs.declared.item.Item.{Item}
 use Rattle.jctx.specs.Contexts.{along_given, enter, privileged, verdict}
-use Rattle.jmachine.specs.Security.{Rules}
-use Rattle.jrules.specs.Inspecting.{Carried}
-use Rattle.jrules.specs.Plain.{given_context, told}
+use Rattle.jmodel.specs.jmachine.Security.{Rules}
+use Rattle.jmodel.specs.jrules.Inspecting.{Carried}
+use Rattle.jmodel.specs.jrules.Plain.{given_context, told}
 
 -- ---- what frames carry
 

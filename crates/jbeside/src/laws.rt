@@ -1,7 +1,7 @@
 ghost use Rattle.jbeside.specs.Alike.{ShadowedAgree, ShadowedRuns, ShadowedSteps, SourcedAgree, SourcedRuns, SourcedSteps};
 
 use jctx::context_laws;
-use jmachine::{TwoMachines, asking_laws};
+use jmodel::jmachine::{TwoMachines, asking_laws};
 
 /// The inspecting machine, beside the first one between.
 pub struct Sourced;
@@ -11,9 +11,9 @@ pub struct Shadowed;
 
 impl TwoMachines for Sourced {
     ghost use Rattle.std.specs.Prelude.{List};
-    ghost use Rattle.jdomain.specs.Stacks.{Stack};
+    ghost use Rattle.jrights.specs.jdomain.Stacks.{Stack};
     ghost use Rattle.jctx.specs.declared.item.Item.{Item};
-    ghost use Rattle.jrules.specs.Inspecting.{Carried};
+    ghost use Rattle.jmodel.specs.jrules.Inspecting.{Carried};
     ghost use Rattle.jbeside.specs.Beside.{Noted};
 
     ghost K = { Stack };

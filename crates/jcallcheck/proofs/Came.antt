@@ -1,42 +1,42 @@
 -- What a step comes to whose call checks a permission.
 use Rattle.std.proofs.Common.{◌≡◌, ◌∙◌, ℕ, List, [], ◌∷◌, drop, take, Option, Some, refl, sym, ap, ap₂, subst}
 use Rattle.std.specs.List.{AllByRecursion}
-use Rattle.jperm.specs.declared.permission.Permission as perms
-use Rattle.jdomain.specs.declared.verdict.Verdict.{Verdict}
-use Rattle.jdomain.specs.declared.verdict.Verdict.TheVariants as verdicts
-use Rattle.jheap.specs.Heaps.{Heaped}
+use Rattle.jrights.specs.declared.jperm.permission.Permission as perms
+use Rattle.jrights.specs.declared.jdomain.verdict.Verdict.{Verdict}
+use Rattle.jrights.specs.declared.jdomain.verdict.Verdict.TheVariants as verdicts
+use Rattle.jground.specs.jheap.Heaps.{Heaped}
 use Rattle.jlib.specs.declared.classes.LibClass.TheVariants as lib
 use Rattle.jlib.specs.declared.classes.Thrown.TheVariants as thrown
 use Rattle.jprogram.specs.declared.member.MethodId.{MethodId}
 use Rattle.jprogram.specs.declared.part.ClassRef.{ClassRef}
 use Rattle.jprogram.specs.Classes.{Program}
-use Rattle.jtrace.specs.declared.event.Event.{Event}
-use Rattle.jtrace.specs.declared.event.Event.TheVariants.{Deny, Grant}
-use Rattle.jmachine.specs.Acts.{Outcome, State, Went, null}
-use Rattle.jmachine.specs.Security.{Rules, judged}
-use Rattle.jmachine.specs.Store.{Store}
-use Rattle.jmachine.specs.Turns.{thread_of}
-use Rattle.jmachine.specs.Unwinding.{handler_at}
-use Rattle.jrun.specs.declared.came.Came.{Came}
-use Rattle.jrun.specs.declared.came.Came.TheVariants as done
-use Rattle.jstate.specs.Framed.{Framed, all, holding}
-use Rattle.jcalls.specs.declared.raising.Raised.{Raised}
-use Rattle.jcalls.specs.declared.raising.Raised.TheVariants as raiseds
-use Rattle.jcalls.specs.Calling.{stepped}
-use Rattle.jcalls.specs.Marks.{AreStanding, Stand}
-use Rattle.jcalls.specs.Throws.{LeavesStanding, RaisedAs, Raises, raising}
-use Rattle.jcalls.specs.Unwinds.{IsTold}
-use Rattle.jinvoke.specs.Told.{Told}
-use Rattle.jguests.specs.Guested.{AreGuests, RunsAs}
-use Rattle.jchecks.specs.declared.judging.Judged.{Judged}
-use Rattle.jchecks.specs.declared.judging.Judged.TheVariants as ways
-use Rattle.jchecks.specs.Judges as checks
-use Rattle.jchecks.specs.Judges.{JudgedAs, NullRaises, denied_type}
-use Rattle.jstep.specs.Stepping.{type_of}
-use Rattle.jcore.specs.declared.machine.Machine.{Machine}
-use Rattle.jcore.specs.Comings.{HandledStand, SettlesRaised}
-use Rattle.jcore.specs.Machines.{AreRules, IsReady, StaysFixed, classes_of, state_of, store_of, things_of}
-use Rattle.jcore.proofs.Settled.{number_is}
+use Rattle.jrights.specs.declared.jtrace.event.Event.{Event}
+use Rattle.jrights.specs.declared.jtrace.event.Event.TheVariants.{Deny, Grant}
+use Rattle.jmodel.specs.jmachine.Acts.{Outcome, State, Went, null}
+use Rattle.jmodel.specs.jmachine.Security.{Rules, judged}
+use Rattle.jmodel.specs.jmachine.Store.{Store}
+use Rattle.jmodel.specs.jmachine.Turns.{thread_of}
+use Rattle.jmodel.specs.jmachine.Unwinding.{handler_at}
+use Rattle.jmodel.specs.declared.jrun.came.Came.{Came}
+use Rattle.jmodel.specs.declared.jrun.came.Came.TheVariants as done
+use Rattle.jmodel.specs.jstate.Framed.{Framed, all, holding}
+use Rattle.jrows.specs.declared.jcalls.raising.Raised.{Raised}
+use Rattle.jrows.specs.declared.jcalls.raising.Raised.TheVariants as raiseds
+use Rattle.jrows.specs.jcalls.Calling.{stepped}
+use Rattle.jrows.specs.jcalls.Marks.{AreStanding, Stand}
+use Rattle.jrows.specs.jcalls.Throws.{LeavesStanding, RaisedAs, Raises, raising}
+use Rattle.jrows.specs.jcalls.Unwinds.{IsTold}
+use Rattle.jserving.specs.jinvoke.Told.{Told}
+use Rattle.jmodel.specs.jguests.Guested.{AreGuests, RunsAs}
+use Rattle.jlibcalls.specs.declared.jchecks.judging.Judged.{Judged}
+use Rattle.jlibcalls.specs.declared.jchecks.judging.Judged.TheVariants as ways
+use Rattle.jlibcalls.specs.jchecks.Judges as checks
+use Rattle.jlibcalls.specs.jchecks.Judges.{JudgedAs, NullRaises, denied_type}
+use Rattle.jstepping.specs.jstep.Stepping.{type_of}
+use Rattle.jstepping.specs.declared.jcore.machine.Machine.{Machine}
+use Rattle.jstepping.specs.jcore.Comings.{HandledStand, SettlesRaised}
+use Rattle.jstepping.specs.jcore.Machines.{AreRules, IsReady, StaysFixed, classes_of, state_of, store_of, things_of}
+use Rattle.jstepping.proofs.JcoreProofs.Settled.{number_is}
 use Rattle.jcallcheck.specs.Coming.{Changed, ComesBy, JudgedOn, Judges, NullRaisedOn, RaisesNull, denied_class, event_by, null_class, with_run}
 use Rattle.jcallcheck.proofs.Lasting.{behind}
 

@@ -1,32 +1,32 @@
 -- What a call that checks a permission is answered, and comes to.
 use Rattle.std.proofs.Common.{◌≡◌, ◌∙◌, ℕ, zero, suc, List, ◌∷◌, map, take, Option, Some, None, refl, sym, ap, subst}
 use Rattle.std.specs.Prelude.{option_map}
-use Rattle.jperm.specs.declared.permission.Permission as perms
-use Rattle.jdomain.specs.declared.verdict.Verdict.{Verdict}
-use Rattle.jdomain.specs.declared.verdict.Verdict.TheVariants as verdicts
+use Rattle.jrights.specs.declared.jperm.permission.Permission as perms
+use Rattle.jrights.specs.declared.jdomain.verdict.Verdict.{Verdict}
+use Rattle.jrights.specs.declared.jdomain.verdict.Verdict.TheVariants as verdicts
 use Rattle.jlib.specs.declared.calls.LibCall.{LibCall}
-use Rattle.jops.specs.declared.value.Value.{Value}
-use Rattle.jops.specs.declared.value.Value.TheVariants.{Int, Long, Ref, Ctx}
-use Rattle.jtrace.specs.declared.event.Event.TheVariants.{Grant}
-use Rattle.jmachine.specs.Acts.{Act, FrameOf, Goes, Row, null}
-use Rattle.jmachine.specs.Asked.{Answer, Ask, Decided, answer_in, carried}
-use Rattle.jmachine.specs.Security.{Rules, checked, judged, permission_in}
-use Rattle.jmachine.specs.Sites.{Site}
-use Rattle.jmachine.specs.Steps.{entries}
-use Rattle.jmachine.specs.Store.{Store, object_at, object_of}
-use Rattle.jmachine.specs.Turns.{thread_of}
-use Rattle.jguard.specs.Standing.{AnswersFor, IsKnownIn}
-use Rattle.jrun.specs.declared.came.Came.{Came}
-use Rattle.jrun.specs.declared.came.Came.TheVariants as done
-use Rattle.jstate.specs.Framed.{Framed, all}
-use Rattle.jchecks.specs.declared.asking.Asked.{Asked}
-use Rattle.jchecks.specs.declared.asking.Asked.TheVariants as asks
-use Rattle.jchecks.specs.Asks.{Asks}
-use Rattle.jchecks.specs.Judges.{NothingSteps}
-use Rattle.jcore.specs.declared.machine.Machine.{Machine}
-use Rattle.jcore.specs.Answering.{Answered, AsksKnown, asked_of, outcome_of}
-use Rattle.jcore.specs.Machines.{state_of, store_of}
-use Rattle.jguests.specs.Guested.{frames_of}
+use Rattle.jground.specs.declared.jops.value.Value.{Value}
+use Rattle.jground.specs.declared.jops.value.Value.TheVariants.{Int, Long, Ref, Ctx}
+use Rattle.jrights.specs.declared.jtrace.event.Event.TheVariants.{Grant}
+use Rattle.jmodel.specs.jmachine.Acts.{Act, FrameOf, Goes, Row, null}
+use Rattle.jmodel.specs.jmachine.Asked.{Answer, Ask, Decided, answer_in, carried}
+use Rattle.jmodel.specs.jmachine.Security.{Rules, checked, judged, permission_in}
+use Rattle.jmodel.specs.jmachine.Sites.{Site}
+use Rattle.jmodel.specs.jmachine.Steps.{entries}
+use Rattle.jmodel.specs.jmachine.Store.{Store, object_at, object_of}
+use Rattle.jmodel.specs.jmachine.Turns.{thread_of}
+use Rattle.jmodel.specs.jguard.Standing.{AnswersFor, IsKnownIn}
+use Rattle.jmodel.specs.declared.jrun.came.Came.{Came}
+use Rattle.jmodel.specs.declared.jrun.came.Came.TheVariants as done
+use Rattle.jmodel.specs.jstate.Framed.{Framed, all}
+use Rattle.jlibcalls.specs.declared.jchecks.asking.Asked.{Asked}
+use Rattle.jlibcalls.specs.declared.jchecks.asking.Asked.TheVariants as asks
+use Rattle.jlibcalls.specs.jchecks.Asks.{Asks}
+use Rattle.jlibcalls.specs.jchecks.Judges.{NothingSteps}
+use Rattle.jstepping.specs.declared.jcore.machine.Machine.{Machine}
+use Rattle.jstepping.specs.jcore.Answering.{Answered, AsksKnown, asked_of, outcome_of}
+use Rattle.jstepping.specs.jcore.Machines.{state_of, store_of}
+use Rattle.jmodel.specs.jguests.Guested.{frames_of}
 use Rattle.jcallcheck.specs.declared.finding.Check.{Check}
 use Rattle.jcallcheck.specs.declared.finding.Whom.{Whom}
 use Rattle.jcallcheck.specs.declared.finding.Whom.TheVariants as whom

@@ -3,28 +3,28 @@ use Rattle.std.proofs.Common.{◌≡◌, ◌∙◌, inl, inr, ℕ, ◌≤◌, Li
 use Rattle.jlib.specs.declared.classes.LibClass.{LibClass}
 use Rattle.jlib.specs.declared.classes.LibClass.TheVariants as lib
 use Rattle.jlib.specs.declared.classes.Thrown.TheVariants as thrown
-use Rattle.jheap.specs.declared.cell.Kind.TheVariants as kinds
-use Rattle.jheap.specs.Heaps as heaps
-use Rattle.jheap.specs.Heaps.{Heaped}
+use Rattle.jground.specs.declared.jheap.cell.Kind.TheVariants as kinds
+use Rattle.jground.specs.jheap.Heaps as heaps
+use Rattle.jground.specs.jheap.Heaps.{Heaped}
 use Rattle.jprogram.specs.Classes.{Program}
-use Rattle.jmachine.specs.Objects.{Object, Thrown}
-use Rattle.jmachine.specs.Store.{Store, paid}
-use Rattle.jmachine.specs.Unwinding.{with_raised}
-use Rattle.jstate.specs.declared.shapes.Shapes.{Shapes}
-use Rattle.jstate.specs.Celled.{StayCelled}
-use Rattle.jstate.specs.Framed.{Framed, all}
-use Rattle.jstate.specs.Seen.{AreBuilt, Things, objects_by, values_of}
-use Rattle.jstate.specs.SeenLaws.{Makes}
-use Rattle.jcalls.specs.Marks.{Stand}
-use Rattle.jcalls.specs.Telling.{TellsHeap, told_cells}
-use Rattle.jcalls.specs.Throws.{RaisedHeap}
-use Rattle.jguests.specs.Guested.{RunsAs, framed_as}
-use Rattle.jlibrary.specs.Held.{with_permissions}
-use Rattle.jcontexts.specs.Kept.{with_kept}
-use Rattle.jcore.specs.declared.machine.Machine.{Machine}
-use Rattle.jcore.specs.Answering.{Calling}
-use Rattle.jcore.specs.Comings.{IsBehind}
-use Rattle.jcore.specs.Machines.{IsMachine, classes_of, state_of, store_of, things_of}
+use Rattle.jmodel.specs.jmachine.Objects.{Object, Thrown}
+use Rattle.jmodel.specs.jmachine.Store.{Store, paid}
+use Rattle.jmodel.specs.jmachine.Unwinding.{with_raised}
+use Rattle.jmodel.specs.declared.jstate.shapes.Shapes.{Shapes}
+use Rattle.jmodel.specs.jstate.Celled.{StayCelled}
+use Rattle.jmodel.specs.jstate.Framed.{Framed, all}
+use Rattle.jmodel.specs.jstate.Seen.{AreBuilt, Things, objects_by, values_of}
+use Rattle.jmodel.specs.jstate.SeenLaws.{Makes}
+use Rattle.jrows.specs.jcalls.Marks.{Stand}
+use Rattle.jrows.specs.jcalls.Telling.{TellsHeap, told_cells}
+use Rattle.jrows.specs.jcalls.Throws.{RaisedHeap}
+use Rattle.jmodel.specs.jguests.Guested.{RunsAs, framed_as}
+use Rattle.jlibcalls.specs.jlibrary.Held.{with_permissions}
+use Rattle.jlibcalls.specs.jcontexts.Kept.{with_kept}
+use Rattle.jstepping.specs.declared.jcore.machine.Machine.{Machine}
+use Rattle.jstepping.specs.jcore.Answering.{Calling}
+use Rattle.jstepping.specs.jcore.Comings.{IsBehind}
+use Rattle.jstepping.specs.jcore.Machines.{IsMachine, classes_of, state_of, store_of, things_of}
 use Rattle.jcallcheck.specs.Coming.{with_run}
 
 -- ---- objects that name nothing of what is kept

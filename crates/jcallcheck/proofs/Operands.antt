@@ -5,19 +5,19 @@ use Rattle.jlib.specs.declared.calls.ControllerCall.TheVariants as controller
 use Rattle.jlib.specs.declared.calls.LibCall.TheVariants as calls
 use Rattle.jlib.specs.declared.calls.RtCall.TheVariants as rt
 use Rattle.jlib.specs.declared.side.Side.{Side}
-use Rattle.jops.specs.declared.value.Value.{Value}
-use Rattle.jops.specs.declared.value.Value.TheVariants.{Int, Long, Ref, Ctx}
-use Rattle.jmachine.specs.Acts.{Row}
-use Rattle.jmachine.specs.Asked.{Ask, Checks, checks, checks_kept, context_asks, controller_asks, rt_asks}
-use Rattle.jmachine.specs.Asking.{context_row, controller_row, kept_checked, rt_row}
-use Rattle.jmachine.specs.Security.{Rules, checked, kept_in}
-use Rattle.jmachine.specs.Sites.{Site}
-use Rattle.jmachine.specs.Steps.{entries, site}
-use Rattle.jmachine.specs.Store.{Store, object_of}
-use Rattle.jstate.specs.Framed.{Framed, all}
-use Rattle.jcore.specs.declared.machine.Machine.{Machine}
-use Rattle.jcore.specs.Answering.{Calling}
-use Rattle.jcore.specs.Machines.{state_of, store_of}
+use Rattle.jground.specs.declared.jops.value.Value.{Value}
+use Rattle.jground.specs.declared.jops.value.Value.TheVariants.{Int, Long, Ref, Ctx}
+use Rattle.jmodel.specs.jmachine.Acts.{Row}
+use Rattle.jmodel.specs.jmachine.Asked.{Ask, Checks, checks, checks_kept, context_asks, controller_asks, rt_asks}
+use Rattle.jmodel.specs.jmachine.Asking.{context_row, controller_row, kept_checked, rt_row}
+use Rattle.jmodel.specs.jmachine.Security.{Rules, checked, kept_in}
+use Rattle.jmodel.specs.jmachine.Sites.{Site}
+use Rattle.jmodel.specs.jmachine.Steps.{entries, site}
+use Rattle.jmodel.specs.jmachine.Store.{Store, object_of}
+use Rattle.jmodel.specs.jstate.Framed.{Framed, all}
+use Rattle.jstepping.specs.declared.jcore.machine.Machine.{Machine}
+use Rattle.jstepping.specs.jcore.Answering.{Calling}
+use Rattle.jstepping.specs.jcore.Machines.{state_of, store_of}
 use Rattle.jcallcheck.specs.declared.finding.Whom.TheVariants as whom
 use Rattle.jcallcheck.proofs.Lasting.{few_of}
 use Rattle.jcallcheck.specs.Finding.{Finds, FindsNothing, context_in, here, row_of}

@@ -1,32 +1,32 @@
 -- What a step comes to whose call checks a permission, in a machine by numbers.
 use Rattle.std.specs.Prelude.{◌≡◌, ℕ, List, [], take, Option, Some}
-use Rattle.jperm.specs.declared.permission.Permission as perms
-use Rattle.jdomain.specs.declared.verdict.Verdict.{Verdict}
-use Rattle.jdomain.specs.declared.verdict.Verdict.TheVariants as verdicts
-use Rattle.jheap.specs.Heaps.{Heaped}
+use Rattle.jrights.specs.declared.jperm.permission.Permission as perms
+use Rattle.jrights.specs.declared.jdomain.verdict.Verdict.{Verdict}
+use Rattle.jrights.specs.declared.jdomain.verdict.Verdict.TheVariants as verdicts
+use Rattle.jground.specs.jheap.Heaps.{Heaped}
 use Rattle.jlib.specs.declared.classes.LibClass.TheVariants as lib
 use Rattle.jlib.specs.declared.classes.Thrown.TheVariants as thrown
-use Rattle.jops.specs.declared.value.Value.{Value}
+use Rattle.jground.specs.declared.jops.value.Value.{Value}
 use Rattle.jprogram.specs.declared.part.ClassRef.{ClassRef}
 use Rattle.jprogram.specs.declared.part.ClassRef.TheVariants as refs
-use Rattle.jtrace.specs.declared.event.Event.{Event}
-use Rattle.jtrace.specs.declared.event.Event.TheVariants.{Deny, Grant}
-use Rattle.jmachine.specs.Acts.{Row, State, null}
-use Rattle.jmachine.specs.Security.{Rules, judged}
-use Rattle.jmachine.specs.Turns.{thread_of}
-use Rattle.jrun.specs.declared.came.Came.{Came}
-use Rattle.jstate.specs.Framed.{Framed}
-use Rattle.jcalls.specs.declared.raising.Raised.{Raised}
-use Rattle.jcalls.specs.Calling.{stepped}
-use Rattle.jcalls.specs.Marks.{AreStanding}
-use Rattle.jcalls.specs.Throws.{RaisedAs}
-use Rattle.jguests.specs.Guested.{Lives, with_frames}
-use Rattle.jchecks.specs.declared.judging.Judged.{Judged}
-use Rattle.jchecks.specs.Judges.{JudgedAs}
-use Rattle.jstep.specs.Stepping.{type_of}
-use Rattle.jcore.specs.declared.machine.Machine.{Machine}
-use Rattle.jcore.specs.Comings.{outcome_by}
-use Rattle.jcore.specs.Machines.{AreRules, IsMachine, classes_of, state_of, store_of}
+use Rattle.jrights.specs.declared.jtrace.event.Event.{Event}
+use Rattle.jrights.specs.declared.jtrace.event.Event.TheVariants.{Deny, Grant}
+use Rattle.jmodel.specs.jmachine.Acts.{Row, State, null}
+use Rattle.jmodel.specs.jmachine.Security.{Rules, judged}
+use Rattle.jmodel.specs.jmachine.Turns.{thread_of}
+use Rattle.jmodel.specs.declared.jrun.came.Came.{Came}
+use Rattle.jmodel.specs.jstate.Framed.{Framed}
+use Rattle.jrows.specs.declared.jcalls.raising.Raised.{Raised}
+use Rattle.jrows.specs.jcalls.Calling.{stepped}
+use Rattle.jrows.specs.jcalls.Marks.{AreStanding}
+use Rattle.jrows.specs.jcalls.Throws.{RaisedAs}
+use Rattle.jmodel.specs.jguests.Guested.{Lives, with_frames}
+use Rattle.jlibcalls.specs.declared.jchecks.judging.Judged.{Judged}
+use Rattle.jlibcalls.specs.jchecks.Judges.{JudgedAs}
+use Rattle.jstepping.specs.jstep.Stepping.{type_of}
+use Rattle.jstepping.specs.declared.jcore.machine.Machine.{Machine}
+use Rattle.jstepping.specs.jcore.Comings.{outcome_by}
+use Rattle.jstepping.specs.jcore.Machines.{AreRules, IsMachine, classes_of, state_of, store_of}
 
 -- what is told of a verdict
 abbrev pub event_by : ℕ → perms.Permission → Verdict → Event

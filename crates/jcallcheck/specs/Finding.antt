@@ -1,24 +1,24 @@
 -- What a call of the library checks: a permission, by the thread that runs, or by what an AccessControlContext keeps (class documentation of
 -- AccessController and of AccessControlContext).
 use Rattle.std.specs.Prelude.{◌≡◌, ⊤, ℕ, List, take, Option, Some, None}
-use Rattle.jperm.specs.declared.permission.Permission as perms
-use Rattle.jdomain.specs.declared.verdict.Verdict.{Verdict}
+use Rattle.jrights.specs.declared.jperm.permission.Permission as perms
+use Rattle.jrights.specs.declared.jdomain.verdict.Verdict.{Verdict}
 use Rattle.jlib.specs.declared.calls.ControllerCall.TheVariants as controller
 use Rattle.jlib.specs.declared.calls.LibCall.{LibCall}
 use Rattle.jlib.specs.declared.calls.LibCall.TheVariants as calls
 use Rattle.jlib.specs.declared.calls.RtCall.TheVariants as rt
-use Rattle.jops.specs.declared.value.Value.{Value}
-use Rattle.jops.specs.declared.value.Value.TheVariants.{Ctx}
-use Rattle.jmachine.specs.Acts.{Row}
-use Rattle.jmachine.specs.Asked.{Ask, Checks, ChecksKept, checks}
-use Rattle.jmachine.specs.Doing.{run}
-use Rattle.jmachine.specs.Security.{Rules, checked}
-use Rattle.jmachine.specs.Sites.{Site}
-use Rattle.jmachine.specs.Steps.{entries, own_fields, site, site_of}
-use Rattle.jstate.specs.Framed.{Framed, all}
-use Rattle.jcore.specs.declared.machine.Machine.{Machine}
-use Rattle.jcore.specs.Answering.{asked_of}
-use Rattle.jcore.specs.Machines.{state_of, store_of}
+use Rattle.jground.specs.declared.jops.value.Value.{Value}
+use Rattle.jground.specs.declared.jops.value.Value.TheVariants.{Ctx}
+use Rattle.jmodel.specs.jmachine.Acts.{Row}
+use Rattle.jmodel.specs.jmachine.Asked.{Ask, Checks, ChecksKept, checks}
+use Rattle.jmodel.specs.jmachine.Doing.{run}
+use Rattle.jmodel.specs.jmachine.Security.{Rules, checked}
+use Rattle.jmodel.specs.jmachine.Sites.{Site}
+use Rattle.jmodel.specs.jmachine.Steps.{entries, own_fields, site, site_of}
+use Rattle.jmodel.specs.jstate.Framed.{Framed, all}
+use Rattle.jstepping.specs.declared.jcore.machine.Machine.{Machine}
+use Rattle.jstepping.specs.jcore.Answering.{asked_of}
+use Rattle.jstepping.specs.jcore.Machines.{state_of, store_of}
 use Rattle.jcallcheck.specs.declared.finding.Check.{Check}
 use Rattle.jcallcheck.specs.declared.finding.Whom.{Whom}
 use Rattle.jcallcheck.specs.declared.finding.Whom.TheVariants as whom

@@ -1,14 +1,14 @@
 ghost use Rattle.std.specs.Prelude.{◌≡◌, IfOk, OnOk};
-ghost use Rattle.jmachine.specs.Asked.{Decided, carried};
-ghost use Rattle.jguard.specs.Standing.{AnswersFor, IsKnownIn, Keeps};
-ghost use Rattle.jcore.specs.Machines.{state_of};
+ghost use Rattle.jmodel.specs.jmachine.Asked.{Decided, carried};
+ghost use Rattle.jmodel.specs.jguard.Standing.{AnswersFor, IsKnownIn, Keeps};
+ghost use Rattle.jstepping.specs.jcore.Machines.{state_of};
 ghost use Rattle.jcallcheck.specs.Finding.{ask_by};
 
 use crate::finding::Whom;
-use jcore::Machine;
-use jdomain::Verdict;
-use jguard::{Guard, ask_check, ask_kept_check};
-use jperm::Permission;
+use jmodel::jguard::{Guard, ask_check, ask_kept_check};
+use jrights::jdomain::Verdict;
+use jrights::jperm::Permission;
+use jstepping::jcore::Machine;
 use std::alloc::{AllocError, Global};
 
 /// Asks whether a permission is granted.

@@ -1,20 +1,20 @@
 ghost use Rattle.std.specs.Prelude.{◌≡◌, Some, None, IfOk, OnOk};
 ghost use Rattle.jlib.specs.declared.calls.LibCall.TheVariants as calls;
-ghost use Rattle.jguard.specs.Standing.{AskedOnce, Keeps};
-ghost use Rattle.jstate.specs.Framed.{Framed};
-ghost use Rattle.jcore.specs.Answering.{Answered, AsksKnown, Calling, asked_of, outcome_of};
-ghost use Rattle.jcore.specs.Comings.{GoesOn};
-ghost use Rattle.jcore.specs.Machines.{StaysFixed};
+ghost use Rattle.jmodel.specs.jguard.Standing.{AskedOnce, Keeps};
+ghost use Rattle.jmodel.specs.jstate.Framed.{Framed};
+ghost use Rattle.jstepping.specs.jcore.Answering.{Answered, AsksKnown, Calling, asked_of, outcome_of};
+ghost use Rattle.jstepping.specs.jcore.Comings.{GoesOn};
+ghost use Rattle.jstepping.specs.jcore.Machines.{StaysFixed};
 ghost use Rattle.jcallcheck.specs.Finding.{Found, IsCheck};
 
 use crate::asking::ask;
 use crate::finding::{Check, check_of, kept_check_of, passing_check_of};
 use crate::judging::{check_null, decide};
-use jchecks::{Asked, asks_for, check_laws};
-use jcore::Machine;
-use jguard::Guard;
 use jlib::{ControllerCall, LibCall, RtCall};
-use jrun::Came;
+use jlibcalls::jchecks::{Asked, asks_for, check_laws};
+use jmodel::jguard::Guard;
+use jmodel::jrun::Came;
+use jstepping::jcore::Machine;
 use std::alloc::{AllocError, Global};
 
 /// What a call of checkPermission of AccessController checks.

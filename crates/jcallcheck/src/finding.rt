@@ -2,14 +2,14 @@ ghost use Rattle.std.specs.Prelude.{◌≡◌, ◌+◌, Some, slice_get};
 ghost use Rattle.jlib.specs.declared.calls.ControllerCall.TheVariants as controller;
 ghost use Rattle.jlib.specs.declared.calls.LibCall.TheVariants as calls;
 ghost use Rattle.jlib.specs.declared.calls.RtCall.TheVariants as rt;
-ghost use Rattle.jstate.specs.Framed.{Framed};
-ghost use Rattle.jcore.specs.Answering.{Calling};
+ghost use Rattle.jmodel.specs.jstate.Framed.{Framed};
+ghost use Rattle.jstepping.specs.jcore.Answering.{Calling};
 ghost use Rattle.jcallcheck.specs.Finding;
 ghost use Rattle.jcallcheck.specs.Finding.{Found};
 
-use jcontexts::kept_of;
-use jcore::Machine;
-use jops::Value;
+use jground::jops::Value;
+use jlibcalls::jcontexts::kept_of;
+use jstepping::jcore::Machine;
 
 /// What is to grant a permission.
 #[derive(Clone, Copy, Debug, PartialEq, Eq)]

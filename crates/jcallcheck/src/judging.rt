@@ -1,25 +1,25 @@
 ghost use Rattle.std.specs.Prelude.{◌≡◌, ◌∷◌, [], Some, IfOk, OnOk};
-ghost use Rattle.jmachine.specs.Acts.{null};
-ghost use Rattle.jmachine.specs.Security.{judged};
-ghost use Rattle.jmachine.specs.Turns.{thread_of};
-ghost use Rattle.jcore.specs.Answering.{Calling};
-ghost use Rattle.jcore.specs.Comings.{GoesOn};
-ghost use Rattle.jcore.specs.Machines.{StaysFixed, state_of, store_of};
+ghost use Rattle.jmodel.specs.jmachine.Acts.{null};
+ghost use Rattle.jmodel.specs.jmachine.Security.{judged};
+ghost use Rattle.jmodel.specs.jmachine.Turns.{thread_of};
+ghost use Rattle.jstepping.specs.jcore.Answering.{Calling};
+ghost use Rattle.jstepping.specs.jcore.Comings.{GoesOn};
+ghost use Rattle.jstepping.specs.jcore.Machines.{StaysFixed, state_of, store_of};
 ghost use Rattle.jcallcheck.specs.Coming.{ComesBy, JudgedOn, NullRaisedOn, event_by};
 
-use jbase::Seq;
-use jcalls::{Raised, raise};
-use jchecks::{Judged, check_laws, judge};
-use jcore::{Machine, settle_raised};
-use jdomain::Verdict;
-use jguests::guest_laws;
-use jinvoke::{ThrownAs, told_law};
+use jground::jbase::Seq;
 use jlib::{LibClass, Thrown};
-use jperm::Permission;
+use jlibcalls::jchecks::{Judged, check_laws, judge};
+use jmodel::jguests::guest_laws;
+use jmodel::jrun::Came;
+use jmodel::jstate::{heap_laws, thrown_number};
 use jprogram::ClassRef;
-use jrun::Came;
-use jstate::{heap_laws, thrown_number};
-use jtrace::Event;
+use jrights::jdomain::Verdict;
+use jrights::jperm::Permission;
+use jrights::jtrace::Event;
+use jrows::jcalls::{Raised, raise};
+use jserving::jinvoke::{ThrownAs, told_law};
+use jstepping::jcore::{Machine, settle_raised};
 use std::alloc::{AllocError, Global};
 
 // ---- null

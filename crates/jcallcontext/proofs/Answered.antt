@@ -1,24 +1,24 @@
 -- What a call is answered, and comes to.
 use Rattle.std.proofs.Common.{◌≡◌, ◌∙◌, ℕ, ◌∷◌, [], Option, Some, None, sym, ap, subst}
-use Rattle.jdomain.specs.declared.verdict.Verdict.TheVariants as verdicts
+use Rattle.jrights.specs.declared.jdomain.verdict.Verdict.TheVariants as verdicts
 use Rattle.jlib.specs.declared.calls.LibCall.{LibCall}
 use Rattle.jlib.specs.declared.calls.LibCall.TheVariants as calls
 use Rattle.jlib.specs.declared.calls.RtCall.TheVariants as rt
-use Rattle.jops.specs.declared.value.Value.TheVariants.{Ctx}
-use Rattle.jmachine.specs.Acts.{Row, gives}
-use Rattle.jmachine.specs.Asked.{Allowed, Answer, Ask, Decided, Entered, Enters, Kept, Snapshots, answer_in, carried}
-use Rattle.jmachine.specs.Asking.{context_made}
-use Rattle.jmachine.specs.Security.{Rules}
-use Rattle.jguard.specs.Standing.{AnswersFor, IsKnownIn}
-use Rattle.jrun.specs.declared.came.Came.{Came}
-use Rattle.jrun.specs.declared.came.Came.TheVariants as done
-use Rattle.jstate.specs.Framed.{Framed}
-use Rattle.jchecks.specs.Judges.{NothingSteps}
-use Rattle.jcontexts.specs.declared.entering.Entering.{Entering}
-use Rattle.jcore.specs.declared.machine.Machine.{Machine}
-use Rattle.jcore.specs.Answering.{Answered, Calling, asked_of, outcome_of}
-use Rattle.jcore.specs.Comings.{any}
-use Rattle.jcore.specs.Machines.{AreRules, state_of, store_of}
+use Rattle.jground.specs.declared.jops.value.Value.TheVariants.{Ctx}
+use Rattle.jmodel.specs.jmachine.Acts.{Row, gives}
+use Rattle.jmodel.specs.jmachine.Asked.{Allowed, Answer, Ask, Decided, Entered, Enters, Kept, Snapshots, answer_in, carried}
+use Rattle.jmodel.specs.jmachine.Asking.{context_made}
+use Rattle.jmodel.specs.jmachine.Security.{Rules}
+use Rattle.jmodel.specs.jguard.Standing.{AnswersFor, IsKnownIn}
+use Rattle.jmodel.specs.declared.jrun.came.Came.{Came}
+use Rattle.jmodel.specs.declared.jrun.came.Came.TheVariants as done
+use Rattle.jmodel.specs.jstate.Framed.{Framed}
+use Rattle.jlibcalls.specs.jchecks.Judges.{NothingSteps}
+use Rattle.jlibcalls.specs.declared.jcontexts.entering.Entering.{Entering}
+use Rattle.jstepping.specs.declared.jcore.machine.Machine.{Machine}
+use Rattle.jstepping.specs.jcore.Answering.{Answered, Calling, asked_of, outcome_of}
+use Rattle.jstepping.specs.jcore.Comings.{any}
+use Rattle.jstepping.specs.jcore.Machines.{AreRules, state_of, store_of}
 use Rattle.jcallcontext.specs.Finding.{FoundEntering, FoundSnapshot}
 use Rattle.jcallcontext.specs.Rows.{CallAnswered, CallKnown, CallQuiet, ComesBy, IsAsking, row_of}
 

@@ -7,40 +7,40 @@ use Rattle.jlib.specs.declared.calls.RtCall.TheVariants as rt
 use Rattle.jlib.specs.declared.classes.LibClass.TheVariants as lib
 use Rattle.jlib.specs.declared.classes.Thrown.{Thrown as ThrownClass}
 use Rattle.jlib.specs.declared.side.Side.{Side}
-use Rattle.jops.specs.declared.value.Value.{Value}
-use Rattle.jops.specs.declared.value.Value.TheVariants.{Ctx}
-use Rattle.jperm.specs.declared.permission.Permission as perms
-use Rattle.jmachine.specs.Acts.{FrameOf, Row, gives, raises, null}
-use Rattle.jmachine.specs.Asked.{Allowed, Answer, Enters, Snapshots, carried, run_asks, where_run}
-use Rattle.jmachine.specs.Asking.{context_made}
-use Rattle.jmachine.specs.Calls as targets
-use Rattle.jmachine.specs.Privileges.{acting}
-use Rattle.jmachine.specs.Security.{Privilege, Rules}
-use Rattle.jmachine.specs.Steps.{entries, own_fields, site}
-use Rattle.jguard.specs.Standing.{AnswersFor, IsKnownIn}
-use Rattle.jrun.specs.declared.came.Came.{Came}
-use Rattle.jrun.specs.declared.came.Came.TheVariants as done
-use Rattle.jstate.specs.Framed.{Framed, all}
-use Rattle.jcalls.specs.declared.calls.Callee.{Callee}
-use Rattle.jcalls.specs.Calling.{IsCallee}
-use Rattle.jcalls.specs.Marks.{marks_of}
-use Rattle.jguests.specs.Guested.{frames_of}
-use Rattle.jinvoke.specs.declared.faces.Target.{Target}
-use Rattle.jinvoke.specs.declared.faces.Target.TheVariants as ways
-use Rattle.jinvoke.specs.Faces.{TargetAs, TargetWithin}
-use Rattle.jchecks.specs.Judges.{NothingSteps}
-use Rattle.jcontexts.specs.declared.entering.Entering.{Entering}
-use Rattle.jcontexts.specs.declared.requests.Form.{Form}
-use Rattle.jcontexts.specs.declared.wanting.Privileging.{Privileging}
-use Rattle.jcontexts.specs.declared.wanting.Privileging.TheVariants as wants
-use Rattle.jcontexts.specs.declared.wanting.Wanted.{Wanted}
-use Rattle.jcontexts.specs.Entering.{EntersWith, SnapshotsWith, snapshot_call}
-use Rattle.jcontexts.specs.Privileging.{FindsBy, run_on, wanted_asks, wanted_row}
-use Rattle.jcontexts.specs.Requests.{call_of}
-use Rattle.jcore.specs.declared.machine.Machine.{Machine}
-use Rattle.jcore.specs.Answering.{Calling, asked_of}
-use Rattle.jcore.specs.Comings.{any}
-use Rattle.jcore.specs.Machines.{state_of, store_of, things_of}
+use Rattle.jground.specs.declared.jops.value.Value.{Value}
+use Rattle.jground.specs.declared.jops.value.Value.TheVariants.{Ctx}
+use Rattle.jrights.specs.declared.jperm.permission.Permission as perms
+use Rattle.jmodel.specs.jmachine.Acts.{FrameOf, Row, gives, raises, null}
+use Rattle.jmodel.specs.jmachine.Asked.{Allowed, Answer, Enters, Snapshots, carried, run_asks, where_run}
+use Rattle.jmodel.specs.jmachine.Asking.{context_made}
+use Rattle.jmodel.specs.jmachine.Calls as targets
+use Rattle.jmodel.specs.jmachine.Privileges.{acting}
+use Rattle.jmodel.specs.jmachine.Security.{Privilege, Rules}
+use Rattle.jmodel.specs.jmachine.Steps.{entries, own_fields, site}
+use Rattle.jmodel.specs.jguard.Standing.{AnswersFor, IsKnownIn}
+use Rattle.jmodel.specs.declared.jrun.came.Came.{Came}
+use Rattle.jmodel.specs.declared.jrun.came.Came.TheVariants as done
+use Rattle.jmodel.specs.jstate.Framed.{Framed, all}
+use Rattle.jrows.specs.declared.jcalls.calls.Callee.{Callee}
+use Rattle.jrows.specs.jcalls.Calling.{IsCallee}
+use Rattle.jrows.specs.jcalls.Marks.{marks_of}
+use Rattle.jmodel.specs.jguests.Guested.{frames_of}
+use Rattle.jserving.specs.declared.jinvoke.faces.Target.{Target}
+use Rattle.jserving.specs.declared.jinvoke.faces.Target.TheVariants as ways
+use Rattle.jserving.specs.jinvoke.Faces.{TargetAs, TargetWithin}
+use Rattle.jlibcalls.specs.jchecks.Judges.{NothingSteps}
+use Rattle.jlibcalls.specs.declared.jcontexts.entering.Entering.{Entering}
+use Rattle.jlibcalls.specs.declared.jcontexts.requests.Form.{Form}
+use Rattle.jlibcalls.specs.declared.jcontexts.wanting.Privileging.{Privileging}
+use Rattle.jlibcalls.specs.declared.jcontexts.wanting.Privileging.TheVariants as wants
+use Rattle.jlibcalls.specs.declared.jcontexts.wanting.Wanted.{Wanted}
+use Rattle.jlibcalls.specs.jcontexts.Entering.{EntersWith, SnapshotsWith, snapshot_call}
+use Rattle.jlibcalls.specs.jcontexts.Privileging.{FindsBy, run_on, wanted_asks, wanted_row}
+use Rattle.jlibcalls.specs.jcontexts.Requests.{call_of}
+use Rattle.jstepping.specs.declared.jcore.machine.Machine.{Machine}
+use Rattle.jstepping.specs.jcore.Answering.{Calling, asked_of}
+use Rattle.jstepping.specs.jcore.Comings.{any}
+use Rattle.jstepping.specs.jcore.Machines.{state_of, store_of, things_of}
 use Rattle.jcallcontext.specs.Finding.{ActionTarget, FoundEntering, FoundPrivilege, FoundSnapshot, RunTarget, is_full, privilege_of}
 use Rattle.jcallcontext.specs.Rows.{CallAnswered, CallKnown, CallQuiet, ComesBy, IsAsking, here, row_of}
 use Rattle.jcallcontext.proofs.Answered.{answered, quiet, some_quiet, stuck_comes}

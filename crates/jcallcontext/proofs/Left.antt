@@ -1,39 +1,39 @@
 -- What a call leaves of the running thread's frames, and what the step comes to.
 use Rattle.std.proofs.Common.{◌≡◌, ◌∙◌, ℕ, ◌≤◌, Bool, true, false, List, [], ◌∷◌, ◌++◌, drop, length, take, Option, Some, refl, sym, ap, subst}
-use Rattle.jops.specs.declared.value.Value.{Value}
-use Rattle.jheap.specs.Heaps.{Heaped}
+use Rattle.jground.specs.declared.jops.value.Value.{Value}
+use Rattle.jground.specs.jheap.Heaps.{Heaped}
 use Rattle.jlib.specs.declared.classes.LibClass.TheVariants as lib
 use Rattle.jlib.specs.declared.classes.Thrown.{Thrown as ThrownClass}
 use Rattle.jprogram.specs.Classes.{Program}
-use Rattle.jtrace.specs.declared.event.End.TheVariants.{HeapFull}
-use Rattle.jtrace.specs.declared.event.Event.{Event}
-use Rattle.jmachine.specs.Acts.{Row, State, Went, gives, raises}
-use Rattle.jmachine.specs.Asking.{context_made}
-use Rattle.jmachine.specs.Calls as targets
-use Rattle.jmachine.specs.Privileges.{acting}
-use Rattle.jmachine.specs.Security.{Rules}
-use Rattle.jrun.specs.declared.came.Came.{Came}
-use Rattle.jrun.specs.declared.came.Came.TheVariants as done
-use Rattle.jstate.specs.declared.shapes.Shapes.{Shapes}
-use Rattle.jstate.specs.Celled.{StayCelled}
-use Rattle.jstate.specs.Framed.{Framed, all, holding}
-use Rattle.jstate.specs.Seen.{AreBuilt, Things}
-use Rattle.jcalls.specs.declared.calls.Callee.{Callee}
-use Rattle.jcalls.specs.Calling.{IsCallee, stepped}
-use Rattle.jcalls.specs.Marks.{AreStanding, Stand}
-use Rattle.jguests.specs.Guested.{Lives}
-use Rattle.jcontexts.specs.declared.acting.Acted.{Acted}
-use Rattle.jcontexts.specs.declared.acting.Acted.TheVariants as ways
-use Rattle.jcontexts.specs.Acting.{ActsStanding, CallsAction, GivesOne, RaisesSteps}
-use Rattle.jcontexts.specs.Kept.{AreKept, StayHeld, with_kept}
-use Rattle.jcontexts.specs.Snapshots.{Snapshots}
-use Rattle.jlibrary.specs.Held.{AreHeld, with_permissions}
-use Rattle.jcore.specs.declared.machine.Machine.{Machine}
-use Rattle.jcore.specs.Answering.{Calling}
-use Rattle.jcore.specs.Comings.{any, outcome_by}
-use Rattle.jcore.specs.Left.{LeftIsBehind, LeftIsMachine, RunsStanding, left_as}
-use Rattle.jcore.specs.Machines.{IsMachine, IsReady, StaysFixed, classes_of, state_of, store_of, things_of}
-use Rattle.jcore.specs.Raising.{RaisesIn}
+use Rattle.jrights.specs.declared.jtrace.event.End.TheVariants.{HeapFull}
+use Rattle.jrights.specs.declared.jtrace.event.Event.{Event}
+use Rattle.jmodel.specs.jmachine.Acts.{Row, State, Went, gives, raises}
+use Rattle.jmodel.specs.jmachine.Asking.{context_made}
+use Rattle.jmodel.specs.jmachine.Calls as targets
+use Rattle.jmodel.specs.jmachine.Privileges.{acting}
+use Rattle.jmodel.specs.jmachine.Security.{Rules}
+use Rattle.jmodel.specs.declared.jrun.came.Came.{Came}
+use Rattle.jmodel.specs.declared.jrun.came.Came.TheVariants as done
+use Rattle.jmodel.specs.declared.jstate.shapes.Shapes.{Shapes}
+use Rattle.jmodel.specs.jstate.Celled.{StayCelled}
+use Rattle.jmodel.specs.jstate.Framed.{Framed, all, holding}
+use Rattle.jmodel.specs.jstate.Seen.{AreBuilt, Things}
+use Rattle.jrows.specs.declared.jcalls.calls.Callee.{Callee}
+use Rattle.jrows.specs.jcalls.Calling.{IsCallee, stepped}
+use Rattle.jrows.specs.jcalls.Marks.{AreStanding, Stand}
+use Rattle.jmodel.specs.jguests.Guested.{Lives}
+use Rattle.jlibcalls.specs.declared.jcontexts.acting.Acted.{Acted}
+use Rattle.jlibcalls.specs.declared.jcontexts.acting.Acted.TheVariants as ways
+use Rattle.jlibcalls.specs.jcontexts.Acting.{ActsStanding, CallsAction, GivesOne, RaisesSteps}
+use Rattle.jlibcalls.specs.jcontexts.Kept.{AreKept, StayHeld, with_kept}
+use Rattle.jlibcalls.specs.jcontexts.Snapshots.{Snapshots}
+use Rattle.jlibcalls.specs.jlibrary.Held.{AreHeld, with_permissions}
+use Rattle.jstepping.specs.declared.jcore.machine.Machine.{Machine}
+use Rattle.jstepping.specs.jcore.Answering.{Calling}
+use Rattle.jstepping.specs.jcore.Comings.{any, outcome_by}
+use Rattle.jstepping.specs.jcore.Left.{LeftIsBehind, LeftIsMachine, RunsStanding, left_as}
+use Rattle.jstepping.specs.jcore.Machines.{IsMachine, IsReady, StaysFixed, classes_of, state_of, store_of, things_of}
+use Rattle.jstepping.specs.jcore.Raising.{RaisesIn}
 use Rattle.jcallcontext.specs.Rows.{ComesBy}
 
 same_frames : {A : Type 0} (o : Option A) (x y : A) → o ≡ Some x → o ≡ Some y → x ≡ y

@@ -6,19 +6,19 @@ use Rattle.jlib.specs.declared.calls.LibCall.{LibCall}
 use Rattle.jlib.specs.declared.calls.LibCall.TheVariants as calls
 use Rattle.jlib.specs.declared.calls.RtCall.TheVariants as rt
 use Rattle.jlib.specs.declared.classes.LibClass.TheVariants as lib
-use Rattle.jops.specs.declared.value.Value.TheVariants.{Ctx}
-use Rattle.jmachine.specs.Acts.{gives}
-use Rattle.jmachine.specs.Asked.{Ask, Enters, Privileges, Snapshots, carried}
-use Rattle.jmachine.specs.Asking.{context_made}
-use Rattle.jstate.specs.Framed.{Framed, all}
-use Rattle.jinvoke.specs.declared.faces.Target.{Target}
-use Rattle.jinvoke.specs.Faces.{FaceTarget}
-use Rattle.jcontexts.specs.declared.entering.Entering.{Entering}
-use Rattle.jcontexts.specs.declared.wanting.Privileging.{Privileging}
-use Rattle.jcontexts.specs.declared.wanting.Wanted.{Wanted}
-use Rattle.jcontexts.specs.Privileging.{wanted_asks, wanted_row}
-use Rattle.jcore.specs.declared.machine.Machine.{Machine}
-use Rattle.jcore.specs.Machines.{state_of, store_of}
+use Rattle.jground.specs.declared.jops.value.Value.TheVariants.{Ctx}
+use Rattle.jmodel.specs.jmachine.Acts.{gives}
+use Rattle.jmodel.specs.jmachine.Asked.{Ask, Enters, Privileges, Snapshots, carried}
+use Rattle.jmodel.specs.jmachine.Asking.{context_made}
+use Rattle.jmodel.specs.jstate.Framed.{Framed, all}
+use Rattle.jserving.specs.declared.jinvoke.faces.Target.{Target}
+use Rattle.jserving.specs.jinvoke.Faces.{FaceTarget}
+use Rattle.jlibcalls.specs.declared.jcontexts.entering.Entering.{Entering}
+use Rattle.jlibcalls.specs.declared.jcontexts.wanting.Privileging.{Privileging}
+use Rattle.jlibcalls.specs.declared.jcontexts.wanting.Wanted.{Wanted}
+use Rattle.jlibcalls.specs.jcontexts.Privileging.{wanted_asks, wanted_row}
+use Rattle.jstepping.specs.declared.jcore.machine.Machine.{Machine}
+use Rattle.jstepping.specs.jcore.Machines.{state_of, store_of}
 use Rattle.jcallcontext.specs.Rows.{IsAsking, here}
 
 -- ---- getContext

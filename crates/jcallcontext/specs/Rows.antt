@@ -1,21 +1,21 @@
 -- What a call of the library that asks something of access control does in a machine by numbers: its row, and what the step comes to by it.
 use Rattle.std.specs.Prelude.{◌≡◌, ℕ, List, Option, Some, None, take}
-use Rattle.jops.specs.declared.value.Value.{Value}
+use Rattle.jground.specs.declared.jops.value.Value.{Value}
 use Rattle.jlib.specs.declared.calls.LibCall.{LibCall}
-use Rattle.jmachine.specs.Acts.{Row, State}
-use Rattle.jmachine.specs.Asked.{Ask}
-use Rattle.jmachine.specs.Doing.{run}
-use Rattle.jmachine.specs.Security.{Rules}
-use Rattle.jmachine.specs.Sites.{Site}
-use Rattle.jmachine.specs.Steps.{entries, own_fields, site, site_of}
-use Rattle.jguard.specs.Standing.{AskedOnce}
-use Rattle.jrun.specs.declared.came.Came.{Came}
-use Rattle.jstate.specs.Framed.{Framed, all}
-use Rattle.jcalls.specs.Calling.{stepped}
-use Rattle.jcore.specs.declared.machine.Machine.{Machine}
-use Rattle.jcore.specs.Answering.{Answered, AsksKnown, asked_of, outcome_of}
-use Rattle.jcore.specs.Comings.{outcome_by}
-use Rattle.jcore.specs.Machines.{AreRules, state_of, store_of}
+use Rattle.jmodel.specs.jmachine.Acts.{Row, State}
+use Rattle.jmodel.specs.jmachine.Asked.{Ask}
+use Rattle.jmodel.specs.jmachine.Doing.{run}
+use Rattle.jmodel.specs.jmachine.Security.{Rules}
+use Rattle.jmodel.specs.jmachine.Sites.{Site}
+use Rattle.jmodel.specs.jmachine.Steps.{entries, own_fields, site, site_of}
+use Rattle.jmodel.specs.jguard.Standing.{AskedOnce}
+use Rattle.jmodel.specs.declared.jrun.came.Came.{Came}
+use Rattle.jmodel.specs.jstate.Framed.{Framed, all}
+use Rattle.jrows.specs.jcalls.Calling.{stepped}
+use Rattle.jstepping.specs.declared.jcore.machine.Machine.{Machine}
+use Rattle.jstepping.specs.jcore.Answering.{Answered, AsksKnown, asked_of, outcome_of}
+use Rattle.jstepping.specs.jcore.Comings.{outcome_by}
+use Rattle.jstepping.specs.jcore.Machines.{AreRules, state_of, store_of}
 
 -- ---- a call
 

@@ -1,15 +1,15 @@
 ghost use Rattle.std.specs.Prelude.{◌≡◌, IfOk, OnOk};
 ghost use Rattle.std.specs.Option.{option_copied};
-ghost use Rattle.jmachine.specs.Asked.{Allowed, Entered, Enters, Kept, Snapshots, carried};
-ghost use Rattle.jguard.specs.Standing.{AnswersFor, IsKnownIn, Keeps};
-ghost use Rattle.jcore.specs.Machines.{state_of};
+ghost use Rattle.jmodel.specs.jmachine.Asked.{Allowed, Entered, Enters, Kept, Snapshots, carried};
+ghost use Rattle.jmodel.specs.jguard.Standing.{AnswersFor, IsKnownIn, Keeps};
+ghost use Rattle.jstepping.specs.jcore.Machines.{state_of};
 ghost use Rattle.jcallcontext.specs.Finding.{privilege_of};
 
-use jbase::Seq;
-use jcontexts::{Entering, Wanted};
-use jcore::Machine;
-use jguard::{Guard, Marked, ask_enter, ask_privilege, ask_snapshot};
-use jperm::Permission;
+use jground::jbase::Seq;
+use jlibcalls::jcontexts::{Entering, Wanted};
+use jmodel::jguard::{Guard, Marked, ask_enter, ask_privilege, ask_snapshot};
+use jrights::jperm::Permission;
+use jstepping::jcore::Machine;
 use std::alloc::{AllocError, Global};
 
 /// The number of what getContext keeps in the running thread.

@@ -1,22 +1,22 @@
 ghost use Rattle.std.specs.Prelude.{◌≡◌, ◌∷◌, [], IfOk, OnOk, Some};
 ghost use Rattle.jlib.specs.declared.calls.LibCall.TheVariants as calls;
 ghost use Rattle.jlib.specs.declared.calls.RtCall.TheVariants as rt;
-ghost use Rattle.jops.specs.declared.value.Value.TheVariants.{Ctx};
-ghost use Rattle.jmachine.specs.Acts.{gives};
-ghost use Rattle.jguard.specs.Standing.{Keeps};
-ghost use Rattle.jcore.specs.Answering.{Calling};
-ghost use Rattle.jcore.specs.Comings.{GoesOn, any};
-ghost use Rattle.jcore.specs.Machines.{StaysFixed, store_of};
+ghost use Rattle.jground.specs.declared.jops.value.Value.TheVariants.{Ctx};
+ghost use Rattle.jmodel.specs.jmachine.Acts.{gives};
+ghost use Rattle.jmodel.specs.jguard.Standing.{Keeps};
+ghost use Rattle.jstepping.specs.jcore.Answering.{Calling};
+ghost use Rattle.jstepping.specs.jcore.Comings.{GoesOn, any};
+ghost use Rattle.jstepping.specs.jcore.Machines.{StaysFixed, store_of};
 ghost use Rattle.jcallcontext.specs.Rows.{CallAnswered, CallKnown, CallOnce, CallQuiet, ComesBy};
 
 use crate::asking::ask_entered;
 use crate::finding::entering_found;
-use jbase::Seq;
-use jchecks::check_laws;
-use jcontexts::enter;
-use jcore::{Machine, machine_laws};
-use jguard::Guard;
-use jrun::Came;
+use jground::jbase::Seq;
+use jlibcalls::jchecks::check_laws;
+use jlibcalls::jcontexts::enter;
+use jmodel::jguard::Guard;
+use jmodel::jrun::Came;
+use jstepping::jcore::{Machine, machine_laws};
 use std::alloc::{AllocError, Global};
 
 /// The running thread goes on with the context of a number, in the place of so many operands.

@@ -1,18 +1,18 @@
 ghost use Rattle.std.specs.Prelude.{◌≡◌, IfOk, OnOk, Some, drop};
 ghost use Rattle.jlib.specs.declared.classes.LibClass.TheVariants as lib;
-ghost use Rattle.jmachine.specs.Acts.{raises};
-ghost use Rattle.jstate.specs.Framed.{Framed, holding};
-ghost use Rattle.jcore.specs.Answering.{Calling};
-ghost use Rattle.jcore.specs.Comings.{GoesOn, any};
-ghost use Rattle.jcore.specs.Left.{left_as};
-ghost use Rattle.jcore.specs.Machines.{StaysFixed, things_of};
+ghost use Rattle.jmodel.specs.jmachine.Acts.{raises};
+ghost use Rattle.jmodel.specs.jstate.Framed.{Framed, holding};
+ghost use Rattle.jstepping.specs.jcore.Answering.{Calling};
+ghost use Rattle.jstepping.specs.jcore.Comings.{GoesOn, any};
+ghost use Rattle.jstepping.specs.jcore.Left.{left_as};
+ghost use Rattle.jstepping.specs.jcore.Machines.{StaysFixed, things_of};
 ghost use Rattle.jcallcontext.specs.Rows.{ComesBy};
 
-use jbase::Seq;
-use jcontexts::fail_law;
-use jcore::{Machine, machine_laws, raise};
+use jground::jbase::Seq;
 use jlib::Thrown;
-use jrun::Came;
+use jlibcalls::jcontexts::fail_law;
+use jmodel::jrun::Came;
+use jstepping::jcore::{Machine, machine_laws, raise};
 use std::alloc::{AllocError, Global};
 
 /// Takes so many operands of the running thread's newest frame away.

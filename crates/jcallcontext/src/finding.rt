@@ -1,16 +1,18 @@
 ghost use Rattle.std.specs.Prelude.{◌≡◌, IfOk, Some};
-ghost use Rattle.jstate.specs.Framed.{Framed};
-ghost use Rattle.jcontexts.specs.Entering.{snapshot_call};
-ghost use Rattle.jcontexts.specs.Requests.{call_of};
-ghost use Rattle.jcore.specs.Answering.{Calling};
-ghost use Rattle.jinvoke.specs.Faces.{TargetWithin};
-ghost use Rattle.jcore.specs.Machines.{IsMachine, classes_of};
+ghost use Rattle.jmodel.specs.jstate.Framed.{Framed};
+ghost use Rattle.jlibcalls.specs.jcontexts.Entering.{snapshot_call};
+ghost use Rattle.jlibcalls.specs.jcontexts.Requests.{call_of};
+ghost use Rattle.jstepping.specs.jcore.Answering.{Calling};
+ghost use Rattle.jserving.specs.jinvoke.Faces.{TargetWithin};
+ghost use Rattle.jstepping.specs.jcore.Machines.{IsMachine, classes_of};
 ghost use Rattle.jcallcontext.specs.Finding.{ActionTarget, FoundEntering, FoundPrivilege, FoundSnapshot, IsPrivileged, IsSnapshot, is_full};
 
-use jcontexts::{Entering, Form, Privileging, find_entering, find_privilege, snapshotting};
-use jcore::Machine;
-use jinvoke::{Face, Target};
 use jlib::{ControllerCall, LibCall, RtCall, Side};
+use jlibcalls::jcontexts::{
+    Entering, Form, Privileging, find_entering, find_privilege, snapshotting,
+};
+use jserving::jinvoke::{Face, Target};
+use jstepping::jcore::Machine;
 use std::alloc::{AllocError, Global};
 
 /// The side on which a call is getContext.

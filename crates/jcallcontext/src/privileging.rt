@@ -1,29 +1,29 @@
 ghost use Rattle.std.specs.Prelude.{◌≡◌, ◌<◌, IfOk, OnOk};
-ghost use Rattle.jmachine.specs.Calls as targets;
-ghost use Rattle.jmachine.specs.Privileges.{acting};
-ghost use Rattle.jcalls.specs.Calling.{IsCallee};
-ghost use Rattle.jcalls.specs.Marks.{marks_of};
-ghost use Rattle.jguard.specs.Standing.{Keeps};
-ghost use Rattle.jinvoke.specs.Faces.{TargetWithin};
-ghost use Rattle.jcontexts.specs.declared.wanting.Privileging.TheVariants as wants;
-ghost use Rattle.jcore.specs.Answering.{Calling};
-ghost use Rattle.jcore.specs.Comings.{GoesOn};
-ghost use Rattle.jcore.specs.Machines.{StaysFixed, classes_of};
+ghost use Rattle.jmodel.specs.jmachine.Calls as targets;
+ghost use Rattle.jmodel.specs.jmachine.Privileges.{acting};
+ghost use Rattle.jrows.specs.jcalls.Calling.{IsCallee};
+ghost use Rattle.jrows.specs.jcalls.Marks.{marks_of};
+ghost use Rattle.jmodel.specs.jguard.Standing.{Keeps};
+ghost use Rattle.jserving.specs.jinvoke.Faces.{TargetWithin};
+ghost use Rattle.jlibcalls.specs.declared.jcontexts.wanting.Privileging.TheVariants as wants;
+ghost use Rattle.jstepping.specs.jcore.Answering.{Calling};
+ghost use Rattle.jstepping.specs.jcore.Comings.{GoesOn};
+ghost use Rattle.jstepping.specs.jcore.Machines.{StaysFixed, classes_of};
 ghost use Rattle.jcallcontext.specs.Finding.{FoundPrivilege, IsPrivileged, RunTarget};
 ghost use Rattle.jcallcontext.specs.Rows.{CallAnswered, CallKnown, CallOnce, CallQuiet, ComesBy};
 
 use crate::asking::ask_allowed;
 use crate::failing::fail_call;
 use crate::finding::{action_target, has_all, privilege_found};
-use jbase::Seq;
-use jcalls::Callee;
-use jchecks::check_laws;
-use jcontexts::{Acted, Privileging, Wanted, act};
-use jcore::{Machine, machine_laws};
-use jguard::{Guard, Marked};
-use jinvoke::Target;
+use jground::jbase::Seq;
 use jlib::{LibCall, Thrown};
-use jrun::Came;
+use jlibcalls::jchecks::check_laws;
+use jlibcalls::jcontexts::{Acted, Privileging, Wanted, act};
+use jmodel::jguard::{Guard, Marked};
+use jmodel::jrun::Came;
+use jrows::jcalls::Callee;
+use jserving::jinvoke::Target;
+use jstepping::jcore::{Machine, machine_laws};
 use std::alloc::{AllocError, Global};
 
 /// Calls an action with a privilege: the newest frame of the running thread is marked, and a frame of the method begins, if it has code.

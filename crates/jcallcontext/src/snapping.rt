@@ -1,21 +1,21 @@
 ghost use Rattle.std.specs.Prelude.{◌≡◌, IfOk, OnOk, Some};
-ghost use Rattle.jmachine.specs.Asking.{context_made};
-ghost use Rattle.jguard.specs.Standing.{Keeps};
-ghost use Rattle.jcore.specs.Answering.{Calling};
-ghost use Rattle.jcore.specs.Comings.{GoesOn, any};
-ghost use Rattle.jcore.specs.Machines.{StaysFixed, store_of};
+ghost use Rattle.jmodel.specs.jmachine.Asking.{context_made};
+ghost use Rattle.jmodel.specs.jguard.Standing.{Keeps};
+ghost use Rattle.jstepping.specs.jcore.Answering.{Calling};
+ghost use Rattle.jstepping.specs.jcore.Comings.{GoesOn, any};
+ghost use Rattle.jstepping.specs.jcore.Machines.{StaysFixed, store_of};
 ghost use Rattle.jcallcontext.specs.Finding.{IsSnapshot};
 ghost use Rattle.jcallcontext.specs.Rows.{CallAnswered, CallKnown, CallOnce, CallQuiet, ComesBy};
 
 use crate::asking::ask_kept;
 use crate::finding::snapshot_found;
-use jbase::Seq;
-use jchecks::check_laws;
-use jcontexts::snapshot;
-use jcore::{Machine, full, machine_laws};
-use jguard::Guard;
+use jground::jbase::Seq;
 use jlib::LibCall;
-use jrun::Came;
+use jlibcalls::jchecks::check_laws;
+use jlibcalls::jcontexts::snapshot;
+use jmodel::jguard::Guard;
+use jmodel::jrun::Came;
+use jstepping::jcore::{Machine, full, machine_laws};
 use std::alloc::{AllocError, Global};
 
 /// The running thread goes on with an AccessControlContext that keeps a number, in the place of so many operands, where there is room for it.

@@ -4,35 +4,35 @@ use Rattle.std.specs.Option.{option_to_list}
 use Rattle.std.specs.Prelude.{nat_le, if◌then◌else◌}
 use Rattle.jlib.specs.declared.calls.LibCall.{LibCall}
 use Rattle.jlib.specs.declared.classes.LibClass.{LibClass}
-use Rattle.jtrace.specs.declared.event.End.TheVariants.{HeapFull}
-use Rattle.jtrace.specs.declared.event.Event.{Event}
+use Rattle.jrights.specs.declared.jtrace.event.End.TheVariants.{HeapFull}
+use Rattle.jrights.specs.declared.jtrace.event.Event.{Event}
 use Rattle.jprogram.specs.declared.member.MethodId.{MethodId}
 use Rattle.jprogram.specs.Classes.{Program}
-use Rattle.jmachine.specs.declared.plan.Plan.{Plan}
-use Rattle.jmachine.specs.Acts.{Act, FrameOf, Goes, Jumps, Leaves, Calls, Raises, Throws, Switches, Makes, Over, State, two}
-use Rattle.jmachine.specs.Doing.{Doing, run, with_row}
-use Rattle.jmachine.specs.Frames.{onward}
-use Rattle.jmachine.specs.Security.{Rules}
-use Rattle.jmachine.specs.Steps as machine_steps
-use Rattle.jmachine.specs.Steps.{entries, own_fields, raised, site, went}
-use Rattle.jmachine.specs.Store.{Store, paid}
-use Rattle.jmachine.specs.Unwinding.{with_raised}
-use Rattle.jrun.specs.declared.came.Came.{Came}
-use Rattle.jstate.specs.Framed.{Framed, all}
-use Rattle.jacts.specs.declared.way.Way.{Way}
-use Rattle.jacts.specs.declared.way.Way.TheVariants as ways
-use Rattle.jacts.specs.Ways.{Acted, Comes, Left, leaves}
-use Rattle.jcalls.specs.Calling.{took}
-use Rattle.jcalls.specs.Marks.{AreStanding, Stand}
-use Rattle.jguests.specs.Guested.{Lives}
-use Rattle.jlibrary.specs.declared.running.Done.{Done}
-use Rattle.jlibrary.specs.Ran.{Stays}
-use Rattle.jstep.specs.Behind.{Follows}
-use Rattle.jcore.specs.declared.machine.Machine.{Machine}
-use Rattle.jcore.specs.Answering.{Calling, outcome_of}
-use Rattle.jcore.specs.Comings.{Comes as ComesTo, any}
-use Rattle.jcore.specs.Left.{IsNumbered, LeftIsBehind, RunsStanding, left_as}
-use Rattle.jcore.specs.Machines.{GuestStands, IsMachine, IsReady, classes_of, state_of, store_of, things_of}
+use Rattle.jmodel.specs.declared.jmachine.plan.Plan.{Plan}
+use Rattle.jmodel.specs.jmachine.Acts.{Act, FrameOf, Goes, Jumps, Leaves, Calls, Raises, Throws, Switches, Makes, Over, State, two}
+use Rattle.jmodel.specs.jmachine.Doing.{Doing, run, with_row}
+use Rattle.jmodel.specs.jmachine.Frames.{onward}
+use Rattle.jmodel.specs.jmachine.Security.{Rules}
+use Rattle.jmodel.specs.jmachine.Steps as machine_steps
+use Rattle.jmodel.specs.jmachine.Steps.{entries, own_fields, raised, site, went}
+use Rattle.jmodel.specs.jmachine.Store.{Store, paid}
+use Rattle.jmodel.specs.jmachine.Unwinding.{with_raised}
+use Rattle.jmodel.specs.declared.jrun.came.Came.{Came}
+use Rattle.jmodel.specs.jstate.Framed.{Framed, all}
+use Rattle.jrows.specs.declared.jacts.way.Way.{Way}
+use Rattle.jrows.specs.declared.jacts.way.Way.TheVariants as ways
+use Rattle.jrows.specs.jacts.Ways.{Acted, Comes, Left, leaves}
+use Rattle.jrows.specs.jcalls.Calling.{took}
+use Rattle.jrows.specs.jcalls.Marks.{AreStanding, Stand}
+use Rattle.jmodel.specs.jguests.Guested.{Lives}
+use Rattle.jlibcalls.specs.declared.jlibrary.running.Done.{Done}
+use Rattle.jlibcalls.specs.jlibrary.Ran.{Stays}
+use Rattle.jstepping.specs.jstep.Behind.{Follows}
+use Rattle.jstepping.specs.declared.jcore.machine.Machine.{Machine}
+use Rattle.jstepping.specs.jcore.Answering.{Calling, outcome_of}
+use Rattle.jstepping.specs.jcore.Comings.{Comes as ComesTo, any}
+use Rattle.jstepping.specs.jcore.Left.{IsNumbered, LeftIsBehind, RunsStanding, left_as}
+use Rattle.jstepping.specs.jcore.Machines.{GuestStands, IsMachine, IsReady, classes_of, state_of, store_of, things_of}
 use Rattle.jcallplain.specs.Running.{RanIn, things_with}
 use Rattle.jcallplain.specs.Ways.{IsLeft, MayRaise, Settles, WentAs}
 

@@ -1,33 +1,33 @@
 -- The library ran in the running thread, and what holds of the machine holds behind it.
 use Rattle.std.proofs.Common.{◌≡◌, ◌∙◌, ℕ, Bool, false, List, [], ◌++◌, Option, Some, None, refl, subst, sym, ap}
 use Rattle.std.specs.Option.{option_to_list}
-use Rattle.jperm.specs.declared.permission.Permission as perms
-use Rattle.jdomain.specs.declared.verdict.Verdict.TheVariants.{Granted}
-use Rattle.jheap.specs.Heaps.{Heaped}
+use Rattle.jrights.specs.declared.jperm.permission.Permission as perms
+use Rattle.jrights.specs.declared.jdomain.verdict.Verdict.TheVariants.{Granted}
+use Rattle.jground.specs.jheap.Heaps.{Heaped}
 use Rattle.jlib.specs.declared.calls.LibCall.{LibCall}
 use Rattle.jlib.specs.declared.side.Side.TheVariants.{Passing}
 use Rattle.jprogram.specs.declared.member.Member.{Member}
 use Rattle.jprogram.specs.Classes.{Program}
-use Rattle.jmachine.specs.Doing.{Doing, run, with_row}
-use Rattle.jmachine.specs.Objects.{Object}
-use Rattle.jmachine.specs.Security.{Rules}
-use Rattle.jmachine.specs.Sites.{Site}
-use Rattle.jmachine.specs.Store.{Store}
-use Rattle.jmachine.specs.World.{world}
-use Rattle.jshapes.specs.Alike.{RowsLeaveOne}
-use Rattle.jstate.specs.Celled.{StayCelled}
-use Rattle.jstate.specs.Framed.{Framed}
-use Rattle.jstate.specs.Seen.{AreBuilt, Things, store_by, values_of}
-use Rattle.jacts.specs.declared.way.Way.TheVariants as ways
-use Rattle.jacts.specs.Ways.{Comes, leaves}
-use Rattle.jcalls.specs.Calling.{took}
-use Rattle.jcontexts.specs.Kept.{AreKept, with_kept}
-use Rattle.jlibrary.specs.declared.running.Done.{Done}
-use Rattle.jlibrary.specs.Held.{AreHeld}
-use Rattle.jlibrary.specs.Ran.{Runs, Stays}
-use Rattle.jcore.specs.declared.machine.Machine.{Machine}
-use Rattle.jcore.specs.Left.{LeftIsMachine, left_as}
-use Rattle.jcore.specs.Machines.{IsMachine, things_of}
+use Rattle.jmodel.specs.jmachine.Doing.{Doing, run, with_row}
+use Rattle.jmodel.specs.jmachine.Objects.{Object}
+use Rattle.jmodel.specs.jmachine.Security.{Rules}
+use Rattle.jmodel.specs.jmachine.Sites.{Site}
+use Rattle.jmodel.specs.jmachine.Store.{Store}
+use Rattle.jmodel.specs.jmachine.World.{world}
+use Rattle.jserving.specs.jshapes.Alike.{RowsLeaveOne}
+use Rattle.jmodel.specs.jstate.Celled.{StayCelled}
+use Rattle.jmodel.specs.jstate.Framed.{Framed}
+use Rattle.jmodel.specs.jstate.Seen.{AreBuilt, Things, store_by, values_of}
+use Rattle.jrows.specs.declared.jacts.way.Way.TheVariants as ways
+use Rattle.jrows.specs.jacts.Ways.{Comes, leaves}
+use Rattle.jrows.specs.jcalls.Calling.{took}
+use Rattle.jlibcalls.specs.jcontexts.Kept.{AreKept, with_kept}
+use Rattle.jlibcalls.specs.declared.jlibrary.running.Done.{Done}
+use Rattle.jlibcalls.specs.jlibrary.Held.{AreHeld}
+use Rattle.jlibcalls.specs.jlibrary.Ran.{Runs, Stays}
+use Rattle.jstepping.specs.declared.jcore.machine.Machine.{Machine}
+use Rattle.jstepping.specs.jcore.Left.{LeftIsMachine, left_as}
+use Rattle.jstepping.specs.jcore.Machines.{IsMachine, things_of}
 use Rattle.jcallplain.specs.Running.{RanIn, things_with}
 
 -- some rules, by which frames carry this

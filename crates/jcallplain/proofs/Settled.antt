@@ -3,17 +3,17 @@ use Rattle.std.proofs.Common.{◌≡◌, ◌∙◌, ℕ, List, [], Some, subst, 
 use Rattle.jlib.specs.declared.classes.LibClass.{LibClass}
 use Rattle.jlib.specs.declared.classes.LibClass.TheVariants as lib
 use Rattle.jlib.specs.declared.classes.Thrown.{Thrown as ThrownClass}
-use Rattle.jtrace.specs.declared.event.End.TheVariants.{HeapFull}
-use Rattle.jtrace.specs.declared.event.Event.{Event}
-use Rattle.jmachine.specs.Acts.{State, Went}
-use Rattle.jmachine.specs.Turns.{with_running}
-use Rattle.jrun.specs.declared.came.Came.{Came}
-use Rattle.jrun.specs.declared.came.Came.TheVariants as stepped
-use Rattle.jacts.specs.declared.way.Way.TheVariants as ways
-use Rattle.jguests.specs.Guested.{frames_of}
-use Rattle.jcore.specs.declared.machine.Machine.{Machine}
-use Rattle.jcore.specs.Machines.{state_of, store_of}
-use Rattle.jcore.specs.Raising.{RaisesIn}
+use Rattle.jrights.specs.declared.jtrace.event.End.TheVariants.{HeapFull}
+use Rattle.jrights.specs.declared.jtrace.event.Event.{Event}
+use Rattle.jmodel.specs.jmachine.Acts.{State, Went}
+use Rattle.jmodel.specs.jmachine.Turns.{with_running}
+use Rattle.jmodel.specs.declared.jrun.came.Came.{Came}
+use Rattle.jmodel.specs.declared.jrun.came.Came.TheVariants as stepped
+use Rattle.jrows.specs.declared.jacts.way.Way.TheVariants as ways
+use Rattle.jmodel.specs.jguests.Guested.{frames_of}
+use Rattle.jstepping.specs.declared.jcore.machine.Machine.{Machine}
+use Rattle.jstepping.specs.jcore.Machines.{state_of, store_of}
+use Rattle.jstepping.specs.jcore.Raising.{RaisesIn}
 use Rattle.jcallplain.specs.Ways.{Settles}
 
 module _ {E : Type 0} (m : Machine E) (told : List Event) where

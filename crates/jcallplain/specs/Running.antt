@@ -1,19 +1,19 @@
 -- How the library ran in the running thread.
 use Rattle.std.specs.Prelude.{◌≡◌, ℕ, List, Some, take}
-use Rattle.jperm.specs.declared.permission.Permission as perms
-use Rattle.jops.specs.declared.value.Value.{Value}
-use Rattle.jheap.specs.Heaps.{Heaped}
+use Rattle.jrights.specs.declared.jperm.permission.Permission as perms
+use Rattle.jground.specs.declared.jops.value.Value.{Value}
+use Rattle.jground.specs.jheap.Heaps.{Heaped}
 use Rattle.jlib.specs.declared.calls.LibCall.{LibCall}
-use Rattle.jmachine.specs.Calls.{receiver}
-use Rattle.jstate.specs.Framed.{Framed}
-use Rattle.jstate.specs.Seen.{Things}
-use Rattle.jtexts.specs.Messages.{MayBeTold}
-use Rattle.jacts.specs.declared.way.Way.TheVariants as ways
-use Rattle.jlibrary.specs.declared.running.Done.{Done}
-use Rattle.jlibrary.specs.Ran.{IsTelling, Runs, Stays}
-use Rattle.jcore.specs.declared.machine.Machine.{Machine}
-use Rattle.jcore.specs.Left.{left_as}
-use Rattle.jcore.specs.Machines.{IsMachine}
+use Rattle.jmodel.specs.jmachine.Calls.{receiver}
+use Rattle.jmodel.specs.jstate.Framed.{Framed}
+use Rattle.jmodel.specs.jstate.Seen.{Things}
+use Rattle.jrows.specs.jtexts.Messages.{MayBeTold}
+use Rattle.jrows.specs.declared.jacts.way.Way.TheVariants as ways
+use Rattle.jlibcalls.specs.declared.jlibrary.running.Done.{Done}
+use Rattle.jlibcalls.specs.jlibrary.Ran.{IsTelling, Runs, Stays}
+use Rattle.jstepping.specs.declared.jcore.machine.Machine.{Machine}
+use Rattle.jstepping.specs.jcore.Left.{left_as}
+use Rattle.jstepping.specs.jcore.Machines.{IsMachine}
 
 -- Where the call gives an object a message, the object may be told one.
 abbrev pub MayTell : {E : Type 0} → Machine E → LibCall → (count : ℕ) → Type 0

@@ -1,24 +1,24 @@
 -- What stands behind a row of a call, of which it is told what is to be done.
 use Rattle.std.specs.Prelude.{◌≡◌, ⊤, ℕ, List, [], Some}
-use Rattle.jtrace.specs.declared.event.End.TheVariants.{HeapFull}
-use Rattle.jtrace.specs.declared.event.Event.{Event}
+use Rattle.jrights.specs.declared.jtrace.event.End.TheVariants.{HeapFull}
+use Rattle.jrights.specs.declared.jtrace.event.Event.{Event}
 use Rattle.jprogram.specs.Classes.{Program}
-use Rattle.jmachine.specs.declared.plan.Plan.{Plan}
-use Rattle.jmachine.specs.Acts.{NoStep, Outcome, Over, State}
-use Rattle.jmachine.specs.Security.{Rules}
-use Rattle.jmachine.specs.Steps.{went}
-use Rattle.jmachine.specs.Store.{Store}
-use Rattle.jrun.specs.declared.came.Came.{Came}
-use Rattle.jstate.specs.Framed.{Framed, all}
-use Rattle.jacts.specs.declared.way.Way.{Way}
-use Rattle.jacts.specs.declared.way.Way.TheVariants as ways
-use Rattle.jcalls.specs.Calling.{IsThrown}
-use Rattle.jcalls.specs.Throws.{raising}
-use Rattle.jguests.specs.Guested.{Lives}
-use Rattle.jcore.specs.declared.machine.Machine.{Machine}
-use Rattle.jcore.specs.Comings.{IsBehind, Leads}
-use Rattle.jcore.specs.Left.{RunsStanding}
-use Rattle.jcore.specs.Machines.{IsMachine, IsReady, store_of}
+use Rattle.jmodel.specs.declared.jmachine.plan.Plan.{Plan}
+use Rattle.jmodel.specs.jmachine.Acts.{NoStep, Outcome, Over, State}
+use Rattle.jmodel.specs.jmachine.Security.{Rules}
+use Rattle.jmodel.specs.jmachine.Steps.{went}
+use Rattle.jmodel.specs.jmachine.Store.{Store}
+use Rattle.jmodel.specs.declared.jrun.came.Came.{Came}
+use Rattle.jmodel.specs.jstate.Framed.{Framed, all}
+use Rattle.jrows.specs.declared.jacts.way.Way.{Way}
+use Rattle.jrows.specs.declared.jacts.way.Way.TheVariants as ways
+use Rattle.jrows.specs.jcalls.Calling.{IsThrown}
+use Rattle.jrows.specs.jcalls.Throws.{raising}
+use Rattle.jmodel.specs.jguests.Guested.{Lives}
+use Rattle.jstepping.specs.declared.jcore.machine.Machine.{Machine}
+use Rattle.jstepping.specs.jcore.Comings.{IsBehind, Leads}
+use Rattle.jstepping.specs.jcore.Left.{RunsStanding}
+use Rattle.jstepping.specs.jcore.Machines.{IsMachine, IsReady, store_of}
 
 -- What a step comes to of which this is to be done, and that has told this and left these frames and this store.
 abbrev pub WentAs : {E : Type 0} → Rules ℕ E → Program → Plan → State ℕ E → Way → List Event → Framed E → Store ℕ → Outcome (State ℕ E) → Type 0

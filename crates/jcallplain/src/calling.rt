@@ -1,18 +1,18 @@
 ghost use Rattle.std.specs.Prelude.{◌≡◌, IfOk, OnOk, Some};
-ghost use Rattle.jstate.specs.Framed.{Framed};
-ghost use Rattle.jlibrary.specs.Ran.{IsAskFree};
-ghost use Rattle.jcore.specs.Answering.{Calling, outcome_of};
-ghost use Rattle.jcore.specs.Comings.{Comes, GoesOn, any};
-ghost use Rattle.jcore.specs.Machines.{StaysFixed};
+ghost use Rattle.jmodel.specs.jstate.Framed.{Framed};
+ghost use Rattle.jlibcalls.specs.jlibrary.Ran.{IsAskFree};
+ghost use Rattle.jstepping.specs.jcore.Answering.{Calling, outcome_of};
+ghost use Rattle.jstepping.specs.jcore.Comings.{Comes, GoesOn, any};
+ghost use Rattle.jstepping.specs.jcore.Machines.{StaysFixed};
 ghost use Rattle.jcallplain.specs.Running.{MayTell};
 
 use crate::running::run_call;
 use crate::settling::{events_of, settle};
-use jcore::{Machine, machine_laws};
 use jlib::LibCall;
-use jlibrary::Done;
-use jrun::Came;
-use jstep::behind_laws;
+use jlibcalls::jlibrary::Done;
+use jmodel::jrun::Came;
+use jstepping::jcore::{Machine, machine_laws};
+use jstepping::jstep::behind_laws;
 use std::alloc::{AllocError, Global};
 
 /// A step of the running thread that stands at a call of the library with so many operands, one that asks nothing of access control and starts

@@ -1,13 +1,13 @@
 ghost use Rattle.std.specs.Prelude.{IfOk, OnOk};
-ghost use Rattle.jlibrary.specs.Ran.{IsAskFree};
-ghost use Rattle.jcore.specs.Answering.{Calling};
-ghost use Rattle.jcore.specs.Machines.{StaysFixed};
+ghost use Rattle.jlibcalls.specs.jlibrary.Ran.{IsAskFree};
+ghost use Rattle.jstepping.specs.jcore.Answering.{Calling};
+ghost use Rattle.jstepping.specs.jcore.Machines.{StaysFixed};
 ghost use Rattle.jcallplain.specs.Running.{MayTell, RanIn};
 
-use jcore::{Machine, machine_laws};
 use jlib::LibCall;
-use jlibrary::{Done, Fixed, run};
-use jshapes::alike_laws;
+use jlibcalls::jlibrary::{Done, Fixed, run};
+use jserving::jshapes::alike_laws;
+use jstepping::jcore::{Machine, machine_laws};
 use std::alloc::{AllocError, Global};
 
 /// Runs the library in the running thread, with so many operands of its newest frame.

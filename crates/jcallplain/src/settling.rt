@@ -1,15 +1,15 @@
 ghost use Rattle.std.specs.Prelude.{◌≡◌, IfOk, OnOk};
 ghost use Rattle.std.specs.Option.{option_to_list};
-ghost use Rattle.jcore.specs.Comings.{GoesOn};
-ghost use Rattle.jcore.specs.Machines.{StaysFixed};
+ghost use Rattle.jstepping.specs.jcore.Comings.{GoesOn};
+ghost use Rattle.jstepping.specs.jcore.Machines.{StaysFixed};
 ghost use Rattle.jcallplain.specs.Ways.{IsLeft, Settles};
 
-use jacts::Way;
-use jbase::Seq;
-use jcore::{Machine, full, raise};
-use jrun::Came;
-use jstep::thrown_class;
-use jtrace::Event;
+use jground::jbase::Seq;
+use jmodel::jrun::Came;
+use jrights::jtrace::Event;
+use jrows::jacts::Way;
+use jstepping::jcore::{Machine, full, raise};
+use jstepping::jstep::thrown_class;
 use std::alloc::{AllocError, Global};
 
 /// What was told, if anything was, as a list.

@@ -1,34 +1,34 @@
 -- What a call of Thread's constructor comes to, and what is asked.
 use Rattle.std.proofs.Common.{◌≡◌, ◌∙◌, ℕ, [], ◌++◌, Option, Some, None, refl, sym, ap, subst, inl, inr}
 use Rattle.std.specs.Prelude.{map, take}
-use Rattle.jheap.specs.Heaps.{Heaped}
+use Rattle.jground.specs.jheap.Heaps.{Heaped}
 use Rattle.jlib.specs.declared.calls.LibCall.TheVariants as calls
 use Rattle.jlib.specs.declared.calls.ThreadCall.{ThreadCall}
 use Rattle.jlib.specs.declared.calls.ThreadCall.TheVariants as threads
 use Rattle.jlib.specs.declared.side.Side.{Side}
-use Rattle.jmachine.specs.Acts.{FrameOf, Went}
-use Rattle.jmachine.specs.Asked.{Answer, Ask, Inherits, Kept, answer_in, carried}
-use Rattle.jmachine.specs.Steps.{site_of}
-use Rattle.jmachine.specs.Security.{Rules}
-use Rattle.jrun.specs.declared.came.Came.{Came}
-use Rattle.jrun.specs.declared.came.Came.TheVariants as stepped
-use Rattle.jstate.specs.Celled.{StayCelled}
-use Rattle.jstate.specs.Framed.{Framed, all}
-use Rattle.jstate.specs.Seen.{AreBuilt}
-use Rattle.jguests.specs.declared.guests.Guests.{Guests}
-use Rattle.jguests.specs.Guested.{AreGuests, HaveStayed, Lives, frames_of}
-use Rattle.jlibrary.specs.Held.{with_permissions}
-use Rattle.jcontexts.specs.Kept.{with_kept}
-use Rattle.jguard.specs.Standing.{AnswersFor}
-use Rattle.jthreading.specs.declared.making.Given.{Given}
-use Rattle.jthreading.specs.declared.switching.Threaded.TheVariants as threaded
-use Rattle.jthreading.specs.Laws.{InitAsks, InitAsksNothing, InitIsStuck}
-use Rattle.jthreading.specs.Making.{MakesThread, Named, NamesNoMore}
-use Rattle.jthreading.specs.Switching.{behind}
-use Rattle.jcore.specs.declared.machine.Machine.{Machine}
-use Rattle.jcore.specs.Answering.{Answered, Calling, asked_of, outcome_of}
-use Rattle.jcore.specs.Comings.{Comes, GoesOn, any, outcome_by}
-use Rattle.jcore.specs.Machines.{GuestStands, IsMachine, classes_of, state_of, things_of}
+use Rattle.jmodel.specs.jmachine.Acts.{FrameOf, Went}
+use Rattle.jmodel.specs.jmachine.Asked.{Answer, Ask, Inherits, Kept, answer_in, carried}
+use Rattle.jmodel.specs.jmachine.Steps.{site_of}
+use Rattle.jmodel.specs.jmachine.Security.{Rules}
+use Rattle.jmodel.specs.declared.jrun.came.Came.{Came}
+use Rattle.jmodel.specs.declared.jrun.came.Came.TheVariants as stepped
+use Rattle.jmodel.specs.jstate.Celled.{StayCelled}
+use Rattle.jmodel.specs.jstate.Framed.{Framed, all}
+use Rattle.jmodel.specs.jstate.Seen.{AreBuilt}
+use Rattle.jmodel.specs.declared.jguests.guests.Guests.{Guests}
+use Rattle.jmodel.specs.jguests.Guested.{AreGuests, HaveStayed, Lives, frames_of}
+use Rattle.jlibcalls.specs.jlibrary.Held.{with_permissions}
+use Rattle.jlibcalls.specs.jcontexts.Kept.{with_kept}
+use Rattle.jmodel.specs.jguard.Standing.{AnswersFor}
+use Rattle.jlibcalls.specs.declared.jthreading.making.Given.{Given}
+use Rattle.jlibcalls.specs.declared.jthreading.switching.Threaded.TheVariants as threaded
+use Rattle.jlibcalls.specs.jthreading.Laws.{InitAsks, InitAsksNothing, InitIsStuck}
+use Rattle.jlibcalls.specs.jthreading.Making.{MakesThread, Named, NamesNoMore}
+use Rattle.jlibcalls.specs.jthreading.Switching.{behind}
+use Rattle.jstepping.specs.declared.jcore.machine.Machine.{Machine}
+use Rattle.jstepping.specs.jcore.Answering.{Answered, Calling, asked_of, outcome_of}
+use Rattle.jstepping.specs.jcore.Comings.{Comes, GoesOn, any, outcome_by}
+use Rattle.jstepping.specs.jcore.Machines.{GuestStands, IsMachine, classes_of, state_of, things_of}
 use Rattle.jcallthread.specs.Threads.{IsGivenIn, MakesIn, with_threads}
 use Rattle.jcallthread.proofs.Standing.{each_stands}
 

@@ -1,19 +1,19 @@
 -- Threads behind a call of Thread stand between steps.
 use Rattle.std.proofs.Common.{◌≡◌, ◌∙◌, ℕ, Option, Some, None, sym, ap, subst, inl, inr}
 use Rattle.std.specs.Prelude.{◌⊎◌, option_map, slice_get}
-use Rattle.jstate.specs.Framed.{Framed, all}
-use Rattle.jcalls.specs.Marks.{AreStanding, Stand}
-use Rattle.jguests.specs.declared.guests.Guest.{Guest}
-use Rattle.jguests.specs.declared.guests.Guests.{Guests}
-use Rattle.jguests.specs.Guested.{IsOf}
-use Rattle.jthreading.specs.declared.switching.Threaded.{Threaded}
-use Rattle.jthreading.specs.declared.switching.Threaded.TheVariants as threaded
-use Rattle.jthreading.specs.Lasting.{StayBehind, left_by}
-use Rattle.jthreading.specs.Switching.{gone, lost}
-use Rattle.jthreading.specs.Threading.{MayCall}
-use Rattle.jcore.specs.declared.machine.Machine.{Machine}
-use Rattle.jcore.specs.Answering.{Calling}
-use Rattle.jcore.specs.Machines.{GuestStands, classes_of}
+use Rattle.jmodel.specs.jstate.Framed.{Framed, all}
+use Rattle.jrows.specs.jcalls.Marks.{AreStanding, Stand}
+use Rattle.jmodel.specs.declared.jguests.guests.Guest.{Guest}
+use Rattle.jmodel.specs.declared.jguests.guests.Guests.{Guests}
+use Rattle.jmodel.specs.jguests.Guested.{IsOf}
+use Rattle.jlibcalls.specs.declared.jthreading.switching.Threaded.{Threaded}
+use Rattle.jlibcalls.specs.declared.jthreading.switching.Threaded.TheVariants as threaded
+use Rattle.jlibcalls.specs.jthreading.Lasting.{StayBehind, left_by}
+use Rattle.jlibcalls.specs.jthreading.Switching.{gone, lost}
+use Rattle.jlibcalls.specs.jthreading.Threading.{MayCall}
+use Rattle.jstepping.specs.declared.jcore.machine.Machine.{Machine}
+use Rattle.jstepping.specs.jcore.Answering.{Calling}
+use Rattle.jstepping.specs.jcore.Machines.{GuestStands, classes_of}
 
 pub may_call : {E : Type 0} (m : Machine E) (count : ℕ) → Calling m count → MayCall count m.guests
 may_call m count c = record { frames = c.frames; runs = c.runs; few = c.few; place = c.stand.0.place }

@@ -5,27 +5,27 @@ use Rattle.jlib.specs.declared.calls.LibCall.TheVariants as calls
 use Rattle.jlib.specs.declared.calls.ThreadCall.{ThreadCall}
 use Rattle.jlib.specs.declared.classes.LibClass.TheVariants as lib
 use Rattle.jlib.specs.declared.classes.Thrown.{Thrown as ThrownClass}
-use Rattle.jmachine.specs.Acts.{Outcome, State}
-use Rattle.jmachine.specs.Security.{Rules}
-use Rattle.jrun.specs.declared.came.Came.{Came}
-use Rattle.jrun.specs.declared.came.Came.TheVariants as stepped
-use Rattle.jstate.specs.Framed.{Framed, all}
-use Rattle.jcalls.specs.Marks.{Stand}
-use Rattle.jcalls.specs.Throws.{raising}
-use Rattle.jguests.specs.declared.guests.Guests.{Guests}
-use Rattle.jguests.specs.declared.turns.Turned.TheVariants as turns
-use Rattle.jguests.specs.Guested.{AreGuests, Lives, RunsAs, framed_as, state_by, with_frames}
-use Rattle.jthreading.specs.declared.switching.Threaded.{Threaded}
-use Rattle.jthreading.specs.declared.switching.Threaded.TheVariants as threaded
-use Rattle.jthreading.specs.Lasting.{LivesOn, StayBehind, StaysFramed}
-use Rattle.jthreading.specs.Switching.{lost}
-use Rattle.jthreading.specs.Threading.{CallsThread}
-use Rattle.jcore.specs.declared.machine.Machine.{Machine}
-use Rattle.jcore.specs.Answering.{Calling, outcome_of}
-use Rattle.jcore.specs.Comings.{Comes, GoesOn, IsBehind, any, outcome_by}
-use Rattle.jcore.specs.Left.{RunsStanding}
-use Rattle.jcore.specs.Machines.{AreRules, GuestStands, IsMachine, IsReady, classes_of, state_of, store_of, things_of}
-use Rattle.jcore.specs.Raising.{RaisesIn}
+use Rattle.jmodel.specs.jmachine.Acts.{Outcome, State}
+use Rattle.jmodel.specs.jmachine.Security.{Rules}
+use Rattle.jmodel.specs.declared.jrun.came.Came.{Came}
+use Rattle.jmodel.specs.declared.jrun.came.Came.TheVariants as stepped
+use Rattle.jmodel.specs.jstate.Framed.{Framed, all}
+use Rattle.jrows.specs.jcalls.Marks.{Stand}
+use Rattle.jrows.specs.jcalls.Throws.{raising}
+use Rattle.jmodel.specs.declared.jguests.guests.Guests.{Guests}
+use Rattle.jmodel.specs.declared.jguests.turns.Turned.TheVariants as turns
+use Rattle.jmodel.specs.jguests.Guested.{AreGuests, Lives, RunsAs, framed_as, state_by, with_frames}
+use Rattle.jlibcalls.specs.declared.jthreading.switching.Threaded.{Threaded}
+use Rattle.jlibcalls.specs.declared.jthreading.switching.Threaded.TheVariants as threaded
+use Rattle.jlibcalls.specs.jthreading.Lasting.{LivesOn, StayBehind, StaysFramed}
+use Rattle.jlibcalls.specs.jthreading.Switching.{lost}
+use Rattle.jlibcalls.specs.jthreading.Threading.{CallsThread}
+use Rattle.jstepping.specs.declared.jcore.machine.Machine.{Machine}
+use Rattle.jstepping.specs.jcore.Answering.{Calling, outcome_of}
+use Rattle.jstepping.specs.jcore.Comings.{Comes, GoesOn, IsBehind, any, outcome_by}
+use Rattle.jstepping.specs.jcore.Left.{RunsStanding}
+use Rattle.jstepping.specs.jcore.Machines.{AreRules, GuestStands, IsMachine, IsReady, classes_of, state_of, store_of, things_of}
+use Rattle.jstepping.specs.jcore.Raising.{RaisesIn}
 use Rattle.jcallthread.specs.Threads.{TurnsOn, turned_as, with_threads}
 use Rattle.jcallthread.proofs.Standing.{each_stands, lost_stand, same_frames}
 

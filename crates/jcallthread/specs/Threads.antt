@@ -1,24 +1,24 @@
 -- What a call of Thread does to a machine by numbers.
 use Rattle.std.specs.Prelude.{◌≡◌, ℕ, [], take, Some}
-use Rattle.jheap.specs.Heaps.{Heaped}
+use Rattle.jground.specs.jheap.Heaps.{Heaped}
 use Rattle.jlib.specs.declared.calls.ThreadCall.{ThreadCall}
 use Rattle.jlib.specs.declared.side.Side.{Side}
-use Rattle.jrun.specs.declared.came.Came.{Came}
-use Rattle.jrun.specs.declared.came.Came.TheVariants as stepped
-use Rattle.jstate.specs.Celled.{StayCelled}
-use Rattle.jstate.specs.Framed.{Framed}
-use Rattle.jstate.specs.Seen.{AreBuilt}
-use Rattle.jguests.specs.declared.guests.Guests.{Guests}
-use Rattle.jguests.specs.declared.turns.Turned.{Turned}
-use Rattle.jguests.specs.declared.turns.Turned.TheVariants as turns
-use Rattle.jguests.specs.Guested.{AreGuests, HaveStayed, Lives}
-use Rattle.jthreading.specs.declared.making.Given.{Given}
-use Rattle.jthreading.specs.declared.switching.Threaded.{Threaded}
-use Rattle.jthreading.specs.Lasting.{LivesOn, StayBehind, StaysFramed}
-use Rattle.jthreading.specs.Making.{IsGiven, MakesThread, NamesNoMore}
-use Rattle.jthreading.specs.Switching.{behind}
-use Rattle.jthreading.specs.Threading.{CallsThread}
-use Rattle.jcore.specs.declared.machine.Machine.{Machine}
+use Rattle.jmodel.specs.declared.jrun.came.Came.{Came}
+use Rattle.jmodel.specs.declared.jrun.came.Came.TheVariants as stepped
+use Rattle.jmodel.specs.jstate.Celled.{StayCelled}
+use Rattle.jmodel.specs.jstate.Framed.{Framed}
+use Rattle.jmodel.specs.jstate.Seen.{AreBuilt}
+use Rattle.jmodel.specs.declared.jguests.guests.Guests.{Guests}
+use Rattle.jmodel.specs.declared.jguests.turns.Turned.{Turned}
+use Rattle.jmodel.specs.declared.jguests.turns.Turned.TheVariants as turns
+use Rattle.jmodel.specs.jguests.Guested.{AreGuests, HaveStayed, Lives}
+use Rattle.jlibcalls.specs.declared.jthreading.making.Given.{Given}
+use Rattle.jlibcalls.specs.declared.jthreading.switching.Threaded.{Threaded}
+use Rattle.jlibcalls.specs.jthreading.Lasting.{LivesOn, StayBehind, StaysFramed}
+use Rattle.jlibcalls.specs.jthreading.Making.{IsGiven, MakesThread, NamesNoMore}
+use Rattle.jlibcalls.specs.jthreading.Switching.{behind}
+use Rattle.jlibcalls.specs.jthreading.Threading.{CallsThread}
+use Rattle.jstepping.specs.declared.jcore.machine.Machine.{Machine}
 
 -- with other threads, and with another heap
 abbrev pub with_threads : {E : Type 0} → Guests E → Heaped → Machine E → Machine E

@@ -1,18 +1,18 @@
 ghost use Rattle.std.specs.Prelude.{◌≡◌, IfOk, None, OnOk, Some};
 ghost use Rattle.jlib.specs.declared.calls.LibCall.TheVariants as calls;
-ghost use Rattle.jguard.specs.Standing.{AskedOnce, Keeps};
-ghost use Rattle.jstate.specs.Framed.{Framed};
-ghost use Rattle.jcore.specs.Answering.{Answered, AsksKnown, Calling, asked_of, outcome_of};
-ghost use Rattle.jcore.specs.Comings.{GoesOn};
-ghost use Rattle.jcore.specs.Machines.{StaysFixed};
+ghost use Rattle.jmodel.specs.jguard.Standing.{AskedOnce, Keeps};
+ghost use Rattle.jmodel.specs.jstate.Framed.{Framed};
+ghost use Rattle.jstepping.specs.jcore.Answering.{Answered, AsksKnown, Calling, asked_of, outcome_of};
+ghost use Rattle.jstepping.specs.jcore.Comings.{GoesOn};
+ghost use Rattle.jstepping.specs.jcore.Machines.{StaysFixed};
 
 use crate::making::call_init;
 use crate::turning::call_turn;
-use jcore::Machine;
-use jguard::Guard;
 use jlib::ThreadCall;
-use jrun::Came;
-use jthreading::init_laws;
+use jlibcalls::jthreading::init_laws;
+use jmodel::jguard::Guard;
+use jmodel::jrun::Came;
+use jstepping::jcore::Machine;
 use std::alloc::{AllocError, Global};
 
 /// A step of the running thread that stands at a call of Thread with so many operands. The constructor asks what the new thread inherits, and

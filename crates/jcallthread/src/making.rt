@@ -1,20 +1,20 @@
 ghost use Rattle.std.specs.Prelude.{◌≡◌, IfOk, None, OnOk, Some};
 ghost use Rattle.jlib.specs.declared.calls.LibCall.TheVariants as calls;
 ghost use Rattle.jlib.specs.declared.calls.ThreadCall.TheVariants as threads;
-ghost use Rattle.jmachine.specs.Asked.{Inherits, Kept, carried};
-ghost use Rattle.jguard.specs.Standing.{AnswersFor, AskedOnce, IsKnownIn, Keeps};
-ghost use Rattle.jstate.specs.Framed.{Framed};
-ghost use Rattle.jcore.specs.Answering.{Answered, AsksKnown, Calling, asked_of, outcome_of};
-ghost use Rattle.jcore.specs.Comings.{GoesOn};
-ghost use Rattle.jcore.specs.Machines.{StaysFixed, state_of};
+ghost use Rattle.jmodel.specs.jmachine.Asked.{Inherits, Kept, carried};
+ghost use Rattle.jmodel.specs.jguard.Standing.{AnswersFor, AskedOnce, IsKnownIn, Keeps};
+ghost use Rattle.jmodel.specs.jstate.Framed.{Framed};
+ghost use Rattle.jstepping.specs.jcore.Answering.{Answered, AsksKnown, Calling, asked_of, outcome_of};
+ghost use Rattle.jstepping.specs.jcore.Comings.{GoesOn};
+ghost use Rattle.jstepping.specs.jcore.Machines.{StaysFixed, state_of};
 ghost use Rattle.jcallthread.specs.Threads.{IsGivenIn, MakesIn};
 
 use crate::turning::went;
-use jcore::Machine;
-use jguard::{Guard, ask_inherit};
 use jlib::Side;
-use jrun::Came;
-use jthreading::{Given, init_laws, make, named_by};
+use jlibcalls::jthreading::{Given, init_laws, make, named_by};
+use jmodel::jguard::{Guard, ask_inherit};
+use jmodel::jrun::Came;
+use jstepping::jcore::Machine;
 use std::alloc::{AllocError, Global};
 
 /// Asks what a thread keeps that is made with a context.

@@ -1,19 +1,19 @@
 ghost use Rattle.std.specs.Prelude.{◌≡◌, [], IfOk, OnOk, Some};
 ghost use Rattle.jlib.specs.declared.calls.LibCall.TheVariants as calls;
-ghost use Rattle.jrun.specs.declared.came.Came.TheVariants as stepped;
-ghost use Rattle.jstate.specs.Framed.{Framed};
-ghost use Rattle.jthreading.specs.Laws.{IsNoInit};
-ghost use Rattle.jcore.specs.Answering.{Calling, outcome_of};
-ghost use Rattle.jcore.specs.Comings.{Comes, GoesOn, any};
-ghost use Rattle.jcore.specs.Machines.{StaysFixed};
+ghost use Rattle.jmodel.specs.declared.jrun.came.Came.TheVariants as stepped;
+ghost use Rattle.jmodel.specs.jstate.Framed.{Framed};
+ghost use Rattle.jlibcalls.specs.jthreading.Laws.{IsNoInit};
+ghost use Rattle.jstepping.specs.jcore.Answering.{Calling, outcome_of};
+ghost use Rattle.jstepping.specs.jcore.Comings.{Comes, GoesOn, any};
+ghost use Rattle.jstepping.specs.jcore.Machines.{StaysFixed};
 ghost use Rattle.jcallthread.specs.Threads.{TurnsOn, turned_as};
 
-use jbase::Seq;
-use jcore::{Machine, machine_laws, raise};
-use jguests::{Turned, guest_laws};
+use jground::jbase::Seq;
 use jlib::ThreadCall;
-use jrun::Came;
-use jthreading::{Threaded, join, start, yield_turn};
+use jlibcalls::jthreading::{Threaded, join, start, yield_turn};
+use jmodel::jguests::{Turned, guest_laws};
+use jmodel::jrun::Came;
+use jstepping::jcore::{Machine, machine_laws, raise};
 use std::alloc::{AllocError, Global};
 
 /// Does a call of Thread that makes none, by the threads of the machine.

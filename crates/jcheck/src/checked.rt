@@ -4,7 +4,7 @@ ghost use Rattle.jtyping.specs.Typed.{ProgramIsTyped};
 ghost use Rattle.jtyping.specs.Typing.{WellTyped};
 
 use jlib::Side;
-use jlink::LinkedProgram;
+use jlinking::jlink::LinkedProgram;
 use std::marker::Model;
 
 /// A program that links and is well typed (JVMS 4.10): only [`check`](crate::check) makes one.

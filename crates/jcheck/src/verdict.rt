@@ -5,7 +5,7 @@ ghost use Rattle.jcheck.specs.Checks.{TypeFaultIs};
 
 use crate::checked::CheckedProgram;
 use crate::fault::TypeFault;
-use jlink::LinkedProgram;
+use jlinking::jlink::LinkedProgram;
 use jwalk::{Place, first_fault};
 use std::alloc::{AllocError, Global};
 

@@ -1,9 +1,9 @@
 -- The laws of flags and of attributes as formats.
 use Rattle.std.proofs.Common.{◌≡◌, ℕ, Bool, ◌⊎◌, List, Some, refl, ap, inl, inr}
-use Rattle.jformat.specs.Format.{◌·◌, ◌▹◌}
-use Rattle.jformat.proofs.Laws.{IsFormat, pair_law, then_law, via_law, as_case_law}
-use Rattle.jpool.specs.declared.entry.Entry.{Entry}
-use Rattle.jpool.specs.Pools.{is_utf8}
+use Rattle.jground.specs.jformat.Format.{◌·◌, ◌▹◌}
+use Rattle.jground.proofs.JformatProofs.Laws.{IsFormat, pair_law, then_law, via_law, as_case_law}
+use Rattle.jparts.specs.declared.jpool.entry.Entry.{Entry}
+use Rattle.jparts.specs.jpool.Pools.{is_utf8}
 use Rattle.jclass.specs.declared.access.Access.{Access}
 use Rattle.jclass.specs.declared.class.Attribute.{Attribute}
 use Rattle.jclass.specs.declared.class.Attribute.TheVariants.{ConstantValue, Code, Raw}

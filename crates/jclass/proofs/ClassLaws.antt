@@ -2,24 +2,24 @@
 use Rattle.std.proofs.Common.{◌≡◌, ℕ, ◌-◌, ◌≤◌, Bool, true, false, ◌⊎◌, List, [], ◌∷◌, ◌++◌, length, Option, Some, None, Ok, Err, refl, sym, ap, subst, ◌∙◌, arith, inl, inr}
 use Rattle.std.specs.Prelude.{IsTrue, is_some, option_map, slice_get}
 use Rattle.std.proofs.lemmas.List.{append-nil}
-use Rattle.jbase.specs.First.{or_else}
-use Rattle.jformat.specs.declared.error.Fault.{Fault}
-use Rattle.jformat.specs.Format.{IsBytes, Format, ◌·◌, ◌▹◌, is_good}
-use Rattle.jformat.specs.Bodies.{whole, counted}
-use Rattle.jformat.specs.States.{counted_from}
-use Rattle.jformat.proofs.Steps.{bind_ok, bind_err, ok_is, both, first_true, second_true, unless_ok, unless_err}
-use Rattle.jformat.proofs.Laws.{Takes, IsFormat, pair_law, then_law, via_law, such_law, as_case_law, literal_law}
-use Rattle.jformat.proofs.Blocks.{IsBody, whole_law, counted_law}
-use Rattle.jformat.proofs.Stateful.{counted_from_law}
-use Rattle.jformat.proofs.Skims.{Skims, skims_itself, skims_such, skims_pair, skims_then, skims_counted, passes_law, ahead_law}
-use Rattle.jpool.specs.declared.entry.Entry.{Entry}
-use Rattle.jpool.specs.Entries
-use Rattle.jpool.specs.Entries.{size}
-use Rattle.jpool.specs.Pools
-use Rattle.jpool.specs.Pools.{IsPool, faulty, first_fault, is_utf8, name_fault, text_in, utf8_at}
-use Rattle.jpool.specs.declared.entry.Entry.TheVariants.{Class}
-use Rattle.jpool.proofs.EntryLaws.{shape_law}
-use Rattle.jpool.proofs.PoolLaws.{none_is_good, good_is_none, at_index}
+use Rattle.jground.specs.jbase.First.{or_else}
+use Rattle.jground.specs.declared.jformat.error.Fault.{Fault}
+use Rattle.jground.specs.jformat.Format.{IsBytes, Format, ◌·◌, ◌▹◌, is_good}
+use Rattle.jground.specs.jformat.Bodies.{whole, counted}
+use Rattle.jground.specs.jformat.States.{counted_from}
+use Rattle.jground.proofs.JformatProofs.Steps.{bind_ok, bind_err, ok_is, both, first_true, second_true, unless_ok, unless_err}
+use Rattle.jground.proofs.JformatProofs.Laws.{Takes, IsFormat, pair_law, then_law, via_law, such_law, as_case_law, literal_law}
+use Rattle.jground.proofs.JformatProofs.Blocks.{IsBody, whole_law, counted_law}
+use Rattle.jground.proofs.JformatProofs.Stateful.{counted_from_law}
+use Rattle.jground.proofs.JformatProofs.Skims.{Skims, skims_itself, skims_such, skims_pair, skims_then, skims_counted, passes_law, ahead_law}
+use Rattle.jparts.specs.declared.jpool.entry.Entry.{Entry}
+use Rattle.jparts.specs.jpool.Entries
+use Rattle.jparts.specs.jpool.Entries.{size}
+use Rattle.jparts.specs.jpool.Pools
+use Rattle.jparts.specs.jpool.Pools.{IsPool, faulty, first_fault, is_utf8, name_fault, text_in, utf8_at}
+use Rattle.jparts.specs.declared.jpool.entry.Entry.TheVariants.{Class}
+use Rattle.jparts.proofs.JpoolProofs.EntryLaws.{shape_law}
+use Rattle.jparts.proofs.JpoolProofs.PoolLaws.{none_is_good, good_is_none, at_index}
 use Rattle.jclass.specs.declared.class.Attribute.{Attribute}
 use Rattle.jclass.specs.declared.class.Attribute.TheVariants.{ConstantValue, Code, Raw}
 use Rattle.jclass.specs.declared.class.CodeBody.{CodeBody}

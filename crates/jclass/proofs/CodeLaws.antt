@@ -3,20 +3,20 @@ use Rattle.std.proofs.Common.{◌≡◌, ℕ, List, ◌++◌, length, Result, Ok
 use Rattle.std.specs.Prelude.{IsTrue}
 use Rattle.std.specs.List.{list_all}
 use Rattle.std.proofs.lemmas.List.{take_at}
-use Rattle.jformat.specs.declared.error.Fault.{Fault}
-use Rattle.jbase.specs.Stops.{◌>>=◌}
-use Rattle.jformat.specs.Format.{IsBytes, run_at, is_good}
-use Rattle.jformat.specs.Bodies.{Body, outward, inner_at}
-use Rattle.jformat.proofs.Steps.{IsBytes-take, bind_ok, ok_is, first_true}
-use Rattle.jformat.proofs.Blocks.{IsBody, run_is}
-use Rattle.jmaps.specs.declared.types.MapType.{MapType}
-use Rattle.jmaps.specs.declared.types.RawFrame.{RawFrame}
-use Rattle.jmaps.specs.Frames
-use Rattle.jmaps.specs.Frames.{frames, map_kinds, map_type, own_type}
-use Rattle.jmaps.proofs.MapLaws.{frames_spelling, frames_fitting}
-use Rattle.jpool.specs.declared.entry.Entry.{Entry}
-use Rattle.jcode.specs.declared.op.Placed.{Placed}
-use Rattle.jcode.specs.Instructions
+use Rattle.jground.specs.declared.jformat.error.Fault.{Fault}
+use Rattle.jground.specs.jbase.Stops.{◌>>=◌}
+use Rattle.jground.specs.jformat.Format.{IsBytes, run_at, is_good}
+use Rattle.jground.specs.jformat.Bodies.{Body, outward, inner_at}
+use Rattle.jground.proofs.JformatProofs.Steps.{IsBytes-take, bind_ok, ok_is, first_true}
+use Rattle.jground.proofs.JformatProofs.Blocks.{IsBody, run_is}
+use Rattle.jparts.specs.declared.jmaps.types.MapType.{MapType}
+use Rattle.jparts.specs.declared.jmaps.types.RawFrame.{RawFrame}
+use Rattle.jparts.specs.jmaps.Frames
+use Rattle.jparts.specs.jmaps.Frames.{frames, map_kinds, map_type, own_type}
+use Rattle.jparts.proofs.JmapsProofs.MapLaws.{frames_spelling, frames_fitting}
+use Rattle.jparts.specs.declared.jpool.entry.Entry.{Entry}
+use Rattle.jparts.specs.declared.jcode.op.Placed.{Placed}
+use Rattle.jparts.specs.jcode.Instructions
 use Rattle.jclass.specs.Operands.{names_well}
 use Rattle.jclass.specs.declared.fault.ClassFault.{ClassFault}
 use Rattle.jclass.specs.declared.fault.ClassFault.TheVariants.{Truncated}

@@ -1,11 +1,11 @@
 -- The first pass in parts: the front of a class file, and then the rest.
 use Rattle.std.proofs.Common.{◌≡◌, ℕ, Bool, true, false, cond, eqb, List, length, Result, Ok, Err, refl, sym, subst}
 use Rattle.std.specs.Prelude.{◌==◌, if◌then◌else◌}
-use Rattle.jbase.specs.declared.stop.Stop.{Stop}
-use Rattle.jbase.specs.declared.stop.Stop.TheVariants as stops
-use Rattle.jbase.specs.Stops.{◌>>=◌, Fails}
-use Rattle.jformat.specs.declared.error.Fault.{Fault}
-use Rattle.jformat.specs.Format.{Answer, fault}
+use Rattle.jground.specs.declared.jbase.stop.Stop.{Stop}
+use Rattle.jground.specs.declared.jbase.stop.Stop.TheVariants as stops
+use Rattle.jground.specs.jbase.Stops.{◌>>=◌, Fails}
+use Rattle.jground.specs.declared.jformat.error.Fault.{Fault}
+use Rattle.jground.specs.jformat.Format.{Answer, fault}
 use Rattle.jclass.specs.declared.fault.ClassFault.{ClassFault}
 use Rattle.jclass.specs.declared.fault.ClassFault.TheVariants.{Trailing}
 use Rattle.jclass.specs.Basics.{unseen}

@@ -3,15 +3,15 @@ use Rattle.std.proofs.Common.{◌≡◌, ℕ, suc, Bool, false, ◌&&◌, ◌⊎
 use Rattle.std.specs.Prelude.{IsTrue, not}
 use Rattle.std.specs.List.{flat_map, list_all}
 use Rattle.std.proofs.lemmas.List.Concat.{flat_map-cons}
-use Rattle.jformat.specs.Format.{Format, ◌·◌, ◌▹◌, such, is_good, unless}
-use Rattle.jformat.specs.Bodies.{Body, block, counted, counted_at, times_at}
-use Rattle.jformat.specs.States.{counted_from, spell_from, fits_from}
-use Rattle.jformat.proofs.Steps.{both, first_true, second_true}
-use Rattle.jformat.proofs.Laws.{IsReading, IsFormat, pair_law, ok_reading, then_reading}
-use Rattle.jformat.proofs.Blocks.{counted_reading}
-use Rattle.jformat.proofs.Skims.{Skims, skims_itself, skims_such, skims_via, skims_case, skims_then, skims_pair, skims_block, skims_counted}
-use Rattle.jpool.specs.declared.entry.Entry.{Entry}
-use Rattle.jpool.specs.Pools.{is_utf8}
+use Rattle.jground.specs.jformat.Format.{Format, ◌·◌, ◌▹◌, such, is_good, unless}
+use Rattle.jground.specs.jformat.Bodies.{Body, block, counted, counted_at, times_at}
+use Rattle.jground.specs.jformat.States.{counted_from, spell_from, fits_from}
+use Rattle.jground.proofs.JformatProofs.Steps.{both, first_true, second_true}
+use Rattle.jground.proofs.JformatProofs.Laws.{IsReading, IsFormat, pair_law, ok_reading, then_reading}
+use Rattle.jground.proofs.JformatProofs.Blocks.{counted_reading}
+use Rattle.jground.proofs.JformatProofs.Skims.{Skims, skims_itself, skims_such, skims_via, skims_case, skims_then, skims_pair, skims_block, skims_counted}
+use Rattle.jparts.specs.declared.jpool.entry.Entry.{Entry}
+use Rattle.jparts.specs.jpool.Pools.{is_utf8}
 use Rattle.jclass.specs.declared.access.Access.{Access}
 use Rattle.jclass.specs.declared.class.Attribute.{Attribute}
 use Rattle.jclass.specs.declared.class.Attribute.TheVariants.{ConstantValue, Code, Raw}

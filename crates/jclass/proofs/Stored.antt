@@ -3,20 +3,20 @@ use Rattle.std.proofs.Common.{◌≡◌, ℕ, zero, suc, ◌≤◌, Bool, true, 
 use Rattle.std.specs.Prelude.{IsTrue, ◌||◌, ◌==◌, nat_lt, option_map, slice_get, if◌then◌else◌}
 use Rattle.std.specs.List.{list_all}
 use Rattle.std.proofs.lemmas.Bool.{ltb-true, ltb-false, cases_Bool}
-use Rattle.jbase.specs.First.{or_else}
-use Rattle.jformat.specs.Format.{Format, ◌·◌, ◌▹◌, is_good, unless}
-use Rattle.jformat.specs.Bodies.{Body, block, counted}
-use Rattle.jformat.specs.States.{counted_from, fits_from}
-use Rattle.jformat.proofs.Steps.{first_true, second_true}
-use Rattle.jpool.specs.declared.entry.Entry.{Entry}
-use Rattle.jpool.specs.declared.entry.Entry.TheVariants.{Utf8}
-use Rattle.jpool.specs.Pools
-use Rattle.jpool.proofs.PoolLaws.{at_index}
-use Rattle.jmaps.specs.declared.types.RawFrame.{RawFrame}
-use Rattle.jmaps.specs.Frames
-use Rattle.jcode.specs.declared.op.Handler.{Handler}
-use Rattle.jcode.specs.declared.op.Placed.{Placed}
-use Rattle.jcode.specs.Instructions
+use Rattle.jground.specs.jbase.First.{or_else}
+use Rattle.jground.specs.jformat.Format.{Format, ◌·◌, ◌▹◌, is_good, unless}
+use Rattle.jground.specs.jformat.Bodies.{Body, block, counted}
+use Rattle.jground.specs.jformat.States.{counted_from, fits_from}
+use Rattle.jground.proofs.JformatProofs.Steps.{first_true, second_true}
+use Rattle.jparts.specs.declared.jpool.entry.Entry.{Entry}
+use Rattle.jparts.specs.declared.jpool.entry.Entry.TheVariants.{Utf8}
+use Rattle.jparts.specs.jpool.Pools
+use Rattle.jparts.proofs.JpoolProofs.PoolLaws.{at_index}
+use Rattle.jparts.specs.declared.jmaps.types.RawFrame.{RawFrame}
+use Rattle.jparts.specs.jmaps.Frames
+use Rattle.jparts.specs.declared.jcode.op.Handler.{Handler}
+use Rattle.jparts.specs.declared.jcode.op.Placed.{Placed}
+use Rattle.jparts.specs.jcode.Instructions
 use Rattle.jclass.specs.declared.class.Attribute.{Attribute}
 use Rattle.jclass.specs.declared.class.Attribute.TheVariants.{ConstantValue, Code, Raw}
 use Rattle.jclass.specs.declared.class.ClassParts.{ClassParts}

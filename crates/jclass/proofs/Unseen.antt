@@ -1,8 +1,8 @@
 -- Going over values without keeping them leads to the same place, or to the same fault.
 use Rattle.std.proofs.Common.{◌≡◌, ℕ, zero, suc, List, ◌∷◌, Ok, Err, refl}
-use Rattle.jbase.specs.Stops.{◌>>=◌}
-use Rattle.jformat.specs.Format.{Answer}
-use Rattle.jformat.specs.Bodies.{times_at, counted_at}
+use Rattle.jground.specs.jbase.Stops.{◌>>=◌}
+use Rattle.jground.specs.jformat.Format.{Answer}
+use Rattle.jground.specs.jformat.Bodies.{times_at, counted_at}
 use Rattle.jclass.specs.Basics.{unseen}
 
 -- what is done with the values doesn't count

@@ -2,13 +2,13 @@
 use Rattle.std.proofs.Common.{◌≡◌, ℕ, Bool, true, false, ◌⊎◌, List, ◌++◌, Ok, refl, subst, inl, inr}
 use Rattle.std.specs.Prelude.{IsTrue}
 use Rattle.std.specs.Int.{w16, w32}
-use Rattle.jformat.specs.declared.error.Fault.{Fault}
-use Rattle.jformat.specs.Format.{Format, unless}
-use Rattle.jformat.specs.Bodies.{Body, block}
-use Rattle.jformat.proofs.Laws.{Takes, IsFormat, wide16, wide32, number_law, such_law, ok_reading}
-use Rattle.jformat.proofs.Steps.{bind_ok, ok_is}
-use Rattle.jformat.proofs.Blocks.{IsBody, sized_law, block_law, whole_law}
-use Rattle.jpool.specs.declared.entry.Entry.{Entry}
+use Rattle.jground.specs.declared.jformat.error.Fault.{Fault}
+use Rattle.jground.specs.jformat.Format.{Format, unless}
+use Rattle.jground.specs.jformat.Bodies.{Body, block}
+use Rattle.jground.proofs.JformatProofs.Laws.{Takes, IsFormat, wide16, wide32, number_law, such_law, ok_reading}
+use Rattle.jground.proofs.JformatProofs.Steps.{bind_ok, ok_is}
+use Rattle.jground.proofs.JformatProofs.Blocks.{IsBody, sized_law, block_law, whole_law}
+use Rattle.jparts.specs.declared.jpool.entry.Entry.{Entry}
 use Rattle.jclass.specs.declared.fault.ClassFault.{ClassFault}
 use Rattle.jclass.specs.declared.fault.ClassFault.TheVariants.{Truncated, Trailing, Index}
 use Rattle.jclass.specs.Basics.{u2, u4, run, index, spell_either, fits_by, by_test}

@@ -1,10 +1,10 @@
 -- The attributes of classes and fields (JVMS 4.7): ConstantValue is looked into where the field is static.
 use Rattle.std.specs.Prelude.{ℕ, Bool, true, false, ◌&&◌, ◌⊎◌, List, Option, Some, None, if◌then◌else◌}
 use Rattle.std.proofs.Common.{inl, inr}
-use Rattle.jformat.specs.Format.{Format, ◌·◌, ◌▹◌, as_case, such, unless}
-use Rattle.jformat.specs.Bodies.{Body, whole, block}
-use Rattle.jpool.specs.declared.entry.Entry.{Entry}
-use Rattle.jpool.specs.Pools.{is_utf8}
+use Rattle.jground.specs.jformat.Format.{Format, ◌·◌, ◌▹◌, as_case, such, unless}
+use Rattle.jground.specs.jformat.Bodies.{Body, whole, block}
+use Rattle.jparts.specs.declared.jpool.entry.Entry.{Entry}
+use Rattle.jparts.specs.jpool.Pools.{is_utf8}
 use Rattle.jclass.specs.declared.access.Access.{Access}
 use Rattle.jclass.specs.declared.class.Attribute.{Attribute}
 use Rattle.jclass.specs.declared.class.Attribute.TheVariants.{ConstantValue, Raw}

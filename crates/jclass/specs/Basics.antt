@@ -2,12 +2,12 @@
 use Rattle.std.specs.Prelude.{ℕ, Bool, ◌&&◌, not, ◌⊎◌, List, Result, Ok, Err, if◌then◌else◌}
 use Rattle.std.proofs.Common.{inl, inr}
 use Rattle.std.specs.Int.{w16, w32}
-use Rattle.jbase.specs.Stops.{◌>>=◌}
-use Rattle.jformat.specs.declared.error.Fault.{Fault}
-use Rattle.jformat.specs.Format.{Answer, Format, number, via, such, unless}
-use Rattle.jformat.specs.Bodies.{sized}
-use Rattle.jpool.specs.declared.fault.PoolFault.{PoolFault}
-use Rattle.jpool.specs.declared.fault.PoolFault.TheVariants as pool
+use Rattle.jground.specs.jbase.Stops.{◌>>=◌}
+use Rattle.jground.specs.declared.jformat.error.Fault.{Fault}
+use Rattle.jground.specs.jformat.Format.{Answer, Format, number, via, such, unless}
+use Rattle.jground.specs.jformat.Bodies.{sized}
+use Rattle.jparts.specs.declared.jpool.fault.PoolFault.{PoolFault}
+use Rattle.jparts.specs.declared.jpool.fault.PoolFault.TheVariants as pool
 use Rattle.jclass.specs.declared.fault.ClassFault.{ClassFault}
 use Rattle.jclass.specs.declared.fault.ClassFault.TheVariants.{Truncated, Tag, Index, Name, Descriptor}
 use Rattle.jclass.specs.declared.access.Access.{Access}

@@ -1,11 +1,11 @@
 -- A class file (JVMS 4.1): its spelling, and its first fault.
 use Rattle.std.specs.Prelude.{◌≡◌, ℕ, List, length, Result, Ok, ◌==◌, IsTrue, if◌then◌else◌}
-use Rattle.jformat.specs.declared.error.Fault.{Fault}
-use Rattle.jbase.specs.Stops.{◌>>=◌}
-use Rattle.jformat.specs.Format.{Answer, Format, fault, ◌·◌, ◌▹◌, via}
-use Rattle.jformat.specs.Bodies.{Body, whole, counted}
-use Rattle.jformat.specs.Passes.{passes}
-use Rattle.jpool.specs.declared.entry.Entry.{Entry}
+use Rattle.jground.specs.declared.jformat.error.Fault.{Fault}
+use Rattle.jground.specs.jbase.Stops.{◌>>=◌}
+use Rattle.jground.specs.jformat.Format.{Answer, Format, fault, ◌·◌, ◌▹◌, via}
+use Rattle.jground.specs.jformat.Bodies.{Body, whole, counted}
+use Rattle.jground.specs.jformat.Passes.{passes}
+use Rattle.jparts.specs.declared.jpool.entry.Entry.{Entry}
 use Rattle.jclass.specs.declared.access.Access.{Access}
 use Rattle.jclass.specs.declared.class.Attribute.{Attribute}
 use Rattle.jclass.specs.declared.class.MemberInfo.{MemberInfo}

@@ -3,23 +3,23 @@ use Rattle.std.proofs.Common.{◌≡◌, ℕ, ◌≤◌, Bool, false, ◌&&◌, 
 use Rattle.std.specs.Prelude.{IsTrue, ◌-◌}
 use Rattle.std.specs.List.{list_all}
 use Rattle.std.proofs.lemmas.Bool.{cases_Bool}
-use Rattle.jformat.specs.declared.error.Fault.{Fault}
-use Rattle.jbase.specs.First.{or_else, first_some}
-use Rattle.jformat.specs.Format.{◌·◌, ◌▹◌, via, is_good, unless}
-use Rattle.jformat.specs.Bodies.{block, counted}
-use Rattle.jformat.specs.States.{counted_from}
-use Rattle.jformat.proofs.Steps.{bind_ok, bind_err, both, first_true, second_true}
-use Rattle.jformat.proofs.Laws.{IsFormat, pair_law, then_law, via_law, such_law}
-use Rattle.jformat.proofs.Blocks.{IsBody, block_law, whole_law, counted_law}
-use Rattle.jformat.proofs.Skims.{passes_law, ahead_law}
-use Rattle.jformat.proofs.Stateful.{counted_from_law}
-use Rattle.jmaps.specs.declared.types.RawFrame.{RawFrame}
-use Rattle.jmaps.specs.Frames.{frames}
-use Rattle.jmaps.proofs.MapLaws.{type_law, frames_law, frames_spelling, frames_fitting}
-use Rattle.jpool.specs.declared.entry.Entry.{Entry}
-use Rattle.jcode.specs.declared.op.Placed.{Placed}
-use Rattle.jcode.specs.Instructions
-use Rattle.jcode.proofs.CodeLaws as coded
+use Rattle.jground.specs.declared.jformat.error.Fault.{Fault}
+use Rattle.jground.specs.jbase.First.{or_else, first_some}
+use Rattle.jground.specs.jformat.Format.{◌·◌, ◌▹◌, via, is_good, unless}
+use Rattle.jground.specs.jformat.Bodies.{block, counted}
+use Rattle.jground.specs.jformat.States.{counted_from}
+use Rattle.jground.proofs.JformatProofs.Steps.{bind_ok, bind_err, both, first_true, second_true}
+use Rattle.jground.proofs.JformatProofs.Laws.{IsFormat, pair_law, then_law, via_law, such_law}
+use Rattle.jground.proofs.JformatProofs.Blocks.{IsBody, block_law, whole_law, counted_law}
+use Rattle.jground.proofs.JformatProofs.Skims.{passes_law, ahead_law}
+use Rattle.jground.proofs.JformatProofs.Stateful.{counted_from_law}
+use Rattle.jparts.specs.declared.jmaps.types.RawFrame.{RawFrame}
+use Rattle.jparts.specs.jmaps.Frames.{frames}
+use Rattle.jparts.proofs.JmapsProofs.MapLaws.{type_law, frames_law, frames_spelling, frames_fitting}
+use Rattle.jparts.specs.declared.jpool.entry.Entry.{Entry}
+use Rattle.jparts.specs.declared.jcode.op.Placed.{Placed}
+use Rattle.jparts.specs.jcode.Instructions
+use Rattle.jparts.proofs.JcodeProofs.CodeLaws as coded
 use Rattle.jclass.specs.Operands.{names_well, misnamed}
 use Rattle.jclass.specs.declared.class.CodeAttribute.{CodeAttribute}
 use Rattle.jclass.specs.declared.class.CodeAttribute.TheVariants as code

@@ -2,26 +2,26 @@
 use Rattle.std.specs.Prelude.{ℕ, pos, ◌-◌, Bool, true, false, ◌||◌, ◌&&◌, ◌⊎◌, List, length, Option, Some, None, Result, Ok, Err, ◌==◌, nat_lt, if◌then◌else◌}
 use Rattle.std.specs.List.{list_all}
 use Rattle.std.proofs.Common.{inl, inr}
-use Rattle.jbase.specs.Stops.{◌>>=◌}
-use Rattle.jbase.specs.First.{first_some}
-use Rattle.jformat.specs.declared.error.Fault.{Fault}
-use Rattle.jformat.specs.Format.{Format, ◌·◌, ◌▹◌, via, such, unless}
-use Rattle.jformat.specs.Bodies.{Body, whole, block, counted}
-use Rattle.jformat.specs.Passes.{passes, ahead}
-use Rattle.jformat.specs.States.{counted_from}
-use Rattle.jcode.specs.declared.fault.CodeFault.{CodeFault}
-use Rattle.jcode.specs.declared.fault.CodeFault.TheVariants as codes
-use Rattle.jcode.specs.declared.op.Handler.{Handler}
-use Rattle.jcode.specs.declared.op.Placed.{Placed}
-use Rattle.jcode.specs.Instructions
-use Rattle.jcode.specs.Instructions.{is_place}
-use Rattle.jmaps.specs.declared.fault.Kinds.{Kinds}
-use Rattle.jmaps.specs.declared.types.MapType.{MapType}
-use Rattle.jmaps.specs.declared.types.MapType.TheVariants.{Object}
-use Rattle.jmaps.specs.declared.types.RawFrame.{RawFrame}
-use Rattle.jmaps.specs.Frames.{map_type, frames}
-use Rattle.jpool.specs.declared.entry.Entry.{Entry}
-use Rattle.jpool.specs.Pools.{is_class}
+use Rattle.jground.specs.jbase.Stops.{◌>>=◌}
+use Rattle.jground.specs.jbase.First.{first_some}
+use Rattle.jground.specs.declared.jformat.error.Fault.{Fault}
+use Rattle.jground.specs.jformat.Format.{Format, ◌·◌, ◌▹◌, via, such, unless}
+use Rattle.jground.specs.jformat.Bodies.{Body, whole, block, counted}
+use Rattle.jground.specs.jformat.Passes.{passes, ahead}
+use Rattle.jground.specs.jformat.States.{counted_from}
+use Rattle.jparts.specs.declared.jcode.fault.CodeFault.{CodeFault}
+use Rattle.jparts.specs.declared.jcode.fault.CodeFault.TheVariants as codes
+use Rattle.jparts.specs.declared.jcode.op.Handler.{Handler}
+use Rattle.jparts.specs.declared.jcode.op.Placed.{Placed}
+use Rattle.jparts.specs.jcode.Instructions
+use Rattle.jparts.specs.jcode.Instructions.{is_place}
+use Rattle.jparts.specs.declared.jmaps.fault.Kinds.{Kinds}
+use Rattle.jparts.specs.declared.jmaps.types.MapType.{MapType}
+use Rattle.jparts.specs.declared.jmaps.types.MapType.TheVariants.{Object}
+use Rattle.jparts.specs.declared.jmaps.types.RawFrame.{RawFrame}
+use Rattle.jparts.specs.jmaps.Frames.{map_type, frames}
+use Rattle.jparts.specs.declared.jpool.entry.Entry.{Entry}
+use Rattle.jparts.specs.jpool.Pools.{is_class}
 use Rattle.jclass.specs.declared.class.CodeAttribute.{CodeAttribute}
 use Rattle.jclass.specs.declared.class.CodeBody.{CodeBody}
 use Rattle.jclass.specs.declared.class.CodeAttribute.TheVariants as code

@@ -2,14 +2,14 @@
 use Rattle.std.specs.Prelude.{ℕ, ◌-◌, ◌&&◌, Bool, List, length, Option, Some, None, Ok, Err, option_map}
 use Rattle.std.specs.List.{list_all}
 use Rattle.std.specs.Result.{is_ok}
-use Rattle.jbase.specs.Stops.{◌>>=◌}
-use Rattle.jbase.specs.First.{or_else}
-use Rattle.jformat.specs.Format.{Answer, Format, is_good, unless, unless_fault}
-use Rattle.jtext.specs.Modified
-use Rattle.jpool.specs.declared.entry.Entry.{Entry}
-use Rattle.jpool.specs.declared.entry.Entry.TheVariants.{Utf8}
-use Rattle.jpool.specs.Pools
-use Rattle.jpool.specs.Pools.{first_fault}
+use Rattle.jground.specs.jbase.Stops.{◌>>=◌}
+use Rattle.jground.specs.jbase.First.{or_else}
+use Rattle.jground.specs.jformat.Format.{Answer, Format, is_good, unless, unless_fault}
+use Rattle.jground.specs.jtext.Modified
+use Rattle.jparts.specs.declared.jpool.entry.Entry.{Entry}
+use Rattle.jparts.specs.declared.jpool.entry.Entry.TheVariants.{Utf8}
+use Rattle.jparts.specs.jpool.Pools
+use Rattle.jparts.specs.jpool.Pools.{first_fault}
 use Rattle.jclass.specs.declared.fault.ClassFault.{ClassFault}
 use Rattle.jclass.specs.declared.fault.ClassFault.TheVariants.{Text}
 use Rattle.jclass.specs.Basics.{pool_fault}

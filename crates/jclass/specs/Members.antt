@@ -2,12 +2,12 @@
 use Rattle.std.specs.Prelude.{ℕ, Bool, false, ◌⊎◌, List, map, length, Option, Some, None, Ok, ◌==◌, if◌then◌else◌}
 use Rattle.std.specs.List.{filter}
 use Rattle.std.proofs.Common.{inl, inr}
-use Rattle.jbase.specs.Stops.{◌>>=◌}
-use Rattle.jformat.specs.Format.{Answer, Format, ◌·◌, ◌▹◌, via, as_case, part_spell, part_fits, unless}
-use Rattle.jformat.specs.Bodies.{counted, counted_at}
-use Rattle.jformat.specs.Passes.{ahead}
-use Rattle.jformat.specs.States.{counted_from}
-use Rattle.jpool.specs.declared.entry.Entry.{Entry}
+use Rattle.jground.specs.jbase.Stops.{◌>>=◌}
+use Rattle.jground.specs.jformat.Format.{Answer, Format, ◌·◌, ◌▹◌, via, as_case, part_spell, part_fits, unless}
+use Rattle.jground.specs.jformat.Bodies.{counted, counted_at}
+use Rattle.jground.specs.jformat.Passes.{ahead}
+use Rattle.jground.specs.jformat.States.{counted_from}
+use Rattle.jparts.specs.declared.jpool.entry.Entry.{Entry}
 use Rattle.jclass.specs.declared.access.Access.{Access}
 use Rattle.jclass.specs.declared.class.Attribute.{Attribute}
 use Rattle.jclass.specs.declared.class.Attribute.TheVariants.{ConstantValue, Code, Raw}

@@ -1,15 +1,15 @@
 -- What the instructions name in the pool (JVMS 6.5).
 use Rattle.std.specs.Prelude.{ℕ, Bool, true, false, ◌||◌, List, Option, Some, None, slice_get, if◌then◌else◌}
-use Rattle.jcode.specs.declared.names.CallOp.{CallOp}
-use Rattle.jcode.specs.declared.names.CallOp.TheVariants.{Virtual}
-use Rattle.jcode.specs.declared.op.Op.{Op}
-use Rattle.jcode.specs.declared.op.Op.TheVariants as ops
-use Rattle.jcode.specs.declared.op.Ldc.TheVariants as ldcs
-use Rattle.jcode.specs.declared.op.NewOp.TheVariants as news
-use Rattle.jcode.specs.declared.op.Placed.{Placed}
-use Rattle.jpool.specs.declared.entry.Entry.{Entry}
-use Rattle.jpool.specs.declared.entry.Entry.TheVariants.{Integer, Float, Long, Double, Class, Str, Field, Method, InterfaceMethod, MethodHandle, MethodType}
-use Rattle.jpool.specs.Pools.{is_class}
+use Rattle.jparts.specs.declared.jcode.names.CallOp.{CallOp}
+use Rattle.jparts.specs.declared.jcode.names.CallOp.TheVariants.{Virtual}
+use Rattle.jparts.specs.declared.jcode.op.Op.{Op}
+use Rattle.jparts.specs.declared.jcode.op.Op.TheVariants as ops
+use Rattle.jparts.specs.declared.jcode.op.Ldc.TheVariants as ldcs
+use Rattle.jparts.specs.declared.jcode.op.NewOp.TheVariants as news
+use Rattle.jparts.specs.declared.jcode.op.Placed.{Placed}
+use Rattle.jparts.specs.declared.jpool.entry.Entry.{Entry}
+use Rattle.jparts.specs.declared.jpool.entry.Entry.TheVariants.{Integer, Float, Long, Double, Class, Str, Field, Method, InterfaceMethod, MethodHandle, MethodType}
+use Rattle.jparts.specs.jpool.Pools.{is_class}
 
 -- what ldc and ldc_w push
 abbrev pub is_constant : Option Entry → Bool

@@ -2,12 +2,12 @@
 use Rattle.std.specs.Prelude.{ℕ, Bool, false, ◌||◌, List, Option, Some, None, ◌==◌, nat_le, codes, slice_get, if◌then◌else◌}
 use Rattle.std.specs.Str.{bytes_eq}
 use Rattle.std.specs.Int.RustNames.{bit_and}
-use Rattle.jformat.specs.Format.{Format, such, unless}
-use Rattle.jpool.specs.declared.entry.Entry.{Entry}
-use Rattle.jpool.specs.declared.entry.Entry.TheVariants.{Integer, Float, Long, Double, Str}
-use Rattle.jpool.specs.Names.{is_class_name}
-use Rattle.jpool.specs.Descriptors.{is_field_descriptor, method_slots}
-use Rattle.jpool.specs.Pools.{utf8_at, is_class, class_name_at}
+use Rattle.jground.specs.jformat.Format.{Format, such, unless}
+use Rattle.jparts.specs.declared.jpool.entry.Entry.{Entry}
+use Rattle.jparts.specs.declared.jpool.entry.Entry.TheVariants.{Integer, Float, Long, Double, Str}
+use Rattle.jparts.specs.jpool.Names.{is_class_name}
+use Rattle.jparts.specs.jpool.Descriptors.{is_field_descriptor, method_slots}
+use Rattle.jparts.specs.jpool.Pools.{utf8_at, is_class, class_name_at}
 use Rattle.jclass.specs.declared.access.Access.{Access}
 use Rattle.jclass.specs.declared.fault.ClassFault.{ClassFault}
 use Rattle.jclass.specs.declared.fault.ClassFault.TheVariants.{Index, Descriptor}

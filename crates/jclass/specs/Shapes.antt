@@ -1,11 +1,11 @@
 -- The first pass: the shape of a class file (JVMS 4.1), its attributes as runs of bytes.
 use Rattle.std.specs.Prelude.{ℕ, ◌||◌, List, Some, None, Result, Ok, nat_lt, if◌then◌else◌}
-use Rattle.jbase.specs.Stops.{◌>>=◌}
-use Rattle.jformat.specs.declared.error.Fault.{Fault}
-use Rattle.jformat.specs.Format.{Format, ◌·◌, such, literal}
-use Rattle.jformat.specs.Bodies.{Body, whole, counted}
-use Rattle.jpool.specs.declared.entry.Entry.{Entry}
-use Rattle.jpool.specs.Entries
+use Rattle.jground.specs.jbase.Stops.{◌>>=◌}
+use Rattle.jground.specs.declared.jformat.error.Fault.{Fault}
+use Rattle.jground.specs.jformat.Format.{Format, ◌·◌, such, literal}
+use Rattle.jground.specs.jformat.Bodies.{Body, whole, counted}
+use Rattle.jparts.specs.declared.jpool.entry.Entry.{Entry}
+use Rattle.jparts.specs.jpool.Entries
 use Rattle.jclass.specs.declared.fault.ClassFault.{ClassFault}
 use Rattle.jclass.specs.declared.fault.ClassFault.TheVariants.{Magic, Version, Trailing}
 use Rattle.jclass.specs.Basics.{u2, u4, run, told_as, pool_fault}

@@ -1,6 +1,6 @@
 ghost use Rattle.std.specs.Prelude.{◌≡◌, ◌&&◌};
-ghost use Rattle.jbase.specs.Stops.{Gives};
-ghost use Rattle.jpool.specs.Pools.{is_utf8};
+ghost use Rattle.jground.specs.jbase.Stops.{Gives};
+ghost use Rattle.jparts.specs.jpool.Pools.{is_utf8};
 ghost use Rattle.jclass.specs.Basics.{access, index, run};
 ghost use Rattle.jclass.specs.Rules.{suits_field};
 ghost use Rattle.jclass.specs.Attributes;
@@ -14,8 +14,8 @@ use crate::fault::ClassFault;
 use crate::fault::ClassFault::{Index, Trailing, Truncated};
 use crate::known::{Known, is_static};
 use bitflags::Flags;
-use jbase::Seq;
-use jformat::{
+use jground::jbase::Seq;
+use jground::jformat::{
     BodyReader, ReadError, Reader, StateReader, block_of, fault, run_of, u16_of, u32_of,
 };
 use std::alloc::Global;

@@ -1,8 +1,8 @@
 use crate::access::Access;
-use jbase::Seq;
-use jcode::{Handler, Placed};
-use jmaps::RawFrame;
-use jpool::Pool;
+use jground::jbase::Seq;
+use jparts::jcode::{Handler, Placed};
+use jparts::jmaps::RawFrame;
+use jparts::jpool::Pool;
 
 /// An attribute of a method's code. `name` is the index of its name.
 #[derive(Debug, Drop)]

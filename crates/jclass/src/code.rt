@@ -1,10 +1,10 @@
 ghost use Rattle.std.specs.Prelude.{◌≡◌, ◌&&◌, false, nat_lt, length, IfOk, IsTrue};
-ghost use Rattle.jformat.specs.Bodies.{block, counted};
-ghost use Rattle.jcode.specs.Instructions;
-ghost use Rattle.jformat.specs.States.{counted_from};
+ghost use Rattle.jground.specs.jformat.Bodies.{block, counted};
+ghost use Rattle.jparts.specs.jcode.Instructions;
+ghost use Rattle.jground.specs.jformat.States.{counted_from};
 ghost use Rattle.jclass.specs.Basics.{u2};
-ghost use Rattle.jbase.specs.Stops.{Gives};
-ghost use Rattle.jmaps.specs.Frames.{frames, map_type};
+ghost use Rattle.jground.specs.jbase.Stops.{Gives};
+ghost use Rattle.jparts.specs.jmaps.Frames.{frames, map_type};
 ghost use Rattle.jclass.specs.Codes;
 ghost use Rattle.jclass.specs.Codes.{attribute, begins, code_body, code_content, code_fault, code_length, ends, handler, maps, named_type, ops, saw_maps, type_fault};
 ghost use Rattle.jclass.specs.CodeLaws.{code_body_law, maps_law, ops_law};
@@ -21,13 +21,13 @@ use crate::fault::ClassFault::{
 use crate::known::Known;
 use crate::operand::first_misnamed;
 use crate::places::Places;
-use jbase::{Seq, Stop};
-use jcode::{CodeFault, Handler, Placed, decode};
-use jformat::{
+use jground::jbase::{Seq, Stop};
+use jground::jformat::{
     BodyReader, Fault, ReadError, Reader, StateReader, block_of, counted_of, fault, inner_of,
     times_by_of, u16_of, u32_of,
 };
-use jmaps::{Kinds, MapType, RawFrame, TypeReader, frames_of, type_of};
+use jparts::jcode::{CodeFault, Handler, Placed, decode};
+use jparts::jmaps::{Kinds, MapType, RawFrame, TypeReader, frames_of, type_of};
 use std::alloc::Global;
 
 // ---- frames
@@ -81,7 +81,7 @@ impl<'r, 'p> Reader for NamedTypes<'r, 'p> {
 }
 
 /// The frames that are all of a text, and whose classes are in the pool.
-#[tactic(auto, unfolding(crate::specs::Codes::maps, jmaps::specs::Frames::frames, jmaps::specs::Frames::frame))]
+#[tactic(auto, unfolding(crate::specs::Codes::maps, jparts::specs::jmaps::Frames::frames, jparts::specs::jmaps::Frames::frame))]
 fn maps_of(
     alloc: Global,
     known: &Known<'_>,

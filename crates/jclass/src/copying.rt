@@ -1,9 +1,9 @@
 ghost use Rattle.std.specs.Prelude.{◌≡◌, IfOk};
 
 use crate::class::{Attribute, ClassParts, CodeAttribute, MemberInfo};
-use jbase::{Again, Seq, all_again};
-use jcode::Placed;
-use jmaps::RawFrame;
+use jground::jbase::{Again, Seq, all_again};
+use jparts::jcode::Placed;
+use jparts::jmaps::RawFrame;
 use std::alloc::{AllocError, Global};
 
 /// The same instructions at the same places again.

@@ -1,5 +1,5 @@
-use jbase::Stop;
-use jformat::At;
+use jground::jbase::Stop;
+use jground::jformat::At;
 
 /// What is wrong with the bytes of a class file.
 #[derive(Clone, Copy, Debug, PartialEq, Eq)]

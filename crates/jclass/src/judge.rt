@@ -1,8 +1,8 @@
 ghost use Rattle.std.specs.Prelude.{◌≡◌, ◌-◌, IfOk, IsTrue, option_map};
-ghost use Rattle.jbase.specs.First.{or_else};
-ghost use Rattle.jpool.specs.declared.entry.Entry.{Entry};
-ghost use Rattle.jpool.specs.Pools;
-ghost use Rattle.jpool.specs.Pools.{first_fault};
+ghost use Rattle.jground.specs.jbase.First.{or_else};
+ghost use Rattle.jparts.specs.declared.jpool.entry.Entry.{Entry};
+ghost use Rattle.jparts.specs.jpool.Pools;
+ghost use Rattle.jparts.specs.jpool.Pools.{first_fault};
 ghost use Rattle.jclass.specs.Basics.{pool_fault};
 ghost use Rattle.jclass.specs.Judging;
 ghost use Rattle.jclass.specs.Judging.{text_fault};
@@ -10,8 +10,8 @@ ghost use Rattle.jclass.specs.Judging.{text_fault};
 use crate::fault::ClassFault;
 use crate::shape::pool_fault;
 use crate::text::is_modified;
-use jformat::Fault;
-use jpool::{Entry, EntryTest, PoolFault, TextUses, first_fault_of};
+use jground::jformat::Fault;
+use jparts::jpool::{Entry, EntryTest, PoolFault, TextUses, first_fault_of};
 use std::alloc::{AllocError, Global};
 
 fn text_fault_of(one: &Entry) -> Option<ClassFault>

@@ -1,13 +1,13 @@
 ghost use Rattle.std.specs.Prelude.{◌≡◌, ◌&&◌, Bool, IfOk, List, ℕ, Option, option_map, slice_get};
-ghost use Rattle.jpool.specs.Pools;
-ghost use Rattle.jpool.specs.Descriptors.{is_field_descriptor, method_slots};
+ghost use Rattle.jparts.specs.jpool.Pools;
+ghost use Rattle.jparts.specs.jpool.Descriptors.{is_field_descriptor, method_slots};
 ghost use Rattle.jclass.specs.Rules;
 ghost use Rattle.jclass.specs.Rules.{descriptor_fault, is_int, is_plain_class, most_slots, suits, suits_field, suits_type, within};
 
 use crate::access::Access;
 use crate::fault::ClassFault;
 use bitflags::Flags;
-use jpool::{Entry, Pool, TextUses};
+use jparts::jpool::{Entry, Pool, TextUses};
 use std::alloc::{AllocError, Global};
 use std::marker::Model;
 
@@ -21,7 +21,7 @@ pub struct Known<'p> {
 
 impl<'p> Model for Known<'p> {
     ghost use Rattle.std.specs.Prelude.{◌≡◌, List};
-    ghost use Rattle.jpool.specs.declared.entry.Entry.{Entry};
+    ghost use Rattle.jparts.specs.declared.jpool.entry.Entry.{Entry};
 
     ghost Value = { List Entry };
 
@@ -111,7 +111,7 @@ impl<'p> Known<'p> {
     }
 
     /// Whether a text stands at an index.
-    #[tactic(auto, unfolding(jpool::specs::Pools::is_utf8, jpool::specs::Pools::utf8_at))]
+    #[tactic(auto, unfolding(jparts::specs::jpool::Pools::is_utf8, jparts::specs::jpool::Pools::utf8_at))]
     pub fn is_utf8(&self, i: u16) -> bool
         ensures { result ≡ Pools.is_utf8 self.now i }
     {
@@ -119,7 +119,7 @@ impl<'p> Known<'p> {
     }
 
     /// Whether a class or an array type stands at an index.
-    #[tactic(auto, unfolding(jpool::specs::Pools::is_class))]
+    #[tactic(auto, unfolding(jparts::specs::jpool::Pools::is_class))]
     pub fn is_class(&self, i: u16) -> bool
         ensures { result ≡ Pools.is_class self.now i }
     {
@@ -127,7 +127,7 @@ impl<'p> Known<'p> {
     }
 
     /// Whether a class stands at an index that is no array type.
-    #[tactic(auto, unfolding(crate::specs::Rules::names_class, jpool::specs::Uses::use_of))]
+    #[tactic(auto, unfolding(crate::specs::Rules::names_class, jparts::specs::jpool::Uses::use_of))]
     pub fn names_class(&self, i: u16) -> bool
         ensures { result ≡ Rules.names_class self.now i }
     {
@@ -178,7 +178,7 @@ impl<'p> Known<'p> {
     }
 
     /// What is wrong with the index of a field's descriptor, if anything is.
-    #[tactic(auto, unfolding(jpool::specs::Uses::use_of))]
+    #[tactic(auto, unfolding(jparts::specs::jpool::Uses::use_of))]
     pub fn field_fault(&self, i: u16) -> Option<ClassFault>
         ensures { result ≡ descriptor_fault is_field_descriptor (Pools.utf8_at self.now i) }
     {
@@ -192,7 +192,7 @@ impl<'p> Known<'p> {
     }
 
     /// What is wrong with the index of a method's descriptor, if anything is.
-    #[tactic(auto, unfolding(jpool::specs::Uses::use_of))]
+    #[tactic(auto, unfolding(jparts::specs::jpool::Uses::use_of))]
     pub fn method_fault(&self, flags: Access, i: u16) -> Option<ClassFault>
         ensures { result ≡ descriptor_fault (λ t. within (most_slots flags) (method_slots t)) (Pools.utf8_at self.now i) }
     {

@@ -1,7 +1,7 @@
 ghost use Rattle.std.specs.Prelude.{◌≡◌, false, length};
 ghost use Rattle.std.specs.List.{filter};
-ghost use Rattle.jbase.specs.Stops.{Gives};
-ghost use Rattle.jformat.specs.States.{counted_from};
+ghost use Rattle.jground.specs.jbase.Stops.{Gives};
+ghost use Rattle.jground.specs.jformat.States.{counted_from};
 ghost use Rattle.jclass.specs.Basics.{u2};
 ghost use Rattle.jclass.specs.Rules;
 ghost use Rattle.jclass.specs.Rules.{field_descriptor, method_descriptor};
@@ -16,8 +16,8 @@ use crate::fault::ClassFault;
 use crate::fault::ClassFault::{Code, Truncated};
 use crate::known::{Known, has_no_code};
 use crate::shape::skip_run;
-use jbase::Seq;
-use jformat::{ReadError, Reader, block_of, counted_of, fault, times_by_of, u16_of};
+use jground::jbase::Seq;
+use jground::jformat::{ReadError, Reader, block_of, counted_of, fault, times_by_of, u16_of};
 use std::alloc::Global;
 
 // ---- fields

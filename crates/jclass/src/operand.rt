@@ -1,11 +1,11 @@
 ghost use Rattle.std.specs.Prelude.{◌≡◌, option_map};
-ghost use Rattle.jbase.specs.First.{first_some};
+ghost use Rattle.jground.specs.jbase.First.{first_some};
 ghost use Rattle.jclass.specs.Operands;
 ghost use Rattle.jclass.specs.Operands.{is_called, is_constant, is_field, is_interface_method, is_method, is_wide_constant, misnamed};
 
 use crate::known::Known;
-use jcode::{CallOp, Ldc, NewOp, Op, Placed};
-use jpool::Entry;
+use jparts::jcode::{CallOp, Ldc, NewOp, Op, Placed};
+use jparts::jpool::Entry;
 
 fn is_constant(one: Option<&Entry>) -> bool
     ensures { result ≡ is_constant (option_map (λ e. e.now) one.entry) }
@@ -77,7 +77,7 @@ fn names_well(known: &Known<'_>, op: &Op) -> bool
 }
 
 /// The place of the first instruction that names an entry of another kind than it must.
-#[tactic(auto, unfolding(jbase::specs::First::first_some))]
+#[tactic(auto, unfolding(jground::specs::jbase::First::first_some))]
 pub fn first_misnamed(known: &Known<'_>, ops: &[Placed]) -> Option<u32>
     ensures { result ≡ first_some (misnamed known.now) ops.now }
 {

@@ -1,8 +1,8 @@
 ghost use Rattle.std.specs.Prelude.{◌≡◌, ◌||◌, ◌==◌, pos, length, IsTrue};
-ghost use Rattle.jcode.specs.Instructions.{code, is_place};
+ghost use Rattle.jparts.specs.jcode.Instructions.{code, is_place};
 ghost use Rattle.jclass.specs.Codes.{begins, ends};
 
-use jcode::Placed;
+use jparts::jcode::Placed;
 use std::marker::Model;
 
 /// Where the instructions of a code stand. Contracts see it as the instructions.
@@ -14,8 +14,8 @@ pub struct Places<'a> {
 
 impl<'a> Model for Places<'a> {
     ghost use Rattle.std.specs.Prelude.{◌≡◌, List, IsTrue, length};
-    ghost use Rattle.jcode.specs.declared.op.Placed.{Placed};
-    ghost use Rattle.jcode.specs.Instructions.{code};
+    ghost use Rattle.jparts.specs.declared.jcode.op.Placed.{Placed};
+    ghost use Rattle.jparts.specs.jcode.Instructions.{code};
 
     ghost Value = { List Placed };
 

@@ -1,11 +1,11 @@
 ghost use Rattle.std.specs.Prelude.{◌≡◌, IfOk, List, ℕ, Ok};
-ghost use Rattle.jbase.specs.Stops.{Gives};
+ghost use Rattle.jground.specs.jbase.Stops.{Gives};
 ghost use Rattle.jclass.specs.declared.class.ClassParts.{ClassParts};
 ghost use Rattle.jclass.specs.Class;
 ghost use Rattle.jclass.specs.Class.{Spells, class_file, ends, tail_parts};
-ghost use Rattle.jformat.specs.Places.{GivesAt};
+ghost use Rattle.jground.specs.jformat.Places.{GivesAt};
 ghost use Rattle.jclass.specs.Rules.{names_class, names_super};
-ghost use Rattle.jformat.specs.Bodies.{whole};
+ghost use Rattle.jground.specs.jformat.Bodies.{whole};
 ghost use Rattle.jclass.specs.Basics.{index, unseen};
 ghost use Rattle.jclass.specs.Shapes;
 ghost use Rattle.jclass.specs.Shapes.{has_shape};
@@ -21,9 +21,9 @@ use crate::judge::judge;
 use crate::known::Known;
 use crate::member::{Fields, Methods};
 use crate::shape::{Head, head_of, skip_tail};
-use jbase::{Seq, Stop};
-use jformat::{ReadError, Reader, counted_of, fault, stop_at, u16_of};
-use jpool::Pool;
+use jground::jbase::{Seq, Stop};
+use jground::jformat::{ReadError, Reader, counted_of, fault, stop_at, u16_of};
+use jparts::jpool::Pool;
 use std::alloc::Global;
 
 // ---- the third pass

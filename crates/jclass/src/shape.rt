@@ -1,8 +1,8 @@
 ghost use Rattle.std.specs.Prelude.{◌≡◌};
 ghost use Rattle.std.specs.Int.{w16};
-ghost use Rattle.jbase.specs.Stops.{Gives};
-ghost use Rattle.jformat.specs.Format.{number_at};
-ghost use Rattle.jformat.specs.Bodies.{counted, counted_at};
+ghost use Rattle.jground.specs.jbase.Stops.{Gives};
+ghost use Rattle.jground.specs.jformat.Format.{number_at};
+ghost use Rattle.jground.specs.jformat.Bodies.{counted, counted_at};
 ghost use Rattle.jclass.specs.Basics.{pool_fault, run, u2, unseen};
 ghost use Rattle.jclass.specs.Shapes;
 ghost use Rattle.jclass.specs.Shapes.{magic, major, tail};
@@ -10,9 +10,9 @@ ghost use Rattle.jclass.specs.declared.fault.ClassFault.TheVariants as kinds;
 
 use crate::fault::ClassFault;
 use crate::fault::ClassFault::{Magic, Truncated, Version};
-use jbase::{Seq, Stop};
-use jformat::{Fault, ReadError, Reader, counted_of, fault, run_of, u16_of, u32_of};
-use jpool::{Entry, PoolFault, entries_of};
+use jground::jbase::{Seq, Stop};
+use jground::jformat::{Fault, ReadError, Reader, counted_of, fault, run_of, u16_of, u32_of};
+use jparts::jpool::{Entry, PoolFault, entries_of};
 use std::alloc::Global;
 
 /// What stands in a class file up to the end of its pool.

@@ -1,6 +1,6 @@
 ghost use Rattle.std.specs.Prelude.{◌≡◌, ◌&&◌, ◌||◌, ◌==◌, IsTrue, option_map, nat_le, nat_lt};
-ghost use Rattle.jtext.specs.Modified;
-ghost use Rattle.jtext.specs.Modified.{three_at, two_at, unit_at};
+ghost use Rattle.jground.specs.jtext.Modified;
+ghost use Rattle.jground.specs.jtext.Modified.{three_at, two_at, unit_at};
 ghost use Rattle.jclass.specs.Judging;
 ghost use Rattle.jclass.specs.Judging.{behind};
 

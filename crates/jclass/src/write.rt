@@ -1,7 +1,7 @@
 ghost use Rattle.std.specs.Prelude.{◌≡◌, ◌++◌, IfOk, IsTrue, OnOk, false};
-ghost use Rattle.jformat.specs.Bodies.{block, whole};
-ghost use Rattle.jformat.specs.States.{counted_from};
-ghost use Rattle.jmaps.specs.Frames.{maps};
+ghost use Rattle.jground.specs.jformat.Bodies.{block, whole};
+ghost use Rattle.jground.specs.jformat.States.{counted_from};
+ghost use Rattle.jparts.specs.jmaps.Frames.{maps};
 ghost use Rattle.jclass.specs.Basics.{access, index, u2, u4};
 ghost use Rattle.jclass.specs.declared.fault.ClassFault.TheVariants.{Trailing, Truncated};
 ghost use Rattle.jclass.specs.Rules.{names_class};
@@ -18,13 +18,13 @@ use crate::access::Access;
 use crate::class::{Attribute, ClassParts, CodeAttribute, MemberInfo};
 use crate::class_file::ClassFile;
 use bitflags::Flags;
-use jbase::Seq;
-use jcode::{Handler, Placed, encode};
-use jformat::{
+use jground::jbase::Seq;
+use jground::jformat::{
     StateWriter, Writer, put_block, put_by, put_bytes, put_counted, put_sized32, put_u16, put_u32,
 };
-use jmaps::{RawFrame, put_frames};
-use jpool::{Pool, put_entries};
+use jparts::jcode::{Handler, Placed, encode};
+use jparts::jmaps::{RawFrame, put_frames};
+use jparts::jpool::{Pool, put_entries};
 use std::alloc::{AllocError, Global};
 
 fn put_access(flags: Access, out: &mut Seq<u8>) -> Result<(), AllocError>

@@ -1,11 +1,11 @@
 -- The laws of counting behind a lead.
 use Rattle.std.proofs.Common.{◌≡◌, ℕ, ◌+◌, ◌-◌, ◌*◌, ◌<◌, ◌≤◌, List, [], append-nil, Some, sym, ap, ◌∙◌, arith, inl, inr}
 use Rattle.std.proofs.lemmas.Bool.{cases_lt}
-use Rattle.jtrace.specs.declared.event.Event.{Event}
-use Rattle.jtrace.specs.declared.event.End.{End}
-use Rattle.jmachine.specs.Acts.{Outcome}
-use Rattle.jmachine.specs.Runs.{Run, run_from}
-use Rattle.jmachine.proofs.Courses.{later}
+use Rattle.jrights.specs.declared.jtrace.event.Event.{Event}
+use Rattle.jrights.specs.declared.jtrace.event.End.{End}
+use Rattle.jmodel.specs.jmachine.Acts.{Outcome}
+use Rattle.jmodel.specs.jmachine.Runs.{Run, run_from}
+use Rattle.jmodel.proofs.JmachineProofs.Courses.{later}
 use Rattle.jcount.specs.Counting.{Ends, EndsBehindAll, Follows, IsUnstuck, Keeps, KeepsBehind, KeepsBehindAll, Leads, Same, going}
 use Rattle.jcount.proofs.Counts.{ends_law, keeps_law, no_more, none_yet}
 

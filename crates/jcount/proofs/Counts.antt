@@ -1,11 +1,11 @@
 -- The laws of counting: what a run of the slower machine tells, and in how many steps.
 use Rattle.std.proofs.Common.{◌≡◌, ℕ, zero, suc, ◌+◌, ◌-◌, ◌*◌, ◌<◌, ◌≤◌, List, ◌++◌, Some, None, refl, sym, ap, ◌∙◌, arith, inl, inr}
 use Rattle.std.proofs.lemmas.Bool.{cases_lt}
-use Rattle.jtrace.specs.declared.event.Event.{Event}
-use Rattle.jtrace.specs.declared.event.End.{End}
-use Rattle.jmachine.specs.Acts.{Outcome, Went, Over, NoStep}
-use Rattle.jmachine.specs.Runs.{Run, after, next_at, run_from}
-use Rattle.jmachine.proofs.Courses.{later}
+use Rattle.jrights.specs.declared.jtrace.event.Event.{Event}
+use Rattle.jrights.specs.declared.jtrace.event.End.{End}
+use Rattle.jmodel.specs.jmachine.Acts.{Outcome, Went, Over, NoStep}
+use Rattle.jmodel.specs.jmachine.Runs.{Run, after, next_at, run_from}
+use Rattle.jmodel.proofs.JmachineProofs.Courses.{later}
 use Rattle.jcount.specs.Counting.{Answers, Ends, EndsAll, Follows, IsSilent, IsUnstuck, Keeps, KeepsAll, Leads, LeadsOut, going}
 
 module _ {S : Type 0} (step : S → Outcome S) where

@@ -1,10 +1,10 @@
 -- Steps that tell nothing, one behind the other, and the last one behind them.
 use Rattle.std.proofs.Common.{◌≡◌, ℕ, zero, suc, ◌+◌, ◌≤◌, List, [], append-nil, sym, ap, ◌∙◌, subst, arith}
-use Rattle.jtrace.specs.declared.event.Event.{Event}
-use Rattle.jtrace.specs.declared.event.End.{End}
-use Rattle.jmachine.specs.Acts.{Outcome, Went, Over}
-use Rattle.jmachine.specs.Runs.{Run, after, next, run_from}
-use Rattle.jmachine.proofs.Courses.{goes_on}
+use Rattle.jrights.specs.declared.jtrace.event.Event.{Event}
+use Rattle.jrights.specs.declared.jtrace.event.End.{End}
+use Rattle.jmodel.specs.jmachine.Acts.{Outcome, Went, Over}
+use Rattle.jmodel.specs.jmachine.Runs.{Run, after, next, run_from}
+use Rattle.jmodel.proofs.JmachineProofs.Courses.{goes_on}
 use Rattle.jcount.specs.Counting.{IsSilent, Leads, LeadsOut, going}
 use Rattle.jcount.proofs.Counts.{none_yet, one_more}
 

@@ -1,9 +1,9 @@
 -- Two machines, of which the one takes several steps for each of the other: what a run of the slower one tells, and in how many steps.
 use Rattle.std.specs.Prelude.{◌≡◌, ◌<◌, ◌≤◌, ◌+◌, ◌*◌, ℕ, List, [], ◌++◌, Some, None}
-use Rattle.jtrace.specs.declared.event.Event.{Event}
-use Rattle.jtrace.specs.declared.event.End.{End}
-use Rattle.jmachine.specs.Acts.{Outcome, Went, Over, NoStep}
-use Rattle.jmachine.specs.Runs.{Run, run_from}
+use Rattle.jrights.specs.declared.jtrace.event.Event.{Event}
+use Rattle.jrights.specs.declared.jtrace.event.End.{End}
+use Rattle.jmodel.specs.jmachine.Acts.{Outcome, Went, Over, NoStep}
+use Rattle.jmodel.specs.jmachine.Runs.{Run, run_from}
 
 -- ---- some steps
 

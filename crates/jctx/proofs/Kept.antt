@@ -7,7 +7,7 @@ use Rattle.jctx.specs.Limits.{is_within}
 use Rattle.jctx.specs.Contexts.{keep_after, keep, along, along_given, given_items, limited}
 use Rattle.jctx.specs.Items.{covers, plain}
 use Rattle.jctx.specs.Growing.{hidden}
-use Rattle.jdomain.specs.Stacks.{Stack, Bottom, Entry, Unmarked, Privileged}
+use Rattle.jrights.specs.jdomain.Stacks.{Stack, Bottom, Entry, Unmarked, Privileged}
 use Rattle.jctx.proofs.Bools.{or_cases, or_left, or_right}
 
 no_left : (a b : Bool) → (a || b) ≡ false → a ≡ false

@@ -2,11 +2,11 @@
 use Rattle.std.proofs.Common.{◌≡◌, ℕ, Bool, true, false, not, ◌&&◌, ◌||◌, ◌==◌, List, [], ◌∷◌, ◌++◌, Option, Some, None, refl, sym, ap, ◌∙◌, cond, eqb-true, subst}
 use Rattle.std.specs.List.{list_any}
 use Rattle.std.proofs.lemmas.List.Folds.{list_any-append}
-use Rattle.jdomain.specs.declared.verdict.Verdict.{Verdict}
-use Rattle.jdomain.specs.declared.verdict.Verdict.TheVariants.{Granted, Denied}
-use Rattle.jdomain.specs.Stacks.{first_denial, past_limits, some_implies}
-use Rattle.jperm.specs.Permissions.{implies, equal}
-use Rattle.jperm.specs.declared.permission.Permission.{Permission}
+use Rattle.jrights.specs.declared.jdomain.verdict.Verdict.{Verdict}
+use Rattle.jrights.specs.declared.jdomain.verdict.Verdict.TheVariants.{Granted, Denied}
+use Rattle.jrights.specs.jdomain.Stacks.{first_denial, past_limits, some_implies}
+use Rattle.jrights.specs.jperm.Permissions.{implies, equal}
+use Rattle.jrights.specs.declared.jperm.permission.Permission.{Permission}
 use Rattle.jctx.proofs.Bools.{EqualIsSame}
 use Rattle.jctx.specs.declared.item.Item.{Item}
 use Rattle.jctx.specs.Limits.{is_within, add_limits}

@@ -2,10 +2,10 @@
 -- where a method is called and where a privilege is taken.
 use Rattle.std.specs.Prelude.{ℕ, Bool, List, [], ◌∷◌, ◌++◌, Option, Some, None, map, if◌then◌else◌}
 use Rattle.std.specs.List.{list_any}
-use Rattle.jperm.specs.declared.permission.Permission.{Permission}
-use Rattle.jdomain.specs.declared.verdict.Verdict.{Verdict}
-use Rattle.jdomain.specs.declared.verdict.Verdict.TheVariants.{Granted, Denied}
-use Rattle.jdomain.specs.Stacks.{Stack, Bottom, Entry, Mark, Unmarked, Privileged, Given, Nothing, Within}
+use Rattle.jrights.specs.declared.jperm.permission.Permission.{Permission}
+use Rattle.jrights.specs.declared.jdomain.verdict.Verdict.{Verdict}
+use Rattle.jrights.specs.declared.jdomain.verdict.Verdict.TheVariants.{Granted, Denied}
+use Rattle.jrights.specs.jdomain.Stacks.{Stack, Bottom, Entry, Mark, Unmarked, Privileged, Given, Nothing, Within}
 use Rattle.jctx.specs.declared.item.Item.{Item}
 use Rattle.jctx.specs.Items.{fails, covers, plain, with_limits}
 

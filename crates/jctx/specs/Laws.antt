@@ -1,8 +1,8 @@
 -- The laws of security contexts.
 use Rattle.std.specs.Prelude.{◌≡◌, ℕ, ◌<◌, ◌≤◌, ◌==◌, true, Bool, List, [], ◌∷◌, Option, length, map}
 use Rattle.std.specs.List.{All, IsDistinct, list_any}
-use Rattle.jperm.specs.declared.permission.Permission.{Permission}
-use Rattle.jdomain.specs.Stacks.{Stack, walk}
+use Rattle.jrights.specs.declared.jperm.permission.Permission.{Permission}
+use Rattle.jrights.specs.jdomain.Stacks.{Stack, walk}
 use Rattle.jctx.specs.declared.item.Item.{Item}
 use Rattle.jctx.specs.Items.{plain}
 use Rattle.jctx.specs.Contexts.{verdict, keep, enter, privileged, along}

@@ -1,13 +1,13 @@
 ghost use Rattle.std.specs.Prelude.{◌≡◌, [], ◌∷◌, ◌++◌, IfOk, OnOk};
-ghost use Rattle.jdomain.specs.Domains.{has};
-ghost use Rattle.jdomain.specs.Stacks.{Stack, walk};
+ghost use Rattle.jrights.specs.jdomain.Domains.{has};
+ghost use Rattle.jrights.specs.jdomain.Stacks.{Stack, walk};
 ghost use Rattle.jctx.specs.Contexts.{along, verdict};
 ghost use Rattle.jctx.specs.Growing.{hidden};
 ghost use Rattle.jctx.specs.Items.{plain};
 
 use crate::item::Item;
-use jdomain::{Domains, Verdict};
-use jperm::{Permission, permission_laws};
+use jrights::jdomain::{Domains, Verdict};
+use jrights::jperm::{Permission, permission_laws};
 use std::alloc::{AllocError, Global};
 use std::marker::Model;
 

@@ -1,10 +1,10 @@
 ghost use Rattle.std.specs.Prelude.{◌≡◌, [], IfOk, OnOk};
 ghost use Rattle.std.specs.List.{list_any};
-ghost use Rattle.jperm.specs.Permissions.{equal};
-ghost use Rattle.jdomain.specs.Stacks.{some_implies};
+ghost use Rattle.jrights.specs.jperm.Permissions.{equal};
+ghost use Rattle.jrights.specs.jdomain.Stacks.{some_implies};
 ghost use Rattle.jctx.specs.Limits.{add_limits, is_within};
 
-use jperm::Permission;
+use jrights::jperm::Permission;
 use std::alloc::{AllocError, Global};
 use std::marker::Model;
 
@@ -16,7 +16,7 @@ pub struct Limits {
 
 impl Model for Limits {
     ghost use Rattle.std.specs.Prelude.{List};
-    ghost use Rattle.jperm.specs.declared.permission.Permission.{Permission};
+    ghost use Rattle.jrights.specs.declared.jperm.permission.Permission.{Permission};
 
     ghost Value = { List Permission };
 
@@ -41,7 +41,7 @@ impl Limits {
     }
 
     /// Whether one of the limits by itself implies a permission.
-    #[tactic(auto, unfolding(jdomain::specs::Stacks::some_implies))]
+    #[tactic(auto, unfolding(jrights::specs::jdomain::Stacks::some_implies))]
     pub fn imply(&self, asked: &Permission) -> bool
         ensures { result ≡ some_implies self.now asked.now }
     {

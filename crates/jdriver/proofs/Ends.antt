@@ -1,9 +1,9 @@
 -- The answer of a run.
 use Rattle.std.proofs.Common.{◌≡◌, ℕ, List, Option, Some, sym, ap, subst}
-use Rattle.jbase.specs.Causes.{appended}
-use Rattle.jtrace.specs.declared.event.End.{End}
-use Rattle.jtrace.specs.declared.event.End.TheVariants as ends
-use Rattle.jmachine.specs.Runs.{Run, run_text, ending}
+use Rattle.jground.specs.jbase.Causes.{appended}
+use Rattle.jrights.specs.declared.jtrace.event.End.{End}
+use Rattle.jrights.specs.declared.jtrace.event.End.TheVariants as ends
+use Rattle.jmodel.specs.jmachine.Runs.{Run, run_text, ending}
 use Rattle.jshow.specs.declared.status.Status.{Status}
 use Rattle.jshow.specs.Answering.{Answers}
 use Rattle.jshow.specs.Statuses.{status_of}

@@ -2,7 +2,7 @@
 use Rattle.std.proofs.Common.{◌≡◌, ℕ, zero, suc, ◌+◌, List, [], ◌∷◌, ◌++◌, Ok, drop, length, map, refl, sym, ap, ap₂, ◌∙◌}
 use Rattle.std.proofs.lemmas.List.{length-map}
 use Rattle.url.specs.Parts.{Parts}
-use Rattle.jdomain.specs.Domains.{granted}
+use Rattle.jrights.specs.jdomain.Domains.{granted}
 use Rattle.jpolicy.specs.declared.grant.Grant.{Grant}
 use Rattle.jjob.specs.declared.job.Job.{Job}
 use Rattle.jjob.specs.declared.job.JobSource.{JobSource}

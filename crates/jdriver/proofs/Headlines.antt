@@ -1,21 +1,21 @@
 -- What a run in the pass form answers, by the pass theorem of the program that the job's files give.
 use Rattle.std.proofs.Common.{◌≡◌, ◌∙◌, ℕ, List, [], Option, Some, None, Ok, Err, refl, sym, ap, subst, arith}
-use Rattle.jbase.proofs.Cuts.{cut_none}
-use Rattle.jio.specs.Held.{File}
-use Rattle.jperm.specs.declared.permission.Permission.{Permission}
-use Rattle.jtrace.specs.declared.event.End.{End}
-use Rattle.jdomain.specs.Domains.{has}
+use Rattle.jground.proofs.JbaseProofs.Cuts.{cut_none}
+use Rattle.jrights.specs.jio.Held.{File}
+use Rattle.jrights.specs.declared.jperm.permission.Permission.{Permission}
+use Rattle.jrights.specs.declared.jtrace.event.End.{End}
+use Rattle.jrights.specs.jdomain.Domains.{has}
 use Rattle.jjob.specs.declared.command.Command.{Command}
 use Rattle.jjob.specs.Words.{Word, command}
 use Rattle.jprogram.specs.Classes.{Program}
 use Rattle.jtyping.specs.Typing.{WellTyped}
 use Rattle.jrewrite.specs.Linking.{IsLinked}
 use Rattle.jrewrite.specs.Program.{moved}
-use Rattle.jmachine.specs.declared.plan.Plan.{Plan}
-use Rattle.jmachine.specs.Runs.{Run, ending, run_text}
-use Rattle.jpass.specs.Passing.{MovedPasses, Passes, inspected, passed}
-use Rattle.jpass.specs.Running.{AfterSome, OnceEnded}
-use Rattle.jpass.proofs.Tellings.{ending_alike, text_alike}
+use Rattle.jmodel.specs.declared.jmachine.plan.Plan.{Plan}
+use Rattle.jmodel.specs.jmachine.Runs.{Run, ending, run_text}
+use Rattle.jforms.specs.jpass.Passing.{MovedPasses, Passes, inspected, passed}
+use Rattle.jforms.specs.jpass.Running.{AfterSome, OnceEnded}
+use Rattle.jforms.proofs.JpassProofs.Tellings.{ending_alike, text_alike}
 use Rattle.jshow.specs.declared.refusal.Refusal.{Refusal}
 use Rattle.jshow.specs.declared.status.Status.{Status}
 use Rattle.jshow.specs.declared.status.Status.TheVariants as statuses

@@ -1,15 +1,15 @@
 -- What is answered to a command that makes the files of its job.
 use Rattle.std.proofs.Common.{◌≡◌, ◌≤◌, ◌∙◌, ℕ, List, [], Option, Result, Ok, Err, refl, sym, ap, subst}
 use Rattle.std.specs.Prelude.{false, true}
-use Rattle.jio.specs.Held.{File}
-use Rattle.jperm.specs.declared.permission.Permission.{Permission}
+use Rattle.jrights.specs.jio.Held.{File}
+use Rattle.jrights.specs.declared.jperm.permission.Permission.{Permission}
 use Rattle.jjob.specs.declared.command.Command.{Command}
 use Rattle.jjob.specs.declared.command.Command.TheVariants as commands
 use Rattle.jprogram.specs.Classes.{Program}
-use Rattle.jmachine.specs.declared.plan.Plan.{Plan}
+use Rattle.jmodel.specs.declared.jmachine.plan.Plan.{Plan}
 use Rattle.jshow.specs.declared.status.Status.{Status}
 use Rattle.jshow.specs.declared.status.Status.TheVariants as statuses
-use Rattle.jtally.specs.declared.counts.Tally.{Tally}
+use Rattle.jrights.specs.declared.jtally.counts.Tally.{Tally}
 use Rattle.jtask.specs.Stages.{Missing, Refused, Stopped}
 use Rattle.jtask.specs.Tasks.{reads as reads_files}
 use Rattle.jstore.specs.Made.{held}

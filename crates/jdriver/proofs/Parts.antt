@@ -2,15 +2,15 @@
 use Rattle.std.proofs.Common.{◌≡◌, ℕ, zero, suc, ◌<◌, ◌≤◌, ◌&&◌, Bool, true, false, cond, List, [], ◌∷◌, Option, Some, None, Result, Ok, Err, bytes_eq, length, map, refl, sym, ap, ◌∙◌, subst, arith, le-leb, lt-ltb}
 use Rattle.std.specs.Prelude.{IsTrue, nat_le, slice_get}
 use Rattle.std.specs.List.{AllByRecursion}
-use Rattle.jbase.specs.Each.{each}
-use Rattle.jbase.specs.Stops.{◌>>=◌}
-use Rattle.jformat.specs.declared.error.Fault.{Fault}
-use Rattle.jformat.specs.Format.{IsBytes}
-use Rattle.jio.specs.Held.{File, file_at, most_read, readable, short_enough}
+use Rattle.jground.specs.jbase.Each.{each}
+use Rattle.jground.specs.jbase.Stops.{◌>>=◌}
+use Rattle.jground.specs.declared.jformat.error.Fault.{Fault}
+use Rattle.jground.specs.jformat.Format.{IsBytes}
+use Rattle.jrights.specs.jio.Held.{File, file_at, most_read, readable, short_enough}
 use Rattle.jclass.specs.declared.class.ClassParts.{ClassParts}
 use Rattle.jclass.specs.declared.fault.ClassFault.{ClassFault}
 use Rattle.jclass.specs.Class.{Spells, class_file}
-use Rattle.jlink.specs.Links.{AreParts, domains_rise}
+use Rattle.jlinking.specs.jlink.Links.{AreParts, domains_rise}
 use Rattle.jprogram.specs.declared.part.CodePart.{CodePart}
 use Rattle.jrewrite.specs.Files.{out_file}
 use Rattle.jtask.specs.declared.ground.ClassPath.{ClassPath}

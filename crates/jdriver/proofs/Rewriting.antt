@@ -1,10 +1,10 @@
 -- What a rewriting that is answered rests on.
 use Rattle.std.proofs.Common.{◌≡◌, ℕ, List, Option, Some, None, Result, Ok, Err, refl, sym, ap, ◌∙◌, subst}
-use Rattle.jbase.specs.Each.{each}
-use Rattle.jbase.specs.Stops.{◌>>=◌}
-use Rattle.jio.specs.Held.{File, readable}
+use Rattle.jground.specs.jbase.Each.{each}
+use Rattle.jground.specs.jbase.Stops.{◌>>=◌}
+use Rattle.jrights.specs.jio.Held.{File, readable}
 use Rattle.jlib.specs.declared.side.Side.TheVariants.{Source}
-use Rattle.jlink.specs.Links.{link_fault}
+use Rattle.jlinking.specs.jlink.Links.{link_fault}
 use Rattle.jpolicy.specs.declared.grant.Grant.{Grant}
 use Rattle.jprogram.specs.declared.fault.LinkFault.{LinkFault}
 use Rattle.jprogram.specs.declared.part.CodePart.{CodePart}

@@ -2,13 +2,13 @@
 use Rattle.std.proofs.Common.{◌≡◌, ◌+◌, ◌<◌, ℕ, suc, List, [], ◌∷◌, ◌++◌, Option, Some, None, Result, Ok, codes, map, refl, sym, ap, ◌∙◌, subst, arith}
 use Rattle.std.specs.Prelude.{IsTrue, slice_get}
 use Rattle.std.specs.List.{AllByRecursion, flat_map}
-use Rattle.jbase.specs.Each.{each}
-use Rattle.jbase.specs.Stops.{◌>>=◌}
-use Rattle.jio.specs.Held.{File, readable}
-use Rattle.jtext.specs.Modified.{group}
+use Rattle.jground.specs.jbase.Each.{each}
+use Rattle.jground.specs.jbase.Stops.{◌>>=◌}
+use Rattle.jrights.specs.jio.Held.{File, readable}
+use Rattle.jground.specs.jtext.Modified.{group}
 use Rattle.jclass.specs.Class.{class_file}
 use Rattle.jlib.specs.declared.side.Side.TheVariants.{Passing, Source}
-use Rattle.jlink.specs.Links.{link_fault}
+use Rattle.jlinking.specs.jlink.Links.{link_fault}
 use Rattle.jpolicy.specs.declared.grant.Grant.{Grant}
 use Rattle.jpolicy.specs.Policies.{policy}
 use Rattle.jprogram.specs.declared.member.MethodId.{MethodId}
@@ -22,8 +22,8 @@ use Rattle.jrewrite.specs.Linking.{IsLinked}
 use Rattle.jrewrite.specs.Parts.{PartsAreFiles}
 use Rattle.jrewrite.specs.Program.{limits, moved}
 use Rattle.jrewrite.specs.References.{LinksStay}
-use Rattle.jretype.specs.Types.{TypesStay}
-use Rattle.jseen.specs.Openings.{MainsStay}
+use Rattle.jmovedlaws.specs.jretype.Types.{TypesStay}
+use Rattle.jmovedlaws.specs.jseen.Openings.{MainsStay}
 use Rattle.jjob.specs.declared.command.Command.TheVariants as commands
 use Rattle.jjob.specs.declared.command.Form.TheVariants.{Pass, Plain}
 use Rattle.jjob.specs.declared.job.Job.{Job}

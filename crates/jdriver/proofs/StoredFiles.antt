@@ -1,6 +1,6 @@
 -- What a call stored, by its status.
 use Rattle.std.proofs.Common.{◌≡◌, ◌⊎◌, inl, inr, List, [], Option, sym, subst, ◌∙◌}
-use Rattle.jio.specs.Held.{File}
+use Rattle.jrights.specs.jio.Held.{File}
 use Rattle.jshow.specs.declared.status.Status.{Status}
 use Rattle.jshow.specs.declared.status.Status.TheVariants as statuses
 use Rattle.jstore.specs.Storing.{with_files}

@@ -1,7 +1,7 @@
 -- The answer to a command, case by case, and why it is the status where no fault was counted.
 use Rattle.std.proofs.Common.{◌≡◌, ◌⊎◌, ℕ, List, true, false, Option, Some, None, Result, Err, refl, sym, ap, ◌∙◌, inl, inr}
-use Rattle.jbase.specs.Causes.{Rose}
-use Rattle.jio.specs.Held.{File}
+use Rattle.jground.specs.jbase.Causes.{Rose}
+use Rattle.jrights.specs.jio.Held.{File}
 use Rattle.jjob.specs.declared.command.Command.{Command}
 use Rattle.jjob.specs.declared.command.Command.TheVariants as commands
 use Rattle.jshow.specs.declared.status.Status.{Status}

@@ -1,37 +1,37 @@
 -- No run that a job asks for is stuck: its program links, is of class files and well typed, and begins with the `main` of one of its classes.
 use Rattle.std.proofs.Common.{◌≡◌, ◌∙◌, ℕ, Bool, List, Some, None, Result, Ok, refl, sym, ap, subst}
 use Rattle.std.specs.List.{flat_map}
-use Rattle.jbase.specs.Each.{each}
-use Rattle.jbase.specs.Stops.{◌>>=◌}
-use Rattle.jio.specs.Held.{File}
-use Rattle.jperm.specs.declared.permission.Permission.{Permission}
-use Rattle.jdomain.specs.Domains.{has}
-use Rattle.jdomain.specs.Stacks.{Stack}
-use Rattle.jtext.specs.Modified.{group}
+use Rattle.jground.specs.jbase.Each.{each}
+use Rattle.jground.specs.jbase.Stops.{◌>>=◌}
+use Rattle.jrights.specs.jio.Held.{File}
+use Rattle.jrights.specs.declared.jperm.permission.Permission.{Permission}
+use Rattle.jrights.specs.jdomain.Domains.{has}
+use Rattle.jrights.specs.jdomain.Stacks.{Stack}
+use Rattle.jground.specs.jtext.Modified.{group}
 use Rattle.jctx.specs.declared.item.Item.{Item}
 use Rattle.jlib.specs.declared.side.Side.{Side}
 use Rattle.jlib.specs.declared.side.Side.TheVariants.{Passing, Source}
-use Rattle.jlink.specs.Coded.{AreFiles}
-use Rattle.jlink.specs.Links.{Links, link_fault}
+use Rattle.jlinking.specs.jlink.Coded.{AreFiles}
+use Rattle.jlinking.specs.jlink.Links.{Links, link_fault}
 use Rattle.jprogram.specs.declared.member.MethodId.{MethodId}
 use Rattle.jprogram.specs.declared.part.CodePart.{CodePart}
 use Rattle.jprogram.specs.Classes.{Program, program}
 use Rattle.jprogram.specs.Members.{main_of}
 use Rattle.jtyping.specs.Typing.{WellTyped, type_fault}
-use Rattle.jmachine.specs.declared.plan.Plan.{Plan}
-use Rattle.jmachine.specs.Acts.{NoStep, Outcome, State}
-use Rattle.jmachine.specs.Runs.{Run}
-use Rattle.jmachine.specs.Security.{Rules}
-use Rattle.jmachine.specs.Steps.{step}
+use Rattle.jmodel.specs.declared.jmachine.plan.Plan.{Plan}
+use Rattle.jmodel.specs.jmachine.Acts.{NoStep, Outcome, State}
+use Rattle.jmodel.specs.jmachine.Runs.{Run}
+use Rattle.jmodel.specs.jmachine.Security.{Rules}
+use Rattle.jmodel.specs.jmachine.Steps.{step}
 use Rattle.jrewrite.specs.Linking.{IsLinked}
 use Rattle.jrewrite.specs.Parts.{PartsAreFiles}
 use Rattle.jrewrite.specs.Program.{limits, moved}
 use Rattle.jrewrite.specs.References.{LinksStay}
-use Rattle.jretype.specs.Types.{TypesStay}
-use Rattle.jrules.specs.Inspecting as inspecting
-use Rattle.jrules.specs.Inspecting.{Carried}
-use Rattle.jrules.specs.Plain as plain
-use Rattle.jseen.specs.Openings.{MainsStay}
+use Rattle.jmovedlaws.specs.jretype.Types.{TypesStay}
+use Rattle.jmodel.specs.jrules.Inspecting as inspecting
+use Rattle.jmodel.specs.jrules.Inspecting.{Carried}
+use Rattle.jmodel.specs.jrules.Plain as plain
+use Rattle.jmovedlaws.specs.jseen.Openings.{MainsStay}
 use Rattle.jyield.specs.Laws.{AreSided}
 use Rattle.jsafe.specs.States.{ComesTo, IsTypedRun}
 use Rattle.jsound.specs.Runs.{LinkedRunsTyped}
@@ -41,7 +41,7 @@ use Rattle.jjob.specs.declared.command.Form.{Form}
 use Rattle.jjob.specs.declared.command.Form.TheVariants.{Inspect, Pass, Plain}
 use Rattle.jjob.specs.Jobs.{job}
 use Rattle.jagain.specs.Again.{JobIsSmall}
-use Rattle.jpass.specs.Passing.{inspected, passed}
+use Rattle.jforms.specs.jpass.Passing.{inspected, passed}
 use Rattle.jshow.specs.declared.refusal.Refusal.TheVariants.{NoMain}
 use Rattle.jtask.specs.declared.ground.Ground.{Ground}
 use Rattle.jtask.specs.declared.task.Task.{Task}

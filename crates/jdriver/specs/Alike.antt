@@ -1,8 +1,8 @@
 -- What a rewriting stores, run as the job runs that was rewritten.
 use Rattle.std.specs.Prelude.{◌≡◌, ◌==◌, ℕ, false, All, List, ◌++◌, Some, Ok, IsUtf8, codes}
 use Rattle.std.specs.List.{AllByRecursion}
-use Rattle.jformat.specs.Format.{IsBytes}
-use Rattle.jio.specs.Held.{File, readable}
+use Rattle.jground.specs.jformat.Format.{IsBytes}
+use Rattle.jrights.specs.jio.Held.{File, readable}
 use Rattle.jjob.specs.declared.command.Command.TheVariants.{Rewrite, Run}
 use Rattle.jjob.specs.declared.command.Form.TheVariants.{Pass, Plain}
 use Rattle.jjob.specs.declared.job.Job.{Job}

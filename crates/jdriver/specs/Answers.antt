@@ -1,13 +1,13 @@
 -- What the program answers to its words, over the files that are held.
 use Rattle.std.specs.Prelude.{◌≡◌, ◌≤◌, ◌⊎◌, ℕ, Bool, false, true, List, [], ◌++◌, length, Option, Some, None, Result, Ok, Err, codes, decimal, String}
 use Rattle.std.specs.declared.alloc.Global.{Global}
-use Rattle.jbase.specs.Causes.{Rose}
-use Rattle.jio.specs.Held.{File}
-use Rattle.jdomain.specs.Domains.{has}
-use Rattle.jmachine.specs.Machine.{run}
-use Rattle.jmachine.specs.Runs.{Run, run_text, ending}
-use Rattle.jrules.specs.Inspecting.{rules as inspecting}
-use Rattle.jrules.specs.Plain.{rules as plain}
+use Rattle.jground.specs.jbase.Causes.{Rose}
+use Rattle.jrights.specs.jio.Held.{File}
+use Rattle.jrights.specs.jdomain.Domains.{has}
+use Rattle.jmodel.specs.jmachine.Machine.{run}
+use Rattle.jmodel.specs.jmachine.Runs.{Run, run_text, ending}
+use Rattle.jmodel.specs.jrules.Inspecting.{rules as inspecting}
+use Rattle.jmodel.specs.jrules.Plain.{rules as plain}
 use Rattle.jjob.specs.declared.command.Command.{Command}
 use Rattle.jjob.specs.declared.command.Command.TheVariants as commands
 use Rattle.jjob.specs.Limits.{most_size}

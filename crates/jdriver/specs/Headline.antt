@@ -1,16 +1,16 @@
 -- The headline: what a run in the pass form answers of the program as it was written.
 use Rattle.std.specs.Prelude.{◌≡◌, ℕ, List, Option, None, Ok}
-use Rattle.jio.specs.Held.{File}
-use Rattle.jperm.specs.declared.permission.Permission.{Permission}
-use Rattle.jdomain.specs.Domains.{has}
+use Rattle.jrights.specs.jio.Held.{File}
+use Rattle.jrights.specs.declared.jperm.permission.Permission.{Permission}
+use Rattle.jrights.specs.jdomain.Domains.{has}
 use Rattle.jjob.specs.declared.command.Command.{Command}
 use Rattle.jjob.specs.declared.command.Command.TheVariants as commands
 use Rattle.jjob.specs.declared.command.Form.TheVariants.{Inspect, Pass}
 use Rattle.jprogram.specs.Classes.{Program}
 use Rattle.jrewrite.specs.Program.{limits}
-use Rattle.jmachine.specs.declared.plan.Plan.{Plan}
-use Rattle.jpass.specs.Passing.{inspected}
-use Rattle.jpass.specs.Running.{AfterSome, OnceEnded}
+use Rattle.jmodel.specs.declared.jmachine.plan.Plan.{Plan}
+use Rattle.jforms.specs.jpass.Passing.{inspected}
+use Rattle.jforms.specs.jpass.Running.{AfterSome, OnceEnded}
 use Rattle.jshow.specs.declared.status.Status.{Status}
 use Rattle.jshow.specs.Answering.{Answers}
 use Rattle.jtask.specs.declared.task.Task.TheVariants as tasks

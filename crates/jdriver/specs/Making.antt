@@ -1,19 +1,19 @@
 -- The answer to `gen`: the job that a seed and a size make is run in the forms `inspect` and `pass`, and both runs are counted.
 use Rattle.std.specs.Prelude.{ℕ, List, [], ◌++◌, Option, Some, None, Result, Ok, Err, codes, decimal}
-use Rattle.jbase.specs.Stops.{◌>>=◌}
-use Rattle.jio.specs.Held.{File}
-use Rattle.jdomain.specs.Domains.{has}
-use Rattle.jmachine.specs.Machine.{run}
-use Rattle.jmachine.specs.Runs.{Run, ending}
-use Rattle.jrules.specs.Inspecting.{rules as inspecting}
-use Rattle.jrules.specs.Plain.{rules as plain}
+use Rattle.jground.specs.jbase.Stops.{◌>>=◌}
+use Rattle.jrights.specs.jio.Held.{File}
+use Rattle.jrights.specs.jdomain.Domains.{has}
+use Rattle.jmodel.specs.jmachine.Machine.{run}
+use Rattle.jmodel.specs.jmachine.Runs.{Run, ending}
+use Rattle.jmodel.specs.jrules.Inspecting.{rules as inspecting}
+use Rattle.jmodel.specs.jrules.Plain.{rules as plain}
 use Rattle.jjob.specs.declared.command.Command.TheVariants as commands
 use Rattle.jjob.specs.declared.command.Form.{Form}
 use Rattle.jjob.specs.declared.command.Form.TheVariants.{Inspect, Pass}
 use Rattle.jshow.specs.Answering.{Answer, listed, refused_answer}
 use Rattle.jshow.specs.Refusals.{refusal_line}
-use Rattle.jtally.specs.declared.counts.Tally.{Tally}
-use Rattle.jtally.specs.Counting.{tally, tally_line}
+use Rattle.jrights.specs.declared.jtally.counts.Tally.{Tally}
+use Rattle.jrights.specs.jtally.Counting.{tally, tally_line}
 use Rattle.jtask.specs.declared.task.Task.{Task}
 use Rattle.jtask.specs.declared.task.Task.TheVariants as tasks
 use Rattle.jtask.specs.Stages.{Missing, Refused, Stopped, found}

@@ -1,20 +1,20 @@
 -- No run that a job asks for is ever stuck.
 use Rattle.std.specs.Prelude.{◌≡◌, ℕ, List, Ok}
 use Rattle.std.specs.List.{AllByRecursion}
-use Rattle.jformat.specs.Format.{IsBytes}
-use Rattle.jio.specs.Held.{File}
-use Rattle.jperm.specs.declared.permission.Permission.{Permission}
-use Rattle.jdomain.specs.Domains.{has}
+use Rattle.jground.specs.jformat.Format.{IsBytes}
+use Rattle.jrights.specs.jio.Held.{File}
+use Rattle.jrights.specs.declared.jperm.permission.Permission.{Permission}
+use Rattle.jrights.specs.jdomain.Domains.{has}
 use Rattle.jjob.specs.declared.command.Command.{Command}
 use Rattle.jjob.specs.declared.command.Command.TheVariants.{Run}
 use Rattle.jjob.specs.declared.command.Form.{Form}
 use Rattle.jprogram.specs.Classes.{Program}
 use Rattle.jrewrite.specs.Program.{moved}
-use Rattle.jmachine.specs.declared.plan.Plan.{Plan}
-use Rattle.jmachine.specs.Steps.{step}
-use Rattle.jrules.specs.Inspecting.{rules as inspecting}
-use Rattle.jrules.specs.Plain.{rules as plain}
-use Rattle.jpass.specs.Passing.{NeverStuck, inspected, passed}
+use Rattle.jmodel.specs.declared.jmachine.plan.Plan.{Plan}
+use Rattle.jmodel.specs.jmachine.Steps.{step}
+use Rattle.jmodel.specs.jrules.Inspecting.{rules as inspecting}
+use Rattle.jmodel.specs.jrules.Plain.{rules as plain}
+use Rattle.jforms.specs.jpass.Passing.{NeverStuck, inspected, passed}
 use Rattle.jtask.specs.declared.task.Task.{Task}
 use Rattle.jtask.specs.declared.task.Task.TheVariants as tasks
 use Rattle.jtask.specs.Tasks.{task}

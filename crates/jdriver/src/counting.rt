@@ -5,12 +5,12 @@ ghost use Rattle.jtask.specs.Tasks.{IsWhole, task};
 ghost use Rattle.jstore.specs.Made.{held};
 ghost use Rattle.jdriver.specs.Making.{told, told_both, told_in};
 
-use jinspect::count_inspect;
-use jio::MemoryShelf;
+use jforms::jinspect::count_inspect;
+use jforms::jpass::count_plain;
 use jjob::{Command, Form, Text};
-use jpass::count_plain;
+use jrights::jio::MemoryShelf;
+use jrights::jtally::Tally;
 use jstore::made_shelf;
-use jtally::Tally;
 use jtask::{Halt, Task, task_of};
 use std::alloc::{AllocError, Global};
 

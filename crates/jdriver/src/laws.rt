@@ -3,10 +3,10 @@ ghost use Rattle.jdriver.specs.Unstuck.{AllGoOn, BothGoOn};
 
 use jagain::job_laws;
 use jclass::spelling_laws;
-use jretype::types_law;
+use jmovedlaws::jretype::types_law;
+use jmovedlaws::jseen::begin_law;
 use jrewrite::{link_law, part_laws};
 use jsafe::OneMachine;
-use jseen::begin_law;
 use jsound::runs_law;
 use jyield::rules_laws;
 
@@ -17,8 +17,8 @@ struct ByFrames;
 struct ByContexts;
 
 impl OneMachine for ByFrames {
-    ghost use Rattle.jdomain.specs.Stacks.{Stack};
-    ghost use Rattle.jrules.specs.Inspecting.{Carried};
+    ghost use Rattle.jrights.specs.jdomain.Stacks.{Stack};
+    ghost use Rattle.jmodel.specs.jrules.Inspecting.{Carried};
 
     ghost K = { Stack };
 

@@ -1,14 +1,14 @@
 ghost use Rattle.std.specs.Prelude.{◌≤◌, ◌<◌, length};
-ghost use Rattle.jtally.specs.Counting.{tally_line};
+ghost use Rattle.jrights.specs.jtally.Counting.{tally_line};
 ghost use Rattle.jshow.specs.Answering.{Puts, Shows, listed};
 ghost use Rattle.jdriver.specs.Making.{made, made_line, made_text, runs_text};
 
 use crate::counting::told_both;
-use jio::{Part, Sink, write_line};
+use jrights::jio::{Part, Sink, write_line};
+use jrights::jtally::{Tally, put_tally};
+use jrights::jtrace::RunFault;
 use jshow::{Status, show_refusal};
-use jtally::{Tally, put_tally};
 use jtask::Halt;
-use jtrace::RunFault;
 use std::alloc::Global;
 
 /// Writes the line of a job that is made.

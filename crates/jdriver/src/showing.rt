@@ -1,11 +1,11 @@
 ghost use Rattle.std.specs.Prelude.{◌≡◌, ◌≤◌, ◌⊎◌, List, false, length};
-ghost use Rattle.jbase.specs.Causes.{Rose};
-ghost use Rattle.jio.specs.Held.{File};
-ghost use Rattle.jdomain.specs.Domains.{has};
+ghost use Rattle.jground.specs.jbase.Causes.{Rose};
+ghost use Rattle.jrights.specs.jio.Held.{File};
+ghost use Rattle.jrights.specs.jdomain.Domains.{has};
 ghost use Rattle.jlib.specs.declared.side.Side.TheVariants.{Source};
-ghost use Rattle.jmachine.specs.Machine.{run};
-ghost use Rattle.jrules.specs.Inspecting.{rules as inspecting};
-ghost use Rattle.jrules.specs.Plain.{rules as plain};
+ghost use Rattle.jmodel.specs.jmachine.Machine.{run};
+ghost use Rattle.jmodel.specs.jrules.Inspecting.{rules as inspecting};
+ghost use Rattle.jmodel.specs.jrules.Plain.{rules as plain};
 ghost use Rattle.jshow.specs.declared.status.Status.TheVariants.{Finished, ReadFault, StoreFault, Usage, WriteFault};
 ghost use Rattle.jshow.specs.Answering.{Answers, Shows, listed};
 ghost use Rattle.jshow.specs.Listings.{listing};
@@ -15,17 +15,17 @@ ghost use Rattle.jstore.specs.Folders.{files_below};
 ghost use Rattle.jdriver.specs.Answers.{Stores, ran, rewrote, shown, usage_answer};
 
 use jcheck::{CheckedProgram, PlainProgram};
-use jdomain::{CodeSource, Domains};
-use jinspect::run_inspect;
-use jio::{Part, Shelf, ShelfError, Sink, put_all, write_line};
+use jforms::jinspect::run_inspect;
+use jforms::jpass::{run_pass, run_plain};
 use jjob::Text;
-use jmachine::Plan;
+use jmodel::jmachine::Plan;
 use jmoving::RewrittenProgram;
-use jpass::{run_pass, run_plain};
+use jrights::jdomain::{CodeSource, Domains};
+use jrights::jio::{Part, Shelf, ShelfError, Sink, put_all, write_line};
+use jrights::jtrace::RunFault;
 use jshow::{Status, put_listing, show_checked, status_of};
 use jstore::{files_below, store_all};
 use jtask::Task;
-use jtrace::RunFault;
 use std::alloc::Global;
 
 /// Writes the usage line.

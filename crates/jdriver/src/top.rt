@@ -1,6 +1,6 @@
 ghost use Rattle.std.specs.Prelude.{◌≡◌, ◌≤◌, ◌⊎◌, IfNone, IfSome, IsTrue, List, Some, false, true};
-ghost use Rattle.jbase.specs.Causes.{Rose};
-ghost use Rattle.jio.specs.Held.{File};
+ghost use Rattle.jground.specs.jbase.Causes.{Rose};
+ghost use Rattle.jrights.specs.jio.Held.{File};
 ghost use Rattle.jjob.specs.declared.command.Command.{Command};
 ghost use Rattle.jjob.specs.declared.command.Command.TheVariants.{Gen};
 ghost use Rattle.jjob.specs.Words.{command as command_of, words_of};
@@ -13,9 +13,9 @@ ghost use Rattle.jdriver.specs.Headline.{AnswersAll, AnswersSome};
 
 use crate::making::show_made;
 use crate::showing::{show, show_usage};
-use jio::{Shelf, Sink};
+use jforms::jpass::moved_laws;
 use jjob::{Command, WordsError, read_words};
-use jpass::moved_laws;
+use jrights::jio::{Shelf, Sink};
 use jshow::{Status, show_refusal};
 use jtask::{Halt, task_of};
 use std::alloc::Global;

@@ -1,27 +1,27 @@
 -- A step of a thread's frames, by where the row of its instruction is found.
 use Rattle.std.proofs.Common.{◌≡◌, ◌⊎◌, ◌<◌, ◌+◌, ◌^◌, ℕ, List, None, sym, subst, inl, inr}
 use Rattle.std.specs.Prelude.{IfOk, Ok, OnOk, Err, Result}
-use Rattle.jheap.specs.Heaps.{Heaped, Object}
+use Rattle.jground.specs.jheap.Heaps.{Heaped, Object}
 use Rattle.jprogram.specs.Classes.{Program}
-use Rattle.juses.specs.Instructions.{instruction_at}
-use Rattle.jmachine.specs.Acts.{FrameOf}
-use Rattle.jmachine.specs.Asked.{asks}
-use Rattle.jmachine.specs.Steps.{fetched, step}
+use Rattle.jmeaning.specs.juses.Instructions.{instruction_at}
+use Rattle.jmodel.specs.jmachine.Acts.{FrameOf}
+use Rattle.jmodel.specs.jmachine.Asked.{asks}
+use Rattle.jmodel.specs.jmachine.Steps.{fetched, step}
 use Rattle.jready.specs.declared.instr.Instr.{Instr}
 use Rattle.jready.specs.declared.instr.Instr.TheVariants as instr
 use Rattle.jready.specs.Meant.{meant}
-use Rattle.jstate.specs.Celled.{AreCelled, StayCelled}
-use Rattle.jstate.specs.declared.shapes.Shapes.{Shapes}
-use Rattle.jstate.specs.Framed.{Framed, all}
-use Rattle.jstate.specs.Seen.{Things, store_by}
-use Rattle.jcalls.specs.declared.ready.Counts.{Counts}
-use Rattle.jcalls.specs.Marks.{AreStanding, Stand}
-use Rattle.jcalls.specs.Readiness.{AreCounted}
-use Rattle.jinvoke.specs.Laws.{StepsAt}
-use Rattle.jstep.specs.declared.fixed.Fixed.{Fixed}
-use Rattle.jstep.specs.declared.outcomes.Stepped.{Stepped}
-use Rattle.jstep.specs.declared.outcomes.Stepped.TheVariants as steps
-use Rattle.jstep.specs.Stepping.{Steps, StepsAlike}
+use Rattle.jmodel.specs.jstate.Celled.{AreCelled, StayCelled}
+use Rattle.jmodel.specs.declared.jstate.shapes.Shapes.{Shapes}
+use Rattle.jmodel.specs.jstate.Framed.{Framed, all}
+use Rattle.jmodel.specs.jstate.Seen.{Things, store_by}
+use Rattle.jrows.specs.declared.jcalls.ready.Counts.{Counts}
+use Rattle.jrows.specs.jcalls.Marks.{AreStanding, Stand}
+use Rattle.jrows.specs.jcalls.Readiness.{AreCounted}
+use Rattle.jserving.specs.jinvoke.Laws.{StepsAt}
+use Rattle.jstepping.specs.declared.jstep.fixed.Fixed.{Fixed}
+use Rattle.jstepping.specs.declared.jstep.outcomes.Stepped.{Stepped}
+use Rattle.jstepping.specs.declared.jstep.outcomes.Stepped.TheVariants as steps
+use Rattle.jstepping.specs.jstep.Stepping.{Steps, StepsAlike}
 use Rattle.jexecute.specs.Advancing.{Advances, Fetches, IsThere}
 use Rattle.jexecute.proofs.Behind.{asks_fetched, came_quietly}
 

@@ -3,25 +3,25 @@ use Rattle.std.proofs.Common.{◌≡◌, ◌∙◌, ℕ, Bool, true, false, [], 
 use Rattle.std.specs.Prelude.{nat_le, if◌then◌else◌}
 use Rattle.jlib.specs.declared.side.Side.{Side}
 use Rattle.jprogram.specs.Classes.{Program}
-use Rattle.juses.specs.Instructions.{Instruction}
-use Rattle.jmachine.specs.declared.plan.Plan.{Plan}
-use Rattle.jmachine.specs.Acts.{Act, FrameOf, Goes, Jumps, Leaves, Calls, Raises, Throws, Switches, Makes, Outcome, State}
-use Rattle.jmachine.specs.Asked.{Ask, asked_by, asked_on, asks}
-use Rattle.jmachine.specs.Doing.{Doing, doing}
-use Rattle.jmachine.specs.Security.{Rules}
-use Rattle.jmachine.specs.Steps.{entries, fetched, own_fields, site, step, went}
-use Rattle.jmachine.specs.Store.{Store, paid}
-use Rattle.jmachine.specs.Frames.{onward}
-use Rattle.jstate.specs.Framed.{Framed, all}
-use Rattle.jacts.specs.declared.way.Way.{Way}
-use Rattle.jacts.specs.declared.way.Way.TheVariants as ways
-use Rattle.jacts.specs.Ways.{Acted, Comes, Left, leaves}
-use Rattle.jinvoke.specs.Laws.{StepsAt}
-use Rattle.jstep.specs.declared.outcomes.Stepped.{Stepped}
-use Rattle.jstep.specs.declared.outcomes.Stepped.TheVariants as steps
-use Rattle.jstep.specs.Behind.{Follows, behind}
-use Rattle.jstep.specs.Rows.{IsRaising}
-use Rattle.jstep.specs.Stepping.{AsksAs, CameTo, IsQuiet, ReachesAs, SteppedAs}
+use Rattle.jmeaning.specs.juses.Instructions.{Instruction}
+use Rattle.jmodel.specs.declared.jmachine.plan.Plan.{Plan}
+use Rattle.jmodel.specs.jmachine.Acts.{Act, FrameOf, Goes, Jumps, Leaves, Calls, Raises, Throws, Switches, Makes, Outcome, State}
+use Rattle.jmodel.specs.jmachine.Asked.{Ask, asked_by, asked_on, asks}
+use Rattle.jmodel.specs.jmachine.Doing.{Doing, doing}
+use Rattle.jmodel.specs.jmachine.Security.{Rules}
+use Rattle.jmodel.specs.jmachine.Steps.{entries, fetched, own_fields, site, step, went}
+use Rattle.jmodel.specs.jmachine.Store.{Store, paid}
+use Rattle.jmodel.specs.jmachine.Frames.{onward}
+use Rattle.jmodel.specs.jstate.Framed.{Framed, all}
+use Rattle.jrows.specs.declared.jacts.way.Way.{Way}
+use Rattle.jrows.specs.declared.jacts.way.Way.TheVariants as ways
+use Rattle.jrows.specs.jacts.Ways.{Acted, Comes, Left, leaves}
+use Rattle.jserving.specs.jinvoke.Laws.{StepsAt}
+use Rattle.jstepping.specs.declared.jstep.outcomes.Stepped.{Stepped}
+use Rattle.jstepping.specs.declared.jstep.outcomes.Stepped.TheVariants as steps
+use Rattle.jstepping.specs.jstep.Behind.{Follows, behind}
+use Rattle.jstepping.specs.jstep.Rows.{IsRaising}
+use Rattle.jstepping.specs.jstep.Stepping.{AsksAs, CameTo, IsQuiet, ReachesAs, SteppedAs}
 
 -- ---- what a step asks
 

@@ -1,36 +1,36 @@
 -- What a step of the running thread came to, for its machine.
 use Rattle.std.proofs.Common.{◌≡◌, ◌∙◌, ℕ, List, Option, Some, None, refl, sym, ap, subst, take}
 use Rattle.std.specs.Prelude.{IfOk, Ok, Err, Result}
-use Rattle.jheap.specs.Heaps.{Heaped}
+use Rattle.jground.specs.jheap.Heaps.{Heaped}
 use Rattle.jlib.specs.declared.calls.LibCall.{LibCall}
 use Rattle.jlib.specs.declared.calls.LibCall.TheVariants as calls
-use Rattle.juses.specs.Instructions.{instruction_at}
-use Rattle.jlink.specs.Links.{Links}
-use Rattle.jmachine.specs.Acts.{FrameOf, Outcome, State}
-use Rattle.jmachine.specs.Asked.{Ask, asks, run_asks}
-use Rattle.jmachine.specs.Calls.{Runs, receiver, target}
-use Rattle.jmachine.specs.Security.{Rules}
-use Rattle.jmachine.specs.Steps.{site, step}
-use Rattle.jmachine.specs.Store.{Store}
-use Rattle.jmachine.specs.Turns.{with_running}
-use Rattle.jmachine.specs.World.{world}
-use Rattle.jrun.specs.declared.came.Came as run
-use Rattle.jrun.specs.declared.came.Came.TheVariants as ends
-use Rattle.jstate.specs.Framed.{Framed, all, framed}
-use Rattle.jtold.specs.Telling as telling
-use Rattle.jtold.specs.Telling.{TellsWhatMay}
-use Rattle.jcalls.specs.Calling.{call_taken, took}
-use Rattle.jconstants.specs.Made.{Made}
-use Rattle.jguests.specs.Guested.{Lives, RunsAs, frames_of, framed_as}
-use Rattle.jlibrary.specs.Ran.{IsTelling}
-use Rattle.jstep.specs.declared.outcomes.Stepped.{Stepped}
-use Rattle.jstep.specs.declared.outcomes.Stepped.TheVariants as steps
-use Rattle.jstep.specs.Stepping as stepped
-use Rattle.jstep.specs.Stepping.{AsksAs, StoodAs, asking}
-use Rattle.jcore.specs.declared.machine.Machine.{Machine}
-use Rattle.jcore.specs.Answering.{asked_of, outcome_of}
-use Rattle.jcore.specs.Comings.{Comes, GoesOn, IsBehind, LeftStand, Settles, any}
-use Rattle.jcore.specs.Machines.{AreRules, IsMachine, StaysFixed, classes_of, state_of, store_of, things_of}
+use Rattle.jmeaning.specs.juses.Instructions.{instruction_at}
+use Rattle.jlinking.specs.jlink.Links.{Links}
+use Rattle.jmodel.specs.jmachine.Acts.{FrameOf, Outcome, State}
+use Rattle.jmodel.specs.jmachine.Asked.{Ask, asks, run_asks}
+use Rattle.jmodel.specs.jmachine.Calls.{Runs, receiver, target}
+use Rattle.jmodel.specs.jmachine.Security.{Rules}
+use Rattle.jmodel.specs.jmachine.Steps.{site, step}
+use Rattle.jmodel.specs.jmachine.Store.{Store}
+use Rattle.jmodel.specs.jmachine.Turns.{with_running}
+use Rattle.jmodel.specs.jmachine.World.{world}
+use Rattle.jmodel.specs.declared.jrun.came.Came as run
+use Rattle.jmodel.specs.declared.jrun.came.Came.TheVariants as ends
+use Rattle.jmodel.specs.jstate.Framed.{Framed, all, framed}
+use Rattle.jstepping.specs.jtold.Telling as telling
+use Rattle.jstepping.specs.jtold.Telling.{TellsWhatMay}
+use Rattle.jrows.specs.jcalls.Calling.{call_taken, took}
+use Rattle.jlibcalls.specs.jconstants.Made.{Made}
+use Rattle.jmodel.specs.jguests.Guested.{Lives, RunsAs, frames_of, framed_as}
+use Rattle.jlibcalls.specs.jlibrary.Ran.{IsTelling}
+use Rattle.jstepping.specs.declared.jstep.outcomes.Stepped.{Stepped}
+use Rattle.jstepping.specs.declared.jstep.outcomes.Stepped.TheVariants as steps
+use Rattle.jstepping.specs.jstep.Stepping as stepped
+use Rattle.jstepping.specs.jstep.Stepping.{AsksAs, StoodAs, asking}
+use Rattle.jstepping.specs.declared.jcore.machine.Machine.{Machine}
+use Rattle.jstepping.specs.jcore.Answering.{asked_of, outcome_of}
+use Rattle.jstepping.specs.jcore.Comings.{Comes, GoesOn, IsBehind, LeftStand, Settles, any}
+use Rattle.jstepping.specs.jcore.Machines.{AreRules, IsMachine, StaysFixed, classes_of, state_of, store_of, things_of}
 use Rattle.jexecute.specs.declared.executing.Executed.{Executed}
 use Rattle.jexecute.specs.declared.executing.Executed.TheVariants as executed
 use Rattle.jexecute.specs.Executing.{Ends, Executes, Finishes, HasRules, Moves, StandsAt, StaysMachine, Tells, moved}

@@ -2,17 +2,17 @@
 use Rattle.std.proofs.Common.{◌≡◌, ◌⊎◌, ◌<◌, ◌+◌, ◌^◌, ℕ, List, None, refl, sym, subst, inl}
 use Rattle.jprogram.specs.declared.member.MethodId.{MethodId}
 use Rattle.jprogram.specs.Classes.{Program}
-use Rattle.juses.specs.declared.types.TypeRef.{TypeRef}
-use Rattle.jmachine.specs.Acts.{FrameOf}
-use Rattle.jmachine.specs.Steps.{fetched}
+use Rattle.jmeaning.specs.declared.juses.types.TypeRef.{TypeRef}
+use Rattle.jmodel.specs.jmachine.Acts.{FrameOf}
+use Rattle.jmodel.specs.jmachine.Steps.{fetched}
 use Rattle.jready.specs.declared.instr.Instr.{Instr}
 use Rattle.jready.specs.declared.instr.Instr.TheVariants as instr
 use Rattle.jready.specs.declared.tables.Tables.{Tables}
 use Rattle.jready.specs.Exact.{Exact}
 use Rattle.jready.specs.Laid.{Within}
 use Rattle.jready.specs.Meant.{meant}
-use Rattle.jstep.specs.declared.fixed.Fixed.{Fixed}
-use Rattle.jstep.specs.Stepping.{IsFixed}
+use Rattle.jstepping.specs.declared.jstep.fixed.Fixed.{Fixed}
+use Rattle.jstepping.specs.jstep.Stepping.{IsFixed}
 use Rattle.jexecute.specs.Advancing.{Fetches}
 
 module _ {E : Type 0} (p : Program) (x : Fixed E) (f : FrameOf ℕ E) (fixed : IsFixed p x) where

@@ -1,43 +1,43 @@
 -- A quick try to make a step: what it came to, for the frames of a thread and for its machine.
 use Rattle.std.proofs.Common.{◌≡◌, ◌∙◌, ◌+◌, ◌-◌, ◌<◌, ◌≤◌, ℕ, zero, suc, add-one, arith, List, [], length, Option, Some, refl, sym, ap, subst}
 use Rattle.std.specs.Prelude.{⊤, IfOk, OnOk, Ok, Err, Result, None, Bool, true, false}
-use Rattle.jheap.specs.Heaps.{Heaped}
+use Rattle.jground.specs.jheap.Heaps.{Heaped}
 use Rattle.jprogram.specs.declared.member.MethodId.{MethodId}
 use Rattle.jprogram.specs.Classes.{Program}
-use Rattle.jmachine.specs.Steps.{step}
+use Rattle.jmodel.specs.jmachine.Steps.{step}
 use Rattle.jready.specs.declared.instr.Instr.{Instr}
 use Rattle.jready.specs.declared.instr.Instr.TheVariants as instr
-use Rattle.jstate.specs.Celled.{AreCelled}
-use Rattle.jstate.specs.Framed.{Framed, all}
-use Rattle.jstate.specs.Seen.{AreBuilt, Things}
-use Rattle.jacts.specs.declared.way.Way.{Way}
-use Rattle.jacts.specs.declared.way.Way.TheVariants as ways
-use Rattle.jacts.specs.Ways.{Rests}
-use Rattle.jcalls.specs.declared.ready.Counts.{Counts}
-use Rattle.jcalls.specs.Marks.{AreStanding, Stand}
-use Rattle.jguests.specs.Guested.{Lives, RunsAs, with_frames}
-use Rattle.jlink.specs.Links.{Links}
-use Rattle.jtold.specs.Telling.{TellsWhatMay}
-use Rattle.jinvoke.specs.Laws.{StepsAt}
-use Rattle.jshapes.specs.Alike.{KeptLast, LeavesAlike, PermissionsLast}
-use Rattle.jrefs.specs.References as refs
-use Rattle.jrefs.specs.References.{RunsAlike, StaysStuck}
-use Rattle.jobjs.specs.Staying as staying
-use Rattle.jstep.specs.declared.fixed.Fixed.{Fixed}
-use Rattle.jstep.specs.declared.outcomes.Stepped.{Stepped}
-use Rattle.jstep.specs.declared.outcomes.Stepped.TheVariants as steps
-use Rattle.jstep.specs.Behind.{Follows}
-use Rattle.jstep.specs.Rows.{IsHere, Runs, Stays}
-use Rattle.jstep.specs.Stepping.{IsFixed, IsQuiet, Settles, Steps, StepsAlike, StoodAs}
-use Rattle.jstep.proofs.Executed.{all_done, row_steps}
-use Rattle.jstep.proofs.Settled.{stands_for}
-use Rattle.jcore.specs.declared.machine.Machine.{Machine}
-use Rattle.jcore.specs.Comings as comings
-use Rattle.jcore.specs.Comings.{Comes, LeftStand, any}
-use Rattle.jcore.specs.Machines.{IsReady, StaysFixed, counts_of, state_of}
-use Rattle.jcore.proofs.Ready.{went_ready}
-use Rattle.jcore.proofs.Settled.{settled_went}
-use Rattle.jrun.specs.declared.came.Came.TheVariants as done
+use Rattle.jmodel.specs.jstate.Celled.{AreCelled}
+use Rattle.jmodel.specs.jstate.Framed.{Framed, all}
+use Rattle.jmodel.specs.jstate.Seen.{AreBuilt, Things}
+use Rattle.jrows.specs.declared.jacts.way.Way.{Way}
+use Rattle.jrows.specs.declared.jacts.way.Way.TheVariants as ways
+use Rattle.jrows.specs.jacts.Ways.{Rests}
+use Rattle.jrows.specs.declared.jcalls.ready.Counts.{Counts}
+use Rattle.jrows.specs.jcalls.Marks.{AreStanding, Stand}
+use Rattle.jmodel.specs.jguests.Guested.{Lives, RunsAs, with_frames}
+use Rattle.jlinking.specs.jlink.Links.{Links}
+use Rattle.jstepping.specs.jtold.Telling.{TellsWhatMay}
+use Rattle.jserving.specs.jinvoke.Laws.{StepsAt}
+use Rattle.jserving.specs.jshapes.Alike.{KeptLast, LeavesAlike, PermissionsLast}
+use Rattle.jstepping.specs.jrefs.References as refs
+use Rattle.jstepping.specs.jrefs.References.{RunsAlike, StaysStuck}
+use Rattle.jrows.specs.jobjs.Staying as staying
+use Rattle.jstepping.specs.declared.jstep.fixed.Fixed.{Fixed}
+use Rattle.jstepping.specs.declared.jstep.outcomes.Stepped.{Stepped}
+use Rattle.jstepping.specs.declared.jstep.outcomes.Stepped.TheVariants as steps
+use Rattle.jstepping.specs.jstep.Behind.{Follows}
+use Rattle.jstepping.specs.jstep.Rows.{IsHere, Runs, Stays}
+use Rattle.jstepping.specs.jstep.Stepping.{IsFixed, IsQuiet, Settles, Steps, StepsAlike, StoodAs}
+use Rattle.jstepping.proofs.JstepProofs.Executed.{all_done, row_steps}
+use Rattle.jstepping.proofs.JstepProofs.Settled.{stands_for}
+use Rattle.jstepping.specs.declared.jcore.machine.Machine.{Machine}
+use Rattle.jstepping.specs.jcore.Comings as comings
+use Rattle.jstepping.specs.jcore.Comings.{Comes, LeftStand, any}
+use Rattle.jstepping.specs.jcore.Machines.{IsReady, StaysFixed, counts_of, state_of}
+use Rattle.jstepping.proofs.JcoreProofs.Ready.{went_ready}
+use Rattle.jstepping.proofs.JcoreProofs.Settled.{settled_went}
+use Rattle.jmodel.specs.declared.jrun.came.Came.TheVariants as done
 use Rattle.jexecute.specs.declared.executing.Executed.{Executed}
 use Rattle.jexecute.specs.declared.hastening.Hurried.{Hurried}
 use Rattle.jexecute.specs.declared.hastening.Within.{Within}

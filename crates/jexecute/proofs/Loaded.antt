@@ -1,37 +1,37 @@
 -- A step that loads a string constant.
 use Rattle.std.proofs.Common.{◌≡◌, ◌<◌, ℕ, false, List, [], ◌∷◌, Some, refl, sym, ap, subst}
-use Rattle.jheap.specs.Heaps.{Heaped}
+use Rattle.jground.specs.jheap.Heaps.{Heaped}
 use Rattle.jprogram.specs.declared.member.Member.{Member}
 use Rattle.jprogram.specs.declared.member.MethodId.{MethodId}
 use Rattle.jprogram.specs.Classes.{Program}
-use Rattle.juses.specs.Instructions.{instruction_at}
-use Rattle.jmachine.specs.declared.plan.Plan.{Plan}
-use Rattle.jmachine.specs.Acts.{FrameOf, Outcome, State}
-use Rattle.jmachine.specs.Asked.{asks}
-use Rattle.jmachine.specs.Security.{Rules}
-use Rattle.jmachine.specs.Sites.{Site}
-use Rattle.jmachine.specs.Steps.{entries, fetched, own_fields, site, step, went}
-use Rattle.jmachine.specs.Store.{Store}
-use Rattle.jmachine.specs.World.{world}
+use Rattle.jmeaning.specs.juses.Instructions.{instruction_at}
+use Rattle.jmodel.specs.declared.jmachine.plan.Plan.{Plan}
+use Rattle.jmodel.specs.jmachine.Acts.{FrameOf, Outcome, State}
+use Rattle.jmodel.specs.jmachine.Asked.{asks}
+use Rattle.jmodel.specs.jmachine.Security.{Rules}
+use Rattle.jmodel.specs.jmachine.Sites.{Site}
+use Rattle.jmodel.specs.jmachine.Steps.{entries, fetched, own_fields, site, step, went}
+use Rattle.jmodel.specs.jmachine.Store.{Store}
+use Rattle.jmodel.specs.jmachine.World.{world}
 use Rattle.jready.specs.declared.instr.Instr.TheVariants as instr
 use Rattle.jready.specs.declared.instr.Push.TheVariants as push
 use Rattle.jready.specs.Meant.{meant}
-use Rattle.jstate.specs.declared.shapes.Shapes.{Shapes}
-use Rattle.jstate.specs.Framed.{Framed, all}
-use Rattle.jstate.specs.Seen.{Things, store_by}
-use Rattle.jacts.specs.declared.way.Way.{Way}
-use Rattle.jacts.specs.declared.way.Way.TheVariants as ways
-use Rattle.jacts.specs.Ways.{Acts, Comes, leaves}
-use Rattle.jcalls.specs.declared.ready.Counts.{Counts}
-use Rattle.jcalls.specs.Marks.{Stand}
-use Rattle.jconstants.specs.Loads.{RaisesNothing, RunsLoad, load_of}
-use Rattle.jconstants.specs.Made.{Made}
-use Rattle.jinvoke.specs.Laws.{StepsAt}
-use Rattle.jshapes.specs.Alike.{LeavesAlike, RowsStayAlike}
-use Rattle.jstep.specs.declared.fixed.Fixed.{Fixed}
-use Rattle.jstep.specs.declared.outcomes.Stepped.{Stepped}
-use Rattle.jstep.specs.Behind.{Follows, behind}
-use Rattle.jstep.specs.Stepping.{IsQuiet, SteppedAs, StepsAlike, StoodAs}
+use Rattle.jmodel.specs.declared.jstate.shapes.Shapes.{Shapes}
+use Rattle.jmodel.specs.jstate.Framed.{Framed, all}
+use Rattle.jmodel.specs.jstate.Seen.{Things, store_by}
+use Rattle.jrows.specs.declared.jacts.way.Way.{Way}
+use Rattle.jrows.specs.declared.jacts.way.Way.TheVariants as ways
+use Rattle.jrows.specs.jacts.Ways.{Acts, Comes, leaves}
+use Rattle.jrows.specs.declared.jcalls.ready.Counts.{Counts}
+use Rattle.jrows.specs.jcalls.Marks.{Stand}
+use Rattle.jlibcalls.specs.jconstants.Loads.{RaisesNothing, RunsLoad, load_of}
+use Rattle.jlibcalls.specs.jconstants.Made.{Made}
+use Rattle.jserving.specs.jinvoke.Laws.{StepsAt}
+use Rattle.jserving.specs.jshapes.Alike.{LeavesAlike, RowsStayAlike}
+use Rattle.jstepping.specs.declared.jstep.fixed.Fixed.{Fixed}
+use Rattle.jstepping.specs.declared.jstep.outcomes.Stepped.{Stepped}
+use Rattle.jstepping.specs.jstep.Behind.{Follows, behind}
+use Rattle.jstepping.specs.jstep.Stepping.{IsQuiet, SteppedAs, StepsAlike, StoodAs}
 use Rattle.jexecute.specs.Advancing.{Advances, Fetches, quiet_as}
 use Rattle.jexecute.proofs.Behind.{asks_fetched, came_quietly, done_there, steps_behind}
 

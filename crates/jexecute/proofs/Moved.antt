@@ -1,25 +1,25 @@
 -- A step of the running thread's frames, for its machine.
 use Rattle.std.proofs.Common.{◌≡◌, ◌∙◌, Some, refl, sym, ap, subst}
 use Rattle.std.specs.Prelude.{IfOk, Ok, OnOk, Err, Result}
-use Rattle.jheap.specs.Heaps.{Heaped}
+use Rattle.jground.specs.jheap.Heaps.{Heaped}
 use Rattle.jlib.specs.declared.side.Side.{Side}
 use Rattle.jprogram.specs.Classes.{Program}
-use Rattle.juses.specs.Instructions.{instruction_at}
-use Rattle.jmachine.specs.Asked.{asks}
-use Rattle.jmachine.specs.Steps.{step}
-use Rattle.jstate.specs.Celled.{AreCelled}
-use Rattle.jstate.specs.Framed.{Framed}
-use Rattle.jstate.specs.Seen.{AreBuilt, Things}
-use Rattle.jcalls.specs.declared.ready.Counts.{Counts}
-use Rattle.jcalls.specs.Readiness.{AreCounted}
-use Rattle.jconstants.specs.Made.{Made}
-use Rattle.jguests.specs.Guested.{AreGuests, frames_of, with_frames}
-use Rattle.jshapes.specs.Alike.{KeptLast, PermissionsLast, StayAlike}
-use Rattle.jstep.specs.declared.outcomes.Stepped.{Stepped}
-use Rattle.jstep.specs.declared.outcomes.Stepped.TheVariants as steps
-use Rattle.jstep.specs.Stepping.{CameTo, StepsAlike, StoodAs}
-use Rattle.jcore.specs.declared.machine.Machine.{Machine}
-use Rattle.jcore.specs.Machines.{IsMachine, IsReady, StaysFixed, classes_of, counts_of, state_of, store_of, things_of}
+use Rattle.jmeaning.specs.juses.Instructions.{instruction_at}
+use Rattle.jmodel.specs.jmachine.Asked.{asks}
+use Rattle.jmodel.specs.jmachine.Steps.{step}
+use Rattle.jmodel.specs.jstate.Celled.{AreCelled}
+use Rattle.jmodel.specs.jstate.Framed.{Framed}
+use Rattle.jmodel.specs.jstate.Seen.{AreBuilt, Things}
+use Rattle.jrows.specs.declared.jcalls.ready.Counts.{Counts}
+use Rattle.jrows.specs.jcalls.Readiness.{AreCounted}
+use Rattle.jlibcalls.specs.jconstants.Made.{Made}
+use Rattle.jmodel.specs.jguests.Guested.{AreGuests, frames_of, with_frames}
+use Rattle.jserving.specs.jshapes.Alike.{KeptLast, PermissionsLast, StayAlike}
+use Rattle.jstepping.specs.declared.jstep.outcomes.Stepped.{Stepped}
+use Rattle.jstepping.specs.declared.jstep.outcomes.Stepped.TheVariants as steps
+use Rattle.jstepping.specs.jstep.Stepping.{CameTo, StepsAlike, StoodAs}
+use Rattle.jstepping.specs.declared.jcore.machine.Machine.{Machine}
+use Rattle.jstepping.specs.jcore.Machines.{IsMachine, IsReady, StaysFixed, classes_of, counts_of, state_of, store_of, things_of}
 use Rattle.jexecute.specs.Advancing.{Advances, IsAt}
 use Rattle.jexecute.specs.Executing.{Moves, StaysMachine, moved}
 

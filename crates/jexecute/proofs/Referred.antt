@@ -1,29 +1,29 @@
 -- A step with references.
 use Rattle.std.proofs.Common.{◌≡◌, ◌∙◌, ◌<◌, ◌+◌, ◌^◌, ℕ, List, [], length, Option, Some, None, refl, sym, ap, subst}
 use Rattle.std.specs.Prelude.{IfOk, Ok, OnOk, Err, Result, option_and_then, option_map, slice_get}
-use Rattle.jcode.specs.declared.names.CastOp.{CastOp}
-use Rattle.jcode.specs.declared.names.FieldOp.{FieldOp}
-use Rattle.jheap.specs.Heaps as heaps
-use Rattle.jheap.specs.Heaps.{Heaped}
+use Rattle.jparts.specs.declared.jcode.names.CastOp.{CastOp}
+use Rattle.jparts.specs.declared.jcode.names.FieldOp.{FieldOp}
+use Rattle.jground.specs.jheap.Heaps as heaps
+use Rattle.jground.specs.jheap.Heaps.{Heaped}
 use Rattle.jlib.specs.declared.side.Side.{Side}
-use Rattle.jpool.specs.declared.entry.Entry.{Entry}
+use Rattle.jparts.specs.declared.jpool.entry.Entry.{Entry}
 use Rattle.jprogram.specs.declared.member.MethodId.{MethodId}
 use Rattle.jprogram.specs.Classes.{Program}
-use Rattle.jtypes.specs.declared.vtype.VType.{VType}
-use Rattle.jtypes.specs.declared.vtype.VType.TheVariants as types
-use Rattle.juses.specs.Instructions.{Instruction, Used, instruction_at}
-use Rattle.juses.specs.Meanings as meanings
-use Rattle.juses.specs.Meanings.{AClass, AConstant, AField, AMethod, EntryMeaning, array_made, cast_by, entry_meant, field_used, made}
-use Rattle.juses.specs.Tables.{pool_at}
-use Rattle.juses.specs.Typed.{array_over}
-use Rattle.jlink.specs.Coded.{AreFiles}
-use Rattle.jlink.specs.Links.{Links}
-use Rattle.jmachine.specs.declared.plan.Plan.{Plan}
-use Rattle.jmachine.specs.Acts.{FrameOf, Outcome, State}
-use Rattle.jmachine.specs.Asked.{asked_by, asks}
-use Rattle.jmachine.specs.Security.{Rules}
-use Rattle.jmachine.specs.Steps.{entries, fetched, own_fields, site, step}
-use Rattle.jmachine.specs.Store.{Store}
+use Rattle.jground.specs.declared.jtypes.vtype.VType.{VType}
+use Rattle.jground.specs.declared.jtypes.vtype.VType.TheVariants as types
+use Rattle.jmeaning.specs.juses.Instructions.{Instruction, Used, instruction_at}
+use Rattle.jmeaning.specs.juses.Meanings as meanings
+use Rattle.jmeaning.specs.juses.Meanings.{AClass, AConstant, AField, AMethod, EntryMeaning, array_made, cast_by, entry_meant, field_used, made}
+use Rattle.jmeaning.specs.juses.Tables.{pool_at}
+use Rattle.jmeaning.specs.juses.Typed.{array_over}
+use Rattle.jlinking.specs.jlink.Coded.{AreFiles}
+use Rattle.jlinking.specs.jlink.Links.{Links}
+use Rattle.jmodel.specs.declared.jmachine.plan.Plan.{Plan}
+use Rattle.jmodel.specs.jmachine.Acts.{FrameOf, Outcome, State}
+use Rattle.jmodel.specs.jmachine.Asked.{asked_by, asks}
+use Rattle.jmodel.specs.jmachine.Security.{Rules}
+use Rattle.jmodel.specs.jmachine.Steps.{entries, fetched, own_fields, site, step}
+use Rattle.jmodel.specs.jmachine.Store.{Store}
 use Rattle.jready.specs.declared.instr.ArrayInstr.{ArrayInstr}
 use Rattle.jready.specs.declared.instr.ArrayInstr.TheVariants as array
 use Rattle.jready.specs.declared.instr.FlowInstr.{FlowInstr}
@@ -35,27 +35,27 @@ use Rattle.jready.specs.declared.instr.ObjectInstr.TheVariants as object
 use Rattle.jready.specs.declared.tables.Tables.{Tables}
 use Rattle.jready.specs.Exact.{Exact}
 use Rattle.jready.specs.Meant.{meant, object_meant}
-use Rattle.jstate.specs.declared.shapes.Shape.{Shape}
-use Rattle.jstate.specs.declared.shapes.Shapes.{Shapes}
-use Rattle.jstate.specs.Framed.{Framed, all}
-use Rattle.jstate.specs.Seen.{Things, store_by}
-use Rattle.jacts.specs.declared.way.Way.{Way}
-use Rattle.jacts.specs.declared.way.Way.TheVariants as ways
-use Rattle.jacts.specs.Ways.{ActsWhere, Comes, leaves}
-use Rattle.jcalls.specs.declared.ready.Counts.{Counts}
-use Rattle.jcalls.specs.Marks.{Stand}
-use Rattle.jcalls.specs.Readiness.{AreCounted}
-use Rattle.jinvoke.specs.Laws.{StepsAt}
-use Rattle.jobjs.specs.Staying.{Stays}
-use Rattle.jshapes.specs.Alike.{LeavesAlike, NamesNoMore, StayAlike}
-use Rattle.jshapes.specs.Tied.{AreTied}
-use Rattle.jrefs.specs.References.{IsExact, IsFetched, IsHere, IsLasting, IsSite, Runs, RunsAlike}
-use Rattle.jstep.specs.declared.fixed.Fixed.{Fixed}
-use Rattle.jstep.specs.declared.outcomes.Stepped.{Stepped}
-use Rattle.jstep.specs.declared.outcomes.Stepped.TheVariants as steps
-use Rattle.jstep.specs.Behind.{Follows, behind}
-use Rattle.jstep.specs.Rows.{IsRaising, MayRaise}
-use Rattle.jstep.specs.Stepping.{IsFixed, IsQuiet, Settles, StandsFor, StaysStuck, SteppedAs, StepsAlike}
+use Rattle.jmodel.specs.declared.jstate.shapes.Shape.{Shape}
+use Rattle.jmodel.specs.declared.jstate.shapes.Shapes.{Shapes}
+use Rattle.jmodel.specs.jstate.Framed.{Framed, all}
+use Rattle.jmodel.specs.jstate.Seen.{Things, store_by}
+use Rattle.jrows.specs.declared.jacts.way.Way.{Way}
+use Rattle.jrows.specs.declared.jacts.way.Way.TheVariants as ways
+use Rattle.jrows.specs.jacts.Ways.{ActsWhere, Comes, leaves}
+use Rattle.jrows.specs.declared.jcalls.ready.Counts.{Counts}
+use Rattle.jrows.specs.jcalls.Marks.{Stand}
+use Rattle.jrows.specs.jcalls.Readiness.{AreCounted}
+use Rattle.jserving.specs.jinvoke.Laws.{StepsAt}
+use Rattle.jrows.specs.jobjs.Staying.{Stays}
+use Rattle.jserving.specs.jshapes.Alike.{LeavesAlike, NamesNoMore, StayAlike}
+use Rattle.jserving.specs.jshapes.Tied.{AreTied}
+use Rattle.jstepping.specs.jrefs.References.{IsExact, IsFetched, IsHere, IsLasting, IsSite, Runs, RunsAlike}
+use Rattle.jstepping.specs.declared.jstep.fixed.Fixed.{Fixed}
+use Rattle.jstepping.specs.declared.jstep.outcomes.Stepped.{Stepped}
+use Rattle.jstepping.specs.declared.jstep.outcomes.Stepped.TheVariants as steps
+use Rattle.jstepping.specs.jstep.Behind.{Follows, behind}
+use Rattle.jstepping.specs.jstep.Rows.{IsRaising, MayRaise}
+use Rattle.jstepping.specs.jstep.Stepping.{IsFixed, IsQuiet, Settles, StandsFor, StaysStuck, SteppedAs, StepsAlike}
 use Rattle.jexecute.specs.Advancing.{Advances, Fetches, IsAt, lasting_by}
 use Rattle.jexecute.proofs.Behind.{asks_fetched, came_quietly, done_there, raising_stays, steps_behind}
 

@@ -1,32 +1,32 @@
 -- One step of a thread's frames, but for what the library does: what it came to, whatever the rules are that it runs under.
 use Rattle.std.specs.Prelude.{◌≡◌, ◌⊎◌, ◌<◌, ◌+◌, ◌^◌, ⊤, ℕ, List}
-use Rattle.jheap.specs.Heaps.{Heaped}
+use Rattle.jground.specs.jheap.Heaps.{Heaped}
 use Rattle.jprogram.specs.Classes.{Program}
-use Rattle.juses.specs.Instructions.{instruction_at}
-use Rattle.jmachine.specs.declared.plan.Plan.{Plan}
-use Rattle.jmachine.specs.Acts.{FrameOf, State}
-use Rattle.jmachine.specs.Asked.{asks}
-use Rattle.jmachine.specs.Security.{Rules}
-use Rattle.jmachine.specs.Steps.{fetched, step}
+use Rattle.jmeaning.specs.juses.Instructions.{instruction_at}
+use Rattle.jmodel.specs.declared.jmachine.plan.Plan.{Plan}
+use Rattle.jmodel.specs.jmachine.Acts.{FrameOf, State}
+use Rattle.jmodel.specs.jmachine.Asked.{asks}
+use Rattle.jmodel.specs.jmachine.Security.{Rules}
+use Rattle.jmodel.specs.jmachine.Steps.{fetched, step}
 use Rattle.jready.specs.declared.instr.Instr.{Instr}
 use Rattle.jready.specs.declared.instr.Instr.TheVariants as instr
 use Rattle.jready.specs.declared.instr.Push.TheVariants as push
 use Rattle.jready.specs.Exact.{Exact}
 use Rattle.jready.specs.Laid.{Within}
 use Rattle.jready.specs.Meant.{meant}
-use Rattle.jstate.specs.Framed.{Framed, all}
-use Rattle.jstate.specs.Seen.{Things, store_by}
-use Rattle.jacts.specs.declared.way.Way.{Way}
-use Rattle.jacts.specs.declared.way.Way.TheVariants as ways
-use Rattle.jcalls.specs.declared.ready.Counts.{Counts}
-use Rattle.jcalls.specs.Marks.{marks_of}
-use Rattle.jcalls.specs.Readiness.{AreCounted}
-use Rattle.jrefs.specs.declared.lasting.Lasting.{Lasting}
-use Rattle.jrefs.specs.References as refs
-use Rattle.jstep.specs.declared.fixed.Fixed.{Fixed}
-use Rattle.jstep.specs.declared.outcomes.Stepped.{Stepped}
-use Rattle.jstep.specs.declared.outcomes.Stepped.TheVariants as steps
-use Rattle.jstep.specs.Stepping.{CameTo, IsStep}
+use Rattle.jmodel.specs.jstate.Framed.{Framed, all}
+use Rattle.jmodel.specs.jstate.Seen.{Things, store_by}
+use Rattle.jrows.specs.declared.jacts.way.Way.{Way}
+use Rattle.jrows.specs.declared.jacts.way.Way.TheVariants as ways
+use Rattle.jrows.specs.declared.jcalls.ready.Counts.{Counts}
+use Rattle.jrows.specs.jcalls.Marks.{marks_of}
+use Rattle.jrows.specs.jcalls.Readiness.{AreCounted}
+use Rattle.jstepping.specs.declared.jrefs.lasting.Lasting.{Lasting}
+use Rattle.jstepping.specs.jrefs.References as refs
+use Rattle.jstepping.specs.declared.jstep.fixed.Fixed.{Fixed}
+use Rattle.jstepping.specs.declared.jstep.outcomes.Stepped.{Stepped}
+use Rattle.jstepping.specs.declared.jstep.outcomes.Stepped.TheVariants as steps
+use Rattle.jstepping.specs.jstep.Stepping.{CameTo, IsStep}
 use Rattle.jexecute.specs.declared.grouping.Group.{Group}
 use Rattle.jexecute.specs.declared.grouping.Group.TheVariants as groups
 

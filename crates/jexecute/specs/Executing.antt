@@ -1,29 +1,29 @@
 -- One step of the running thread of a machine by numbers, but for what the library does.
 use Rattle.std.specs.Prelude.{◌≡◌, ⊤, ℕ, List, None, Some, take}
-use Rattle.jheap.specs.Heaps.{Heaped}
+use Rattle.jground.specs.jheap.Heaps.{Heaped}
 use Rattle.jlib.specs.declared.calls.LibCall.{LibCall}
-use Rattle.jops.specs.declared.value.Value.{Value}
-use Rattle.juses.specs.Instructions.{instruction_at}
-use Rattle.jmachine.specs.Asked.{asks}
-use Rattle.jmachine.specs.Calls.{receiver}
-use Rattle.jmachine.specs.Security.{Rules}
-use Rattle.jmachine.specs.Steps.{step}
-use Rattle.jrun.specs.declared.came.Came.{Came}
-use Rattle.jrun.specs.declared.came.Came.TheVariants as done
-use Rattle.jstate.specs.declared.shapes.Shapes.{Shapes}
-use Rattle.jstate.specs.Framed.{Framed}
-use Rattle.jtexts.specs.Messages.{MayBeTold}
-use Rattle.jconstants.specs.Made.{Made}
-use Rattle.jguests.specs.Guested.{with_frames}
-use Rattle.jlibrary.specs.Ran.{IsTelling}
-use Rattle.jstep.specs.declared.outcomes.Stepped as stepping
-use Rattle.jstep.specs.declared.outcomes.Stepped.TheVariants as steps
-use Rattle.jstep.specs.Stepping as stepped
-use Rattle.jstep.specs.Stepping.{StoodAs}
-use Rattle.jcore.specs.declared.machine.Machine.{Machine}
-use Rattle.jcore.specs.Answering.{Calling, asked_of, outcome_of}
-use Rattle.jcore.specs.Comings.{Comes, GoesOn, Settles, any}
-use Rattle.jcore.specs.Machines.{AreRules, IsMachine, classes_of, state_of, store_of}
+use Rattle.jground.specs.declared.jops.value.Value.{Value}
+use Rattle.jmeaning.specs.juses.Instructions.{instruction_at}
+use Rattle.jmodel.specs.jmachine.Asked.{asks}
+use Rattle.jmodel.specs.jmachine.Calls.{receiver}
+use Rattle.jmodel.specs.jmachine.Security.{Rules}
+use Rattle.jmodel.specs.jmachine.Steps.{step}
+use Rattle.jmodel.specs.declared.jrun.came.Came.{Came}
+use Rattle.jmodel.specs.declared.jrun.came.Came.TheVariants as done
+use Rattle.jmodel.specs.declared.jstate.shapes.Shapes.{Shapes}
+use Rattle.jmodel.specs.jstate.Framed.{Framed}
+use Rattle.jrows.specs.jtexts.Messages.{MayBeTold}
+use Rattle.jlibcalls.specs.jconstants.Made.{Made}
+use Rattle.jmodel.specs.jguests.Guested.{with_frames}
+use Rattle.jlibcalls.specs.jlibrary.Ran.{IsTelling}
+use Rattle.jstepping.specs.declared.jstep.outcomes.Stepped as stepping
+use Rattle.jstepping.specs.declared.jstep.outcomes.Stepped.TheVariants as steps
+use Rattle.jstepping.specs.jstep.Stepping as stepped
+use Rattle.jstepping.specs.jstep.Stepping.{StoodAs}
+use Rattle.jstepping.specs.declared.jcore.machine.Machine.{Machine}
+use Rattle.jstepping.specs.jcore.Answering.{Calling, asked_of, outcome_of}
+use Rattle.jstepping.specs.jcore.Comings.{Comes, GoesOn, Settles, any}
+use Rattle.jstepping.specs.jcore.Machines.{AreRules, IsMachine, classes_of, state_of, store_of}
 use Rattle.jexecute.specs.declared.executing.Executed.{Executed}
 use Rattle.jexecute.specs.declared.executing.Executed.TheVariants as executed
 

@@ -1,26 +1,26 @@
 -- A quick try to make a step of a running thread: of which instructions it is made, and what it came to.
 use Rattle.std.specs.Prelude.{◌≡◌, ◌≤◌, ◌<◌, ⊤, ℕ, zero, suc, Bool, true, false, [], List, length, Option, Some, None}
-use Rattle.jheap.specs.Heaps.{Heaped}
+use Rattle.jground.specs.jheap.Heaps.{Heaped}
 use Rattle.jprogram.specs.declared.member.MethodId.{MethodId}
 use Rattle.jprogram.specs.Classes.{Program}
 use Rattle.jready.specs.declared.instr.Instr.{Instr}
-use Rattle.jrun.specs.declared.came.Came.TheVariants as done
-use Rattle.jstate.specs.Celled.{AreCelled}
-use Rattle.jstate.specs.Framed.{Framed}
-use Rattle.jstate.specs.Seen.{AreBuilt, Things}
-use Rattle.jacts.specs.declared.way.Way.{Way}
-use Rattle.jacts.specs.declared.way.Way.TheVariants as ways
-use Rattle.jcalls.specs.declared.ready.Counts.{Counts}
-use Rattle.jcalls.specs.Marks.{AreStanding}
-use Rattle.jcalls.specs.Readiness.{AreCounted}
-use Rattle.jrefs.specs.References as refs
-use Rattle.jstep.specs.declared.fixed.Fixed.{Fixed}
-use Rattle.jstep.specs.declared.outcomes.Stepped.{Stepped}
-use Rattle.jstep.specs.declared.outcomes.Stepped.TheVariants as steps
-use Rattle.jstep.specs.Rows as rows
-use Rattle.jstep.specs.Stepping.{IsStep, StepsAlike, StoodAs}
-use Rattle.jcore.specs.declared.machine.Machine.{Machine}
-use Rattle.jcore.specs.Machines.{IsReady, StaysFixed}
+use Rattle.jmodel.specs.declared.jrun.came.Came.TheVariants as done
+use Rattle.jmodel.specs.jstate.Celled.{AreCelled}
+use Rattle.jmodel.specs.jstate.Framed.{Framed}
+use Rattle.jmodel.specs.jstate.Seen.{AreBuilt, Things}
+use Rattle.jrows.specs.declared.jacts.way.Way.{Way}
+use Rattle.jrows.specs.declared.jacts.way.Way.TheVariants as ways
+use Rattle.jrows.specs.declared.jcalls.ready.Counts.{Counts}
+use Rattle.jrows.specs.jcalls.Marks.{AreStanding}
+use Rattle.jrows.specs.jcalls.Readiness.{AreCounted}
+use Rattle.jstepping.specs.jrefs.References as refs
+use Rattle.jstepping.specs.declared.jstep.fixed.Fixed.{Fixed}
+use Rattle.jstepping.specs.declared.jstep.outcomes.Stepped.{Stepped}
+use Rattle.jstepping.specs.declared.jstep.outcomes.Stepped.TheVariants as steps
+use Rattle.jstepping.specs.jstep.Rows as rows
+use Rattle.jstepping.specs.jstep.Stepping.{IsStep, StepsAlike, StoodAs}
+use Rattle.jstepping.specs.declared.jcore.machine.Machine.{Machine}
+use Rattle.jstepping.specs.jcore.Machines.{IsReady, StaysFixed}
 use Rattle.jexecute.specs.declared.hastening.Haste.{Haste}
 use Rattle.jexecute.specs.declared.hastening.Haste.TheVariants as haste
 use Rattle.jexecute.specs.declared.executing.Executed.{Executed}

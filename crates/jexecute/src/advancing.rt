@@ -1,23 +1,23 @@
 ghost use Rattle.std.specs.Prelude.{◌≡◌, IfOk, OnOk, length};
 ghost use Rattle.jprogram.specs.Classes.{Program};
-ghost use Rattle.jstate.specs.Celled.{AreCelled};
-ghost use Rattle.jstate.specs.Seen.{AreBuilt, Things};
-ghost use Rattle.jcalls.specs.Marks.{AreStanding};
-ghost use Rattle.jcalls.specs.Readiness.{AreCounted};
-ghost use Rattle.jrefs.specs.References.{IsLasting};
-ghost use Rattle.jstep.specs.Stepping.{IsFixed, StepsAlike, StoodAs};
+ghost use Rattle.jmodel.specs.jstate.Celled.{AreCelled};
+ghost use Rattle.jmodel.specs.jstate.Seen.{AreBuilt, Things};
+ghost use Rattle.jrows.specs.jcalls.Marks.{AreStanding};
+ghost use Rattle.jrows.specs.jcalls.Readiness.{AreCounted};
+ghost use Rattle.jstepping.specs.jrefs.References.{IsLasting};
+ghost use Rattle.jstepping.specs.jstep.Stepping.{IsFixed, StepsAlike, StoodAs};
 ghost use Rattle.jexecute.specs.Advancing.{Advances, Fetches, lasting_by};
 
 use crate::grouping::{Group, group_of};
 use crate::loading::step_load;
 use crate::referring::step_refs;
-use jcalls::Counts;
-use jconstants::Constants;
-use jheap::Heap;
-use jinvoke::{Calls, step_laws};
+use jground::jheap::Heap;
+use jlibcalls::jconstants::Constants;
+use jmodel::jstate::Frames;
 use jready::{Instr, MethodRow};
-use jstate::Frames;
-use jstep::{Fixed, Stepped};
+use jrows::jcalls::Counts;
+use jserving::jinvoke::{Calls, step_laws};
+use jstepping::jstep::{Fixed, Stepped};
 use std::alloc::{AllocError, Global};
 
 /// The instruction at which the newest frame of a thread stands.
@@ -82,7 +82,7 @@ fn step_at<M: Copy>(
         Group::References => step_refs(alloc, frames, heap, fixed, calls.known(), counts, one),
         Group::Others => {
             let site = site_at(frames, fixed);
-            jstep::step(alloc, frames, heap, fixed, calls, counts, one, site)
+            jstepping::jstep::step(alloc, frames, heap, fixed, calls, counts, one, site)
         }
     }
 }

@@ -1,18 +1,18 @@
 ghost use Rattle.std.specs.Prelude.{◌≡◌, IfOk, OnOk};
-ghost use Rattle.jguests.specs.Guested.{Lives};
-ghost use Rattle.jlink.specs.Links.{Links};
-ghost use Rattle.jcore.specs.Comings.{IsOwn, LeftStand};
-ghost use Rattle.jcore.specs.Machines.{IsMachine, IsReady, StaysFixed, counts_of};
+ghost use Rattle.jmodel.specs.jguests.Guested.{Lives};
+ghost use Rattle.jlinking.specs.jlink.Links.{Links};
+ghost use Rattle.jstepping.specs.jcore.Comings.{IsOwn, LeftStand};
+ghost use Rattle.jstepping.specs.jcore.Machines.{IsMachine, IsReady, StaysFixed, counts_of};
 ghost use Rattle.jexecute.specs.Executing.{Ends, Executes, Finishes, HasFrames, HasRules, Moves, StaysMachine};
 
 use crate::advancing::advance;
-use jcalls::Counts;
-use jcore::{Machine, settle};
-use jguests::guest_laws;
 use jlib::LibCall;
-use jrun::Came;
-use jshapes::alike_laws;
-use jtold::told_law;
+use jmodel::jguests::guest_laws;
+use jmodel::jrun::Came;
+use jrows::jcalls::Counts;
+use jserving::jshapes::alike_laws;
+use jstepping::jcore::{Machine, settle};
+use jstepping::jtold::told_law;
 use std::alloc::{AllocError, Global};
 
 /// What a step of the running thread came to.
@@ -45,7 +45,10 @@ pub(crate) fn linked<M>(m: &Machine<'_, '_, M>)
 
 /// A step of the running thread's frames. What is left of it, behind them, is answered.
 #[inline]
-fn move_on<M: Copy>(alloc: Global, m: &mut Machine<'_, '_, M>) -> Result<jstep::Stepped, AllocError>
+fn move_on<M: Copy>(
+    alloc: Global,
+    m: &mut Machine<'_, '_, M>,
+) -> Result<jstepping::jstep::Stepped, AllocError>
     requires ready { IsReady m.old }
     requires frames { HasFrames m.old }
     ensures moves { IfOk result (λ came. Moves m.old came m.new) }
@@ -74,7 +77,7 @@ fn move_on<M: Copy>(alloc: Global, m: &mut Machine<'_, '_, M>) -> Result<jstep::
 fn end_step<M: Copy>(
     alloc: Global,
     m: &mut Machine<'_, '_, M>,
-    came: jstep::Stepped,
+    came: jstepping::jstep::Stepped,
 ) -> Result<Executed, AllocError>
     requires own { IsOwn came }
     requires machine { IsMachine m.old }
@@ -92,7 +95,7 @@ fn end_step<M: Copy>(
 pub(crate) fn finish<M: Copy>(
     alloc: Global,
     m: &mut Machine<'_, '_, M>,
-    came: jstep::Stepped,
+    came: jstepping::jstep::Stepped,
 ) -> Result<Executed, AllocError>
     requires machine { StaysMachine came m.old }
     requires lives { Lives m.old.guests }
@@ -101,13 +104,13 @@ pub(crate) fn finish<M: Copy>(
     ensures fixed { OnOk result (StaysFixed m.old m.new) }
 {
     match came {
-        jstep::Stepped::Went => end_step(alloc, m, came),
-        jstep::Stepped::Ended => end_step(alloc, m, came),
-        jstep::Stepped::Handled(_) => end_step(alloc, m, came),
-        jstep::Stepped::Uncaught(_) => end_step(alloc, m, came),
-        jstep::Stepped::Asks { call, count } => Ok(Executed::Asks { call, count }),
-        jstep::Stepped::Full => end_step(alloc, m, came),
-        jstep::Stepped::Stuck => Ok(Executed::Done(Came::Stuck)),
+        jstepping::jstep::Stepped::Went => end_step(alloc, m, came),
+        jstepping::jstep::Stepped::Ended => end_step(alloc, m, came),
+        jstepping::jstep::Stepped::Handled(_) => end_step(alloc, m, came),
+        jstepping::jstep::Stepped::Uncaught(_) => end_step(alloc, m, came),
+        jstepping::jstep::Stepped::Asks { call, count } => Ok(Executed::Asks { call, count }),
+        jstepping::jstep::Stepped::Full => end_step(alloc, m, came),
+        jstepping::jstep::Stepped::Stuck => Ok(Executed::Done(Came::Stuck)),
     }
 }
 

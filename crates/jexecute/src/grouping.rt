@@ -4,9 +4,9 @@ ghost use Rattle.jready.specs.declared.instr.FlowInstr.TheVariants as flows;
 ghost use Rattle.jready.specs.declared.instr.Instr.TheVariants as instrs;
 ghost use Rattle.jexecute.specs.Advancing.{IsOf};
 
-use jcode::Element;
+use jmeaning::juses::When;
+use jparts::jcode::Element;
 use jready::{ArrayInstr, FlowInstr, Instr, Push};
-use juses::When;
 
 /// Where the row of an instruction is found.
 #[derive(Clone, Copy, Debug, PartialEq, Eq)]

@@ -3,32 +3,32 @@ ghost use Rattle.jready.specs.declared.instr.ArrayInstr.TheVariants as arrays;
 ghost use Rattle.jready.specs.declared.instr.FlowInstr.TheVariants as flows;
 ghost use Rattle.jready.specs.declared.instr.Instr.TheVariants as instrs;
 ghost use Rattle.jready.specs.Prepared.{IsRow};
-ghost use Rattle.jstate.specs.Celled.{AreCelled};
-ghost use Rattle.jstate.specs.Seen.{AreBuilt};
-ghost use Rattle.jcalls.specs.Marks.{AreStanding};
-ghost use Rattle.jrefs.specs.References.{IsLasting};
-ghost use Rattle.jstep.specs.Stepping.{IsFixed};
-ghost use Rattle.jcore.specs.Machines.{IsReady, StaysFixed};
+ghost use Rattle.jmodel.specs.jstate.Celled.{AreCelled};
+ghost use Rattle.jmodel.specs.jstate.Seen.{AreBuilt};
+ghost use Rattle.jrows.specs.jcalls.Marks.{AreStanding};
+ghost use Rattle.jstepping.specs.jrefs.References.{IsLasting};
+ghost use Rattle.jstepping.specs.jstep.Stepping.{IsFixed};
+ghost use Rattle.jstepping.specs.jcore.Machines.{IsReady, StaysFixed};
 ghost use Rattle.jexecute.specs.Advancing.{Fetches, lasting_by};
 ghost use Rattle.jexecute.specs.Executing.{HasRules};
 ghost use Rattle.jexecute.specs.Hastening.{Begins, Hastens, IsQuickOf, StayedWithin, Tries, Turns, WereMade, program_of, quick_as, turned_as};
 
 use crate::advancing::site_of;
 use crate::executing::{Executed, finish, kept_counts, linked};
-use jacts::Way;
-use jcalls::Counts;
-use jcode::Element;
-use jcore::Machine;
-use jguests::guest_laws;
-use jheap::Heap;
-use jinvoke::{Calls, step_laws};
+use jground::jheap::Heap;
+use jmeaning::juses::When;
+use jmodel::jguests::guest_laws;
+use jmodel::jstate::Frames;
+use jparts::jcode::Element;
 use jready::{ArrayInstr, FlowInstr, Instr, MethodRow, Push};
-use jrefs::Lasting;
-use jshapes::alike_laws;
-use jstate::Frames;
-use jstep::{Fixed, Stepped, behind_laws};
-use jtold::told_law;
-use juses::When;
+use jrows::jacts::Way;
+use jrows::jcalls::Counts;
+use jserving::jinvoke::{Calls, step_laws};
+use jserving::jshapes::alike_laws;
+use jstepping::jcore::Machine;
+use jstepping::jrefs::Lasting;
+use jstepping::jstep::{Fixed, Stepped, behind_laws};
+use jstepping::jtold::told_law;
 use std::alloc::{AllocError, Global};
 
 /// What a quick try to make a step came to.
@@ -177,7 +177,7 @@ fn hasten_at<M: Copy>(
     behind_laws::<M>();
     match haste_of(one) {
         Haste::Row => {
-            let way = jstep::run(alloc, frames, heap, fixed, one)?;
+            let way = jstepping::jstep::run(alloc, frames, heap, fixed, one)?;
             Ok(quick_of(way))
         }
         Haste::Reference => {
@@ -186,7 +186,7 @@ fn hasten_at<M: Copy>(
                 shapes: fixed.shapes,
                 ancestors: fixed.ancestors,
             };
-            let way = jrefs::run(alloc, frames, heap, &x, counts, one)?;
+            let way = jstepping::jrefs::run(alloc, frames, heap, &x, counts, one)?;
             Ok(quick_of(way))
         }
         Haste::Turn => Ok(Quick::Left),
@@ -292,7 +292,9 @@ fn turn<M: Copy>(
     match haste_of(one) {
         Haste::Turn => {
             let site = site_of(&row, frames.place());
-            let came = jstep::step(alloc, frames, heap, fixed, calls, counts, one, site)?;
+            let came = jstepping::jstep::step(
+                alloc, frames, heap, fixed, calls, counts, one, site,
+            )?;
             Ok(turned_of(came))
         }
         Haste::Row => Ok(Turned::Left),

@@ -1,22 +1,22 @@
 ghost use Rattle.std.specs.Prelude.{◌≡◌, ◌<◌, ◌+◌, ◌^◌, ℕ, IfOk, OnOk, length};
 ghost use Rattle.jready.specs.declared.instr.Instr.TheVariants as instrs;
 ghost use Rattle.jready.specs.declared.instr.Push.TheVariants as pushes;
-ghost use Rattle.jstate.specs.Celled.{AreCelled};
-ghost use Rattle.jstate.specs.Framed.{all};
-ghost use Rattle.jstate.specs.Seen.{AreBuilt, Things};
-ghost use Rattle.jcalls.specs.declared.ready.Counts.{Counts as CountsOf};
-ghost use Rattle.jcalls.specs.Marks.{Stand};
-ghost use Rattle.jconstants.specs.Loads.{RaisesNothing};
-ghost use Rattle.jstep.specs.Stepping.{IsFixed, StepsAlike, StoodAs};
+ghost use Rattle.jmodel.specs.jstate.Celled.{AreCelled};
+ghost use Rattle.jmodel.specs.jstate.Framed.{all};
+ghost use Rattle.jmodel.specs.jstate.Seen.{AreBuilt, Things};
+ghost use Rattle.jrows.specs.declared.jcalls.ready.Counts.{Counts as CountsOf};
+ghost use Rattle.jrows.specs.jcalls.Marks.{Stand};
+ghost use Rattle.jlibcalls.specs.jconstants.Loads.{RaisesNothing};
+ghost use Rattle.jstepping.specs.jstep.Stepping.{IsFixed, StepsAlike, StoodAs};
 ghost use Rattle.jexecute.specs.Advancing.{Advances, Fetches, quiet_as};
 
-use jacts::Way;
-use jconstants::Constants;
-use jheap::Heap;
-use jinvoke::step_laws;
-use jshapes::alike_laws;
-use jstate::Frames;
-use jstep::{Fixed, Stepped, behind_laws};
+use jground::jheap::Heap;
+use jlibcalls::jconstants::Constants;
+use jmodel::jstate::Frames;
+use jrows::jacts::Way;
+use jserving::jinvoke::step_laws;
+use jserving::jshapes::alike_laws;
+use jstepping::jstep::{Fixed, Stepped, behind_laws};
 use std::alloc::{AllocError, Global};
 
 /// What a step came to whose row raises and throws nothing.

@@ -1,20 +1,20 @@
 ghost use Rattle.std.specs.Prelude.{◌≡◌, ◌<◌, ◌+◌, ◌^◌, ℕ, IfOk, List, OnOk, length};
-ghost use Rattle.jstate.specs.Celled.{AreCelled};
-ghost use Rattle.jstate.specs.Framed.{all};
-ghost use Rattle.jstate.specs.Seen.{AreBuilt, Things};
-ghost use Rattle.jcalls.specs.Marks.{Stand};
-ghost use Rattle.jcalls.specs.Readiness.{AreCounted};
-ghost use Rattle.jrefs.specs.References.{IsHere, IsLasting};
-ghost use Rattle.jstep.specs.Stepping.{IsFixed, StepsAlike, StoodAs};
+ghost use Rattle.jmodel.specs.jstate.Celled.{AreCelled};
+ghost use Rattle.jmodel.specs.jstate.Framed.{all};
+ghost use Rattle.jmodel.specs.jstate.Seen.{AreBuilt, Things};
+ghost use Rattle.jrows.specs.jcalls.Marks.{Stand};
+ghost use Rattle.jrows.specs.jcalls.Readiness.{AreCounted};
+ghost use Rattle.jstepping.specs.jrefs.References.{IsHere, IsLasting};
+ghost use Rattle.jstepping.specs.jstep.Stepping.{IsFixed, StepsAlike, StoodAs};
 ghost use Rattle.jexecute.specs.Advancing.{Advances, Fetches, lasting_by};
 
-use jcalls::Counts;
-use jheap::Heap;
-use jinvoke::{Known, step_laws};
+use jground::jheap::Heap;
+use jmodel::jstate::Frames;
 use jready::Instr;
-use jrefs::Lasting;
-use jstate::Frames;
-use jstep::{Fixed, Stepped, behind_laws, settle};
+use jrows::jcalls::Counts;
+use jserving::jinvoke::{Known, step_laws};
+use jstepping::jrefs::Lasting;
+use jstepping::jstep::{Fixed, Stepped, behind_laws, settle};
 use std::alloc::{AllocError, Global};
 
 /// A step with references.
@@ -49,6 +49,6 @@ pub(crate) fn step_refs<M: Copy>(
         shapes: fixed.shapes,
         ancestors: fixed.ancestors,
     };
-    let way = jrefs::run(alloc, frames, heap, &x, counts, one)?;
+    let way = jstepping::jrefs::run(alloc, frames, heap, &x, counts, one)?;
     settle(alloc, frames, heap, way, fixed.marks, known)
 }

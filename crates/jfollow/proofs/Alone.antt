@@ -5,24 +5,24 @@ use Rattle.jlib.specs.declared.calls.LibCall.{LibCall}
 use Rattle.jlib.specs.declared.calls.LibCall.TheVariants as calls
 use Rattle.jlib.specs.declared.calls.ThreadCall.{ThreadCall}
 use Rattle.jlib.specs.declared.calls.ThreadCall.TheVariants as threads
-use Rattle.jops.specs.declared.value.Value.TheVariants.{Int, Long, Ref, Ctx}
+use Rattle.jground.specs.declared.jops.value.Value.TheVariants.{Int, Long, Ref, Ctx}
 use Rattle.jprogram.specs.Classes.{Program}
-use Rattle.juses.specs.declared.meaning.How.{How}
-use Rattle.juses.specs.Instructions.{Instruction, Used}
-use Rattle.juses.specs.Meanings.{Call, CallMeaning}
+use Rattle.jmeaning.specs.declared.juses.meaning.How.{How}
+use Rattle.jmeaning.specs.juses.Instructions.{Instruction, Used}
+use Rattle.jmeaning.specs.juses.Meanings.{Call, CallMeaning}
 use Rattle.jctx.specs.declared.item.Item.{Item}
 use Rattle.jctx.specs.Contexts.{verdict}
-use Rattle.jmachine.specs.Asking.{context_row, kept_checked, thread_row}
-use Rattle.jmachine.specs.Calls.{Target, Fails, Pushes, Runs, target}
-use Rattle.jmachine.specs.Doing.{called, run}
-use Rattle.jmachine.specs.Library.{library}
-use Rattle.jmachine.specs.Operands.{Taken}
-use Rattle.jmachine.specs.Security.{kept_in}
-use Rattle.jmachine.specs.Sites.{Site}
-use Rattle.jmachine.specs.Steps.{fetched, own_fields}
-use Rattle.jmachine.specs.Store.{Store, object_at}
-use Rattle.jmachine.specs.Threads.{thread}
-use Rattle.jmachine.specs.World.{world}
+use Rattle.jmodel.specs.jmachine.Asking.{context_row, kept_checked, thread_row}
+use Rattle.jmodel.specs.jmachine.Calls.{Target, Fails, Pushes, Runs, target}
+use Rattle.jmodel.specs.jmachine.Doing.{called, run}
+use Rattle.jmodel.specs.jmachine.Library.{library}
+use Rattle.jmodel.specs.jmachine.Operands.{Taken}
+use Rattle.jmodel.specs.jmachine.Security.{kept_in}
+use Rattle.jmodel.specs.jmachine.Sites.{Site}
+use Rattle.jmodel.specs.jmachine.Steps.{fetched, own_fields}
+use Rattle.jmodel.specs.jmachine.Store.{Store, object_at}
+use Rattle.jmodel.specs.jmachine.Threads.{thread}
+use Rattle.jmodel.specs.jmachine.World.{world}
 use Rattle.jbeside.specs.Beside.{Noted, shadowed, sourced}
 use Rattle.jcount.proofs.Silences.{Silently}
 use Rattle.jstands.specs.Expanding.{Alone, calling, expanded, runs_alone, way_of}

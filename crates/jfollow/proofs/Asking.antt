@@ -1,38 +1,38 @@
 -- Calls of the methods of AccessController: the context and the domain are handed to what stands for them, which answers alike.
 use Rattle.std.proofs.Common.{◌≡◌, ℕ, zero, suc, ◌+◌, ◌≤◌, pos, List, [], ◌∷◌, ◌++◌, length, map, Option, Some, None, option_map, refl, sym, ap, ◌∙◌, subst, arith}
 use Rattle.std.specs.Prelude.{option_and_then, slice_get}
-use Rattle.jperm.specs.declared.permission.Permission.{Permission as Perm}
+use Rattle.jrights.specs.declared.jperm.permission.Permission.{Permission as Perm}
 use Rattle.jlib.specs.declared.side.Side.TheVariants.{Source, Passing}
 use Rattle.jlib.specs.declared.calls.ControllerCall.{ControllerCall}
 use Rattle.jlib.specs.declared.calls.ControllerCall.TheVariants as controller
 use Rattle.jlib.specs.declared.calls.LibCall.TheVariants as calls
 use Rattle.jlib.specs.declared.calls.RtCall.{RtCall}
 use Rattle.jlib.specs.declared.calls.RtCall.TheVariants as rt
-use Rattle.jops.specs.declared.value.Value.TheVariants.{Int, Long, Ref, Ctx}
-use Rattle.jtypes.specs.declared.vtype.VType.{VType}
+use Rattle.jground.specs.declared.jops.value.Value.TheVariants.{Int, Long, Ref, Ctx}
+use Rattle.jground.specs.declared.jtypes.vtype.VType.{VType}
 use Rattle.jprogram.specs.declared.member.Member.{Member}
 use Rattle.jprogram.specs.declared.member.Member.TheVariants.{LibMethod}
 use Rattle.jprogram.specs.declared.member.Selected.{Selected}
-use Rattle.juses.specs.declared.meaning.How.TheVariants as how
-use Rattle.juses.specs.Instructions.{Instruction, Used}
-use Rattle.juses.specs.Meanings.{Call, CallMeaning}
+use Rattle.jmeaning.specs.declared.juses.meaning.How.TheVariants as how
+use Rattle.jmeaning.specs.juses.Instructions.{Instruction, Used}
+use Rattle.jmeaning.specs.juses.Meanings.{Call, CallMeaning}
 use Rattle.jctx.specs.declared.item.Item.{Item}
 use Rattle.jctx.specs.Contexts.{privileged, verdict}
-use Rattle.jrule.specs.Effects.{Fits}
-use Rattle.jmachine.specs.Acts.{Act, Went}
-use Rattle.jmachine.specs.Asked.{call_taken}
-use Rattle.jmachine.specs.Asking.{context_made, controller_row, rt_row}
-use Rattle.jmachine.specs.Calls.{Target, Fails, Pushes, Runs, by_interface, reached, target}
-use Rattle.jmachine.specs.Doing.{called}
-use Rattle.jmachine.specs.Frames.{domain_of, standing}
-use Rattle.jmachine.specs.Objects.{Object}
-use Rattle.jmachine.specs.Operands.{Taken, taken, with_value}
-use Rattle.jmachine.specs.Privileges.{acting, acting_on, action, given, limited_by, limits, privilege, run_action}
-use Rattle.jmachine.specs.Security.{Privilege, checked}
-use Rattle.jmachine.specs.Sites.{Site}
-use Rattle.jmachine.specs.Steps.{fetched, own_fields}
-use Rattle.jmachine.specs.Store.{Store, object_at}
-use Rattle.jmachine.specs.World.{world}
+use Rattle.jmeaning.specs.jrule.Effects.{Fits}
+use Rattle.jmodel.specs.jmachine.Acts.{Act, Went}
+use Rattle.jmodel.specs.jmachine.Asked.{call_taken}
+use Rattle.jmodel.specs.jmachine.Asking.{context_made, controller_row, rt_row}
+use Rattle.jmodel.specs.jmachine.Calls.{Target, Fails, Pushes, Runs, by_interface, reached, target}
+use Rattle.jmodel.specs.jmachine.Doing.{called}
+use Rattle.jmodel.specs.jmachine.Frames.{domain_of, standing}
+use Rattle.jmodel.specs.jmachine.Objects.{Object}
+use Rattle.jmodel.specs.jmachine.Operands.{Taken, taken, with_value}
+use Rattle.jmodel.specs.jmachine.Privileges.{acting, acting_on, action, given, limited_by, limits, privilege, run_action}
+use Rattle.jmodel.specs.jmachine.Security.{Privilege, checked}
+use Rattle.jmodel.specs.jmachine.Sites.{Site}
+use Rattle.jmodel.specs.jmachine.Steps.{fetched, own_fields}
+use Rattle.jmodel.specs.jmachine.Store.{Store, object_at}
+use Rattle.jmodel.specs.jmachine.World.{world}
 use Rattle.jbeside.specs.Beside.{Noted, Privileged, context_of, noted, shadowed, sourced}
 use Rattle.jcount.proofs.Silences.{Silently}
 use Rattle.jstands.specs.Expanding.{Place, asking, asking_params, call_rt, calling, expanded, load, moved_target, push, rt_meaning, way_of}

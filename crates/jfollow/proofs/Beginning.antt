@@ -4,26 +4,26 @@ use Rattle.std.specs.Prelude.{nat_le, if◌then◌else◌}
 use Rattle.std.proofs.lemmas.Bool.{le-leb}
 use Rattle.jlib.specs.declared.side.Side.TheVariants.{Source, Passing}
 use Rattle.jlib.specs.declared.classes.LibClass.{LibClass}
-use Rattle.jops.specs.declared.value.Value.TheVariants.{Ref, Ctx}
-use Rattle.jtypes.specs.declared.vtype.VType.{VType}
-use Rattle.jtrace.specs.declared.event.Event.{Event}
-use Rattle.jtrace.specs.declared.event.Event.TheVariants.{Throw, Uncaught}
-use Rattle.jtrace.specs.declared.event.End.TheVariants.{HeapFull}
+use Rattle.jground.specs.declared.jops.value.Value.TheVariants.{Ref, Ctx}
+use Rattle.jground.specs.declared.jtypes.vtype.VType.{VType}
+use Rattle.jrights.specs.declared.jtrace.event.Event.{Event}
+use Rattle.jrights.specs.declared.jtrace.event.Event.TheVariants.{Throw, Uncaught}
+use Rattle.jrights.specs.declared.jtrace.event.End.TheVariants.{HeapFull}
 use Rattle.jprogram.specs.declared.member.MethodId.{MethodId}
 use Rattle.jclass.specs.declared.class.CodeBody.{CodeBody}
-use Rattle.juses.specs.Instructions.{code_at}
+use Rattle.jmeaning.specs.juses.Instructions.{code_at}
 use Rattle.jctx.specs.declared.item.Item.{Item}
-use Rattle.jmachine.specs.Acts.{Act, Calls, Raises, Outcome, Went, Over, NoStep, free, raised_cells, raises}
-use Rattle.jmachine.specs.Calls.{Target, Fails, Pushes, Runs, by_interface}
-use Rattle.jmachine.specs.Frames.{begun, domain_of, frame_of, locals_of, places_of}
-use Rattle.jmachine.specs.Objects.{Object, class_of}
-use Rattle.jmachine.specs.Security.{handed}
-use Rattle.jmachine.specs.Steps.{acted, applied, begins, begun_on, first_done, first_row, pushed, raised, step, step_at, thrown}
-use Rattle.jmachine.specs.Store.{Store, object_at, paid}
-use Rattle.jmachine.specs.Straight.{local_at}
-use Rattle.jmachine.specs.Turns.{ended, thread_of, with_running}
-use Rattle.jmachine.specs.Unwinding.{told_name, unwound, with_raised}
-use Rattle.jmachine.specs.World.{world}
+use Rattle.jmodel.specs.jmachine.Acts.{Act, Calls, Raises, Outcome, Went, Over, NoStep, free, raised_cells, raises}
+use Rattle.jmodel.specs.jmachine.Calls.{Target, Fails, Pushes, Runs, by_interface}
+use Rattle.jmodel.specs.jmachine.Frames.{begun, domain_of, frame_of, locals_of, places_of}
+use Rattle.jmodel.specs.jmachine.Objects.{Object, class_of}
+use Rattle.jmodel.specs.jmachine.Security.{handed}
+use Rattle.jmodel.specs.jmachine.Steps.{acted, applied, begins, begun_on, first_done, first_row, pushed, raised, step, step_at, thrown}
+use Rattle.jmodel.specs.jmachine.Store.{Store, object_at, paid}
+use Rattle.jmodel.specs.jmachine.Straight.{local_at}
+use Rattle.jmodel.specs.jmachine.Turns.{ended, thread_of, with_running}
+use Rattle.jmodel.specs.jmachine.Unwinding.{told_name, unwound, with_raised}
+use Rattle.jmodel.specs.jmachine.World.{world}
 use Rattle.jbeside.specs.Beside.{Noted, context_of, shadowed, sourced, unmarked}
 use Rattle.jstands.specs.Expanding.{moved_target}
 use Rattle.jstands.specs.Moves.{run_of}

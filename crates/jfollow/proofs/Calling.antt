@@ -1,29 +1,29 @@
 -- A call, and what stands for it: silent steps that put values on the operands, and a call that takes these with the others.
 use Rattle.std.proofs.Common.{◌≡◌, ℕ, zero, suc, ◌+◌, ◌≤◌, Bool, List, [], ◌∷◌, ◌++◌, length, Option, Some, None, option_map, refl, sym, ap, ◌∙◌, subst, arith}
 use Rattle.std.specs.Prelude.{slice_get}
-use Rattle.jperm.specs.declared.permission.Permission.{Permission as Perm}
-use Rattle.jdomain.specs.declared.verdict.Verdict.{Verdict}
-use Rattle.jdomain.specs.declared.verdict.Verdict.TheVariants.{Granted, Denied}
+use Rattle.jrights.specs.declared.jperm.permission.Permission.{Permission as Perm}
+use Rattle.jrights.specs.declared.jdomain.verdict.Verdict.{Verdict}
+use Rattle.jrights.specs.declared.jdomain.verdict.Verdict.TheVariants.{Granted, Denied}
 use Rattle.jlib.specs.declared.side.Side.{Side}
 use Rattle.jlib.specs.declared.side.Side.TheVariants.{Source, Passing}
-use Rattle.jops.specs.declared.value.Value.TheVariants.{Int, Long, Ref, Ctx}
+use Rattle.jground.specs.declared.jops.value.Value.TheVariants.{Int, Long, Ref, Ctx}
 use Rattle.jprogram.specs.declared.member.Member.{Member}
-use Rattle.juses.specs.declared.meaning.How.{How}
-use Rattle.juses.specs.declared.meaning.How.TheVariants as how
-use Rattle.juses.specs.Instructions.{Instruction, Used}
-use Rattle.juses.specs.Meanings.{Call, CallMeaning}
+use Rattle.jmeaning.specs.declared.juses.meaning.How.{How}
+use Rattle.jmeaning.specs.declared.juses.meaning.How.TheVariants as how
+use Rattle.jmeaning.specs.juses.Instructions.{Instruction, Used}
+use Rattle.jmeaning.specs.juses.Meanings.{Call, CallMeaning}
 use Rattle.jctx.specs.declared.item.Item.{Item}
 use Rattle.jctx.specs.Contexts.{enter}
-use Rattle.jrule.specs.Uses.{exchange}
-use Rattle.jmachine.specs.Acts.{Act, FrameOf, Outcome, Row}
-use Rattle.jmachine.specs.Asked.{call_taken}
-use Rattle.jmachine.specs.Doing.{by_taken, call, doing, used}
-use Rattle.jmachine.specs.Frames.{domain_of, standing, with_operands}
-use Rattle.jmachine.specs.Operands.{Taken}
-use Rattle.jmachine.specs.Security.{Rules, checked, judged, permission_in}
-use Rattle.jmachine.specs.Sites.{Site}
-use Rattle.jmachine.specs.Steps.{done, fetched, own_fields, site}
-use Rattle.jmachine.specs.Store.{object_at, Store}
+use Rattle.jmeaning.specs.jrule.Uses.{exchange}
+use Rattle.jmodel.specs.jmachine.Acts.{Act, FrameOf, Outcome, Row}
+use Rattle.jmodel.specs.jmachine.Asked.{call_taken}
+use Rattle.jmodel.specs.jmachine.Doing.{by_taken, call, doing, used}
+use Rattle.jmodel.specs.jmachine.Frames.{domain_of, standing, with_operands}
+use Rattle.jmodel.specs.jmachine.Operands.{Taken}
+use Rattle.jmodel.specs.jmachine.Security.{Rules, checked, judged, permission_in}
+use Rattle.jmodel.specs.jmachine.Sites.{Site}
+use Rattle.jmodel.specs.jmachine.Steps.{done, fetched, own_fields, site}
+use Rattle.jmodel.specs.jmachine.Store.{object_at, Store}
 use Rattle.jbeside.specs.Beside.{Noted, context_of, shadowed, sourced}
 use Rattle.jcount.proofs.Silences.{Silently}
 use Rattle.jstands.specs.Expanding.{expanded}

@@ -1,21 +1,21 @@
 -- Groups of instructions with an entry of the pool that look at classes alone: constants and casts.
 use Rattle.std.proofs.Common.{◌≡◌, ℕ, zero, suc, Bool, true, false, List, [], ◌∷◌, Option, Some, None, refl, sym, subst}
-use Rattle.jops.specs.declared.value.Value.TheVariants.{Int, Long, Ref, Ctx}
-use Rattle.jcode.specs.declared.names.CastOp.{CastOp}
-use Rattle.jcode.specs.declared.names.CastOp.TheVariants as casts
-use Rattle.jtypes.specs.declared.vtype.VType.{VType}
-use Rattle.juses.specs.Instructions.{Used}
-use Rattle.juses.specs.Meanings.{Pushed}
-use Rattle.juses.specs.Meanings as meanings
+use Rattle.jground.specs.declared.jops.value.Value.TheVariants.{Int, Long, Ref, Ctx}
+use Rattle.jparts.specs.declared.jcode.names.CastOp.{CastOp}
+use Rattle.jparts.specs.declared.jcode.names.CastOp.TheVariants as casts
+use Rattle.jground.specs.declared.jtypes.vtype.VType.{VType}
+use Rattle.jmeaning.specs.juses.Instructions.{Used}
+use Rattle.jmeaning.specs.juses.Meanings.{Pushed}
+use Rattle.jmeaning.specs.juses.Meanings as meanings
 use Rattle.jctx.specs.declared.item.Item.{Item}
-use Rattle.jrule.specs.Uses.{exchange, of_cast}
-use Rattle.jmachine.specs.Acts.{Row, Outcome}
-use Rattle.jmachine.specs.Doing.{doing, used}
-use Rattle.jmachine.specs.Making.{cast, checked, is_one, push, tested, text_loaded, units_of}
-use Rattle.jmachine.specs.Operands.{type_of}
-use Rattle.jmachine.specs.Steps.{fetched}
-use Rattle.jmachine.specs.Store.{Store, constant_at}
-use Rattle.jmachine.specs.World.{World, world}
+use Rattle.jmeaning.specs.jrule.Uses.{exchange, of_cast}
+use Rattle.jmodel.specs.jmachine.Acts.{Row, Outcome}
+use Rattle.jmodel.specs.jmachine.Doing.{doing, used}
+use Rattle.jmodel.specs.jmachine.Making.{cast, checked, is_one, push, tested, text_loaded, units_of}
+use Rattle.jmodel.specs.jmachine.Operands.{type_of}
+use Rattle.jmodel.specs.jmachine.Steps.{fetched}
+use Rattle.jmodel.specs.jmachine.Store.{Store, constant_at}
+use Rattle.jmodel.specs.jmachine.World.{World, world}
 use Rattle.jbeside.specs.Beside.{Noted}
 use Rattle.jstands.specs.Moves.{SameClasses}
 use Rattle.jstands.specs.Stands.{Frame, Point, Word}

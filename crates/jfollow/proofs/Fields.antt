@@ -1,25 +1,25 @@
 -- Instructions with fields: they look at classes alone, and each is answered by itself.
 use Rattle.std.proofs.Common.{◌≡◌, ℕ, zero, suc, Bool, List, [], ◌∷◌, Option, Some, None, option_map, refl, sym, ap, ◌∙◌, subst}
 use Rattle.std.proofs.Math.Path.{fun_ext}
-use Rattle.jops.specs.declared.value.Value.TheVariants.{Int, Long, Ref, Ctx}
-use Rattle.jcode.specs.declared.names.FieldOp.{FieldOp}
-use Rattle.jcode.specs.declared.names.FieldOp.TheVariants as fields
+use Rattle.jground.specs.declared.jops.value.Value.TheVariants.{Int, Long, Ref, Ctx}
+use Rattle.jparts.specs.declared.jcode.names.FieldOp.{FieldOp}
+use Rattle.jparts.specs.declared.jcode.names.FieldOp.TheVariants as fields
 use Rattle.jprogram.specs.declared.member.Member.{Member}
 use Rattle.jprogram.specs.declared.member.MethodId.{MethodId}
 use Rattle.jprogram.specs.Classes.{Program}
-use Rattle.juses.specs.Instructions.{Used}
-use Rattle.juses.specs.Meanings.{FieldMeaning}
-use Rattle.juses.specs.Meanings as meanings
+use Rattle.jmeaning.specs.juses.Instructions.{Used}
+use Rattle.jmeaning.specs.juses.Meanings.{FieldMeaning}
+use Rattle.jmeaning.specs.juses.Meanings as meanings
 use Rattle.jctx.specs.declared.item.Item.{Item}
-use Rattle.jrule.specs.Effects.{Want}
-use Rattle.jrule.specs.Uses.{exchange, of_field}
-use Rattle.jmachine.specs.Acts.{Row, gives}
-use Rattle.jmachine.specs.Doing.{by_taken, doing, used}
-use Rattle.jmachine.specs.Fields.{field, get_from, get_static, put_into, put_static}
-use Rattle.jmachine.specs.Operands.{taken}
-use Rattle.jmachine.specs.Steps.{fetched, own_fields}
-use Rattle.jmachine.specs.Store.{Store, object_at, with_object}
-use Rattle.jmachine.specs.World.{World, world}
+use Rattle.jmeaning.specs.jrule.Effects.{Want}
+use Rattle.jmeaning.specs.jrule.Uses.{exchange, of_field}
+use Rattle.jmodel.specs.jmachine.Acts.{Row, gives}
+use Rattle.jmodel.specs.jmachine.Doing.{by_taken, doing, used}
+use Rattle.jmodel.specs.jmachine.Fields.{field, get_from, get_static, put_into, put_static}
+use Rattle.jmodel.specs.jmachine.Operands.{taken}
+use Rattle.jmodel.specs.jmachine.Steps.{fetched, own_fields}
+use Rattle.jmodel.specs.jmachine.Store.{Store, object_at, with_object}
+use Rattle.jmodel.specs.jmachine.World.{World, world}
 use Rattle.jbeside.specs.Beside.{Noted, shadowed}
 use Rattle.jstands.specs.Moves.{Moves, SameClasses}
 use Rattle.jstands.specs.Stands.{Frame, Word, entries}

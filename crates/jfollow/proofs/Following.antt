@@ -1,6 +1,6 @@
 -- The local simulation, joined: each step of a program is answered by 1 to 7 of the moved one.
 use Rattle.std.proofs.Common.{◌≡◌, ℕ, Bool, List, [], ◌∷◌, Option, Some, None, refl, sym, ap, ◌∙◌, subst}
-use Rattle.jperm.specs.declared.permission.Permission.{Permission}
+use Rattle.jrights.specs.declared.jperm.permission.Permission.{Permission}
 use Rattle.jthreads.specs.declared.thread.Thread.{Thread}
 use Rattle.jlib.specs.declared.calls.LibCall.{LibCall}
 use Rattle.jlib.specs.declared.calls.LibCall.TheVariants as calls
@@ -9,16 +9,16 @@ use Rattle.jprogram.specs.declared.member.Member.{Member}
 use Rattle.jprogram.specs.declared.member.Member.TheVariants.{Field, LibField, LibMethod, Method}
 use Rattle.jprogram.specs.declared.member.MethodId.{MethodId}
 use Rattle.jprogram.specs.Classes.{Program}
-use Rattle.juses.specs.declared.meaning.How.{How}
-use Rattle.juses.specs.Instructions.{Instruction, Array, Jump, Local, Return, Simple, Stack, Switch, Throw, Used}
-use Rattle.juses.specs.Meanings as meanings
-use Rattle.juses.specs.Meanings.{CallMeaning, Meaning}
+use Rattle.jmeaning.specs.declared.juses.meaning.How.{How}
+use Rattle.jmeaning.specs.juses.Instructions.{Instruction, Array, Jump, Local, Return, Simple, Stack, Switch, Throw, Used}
+use Rattle.jmeaning.specs.juses.Meanings as meanings
+use Rattle.jmeaning.specs.juses.Meanings.{CallMeaning, Meaning}
 use Rattle.jctx.specs.declared.item.Item.{Item}
 use Rattle.jctx.specs.Laws.{PrivilegedSame}
-use Rattle.jmachine.specs.declared.plan.Plan.{Plan}
-use Rattle.jmachine.specs.Acts.{Outcome}
-use Rattle.jmachine.specs.Steps.{executed, fetched, step, step_at}
-use Rattle.jmachine.specs.Store.{Store}
+use Rattle.jmodel.specs.declared.jmachine.plan.Plan.{Plan}
+use Rattle.jmodel.specs.jmachine.Acts.{Outcome}
+use Rattle.jmodel.specs.jmachine.Steps.{executed, fetched, step, step_at}
+use Rattle.jmodel.specs.jmachine.Store.{Store}
 use Rattle.jbeside.specs.Beside.{Noted, sourced}
 use Rattle.jcount.specs.Counting.{Answers}
 use Rattle.jstands.specs.Expanding.{way_of}

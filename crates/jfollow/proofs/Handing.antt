@@ -5,27 +5,27 @@ use Rattle.jlib.specs.declared.side.Side.TheVariants.{Source, Passing}
 use Rattle.jlib.specs.declared.calls.LibCall.{LibCall}
 use Rattle.jlib.specs.declared.calls.LibCall.TheVariants as calls
 use Rattle.jlib.specs.declared.calls.ThreadCall.TheVariants as threads
-use Rattle.jops.specs.declared.value.Value.TheVariants.{Int, Long, Ref, Ctx}
-use Rattle.jtypes.specs.declared.vtype.Name.{Name}
-use Rattle.juses.specs.declared.meaning.How.{How}
-use Rattle.juses.specs.declared.meaning.How.TheVariants as how
-use Rattle.juses.specs.Instructions.{Instruction, Used}
-use Rattle.juses.specs.Meanings.{Call, CallMeaning}
+use Rattle.jground.specs.declared.jops.value.Value.TheVariants.{Int, Long, Ref, Ctx}
+use Rattle.jground.specs.declared.jtypes.vtype.Name.{Name}
+use Rattle.jmeaning.specs.declared.juses.meaning.How.{How}
+use Rattle.jmeaning.specs.declared.juses.meaning.How.TheVariants as how
+use Rattle.jmeaning.specs.juses.Instructions.{Instruction, Used}
+use Rattle.jmeaning.specs.juses.Meanings.{Call, CallMeaning}
 use Rattle.jctx.specs.declared.item.Item.{Item}
-use Rattle.jrule.specs.Uses.{arguments}
-use Rattle.jmachine.specs.Acts.{Act, Went}
-use Rattle.jmachine.specs.Asked.{call_taken}
-use Rattle.jmachine.specs.Asking.{thread_made, thread_row}
-use Rattle.jmachine.specs.Calls.{Target, Fails, Pushes, Runs, begun_on, init_taken, may_begin, target}
-use Rattle.jmachine.specs.Doing.{called, run}
-use Rattle.jmachine.specs.Library.{library}
-use Rattle.jmachine.specs.Objects.{Object, Instance, Thrown, Text, Builder, Piece, Permission, Context, Thread, Bare, Array}
-use Rattle.jmachine.specs.Operands.{Taken, taken, with_value}
-use Rattle.jmachine.specs.Sites.{Site}
-use Rattle.jmachine.specs.Steps.{fetched, own_fields}
-use Rattle.jmachine.specs.Store.{Store, object_at}
-use Rattle.jmachine.specs.Threads.{thread}
-use Rattle.jmachine.specs.World.{World, world}
+use Rattle.jmeaning.specs.jrule.Uses.{arguments}
+use Rattle.jmodel.specs.jmachine.Acts.{Act, Went}
+use Rattle.jmodel.specs.jmachine.Asked.{call_taken}
+use Rattle.jmodel.specs.jmachine.Asking.{thread_made, thread_row}
+use Rattle.jmodel.specs.jmachine.Calls.{Target, Fails, Pushes, Runs, begun_on, init_taken, may_begin, target}
+use Rattle.jmodel.specs.jmachine.Doing.{called, run}
+use Rattle.jmodel.specs.jmachine.Library.{library}
+use Rattle.jmodel.specs.jmachine.Objects.{Object, Instance, Thrown, Text, Builder, Piece, Permission, Context, Thread, Bare, Array}
+use Rattle.jmodel.specs.jmachine.Operands.{Taken, taken, with_value}
+use Rattle.jmodel.specs.jmachine.Sites.{Site}
+use Rattle.jmodel.specs.jmachine.Steps.{fetched, own_fields}
+use Rattle.jmodel.specs.jmachine.Store.{Store, object_at}
+use Rattle.jmodel.specs.jmachine.Threads.{thread}
+use Rattle.jmodel.specs.jmachine.World.{World, world}
 use Rattle.jbeside.specs.Beside.{Noted, context_of, shadowed, sourced}
 use Rattle.jcount.proofs.Silences.{Silently}
 use Rattle.jstands.specs.Expanding.{Handed, calling, expanded, handed, handing, load, moved_target, passing, runs_handed, way_of}

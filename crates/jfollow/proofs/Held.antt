@@ -1,17 +1,17 @@
 -- Instructions with locals and with the newest items of the stack: each is answered by itself.
 use Rattle.std.proofs.Common.{◌≡◌, ℕ, List, [], ◌∷◌, length, map, Option, Some, None, option_map, refl, sym, ap, ◌∙◌, subst, arith}
-use Rattle.jnames.specs.declared.names.Shuffle.{Shuffle}
-use Rattle.jops.specs.declared.value.Value.TheVariants.{Ctx}
-use Rattle.jops.specs.Shuffles.{Move, item, shuffle}
-use Rattle.jcode.specs.declared.form.LocalForm.{LocalForm}
-use Rattle.juses.specs.Instructions.{Instruction, Local, Stack}
+use Rattle.jground.specs.declared.jnames.names.Shuffle.{Shuffle}
+use Rattle.jground.specs.declared.jops.value.Value.TheVariants.{Ctx}
+use Rattle.jground.specs.jops.Shuffles.{Move, item, shuffle}
+use Rattle.jparts.specs.declared.jcode.form.LocalForm.{LocalForm}
+use Rattle.jmeaning.specs.juses.Instructions.{Instruction, Local, Stack}
 use Rattle.jctx.specs.declared.item.Item.{Item}
 use Rattle.jctx.specs.Contexts.{enter}
-use Rattle.jmachine.specs.Acts.{Goes, Outcome}
-use Rattle.jmachine.specs.Doing.{by_held, doing}
-use Rattle.jmachine.specs.Frames.{domain_of, with_held}
-use Rattle.jmachine.specs.Steps.{fetched, own_fields}
-use Rattle.jmachine.specs.Straight.{Held, holding, local, moved, stack}
+use Rattle.jmodel.specs.jmachine.Acts.{Goes, Outcome}
+use Rattle.jmodel.specs.jmachine.Doing.{by_held, doing}
+use Rattle.jmodel.specs.jmachine.Frames.{domain_of, with_held}
+use Rattle.jmodel.specs.jmachine.Steps.{fetched, own_fields}
+use Rattle.jmodel.specs.jmachine.Straight.{Held, holding, local, moved, stack}
 use Rattle.jbeside.specs.Beside.{context_of, shadowed, sourced, unmarked}
 use Rattle.jstands.specs.Expanding.{expanded}
 use Rattle.jstands.specs.Stands.{Frame, FrameStands, Point, Word, entries}

@@ -2,16 +2,16 @@
 use Rattle.std.proofs.Common.{◌≡◌, ℕ, zero, suc, ◌+◌, ◌<◌, ◌≤◌, ℤ, ◌+ℤ◌, Bool, true, false, ◌&&◌, List, [], ◌∷◌, length, Option, Some, None, refl, sym, ◌∙◌, subst, arith}
 use Rattle.std.specs.Prelude.{nat_le, option_and_then, slice_set, if◌then◌else◌}
 use Rattle.std.proofs.lemmas.Bool.{le-leb, leb-true}
-use Rattle.jnames.specs.declared.kinds.Kind.{Kind}
-use Rattle.jops.specs.declared.value.Value.TheVariants.{Int, Long, Ref, Ctx}
-use Rattle.jops.specs.Kinds.{is_of}
-use Rattle.jops.specs.Operations.{int}
-use Rattle.jcode.specs.declared.names.Access.TheVariants.{Load, Store as Keep}
-use Rattle.jcode.specs.declared.form.LocalForm.{LocalForm}
-use Rattle.jcode.specs.declared.form.LocalForm.TheVariants.{Move, Increment}
-use Rattle.jcode.specs.Forms as forms
+use Rattle.jground.specs.declared.jnames.kinds.Kind.{Kind}
+use Rattle.jground.specs.declared.jops.value.Value.TheVariants.{Int, Long, Ref, Ctx}
+use Rattle.jground.specs.jops.Kinds.{is_of}
+use Rattle.jground.specs.jops.Operations.{int}
+use Rattle.jparts.specs.declared.jcode.names.Access.TheVariants.{Load, Store as Keep}
+use Rattle.jparts.specs.declared.jcode.form.LocalForm.{LocalForm}
+use Rattle.jparts.specs.declared.jcode.form.LocalForm.TheVariants.{Move, Increment}
+use Rattle.jparts.specs.jcode.Forms as forms
 use Rattle.jctx.specs.declared.item.Item.{Item}
-use Rattle.jmachine.specs.Straight.{Held, holding, increased, loaded, local, local_at, places, stored, with_local}
+use Rattle.jmodel.specs.jmachine.Straight.{Held, holding, increased, loaded, local, local_at, places, stored, with_local}
 use Rattle.jstands.specs.Stands.{LocalsStand, Word}
 use Rattle.jfollow.proofs.Locals.{none_past, set_long, within}
 

@@ -1,12 +1,12 @@
 -- Frames that are left: by a return, and by an exception.
 use Rattle.std.proofs.Common.{◌≡◌, ℕ, ◌+◌, List, [], ◌∷◌, ◌++◌, Option, Some, None, option_map, refl, sym, ap, ◌∙◌, subst, arith}
-use Rattle.jops.specs.declared.value.Value.TheVariants.{Ref}
-use Rattle.jtypes.specs.declared.vtype.VType.{VType}
+use Rattle.jground.specs.declared.jops.value.Value.TheVariants.{Ref}
+use Rattle.jground.specs.declared.jtypes.vtype.VType.{VType}
 use Rattle.jprogram.specs.declared.member.MethodId.{MethodId}
 use Rattle.jprogram.specs.Classes.{Program}
 use Rattle.jctx.specs.declared.item.Item.{Item}
-use Rattle.jmachine.specs.Frames.{domain_of}
-use Rattle.jmachine.specs.Unwinding.{caught, handler_at, resumed, unwound}
+use Rattle.jmodel.specs.jmachine.Frames.{domain_of}
+use Rattle.jmodel.specs.jmachine.Unwinding.{caught, handler_at, resumed, unwound}
 use Rattle.jbeside.specs.Beside.{unmarked}
 use Rattle.jstands.specs.Moves.{Moves}
 use Rattle.jstands.specs.Stands.{BelowStands, Frame, FramesStand, NewestStands, OlderStands, Word}

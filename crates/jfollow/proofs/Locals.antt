@@ -1,11 +1,11 @@
 -- Locals: what is read of them where one is written, and how those of a pushed frame stand for one another.
 use Rattle.std.proofs.Common.{◌≡◌, ℕ, zero, suc, ◌+◌, ◌-◌, ◌<◌, ◌≤◌, List, [], ◌∷◌, ◌++◌, length, length-append, append_assoc, append-nil, Option, Some, None, refl, sym, ap, ◌∙◌, subst, arith}
 use Rattle.std.specs.Prelude.{Bool, false, option_and_then, replicate, slice_set, if◌then◌else◌}
-use Rattle.jops.specs.declared.value.Value.TheVariants.{Ctx}
-use Rattle.jops.specs.Shuffles.{is_long}
+use Rattle.jground.specs.declared.jops.value.Value.TheVariants.{Ctx}
+use Rattle.jground.specs.jops.Shuffles.{is_long}
 use Rattle.jctx.specs.declared.item.Item.{Item}
-use Rattle.jmachine.specs.Frames.{locals_of, onto, places_of}
-use Rattle.jmachine.specs.Straight.{local_at, places}
+use Rattle.jmodel.specs.jmachine.Frames.{locals_of, onto, places_of}
+use Rattle.jmodel.specs.jmachine.Straight.{local_at, places}
 use Rattle.jstands.specs.Stands.{LocalsStand, Word}
 
 abbrev Local : Type 0

@@ -1,23 +1,23 @@
 -- Instructions that make objects and arrays, and those with arrays: each is answered by itself.
 use Rattle.std.proofs.Common.{◌≡◌, ℕ, List, [], ◌∷◌, Option, Some, None, option_map, refl, sym, ap, ◌∙◌, subst}
-use Rattle.jcode.specs.declared.form.ArrayForm.{ArrayForm}
-use Rattle.jtypes.specs.declared.vtype.Name.{Name}
-use Rattle.jtypes.specs.declared.vtype.VType.{VType}
+use Rattle.jparts.specs.declared.jcode.form.ArrayForm.{ArrayForm}
+use Rattle.jground.specs.declared.jtypes.vtype.Name.{Name}
+use Rattle.jground.specs.declared.jtypes.vtype.VType.{VType}
 use Rattle.jprogram.specs.declared.part.ClassRef.{ClassRef}
 use Rattle.jprogram.specs.declared.part.ClassRef.TheVariants as refs
-use Rattle.juses.specs.Instructions.{Array, Used}
-use Rattle.juses.specs.Meanings as meanings
+use Rattle.jmeaning.specs.juses.Instructions.{Array, Used}
+use Rattle.jmeaning.specs.juses.Meanings as meanings
 use Rattle.jctx.specs.declared.item.Item.{Item}
-use Rattle.jrule.specs.Effects.{Of}
-use Rattle.jrule.specs.Uses.{exchange}
-use Rattle.jnames.specs.declared.kinds.Kind.TheVariants as kinds
-use Rattle.jmachine.specs.Acts.{Row}
-use Rattle.jmachine.specs.Arrays as arrays
-use Rattle.jmachine.specs.Doing.{array_wants, doing, used}
-use Rattle.jmachine.specs.Making.{make, new, object_of, user_object}
-use Rattle.jmachine.specs.Steps.{fetched}
-use Rattle.jmachine.specs.Store.{Store}
-use Rattle.jmachine.specs.World.{World, world}
+use Rattle.jmeaning.specs.jrule.Effects.{Of}
+use Rattle.jmeaning.specs.jrule.Uses.{exchange}
+use Rattle.jground.specs.declared.jnames.kinds.Kind.TheVariants as kinds
+use Rattle.jmodel.specs.jmachine.Acts.{Row}
+use Rattle.jmodel.specs.jmachine.Arrays as arrays
+use Rattle.jmodel.specs.jmachine.Doing.{array_wants, doing, used}
+use Rattle.jmodel.specs.jmachine.Making.{make, new, object_of, user_object}
+use Rattle.jmodel.specs.jmachine.Steps.{fetched}
+use Rattle.jmodel.specs.jmachine.Store.{Store}
+use Rattle.jmodel.specs.jmachine.World.{World, world}
 use Rattle.jbeside.specs.Beside.{Noted}
 use Rattle.jstands.specs.Moves.{SameClasses}
 use Rattle.jstands.specs.Stands.{Frame, Word}

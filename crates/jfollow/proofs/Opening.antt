@@ -1,18 +1,18 @@
 -- How a run begins: main's prologue is a lead of four steps.
 use Rattle.std.proofs.Common.{◌≡◌, ℕ, ◌+◌, ◌<◌, Bool, false, List, [], ◌∷◌, length, Option, Some, None, option_map, refl, sym, ap, ◌∙◌, subst, arith}
-use Rattle.jperm.specs.declared.permission.Permission.{Permission}
-use Rattle.jops.specs.declared.value.Value.TheVariants.{Ref, Ctx}
+use Rattle.jrights.specs.declared.jperm.permission.Permission.{Permission}
+use Rattle.jground.specs.declared.jops.value.Value.TheVariants.{Ref, Ctx}
 use Rattle.jthreads.specs.Table as threads
 use Rattle.jclass.specs.declared.class.CodeBody.{CodeBody}
 use Rattle.jprogram.specs.Classes.{Program}
-use Rattle.juses.specs.Instructions.{code_at}
+use Rattle.jmeaning.specs.juses.Instructions.{code_at}
 use Rattle.jctx.specs.declared.item.Item.{Item}
-use Rattle.jmachine.specs.declared.plan.Plan.{Plan}
-use Rattle.jmachine.specs.Fields.{out}
-use Rattle.jmachine.specs.Frames.{begun, domain_of, frame_of, locals_of, places_of}
-use Rattle.jmachine.specs.Opening.{arguments_number, only, opening_state, opening_store}
-use Rattle.jmachine.specs.Store.{Store}
-use Rattle.jmachine.specs.Straight.{local_at}
+use Rattle.jmodel.specs.declared.jmachine.plan.Plan.{Plan}
+use Rattle.jmodel.specs.jmachine.Fields.{out}
+use Rattle.jmodel.specs.jmachine.Frames.{begun, domain_of, frame_of, locals_of, places_of}
+use Rattle.jmodel.specs.jmachine.Opening.{arguments_number, only, opening_state, opening_store}
+use Rattle.jmodel.specs.jmachine.Store.{Store}
+use Rattle.jmodel.specs.jmachine.Straight.{local_at}
 use Rattle.jbeside.specs.Beside.{shadowed, sourced, unmarked}
 use Rattle.jstands.specs.Moves.{MovedCode, Moves}
 use Rattle.jstands.specs.Stands.{Frame, Point, Stands, Word, behind}

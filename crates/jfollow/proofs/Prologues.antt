@@ -3,39 +3,39 @@
 use Rattle.std.proofs.Common.{◌≡◌, ℕ, ◌+◌, ◌-◌, ◌≤◌, pos, Bool, List, [], ◌∷◌, length, Option, Some, None, option_map, refl, ap, ◌∙◌, arith}
 use Rattle.std.specs.Prelude.{option_and_then, slice_set, if◌then◌else◌}
 use Rattle.std.proofs.lemmas.Bool.{le-leb}
-use Rattle.jperm.specs.declared.permission.Permission.{Permission}
-use Rattle.jnames.specs.declared.kinds.Kind.TheVariants as kinds
-use Rattle.jcode.specs.declared.names.Access.TheVariants.{Load, Store as Keep}
-use Rattle.jcode.specs.declared.names.LocalKind.TheVariants as locals
-use Rattle.jcode.specs.declared.form.LocalForm.{LocalForm}
-use Rattle.jcode.specs.declared.form.LocalForm.TheVariants.{Move}
+use Rattle.jrights.specs.declared.jperm.permission.Permission.{Permission}
+use Rattle.jground.specs.declared.jnames.kinds.Kind.TheVariants as kinds
+use Rattle.jparts.specs.declared.jcode.names.Access.TheVariants.{Load, Store as Keep}
+use Rattle.jparts.specs.declared.jcode.names.LocalKind.TheVariants as locals
+use Rattle.jparts.specs.declared.jcode.form.LocalForm.{LocalForm}
+use Rattle.jparts.specs.declared.jcode.form.LocalForm.TheVariants.{Move}
 use Rattle.jlib.specs.declared.calls.LibCall.TheVariants as calls
 use Rattle.jlib.specs.declared.calls.RtCall.{RtCall}
 use Rattle.jlib.specs.declared.calls.RtCall.TheVariants as rt
-use Rattle.jops.specs.declared.value.Value.TheVariants.{Ctx, Int}
-use Rattle.jtrace.specs.declared.event.End.TheVariants.{HeapFull}
+use Rattle.jground.specs.declared.jops.value.Value.TheVariants.{Ctx, Int}
+use Rattle.jrights.specs.declared.jtrace.event.End.TheVariants.{HeapFull}
 use Rattle.jclass.specs.declared.class.CodeBody.{CodeBody}
 use Rattle.jprogram.specs.declared.member.Member.TheVariants.{LibMethod}
 use Rattle.jprogram.specs.declared.member.MethodId.{MethodId}
 use Rattle.jprogram.specs.declared.member.Selected.{Selected}
 use Rattle.jprogram.specs.declared.member.Selected.TheVariants as selected
 use Rattle.jprogram.specs.Classes.{Program}
-use Rattle.juses.specs.Instructions.{Local}
+use Rattle.jmeaning.specs.juses.Instructions.{Local}
 use Rattle.jctx.specs.declared.item.Item.{Item}
 use Rattle.jctx.specs.Contexts.{enter}
-use Rattle.jrule.specs.Uses.{exchange}
-use Rattle.jmachine.specs.declared.plan.Plan.{Plan}
-use Rattle.jmachine.specs.Acts.{Outcome, Went, Over, gives}
-use Rattle.jmachine.specs.Asking.{rt_row}
-use Rattle.jmachine.specs.Calls.{reached, target}
-use Rattle.jmachine.specs.Doing.{by_held, called, doing, used}
-use Rattle.jmachine.specs.Frames.{onward, standing, with_held}
-use Rattle.jmachine.specs.Operands.{taken}
-use Rattle.jmachine.specs.Steps.{acted, applied, done, executed, fetched, own_fields, site, step}
-use Rattle.jmachine.specs.Store.{Store, paid}
-use Rattle.jmachine.specs.Straight.{Held, holding, loaded, local, local_at, simple}
-use Rattle.jmachine.specs.Turns.{with_running}
-use Rattle.jmachine.specs.World.{world}
+use Rattle.jmeaning.specs.jrule.Uses.{exchange}
+use Rattle.jmodel.specs.declared.jmachine.plan.Plan.{Plan}
+use Rattle.jmodel.specs.jmachine.Acts.{Outcome, Went, Over, gives}
+use Rattle.jmodel.specs.jmachine.Asking.{rt_row}
+use Rattle.jmodel.specs.jmachine.Calls.{reached, target}
+use Rattle.jmodel.specs.jmachine.Doing.{by_held, called, doing, used}
+use Rattle.jmodel.specs.jmachine.Frames.{onward, standing, with_held}
+use Rattle.jmodel.specs.jmachine.Operands.{taken}
+use Rattle.jmodel.specs.jmachine.Steps.{acted, applied, done, executed, fetched, own_fields, site, step}
+use Rattle.jmodel.specs.jmachine.Store.{Store, paid}
+use Rattle.jmodel.specs.jmachine.Straight.{Held, holding, loaded, local, local_at, simple}
+use Rattle.jmodel.specs.jmachine.Turns.{with_running}
+use Rattle.jmodel.specs.jmachine.World.{world}
 use Rattle.jbeside.specs.Beside.{Noted, shadowed}
 use Rattle.jstands.specs.Expanding.{call_rt, keep, load, push}
 use Rattle.jstands.specs.Moves.{MovedCode}

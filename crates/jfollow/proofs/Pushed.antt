@@ -1,14 +1,14 @@
 -- A frame that is pushed, on both sides, and the context with which it begins.
 use Rattle.std.proofs.Common.{◌≡◌, ℕ, ◌+◌, ◌<◌, List, [], ◌∷◌, Option, Some, option_map, refl, ap, ◌∙◌, arith}
 use Rattle.std.specs.Prelude.{slice_set}
-use Rattle.jops.specs.declared.value.Value.TheVariants.{Ctx}
+use Rattle.jground.specs.declared.jops.value.Value.TheVariants.{Ctx}
 use Rattle.jclass.specs.declared.class.CodeBody.{CodeBody}
 use Rattle.jprogram.specs.declared.member.MethodId.{MethodId}
 use Rattle.jprogram.specs.Classes.{Program}
-use Rattle.juses.specs.Instructions.{code_at}
+use Rattle.jmeaning.specs.juses.Instructions.{code_at}
 use Rattle.jctx.specs.declared.item.Item.{Item}
 use Rattle.jctx.specs.Contexts.{enter}
-use Rattle.jmachine.specs.Frames.{begun, domain_of, frame_of, locals_of, places_of}
+use Rattle.jmodel.specs.jmachine.Frames.{begun, domain_of, frame_of, locals_of, places_of}
 use Rattle.jbeside.specs.Beside.{Noted, context_of, unmarked}
 use Rattle.jstands.specs.Moves.{MovedCode, Moves}
 use Rattle.jstands.specs.Stands.{Frame, NewestStands, Word, entries}

@@ -2,18 +2,18 @@
 use Rattle.std.proofs.Common.{◌≡◌, ℕ, zero, suc, ℤ, Bool, true, false, List, [], ◌∷◌, map, Option, Some, refl, ap}
 use Rattle.std.specs.Prelude.{if◌then◌else◌}
 use Rattle.std.specs.Ordering.{int_eq}
-use Rattle.jcode.specs.declared.names.Returned.{Returned}
-use Rattle.jnames.specs.declared.kinds.Kind.TheVariants as kinds
-use Rattle.jops.specs.declared.value.Value.TheVariants.{Int, Long, Ref, Ctx}
-use Rattle.jcode.specs.Forms.{returned}
-use Rattle.juses.specs.Instructions.{Instruction, Return, Switch, Throw}
+use Rattle.jparts.specs.declared.jcode.names.Returned.{Returned}
+use Rattle.jground.specs.declared.jnames.kinds.Kind.TheVariants as kinds
+use Rattle.jground.specs.declared.jops.value.Value.TheVariants.{Int, Long, Ref, Ctx}
+use Rattle.jparts.specs.jcode.Forms.{returned}
+use Rattle.jmeaning.specs.juses.Instructions.{Instruction, Return, Switch, Throw}
 use Rattle.jctx.specs.declared.item.Item.{Item}
-use Rattle.jrule.specs.Effects.{Fits, Of, of_kinds}
-use Rattle.jrule.specs.Uses.{throwable}
-use Rattle.jmachine.specs.Acts.{Jumps, Row, Outcome, free}
-use Rattle.jmachine.specs.Doing.{doing}
-use Rattle.jmachine.specs.Steps.{fetched}
-use Rattle.jmachine.specs.Straight.{case_of, leave, switch, throw}
+use Rattle.jmeaning.specs.jrule.Effects.{Fits, Of, of_kinds}
+use Rattle.jmeaning.specs.jrule.Uses.{throwable}
+use Rattle.jmodel.specs.jmachine.Acts.{Jumps, Row, Outcome, free}
+use Rattle.jmodel.specs.jmachine.Doing.{doing}
+use Rattle.jmodel.specs.jmachine.Steps.{fetched}
+use Rattle.jmodel.specs.jmachine.Straight.{case_of, leave, switch, throw}
 use Rattle.jbeside.specs.Beside.{Noted}
 use Rattle.jstands.specs.Expanding.{expanded, led_case}
 use Rattle.jstands.specs.Stands.{Frame, Point, Word}

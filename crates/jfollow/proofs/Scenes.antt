@@ -1,16 +1,16 @@
 -- The two machines before a step, with threads and frames that stand for one another.
 use Rattle.std.proofs.Common.{◌≡◌, ℕ, suc, List, [], ◌∷◌, length, Option, refl, ap, ◌∙◌}
 use Rattle.std.specs.Prelude.{Bool, nat_le}
-use Rattle.jperm.specs.declared.permission.Permission.{Permission}
+use Rattle.jrights.specs.declared.jperm.permission.Permission.{Permission}
 use Rattle.jprogram.specs.declared.member.MethodId.{MethodId}
 use Rattle.jprogram.specs.Classes.{Program}
 use Rattle.jctx.specs.declared.item.Item.{Item}
 use Rattle.jctx.specs.Laws.{PrivilegedSame}
-use Rattle.jmachine.specs.declared.plan.Plan.{Plan}
-use Rattle.jmachine.specs.Acts.{Act, Outcome, Row}
-use Rattle.jmachine.specs.Doing.{Doing}
-use Rattle.jmachine.specs.Steps.{acted, applied, done, site}
-use Rattle.jmachine.specs.World.{world}
+use Rattle.jmodel.specs.declared.jmachine.plan.Plan.{Plan}
+use Rattle.jmodel.specs.jmachine.Acts.{Act, Outcome, Row}
+use Rattle.jmodel.specs.jmachine.Doing.{Doing}
+use Rattle.jmodel.specs.jmachine.Steps.{acted, applied, done, site}
+use Rattle.jmodel.specs.jmachine.World.{world}
 use Rattle.jbeside.specs.Beside.{Noted, shadowed, sourced}
 use Rattle.jstands.specs.Moves.{Moves}
 use Rattle.jstands.specs.Stands.{BelowStands, Frame, Guest, GuestsStand, Heir, NewestStands, Point, Word, before, behind}

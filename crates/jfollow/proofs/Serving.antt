@@ -1,8 +1,8 @@
 -- Rows of the library and of arrays: each is its own row on the other side, since it neither calls nor jumps.
 use Rattle.std.proofs.Common.{ℕ, zero, suc, Bool, true, false, List, [], ◌∷◌, ◌++◌, Option, Some, None, option_map, Result, Ok, Err, refl, sym, subst}
 use Rattle.std.specs.Prelude.{length, option_and_then, pos, slice_get, if◌then◌else◌}
-use Rattle.jcode.specs.declared.form.ArrayForm.{ArrayForm}
-use Rattle.jcode.specs.declared.form.ArrayForm.TheVariants as forms
+use Rattle.jparts.specs.declared.jcode.form.ArrayForm.{ArrayForm}
+use Rattle.jparts.specs.declared.jcode.form.ArrayForm.TheVariants as forms
 use Rattle.jlib.specs.declared.calls.BuilderCall.{BuilderCall}
 use Rattle.jlib.specs.declared.calls.BuilderCall.TheVariants as builders
 use Rattle.jlib.specs.declared.calls.LibCall.{LibCall}
@@ -17,33 +17,33 @@ use Rattle.jlib.specs.declared.calls.ThrownInit.{ThrownInit}
 use Rattle.jlib.specs.declared.calls.ThrownInit.TheVariants as given
 use Rattle.jlib.specs.declared.classes.LibClass.TheVariants as lib
 use Rattle.jlib.specs.declared.classes.Thrown.TheVariants as thrown
-use Rattle.jops.specs.declared.value.Value.TheVariants.{Int, Long, Ref, Ctx}
-use Rattle.jperm.specs.declared.permission.Permission as perms
-use Rattle.jperm.specs.declared.making.PermError.{PermError}
-use Rattle.jperm.specs.Made.{made as perm_made}
-use Rattle.jrule.specs.Arrays.{of_numbers}
-use Rattle.jtypes.specs.declared.vtype.ArrayType.{ArrayType}
-use Rattle.jtypes.specs.declared.vtype.VType.{VType}
-use Rattle.jtypes.specs.declared.vtype.VType.TheVariants as types
+use Rattle.jground.specs.declared.jops.value.Value.TheVariants.{Int, Long, Ref, Ctx}
+use Rattle.jrights.specs.declared.jperm.permission.Permission as perms
+use Rattle.jrights.specs.declared.jperm.making.PermError.{PermError}
+use Rattle.jrights.specs.jperm.Made.{made as perm_made}
+use Rattle.jmeaning.specs.jrule.Arrays.{of_numbers}
+use Rattle.jground.specs.declared.jtypes.vtype.ArrayType.{ArrayType}
+use Rattle.jground.specs.declared.jtypes.vtype.VType.{VType}
+use Rattle.jground.specs.declared.jtypes.vtype.VType.TheVariants as types
 use Rattle.jthreads.specs.Table.{is_started, join_answer, table_after_start}
 use Rattle.jthreads.specs.declared.table.Joined.{Joined}
 use Rattle.jthreads.specs.declared.table.Joined.TheVariants.{AtOnce, Waits}
 use Rattle.jctx.specs.declared.item.Item.{Item}
-use Rattle.jmachine.specs.Acts.{Row, Switches, free, gives, raises}
-use Rattle.jmachine.specs.Arrays as arrays
-use Rattle.jmachine.specs.Arrays.{Items, items_in, is_stored, load_at, made, store_at, with_item, within}
-use Rattle.jmachine.specs.Library.{library, object_init}
-use Rattle.jmachine.specs.Making.{text_made, tested}
-use Rattle.jmachine.specs.Narrowing.{place}
-use Rattle.jmachine.specs.Operands.{type_of}
-use Rattle.jmachine.specs.Objects.{Builder}
-use Rattle.jmachine.specs.Permissions as permissions
-use Rattle.jmachine.specs.Sites.{Site}
-use Rattle.jmachine.specs.Store.{Store, object_at, with_object}
-use Rattle.jmachine.specs.Texts as texts
-use Rattle.jmachine.specs.Threads.{joined_by, number_in, started, thread, waiting}
-use Rattle.jmachine.specs.Throwables as throwables
-use Rattle.jmachine.specs.World.{World}
+use Rattle.jmodel.specs.jmachine.Acts.{Row, Switches, free, gives, raises}
+use Rattle.jmodel.specs.jmachine.Arrays as arrays
+use Rattle.jmodel.specs.jmachine.Arrays.{Items, items_in, is_stored, load_at, made, store_at, with_item, within}
+use Rattle.jmodel.specs.jmachine.Library.{library, object_init}
+use Rattle.jmodel.specs.jmachine.Making.{text_made, tested}
+use Rattle.jmodel.specs.jmachine.Narrowing.{place}
+use Rattle.jmodel.specs.jmachine.Operands.{type_of}
+use Rattle.jmodel.specs.jmachine.Objects.{Builder}
+use Rattle.jmodel.specs.jmachine.Permissions as permissions
+use Rattle.jmodel.specs.jmachine.Sites.{Site}
+use Rattle.jmodel.specs.jmachine.Store.{Store, object_at, with_object}
+use Rattle.jmodel.specs.jmachine.Texts as texts
+use Rattle.jmodel.specs.jmachine.Threads.{joined_by, number_in, started, thread, waiting}
+use Rattle.jmodel.specs.jmachine.Throwables as throwables
+use Rattle.jmodel.specs.jmachine.World.{World}
 use Rattle.jbeside.specs.Beside.{Noted}
 use Rattle.jstands.specs.Moves.{SameClasses}
 use Rattle.jstands.specs.Stands.{Word}

@@ -1,27 +1,27 @@
 -- What rows see of a world: a program and the moved program have the same classes and fields, and rows that don't call look at nothing else.
 use Rattle.std.proofs.Common.{◌≡◌, ℕ, List, refl, ap, ◌∙◌}
-use Rattle.jcode.specs.declared.form.ArrayForm.{ArrayForm}
-use Rattle.jcode.specs.declared.names.CastOp.{CastOp}
-use Rattle.jcode.specs.declared.names.FieldOp.{FieldOp}
-use Rattle.jops.specs.declared.value.Value.{Value}
+use Rattle.jparts.specs.declared.jcode.form.ArrayForm.{ArrayForm}
+use Rattle.jparts.specs.declared.jcode.names.CastOp.{CastOp}
+use Rattle.jparts.specs.declared.jcode.names.FieldOp.{FieldOp}
+use Rattle.jground.specs.declared.jops.value.Value.{Value}
 use Rattle.jlib.specs.declared.side.Side.TheVariants.{Source, Passing}
 use Rattle.jprogram.specs.declared.member.Member.{Member}
-use Rattle.jtypes.specs.declared.vtype.Name.{Name}
-use Rattle.jtypes.specs.declared.vtype.VType.{VType}
-use Rattle.juses.specs.declared.meaning.How.{How}
-use Rattle.juses.specs.declared.meaning.How.TheVariants as how
-use Rattle.juses.specs.Meanings.{CallMeaning}
-use Rattle.jrule.specs.Effects.{Want}
-use Rattle.jrule.specs.Uses.{of_call}
-use Rattle.jmachine.specs.Arrays as arrays
-use Rattle.jmachine.specs.Asked.{call_taken}
-use Rattle.jmachine.specs.Calls.{init_taken}
-use Rattle.jmachine.specs.Fields.{field}
-use Rattle.jmachine.specs.Making.{cast}
-use Rattle.jmachine.specs.Operands.{taken}
-use Rattle.jmachine.specs.Sites.{Site}
-use Rattle.jmachine.specs.Store.{Store}
-use Rattle.jmachine.specs.World.{World}
+use Rattle.jground.specs.declared.jtypes.vtype.Name.{Name}
+use Rattle.jground.specs.declared.jtypes.vtype.VType.{VType}
+use Rattle.jmeaning.specs.declared.juses.meaning.How.{How}
+use Rattle.jmeaning.specs.declared.juses.meaning.How.TheVariants as how
+use Rattle.jmeaning.specs.juses.Meanings.{CallMeaning}
+use Rattle.jmeaning.specs.jrule.Effects.{Want}
+use Rattle.jmeaning.specs.jrule.Uses.{of_call}
+use Rattle.jmodel.specs.jmachine.Arrays as arrays
+use Rattle.jmodel.specs.jmachine.Asked.{call_taken}
+use Rattle.jmodel.specs.jmachine.Calls.{init_taken}
+use Rattle.jmodel.specs.jmachine.Fields.{field}
+use Rattle.jmodel.specs.jmachine.Making.{cast}
+use Rattle.jmodel.specs.jmachine.Operands.{taken}
+use Rattle.jmodel.specs.jmachine.Sites.{Site}
+use Rattle.jmodel.specs.jmachine.Store.{Store}
+use Rattle.jmodel.specs.jmachine.World.{World}
 use Rattle.jstands.specs.Moves.{SameClasses}
 
 -- with another's ways to select methods and to find names

@@ -1,11 +1,11 @@
 -- Rows, frames and states of a moved program, as those of the program with other places, locals and numbers.
 use Rattle.std.proofs.Common.{◌≡◌, ℕ, ◌+◌, List, ◌∷◌, Option, arith}
-use Rattle.jops.specs.declared.value.Value.TheVariants.{Ctx}
+use Rattle.jground.specs.declared.jops.value.Value.TheVariants.{Ctx}
 use Rattle.jprogram.specs.Classes.{Program}
 use Rattle.jctx.specs.declared.item.Item.{Item}
-use Rattle.jmachine.specs.Acts.{Act, Jumps, Calls, Row}
-use Rattle.jmachine.specs.Doing.{Doing}
-use Rattle.jmachine.specs.Frames.{standing}
+use Rattle.jmodel.specs.jmachine.Acts.{Act, Jumps, Calls, Row}
+use Rattle.jmodel.specs.jmachine.Doing.{Doing}
+use Rattle.jmodel.specs.jmachine.Frames.{standing}
 use Rattle.jbeside.specs.Beside.{Noted}
 use Rattle.jstands.specs.Stands.{Frame, FrameStands, Guest, Point, Word}
 

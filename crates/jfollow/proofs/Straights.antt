@@ -1,30 +1,30 @@
 -- What a row makes of the frames, on both sides: whatever its act.
 use Rattle.std.proofs.Common.{◌≡◌, ℕ, suc, ◌+◌, ◌<◌, ◌≤◌, Bool, true, false, List, [], ◌∷◌, ◌++◌, length, Option, Some, None, option_map, refl, sym, ap, ◌∙◌, subst, arith}
 use Rattle.std.specs.Prelude.{nat_le, if◌then◌else◌}
-use Rattle.jops.specs.declared.value.Value.TheVariants.{Ctx}
+use Rattle.jground.specs.declared.jops.value.Value.TheVariants.{Ctx}
 use Rattle.jlib.specs.declared.classes.LibClass.{LibClass}
 use Rattle.jthreads.specs.declared.thread.Thread.{Thread as Entered}
 use Rattle.jthreads.specs.Table.{table_after_end}
-use Rattle.jtypes.specs.declared.vtype.Name.{Name}
-use Rattle.jtypes.specs.declared.vtype.VType.{VType}
-use Rattle.jtrace.specs.declared.event.Event.{Event}
-use Rattle.jtrace.specs.declared.event.Event.TheVariants.{Throw, Uncaught}
-use Rattle.jtrace.specs.declared.event.End.{End}
-use Rattle.jtrace.specs.declared.event.End.TheVariants.{HeapFull}
+use Rattle.jground.specs.declared.jtypes.vtype.Name.{Name}
+use Rattle.jground.specs.declared.jtypes.vtype.VType.{VType}
+use Rattle.jrights.specs.declared.jtrace.event.Event.{Event}
+use Rattle.jrights.specs.declared.jtrace.event.Event.TheVariants.{Throw, Uncaught}
+use Rattle.jrights.specs.declared.jtrace.event.End.{End}
+use Rattle.jrights.specs.declared.jtrace.event.End.TheVariants.{HeapFull}
 use Rattle.jprogram.specs.declared.member.MethodId.{MethodId}
 use Rattle.jprogram.specs.Classes.{Program}
 use Rattle.jclass.specs.declared.class.CodeBody.{CodeBody}
-use Rattle.juses.specs.Instructions.{Instruction, code_at}
+use Rattle.jmeaning.specs.juses.Instructions.{Instruction, code_at}
 use Rattle.jctx.specs.declared.item.Item.{Item}
-use Rattle.jmachine.specs.Acts.{Act, Goes, Jumps, Leaves, Calls, Raises, Throws, Switches, Makes, Outcome, Went, Over, NoStep, raised_cells}
-use Rattle.jmachine.specs.Frames.{domain_of, frame_of, locals_of, marked, onward, places_of, standing}
-use Rattle.jmachine.specs.Objects.{Object, class_of}
-use Rattle.jmachine.specs.Steps.{acted, applied, fetched, left, pushed, raised, thrown, thrown_at, thrown_to}
-use Rattle.jmachine.specs.Store.{Store, object_at, paid}
-use Rattle.jmachine.specs.Straight.{local_at}
-use Rattle.jmachine.specs.Turns.{ended, thread_of, with_ended, with_guest, with_running, with_table}
-use Rattle.jmachine.specs.Unwinding.{resumed, told_name, unwound, with_raised}
-use Rattle.jmachine.specs.World.{world}
+use Rattle.jmodel.specs.jmachine.Acts.{Act, Goes, Jumps, Leaves, Calls, Raises, Throws, Switches, Makes, Outcome, Went, Over, NoStep, raised_cells}
+use Rattle.jmodel.specs.jmachine.Frames.{domain_of, frame_of, locals_of, marked, onward, places_of, standing}
+use Rattle.jmodel.specs.jmachine.Objects.{Object, class_of}
+use Rattle.jmodel.specs.jmachine.Steps.{acted, applied, fetched, left, pushed, raised, thrown, thrown_at, thrown_to}
+use Rattle.jmodel.specs.jmachine.Store.{Store, object_at, paid}
+use Rattle.jmodel.specs.jmachine.Straight.{local_at}
+use Rattle.jmodel.specs.jmachine.Turns.{ended, thread_of, with_ended, with_guest, with_running, with_table}
+use Rattle.jmodel.specs.jmachine.Unwinding.{resumed, told_name, unwound, with_raised}
+use Rattle.jmodel.specs.jmachine.World.{world}
 use Rattle.jbeside.specs.Beside.{Noted, context_of, shadowed, sourced, unmarked}
 use Rattle.jcount.specs.Counting.{Answers}
 use Rattle.jstands.specs.Expanding.{expanded}

@@ -1,24 +1,24 @@
 -- Groups of instructions: what each takes is the same on both sides, so that its rows alone are compared.
 use Rattle.std.proofs.Common.{◌≡◌, ℕ, ◌+◌, ◌≤◌, Bool, true, false, List, [], ◌∷◌, length, Option, Some, None, option_map, Result, Ok, Err, refl, sym, ap, ◌∙◌, subst, arith}
 use Rattle.std.specs.Prelude.{slice_get}
-use Rattle.jops.specs.declared.value.DivideByZero.{DivideByZero}
-use Rattle.jops.specs.Operations.{divide, one, two}
-use Rattle.jcode.specs.declared.form.Simple.{Simple as SimpleForm}
-use Rattle.jcode.specs.declared.form.Simple.TheVariants as simples
-use Rattle.jcode.specs.Forms.{simple_effect}
-use Rattle.juses.specs.Instructions.{Instruction, Simple, Jump, Test}
+use Rattle.jground.specs.declared.jops.value.DivideByZero.{DivideByZero}
+use Rattle.jground.specs.jops.Operations.{divide, one, two}
+use Rattle.jparts.specs.declared.jcode.form.Simple.{Simple as SimpleForm}
+use Rattle.jparts.specs.declared.jcode.form.Simple.TheVariants as simples
+use Rattle.jparts.specs.jcode.Forms.{simple_effect}
+use Rattle.jmeaning.specs.juses.Instructions.{Instruction, Simple, Jump, Test}
 use Rattle.jctx.specs.declared.item.Item.{Item}
-use Rattle.jrule.specs.Effects.{Want, of_kinds}
-use Rattle.jrule.specs.Straight.{tested}
-use Rattle.jmachine.specs.Acts.{Act, Goes, Jumps, Leaves, Calls, Raises, Throws, Switches, Makes, Row, Outcome}
-use Rattle.jmachine.specs.Doing.{by_taken, doing}
-use Rattle.jmachine.specs.Frames.{with_operands}
-use Rattle.jmachine.specs.Operands.{Taken, taken}
-use Rattle.jmachine.specs.Sites.{Site}
-use Rattle.jmachine.specs.Steps.{executed, fetched, own_fields, site, step, step_at}
-use Rattle.jmachine.specs.Store.{Store}
-use Rattle.jmachine.specs.Straight.{branched, gives_one, holds, jump, quotient, simple}
-use Rattle.jmachine.specs.World.{world}
+use Rattle.jmeaning.specs.jrule.Effects.{Want, of_kinds}
+use Rattle.jmeaning.specs.jrule.Straight.{tested}
+use Rattle.jmodel.specs.jmachine.Acts.{Act, Goes, Jumps, Leaves, Calls, Raises, Throws, Switches, Makes, Row, Outcome}
+use Rattle.jmodel.specs.jmachine.Doing.{by_taken, doing}
+use Rattle.jmodel.specs.jmachine.Frames.{with_operands}
+use Rattle.jmodel.specs.jmachine.Operands.{Taken, taken}
+use Rattle.jmodel.specs.jmachine.Sites.{Site}
+use Rattle.jmodel.specs.jmachine.Steps.{executed, fetched, own_fields, site, step, step_at}
+use Rattle.jmodel.specs.jmachine.Store.{Store}
+use Rattle.jmodel.specs.jmachine.Straight.{branched, gives_one, holds, jump, quotient, simple}
+use Rattle.jmodel.specs.jmachine.World.{world}
 use Rattle.jbeside.specs.Beside.{Noted, shadowed, sourced, unmarked}
 use Rattle.jstands.specs.Expanding.{expanded}
 use Rattle.jstands.specs.Stands.{Frame, Point, Word, entries}

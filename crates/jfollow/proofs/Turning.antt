@@ -5,12 +5,12 @@ use Rattle.std.specs.List.{list_any}
 use Rattle.jthreads.specs.declared.thread.Thread.{Thread as Entered}
 use Rattle.jthreads.specs.Schedule.{picked}
 use Rattle.jthreads.specs.Table.{have_ended, runnable_numbers}
-use Rattle.jtrace.specs.declared.event.Event.{Event}
-use Rattle.jtrace.specs.declared.event.End.{End}
-use Rattle.jtrace.specs.declared.event.End.TheVariants.{Finished, Uncaught, Deadlock}
+use Rattle.jrights.specs.declared.jtrace.event.Event.{Event}
+use Rattle.jrights.specs.declared.jtrace.event.End.{End}
+use Rattle.jrights.specs.declared.jtrace.event.End.TheVariants.{Finished, Uncaught, Deadlock}
 use Rattle.jprogram.specs.Classes.{Program}
-use Rattle.jmachine.specs.Acts.{Outcome, Went, Over, NoStep}
-use Rattle.jmachine.specs.Turns.{end_of, given_to, guests, run_by, turn_of, turned}
+use Rattle.jmodel.specs.jmachine.Acts.{Outcome, Went, Over, NoStep}
+use Rattle.jmodel.specs.jmachine.Turns.{end_of, given_to, guests, run_by, turn_of, turned}
 use Rattle.jstands.specs.Stands.{Guest, GuestStands, GuestsStand, Point, Stands}
 
 module _ (p q : Program) where

@@ -1,10 +1,10 @@
 -- How the runs of a program and of its moved program begin: `main` of the latter enters its context first.
 use Rattle.std.specs.Prelude.{◌≡◌, ℕ, Bool, List, [], Some}
-use Rattle.jperm.specs.declared.permission.Permission.{Permission}
+use Rattle.jrights.specs.declared.jperm.permission.Permission.{Permission}
 use Rattle.jprogram.specs.Classes.{Program}
 use Rattle.jprogram.specs.Members.{main_of}
-use Rattle.jmachine.specs.declared.plan.Plan.{Plan}
-use Rattle.jmachine.specs.Opening.{opening_state}
+use Rattle.jmodel.specs.declared.jmachine.plan.Plan.{Plan}
+use Rattle.jmodel.specs.jmachine.Opening.{opening_state}
 use Rattle.jbeside.specs.Beside.{shadowed, sourced}
 use Rattle.jcount.specs.Counting.{Leads}
 use Rattle.jstands.specs.Moves.{Moves}

@@ -1,10 +1,10 @@
 -- The parts of methods: what room they need, and what they are together.
 use Rattle.std.proofs.Common.{◌≡◌, ℕ, zero, suc, ◌+◌, ◌*◌, ◌-◌, ◌≤◌, ◌<◌, false, List, [], ◌∷◌, ◌++◌, length, Result, refl, sym, ap, subst, ◌∙◌, arith, append_assoc}
 use Rattle.std.specs.Prelude.{IsTrue, OnOk, Some, if◌then◌else◌, slice_get, ◌==◌}
-use Rattle.jformat.specs.States.{fits_from}
-use Rattle.jpool.specs.declared.entry.Entry.TheVariants.{Class, Unused}
-use Rattle.jpool.specs.Entries.{shape, unused}
-use Rattle.jpool.specs.Pools.{IsPool, is_utf8}
+use Rattle.jground.specs.jformat.States.{fits_from}
+use Rattle.jparts.specs.declared.jpool.entry.Entry.TheVariants.{Class, Unused}
+use Rattle.jparts.specs.jpool.Entries.{shape, unused}
+use Rattle.jparts.specs.jpool.Pools.{IsPool, is_utf8}
 use Rattle.jgen.specs.declared.draws.Kind.{Kind}
 use Rattle.jgen.specs.declared.laying.Draft.{Draft}
 use Rattle.jgen.specs.Items.{Item, U1, U2, U4, have_room, most_of, width, widths, with_items}

@@ -7,11 +7,11 @@ use Rattle.std.specs.List.{position}
 use Rattle.std.proofs.lemmas.Bool.{cases_Bool, leb-false}
 use Rattle.std.proofs.lemmas.List.{length-append}
 use Rattle.std.proofs.lemmas.Option.{slice_get_within}
-use Rattle.jpool.specs.declared.entry.Entry.{Entry}
-use Rattle.jpool.specs.declared.entry.Entry.TheVariants as entries
-use Rattle.jpool.specs.declared.adder.AddError.TheVariants as add
-use Rattle.jpool.specs.Adding.{added, laid, put_behind, same}
-use Rattle.jpool.specs.Pools.{is_utf8}
+use Rattle.jparts.specs.declared.jpool.entry.Entry.{Entry}
+use Rattle.jparts.specs.declared.jpool.entry.Entry.TheVariants as entries
+use Rattle.jparts.specs.declared.jpool.adder.AddError.TheVariants as add
+use Rattle.jparts.specs.jpool.Adding.{added, laid, put_behind, same}
+use Rattle.jparts.specs.jpool.Pools.{is_utf8}
 use Rattle.jgen.specs.declared.laying.Draft.{Draft}
 use Rattle.jmove.specs.Additions.{Adding, found_or, with_entry, ◌>>◌}
 use Rattle.jgen.specs.Items.{with_bytes, with_index, with_small, IsPut, Puts}

@@ -3,7 +3,7 @@ use Rattle.std.proofs.Common.{◌≡◌, ℕ, ◌+◌, ◌≤◌, ◌<◌, Bool,
 use Rattle.std.specs.Prelude.{IsTrue, OnOk, nat_le}
 use Rattle.std.proofs.lemmas.Bool.{leb-true, le-leb}
 use Rattle.std.proofs.lemmas.List.{drop_all, drop_more}
-use Rattle.jformat.proofs.Steps.{both, first_true, second_true}
+use Rattle.jground.proofs.JformatProofs.Steps.{both, first_true, second_true}
 use Rattle.jgen.specs.declared.piece.Piece.{Piece}
 use Rattle.jgen.specs.declared.laying.Draft.{Draft}
 use Rattle.jgen.specs.Items.{Item, greatest, has_room, have_room, is_named_shortly, item_of, most, most_of, with_item, with_items}

@@ -1,7 +1,7 @@
 -- The class files of a made job.
 use Rattle.std.specs.Prelude.{ℕ, zero, suc, ◌+◌, Bool, List, [], ◌∷◌, ◌++◌, codes, decimal, ◌==◌, if◌then◌else◌}
-use Rattle.jpool.specs.declared.entry.Entry.TheVariants.{Unused}
-use Rattle.jpool.specs.Entries.{shape}
+use Rattle.jparts.specs.declared.jpool.entry.Entry.TheVariants.{Unused}
+use Rattle.jparts.specs.jpool.Entries.{shape}
 use Rattle.jgen.specs.declared.draws.Kind.{Kind}
 use Rattle.jgen.specs.declared.laying.Draft.{Draft}
 use Rattle.jgen.specs.Items.{Item, U1, U2, Text, Class, Field, Method, Str, block, with_items}

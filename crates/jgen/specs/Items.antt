@@ -1,8 +1,8 @@
 -- What stands in a class file behind its pool, item by item, and the entries that its items put into the pool.
 use Rattle.std.specs.Prelude.{◌≡◌, ℕ, ◌+◌, ◌≤◌, ◌<◌, Bool, true, ◌&&◌, nat_le, List, [], ◌∷◌, ◌++◌, length, Result, IfOk}
 use Rattle.std.specs.Int.{w16, w32, to_be_bytes}
-use Rattle.jpool.specs.declared.entry.Entry.{Entry}
-use Rattle.jpool.specs.declared.entry.Entry.TheVariants as entries
+use Rattle.jparts.specs.declared.jpool.entry.Entry.{Entry}
+use Rattle.jparts.specs.declared.jpool.entry.Entry.TheVariants as entries
 use Rattle.jmove.specs.Additions.{Adding, ◌>>◌, with_class, with_entry, with_member, with_text}
 use Rattle.jgen.specs.declared.piece.Piece.{Piece}
 use Rattle.jgen.specs.declared.piece.Piece.TheVariants as pieces

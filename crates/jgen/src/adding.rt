@@ -1,12 +1,12 @@
 ghost use Rattle.std.specs.Prelude.{◌≡◌, ◌≤◌, ◌+◌, IfOk, IsTrue, Some, length, slice_get};
-ghost use Rattle.jpool.specs.declared.entry.Entry.TheVariants as entries;
-ghost use Rattle.jpool.specs.Adding.{has_spelling, laid, names_text};
-ghost use Rattle.jpool.specs.Pools.{is_utf8};
+ghost use Rattle.jparts.specs.declared.jpool.entry.Entry.TheVariants as entries;
+ghost use Rattle.jparts.specs.jpool.Adding.{has_spelling, laid, names_text};
+ghost use Rattle.jparts.specs.jpool.Pools.{is_utf8};
 ghost use Rattle.jmove.specs.Additions.{with_class, with_entry, with_member, with_text};
 ghost use Rattle.jgen.specs.Items.{Puts, with_field, with_method, with_string};
 
-use jbase::Seq;
-use jpool::{AddError, Adder, Entry};
+use jground::jbase::Seq;
+use jparts::jpool::{AddError, Adder, Entry};
 use std::alloc::{AllocError, Global};
 
 /// Puts an entry into a pool that has room for it, unless an equal one is there.

@@ -10,8 +10,8 @@ use crate::laying::{Draft, put_pieces};
 use crate::methods::{put_f, put_head, put_init, put_run};
 use crate::piece::Piece::{Method, Text, U1, U2, U4};
 use crate::texts::name_of;
-use jbase::Seq;
-use jpool::{Adder, Entry, Pool, write_pool};
+use jground::jbase::Seq;
+use jparts::jpool::{Adder, Entry, Pool, write_pool};
 use std::alloc::{AllocError, Global};
 
 // ---- main
@@ -126,7 +126,7 @@ fn methods(i: u32) -> u16
 fn put_none(draft: &mut Draft) -> Result<(), AllocError>
     ensures { OnOk result (draft.new ≡ with_items (Items.U2 0 ∷ []) draft.old) }
 {
-    jformat::put_u16(0, &mut draft.body)
+    jground::jformat::put_u16(0, &mut draft.body)
 }
 
 /// Puts what stands behind a class's pool.
@@ -153,7 +153,7 @@ fn put_class(
 }
 
 /// The bytes of a class file.
-#[tactic(auto, unfolding(jpool::specs::Pools::pool))]
+#[tactic(auto, unfolding(jparts::specs::jpool::Pools::pool))]
 fn spelled(alloc: Global, draft: &Draft) -> Result<Seq<u8>, AllocError>
     ensures { IfOk result (λ bytes. bytes ≡ Classes.spelled draft.now) }
 {

@@ -2,7 +2,7 @@ ghost use Rattle.std.specs.Prelude.{◌≡◌, ◌≤◌, ◌<◌, ◌+◌, ◌*
 ghost use Rattle.jgen.specs.Draws;
 ghost use Rattle.jgen.specs.Draws.{drawn, kinds, state};
 
-use jbase::Seq;
+use jground::jbase::Seq;
 use std::alloc::{AllocError, Global};
 
 /// What is drawn for a class.

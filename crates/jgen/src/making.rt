@@ -5,7 +5,7 @@ ghost use Rattle.jgen.specs.Files.{class_file, class_files};
 use crate::class::class_bytes;
 use crate::draws::{Kind, kinds_of};
 use crate::texts::{job_text, path_of, policy_text};
-use jbase::Seq;
+use jground::jbase::Seq;
 use std::alloc::{AllocError, Global};
 
 /// A file of a made job.

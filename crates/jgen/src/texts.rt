@@ -4,7 +4,7 @@ ghost use Rattle.jgen.specs.Files;
 ghost use Rattle.jgen.specs.Files.{base, grant, grants, path, source, sources};
 
 use crate::draws::Kind;
-use jbase::Seq;
+use jground::jbase::Seq;
 use std::alloc::{AllocError, Global};
 
 /// Puts the decimal digits of a number behind bytes.

@@ -5,11 +5,11 @@ use crate::said::{Piece, Said};
 use crate::scene::{Scene, scene_of, told_in};
 use crate::stacks::say_found;
 use jclass::write_class;
-use jcode::{Op, Placed, effect_of, form_of};
-use jlink::LinkedProgram;
-use jnames::{Kind, Kinds};
+use jground::jnames::{Kind, Kinds};
+use jground::jtext::{Units, bytes_of};
+use jlinking::jlink::LinkedProgram;
+use jparts::jcode::{Op, Placed, effect_of, form_of};
 use jprogram::{CodePart, MethodId};
-use jtext::{Units, bytes_of};
 use jwalk::frame_before;
 
 fn word_of(kind: Kind) -> &'static str {

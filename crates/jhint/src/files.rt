@@ -2,11 +2,11 @@ ghost use Rattle.std.specs.Prelude.{◌≡◌, ◌≤◌, ◌<◌, ◌^◌, IfSo
 
 use crate::said::Said;
 use jclass::read_class;
-use jio::Shelf;
 use jjob::{Job, JobSource, Text, read_job};
 use jlib::Side;
-use jlink::{LinkedProgram, are_parts, link};
+use jlinking::jlink::{LinkedProgram, are_parts, link};
 use jprogram::{CodePart, NamedProgram};
+use jrights::jio::Shelf;
 use std::alloc::Global;
 
 /// All bytes of the file at a path, where it can be read.

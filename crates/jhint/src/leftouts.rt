@@ -2,8 +2,8 @@ use crate::references::{Sort, reference_at};
 use crate::scene::{Scene, Told};
 use bitflags::Flags;
 use jclass::{Access, MemberInfo};
-use jcode::{ArrayForm, CallOp, Form, Op, Placed, PoolForm, form_of};
-use jpool::Entry;
+use jparts::jcode::{ArrayForm, CallOp, Form, Op, Placed, PoolForm, form_of};
+use jparts::jpool::Entry;
 use jprogram::{has_code, member_desc, member_name};
 
 const FLOATS: &str = "float and double are left out: whole numbers of a smaller unit";

@@ -1,8 +1,8 @@
 use crate::said::{Piece, Said};
 use crate::scene::{Scene, member_of, say_place, scene_of};
+use jground::jtext::Units;
 use jmoveclass::RewriteKind;
 use jprogram::NamedProgram;
-use jtext::Units;
 use std::alloc::Global;
 
 /// The most bytes of a moved method's code.

@@ -4,10 +4,10 @@ use crate::leftouts::left_out;
 use crate::references::{Reference, bad_class, bad_member, say_reference};
 use crate::said::{Piece, Said};
 use crate::scene::{Scene, Told, is_layered, member_of, say_place, scene_of};
-use jcode::Placed;
+use jground::jtext::{Units, bytes_of};
 use jlib::{Side, class, member};
+use jparts::jcode::Placed;
 use jprogram::{LinkKind, NamedProgram, class_text, super_name};
-use jtext::{Units, bytes_of};
 
 // ---- what isn't there
 

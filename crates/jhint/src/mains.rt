@@ -2,9 +2,9 @@ use crate::said::{Piece, Said};
 use crate::scene::scene_of;
 use bitflags::Flags;
 use jclass::{Access, ClassParts, MemberInfo};
+use jground::jtext::Units;
 use jlib::Side;
 use jprogram::{NamedProgram, Reach, has_code, member_desc, member_name, reach_of};
-use jtext::Units;
 
 /// The descriptor of the method with which a run begins.
 fn desc_of(side: Side) -> &'static [u8] {

@@ -1,8 +1,8 @@
 use crate::said::{Piece, Said};
-use jbase::Stop;
-use jformat::At;
+use jground::jbase::Stop;
+use jground::jformat::At;
+use jground::jtext::Units;
 use jpolicy::{PolicyFault, read_policy};
-use jtext::Units;
 
 /// The longest front of a policy of which is tried what could stand behind it.
 const MOST_TRIED: usize = 1_000_000;

@@ -2,10 +2,10 @@ ghost use Rattle.jprogram.specs.Layers.{IsLayered};
 
 use crate::said::{Piece, Said};
 use crate::scene::{Scene, Told};
-use jcode::{ArrayForm, FieldOp, Form, Handler, Op, Placed, PoolForm, form_of};
-use jpool::Entry;
+use jmeaning::juses::CodeRef;
+use jparts::jcode::{ArrayForm, FieldOp, Form, Handler, Op, Placed, PoolForm, form_of};
+use jparts::jpool::Entry;
 use jprogram::{LinkKind, Member, class_text, member_desc, text_at, this_name};
-use juses::CodeRef;
 use std::alloc::{AllocError, Global};
 
 #[derive(Clone, Copy)]

@@ -1,8 +1,8 @@
 ghost use Rattle.std.specs.Prelude.{◌<◌};
 
-use jbase::Stop;
-use jio::{Sink, put_all};
-use jtext::{Units, units_of};
+use jground::jbase::Stop;
+use jground::jtext::{Units, units_of};
+use jrights::jio::{Sink, put_all};
 use std::alloc::Global;
 
 /// The most units of a text that are told.

@@ -4,12 +4,12 @@ ghost use Rattle.jprogram.specs.Layers.{IsLayered};
 use crate::said::{Piece, Said};
 use bitflags::Flags;
 use jclass::{Access, ClassParts, MemberInfo};
+use jground::jtext::{Units, bytes_of};
+use jmeaning::juses::{CodeRef, code_at};
 use jprogram::{
     ClassRef, MethodId, NamedProgram, member_desc, member_name, program_laws, same_package,
     this_name,
 };
-use jtext::{Units, bytes_of};
-use juses::{CodeRef, code_at};
 use std::alloc::Global;
 
 /// A class of a program, which a refusal names, and its number among the parts.

@@ -1,8 +1,8 @@
 use crate::said::{Piece, Said};
-use jcode::{Access, Form, LocalForm, Op, form_of};
+use jmeaning::jrule::FrameRef;
+use jmeaning::juses::{ArrayRef, ElementRef, TypeRef};
+use jparts::jcode::{Access, Form, LocalForm, Op, form_of};
 use jprogram::NamedProgram;
-use jrule::FrameRef;
-use juses::{ArrayRef, ElementRef, TypeRef};
 
 /// The most operands that are told, the newest ones.
 const MOST_OPERANDS: usize = 8;

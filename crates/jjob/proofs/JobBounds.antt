@@ -7,7 +7,7 @@ use Rattle.std.specs.Str.Lossy.{utf8_valid_len}
 use Rattle.std.proofs.lemmas.List.{length-append}
 use Rattle.std.proofs.lemmas.List.Elements.{filter_map-append}
 use Rattle.std.proofs.lemmas.List.Sums.{sum_by-cons}
-use Rattle.jbase.specs.First.{fault_if, first_along, first_some, or_else}
+use Rattle.jground.specs.jbase.First.{fault_if, first_along, first_some, or_else}
 use Rattle.jjob.specs.Limits.{IsWithin, classes_in, most_classes, most_codes}
 use Rattle.jjob.specs.declared.job.Job.{Job}
 use Rattle.jjob.specs.declared.job.JobError.{JobError}

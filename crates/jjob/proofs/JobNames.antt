@@ -17,8 +17,8 @@ use Rattle.std.proofs.lemmas.List.{append-nil, map-append}
 use Rattle.std.proofs.lemmas.List.Sorted.{Contains-permutation, IsPermutation-map, IsPermutation-sym, ranks_by, sorted_far}
 use Rattle.std.proofs.lemmas.Map.Text.{is_eq-slice_cmp}
 use Rattle.std.proofs.lemmas.Slice.Eq.{bytes_eq-Decides}
-use Rattle.jbase.specs.First.{fault_if, first_along}
-use Rattle.jbase.proofs.Firsts.{first_found, none_fails}
+use Rattle.jground.specs.jbase.First.{fault_if, first_along}
+use Rattle.jground.proofs.JbaseProofs.Firsts.{first_found, none_fails}
 use Rattle.jjob.specs.declared.line.Said.TheVariants.{Prop}
 use Rattle.jjob.specs.JobLines.{SaysNoProp, is_kept, said_of}
 use Rattle.jjob.proofs.JobReading.{says_no_name}

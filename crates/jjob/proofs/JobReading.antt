@@ -7,11 +7,11 @@ use Rattle.std.specs.Option.{is_some}
 use Rattle.url.specs.Parts.{Parts}
 use Rattle.std.specs.Str.{bytes_eq}
 use Rattle.std.specs.Result.{result_ok}
-use Rattle.jbase.specs.Each.{each_some}
-use Rattle.jdomain.specs.Sources.{source_of}
+use Rattle.jground.specs.jbase.Each.{each_some}
+use Rattle.jrights.specs.jdomain.Sources.{source_of}
 use Rattle.std.proofs.lemmas.List.{append-nil, length-append, map-append}
 use Rattle.std.proofs.lemmas.List.Elements.{filter_map-append, filter-append}
-use Rattle.jbase.specs.First.{fault_if, first_along, or_else}
+use Rattle.jground.specs.jbase.First.{fault_if, first_along, or_else}
 use Rattle.jjob.specs.Limits.{most_codes, most_classes, most_picks, most_heap, most_depth, most_steps, greatest_pick}
 use Rattle.jjob.specs.declared.line.Said.{Said}
 use Rattle.jjob.specs.declared.line.Said.TheVariants.{Policy, Prop, Cwd, Code, Class, Main, Schedule, Heap, Depth, Steps}

@@ -7,7 +7,7 @@ use Rattle.std.proofs.lemmas.List.Concat.{flat_map-append}
 use Rattle.std.proofs.lemmas.List.Elements.{filter_map-append}
 use Rattle.std.specs.Prelude.{nat_le}
 use Rattle.url.specs.Parts.{Parts}
-use Rattle.jbase.specs.First.{first_some, or_else}
+use Rattle.jground.specs.jbase.First.{first_some, or_else}
 use Rattle.jjob.specs.declared.job.JobSource.{JobSource}
 use Rattle.jjob.specs.Limits.{most_classes}
 use Rattle.jjob.specs.declared.line.Said.{Said}

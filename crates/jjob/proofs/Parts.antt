@@ -4,8 +4,8 @@ use Rattle.std.specs.List.{slice_split, before_first, after_first, position_or_l
 use Rattle.std.proofs.lemmas.List.Splits.{slice_split_first, slice_split_none}
 use Rattle.std.proofs.lemmas.List.Sums.{fails_before_first}
 use Rattle.std.proofs.lemmas.List.{append-nil}
-use Rattle.jbase.specs.Each.{each_some, put_front}
-use Rattle.jbase.proofs.Loops.{some_behind}
+use Rattle.jground.specs.jbase.Each.{each_some, put_front}
+use Rattle.jground.proofs.JbaseProofs.Loops.{some_behind}
 
 pub split_here : (c : ℕ) (text first more : List ℕ) → position_or_len (λ b. b == c) text < length text → first ≡ before_first (λ b. b == c) text → more ≡ after_first (λ b. b == c) text → slice_split (λ b. b == c) text ≡ first ∷ slice_split (λ b. b == c) more
 split_here c text first more l e f = rw (e, f) (slice_split_first (λ b. b == c) text 0 l)

@@ -4,7 +4,7 @@ use Rattle.std.specs.List.{flat_map}
 use Rattle.std.specs.Char.Escape.{encode_utf16}
 use Rattle.std.proofs.lemmas.Bool.{lt-ltb}
 use Rattle.std.proofs.lemmas.Str.{chars-IsAscii}
-use Rattle.jtext.specs.Texts.{units_of_text}
+use Rattle.jground.specs.jtext.Texts.{units_of_text}
 
 one_unit : (b : ℕ) → b < 128 → encode_utf16 b ≡ b ∷ []
 one_unit b small = rw (lt-ltb b 0x1_0000 (omega arith)) refl

@@ -2,7 +2,7 @@
 use Rattle.std.specs.Prelude.{◌≡◌, ℕ, ◌+◌, Bool, false, ◌||◌, ◌==◌, List, [], ◌∷◌, ◌++◌, length, nat_le, nat_lt, Option, Some, None}
 use Rattle.std.specs.List.{filter_map, flat_map}
 use Rattle.std.specs.Option.{is_some, option_to_list}
-use Rattle.jbase.specs.First.{first_some}
+use Rattle.jground.specs.jbase.First.{first_some}
 use Rattle.jjob.specs.declared.job.JobSource.{JobSource}
 use Rattle.jjob.specs.Limits.{most_codes, most_classes, most_picks}
 use Rattle.jjob.specs.declared.line.Said.{Said}

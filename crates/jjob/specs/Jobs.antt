@@ -6,8 +6,8 @@ use Rattle.std.specs.Option.{is_some}
 use Rattle.std.specs.Str.{bytes_eq, is_utf8}
 use Rattle.std.specs.Str.Lossy.{utf8_valid_len}
 use Rattle.url.specs.Parts.{Parts}
-use Rattle.jbase.specs.First.{fault_if, first_along, first_some}
-use Rattle.jtext.specs.Texts.{units_of_text}
+use Rattle.jground.specs.jbase.First.{fault_if, first_along, first_some}
+use Rattle.jground.specs.jtext.Texts.{units_of_text}
 use Rattle.jjob.specs.declared.job.Job.{Job}
 use Rattle.jjob.specs.declared.job.JobError.{JobError}
 use Rattle.jjob.specs.declared.job.JobError.TheVariants.{Line, Memory}

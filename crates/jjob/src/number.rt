@@ -1,9 +1,9 @@
 ghost use Rattle.std.specs.Prelude.{◌≡◌, [], ◌∷◌, length, ◌<◌, ◌≤◌, ◌==◌, IfNone, IfOk, IfSome, Some, None};
 ghost use Rattle.std.specs.List.{slice_split};
-ghost use Rattle.jbase.specs.Each.{each_some};
+ghost use Rattle.jground.specs.jbase.Each.{each_some};
 ghost use Rattle.jjob.specs.JobNumbers.{number_up_to};
 
-use jbase::Seq;
+use jground::jbase::Seq;
 use std::alloc::{AllocError, Global};
 
 /// The number that 1 to 20 decimal digits write, if it is at most `most`.

@@ -4,7 +4,7 @@ ghost use Rattle.jjob.specs.Storing.{line_with, lines_with, paths_behind};
 
 use crate::reading::first_line;
 use crate::text::Text;
-use jbase::Seq;
+use jground::jbase::Seq;
 use std::alloc::{AllocError, Global};
 
 /// Whether a line names a class file.

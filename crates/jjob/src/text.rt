@@ -1,7 +1,7 @@
 ghost use Rattle.std.specs.Prelude.{◌≡◌, IfOk};
-ghost use Rattle.jtext.specs.Texts.{units_of_text};
+ghost use Rattle.jground.specs.jtext.Texts.{units_of_text};
 
-use jtext::Units;
+use jground::jtext::Units;
 use std::alloc::{AllocError, Global};
 use std::marker::Model;
 

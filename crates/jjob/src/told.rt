@@ -1,6 +1,6 @@
 ghost use Rattle.std.specs.Prelude.{◌≡◌, [], ◌∷◌, ◌++◌, ◌<◌, List, IfOk, OnOk, None, false, codes, length, unwrap_or};
 ghost use Rattle.std.specs.Option.{option_map, option_to_list};
-ghost use Rattle.jbase.specs.First.{first_some};
+ghost use Rattle.jground.specs.jbase.First.{first_some};
 ghost use Rattle.jjob.specs.declared.line.Said.{Said as SaidValue};
 ghost use Rattle.jjob.specs.declared.line.Said.TheVariants.{Class, Code, Prop};
 ghost use Rattle.jjob.specs.Jobs.{job_of, main_in};
@@ -12,9 +12,9 @@ use crate::job::{
 };
 use crate::line::Said;
 use crate::text::{Text, units_of, widened};
-use jbase::Seq;
-use jdomain::CodeSource;
-use jtext::Units;
+use jground::jbase::Seq;
+use jground::jtext::Units;
+use jrights::jdomain::CodeSource;
 use std::alloc::{AllocError, Global};
 
 /// What the lines so far give.

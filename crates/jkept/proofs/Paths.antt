@@ -1,6 +1,6 @@
 -- What the frames of the stack that was kept last stand for.
 use Rattle.std.proofs.Common.{◌≡◌, ℕ, zero, suc, ◌+◌, ◌-◌, ◌<◌, ◌≤◌, List, [], ◌∷◌, ◌++◌, Option, Some, None, length, get_or, take, drop, refl, sym, ap, subst, ◌∙◌, arith, length-append, slice_get}
-use Rattle.jdomain.specs.Stacks.{Bottom}
+use Rattle.jrights.specs.jdomain.Stacks.{Bottom}
 use Rattle.jkept.specs.declared.mark.InspectMark.{InspectMark}
 use Rattle.jkept.specs.declared.entry.KeptEntry.{KeptEntry}
 use Rattle.jkept.specs.declared.entry.KeptEntry.TheVariants.{Empty, Frame}

@@ -1,7 +1,7 @@
 ghost use Rattle.std.specs.Prelude.{◌≡◌, [], ◌<◌, ◌≤◌, ◌++◌, IfOk, OnOk, OnErr, Some, length, take};
 ghost use Rattle.std.specs.Option.{option_copied};
-ghost use Rattle.jdomain.specs.Domains.{has};
-ghost use Rattle.jdomain.specs.Stacks.{Privileged, walk};
+ghost use Rattle.jrights.specs.jdomain.Domains.{has};
+ghost use Rattle.jrights.specs.jdomain.Stacks.{Privileged, walk};
 ghost use Rattle.jkept.specs.Entries.{AllBelow, Below, Extends, IsBack};
 ghost use Rattle.jkept.specs.Things.{Keeps, given_at, mark_at, stack_at, stack_of, things};
 
@@ -9,9 +9,9 @@ use crate::entry::KeptEntry;
 use crate::mark::InspectMark;
 use crate::path::Path;
 use crate::table::Table;
-use jbase::Seq;
-use jdomain::{Domains, Verdict};
-use jperm::Permission;
+use jground::jbase::Seq;
+use jrights::jdomain::{Domains, Verdict};
+use jrights::jperm::Permission;
 use std::alloc::{AllocError, Global};
 use std::marker::Model;
 

@@ -1,11 +1,11 @@
 ghost use Rattle.std.specs.Prelude.{◌≡◌, [], ◌<◌, ◌≤◌, ◌∷◌, ◌++◌, IfOk, OnOk, OnErr, Some, length, slice_get, take};
-ghost use Rattle.jdomain.specs.Stacks.{Nothing, Privileged};
+ghost use Rattle.jrights.specs.jdomain.Stacks.{Nothing, Privileged};
 ghost use Rattle.jkept.specs.Entries.{Below, EntryBelow, Extends, IsBack};
 ghost use Rattle.jkept.specs.Things.{given_at, mark_at, things};
 
 use crate::entry::KeptEntry;
-use jbase::Seq;
-use jperm::Permission;
+use jground::jbase::Seq;
+use jrights::jperm::Permission;
 use std::alloc::{AllocError, Global};
 use std::marker::Model;
 

@@ -1,7 +1,7 @@
 ghost use Rattle.std.specs.Prelude.{◌≡◌, ℕ, Bool, ◌<◌, ◌≤◌, IfOk, IfSome, OnOk, Some, None, length, slice_get, true};
-ghost use Rattle.jperm.specs.declared.permission.Permission.{Permission};
-ghost use Rattle.jdomain.specs.Domains.{has};
-ghost use Rattle.jdomain.specs.Stacks.{some_implies, walk, walk_given};
+ghost use Rattle.jrights.specs.declared.jperm.permission.Permission.{Permission};
+ghost use Rattle.jrights.specs.jdomain.Domains.{has};
+ghost use Rattle.jrights.specs.jdomain.Stacks.{some_implies, walk, walk_given};
 ghost use Rattle.jkept.specs.Entries.{AllBelow, Below};
 ghost use Rattle.jkept.specs.Settled.{Grants, Knows, given_in, given_of, is_last, known, settled, settled_frame, settled_mark, stack_from};
 ghost use Rattle.jkept.specs.Things.{mark_at, stack_at, stack_of, things};
@@ -9,15 +9,15 @@ ghost use Rattle.jkept.specs.Things.{mark_at, stack_at, stack_of, things};
 use crate::entry::{KeptEntry, KeptFrame};
 use crate::mark::InspectMark;
 use crate::table::Table;
-use jbase::Seq;
-use jdomain::{Domains, Verdict};
-use jperm::Permission;
+use jground::jbase::Seq;
+use jrights::jdomain::{Domains, Verdict};
+use jrights::jperm::Permission;
 use std::alloc::{AllocError, Global};
 
 // ---- what a privilege settles
 
 /// Whether one of the limits by itself implies a permission.
-#[tactic(auto, unfolding(jdomain::specs::Stacks::some_implies))]
+#[tactic(auto, unfolding(jrights::specs::jdomain::Stacks::some_implies))]
 fn some_implies(limits: &Seq<Permission>, asked: &Permission) -> bool
     ensures { result ≡ some_implies limits.now asked.now }
 {

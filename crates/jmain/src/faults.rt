@@ -1,5 +1,5 @@
 use jhint::say_file;
-use jio::{MOST_READ, Sink};
+use jrights::jio::{MOST_READ, Sink};
 use std::fs::{self, File};
 use std::io::ErrorKind;
 

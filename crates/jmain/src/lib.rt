@@ -14,7 +14,7 @@ use crate::faults::{say_unread, say_unstored};
 use jdriver::Status;
 pub use jdriver::javasec;
 use jhint::say_why;
-use jio::{RealShelf, RealSink};
+use jrights::jio::{RealShelf, RealSink};
 use std::alloc::Global;
 use std::process::ExitCode;
 use std::{env, io};

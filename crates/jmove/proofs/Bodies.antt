@@ -1,7 +1,7 @@
 -- All that a method's code names, put in its order.
 use Rattle.std.proofs.Common.{◌≡◌, ℕ, List, Result, Ok, refl}
-use Rattle.jmaps.specs.declared.types.FullFrame.{FullFrame}
-use Rattle.jpool.specs.declared.entry.Entry.{Entry}
+use Rattle.jparts.specs.declared.jmaps.types.FullFrame.{FullFrame}
+use Rattle.jparts.specs.declared.jpool.entry.Entry.{Entry}
 use Rattle.jmove.specs.declared.method.Expand.{Expand}
 use Rattle.jmove.specs.declared.method.MoveError.{MoveError}
 use Rattle.jmove.specs.declared.naming.Security.TheVariants.{Enter}

@@ -3,11 +3,11 @@ use Rattle.std.proofs.Common.{◌≡◌, ℕ, zero, suc, ◌+◌, ◌-◌, List,
 use Rattle.std.specs.Prelude.{IsTrue, slice_get}
 use Rattle.std.specs.List.{list_all}
 use Rattle.std.proofs.lemmas.List.{length-append}
-use Rattle.jformat.specs.States.{fits_from, spell_from}
-use Rattle.jformat.proofs.Steps.{first_true, second_true}
-use Rattle.jcode.specs.declared.op.Placed.{Placed}
-use Rattle.jcode.specs.Instructions.{size, placed, place_behind, instructions, leads, code}
-use Rattle.jcode.proofs.CodeLaws.{fits_at}
+use Rattle.jground.specs.jformat.States.{fits_from, spell_from}
+use Rattle.jground.proofs.JformatProofs.Steps.{first_true, second_true}
+use Rattle.jparts.specs.declared.jcode.op.Placed.{Placed}
+use Rattle.jparts.specs.jcode.Instructions.{size, placed, place_behind, instructions, leads, code}
+use Rattle.jparts.proofs.JcodeProofs.CodeLaws.{fits_at}
 use Rattle.jmove.specs.Lines.{Laid}
 
 laid_from : (s : ℕ) (ps : List Placed) → IsTrue (fits_from (λ t. (placed t).fits) place_behind s ps) → Laid s ps (s + length (spell_from (λ t. (placed t).spell) place_behind s ps))

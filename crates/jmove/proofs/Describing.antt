@@ -7,9 +7,9 @@ use Rattle.std.proofs.Math.Seq.{take-append_seam, drop-append_seam}
 use Rattle.std.proofs.lemmas.Grind.{flat_map-append}
 use Rattle.std.proofs.lemmas.List.{drop_more, drop_all, length-append}
 use Rattle.std.proofs.lemmas.List.Concat.{flat_map-cons}
-use Rattle.jpool.specs.declared.descriptor.FieldType.{FieldType}
-use Rattle.jpool.specs.declared.descriptor.Descriptor.TheVariants.{Method}
-use Rattle.jpool.specs.Descriptors.{type_text, return_text, descriptor_text}
+use Rattle.jparts.specs.declared.jpool.descriptor.FieldType.{FieldType}
+use Rattle.jparts.specs.declared.jpool.descriptor.Descriptor.TheVariants.{Method}
+use Rattle.jparts.specs.jpool.Descriptors.{type_text, return_text, descriptor_text}
 use Rattle.jmove.specs.Additions.{context_type}
 
 pub types_more : (ts : List FieldType) (i count total : ℕ) (t : FieldType) → i < length ts → t ≡ get_or ts i t → count + length (flat_map type_text (drop i ts)) ≡ total

@@ -5,10 +5,10 @@ use Rattle.std.specs.Option.{option_or}
 use Rattle.std.specs.List.{position}
 use Rattle.std.proofs.lemmas.Bool.{cases_Bool, leb-false}
 use Rattle.std.proofs.lemmas.List.{length-append}
-use Rattle.jmaps.specs.declared.types.FullFrame.{FullFrame}
-use Rattle.jpool.specs.declared.entry.Entry.{Entry}
-use Rattle.jpool.specs.declared.entry.Entry.TheVariants as entries
-use Rattle.jpool.specs.Adding.{added, laid, put_behind, same}
+use Rattle.jparts.specs.declared.jmaps.types.FullFrame.{FullFrame}
+use Rattle.jparts.specs.declared.jpool.entry.Entry.{Entry}
+use Rattle.jparts.specs.declared.jpool.entry.Entry.TheVariants as entries
+use Rattle.jparts.specs.jpool.Adding.{added, laid, put_behind, same}
 use Rattle.jmove.specs.declared.method.MoveError.{MoveError}
 use Rattle.jmove.specs.declared.method.MoveError.TheVariants as errors
 use Rattle.jmove.specs.declared.method.Expand.{Expand}

@@ -1,10 +1,10 @@
 -- The parts of a moved method, put together.
 use Rattle.std.proofs.Common.{◌≡◌, ℕ, ◌+◌, List, [], ◌++◌, map, refl, ap, ◌∙◌, sym}
 use mathlib.Core.Path.{fun_ext}
-use Rattle.jcode.specs.declared.op.Op.{Op}
-use Rattle.jcode.specs.declared.op.Placed.{Placed}
-use Rattle.jcode.specs.declared.op.Handler.{Handler}
-use Rattle.jmaps.specs.declared.types.FullFrame.{FullFrame}
+use Rattle.jparts.specs.declared.jcode.op.Op.{Op}
+use Rattle.jparts.specs.declared.jcode.op.Placed.{Placed}
+use Rattle.jparts.specs.declared.jcode.op.Handler.{Handler}
+use Rattle.jparts.specs.declared.jmaps.types.FullFrame.{FullFrame}
 use Rattle.jmove.specs.declared.method.Expand.{Expand}
 use Rattle.jmove.specs.declared.method.MethodIn.{MethodIn}
 use Rattle.jmove.specs.declared.method.MethodOut.{MethodOut}

@@ -4,14 +4,14 @@ use Rattle.std.specs.Prelude.{All, IsTrue}
 use Rattle.std.specs.List.{AllByRecursion}
 use Rattle.std.proofs.lemmas.List.{length-map}
 use Rattle.std.proofs.lemmas.List.Elements.{All-from_recursion, recursion_from_All}
-use Rattle.jpool.specs.declared.entry.Entry.{Entry}
-use Rattle.jmaps.specs.declared.types.MapType.{MapType}
-use Rattle.jmaps.specs.declared.types.MapType.TheVariants as types
-use Rattle.jmaps.specs.declared.types.FullFrame.{FullFrame}
-use Rattle.jcode.specs.declared.names.Access.TheVariants.{Load}
-use Rattle.jcode.specs.declared.op.Op.{Op}
-use Rattle.jcode.specs.declared.op.Placed.{Placed}
-use Rattle.jcode.specs.Instructions.{code, size}
+use Rattle.jparts.specs.declared.jpool.entry.Entry.{Entry}
+use Rattle.jparts.specs.declared.jmaps.types.MapType.{MapType}
+use Rattle.jparts.specs.declared.jmaps.types.MapType.TheVariants as types
+use Rattle.jparts.specs.declared.jmaps.types.FullFrame.{FullFrame}
+use Rattle.jparts.specs.declared.jcode.names.Access.TheVariants.{Load}
+use Rattle.jparts.specs.declared.jcode.op.Op.{Op}
+use Rattle.jparts.specs.declared.jcode.op.Placed.{Placed}
+use Rattle.jparts.specs.jcode.Instructions.{code, size}
 use Rattle.jmove.specs.declared.method.Expand.{Expand}
 use Rattle.jmove.specs.declared.method.Expand.TheVariants.{Same, Call, Check, Snapshot, Privileged, PrivilegedWith, PrivilegedLimited}
 use Rattle.jmove.specs.declared.method.MethodIn.{MethodIn}

@@ -1,18 +1,18 @@
 -- How many bytes instructions have, wherever they stand.
 use Rattle.std.proofs.Common.{◌≡◌, ℕ, ℤ, ◌+◌, ◌≤◌, length, refl, arith, cond, Bool, true, false, nat_lt, if◌then◌else◌}
-use Rattle.jcode.specs.declared.names.Access.{Access}
-use Rattle.jcode.specs.declared.names.Access.TheVariants.{Load, Store}
-use Rattle.jcode.specs.declared.op.Op.{Op}
-use Rattle.jcode.specs.declared.op.Op.TheVariants as ops
-use Rattle.jcode.specs.declared.head.Head.{Head}
-use Rattle.jcode.specs.declared.head.Head.TheVariants as heads
-use Rattle.jcode.specs.declared.head.OtherHead.TheVariants as other
-use Rattle.jcode.specs.declared.names.LocalKind.TheVariants.{Ref}
-use Rattle.jcode.specs.declared.op.LocalOp.TheVariants.{At}
-use Rattle.jcode.specs.declared.op.Wide.TheVariants.{Local}
-use Rattle.jcode.specs.Operands.{Operand, operands, wide, interface_call}
-use Rattle.jcode.specs.Instructions.{size, instruction, behind, parts}
-use Rattle.jcode.proofs.Sizes.{table_length, lookup_length}
+use Rattle.jparts.specs.declared.jcode.names.Access.{Access}
+use Rattle.jparts.specs.declared.jcode.names.Access.TheVariants.{Load, Store}
+use Rattle.jparts.specs.declared.jcode.op.Op.{Op}
+use Rattle.jparts.specs.declared.jcode.op.Op.TheVariants as ops
+use Rattle.jparts.specs.declared.jcode.head.Head.{Head}
+use Rattle.jparts.specs.declared.jcode.head.Head.TheVariants as heads
+use Rattle.jparts.specs.declared.jcode.head.OtherHead.TheVariants as other
+use Rattle.jparts.specs.declared.jcode.names.LocalKind.TheVariants.{Ref}
+use Rattle.jparts.specs.declared.jcode.op.LocalOp.TheVariants.{At}
+use Rattle.jparts.specs.declared.jcode.op.Wide.TheVariants.{Local}
+use Rattle.jparts.specs.jcode.Operands.{Operand, operands, wide, interface_call}
+use Rattle.jparts.specs.jcode.Instructions.{size, instruction, behind, parts}
+use Rattle.jparts.proofs.JcodeProofs.Sizes.{table_length, lookup_length}
 use Rattle.jmove.specs.Lines.{with_branches}
 use Rattle.jmove.specs.Moved.{move_ref, push_int, call_static, calling}
 

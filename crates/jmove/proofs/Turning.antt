@@ -2,11 +2,11 @@
 use Rattle.std.proofs.Common.{◌≡◌, ℕ, ◌+◌, ◌<◌, ◌≤◌, List, [], ◌∷◌, ◌++◌, length, get_or, drop, Some, None, Result, Ok, Err, refl, ap, ◌∙◌, sym, subst, append_assoc, append-nil, inl, inr}
 use Rattle.std.specs.Prelude.{IsTrue, IfOk, slice_get, ◌⊎◌}
 use Rattle.std.proofs.lemmas.List.{drop_more, drop_all}
-use Rattle.jpool.specs.declared.entry.Entry.{Entry}
-use Rattle.jpool.specs.declared.entry.Entry.TheVariants as entries
-use Rattle.jpool.specs.declared.adder.AddError.TheVariants as add
-use Rattle.jpool.specs.Adding.{added}
-use Rattle.jpool.specs.Pools.{is_utf8}
+use Rattle.jparts.specs.declared.jpool.entry.Entry.{Entry}
+use Rattle.jparts.specs.declared.jpool.entry.Entry.TheVariants as entries
+use Rattle.jparts.specs.declared.jpool.adder.AddError.TheVariants as add
+use Rattle.jparts.specs.jpool.Adding.{added}
+use Rattle.jparts.specs.jpool.Pools.{is_utf8}
 use Rattle.jmove.specs.declared.method.Expand.{Expand}
 use Rattle.jmove.specs.declared.method.MoveError.{MoveError}
 use Rattle.jmove.specs.declared.naming.Reference.{Reference}

@@ -3,15 +3,15 @@ use Rattle.std.specs.Prelude.{◌≡◌, ℕ, ◌<◌, Bool, true, false, nat_le
 use Rattle.std.specs.Prelude.{Option, Some, None, Result, Ok, Err, option_and_then}
 use Rattle.std.specs.List.{position}
 use Rattle.std.specs.Str.{byte}
-use Rattle.jpool.specs.declared.entry.Entry.{Entry}
-use Rattle.jpool.specs.declared.entry.Entry.TheVariants as entries
-use Rattle.jpool.specs.declared.descriptor.FieldType.{FieldType}
-use Rattle.jpool.specs.declared.descriptor.Descriptor.{Descriptor}
-use Rattle.jpool.specs.declared.descriptor.Descriptor.TheVariants as descriptors
-use Rattle.jpool.specs.Adding.{laid, same}
-use Rattle.jpool.specs.Descriptors.{descriptor_of, descriptor_text}
-use Rattle.jpool.specs.Pools.{name_and_type_at, utf8_at}
-use Rattle.jmaps.specs.declared.types.FullFrame.{FullFrame}
+use Rattle.jparts.specs.declared.jpool.entry.Entry.{Entry}
+use Rattle.jparts.specs.declared.jpool.entry.Entry.TheVariants as entries
+use Rattle.jparts.specs.declared.jpool.descriptor.FieldType.{FieldType}
+use Rattle.jparts.specs.declared.jpool.descriptor.Descriptor.{Descriptor}
+use Rattle.jparts.specs.declared.jpool.descriptor.Descriptor.TheVariants as descriptors
+use Rattle.jparts.specs.jpool.Adding.{laid, same}
+use Rattle.jparts.specs.jpool.Descriptors.{descriptor_of, descriptor_text}
+use Rattle.jparts.specs.jpool.Pools.{name_and_type_at, utf8_at}
+use Rattle.jparts.specs.declared.jmaps.types.FullFrame.{FullFrame}
 use Rattle.jmove.specs.declared.method.Expand.{Expand}
 use Rattle.jmove.specs.declared.method.Expand.TheVariants as kinds
 use Rattle.jmove.specs.declared.method.MoveError.{MoveError}

@@ -1,8 +1,8 @@
 -- Frames of moved code (JVMS 4.7.4).
 use Rattle.std.specs.Prelude.{ℕ, ◌+◌, ◌-◌, List, [], ◌∷◌, ◌++◌, length, map, replicate}
-use Rattle.jmaps.specs.declared.types.MapType.{MapType}
-use Rattle.jmaps.specs.declared.types.MapType.TheVariants.{Top, Long, Uninit, Object}
-use Rattle.jmaps.specs.declared.types.FullFrame.{FullFrame}
+use Rattle.jparts.specs.declared.jmaps.types.MapType.{MapType}
+use Rattle.jparts.specs.declared.jmaps.types.MapType.TheVariants.{Top, Long, Uninit, Object}
+use Rattle.jparts.specs.declared.jmaps.types.FullFrame.{FullFrame}
 
 -- a type whose `new` stands at another place
 abbrev pub moved_type : (ℕ → ℕ) → MapType → MapType

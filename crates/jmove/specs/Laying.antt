@@ -1,8 +1,8 @@
 -- What holds of lines, and of code by its places.
 use Rattle.std.specs.Prelude.{◌≡◌, ◌≤◌, ℕ, List, ◌++◌, map, length, IsTrue}
-use Rattle.jcode.specs.declared.op.Op.{Op}
-use Rattle.jcode.specs.declared.op.Placed.{Placed}
-use Rattle.jcode.specs.Instructions.{code}
+use Rattle.jparts.specs.declared.jcode.op.Op.{Op}
+use Rattle.jparts.specs.declared.jcode.op.Placed.{Placed}
+use Rattle.jparts.specs.jcode.Instructions.{code}
 use Rattle.jmove.specs.Lines.{Line, Do, reach, end_of, place_of, Laid}
 
 -- Lines go on behind the instructions that stand in front of them,

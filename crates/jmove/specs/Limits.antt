@@ -1,9 +1,9 @@
 -- What the limits of a method depend on, and what they give.
 use Rattle.std.specs.Prelude.{◌≡◌, ◌≤◌, ℕ, List, map, None}
-use Rattle.jpool.specs.declared.entry.Entry.{Entry}
-use Rattle.jmaps.specs.declared.types.MapType.{MapType}
-use Rattle.jmaps.specs.declared.types.MapType.TheVariants.{Object}
-use Rattle.jmaps.specs.declared.types.FullFrame.{FullFrame}
+use Rattle.jparts.specs.declared.jpool.entry.Entry.{Entry}
+use Rattle.jparts.specs.declared.jmaps.types.MapType.{MapType}
+use Rattle.jparts.specs.declared.jmaps.types.MapType.TheVariants.{Object}
+use Rattle.jparts.specs.declared.jmaps.types.FullFrame.{FullFrame}
 use Rattle.jmove.specs.declared.method.Expand.{Expand}
 use Rattle.jmove.specs.declared.method.MethodIn.{MethodIn}
 use Rattle.jmove.specs.Additions.{numbered, with_body}

@@ -1,15 +1,15 @@
 -- What an assembler makes of lines: labels, and instructions whose branches lead to labels.
 use Rattle.std.specs.Prelude.{◌≡◌, ℕ, ◌+◌, ℤ, pos, ◌+ℤ◌, ◌-ℤ◌, unsigned_abs, ◌==◌, if◌then◌else◌, List, [], ◌∷◌, map}
-use Rattle.jcode.specs.declared.op.Op.{Op}
-use Rattle.jcode.specs.declared.op.Op.TheVariants.{If, IfInt, IfRef, Goto, Switch}
-use Rattle.jcode.specs.declared.op.Goto.TheVariants as gotos
-use Rattle.jcode.specs.declared.op.Switch.{Switch as AnySwitch}
-use Rattle.jcode.specs.declared.op.Switch.TheVariants.{Table, Lookup}
-use Rattle.jcode.specs.declared.op.TableSwitch.{TableSwitch}
-use Rattle.jcode.specs.declared.op.LookupSwitch.{LookupSwitch}
-use Rattle.jcode.specs.declared.op.Case.{Case}
-use Rattle.jcode.specs.declared.op.Placed.{Placed}
-use Rattle.jcode.specs.Instructions.{size, placed_at}
+use Rattle.jparts.specs.declared.jcode.op.Op.{Op}
+use Rattle.jparts.specs.declared.jcode.op.Op.TheVariants.{If, IfInt, IfRef, Goto, Switch}
+use Rattle.jparts.specs.declared.jcode.op.Goto.TheVariants as gotos
+use Rattle.jparts.specs.declared.jcode.op.Switch.{Switch as AnySwitch}
+use Rattle.jparts.specs.declared.jcode.op.Switch.TheVariants.{Table, Lookup}
+use Rattle.jparts.specs.declared.jcode.op.TableSwitch.{TableSwitch}
+use Rattle.jparts.specs.declared.jcode.op.LookupSwitch.{LookupSwitch}
+use Rattle.jparts.specs.declared.jcode.op.Case.{Case}
+use Rattle.jparts.specs.declared.jcode.op.Placed.{Placed}
+use Rattle.jparts.specs.jcode.Instructions.{size, placed_at}
 
 -- A label names a place of the old code, and takes no bytes. The branches of an instruction count from a place of the old code, and
 -- lead to the labels of old places.

@@ -1,6 +1,6 @@
 -- A method that is moved, and the pool that grows by what it names.
 use Rattle.std.specs.Prelude.{◌≡◌, ℕ, nat_lt, if◌then◌else◌, List, length, Option, Some, None, Result, Ok, Err}
-use Rattle.jpool.specs.declared.entry.Entry.{Entry}
+use Rattle.jparts.specs.declared.jpool.entry.Entry.{Entry}
 use Rattle.jmove.specs.declared.method.Expand.{Expand}
 use Rattle.jmove.specs.declared.method.MethodIn.{MethodIn}
 use Rattle.jmove.specs.declared.method.MethodOut.{MethodOut}

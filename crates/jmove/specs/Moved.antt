@@ -2,18 +2,18 @@
 -- that it then has to what it calls.
 use Rattle.std.specs.Prelude.{◌≡◌, ◌≤◌, ℕ, pos, ◌+◌, max, length, All, IsTrue, Bool, ◌==◌, ◌||◌, nat_lt, if◌then◌else◌}
 use Rattle.std.specs.Prelude.{List, [], ◌∷◌, ◌++◌, map, Option, Some, None}
-use Rattle.jcode.specs.declared.names.Access.{Access}
-use Rattle.jcode.specs.declared.names.Access.TheVariants.{Load, Store}
-use Rattle.jcode.specs.declared.names.LocalKind.TheVariants.{Ref}
-use Rattle.jcode.specs.declared.names.CallOp.TheVariants.{Static}
-use Rattle.jcode.specs.declared.op.Op.{Op}
-use Rattle.jcode.specs.declared.op.Op.TheVariants as ops
-use Rattle.jcode.specs.declared.op.IntConst.TheVariants.{Short}
-use Rattle.jcode.specs.declared.op.LocalOp.TheVariants.{At}
-use Rattle.jcode.specs.declared.op.Wide.TheVariants.{Local}
-use Rattle.jcode.specs.declared.op.Placed.{Placed}
-use Rattle.jcode.specs.declared.op.Handler.{Handler}
-use Rattle.jcode.specs.Instructions.{code}
+use Rattle.jparts.specs.declared.jcode.names.Access.{Access}
+use Rattle.jparts.specs.declared.jcode.names.Access.TheVariants.{Load, Store}
+use Rattle.jparts.specs.declared.jcode.names.LocalKind.TheVariants.{Ref}
+use Rattle.jparts.specs.declared.jcode.names.CallOp.TheVariants.{Static}
+use Rattle.jparts.specs.declared.jcode.op.Op.{Op}
+use Rattle.jparts.specs.declared.jcode.op.Op.TheVariants as ops
+use Rattle.jparts.specs.declared.jcode.op.IntConst.TheVariants.{Short}
+use Rattle.jparts.specs.declared.jcode.op.LocalOp.TheVariants.{At}
+use Rattle.jparts.specs.declared.jcode.op.Wide.TheVariants.{Local}
+use Rattle.jparts.specs.declared.jcode.op.Placed.{Placed}
+use Rattle.jparts.specs.declared.jcode.op.Handler.{Handler}
+use Rattle.jparts.specs.jcode.Instructions.{code}
 use Rattle.jmove.specs.declared.method.Expand.{Expand}
 use Rattle.jmove.specs.declared.method.Expand.TheVariants.{Same, Call, Check, Snapshot, Privileged, PrivilegedWith, PrivilegedLimited}
 use Rattle.jmove.specs.declared.method.MethodIn.{MethodIn}

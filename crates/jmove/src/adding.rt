@@ -1,8 +1,8 @@
 ghost use Rattle.std.specs.Prelude.{◌≡◌, ◌≤◌, List, IfOk, IfSome, IsTrue, Some, length, option_map, slice_get};
-ghost use Rattle.jpool.specs.declared.entry.Entry.TheVariants as entries;
-ghost use Rattle.jpool.specs.Adding.{has_spelling, names_text};
-ghost use Rattle.jpool.specs.declared.entry.Entry.{Entry};
-ghost use Rattle.jpool.specs.Pools.{is_utf8, name_and_type_at};
+ghost use Rattle.jparts.specs.declared.jpool.entry.Entry.TheVariants as entries;
+ghost use Rattle.jparts.specs.jpool.Adding.{has_spelling, names_text};
+ghost use Rattle.jparts.specs.declared.jpool.entry.Entry.{Entry};
+ghost use Rattle.jparts.specs.jpool.Pools.{is_utf8, name_and_type_at};
 ghost use Rattle.jmove.specs.Additions;
 ghost use Rattle.jmove.specs.Additions.{Adds, changed_text, with_body, with_call, with_changed, with_class, with_entry, with_expansions, with_frames, with_member};
 ghost use Rattle.jmove.specs.Additions.{with_number, with_security, with_text};
@@ -10,9 +10,9 @@ ghost use Rattle.jmove.specs.Additions.{with_number, with_security, with_text};
 use crate::descriptor::moved_descriptor;
 use crate::method::{Expand, MoveError};
 use crate::naming::{Named, Reference, Security};
-use jbase::Seq;
-use jmaps::FullFrame;
-use jpool::{AddError, Adder, Entry, Pool};
+use jground::jbase::Seq;
+use jparts::jmaps::FullFrame;
+use jparts::jpool::{AddError, Adder, Entry, Pool};
 use std::alloc::{AllocError, Global};
 
 /// Puts an entry into a pool, unless an equal one is there.

@@ -3,8 +3,8 @@ ghost use Rattle.jmove.specs.Lines.{case_with, lookup_with, switch_with, table_w
 ghost use Rattle.jmove.specs.Tables.{distances};
 
 use crate::places::Places;
-use jbase::Seq;
-use jcode::{Boxed, Case, Goto, LookupSwitch, Op, Switch, TableSwitch};
+use jground::jbase::Seq;
+use jparts::jcode::{Boxed, Case, Goto, LookupSwitch, Op, Switch, TableSwitch};
 use std::alloc::{AllocError, Global};
 use std::marker::Model;
 

@@ -1,9 +1,9 @@
 ghost use Rattle.std.specs.Prelude.{◌≡◌, ◌≤◌, ◌<◌, ◌++◌, ◌^◌, IfOk, IsTrue, drop, length, option_map, take};
 ghost use Rattle.std.specs.List.{flat_map};
-ghost use Rattle.jpool.specs.Descriptors.{is_type, type_text};
+ghost use Rattle.jparts.specs.jpool.Descriptors.{is_type, type_text};
 ghost use Rattle.jmove.specs.Additions;
 
-use jpool::{DescError, Descriptor, FieldType, read_descriptor};
+use jparts::jpool::{DescError, Descriptor, FieldType, read_descriptor};
 use std::alloc::{AllocError, Global};
 
 /// The number of bytes of a type in a descriptor.

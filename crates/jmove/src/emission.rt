@@ -1,5 +1,5 @@
 ghost use Rattle.std.specs.Prelude.{◌≡◌, ◌+◌, ◌≤◌, ◌<◌, ◌++◌, ◌∷◌, [], IfOk, OnOk, length, map};
-ghost use Rattle.jcode.specs.Instructions.{placed_at, size};
+ghost use Rattle.jparts.specs.jcode.Instructions.{placed_at, size};
 ghost use Rattle.jmove.specs.Lines;
 ghost use Rattle.jmove.specs.Lines.{Do, placed, with_branches};
 ghost use Rattle.jmove.specs.Moved;
@@ -10,7 +10,7 @@ use crate::branching::{Distances, led};
 use crate::method::{Expand, Setting};
 use crate::places::Places;
 use crate::sizing::{move_size, reach};
-use jcode::{Access, CallOp, IntConst, LocalKind, LocalOp, Op, Placed, Wide, size_at};
+use jparts::jcode::{Access, CallOp, IntConst, LocalKind, LocalOp, Op, Placed, Wide, size_at};
 use std::alloc::{AllocError, Global};
 
 /// aload or astore.

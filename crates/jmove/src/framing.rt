@@ -1,12 +1,12 @@
 ghost use Rattle.std.specs.Prelude.{◌≡◌, ◌≤◌, ◌++◌, ◌∷◌, [], All, IfOk, OnOk, map, replicate, nat_lt};
-ghost use Rattle.jmaps.specs.declared.types.MapType.TheVariants.{Top};
+ghost use Rattle.jparts.specs.declared.jmaps.types.MapType.TheVariants.{Top};
 ghost use Rattle.jmove.specs.Frames;
 ghost use Rattle.jmove.specs.Frames.{moved_frame, moved_type, items_of, unsaid};
 ghost use Rattle.jmove.specs.Tables.{in_table};
 
 use crate::places::Places;
-use jbase::Seq;
-use jmaps::{FullFrame, MapType};
+use jground::jbase::Seq;
+use jparts::jmaps::{FullFrame, MapType};
 use std::alloc::{AllocError, Global};
 
 fn width(one: MapType) -> usize

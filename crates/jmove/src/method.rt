@@ -1,9 +1,9 @@
 ghost use Rattle.std.specs.Prelude.{◌≡◌};
 ghost use Rattle.jmove.specs.declared.method.MoveError.TheVariants.{Memory};
 
-use jbase::Seq;
-use jcode::{Handler, Placed};
-use jmaps::FullFrame;
+use jground::jbase::Seq;
+use jparts::jcode::{Handler, Placed};
+use jparts::jmaps::FullFrame;
 use std::alloc::AllocError;
 
 /// What an instruction becomes, by what its reference resolves to; each but `Same` with that reference's index in the pool.

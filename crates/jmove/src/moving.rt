@@ -1,5 +1,5 @@
 ghost use Rattle.std.specs.Prelude.{◌≡◌, ◌≤◌, ◌<◌, ℕ, IfOk, IsTrue, None, length, map};
-ghost use Rattle.jcode.specs.Instructions.{code};
+ghost use Rattle.jparts.specs.jcode.Instructions.{code};
 ghost use Rattle.jmove.specs.Lines;
 ghost use Rattle.jmove.specs.Lines.{end_of, place_of, placed};
 ghost use Rattle.jmove.specs.Moved;
@@ -11,8 +11,8 @@ use crate::framing::{frames_moved, too_many};
 use crate::method::{Expand, MethodIn, MethodOut, MoveError, Setting};
 use crate::places::{Places, places_of};
 use crate::sizing::{end_of, move_size};
-use jbase::Seq;
-use jcode::{Handler, Op, Placed, size_at};
+use jground::jbase::Seq;
+use jparts::jcode::{Handler, Op, Placed, size_at};
 use std::alloc::{AllocError, Global};
 
 /// The local that holds the context.

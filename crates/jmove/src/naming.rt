@@ -1,5 +1,5 @@
 use crate::method::Expand;
-use jbase::Seq;
+use jground::jbase::Seq;
 
 /// A method of `sps/Rt`, which is static.
 #[rattlefmt::skip]

@@ -5,7 +5,7 @@ ghost use Rattle.jmove.specs.Tables.{in_table};
 
 use crate::method::{Expand, Setting};
 use crate::sizing::reach;
-use jcode::Placed;
+use jparts::jcode::Placed;
 use std::alloc::{AllocError, Global};
 use std::marker::Model;
 

@@ -1,11 +1,11 @@
 ghost use Rattle.std.specs.Prelude.{◌≡◌, ◌+◌, ◌≤◌, ℕ, length};
-ghost use Rattle.jcode.specs.declared.names.Access.{Access};
-ghost use Rattle.jcode.specs.Instructions.{size};
+ghost use Rattle.jparts.specs.declared.jcode.names.Access.{Access};
+ghost use Rattle.jparts.specs.jcode.Instructions.{size};
 ghost use Rattle.jmove.specs.Lines;
 ghost use Rattle.jmove.specs.Moved.{expansion, expansions, move_ref};
 
 use crate::method::{Expand, Setting};
-use jcode::{Op, Placed, size_at};
+use jparts::jcode::{Op, Placed, size_at};
 
 /// How many bytes an aload or an astore has.
 #[tactic(auto, using(crate::proofs::Sizes::move_size))]

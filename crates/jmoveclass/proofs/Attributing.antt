@@ -1,8 +1,8 @@
 -- What becomes of attributes; and that where no method breaks a limit none of its codes does.
 use Rattle.std.proofs.Common.{◌≡◌, ℕ, List, [], ◌∷◌, Option, Some, None, refl, ap, sym, ◌∙◌, subst}
 use Rattle.std.specs.Prelude.{IsTrue, option_map}
-use Rattle.jbase.proofs.Firsts.{none_fails}
-use Rattle.jpool.specs.declared.entry.Entry.{Entry}
+use Rattle.jground.proofs.JbaseProofs.Firsts.{none_fails}
+use Rattle.jparts.specs.declared.jpool.entry.Entry.{Entry}
 use Rattle.jclass.specs.declared.class.Attribute.{Attribute}
 use Rattle.jclass.specs.declared.class.Attribute.TheVariants.{Code, ConstantValue, Raw}
 use Rattle.jclass.specs.declared.class.ClassParts.{ClassParts}

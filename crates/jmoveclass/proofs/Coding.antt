@@ -1,7 +1,7 @@
 -- A code that is moved: what was put for its beginning, and then the method that it makes.
 use Rattle.std.proofs.Common.{◌≡◌, ℕ, List, None, Result, sym, ◌∙◌}
-use Rattle.jpool.specs.declared.entry.Entry.{Entry}
-use Rattle.jmaps.specs.declared.types.MapType.{MapType}
+use Rattle.jparts.specs.declared.jpool.entry.Entry.{Entry}
+use Rattle.jparts.specs.declared.jmaps.types.MapType.{MapType}
 use Rattle.jclass.specs.declared.class.Attribute.{Attribute}
 use Rattle.jclass.specs.declared.class.ClassParts.{ClassParts}
 use Rattle.jclass.specs.declared.class.CodeBody.{CodeBody}

@@ -1,10 +1,10 @@
 -- A class that is moved whole, and the limit that its pool breaks.
 use Rattle.std.proofs.Common.{◌≡◌, ℕ, ◌<◌, ◌≤◌, List, length, Option, Some, None, refl, ap, sym, ◌∙◌, arith}
 use Rattle.std.proofs.lemmas.Bool.{le-ltb, lt-ltb}
-use Rattle.jbase.specs.First.{first_along, or_else}
-use Rattle.jpool.specs.declared.entry.Entry.{Entry}
-use Rattle.jpool.specs.Pools.{IsPool}
-use Rattle.jpool.proofs.Grown.{laid_count}
+use Rattle.jground.specs.jbase.First.{first_along, or_else}
+use Rattle.jparts.specs.declared.jpool.entry.Entry.{Entry}
+use Rattle.jparts.specs.jpool.Pools.{IsPool}
+use Rattle.jparts.proofs.JpoolProofs.Grown.{laid_count}
 use Rattle.jclass.specs.declared.class.ClassParts.{ClassParts}
 use Rattle.jclass.specs.declared.class.MemberInfo.{MemberInfo}
 use Rattle.jprogram.specs.Classes.{Program}

@@ -1,10 +1,10 @@
 -- What is put for a class only grows its pool.
 use Rattle.std.proofs.Common.{ℕ, Bool, true, false, List, [], ◌∷◌, ◌++◌}
 use Rattle.std.specs.Prelude.{if◌then◌else◌}
-use Rattle.jpool.specs.declared.descriptor.FieldType.{FieldType}
-use Rattle.jpool.specs.declared.entry.Entry.TheVariants as entries
-use Rattle.jmaps.specs.declared.types.MapType.{MapType}
-use Rattle.jmaps.specs.declared.types.RawFrame.{RawFrame}
+use Rattle.jparts.specs.declared.jpool.descriptor.FieldType.{FieldType}
+use Rattle.jparts.specs.declared.jpool.entry.Entry.TheVariants as entries
+use Rattle.jparts.specs.declared.jmaps.types.MapType.{MapType}
+use Rattle.jparts.specs.declared.jmaps.types.RawFrame.{RawFrame}
 use Rattle.jclass.specs.declared.class.Attribute.{Attribute}
 use Rattle.jclass.specs.declared.class.Attribute.TheVariants.{Code, ConstantValue, Raw}
 use Rattle.jclass.specs.declared.class.ClassParts.{ClassParts}

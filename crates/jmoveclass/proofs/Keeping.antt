@@ -2,13 +2,13 @@
 use Rattle.std.proofs.Common.{◌≡◌, ℕ, Bool, true, false, ◌&&◌, not, List, [], ◌∷◌, length, Option, Some, None, refl, sym, ap, subst, ◌∙◌, inl, inr}
 use Rattle.std.specs.Prelude.{IsTrue, is_some, slice_get, codes, ◌||◌}
 use Rattle.std.specs.List.{list_all}
-use Rattle.jformat.specs.Format.{is_good, unless}
-use Rattle.jformat.specs.Bodies.{block}
-use Rattle.jformat.specs.States.{counted_from, fits_from}
-use Rattle.jformat.proofs.Steps.{both, first_true, second_true}
-use Rattle.jpool.specs.declared.entry.Entry.{Entry}
-use Rattle.jpool.specs.Descriptors.{is_field_descriptor}
-use Rattle.jpool.specs.Pools.{class_name_at, is_utf8, utf8_at}
+use Rattle.jground.specs.jformat.Format.{is_good, unless}
+use Rattle.jground.specs.jformat.Bodies.{block}
+use Rattle.jground.specs.jformat.States.{counted_from, fits_from}
+use Rattle.jground.proofs.JformatProofs.Steps.{both, first_true, second_true}
+use Rattle.jparts.specs.declared.jpool.entry.Entry.{Entry}
+use Rattle.jparts.specs.jpool.Descriptors.{is_field_descriptor}
+use Rattle.jparts.specs.jpool.Pools.{class_name_at, is_utf8, utf8_at}
 use Rattle.jclass.specs.declared.access.Access.{Access}
 use Rattle.jclass.specs.declared.class.Attribute.{Attribute}
 use Rattle.jclass.specs.declared.class.Attribute.TheVariants.{Code, ConstantValue, Raw}

@@ -8,19 +8,19 @@ use Rattle.std.proofs.lemmas.Grind.{flat_map-append}
 use Rattle.std.proofs.lemmas.List.{length-append}
 use Rattle.std.proofs.lemmas.List.Concat.{flat_map-cons}
 use Rattle.std.proofs.lemmas.List.Elements.{All-from_recursion}
-use Rattle.jpool.specs.declared.descriptor.Descriptor.{Descriptor}
-use Rattle.jpool.specs.declared.descriptor.Descriptor.TheVariants as descriptors
-use Rattle.jpool.specs.declared.descriptor.FieldType.{FieldType}
-use Rattle.jpool.specs.declared.entry.Entry.{Entry}
-use Rattle.jpool.specs.declared.entry.Entry.TheVariants.{Unused, Utf8}
-use Rattle.jpool.specs.Descriptors.{class_text, descriptor_of, descriptor_text, is_base, is_class_sign, is_return, is_type, is_well_formed, return_text, slots_of, type_text}
-use Rattle.jpool.specs.Names.{is_class_name}
-use Rattle.jformat.proofs.Steps.{first_true, second_true}
-use Rattle.jpool.specs.Entries.{entry, first_slot}
-use Rattle.jpool.specs.Pools.{IsPool, class_name_at, name_in, text_in, utf8_at}
-use Rattle.jpool.proofs.Grown.{each_is, laid_slots}
-use Rattle.jpool.proofs.Spelled.{descriptor_take}
-use Rattle.jpool.proofs.Spelling.{fits_spelling}
+use Rattle.jparts.specs.declared.jpool.descriptor.Descriptor.{Descriptor}
+use Rattle.jparts.specs.declared.jpool.descriptor.Descriptor.TheVariants as descriptors
+use Rattle.jparts.specs.declared.jpool.descriptor.FieldType.{FieldType}
+use Rattle.jparts.specs.declared.jpool.entry.Entry.{Entry}
+use Rattle.jparts.specs.declared.jpool.entry.Entry.TheVariants.{Unused, Utf8}
+use Rattle.jparts.specs.jpool.Descriptors.{class_text, descriptor_of, descriptor_text, is_base, is_class_sign, is_return, is_type, is_well_formed, return_text, slots_of, type_text}
+use Rattle.jparts.specs.jpool.Names.{is_class_name}
+use Rattle.jground.proofs.JformatProofs.Steps.{first_true, second_true}
+use Rattle.jparts.specs.jpool.Entries.{entry, first_slot}
+use Rattle.jparts.specs.jpool.Pools.{IsPool, class_name_at, name_in, text_in, utf8_at}
+use Rattle.jparts.proofs.JpoolProofs.Grown.{each_is, laid_slots}
+use Rattle.jparts.proofs.JpoolProofs.Spelled.{descriptor_take}
+use Rattle.jparts.proofs.JpoolProofs.Spelling.{fits_spelling}
 use Rattle.jclass.specs.declared.class.ClassParts.{ClassParts}
 use Rattle.jclass.specs.declared.class.MemberInfo.{MemberInfo}
 use Rattle.jmove.specs.Additions.{context_type, moved_descriptor, with_context}

@@ -3,18 +3,18 @@ use Rattle.std.proofs.Common.{◌≡◌, ℕ, zero, suc, ◌+◌, ◌≤◌, ◌
 use Rattle.std.specs.Prelude.{IsTrue, is_some, option_and_then, option_map, slice_get, nat_le, ◌==◌, if◌then◌else◌}
 use Rattle.std.specs.List.{filter, list_all}
 use Rattle.std.proofs.lemmas.Bool.{cases_Bool, eqb-true, leb-true}
-use Rattle.jbase.specs.First.{first_some, or_else}
-use Rattle.jformat.specs.Format.{◌·◌, is_good}
-use Rattle.jformat.specs.Bodies.{counted}
-use Rattle.jformat.proofs.Steps.{first_true, second_true}
-use Rattle.jpool.specs.declared.descriptor.Descriptor.{Descriptor}
-use Rattle.jpool.specs.declared.descriptor.Descriptor.TheVariants as descriptors
-use Rattle.jpool.specs.declared.descriptor.FieldType.{FieldType}
-use Rattle.jpool.specs.declared.entry.Entry.{Entry}
-use Rattle.jpool.specs.Descriptors.{descriptor_of, is_method, is_opening, is_return, is_type, is_well_formed, method, method_of, method_slots, slots_of}
-use Rattle.jpool.specs.Pools.{class_name_at, name_in, utf8_at}
-use Rattle.jpool.proofs.PoolLaws.{at_index}
-use Rattle.jpool.proofs.Spelled.{descriptor_take}
+use Rattle.jground.specs.jbase.First.{first_some, or_else}
+use Rattle.jground.specs.jformat.Format.{◌·◌, is_good}
+use Rattle.jground.specs.jformat.Bodies.{counted}
+use Rattle.jground.proofs.JformatProofs.Steps.{first_true, second_true}
+use Rattle.jparts.specs.declared.jpool.descriptor.Descriptor.{Descriptor}
+use Rattle.jparts.specs.declared.jpool.descriptor.Descriptor.TheVariants as descriptors
+use Rattle.jparts.specs.declared.jpool.descriptor.FieldType.{FieldType}
+use Rattle.jparts.specs.declared.jpool.entry.Entry.{Entry}
+use Rattle.jparts.specs.jpool.Descriptors.{descriptor_of, is_method, is_opening, is_return, is_type, is_well_formed, method, method_of, method_slots, slots_of}
+use Rattle.jparts.specs.jpool.Pools.{class_name_at, name_in, utf8_at}
+use Rattle.jparts.proofs.JpoolProofs.PoolLaws.{at_index}
+use Rattle.jparts.proofs.JpoolProofs.Spelled.{descriptor_take}
 use Rattle.jclass.specs.declared.class.Attribute.{Attribute}
 use Rattle.jclass.specs.declared.class.Attribute.TheVariants.{Code, ConstantValue, Raw}
 use Rattle.jclass.specs.declared.class.ClassParts.{ClassParts}
@@ -35,8 +35,8 @@ use Rattle.jclass.proofs.Stored.{code_fits, code_frames}
 use Rattle.jclass.specs.declared.class.CodeAttribute.{CodeAttribute}
 use Rattle.jclass.specs.declared.class.CodeAttribute.TheVariants as code
 use Rattle.jclass.specs.declared.class.CodeAttribute.TheVariants.{Maps}
-use Rattle.jmaps.specs.Frames as frames
-use Rattle.jmaps.specs.Frames.{maps}
+use Rattle.jparts.specs.jmaps.Frames as frames
+use Rattle.jparts.specs.jmaps.Frames.{maps}
 use Rattle.jclass.proofs.ClassLaws.{tail_methods}
 use Rattle.jprogram.specs.declared.part.CodePart.{CodePart}
 use Rattle.jprogram.specs.Classes.{Program}

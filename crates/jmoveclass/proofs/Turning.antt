@@ -1,7 +1,7 @@
 -- What is put item by item, each in its turn; and that a refusal of one addition is one of all.
 use Rattle.std.proofs.Common.{◌≡◌, ℕ, ◌+◌, ◌<◌, ◌≤◌, List, [], ◌∷◌, ◌++◌, length, get_or, drop, Result, Ok, Err, refl, ap, ◌∙◌, sym, subst, append_assoc, append-nil, arith}
 use Rattle.std.proofs.lemmas.List.{drop_more, drop_all, length-append}
-use Rattle.jpool.specs.declared.entry.Entry.{Entry}
+use Rattle.jparts.specs.declared.jpool.entry.Entry.{Entry}
 use Rattle.jmove.specs.declared.method.MoveError.{MoveError}
 use Rattle.jmove.specs.declared.method.MoveError.TheVariants as errors
 use Rattle.jmove.specs.Additions.{Adding, giving, ◌>>◌, IsFront, Refused}

@@ -1,8 +1,8 @@
 -- Which attributes moved classes keep. The others say what the source or its code was, or what no machine of ours looks at.
 use Rattle.std.specs.Prelude.{ℕ, Bool, List, [], ◌∷◌, Option, codes}
 use Rattle.std.specs.List.{list_any}
-use Rattle.jpool.specs.declared.entry.Entry.{Entry}
-use Rattle.jpool.specs.Pools.{utf8_at}
+use Rattle.jparts.specs.declared.jpool.entry.Entry.{Entry}
+use Rattle.jparts.specs.jpool.Pools.{utf8_at}
 use Rattle.jclass.specs.declared.class.Attribute.{Attribute}
 use Rattle.jclass.specs.Members.{attribute_name}
 use Rattle.jclass.specs.Rules.{is_text}

@@ -1,6 +1,6 @@
 -- What keeps a class from being moved: the first limit that a method would break, or a pool without room for what its methods name.
 use Rattle.std.specs.Prelude.{◌≡◌, ℕ, length, Option, Some, None, option_map, ◌==◌, nat_lt, if◌then◌else◌}
-use Rattle.jbase.specs.First.{first_along, or_else}
+use Rattle.jground.specs.jbase.First.{first_along, or_else}
 use Rattle.jclass.specs.declared.class.ClassParts.{ClassParts}
 use Rattle.jclass.specs.declared.class.CodeBody.{CodeBody}
 use Rattle.jclass.specs.declared.class.MemberInfo.{MemberInfo}

@@ -1,11 +1,11 @@
 -- Moved methods of a class: their code, their descriptors, their attributes.
 use Rattle.std.specs.Prelude.{ℕ, List, [], ◌∷◌, Option, Some, None, Result, Ok, Err, if◌then◌else◌}
-use Rattle.jbase.specs.First.{first_some}
-use Rattle.jpool.specs.declared.entry.Entry.{Entry}
-use Rattle.jmaps.specs.declared.types.FullFrame.{FullFrame}
-use Rattle.jmaps.specs.declared.types.MapType.{MapType}
-use Rattle.jmaps.specs.declared.types.RawFrame.{RawFrame}
-use Rattle.jmaps.specs.Full.{expand_from, full_forms}
+use Rattle.jground.specs.jbase.First.{first_some}
+use Rattle.jparts.specs.declared.jpool.entry.Entry.{Entry}
+use Rattle.jparts.specs.declared.jmaps.types.FullFrame.{FullFrame}
+use Rattle.jparts.specs.declared.jmaps.types.MapType.{MapType}
+use Rattle.jparts.specs.declared.jmaps.types.RawFrame.{RawFrame}
+use Rattle.jparts.specs.jmaps.Full.{expand_from, full_forms}
 use Rattle.jclass.specs.declared.class.Attribute.{Attribute}
 use Rattle.jclass.specs.declared.class.Attribute.TheVariants.{Code, Raw}
 use Rattle.jclass.specs.declared.class.ClassParts.{ClassParts}

@@ -1,7 +1,7 @@
 -- A moved class: each of its methods takes its caller's context, and its pool names what they need; all else is as it was.
 use Rattle.std.specs.Prelude.{ℕ, List}
 use Rattle.std.specs.List.{filter}
-use Rattle.jpool.specs.declared.entry.Entry.{Entry}
+use Rattle.jparts.specs.declared.jpool.entry.Entry.{Entry}
 use Rattle.jclass.specs.declared.class.ClassParts.{ClassParts}
 use Rattle.jclass.specs.declared.class.MemberInfo.{MemberInfo}
 use Rattle.jprogram.specs.declared.part.CodePart.{CodePart}

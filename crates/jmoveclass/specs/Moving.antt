@@ -12,7 +12,7 @@ use Rattle.jmove.specs.Moved.{CanMove, limit_of}
 use Rattle.jprogram.specs.Classes.{Program}
 use Rattle.jprogram.specs.Members.{part_of}
 use Rattle.jprogram.specs.Parts.{member_desc}
-use Rattle.juses.specs.Uses.{AreUses}
+use Rattle.jmeaning.specs.juses.Uses.{AreUses}
 use Rattle.jmoveclass.specs.declared.body.BodyRef.{BodyRef}
 use Rattle.jmoveclass.specs.declared.moving.Moving.{Moving}
 use Rattle.jmoveclass.specs.Beginning.{bare_beginning}

@@ -1,6 +1,6 @@
 -- What is put into a pool item by item, and what a call that puts something into a pool did.
 use Rattle.std.specs.Prelude.{◌≡◌, List, [], ◌∷◌, ◌++◌, Result, Ok, Err}
-use Rattle.jpool.specs.declared.entry.Entry.{Entry}
+use Rattle.jparts.specs.declared.jpool.entry.Entry.{Entry}
 use Rattle.jmove.specs.declared.method.MoveError.{MoveError}
 use Rattle.jmove.specs.Additions.{Adding, Refused, giving, ◌>>◌}
 

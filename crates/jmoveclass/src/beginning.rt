@@ -1,16 +1,16 @@
 ghost use Rattle.std.specs.Prelude.{◌≡◌, ◌≤◌, ◌∷◌, [], All, IfOk, length};
-ghost use Rattle.jpool.specs.Descriptors;
+ghost use Rattle.jparts.specs.jpool.Descriptors;
 ghost use Rattle.jprogram.specs.Parts;
 ghost use Rattle.jmoveclass.specs.Beginning;
 ghost use Rattle.jmoveclass.specs.Beginning.{with_beginning, with_item, with_this};
 ghost use Rattle.jmoveclass.specs.Puts.{Puts, with_each};
 
 use bitflags::Flags;
-use jbase::Seq;
 use jclass::{Access, ClassParts, MemberInfo};
-use jmaps::MapType;
+use jground::jbase::Seq;
 use jmove::{MoveError, put_class};
-use jpool::{Adder, DescError, Descriptor, FieldType, read_descriptor, slots_of};
+use jparts::jmaps::MapType;
+use jparts::jpool::{Adder, DescError, Descriptor, FieldType, read_descriptor, slots_of};
 use jprogram::{is_init, member_desc, this_name};
 use std::alloc::{AllocError, Global};
 

@@ -1,12 +1,12 @@
 ghost use Rattle.std.specs.Prelude.{◌≡◌, option_map};
-ghost use Rattle.jbase.specs.First.{first_some};
+ghost use Rattle.jground.specs.jbase.First.{first_some};
 ghost use Rattle.jprogram.specs.Parts.{code_of};
 ghost use Rattle.jmoveclass.specs.Methods.{maps_of, or_no_frames};
 ghost use Rattle.jmoveclass.specs.Moving.{seen_body};
 
 use jclass::{Attribute, CodeAttribute, MemberInfo};
-use jcode::{Handler, Placed};
-use jmaps::RawFrame;
+use jparts::jcode::{Handler, Placed};
+use jparts::jmaps::RawFrame;
 
 /// The code of a method, lent.
 #[derive(Clone, Copy)]
@@ -19,7 +19,7 @@ pub struct BodyRef<'a> {
 }
 
 /// The code of a method, where it has one.
-#[tactic(auto, unfolding(jprogram::specs::Parts::code_of, jbase::specs::First::first_some))]
+#[tactic(auto, unfolding(jprogram::specs::Parts::code_of, jground::specs::jbase::First::first_some))]
 pub fn code_in(method: &MemberInfo) -> Option<BodyRef<'_>>
     ensures { option_map seen_body result ≡ code_of method.now }
 {
@@ -46,7 +46,7 @@ pub fn code_in(method: &MemberInfo) -> Option<BodyRef<'_>>
 }
 
 /// The frames of a method's StackMapTable, none where it has none.
-#[tactic(auto, unfolding(jbase::specs::First::first_some))]
+#[tactic(auto, unfolding(jground::specs::jbase::First::first_some))]
 pub fn frames_in(attributes: &[CodeAttribute]) -> &[RawFrame]
     ensures { result.now ≡ or_no_frames (first_some maps_of attributes.now) }
 {

@@ -1,13 +1,13 @@
 ghost use Rattle.std.specs.Prelude.{◌≡◌, IfOk, Some, slice_get};
 ghost use Rattle.jprogram.specs.Members.{part_of, referred};
-ghost use Rattle.juses.specs.Uses.{AreUses};
+ghost use Rattle.jmeaning.specs.juses.Uses.{AreUses};
 ghost use Rattle.jmoveclass.specs.Calls;
 
 use crate::moving::Moving;
-use jbase::Seq;
-use jcode::{Op, Placed};
+use jground::jbase::Seq;
 use jlib::{ControllerCall, LibCall, ThreadCall};
 use jmove::Expand;
+use jparts::jcode::{Op, Placed};
 use jprogram::Member;
 use std::alloc::{AllocError, Global};
 

@@ -1,14 +1,14 @@
 ghost use Rattle.std.specs.Prelude.{◌≡◌, ◌≤◌, All, IfOk, IsTrue, None, Option, option_map};
-ghost use Rattle.jbase.specs.First.{first_some};
-ghost use Rattle.jmaps.specs.Frames.{maps};
-ghost use Rattle.jmaps.specs.Full;
-ghost use Rattle.jmaps.specs.Full.{expand_from};
+ghost use Rattle.jground.specs.jbase.First.{first_some};
+ghost use Rattle.jparts.specs.jmaps.Frames.{maps};
+ghost use Rattle.jparts.specs.jmaps.Full;
+ghost use Rattle.jparts.specs.jmaps.Full.{expand_from};
 ghost use Rattle.jmoveclass.specs.Methods;
 ghost use Rattle.jmoveclass.specs.Methods.{or_none};
 
-use jbase::Seq;
 use jclass::CodeAttribute;
-use jmaps::{ExpandError, FullFrame, MapType, RawFrame, expand};
+use jground::jbase::Seq;
+use jparts::jmaps::{ExpandError, FullFrame, MapType, RawFrame, expand};
 use std::alloc::{AllocError, Global};
 
 /// Frames in full, by what the locals hold where their code begins; none where one takes away more locals than there are.
@@ -60,7 +60,7 @@ fn full_forms(alloc: Global, frames: Seq<FullFrame>) -> Result<Seq<RawFrame>, Al
 }
 
 /// The name of a code's StackMapTable, where it has one.
-#[tactic(auto, unfolding(jbase::specs::First::first_some))]
+#[tactic(auto, unfolding(jground::specs::jbase::First::first_some))]
 fn maps_name(attributes: &[CodeAttribute]) -> Option<u16>
     ensures { result ≡ first_some Methods.maps_name attributes.now }
 {

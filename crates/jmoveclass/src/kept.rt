@@ -3,9 +3,9 @@ ghost use Rattle.std.specs.List.{filter};
 ghost use Rattle.jclass.specs.Members;
 ghost use Rattle.jmoveclass.specs.Kept;
 
-use jbase::Seq;
 use jclass::{Attribute, is_text};
-use jpool::Pool;
+use jground::jbase::Seq;
+use jparts::jpool::Pool;
 use std::alloc::{AllocError, Global};
 
 fn name_of(one: &Attribute) -> u16

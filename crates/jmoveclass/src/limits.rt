@@ -1,5 +1,5 @@
 ghost use Rattle.std.specs.Prelude.{◌≡◌, ◌≤◌, IfOk};
-ghost use Rattle.jbase.specs.First.{first_along};
+ghost use Rattle.jground.specs.jbase.First.{first_along};
 ghost use Rattle.jclass.specs.Stored.{IsIn};
 ghost use Rattle.jmoveclass.specs.Beginning;
 ghost use Rattle.jmoveclass.specs.Limits;
@@ -14,7 +14,7 @@ use crate::method::method_in;
 use crate::moving::Moving;
 use jclass::{ClassParts, MemberInfo};
 use jmove::{MoveError, limit_of};
-use jpool::FieldType;
+use jparts::jpool::FieldType;
 use std::alloc::{AllocError, Global};
 
 fn kind_of(limit: MoveError) -> RewriteKind
@@ -83,7 +83,7 @@ fn method_limit(
 }
 
 /// The first limit that the methods of a class would break.
-#[tactic(auto, unfolding(jbase::specs::First::first_along))]
+#[tactic(auto, unfolding(jground::specs::jbase::First::first_along))]
 pub fn methods_limit(alloc: Global, c: &Moving<'_>) -> Result<Option<Limit>, AllocError>
     requires { IsMoving c.now }
     ensures { IfOk result (λ limit. limit ≡ first_along (λ j m. at_method j (Limits.method_limit c.now.program.now c.now.class.now m)) 0 c.now.class.now.methods) }

@@ -18,12 +18,12 @@ use crate::calls::expands;
 use crate::frames::{in_full, moved_maps};
 use crate::kept::method_keeps;
 use crate::moving::Moving;
-use jbase::Seq;
 use jclass::{Attribute, ClassParts, MemberInfo};
-use jcode::Placed;
-use jmaps::MapType;
+use jground::jbase::Seq;
 use jmove::{Expand, MethodIn, MethodOut, MoveError, move_method, moved_descriptor, put_text};
-use jpool::{Adder, FieldType, Pool};
+use jparts::jcode::Placed;
+use jparts::jmaps::MapType;
+use jparts::jpool::{Adder, FieldType, Pool};
 use jprogram::member_desc;
 use std::alloc::{AllocError, Global};
 

@@ -1,5 +1,5 @@
 ghost use Rattle.std.specs.Prelude.{◌≡◌, IfOk, MatchResult, None};
-ghost use Rattle.jbase.specs.First.{first_along};
+ghost use Rattle.jground.specs.jbase.First.{first_along};
 ghost use Rattle.jmoveclass.specs.Limits;
 ghost use Rattle.jmoveclass.specs.Limits.{ClassErrorIs, HasNone, at_method};
 ghost use Rattle.jmoveclass.specs.Moved;
@@ -12,10 +12,10 @@ use crate::limit::{ClassError, Limit, RewriteKind};
 use crate::limits::methods_limit;
 use crate::method::put_method;
 use crate::moving::Moving;
-use jbase::{Seq, all_again};
 use jclass::{ClassParts, MemberInfo};
+use jground::jbase::{Seq, all_again};
 use jmove::MoveError;
-use jpool::{Adder, Pool};
+use jparts::jpool::{Adder, Pool};
 use std::alloc::{AllocError, Global};
 
 /// Puts what the methods of a class name when they are moved.

@@ -8,30 +8,30 @@ use Rattle.std.proofs.lemmas.Bool.{lt-ltb, ltb-true, ne_eqb}
 use Rattle.std.proofs.lemmas.Bool.Decides.{Decides-int_eq}
 use Rattle.std.proofs.lemmas.Int.{to_z-of_z}
 use Rattle.std.proofs.lemmas.List.{length-map}
-use Rattle.jbase.specs.First.{fault_if}
-use Rattle.jformat.specs.Format.{is_good}
-use Rattle.jformat.specs.States.{fits_from}
-use Rattle.jformat.proofs.Steps.{both, first_true, second_true}
-use Rattle.jcode.specs.declared.names.Access.{Access}
-use Rattle.jcode.specs.declared.names.Access.TheVariants.{Load, Store}
-use Rattle.jcode.specs.declared.names.LocalKind.TheVariants.{Ref}
-use Rattle.jcode.specs.declared.op.Op.{Op}
-use Rattle.jcode.specs.declared.op.Op.TheVariants as ops
-use Rattle.jcode.specs.declared.op.Goto.TheVariants as gotos
-use Rattle.jcode.specs.declared.op.IntConst.TheVariants as consts
-use Rattle.jcode.specs.declared.op.Ldc.TheVariants as ldcs
-use Rattle.jcode.specs.declared.op.LocalOp.TheVariants.{At, Slot}
-use Rattle.jcode.specs.declared.op.NewOp.TheVariants as news
-use Rattle.jcode.specs.declared.op.Switch.TheVariants as switches
-use Rattle.jcode.specs.declared.op.Wide.TheVariants.{Local}
-use Rattle.jcode.specs.declared.op.Case.{Case}
-use Rattle.jcode.specs.declared.op.TableSwitch.{TableSwitch}
-use Rattle.jcode.specs.declared.op.LookupSwitch.{LookupSwitch}
-use Rattle.jcode.specs.declared.op.Placed.{Placed}
-use Rattle.jcode.specs.declared.fault.CodeFault.TheVariants.{BadOperand}
-use Rattle.jcode.specs.Forms.{form, branches}
-use Rattle.jcode.specs.Operands.{nil, u1, u2, i2, i4, nils, padding, bounded, case_behind, case_count, key_of, table_switch, lookup_switch, wide, interface_call}
-use Rattle.jcode.specs.Instructions.{behind_fits, lands}
+use Rattle.jground.specs.jbase.First.{fault_if}
+use Rattle.jground.specs.jformat.Format.{is_good}
+use Rattle.jground.specs.jformat.States.{fits_from}
+use Rattle.jground.proofs.JformatProofs.Steps.{both, first_true, second_true}
+use Rattle.jparts.specs.declared.jcode.names.Access.{Access}
+use Rattle.jparts.specs.declared.jcode.names.Access.TheVariants.{Load, Store}
+use Rattle.jparts.specs.declared.jcode.names.LocalKind.TheVariants.{Ref}
+use Rattle.jparts.specs.declared.jcode.op.Op.{Op}
+use Rattle.jparts.specs.declared.jcode.op.Op.TheVariants as ops
+use Rattle.jparts.specs.declared.jcode.op.Goto.TheVariants as gotos
+use Rattle.jparts.specs.declared.jcode.op.IntConst.TheVariants as consts
+use Rattle.jparts.specs.declared.jcode.op.Ldc.TheVariants as ldcs
+use Rattle.jparts.specs.declared.jcode.op.LocalOp.TheVariants.{At, Slot}
+use Rattle.jparts.specs.declared.jcode.op.NewOp.TheVariants as news
+use Rattle.jparts.specs.declared.jcode.op.Switch.TheVariants as switches
+use Rattle.jparts.specs.declared.jcode.op.Wide.TheVariants.{Local}
+use Rattle.jparts.specs.declared.jcode.op.Case.{Case}
+use Rattle.jparts.specs.declared.jcode.op.TableSwitch.{TableSwitch}
+use Rattle.jparts.specs.declared.jcode.op.LookupSwitch.{LookupSwitch}
+use Rattle.jparts.specs.declared.jcode.op.Placed.{Placed}
+use Rattle.jparts.specs.declared.jcode.fault.CodeFault.TheVariants.{BadOperand}
+use Rattle.jparts.specs.jcode.Forms.{form, branches}
+use Rattle.jparts.specs.jcode.Operands.{nil, u1, u2, i2, i4, nils, padding, bounded, case_behind, case_count, key_of, table_switch, lookup_switch, wide, interface_call}
+use Rattle.jparts.specs.jcode.Instructions.{behind_fits, lands}
 use Rattle.jmove.specs.Lines.{with_branches, table_with, lookup_with, case_with}
 use Rattle.jmove.specs.Moved.{move_ref, push_int, call_static, calling}
 

@@ -5,16 +5,16 @@ use Rattle.std.specs.List.{AllByRecursion, list_all}
 use Rattle.std.proofs.lemmas.Bool.{lt-ltb, ltb-true}
 use Rattle.std.proofs.lemmas.List.{length-append, length-map, length-replicate}
 use Rattle.std.proofs.lemmas.List.Elements.{recursion_from_All}
-use Rattle.jformat.specs.States.{fits_from}
-use Rattle.jformat.proofs.Steps.{both, first_true, second_true}
-use Rattle.jcode.specs.declared.op.Placed.{Placed}
-use Rattle.jcode.specs.Instructions as jcode
-use Rattle.jcode.specs.Instructions.{is_place}
-use Rattle.jmaps.specs.declared.types.MapType.{MapType}
-use Rattle.jmaps.specs.declared.types.MapType.TheVariants as types
-use Rattle.jmaps.specs.declared.types.FullFrame.{FullFrame}
-use Rattle.jmaps.specs.Frames.{map_type, own_type}
-use Rattle.jmaps.specs.Full.{can_follow, items_fit, place_after, stands}
+use Rattle.jground.specs.jformat.States.{fits_from}
+use Rattle.jground.proofs.JformatProofs.Steps.{both, first_true, second_true}
+use Rattle.jparts.specs.declared.jcode.op.Placed.{Placed}
+use Rattle.jparts.specs.jcode.Instructions as jcode
+use Rattle.jparts.specs.jcode.Instructions.{is_place}
+use Rattle.jparts.specs.declared.jmaps.types.MapType.{MapType}
+use Rattle.jparts.specs.declared.jmaps.types.MapType.TheVariants as types
+use Rattle.jparts.specs.declared.jmaps.types.FullFrame.{FullFrame}
+use Rattle.jparts.specs.jmaps.Frames.{map_type, own_type}
+use Rattle.jparts.specs.jmaps.Full.{can_follow, items_fit, place_after, stands}
 use Rattle.jmove.specs.Frames.{moved_frame, moved_type, unsaid, width, widths}
 use Rattle.jmove.specs.Lines.{end_of}
 use Rattle.jmove.specs.Moved.{lines}

@@ -4,17 +4,17 @@ use Rattle.std.specs.Prelude.{slice_get, unsigned_abs}
 use Rattle.std.specs.List.{position_or_len}
 use Rattle.std.proofs.lemmas.Bool.{eq-eqb, ne_eqb, lt-ltb}
 use Rattle.std.proofs.lemmas.Int.{ints}
-use Rattle.jcode.specs.declared.names.ObjectOp.TheVariants.{ArrayLength, Throw}
-use Rattle.jcode.specs.declared.op.Op.{Op}
-use Rattle.jcode.specs.declared.op.Op.TheVariants as ops
-use Rattle.jcode.specs.declared.op.Goto.TheVariants as gotos
-use Rattle.jcode.specs.declared.op.NewOp.TheVariants as news
-use Rattle.jcode.specs.declared.op.Switch.TheVariants as switches
-use Rattle.jcode.specs.declared.op.Case.{Case}
-use Rattle.jcode.specs.declared.op.Placed.{Placed}
-use Rattle.jcode.specs.Forms.{form, branches}
-use Rattle.jcode.specs.Instructions as jcode
-use Rattle.jcode.specs.Instructions.{size}
+use Rattle.jparts.specs.declared.jcode.names.ObjectOp.TheVariants.{ArrayLength, Throw}
+use Rattle.jparts.specs.declared.jcode.op.Op.{Op}
+use Rattle.jparts.specs.declared.jcode.op.Op.TheVariants as ops
+use Rattle.jparts.specs.declared.jcode.op.Goto.TheVariants as gotos
+use Rattle.jparts.specs.declared.jcode.op.NewOp.TheVariants as news
+use Rattle.jparts.specs.declared.jcode.op.Switch.TheVariants as switches
+use Rattle.jparts.specs.declared.jcode.op.Case.{Case}
+use Rattle.jparts.specs.declared.jcode.op.Placed.{Placed}
+use Rattle.jparts.specs.jcode.Forms.{form, branches}
+use Rattle.jparts.specs.jcode.Instructions as jcode
+use Rattle.jparts.specs.jcode.Instructions.{size}
 use Rattle.jmove.specs.declared.method.Expand.{Expand}
 use Rattle.jmove.specs.declared.method.Expand.TheVariants.{Same, Call, Check, Snapshot, Privileged, PrivilegedWith, PrivilegedLimited}
 use Rattle.jmove.specs.declared.method.Setting.{Setting}

@@ -1,14 +1,14 @@
 -- A size doesn't depend on how far branches lead.
 use Rattle.std.proofs.Common.{◌≡◌, ℕ, suc, ◌+◌, ℤ, List, [], ◌∷◌, length, refl, ap, sym, subst, arith}
 use Rattle.std.proofs.lemmas.List.{length-map}
-use Rattle.jcode.specs.declared.op.Op.TheVariants as ops
-use Rattle.jcode.specs.declared.op.Goto.TheVariants as gotos
-use Rattle.jcode.specs.declared.op.Switch.TheVariants as switches
-use Rattle.jcode.specs.declared.op.TableSwitch.{TableSwitch}
-use Rattle.jcode.specs.declared.op.LookupSwitch.{LookupSwitch}
-use Rattle.jcode.specs.Operands.{table_switch, lookup_switch}
-use Rattle.jcode.specs.Instructions.{size, instruction, behind}
-use Rattle.jcode.proofs.Sizes.{table_length, lookup_length}
+use Rattle.jparts.specs.declared.jcode.op.Op.TheVariants as ops
+use Rattle.jparts.specs.declared.jcode.op.Goto.TheVariants as gotos
+use Rattle.jparts.specs.declared.jcode.op.Switch.TheVariants as switches
+use Rattle.jparts.specs.declared.jcode.op.TableSwitch.{TableSwitch}
+use Rattle.jparts.specs.declared.jcode.op.LookupSwitch.{LookupSwitch}
+use Rattle.jparts.specs.jcode.Operands.{table_switch, lookup_switch}
+use Rattle.jparts.specs.jcode.Instructions.{size, instruction, behind}
+use Rattle.jparts.proofs.JcodeProofs.Sizes.{table_length, lookup_length}
 use Rattle.jmove.specs.Lines.{Line, Label, Do, end_of, table_with, lookup_with, case_with, distance, placed, Laid}
 use Rattle.jmoved.specs.Sizes.{SameSize}
 

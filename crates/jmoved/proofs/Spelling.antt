@@ -6,20 +6,20 @@ use Rattle.std.specs.Int.{w16}
 use Rattle.std.specs.Ordering.{int_eq}
 use Rattle.std.proofs.lemmas.Bool.{eq-eqb}
 use Rattle.std.proofs.lemmas.Bool.Decides.{Decides-int_eq}
-use Rattle.jformat.specs.States.{fits_from}
-use Rattle.jformat.proofs.Steps.{both, first_true, second_true}
-use Rattle.jcode.specs.declared.names.Access.{Access}
-use Rattle.jcode.specs.declared.names.Access.TheVariants.{Load, Store}
-use Rattle.jcode.specs.declared.names.LocalKind.TheVariants.{Ref}
-use Rattle.jcode.specs.declared.op.Op.{Op}
-use Rattle.jcode.specs.declared.op.Op.TheVariants as ops
-use Rattle.jcode.specs.declared.op.LocalOp.TheVariants.{At}
-use Rattle.jcode.specs.declared.op.Wide.TheVariants.{Local}
-use Rattle.jcode.specs.declared.op.Placed.{Placed}
-use Rattle.jcode.specs.Forms.{form, branches}
-use Rattle.jcode.specs.Instructions as jcode
-use Rattle.jcode.specs.Instructions.{size, instruction, behind_fits, placed_at, place_behind, is_place, lands, leads, instructions, code}
-use Rattle.jcode.proofs.CodeLaws.{fits_at}
+use Rattle.jground.specs.jformat.States.{fits_from}
+use Rattle.jground.proofs.JformatProofs.Steps.{both, first_true, second_true}
+use Rattle.jparts.specs.declared.jcode.names.Access.{Access}
+use Rattle.jparts.specs.declared.jcode.names.Access.TheVariants.{Load, Store}
+use Rattle.jparts.specs.declared.jcode.names.LocalKind.TheVariants.{Ref}
+use Rattle.jparts.specs.declared.jcode.op.Op.{Op}
+use Rattle.jparts.specs.declared.jcode.op.Op.TheVariants as ops
+use Rattle.jparts.specs.declared.jcode.op.LocalOp.TheVariants.{At}
+use Rattle.jparts.specs.declared.jcode.op.Wide.TheVariants.{Local}
+use Rattle.jparts.specs.declared.jcode.op.Placed.{Placed}
+use Rattle.jparts.specs.jcode.Forms.{form, branches}
+use Rattle.jparts.specs.jcode.Instructions as jcode
+use Rattle.jparts.specs.jcode.Instructions.{size, instruction, behind_fits, placed_at, place_behind, is_place, lands, leads, instructions, code}
+use Rattle.jparts.proofs.JcodeProofs.CodeLaws.{fits_at}
 use Rattle.jmove.specs.declared.method.Expand.{Expand}
 use Rattle.jmove.specs.declared.method.Expand.TheVariants.{Same, Call, Check, Snapshot, Privileged, PrivilegedWith, PrivilegedLimited}
 use Rattle.jmove.specs.declared.method.Setting.{Setting}

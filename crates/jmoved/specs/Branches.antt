@@ -1,9 +1,9 @@
 -- Where the branches of moved code lead.
 use Rattle.std.specs.Prelude.{◌≡◌, ℕ, ℤ, pos, ◌+ℤ◌, List, map, length, Some, IsTrue}
-use Rattle.jcode.specs.declared.op.Op.{Op}
-use Rattle.jcode.specs.declared.op.Placed.{Placed}
-use Rattle.jcode.specs.Forms.{form, branches}
-use Rattle.jcode.specs.Instructions as jcode
+use Rattle.jparts.specs.declared.jcode.op.Op.{Op}
+use Rattle.jparts.specs.declared.jcode.op.Placed.{Placed}
+use Rattle.jparts.specs.jcode.Forms.{form, branches}
+use Rattle.jparts.specs.jcode.Instructions as jcode
 use Rattle.jmove.specs.declared.method.Expand.{Expand}
 use Rattle.jmove.specs.declared.method.Setting.{Setting}
 use Rattle.jmove.specs.Lines.{end_of, distance, with_branches}

@@ -1,8 +1,8 @@
 -- How far the branches of moved code lead.
 use Rattle.std.specs.Prelude.{◌≤◌, ℕ, ℤ, List, FitsSigned}
 use Rattle.std.specs.Int.{w16}
-use Rattle.jcode.specs.declared.op.Op.{Op}
-use Rattle.jcode.specs.declared.op.Placed.{Placed}
+use Rattle.jparts.specs.declared.jcode.op.Op.{Op}
+use Rattle.jparts.specs.declared.jcode.op.Placed.{Placed}
 use Rattle.jmove.specs.declared.method.Expand.{Expand}
 use Rattle.jmove.specs.declared.method.Setting.{Setting}
 use Rattle.jmove.specs.Lines.{end_of, distance}

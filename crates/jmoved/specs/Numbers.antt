@@ -1,8 +1,8 @@
 -- Which instructions moved code has, by their numbers.
 use Rattle.std.specs.Prelude.{◌≡◌, ◌<◌, ◌⊎◌, ℕ, zero, suc, ◌+◌, List, [], ◌∷◌, length, take, Some, IsTrue, slice_get}
-use Rattle.jcode.specs.declared.op.Op.{Op}
-use Rattle.jcode.specs.declared.op.Placed.{Placed}
-use Rattle.jcode.specs.Instructions.{placed_at, code}
+use Rattle.jparts.specs.declared.jcode.op.Op.{Op}
+use Rattle.jparts.specs.declared.jcode.op.Placed.{Placed}
+use Rattle.jparts.specs.jcode.Instructions.{placed_at, code}
 use Rattle.jmove.specs.declared.method.Expand.{Expand}
 use Rattle.jmove.specs.declared.method.Setting.{Setting}
 use Rattle.jmove.specs.Lines.{reach, place_of, led, assembled}

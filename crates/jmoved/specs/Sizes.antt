@@ -1,7 +1,7 @@
 -- How many bytes moved code has.
 use Rattle.std.specs.Prelude.{◌≡◌, ℕ, ℤ, List}
-use Rattle.jcode.specs.declared.op.Op.{Op}
-use Rattle.jcode.specs.Instructions.{size}
+use Rattle.jparts.specs.declared.jcode.op.Op.{Op}
+use Rattle.jparts.specs.jcode.Instructions.{size}
 use Rattle.jmove.specs.Lines.{Line, end_of, with_branches, assembled, Laid}
 
 -- An instruction has as many bytes with other distances of its branches.

@@ -5,18 +5,18 @@ use Rattle.std.specs.Str.{byte}
 use Rattle.std.specs.List.{AllByRecursion, list_all}
 use Rattle.std.proofs.lemmas.Bool.{lt-ltb}
 use Rattle.std.proofs.lemmas.List.Elements.{recursion_from_All}
-use Rattle.jformat.specs.Format.{is_good, unless}
-use Rattle.jformat.proofs.Steps.{both, first_true, second_true}
-use Rattle.jpool.specs.declared.descriptor.Descriptor.{Descriptor}
-use Rattle.jpool.specs.declared.descriptor.Descriptor.TheVariants as descriptors
-use Rattle.jpool.specs.declared.descriptor.FieldType.{FieldType}
-use Rattle.jpool.specs.declared.entry.Entry.{Entry}
-use Rattle.jpool.specs.Descriptors.{descriptor_of}
-use Rattle.jpool.specs.Pools.{class_name_at, is_class, name_in, utf8_at}
-use Rattle.jmaps.specs.declared.types.MapType.{MapType}
-use Rattle.jmaps.specs.declared.types.MapType.TheVariants as items
-use Rattle.jmaps.specs.declared.types.RawFrame.{RawFrame}
-use Rattle.jmaps.specs.Frames.{map_type}
+use Rattle.jground.specs.jformat.Format.{is_good, unless}
+use Rattle.jground.proofs.JformatProofs.Steps.{both, first_true, second_true}
+use Rattle.jparts.specs.declared.jpool.descriptor.Descriptor.{Descriptor}
+use Rattle.jparts.specs.declared.jpool.descriptor.Descriptor.TheVariants as descriptors
+use Rattle.jparts.specs.declared.jpool.descriptor.FieldType.{FieldType}
+use Rattle.jparts.specs.declared.jpool.entry.Entry.{Entry}
+use Rattle.jparts.specs.jpool.Descriptors.{descriptor_of}
+use Rattle.jparts.specs.jpool.Pools.{class_name_at, is_class, name_in, utf8_at}
+use Rattle.jparts.specs.declared.jmaps.types.MapType.{MapType}
+use Rattle.jparts.specs.declared.jmaps.types.MapType.TheVariants as items
+use Rattle.jparts.specs.declared.jmaps.types.RawFrame.{RawFrame}
+use Rattle.jparts.specs.jmaps.Frames.{map_type}
 use Rattle.jclass.specs.declared.class.ClassParts.{ClassParts}
 use Rattle.jclass.specs.declared.class.MemberInfo.{MemberInfo}
 use Rattle.jclass.specs.declared.fault.ClassFault.TheVariants.{Index}

@@ -3,21 +3,21 @@
 use Rattle.std.proofs.Common.{◌≡◌, ℕ, ◌≤◌, ◌<◌, Bool, true, false, ◌&&◌, List, [], ◌∷◌, length, Option, Some, None, refl, ap, sym, ◌∙◌, subst, arith}
 use Rattle.std.specs.Prelude.{IsTrue, is_some, slice_get, option_map, option_and_then, nat_le, codes, ◌||◌, if◌then◌else◌}
 use Rattle.std.proofs.lemmas.Bool.{leb-true}
-use Rattle.jformat.specs.Format.{is_good}
-use Rattle.jformat.proofs.Steps.{first_true, second_true}
-use Rattle.jpool.specs.declared.descriptor.Descriptor.{Descriptor}
-use Rattle.jpool.specs.declared.descriptor.Descriptor.TheVariants as descriptors
-use Rattle.jpool.specs.declared.descriptor.FieldType.{FieldType}
-use Rattle.jpool.specs.declared.entry.Entry.{Entry}
-use Rattle.jpool.specs.declared.entry.Entry.TheVariants.{Unused, Utf8, Integer, Float, Long, Double, Class, Str, Field, Method, InterfaceMethod, NameAndType, MethodHandle, MethodType, InvokeDynamic}
-use Rattle.jpool.specs.declared.fault.PoolFault.TheVariants.{BadIndex}
-use Rattle.jpool.specs.Descriptors.{descriptor_of, is_field_descriptor, is_method_descriptor}
-use Rattle.jpool.specs.Pools as pools
-use Rattle.jpool.specs.Pools.{both_in, class_name_at, descriptor_fault, is_class, is_name_and_type, is_utf8, member_fault, name_and_type_at, name_in, text_in, utf8_at}
-use Rattle.jpool.proofs.PoolLaws.{at_index}
+use Rattle.jground.specs.jformat.Format.{is_good}
+use Rattle.jground.proofs.JformatProofs.Steps.{first_true, second_true}
+use Rattle.jparts.specs.declared.jpool.descriptor.Descriptor.{Descriptor}
+use Rattle.jparts.specs.declared.jpool.descriptor.Descriptor.TheVariants as descriptors
+use Rattle.jparts.specs.declared.jpool.descriptor.FieldType.{FieldType}
+use Rattle.jparts.specs.declared.jpool.entry.Entry.{Entry}
+use Rattle.jparts.specs.declared.jpool.entry.Entry.TheVariants.{Unused, Utf8, Integer, Float, Long, Double, Class, Str, Field, Method, InterfaceMethod, NameAndType, MethodHandle, MethodType, InvokeDynamic}
+use Rattle.jparts.specs.declared.jpool.fault.PoolFault.TheVariants.{BadIndex}
+use Rattle.jparts.specs.jpool.Descriptors.{descriptor_of, is_field_descriptor, is_method_descriptor}
+use Rattle.jparts.specs.jpool.Pools as pools
+use Rattle.jparts.specs.jpool.Pools.{both_in, class_name_at, descriptor_fault, is_class, is_name_and_type, is_utf8, member_fault, name_and_type_at, name_in, text_in, utf8_at}
+use Rattle.jparts.proofs.JpoolProofs.PoolLaws.{at_index}
 use Rattle.jclass.specs.Basics.{pool_fault}
 use Rattle.jclass.specs.Judging.{entry_fault, no_fault, text_fault}
-use Rattle.jmaps.specs.declared.types.FullFrame.{FullFrame}
+use Rattle.jparts.specs.declared.jmaps.types.FullFrame.{FullFrame}
 use Rattle.jmove.specs.declared.method.Expand.{Expand}
 use Rattle.jmove.specs.declared.method.Expand.TheVariants.{Same, Call, Check, Snapshot, Privileged, PrivilegedWith, PrivilegedLimited}
 use Rattle.jmove.specs.declared.naming.Named.{Named}

@@ -2,23 +2,23 @@
 use Rattle.std.proofs.Common.{◌≡◌, ℕ, zero, suc, ◌+◌, ◌≤◌, ℤ, Bool, true, false, cond, List, [], ◌∷◌, ◌++◌, map, Option, Some, None, refl, sym, ap, subst, ◌∙◌, nat_lt, arith}
 use Rattle.std.specs.Prelude.{IsTrue, slice_get}
 use Rattle.std.specs.List.{list_all}
-use Rattle.jformat.proofs.Steps.{both, first_true, second_true}
-use Rattle.jpool.specs.declared.entry.Entry.{Entry}
-use Rattle.jcode.specs.declared.names.Access.{Access}
-use Rattle.jcode.specs.declared.names.Access.TheVariants.{Load, Store}
-use Rattle.jcode.specs.declared.names.CallOp.{CallOp}
-use Rattle.jcode.specs.declared.names.CallOp.TheVariants as callops
-use Rattle.jcode.specs.declared.names.LocalKind.TheVariants.{Ref}
-use Rattle.jcode.specs.declared.op.Goto.TheVariants as gotos
-use Rattle.jcode.specs.declared.op.Ldc.TheVariants as ldcs
-use Rattle.jcode.specs.declared.op.LocalOp.TheVariants.{At}
-use Rattle.jcode.specs.declared.op.NewOp.TheVariants as news
-use Rattle.jcode.specs.declared.op.Op.{Op}
-use Rattle.jcode.specs.declared.op.Op.TheVariants as ops
-use Rattle.jcode.specs.declared.op.Placed.{Placed}
-use Rattle.jcode.specs.declared.op.Switch.TheVariants as switches
-use Rattle.jcode.specs.declared.op.Wide.TheVariants.{Local}
-use Rattle.jcode.specs.Instructions.{size}
+use Rattle.jground.proofs.JformatProofs.Steps.{both, first_true, second_true}
+use Rattle.jparts.specs.declared.jpool.entry.Entry.{Entry}
+use Rattle.jparts.specs.declared.jcode.names.Access.{Access}
+use Rattle.jparts.specs.declared.jcode.names.Access.TheVariants.{Load, Store}
+use Rattle.jparts.specs.declared.jcode.names.CallOp.{CallOp}
+use Rattle.jparts.specs.declared.jcode.names.CallOp.TheVariants as callops
+use Rattle.jparts.specs.declared.jcode.names.LocalKind.TheVariants.{Ref}
+use Rattle.jparts.specs.declared.jcode.op.Goto.TheVariants as gotos
+use Rattle.jparts.specs.declared.jcode.op.Ldc.TheVariants as ldcs
+use Rattle.jparts.specs.declared.jcode.op.LocalOp.TheVariants.{At}
+use Rattle.jparts.specs.declared.jcode.op.NewOp.TheVariants as news
+use Rattle.jparts.specs.declared.jcode.op.Op.{Op}
+use Rattle.jparts.specs.declared.jcode.op.Op.TheVariants as ops
+use Rattle.jparts.specs.declared.jcode.op.Placed.{Placed}
+use Rattle.jparts.specs.declared.jcode.op.Switch.TheVariants as switches
+use Rattle.jparts.specs.declared.jcode.op.Wide.TheVariants.{Local}
+use Rattle.jparts.specs.jcode.Instructions.{size}
 use Rattle.jclass.specs.Operands.{is_called, is_constant, is_field, is_interface_method, is_wide_constant, names_well}
 use Rattle.jmove.specs.declared.method.Expand.{Expand}
 use Rattle.jmove.specs.declared.method.Expand.TheVariants.{Same, Call, Check, Snapshot, Privileged, PrivilegedWith, PrivilegedLimited}

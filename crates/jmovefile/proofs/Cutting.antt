@@ -5,12 +5,12 @@ use Rattle.std.specs.List.{AllByRecursion, flat_map, list_all}
 use Rattle.std.specs.Result.{is_ok}
 use Rattle.std.proofs.lemmas.Bool.{ltb-true}
 use Rattle.std.proofs.lemmas.Grind.{flat_map-append}
-use Rattle.jformat.specs.declared.error.Fault.{Fault}
-use Rattle.jformat.specs.Format.{IsBytes}
-use Rattle.jformat.proofs.Steps.{both, first_true, second_true}
-use Rattle.jtext.specs.Modified.{group}
-use Rattle.jtext.specs.Modified as modified
-use Rattle.jtext.proofs.Groups.{text_law}
+use Rattle.jground.specs.declared.jformat.error.Fault.{Fault}
+use Rattle.jground.specs.jformat.Format.{IsBytes}
+use Rattle.jground.proofs.JformatProofs.Steps.{both, first_true, second_true}
+use Rattle.jground.specs.jtext.Modified.{group}
+use Rattle.jground.specs.jtext.Modified as modified
+use Rattle.jground.proofs.JtextProofs.Groups.{text_law}
 use Rattle.jclass.specs.Judging.{is_modified}
 
 -- ---- bytes

@@ -2,19 +2,19 @@
 use Rattle.std.proofs.Common.{ℕ, zero, suc, ◌+◌, ◌-◌, Bool, true, false, cond, ◌&&◌, List, [], ◌∷◌, length, Option, Some, None, Result, Ok, Err, refl}
 use Rattle.std.specs.Prelude.{IsTrue, nat_le, nat_lt, take}
 use Rattle.std.specs.List.{AllByRecursion, list_all}
-use Rattle.jbase.specs.Stops.{◌>>=◌}
-use Rattle.jformat.specs.Bodies.{counted}
-use Rattle.jformat.specs.Tags.{row_fits}
-use Rattle.jformat.proofs.Steps.{both, first_true, second_true}
-use Rattle.jpool.specs.declared.entry.Entry.{Entry}
-use Rattle.jmaps.specs.declared.types.FullFrame.{FullFrame}
-use Rattle.jmaps.specs.declared.types.MapType.{MapType}
-use Rattle.jmaps.specs.declared.types.RawFrame.{RawFrame}
-use Rattle.jmaps.specs.declared.types.Row.{Row}
-use Rattle.jmaps.specs.Frames as own
-use Rattle.jmaps.specs.Frames.{body, frame, frames, or_kind, own_frame, own_type, part, row}
-use Rattle.jmaps.specs.Full.{can_write, delta_behind, expand_from, full_form, full_forms, items_fit, locals_after, locals_before, or_number, place_behind, with_locals}
-use Rattle.jmaps.proofs.FullLaws.{written_fits}
+use Rattle.jground.specs.jbase.Stops.{◌>>=◌}
+use Rattle.jground.specs.jformat.Bodies.{counted}
+use Rattle.jground.specs.jformat.Tags.{row_fits}
+use Rattle.jground.proofs.JformatProofs.Steps.{both, first_true, second_true}
+use Rattle.jparts.specs.declared.jpool.entry.Entry.{Entry}
+use Rattle.jparts.specs.declared.jmaps.types.FullFrame.{FullFrame}
+use Rattle.jparts.specs.declared.jmaps.types.MapType.{MapType}
+use Rattle.jparts.specs.declared.jmaps.types.RawFrame.{RawFrame}
+use Rattle.jparts.specs.declared.jmaps.types.Row.{Row}
+use Rattle.jparts.specs.jmaps.Frames as own
+use Rattle.jparts.specs.jmaps.Frames.{body, frame, frames, or_kind, own_frame, own_type, part, row}
+use Rattle.jparts.specs.jmaps.Full.{can_write, delta_behind, expand_from, full_form, full_forms, items_fit, locals_after, locals_before, or_number, place_behind, with_locals}
+use Rattle.jparts.proofs.JmapsProofs.FullLaws.{written_fits}
 use Rattle.jclass.specs.declared.class.CodeBody.{CodeBody}
 use Rattle.jclass.specs.Codes.{frame_kinds, maps, named_type}
 use Rattle.jmoveclass.specs.Methods.{frames_in, frames_of, or_none}

@@ -5,15 +5,15 @@ use Rattle.std.specs.List.{list_all}
 use Rattle.std.specs.Ordering.{int_eq}
 use Rattle.std.proofs.lemmas.Bool.{cases_Bool, eq-eqb, eqb-true, lt-ltb, ltb-true}
 use Rattle.std.proofs.lemmas.Bool.Decides.{Decides-int_eq}
-use Rattle.jformat.specs.Format.{◌·◌, is_good}
-use Rattle.jformat.proofs.Steps.{both, first_true, second_true}
-use Rattle.jpool.specs.declared.entry.Entry.{Entry}
-use Rattle.jcode.specs.declared.names.Access.TheVariants.{Load}
-use Rattle.jcode.specs.declared.op.Handler.{Handler}
-use Rattle.jcode.specs.declared.op.Op.{Op}
-use Rattle.jcode.specs.declared.op.Placed.{Placed}
-use Rattle.jcode.specs.Instructions as jcode
-use Rattle.jcode.specs.Instructions.{is_place, size}
+use Rattle.jground.specs.jformat.Format.{◌·◌, is_good}
+use Rattle.jground.proofs.JformatProofs.Steps.{both, first_true, second_true}
+use Rattle.jparts.specs.declared.jpool.entry.Entry.{Entry}
+use Rattle.jparts.specs.declared.jcode.names.Access.TheVariants.{Load}
+use Rattle.jparts.specs.declared.jcode.op.Handler.{Handler}
+use Rattle.jparts.specs.declared.jcode.op.Op.{Op}
+use Rattle.jparts.specs.declared.jcode.op.Placed.{Placed}
+use Rattle.jparts.specs.jcode.Instructions as jcode
+use Rattle.jparts.specs.jcode.Instructions.{is_place, size}
 use Rattle.jclass.specs.declared.fault.ClassFault.TheVariants.{Target}
 use Rattle.jclass.specs.Basics.{index, u2}
 use Rattle.jclass.specs.Codes.{begins, ends, handler, handler_parts, target_fault}

@@ -3,26 +3,26 @@ use Rattle.std.proofs.Common.{◌≡◌, ℕ, zero, suc, ◌+◌, ◌-◌, ◌�
 use Rattle.std.specs.Prelude.{All, IsTrue, nat_lt, ◌==◌}
 use Rattle.std.specs.List.{AllByRecursion, list_all}
 use Rattle.std.proofs.lemmas.Bool.{eqb-true, lt-ltb, ltb-true}
-use Rattle.jbase.specs.First.{first_some}
-use Rattle.jbase.specs.Stops.{◌>>=◌}
-use Rattle.jformat.specs.Bodies.{block, counted}
-use Rattle.jformat.specs.Format.{is_good}
-use Rattle.jformat.specs.States.{fits_from}
-use Rattle.jformat.specs.Tags.{row_fits}
-use Rattle.jformat.proofs.Steps.{both, first_true, second_true}
-use Rattle.jpool.specs.declared.entry.Entry.{Entry}
-use Rattle.jpool.specs.Pools.{is_class}
-use Rattle.jcode.specs.declared.op.Op.{Op}
-use Rattle.jcode.specs.declared.op.Placed.{Placed}
-use Rattle.jmaps.specs.declared.types.FullFrame.{FullFrame}
-use Rattle.jmaps.specs.declared.types.MapType.{MapType}
-use Rattle.jmaps.specs.declared.types.MapType.TheVariants as items
-use Rattle.jmaps.specs.declared.types.RawFrame.{RawFrame}
-use Rattle.jmaps.specs.declared.types.Row.{Row}
-use Rattle.jmaps.specs.Frames as own
-use Rattle.jmaps.specs.Frames.{body, frame, frames, map_type, or_kind, own_type, part, row}
-use Rattle.jmaps.specs.Full.{can_follow, can_write, expand_from, full_forms, items_fit, locals_after, locals_before, or_number, place_after, place_behind, stands, with_locals}
-use Rattle.jmaps.proofs.FullLaws.{expands_in_order, few_frames}
+use Rattle.jground.specs.jbase.First.{first_some}
+use Rattle.jground.specs.jbase.Stops.{◌>>=◌}
+use Rattle.jground.specs.jformat.Bodies.{block, counted}
+use Rattle.jground.specs.jformat.Format.{is_good}
+use Rattle.jground.specs.jformat.States.{fits_from}
+use Rattle.jground.specs.jformat.Tags.{row_fits}
+use Rattle.jground.proofs.JformatProofs.Steps.{both, first_true, second_true}
+use Rattle.jparts.specs.declared.jpool.entry.Entry.{Entry}
+use Rattle.jparts.specs.jpool.Pools.{is_class}
+use Rattle.jparts.specs.declared.jcode.op.Op.{Op}
+use Rattle.jparts.specs.declared.jcode.op.Placed.{Placed}
+use Rattle.jparts.specs.declared.jmaps.types.FullFrame.{FullFrame}
+use Rattle.jparts.specs.declared.jmaps.types.MapType.{MapType}
+use Rattle.jparts.specs.declared.jmaps.types.MapType.TheVariants as items
+use Rattle.jparts.specs.declared.jmaps.types.RawFrame.{RawFrame}
+use Rattle.jparts.specs.declared.jmaps.types.Row.{Row}
+use Rattle.jparts.specs.jmaps.Frames as own
+use Rattle.jparts.specs.jmaps.Frames.{body, frame, frames, map_type, or_kind, own_type, part, row}
+use Rattle.jparts.specs.jmaps.Full.{can_follow, can_write, expand_from, full_forms, items_fit, locals_after, locals_before, or_number, place_after, place_behind, stands, with_locals}
+use Rattle.jparts.proofs.JmapsProofs.FullLaws.{expands_in_order, few_frames}
 use Rattle.jclass.specs.declared.class.CodeAttribute.{CodeAttribute}
 use Rattle.jclass.specs.declared.class.CodeAttribute.TheVariants as code
 use Rattle.jclass.specs.declared.fault.ClassFault.TheVariants as kinds

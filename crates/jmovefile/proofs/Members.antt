@@ -1,9 +1,9 @@
 -- The methods of a moved class, one by one: flags and names stay, descriptors have one more parameter, and who has code has code.
 use Rattle.std.proofs.Common.{◌≡◌, ℕ, suc, ◌≤◌, Bool, true, false, List, [], ◌∷◌, ◌++◌, length, Option, Some, None, refl, ap, ◌∙◌, arith}
 use Rattle.std.specs.Prelude.{is_some, slice_get, if◌then◌else◌}
-use Rattle.jbase.specs.First.{first_some, or_else}
-use Rattle.jpool.specs.declared.entry.Entry.{Entry}
-use Rattle.jpool.specs.Pools.{utf8_at}
+use Rattle.jground.specs.jbase.First.{first_some, or_else}
+use Rattle.jparts.specs.declared.jpool.entry.Entry.{Entry}
+use Rattle.jparts.specs.jpool.Pools.{utf8_at}
 use Rattle.jclass.specs.declared.class.Attribute.{Attribute}
 use Rattle.jclass.specs.declared.class.Attribute.TheVariants.{Code, ConstantValue, Raw}
 use Rattle.jclass.specs.declared.class.ClassParts.{ClassParts}

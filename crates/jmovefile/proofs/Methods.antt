@@ -4,15 +4,15 @@ use Rattle.std.specs.Prelude.{IsTrue, codes, option_map, slice_get, ◌==◌, if
 use Rattle.std.specs.List.{filter, list_all}
 use Rattle.std.proofs.lemmas.Bool.{eq-eqb, eqb-false, eqb-true, le-leb, lt-ltb, ltb-true}
 use Rattle.std.proofs.lemmas.List.{length-append}
-use Rattle.jbase.specs.First.{first_along}
-use Rattle.jbase.proofs.Firsts.{none_fails, none_of}
-use Rattle.jformat.specs.Bodies.{counted}
-use Rattle.jformat.specs.Format.{is_good, ◌·◌}
-use Rattle.jformat.proofs.Steps.{both, first_true, second_true}
-use Rattle.jpool.specs.declared.entry.Entry.{Entry}
-use Rattle.jpool.specs.declared.entry.Entry.TheVariants.{Utf8}
-use Rattle.jpool.specs.Descriptors.{method_slots, slots_of}
-use Rattle.jpool.specs.Pools.{is_utf8, utf8_at}
+use Rattle.jground.specs.jbase.First.{first_along}
+use Rattle.jground.proofs.JbaseProofs.Firsts.{none_fails, none_of}
+use Rattle.jground.specs.jformat.Bodies.{counted}
+use Rattle.jground.specs.jformat.Format.{is_good, ◌·◌}
+use Rattle.jground.proofs.JformatProofs.Steps.{both, first_true, second_true}
+use Rattle.jparts.specs.declared.jpool.entry.Entry.{Entry}
+use Rattle.jparts.specs.declared.jpool.entry.Entry.TheVariants.{Utf8}
+use Rattle.jparts.specs.jpool.Descriptors.{method_slots, slots_of}
+use Rattle.jparts.specs.jpool.Pools.{is_utf8, utf8_at}
 use Rattle.jclass.specs.declared.access.Access.{Access}
 use Rattle.jclass.specs.declared.class.Attribute.{Attribute}
 use Rattle.jclass.specs.declared.class.Attribute.TheVariants.{Code, ConstantValue, Raw}

@@ -1,9 +1,9 @@
 -- The texts that are put for `sps/Rt` and `sps/Ctx` are names and descriptors.
 use Rattle.std.proofs.Common.{refl, arith}
 use Rattle.std.specs.Prelude.{IsTrue, codes, ◌||◌}
-use Rattle.jformat.specs.Bodies.{many_at}
-use Rattle.jpool.specs.Descriptors.{base_at, class_at, closing_at, field_of, is_array_descriptor, is_field_descriptor, is_method_descriptor, method_of, params_at, return_at, slots_of, type_at}
-use Rattle.jpool.specs.Names.{is_class_name}
+use Rattle.jground.specs.jformat.Bodies.{many_at}
+use Rattle.jparts.specs.jpool.Descriptors.{base_at, class_at, closing_at, field_of, is_array_descriptor, is_field_descriptor, is_method_descriptor, method_of, params_at, return_at, slots_of, type_at}
+use Rattle.jparts.specs.jpool.Names.{is_class_name}
 use Rattle.jclass.specs.Judging.{is_modified}
 use Rattle.jmove.specs.declared.naming.Security.{Security}
 use Rattle.jmove.specs.declared.naming.Security.TheVariants.{Enter, Check, Snapshot, Privileged, PrivilegedWith, PrivilegedLimited}

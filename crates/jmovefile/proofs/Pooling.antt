@@ -3,24 +3,24 @@ use Rattle.std.proofs.Common.{◌≡◌, ℕ, suc, ◌≤◌, Bool, true, false,
 use Rattle.std.specs.Prelude.{IsTrue, is_some, slice_get, nat_lt, ◌||◌}
 use Rattle.std.specs.List.{list_all}
 use Rattle.std.proofs.lemmas.Bool.{cases_Bool, ltb-false}
-use Rattle.jbase.specs.First.{first_along}
-use Rattle.jbase.proofs.Firsts.{none_of}
-use Rattle.jformat.specs.Bodies.{block}
-use Rattle.jformat.specs.Format.{is_good}
-use Rattle.jformat.proofs.Steps.{both, first_true, second_true}
-use Rattle.jpool.specs.declared.descriptor.Descriptor.TheVariants as descriptors
-use Rattle.jpool.specs.declared.entry.Entry.{Entry}
-use Rattle.jpool.specs.declared.entry.Entry.TheVariants.{Unused, Utf8, Integer, Float, Long, Double, Class, Str, Field, Method, InterfaceMethod, NameAndType, MethodHandle, MethodType, InvokeDynamic}
-use Rattle.jpool.specs.Entries.{shape}
-use Rattle.jpool.specs.Pools as pools
-use Rattle.jpool.specs.Pools.{is_utf8, utf8_at}
-use Rattle.jpool.proofs.PoolLaws.{at_index}
-use Rattle.jcode.specs.declared.names.CallOp.{CallOp}
-use Rattle.jcode.specs.declared.names.CallOp.TheVariants as callops
-use Rattle.jcode.specs.declared.op.Op.{Op}
-use Rattle.jcode.specs.declared.op.Op.TheVariants as ops
-use Rattle.jcode.specs.declared.op.Placed.{Placed}
-use Rattle.jcode.specs.Instructions
+use Rattle.jground.specs.jbase.First.{first_along}
+use Rattle.jground.proofs.JbaseProofs.Firsts.{none_of}
+use Rattle.jground.specs.jformat.Bodies.{block}
+use Rattle.jground.specs.jformat.Format.{is_good}
+use Rattle.jground.proofs.JformatProofs.Steps.{both, first_true, second_true}
+use Rattle.jparts.specs.declared.jpool.descriptor.Descriptor.TheVariants as descriptors
+use Rattle.jparts.specs.declared.jpool.entry.Entry.{Entry}
+use Rattle.jparts.specs.declared.jpool.entry.Entry.TheVariants.{Unused, Utf8, Integer, Float, Long, Double, Class, Str, Field, Method, InterfaceMethod, NameAndType, MethodHandle, MethodType, InvokeDynamic}
+use Rattle.jparts.specs.jpool.Entries.{shape}
+use Rattle.jparts.specs.jpool.Pools as pools
+use Rattle.jparts.specs.jpool.Pools.{is_utf8, utf8_at}
+use Rattle.jparts.proofs.JpoolProofs.PoolLaws.{at_index}
+use Rattle.jparts.specs.declared.jcode.names.CallOp.{CallOp}
+use Rattle.jparts.specs.declared.jcode.names.CallOp.TheVariants as callops
+use Rattle.jparts.specs.declared.jcode.op.Op.{Op}
+use Rattle.jparts.specs.declared.jcode.op.Op.TheVariants as ops
+use Rattle.jparts.specs.declared.jcode.op.Placed.{Placed}
+use Rattle.jparts.specs.jcode.Instructions
 use Rattle.jclass.specs.declared.class.Attribute.{Attribute}
 use Rattle.jclass.specs.declared.class.Attribute.TheVariants as attributes
 use Rattle.jclass.specs.declared.class.ClassParts.{ClassParts}

@@ -2,15 +2,15 @@
 use Rattle.std.proofs.Common.{◌≡◌, ℕ, ◌<◌, ◌≤◌, Bool, true, false, ◌&&◌, List, [], ◌∷◌, length, Option, Some, None, refl, arith}
 use Rattle.std.specs.Prelude.{IsTrue, is_some, slice_get, codes, if◌then◌else◌}
 use Rattle.std.proofs.lemmas.Bool.{lt-ltb}
-use Rattle.jformat.specs.Format.{is_good}
-use Rattle.jformat.proofs.Steps.{both}
-use Rattle.jpool.specs.declared.entry.Entry.{Entry}
-use Rattle.jpool.specs.declared.entry.Entry.TheVariants.{Utf8, Method, InterfaceMethod, NameAndType}
-use Rattle.jpool.specs.declared.fault.PoolFault.TheVariants.{BadIndex}
-use Rattle.jpool.specs.Adding.{laid, names_text}
-use Rattle.jpool.specs.Entries.{entry}
-use Rattle.jpool.specs.Pools as pools
-use Rattle.jpool.specs.Pools.{class_name_at, is_class, is_name_and_type, member_fault, name_in, utf8_at}
+use Rattle.jground.specs.jformat.Format.{is_good}
+use Rattle.jground.proofs.JformatProofs.Steps.{both}
+use Rattle.jparts.specs.declared.jpool.entry.Entry.{Entry}
+use Rattle.jparts.specs.declared.jpool.entry.Entry.TheVariants.{Utf8, Method, InterfaceMethod, NameAndType}
+use Rattle.jparts.specs.declared.jpool.fault.PoolFault.TheVariants.{BadIndex}
+use Rattle.jparts.specs.jpool.Adding.{laid, names_text}
+use Rattle.jparts.specs.jpool.Entries.{entry}
+use Rattle.jparts.specs.jpool.Pools as pools
+use Rattle.jparts.specs.jpool.Pools.{class_name_at, is_class, is_name_and_type, member_fault, name_in, utf8_at}
 use Rattle.jclass.specs.Judging.{entry_fault}
 use Rattle.jmove.specs.declared.naming.Security.{Security}
 use Rattle.jmove.specs.Additions.{IsFront, security_name, security_type, with_class, with_entry, with_member, with_security, ◌>>◌}

@@ -4,21 +4,21 @@ use Rattle.std.specs.Prelude.{IsTrue, is_some, slice_get, option_map, nat_lt, â—
 use Rattle.std.specs.List.{list_all, position}
 use Rattle.std.proofs.lemmas.Bool.{lt-ltb}
 use Rattle.std.proofs.lemmas.List.{length-append}
-use Rattle.jbase.specs.First.{or_else}
-use Rattle.jformat.specs.Format.{is_good, unless}
-use Rattle.jformat.proofs.Steps.{both, first_true, second_true}
-use Rattle.jpool.specs.declared.entry.Entry.{Entry}
-use Rattle.jpool.specs.declared.entry.Entry.TheVariants.{Unused, Utf8, Integer, Float, Long, Double, Class, Str, Field, Method, InterfaceMethod, NameAndType, MethodHandle, MethodType, InvokeDynamic}
-use Rattle.jpool.specs.declared.fault.PoolFault.{PoolFault}
-use Rattle.jpool.specs.declared.fault.PoolFault.TheVariants.{BadIndex, BadName, BadDescriptor}
-use Rattle.jpool.specs.Adding.{laid, names_text, same}
-use Rattle.jpool.specs.Descriptors.{is_array_descriptor, is_field_descriptor, is_method_descriptor}
-use Rattle.jpool.specs.Entries.{entry}
-use Rattle.jpool.specs.Names.{is_class_name}
-use Rattle.jpool.specs.Pools as pools
-use Rattle.jpool.specs.Pools.{IsPool, class_name_at, descriptor_fault, is_class, is_name_and_type, is_utf8, member_fault, name_fault, both_in, utf8_at}
-use Rattle.jpool.proofs.Grown.{laid_count, pool_with}
-use Rattle.jpool.proofs.Numbered.{least_is, least_with}
+use Rattle.jground.specs.jbase.First.{or_else}
+use Rattle.jground.specs.jformat.Format.{is_good, unless}
+use Rattle.jground.proofs.JformatProofs.Steps.{both, first_true, second_true}
+use Rattle.jparts.specs.declared.jpool.entry.Entry.{Entry}
+use Rattle.jparts.specs.declared.jpool.entry.Entry.TheVariants.{Unused, Utf8, Integer, Float, Long, Double, Class, Str, Field, Method, InterfaceMethod, NameAndType, MethodHandle, MethodType, InvokeDynamic}
+use Rattle.jparts.specs.declared.jpool.fault.PoolFault.{PoolFault}
+use Rattle.jparts.specs.declared.jpool.fault.PoolFault.TheVariants.{BadIndex, BadName, BadDescriptor}
+use Rattle.jparts.specs.jpool.Adding.{laid, names_text, same}
+use Rattle.jparts.specs.jpool.Descriptors.{is_array_descriptor, is_field_descriptor, is_method_descriptor}
+use Rattle.jparts.specs.jpool.Entries.{entry}
+use Rattle.jparts.specs.jpool.Names.{is_class_name}
+use Rattle.jparts.specs.jpool.Pools as pools
+use Rattle.jparts.specs.jpool.Pools.{IsPool, class_name_at, descriptor_fault, is_class, is_name_and_type, is_utf8, member_fault, name_fault, both_in, utf8_at}
+use Rattle.jparts.proofs.JpoolProofs.Grown.{laid_count, pool_with}
+use Rattle.jparts.proofs.JpoolProofs.Numbered.{least_is, least_with}
 use Rattle.jclass.specs.declared.fault.ClassFault.TheVariants.{Text}
 use Rattle.jclass.specs.Basics.{pool_fault}
 use Rattle.jclass.specs.Judging.{entry_fault, is_modified, no_fault, text_fault}

@@ -6,24 +6,24 @@ use Rattle.std.specs.Str.{byte}
 use Rattle.std.proofs.lemmas.Bool.{eqb-true, le-leb, ltb-false, ltb-true}
 use Rattle.std.proofs.lemmas.Grind.{flat_map-append}
 use Rattle.std.proofs.lemmas.List.{append-nil}
-use Rattle.jformat.specs.Bodies.{many_at}
-use Rattle.jformat.proofs.Steps.{both, first_true, second_true}
-use Rattle.jpool.specs.declared.descriptor.Descriptor.TheVariants as descriptors
-use Rattle.jpool.specs.declared.descriptor.FieldType.{FieldType}
-use Rattle.jpool.specs.declared.entry.Entry.{Entry}
-use Rattle.jpool.specs.declared.entry.Entry.TheVariants.{Unused, Utf8, Integer, Float, Long, Double, Class, Str, Field, Method, InterfaceMethod, NameAndType, MethodHandle, MethodType, InvokeDynamic}
-use Rattle.jpool.specs.Descriptors.{descriptor_of, descriptor_text, is_array, is_array_descriptor, is_base, is_class_sign, is_method, is_method_descriptor, is_return, is_type, is_well_formed, method, method_of, method_slots, return_text, slots_of, type_text}
-use Rattle.jpool.specs.Entries.{entry, first_slot}
-use Rattle.jpool.specs.Names.{is_class_name}
-use Rattle.jpool.specs.Pools.{text_in, utf8_at}
-use Rattle.jpool.proofs.Grown.{each_is, laid_slots}
-use Rattle.jpool.proofs.PoolLaws.{at_index}
-use Rattle.jpool.proofs.Spelled.{descriptor_again, descriptor_take, field_again}
+use Rattle.jground.specs.jformat.Bodies.{many_at}
+use Rattle.jground.proofs.JformatProofs.Steps.{both, first_true, second_true}
+use Rattle.jparts.specs.declared.jpool.descriptor.Descriptor.TheVariants as descriptors
+use Rattle.jparts.specs.declared.jpool.descriptor.FieldType.{FieldType}
+use Rattle.jparts.specs.declared.jpool.entry.Entry.{Entry}
+use Rattle.jparts.specs.declared.jpool.entry.Entry.TheVariants.{Unused, Utf8, Integer, Float, Long, Double, Class, Str, Field, Method, InterfaceMethod, NameAndType, MethodHandle, MethodType, InvokeDynamic}
+use Rattle.jparts.specs.jpool.Descriptors.{descriptor_of, descriptor_text, is_array, is_array_descriptor, is_base, is_class_sign, is_method, is_method_descriptor, is_return, is_type, is_well_formed, method, method_of, method_slots, return_text, slots_of, type_text}
+use Rattle.jparts.specs.jpool.Entries.{entry, first_slot}
+use Rattle.jparts.specs.jpool.Names.{is_class_name}
+use Rattle.jparts.specs.jpool.Pools.{text_in, utf8_at}
+use Rattle.jparts.proofs.JpoolProofs.Grown.{each_is, laid_slots}
+use Rattle.jparts.proofs.JpoolProofs.PoolLaws.{at_index}
+use Rattle.jparts.proofs.JpoolProofs.Spelled.{descriptor_again, descriptor_take, field_again}
 use Rattle.jclass.specs.declared.fault.ClassFault.TheVariants.{Text}
 use Rattle.jclass.specs.Judging.{entry_fault, is_modified, no_fault, text_fault}
 use Rattle.jclass.specs.Basics.{pool_fault}
-use Rattle.jformat.specs.Format.{is_good}
-use Rattle.jpool.specs.Pools as pools
+use Rattle.jground.specs.jformat.Format.{is_good}
+use Rattle.jparts.specs.jpool.Pools as pools
 use Rattle.jmove.specs.Additions.{context_type, moved_descriptor}
 use Rattle.jmoveclass.specs.Beginning.{class_name, is_reference}
 use Rattle.jmoveclass.proofs.Keeping.{good_is}

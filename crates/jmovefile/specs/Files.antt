@@ -1,11 +1,11 @@
 -- What is asked of a class that is to be moved, so that what it becomes is a class file.
 use Rattle.std.specs.Prelude.{◌≡◌, ℕ, ◌≤◌, List, length, slice_get, Option, Some, None, IsTrue}
 use Rattle.std.specs.List.{list_all}
-use Rattle.jpool.specs.declared.descriptor.Descriptor.TheVariants as descriptors
-use Rattle.jpool.specs.declared.descriptor.FieldType.{FieldType}
-use Rattle.jpool.specs.declared.entry.Entry.{Entry}
-use Rattle.jpool.specs.Descriptors.{descriptor_of, slots_of}
-use Rattle.jpool.specs.Pools.{utf8_at}
+use Rattle.jparts.specs.declared.jpool.descriptor.Descriptor.TheVariants as descriptors
+use Rattle.jparts.specs.declared.jpool.descriptor.FieldType.{FieldType}
+use Rattle.jparts.specs.declared.jpool.entry.Entry.{Entry}
+use Rattle.jparts.specs.jpool.Descriptors.{descriptor_of, slots_of}
+use Rattle.jparts.specs.jpool.Pools.{utf8_at}
 use Rattle.jclass.specs.declared.class.Attribute.{Attribute}
 use Rattle.jclass.specs.declared.class.ClassParts.{ClassParts}
 use Rattle.jclass.specs.declared.class.CodeBody.{CodeBody}

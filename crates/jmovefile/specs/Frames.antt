@@ -1,10 +1,10 @@
 -- Frames whose items name classes that are there (JVMS 4.7.4).
 use Rattle.std.specs.Prelude.{List, None, IsTrue}
 use Rattle.std.specs.List.{AllByRecursion, list_all}
-use Rattle.jpool.specs.declared.entry.Entry.{Entry}
-use Rattle.jmaps.specs.declared.types.FullFrame.{FullFrame}
-use Rattle.jmaps.specs.declared.types.MapType.{MapType}
-use Rattle.jmaps.specs.Full.{can_write, full_forms, items_fit}
+use Rattle.jparts.specs.declared.jpool.entry.Entry.{Entry}
+use Rattle.jparts.specs.declared.jmaps.types.FullFrame.{FullFrame}
+use Rattle.jparts.specs.declared.jmaps.types.MapType.{MapType}
+use Rattle.jparts.specs.jmaps.Full.{can_write, full_forms, items_fit}
 use Rattle.jclass.specs.declared.class.CodeBody.{CodeBody}
 use Rattle.jclass.specs.Codes.{maps, named_type}
 use Rattle.jmoveclass.specs.Methods.{frames_in, frames_of}

@@ -1,6 +1,6 @@
 ghost use Rattle.std.specs.Prelude.{◌≡◌, ℕ, IfOk, List, MatchResult, None};
 ghost use Rattle.jlib.specs.declared.side.Side.TheVariants as sides;
-ghost use Rattle.jlink.specs.Links.{Links};
+ghost use Rattle.jlinking.specs.jlink.Links.{Links};
 ghost use Rattle.jprogram.specs.Members.{main_of};
 ghost use Rattle.jrewrite.specs.Files;
 ghost use Rattle.jrewrite.specs.Files.{IsRewritten};
@@ -8,12 +8,12 @@ ghost use Rattle.jrewrite.specs.Program;
 ghost use Rattle.jrewrite.specs.Program.{RewriteErrorIs};
 ghost use Rattle.jtyping.specs.Typing.{WellTyped};
 
-use jbase::Seq;
 use jcheck::{CheckedProgram, PlainProgram};
-use jlink::LinkedProgram;
-use jretype::types_law;
+use jground::jbase::Seq;
+use jlinking::jlink::LinkedProgram;
+use jmovedlaws::jretype::types_law;
+use jmovedlaws::jseen::begin_law;
 use jrewrite::{OutFile, RewriteError, files_of, link_law, moved_program};
-use jseen::begin_law;
 use std::alloc::{AllocError, Global};
 use std::marker::Model;
 

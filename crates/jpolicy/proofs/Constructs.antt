@@ -4,11 +4,11 @@ use Rattle.std.specs.Prelude.{is_some}
 use Rattle.std.specs.Str.{byte}
 use Rattle.std.proofs.lemmas.Bool.{cases_Bool, eqb-true}
 use Rattle.std.proofs.lemmas.List.{append-nil}
-use Rattle.jbase.specs.Stops.{◌>>=◌}
+use Rattle.jground.specs.jbase.Stops.{◌>>=◌}
 use Rattle.jpolicy.specs.declared.token.Token.{Token}
 use Rattle.jpolicy.specs.declared.token.Token.TheVariants.{Word, Text, Mark, Bad}
 use Rattle.jpolicy.specs.declared.token.Placed.{Placed}
-use Rattle.jformat.specs.declared.error.Fault.{Fault}
+use Rattle.jground.specs.declared.jformat.error.Fault.{Fault}
 use Rattle.jpolicy.specs.declared.fault.PolicyFault.{PolicyFault}
 use Rattle.jpolicy.specs.declared.fault.PolicyFault.TheVariants.{NotUtf8, Syntax, SelfExpansion}
 use Rattle.jpolicy.specs.declared.keyword.Keyword.{Keyword}

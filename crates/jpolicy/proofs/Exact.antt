@@ -1,6 +1,6 @@
 -- Readings that are exact: they are firm, and what the grammar derives they take.
 use Rattle.std.proofs.Common.{◌≡◌, ℕ, zero, suc, ◌+◌, ◌≤◌, ◌<◌, Bool, true, false, cond, ◌&&◌, List, ◌∷◌, ◌++◌, length, Ok, refl, ap, ◌∙◌, append_assoc, inl, inr, arith, length-append}
-use Rattle.jbase.specs.Stops.{◌>>=◌}
+use Rattle.jground.specs.jbase.Stops.{◌>>=◌}
 use Rattle.jpolicy.specs.declared.token.Token.{Token}
 use Rattle.jpolicy.specs.declared.token.Placed.{Placed}
 use Rattle.jpolicy.specs.Expansion.{Properties}

@@ -3,8 +3,8 @@
 use Rattle.std.proofs.Common.{◌≡◌, ℕ, zero, suc, ◌+◌, ◌-◌, ◌<◌, Bool, true, false, cond, ◌&&◌, List, [], ◌∷◌, ◌++◌, length, Option, Some, None, Result, Ok, Err, refl, sym, ap, ◌∙◌, append_assoc, subst, inl, inr, arith, length-append}
 use Rattle.std.specs.Prelude.{◌⊎◌}
 use Rattle.std.proofs.lemmas.List.{append-nil}
-use Rattle.jbase.specs.Stops.{◌>>=◌}
-use Rattle.jformat.specs.declared.error.Fault.{Fault}
+use Rattle.jground.specs.jbase.Stops.{◌>>=◌}
+use Rattle.jground.specs.declared.jformat.error.Fault.{Fault}
 use Rattle.jpolicy.specs.declared.token.Token.{Token}
 use Rattle.jpolicy.specs.declared.token.Token.TheVariants.{Word, Text, Mark, Bad}
 use Rattle.jpolicy.specs.declared.token.Placed.{Placed}

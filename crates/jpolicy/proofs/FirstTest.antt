@@ -5,9 +5,9 @@ use Rattle.std.specs.Str.Lossy.{utf8_valid_len}
 use Rattle.std.proofs.lemmas.Bool.{cases_Bool}
 use Rattle.std.proofs.lemmas.Str.{IsUtf8-from_is_utf8, is_utf8-from_IsUtf8}
 use Rattle.jpolicy.specs.declared.grant.Grant.{Grant}
-use Rattle.jbase.specs.declared.stop.Stop.{Stop}
-use Rattle.jbase.specs.Stops.{Gives}
-use Rattle.jformat.specs.declared.error.At.{At}
+use Rattle.jground.specs.declared.jbase.stop.Stop.{Stop}
+use Rattle.jground.specs.jbase.Stops.{Gives}
+use Rattle.jground.specs.declared.jformat.error.At.{At}
 use Rattle.jpolicy.specs.declared.fault.PolicyFault.{PolicyFault}
 use Rattle.jpolicy.specs.declared.fault.PolicyFault.TheVariants.{NotUtf8}
 use Rattle.jpolicy.specs.Expansion.{Properties}

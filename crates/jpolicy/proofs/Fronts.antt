@@ -2,7 +2,7 @@
 use Rattle.std.proofs.Common.{◌≡◌, ℕ, suc, ◌<◌, Bool, true, false, eqb, List, [], ◌∷◌, ◌++◌, length, map, ◌+◌, length-append, Option, refl, ap, ◌∙◌, append_assoc, arith}
 use Rattle.std.specs.Char.{to_ascii_lowercase}
 use Rattle.std.specs.Str.{bytes_eq}
-use Rattle.jtext.specs.Texts.{same_ignoring_case}
+use Rattle.jground.specs.jtext.Texts.{same_ignoring_case}
 use Rattle.std.proofs.lemmas.Bool.{eqb-true}
 use Rattle.std.proofs.lemmas.Slice.Eq.{bytes_eq-Decides}
 use Rattle.jpolicy.specs.declared.token.Token.{Token}

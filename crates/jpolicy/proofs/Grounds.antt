@@ -4,12 +4,12 @@ use Rattle.std.specs.Prelude.{IfOk, IfErr}
 use Rattle.std.specs.Str.{IsUtf8, is_utf8, chars}
 use Rattle.std.specs.Str.Lossy.{utf8_valid_len}
 use Rattle.std.proofs.lemmas.Str.{IsUtf8-from_is_utf8, is_utf8-from_IsUtf8}
-use Rattle.jformat.specs.declared.error.Fault.{Fault}
+use Rattle.jground.specs.declared.jformat.error.Fault.{Fault}
 use Rattle.jpolicy.specs.declared.grant.Grant.{Grant}
-use Rattle.jbase.specs.declared.stop.Stop.{Stop}
-use Rattle.jbase.specs.declared.stop.Stop.TheVariants as stops
-use Rattle.jbase.specs.Stops.{Gives}
-use Rattle.jformat.specs.declared.error.At.{At}
+use Rattle.jground.specs.declared.jbase.stop.Stop.{Stop}
+use Rattle.jground.specs.declared.jbase.stop.Stop.TheVariants as stops
+use Rattle.jground.specs.jbase.Stops.{Gives}
+use Rattle.jground.specs.declared.jformat.error.At.{At}
 use Rattle.jpolicy.specs.declared.fault.PolicyFault.{PolicyFault}
 use Rattle.jpolicy.specs.declared.fault.PolicyFault.TheVariants.{NotUtf8, Syntax, SelfExpansion}
 use Rattle.jpolicy.specs.Expansion.{Properties}

@@ -6,7 +6,7 @@ use Rattle.std.specs.Char.Escape.{encode_utf16}
 use Rattle.std.specs.List.{prefix_len, position_or_len}
 use Rattle.std.specs.Option.{ok_or}
 use Rattle.std.proofs.lemmas.List.{length-drop}
-use Rattle.jbase.specs.Stops.{◌>>=◌}
+use Rattle.jground.specs.jbase.Stops.{◌>>=◌}
 use Rattle.jpolicy.specs.declared.token.Token.TheVariants.{Mark}
 use Rattle.jpolicy.specs.declared.token.Placed.{Placed}
 use Rattle.jpolicy.specs.Characters.{is_gap, is_mark, is_word_character, ends_line, is_octal}

@@ -1,10 +1,10 @@
 -- Going along a list as a loop does: what is left gives what all gives.
 use Rattle.std.proofs.Common.{◌≡◌, ℕ, zero, suc, ◌+◌, ◌-◌, ◌≤◌, ◌<◌, Bool, true, false, cond, List, [], ◌∷◌, length, Result, Ok, Err, refl, sym, ◌∙◌, subst, inl, inr, arith}
 use Rattle.std.specs.Prelude.{◌⊎◌}
-use Rattle.jbase.specs.Stops.{◌>>=◌}
-use Rattle.jbase.specs.declared.stop.Stop.{Stop}
-use Rattle.jbase.specs.declared.stop.Stop.TheVariants as stops
-use Rattle.jbase.specs.Stops.{Fails}
+use Rattle.jground.specs.jbase.Stops.{◌>>=◌}
+use Rattle.jground.specs.declared.jbase.stop.Stop.{Stop}
+use Rattle.jground.specs.declared.jbase.stop.Stop.TheVariants as stops
+use Rattle.jground.specs.jbase.Stops.{Fails}
 use Rattle.jpolicy.specs.Walks.{walk, Ends}
 
 pub walk_more : {S A F : Type 0} (ends : List A → Bool) (goes : S → List A → Result (S × List A) F) (n i : ℕ) (s t : S) (xs ys : List A) (total : Result (S × List A) F) → i < n → false ≡ ends xs → goes s xs ≡ Ok (t, ys) → walk ends goes (n - i) s xs ≡ total → walk ends goes (n - (i + 1)) t ys ≡ total

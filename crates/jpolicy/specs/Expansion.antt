@@ -4,7 +4,7 @@ use Rattle.std.specs.List.{starts_with}
 use Rattle.std.specs.Option.{ok_or}
 use Rattle.std.specs.Result.{result_ok}
 use Rattle.std.specs.Str.{bytes_eq, byte}
-use Rattle.jbase.specs.Stops.{◌>>=◌}
+use Rattle.jground.specs.jbase.Stops.{◌>>=◌}
 use Rattle.jpolicy.specs.Strings.{Part}
 use Rattle.jpolicy.specs.Walks.{none_left, walk}
 

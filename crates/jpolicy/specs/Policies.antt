@@ -2,10 +2,10 @@
 use Rattle.std.specs.Prelude.{◌≡◌, ℕ, ◌-◌, List, [], ◌∷◌, ◌++◌, length, take, Result, Ok, Err, if◌then◌else◌}
 use Rattle.std.specs.Str.{IsUtf8, chars, encode_utf8_all, is_utf8}
 use Rattle.std.specs.Str.Lossy.{utf8_valid_len}
-use Rattle.jbase.specs.declared.stop.Stop.{Stop}
-use Rattle.jbase.specs.declared.stop.Stop.TheVariants as stops
-use Rattle.jformat.specs.declared.error.At.{At}
-use Rattle.jformat.specs.declared.error.Fault.{Fault}
+use Rattle.jground.specs.declared.jbase.stop.Stop.{Stop}
+use Rattle.jground.specs.declared.jbase.stop.Stop.TheVariants as stops
+use Rattle.jground.specs.declared.jformat.error.At.{At}
+use Rattle.jground.specs.declared.jformat.error.Fault.{Fault}
 use Rattle.jpolicy.specs.declared.fault.PolicyFault.{PolicyFault}
 use Rattle.jpolicy.specs.declared.fault.PolicyFault.TheVariants.{NotUtf8}
 use Rattle.jpolicy.specs.declared.grant.Grant.{Grant}

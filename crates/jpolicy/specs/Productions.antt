@@ -2,9 +2,9 @@
 -- it, or the first token that isn't allowed.
 use Rattle.std.specs.Prelude.{ℕ, Bool, true, false, not, ◌&&◌, ◌||◌, ◌==◌, List, [], ◌∷◌, ◌++◌, length, Option, Some, None, is_some, Result, Ok, Err, if◌then◌else◌, codes}
 use Rattle.std.specs.Str.{byte}
-use Rattle.jbase.specs.Stops.{◌>>=◌}
-use Rattle.jformat.specs.declared.error.Fault.{Fault}
-use Rattle.jtext.specs.Texts.{same_ignoring_case}
+use Rattle.jground.specs.jbase.Stops.{◌>>=◌}
+use Rattle.jground.specs.declared.jformat.error.Fault.{Fault}
+use Rattle.jground.specs.jtext.Texts.{same_ignoring_case}
 use Rattle.jpolicy.specs.declared.token.Token.{Token}
 use Rattle.jpolicy.specs.declared.token.Token.TheVariants.{Word, Text, Mark}
 use Rattle.jpolicy.specs.declared.token.Placed.{Placed}

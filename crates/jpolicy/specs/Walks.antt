@@ -1,6 +1,6 @@
 -- Going along a list, some items at a time, from one state to the next.
 use Rattle.std.specs.Prelude.{◌≡◌, ℕ, zero, suc, ◌==◌, Bool, true, ◌⊎◌, List, [], length, Result, Ok, Err, if◌then◌else◌}
-use Rattle.jbase.specs.Stops.{◌>>=◌}
+use Rattle.jground.specs.jbase.Stops.{◌>>=◌}
 
 -- nothing is left
 abbrev pub none_left : {A : Type 0} → List A → Bool

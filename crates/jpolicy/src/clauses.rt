@@ -1,6 +1,6 @@
 ghost use Rattle.std.specs.Prelude.{◌≡◌};
 ghost use Rattle.std.specs.Str.{byte};
-ghost use Rattle.jbase.specs.Stops.{Gives};
+ghost use Rattle.jground.specs.jbase.Stops.{Gives};
 ghost use Rattle.jpolicy.specs.Productions.{clause_at, clauses_at, is_mark, next, no_clauses, one_clause};
 ghost use Rattle.jpolicy.specs.Productions.{principal_at, principal_name_at, skip_comma, with_code_base, with_principal, with_signers};
 
@@ -10,8 +10,8 @@ use crate::parts::{behind, next_is, next_is_word, next_names_principal, next_say
 use crate::stated::Stated;
 use crate::token::Placed;
 use crate::walk::{Walk, walk_of};
-use jformat::ReadError;
-use jtext::Units;
+use jground::jformat::ReadError;
+use jground::jtext::Units;
 use std::alloc::Global;
 
 /// What the clauses of a grant say.
@@ -162,7 +162,7 @@ impl<'p> Walk for ClauseWalk<'p> {
 
     type State = Clauses;
 
-    type Fault = jformat::Fault<PolicyFault>;
+    type Fault = jground::jformat::Fault<PolicyFault>;
 
     ghost ends = { λ _. next (is_mark (byte "{")) };
 

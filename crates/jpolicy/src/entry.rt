@@ -1,6 +1,6 @@
 ghost use Rattle.std.specs.Prelude.{◌≡◌};
 ghost use Rattle.std.specs.Str.{byte};
-ghost use Rattle.jbase.specs.Stops.{Gives};
+ghost use Rattle.jground.specs.jbase.Stops.{Gives};
 ghost use Rattle.jpolicy.specs.Productions.{behind_actions, behind_comma, behind_name, entries_at, entry_at, entry_of, is_mark, name_at, next, one_entry, signer_at};
 
 use crate::fault::PolicyFault;
@@ -12,9 +12,9 @@ use crate::parts::{
 use crate::stated::Stated;
 use crate::token::Placed;
 use crate::walk::{Walk, walk_of};
-use jbase::Seq;
-use jformat::ReadError;
-use jtext::Units;
+use jground::jbase::Seq;
+use jground::jformat::ReadError;
+use jground::jtext::Units;
 use std::alloc::Global;
 
 /// `signedBy` and a string.
@@ -159,7 +159,7 @@ impl<'p> Walk for Entries<'p> {
 
     type State = Seq<GrantEntry>;
 
-    type Fault = jformat::Fault<PolicyFault>;
+    type Fault = jground::jformat::Fault<PolicyFault>;
 
     ghost ends = { λ _. next (is_mark (byte "}")) };
 

@@ -1,11 +1,11 @@
 ghost use Rattle.std.specs.Prelude.{◌≡◌, ◌<◌, IfOk, IfSome, MatchOption, None, Some, length, position};
-ghost use Rattle.jbase.specs.Stops.{Gives};
+ghost use Rattle.jground.specs.jbase.Stops.{Gives};
 ghost use Rattle.jpolicy.specs.Expansion.{closes, expanded, expands_itself, look_up, named_up_to, one_piece, piece_at, value_of};
 ghost use Rattle.jpolicy.specs.Walks.{none_left};
 
 use crate::walk::{Walk, walk_of};
-use jbase::{Seq, Stop};
-use jtext::Units;
+use jground::jbase::{Seq, Stop};
+use jground::jtext::Units;
 use std::alloc::{AllocError, Global};
 
 /// The value of the first property of a name.

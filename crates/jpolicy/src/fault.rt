@@ -2,8 +2,8 @@ ghost use Rattle.std.specs.Prelude.{◌≡◌};
 ghost use Rattle.jpolicy.specs.Productions.{fault_at};
 
 use crate::token::Placed;
-use jbase::Stop;
-use jformat::{At, Fault, ReadError};
+use jground::jbase::Stop;
+use jground::jformat::{At, Fault, ReadError};
 
 /// What is wrong with a policy file.
 #[derive(Clone, Copy, Debug, PartialEq, Eq)]

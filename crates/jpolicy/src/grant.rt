@@ -1,5 +1,5 @@
-use jbase::Seq;
-use jtext::Units;
+use jground::jbase::Seq;
+use jground::jtext::Units;
 
 /// A permission entry of a grant, with its properties expanded.
 #[derive(Debug, Drop)]

@@ -1,5 +1,5 @@
 ghost use Rattle.std.specs.Prelude.{◌≡◌};
-ghost use Rattle.jbase.specs.Stops.{Gives};
+ghost use Rattle.jground.specs.jbase.Stops.{Gives};
 ghost use Rattle.jpolicy.specs.Productions.{another_at, grant_at, grant_of, keystore_at, one_item, one_more_grant, others_at, password_at, policy_at};
 ghost use Rattle.jpolicy.specs.Walks.{none_left};
 
@@ -11,9 +11,9 @@ use crate::keyword::Keyword;
 use crate::parts::{behind, keyword_of, mark_of, next_is, next_says, text_of, with_one};
 use crate::token::Placed;
 use crate::walk::{Walk, walk_of};
-use jbase::Seq;
-use jformat::ReadError;
-use jtext::Units;
+use jground::jbase::Seq;
+use jground::jformat::ReadError;
+use jground::jtext::Units;
 use std::alloc::Global;
 
 /// The grant of its clauses and entries, or none where a property is missing in a clause.
@@ -156,7 +156,7 @@ impl<'p> Walk for Items<'p> {
 
     type State = Seq<Grant>;
 
-    type Fault = jformat::Fault<PolicyFault>;
+    type Fault = jground::jformat::Fault<PolicyFault>;
 
     ghost ends = { λ _. none_left };
 

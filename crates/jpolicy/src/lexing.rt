@@ -1,7 +1,7 @@
 ghost use Rattle.std.specs.Prelude.{◌≡◌, ◌≤◌, ◌∷◌, IfOk, MatchOption, None, Some, length};
 ghost use Rattle.std.specs.List.{flat_map, prefix_len, position_or_len};
 ghost use Rattle.std.specs.Char.Escape.{encode_utf16};
-ghost use Rattle.jbase.specs.Stops.{Gives};
+ghost use Rattle.jground.specs.jbase.Stops.{Gives};
 ghost use Rattle.jpolicy.specs.Characters.{ends_line, is_word_character};
 ghost use Rattle.jpolicy.specs.Strings.{string_at};
 ghost use Rattle.jpolicy.specs.Tokens.{behind_comment, comment_at, lexeme_at, more_at, quoted, tokens, with_lexeme, word_at};
@@ -11,8 +11,8 @@ use crate::character::{ends_line, is_gap, is_mark, is_word_character};
 use crate::quoted::string_of;
 use crate::token::{Placed, Token};
 use crate::walk::{Walk, walk_of};
-use jbase::{Seq, Stop};
-use jtext::Units;
+use jground::jbase::{Seq, Stop};
+use jground::jtext::Units;
 use std::alloc::{AllocError, Global};
 
 /// The UTF-16 units of some characters.

@@ -1,14 +1,14 @@
 ghost use Rattle.std.specs.Prelude.{◌≡◌, IfOk};
-ghost use Rattle.jbase.specs.Stops.{Gives};
+ghost use Rattle.jground.specs.jbase.Stops.{Gives};
 ghost use Rattle.jpolicy.specs.Productions.{behind, is_keyword, is_mark, is_text, is_word, keyword_at, mark_at, names_principal, next, text_at, with_one, word_at};
 
 use crate::expanding::{expanded, expands_itself};
 use crate::fault::{PolicyFault, fault};
 use crate::keyword::Keyword;
 use crate::token::{Placed, Token};
-use jbase::Seq;
-use jformat::ReadError;
-use jtext::{Units, same_ignoring_case};
+use jground::jbase::Seq;
+use jground::jformat::ReadError;
+use jground::jtext::{Units, same_ignoring_case};
 use std::alloc::{AllocError, Global};
 
 /// The tokens behind the next one.

@@ -1,12 +1,12 @@
 ghost use Rattle.std.specs.Prelude.{◌≡◌, ◌++◌};
 ghost use Rattle.std.specs.Char.Escape.{encode_utf16};
-ghost use Rattle.jbase.specs.Stops.{Gives};
+ghost use Rattle.jground.specs.jbase.Stops.{Gives};
 ghost use Rattle.jpolicy.specs.Strings.{at_quote, behind_quote, character_at, escape_at, meant, one_more, string_at};
 
 use crate::character::{ends_line, is_octal};
 use crate::walk::{Walk, walk_of};
-use jbase::{Seq, Stop};
-use jtext::Units;
+use jground::jbase::{Seq, Stop};
+use jground::jtext::Units;
 use std::alloc::Global;
 
 fn meant(c: char) -> char

@@ -1,6 +1,6 @@
 ghost use Rattle.std.specs.Prelude.{◌≡◌, ◌≤◌, List, IfErr, IfOk, Ok, length};
 ghost use Rattle.std.specs.Str.{chars, encode_utf8_all};
-ghost use Rattle.jbase.specs.Stops.{Gives};
+ghost use Rattle.jground.specs.jbase.Stops.{Gives};
 ghost use Rattle.jpolicy.specs.declared.grant.Grant.{Grant};
 ghost use Rattle.jpolicy.specs.Policies.{IsFault, IsPolicy, place_of, policy, policy_in};
 
@@ -8,9 +8,9 @@ use crate::fault::{PolicyError, PolicyFault};
 use crate::grant::Policy;
 use crate::items::grants_of;
 use crate::lexing::tokens_of;
-use jbase::Stop;
-use jformat::At;
-use jtext::Units;
+use jground::jbase::Stop;
+use jground::jformat::At;
+use jground::jtext::Units;
 use std::alloc::{AllocError, Global};
 
 /// The characters of a text.

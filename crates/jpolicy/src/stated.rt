@@ -1,7 +1,7 @@
 ghost use Rattle.std.specs.Prelude.{◌≡◌};
 ghost use Rattle.jpolicy.specs.Productions.{given, is_absent, is_missing, kept};
 
-use jtext::Units;
+use jground::jtext::Units;
 
 /// A string that may be left out.
 #[derive(Debug, Drop)]

@@ -1,4 +1,4 @@
-use jtext::Units;
+use jground::jtext::Units;
 
 /// A token of a policy file.
 #[derive(Debug, Drop)]

@@ -1,8 +1,8 @@
 ghost use Rattle.std.specs.Prelude.{◌≡◌, Bool, List, Result, length};
-ghost use Rattle.jbase.specs.Stops.{Gives};
+ghost use Rattle.jground.specs.jbase.Stops.{Gives};
 ghost use Rattle.jpolicy.specs.Walks.{walk};
 
-use jbase::Stop;
+use jground::jbase::Stop;
 use std::alloc::Global;
 
 /// What goes from one state to the next over some items at the front of a list.

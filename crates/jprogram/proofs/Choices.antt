@@ -2,7 +2,7 @@
 use Rattle.std.proofs.Common.{◌≡◌, ℕ, ◌+◌, ◌-◌, ◌<◌, ◌≤◌, Bool, true, false, cond, List, [], ◌∷◌, Option, Some, None, refl, ap, ◌∙◌}
 use Rattle.std.specs.Prelude.{not, option_and_then}
 use Rattle.std.specs.List.{cons_option, find, list_any}
-use Rattle.jbase.specs.First.{first_some, or_else}
+use Rattle.jground.specs.jbase.First.{first_some, or_else}
 use Rattle.jprogram.specs.declared.member.Member.{Member}
 use Rattle.jprogram.specs.Classes.{Program, above_name, chain, onward}
 use Rattle.jprogram.specs.Members.{before, first_taking, is_static, method_at, methods_along, same_method, takes_call}

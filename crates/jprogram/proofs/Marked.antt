@@ -2,9 +2,9 @@
 use Rattle.std.proofs.Common.{◌≡◌, ℕ, Bool, false, List, Option, Some, None, refl, ap, ◌∙◌}
 use Rattle.std.specs.Prelude.{option_map, slice_get}
 use Rattle.std.proofs.lemmas.Option.{slice_get-map}
-use Rattle.jpool.specs.declared.entry.Entry.{Entry}
-use Rattle.jpool.specs.Pools.{text_in, utf8_at}
-use Rattle.jpool.specs.Descriptors.{descriptor_of}
+use Rattle.jparts.specs.declared.jpool.entry.Entry.{Entry}
+use Rattle.jparts.specs.jpool.Pools.{text_in, utf8_at}
+use Rattle.jparts.specs.jpool.Descriptors.{descriptor_of}
 use Rattle.jprogram.specs.declared.naming.TextMarks.{TextMarks}
 use Rattle.jprogram.specs.Parts.{or_empty, text}
 use Rattle.jprogram.specs.Naming.{class_reserved, marks_in, text_marks, text_reserved}

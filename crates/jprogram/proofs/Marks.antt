@@ -1,7 +1,7 @@
 -- A search that begins without marks, and what it finds upwards.
 use Rattle.std.proofs.Common.{◌≡◌, ℕ, zero, suc, Bool, true, false, List, [], ◌∷◌, length, Option, Some, None, refl, ap, ◌∙◌}
 use Rattle.std.specs.Prelude.{replicate, slice_get}
-use Rattle.jbase.specs.First.{first_some, or_else}
+use Rattle.jground.specs.jbase.First.{first_some, or_else}
 use Rattle.jprogram.specs.declared.member.Member.{Member}
 use Rattle.jprogram.specs.declared.searching.Sort.TheVariants as sort
 use Rattle.jprogram.specs.Classes.{Program, place_of, superinterfaces}

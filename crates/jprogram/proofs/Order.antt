@@ -5,7 +5,7 @@ use Rattle.std.specs.List.{list_all, AllByRecursion}
 use Rattle.std.specs.Option.{option_to_list}
 use Rattle.std.specs.Str.{bytes_eq}
 use Rattle.std.proofs.lemmas.Bool.{ltb-true}
-use Rattle.jformat.proofs.Steps.{first_true, second_true}
+use Rattle.jground.proofs.JformatProofs.Steps.{first_true, second_true}
 use Rattle.jclass.specs.declared.class.ClassParts.{ClassParts}
 use Rattle.jlib.specs.declared.classes.LibClass.{LibClass}
 use Rattle.jlib.specs.Classes as library
@@ -15,7 +15,7 @@ use Rattle.jprogram.specs.Parts.{class_text, interface_names, super_name, this_n
 use Rattle.jprogram.specs.Circles.{supers_of}
 use Rattle.jprogram.specs.Classes.{Class, Lib, Program, User, find, known, reaches, supers}
 use Rattle.jprogram.specs.Heights.{height_in, height_of, is_above, is_below, is_order, is_part_above, is_strict, is_user_above, super_below}
-use Rattle.jbase.specs.First.{fault_if}
+use Rattle.jground.specs.jbase.First.{fault_if}
 use Rattle.jprogram.specs.declared.fault.LinkKind.TheVariants.{Circular}
 use Rattle.jprogram.specs.Supers.{circle_test}
 use Rattle.jprogram.proofs.Circling.{all_weaken, or_split}

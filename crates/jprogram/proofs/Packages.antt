@@ -1,7 +1,7 @@
 -- The package of a name, as a loop finds it that goes from the last byte to the first.
 use Rattle.std.proofs.Common.{◌≡◌, ℕ, zero, suc, ◌-◌, ◌≤◌, ◌<◌, Bool, true, false, ◌||◌, List, [], ◌∷◌, length, get_or, take, drop, refl, sym, ap, ◌∙◌, arith}
 use Rattle.std.specs.List.{list_any}
-use Rattle.jpool.specs.Names.{is_slash}
+use Rattle.jparts.specs.jpool.Names.{is_slash}
 use Rattle.jprogram.specs.Parts.{package_of}
 
 any_true : (b : Bool) → b ≡ true → (c : Bool) → (c || b) ≡ true

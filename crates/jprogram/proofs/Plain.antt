@@ -2,7 +2,7 @@
 use Rattle.std.proofs.Common.{◌≡◌, ℕ, zero, suc, false, List, [], ◌∷◌, length, ◌≤◌, Option, Some, None, refl, ap, ◌∙◌, arith}
 use Rattle.std.specs.Prelude.{nat_lt}
 use Rattle.std.proofs.lemmas.Bool.{ltb-false}
-use Rattle.jbase.specs.First.{first_some, or_else}
+use Rattle.jground.specs.jbase.First.{first_some, or_else}
 use Rattle.jprogram.specs.declared.member.Member.{Member}
 use Rattle.jprogram.specs.declared.searching.Sort.{Sort}
 use Rattle.jprogram.specs.Classes.{Program, face_names, known, over, superinterfaces}

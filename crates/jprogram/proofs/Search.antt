@@ -5,8 +5,8 @@ use Rattle.std.specs.Prelude.{IsTrue, nat_lt}
 use Rattle.std.specs.List.{list_all}
 use Rattle.std.proofs.lemmas.Bool.{ltb-true, lt-ltb}
 use Rattle.std.proofs.lemmas.List.{append-nil}
-use Rattle.jbase.specs.First.{first_some, or_else}
-use Rattle.jformat.proofs.Steps.{both, first_true, second_true}
+use Rattle.jground.specs.jbase.First.{first_some, or_else}
+use Rattle.jground.proofs.JformatProofs.Steps.{both, first_true, second_true}
 use Rattle.jprogram.specs.declared.member.Member.{Member}
 use Rattle.jprogram.specs.Classes.{Program, face_names, known, over}
 use Rattle.jprogram.specs.Layers.{IsLayered}

@@ -7,9 +7,9 @@ use Rattle.std.specs.List.{list_all, list_any, AllByRecursion}
 use Rattle.std.specs.Str.{bytes_eq}
 use Rattle.std.proofs.lemmas.Bool.{lt-ltb}
 use Rattle.std.proofs.lemmas.Option.{get_or_from_slice_get}
-use Rattle.jbase.specs.First.{fault_if, or_else}
-use Rattle.jbase.proofs.Firsts.{none_fails, none_of}
-use Rattle.jformat.proofs.Steps.{both}
+use Rattle.jground.specs.jbase.First.{fault_if, or_else}
+use Rattle.jground.proofs.JbaseProofs.Firsts.{none_fails, none_of}
+use Rattle.jground.proofs.JformatProofs.Steps.{both}
 use Rattle.jclass.specs.declared.class.ClassParts.{ClassParts}
 use Rattle.jlib.specs.declared.classes.LibClass.{LibClass}
 use Rattle.jlib.specs.declared.classes.LibClass.TheVariants as lib

@@ -1,7 +1,7 @@
 -- What a search of interfaces goes through (JVMS 5.4.3): a condition under which it ends, and what it keeps.
 use Rattle.std.specs.Prelude.{◌≡◌, ℕ, ◌≤◌, Bool, true, false, List, [], ◌∷◌, ◌++◌, length, Option, Some, None, IsTrue, nat_lt, slice_get, slice_set}
 use Rattle.std.specs.List.{list_all}
-use Rattle.jbase.specs.First.{first_some, or_else}
+use Rattle.jground.specs.jbase.First.{first_some, or_else}
 use Rattle.jprogram.specs.declared.member.Member.{Member}
 use Rattle.jprogram.specs.declared.searching.Sort.{Sort}
 use Rattle.jprogram.specs.declared.searching.Sort.TheVariants as sort

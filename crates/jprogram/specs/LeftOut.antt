@@ -1,7 +1,7 @@
 -- The types of descriptors that a job's class files don't have, or not everywhere.
 use Rattle.std.specs.Prelude.{ℕ, Bool, ◌||◌, ◌==◌, List, codes}
 use Rattle.std.specs.Str.{byte, bytes_eq}
-use Rattle.jpool.specs.declared.descriptor.FieldType.{FieldType}
+use Rattle.jparts.specs.declared.jpool.descriptor.FieldType.{FieldType}
 
 -- the class of security contexts
 abbrev pub context : List ℕ

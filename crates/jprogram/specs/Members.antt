@@ -3,10 +3,10 @@
 use Rattle.std.specs.Prelude.{◌≡◌, ℕ, Bool, true, false, ◌&&◌, ◌||◌, not, ◌==◌, List, [], ◌∷◌, Option, Some, None, option_map, option_and_then, slice_get, codes, if◌then◌else◌}
 use Rattle.std.specs.List.{filter_map, find, position}
 use Rattle.std.specs.Str.{bytes_eq}
-use Rattle.jbase.specs.First.{first_some, or_else}
-use Rattle.jpool.specs.declared.entry.Entry.{Entry}
-use Rattle.jpool.specs.declared.entry.Entry.TheVariants as entries
-use Rattle.jpool.specs.Pools.{name_and_type_at}
+use Rattle.jground.specs.jbase.First.{first_some, or_else}
+use Rattle.jparts.specs.declared.jpool.entry.Entry.{Entry}
+use Rattle.jparts.specs.declared.jpool.entry.Entry.TheVariants as entries
+use Rattle.jparts.specs.jpool.Pools.{name_and_type_at}
 use Rattle.jclass.specs.declared.class.ClassParts.{ClassParts}
 use Rattle.jclass.specs.declared.class.MemberInfo.{MemberInfo}
 use Rattle.jlib.specs.declared.side.Side.{Side}

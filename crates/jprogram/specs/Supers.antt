@@ -2,7 +2,7 @@
 use Rattle.std.specs.Prelude.{ℕ, Bool, true, false, ◌&&◌, ◌||◌, not, List, length, Option, Some, None, is_some}
 use Rattle.std.specs.List.{list_any}
 use Rattle.std.specs.Str.{bytes_eq}
-use Rattle.jbase.specs.First.{fault_if, first_along, or_else}
+use Rattle.jground.specs.jbase.First.{fault_if, first_along, or_else}
 use Rattle.jclass.specs.declared.class.ClassParts.{ClassParts}
 use Rattle.jprogram.specs.declared.fault.LinkKind.{LinkKind}
 use Rattle.jprogram.specs.declared.fault.LinkKind.TheVariants.{BadSuper, Circular, NoClass}

@@ -11,8 +11,8 @@ use crate::fault::LinkKind;
 use crate::found::Found;
 use crate::parts::this_name;
 use crate::searching::put_faces_of;
-use jbase::Seq;
 use jclass::ClassParts;
+use jground::jbase::Seq;
 use std::alloc::{AllocError, Global};
 
 fn put_above<'a>(waiting: &mut Vec<&'a [u8]>, above: Option<&'a [u8]>) -> Result<(), AllocError>

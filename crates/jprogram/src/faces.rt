@@ -5,8 +5,8 @@ ghost use Rattle.jprogram.specs.Slots.{held};
 
 use crate::part::CodePart;
 use bitflags::Flags;
-use jbase::Seq;
 use jclass::Access;
+use jground::jbase::Seq;
 use std::alloc::{AllocError, Global};
 
 fn is_face(part: &CodePart) -> bool

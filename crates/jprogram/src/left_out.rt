@@ -1,7 +1,7 @@
 ghost use Rattle.std.specs.Prelude.{◌≡◌};
 ghost use Rattle.jprogram.specs.LeftOut;
 
-use jpool::FieldType;
+use jparts::jpool::FieldType;
 
 /// Whether a type is the class of security contexts, or an array of it.
 pub fn is_context(one: &FieldType) -> bool

@@ -14,7 +14,7 @@ use crate::found::Found;
 use crate::member::Member;
 use crate::members::{lib_field_in, lib_method_in};
 use crate::part::ClassRef;
-use jbase::Seq;
+use jground::jbase::Seq;
 use jlib::LibClass;
 use std::alloc::{AllocError, Global};
 

@@ -10,7 +10,7 @@ use crate::part::CodePart;
 use crate::parts::this_name;
 use jclass::{ClassParts, MemberInfo};
 use jlib::{Side, class};
-use jpool::{DescError, Descriptor, Entry, FieldType, read_descriptor};
+use jparts::jpool::{DescError, Descriptor, Entry, FieldType, read_descriptor};
 use std::alloc::{AllocError, Global};
 
 /// Whether a class of this name stands in the package that the passing library keeps for itself.
@@ -234,7 +234,7 @@ impl NamedProgram {
 
     /// The first class that names one of the package `sps` in a program for the source library, or whose name is the library's or that
     /// of a class before it.
-    #[tactic(auto, unfolding(jbase::specs::First::first_along, crate::specs::Naming::naming_fault))]
+    #[tactic(auto, unfolding(jground::specs::jbase::First::first_along, crate::specs::Naming::naming_fault))]
     pub fn naming_fault(&self, alloc: Global) -> Result<Option<LinkFault>, AllocError>
         ensures { IfOk result (λ o. o ≡ Naming.naming_fault self.now) }
     {

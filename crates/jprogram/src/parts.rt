@@ -5,7 +5,7 @@ ghost use Rattle.jprogram.specs.Parts;
 use crate::reach::Reach;
 use bitflags::Flags;
 use jclass::{Access, Attribute, ClassParts, MemberInfo};
-use jpool::Pool;
+use jparts::jpool::Pool;
 
 // ---- texts
 
@@ -80,7 +80,7 @@ pub fn is_init(class: &ClassParts, method: &MemberInfo) -> bool
 }
 
 /// Whether a method has code.
-#[tactic(auto, unfolding(crate::specs::Parts::code_of, jbase::specs::First::first_some))]
+#[tactic(auto, unfolding(crate::specs::Parts::code_of, jground::specs::jbase::First::first_some))]
 pub fn has_code(method: &MemberInfo) -> bool
     ensures { result ≡ Parts.has_code method.now }
 {

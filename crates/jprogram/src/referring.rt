@@ -1,5 +1,5 @@
 ghost use Rattle.std.specs.Prelude.{◌≡◌, IfOk, option_and_then, option_map, slice_get};
-ghost use Rattle.jpool.specs.Pools.{name_and_type_at};
+ghost use Rattle.jparts.specs.jpool.Pools.{name_and_type_at};
 ghost use Rattle.jprogram.specs.Layers;
 ghost use Rattle.jprogram.specs.Layers.{IsLayered};
 ghost use Rattle.jprogram.specs.Members;
@@ -8,7 +8,7 @@ use crate::classes::NamedProgram;
 use crate::member::Member;
 use crate::parts::{class_text, text_at};
 use crate::searching::Sort;
-use jpool::{Entry, Pool};
+use jparts::jpool::{Entry, Pool};
 use std::alloc::{AllocError, Global};
 
 impl NamedProgram {

@@ -1,5 +1,5 @@
 ghost use Rattle.std.specs.Prelude.{◌≡◌, None, IfOk, IfSome, length, nat_lt, option_and_then};
-ghost use Rattle.jbase.specs.First.{first_some};
+ghost use Rattle.jground.specs.jbase.First.{first_some};
 ghost use Rattle.jprogram.specs.Classes;
 ghost use Rattle.jprogram.specs.Digests.{IsKey};
 ghost use Rattle.jprogram.specs.Layers;
@@ -14,7 +14,7 @@ use crate::lines::At;
 use crate::member::Member;
 use crate::members::{lib_field_in, lib_method_in, user_field, user_method};
 use crate::searching::Sort;
-use jbase::Seq;
+use jground::jbase::Seq;
 use std::alloc::{AllocError, Global};
 
 const INIT: &[u8] = b"<init>";
@@ -75,7 +75,7 @@ impl NamedProgram {
     }
 
     /// The first method of this name and descriptor in the class of a name and in those above it.
-    #[tactic(auto, using(crate::proofs::Chains::chain_at, crate::proofs::Chains::chain_end), unfolding(jbase::specs::First::first_some))]
+    #[tactic(auto, using(crate::proofs::Chains::chain_at, crate::proofs::Chains::chain_end), unfolding(jground::specs::jbase::First::first_some))]
     fn method_upwards(&self, key: Key<'_>, class: &[u8]) -> Option<Member>
         requires { IsKey key }
         ensures { result ≡ first_some (Members.method_at self.now key.entry.name.now key.entry.desc.now) (Classes.up self.now class.now) }
@@ -181,7 +181,7 @@ impl NamedProgram {
 
     /// The first member that is found so, from a class upwards; `None` where interfaces would have to be gone through. It takes no
     /// memory.
-    #[tactic(auto, using(crate::proofs::Chains::chain_at, crate::proofs::Chains::chain_end), unfolding(jbase::specs::First::first_some))]
+    #[tactic(auto, using(crate::proofs::Chains::chain_at, crate::proofs::Chains::chain_end), unfolding(jground::specs::jbase::First::first_some))]
     fn found_plainly(&self, sort: Sort, key: Key<'_>, class: &[u8]) -> Option<Option<Member>>
         requires { IsKey key }
         ensures { IfSome result (λ m. m ≡ first_some (Layers.at_and_over self.now sort key.entry.name.now key.entry.desc.now) (Classes.up self.now class.now)) }
@@ -201,7 +201,7 @@ impl NamedProgram {
     }
 
     /// The first member that is found so, from a class upwards. Marks are made only where interfaces are gone through.
-    #[tactic(auto, using(crate::proofs::Chains::chain_at, crate::proofs::Chains::chain_end), unfolding(jbase::specs::First::first_some))]
+    #[tactic(auto, using(crate::proofs::Chains::chain_at, crate::proofs::Chains::chain_end), unfolding(jground::specs::jbase::First::first_some))]
     fn found_upwards(
         &self,
         alloc: Global,

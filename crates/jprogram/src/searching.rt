@@ -1,5 +1,5 @@
 ghost use Rattle.std.specs.Prelude.{◌≡◌, ◌++◌, None, IfOk, OnOk, length, option_map};
-ghost use Rattle.jbase.specs.First.{first_some};
+ghost use Rattle.jground.specs.jbase.First.{first_some};
 ghost use Rattle.jprogram.specs.Classes;
 ghost use Rattle.jprogram.specs.Layers;
 ghost use Rattle.jprogram.specs.Layers.{AreClosed, IsLayered, waiting_names};
@@ -8,7 +8,7 @@ ghost use Rattle.jprogram.specs.Seen.{seen};
 use crate::classes::NamedProgram;
 use crate::found::Found;
 use crate::member::Member;
-use jbase::Seq;
+use jground::jbase::Seq;
 use std::alloc::{AllocError, Global};
 
 /// What is looked for: a method or a field.

@@ -1,6 +1,6 @@
 ghost use Rattle.std.specs.Prelude.{◌≡◌, option_map};
 ghost use Rattle.std.specs.List.{list_any};
-ghost use Rattle.jbase.specs.First.{first_some};
+ghost use Rattle.jground.specs.jbase.First.{first_some};
 ghost use Rattle.jprogram.specs.Classes;
 ghost use Rattle.jprogram.specs.Classes.{chain};
 ghost use Rattle.jprogram.specs.Members;
@@ -87,7 +87,7 @@ impl NamedProgram {
 
     /// Whether one of the methods in front of `above` opens it, as far as there are such methods from a class upwards, at most so many
     /// classes.
-    #[tactic(auto, using(crate::proofs::Chains::chain_at, crate::proofs::Chains::chain_end), unfolding(jbase::specs::First::first_some))]
+    #[tactic(auto, using(crate::proofs::Chains::chain_at, crate::proofs::Chains::chain_end), unfolding(jground::specs::jbase::First::first_some))]
     fn decided_from(
         &self,
         above: Member,
@@ -229,7 +229,7 @@ impl NamedProgram {
         Some(one)
     }
 
-    #[tactic(auto, using(crate::proofs::Chains::chain_at, crate::proofs::Chains::chain_end), unfolding(jbase::specs::First::first_some))]
+    #[tactic(auto, using(crate::proofs::Chains::chain_at, crate::proofs::Chains::chain_end), unfolding(jground::specs::jbase::First::first_some))]
     fn instance_from(&self, name: &[u8], desc: &[u8], on: &[u8]) -> Option<Member>
         ensures { result ≡ first_some (Shortly.instance_at self.now name.now desc.now) (Classes.up self.now on.now) }
     {

@@ -1,7 +1,7 @@
 ghost use Rattle.std.specs.Prelude.{◌≡◌, ◌≤◌, ℕ, OnOk, length};
 ghost use Rattle.jprogram.specs.Bits;
 
-use jbase::Seq;
+use jground::jbase::Seq;
 use std::alloc::AllocError;
 
 /// Whether a number is in a set.

@@ -5,7 +5,7 @@ ghost use Rattle.jprogram.specs.Slots.{AreSlots, Fills};
 use crate::firsts::digest_text;
 use crate::part::CodePart;
 use crate::parts::this_name;
-use jbase::Seq;
+use jground::jbase::Seq;
 use std::alloc::{AllocError, Global};
 
 /// The slot of a name among so many.

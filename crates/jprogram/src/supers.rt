@@ -145,7 +145,7 @@ impl NamedProgram {
 
     /// The first class that has no superclass or stands below one that isn't there, or below one that may not stand there, or above
     /// itself. What stands above a class is searched only where heights don't show that the class is in no circle.
-    #[tactic(auto, unfolding(jbase::specs::First::first_along, crate::specs::Supers::supers_fault))]
+    #[tactic(auto, unfolding(jground::specs::jbase::First::first_along, crate::specs::Supers::supers_fault))]
     pub fn supers_fault(&self, alloc: Global) -> Result<Option<LinkFault>, AllocError>
         ensures { IfOk result (λ o. o ≡ Supers.supers_fault self.now) }
     {

@@ -1,20 +1,20 @@
 -- What was found of an entry is all that it means.
 use Rattle.std.proofs.Common.{◌≡◌, ℕ, List, Option, Some, None, refl, sym, ap}
 use Rattle.std.specs.Prelude.{option_and_then, option_map, slice_get}
-use Rattle.jpool.specs.declared.entry.Entry.{Entry}
-use Rattle.jcode.specs.declared.form.PoolForm.TheVariants as forms
-use Rattle.jcode.specs.declared.names.CastOp.{CastOp}
-use Rattle.jcode.specs.declared.names.FieldOp.{FieldOp}
-use Rattle.jtypes.specs.declared.vtype.Name.{Name}
-use Rattle.jtypes.specs.declared.vtype.VType.{VType}
-use Rattle.jtypes.specs.declared.vtype.VType.TheVariants as types
+use Rattle.jparts.specs.declared.jpool.entry.Entry.{Entry}
+use Rattle.jparts.specs.declared.jcode.form.PoolForm.TheVariants as forms
+use Rattle.jparts.specs.declared.jcode.names.CastOp.{CastOp}
+use Rattle.jparts.specs.declared.jcode.names.FieldOp.{FieldOp}
+use Rattle.jground.specs.declared.jtypes.vtype.Name.{Name}
+use Rattle.jground.specs.declared.jtypes.vtype.VType.{VType}
+use Rattle.jground.specs.declared.jtypes.vtype.VType.TheVariants as types
 use Rattle.jprogram.specs.Classes.{Program}
-use Rattle.juses.specs.declared.meaning.How.{How}
-use Rattle.juses.specs.Instructions.{Used}
-use Rattle.juses.specs.Meanings.{AClass, AConstant, AField, AMethod, Call, CallMeaning, Cast, EntryMeaning, Field, FieldMeaning, Make, MakeArray, Meaning}
-use Rattle.juses.specs.Meanings.{Push}
-use Rattle.juses.specs.Meanings.{array_made, array_meant, cast_by, entry_meant, field_used, made, meant}
-use Rattle.juses.specs.Typed.{array_over}
+use Rattle.jmeaning.specs.declared.juses.meaning.How.{How}
+use Rattle.jmeaning.specs.juses.Instructions.{Used}
+use Rattle.jmeaning.specs.juses.Meanings.{AClass, AConstant, AField, AMethod, Call, CallMeaning, Cast, EntryMeaning, Field, FieldMeaning, Make, MakeArray, Meaning}
+use Rattle.jmeaning.specs.juses.Meanings.{Push}
+use Rattle.jmeaning.specs.juses.Meanings.{array_made, array_meant, cast_by, entry_meant, field_used, made, meant}
+use Rattle.jmeaning.specs.juses.Typed.{array_over}
 use Rattle.jready.specs.Only.{only_array, only_call, only_cast, only_field, only_made}
 use Rattle.jready.proofs.Growing.{some_inj}
 

@@ -8,23 +8,23 @@ use Rattle.std.proofs.lemmas.List.Elements.{filter-append}
 use Rattle.std.proofs.lemmas.List.Concat.{flat_map-append}
 use Rattle.jclass.specs.declared.class.ClassParts.{ClassParts}
 use Rattle.jclass.specs.declared.class.MemberInfo.{MemberInfo}
-use Rattle.jheap.specs.declared.cell.CellType.{CellType}
-use Rattle.jops.specs.declared.value.Value.{Value}
-use Rattle.jtypes.specs.declared.vtype.VType.{VType}
-use Rattle.jtypes.specs.declared.vtype.VType.TheVariants as types
+use Rattle.jground.specs.declared.jheap.cell.CellType.{CellType}
+use Rattle.jground.specs.declared.jops.value.Value.{Value}
+use Rattle.jground.specs.declared.jtypes.vtype.VType.{VType}
+use Rattle.jground.specs.declared.jtypes.vtype.VType.TheVariants as types
 use Rattle.jprogram.specs.declared.part.CodePart.{CodePart}
 use Rattle.jprogram.specs.Classes.{Program}
 use Rattle.jprogram.specs.Parts.{member_desc}
-use Rattle.juses.specs.declared.types.TypeRef.{TypeRef}
-use Rattle.juses.specs.Tables.{pool_at}
-use Rattle.juses.specs.Typed.{typed}
-use Rattle.juses.specs.Types.{named}
-use Rattle.juses.proofs.Spans.{pairs_push}
-use Rattle.jlayout.specs.Kinds.{or_top}
-use Rattle.jlayout.specs.Layout as layout
-use Rattle.jlayout.specs.Numbered.{all_statics}
-use Rattle.jmachine.specs.Narrowing.{default, narrowed}
-use Rattle.jmachine.specs.Opening.{constant_of, value_of}
+use Rattle.jmeaning.specs.declared.juses.types.TypeRef.{TypeRef}
+use Rattle.jmeaning.specs.juses.Tables.{pool_at}
+use Rattle.jmeaning.specs.juses.Typed.{typed}
+use Rattle.jmeaning.specs.juses.Types.{named}
+use Rattle.jmeaning.proofs.JusesProofs.Spans.{pairs_push}
+use Rattle.jmeaning.specs.jlayout.Kinds.{or_top}
+use Rattle.jmeaning.specs.jlayout.Layout as layout
+use Rattle.jmeaning.specs.jlayout.Numbered.{all_statics}
+use Rattle.jmodel.specs.jmachine.Narrowing.{default, narrowed}
+use Rattle.jmodel.specs.jmachine.Opening.{constant_of, value_of}
 use Rattle.jready.specs.declared.instr.Narrow.{Narrow}
 use Rattle.jready.specs.declared.statics.StaticRow.{StaticRow}
 use Rattle.jready.specs.Exact.{cell_of, narrow}

@@ -9,7 +9,7 @@ use Rattle.jclass.specs.declared.class.MemberInfo.{MemberInfo}
 use Rattle.jprogram.specs.declared.member.MethodId.{MethodId}
 use Rattle.jprogram.specs.declared.part.CodePart.{CodePart}
 use Rattle.jprogram.specs.Classes.{Program}
-use Rattle.juses.specs.Tables.{Grows}
+use Rattle.jmeaning.specs.juses.Tables.{Grows}
 use Rattle.jready.specs.declared.methods.MethodRow.{MethodRow}
 use Rattle.jready.specs.Numbers.{AreFirsts, AreFirstsTo, IsFirst, count_at, count_in, method_count, methods_before}
 use Rattle.jready.specs.Prepared.{AreNumbered, AreOwn, IsNumber}

@@ -1,17 +1,17 @@
 -- What instructions hold is what their entries stand for.
 use Rattle.std.proofs.Common.{◌≡◌, ℕ, ◌+◌, ◌^◌, ◌<◌, Bool, true, false, List, length, Option, Some, None, refl, sym, ap, subst, ◌∙◌}
 use Rattle.std.specs.Prelude.{nat_lt, option_and_then, option_map, slice_get, if◌then◌else◌}
-use Rattle.jcode.specs.declared.form.PoolForm.TheVariants as forms
-use Rattle.jcode.specs.declared.names.FieldOp.{FieldOp}
+use Rattle.jparts.specs.declared.jcode.form.PoolForm.TheVariants as forms
+use Rattle.jparts.specs.declared.jcode.names.FieldOp.{FieldOp}
 use Rattle.jclass.specs.declared.class.ClassParts.{ClassParts}
 use Rattle.jclass.specs.declared.class.MemberInfo.{MemberInfo}
-use Rattle.jheap.specs.declared.cell.CellType.{CellType}
+use Rattle.jground.specs.declared.jheap.cell.CellType.{CellType}
 use Rattle.jlib.specs.declared.calls.LibCall.{LibCall}
-use Rattle.jtypes.specs.declared.vtype.ArrayType.{ArrayType}
-use Rattle.jtypes.specs.declared.vtype.Element.TheVariants as elements
-use Rattle.jtypes.specs.declared.vtype.VType.{VType}
-use Rattle.jtypes.specs.declared.vtype.VType.TheVariants as types
-use Rattle.jpool.specs.declared.entry.Entry.{Entry}
+use Rattle.jground.specs.declared.jtypes.vtype.ArrayType.{ArrayType}
+use Rattle.jground.specs.declared.jtypes.vtype.Element.TheVariants as elements
+use Rattle.jground.specs.declared.jtypes.vtype.VType.{VType}
+use Rattle.jground.specs.declared.jtypes.vtype.VType.TheVariants as types
+use Rattle.jparts.specs.declared.jpool.entry.Entry.{Entry}
 use Rattle.jprogram.specs.declared.member.Member.{Member}
 use Rattle.jprogram.specs.declared.member.Member.TheVariants as members
 use Rattle.jprogram.specs.declared.member.MethodId.{MethodId}
@@ -19,20 +19,20 @@ use Rattle.jprogram.specs.declared.part.ClassRef.TheVariants as refs
 use Rattle.jprogram.specs.declared.part.CodePart.{CodePart}
 use Rattle.jprogram.specs.Classes.{Program}
 use Rattle.jprogram.specs.Members.{desc_of, info_of}
-use Rattle.juses.specs.declared.meaning.CallUse.{CallUse}
-use Rattle.juses.specs.declared.meaning.FieldUse.{FieldUse}
-use Rattle.juses.specs.declared.meaning.How.{How}
-use Rattle.juses.specs.declared.types.ArrayRef.{ArrayRef}
-use Rattle.juses.specs.declared.types.TypeRef.{TypeRef}
-use Rattle.juses.specs.declared.types.TypeRef.TheVariants as numbers
-use Rattle.juses.specs.Meanings.{AClass, AConstant, AField, AMethod, Call, CallMeaning, EntryMeaning, Field, FieldMeaning, MakeArray, Meaning, array_made}
-use Rattle.juses.specs.Meanings.{array_meant, call_named, entry_meant, field_named, meant}
-use Rattle.juses.specs.Tables.{pool_at}
-use Rattle.juses.specs.Typed.{array_over, typed}
-use Rattle.juses.specs.Types.{class_named, named}
-use Rattle.jops.specs.declared.value.Value.{Value}
-use Rattle.jlayout.specs.Layout as layout
-use Rattle.jmachine.specs.Narrowing.{narrowed}
+use Rattle.jmeaning.specs.declared.juses.meaning.CallUse.{CallUse}
+use Rattle.jmeaning.specs.declared.juses.meaning.FieldUse.{FieldUse}
+use Rattle.jmeaning.specs.declared.juses.meaning.How.{How}
+use Rattle.jmeaning.specs.declared.juses.types.ArrayRef.{ArrayRef}
+use Rattle.jmeaning.specs.declared.juses.types.TypeRef.{TypeRef}
+use Rattle.jmeaning.specs.declared.juses.types.TypeRef.TheVariants as numbers
+use Rattle.jmeaning.specs.juses.Meanings.{AClass, AConstant, AField, AMethod, Call, CallMeaning, EntryMeaning, Field, FieldMeaning, MakeArray, Meaning, array_made}
+use Rattle.jmeaning.specs.juses.Meanings.{array_meant, call_named, entry_meant, field_named, meant}
+use Rattle.jmeaning.specs.juses.Tables.{pool_at}
+use Rattle.jmeaning.specs.juses.Typed.{array_over, typed}
+use Rattle.jmeaning.specs.juses.Types.{class_named, named}
+use Rattle.jground.specs.declared.jops.value.Value.{Value}
+use Rattle.jmeaning.specs.jlayout.Layout as layout
+use Rattle.jmodel.specs.jmachine.Narrowing.{narrowed}
 use Rattle.jready.specs.declared.instr.Narrow.{Narrow}
 use Rattle.jready.specs.declared.tables.Tables.{Tables}
 use Rattle.jready.specs.Exact.{ArrayMade, CallsLibrary, CallsUser, HoldsField, IsNumbered, MakesArray, cell_of, narrow}

@@ -1,15 +1,15 @@
 -- What stands at a place of a method is what the machine looks for there.
 use Rattle.std.proofs.Common.{◌≡◌, ℕ, ◌+◌, Bool, List, length, Option, Some, None, refl, ap, ◌∙◌}
 use Rattle.std.specs.Prelude.{◌||◌, nat_lt, not, option_and_then, option_map, slice_get, if◌then◌else◌}
-use Rattle.jpool.specs.declared.entry.Entry.{Entry}
-use Rattle.jcode.specs.declared.op.Placed.{Placed}
+use Rattle.jparts.specs.declared.jpool.entry.Entry.{Entry}
+use Rattle.jparts.specs.declared.jcode.op.Placed.{Placed}
 use Rattle.jclass.specs.declared.class.CodeBody.{CodeBody}
 use Rattle.jprogram.specs.declared.member.MethodId.{MethodId}
 use Rattle.jprogram.specs.declared.part.CodePart.{CodePart}
 use Rattle.jprogram.specs.Classes.{Program}
-use Rattle.juses.specs.Instructions.{Instruction, body_in, code_at, goes_on, instruction, instruction_at, instruction_in}
-use Rattle.juses.specs.Tables.{pool_at, pool_in}
-use Rattle.jmachine.specs.Steps.{fetched, has_next, unless_last as machine_unless}
+use Rattle.jmeaning.specs.juses.Instructions.{Instruction, body_in, code_at, goes_on, instruction, instruction_at, instruction_in}
+use Rattle.jmeaning.specs.juses.Tables.{pool_at, pool_in}
+use Rattle.jmodel.specs.jmachine.Steps.{fetched, has_next, unless_last as machine_unless}
 use Rattle.jready.specs.Laid.{followed, unless_last}
 
 -- ---- by the code of a method

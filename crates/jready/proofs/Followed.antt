@@ -1,12 +1,12 @@
 -- An instruction that goes on needs one behind it.
 use Rattle.std.proofs.Common.{◌≡◌, ℕ, Bool, true, false, List, Option, Some, None, refl, sym, ap, subst}
 use Rattle.std.specs.Prelude.{not, ◌||◌, option_map, slice_get, if◌then◌else◌}
-use Rattle.jpool.specs.declared.entry.Entry.{Entry}
+use Rattle.jparts.specs.declared.jpool.entry.Entry.{Entry}
 use Rattle.jprogram.specs.Classes.{Program}
-use Rattle.juses.specs.declared.numbered.When.TheVariants as when
-use Rattle.juses.specs.Instructions.{Instruction, Used, goes_on}
-use Rattle.juses.specs.Meanings.{Meaning}
-use Rattle.juses.specs.Tables.{pool_at}
+use Rattle.jmeaning.specs.declared.juses.numbered.When.TheVariants as when
+use Rattle.jmeaning.specs.juses.Instructions.{Instruction, Used, goes_on}
+use Rattle.jmeaning.specs.juses.Meanings.{Meaning}
+use Rattle.jmeaning.specs.juses.Tables.{pool_at}
 use Rattle.jready.specs.declared.instr.ArrayInstr.{ArrayInstr}
 use Rattle.jready.specs.declared.instr.ArrayInstr.TheVariants as array
 use Rattle.jready.specs.declared.instr.FlowInstr.TheVariants as flow

@@ -4,17 +4,17 @@ use Rattle.std.proofs.Common.{ap, subst, ◌∙◌, arith}
 use Rattle.std.specs.Prelude.{nat_lt, option_map, slice_get}
 use Rattle.std.proofs.lemmas.Bool.{cases_lt}
 use Rattle.std.proofs.lemmas.List.{drop-append-le, drop_at, length-append, length-drop, take-append-le, take_all}
-use Rattle.jpool.specs.declared.entry.Entry.{Entry}
-use Rattle.jcode.specs.declared.form.Simple.TheVariants as simples
-use Rattle.jcode.specs.declared.op.Placed.{Placed}
+use Rattle.jparts.specs.declared.jpool.entry.Entry.{Entry}
+use Rattle.jparts.specs.declared.jcode.form.Simple.TheVariants as simples
+use Rattle.jparts.specs.declared.jcode.op.Placed.{Placed}
 use Rattle.jprogram.specs.Classes.{Program}
-use Rattle.juses.specs.declared.numbered.Key.{Key}
-use Rattle.juses.specs.declared.types.TypeRef.{TypeRef}
-use Rattle.juses.specs.Instructions.{Simple, Switch}
-use Rattle.juses.specs.Meanings as meanings
-use Rattle.juses.specs.Numbered.{keyed_as, keys_from}
-use Rattle.juses.specs.Tables.{Grows, pool_at}
-use Rattle.juses.proofs.Spans.{grows_not, grows_on}
+use Rattle.jmeaning.specs.declared.juses.numbered.Key.{Key}
+use Rattle.jmeaning.specs.declared.juses.types.TypeRef.{TypeRef}
+use Rattle.jmeaning.specs.juses.Instructions.{Simple, Switch}
+use Rattle.jmeaning.specs.juses.Meanings as meanings
+use Rattle.jmeaning.specs.juses.Numbered.{keyed_as, keys_from}
+use Rattle.jmeaning.specs.juses.Tables.{Grows, pool_at}
+use Rattle.jmeaning.proofs.JusesProofs.Spans.{grows_not, grows_on}
 use Rattle.jready.specs.declared.instr.Instr.{Instr}
 use Rattle.jready.specs.declared.instr.Instr.TheVariants as instr
 use Rattle.jready.specs.declared.instr.ObjectInstr.{ObjectInstr}

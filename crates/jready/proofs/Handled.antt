@@ -2,14 +2,14 @@
 use Rattle.std.proofs.Common.{◌≡◌, ℕ, Bool, true, false, List, [], ◌∷◌, Option, Some, refl, ap, ◌∙◌}
 use Rattle.std.specs.Prelude.{◌&&◌, ◌||◌, ◌==◌, option_and_then, slice_get, if◌then◌else◌}
 use Rattle.std.specs.List.{find}
-use Rattle.jpool.specs.declared.entry.Entry.{Entry}
-use Rattle.jcode.specs.declared.op.Handler.{Handler}
-use Rattle.jcode.specs.declared.op.Placed.{Placed}
-use Rattle.jtypes.specs.declared.vtype.VType.{VType}
+use Rattle.jparts.specs.declared.jpool.entry.Entry.{Entry}
+use Rattle.jparts.specs.declared.jcode.op.Handler.{Handler}
+use Rattle.jparts.specs.declared.jcode.op.Placed.{Placed}
+use Rattle.jground.specs.declared.jtypes.vtype.VType.{VType}
 use Rattle.jprogram.specs.Classes.{Program}
-use Rattle.juses.specs.Meanings.{class_at}
-use Rattle.jmachine.specs.Unwinding.{is_caught, number_at, takes}
-use Rattle.jcode.specs.Instructions.{covers}
+use Rattle.jmeaning.specs.juses.Meanings.{class_at}
+use Rattle.jmodel.specs.jmachine.Unwinding.{is_caught, number_at, takes}
+use Rattle.jparts.specs.jcode.Instructions.{covers}
 use Rattle.jready.specs.declared.handlers.HandlerRow.{HandlerRow}
 use Rattle.jready.specs.Handling.{AreHandlers, IsHandler, handled, row_takes}
 

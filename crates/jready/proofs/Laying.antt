@@ -1,11 +1,11 @@
 -- The instructions of a method, one after the other.
 use Rattle.std.proofs.Common.{◌≡◌, ℕ, ◌+◌, ◌<◌, Bool, List, [], ◌∷◌, ◌++◌, length, get_or, Some, sym, ap, subst, ◌∙◌}
 use Rattle.std.specs.Prelude.{nat_lt, slice_get}
-use Rattle.jcode.specs.declared.op.Placed.{Placed}
+use Rattle.jparts.specs.declared.jcode.op.Placed.{Placed}
 use Rattle.jprogram.specs.Classes.{Program}
-use Rattle.juses.specs.declared.types.TypeRef.{TypeRef}
-use Rattle.juses.specs.Instructions.{instruction}
-use Rattle.juses.specs.Tables.{pool_at}
+use Rattle.jmeaning.specs.declared.juses.types.TypeRef.{TypeRef}
+use Rattle.jmeaning.specs.juses.Instructions.{instruction}
+use Rattle.jmeaning.specs.juses.Tables.{pool_at}
 use Rattle.jready.specs.declared.instr.Instr.{Instr}
 use Rattle.jready.specs.declared.tables.Tables.{Tables}
 use Rattle.jready.specs.Exact.{Exact}

@@ -3,18 +3,18 @@ use Rattle.std.proofs.Common.{◌≡◌, ℕ, zero, suc, ◌+◌, ◌^◌, ◌<�
 use Rattle.std.proofs.Common.{arith}
 use Rattle.std.specs.Prelude.{nat_lt, option_and_then, option_map, slice_get, slice_index_or}
 use Rattle.std.proofs.lemmas.Bool.{cases_lt}
-use Rattle.jcode.specs.declared.op.Placed.{Placed}
+use Rattle.jparts.specs.declared.jcode.op.Placed.{Placed}
 use Rattle.jclass.specs.declared.class.CodeBody.{CodeBody}
-use Rattle.jtypes.specs.declared.vtype.VType.{VType}
+use Rattle.jground.specs.declared.jtypes.vtype.VType.{VType}
 use Rattle.jprogram.specs.declared.member.MethodId.{MethodId}
 use Rattle.jprogram.specs.declared.part.CodePart.{CodePart}
 use Rattle.jprogram.specs.Classes.{Program}
 use Rattle.jprogram.specs.Parts.{code_of}
-use Rattle.juses.specs.declared.types.TypeRef.{TypeRef}
-use Rattle.juses.specs.Instructions.{body_in, code_at, instruction}
-use Rattle.juses.specs.Tables.{pool_at, pool_in}
-use Rattle.jmachine.specs.Steps.{fetched}
-use Rattle.jmachine.specs.Unwinding.{handler_at, handler_from, handler_in}
+use Rattle.jmeaning.specs.declared.juses.types.TypeRef.{TypeRef}
+use Rattle.jmeaning.specs.juses.Instructions.{body_in, code_at, instruction}
+use Rattle.jmeaning.specs.juses.Tables.{pool_at, pool_in}
+use Rattle.jmodel.specs.jmachine.Steps.{fetched}
+use Rattle.jmodel.specs.jmachine.Unwinding.{handler_at, handler_from, handler_in}
 use Rattle.jready.specs.declared.handlers.HandlerRow.{HandlerRow}
 use Rattle.jready.specs.declared.instr.Instr.{Instr}
 use Rattle.jready.specs.declared.instr.Instr.TheVariants as instr

@@ -4,20 +4,20 @@ use Rattle.std.specs.Prelude.{◌==◌, codes, if◌then◌else◌}
 use Rattle.std.specs.Str.{byte, bytes_eq}
 use Rattle.std.proofs.lemmas.Bool.{cases_Bool}
 use Rattle.std.proofs.lemmas.Slice.Eq.{bytes_eq-Decides}
-use Rattle.jpool.specs.declared.descriptor.Descriptor.{Descriptor}
-use Rattle.jpool.specs.declared.descriptor.Descriptor.TheVariants as descriptors
-use Rattle.jpool.specs.declared.descriptor.FieldType.{FieldType}
-use Rattle.jpool.specs.Descriptors.{descriptor_of, descriptor_text, is_well_formed, type_text}
-use Rattle.jpool.proofs.Spelled.{descriptor_again, descriptor_take}
-use Rattle.jtypes.specs.declared.vtype.Element.{Element}
-use Rattle.jtypes.specs.declared.vtype.Element.TheVariants as elements
-use Rattle.jtypes.specs.declared.vtype.Name.{Name}
-use Rattle.jtypes.specs.Described.{element_of}
-use Rattle.jops.specs.declared.value.Value.{Value}
-use Rattle.jops.specs.declared.value.Value.TheVariants.{Int, Long, Ref, Ctx}
-use Rattle.juses.specs.Typed.{name}
-use Rattle.jlayout.specs.Layout.{element, element_by, element_in}
-use Rattle.jmachine.specs.Narrowing.{narrowed}
+use Rattle.jparts.specs.declared.jpool.descriptor.Descriptor.{Descriptor}
+use Rattle.jparts.specs.declared.jpool.descriptor.Descriptor.TheVariants as descriptors
+use Rattle.jparts.specs.declared.jpool.descriptor.FieldType.{FieldType}
+use Rattle.jparts.specs.jpool.Descriptors.{descriptor_of, descriptor_text, is_well_formed, type_text}
+use Rattle.jparts.proofs.JpoolProofs.Spelled.{descriptor_again, descriptor_take}
+use Rattle.jground.specs.declared.jtypes.vtype.Element.{Element}
+use Rattle.jground.specs.declared.jtypes.vtype.Element.TheVariants as elements
+use Rattle.jground.specs.declared.jtypes.vtype.Name.{Name}
+use Rattle.jground.specs.jtypes.Described.{element_of}
+use Rattle.jground.specs.declared.jops.value.Value.{Value}
+use Rattle.jground.specs.declared.jops.value.Value.TheVariants.{Int, Long, Ref, Ctx}
+use Rattle.jmeaning.specs.juses.Typed.{name}
+use Rattle.jmeaning.specs.jlayout.Layout.{element, element_by, element_in}
+use Rattle.jmodel.specs.jmachine.Narrowing.{narrowed}
 
 none_keeps : {K : Type 0} (v : Value K) → narrowed None v ≡ v
 none_keeps (Int x) = refl

@@ -10,13 +10,13 @@ use Rattle.std.proofs.lemmas.Int.{ints}
 use Rattle.std.proofs.lemmas.Cmp.{int_ranked}
 use Rattle.std.proofs.lemmas.List.{append-nil, length-append}
 use Rattle.std.proofs.lemmas.List.Sorted.{IsNonDecreasingBy-from_default}
-use Rattle.jcode.specs.declared.op.Handler.{Handler}
-use Rattle.jcode.specs.declared.op.Op.TheVariants as ops
-use Rattle.jcode.specs.declared.op.Placed.{Placed}
-use Rattle.jcode.specs.Instructions.{Rises}
-use Rattle.juses.specs.Tables.{Grows, Pairs}
-use Rattle.juses.proofs.Spans.{pairs_end, pairs_step}
-use Rattle.jmachine.specs.Unwinding.{number_at}
+use Rattle.jparts.specs.declared.jcode.op.Handler.{Handler}
+use Rattle.jparts.specs.declared.jcode.op.Op.TheVariants as ops
+use Rattle.jparts.specs.declared.jcode.op.Placed.{Placed}
+use Rattle.jparts.specs.jcode.Instructions.{Rises}
+use Rattle.jmeaning.specs.juses.Tables.{Grows, Pairs}
+use Rattle.jmeaning.proofs.JusesProofs.Spans.{pairs_end, pairs_step}
+use Rattle.jmodel.specs.jmachine.Unwinding.{number_at}
 use Rattle.jready.specs.declared.handlers.HandlerRow.{HandlerRow}
 use Rattle.jready.specs.Handling.{AreHandlers, IsHandler}
 use Rattle.jready.specs.Tabled.{AreThere, part}

@@ -1,10 +1,10 @@
 -- By a constant of the pool nothing but a constant is pushed.
 use Rattle.std.proofs.Common.{◌≡◌, ℕ, List, Option, Some, None, refl}
 use Rattle.std.specs.Prelude.{option_and_then, slice_get}
-use Rattle.jpool.specs.declared.entry.Entry.{Entry}
-use Rattle.jcode.specs.declared.form.PoolForm.TheVariants as forms
+use Rattle.jparts.specs.declared.jpool.entry.Entry.{Entry}
+use Rattle.jparts.specs.declared.jcode.form.PoolForm.TheVariants as forms
 use Rattle.jprogram.specs.Classes.{Program}
-use Rattle.juses.specs.Meanings.{AClass, AConstant, AField, AMethod, EntryMeaning, Int, Long, Text, entry_meant, long_constant, meant, short_constant}
+use Rattle.jmeaning.specs.juses.Meanings.{AClass, AConstant, AField, AMethod, EntryMeaning, Int, Long, Text, entry_meant, long_constant, meant, short_constant}
 use Rattle.jready.specs.Only.{only_push}
 
 short : (o : Option EntryMeaning) → only_push (option_and_then short_constant o) ≡ option_and_then short_constant o

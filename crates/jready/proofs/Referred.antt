@@ -5,7 +5,7 @@ use Rattle.std.specs.List.{position}
 use Rattle.std.specs.Str.{bytes_eq}
 use Rattle.std.proofs.lemmas.List.Quantifiers.{position-Some}
 use Rattle.std.proofs.lemmas.Slice.Eq.{bytes_eq-Decides}
-use Rattle.jbase.specs.First.{first_some, or_else}
+use Rattle.jground.specs.jbase.First.{first_some, or_else}
 use Rattle.jclass.specs.declared.class.ClassParts.{ClassParts}
 use Rattle.jclass.specs.declared.class.MemberInfo.{MemberInfo}
 use Rattle.jlib.specs.declared.calls.LibCall.{LibCall}
@@ -18,18 +18,18 @@ use Rattle.jprogram.specs.declared.part.CodePart.{CodePart}
 use Rattle.jprogram.specs.Classes.{Class, Lib, Program, User, find, found_at, place_of, superinterfaces, up}
 use Rattle.jprogram.specs.Members.{field_at, field_in, init, lib_field, lib_method, method_at, method_id, method_in, part_of, resolve_field, resolve_method}
 use Rattle.jprogram.specs.Parts.{is_called, member_desc, member_name}
-use Rattle.jpool.specs.declared.entry.Entry.{Entry}
-use Rattle.jpool.specs.declared.entry.Entry.TheVariants as entries
-use Rattle.jpool.specs.Pools.{name_and_type_at}
-use Rattle.jcode.specs.declared.form.PoolForm.TheVariants as forms
-use Rattle.jcode.specs.declared.names.CallOp.{CallOp}
-use Rattle.jcode.specs.declared.names.FieldOp.{FieldOp}
-use Rattle.jtypes.specs.declared.vtype.Name.{Name}
-use Rattle.juses.specs.declared.meaning.How.{How}
-use Rattle.juses.specs.Meanings.{AClass, AConstant, AField, AMethod, Call, CallMeaning, EntryMeaning, Field as FieldOf, FieldMeaning, Reference, call_as}
-use Rattle.juses.specs.Meanings.{call_meant, called_by, called_by_interface, entry_meant, field_as, field_entry, field_meant, field_used, meant}
-use Rattle.juses.specs.Meanings.{method_entry, reference}
-use Rattle.juses.specs.Typed.{Called, Held, Typed, Untyped, name, typed}
+use Rattle.jparts.specs.declared.jpool.entry.Entry.{Entry}
+use Rattle.jparts.specs.declared.jpool.entry.Entry.TheVariants as entries
+use Rattle.jparts.specs.jpool.Pools.{name_and_type_at}
+use Rattle.jparts.specs.declared.jcode.form.PoolForm.TheVariants as forms
+use Rattle.jparts.specs.declared.jcode.names.CallOp.{CallOp}
+use Rattle.jparts.specs.declared.jcode.names.FieldOp.{FieldOp}
+use Rattle.jground.specs.declared.jtypes.vtype.Name.{Name}
+use Rattle.jmeaning.specs.declared.juses.meaning.How.{How}
+use Rattle.jmeaning.specs.juses.Meanings.{AClass, AConstant, AField, AMethod, Call, CallMeaning, EntryMeaning, Field as FieldOf, FieldMeaning, Reference, call_as}
+use Rattle.jmeaning.specs.juses.Meanings.{call_meant, called_by, called_by_interface, entry_meant, field_as, field_entry, field_meant, field_used, meant}
+use Rattle.jmeaning.specs.juses.Meanings.{method_entry, reference}
+use Rattle.jmeaning.specs.juses.Typed.{Called, Held, Typed, Untyped, name, typed}
 use Rattle.jready.specs.Referred.{IsCalled, IsField, IsMethod, IsThere}
 
 -- ---- lists

@@ -4,9 +4,9 @@ use Rattle.std.specs.Prelude.{option_map, slice_get}
 use Rattle.std.proofs.lemmas.List.{length-append}
 use Rattle.jprogram.specs.declared.part.CodePart.{CodePart}
 use Rattle.jprogram.specs.Classes.{Program, User, named}
-use Rattle.jlayout.specs.Counted.{count_of}
-use Rattle.jlayout.specs.Layout as fields
-use Rattle.jmachine.specs.World.{world}
+use Rattle.jmeaning.specs.jlayout.Counted.{count_of}
+use Rattle.jmeaning.specs.jlayout.Layout as fields
+use Rattle.jmodel.specs.jmachine.World.{world}
 use Rattle.jready.specs.declared.shapes.Shape.{Shape}
 use Rattle.jready.specs.Shaped.{AreShapesTo, IsShape}
 use Rattle.jready.proofs.Growing.{get_more, get_put, some_inj, under}

@@ -5,8 +5,8 @@ use Rattle.std.specs.Ordering.{int_eq}
 use Rattle.std.proofs.lemmas.Bool.{cases_Bool}
 use Rattle.std.proofs.lemmas.Bool.Decides.{Decides-int_eq}
 use Rattle.std.proofs.lemmas.Int.{ints}
-use Rattle.juses.specs.Numbered.{keys_from}
-use Rattle.jmachine.specs.Straight.{case_of}
+use Rattle.jmeaning.specs.juses.Numbered.{keys_from}
+use Rattle.jmodel.specs.jmachine.Straight.{case_of}
 
 differs : (a t : ℤ) → (a ≡ t → ⊥) → int_eq a t ≡ false
 differs a t other = elim (cases_Bool (int_eq a t)) [ inl hit ↦ absurd (other ((Decides-int_eq a t).0 hit)) | inr miss ↦ miss ]

@@ -2,8 +2,8 @@
 use Rattle.std.proofs.Common.{◌≡◌, ℕ, ℤ, ◌+◌, List, [], ◌∷◌, ◌++◌, length, Some, ap, ◌∙◌, arith}
 use Rattle.std.specs.Prelude.{option_map, slice_get}
 use Rattle.std.proofs.lemmas.List.{length-append}
-use Rattle.juses.specs.Instructions.{Switch}
-use Rattle.juses.specs.Numbered.{keys_from}
+use Rattle.jmeaning.specs.juses.Instructions.{Switch}
+use Rattle.jmeaning.specs.juses.Numbered.{keys_from}
 use Rattle.jready.specs.declared.tables.Tables.{Tables}
 use Rattle.jready.specs.Meant.{table_meant}
 use Rattle.jready.specs.Tabled.{part}

@@ -1,15 +1,15 @@
 -- What an instruction by number holds beside the index of its entry, by what its entry stands for.
 use Rattle.std.specs.Prelude.{◌≡◌, ℕ, ◌+◌, ◌<◌, List, length, map, Some, slice_get}
-use Rattle.jpool.specs.declared.entry.Entry.{Entry}
-use Rattle.jcode.specs.declared.form.PoolForm.TheVariants as forms
-use Rattle.jcode.specs.declared.names.FieldOp.{FieldOp}
-use Rattle.jheap.specs.declared.cell.CellType.{CellType}
-use Rattle.jheap.specs.declared.cell.CellType.TheVariants as cells
+use Rattle.jparts.specs.declared.jpool.entry.Entry.{Entry}
+use Rattle.jparts.specs.declared.jcode.form.PoolForm.TheVariants as forms
+use Rattle.jparts.specs.declared.jcode.names.FieldOp.{FieldOp}
+use Rattle.jground.specs.declared.jheap.cell.CellType.{CellType}
+use Rattle.jground.specs.declared.jheap.cell.CellType.TheVariants as cells
 use Rattle.jlib.specs.declared.calls.LibCall.{LibCall}
-use Rattle.jtypes.specs.declared.vtype.Element.TheVariants as elements
-use Rattle.jtypes.specs.declared.vtype.VType.{VType}
-use Rattle.jtypes.specs.declared.vtype.VType.TheVariants as types
-use Rattle.jops.specs.declared.value.Value.{Value}
+use Rattle.jground.specs.declared.jtypes.vtype.Element.TheVariants as elements
+use Rattle.jground.specs.declared.jtypes.vtype.VType.{VType}
+use Rattle.jground.specs.declared.jtypes.vtype.VType.TheVariants as types
+use Rattle.jground.specs.declared.jops.value.Value.{Value}
 use Rattle.jclass.specs.declared.class.ClassParts.{ClassParts}
 use Rattle.jclass.specs.declared.class.MemberInfo.{MemberInfo}
 use Rattle.jprogram.specs.declared.member.Member.TheVariants as members
@@ -17,15 +17,15 @@ use Rattle.jprogram.specs.declared.member.MethodId.{MethodId}
 use Rattle.jprogram.specs.declared.part.ClassRef.TheVariants as refs
 use Rattle.jprogram.specs.Classes.{Program}
 use Rattle.jprogram.specs.Members.{desc_of, info_of}
-use Rattle.juses.specs.declared.meaning.How.{How}
-use Rattle.juses.specs.declared.meaning.Span.{Span}
-use Rattle.juses.specs.declared.types.ArrayRef.{ArrayRef}
-use Rattle.juses.specs.declared.types.TypeRef.{TypeRef}
-use Rattle.juses.specs.Meanings.{CallMeaning, FieldMeaning, Call, Cast, Field, Make, MakeArray, array_meant, meant, spanned}
-use Rattle.juses.specs.Tables.{pool_at}
-use Rattle.juses.specs.Types.{array_named, class_named, named}
-use Rattle.jlayout.specs.Layout as layout
-use Rattle.jmachine.specs.Narrowing.{narrowed}
+use Rattle.jmeaning.specs.declared.juses.meaning.How.{How}
+use Rattle.jmeaning.specs.declared.juses.meaning.Span.{Span}
+use Rattle.jmeaning.specs.declared.juses.types.ArrayRef.{ArrayRef}
+use Rattle.jmeaning.specs.declared.juses.types.TypeRef.{TypeRef}
+use Rattle.jmeaning.specs.juses.Meanings.{CallMeaning, FieldMeaning, Call, Cast, Field, Make, MakeArray, array_meant, meant, spanned}
+use Rattle.jmeaning.specs.juses.Tables.{pool_at}
+use Rattle.jmeaning.specs.juses.Types.{array_named, class_named, named}
+use Rattle.jmeaning.specs.jlayout.Layout as layout
+use Rattle.jmodel.specs.jmachine.Narrowing.{narrowed}
 use Rattle.jready.specs.declared.instr.Instr.{Instr}
 use Rattle.jready.specs.declared.instr.Instr.TheVariants as instr
 use Rattle.jready.specs.declared.instr.Narrow.{Narrow}

@@ -1,15 +1,15 @@
 -- The handlers of methods by number (JVMS 2.10, 4.7.3).
 use Rattle.std.specs.Prelude.{◌≡◌, ℕ, Bool, ◌&&◌, ◌||◌, ◌==◌, List, Option, Some, option_and_then, slice_get, nat_le, nat_lt}
 use Rattle.std.specs.List.{find}
-use Rattle.jpool.specs.declared.entry.Entry.{Entry}
-use Rattle.jcode.specs.declared.op.Handler.{Handler}
-use Rattle.jcode.specs.declared.op.Placed.{Placed}
-use Rattle.jtypes.specs.declared.vtype.VType.{VType}
+use Rattle.jparts.specs.declared.jpool.entry.Entry.{Entry}
+use Rattle.jparts.specs.declared.jcode.op.Handler.{Handler}
+use Rattle.jparts.specs.declared.jcode.op.Placed.{Placed}
+use Rattle.jground.specs.declared.jtypes.vtype.VType.{VType}
 use Rattle.jprogram.specs.Classes.{Program}
-use Rattle.juses.specs.Meanings.{class_at}
-use Rattle.juses.specs.Tables.{Pairs}
-use Rattle.jmachine.specs.Unwinding.{is_caught, number_at}
-use Rattle.jcode.specs.Instructions.{covers}
+use Rattle.jmeaning.specs.juses.Meanings.{class_at}
+use Rattle.jmeaning.specs.juses.Tables.{Pairs}
+use Rattle.jmodel.specs.jmachine.Unwinding.{is_caught, number_at}
+use Rattle.jparts.specs.jcode.Instructions.{covers}
 use Rattle.jready.specs.declared.handlers.HandlerRow.{HandlerRow}
 
 -- its range holds the number of an instruction

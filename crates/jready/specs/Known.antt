@@ -1,9 +1,9 @@
 -- What is known of a program before its instructions are looked at.
 use Rattle.std.specs.Prelude.{◌≡◌, ◌≤◌, ℕ, length}
-use Rattle.jcode.specs.declared.form.PoolForm.{PoolForm}
-use Rattle.jcode.specs.declared.form.PoolForm.TheVariants as forms
-use Rattle.juses.specs.Uses.{AreUses}
-use Rattle.jlayout.specs.Layouts.{AreLayouts}
+use Rattle.jparts.specs.declared.jcode.form.PoolForm.{PoolForm}
+use Rattle.jparts.specs.declared.jcode.form.PoolForm.TheVariants as forms
+use Rattle.jmeaning.specs.juses.Uses.{AreUses}
+use Rattle.jmeaning.specs.jlayout.Layouts.{AreLayouts}
 use Rattle.jready.specs.declared.known.Known.{Known}
 use Rattle.jready.specs.Numbers.{AreFirsts}
 

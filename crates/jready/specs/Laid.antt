@@ -1,12 +1,12 @@
 -- How the instructions of methods lie in one list, one method behind the other, and what they stand for.
 use Rattle.std.specs.Prelude.{◌≡◌, ℕ, ◌+◌, ◌<◌, ◌≤◌, Bool, true, false, ◌||◌, not, List, length, Option, Some, None, option_and_then, slice_get, nat_lt}
 use Rattle.std.specs.Prelude.{if◌then◌else◌}
-use Rattle.jcode.specs.declared.op.Placed.{Placed}
+use Rattle.jparts.specs.declared.jcode.op.Placed.{Placed}
 use Rattle.jprogram.specs.Classes.{Program}
-use Rattle.juses.specs.declared.numbered.When.TheVariants as when
-use Rattle.juses.specs.Instructions.{Instruction, goes_on, instruction}
-use Rattle.juses.specs.declared.types.TypeRef.{TypeRef}
-use Rattle.juses.specs.Tables.{pool_at}
+use Rattle.jmeaning.specs.declared.juses.numbered.When.TheVariants as when
+use Rattle.jmeaning.specs.juses.Instructions.{Instruction, goes_on, instruction}
+use Rattle.jmeaning.specs.declared.juses.types.TypeRef.{TypeRef}
+use Rattle.jmeaning.specs.juses.Tables.{pool_at}
 use Rattle.jready.specs.declared.instr.FlowInstr.{FlowInstr}
 use Rattle.jready.specs.declared.instr.FlowInstr.TheVariants as flow
 use Rattle.jready.specs.declared.instr.Instr.{Instr}

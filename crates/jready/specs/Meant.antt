@@ -1,20 +1,20 @@
 -- Which instruction of the definition an instruction by number stands for (JVMS 6.5), by the tables, and by the class in which it stands.
 use Rattle.std.specs.Prelude.{ℕ, ◌+◌, List, map, Option, Some, None, option_map, slice_get}
-use Rattle.jpool.specs.declared.entry.Entry.{Entry}
-use Rattle.jcode.specs.declared.form.ArrayForm.TheVariants as arrays
-use Rattle.jcode.specs.declared.form.PoolForm.{PoolForm}
-use Rattle.jcode.specs.declared.form.PoolForm.TheVariants as forms
-use Rattle.jcode.specs.declared.form.Simple.TheVariants as simples
-use Rattle.jcode.specs.declared.names.CallOp.TheVariants as calls
+use Rattle.jparts.specs.declared.jpool.entry.Entry.{Entry}
+use Rattle.jparts.specs.declared.jcode.form.ArrayForm.TheVariants as arrays
+use Rattle.jparts.specs.declared.jcode.form.PoolForm.{PoolForm}
+use Rattle.jparts.specs.declared.jcode.form.PoolForm.TheVariants as forms
+use Rattle.jparts.specs.declared.jcode.form.Simple.TheVariants as simples
+use Rattle.jparts.specs.declared.jcode.names.CallOp.TheVariants as calls
 use Rattle.jprogram.specs.Classes.{Program}
 use Rattle.jprogram.specs.Parts.{text}
-use Rattle.juses.specs.declared.meaning.How.{How}
-use Rattle.juses.specs.declared.meaning.How.TheVariants as how
-use Rattle.juses.specs.Instructions.{Instruction, Simple, Local, Stack, Jump, Switch, Return, Throw, Array, Used}
-use Rattle.juses.specs.Meanings as meanings
-use Rattle.juses.specs.Meanings.{Pushed, array_meant}
-use Rattle.juses.specs.Numbered.{keyed_as, keys_from, test_of}
-use Rattle.juses.specs.Tables.{pool_at}
+use Rattle.jmeaning.specs.declared.juses.meaning.How.{How}
+use Rattle.jmeaning.specs.declared.juses.meaning.How.TheVariants as how
+use Rattle.jmeaning.specs.juses.Instructions.{Instruction, Simple, Local, Stack, Jump, Switch, Return, Throw, Array, Used}
+use Rattle.jmeaning.specs.juses.Meanings as meanings
+use Rattle.jmeaning.specs.juses.Meanings.{Pushed, array_meant}
+use Rattle.jmeaning.specs.juses.Numbered.{keyed_as, keys_from, test_of}
+use Rattle.jmeaning.specs.juses.Tables.{pool_at}
 use Rattle.jready.specs.declared.instr.ArrayInstr.{ArrayInstr}
 use Rattle.jready.specs.declared.instr.ArrayInstr.TheVariants as array
 use Rattle.jready.specs.declared.instr.FlowInstr.{FlowInstr}

@@ -1,11 +1,11 @@
 -- The parts of what an instruction means.
 use Rattle.std.specs.Prelude.{ℕ, Option, Some, None}
-use Rattle.jtypes.specs.declared.vtype.Name.{Name}
-use Rattle.jtypes.specs.declared.vtype.VType.{VType}
+use Rattle.jground.specs.declared.jtypes.vtype.Name.{Name}
+use Rattle.jground.specs.declared.jtypes.vtype.VType.{VType}
 use Rattle.jprogram.specs.declared.member.Member.{Member}
 use Rattle.jprogram.specs.declared.member.Member.TheVariants as members
-use Rattle.juses.specs.declared.meaning.How.{How}
-use Rattle.juses.specs.Meanings.{Call, CallMeaning, Cast, Field, FieldMeaning, Make, MakeArray, Meaning, Push}
+use Rattle.jmeaning.specs.declared.juses.meaning.How.{How}
+use Rattle.jmeaning.specs.juses.Meanings.{Call, CallMeaning, Cast, Field, FieldMeaning, Make, MakeArray, Meaning, Push}
 
 -- a constant, if one is pushed
 abbrev pub only_push : Option Meaning → Option Meaning

@@ -2,11 +2,11 @@
 use Rattle.std.specs.Prelude.{◌≡◌, ℕ, ◌+◌, ◌<◌, List, length, Some, slice_get}
 use Rattle.jprogram.specs.declared.member.MethodId.{MethodId}
 use Rattle.jprogram.specs.Classes.{Program}
-use Rattle.juses.specs.declared.uses.Uses.{Uses}
-use Rattle.juses.specs.Uses.{AreUses}
-use Rattle.jlayout.specs.declared.layouts.Layouts.{Layouts}
-use Rattle.jlayout.specs.Layouts.{AreLayouts}
-use Rattle.jlayout.specs.Numbered.{all_statics}
+use Rattle.jmeaning.specs.declared.juses.uses.Uses.{Uses}
+use Rattle.jmeaning.specs.juses.Uses.{AreUses}
+use Rattle.jmeaning.specs.declared.jlayout.layouts.Layouts.{Layouts}
+use Rattle.jmeaning.specs.jlayout.Layouts.{AreLayouts}
+use Rattle.jmeaning.specs.jlayout.Numbered.{all_statics}
 use Rattle.jready.specs.declared.methods.MethodRow.{MethodRow}
 use Rattle.jready.specs.declared.methods.Methods.{Methods}
 use Rattle.jready.specs.declared.shapes.Shape.{Shape}

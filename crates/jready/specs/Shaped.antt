@@ -1,7 +1,7 @@
 -- What the objects of users' classes hold, by the places of their classes.
 use Rattle.std.specs.Prelude.{◌≡◌, ℕ, List, length, Some, slice_get}
 use Rattle.jprogram.specs.Classes.{Program}
-use Rattle.jmachine.specs.World.{can_be_thrown, world}
+use Rattle.jmodel.specs.jmachine.World.{can_be_thrown, world}
 use Rattle.jready.specs.declared.shapes.Shape.{Shape}
 
 pub record IsShape (p : Program) (i : ℕ) (s : Shape) : Type 0 where

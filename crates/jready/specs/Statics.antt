@@ -1,20 +1,20 @@
 -- The statics of a program: what they hold, and what they hold at first (JVMS 4.7.2).
 use Rattle.std.specs.Prelude.{◌≡◌, ℕ, pos, List, map, option_map, unwrap_or}
-use Rattle.jpool.specs.declared.entry.Entry.{Entry}
+use Rattle.jparts.specs.declared.jpool.entry.Entry.{Entry}
 use Rattle.jclass.specs.declared.class.ClassParts.{ClassParts}
 use Rattle.jclass.specs.declared.class.MemberInfo.{MemberInfo}
-use Rattle.jops.specs.declared.value.Value.{Value}
-use Rattle.jops.specs.declared.value.Value.TheVariants.{Int, Long, Ref}
-use Rattle.jheap.specs.declared.cell.CellType.{CellType}
-use Rattle.jheap.specs.declared.cell.CellType.TheVariants as cells
+use Rattle.jground.specs.declared.jops.value.Value.{Value}
+use Rattle.jground.specs.declared.jops.value.Value.TheVariants.{Int, Long, Ref}
+use Rattle.jground.specs.declared.jheap.cell.CellType.{CellType}
+use Rattle.jground.specs.declared.jheap.cell.CellType.TheVariants as cells
 use Rattle.jprogram.specs.declared.part.CodePart.{CodePart}
 use Rattle.jprogram.specs.Classes.{Program}
 use Rattle.jprogram.specs.Parts.{text}
-use Rattle.juses.specs.Tables.{Pairs, pool_at}
-use Rattle.jlayout.specs.Layout as layout
-use Rattle.jmachine.specs.Making.{units_of}
-use Rattle.jmachine.specs.Opening.{first_value}
-use Rattle.jmachine.specs.Store.{constant_at}
+use Rattle.jmeaning.specs.juses.Tables.{Pairs, pool_at}
+use Rattle.jmeaning.specs.jlayout.Layout as layout
+use Rattle.jmodel.specs.jmachine.Making.{units_of}
+use Rattle.jmodel.specs.jmachine.Opening.{first_value}
+use Rattle.jmodel.specs.jmachine.Store.{constant_at}
 use Rattle.jready.specs.declared.statics.First.{First}
 use Rattle.jready.specs.declared.statics.First.TheVariants as firsts
 use Rattle.jready.specs.declared.statics.StaticRow.{StaticRow}

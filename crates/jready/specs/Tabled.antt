@@ -1,6 +1,6 @@
 -- Tables only grow, so that a number stands for one thing for ever.
 use Rattle.std.specs.Prelude.{ℕ, ◌+◌, ◌≤◌, List, length, take, drop}
-use Rattle.juses.specs.Tables.{Grows}
+use Rattle.jmeaning.specs.juses.Tables.{Grows}
 use Rattle.jready.specs.declared.tables.Tables.{Tables}
 
 pub record Grown (t u : Tables) : Type 0 where

@@ -1,10 +1,10 @@
 ghost use Rattle.std.specs.Prelude.{◌≡◌, ◌+◌, ℕ, IfOk, List, OnOk, length};
 ghost use Rattle.jprogram.specs.Classes.{Program};
-ghost use Rattle.juses.specs.declared.types.TypeRef.{TypeRef as Ref};
-ghost use Rattle.juses.specs.Instructions;
-ghost use Rattle.juses.specs.Instructions.{instruction};
-ghost use Rattle.juses.specs.Numbered.{AreCode};
-ghost use Rattle.juses.specs.Tables.{Grows, pool_at};
+ghost use Rattle.jmeaning.specs.declared.juses.types.TypeRef.{TypeRef as Ref};
+ghost use Rattle.jmeaning.specs.juses.Instructions;
+ghost use Rattle.jmeaning.specs.juses.Instructions.{instruction};
+ghost use Rattle.jmeaning.specs.juses.Numbered.{AreCode};
+ghost use Rattle.jmeaning.specs.juses.Tables.{Grows, pool_at};
 ghost use Rattle.jready.specs.Exact.{Exact};
 ghost use Rattle.jready.specs.Known.{IsKnown};
 ghost use Rattle.jready.specs.Laid.{AreLaid, Within, followed, instr_goes_on};
@@ -17,9 +17,9 @@ use crate::known::Known;
 use crate::plain::plain_of;
 use crate::pooled::{array_of, pool_instr};
 use crate::tables::Tables;
-use jbase::Seq;
-use jcode::{ArrayForm, Form, Placed, form_of};
-use juses::When;
+use jground::jbase::Seq;
+use jmeaning::juses::When;
+use jparts::jcode::{ArrayForm, Form, Placed, form_of};
 use std::alloc::{AllocError, Global};
 
 #[tactic(auto, unfolding(crate::specs::Meant::meant))]
@@ -45,7 +45,7 @@ fn by_array(
 }
 
 /// What an instruction of a class is by number among those of its method.
-#[tactic(auto, unfolding(crate::specs::Meant::meant, juses::specs::Instructions::instruction))]
+#[tactic(auto, unfolding(crate::specs::Meant::meant, jmeaning::specs::juses::Instructions::instruction))]
 fn instr_of(
     alloc: Global,
     known: &Known<'_>,

@@ -1,12 +1,12 @@
 ghost use Rattle.std.specs.Prelude.{◌≡◌, ℕ};
-ghost use Rattle.jops.specs.declared.value.Value.{Value};
+ghost use Rattle.jground.specs.declared.jops.value.Value.{Value};
 ghost use Rattle.jprogram.specs.Members.{desc_of};
-ghost use Rattle.jlayout.specs.Layout;
-ghost use Rattle.jmachine.specs.Narrowing.{narrowed};
+ghost use Rattle.jmeaning.specs.jlayout.Layout;
+ghost use Rattle.jmodel.specs.jmachine.Narrowing.{narrowed};
 ghost use Rattle.jready.specs.Exact.{narrow};
 
 use crate::instr::Narrow;
-use jlink::LinkedProgram;
+use jlinking::jlink::LinkedProgram;
 use jprogram::Member;
 
 /// What is left of an int in a field of a descriptor (JVMS 4.3.2, 2.11.1).

@@ -1,9 +1,9 @@
 ghost use Rattle.std.specs.Prelude.{◌≡◌, ◌+◌, ◌≤◌, ℕ, IfOk, List, Some, length, map};
-ghost use Rattle.jcode.specs.Forms;
+ghost use Rattle.jparts.specs.jcode.Forms;
 ghost use Rattle.jprogram.specs.Classes.{Program};
-ghost use Rattle.juses.specs.declared.types.TypeRef.{TypeRef as Ref};
-ghost use Rattle.juses.specs.Instructions;
-ghost use Rattle.juses.specs.Numbered.{AreCode, flow_named, keyed_as, keys_from, keys_of};
+ghost use Rattle.jmeaning.specs.declared.juses.types.TypeRef.{TypeRef as Ref};
+ghost use Rattle.jmeaning.specs.juses.Instructions;
+ghost use Rattle.jmeaning.specs.juses.Numbered.{AreCode, flow_named, keyed_as, keys_from, keys_of};
 ghost use Rattle.jready.specs.Exact.{Exact};
 ghost use Rattle.jready.specs.Laid.{Within};
 ghost use Rattle.jready.specs.Meant.{lookup_meant, meant, table_meant};
@@ -11,8 +11,8 @@ ghost use Rattle.jready.specs.Tabled.{AreThere, Grown};
 
 use crate::instr::{FlowInstr, Instr, Lookup, Table};
 use crate::tables::Tables;
-use jcode::{Flow, Placed, Switch};
-use juses::{FlowRef, Key, Keys, flow_of};
+use jmeaning::juses::{FlowRef, Key, Keys, flow_of};
+use jparts::jcode::{Flow, Placed, Switch};
 use std::alloc::{AllocError, Global};
 
 // ---- switches

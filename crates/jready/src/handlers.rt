@@ -1,15 +1,15 @@
 ghost use Rattle.std.specs.Prelude.{◌≡◌, ℕ, IfOk, Some, nat_le, slice_get};
-ghost use Rattle.jcode.specs.declared.op.Placed.{Placed as Op};
-ghost use Rattle.jcode.specs.Instructions;
-ghost use Rattle.juses.specs.Numbered.{AreCode};
-ghost use Rattle.juses.specs.Tables.{Grows};
+ghost use Rattle.jparts.specs.declared.jcode.op.Placed.{Placed as Op};
+ghost use Rattle.jparts.specs.jcode.Instructions;
+ghost use Rattle.jmeaning.specs.juses.Numbered.{AreCode};
+ghost use Rattle.jmeaning.specs.juses.Tables.{Grows};
 ghost use Rattle.jready.specs.Handling.{AreHandlers, IsHandler};
 ghost use Rattle.jready.specs.Tabled.{AreThere, part};
 
 use crate::tables::next_number;
-use jbase::Seq;
-use jcode::{Handler, Placed, place_of};
-use juses::Span;
+use jground::jbase::Seq;
+use jmeaning::juses::Span;
+use jparts::jcode::{Handler, Placed, place_of};
 use std::alloc::AllocError;
 
 /// A handler of a method (JVMS 2.10): the numbers from which and up to which its range reaches, the number at which it goes on, and the index

@@ -1,12 +1,12 @@
 ghost use Rattle.std.specs.Prelude.{◌≡◌};
 ghost use Rattle.jready.specs.Exact.{narrow};
 
-use jcode::{ArrayType, CastOp, Element, FieldOp, LocalForm, Returned};
-use jheap::CellType;
+use jground::jheap::CellType;
+use jground::jnames::{Division, OpOne, OpTwo, Shuffle};
+use jground::jops::{Value, one};
 use jlib::{LibCall, LibClass};
-use jnames::{Division, OpOne, OpTwo, Shuffle};
-use jops::{Value, one};
-use juses::{How, Span, When};
+use jmeaning::juses::{How, Span, When};
+use jparts::jcode::{ArrayType, CastOp, Element, FieldOp, LocalForm, Returned};
 
 /// An instruction as it is executed (JVMS 6.5): it leads to others by their numbers in its method, and what its entry of the pool stands
 /// for was looked up. What is too large for it stands in tables, by number. `pool` is always the index of the entry in its class.
@@ -149,7 +149,7 @@ pub enum Narrow {
 impl Narrow {
     /// What is left of a value that is put there.
     #[inline]
-    #[tactic(auto, unfolding(jops::specs::Operations::one))]
+    #[tactic(auto, unfolding(jground::specs::jops::Operations::one))]
     pub fn left(self, v: Value) -> Value
         ensures { result ≡ narrow self v }
     {

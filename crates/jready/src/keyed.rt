@@ -1,8 +1,8 @@
 ghost use Rattle.std.specs.Prelude.{◌≡◌, ◌≤ℤ◌, ◌+ℤ◌, map, pos, slice_get};
-ghost use Rattle.juses.specs.Numbered.{keyed_as, keys_from};
-ghost use Rattle.jmachine.specs.Straight.{case_of};
+ghost use Rattle.jmeaning.specs.juses.Numbered.{keyed_as, keys_from};
+ghost use Rattle.jmodel.specs.jmachine.Straight.{case_of};
 
-use juses::Key;
+use jmeaning::juses::Key;
 
 /// How far a key stands behind the least.
 #[inline]
@@ -37,7 +37,7 @@ pub(crate) fn rising_to(low: i32, targets: &[u32], other: u32, key: i32) -> u32
 
 /// The same, by the cases of a switch.
 #[inline]
-#[tactic(auto, unfolding(jmachine::specs::Straight::case_of))]
+#[tactic(auto, unfolding(jmodel::specs::jmachine::Straight::case_of))]
 pub(crate) fn keyed_to(keys: &[Key], other: u32, key: i32) -> u32
     ensures { result ≡ case_of key (map keyed_as keys.now) other }
 {

@@ -1,10 +1,10 @@
 ghost use Rattle.std.specs.Prelude.{◌≡◌, ◌+◌, ◌<◌, length};
 ghost use Rattle.jready.specs.Numbers.{AreFirsts, count_at, methods_before};
 
-use jlayout::Layouts;
-use jlink::LinkedProgram;
+use jlinking::jlink::LinkedProgram;
+use jmeaning::jlayout::Layouts;
+use jmeaning::juses::Uses;
 use jprogram::MethodId;
-use juses::Uses;
 
 /// What is known of a program before its instructions are looked at.
 #[derive(Clone, Copy)]

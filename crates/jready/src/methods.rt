@@ -1,9 +1,9 @@
 ghost use Rattle.std.specs.Prelude.{◌≡◌, [], List, None, OnOk, Some};
 ghost use Rattle.jprogram.specs.Classes.{Program};
-ghost use Rattle.juses.specs.declared.types.TypeRef.{TypeRef as Ref};
-ghost use Rattle.juses.specs.Instructions;
-ghost use Rattle.juses.specs.Numbered.{AreCode, seen_code};
-ghost use Rattle.jmachine.specs.Frames.{domain_of};
+ghost use Rattle.jmeaning.specs.declared.juses.types.TypeRef.{TypeRef as Ref};
+ghost use Rattle.jmeaning.specs.juses.Instructions;
+ghost use Rattle.jmeaning.specs.juses.Numbered.{AreCode, seen_code};
+ghost use Rattle.jmodel.specs.jmachine.Frames.{domain_of};
 ghost use Rattle.jready.specs.Known.{IsKnown};
 ghost use Rattle.jready.specs.Methods.{AreMethods, PutsMethod};
 
@@ -12,10 +12,10 @@ use crate::handlers::{HandlerRow, put_handlers};
 use crate::instr::Instr;
 use crate::known::Known;
 use crate::tables::{Tables, next_number};
-use jbase::Seq;
-use jlink::LinkedProgram;
+use jground::jbase::Seq;
+use jlinking::jlink::LinkedProgram;
+use jmeaning::juses::{CodeRef, Span, code_at};
 use jprogram::MethodId;
-use juses::{CodeRef, Span, code_at};
 use std::alloc::{AllocError, Global};
 
 /// A user's method.

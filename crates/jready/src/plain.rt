@@ -1,12 +1,12 @@
 ghost use Rattle.std.specs.Prelude.{◌≡◌, IfOk, Some};
-ghost use Rattle.juses.specs.Instructions;
+ghost use Rattle.jmeaning.specs.juses.Instructions;
 ghost use Rattle.jready.specs.Laid.{PlainWithin};
 ghost use Rattle.jready.specs.Meant.{plain_meant};
 ghost use Rattle.jready.specs.Tabled.{Grown};
 
 use crate::instr::Plain;
 use crate::tables::Tables;
-use jcode::Simple;
+use jparts::jcode::Simple;
 use std::alloc::AllocError;
 
 /// What computes with operands alone, by number.

@@ -1,14 +1,14 @@
 ghost use Rattle.std.specs.Prelude.{◌≡◌, ◌<◌, ◌≤◌, IfOk, List, Option, Some, length, option_map, slice_get, ℕ};
-ghost use Rattle.jpool.specs.declared.entry.Entry.{Entry};
-ghost use Rattle.jcode.specs.declared.form.PoolForm.TheVariants as forms;
+ghost use Rattle.jparts.specs.declared.jpool.entry.Entry.{Entry};
+ghost use Rattle.jparts.specs.declared.jcode.form.PoolForm.TheVariants as forms;
 ghost use Rattle.jprogram.specs.Classes.{Program};
-ghost use Rattle.juses.specs.declared.types.ArrayRef.{ArrayRef};
-ghost use Rattle.juses.specs.declared.types.TypeRef.{TypeRef as Ref};
-ghost use Rattle.juses.specs.Instructions.{Used};
-ghost use Rattle.juses.specs.Meanings;
-ghost use Rattle.juses.specs.Meanings.{array_meant, call_named, field_named, meaning_of, pushed_named};
-ghost use Rattle.juses.specs.Tables.{pool_at};
-ghost use Rattle.juses.specs.Types.{class_named, named};
+ghost use Rattle.jmeaning.specs.declared.juses.types.ArrayRef.{ArrayRef};
+ghost use Rattle.jmeaning.specs.declared.juses.types.TypeRef.{TypeRef as Ref};
+ghost use Rattle.jmeaning.specs.juses.Instructions.{Used};
+ghost use Rattle.jmeaning.specs.juses.Meanings;
+ghost use Rattle.jmeaning.specs.juses.Meanings.{array_meant, call_named, field_named, meaning_of, pushed_named};
+ghost use Rattle.jmeaning.specs.juses.Tables.{pool_at};
+ghost use Rattle.jmeaning.specs.juses.Types.{class_named, named};
 ghost use Rattle.jready.specs.Exact.{Exact};
 ghost use Rattle.jready.specs.Exact;
 ghost use Rattle.jready.specs.Known.{IsCall, IsKnown};
@@ -21,10 +21,10 @@ use crate::fields::narrow_at;
 use crate::instr::{Instr, ObjectInstr, Push};
 use crate::known::{Known, number_at};
 use crate::tables::Tables;
-use jcode::{CastOp, FieldOp, PoolForm};
-use jheap::CellType;
+use jground::jheap::CellType;
+use jmeaning::juses::{CallUse, Constant, FieldUse, How, Span, TypeRef, Use};
+use jparts::jcode::{CastOp, FieldOp, PoolForm};
 use jprogram::{ClassRef, Member};
-use juses::{CallUse, Constant, FieldUse, How, Span, TypeRef, Use};
 use std::alloc::AllocError;
 
 // ---- constants

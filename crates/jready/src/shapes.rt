@@ -1,15 +1,15 @@
 ghost use Rattle.std.specs.Prelude.{◌≡◌, ◌<◌, ◌≤◌, IfOk, length};
-ghost use Rattle.jlayout.specs.Layouts.{AreLayouts};
-ghost use Rattle.jmachine.specs.World.{can_be_thrown, world};
+ghost use Rattle.jmeaning.specs.jlayout.Layouts.{AreLayouts};
+ghost use Rattle.jmodel.specs.jmachine.World.{can_be_thrown, world};
 ghost use Rattle.jready.specs.Shaped.{AreShapes, IsShape};
 
 use crate::tables::next_number;
-use jbase::Seq;
-use jlayout::Layouts;
+use jground::jbase::Seq;
 use jlib::{LibClass, Thrown};
-use jlink::LinkedProgram;
+use jlinking::jlink::LinkedProgram;
+use jmeaning::jlayout::Layouts;
+use jmeaning::juses::stands_below;
 use jprogram::ClassRef;
-use juses::stands_below;
 use std::alloc::{AllocError, Global};
 
 /// What the objects of a user's class hold.
@@ -21,7 +21,7 @@ pub struct Shape {
     pub message: bool,
 }
 
-#[tactic(auto, unfolding(jmachine::specs::World::world))]
+#[tactic(auto, unfolding(jmodel::specs::jmachine::World::world))]
 fn has_message(p: &LinkedProgram, class: u32) -> bool
     ensures { result ≡ can_be_thrown (world p.now) ((world p.now).named class) }
 {

@@ -1,15 +1,15 @@
 ghost use Rattle.std.specs.Prelude.{◌≡◌, ◌++◌, IfOk, List, OnOk, Some, option_and_then, option_map, slice_get, unwrap_or, ℕ};
 ghost use Rattle.std.specs.List.{flat_map};
-ghost use Rattle.jbase.specs.First.{first_some};
+ghost use Rattle.jground.specs.jbase.First.{first_some};
 ghost use Rattle.jclass.specs.declared.class.MemberInfo.{MemberInfo as Info};
 ghost use Rattle.jprogram.specs.declared.part.CodePart.{CodePart as Part};
 ghost use Rattle.jprogram.specs.Classes.{Program};
-ghost use Rattle.juses.specs.Tables.{pool_at};
-ghost use Rattle.juses.specs.Types.{named};
-ghost use Rattle.jlayout.specs.Kinds.{or_top};
-ghost use Rattle.jlayout.specs.Layout;
-ghost use Rattle.jlayout.specs.Numbered.{all_statics};
-ghost use Rattle.jmachine.specs.Opening;
+ghost use Rattle.jmeaning.specs.juses.Tables.{pool_at};
+ghost use Rattle.jmeaning.specs.juses.Types.{named};
+ghost use Rattle.jmeaning.specs.jlayout.Kinds.{or_top};
+ghost use Rattle.jmeaning.specs.jlayout.Layout;
+ghost use Rattle.jmeaning.specs.jlayout.Numbered.{all_statics};
+ghost use Rattle.jmodel.specs.jmachine.Opening;
 ghost use Rattle.jready.specs.Exact;
 ghost use Rattle.jready.specs.Statics;
 ghost use Rattle.jready.specs.Statics.{AreStatics, IsStatic, nothing, own_statics};
@@ -19,15 +19,15 @@ use crate::instr::Narrow;
 use crate::pooled::cell_of;
 use crate::tables::next_number;
 use bitflags::Flags;
-use jbase::Seq;
 use jclass::{Access, Attribute, ClassParts, MemberInfo};
-use jheap::CellType;
-use jlayout::held_type;
-use jlink::LinkedProgram;
-use jops::Value;
-use jpool::Entry;
+use jground::jbase::Seq;
+use jground::jheap::CellType;
+use jground::jops::Value;
+use jlinking::jlink::LinkedProgram;
+use jmeaning::jlayout::held_type;
+use jmeaning::juses::TypeRef;
+use jparts::jpool::Entry;
 use jprogram::{CodePart, member_desc};
-use juses::TypeRef;
 use std::alloc::{AllocError, Global};
 
 /// What a static holds at first (JVMS 4.7.2): its constant, as a put would leave it, or else 0 or null.
@@ -48,7 +48,7 @@ pub struct StaticRow {
 }
 
 /// The index of a field's constant, where it has one.
-#[tactic(auto, unfolding(jbase::specs::First::first_some))]
+#[tactic(auto, unfolding(jground::specs::jbase::First::first_some))]
 fn constant_index(field: &MemberInfo) -> Option<u16>
     ensures { result ≡ first_some Opening.value_in field.now.attributes }
 {

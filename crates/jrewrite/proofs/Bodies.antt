@@ -2,15 +2,15 @@
 use Rattle.std.proofs.Common.{◌≡◌, ℕ, Bool, true, false, List, [], ◌∷◌, length, map, Option, Some, None, refl, ap, sym, ◌∙◌}
 use Rattle.std.specs.Prelude.{IsTrue, nat_lt, option_and_then, slice_get, codes, ◌||◌, ◌==◌, if◌then◌else◌}
 use Rattle.std.specs.List.{list_all, list_any}
-use Rattle.jbase.specs.First.{fault_if, first_some, or_else}
-use Rattle.jbase.proofs.Firsts.{none_of}
-use Rattle.jformat.specs.Format.{is_good, unless, ◌·◌}
-use Rattle.jformat.proofs.Steps.{first_true, second_true}
-use Rattle.jpool.specs.declared.entry.Entry.{Entry}
-use Rattle.jpool.specs.declared.entry.Entry.TheVariants.{Class}
-use Rattle.jpool.specs.Pools.{class_name_at, is_class, name_in, utf8_at}
-use Rattle.jcode.specs.declared.op.Handler.{Handler}
-use Rattle.jcode.specs.declared.op.Placed.{Placed}
+use Rattle.jground.specs.jbase.First.{fault_if, first_some, or_else}
+use Rattle.jground.proofs.JbaseProofs.Firsts.{none_of}
+use Rattle.jground.specs.jformat.Format.{is_good, unless, ◌·◌}
+use Rattle.jground.proofs.JformatProofs.Steps.{first_true, second_true}
+use Rattle.jparts.specs.declared.jpool.entry.Entry.{Entry}
+use Rattle.jparts.specs.declared.jpool.entry.Entry.TheVariants.{Class}
+use Rattle.jparts.specs.jpool.Pools.{class_name_at, is_class, name_in, utf8_at}
+use Rattle.jparts.specs.declared.jcode.op.Handler.{Handler}
+use Rattle.jparts.specs.declared.jcode.op.Placed.{Placed}
 use Rattle.jclass.specs.declared.class.Attribute.{Attribute}
 use Rattle.jclass.specs.declared.class.Attribute.TheVariants.{Code, ConstantValue, Raw}
 use Rattle.jclass.specs.declared.class.ClassParts.{ClassParts}
@@ -24,12 +24,12 @@ use Rattle.jclass.specs.Codes.{handler, handler_parts, named_type, target_fault}
 use Rattle.jclass.specs.Rules.{names_caught}
 use Rattle.jclass.specs.Stored.{HasCode}
 use Rattle.jclass.proofs.Stored.{code_fits}
-use Rattle.jmaps.specs.declared.types.FullFrame.{FullFrame}
-use Rattle.jmaps.specs.declared.types.MapType.{MapType}
-use Rattle.jmaps.specs.declared.types.MapType.TheVariants as items
-use Rattle.jmaps.specs.declared.types.RawFrame.{RawFrame}
-use Rattle.jmaps.specs.Frames.{map_type}
-use Rattle.jmaps.specs.Full.{expand_from, full_forms}
+use Rattle.jparts.specs.declared.jmaps.types.FullFrame.{FullFrame}
+use Rattle.jparts.specs.declared.jmaps.types.MapType.{MapType}
+use Rattle.jparts.specs.declared.jmaps.types.MapType.TheVariants as items
+use Rattle.jparts.specs.declared.jmaps.types.RawFrame.{RawFrame}
+use Rattle.jparts.specs.jmaps.Frames.{map_type}
+use Rattle.jparts.specs.jmaps.Full.{expand_from, full_forms}
 use Rattle.jmove.specs.declared.method.Expand.{Expand}
 use Rattle.jmove.specs.declared.naming.Security.TheVariants as security
 use Rattle.jmove.specs.Additions.{IsFront, with_body, ◌>>◌}
@@ -49,14 +49,14 @@ use Rattle.jmovefile.proofs.Calling.{named_in}
 use Rattle.jmovefile.proofs.Framing.{RawItems, raw_items}
 use Rattle.jmovefile.proofs.Mapping.{frames_there}
 use Rattle.jmovefile.proofs.Pooling.{ops_named}
-use Rattle.jlink.proofs.Having.{then_is}
-use Rattle.jreferring.specs.declared.judged.ClassUse.{ClassUse}
-use Rattle.jreferring.specs.declared.judged.Judged.{Judged}
-use Rattle.jreferring.specs.Beginning.{first_frame_test}
-use Rattle.jreferring.specs.Code.{body_test, frames_test, units_test}
-use Rattle.jreferring.specs.Entries.{judge, judge_pool}
-use Rattle.jreferring.specs.Operands.{class_use, operand_test}
-use Rattle.jreferring.specs.Units.{attribute_test, class_at, class_in, frame_test, handler_test, is_barred, is_barred_at, item_names, op_test}
+use Rattle.jlinking.proofs.JlinkProofs.Having.{then_is}
+use Rattle.jlinking.specs.declared.jreferring.judged.ClassUse.{ClassUse}
+use Rattle.jlinking.specs.declared.jreferring.judged.Judged.{Judged}
+use Rattle.jlinking.specs.jreferring.Beginning.{first_frame_test}
+use Rattle.jlinking.specs.jreferring.Code.{body_test, frames_test, units_test}
+use Rattle.jlinking.specs.jreferring.Entries.{judge, judge_pool}
+use Rattle.jlinking.specs.jreferring.Operands.{class_use, operand_test}
+use Rattle.jlinking.specs.jreferring.Units.{attribute_test, class_at, class_in, frame_test, handler_test, is_barred, is_barred_at, item_names, op_test}
 use Rattle.jrewrite.specs.Program.{moved}
 use Rattle.jrewrite.proofs.Calls.{Known}
 use Rattle.jrewrite.proofs.Coding.{class_stays, moved_good}

@@ -1,11 +1,11 @@
 -- Calls that stay as they are, and calls that are handed a context: what linking asks of them holds in the moved program.
 use Rattle.std.proofs.Common.{◌≡◌, ℕ, Bool, true, ◌&&◌, not, List, Option, Some, None, refl, ap, sym, ◌∙◌}
 use Rattle.std.specs.Prelude.{option_map, slice_get, ◌||◌}
-use Rattle.jbase.specs.First.{fault_if}
-use Rattle.jbase.proofs.Firsts.{none_of}
-use Rattle.jpool.specs.declared.entry.Entry.{Entry}
-use Rattle.jpool.specs.Descriptors.{slots_of}
-use Rattle.jcode.specs.declared.names.CallOp.{CallOp}
+use Rattle.jground.specs.jbase.First.{fault_if}
+use Rattle.jground.proofs.JbaseProofs.Firsts.{none_of}
+use Rattle.jparts.specs.declared.jpool.entry.Entry.{Entry}
+use Rattle.jparts.specs.jpool.Descriptors.{slots_of}
+use Rattle.jparts.specs.declared.jcode.names.CallOp.{CallOp}
 use Rattle.jclass.specs.declared.class.ClassParts.{ClassParts}
 use Rattle.jmove.specs.Additions.{IsFront}
 use Rattle.jmove.specs.declared.method.Expand.TheVariants as kinds
@@ -17,11 +17,11 @@ use Rattle.jprogram.specs.declared.member.Member.TheVariants as members
 use Rattle.jprogram.specs.Classes.{Program}
 use Rattle.jprogram.specs.Members.{referred, resolve_method}
 use Rattle.jprogram.specs.Parts.{this_name}
-use Rattle.jreferring.specs.declared.judged.MemberFacts.{MemberFacts}
-use Rattle.jreferring.specs.declared.judged.MemberUse.{MemberUse}
-use Rattle.jreferring.specs.Entries.{judge_pool}
-use Rattle.jreferring.specs.References.{call_left_out_test, call_test, called_by_interface_test, called_test, facts_of, interface_test, is_virtual}
-use Rattle.jreferring.specs.Units.{call_at, interface_call_at, member_at, or_no_member}
+use Rattle.jlinking.specs.declared.jreferring.judged.MemberFacts.{MemberFacts}
+use Rattle.jlinking.specs.declared.jreferring.judged.MemberUse.{MemberUse}
+use Rattle.jlinking.specs.jreferring.Entries.{judge_pool}
+use Rattle.jlinking.specs.jreferring.References.{call_left_out_test, call_test, called_by_interface_test, called_test, facts_of, interface_test, is_virtual}
+use Rattle.jlinking.specs.jreferring.Units.{call_at, interface_call_at, member_at, or_no_member}
 use Rattle.jmoveclass.specs.Calls.{calling}
 use Rattle.jrewrite.specs.Linking.{IsLinked}
 use Rattle.jrewrite.specs.Program.{moved}

@@ -2,31 +2,31 @@
 use Rattle.std.proofs.Common.{◌≡◌, ℕ, ◌+◌, ℤ, Bool, true, false, cond, List, [], ◌∷◌, ◌++◌, map, Option, Some, None, refl, sym, ap, subst, ◌∙◌, nat_lt}
 use Rattle.std.specs.Prelude.{IsTrue, is_some, option_and_then, slice_get, codes, ◌||◌}
 use Rattle.std.specs.List.{list_all}
-use Rattle.jbase.specs.First.{first_some}
-use Rattle.jbase.proofs.Firsts.{none_of}
-use Rattle.jformat.proofs.Steps.{first_true, second_true}
-use Rattle.jpool.specs.declared.entry.Entry.{Entry}
-use Rattle.jpool.specs.declared.entry.Entry.TheVariants.{Unused, Utf8, Integer, Float, Long, Double, Class, Str, Field, Method, InterfaceMethod, NameAndType, MethodHandle, MethodType, InvokeDynamic}
-use Rattle.jpool.specs.Pools.{is_class, name_in}
+use Rattle.jground.specs.jbase.First.{first_some}
+use Rattle.jground.proofs.JbaseProofs.Firsts.{none_of}
+use Rattle.jground.proofs.JformatProofs.Steps.{first_true, second_true}
+use Rattle.jparts.specs.declared.jpool.entry.Entry.{Entry}
+use Rattle.jparts.specs.declared.jpool.entry.Entry.TheVariants.{Unused, Utf8, Integer, Float, Long, Double, Class, Str, Field, Method, InterfaceMethod, NameAndType, MethodHandle, MethodType, InvokeDynamic}
+use Rattle.jparts.specs.jpool.Pools.{is_class, name_in}
 use Rattle.jclass.specs.declared.class.ClassParts.{ClassParts}
 use Rattle.jclass.specs.Operands.{is_called, is_constant, is_field, is_interface_method, is_method, is_wide_constant, names_well}
-use Rattle.jcode.specs.declared.names.Access.{Access}
-use Rattle.jcode.specs.declared.names.Access.TheVariants.{Load, Store}
-use Rattle.jcode.specs.declared.names.CallOp.{CallOp}
-use Rattle.jcode.specs.declared.names.CallOp.TheVariants as callops
-use Rattle.jcode.specs.declared.names.LocalKind.TheVariants.{Ref}
-use Rattle.jcode.specs.declared.names.ObjectOp.TheVariants as objects
-use Rattle.jcode.specs.declared.op.Goto.TheVariants as gotos
-use Rattle.jcode.specs.declared.op.Ldc.TheVariants as ldcs
-use Rattle.jcode.specs.declared.op.LocalOp.TheVariants.{At}
-use Rattle.jcode.specs.declared.op.NewOp.TheVariants as news
-use Rattle.jcode.specs.declared.op.Op.{Op}
-use Rattle.jcode.specs.declared.op.Op.TheVariants as ops
-use Rattle.jcode.specs.declared.op.Placed.{Placed}
-use Rattle.jcode.specs.declared.op.Switch.TheVariants as switches
-use Rattle.jcode.specs.declared.op.Wide.TheVariants.{Local}
-use Rattle.jcode.specs.Forms.{form}
-use Rattle.jcode.specs.Instructions.{size}
+use Rattle.jparts.specs.declared.jcode.names.Access.{Access}
+use Rattle.jparts.specs.declared.jcode.names.Access.TheVariants.{Load, Store}
+use Rattle.jparts.specs.declared.jcode.names.CallOp.{CallOp}
+use Rattle.jparts.specs.declared.jcode.names.CallOp.TheVariants as callops
+use Rattle.jparts.specs.declared.jcode.names.LocalKind.TheVariants.{Ref}
+use Rattle.jparts.specs.declared.jcode.names.ObjectOp.TheVariants as objects
+use Rattle.jparts.specs.declared.jcode.op.Goto.TheVariants as gotos
+use Rattle.jparts.specs.declared.jcode.op.Ldc.TheVariants as ldcs
+use Rattle.jparts.specs.declared.jcode.op.LocalOp.TheVariants.{At}
+use Rattle.jparts.specs.declared.jcode.op.NewOp.TheVariants as news
+use Rattle.jparts.specs.declared.jcode.op.Op.{Op}
+use Rattle.jparts.specs.declared.jcode.op.Op.TheVariants as ops
+use Rattle.jparts.specs.declared.jcode.op.Placed.{Placed}
+use Rattle.jparts.specs.declared.jcode.op.Switch.TheVariants as switches
+use Rattle.jparts.specs.declared.jcode.op.Wide.TheVariants.{Local}
+use Rattle.jparts.specs.jcode.Forms.{form}
+use Rattle.jparts.specs.jcode.Instructions.{size}
 use Rattle.jmove.specs.declared.method.Expand.{Expand}
 use Rattle.jmove.specs.declared.method.Expand.TheVariants.{Same, Call, Check, Snapshot, Privileged, PrivilegedWith, PrivilegedLimited}
 use Rattle.jmove.specs.declared.method.Setting.{Setting}
@@ -43,12 +43,12 @@ use Rattle.jprogram.specs.Parts.{this_name}
 use Rattle.jmoveclass.specs.Calls.{calling, expand_by}
 use Rattle.jmovefile.proofs.Calling.{kind_in}
 use Rattle.jmovefile.proofs.Pooling.{CallsOnly, calling_only}
-use Rattle.jreferring.specs.declared.judged.Judged.{Judged}
-use Rattle.jreferring.specs.Entries.{judge_pool}
-use Rattle.jreferring.specs.Looking.{named_use}
-use Rattle.jreferring.specs.Operands.{new_test, operand_test}
-use Rattle.jreferring.specs.References.{call_test, field_test, interface_test}
-use Rattle.jreferring.specs.Units.{call_at, class_in, constant_test, form_test, interface_call_at, long_test, member_in, op_test, or_no_member}
+use Rattle.jlinking.specs.declared.jreferring.judged.Judged.{Judged}
+use Rattle.jlinking.specs.jreferring.Entries.{judge_pool}
+use Rattle.jlinking.specs.jreferring.Looking.{named_use}
+use Rattle.jlinking.specs.jreferring.Operands.{new_test, operand_test}
+use Rattle.jlinking.specs.jreferring.References.{call_test, field_test, interface_test}
+use Rattle.jlinking.specs.jreferring.Units.{call_at, class_in, constant_test, form_test, interface_call_at, long_test, member_in, op_test, or_no_member}
 use Rattle.jrewrite.specs.Program.{moved}
 use Rattle.jrewrite.proofs.Calls.{Known, Takes, call_good, interface_good, kept_member}
 use Rattle.jrewrite.proofs.Judging.{stays, table_same}

@@ -6,15 +6,15 @@ use Rattle.std.specs.Str.{bytes_eq}
 use Rattle.std.proofs.lemmas.Bool.{cases_Bool}
 use Rattle.std.proofs.lemmas.List.{append_cancel_right}
 use Rattle.std.proofs.lemmas.Slice.Eq.{bytes_eq-Decides}
-use Rattle.jbase.specs.First.{fault_if}
-use Rattle.jpool.specs.declared.descriptor.Descriptor.{Descriptor}
-use Rattle.jpool.specs.declared.descriptor.Descriptor.TheVariants as descriptors
-use Rattle.jpool.specs.declared.descriptor.FieldType.{FieldType}
-use Rattle.jpool.specs.declared.entry.Entry.{Entry}
-use Rattle.jpool.specs.Descriptors.{base_at, class_at, closing_at, descriptor_of, descriptor_text, field_of, is_class_sign, method_of, params_at, return_at, slots_of, type_at}
-use Rattle.jpool.specs.Names.{is_class_name}
-use Rattle.jpool.specs.Pools.{is_utf8}
-use Rattle.jpool.proofs.Spelled.{descriptor_take}
+use Rattle.jground.specs.jbase.First.{fault_if}
+use Rattle.jparts.specs.declared.jpool.descriptor.Descriptor.{Descriptor}
+use Rattle.jparts.specs.declared.jpool.descriptor.Descriptor.TheVariants as descriptors
+use Rattle.jparts.specs.declared.jpool.descriptor.FieldType.{FieldType}
+use Rattle.jparts.specs.declared.jpool.entry.Entry.{Entry}
+use Rattle.jparts.specs.jpool.Descriptors.{base_at, class_at, closing_at, descriptor_of, descriptor_text, field_of, is_class_sign, method_of, params_at, return_at, slots_of, type_at}
+use Rattle.jparts.specs.jpool.Names.{is_class_name}
+use Rattle.jparts.specs.jpool.Pools.{is_utf8}
+use Rattle.jparts.proofs.JpoolProofs.Spelled.{descriptor_take}
 use Rattle.jclass.specs.declared.access.Access.{Access}
 use Rattle.jclass.specs.declared.class.ClassParts.{ClassParts}
 use Rattle.jclass.specs.declared.class.MemberInfo.{MemberInfo}
@@ -34,7 +34,7 @@ use Rattle.jlib.specs.declared.calls.LibCall.TheVariants as call
 use Rattle.jlib.specs.Calls as library
 use Rattle.jlib.specs.Calls.{desc_of, fixes, is_concrete, members, name_of_call}
 use Rattle.jlib.specs.Classes.{is_open, open_classes}
-use Rattle.jmembers.specs.Declares.{is_fixed, is_fixed_at, is_fixed_by, names_above, desc_left_out, desc_missing, is_again, is_native, is_synchronized, is_too_long, method_left_out, param_left_out, return_left_out, return_missing, text_left_out, text_missing, type_missing}
+use Rattle.jlinking.specs.jmembers.Declares.{is_fixed, is_fixed_at, is_fixed_by, names_above, desc_left_out, desc_missing, is_again, is_native, is_synchronized, is_too_long, method_left_out, param_left_out, return_left_out, return_missing, text_left_out, text_missing, type_missing}
 use Rattle.jprogram.specs.LeftOut.{is_context}
 use Rattle.jmove.specs.Additions.{IsFront, context_type, moved_descriptor}
 use Rattle.jprogram.specs.Classes.{Class, Lib, Program, User, find}

@@ -4,7 +4,7 @@ use Rattle.std.specs.Prelude.{option_and_then, option_map, slice_get, ◌&&◌, 
 use Rattle.std.specs.List.{position, position_from}
 use Rattle.std.specs.Str.{bytes_eq}
 use Rattle.std.proofs.lemmas.Iterator.Adapters.{position_from-zero}
-use Rattle.jpool.proofs.PoolLaws.{at_index}
+use Rattle.jparts.proofs.JpoolProofs.PoolLaws.{at_index}
 use Rattle.jclass.specs.declared.class.ClassParts.{ClassParts}
 use Rattle.jclass.specs.declared.class.MemberInfo.{MemberInfo}
 use Rattle.jclass.specs.Members as formats
@@ -24,7 +24,7 @@ use Rattle.jprogram.specs.Members.{field_at, field_in, info_of, is_final, is_sta
 use Rattle.jprogram.specs.Naming.{is_reserved}
 use Rattle.jprogram.specs.Parts as parts
 use Rattle.jprogram.specs.Parts.{is_called, member_desc, member_name, this_name}
-use Rattle.jlink.proofs.Selecting.{first_called}
+use Rattle.jlinking.proofs.JlinkProofs.Selecting.{first_called}
 use Rattle.jmoveclass.specs.Moved.{moved_class, moved_part}
 use Rattle.jrewrite.specs.Linking.{IsLinked}
 use Rattle.jrewrite.specs.Program.{moved}

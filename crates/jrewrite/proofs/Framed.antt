@@ -4,21 +4,21 @@ use Rattle.std.specs.Prelude.{IsTrue, nat_le, option_map, replicate}
 use Rattle.std.specs.List.{AllByRecursion, list_all}
 use Rattle.std.proofs.lemmas.Bool.{leb-true}
 use Rattle.std.proofs.lemmas.List.{length-append}
-use Rattle.jbase.specs.First.{fault_if, first_some, or_else}
-use Rattle.jbase.specs.Stops.{◌>>=◌}
-use Rattle.jbase.proofs.Firsts.{none_of}
-use Rattle.jformat.proofs.Steps.{both, first_true, second_true}
+use Rattle.jground.specs.jbase.First.{fault_if, first_some, or_else}
+use Rattle.jground.specs.jbase.Stops.{◌>>=◌}
+use Rattle.jground.proofs.JbaseProofs.Firsts.{none_of}
+use Rattle.jground.proofs.JformatProofs.Steps.{both, first_true, second_true}
 use Rattle.jclass.specs.Codes.{begins}
-use Rattle.jmaps.specs.declared.types.FullFrame.{FullFrame}
-use Rattle.jmaps.specs.declared.types.MapType.{MapType}
-use Rattle.jmaps.specs.declared.types.RawFrame.{RawFrame}
-use Rattle.jmaps.specs.Full.{expand_from, locals_after, locals_before, or_number, place_behind, place_from, with_locals}
+use Rattle.jparts.specs.declared.jmaps.types.FullFrame.{FullFrame}
+use Rattle.jparts.specs.declared.jmaps.types.MapType.{MapType}
+use Rattle.jparts.specs.declared.jmaps.types.RawFrame.{RawFrame}
+use Rattle.jparts.specs.jmaps.Full.{expand_from, locals_after, locals_before, or_number, place_behind, place_from, with_locals}
 use Rattle.jclass.specs.declared.class.CodeAttribute.{CodeAttribute}
 use Rattle.jclass.specs.declared.class.CodeAttribute.TheVariants.{Maps, Raw}
 use Rattle.jclass.specs.declared.class.CodeBody.{CodeBody}
-use Rattle.jtypes.specs.declared.vtype.VType.{VType}
-use Rattle.jtypes.specs.declared.vtype.VType.TheVariants as types
-use Rattle.jtypes.specs.Frames.{places_of, within}
+use Rattle.jground.specs.declared.jtypes.vtype.VType.{VType}
+use Rattle.jground.specs.declared.jtypes.vtype.VType.TheVariants as types
+use Rattle.jground.specs.jtypes.Frames.{places_of, within}
 use Rattle.jmove.specs.Frames.{widths}
 use Rattle.jmoved.specs.Frames.{StandAt}
 use Rattle.jprogram.specs.Classes.{Program}

@@ -4,19 +4,19 @@ use Rattle.std.proofs.Common.{◌≡◌, ℕ, Bool, true, false, ◌&&◌, not, 
 use Rattle.std.specs.Prelude.{IsTrue, nat_lt, ◌||◌, if◌then◌else◌}
 use Rattle.std.specs.List.{list_all, list_any}
 use Rattle.std.proofs.lemmas.Bool.{lt-ltb}
-use Rattle.jbase.specs.First.{fault_if, first_some, or_else}
-use Rattle.jbase.proofs.Firsts.{none_of}
-use Rattle.jpool.specs.declared.descriptor.Descriptor.{Descriptor}
-use Rattle.jpool.specs.declared.descriptor.Descriptor.TheVariants as descriptors
-use Rattle.jpool.specs.declared.descriptor.FieldType.{FieldType}
-use Rattle.jpool.specs.Descriptors.{descriptor_of, is_class_sign}
+use Rattle.jground.specs.jbase.First.{fault_if, first_some, or_else}
+use Rattle.jground.proofs.JbaseProofs.Firsts.{none_of}
+use Rattle.jparts.specs.declared.jpool.descriptor.Descriptor.{Descriptor}
+use Rattle.jparts.specs.declared.jpool.descriptor.Descriptor.TheVariants as descriptors
+use Rattle.jparts.specs.declared.jpool.descriptor.FieldType.{FieldType}
+use Rattle.jparts.specs.jpool.Descriptors.{descriptor_of, is_class_sign}
 use Rattle.jclass.specs.declared.class.ClassParts.{ClassParts}
 use Rattle.jclass.specs.declared.class.CodeAttribute.{CodeAttribute}
 use Rattle.jclass.specs.declared.class.CodeAttribute.TheVariants as code
 use Rattle.jclass.specs.declared.class.CodeBody.{CodeBody}
 use Rattle.jclass.specs.declared.class.MemberInfo.{MemberInfo}
-use Rattle.jmaps.specs.declared.types.FullFrame.{FullFrame}
-use Rattle.jmaps.specs.declared.types.RawFrame.{RawFrame}
+use Rattle.jparts.specs.declared.jmaps.types.FullFrame.{FullFrame}
+use Rattle.jparts.specs.declared.jmaps.types.RawFrame.{RawFrame}
 use Rattle.jmove.specs.Additions.{context_type}
 use Rattle.jprogram.specs.declared.fault.LinkKind.{LinkKind}
 use Rattle.jprogram.specs.declared.fault.LinkKind.TheVariants.{NoClass, NotAccessible}
@@ -25,8 +25,8 @@ use Rattle.jprogram.specs.Members.{may_name}
 use Rattle.jprogram.specs.Naming.{desc_reserved, return_reserved, text_reserved, type_reserved}
 use Rattle.jprogram.specs.Parts.{member_desc, this_name}
 use Rattle.jprogram.specs.Supers.{is_missing}
-use Rattle.jreferring.specs.Beginning.{first_frame_test, has_frames}
-use Rattle.jreferring.specs.Names.{class_test, params_test, type_test}
+use Rattle.jlinking.specs.jreferring.Beginning.{first_frame_test, has_frames}
+use Rattle.jlinking.specs.jreferring.Names.{class_test, params_test, type_test}
 use Rattle.jmoveclass.specs.Beginning.{params_in, params_of}
 use Rattle.jmoveclass.specs.Methods.{frames_in, maps_of, moved_maps, new_desc, or_no_frames}
 use Rattle.jrewrite.specs.Program.{moved}

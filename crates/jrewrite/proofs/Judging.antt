@@ -4,15 +4,15 @@ use Rattle.std.specs.Prelude.{IsTrue, is_some, option_map, slice_get}
 use Rattle.std.specs.List.{list_any}
 use Rattle.std.specs.Str.{bytes_eq}
 use Rattle.std.proofs.lemmas.Option.{slice_get-map}
-use Rattle.jformat.specs.Format.{is_good}
-use Rattle.jformat.proofs.Steps.{first_true, second_true}
-use Rattle.jpool.specs.declared.entry.Entry.{Entry}
-use Rattle.jpool.specs.declared.entry.Entry.TheVariants.{Unused, Utf8, Integer, Float, Long, Double, Class, Str, Field, Method, InterfaceMethod, NameAndType, MethodHandle, MethodType, InvokeDynamic}
-use Rattle.jpool.specs.declared.fault.PoolFault.TheVariants.{BadIndex}
-use Rattle.jpool.specs.Descriptors.{descriptor_of, method_slots}
-use Rattle.jpool.specs.Pools as pools
-use Rattle.jpool.specs.Pools.{both_in, class_name_at, descriptor_fault, is_class, is_name_and_type, is_utf8, member_fault, name_and_type_at, name_in, utf8_at}
-use Rattle.jpool.proofs.PoolLaws.{at_index}
+use Rattle.jground.specs.jformat.Format.{is_good}
+use Rattle.jground.proofs.JformatProofs.Steps.{first_true, second_true}
+use Rattle.jparts.specs.declared.jpool.entry.Entry.{Entry}
+use Rattle.jparts.specs.declared.jpool.entry.Entry.TheVariants.{Unused, Utf8, Integer, Float, Long, Double, Class, Str, Field, Method, InterfaceMethod, NameAndType, MethodHandle, MethodType, InvokeDynamic}
+use Rattle.jparts.specs.declared.jpool.fault.PoolFault.TheVariants.{BadIndex}
+use Rattle.jparts.specs.jpool.Descriptors.{descriptor_of, method_slots}
+use Rattle.jparts.specs.jpool.Pools as pools
+use Rattle.jparts.specs.jpool.Pools.{both_in, class_name_at, descriptor_fault, is_class, is_name_and_type, is_utf8, member_fault, name_and_type_at, name_in, utf8_at}
+use Rattle.jparts.proofs.JpoolProofs.PoolLaws.{at_index}
 use Rattle.jclass.specs.declared.class.ClassParts.{ClassParts}
 use Rattle.jclass.specs.Judging.{entry_fault, no_fault, text_fault}
 use Rattle.jclass.specs.Basics.{pool_fault}
@@ -23,19 +23,19 @@ use Rattle.jprogram.specs.Classes.{Program, extends, find, holds, is_interface}
 use Rattle.jprogram.specs.Members.{init, resolve_field}
 use Rattle.jprogram.specs.Naming.{class_reserved, entry_reserved, is_reserved, names_reserved, text_reserved}
 use Rattle.jprogram.specs.Parts.{or_empty, text, this_name}
-use Rattle.jreferring.specs.declared.judged.Judged.{Judged}
-use Rattle.jreferring.specs.declared.judged.Judged.TheVariants as judged
-use Rattle.jreferring.specs.declared.judged.MemberFacts.{MemberFacts}
-use Rattle.jreferring.specs.declared.judged.MemberUse.{MemberUse}
-use Rattle.jreferring.specs.declared.judged.Sort.{Sort}
-use Rattle.jreferring.specs.declared.judged.Sort.TheVariants as sort
-use Rattle.jreferring.specs.Entries.{judge, judge_pool, reference}
-use Rattle.jreferring.specs.Looking.{named_use}
-use Rattle.jreferring.specs.Names.{type_named}
-use Rattle.jreferring.specs.Operands.{class_use}
-use Rattle.jreferring.specs.References.{facts_of, is_barred, is_crossed, is_enter, is_of_interface, member_use, names_test}
-use Rattle.jreferring.proofs.Referring.{reference_named}
-use Rattle.jlink.proofs.Having.{then_is}
+use Rattle.jlinking.specs.declared.jreferring.judged.Judged.{Judged}
+use Rattle.jlinking.specs.declared.jreferring.judged.Judged.TheVariants as judged
+use Rattle.jlinking.specs.declared.jreferring.judged.MemberFacts.{MemberFacts}
+use Rattle.jlinking.specs.declared.jreferring.judged.MemberUse.{MemberUse}
+use Rattle.jlinking.specs.declared.jreferring.judged.Sort.{Sort}
+use Rattle.jlinking.specs.declared.jreferring.judged.Sort.TheVariants as sort
+use Rattle.jlinking.specs.jreferring.Entries.{judge, judge_pool, reference}
+use Rattle.jlinking.specs.jreferring.Looking.{named_use}
+use Rattle.jlinking.specs.jreferring.Names.{type_named}
+use Rattle.jlinking.specs.jreferring.Operands.{class_use}
+use Rattle.jlinking.specs.jreferring.References.{facts_of, is_barred, is_crossed, is_enter, is_of_interface, member_use, names_test}
+use Rattle.jlinking.proofs.JreferringProofs.Referring.{reference_named}
+use Rattle.jlinking.proofs.JlinkProofs.Having.{then_is}
 use Rattle.jmoveclass.proofs.Fronts.{class_name_stays, kept_test, same_text, text_stays}
 use Rattle.jmoveclass.proofs.Keeping.{good_is}
 use Rattle.jmovefile.proofs.Calling.{named_in, some_is}

@@ -5,17 +5,17 @@ use Rattle.std.specs.List.{list_all, list_any}
 use Rattle.std.specs.Str.{bytes_eq}
 use Rattle.std.proofs.lemmas.List.Quantifiers.{position-Some}
 use Rattle.std.proofs.lemmas.Option.{slice_get-get_or}
-use Rattle.jbase.specs.First.{first_along, or_else}
-use Rattle.jbase.proofs.Firsts.{all_pass, none_fails, none_of}
-use Rattle.jformat.specs.Bodies.{counted}
-use Rattle.jformat.specs.Format.{is_good, ◌·◌}
-use Rattle.jformat.proofs.Steps.{first_true, second_true}
-use Rattle.jpool.specs.declared.descriptor.Descriptor.{Descriptor}
-use Rattle.jpool.specs.declared.descriptor.Descriptor.TheVariants as descriptors
-use Rattle.jpool.specs.declared.entry.Entry.{Entry}
-use Rattle.jpool.specs.Descriptors.{descriptor_of, is_field_descriptor, slots_of}
-use Rattle.jpool.specs.Pools.{is_utf8, utf8_at}
-use Rattle.jpool.proofs.PoolLaws.{at_index}
+use Rattle.jground.specs.jbase.First.{first_along, or_else}
+use Rattle.jground.proofs.JbaseProofs.Firsts.{all_pass, none_fails, none_of}
+use Rattle.jground.specs.jformat.Bodies.{counted}
+use Rattle.jground.specs.jformat.Format.{is_good, ◌·◌}
+use Rattle.jground.proofs.JformatProofs.Steps.{first_true, second_true}
+use Rattle.jparts.specs.declared.jpool.descriptor.Descriptor.{Descriptor}
+use Rattle.jparts.specs.declared.jpool.descriptor.Descriptor.TheVariants as descriptors
+use Rattle.jparts.specs.declared.jpool.entry.Entry.{Entry}
+use Rattle.jparts.specs.jpool.Descriptors.{descriptor_of, is_field_descriptor, slots_of}
+use Rattle.jparts.specs.jpool.Pools.{is_utf8, utf8_at}
+use Rattle.jparts.proofs.JpoolProofs.PoolLaws.{at_index}
 use Rattle.jclass.specs.declared.class.ClassParts.{ClassParts}
 use Rattle.jclass.specs.declared.class.MemberInfo.{MemberInfo}
 use Rattle.jclass.specs.Attributes.{text_index}
@@ -28,7 +28,7 @@ use Rattle.jclass.specs.Stored.{IsIn}
 use Rattle.jlib.specs.declared.classes.LibClass.TheVariants as lib
 use Rattle.jlib.specs.declared.side.Side.TheVariants.{Passing, Source}
 use Rattle.jlib.proofs.Found.{class_only}
-use Rattle.jmembers.specs.Declares.{again_test, at_member, class_fault, desc_missing, field_left_out, field_left_out_test, field_test, fields_fault, final_test, is_again, is_fixed, library_test, members_fault, method_left_out, method_left_out_test, method_test, methods_above, methods_fault, overrides_final, return_missing, text_left_out, text_missing, type_missing, types_test}
+use Rattle.jlinking.specs.jmembers.Declares.{again_test, at_member, class_fault, desc_missing, field_left_out, field_left_out_test, field_test, fields_fault, final_test, is_again, is_fixed, library_test, members_fault, method_left_out, method_left_out_test, method_test, methods_above, methods_fault, overrides_final, return_missing, text_left_out, text_missing, type_missing, types_test}
 use Rattle.jmove.specs.Additions.{IsFront, context_type}
 use Rattle.jprogram.specs.declared.fault.LinkKind.{LinkKind}
 use Rattle.jprogram.specs.declared.fault.LinkKind.TheVariants.{FinalMethod, LeftOut, NoClass, OverridesLibrary, Twice}

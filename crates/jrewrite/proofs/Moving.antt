@@ -6,9 +6,9 @@ use Rattle.std.specs.List.{list_any}
 use Rattle.std.proofs.lemmas.Bool.{ltb-false, ltb-true}
 use Rattle.std.proofs.lemmas.List.{length-map}
 use Rattle.std.proofs.lemmas.List.Elements.{All-from_recursion}
-use Rattle.jbase.specs.First.{fault_if, or_else}
-use Rattle.jbase.proofs.Firsts.{none_fails, none_of}
-use Rattle.jformat.proofs.Steps.{first_true, second_true}
+use Rattle.jground.specs.jbase.First.{fault_if, or_else}
+use Rattle.jground.proofs.JbaseProofs.Firsts.{none_fails, none_of}
+use Rattle.jground.proofs.JformatProofs.Steps.{first_true, second_true}
 use Rattle.jclass.specs.declared.class.ClassParts.{ClassParts}
 use Rattle.jclass.specs.declared.class.CodeBody.{CodeBody}
 use Rattle.jclass.specs.declared.class.MemberInfo.{MemberInfo}
@@ -18,8 +18,8 @@ use Rattle.jclass.specs.Codes.{code_content}
 use Rattle.jclass.specs.Stored.{HasCode, IsIn}
 use Rattle.jclass.proofs.Stored.{code_fits, code_items}
 use Rattle.jlib.specs.declared.side.Side.TheVariants.{Source}
-use Rattle.jmembers.specs.Declares as members
-use Rattle.jmembers.specs.Declares.{at_member, desc_left_out, desc_missing, is_native, is_synchronized, is_too_long, method_left_out, method_left_out_test, method_test, methods_fault, fields_fault, param_left_out, return_left_out, return_missing, text_left_out, text_missing, type_missing, types_test}
+use Rattle.jlinking.specs.jmembers.Declares as members
+use Rattle.jlinking.specs.jmembers.Declares.{at_member, desc_left_out, desc_missing, is_native, is_synchronized, is_too_long, method_left_out, method_left_out_test, method_test, methods_fault, fields_fault, param_left_out, return_left_out, return_missing, text_left_out, text_missing, type_missing, types_test}
 use Rattle.jmove.specs.Frames.{widths}
 use Rattle.jprogram.specs.declared.fault.LinkKind.{LinkKind}
 use Rattle.jprogram.specs.declared.fault.LinkKind.TheVariants.{LeftOut, NoClass}
@@ -28,8 +28,8 @@ use Rattle.jprogram.specs.Classes.{Program}
 use Rattle.jprogram.specs.Naming.{naming_fault}
 use Rattle.jprogram.specs.Parts.{code_of, has_code, is_interface, member_desc, member_name}
 use Rattle.jprogram.specs.Supers.{supers_fault}
-use Rattle.jreferring.specs.Code.{code_fault}
-use Rattle.jlink.specs.Links.{Links, domains_rise, link_fault}
+use Rattle.jlinking.specs.jreferring.Code.{code_fault}
+use Rattle.jlinking.specs.jlink.Links.{Links, domains_rise, link_fault}
 use Rattle.jtyping.specs.Methods.{method_of}
 use Rattle.jtyping.specs.Typing as typing
 use Rattle.jtyping.specs.Typing.{WellTyped, in_method, member_fault, method_fault, type_fault}

@@ -5,11 +5,11 @@ use Rattle.std.specs.List.{cons_option, filter_map, position, position_from}
 use Rattle.std.specs.Str.{byte, bytes_eq}
 use Rattle.std.proofs.lemmas.Iterator.Adapters.{position_from-zero}
 use Rattle.std.proofs.lemmas.List.{append_cancel_right}
-use Rattle.jpool.specs.declared.descriptor.Descriptor.TheVariants as descriptors
-use Rattle.jpool.specs.declared.descriptor.FieldType.{FieldType}
-use Rattle.jpool.specs.Descriptors.{base_at, class_at, closing_at, descriptor_of, descriptor_text, field_of, method_of, params_at, return_at, slots_of, type_at}
-use Rattle.jpool.specs.Names.{is_class_name}
-use Rattle.jpool.proofs.Spelled.{descriptor_take}
+use Rattle.jparts.specs.declared.jpool.descriptor.Descriptor.TheVariants as descriptors
+use Rattle.jparts.specs.declared.jpool.descriptor.FieldType.{FieldType}
+use Rattle.jparts.specs.jpool.Descriptors.{base_at, class_at, closing_at, descriptor_of, descriptor_text, field_of, method_of, params_at, return_at, slots_of, type_at}
+use Rattle.jparts.specs.jpool.Names.{is_class_name}
+use Rattle.jparts.proofs.JpoolProofs.Spelled.{descriptor_take}
 use Rattle.jclass.specs.declared.class.ClassParts.{ClassParts}
 use Rattle.jclass.specs.declared.class.MemberInfo.{MemberInfo}
 use Rattle.jclass.specs.Stored.{IsIn}
@@ -29,7 +29,7 @@ use Rattle.jlib.specs.declared.calls.RtCall.TheVariants as rt
 use Rattle.jlib.specs.Calls as library
 use Rattle.jlib.specs.Classes as library_classes
 use Rattle.jlib.proofs.Found.{call_found, call_only, class_found}
-use Rattle.jmembers.specs.Declares.{is_sealed, methods_above, names_above, overrides_final}
+use Rattle.jlinking.specs.jmembers.Declares.{is_sealed, methods_above, names_above, overrides_final}
 use Rattle.jmove.specs.Additions.{context_type}
 use Rattle.jprogram.specs.declared.member.Member.{Member}
 use Rattle.jprogram.specs.declared.member.Member.TheVariants.{LibMethod, Method}
@@ -41,7 +41,7 @@ use Rattle.jprogram.specs.Parts.{is_called, member_desc, member_name, super_name
 use Rattle.jprogram.specs.declared.part.CodePart.{CodePart}
 use Rattle.jmoveclass.specs.Methods.{new_desc}
 use Rattle.jmoveclass.specs.Moved.{moved_class, moved_part}
-use Rattle.jlink.proofs.Selecting.{first_called}
+use Rattle.jlinking.proofs.JlinkProofs.Selecting.{first_called}
 use Rattle.jmovefile.proofs.Members.{Alike, Like}
 use Rattle.jrewrite.specs.Program.{moved}
 use Rattle.jrewrite.proofs.Declaring.{Facts, Moving, desc_is, desc_same, differ, ends_so, name_same, new_ends}

@@ -6,20 +6,20 @@ use Rattle.std.specs.Str.{byte, bytes_eq}
 use Rattle.std.proofs.lemmas.Bool.{cases_Bool}
 use Rattle.std.proofs.lemmas.Iterator.Adapters.{position_from-zero}
 use Rattle.std.proofs.lemmas.Slice.Eq.{bytes_eq-Decides}
-use Rattle.jbase.specs.First.{fault_if, or_else}
-use Rattle.jformat.proofs.Steps.{first_true, second_true}
-use Rattle.jpool.specs.declared.descriptor.Descriptor.{Descriptor}
-use Rattle.jpool.specs.declared.descriptor.Descriptor.TheVariants as descriptors
-use Rattle.jpool.specs.declared.descriptor.FieldType.{FieldType}
-use Rattle.jpool.specs.Descriptors.{base_at, class_at, closing_at, descriptor_of, descriptor_text, field_of, is_base, is_class_sign, is_type, is_well_formed, method_of, params_at, return_at, slots_of, type_at, type_text}
-use Rattle.jpool.specs.Names.{is_class_name, is_part, is_slash}
-use Rattle.jpool.specs.Pools.{class_name_at}
-use Rattle.jpool.proofs.Spelled.{descriptor_again, descriptor_take}
+use Rattle.jground.specs.jbase.First.{fault_if, or_else}
+use Rattle.jground.proofs.JformatProofs.Steps.{first_true, second_true}
+use Rattle.jparts.specs.declared.jpool.descriptor.Descriptor.{Descriptor}
+use Rattle.jparts.specs.declared.jpool.descriptor.Descriptor.TheVariants as descriptors
+use Rattle.jparts.specs.declared.jpool.descriptor.FieldType.{FieldType}
+use Rattle.jparts.specs.jpool.Descriptors.{base_at, class_at, closing_at, descriptor_of, descriptor_text, field_of, is_base, is_class_sign, is_type, is_well_formed, method_of, params_at, return_at, slots_of, type_at, type_text}
+use Rattle.jparts.specs.jpool.Names.{is_class_name, is_part, is_slash}
+use Rattle.jparts.specs.jpool.Pools.{class_name_at}
+use Rattle.jparts.proofs.JpoolProofs.Spelled.{descriptor_again, descriptor_take}
 use Rattle.jclass.specs.declared.class.ClassParts.{ClassParts}
 use Rattle.jclass.specs.declared.class.MemberInfo.{MemberInfo}
 use Rattle.jclass.specs.Rules.{is_plain_class, names_class}
 use Rattle.jclass.specs.Stored.{IsIn}
-use Rattle.jmembers.specs.Declares.{desc_left_out, desc_missing, param_left_out, return_left_out, return_missing, text_left_out, text_missing, type_missing}
+use Rattle.jlinking.specs.jmembers.Declares.{desc_left_out, desc_missing, param_left_out, return_left_out, return_missing, text_left_out, text_missing, type_missing}
 use Rattle.jprogram.specs.declared.fault.LinkKind.{LinkKind}
 use Rattle.jprogram.specs.declared.fault.LinkKind.TheVariants.{NoClass, NotAccessible}
 use Rattle.jprogram.specs.declared.part.CodePart.{CodePart}
@@ -28,8 +28,8 @@ use Rattle.jprogram.specs.Members.{is_public_at, may_name}
 use Rattle.jprogram.specs.Naming.{desc_reserved, member_reserved, return_reserved, text_reserved, type_reserved}
 use Rattle.jprogram.specs.Parts.{member_desc, or_empty, package_of, same_package, this_name}
 use Rattle.jprogram.specs.Supers.{is_missing}
-use Rattle.jreferring.specs.Names.{array_or, class_test, class_type, is_array, type_named, type_test}
-use Rattle.jreferring.specs.Operands.{class_use, is_barred_array}
+use Rattle.jlinking.specs.jreferring.Names.{array_or, class_test, class_type, is_array, type_named, type_test}
+use Rattle.jlinking.specs.jreferring.Operands.{class_use, is_barred_array}
 use Rattle.jprogram.specs.LeftOut.{is_context, is_floating}
 use Rattle.jmoveclass.specs.Beginning.{class_name, is_reference, params_in, params_of}
 use Rattle.jmoveclass.proofs.Stored.{is_method_of}

@@ -4,7 +4,7 @@ use Rattle.std.specs.Prelude.{IsTrue, slice_get}
 use Rattle.jclass.specs.Class.{class_file}
 use Rattle.jprogram.specs.declared.part.CodePart.{CodePart}
 use Rattle.jprogram.specs.Classes.{Program}
-use Rattle.jlink.specs.Standing.{in_order}
+use Rattle.jlinking.specs.jlink.Standing.{in_order}
 use Rattle.jrewrite.specs.Linking.{IsLinked}
 use Rattle.jrewrite.proofs.Finding.{AllNamed, named_of}
 use Rattle.jrewrite.proofs.Standing.{IsPlain}

@@ -2,12 +2,12 @@
 use Rattle.std.proofs.Common.{◌≡◌, ℕ, ◌≤◌, Bool, true, false, List, [], ◌∷◌, length, Option, Some, None, refl, ap, sym, ◌∙◌, subst, arith}
 use Rattle.std.specs.Prelude.{IsTrue, slice_get, option_and_then, codes, ◌||◌, if◌then◌else◌}
 use Rattle.std.proofs.lemmas.Bool.{le-leb}
-use Rattle.jpool.specs.declared.entry.Entry.{Entry}
-use Rattle.jpool.specs.declared.entry.Entry.TheVariants.{Utf8, NameAndType}
-use Rattle.jpool.specs.Descriptors.{is_field_descriptor, is_method_descriptor}
-use Rattle.jpool.specs.Pools.{both_in, class_name_at, name_and_type_at}
+use Rattle.jparts.specs.declared.jpool.entry.Entry.{Entry}
+use Rattle.jparts.specs.declared.jpool.entry.Entry.TheVariants.{Utf8, NameAndType}
+use Rattle.jparts.specs.jpool.Descriptors.{is_field_descriptor, is_method_descriptor}
+use Rattle.jparts.specs.jpool.Pools.{both_in, class_name_at, name_and_type_at}
 use Rattle.jclass.specs.declared.class.ClassParts.{ClassParts}
-use Rattle.jmaps.specs.declared.types.FullFrame.{FullFrame}
+use Rattle.jparts.specs.declared.jmaps.types.FullFrame.{FullFrame}
 use Rattle.jmove.specs.declared.method.Expand.{Expand}
 use Rattle.jmove.specs.declared.method.Expand.TheVariants.{Same, Call, Check, Snapshot, Privileged, PrivilegedWith, PrivilegedLimited}
 use Rattle.jmove.specs.declared.naming.Named.{Named}

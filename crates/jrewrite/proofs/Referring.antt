@@ -3,9 +3,9 @@ use Rattle.std.proofs.Common.{◌≡◌, ℕ, zero, suc, ◌≤◌, Bool, List, 
 use Rattle.std.specs.Prelude.{nat_le, nat_lt, option_and_then, slice_get, ◌&&◌}
 use Rattle.std.specs.List.{AllByRecursion}
 use Rattle.std.proofs.lemmas.List.{length-map}
-use Rattle.jbase.specs.First.{first_some}
-use Rattle.jbase.proofs.Firsts.{all_pass}
-use Rattle.jpool.specs.declared.entry.Entry.{Entry}
+use Rattle.jground.specs.jbase.First.{first_some}
+use Rattle.jground.proofs.JbaseProofs.Firsts.{all_pass}
+use Rattle.jparts.specs.declared.jpool.entry.Entry.{Entry}
 use Rattle.jclass.specs.declared.class.Attribute.{Attribute}
 use Rattle.jclass.specs.declared.class.Attribute.TheVariants.{Code, ConstantValue, Raw}
 use Rattle.jclass.specs.declared.class.ClassParts.{ClassParts}
@@ -17,11 +17,11 @@ use Rattle.jprogram.specs.Classes.{Program}
 use Rattle.jprogram.specs.Parts.{code_of, text, this_name}
 use Rattle.jprogram.specs.Naming.{naming_fault}
 use Rattle.jprogram.specs.Supers.{supers_fault}
-use Rattle.jmembers.specs.Declares.{members_fault}
-use Rattle.jreferring.specs.declared.judged.Judged.{Judged}
-use Rattle.jreferring.specs.Code.{body_test, class_fault, code_fault, in_method, method_test}
-use Rattle.jreferring.specs.Entries.{judge_pool}
-use Rattle.jlink.specs.Links.{AreParts, Links, domains_rise, link_fault}
+use Rattle.jlinking.specs.jmembers.Declares.{members_fault}
+use Rattle.jlinking.specs.declared.jreferring.judged.Judged.{Judged}
+use Rattle.jlinking.specs.jreferring.Code.{body_test, class_fault, code_fault, in_method, method_test}
+use Rattle.jlinking.specs.jreferring.Entries.{judge_pool}
+use Rattle.jlinking.specs.jlink.Links.{AreParts, Links, domains_rise, link_fault}
 use Rattle.jtyping.specs.Typing.{WellTyped}
 use Rattle.jmoveclass.specs.Methods.{new_desc}
 use Rattle.jmoveclass.specs.Moved.{moved_class, moved_part}

@@ -2,15 +2,15 @@
 use Rattle.std.proofs.Common.{◌≡◌, ℕ, Bool, true, false, List, [], ◌∷◌, Option, Some, None, refl, ap, sym, ◌∙◌, subst}
 use Rattle.std.specs.Prelude.{if◌then◌else◌}
 use Rattle.std.specs.Str.{bytes_eq}
-use Rattle.jbase.specs.First.{first_some, or_else}
-use Rattle.jbase.proofs.Firsts.{none_of}
+use Rattle.jground.specs.jbase.First.{first_some, or_else}
+use Rattle.jground.proofs.JbaseProofs.Firsts.{none_of}
 use Rattle.jprogram.specs.declared.member.Member.{Member}
 use Rattle.jprogram.specs.declared.reach.Reach.{Reach}
 use Rattle.jprogram.specs.declared.reach.Reach.TheVariants as reach
 use Rattle.jprogram.specs.Classes.{Program, superinterfaces, up}
 use Rattle.jprogram.specs.Members.{allows, field_at, init, may_use, method_at, owner_of, reach_of, resolve_field, resolve_method}
 use Rattle.jprogram.specs.Naming.{is_reserved}
-use Rattle.jreferring.specs.References.{facts_of}
+use Rattle.jlinking.specs.jreferring.References.{facts_of}
 use Rattle.jrewrite.specs.Program.{moved}
 use Rattle.jrewrite.proofs.Overriding.{Likewise, SameChain}
 use Rattle.jrewrite.proofs.Standing.{AllPlain, IsPlain}

@@ -7,7 +7,7 @@ use Rattle.jclass.specs.Class.{class_file}
 use Rattle.jlib.specs.declared.side.Side.TheVariants.{Passing}
 use Rattle.jprogram.specs.declared.part.CodePart.{CodePart}
 use Rattle.jprogram.specs.Classes.{Program, program}
-use Rattle.jlink.specs.Links.{Links}
+use Rattle.jlinking.specs.jlink.Links.{Links}
 use Rattle.jrewrite.specs.declared.part.MovedPart.{MovedPart}
 use Rattle.jrewrite.specs.Program.{moved, seen_part}
 

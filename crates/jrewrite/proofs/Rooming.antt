@@ -3,16 +3,16 @@ use Rattle.std.proofs.Common.{◌≡◌, ℕ, ◌+◌, ◌≤◌, Bool, true, fa
 use Rattle.std.specs.Prelude.{IsTrue, nat_le, option_and_then, option_map, slice_get, if◌then◌else◌}
 use Rattle.std.specs.Str.{bytes_eq}
 use Rattle.std.proofs.lemmas.Bool.{leb-true}
-use Rattle.jbase.specs.First.{first_some, or_else}
-use Rattle.jbase.proofs.Firsts.{none_fails}
-use Rattle.jpool.specs.declared.descriptor.Descriptor.{Descriptor}
-use Rattle.jpool.specs.declared.descriptor.Descriptor.TheVariants as descriptors
-use Rattle.jpool.specs.declared.descriptor.FieldType.{FieldType}
-use Rattle.jpool.specs.declared.entry.Entry.{Entry}
-use Rattle.jpool.specs.declared.entry.Entry.TheVariants.{Unused, Utf8, Integer, Float, Long, Double, Class, Str, Field, Method, InterfaceMethod, NameAndType, MethodHandle, MethodType, InvokeDynamic}
-use Rattle.jpool.specs.Descriptors.{base_at, class_at, closing_at, descriptor_of, field_of, method_of, params_at, return_at, slots_of, type_at}
-use Rattle.jpool.specs.Names.{is_class_name}
-use Rattle.jpool.specs.Pools.{name_and_type_at, utf8_at}
+use Rattle.jground.specs.jbase.First.{first_some, or_else}
+use Rattle.jground.proofs.JbaseProofs.Firsts.{none_fails}
+use Rattle.jparts.specs.declared.jpool.descriptor.Descriptor.{Descriptor}
+use Rattle.jparts.specs.declared.jpool.descriptor.Descriptor.TheVariants as descriptors
+use Rattle.jparts.specs.declared.jpool.descriptor.FieldType.{FieldType}
+use Rattle.jparts.specs.declared.jpool.entry.Entry.{Entry}
+use Rattle.jparts.specs.declared.jpool.entry.Entry.TheVariants.{Unused, Utf8, Integer, Float, Long, Double, Class, Str, Field, Method, InterfaceMethod, NameAndType, MethodHandle, MethodType, InvokeDynamic}
+use Rattle.jparts.specs.jpool.Descriptors.{base_at, class_at, closing_at, descriptor_of, field_of, method_of, params_at, return_at, slots_of, type_at}
+use Rattle.jparts.specs.jpool.Names.{is_class_name}
+use Rattle.jparts.specs.jpool.Pools.{name_and_type_at, utf8_at}
 use Rattle.jclass.specs.declared.class.ClassParts.{ClassParts}
 use Rattle.jclass.specs.declared.class.MemberInfo.{MemberInfo}
 use Rattle.jclass.specs.Class.{class_file}
@@ -33,8 +33,8 @@ use Rattle.jprogram.specs.declared.part.CodePart.{CodePart}
 use Rattle.jprogram.specs.Classes.{Program, superinterfaces, up}
 use Rattle.jprogram.specs.Members.{desc_in, desc_of, init, looked_up, method_at, referred, resolve_method}
 use Rattle.jprogram.specs.Parts.{class_text, or_empty, text}
-use Rattle.jlink.proofs.Having.{first_in}
-use Rattle.jlink.proofs.Selecting.{method_called}
+use Rattle.jlinking.proofs.JlinkProofs.Having.{first_in}
+use Rattle.jlinking.proofs.JlinkProofs.Selecting.{method_called}
 use Rattle.jmoveclass.specs.declared.limit.Limit.{Limit}
 use Rattle.jmoveclass.specs.Beginning.{params_in, params_of, slots, this_slots}
 use Rattle.jmoveclass.specs.Calls.{calling, calling_library}

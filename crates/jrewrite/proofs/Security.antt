@@ -6,15 +6,15 @@ use Rattle.std.specs.Str.{bytes_eq}
 use Rattle.std.proofs.lemmas.List.Quantifiers.{position-Some}
 use Rattle.std.proofs.lemmas.Option.{slice_get-get_or}
 use Rattle.std.proofs.lemmas.Slice.Eq.{bytes_eq-Decides}
-use Rattle.jbase.specs.First.{fault_if, first_some, or_else}
-use Rattle.jbase.proofs.Firsts.{none_fails, none_of}
-use Rattle.jformat.proofs.Steps.{first_true, second_true}
-use Rattle.jpool.specs.declared.descriptor.Descriptor.{Descriptor}
-use Rattle.jpool.specs.declared.descriptor.Descriptor.TheVariants as descriptors
-use Rattle.jpool.specs.declared.descriptor.FieldType.{FieldType}
-use Rattle.jpool.specs.Descriptors.{base_at, class_at, closing_at, descriptor_of, field_of, is_class_sign, method_of, params_at, return_at, slots_of, type_at}
-use Rattle.jpool.specs.Names.{is_class_name}
-use Rattle.jcode.specs.declared.names.CallOp.TheVariants as callops
+use Rattle.jground.specs.jbase.First.{fault_if, first_some, or_else}
+use Rattle.jground.proofs.JbaseProofs.Firsts.{none_fails, none_of}
+use Rattle.jground.proofs.JformatProofs.Steps.{first_true, second_true}
+use Rattle.jparts.specs.declared.jpool.descriptor.Descriptor.{Descriptor}
+use Rattle.jparts.specs.declared.jpool.descriptor.Descriptor.TheVariants as descriptors
+use Rattle.jparts.specs.declared.jpool.descriptor.FieldType.{FieldType}
+use Rattle.jparts.specs.jpool.Descriptors.{base_at, class_at, closing_at, descriptor_of, field_of, is_class_sign, method_of, params_at, return_at, slots_of, type_at}
+use Rattle.jparts.specs.jpool.Names.{is_class_name}
+use Rattle.jparts.specs.declared.jcode.names.CallOp.TheVariants as callops
 use Rattle.jlib.specs.declared.side.Side.{Side}
 use Rattle.jlib.specs.declared.side.Side.TheVariants.{Passing}
 use Rattle.jlib.specs.declared.classes.LibClass.{LibClass}
@@ -37,12 +37,12 @@ use Rattle.jprogram.specs.Members.{init, is_static, lib_method, may_name, may_us
 use Rattle.jprogram.specs.Naming.{in_class, naming_fault, naming_test, reserved_test, stands_before, taken_test}
 use Rattle.jprogram.specs.Parts.{same_package, this_name}
 use Rattle.jprogram.specs.Supers.{is_missing}
-use Rattle.jreferring.specs.declared.judged.MemberFacts.{MemberFacts}
-use Rattle.jreferring.specs.declared.judged.MemberUse.{MemberUse}
-use Rattle.jreferring.specs.declared.judged.Sort.TheVariants as sort
-use Rattle.jreferring.specs.Looking.{named_use}
-use Rattle.jreferring.specs.Names.{class_test, desc_test, return_test, type_named, type_test}
-use Rattle.jreferring.specs.References.{access_test, call_left_out_test, call_test, call_use_test, called_test, facts_of, is_barred, is_enter, member_use}
+use Rattle.jlinking.specs.declared.jreferring.judged.MemberFacts.{MemberFacts}
+use Rattle.jlinking.specs.declared.jreferring.judged.MemberUse.{MemberUse}
+use Rattle.jlinking.specs.declared.jreferring.judged.Sort.TheVariants as sort
+use Rattle.jlinking.specs.jreferring.Looking.{named_use}
+use Rattle.jlinking.specs.jreferring.Names.{class_test, desc_test, return_test, type_named, type_test}
+use Rattle.jlinking.specs.jreferring.References.{access_test, call_left_out_test, call_test, call_use_test, called_test, facts_of, is_barred, is_enter, member_use}
 use Rattle.jprogram.proofs.Standing.{in_none}
 use Rattle.jrewrite.proofs.Declaring.{differ, first_false, no_again, no_fault, or_join}
 use Rattle.jrewrite.proofs.Membering.{none_or}

@@ -1,7 +1,7 @@
 -- Members of the library on both sides: which stand where, and which of them are handed a context.
 use Rattle.std.proofs.Common.{◌≡◌, ℕ, true, false, refl}
-use Rattle.jpool.specs.Descriptors.{base_at, class_at, closing_at, descriptor_of, field_of, method_of, params_at, return_at, slots_of, type_at}
-use Rattle.jpool.specs.Names.{is_class_name}
+use Rattle.jparts.specs.jpool.Descriptors.{base_at, class_at, closing_at, descriptor_of, field_of, method_of, params_at, return_at, slots_of, type_at}
+use Rattle.jparts.specs.jpool.Names.{is_class_name}
 use Rattle.jlib.specs.declared.side.Side.{Side}
 use Rattle.jlib.specs.declared.side.Side.TheVariants.{Passing, Source}
 use Rattle.jlib.specs.declared.calls.LibCall.{LibCall}

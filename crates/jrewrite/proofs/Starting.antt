@@ -5,29 +5,29 @@ use Rattle.std.specs.List.{list_all, list_any}
 use Rattle.std.specs.Str.{byte}
 use Rattle.std.proofs.lemmas.Bool.{cases_Bool, eqb-true, ltb-false}
 use Rattle.std.proofs.lemmas.List.{reverse-reverse}
-use Rattle.jbase.specs.Each.{each_some, put_front}
-use Rattle.jformat.proofs.Steps.{first_true, second_true}
-use Rattle.jpool.specs.declared.descriptor.Descriptor.TheVariants as descriptors
-use Rattle.jpool.specs.declared.descriptor.FieldType.{FieldType}
-use Rattle.jpool.specs.Descriptors.{descriptor_of, is_base, is_return, is_type}
-use Rattle.jpool.specs.Names.{is_class_name}
-use Rattle.jmaps.specs.declared.types.MapType.TheVariants as items
+use Rattle.jground.specs.jbase.Each.{each_some, put_front}
+use Rattle.jground.proofs.JformatProofs.Steps.{first_true, second_true}
+use Rattle.jparts.specs.declared.jpool.descriptor.Descriptor.TheVariants as descriptors
+use Rattle.jparts.specs.declared.jpool.descriptor.FieldType.{FieldType}
+use Rattle.jparts.specs.jpool.Descriptors.{descriptor_of, is_base, is_return, is_type}
+use Rattle.jparts.specs.jpool.Names.{is_class_name}
+use Rattle.jparts.specs.declared.jmaps.types.MapType.TheVariants as items
 use Rattle.jclass.specs.declared.class.ClassParts.{ClassParts}
 use Rattle.jclass.specs.declared.class.CodeBody.{CodeBody}
 use Rattle.jclass.specs.declared.class.MemberInfo.{MemberInfo}
-use Rattle.jtypes.specs.declared.vtype.Element.{Element}
-use Rattle.jtypes.specs.declared.vtype.Element.TheVariants as elements
-use Rattle.jtypes.specs.declared.vtype.Name.{Name}
-use Rattle.jtypes.specs.declared.vtype.VType.{VType}
-use Rattle.jtypes.specs.declared.vtype.VType.TheVariants as types
-use Rattle.jtypes.specs.Frames.{places}
+use Rattle.jground.specs.declared.jtypes.vtype.Element.{Element}
+use Rattle.jground.specs.declared.jtypes.vtype.Element.TheVariants as elements
+use Rattle.jground.specs.declared.jtypes.vtype.Name.{Name}
+use Rattle.jground.specs.declared.jtypes.vtype.VType.{VType}
+use Rattle.jground.specs.declared.jtypes.vtype.VType.TheVariants as types
+use Rattle.jground.specs.jtypes.Frames.{places}
 use Rattle.jmove.specs.Frames.{width}
-use Rattle.jmembers.specs.Declares.{param_left_out, return_left_out, return_missing, type_missing}
+use Rattle.jlinking.specs.jmembers.Declares.{param_left_out, return_left_out, return_missing, type_missing}
 use Rattle.jprogram.specs.LeftOut.{is_floating}
 use Rattle.jprogram.specs.Classes.{Program, find}
 use Rattle.jprogram.specs.Parts.{is_static, member_desc, this_name}
 use Rattle.jprogram.specs.Supers.{is_missing}
-use Rattle.juses.specs.Typed.{called, element_in, name, return_in, there, type_in, type_of, typed}
+use Rattle.jmeaning.specs.juses.Typed.{called, element_in, name, return_in, there, type_in, type_of, typed}
 use Rattle.jtyping.specs.Methods as typing
 use Rattle.jtyping.specs.Methods.{method_of, receiver, this_type}
 use Rattle.jmoveclass.specs.Beginning.{bare_beginning, bare_this, is_reference, item, this_item}

@@ -5,18 +5,18 @@ use Rattle.std.specs.List.{flat_map, list_any}
 use Rattle.std.specs.Str.{byte}
 use Rattle.std.proofs.lemmas.Bool.{cases_Bool, leb-true}
 use Rattle.std.proofs.lemmas.Slice.Eq.{bytes_eq-Decides}
-use Rattle.jbase.specs.First.{first_some}
-use Rattle.jbase.proofs.Firsts.{none_of}
-use Rattle.jformat.specs.Format.{is_good}
-use Rattle.jpool.specs.declared.descriptor.Descriptor.{Descriptor}
-use Rattle.jpool.specs.declared.descriptor.Descriptor.TheVariants as descriptors
-use Rattle.jpool.specs.declared.descriptor.FieldType.{FieldType}
-use Rattle.jpool.specs.declared.entry.Entry.{Entry}
-use Rattle.jpool.specs.Descriptors.{base_at, class_at, closing_at, descriptor_of, descriptor_text, field_of, method, method_of, method_slots, params_at, return_at, return_text, slots_of, type_at, type_text}
-use Rattle.jpool.specs.Names.{is_class_name}
-use Rattle.jpool.specs.Pools as pools
-use Rattle.jpool.specs.Pools.{member_fault, name_and_type_at}
-use Rattle.jpool.proofs.Spelled.{descriptor_take}
+use Rattle.jground.specs.jbase.First.{first_some}
+use Rattle.jground.proofs.JbaseProofs.Firsts.{none_of}
+use Rattle.jground.specs.jformat.Format.{is_good}
+use Rattle.jparts.specs.declared.jpool.descriptor.Descriptor.{Descriptor}
+use Rattle.jparts.specs.declared.jpool.descriptor.Descriptor.TheVariants as descriptors
+use Rattle.jparts.specs.declared.jpool.descriptor.FieldType.{FieldType}
+use Rattle.jparts.specs.declared.jpool.entry.Entry.{Entry}
+use Rattle.jparts.specs.jpool.Descriptors.{base_at, class_at, closing_at, descriptor_of, descriptor_text, field_of, method, method_of, method_slots, params_at, return_at, return_text, slots_of, type_at, type_text}
+use Rattle.jparts.specs.jpool.Names.{is_class_name}
+use Rattle.jparts.specs.jpool.Pools as pools
+use Rattle.jparts.specs.jpool.Pools.{member_fault, name_and_type_at}
+use Rattle.jparts.proofs.JpoolProofs.Spelled.{descriptor_take}
 use Rattle.jclass.specs.declared.class.ClassParts.{ClassParts}
 use Rattle.jclass.specs.declared.class.MemberInfo.{MemberInfo}
 use Rattle.jlib.specs.declared.side.Side.TheVariants.{Passing, Source}
@@ -36,19 +36,19 @@ use Rattle.jprogram.specs.Members.{desc_in, desc_of, is_static, looked_up, refer
 use Rattle.jprogram.specs.Naming.{class_reserved, desc_reserved, is_reserved, names_reserved, return_reserved, text_reserved, type_reserved}
 use Rattle.jprogram.specs.Parts as parts
 use Rattle.jprogram.specs.Parts.{member_desc, or_empty, text}
-use Rattle.jreferring.specs.declared.judged.Judged.TheVariants as judged
-use Rattle.jreferring.specs.declared.judged.MemberFacts.{MemberFacts}
-use Rattle.jreferring.specs.declared.judged.MemberUse.{MemberUse}
-use Rattle.jreferring.specs.declared.judged.Sort.{Sort}
-use Rattle.jreferring.specs.declared.judged.Sort.TheVariants as sort
-use Rattle.jreferring.specs.Entries.{judge}
-use Rattle.jreferring.specs.Looking.{named_use}
-use Rattle.jreferring.specs.Names.{desc_test, is_array, return_test, type_named, type_test}
+use Rattle.jlinking.specs.declared.jreferring.judged.Judged.TheVariants as judged
+use Rattle.jlinking.specs.declared.jreferring.judged.MemberFacts.{MemberFacts}
+use Rattle.jlinking.specs.declared.jreferring.judged.MemberUse.{MemberUse}
+use Rattle.jlinking.specs.declared.jreferring.judged.Sort.{Sort}
+use Rattle.jlinking.specs.declared.jreferring.judged.Sort.TheVariants as sort
+use Rattle.jlinking.specs.jreferring.Entries.{judge}
+use Rattle.jlinking.specs.jreferring.Looking.{named_use}
+use Rattle.jlinking.specs.jreferring.Names.{desc_test, is_array, return_test, type_named, type_test}
 use Rattle.jprogram.specs.LeftOut.{is_context}
-use Rattle.jreferring.specs.References.{facts_of, gives_context, has_contexts, is_crossed, is_enter, member_use, misplaces_context}
-use Rattle.jreferring.specs.Units.{member_at, member_in}
-use Rattle.jlink.specs.Sound.{is_sound_method}
-use Rattle.jlink.proofs.Declared.{method_resolved}
+use Rattle.jlinking.specs.jreferring.References.{facts_of, gives_context, has_contexts, is_crossed, is_enter, member_use, misplaces_context}
+use Rattle.jlinking.specs.jreferring.Units.{member_at, member_in}
+use Rattle.jlinking.specs.jlink.Sound.{is_sound_method}
+use Rattle.jlinking.proofs.JlinkProofs.Declared.{method_resolved}
 use Rattle.jmoveclass.specs.Beginning.{params_in, params_of, slots, this_slots}
 use Rattle.jmoveclass.specs.Calls.{calling, calling_library}
 use Rattle.jmoveclass.specs.Methods.{new_desc}

@@ -2,14 +2,14 @@
 use Rattle.std.proofs.Common.{◌≡◌, ℕ, ◌+◌, ◌≤◌, ◌<◌, Bool, true, false, ◌&&◌, not, Option, Some, None, refl, ap, sym, ◌∙◌, arith}
 use Rattle.std.specs.Prelude.{IsTrue, nat_lt, ◌||◌, ◌==◌, if◌then◌else◌}
 use Rattle.std.proofs.lemmas.Bool.{eq-eqb, eqb-true, lt-ltb}
-use Rattle.jbase.specs.First.{fault_if, or_else}
-use Rattle.jbase.proofs.Firsts.{none_of}
-use Rattle.jcode.specs.declared.names.CallOp.{CallOp}
-use Rattle.jcode.specs.declared.names.CallOp.TheVariants as callops
+use Rattle.jground.specs.jbase.First.{fault_if, or_else}
+use Rattle.jground.proofs.JbaseProofs.Firsts.{none_of}
+use Rattle.jparts.specs.declared.jcode.names.CallOp.{CallOp}
+use Rattle.jparts.specs.declared.jcode.names.CallOp.TheVariants as callops
 use Rattle.jprogram.specs.declared.fault.LinkKind.TheVariants.{BadUse, LeftOut}
-use Rattle.jreferring.specs.declared.judged.MemberFacts.{MemberFacts}
-use Rattle.jreferring.specs.declared.judged.MemberUse.{MemberUse}
-use Rattle.jreferring.specs.References.{access_test, call_left_out_test, call_test, called_by_interface_test, called_test, calls_static, counts, differs, interface_test, is_misused, is_miscalled, is_virtual}
+use Rattle.jlinking.specs.declared.jreferring.judged.MemberFacts.{MemberFacts}
+use Rattle.jlinking.specs.declared.jreferring.judged.MemberUse.{MemberUse}
+use Rattle.jlinking.specs.jreferring.References.{access_test, call_left_out_test, call_test, called_by_interface_test, called_test, calls_static, counts, differs, interface_test, is_misused, is_miscalled, is_virtual}
 use Rattle.jrewrite.proofs.Declaring.{first_false, no_again, no_fault, or_join, second_false}
 use Rattle.jrewrite.proofs.Membering.{none_or}
 

@@ -3,11 +3,11 @@ use Rattle.std.proofs.Common.{◌≡◌, ℕ, zero, suc, ◌+◌, Bool, true, fa
 use Rattle.std.specs.Prelude.{option_to_list, ◌||◌, if◌then◌else◌}
 use Rattle.std.specs.List.{flat_map, list_any}
 use Rattle.std.specs.Str.{bytes_eq}
-use Rattle.jbase.specs.First.{first_some, or_else}
-use Rattle.jpool.specs.declared.descriptor.Descriptor.{Descriptor}
-use Rattle.jpool.specs.declared.descriptor.Descriptor.TheVariants as descriptors
-use Rattle.jpool.specs.declared.descriptor.FieldType.{FieldType}
-use Rattle.jpool.specs.Descriptors.{descriptor_of, is_class_sign}
+use Rattle.jground.specs.jbase.First.{first_some, or_else}
+use Rattle.jparts.specs.declared.jpool.descriptor.Descriptor.{Descriptor}
+use Rattle.jparts.specs.declared.jpool.descriptor.Descriptor.TheVariants as descriptors
+use Rattle.jparts.specs.declared.jpool.descriptor.FieldType.{FieldType}
+use Rattle.jparts.specs.jpool.Descriptors.{descriptor_of, is_class_sign}
 use Rattle.jclass.specs.declared.class.ClassParts.{ClassParts}
 use Rattle.jlib.specs.declared.classes.LibClass.{LibClass}
 use Rattle.jprogram.specs.declared.fault.LinkKind.{LinkKind}
@@ -16,8 +16,8 @@ use Rattle.jprogram.specs.Classes as classes
 use Rattle.jprogram.specs.Members.{is_public_at, may_name}
 use Rattle.jprogram.specs.Naming.{class_reserved, desc_reserved, is_reserved, return_reserved, text_reserved, type_reserved}
 use Rattle.jprogram.specs.Parts as parts
-use Rattle.jreferring.specs.Names.{array_or, class_test, class_type, desc_test, is_array, return_test, type_named, type_test}
-use Rattle.jreferring.specs.Operands.{class_use, is_no_maker, is_unmade}
+use Rattle.jlinking.specs.jreferring.Names.{array_or, class_test, class_type, desc_test, is_array, return_test, type_named, type_test}
+use Rattle.jlinking.specs.jreferring.Operands.{class_use, is_no_maker, is_unmade}
 use Rattle.jrewrite.specs.Program.{moved}
 use Rattle.jrewrite.proofs.Declaring.{first_false, second_false}
 use Rattle.jrewrite.proofs.Finding.{IsMovedClass, SameFound}

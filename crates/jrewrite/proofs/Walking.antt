@@ -2,15 +2,15 @@
 use Rattle.std.proofs.Common.{◌≡◌, ℕ, suc, ◌≤◌, Bool, true, false, List, [], ◌∷◌, ◌++◌, length, Some, None, refl, ap, sym, ◌∙◌, subst, arith}
 use Rattle.std.specs.Prelude.{IsTrue, slice_get, if◌then◌else◌}
 use Rattle.std.specs.List.{AllByRecursion, list_all}
-use Rattle.jbase.specs.First.{first_some}
-use Rattle.jbase.proofs.Firsts.{none_of}
-use Rattle.jformat.proofs.Steps.{first_true, second_true}
-use Rattle.jpool.specs.declared.entry.Entry.{Entry}
-use Rattle.jpool.specs.declared.entry.Entry.TheVariants.{Utf8}
-use Rattle.jpool.specs.Pools.{text_in, utf8_at}
-use Rattle.jcode.specs.declared.op.Op.{Op}
-use Rattle.jcode.specs.declared.op.Op.TheVariants as ops
-use Rattle.jcode.specs.declared.op.Placed.{Placed}
+use Rattle.jground.specs.jbase.First.{first_some}
+use Rattle.jground.proofs.JbaseProofs.Firsts.{none_of}
+use Rattle.jground.proofs.JformatProofs.Steps.{first_true, second_true}
+use Rattle.jparts.specs.declared.jpool.entry.Entry.{Entry}
+use Rattle.jparts.specs.declared.jpool.entry.Entry.TheVariants.{Utf8}
+use Rattle.jparts.specs.jpool.Pools.{text_in, utf8_at}
+use Rattle.jparts.specs.declared.jcode.op.Op.{Op}
+use Rattle.jparts.specs.declared.jcode.op.Op.TheVariants as ops
+use Rattle.jparts.specs.declared.jcode.op.Placed.{Placed}
 use Rattle.jclass.specs.declared.class.Attribute.{Attribute}
 use Rattle.jclass.specs.declared.class.Attribute.TheVariants.{Code, ConstantValue, Raw}
 use Rattle.jclass.specs.declared.class.ClassParts.{ClassParts}
@@ -20,7 +20,7 @@ use Rattle.jclass.specs.Members.{body_of}
 use Rattle.jclass.specs.Operands.{names_well}
 use Rattle.jclass.specs.Stored.{HasCode, IsIn}
 use Rattle.jclass.proofs.Stored.{code_fits}
-use Rattle.jmaps.specs.declared.types.RawFrame.{RawFrame}
+use Rattle.jparts.specs.declared.jmaps.types.RawFrame.{RawFrame}
 use Rattle.jmove.specs.declared.method.Expand.{Expand}
 use Rattle.jmove.specs.declared.method.Expand.TheVariants.{Same, Call, Check, Snapshot, Privileged, PrivilegedWith, PrivilegedLimited}
 use Rattle.jmove.specs.Additions.{IsFront, with_body, with_text, ◌>>◌}
@@ -28,11 +28,11 @@ use Rattle.jmove.proofs.Growing.{body_grows, front_on, front_self}
 use Rattle.jprogram.specs.declared.part.CodePart.{CodePart}
 use Rattle.jprogram.specs.Classes.{Program}
 use Rattle.jprogram.specs.Parts.{code_of, member_desc, or_empty, text, this_name}
-use Rattle.jreferring.specs.Beginning.{first_frame_test}
-use Rattle.jreferring.specs.Code.{body_test, frames_test, in_method, units_test}
-use Rattle.jreferring.specs.Entries.{judge_pool}
-use Rattle.jreferring.specs.Units.{attribute_test}
-use Rattle.jlink.proofs.There.{class_none, code_good, code_none}
+use Rattle.jlinking.specs.jreferring.Beginning.{first_frame_test}
+use Rattle.jlinking.specs.jreferring.Code.{body_test, frames_test, in_method, units_test}
+use Rattle.jlinking.specs.jreferring.Entries.{judge_pool}
+use Rattle.jlinking.specs.jreferring.Units.{attribute_test}
+use Rattle.jlinking.proofs.JlinkProofs.There.{class_none, code_good, code_none}
 use Rattle.jtyping.specs.Typing.{WellTyped}
 use Rattle.jmoveclass.specs.Calls.{calling, expand_by, expands}
 use Rattle.jmoveclass.specs.Kept.{method_keeps}

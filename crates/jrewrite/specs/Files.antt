@@ -2,7 +2,7 @@
 use Rattle.std.specs.Prelude.{◌≡◌, ℕ, List, map, Some, IsTrue, slice_get}
 use Rattle.jclass.specs.Class.{class_file}
 use Rattle.jlib.specs.declared.side.Side.TheVariants.{Passing}
-use Rattle.jlink.specs.Links.{Links}
+use Rattle.jlinking.specs.jlink.Links.{Links}
 use Rattle.jprogram.specs.declared.part.CodePart.{CodePart}
 use Rattle.jprogram.specs.Classes.{Program}
 use Rattle.jprogram.specs.Parts.{this_name}

@@ -6,7 +6,7 @@ use Rattle.jprogram.specs.declared.part.CodePart.{CodePart}
 use Rattle.jprogram.specs.Classes.{Program}
 use Rattle.jprogram.specs.Naming.{naming_fault}
 use Rattle.jprogram.specs.Supers.{supers_fault}
-use Rattle.jlink.specs.Links.{Links}
+use Rattle.jlinking.specs.jlink.Links.{Links}
 use Rattle.jrewrite.specs.Program.{moved}
 
 -- a program of the source side that links, whose parts are class files

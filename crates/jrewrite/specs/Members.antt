@@ -1,6 +1,6 @@
 -- What moved programs keep of the third phase of linking.
 use Rattle.std.specs.Prelude.{◌≡◌, None}
-use Rattle.jmembers.specs.Declares.{members_fault}
+use Rattle.jlinking.specs.jmembers.Declares.{members_fault}
 use Rattle.jprogram.specs.Classes.{Program}
 use Rattle.jtyping.specs.Typing.{WellTyped}
 use Rattle.jrewrite.specs.Linking.{IsLinked}

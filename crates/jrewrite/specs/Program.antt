@@ -1,6 +1,6 @@
 -- The moved program: each class is moved, and then it is written for the passing side.
 use Rattle.std.specs.Prelude.{◌≡◌, ℕ, map, Option, Some, None}
-use Rattle.jbase.specs.First.{first_along}
+use Rattle.jground.specs.jbase.First.{first_along}
 use Rattle.jlib.specs.declared.side.Side.TheVariants.{Passing}
 use Rattle.jprogram.specs.declared.part.CodePart.{CodePart}
 use Rattle.jprogram.specs.Classes.{Program, program}

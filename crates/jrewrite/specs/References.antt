@@ -1,8 +1,8 @@
 -- What moved programs keep of the fourth phase of linking, what code names, and so of linking.
 use Rattle.std.specs.Prelude.{◌≡◌, None}
-use Rattle.jlink.specs.Links.{Links}
+use Rattle.jlinking.specs.jlink.Links.{Links}
 use Rattle.jprogram.specs.Classes.{Program}
-use Rattle.jreferring.specs.Code.{code_fault}
+use Rattle.jlinking.specs.jreferring.Code.{code_fault}
 use Rattle.jtyping.specs.Typing.{WellTyped}
 use Rattle.jrewrite.specs.Linking.{IsLinked}
 use Rattle.jrewrite.specs.Program.{limits, moved}

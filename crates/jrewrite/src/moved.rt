@@ -1,8 +1,8 @@
 ghost use Rattle.std.specs.Prelude.{◌≡◌, MatchResult, None, Some, map, slice_get};
 ghost use Rattle.jlib.specs.declared.side.Side.TheVariants as sides;
-ghost use Rattle.jlink.specs.Links.{Links};
+ghost use Rattle.jlinking.specs.jlink.Links.{Links};
 ghost use Rattle.jtyping.specs.Typing.{WellTyped};
-ghost use Rattle.juses.specs.Uses.{AreUses};
+ghost use Rattle.jmeaning.specs.juses.Uses.{AreUses};
 ghost use Rattle.jmoveclass.specs.Limits.{ClassErrorIs, class_limit};
 ghost use Rattle.jmoveclass.specs.Moved.{moved_class};
 ghost use Rattle.jrewrite.specs.Program;
@@ -10,9 +10,9 @@ ghost use Rattle.jrewrite.specs.Program.{RewriteErrorIs, seen_part};
 
 use crate::error::RewriteError;
 use crate::part::MovedPart;
-use jbase::Seq;
 use jclass::ClassParts;
-use jlink::LinkedProgram;
+use jground::jbase::Seq;
+use jlinking::jlink::LinkedProgram;
 use jmoveclass::{ClassError, Limit, Moving, moved_class};
 use jprogram::CodePart;
 use std::alloc::Global;
@@ -57,7 +57,7 @@ fn error_at(class: u32, error: ClassError) -> RewriteError
 
 /// The moved classes of a program of the source side that is well typed, in its order: those of the moved program. The error is `At`
 /// exactly where a limit is broken, and says the first: class by class, in each its methods in their order, and its pool last.
-#[tactic(auto, unfolding(jbase::specs::First::first_along, crate::specs::Program::limits, crate::specs::Program::moved))]
+#[tactic(auto, unfolding(jground::specs::jbase::First::first_along, crate::specs::Program::limits, crate::specs::Program::moved))]
 pub fn moved_parts(alloc: Global, p: &LinkedProgram) -> Result<Seq<MovedPart>, RewriteError>
     requires typed { WellTyped p.now }
     requires side { p.now.side ≡ sides.Source }

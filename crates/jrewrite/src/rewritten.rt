@@ -12,10 +12,10 @@ use crate::error::RewriteError;
 use crate::laws::{link_law, part_laws};
 use crate::moved::moved_parts;
 use crate::part::MovedPart;
-use jbase::Seq;
 use jclass::{ClassFile, write_class};
+use jground::jbase::Seq;
 use jlib::Side;
-use jlink::{LinkedProgram, link_known};
+use jlinking::jlink::{LinkedProgram, link_known};
 use jprogram::{CodePart, this_name};
 use std::alloc::{AllocError, Global};
 

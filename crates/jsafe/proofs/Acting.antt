@@ -5,24 +5,24 @@ use Rattle.std.specs.Prelude.{nat_le, if◌then◌else◌}
 use Rattle.std.proofs.lemmas.List.{length-append}
 use Rattle.jlib.specs.declared.classes.LibClass.{LibClass}
 use Rattle.jlib.specs.declared.classes.LibClass.TheVariants as lib
-use Rattle.jops.specs.declared.value.Value.{Value}
-use Rattle.jops.specs.declared.value.Value.TheVariants.{Ref}
-use Rattle.jtrace.specs.declared.event.Event.{Event}
-use Rattle.jtrace.specs.declared.event.End.TheVariants.{HeapFull}
-use Rattle.jtypes.specs.declared.vtype.VType.{VType}
+use Rattle.jground.specs.declared.jops.value.Value.{Value}
+use Rattle.jground.specs.declared.jops.value.Value.TheVariants.{Ref}
+use Rattle.jrights.specs.declared.jtrace.event.Event.{Event}
+use Rattle.jrights.specs.declared.jtrace.event.End.TheVariants.{HeapFull}
+use Rattle.jground.specs.declared.jtypes.vtype.VType.{VType}
 use Rattle.jprogram.specs.declared.member.MethodId.{MethodId}
 use Rattle.jprogram.specs.Classes.{Program}
-use Rattle.jrule.specs.Uses.{string, throwable}
-use Rattle.jmachine.specs.declared.plan.Plan.{Plan}
-use Rattle.jmachine.specs.Acts.{Act, Calls, FrameOf, Goes, Jumps, Leaves, Makes, Over, Raises, Row, State, Switches, Throws, charge_of}
-use Rattle.jmachine.specs.Frames.{all_marked, begun, domain_of, frame_of, marked, onward, standing}
-use Rattle.jmachine.specs.Objects.{Object, Text, Thrown, class_of}
-use Rattle.jmachine.specs.Security.{Rules}
-use Rattle.jmachine.specs.Steps.{acted, applied, left, pushed, raised, thrown, thrown_at, thrown_to}
-use Rattle.jmachine.specs.Store.{Store, next_number, object_at, paid, with_made}
-use Rattle.jmachine.specs.Turns.{with_running, with_table}
-use Rattle.jmachine.specs.Unwinding.{resumed, unwound, with_raised}
-use Rattle.jmachine.specs.World.{world}
+use Rattle.jmeaning.specs.jrule.Uses.{string, throwable}
+use Rattle.jmodel.specs.declared.jmachine.plan.Plan.{Plan}
+use Rattle.jmodel.specs.jmachine.Acts.{Act, Calls, FrameOf, Goes, Jumps, Leaves, Makes, Over, Raises, Row, State, Switches, Throws, charge_of}
+use Rattle.jmodel.specs.jmachine.Frames.{all_marked, begun, domain_of, frame_of, marked, onward, standing}
+use Rattle.jmodel.specs.jmachine.Objects.{Object, Text, Thrown, class_of}
+use Rattle.jmodel.specs.jmachine.Security.{Rules}
+use Rattle.jmodel.specs.jmachine.Steps.{acted, applied, left, pushed, raised, thrown, thrown_at, thrown_to}
+use Rattle.jmodel.specs.jmachine.Store.{Store, next_number, object_at, paid, with_made}
+use Rattle.jmodel.specs.jmachine.Turns.{with_running, with_table}
+use Rattle.jmodel.specs.jmachine.Unwinding.{resumed, unwound, with_raised}
+use Rattle.jmodel.specs.jmachine.World.{world}
 use Rattle.jtyped.specs.Calling.{IsGiven, method}
 use Rattle.jtyped.specs.Going.{inside}
 use Rattle.jtyped.specs.Growing.{Grows}

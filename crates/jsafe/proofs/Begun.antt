@@ -5,17 +5,17 @@ use Rattle.std.specs.Prelude.{option_and_then, option_map, slice_get}
 use Rattle.jclass.specs.declared.class.ClassParts.{ClassParts}
 use Rattle.jprogram.specs.declared.part.CodePart.{CodePart}
 use Rattle.jprogram.specs.Parts.{code_of}
-use Rattle.juses.specs.Instructions.{body_in, code_at}
-use Rattle.jops.specs.declared.value.Value.{Value}
-use Rattle.jtypes.specs.declared.vtype.VType.{VType}
+use Rattle.jmeaning.specs.juses.Instructions.{body_in, code_at}
+use Rattle.jground.specs.declared.jops.value.Value.{Value}
+use Rattle.jground.specs.declared.jtypes.vtype.VType.{VType}
 use Rattle.jprogram.specs.declared.member.MethodId.{MethodId}
 use Rattle.jprogram.specs.Classes.{Program}
 use Rattle.jtyping.specs.Declared.{declared_at, first_frame, written}
 use Rattle.jtyping.specs.Typed.{IsTyped}
 use Rattle.jtyping.proofs.Chosen.{also_at}
-use Rattle.jmachine.specs.Frames.{begun, frame_of}
-use Rattle.jmachine.specs.Store.{Store}
-use Rattle.jmachine.specs.World.{world}
+use Rattle.jmodel.specs.jmachine.Frames.{begun, frame_of}
+use Rattle.jmodel.specs.jmachine.Store.{Store}
+use Rattle.jmodel.specs.jmachine.World.{world}
 use Rattle.jtyped.specs.Calling.{Coded, IsGiven, method}
 use Rattle.jtyped.specs.Frames.{Suits}
 use Rattle.jtyped.specs.Going.{inside}

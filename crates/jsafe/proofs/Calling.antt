@@ -10,33 +10,33 @@ use Rattle.jlib.specs.declared.classes.LibClass.TheVariants as lib
 use Rattle.jlib.specs.declared.side.Side.{Side}
 use Rattle.jlib.specs.declared.side.Side.TheVariants.{Source, Passing}
 use Rattle.jlib.specs.Calls as library_calls
-use Rattle.jops.specs.declared.value.Value.{Value}
-use Rattle.jops.specs.declared.value.Value.TheVariants.{Ref}
-use Rattle.jtypes.specs.declared.vtype.VType.{VType}
-use Rattle.jtypes.specs.declared.vtype.VType.TheVariants as types
+use Rattle.jground.specs.declared.jops.value.Value.{Value}
+use Rattle.jground.specs.declared.jops.value.Value.TheVariants.{Ref}
+use Rattle.jground.specs.declared.jtypes.vtype.VType.{VType}
+use Rattle.jground.specs.declared.jtypes.vtype.VType.TheVariants as types
 use Rattle.jprogram.specs.declared.member.Member.{Member}
 use Rattle.jprogram.specs.declared.member.MethodId.{MethodId}
 use Rattle.jprogram.specs.Classes.{Program}
 use Rattle.jprogram.specs.Members.{init}
-use Rattle.juses.specs.declared.meaning.How.{How}
-use Rattle.juses.specs.declared.meaning.How.TheVariants as how
-use Rattle.juses.specs.Meanings.{CallMeaning}
-use Rattle.juses.specs.Typed.{Called, Typed, typed}
-use Rattle.jrule.specs.Here.{Here}
-use Rattle.jrule.specs.Uses.{of_library}
+use Rattle.jmeaning.specs.declared.juses.meaning.How.{How}
+use Rattle.jmeaning.specs.declared.juses.meaning.How.TheVariants as how
+use Rattle.jmeaning.specs.juses.Meanings.{CallMeaning}
+use Rattle.jmeaning.specs.juses.Typed.{Called, Typed, typed}
+use Rattle.jmeaning.specs.jrule.Here.{Here}
+use Rattle.jmeaning.specs.jrule.Uses.{of_library}
 use Rattle.jtyping.specs.Declared.{declared_at, written}
 use Rattle.jtyping.specs.Methods.{here_of}
-use Rattle.jmachine.specs.declared.plan.Plan.{Plan}
-use Rattle.jmachine.specs.Acts.{Act, Calls, FrameOf, Goes, Makes, Raises, Row, State, Switches, free, raises}
-use Rattle.jmachine.specs.Calls.{Fails, Pushes, Runs, Target, by_interface}
-use Rattle.jmachine.specs.Doing.{called}
-use Rattle.jmachine.specs.Frames.{onward, with_operands}
-use Rattle.jmachine.specs.Objects.{Object}
-use Rattle.jmachine.specs.Privileges.{run_action}
-use Rattle.jmachine.specs.Security.{Rules, handed}
-use Rattle.jmachine.specs.Sites.{Site}
-use Rattle.jmachine.specs.Store.{Store}
-use Rattle.jmachine.specs.World.{world}
+use Rattle.jmodel.specs.declared.jmachine.plan.Plan.{Plan}
+use Rattle.jmodel.specs.jmachine.Acts.{Act, Calls, FrameOf, Goes, Makes, Raises, Row, State, Switches, free, raises}
+use Rattle.jmodel.specs.jmachine.Calls.{Fails, Pushes, Runs, Target, by_interface}
+use Rattle.jmodel.specs.jmachine.Doing.{called}
+use Rattle.jmodel.specs.jmachine.Frames.{onward, with_operands}
+use Rattle.jmodel.specs.jmachine.Objects.{Object}
+use Rattle.jmodel.specs.jmachine.Privileges.{run_action}
+use Rattle.jmodel.specs.jmachine.Security.{Rules, handed}
+use Rattle.jmodel.specs.jmachine.Sites.{Site}
+use Rattle.jmodel.specs.jmachine.Store.{Store}
+use Rattle.jmodel.specs.jmachine.World.{world}
 use Rattle.jtyped.specs.Calling.{Coded, IsGiven, IsInitTarget, IsTarget, method}
 use Rattle.jtyped.specs.Frames.{AllHave, AllHold, Has, Holds, News, Suits}
 use Rattle.jtyped.specs.Going.{inside}

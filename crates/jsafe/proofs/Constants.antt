@@ -3,42 +3,42 @@ use Rattle.std.proofs.Common.{◌≡◌, ◌+◌, ℕ, pos, Bool, true, false, c
 use Rattle.std.specs.Prelude.{IsTrue, codes, is_some, option_and_then, option_map, slice_get, unwrap_or}
 use Rattle.std.specs.List.{AllByRecursion, filter, flat_map, list_all}
 use Rattle.std.proofs.lemmas.List.{map-append}
-use Rattle.jbase.specs.First.{first_some}
-use Rattle.jformat.proofs.Steps.{first_true, second_true}
-use Rattle.jops.specs.declared.value.Value.{Value}
-use Rattle.jops.specs.declared.value.Value.TheVariants.{Int, Long, Ref, Ctx}
-use Rattle.jpool.specs.declared.entry.Entry.{Entry}
-use Rattle.jpool.specs.declared.entry.Entry.TheVariants as entries
-use Rattle.jpool.specs.Descriptors.{base_at, class_at, closing_at, descriptor_of, field_of, method_of, params_at, return_at, slots_of, type_at}
-use Rattle.jpool.specs.Names.{is_class_name}
-use Rattle.jpool.specs.Pools.{utf8_at}
+use Rattle.jground.specs.jbase.First.{first_some}
+use Rattle.jground.proofs.JformatProofs.Steps.{first_true, second_true}
+use Rattle.jground.specs.declared.jops.value.Value.{Value}
+use Rattle.jground.specs.declared.jops.value.Value.TheVariants.{Int, Long, Ref, Ctx}
+use Rattle.jparts.specs.declared.jpool.entry.Entry.{Entry}
+use Rattle.jparts.specs.declared.jpool.entry.Entry.TheVariants as entries
+use Rattle.jparts.specs.jpool.Descriptors.{base_at, class_at, closing_at, descriptor_of, field_of, method_of, params_at, return_at, slots_of, type_at}
+use Rattle.jparts.specs.jpool.Names.{is_class_name}
+use Rattle.jparts.specs.jpool.Pools.{utf8_at}
 use Rattle.jclass.specs.declared.class.ClassParts.{ClassParts}
 use Rattle.jclass.specs.declared.class.MemberInfo.{MemberInfo}
 use Rattle.jclass.specs.Class.{class_file}
 use Rattle.jclass.specs.Members.{field}
 use Rattle.jclass.specs.Rules.{suits, suits_field, suits_type}
 use Rattle.jlib.specs.declared.classes.LibClass.TheVariants as lib
-use Rattle.jtypes.specs.declared.vtype.Element.{Element}
-use Rattle.jtypes.specs.declared.vtype.Element.TheVariants as elements
-use Rattle.jtypes.specs.declared.vtype.VType.{VType}
-use Rattle.jtypes.specs.declared.vtype.VType.TheVariants as types
+use Rattle.jground.specs.declared.jtypes.vtype.Element.{Element}
+use Rattle.jground.specs.declared.jtypes.vtype.Element.TheVariants as elements
+use Rattle.jground.specs.declared.jtypes.vtype.VType.{VType}
+use Rattle.jground.specs.declared.jtypes.vtype.VType.TheVariants as types
 use Rattle.jprogram.specs.declared.part.CodePart.{CodePart}
 use Rattle.jprogram.specs.Classes.{Class, Program}
 use Rattle.jprogram.specs.Parts.{member_desc, or_empty, text}
 use Rattle.jprogram.specs.Standing.{StandsInOrder}
 use Rattle.jprogram.proofs.Standing.{lib_find, not_taken}
-use Rattle.jlink.specs.Fields.{is_plain}
-use Rattle.juses.specs.Typed as typing
-use Rattle.juses.specs.Typed.{type_in, typed}
-use Rattle.jlayout.specs.Layout.{element, field_type, held, is_static, statics_of}
-use Rattle.jrule.specs.Uses.{string}
-use Rattle.jmachine.specs.Making.{units_of}
-use Rattle.jmachine.specs.Narrowing.{default, narrowed}
-use Rattle.jmachine.specs.Objects.{Text}
-use Rattle.jmachine.specs.Opening.{constant_of, first_value, value_in, value_of, values_in}
-use Rattle.jmachine.specs.Store.{Store, constant_at, object_at}
-use Rattle.jmachine.specs.World.{world}
-use Rattle.jmachine.proofs.Constants.{class_fields, field_suits, held_by, int_held, long_held, text_is}
+use Rattle.jlinking.specs.jlink.Fields.{is_plain}
+use Rattle.jmeaning.specs.juses.Typed as typing
+use Rattle.jmeaning.specs.juses.Typed.{type_in, typed}
+use Rattle.jmeaning.specs.jlayout.Layout.{element, field_type, held, is_static, statics_of}
+use Rattle.jmeaning.specs.jrule.Uses.{string}
+use Rattle.jmodel.specs.jmachine.Making.{units_of}
+use Rattle.jmodel.specs.jmachine.Narrowing.{default, narrowed}
+use Rattle.jmodel.specs.jmachine.Objects.{Text}
+use Rattle.jmodel.specs.jmachine.Opening.{constant_of, first_value, value_in, value_of, values_in}
+use Rattle.jmodel.specs.jmachine.Store.{Store, constant_at, object_at}
+use Rattle.jmodel.specs.jmachine.World.{world}
+use Rattle.jmodel.proofs.JmachineProofs.Constants.{class_fields, field_suits, held_by, int_held, long_held, text_is}
 use Rattle.jtyped.specs.Uses.{static_types}
 use Rattle.jtyped.specs.Values.{AreOf, IsA}
 use Rattle.jyield.proofs.Following.{is_named}

@@ -4,27 +4,27 @@ use Rattle.std.specs.Prelude.{nat_lt, option_and_then, slice_get, if◌then◌el
 use Rattle.std.specs.Str.{bytes_eq}
 use Rattle.std.proofs.lemmas.Bool.{lt-ltb}
 use Rattle.jclass.specs.declared.class.ClassParts.{ClassParts}
-use Rattle.jcode.specs.declared.op.Placed.{Placed}
-use Rattle.jtypes.specs.Frames.{Frame}
+use Rattle.jparts.specs.declared.jcode.op.Placed.{Placed}
+use Rattle.jground.specs.jtypes.Frames.{Frame}
 use Rattle.jprogram.specs.declared.member.Member.TheVariants.{Method as AMethod}
 use Rattle.jprogram.specs.declared.member.MethodId.{MethodId}
 use Rattle.jprogram.specs.declared.part.CodePart.{CodePart}
 use Rattle.jprogram.specs.Classes.{Program}
 use Rattle.jprogram.specs.Members.{init, is_init as is_constructor, is_static}
 use Rattle.jprogram.specs.Parts.{code_of, member_name, this_name}
-use Rattle.juses.specs.Instructions.{Instruction, body_in, code_at, goes_on, instruction, instruction_at, instruction_in}
-use Rattle.juses.specs.Typed.{name}
-use Rattle.jrule.specs.Rule.{is_own}
+use Rattle.jmeaning.specs.juses.Instructions.{Instruction, body_in, code_at, goes_on, instruction, instruction_at, instruction_in}
+use Rattle.jmeaning.specs.juses.Typed.{name}
+use Rattle.jmeaning.specs.jrule.Rule.{is_own}
 use Rattle.jtyping.specs.Declared.{written}
 use Rattle.jtyping.specs.Methods.{here_of}
 use Rattle.jtyping.specs.Typed.{IsTyped, Serves}
 use Rattle.jtyping.proofs.Chosen.{also_at}
 use Rattle.jtyping.proofs.Successors.{number_onward}
-use Rattle.jmachine.specs.Acts.{FrameOf}
-use Rattle.jmachine.specs.Sites.{Site}
-use Rattle.jmachine.specs.Steps.{fetched, has_next, is_init, own_fields, unless_last}
-use Rattle.jmachine.specs.Store.{Store}
-use Rattle.jmachine.specs.World.{world}
+use Rattle.jmodel.specs.jmachine.Acts.{FrameOf}
+use Rattle.jmodel.specs.jmachine.Sites.{Site}
+use Rattle.jmodel.specs.jmachine.Steps.{fetched, has_next, is_init, own_fields, unless_last}
+use Rattle.jmodel.specs.jmachine.Store.{Store}
+use Rattle.jmodel.specs.jmachine.World.{world}
 use Rattle.jtyped.specs.Calling.{Coded, method}
 use Rattle.jtyped.specs.Going.{SuitsAt, inside}
 use Rattle.jtyped.specs.Frames.{AllHold, News}

@@ -4,16 +4,16 @@ use Rattle.std.specs.Prelude.{IsTrue, ◌==◌, slice_get, if◌then◌else◌}
 use Rattle.std.specs.List.{filter, list_all}
 use Rattle.std.specs.Option.{IsSome}
 use Rattle.std.proofs.lemmas.Bool.{eqb-true}
-use Rattle.jbase.specs.First.{first_some, or_else}
-use Rattle.jformat.specs.Format.{Format, ◌·◌, ◌▹◌, is_good, unless}
-use Rattle.jformat.specs.Bodies.{block, counted}
-use Rattle.jformat.specs.States.{spell_from}
-use Rattle.jformat.proofs.Steps.{first_true, second_true}
-use Rattle.jpool.specs.declared.entry.Entry.{Entry}
-use Rattle.jpool.proofs.PoolLaws.{at_index}
-use Rattle.jcode.specs.declared.op.Handler.{Handler}
-use Rattle.jcode.specs.declared.op.Placed.{Placed}
-use Rattle.jcode.specs.Instructions
+use Rattle.jground.specs.jbase.First.{first_some, or_else}
+use Rattle.jground.specs.jformat.Format.{Format, ◌·◌, ◌▹◌, is_good, unless}
+use Rattle.jground.specs.jformat.Bodies.{block, counted}
+use Rattle.jground.specs.jformat.States.{spell_from}
+use Rattle.jground.proofs.JformatProofs.Steps.{first_true, second_true}
+use Rattle.jparts.specs.declared.jpool.entry.Entry.{Entry}
+use Rattle.jparts.proofs.JpoolProofs.PoolLaws.{at_index}
+use Rattle.jparts.specs.declared.jcode.op.Handler.{Handler}
+use Rattle.jparts.specs.declared.jcode.op.Placed.{Placed}
+use Rattle.jparts.specs.jcode.Instructions
 use Rattle.jclass.specs.declared.class.Attribute.{Attribute}
 use Rattle.jclass.specs.declared.class.Attribute.TheVariants.{Code, ConstantValue, Raw}
 use Rattle.jclass.specs.declared.class.ClassParts.{ClassParts}

@@ -2,15 +2,15 @@
 use Rattle.std.specs.Prelude.{◌≡◌, ℕ, true, IsTrue, Some, slice_get}
 use Rattle.std.specs.List.{AllByRecursion}
 use Rattle.std.specs.Option.{IsSome}
-use Rattle.jcode.specs.declared.op.Placed.{Placed}
+use Rattle.jparts.specs.declared.jcode.op.Placed.{Placed}
 use Rattle.jclass.specs.Class.{class_file}
 use Rattle.jprogram.specs.declared.member.MethodId.{MethodId}
 use Rattle.jprogram.specs.declared.part.CodePart.{CodePart}
 use Rattle.jprogram.specs.Classes.{Program}
 use Rattle.jprogram.specs.Standing.{StandsInOrder}
-use Rattle.juses.specs.Instructions.{Instruction, instruction}
-use Rattle.jlink.specs.Fields.{is_plain}
-use Rattle.jlink.specs.Standing.{in_order}
+use Rattle.jmeaning.specs.juses.Instructions.{Instruction, instruction}
+use Rattle.jlinking.specs.jlink.Fields.{is_plain}
+use Rattle.jlinking.specs.jlink.Standing.{in_order}
 use Rattle.jtyping.specs.Methods.{here_of}
 use Rattle.jtyping.specs.Typed.{ProgramIsTyped}
 use Rattle.jtyped.specs.Calling.{AllHaveCode, Coded, IsParameter, method}

@@ -1,29 +1,29 @@
 -- What is done by an instruction keeps its frame's method and place, and the locals where it doesn't go on.
 use Rattle.std.proofs.Common.{◌≡◌, ◌⊎◌, inl, inr, Bool, List, [], ◌∷◌, Option, Some, None, option_map, refl, subst}
 use Rattle.std.specs.Bool.{⊤}
-use Rattle.jops.specs.declared.value.Value.{Value}
+use Rattle.jground.specs.declared.jops.value.Value.{Value}
 use Rattle.jprogram.specs.declared.member.Member.{Member}
-use Rattle.juses.specs.declared.meaning.How.TheVariants as how
-use Rattle.juses.specs.Instructions.{Instruction, Simple, Local, Stack, Jump, Switch, Return, Throw, Array, Used}
-use Rattle.juses.specs.Meanings as meanings
-use Rattle.juses.specs.Meanings.{Meaning}
-use Rattle.jnames.specs.declared.kinds.Kind.TheVariants as kinds
-use Rattle.jcode.specs.Forms.{returned, simple_effect}
-use Rattle.jrule.specs.Effects.{Fits, Of, of_kinds}
-use Rattle.jrule.specs.Straight.{tested}
-use Rattle.jrule.specs.Uses.{throwable}
-use Rattle.jmachine.specs.Arrays as array_rows
-use Rattle.jmachine.specs.Calls.{init_taken}
-use Rattle.jmachine.specs.Fields.{field}
-use Rattle.jmachine.specs.Making.{cast, make, push}
-use Rattle.jmachine.specs.Acts.{Act, FrameOf, Goes, Row, gives}
-use Rattle.jmachine.specs.Doing.{Doing, array_wants, by_held, by_taken, call, doing, used, wants_of}
-use Rattle.jmachine.specs.Frames.{with_held, with_operands}
-use Rattle.jmachine.specs.Operands.{Taken, taken}
-use Rattle.jmachine.specs.Security.{Rules}
-use Rattle.jmachine.specs.Sites.{Site}
-use Rattle.jmachine.specs.Store.{Store}
-use Rattle.jmachine.specs.Straight.{Held, holding, jump, leave, local, simple, stack, switch, throw}
+use Rattle.jmeaning.specs.declared.juses.meaning.How.TheVariants as how
+use Rattle.jmeaning.specs.juses.Instructions.{Instruction, Simple, Local, Stack, Jump, Switch, Return, Throw, Array, Used}
+use Rattle.jmeaning.specs.juses.Meanings as meanings
+use Rattle.jmeaning.specs.juses.Meanings.{Meaning}
+use Rattle.jground.specs.declared.jnames.kinds.Kind.TheVariants as kinds
+use Rattle.jparts.specs.jcode.Forms.{returned, simple_effect}
+use Rattle.jmeaning.specs.jrule.Effects.{Fits, Of, of_kinds}
+use Rattle.jmeaning.specs.jrule.Straight.{tested}
+use Rattle.jmeaning.specs.jrule.Uses.{throwable}
+use Rattle.jmodel.specs.jmachine.Arrays as array_rows
+use Rattle.jmodel.specs.jmachine.Calls.{init_taken}
+use Rattle.jmodel.specs.jmachine.Fields.{field}
+use Rattle.jmodel.specs.jmachine.Making.{cast, make, push}
+use Rattle.jmodel.specs.jmachine.Acts.{Act, FrameOf, Goes, Row, gives}
+use Rattle.jmodel.specs.jmachine.Doing.{Doing, array_wants, by_held, by_taken, call, doing, used, wants_of}
+use Rattle.jmodel.specs.jmachine.Frames.{with_held, with_operands}
+use Rattle.jmodel.specs.jmachine.Operands.{Taken, taken}
+use Rattle.jmodel.specs.jmachine.Security.{Rules}
+use Rattle.jmodel.specs.jmachine.Sites.{Site}
+use Rattle.jmodel.specs.jmachine.Store.{Store}
+use Rattle.jmodel.specs.jmachine.Straight.{Held, holding, jump, leave, local, simple, stack, switch, throw}
 
 some_is : {A : Type 0} (a b : A) → Some a ≡ Some b → a ≡ b
 some_is a b e = cc

@@ -6,17 +6,17 @@ use Rattle.std.specs.Option.{IsSome}
 use Rattle.std.specs.Str.{bytes_eq}
 use Rattle.std.specs.Prelude.{codes}
 use Rattle.std.proofs.lemmas.Bool.{or_parts}
-use Rattle.jbase.specs.First.{or_else}
-use Rattle.jbase.proofs.Firsts.{none_fails, none_of}
-use Rattle.jcode.specs.declared.op.Placed.{Placed}
+use Rattle.jground.specs.jbase.First.{or_else}
+use Rattle.jground.proofs.JbaseProofs.Firsts.{none_fails, none_of}
+use Rattle.jparts.specs.declared.jcode.op.Placed.{Placed}
 use Rattle.jclass.specs.Class.{class_file}
 use Rattle.jclass.specs.Rules.{has_no_code}
 use Rattle.jclass.specs.Stored.{HasCode}
 use Rattle.jclass.specs.declared.class.ClassParts.{ClassParts}
 use Rattle.jclass.specs.declared.class.MemberInfo.{MemberInfo}
-use Rattle.jtypes.specs.declared.vtype.Name.{Name}
-use Rattle.jtypes.specs.declared.vtype.VType.{VType}
-use Rattle.jtypes.specs.declared.vtype.VType.TheVariants as types
+use Rattle.jground.specs.declared.jtypes.vtype.Name.{Name}
+use Rattle.jground.specs.declared.jtypes.vtype.VType.{VType}
+use Rattle.jground.specs.declared.jtypes.vtype.VType.TheVariants as types
 use Rattle.jprogram.specs.declared.fault.LinkKind.{LinkKind}
 use Rattle.jprogram.specs.declared.fault.LinkKind.TheVariants.{LeftOut}
 use Rattle.jprogram.specs.declared.member.MethodId.{MethodId}
@@ -27,16 +27,16 @@ use Rattle.jprogram.specs.Naming.{naming_fault}
 use Rattle.jprogram.specs.Supers.{supers_fault}
 use Rattle.jprogram.specs.Parts as parts
 use Rattle.jprogram.specs.Parts.{code_of, has_code, member_desc, member_name}
-use Rattle.juses.specs.Instructions.{body_in, code_at, instruction}
-use Rattle.juses.specs.Typed.{Called, Held, Typed, Untyped, name, typed}
-use Rattle.jmembers.specs.Declares.{again_test, at_member, class_fault, fields_fault, final_test, is_native, is_synchronized, is_too_long, library_test, members_fault, method_left_out, method_left_out_test, method_test, methods_fault, text_left_out, types_test}
-use Rattle.jreferring.specs.Code.{code_fault}
-use Rattle.jlink.specs.Coded.{AreFiles}
-use Rattle.jlink.specs.Links.{Links, link_fault}
-use Rattle.jlink.proofs.Coded as coded
-use Rattle.jlink.proofs.Filed as filed
-use Rattle.jlink.proofs.There.{third_none}
-use Rattle.jlink.proofs.Typed.{no_fault}
+use Rattle.jmeaning.specs.juses.Instructions.{body_in, code_at, instruction}
+use Rattle.jmeaning.specs.juses.Typed.{Called, Held, Typed, Untyped, name, typed}
+use Rattle.jlinking.specs.jmembers.Declares.{again_test, at_member, class_fault, fields_fault, final_test, is_native, is_synchronized, is_too_long, library_test, members_fault, method_left_out, method_left_out_test, method_test, methods_fault, text_left_out, types_test}
+use Rattle.jlinking.specs.jreferring.Code.{code_fault}
+use Rattle.jlinking.specs.jlink.Coded.{AreFiles}
+use Rattle.jlinking.specs.jlink.Links.{Links, link_fault}
+use Rattle.jlinking.proofs.JlinkProofs.Coded as coded
+use Rattle.jlinking.proofs.JlinkProofs.Filed as filed
+use Rattle.jlinking.proofs.JlinkProofs.There.{third_none}
+use Rattle.jlinking.proofs.JlinkProofs.Typed.{no_fault}
 use Rattle.jtyping.specs.Methods.{params_of, receiver}
 use Rattle.jtyped.specs.Calling.{AllHaveCode, Coded, IsParameter, method}
 use Rattle.jtyped.specs.Fitting.{IsValueType}

@@ -6,17 +6,17 @@ use Rattle.std.specs.Str.{bytes_eq}
 use Rattle.std.proofs.lemmas.Slice.Eq.{bytes_eq-Decides}
 use Rattle.jclass.specs.Stored.{IsIn}
 use Rattle.jlib.specs.declared.classes.LibClass.TheVariants as lib
-use Rattle.jops.specs.declared.value.Value.{Value}
-use Rattle.jops.specs.declared.value.Value.TheVariants.{Ref}
-use Rattle.jtypes.specs.declared.vtype.VType.{VType}
-use Rattle.jtypes.specs.declared.vtype.VType.TheVariants as types
+use Rattle.jground.specs.declared.jops.value.Value.{Value}
+use Rattle.jground.specs.declared.jops.value.Value.TheVariants.{Ref}
+use Rattle.jground.specs.declared.jtypes.vtype.VType.{VType}
+use Rattle.jground.specs.declared.jtypes.vtype.VType.TheVariants as types
 use Rattle.jprogram.specs.declared.part.CodePart.{CodePart}
 use Rattle.jprogram.specs.Classes.{Program}
-use Rattle.jmachine.specs.Fields.{out}
-use Rattle.jmachine.specs.Objects.{Object, Array, Bare, Text}
-use Rattle.jmachine.specs.Opening.{arguments_number, arguments_type, constants_of, only, opening_state, opening_store, strings}
-use Rattle.jmachine.specs.Store.{Store, constant_at, object_at}
-use Rattle.jmachine.specs.World.{fits, world}
+use Rattle.jmodel.specs.jmachine.Fields.{out}
+use Rattle.jmodel.specs.jmachine.Objects.{Object, Array, Bare, Text}
+use Rattle.jmodel.specs.jmachine.Opening.{arguments_number, arguments_type, constants_of, only, opening_state, opening_store, strings}
+use Rattle.jmodel.specs.jmachine.Store.{Store, constant_at, object_at}
+use Rattle.jmodel.specs.jmachine.World.{fits, world}
 use Rattle.jtyped.specs.Stores.{IsObject, IsStored}
 use Rattle.jtyped.specs.Uses.{static_types}
 use Rattle.std.proofs.lemmas.List.{reverse-reverse}
@@ -29,19 +29,19 @@ use Rattle.jlib.specs.declared.side.Side.{Side}
 use Rattle.jlib.specs.declared.side.Side.TheVariants.{Source, Passing}
 use Rattle.jlib.specs.Classes as library
 use Rattle.jlib.specs.Classes.{same_side}
-use Rattle.jtypes.specs.Fitting.{array_fits}
+use Rattle.jground.specs.jtypes.Fitting.{array_fits}
 use Rattle.jprogram.specs.declared.member.MethodId.{MethodId}
 use Rattle.jprogram.specs.Members.{is_init, is_main, main_desc, main_in, main_of, method_id}
 use Rattle.jprogram.specs.Parts as parts
 use Rattle.jprogram.specs.Parts.{member_desc, member_name, this_name}
 use Rattle.jprogram.specs.Standing.{StandsInOrder}
 use Rattle.jprogram.proofs.Standing.{Stands, Users, Libs, Nowhere, stands}
-use Rattle.juses.specs.Instructions.{body_in}
-use Rattle.juses.specs.Typed.{Called, name, typed}
+use Rattle.jmeaning.specs.juses.Instructions.{body_in}
+use Rattle.jmeaning.specs.juses.Typed.{Called, name, typed}
 use Rattle.jtyping.specs.Methods as typing
 use Rattle.jtyping.specs.Methods.{params_of, return_of}
-use Rattle.jmachine.specs.Frames.{domain_of}
-use Rattle.jmachine.specs.Security.{handed}
+use Rattle.jmodel.specs.jmachine.Frames.{domain_of}
+use Rattle.jmodel.specs.jmachine.Security.{handed}
 use Rattle.jtyped.specs.Calling.{Coded, IsGiven, method, within}
 use Rattle.jtyped.specs.Frames.{AllHave, News}
 use Rattle.jtyped.specs.States.{AreStacked}

@@ -1,9 +1,9 @@
 -- A store with fewer cells left holds the same.
 use Rattle.std.proofs.Common.{◌≡◌, ℕ, zero, suc, List, Some, refl}
-use Rattle.jtypes.specs.declared.vtype.VType.{VType}
-use Rattle.jmachine.specs.Objects.{Object}
-use Rattle.jmachine.specs.Store.{Store, object_at, paid}
-use Rattle.jmachine.specs.World.{World}
+use Rattle.jground.specs.declared.jtypes.vtype.VType.{VType}
+use Rattle.jmodel.specs.jmachine.Objects.{Object}
+use Rattle.jmodel.specs.jmachine.Store.{Store, object_at, paid}
+use Rattle.jmodel.specs.jmachine.World.{World}
 use Rattle.jtyped.specs.Growing.{Grows}
 use Rattle.jtyped.specs.Stores.{IsStored}
 use Rattle.jtyped.proofs.Storing.{are_kept, object_kept}

@@ -5,40 +5,40 @@ use Rattle.std.specs.List.{AllByRecursion, filter, flat_map}
 use Rattle.std.specs.Option.{IsSome}
 use Rattle.std.specs.Str.{byte, bytes_eq}
 use Rattle.std.proofs.lemmas.Bool.{or_parts}
-use Rattle.jbase.proofs.Firsts.{none_fails, none_of}
-use Rattle.jformat.proofs.Steps.{first_true, second_true}
-use Rattle.jpool.specs.declared.descriptor.Descriptor.{Descriptor}
-use Rattle.jpool.specs.declared.descriptor.FieldType.{FieldType}
-use Rattle.jpool.specs.Descriptors.{descriptor_of, descriptor_text, field, field_of, is_base, is_class_sign, is_type, is_well_formed}
-use Rattle.jpool.specs.Names.{is_class_name}
-use Rattle.jpool.proofs.Spelled.{descriptor_again, field_take}
+use Rattle.jground.proofs.JbaseProofs.Firsts.{none_fails, none_of}
+use Rattle.jground.proofs.JformatProofs.Steps.{first_true, second_true}
+use Rattle.jparts.specs.declared.jpool.descriptor.Descriptor.{Descriptor}
+use Rattle.jparts.specs.declared.jpool.descriptor.FieldType.{FieldType}
+use Rattle.jparts.specs.jpool.Descriptors.{descriptor_of, descriptor_text, field, field_of, is_base, is_class_sign, is_type, is_well_formed}
+use Rattle.jparts.specs.jpool.Names.{is_class_name}
+use Rattle.jparts.proofs.JpoolProofs.Spelled.{descriptor_again, field_take}
 use Rattle.jclass.specs.declared.class.ClassParts.{ClassParts}
 use Rattle.jclass.specs.declared.class.MemberInfo.{MemberInfo}
-use Rattle.jtypes.specs.declared.vtype.Element.{Element}
-use Rattle.jtypes.specs.declared.vtype.Element.TheVariants as elements
-use Rattle.jtypes.specs.declared.vtype.Name.{Name}
-use Rattle.jtypes.specs.declared.vtype.VType.TheVariants as types
-use Rattle.jtypes.specs.Described.{element_of, in_brackets}
+use Rattle.jground.specs.declared.jtypes.vtype.Element.{Element}
+use Rattle.jground.specs.declared.jtypes.vtype.Element.TheVariants as elements
+use Rattle.jground.specs.declared.jtypes.vtype.Name.{Name}
+use Rattle.jground.specs.declared.jtypes.vtype.VType.TheVariants as types
+use Rattle.jground.specs.jtypes.Described.{element_of, in_brackets}
 use Rattle.jprogram.specs.declared.fault.LinkKind.{LinkKind}
 use Rattle.jprogram.specs.declared.fault.LinkKind.TheVariants.{LeftOut, NoClass}
 use Rattle.jprogram.specs.declared.part.CodePart.{CodePart}
 use Rattle.jprogram.specs.Classes.{Program, find}
 use Rattle.jprogram.specs.Parts.{member_desc}
 use Rattle.jprogram.specs.Supers.{is_missing}
-use Rattle.juses.specs.Typed.{element_in, name, there, type_in, type_of, typed, typed_as}
-use Rattle.juses.specs.Typed as says
-use Rattle.jlayout.specs.Layout.{field_type, is_static, statics_of}
-use Rattle.jlayout.specs.Layout as laid
-use Rattle.jlayout.specs.Numbered.{all_statics}
-use Rattle.jmembers.specs.Declares.{again_test, at_member, class_fault, desc_left_out, desc_missing, field_left_out, field_left_out_test, field_test, fields_fault, methods_fault, text_left_out, text_missing, type_missing, types_test}
+use Rattle.jmeaning.specs.juses.Typed.{element_in, name, there, type_in, type_of, typed, typed_as}
+use Rattle.jmeaning.specs.juses.Typed as says
+use Rattle.jmeaning.specs.jlayout.Layout.{field_type, is_static, statics_of}
+use Rattle.jmeaning.specs.jlayout.Layout as laid
+use Rattle.jmeaning.specs.jlayout.Numbered.{all_statics}
+use Rattle.jlinking.specs.jmembers.Declares.{again_test, at_member, class_fault, desc_left_out, desc_missing, field_left_out, field_left_out_test, field_test, fields_fault, methods_fault, text_left_out, text_missing, type_missing, types_test}
 use Rattle.jprogram.specs.LeftOut.{context, is_context, is_floating}
-use Rattle.jlink.specs.Coded.{AreFiles}
-use Rattle.jlink.specs.Fields.{is_plain}
-use Rattle.jlink.specs.Links.{Links}
-use Rattle.jlink.proofs.Filed.{field_desc}
-use Rattle.jlink.proofs.Having.{has_some}
-use Rattle.jlink.proofs.There.{third_none}
-use Rattle.jlink.proofs.Typed.{no_fault}
+use Rattle.jlinking.specs.jlink.Coded.{AreFiles}
+use Rattle.jlinking.specs.jlink.Fields.{is_plain}
+use Rattle.jlinking.specs.jlink.Links.{Links}
+use Rattle.jlinking.proofs.JlinkProofs.Filed.{field_desc}
+use Rattle.jlinking.proofs.JlinkProofs.Having.{has_some}
+use Rattle.jlinking.proofs.JlinkProofs.There.{third_none}
+use Rattle.jlinking.proofs.JlinkProofs.Typed.{no_fault}
 use Rattle.jtyped.specs.Uses.{static_types}
 use Rattle.jtyped.proofs.Dimensions.{all_append}
 use Rattle.jsafe.proofs.Linked.{all_of, class_none, second_none}

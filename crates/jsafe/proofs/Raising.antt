@@ -13,9 +13,9 @@ use Rattle.jprogram.specs.Standing.{StandsInOrder}
 use Rattle.jprogram.proofs.Extending.{extends_chain, extends_itself, up_is}
 use Rattle.jprogram.proofs.Settling.{name_equal}
 use Rattle.jprogram.proofs.Standing.{lib_find, not_taken}
-use Rattle.jtypes.specs.Fitting.{class_fits}
-use Rattle.jmachine.specs.Objects.{library_name}
-use Rattle.jmachine.specs.World.{world}
+use Rattle.jground.specs.jtypes.Fitting.{class_fits}
+use Rattle.jmodel.specs.jmachine.Objects.{library_name}
+use Rattle.jmodel.specs.jmachine.World.{world}
 use Rattle.jtyped.specs.Values.{CanBeThrown}
 use Rattle.jyield.proofs.Classes.{thrown_plain}
 

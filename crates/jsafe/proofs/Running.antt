@@ -1,13 +1,13 @@
 -- Runs of typed states.
 use Rattle.std.proofs.Common.{◌≡◌, ℕ, zero, suc, Option, Some, None}
-use Rattle.jtrace.specs.declared.event.End.{End}
+use Rattle.jrights.specs.declared.jtrace.event.End.{End}
 use Rattle.jprogram.specs.Classes.{Program}
-use Rattle.jmachine.specs.declared.plan.Plan.{Plan}
-use Rattle.jmachine.specs.Acts.{NoStep, Outcome, Over, State, Went}
-use Rattle.jmachine.specs.Machine.{opening, run}
-use Rattle.jmachine.specs.Runs.{Run, after, next_at, run_from}
-use Rattle.jmachine.specs.Security.{Rules}
-use Rattle.jmachine.specs.Steps.{step}
+use Rattle.jmodel.specs.declared.jmachine.plan.Plan.{Plan}
+use Rattle.jmodel.specs.jmachine.Acts.{NoStep, Outcome, Over, State, Went}
+use Rattle.jmodel.specs.jmachine.Machine.{opening, run}
+use Rattle.jmodel.specs.jmachine.Runs.{Run, after, next_at, run_from}
+use Rattle.jmodel.specs.jmachine.Security.{Rules}
+use Rattle.jmodel.specs.jmachine.Steps.{step}
 use Rattle.jyield.specs.Laws.{AreSided}
 use Rattle.jsafe.specs.Sound.{IsSound}
 use Rattle.jsafe.specs.States.{ComesTo, IsTypedRun, IsTypedState, RunsTyped}

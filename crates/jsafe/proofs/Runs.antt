@@ -7,7 +7,7 @@ use Rattle.jlib.specs.declared.side.Side.TheVariants.{Source, Passing}
 use Rattle.jlib.specs.Calls as library_calls
 use Rattle.jprogram.specs.Classes.{Program}
 use Rattle.jprogram.specs.Members.{init}
-use Rattle.jrule.specs.Uses.{of_library}
+use Rattle.jmeaning.specs.jrule.Uses.{of_library}
 use Rattle.std.specs.Str.{bytes_eq}
 use Rattle.jtyped.specs.Laws.{HasCode}
 use Rattle.jyield.proofs.Chosen.{action_says, run_says}

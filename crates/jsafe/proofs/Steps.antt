@@ -2,41 +2,41 @@
 use Rattle.std.proofs.Common.{◌≡◌, ◌⊎◌, ℕ, zero, suc, ◌+◌, inl, inr, arith, false, List, [], ◌∷◌, ◌++◌, Option, Some, None, option_map, refl, sym, ap, subst, ◌∙◌}
 use Rattle.std.specs.Option.{option_to_list}
 use Rattle.std.specs.Prelude.{slice_get}
-use Rattle.jcode.specs.declared.op.Placed.{Placed}
+use Rattle.jparts.specs.declared.jcode.op.Placed.{Placed}
 use Rattle.jlib.specs.declared.calls.LibCall.TheVariants as calls
 use Rattle.jlib.specs.declared.classes.LibClass.TheVariants as lib
-use Rattle.jops.specs.declared.value.Value.{Value}
-use Rattle.jops.specs.declared.value.Value.TheVariants.{Ref}
-use Rattle.jtypes.specs.declared.vtype.VType.{VType}
-use Rattle.jtypes.specs.declared.vtype.VType.TheVariants as types
+use Rattle.jground.specs.declared.jops.value.Value.{Value}
+use Rattle.jground.specs.declared.jops.value.Value.TheVariants.{Ref}
+use Rattle.jground.specs.declared.jtypes.vtype.VType.{VType}
+use Rattle.jground.specs.declared.jtypes.vtype.VType.TheVariants as types
 use Rattle.jprogram.specs.Classes.{Program}
 use Rattle.jprogram.specs.Members.{desc_of}
-use Rattle.juses.specs.declared.meaning.How.{How}
-use Rattle.juses.specs.declared.meaning.How.TheVariants as how
-use Rattle.juses.specs.Instructions.{Instruction, Simple, Local, Stack, Jump, Switch, Return, Throw, Array, Used, instruction}
-use Rattle.juses.specs.Meanings as meanings
-use Rattle.juses.specs.Meanings.{CallMeaning}
-use Rattle.juses.specs.Typed.{typed}
-use Rattle.jlink.specs.Called.{begins}
-use Rattle.jrule.specs.Here.{Here}
-use Rattle.jrule.specs.Rule.{rule}
-use Rattle.jrule.specs.Uses.{of_library}
+use Rattle.jmeaning.specs.declared.juses.meaning.How.{How}
+use Rattle.jmeaning.specs.declared.juses.meaning.How.TheVariants as how
+use Rattle.jmeaning.specs.juses.Instructions.{Instruction, Simple, Local, Stack, Jump, Switch, Return, Throw, Array, Used, instruction}
+use Rattle.jmeaning.specs.juses.Meanings as meanings
+use Rattle.jmeaning.specs.juses.Meanings.{CallMeaning}
+use Rattle.jmeaning.specs.juses.Typed.{typed}
+use Rattle.jlinking.specs.jlink.Called.{begins}
+use Rattle.jmeaning.specs.jrule.Here.{Here}
+use Rattle.jmeaning.specs.jrule.Rule.{rule}
+use Rattle.jmeaning.specs.jrule.Uses.{of_library}
 use Rattle.jtyping.specs.Declared.{written}
 use Rattle.jtyping.specs.Methods.{Method, here_of}
 use Rattle.jtyping.specs.Typed.{Serves}
 use Rattle.jtyping.proofs.Successors.{gives_rule, number_onward}
-use Rattle.jmachine.specs.declared.plan.Plan.{Plan}
-use Rattle.jmachine.specs.Acts.{Act, Calls, FrameOf, Goes, Jumps, Leaves, Makes, Outcome, Raises, Row, State, Switches, Throws, free, raises}
-use Rattle.jmachine.specs.Calls.{Fails, Pushes, Runs, Target, by_interface}
-use Rattle.jmachine.specs.Doing.{Doing, called, doing}
-use Rattle.jmachine.specs.Frames.{onward, standing, with_operands}
-use Rattle.jmachine.specs.Objects.{Object}
-use Rattle.jmachine.specs.Security.{Rules, handed}
-use Rattle.jmachine.specs.Sites.{Site}
-use Rattle.jmachine.specs.Steps as steps
-use Rattle.jmachine.specs.Steps.{acted, begun_on, done, entries, executed, fetched, first_done, first_row, own_fields, site, step, step_at}
-use Rattle.jmachine.specs.Store.{Store, object_at}
-use Rattle.jmachine.specs.World.{world}
+use Rattle.jmodel.specs.declared.jmachine.plan.Plan.{Plan}
+use Rattle.jmodel.specs.jmachine.Acts.{Act, Calls, FrameOf, Goes, Jumps, Leaves, Makes, Outcome, Raises, Row, State, Switches, Throws, free, raises}
+use Rattle.jmodel.specs.jmachine.Calls.{Fails, Pushes, Runs, Target, by_interface}
+use Rattle.jmodel.specs.jmachine.Doing.{Doing, called, doing}
+use Rattle.jmodel.specs.jmachine.Frames.{onward, standing, with_operands}
+use Rattle.jmodel.specs.jmachine.Objects.{Object}
+use Rattle.jmodel.specs.jmachine.Security.{Rules, handed}
+use Rattle.jmodel.specs.jmachine.Sites.{Site}
+use Rattle.jmodel.specs.jmachine.Steps as steps
+use Rattle.jmodel.specs.jmachine.Steps.{acted, begun_on, done, entries, executed, fetched, first_done, first_row, own_fields, site, step, step_at}
+use Rattle.jmodel.specs.jmachine.Store.{Store, object_at}
+use Rattle.jmodel.specs.jmachine.World.{world}
 use Rattle.jtyped.specs.Calling.{CanInit, IsAboveHere, IsCall, IsInit, IsTarget, IsUsable, method}
 use Rattle.jtyped.specs.Laws.{IsStraight}
 use Rattle.jtyped.specs.Frames.{AllHave, AllHold, News, Suits}

@@ -4,18 +4,18 @@ use Rattle.std.specs.Prelude.{slice_get, slice_index_or, slice_set}
 use Rattle.std.specs.List.{AllByRecursion, Contains}
 use Rattle.std.proofs.lemmas.List.{length-append, length-map}
 use Rattle.jlib.specs.declared.side.Side.{Side}
-use Rattle.jops.specs.declared.value.Value.TheVariants.{Ref}
+use Rattle.jground.specs.declared.jops.value.Value.TheVariants.{Ref}
 use Rattle.jthreads.specs.declared.thread.Thread.{Thread}
 use Rattle.jthreads.specs.Schedule.{number_at, picked}
 use Rattle.jthreads.specs.Table.{runnable_numbers, thread_at, is_runnable, woken}
 use Rattle.jthreads.proofs.Numbers.{within}
-use Rattle.jtrace.specs.declared.event.Event.{Event}
+use Rattle.jrights.specs.declared.jtrace.event.Event.{Event}
 use Rattle.jprogram.specs.Classes.{Program}
-use Rattle.jmachine.specs.Acts.{FrameOf, GuestOf, State}
-use Rattle.jmachine.specs.Security.{handed}
-use Rattle.jmachine.specs.Store.{Store}
-use Rattle.jmachine.specs.Turns.{ended, given_to, guests, thread_of, turn_of, turned, with_ended, with_guest, with_running, with_table}
-use Rattle.jmachine.specs.World.{world}
+use Rattle.jmodel.specs.jmachine.Acts.{FrameOf, GuestOf, State}
+use Rattle.jmodel.specs.jmachine.Security.{handed}
+use Rattle.jmodel.specs.jmachine.Store.{Store}
+use Rattle.jmodel.specs.jmachine.Turns.{ended, given_to, guests, thread_of, turn_of, turned, with_ended, with_guest, with_running, with_table}
+use Rattle.jmodel.specs.jmachine.World.{world}
 use Rattle.jtyped.specs.Growing.{Grows}
 use Rattle.jtyped.specs.States.{AreStacked}
 use Rattle.jtyped.specs.Stores.{IsStored}

@@ -1,14 +1,14 @@
 -- What the typed states of a program rest on: it links and is well typed, and what linking says of its instructions.
 use Rattle.std.specs.Prelude.{◌≡◌, ℕ, Some, slice_get}
-use Rattle.jcode.specs.declared.op.Placed.{Placed}
+use Rattle.jparts.specs.declared.jcode.op.Placed.{Placed}
 use Rattle.jprogram.specs.declared.member.MethodId.{MethodId}
 use Rattle.jprogram.specs.Classes.{Program}
-use Rattle.juses.specs.declared.meaning.How.TheVariants as how
-use Rattle.juses.specs.Instructions.{Instruction, Used, instruction}
-use Rattle.juses.specs.Meanings as meanings
-use Rattle.jlink.specs.Coded.{AreFiles}
-use Rattle.jlink.specs.Links.{Links}
-use Rattle.jrule.specs.Here.{Here}
+use Rattle.jmeaning.specs.declared.juses.meaning.How.TheVariants as how
+use Rattle.jmeaning.specs.juses.Instructions.{Instruction, Used, instruction}
+use Rattle.jmeaning.specs.juses.Meanings as meanings
+use Rattle.jlinking.specs.jlink.Coded.{AreFiles}
+use Rattle.jlinking.specs.jlink.Links.{Links}
+use Rattle.jmeaning.specs.jrule.Here.{Here}
 use Rattle.jtyping.specs.Methods.{here_of}
 use Rattle.jtyping.specs.Typed.{ProgramIsTyped}
 use Rattle.jtyped.specs.Calling.{Coded, IsAboveHere, IsCall, IsInit, method}

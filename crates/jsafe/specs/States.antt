@@ -3,22 +3,22 @@ use Rattle.std.specs.Prelude.{◌≡◌, ◌⊎◌, ℕ, List, length, Some, is_
 use Rattle.std.specs.List.{AllByRecursion}
 use Rattle.jlib.specs.declared.classes.LibClass.TheVariants as lib
 use Rattle.jlib.specs.declared.side.Side.{Side}
-use Rattle.jops.specs.declared.value.Value.TheVariants.{Ref}
+use Rattle.jground.specs.declared.jops.value.Value.TheVariants.{Ref}
 use Rattle.jprogram.specs.declared.member.MethodId.{MethodId}
 use Rattle.jprogram.specs.Classes.{Program}
 use Rattle.jprogram.specs.Members.{main_of}
-use Rattle.juses.specs.Instructions.{code_at}
-use Rattle.jrule.specs.Uses.{of_library}
-use Rattle.jmachine.specs.declared.plan.Plan.{Plan}
-use Rattle.jmachine.specs.Acts.{GuestOf, NoStep, Outcome, Over, State, Went}
-use Rattle.jmachine.specs.Machine.{run}
-use Rattle.jmachine.specs.Opening.{opening_state}
-use Rattle.jmachine.specs.Runs.{Run}
-use Rattle.jmachine.specs.Security.{Rules, handed}
-use Rattle.jmachine.specs.Steps.{step}
-use Rattle.jmachine.specs.Store.{Store}
-use Rattle.jmachine.specs.Turns.{guests}
-use Rattle.jmachine.specs.World.{world}
+use Rattle.jmeaning.specs.juses.Instructions.{code_at}
+use Rattle.jmeaning.specs.jrule.Uses.{of_library}
+use Rattle.jmodel.specs.declared.jmachine.plan.Plan.{Plan}
+use Rattle.jmodel.specs.jmachine.Acts.{GuestOf, NoStep, Outcome, Over, State, Went}
+use Rattle.jmodel.specs.jmachine.Machine.{run}
+use Rattle.jmodel.specs.jmachine.Opening.{opening_state}
+use Rattle.jmodel.specs.jmachine.Runs.{Run}
+use Rattle.jmodel.specs.jmachine.Security.{Rules, handed}
+use Rattle.jmodel.specs.jmachine.Steps.{step}
+use Rattle.jmodel.specs.jmachine.Store.{Store}
+use Rattle.jmodel.specs.jmachine.Turns.{guests}
+use Rattle.jmodel.specs.jmachine.World.{world}
 use Rattle.jtyped.specs.States.{AreStacked}
 use Rattle.jtyped.specs.Stores.{IsStored}
 use Rattle.jtyped.specs.Uses.{static_types}

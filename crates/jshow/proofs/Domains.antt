@@ -5,9 +5,9 @@ use Rattle.std.proofs.Math.Seq.{drop-cons}
 use Rattle.std.proofs.Math.ListN.{drop_of_length-le}
 use Rattle.std.proofs.lemmas.List.{append-nil}
 use Rattle.url.specs.Parts.{Parts}
-use Rattle.jbase.specs.Causes.{appended, IsCut}
-use Rattle.jbase.proofs.Cuts.{appended_both, appended_nil, cut_more, cut_then}
-use Rattle.jperm.specs.declared.permission.Permission.{Permission}
+use Rattle.jground.specs.jbase.Causes.{appended, IsCut}
+use Rattle.jground.proofs.JbaseProofs.Cuts.{appended_both, appended_nil, cut_more, cut_then}
+use Rattle.jrights.specs.declared.jperm.permission.Permission.{Permission}
 use Rattle.jshow.specs.Listings.{domain_lines, listing}
 
 -- All lines are those that went out, and those of the domains from the i-th on.

@@ -4,8 +4,8 @@ use Rattle.std.proofs.Math.Seq.{drop-cons}
 use Rattle.std.proofs.lemmas.List.{take-append-drop}
 use Rattle.std.proofs.lemmas.List.Concat.{flat_map-append, flat_map-cons}
 use Rattle.std.specs.List.{flat_map}
-use Rattle.jbase.specs.Causes.{appended, IsCut}
-use Rattle.jbase.proofs.Cuts.{cut_then, cut_more}
+use Rattle.jground.specs.jbase.Causes.{appended, IsCut}
+use Rattle.jground.proofs.JbaseProofs.Cuts.{cut_then, cut_more}
 
 -- The lines of the items before one went out, and a front of its line.
 pub cut_item : {A : Type 0} (line : A → List ℕ) (xs : List A) (i : ℕ) (x : A) (old mid new : Option (List ℕ)) → i < length xs → x ≡ get_or xs i x → mid ≡ appended old (flat_map line (take i xs)) → IsCut mid new (line x) → IsCut old new (flat_map line xs)

@@ -1,11 +1,11 @@
 -- Lines that were written, and lines that were cut.
 use Rattle.std.proofs.Common.{◌≡◌, ◌≤◌, ℕ, ◌++◌, List, Option, Result, Ok, Err, ap, arith}
 use Rattle.std.proofs.lemmas.Result.{on_err_weaker, on_ok_weaker}
-use Rattle.jbase.specs.Causes.{HasCause, IsCut, appended}
-use Rattle.jbase.proofs.Cuts.{cut_at, cut_then, then_whole}
-use Rattle.jio.specs.Puts.{IsCutAt}
-use Rattle.jtrace.specs.declared.fault.RunFault.{RunFault}
-use Rattle.jtrace.specs.declared.fault.RunFault.TheVariants.{Sink}
+use Rattle.jground.specs.jbase.Causes.{HasCause, IsCut, appended}
+use Rattle.jground.proofs.JbaseProofs.Cuts.{cut_at, cut_then, then_whole}
+use Rattle.jrights.specs.jio.Puts.{IsCutAt}
+use Rattle.jrights.specs.declared.jtrace.fault.RunFault.{RunFault}
+use Rattle.jrights.specs.declared.jtrace.fault.RunFault.TheVariants.{Sink}
 use Rattle.jshow.specs.declared.status.Status.TheVariants.{WriteFault}
 use Rattle.jshow.specs.Answering.{Answer, Puts, Shows}
 

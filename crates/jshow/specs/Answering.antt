@@ -1,9 +1,9 @@
 -- Answers: a text, the files that are stored, and a status; what a call wrote whose answer is one, and what a call does to its sink.
 use Rattle.std.specs.Prelude.{◌≡◌, ◌≤◌, ℕ, List, [], Option, Some, Result, Err, OnErr, OnOk}
-use Rattle.jbase.specs.Causes.{appended, IsCut, Rose}
-use Rattle.jio.specs.Held.{File}
-use Rattle.jtrace.specs.declared.fault.RunFault.{RunFault}
-use Rattle.jtrace.specs.declared.fault.RunFault.TheVariants as run_faults
+use Rattle.jground.specs.jbase.Causes.{appended, IsCut, Rose}
+use Rattle.jrights.specs.jio.Held.{File}
+use Rattle.jrights.specs.declared.jtrace.fault.RunFault.{RunFault}
+use Rattle.jrights.specs.declared.jtrace.fault.RunFault.TheVariants as run_faults
 use Rattle.jshow.specs.declared.status.Status.{Status}
 use Rattle.jshow.specs.declared.status.Status.TheVariants as statuses
 

@@ -1,7 +1,7 @@
 -- The lines of refusals.
 use Rattle.std.specs.Prelude.{ℕ, List, ◌++◌, Option, Some, None, codes, decimal}
-use Rattle.jio.specs.Text.{written}
-use Rattle.jtext.specs.Texts.{units_of_text}
+use Rattle.jrights.specs.jio.Text.{written}
+use Rattle.jground.specs.jtext.Texts.{units_of_text}
 use Rattle.jclass.specs.declared.fault.ClassFault.{ClassFault}
 use Rattle.jclass.specs.declared.fault.ClassFault.TheVariants as kinds
 use Rattle.jprogram.specs.declared.fault.LinkKind.{LinkKind}

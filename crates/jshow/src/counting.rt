@@ -3,8 +3,8 @@ ghost use Rattle.jshow.specs.Answering.{Shows, listed};
 ghost use Rattle.jshow.specs.Counting.{checked_line, methods_in, methods_of};
 
 use crate::status::Status;
-use jio::{Part, Sink, write_line};
 use jprogram::{CodePart, has_code};
+use jrights::jio::{Part, Sink, write_line};
 
 /// How many methods of a class have code.
 fn methods_in(part: &CodePart) -> usize

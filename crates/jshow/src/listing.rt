@@ -1,14 +1,14 @@
 ghost use Rattle.std.specs.Prelude.{◌≡◌, ◌<◌, ◌^◌, IfOk, length};
-ghost use Rattle.jio.specs.LineOf.{line_of, room_of};
+ghost use Rattle.jrights.specs.jio.LineOf.{line_of, room_of};
 ghost use Rattle.jshow.specs.Answering.{Puts};
 ghost use Rattle.jshow.specs.Refusals.{text_line};
 ghost use Rattle.jshow.specs.Listings.{domain_line, domain_lines, listing, permission_line, permission_lines, permission_units, permission_word};
 
-use jdomain::{CodeSource, Domains};
-use jio::{Part, Sink, write_line};
-use jperm::Permission;
-use jtext::Units;
-use jtrace::RunFault;
+use jground::jtext::Units;
+use jrights::jdomain::{CodeSource, Domains};
+use jrights::jio::{Part, Sink, write_line};
+use jrights::jperm::Permission;
+use jrights::jtrace::RunFault;
 use std::alloc::{AllocError, Global};
 
 /// The most units of a permission in a line.

@@ -1,9 +1,9 @@
 use jclass::ClassFault;
+use jground::jtext::Units;
 use jjob::Text;
 use jmoveclass::RewriteKind;
 use jpolicy::PolicyFault;
 use jprogram::LinkKind;
-use jtext::Units;
 
 /// What is refused.
 #[rattlefmt::skip]

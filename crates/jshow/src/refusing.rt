@@ -1,6 +1,6 @@
 ghost use Rattle.std.specs.Prelude.{◌≡◌, ◌<◌, ◌^◌, IfSome, length};
-ghost use Rattle.jio.specs.LineOf.{line_of, part_of, part_room, room_of};
-ghost use Rattle.jio.specs.Text.{written};
+ghost use Rattle.jrights.specs.jio.LineOf.{line_of, part_of, part_room, room_of};
+ghost use Rattle.jrights.specs.jio.Text.{written};
 ghost use Rattle.jshow.specs.Answering.{Shows, refused_answer};
 ghost use Rattle.jshow.specs.Refusals.{check_line, check_text, class_line, job_line, link_line, member_or_dash, policy_line, refusal_line, text_line};
 ghost use Rattle.jshow.specs.Refusals.{class_opcode, class_text, class_word, limit_size, limit_word, link_text, link_word, policy_word, rewrite_line, rewrite_text};
@@ -8,12 +8,12 @@ ghost use Rattle.jshow.specs.Refusals.{class_opcode, class_text, class_word, lim
 use crate::refusal::Refusal;
 use crate::status::Status;
 use jclass::ClassFault;
-use jio::{Part, Sink, write_line};
+use jground::jtext::Units;
 use jjob::Text;
 use jmoveclass::RewriteKind;
 use jpolicy::PolicyFault;
 use jprogram::LinkKind;
-use jtext::Units;
+use jrights::jio::{Part, Sink, write_line};
 use std::alloc::Global;
 
 /// The most units of a name in a refusal.

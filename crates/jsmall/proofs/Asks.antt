@@ -4,7 +4,7 @@ use Rattle.std.specs.Prelude.{◌==◌, ◌||◌, IfSome, nat_le, option_and_the
 use Rattle.std.specs.Int.{w32, cast_unsigned}
 use Rattle.std.specs.List.{list_any}
 use Rattle.std.proofs.lemmas.Bool.{eq-eqb}
-use Rattle.jperm.specs.declared.permission.Permission as perms
+use Rattle.jrights.specs.declared.jperm.permission.Permission as perms
 use Rattle.jclass.specs.declared.class.ClassParts.{ClassParts}
 use Rattle.jlib.specs.declared.calls.ControllerCall.{ControllerCall}
 use Rattle.jlib.specs.declared.calls.ControllerCall.TheVariants as controller
@@ -17,38 +17,38 @@ use Rattle.jlib.specs.declared.calls.ThreadCall.TheVariants as threads
 use Rattle.jlib.specs.declared.side.Side.{Side}
 use Rattle.jlib.specs.declared.side.Side.TheVariants.{Source, Passing}
 use Rattle.jlib.specs.Calls as library
-use Rattle.jops.specs.declared.value.Value.{Value}
-use Rattle.jops.specs.declared.value.Value.TheVariants.{Int, Long, Ref, Ctx}
+use Rattle.jground.specs.declared.jops.value.Value.{Value}
+use Rattle.jground.specs.declared.jops.value.Value.TheVariants.{Int, Long, Ref, Ctx}
 use Rattle.jthreads.specs.declared.thread.Thread.{Thread as Guest}
-use Rattle.jtypes.specs.declared.vtype.Name.{Name}
+use Rattle.jground.specs.declared.jtypes.vtype.Name.{Name}
 use Rattle.jprogram.specs.declared.member.MethodId.{MethodId}
 use Rattle.jprogram.specs.declared.part.CodePart.{CodePart}
 use Rattle.jprogram.specs.Classes.{Program}
 use Rattle.jprogram.specs.Members.{part_of}
-use Rattle.juses.specs.declared.meaning.How.{How}
-use Rattle.juses.specs.declared.meaning.How.TheVariants as how
-use Rattle.juses.specs.Instructions.{Instruction, Simple, Local, Stack, Jump, Switch, Return, Throw, Array, Used, body_in, instruction, instruction_at, instruction_in}
-use Rattle.juses.specs.Meanings as meanings
-use Rattle.juses.specs.Meanings.{CallMeaning}
-use Rattle.jlink.proofs.Having.{map_is, then_is}
-use Rattle.jrule.specs.Effects.{Want}
-use Rattle.jrule.specs.Uses.{arguments, of_call}
-use Rattle.jmachine.specs.declared.plan.Plan.{Plan}
-use Rattle.jmachine.specs.Acts.{FrameOf, State}
-use Rattle.jmachine.specs.Asked.{Ask, Checks, ChecksKept, Snapshots, Inherits, Enters, Privileges, action_of, asked_by, asked_on, asks, call_asks, call_taken, called_asks, checks_kept, context_asks, inherits, instruction_asks, privileges, privileges_by, privileges_limited, privileges_within, rt_asks, run_asks, thread_asks, used_asks, where_run}
-use Rattle.jmachine.specs.Asking.{domain_of}
-use Rattle.jmachine.specs.Calls.{Fails, Pushes, Runs, Target, begun_on, init_taken, may_begin, target}
-use Rattle.jmachine.specs.Frames as frames
-use Rattle.jmachine.specs.Objects.{Object, Instance, Thrown, Text, Builder, Piece, Permission, Context, Thread, Bare}
-use Rattle.jmachine.specs.Objects as objects
-use Rattle.jmachine.specs.Operands.{Taken, serves, taken, with_value}
-use Rattle.jmachine.specs.Privileges.{given, limits}
-use Rattle.jmachine.specs.Security.{kept_in, permission_in}
-use Rattle.jmachine.specs.Sites.{Site}
-use Rattle.jmachine.specs.Steps.{fetched, unless_last}
-use Rattle.jmachine.specs.Store.{Store, object_at, object_of}
-use Rattle.jmachine.specs.Turns.{thread_of}
-use Rattle.jmachine.specs.World.{World, world}
+use Rattle.jmeaning.specs.declared.juses.meaning.How.{How}
+use Rattle.jmeaning.specs.declared.juses.meaning.How.TheVariants as how
+use Rattle.jmeaning.specs.juses.Instructions.{Instruction, Simple, Local, Stack, Jump, Switch, Return, Throw, Array, Used, body_in, instruction, instruction_at, instruction_in}
+use Rattle.jmeaning.specs.juses.Meanings as meanings
+use Rattle.jmeaning.specs.juses.Meanings.{CallMeaning}
+use Rattle.jlinking.proofs.JlinkProofs.Having.{map_is, then_is}
+use Rattle.jmeaning.specs.jrule.Effects.{Want}
+use Rattle.jmeaning.specs.jrule.Uses.{arguments, of_call}
+use Rattle.jmodel.specs.declared.jmachine.plan.Plan.{Plan}
+use Rattle.jmodel.specs.jmachine.Acts.{FrameOf, State}
+use Rattle.jmodel.specs.jmachine.Asked.{Ask, Checks, ChecksKept, Snapshots, Inherits, Enters, Privileges, action_of, asked_by, asked_on, asks, call_asks, call_taken, called_asks, checks_kept, context_asks, inherits, instruction_asks, privileges, privileges_by, privileges_limited, privileges_within, rt_asks, run_asks, thread_asks, used_asks, where_run}
+use Rattle.jmodel.specs.jmachine.Asking.{domain_of}
+use Rattle.jmodel.specs.jmachine.Calls.{Fails, Pushes, Runs, Target, begun_on, init_taken, may_begin, target}
+use Rattle.jmodel.specs.jmachine.Frames as frames
+use Rattle.jmodel.specs.jmachine.Objects.{Object, Instance, Thrown, Text, Builder, Piece, Permission, Context, Thread, Bare}
+use Rattle.jmodel.specs.jmachine.Objects as objects
+use Rattle.jmodel.specs.jmachine.Operands.{Taken, serves, taken, with_value}
+use Rattle.jmodel.specs.jmachine.Privileges.{given, limits}
+use Rattle.jmodel.specs.jmachine.Security.{kept_in, permission_in}
+use Rattle.jmodel.specs.jmachine.Sites.{Site}
+use Rattle.jmodel.specs.jmachine.Steps.{fetched, unless_last}
+use Rattle.jmodel.specs.jmachine.Store.{Store, object_at, object_of}
+use Rattle.jmodel.specs.jmachine.Turns.{thread_of}
+use Rattle.jmodel.specs.jmachine.World.{World, world}
 use Rattle.jsmall.specs.Small.{class_domains}
 use Rattle.jsmall.proofs.Coming.{ComesWell, target_well}
 use Rattle.jsmall.proofs.Members.{IsOnSide, NamesOn, names_on}

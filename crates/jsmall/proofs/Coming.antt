@@ -3,14 +3,14 @@ use Rattle.std.proofs.Common.{◌≡◌, ℕ, zero, suc, Bool, true, false, not,
 use Rattle.std.specs.Prelude.{IfSome, option_map, option_and_then, if◌then◌else◌}
 use Rattle.std.specs.List.{AllByRecursion}
 use Rattle.std.specs.Str.{bytes_eq}
-use Rattle.jbase.specs.First.{fault_if, or_else}
-use Rattle.jops.specs.declared.value.Value.{Value}
-use Rattle.jops.specs.declared.value.Value.TheVariants.{Int, Long, Ref, Ctx}
+use Rattle.jground.specs.jbase.First.{fault_if, or_else}
+use Rattle.jground.specs.declared.jops.value.Value.{Value}
+use Rattle.jground.specs.declared.jops.value.Value.TheVariants.{Int, Long, Ref, Ctx}
 use Rattle.jlib.specs.declared.calls.LibCall.{LibCall}
 use Rattle.jlib.specs.declared.classes.LibClass.{LibClass}
 use Rattle.jlib.specs.Calls as library
 use Rattle.jthreads.specs.declared.thread.Thread.{Thread}
-use Rattle.jtypes.specs.declared.vtype.VType.TheVariants as types
+use Rattle.jground.specs.declared.jtypes.vtype.VType.TheVariants as types
 use Rattle.jprogram.specs.declared.member.CallKind.{CallKind}
 use Rattle.jprogram.specs.declared.member.CallKind.TheVariants as kinds
 use Rattle.jprogram.specs.declared.member.ClassId.{ClassId}
@@ -22,15 +22,15 @@ use Rattle.jprogram.specs.declared.part.ClassRef.{ClassRef}
 use Rattle.jprogram.specs.Classes.{Program, up}
 use Rattle.jprogram.specs.Members.{as_selected, desc_of, first_by, is_abstract, is_static, method_at, methods_along, name_of, name_of_id, select}
 use Rattle.jprogram.proofs.Settling.{clash}
-use Rattle.juses.specs.declared.meaning.How.{How}
-use Rattle.juses.specs.declared.meaning.How.TheVariants as how
-use Rattle.juses.specs.Meanings.{CallMeaning}
-use Rattle.jmachine.specs.Calls.{Fails, Pushes, Runs, Target, by_interface, from_above, is_hidden, no_access, on_object, on_value, overflow, reached, receiver, special, target, unless, wrong_class}
-use Rattle.jmachine.specs.Objects.{Object, class_of, id_of}
-use Rattle.jmachine.specs.Sites.{Site}
-use Rattle.jmachine.specs.Store.{Store, object_of}
-use Rattle.jmachine.specs.World.{class_id, is_instance, world}
-use Rattle.jseen.proofs.Selecting.{each_along, first_holds}
+use Rattle.jmeaning.specs.declared.juses.meaning.How.{How}
+use Rattle.jmeaning.specs.declared.juses.meaning.How.TheVariants as how
+use Rattle.jmeaning.specs.juses.Meanings.{CallMeaning}
+use Rattle.jmodel.specs.jmachine.Calls.{Fails, Pushes, Runs, Target, by_interface, from_above, is_hidden, no_access, on_object, on_value, overflow, reached, receiver, special, target, unless, wrong_class}
+use Rattle.jmodel.specs.jmachine.Objects.{Object, class_of, id_of}
+use Rattle.jmodel.specs.jmachine.Sites.{Site}
+use Rattle.jmodel.specs.jmachine.Store.{Store, object_of}
+use Rattle.jmodel.specs.jmachine.World.{class_id, is_instance, world}
+use Rattle.jmovedlaws.proofs.JseenProofs.Selecting.{each_along, first_holds}
 use Rattle.jsmall.proofs.Members.{IsOnSide, declared_on, some_by}
 
 module _ (q : Program) (m : Member) where

@@ -2,17 +2,17 @@
 use Rattle.std.proofs.Common.{◌≡◌, ℕ, Bool, true, false, List, [], ◌∷◌, ◌++◌, map, Option, Some, None, option_map, refl, ap}
 use Rattle.std.specs.Prelude.{◌==◌}
 use Rattle.std.specs.List.{AllByRecursion, list_any}
-use Rattle.jperm.specs.declared.permission.Permission.{Permission}
+use Rattle.jrights.specs.declared.jperm.permission.Permission.{Permission}
 use Rattle.jlib.specs.declared.side.Side.TheVariants.{Passing}
 use Rattle.jprogram.proofs.Settling.{clash}
 use Rattle.jctx.specs.declared.item.Item.{Item}
 use Rattle.jctx.specs.Contexts.{enter, given_items, limited, privileged, verdict}
 use Rattle.jctx.specs.Items.{plain, with_limits}
 use Rattle.jctx.proofs.Kept.{all_kept, keep-keep}
-use Rattle.jmachine.specs.Asked.{AgreeAt, Answer, Ask, Checks, ChecksKept, Snapshots, Inherits, Enters, Privileges, Kept, Entered, Allowed}
-use Rattle.jmachine.specs.Security.{Rules}
-use Rattle.jrules.specs.Plain as plainly
-use Rattle.jrules.specs.Plain.{given_context}
+use Rattle.jmodel.specs.jmachine.Asked.{AgreeAt, Answer, Ask, Checks, ChecksKept, Snapshots, Inherits, Enters, Privileges, Kept, Entered, Allowed}
+use Rattle.jmodel.specs.jmachine.Security.{Rules}
+use Rattle.jmodel.specs.jrules.Plain as plainly
+use Rattle.jmodel.specs.jrules.Plain.{given_context}
 use Rattle.jsmall.specs.Fine.{Everywhere, Fine}
 use Rattle.jsmall.proofs.Asks.{AskWell}
 use Rattle.jsmall.proofs.Standing.{all_both}

@@ -3,9 +3,9 @@ use Rattle.std.proofs.Common.{◌≡◌, ℕ, zero, suc, ◌+◌, ◌<◌, Bool,
 use Rattle.std.specs.Prelude.{◌⊎◌, is_some, not, nat_lt, option_and_then, option_map, slice_get, ◌||◌, if◌then◌else◌}
 use Rattle.std.specs.List.{AllByRecursion, find}
 use Rattle.std.proofs.lemmas.Bool.{lt-ltb}
-use Rattle.jcode.specs.declared.op.Handler.{Handler}
-use Rattle.jcode.specs.declared.op.Op.{Op}
-use Rattle.jcode.specs.declared.op.Placed.{Placed}
+use Rattle.jparts.specs.declared.jcode.op.Handler.{Handler}
+use Rattle.jparts.specs.declared.jcode.op.Op.{Op}
+use Rattle.jparts.specs.declared.jcode.op.Placed.{Placed}
 use Rattle.jclass.specs.declared.class.ClassParts.{ClassParts}
 use Rattle.jclass.specs.declared.class.CodeBody.{CodeBody}
 use Rattle.jclass.specs.declared.class.MemberInfo.{MemberInfo}
@@ -17,7 +17,7 @@ use Rattle.jlib.specs.declared.calls.RtCall.TheVariants as rt
 use Rattle.jlib.specs.declared.side.Side.{Side}
 use Rattle.jlib.specs.declared.side.Side.TheVariants.{Source}
 use Rattle.jlib.specs.Calls as library
-use Rattle.jtypes.specs.declared.vtype.VType.{VType}
+use Rattle.jground.specs.declared.jtypes.vtype.VType.{VType}
 use Rattle.jmove.specs.declared.method.Expand.{Expand}
 use Rattle.jmove.specs.declared.method.Setting.{Setting}
 use Rattle.jmove.specs.Moved.{expansion, moved_handler}
@@ -37,23 +37,23 @@ use Rattle.jprogram.specs.Classes.{Program}
 use Rattle.jprogram.specs.Members.{part_of}
 use Rattle.jprogram.specs.Parts.{code_of}
 use Rattle.jprogram.proofs.Settling.{or_right}
-use Rattle.juses.specs.Instructions.{Instruction, Used, body_in, code_at, goes_on, instruction, instruction_at, instruction_in, targets}
-use Rattle.juses.specs.Meanings as meanings
-use Rattle.jlink.proofs.Coded.{coded, leads_within, means}
-use Rattle.jlink.proofs.Having.{has_some, then_is}
+use Rattle.jmeaning.specs.juses.Instructions.{Instruction, Used, body_in, code_at, goes_on, instruction, instruction_at, instruction_in, targets}
+use Rattle.jmeaning.specs.juses.Meanings as meanings
+use Rattle.jlinking.proofs.JlinkProofs.Coded.{coded, leads_within, means}
+use Rattle.jlinking.proofs.JlinkProofs.Having.{has_some, then_is}
 use Rattle.jtyping.specs.Typing.{WellTyped}
-use Rattle.jmachine.specs.Frames.{domain_in, domain_of}
-use Rattle.jmachine.specs.Steps.{fetched, unless_last}
-use Rattle.jmachine.specs.Unwinding.{handler_at, handler_from, handler_in, number_at, takes}
+use Rattle.jmodel.specs.jmachine.Frames.{domain_in, domain_of}
+use Rattle.jmodel.specs.jmachine.Steps.{fetched, unless_last}
+use Rattle.jmodel.specs.jmachine.Unwinding.{handler_at, handler_from, handler_in, number_at, takes}
 use Rattle.jrewrite.specs.Linking.{IsLinked}
 use Rattle.jrewrite.specs.Program.{limits, moved}
 use Rattle.jrewrite.proofs.Overriding.{moved_at}
 use Rattle.jrewrite.proofs.Standing.{part_of_moved}
 use Rattle.jrewrite.proofs.Walking.{known_of}
 use Rattle.jstands.specs.Expanding.{Place, expanded, prologue, push}
-use Rattle.jcoded.proofs.Coded.{Both, both_of, instruction_there, some_code}
-use Rattle.jcoded.proofs.Fetching.{Row, each, first_law, fits, gets, got, many, number, place, row_at}
-use Rattle.jcoded.proofs.Instructing.{Each, Means}
+use Rattle.jmovedlaws.proofs.JcodedProofs.Coded.{Both, both_of, instruction_there, some_code}
+use Rattle.jmovedlaws.proofs.JcodedProofs.Fetching.{Row, each, first_law, fits, gets, got, many, number, place, row_at}
+use Rattle.jmovedlaws.proofs.JcodedProofs.Instructing.{Each, Means}
 use Rattle.jsmall.proofs.Members.{NamesOn, names_on}
 use Rattle.jsmall.proofs.Telling.{expanded_leads, expanded_told, is_told, prologue_leads, prologue_told, told_at, told_in, told_library, told_member}
 

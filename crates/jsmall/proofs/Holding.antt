@@ -2,12 +2,12 @@
 use Rattle.std.proofs.Common.{List, [], ◌∷◌, ◌++◌, map, Option, Some, None, option_map}
 use Rattle.std.specs.List.{AllByRecursion, flat_map}
 use Rattle.std.specs.Option.{option_to_list}
-use Rattle.jops.specs.declared.value.Value.{Value}
-use Rattle.jops.specs.declared.value.Value.TheVariants.{Int, Long, Ref, Ctx}
-use Rattle.jmachine.specs.Acts.{FrameOf, GuestOf, State}
-use Rattle.jmachine.specs.Maps.{frame_map, frames_map, guest_map, locals_map, object_map, state_map, store_map, value_map, values_map}
-use Rattle.jmachine.specs.Objects.{Object, Instance, Thrown, Text, Builder, Piece, Permission, Context, Thread, Bare, Array}
-use Rattle.jmachine.specs.Store.{Store}
+use Rattle.jground.specs.declared.jops.value.Value.{Value}
+use Rattle.jground.specs.declared.jops.value.Value.TheVariants.{Int, Long, Ref, Ctx}
+use Rattle.jmodel.specs.jmachine.Acts.{FrameOf, GuestOf, State}
+use Rattle.jmodel.specs.jmachine.Maps.{frame_map, frames_map, guest_map, locals_map, object_map, state_map, store_map, value_map, values_map}
+use Rattle.jmodel.specs.jmachine.Objects.{Object, Instance, Thrown, Text, Builder, Piece, Permission, Context, Thread, Bare, Array}
+use Rattle.jmodel.specs.jmachine.Store.{Store}
 use Rattle.jsmall.specs.Contexts.{contexts, of_frame, of_guest, of_local, of_object, of_store, of_value, of_values}
 use Rattle.jsmall.proofs.Standing.{all_both}
 

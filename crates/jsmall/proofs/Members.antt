@@ -2,34 +2,34 @@
 use Rattle.std.proofs.Common.{◌≡◌, ℕ, Bool, true, false, List, [], ◌∷◌, Option, Some, None, refl, ap, subst, ◌∙◌}
 use Rattle.std.specs.Prelude.{IfSome, option_map, option_and_then, slice_get, if◌then◌else◌}
 use Rattle.std.specs.Str.{bytes_eq}
-use Rattle.jbase.specs.First.{first_some, or_else}
-use Rattle.jpool.specs.declared.entry.Entry.{Entry}
-use Rattle.jpool.specs.declared.entry.Entry.TheVariants as entries
-use Rattle.jpool.specs.Pools.{name_and_type_at, utf8_at}
-use Rattle.jcode.specs.declared.op.Placed.{Placed}
-use Rattle.jcode.specs.declared.op.Switch.{Switch as SwitchOp}
-use Rattle.jcode.specs.declared.form.ArrayForm.{ArrayForm}
-use Rattle.jcode.specs.declared.form.ArrayForm.TheVariants as arrays
-use Rattle.jcode.specs.declared.form.Flow.{Flow}
-use Rattle.jcode.specs.declared.form.Flow.TheVariants as flows
-use Rattle.jcode.specs.declared.form.Form.{Form}
-use Rattle.jcode.specs.declared.form.Form.TheVariants as form_kinds
-use Rattle.jcode.specs.declared.form.PoolForm.{PoolForm}
-use Rattle.jcode.specs.declared.form.PoolForm.TheVariants as forms
-use Rattle.jcode.specs.Forms.{form}
+use Rattle.jground.specs.jbase.First.{first_some, or_else}
+use Rattle.jparts.specs.declared.jpool.entry.Entry.{Entry}
+use Rattle.jparts.specs.declared.jpool.entry.Entry.TheVariants as entries
+use Rattle.jparts.specs.jpool.Pools.{name_and_type_at, utf8_at}
+use Rattle.jparts.specs.declared.jcode.op.Placed.{Placed}
+use Rattle.jparts.specs.declared.jcode.op.Switch.{Switch as SwitchOp}
+use Rattle.jparts.specs.declared.jcode.form.ArrayForm.{ArrayForm}
+use Rattle.jparts.specs.declared.jcode.form.ArrayForm.TheVariants as arrays
+use Rattle.jparts.specs.declared.jcode.form.Flow.{Flow}
+use Rattle.jparts.specs.declared.jcode.form.Flow.TheVariants as flows
+use Rattle.jparts.specs.declared.jcode.form.Form.{Form}
+use Rattle.jparts.specs.declared.jcode.form.Form.TheVariants as form_kinds
+use Rattle.jparts.specs.declared.jcode.form.PoolForm.{PoolForm}
+use Rattle.jparts.specs.declared.jcode.form.PoolForm.TheVariants as forms
+use Rattle.jparts.specs.jcode.Forms.{form}
 use Rattle.jlib.specs.declared.calls.LibCall.{LibCall}
 use Rattle.jlib.specs.Calls as library
-use Rattle.jtypes.specs.declared.vtype.Name.{Name}
-use Rattle.jtypes.specs.declared.vtype.VType.TheVariants as types
+use Rattle.jground.specs.declared.jtypes.vtype.Name.{Name}
+use Rattle.jground.specs.declared.jtypes.vtype.VType.TheVariants as types
 use Rattle.jprogram.specs.declared.member.Member.{Member}
 use Rattle.jprogram.specs.declared.member.Member.TheVariants.{LibMethod}
 use Rattle.jprogram.specs.Classes.{Program, superinterfaces, up}
 use Rattle.jprogram.specs.Members.{init, method_at, resolve_method}
-use Rattle.juses.specs.Instructions.{Always, If, IfInt, IfRef, Instruction, Jump, Switch, Used, array, by_form, cases, default, flow, instruction, target}
-use Rattle.juses.specs.Meanings as meanings
-use Rattle.juses.specs.Meanings.{AClass, AConstant, AField, AMethod, CallMeaning, EntryMeaning, Meaning, Reference, array_made, array_meant, call_as, call_meant, entry_meant, field_meant, meant, reference, used}
-use Rattle.juses.specs.Typed.{Called, Held, Typed, Untyped, array_over, class_type, name, typed}
-use Rattle.jseen.proofs.Clearing.{lib_found}
+use Rattle.jmeaning.specs.juses.Instructions.{Always, If, IfInt, IfRef, Instruction, Jump, Switch, Used, array, by_form, cases, default, flow, instruction, target}
+use Rattle.jmeaning.specs.juses.Meanings as meanings
+use Rattle.jmeaning.specs.juses.Meanings.{AClass, AConstant, AField, AMethod, CallMeaning, EntryMeaning, Meaning, Reference, array_made, array_meant, call_as, call_meant, entry_meant, field_meant, meant, reference, used}
+use Rattle.jmeaning.specs.juses.Typed.{Called, Held, Typed, Untyped, array_over, class_type, name, typed}
+use Rattle.jmovedlaws.proofs.JseenProofs.Clearing.{lib_found}
 
 -- ---- what there may be
 

@@ -3,14 +3,14 @@ use Rattle.std.proofs.Common.{◌≡◌, ℕ, zero, suc, ℤ, Bool, true, false,
 use Rattle.std.specs.Prelude.{IfSome, option_and_then, if◌then◌else◌}
 use Rattle.std.specs.List.{AllByRecursion}
 use Rattle.std.specs.Ordering.{int_eq}
-use Rattle.jnames.specs.declared.kinds.Kind.TheVariants as kinds
-use Rattle.jcode.specs.declared.names.CastOp.{CastOp}
-use Rattle.jcode.specs.declared.names.CastOp.TheVariants as casts
-use Rattle.jcode.specs.declared.names.FieldOp.{FieldOp}
-use Rattle.jcode.specs.declared.names.FieldOp.TheVariants as fields
-use Rattle.jcode.specs.Forms.{returned, simple_effect}
-use Rattle.jdomain.specs.declared.verdict.Verdict.{Verdict}
-use Rattle.jdomain.specs.declared.verdict.Verdict.TheVariants.{Granted, Denied}
+use Rattle.jground.specs.declared.jnames.kinds.Kind.TheVariants as kinds
+use Rattle.jparts.specs.declared.jcode.names.CastOp.{CastOp}
+use Rattle.jparts.specs.declared.jcode.names.CastOp.TheVariants as casts
+use Rattle.jparts.specs.declared.jcode.names.FieldOp.{FieldOp}
+use Rattle.jparts.specs.declared.jcode.names.FieldOp.TheVariants as fields
+use Rattle.jparts.specs.jcode.Forms.{returned, simple_effect}
+use Rattle.jrights.specs.declared.jdomain.verdict.Verdict.{Verdict}
+use Rattle.jrights.specs.declared.jdomain.verdict.Verdict.TheVariants.{Granted, Denied}
 use Rattle.jlib.specs.declared.calls.ControllerCall.{ControllerCall}
 use Rattle.jlib.specs.declared.calls.ControllerCall.TheVariants as controller
 use Rattle.jlib.specs.declared.calls.LibCall.{LibCall}
@@ -21,39 +21,39 @@ use Rattle.jlib.specs.declared.calls.ThreadCall.{ThreadCall}
 use Rattle.jlib.specs.declared.calls.ThreadCall.TheVariants as threads
 use Rattle.jlib.specs.declared.side.Side.{Side}
 use Rattle.jlib.specs.declared.side.Side.TheVariants.{Source, Passing}
-use Rattle.jops.specs.declared.value.Value.TheVariants.{Int, Long, Ref, Ctx}
-use Rattle.jperm.specs.declared.permission.Permission as perms
-use Rattle.jtypes.specs.declared.vtype.Name.{Name}
-use Rattle.jtypes.specs.declared.vtype.VType.{VType}
+use Rattle.jground.specs.declared.jops.value.Value.TheVariants.{Int, Long, Ref, Ctx}
+use Rattle.jrights.specs.declared.jperm.permission.Permission as perms
+use Rattle.jground.specs.declared.jtypes.vtype.Name.{Name}
+use Rattle.jground.specs.declared.jtypes.vtype.VType.{VType}
 use Rattle.jprogram.specs.declared.member.Member.{Member}
-use Rattle.juses.specs.declared.meaning.How.{How}
-use Rattle.juses.specs.declared.meaning.How.TheVariants as how
-use Rattle.juses.specs.Instructions.{Instruction, Simple, Local, Stack, Jump, Switch, Return, Throw, Array, Used, Test, targets}
-use Rattle.juses.specs.Meanings as meanings
-use Rattle.juses.specs.Meanings.{CallMeaning, Meaning, Pushed}
+use Rattle.jmeaning.specs.declared.juses.meaning.How.{How}
+use Rattle.jmeaning.specs.declared.juses.meaning.How.TheVariants as how
+use Rattle.jmeaning.specs.juses.Instructions.{Instruction, Simple, Local, Stack, Jump, Switch, Return, Throw, Array, Used, Test, targets}
+use Rattle.jmeaning.specs.juses.Meanings as meanings
+use Rattle.jmeaning.specs.juses.Meanings.{CallMeaning, Meaning, Pushed}
 use Rattle.jctx.specs.declared.item.Item.{Item}
-use Rattle.jrule.specs.Effects.{Fits, Of, of_kinds}
-use Rattle.jrule.specs.Straight.{tested}
-use Rattle.jrule.specs.Uses.{throwable}
-use Rattle.jmachine.specs.Acts.{Goes, Jumps, Leaves, Calls, Raises, Throws, Switches, Makes, gives}
-use Rattle.jmachine.specs.Arrays as array_rows
-use Rattle.jmachine.specs.Asking.{context_row, controller_row, domain_of, kept_checked, rt_row, thread_made, thread_row}
-use Rattle.jmachine.specs.Calls.{Fails, Pushes, Runs, Target, by_interface, init_taken, target}
-use Rattle.jmachine.specs.Doing.{Doing, array_wants, by_held, by_taken, call, called, doing, run, used, wants_of}
-use Rattle.jmachine.specs.Frames.{with_operands}
-use Rattle.jmachine.specs.Fields.{field, get_from, get_static, put_into, put_static}
-use Rattle.jmachine.specs.Making as making
-use Rattle.jmachine.specs.Making.{cast, is_one, make, push, text_loaded, units_of}
-use Rattle.jmachine.specs.Objects.{Object, Instance, Thrown, Text, Builder, Piece, Permission, Context, Thread, Bare}
-use Rattle.jmachine.specs.Objects as objects
-use Rattle.jmachine.specs.Operands.{Taken, taken, type_of}
-use Rattle.jmachine.specs.Privileges.{acting, acting_on, action, given, limited_by, limits, privilege, run_action}
-use Rattle.jmachine.specs.Security.{Privilege, Rules, checked, judged, kept_in, permission_in}
-use Rattle.jmachine.specs.Sites.{Site}
-use Rattle.jmachine.specs.Library.{library}
-use Rattle.jmachine.specs.Store.{Store, constant_at, object_at, with_object}
-use Rattle.jmachine.specs.Straight.{Held, branched, case_of, holding, holds, jump, leave, local, simple, stack, switch, throw}
-use Rattle.jmachine.specs.World.{World}
+use Rattle.jmeaning.specs.jrule.Effects.{Fits, Of, of_kinds}
+use Rattle.jmeaning.specs.jrule.Straight.{tested}
+use Rattle.jmeaning.specs.jrule.Uses.{throwable}
+use Rattle.jmodel.specs.jmachine.Acts.{Goes, Jumps, Leaves, Calls, Raises, Throws, Switches, Makes, gives}
+use Rattle.jmodel.specs.jmachine.Arrays as array_rows
+use Rattle.jmodel.specs.jmachine.Asking.{context_row, controller_row, domain_of, kept_checked, rt_row, thread_made, thread_row}
+use Rattle.jmodel.specs.jmachine.Calls.{Fails, Pushes, Runs, Target, by_interface, init_taken, target}
+use Rattle.jmodel.specs.jmachine.Doing.{Doing, array_wants, by_held, by_taken, call, called, doing, run, used, wants_of}
+use Rattle.jmodel.specs.jmachine.Frames.{with_operands}
+use Rattle.jmodel.specs.jmachine.Fields.{field, get_from, get_static, put_into, put_static}
+use Rattle.jmodel.specs.jmachine.Making as making
+use Rattle.jmodel.specs.jmachine.Making.{cast, is_one, make, push, text_loaded, units_of}
+use Rattle.jmodel.specs.jmachine.Objects.{Object, Instance, Thrown, Text, Builder, Piece, Permission, Context, Thread, Bare}
+use Rattle.jmodel.specs.jmachine.Objects as objects
+use Rattle.jmodel.specs.jmachine.Operands.{Taken, taken, type_of}
+use Rattle.jmodel.specs.jmachine.Privileges.{acting, acting_on, action, given, limited_by, limits, privilege, run_action}
+use Rattle.jmodel.specs.jmachine.Security.{Privilege, Rules, checked, judged, kept_in, permission_in}
+use Rattle.jmodel.specs.jmachine.Sites.{Site}
+use Rattle.jmodel.specs.jmachine.Library.{library}
+use Rattle.jmodel.specs.jmachine.Store.{Store, constant_at, object_at, with_object}
+use Rattle.jmodel.specs.jmachine.Straight.{Held, branched, case_of, holding, holds, jump, leave, local, simple, stack, switch, throw}
+use Rattle.jmodel.specs.jmachine.World.{World}
 use Rattle.jsmall.proofs.Library.{Calm, Frame, IsCalm, PlainAct, PlainRow, Word, array_calm, each_calm, library_calm, make_calm as make_array_calm, simple_calm, then_calm, thread_calm as thread_alone}
 
 abbrev Rows : Type 0

@@ -6,27 +6,27 @@ use Rattle.std.specs.List.{AllByRecursion, list_any}
 use Rattle.std.proofs.lemmas.Bool.{eqb-true}
 use Rattle.std.proofs.lemmas.List.{length-map}
 use Rattle.std.proofs.lemmas.Map.Made.{length-le_from_is_member}
-use Rattle.jperm.specs.declared.permission.Permission.{Permission}
+use Rattle.jrights.specs.declared.jperm.permission.Permission.{Permission}
 use Rattle.jlib.specs.declared.side.Side.TheVariants.{Passing}
-use Rattle.jops.specs.declared.value.Value.{Value}
-use Rattle.jops.specs.declared.value.Value.TheVariants.{Int, Long, Ref, Ctx}
-use Rattle.jtrace.specs.declared.event.End.{End}
+use Rattle.jground.specs.declared.jops.value.Value.{Value}
+use Rattle.jground.specs.declared.jops.value.Value.TheVariants.{Int, Long, Ref, Ctx}
+use Rattle.jrights.specs.declared.jtrace.event.End.{End}
 use Rattle.jprogram.specs.declared.part.CodePart.{CodePart}
 use Rattle.jprogram.specs.Classes.{Program}
 use Rattle.jctx.specs.declared.item.Item.{Item}
 use Rattle.jctx.specs.Laws.{domains}
 use Rattle.jctx.proofs.Kept.{distinct_domains-keep}
-use Rattle.jmachine.specs.declared.plan.Plan.{Plan}
-use Rattle.jmachine.specs.Acts.{FrameOf, Outcome, Went, Over, NoStep, State}
-use Rattle.jmachine.specs.Asked.{AgreeWhere, Ask, asks, carried}
-use Rattle.jmachine.specs.Frames.{domain_of}
-use Rattle.jmachine.specs.Machine.{opening, run}
-use Rattle.jmachine.specs.Maps.{frames_map, outcome_map, state_map, values_map}
-use Rattle.jmachine.specs.Natural.{EntriesAgree, OpeningAlike, StepAlikeAt}
-use Rattle.jmachine.specs.Opening.{opening_state}
-use Rattle.jmachine.specs.Runs.{Run, next_at, run_from, state_behind}
-use Rattle.jmachine.specs.Steps.{step}
-use Rattle.jrules.specs.Plain as plain
+use Rattle.jmodel.specs.declared.jmachine.plan.Plan.{Plan}
+use Rattle.jmodel.specs.jmachine.Acts.{FrameOf, Outcome, Went, Over, NoStep, State}
+use Rattle.jmodel.specs.jmachine.Asked.{AgreeWhere, Ask, asks, carried}
+use Rattle.jmodel.specs.jmachine.Frames.{domain_of}
+use Rattle.jmodel.specs.jmachine.Machine.{opening, run}
+use Rattle.jmodel.specs.jmachine.Maps.{frames_map, outcome_map, state_map, values_map}
+use Rattle.jmodel.specs.jmachine.Natural.{EntriesAgree, OpeningAlike, StepAlikeAt}
+use Rattle.jmodel.specs.jmachine.Opening.{opening_state}
+use Rattle.jmodel.specs.jmachine.Runs.{Run, next_at, run_from, state_behind}
+use Rattle.jmodel.specs.jmachine.Steps.{step}
+use Rattle.jmodel.specs.jrules.Plain as plain
 use Rattle.jrewrite.specs.Program.{moved}
 use Rattle.jrewrite.proofs.Overriding.{moved_side}
 use Rattle.jmoveclass.specs.Moved.{moved_part}

@@ -7,31 +7,31 @@ use Rattle.jclass.specs.declared.class.CodeBody.{CodeBody}
 use Rattle.jlib.specs.declared.classes.LibClass.{LibClass}
 use Rattle.jthreads.specs.Schedule.{picked}
 use Rattle.jthreads.specs.Table.{runnable_numbers}
-use Rattle.jtrace.specs.declared.event.Event.{Event}
-use Rattle.jtrace.specs.declared.event.End.TheVariants.{HeapFull}
-use Rattle.jtypes.specs.declared.vtype.VType.{VType}
+use Rattle.jrights.specs.declared.jtrace.event.Event.{Event}
+use Rattle.jrights.specs.declared.jtrace.event.End.TheVariants.{HeapFull}
+use Rattle.jground.specs.declared.jtypes.vtype.VType.{VType}
 use Rattle.jprogram.specs.declared.member.Member.{Member}
 use Rattle.jprogram.specs.declared.member.MethodId.{MethodId}
 use Rattle.jprogram.specs.Classes.{Program}
 use Rattle.jprogram.proofs.Settling.{clash}
-use Rattle.juses.specs.Instructions.{Instruction, code_at}
+use Rattle.jmeaning.specs.juses.Instructions.{Instruction, code_at}
 use Rattle.jctx.specs.declared.item.Item.{Item}
-use Rattle.jmachine.specs.declared.plan.Plan.{Plan}
-use Rattle.jmachine.specs.Acts.{Goes, Jumps, Leaves, Calls, Raises, Throws, Switches, Makes, Outcome, Went, Over, NoStep, charge_of}
-use Rattle.jmachine.specs.Calls.{Fails, Pushes, Runs, Target, by_interface}
-use Rattle.jmachine.specs.Doing.{Doing, doing}
-use Rattle.jmachine.specs.Frames.{all_marked, begun, domain_of, frame_of, onward, standing}
-use Rattle.jmachine.specs.Objects.{Object, class_of}
-use Rattle.jmachine.specs.Opening.{only, opening_state}
-use Rattle.jmachine.specs.Operands.{taken}
-use Rattle.jmachine.specs.Security.{Rules}
-use Rattle.jmachine.specs.Sites.{Site}
-use Rattle.jmachine.specs.Steps.{acted, applied, begins, begun_on, done, executed, fetched, first_done, first_row, guest, left, own_fields, pushed, run_call, site, step, step_at, thrown, thrown_at, thrown_to}
-use Rattle.jmachine.specs.Store.{Store, object_at, paid}
-use Rattle.jmachine.specs.Straight.{simple}
-use Rattle.jmachine.specs.Turns.{ended, given_to, guests, turn_of, turned, with_ended, with_running, with_table}
-use Rattle.jmachine.specs.Unwinding.{caught, handler_at, resumed, unwound, with_raised}
-use Rattle.jmachine.specs.World.{world}
+use Rattle.jmodel.specs.declared.jmachine.plan.Plan.{Plan}
+use Rattle.jmodel.specs.jmachine.Acts.{Goes, Jumps, Leaves, Calls, Raises, Throws, Switches, Makes, Outcome, Went, Over, NoStep, charge_of}
+use Rattle.jmodel.specs.jmachine.Calls.{Fails, Pushes, Runs, Target, by_interface}
+use Rattle.jmodel.specs.jmachine.Doing.{Doing, doing}
+use Rattle.jmodel.specs.jmachine.Frames.{all_marked, begun, domain_of, frame_of, onward, standing}
+use Rattle.jmodel.specs.jmachine.Objects.{Object, class_of}
+use Rattle.jmodel.specs.jmachine.Opening.{only, opening_state}
+use Rattle.jmodel.specs.jmachine.Operands.{taken}
+use Rattle.jmodel.specs.jmachine.Security.{Rules}
+use Rattle.jmodel.specs.jmachine.Sites.{Site}
+use Rattle.jmodel.specs.jmachine.Steps.{acted, applied, begins, begun_on, done, executed, fetched, first_done, first_row, guest, left, own_fields, pushed, run_call, site, step, step_at, thrown, thrown_at, thrown_to}
+use Rattle.jmodel.specs.jmachine.Store.{Store, object_at, paid}
+use Rattle.jmodel.specs.jmachine.Straight.{simple}
+use Rattle.jmodel.specs.jmachine.Turns.{ended, given_to, guests, turn_of, turned, with_ended, with_running, with_table}
+use Rattle.jmodel.specs.jmachine.Unwinding.{caught, handler_at, resumed, unwound, with_raised}
+use Rattle.jmodel.specs.jmachine.World.{world}
 use Rattle.jstands.specs.Expanding.{push}
 use Rattle.jsmall.proofs.Asks.{IsPushed}
 use Rattle.jsmall.proofs.Guarded.{Guards}

@@ -14,11 +14,11 @@ use Rattle.jprogram.specs.declared.member.Member.TheVariants.{Field, LibField, L
 use Rattle.jprogram.specs.declared.member.MethodId.{MethodId}
 use Rattle.jprogram.specs.Classes.{Program}
 use Rattle.jprogram.proofs.Settling.{clash}
-use Rattle.juses.specs.declared.meaning.How.{How}
-use Rattle.juses.specs.Instructions.{Instruction, Simple, Local, Stack, Jump, Switch, Return, Throw, Array, Used, targets}
-use Rattle.juses.specs.Meanings as meanings
-use Rattle.juses.specs.Meanings.{CallMeaning, Meaning}
-use Rattle.jmachine.specs.Steps.{fetched}
+use Rattle.jmeaning.specs.declared.juses.meaning.How.{How}
+use Rattle.jmeaning.specs.juses.Instructions.{Instruction, Simple, Local, Stack, Jump, Switch, Return, Throw, Array, Used, targets}
+use Rattle.jmeaning.specs.juses.Meanings as meanings
+use Rattle.jmeaning.specs.juses.Meanings.{CallMeaning, Meaning}
+use Rattle.jmodel.specs.jmachine.Steps.{fetched}
 use Rattle.jstands.specs.Expanding.{Alone, Asking, Handed, Place, Way, asking, call_rt, calling, expanded, handed, handing, keep, led_case, library_way, load, moved_member, passing, prologue, push, way_of}
 
 -- ---- what is told a domain

@@ -3,12 +3,12 @@
 use Rattle.std.specs.Prelude.{List, [], ◌∷◌, ◌++◌, Option, Some, None}
 use Rattle.std.specs.List.{flat_map}
 use Rattle.std.specs.Option.{option_to_list}
-use Rattle.jops.specs.declared.value.Value.{Value}
-use Rattle.jops.specs.declared.value.Value.TheVariants.{Ctx}
-use Rattle.jmachine.specs.Acts.{FrameOf, GuestOf, State}
-use Rattle.jmachine.specs.Objects.{Object, Instance, Context, Array}
-use Rattle.jmachine.specs.Store.{Store}
-use Rattle.jmachine.specs.Turns.{guests}
+use Rattle.jground.specs.declared.jops.value.Value.{Value}
+use Rattle.jground.specs.declared.jops.value.Value.TheVariants.{Ctx}
+use Rattle.jmodel.specs.jmachine.Acts.{FrameOf, GuestOf, State}
+use Rattle.jmodel.specs.jmachine.Objects.{Object, Instance, Context, Array}
+use Rattle.jmodel.specs.jmachine.Store.{Store}
+use Rattle.jmodel.specs.jmachine.Turns.{guests}
 
 module _ {K : Type 0} where
   abbrev pub of_value : Value K → List K

@@ -1,17 +1,17 @@
 -- Small contexts: of a moved program, each context that stands in a state has domains of the program's classes alone.
 use Rattle.std.specs.Prelude.{◌≡◌, ◌≤◌, ◌==◌, ℕ, true, Bool, List, [], ◌∷◌, length, map, None, if◌then◌else◌}
 use Rattle.std.specs.List.{All, AllByRecursion, list_any}
-use Rattle.jperm.specs.declared.permission.Permission.{Permission}
+use Rattle.jrights.specs.declared.jperm.permission.Permission.{Permission}
 use Rattle.jprogram.specs.Classes.{Program}
 use Rattle.jctx.specs.declared.item.Item.{Item}
 use Rattle.jctx.specs.Laws.{IsKept, domains}
 use Rattle.jtyping.specs.Typing.{WellTyped}
 use Rattle.jrewrite.specs.Linking.{IsLinked}
 use Rattle.jrewrite.specs.Program.{limits, moved}
-use Rattle.jmachine.specs.declared.plan.Plan.{Plan}
-use Rattle.jmachine.specs.Acts.{State}
-use Rattle.jmachine.specs.Machine.{run}
-use Rattle.jrules.specs.Plain.{rules}
+use Rattle.jmodel.specs.declared.jmachine.plan.Plan.{Plan}
+use Rattle.jmodel.specs.jmachine.Acts.{State}
+use Rattle.jmodel.specs.jmachine.Machine.{run}
+use Rattle.jmodel.specs.jrules.Plain.{rules}
 use Rattle.jsmall.specs.Contexts.{contexts}
 
 -- the domains of a program's classes,

@@ -1,6 +1,6 @@
 ghost use Rattle.jsmall.specs.Small.{ContextsStaySmall};
 
-use jmachine::{TwoMachines, asking_laws};
+use jmodel::jmachine::{TwoMachines, asking_laws};
 
 /// A machine of whose contexts more is known, beside the plain machine.
 struct Beside;

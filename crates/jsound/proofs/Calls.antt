@@ -6,13 +6,13 @@ use Rattle.std.specs.Option.{IsSome}
 use Rattle.std.specs.Str.{bytes_eq}
 use Rattle.std.proofs.lemmas.Bool.{or_parts}
 use Rattle.std.proofs.lemmas.Option.{slice_get-map}
-use Rattle.jbase.specs.First.{fault_if}
-use Rattle.jbase.proofs.Firsts.{none_of}
-use Rattle.jpool.specs.declared.entry.Entry.{Entry}
-use Rattle.jcode.specs.declared.names.CallOp.{CallOp}
-use Rattle.jcode.specs.declared.names.CallOp.TheVariants as ops
+use Rattle.jground.specs.jbase.First.{fault_if}
+use Rattle.jground.proofs.JbaseProofs.Firsts.{none_of}
+use Rattle.jparts.specs.declared.jpool.entry.Entry.{Entry}
+use Rattle.jparts.specs.declared.jcode.names.CallOp.{CallOp}
+use Rattle.jparts.specs.declared.jcode.names.CallOp.TheVariants as ops
 use Rattle.jclass.specs.declared.class.ClassParts.{ClassParts}
-use Rattle.jtypes.specs.declared.vtype.Name.{Name}
+use Rattle.jground.specs.declared.jtypes.vtype.Name.{Name}
 use Rattle.jlib.specs.declared.calls.LibCall.{LibCall}
 use Rattle.jlib.specs.Calls as library_calls
 use Rattle.jlib.specs.Classes as library
@@ -27,29 +27,29 @@ use Rattle.jprogram.specs.Classes.{Program, extends, find, holds, is_interface, 
 use Rattle.jprogram.specs.Members.{desc_of, info_of, init, is_abstract, is_static, looked_up, method_at, method_id, name_of, referred, resolve_method, user_is}
 use Rattle.jprogram.specs.Standing.{StandsInOrder}
 use Rattle.jprogram.proofs.Circling.{all_weaken}
-use Rattle.juses.specs.declared.meaning.How.{How}
-use Rattle.juses.specs.declared.meaning.How.TheVariants as how
-use Rattle.juses.specs.Meanings.{CallMeaning, Reference, reference}
-use Rattle.juses.specs.Typed.{Called, typed}
-use Rattle.jreferring.specs.declared.judged.Judged.{Judged}
-use Rattle.jreferring.specs.declared.judged.Judged.TheVariants as judged
-use Rattle.jreferring.specs.declared.judged.MemberFacts.{MemberFacts}
-use Rattle.jreferring.specs.declared.judged.MemberUse.{MemberUse}
-use Rattle.jreferring.specs.declared.judged.Sort.{Sort}
-use Rattle.jreferring.specs.declared.judged.Sort.TheVariants as sort
-use Rattle.jreferring.specs.Entries as judging
-use Rattle.jreferring.specs.Entries.{entry_of, judge, judge_pool}
-use Rattle.jreferring.specs.References.{access_test, call_left_out_test, call_test, call_use_test, called_by_interface_test, called_test, calls_static, counts, differs}
-use Rattle.jreferring.specs.References.{facts_of, interface_test, is_miscalled, is_misused}
-use Rattle.jreferring.specs.Units.{call_at, interface_call_at, member_at, member_in, or_no_member}
-use Rattle.jlink.specs.Called.{begins}
-use Rattle.jlink.specs.Coded.{AreFiles}
-use Rattle.jlink.specs.Links.{Links}
-use Rattle.jlink.specs.Standing.{in_order}
-use Rattle.jlink.proofs.Having.{is_there}
-use Rattle.jlink.proofs.Selecting.{method_called}
-use Rattle.jlink.proofs.There.{third_none}
-use Rattle.jlink.proofs.Typed.{no_fault}
+use Rattle.jmeaning.specs.declared.juses.meaning.How.{How}
+use Rattle.jmeaning.specs.declared.juses.meaning.How.TheVariants as how
+use Rattle.jmeaning.specs.juses.Meanings.{CallMeaning, Reference, reference}
+use Rattle.jmeaning.specs.juses.Typed.{Called, typed}
+use Rattle.jlinking.specs.declared.jreferring.judged.Judged.{Judged}
+use Rattle.jlinking.specs.declared.jreferring.judged.Judged.TheVariants as judged
+use Rattle.jlinking.specs.declared.jreferring.judged.MemberFacts.{MemberFacts}
+use Rattle.jlinking.specs.declared.jreferring.judged.MemberUse.{MemberUse}
+use Rattle.jlinking.specs.declared.jreferring.judged.Sort.{Sort}
+use Rattle.jlinking.specs.declared.jreferring.judged.Sort.TheVariants as sort
+use Rattle.jlinking.specs.jreferring.Entries as judging
+use Rattle.jlinking.specs.jreferring.Entries.{entry_of, judge, judge_pool}
+use Rattle.jlinking.specs.jreferring.References.{access_test, call_left_out_test, call_test, call_use_test, called_by_interface_test, called_test, calls_static, counts, differs}
+use Rattle.jlinking.specs.jreferring.References.{facts_of, interface_test, is_miscalled, is_misused}
+use Rattle.jlinking.specs.jreferring.Units.{call_at, interface_call_at, member_at, member_in, or_no_member}
+use Rattle.jlinking.specs.jlink.Called.{begins}
+use Rattle.jlinking.specs.jlink.Coded.{AreFiles}
+use Rattle.jlinking.specs.jlink.Links.{Links}
+use Rattle.jlinking.specs.jlink.Standing.{in_order}
+use Rattle.jlinking.proofs.JlinkProofs.Having.{is_there}
+use Rattle.jlinking.proofs.JlinkProofs.Selecting.{method_called}
+use Rattle.jlinking.proofs.JlinkProofs.There.{third_none}
+use Rattle.jlinking.proofs.JlinkProofs.Typed.{no_fault}
 use Rattle.jtyped.specs.Calling.{IsCall, IsInit, is_static_call}
 use Rattle.jtyped.specs.Fitting.{IsValueType}
 use Rattle.jtyped.specs.Laws.{HasCode}

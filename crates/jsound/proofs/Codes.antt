@@ -7,19 +7,19 @@ use Rattle.std.specs.Option.{IsSome}
 use Rattle.std.specs.Str.{bytes_eq}
 use Rattle.std.proofs.lemmas.Bool.{eq-eqb, eqb-true, ne_eqb, or_parts}
 use Rattle.std.proofs.lemmas.Option.{get_or_from_slice_get}
-use Rattle.jbase.specs.First.{first_some, or_else}
-use Rattle.jbase.proofs.Firsts.{none_fails, none_of}
-use Rattle.jformat.specs.Format.{Format, ◌·◌, ◌▹◌, is_good, unless}
-use Rattle.jformat.specs.Bodies.{block, counted}
-use Rattle.jformat.specs.States.{spell_from}
-use Rattle.jformat.proofs.Steps.{first_true, second_true}
-use Rattle.jpool.specs.declared.entry.Entry.{Entry}
-use Rattle.jpool.proofs.PoolLaws.{at_index}
-use Rattle.jcode.specs.declared.op.Handler.{Handler}
-use Rattle.jcode.specs.declared.op.Placed.{Placed}
-use Rattle.jcode.specs.Instructions
-use Rattle.jcode.specs.Instructions.{Rises}
-use Rattle.jcode.proofs.Places.{fit_rises}
+use Rattle.jground.specs.jbase.First.{first_some, or_else}
+use Rattle.jground.proofs.JbaseProofs.Firsts.{none_fails, none_of}
+use Rattle.jground.specs.jformat.Format.{Format, ◌·◌, ◌▹◌, is_good, unless}
+use Rattle.jground.specs.jformat.Bodies.{block, counted}
+use Rattle.jground.specs.jformat.States.{spell_from}
+use Rattle.jground.proofs.JformatProofs.Steps.{first_true, second_true}
+use Rattle.jparts.specs.declared.jpool.entry.Entry.{Entry}
+use Rattle.jparts.proofs.JpoolProofs.PoolLaws.{at_index}
+use Rattle.jparts.specs.declared.jcode.op.Handler.{Handler}
+use Rattle.jparts.specs.declared.jcode.op.Placed.{Placed}
+use Rattle.jparts.specs.jcode.Instructions
+use Rattle.jparts.specs.jcode.Instructions.{Rises}
+use Rattle.jparts.proofs.JcodeProofs.Places.{fit_rises}
 use Rattle.jclass.specs.declared.class.Attribute.{Attribute}
 use Rattle.jclass.specs.declared.class.Attribute.TheVariants.{Code, ConstantValue, Raw}
 use Rattle.jclass.specs.declared.class.ClassParts.{ClassParts}
@@ -46,15 +46,15 @@ use Rattle.jprogram.specs.Naming.{naming_fault}
 use Rattle.jprogram.specs.Parts as parts
 use Rattle.jprogram.specs.Parts.{code_of, has_code, member_desc, member_name}
 use Rattle.jprogram.specs.Supers.{supers_fault}
-use Rattle.jmembers.specs.Declares.{again_test, at_member, class_fault, field_left_out, field_left_out_test, field_test, fields_fault, is_native, is_synchronized}
-use Rattle.jmembers.specs.Declares.{is_too_long, members_fault, method_left_out, method_left_out_test, method_test, methods_fault, text_left_out, text_missing}
-use Rattle.jmembers.specs.Declares.{types_test}
-use Rattle.jreferring.specs.Code.{code_fault}
-use Rattle.jlink.specs.Coded.{AreFiles}
-use Rattle.jlink.specs.Links.{Links, link_fault}
-use Rattle.jlink.proofs.Filed.{has_code as stored}
-use Rattle.jlink.proofs.There.{third_none}
-use Rattle.jlink.proofs.Typed.{no_fault}
+use Rattle.jlinking.specs.jmembers.Declares.{again_test, at_member, class_fault, field_left_out, field_left_out_test, field_test, fields_fault, is_native, is_synchronized}
+use Rattle.jlinking.specs.jmembers.Declares.{is_too_long, members_fault, method_left_out, method_left_out_test, method_test, methods_fault, text_left_out, text_missing}
+use Rattle.jlinking.specs.jmembers.Declares.{types_test}
+use Rattle.jlinking.specs.jreferring.Code.{code_fault}
+use Rattle.jlinking.specs.jlink.Coded.{AreFiles}
+use Rattle.jlinking.specs.jlink.Links.{Links, link_fault}
+use Rattle.jlinking.proofs.JlinkProofs.Filed.{has_code as stored}
+use Rattle.jlinking.proofs.JlinkProofs.There.{third_none}
+use Rattle.jlinking.proofs.JlinkProofs.Typed.{no_fault}
 use Rattle.jtyped.specs.Calling.{AllHaveCode}
 
 -- ---- what linking leaves out

@@ -3,7 +3,7 @@ use Rattle.std.proofs.Common.{◌≡◌, ◌∙◌, ◌⊎◌, inl, inr, ℕ, ze
 use Rattle.std.specs.Prelude.{option_and_then, option_map, slice_get, if◌then◌else◌}
 use Rattle.std.specs.List.{AllByRecursion, flat_map, list_any, position}
 use Rattle.std.specs.Str.{bytes_eq}
-use Rattle.jbase.specs.First.{first_some, or_else}
+use Rattle.jground.specs.jbase.First.{first_some, or_else}
 use Rattle.jclass.specs.declared.class.MemberInfo.{MemberInfo}
 use Rattle.jclass.specs.Stored.{IsIn}
 use Rattle.jlib.specs.declared.calls.LibCall.{LibCall}
@@ -22,8 +22,8 @@ use Rattle.jprogram.specs.Standing.{StandsInOrder}
 use Rattle.jprogram.proofs.Implementing.{faces_are}
 use Rattle.jprogram.proofs.Settling.{name_equal, or_right}
 use Rattle.jprogram.proofs.Standing.{Stands, Users, Libs, Nowhere, all_append, stands}
-use Rattle.jlink.proofs.Having.{first_in, map_is, then_is}
-use Rattle.jlink.proofs.Selecting.{first_called}
+use Rattle.jlinking.proofs.JlinkProofs.Having.{first_in, map_is, then_is}
+use Rattle.jlinking.proofs.JlinkProofs.Selecting.{first_called}
 
 -- ---- in the class of a name
 

@@ -2,20 +2,20 @@
 use Rattle.std.proofs.Common.{◌≡◌, ◌∙◌, ℕ, Bool, List, Option, Some, None, refl, ap, subst}
 use Rattle.std.specs.Prelude.{option_and_then}
 use Rattle.std.specs.Str.{bytes_eq}
-use Rattle.jpool.specs.declared.entry.Entry.{Entry}
-use Rattle.jpool.specs.declared.entry.Entry.TheVariants as entries
-use Rattle.jpool.specs.Pools.{name_and_type_at, utf8_at}
-use Rattle.jtypes.specs.declared.vtype.VType.{VType}
+use Rattle.jparts.specs.declared.jpool.entry.Entry.{Entry}
+use Rattle.jparts.specs.declared.jpool.entry.Entry.TheVariants as entries
+use Rattle.jparts.specs.jpool.Pools.{name_and_type_at, utf8_at}
+use Rattle.jground.specs.declared.jtypes.vtype.VType.{VType}
 use Rattle.jprogram.specs.declared.member.Member.{Member}
 use Rattle.jprogram.specs.Classes.{Program}
 use Rattle.jprogram.specs.Members.{init, looked_up, referred, resolve_field, resolve_method}
-use Rattle.juses.specs.Meanings.{AClass, AField, AMethod, CallMeaning, EntryMeaning, FieldMeaning, Reference, call_as, call_meant, class_meant, entry_meant, field_as}
-use Rattle.juses.specs.Meanings.{field_entry, field_meant, method_entry, reference}
-use Rattle.juses.specs.Typed.{Called, Held, Typed, Untyped, class_type, name, typed}
-use Rattle.jreferring.specs.declared.judged.Sort.{Sort}
-use Rattle.jreferring.specs.declared.judged.Sort.TheVariants as sort
-use Rattle.jreferring.specs.Entries.{entry_of}
-use Rattle.jlink.proofs.Having.{map_is, then_is}
+use Rattle.jmeaning.specs.juses.Meanings.{AClass, AField, AMethod, CallMeaning, EntryMeaning, FieldMeaning, Reference, call_as, call_meant, class_meant, entry_meant, field_as}
+use Rattle.jmeaning.specs.juses.Meanings.{field_entry, field_meant, method_entry, reference}
+use Rattle.jmeaning.specs.juses.Typed.{Called, Held, Typed, Untyped, class_type, name, typed}
+use Rattle.jlinking.specs.declared.jreferring.judged.Sort.{Sort}
+use Rattle.jlinking.specs.declared.jreferring.judged.Sort.TheVariants as sort
+use Rattle.jlinking.specs.jreferring.Entries.{entry_of}
+use Rattle.jlinking.proofs.JlinkProofs.Having.{map_is, then_is}
 
 -- ---- references
 

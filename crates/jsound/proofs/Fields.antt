@@ -6,22 +6,22 @@ use Rattle.std.specs.Str.{byte, bytes_eq}
 use Rattle.std.proofs.lemmas.Bool.{and_parts}
 use Rattle.std.proofs.lemmas.Option.{slice_get-map}
 use Rattle.std.proofs.lemmas.Slice.Eq.{bytes_eq-Decides}
-use Rattle.jbase.specs.First.{fault_if, first_some, or_else}
-use Rattle.jbase.proofs.Firsts.{none_of}
-use Rattle.jpool.specs.declared.descriptor.Descriptor.{Descriptor}
-use Rattle.jpool.specs.declared.descriptor.Descriptor.TheVariants as descriptors
-use Rattle.jpool.specs.declared.descriptor.FieldType.{FieldType}
-use Rattle.jpool.specs.declared.entry.Entry.{Entry}
-use Rattle.jpool.specs.Descriptors.{base_at, class_at, closing_at, descriptor_of, field_of, method_of, params_at, return_at, slots_of, type_at}
-use Rattle.jpool.specs.Names.{is_class_name}
-use Rattle.jcode.specs.declared.names.FieldOp.{FieldOp}
-use Rattle.jcode.specs.declared.names.FieldOp.TheVariants as fields
+use Rattle.jground.specs.jbase.First.{fault_if, first_some, or_else}
+use Rattle.jground.proofs.JbaseProofs.Firsts.{none_of}
+use Rattle.jparts.specs.declared.jpool.descriptor.Descriptor.{Descriptor}
+use Rattle.jparts.specs.declared.jpool.descriptor.Descriptor.TheVariants as descriptors
+use Rattle.jparts.specs.declared.jpool.descriptor.FieldType.{FieldType}
+use Rattle.jparts.specs.declared.jpool.entry.Entry.{Entry}
+use Rattle.jparts.specs.jpool.Descriptors.{base_at, class_at, closing_at, descriptor_of, field_of, method_of, params_at, return_at, slots_of, type_at}
+use Rattle.jparts.specs.jpool.Names.{is_class_name}
+use Rattle.jparts.specs.declared.jcode.names.FieldOp.{FieldOp}
+use Rattle.jparts.specs.declared.jcode.names.FieldOp.TheVariants as fields
 use Rattle.jclass.specs.declared.class.ClassParts.{ClassParts}
-use Rattle.jtypes.specs.declared.vtype.Element.{Element}
-use Rattle.jtypes.specs.declared.vtype.Element.TheVariants as elements
-use Rattle.jtypes.specs.declared.vtype.VType.{VType}
-use Rattle.jtypes.specs.declared.vtype.VType.TheVariants as types
-use Rattle.jtypes.specs.Described.{element_of}
+use Rattle.jground.specs.declared.jtypes.vtype.Element.{Element}
+use Rattle.jground.specs.declared.jtypes.vtype.Element.TheVariants as elements
+use Rattle.jground.specs.declared.jtypes.vtype.VType.{VType}
+use Rattle.jground.specs.declared.jtypes.vtype.VType.TheVariants as types
+use Rattle.jground.specs.jtypes.Described.{element_of}
 use Rattle.jlib.specs.declared.side.Side.TheVariants.{Source, Passing}
 use Rattle.jlib.specs.declared.calls.ThrownInit.TheVariants as given
 use Rattle.jlib.specs.declared.calls.Piece.TheVariants as piece
@@ -45,24 +45,24 @@ use Rattle.jprogram.specs.Parts.{is_called, member_desc, member_name, this_name}
 use Rattle.jprogram.specs.Classes.{Program, find, superinterfaces, up}
 use Rattle.jprogram.specs.Members.{field_at, field_in, is_final, lib_field, looked_up, owner_of, resolve_field}
 use Rattle.jprogram.proofs.Standing.{Stands, Users, Libs, Nowhere, stands}
-use Rattle.jlayout.specs.Layout as layout
-use Rattle.juses.specs.Meanings.{FieldMeaning, Reference, reference}
-use Rattle.juses.specs.Typed.{Held, called, element_in, held, name, there, type_in, type_of, typed, typed_as}
-use Rattle.jreferring.specs.declared.judged.MemberUse.{MemberUse}
-use Rattle.jreferring.specs.declared.judged.Sort.TheVariants as sort
-use Rattle.jreferring.specs.Entries as judging
-use Rattle.jreferring.specs.Entries.{judge, judge_pool}
-use Rattle.jreferring.specs.References.{access_test, differs, facts_of, field_member_test, field_test, puts, takes_static}
-use Rattle.jreferring.specs.Units as units
-use Rattle.jreferring.specs.Units.{member_at, member_in, or_no_member}
-use Rattle.jrule.specs.Uses.{of_library}
-use Rattle.jlink.specs.Fields.{IsNamedField}
-use Rattle.jlink.specs.Links.{Links}
-use Rattle.jlink.specs.Standing.{in_order}
-use Rattle.jlink.proofs.Having.{first_in, map_is, then_is}
-use Rattle.jlink.proofs.Selecting.{first_called}
-use Rattle.jlink.proofs.There.{third_none}
-use Rattle.jlink.proofs.Typed.{no_fault}
+use Rattle.jmeaning.specs.jlayout.Layout as layout
+use Rattle.jmeaning.specs.juses.Meanings.{FieldMeaning, Reference, reference}
+use Rattle.jmeaning.specs.juses.Typed.{Held, called, element_in, held, name, there, type_in, type_of, typed, typed_as}
+use Rattle.jlinking.specs.declared.jreferring.judged.MemberUse.{MemberUse}
+use Rattle.jlinking.specs.declared.jreferring.judged.Sort.TheVariants as sort
+use Rattle.jlinking.specs.jreferring.Entries as judging
+use Rattle.jlinking.specs.jreferring.Entries.{judge, judge_pool}
+use Rattle.jlinking.specs.jreferring.References.{access_test, differs, facts_of, field_member_test, field_test, puts, takes_static}
+use Rattle.jlinking.specs.jreferring.Units as units
+use Rattle.jlinking.specs.jreferring.Units.{member_at, member_in, or_no_member}
+use Rattle.jmeaning.specs.jrule.Uses.{of_library}
+use Rattle.jlinking.specs.jlink.Fields.{IsNamedField}
+use Rattle.jlinking.specs.jlink.Links.{Links}
+use Rattle.jlinking.specs.jlink.Standing.{in_order}
+use Rattle.jlinking.proofs.JlinkProofs.Having.{first_in, map_is, then_is}
+use Rattle.jlinking.proofs.JlinkProofs.Selecting.{first_called}
+use Rattle.jlinking.proofs.JlinkProofs.There.{third_none}
+use Rattle.jlinking.proofs.JlinkProofs.Typed.{no_fault}
 use Rattle.jtyped.specs.Uses.{HoldsAs, IsField}
 use Rattle.jtyped.proofs.Apart.{lib_apart}
 use Rattle.jtyped.proofs.Dimensions.{IsTypedNamed, typed_named}

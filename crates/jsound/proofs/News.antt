@@ -6,22 +6,22 @@ use Rattle.std.specs.List.{AllByRecursion, filter, flat_map}
 use Rattle.std.specs.Option.{IsSome}
 use Rattle.std.proofs.lemmas.Bool.{ne_eqb, or_parts}
 use Rattle.std.proofs.lemmas.Option.{slice_get-map}
-use Rattle.jbase.specs.First.{fault_if, or_else}
-use Rattle.jpool.specs.declared.descriptor.Descriptor.{Descriptor}
-use Rattle.jpool.specs.declared.descriptor.Descriptor.TheVariants as descriptors
-use Rattle.jpool.specs.declared.descriptor.FieldType.{FieldType}
-use Rattle.jpool.specs.declared.entry.Entry.{Entry}
-use Rattle.jpool.specs.Descriptors.{descriptor_of, descriptor_text, field_of, is_class_sign, is_well_formed}
-use Rattle.jpool.proofs.Spelled.{descriptor_again, descriptor_take, field_take}
+use Rattle.jground.specs.jbase.First.{fault_if, or_else}
+use Rattle.jparts.specs.declared.jpool.descriptor.Descriptor.{Descriptor}
+use Rattle.jparts.specs.declared.jpool.descriptor.Descriptor.TheVariants as descriptors
+use Rattle.jparts.specs.declared.jpool.descriptor.FieldType.{FieldType}
+use Rattle.jparts.specs.declared.jpool.entry.Entry.{Entry}
+use Rattle.jparts.specs.jpool.Descriptors.{descriptor_of, descriptor_text, field_of, is_class_sign, is_well_formed}
+use Rattle.jparts.proofs.JpoolProofs.Spelled.{descriptor_again, descriptor_take, field_take}
 use Rattle.jclass.specs.declared.class.ClassParts.{ClassParts}
 use Rattle.jclass.specs.declared.class.MemberInfo.{MemberInfo}
-use Rattle.jtypes.specs.declared.vtype.ArrayType.{ArrayType}
-use Rattle.jtypes.specs.declared.vtype.Element.{Element}
-use Rattle.jtypes.specs.declared.vtype.Element.TheVariants as elements
-use Rattle.jtypes.specs.declared.vtype.Name.{Name}
-use Rattle.jtypes.specs.declared.vtype.VType.{VType}
-use Rattle.jtypes.specs.declared.vtype.VType.TheVariants as types
-use Rattle.jtypes.specs.Described.{in_brackets}
+use Rattle.jground.specs.declared.jtypes.vtype.ArrayType.{ArrayType}
+use Rattle.jground.specs.declared.jtypes.vtype.Element.{Element}
+use Rattle.jground.specs.declared.jtypes.vtype.Element.TheVariants as elements
+use Rattle.jground.specs.declared.jtypes.vtype.Name.{Name}
+use Rattle.jground.specs.declared.jtypes.vtype.VType.{VType}
+use Rattle.jground.specs.declared.jtypes.vtype.VType.TheVariants as types
+use Rattle.jground.specs.jtypes.Described.{in_brackets}
 use Rattle.jprogram.specs.declared.fault.LinkKind.TheVariants.{NoClass, NotAccessible}
 use Rattle.jprogram.specs.declared.part.ClassRef.TheVariants as refs
 use Rattle.jprogram.specs.declared.part.CodePart.{CodePart}
@@ -31,25 +31,25 @@ use Rattle.jprogram.specs.Members.{is_public_at, may_name}
 use Rattle.jprogram.specs.Supers.{is_missing}
 use Rattle.jprogram.proofs.Settling.{name_equal}
 use Rattle.jprogram.proofs.Standing.{Stands, Users, Libs, Nowhere, all_append, all_of_map, stands}
-use Rattle.jmembers.specs.Declares.{desc_left_out, desc_missing, text_left_out, text_missing, type_missing}
+use Rattle.jlinking.specs.jmembers.Declares.{desc_left_out, desc_missing, text_left_out, text_missing, type_missing}
 use Rattle.jprogram.specs.LeftOut.{is_context, is_floating}
-use Rattle.jlayout.specs.Layout.{field_type, is_instance, layout, own_types}
-use Rattle.jlayout.specs.Layout as layouts
-use Rattle.juses.specs.Typed.{Held, Typed, array_over, class_by, class_of, class_type, element_in, held, name, there, type_in, type_of, typed, typed_as}
-use Rattle.juses.specs.Typed as says
-use Rattle.jreferring.specs.Entries.{judge, judge_pool}
-use Rattle.jreferring.specs.Names.{class_test, type_test}
-use Rattle.jreferring.specs.Operands.{class_use, operand_test}
-use Rattle.jreferring.specs.Units as units
-use Rattle.jreferring.specs.Units.{class_in, operand_at}
-use Rattle.jrule.specs.Effects.{is_ref}
-use Rattle.jlink.specs.Coded.{AreFiles}
-use Rattle.jlink.specs.Fields.{is_plain}
-use Rattle.jlink.specs.Links.{Links}
-use Rattle.jlink.proofs.Fielded.{named_plain}
-use Rattle.jlink.proofs.Filed.{field_desc}
-use Rattle.jlink.proofs.Having.{has_some, map_is}
-use Rattle.jlink.proofs.Typed.{class_is, type_there}
+use Rattle.jmeaning.specs.jlayout.Layout.{field_type, is_instance, layout, own_types}
+use Rattle.jmeaning.specs.jlayout.Layout as layouts
+use Rattle.jmeaning.specs.juses.Typed.{Held, Typed, array_over, class_by, class_of, class_type, element_in, held, name, there, type_in, type_of, typed, typed_as}
+use Rattle.jmeaning.specs.juses.Typed as says
+use Rattle.jlinking.specs.jreferring.Entries.{judge, judge_pool}
+use Rattle.jlinking.specs.jreferring.Names.{class_test, type_test}
+use Rattle.jlinking.specs.jreferring.Operands.{class_use, operand_test}
+use Rattle.jlinking.specs.jreferring.Units as units
+use Rattle.jlinking.specs.jreferring.Units.{class_in, operand_at}
+use Rattle.jmeaning.specs.jrule.Effects.{is_ref}
+use Rattle.jlinking.specs.jlink.Coded.{AreFiles}
+use Rattle.jlinking.specs.jlink.Fields.{is_plain}
+use Rattle.jlinking.specs.jlink.Links.{Links}
+use Rattle.jlinking.proofs.JlinkProofs.Fielded.{named_plain}
+use Rattle.jlinking.proofs.JlinkProofs.Filed.{field_desc}
+use Rattle.jlinking.proofs.JlinkProofs.Having.{has_some, map_is}
+use Rattle.jlinking.proofs.JlinkProofs.Typed.{class_is, type_there}
 use Rattle.jtyped.specs.Uses.{IsLaidOut}
 use Rattle.jtyped.specs.Values.{HasDimensions}
 use Rattle.jtyped.proofs.Dimensions.{class_type_named}

@@ -3,23 +3,23 @@ use Rattle.std.proofs.Common.{◌≡◌, ◌∙◌, ℕ, ℤ, Bool, true, false,
 use Rattle.std.specs.Prelude.{IsTrue, is_some, option_and_then, option_map, slice_get, if◌then◌else◌}
 use Rattle.std.specs.List.{list_any}
 use Rattle.std.specs.Str.{bytes_eq}
-use Rattle.jcode.specs.declared.form.ArrayForm.{ArrayForm}
-use Rattle.jcode.specs.declared.form.ArrayForm.TheVariants as arrays
-use Rattle.jcode.specs.declared.form.Flow.{Flow}
-use Rattle.jcode.specs.declared.form.Flow.TheVariants as flows
-use Rattle.jcode.specs.declared.form.Form.{Form}
-use Rattle.jcode.specs.declared.form.Form.TheVariants as forms
-use Rattle.jcode.specs.declared.form.PoolForm.{PoolForm}
-use Rattle.jcode.specs.declared.form.PoolForm.TheVariants as pool
-use Rattle.jcode.specs.declared.names.CallOp.TheVariants as ops
-use Rattle.jcode.specs.declared.op.Placed.{Placed}
-use Rattle.jcode.specs.declared.op.Switch.{Switch as SwitchOp}
-use Rattle.jcode.specs.Forms.{form}
+use Rattle.jparts.specs.declared.jcode.form.ArrayForm.{ArrayForm}
+use Rattle.jparts.specs.declared.jcode.form.ArrayForm.TheVariants as arrays
+use Rattle.jparts.specs.declared.jcode.form.Flow.{Flow}
+use Rattle.jparts.specs.declared.jcode.form.Flow.TheVariants as flows
+use Rattle.jparts.specs.declared.jcode.form.Form.{Form}
+use Rattle.jparts.specs.declared.jcode.form.Form.TheVariants as forms
+use Rattle.jparts.specs.declared.jcode.form.PoolForm.{PoolForm}
+use Rattle.jparts.specs.declared.jcode.form.PoolForm.TheVariants as pool
+use Rattle.jparts.specs.declared.jcode.names.CallOp.TheVariants as ops
+use Rattle.jparts.specs.declared.jcode.op.Placed.{Placed}
+use Rattle.jparts.specs.declared.jcode.op.Switch.{Switch as SwitchOp}
+use Rattle.jparts.specs.jcode.Forms.{form}
 use Rattle.jclass.specs.declared.class.ClassParts.{ClassParts}
 use Rattle.jclass.specs.Class.{class_file}
-use Rattle.jtypes.specs.declared.vtype.Name.{Name}
-use Rattle.jtypes.specs.declared.vtype.VType.{VType}
-use Rattle.jtypes.specs.declared.vtype.VType.TheVariants as types
+use Rattle.jground.specs.declared.jtypes.vtype.Name.{Name}
+use Rattle.jground.specs.declared.jtypes.vtype.VType.{VType}
+use Rattle.jground.specs.declared.jtypes.vtype.VType.TheVariants as types
 use Rattle.jprogram.specs.declared.member.MethodId.{MethodId}
 use Rattle.jprogram.specs.Classes.{Program, above, above_name, extends, find, object, onward, ref_of, up}
 use Rattle.jprogram.specs.Parts.{super_name, this_name}
@@ -27,25 +27,25 @@ use Rattle.jprogram.specs.Standing.{StandsInOrder}
 use Rattle.jprogram.proofs.Extending.{up_is}
 use Rattle.jprogram.proofs.Rows.{found_part, own_place}
 use Rattle.jprogram.proofs.Settling.{name_equal, or_right}
-use Rattle.juses.specs.declared.meaning.How.TheVariants as how
-use Rattle.juses.specs.Instructions.{Array, Instruction, Jump, Local, Return, Simple, Stack, Switch, Throw, Used, Test, If, IfInt, IfRef, Always, array, by_form, cases}
-use Rattle.juses.specs.Instructions.{default, flow, instruction, instruction_at, jump, target}
-use Rattle.juses.specs.Meanings as meanings
-use Rattle.juses.specs.Meanings.{AClass, AConstant, AField, AMethod, EntryMeaning, Meaning, array_made, array_meant, entry_meant, index_of, made, meant, used}
-use Rattle.juses.specs.Typed.{array_over, name, there}
-use Rattle.jreferring.specs.declared.judged.Judged.{Judged}
-use Rattle.jreferring.specs.Entries.{judge_pool}
-use Rattle.jreferring.specs.Units.{form_test, pool_test}
-use Rattle.jrule.specs.Here.{Here}
+use Rattle.jmeaning.specs.declared.juses.meaning.How.TheVariants as how
+use Rattle.jmeaning.specs.juses.Instructions.{Array, Instruction, Jump, Local, Return, Simple, Stack, Switch, Throw, Used, Test, If, IfInt, IfRef, Always, array, by_form, cases}
+use Rattle.jmeaning.specs.juses.Instructions.{default, flow, instruction, instruction_at, jump, target}
+use Rattle.jmeaning.specs.juses.Meanings as meanings
+use Rattle.jmeaning.specs.juses.Meanings.{AClass, AConstant, AField, AMethod, EntryMeaning, Meaning, array_made, array_meant, entry_meant, index_of, made, meant, used}
+use Rattle.jmeaning.specs.juses.Typed.{array_over, name, there}
+use Rattle.jlinking.specs.declared.jreferring.judged.Judged.{Judged}
+use Rattle.jlinking.specs.jreferring.Entries.{judge_pool}
+use Rattle.jlinking.specs.jreferring.Units.{form_test, pool_test}
+use Rattle.jmeaning.specs.jrule.Here.{Here}
 use Rattle.jtyping.specs.Methods as methods
 use Rattle.jtyping.specs.Methods.{here_of, made_by, made_in}
-use Rattle.jlink.specs.Coded.{AreFiles}
-use Rattle.jlink.specs.Links.{Links}
-use Rattle.jlink.specs.Standing.{in_order}
-use Rattle.jlink.proofs.Coded.{IsCoded, at_code}
-use Rattle.jlink.proofs.Fielded.{named}
-use Rattle.jlink.proofs.Having.{map_is, then_is}
-use Rattle.jlink.proofs.There.{class_none, code_none, op_form_none, op_none}
+use Rattle.jlinking.specs.jlink.Coded.{AreFiles}
+use Rattle.jlinking.specs.jlink.Links.{Links}
+use Rattle.jlinking.specs.jlink.Standing.{in_order}
+use Rattle.jlinking.proofs.JlinkProofs.Coded.{IsCoded, at_code}
+use Rattle.jlinking.proofs.JlinkProofs.Fielded.{named}
+use Rattle.jlinking.proofs.JlinkProofs.Having.{map_is, then_is}
+use Rattle.jlinking.proofs.JlinkProofs.There.{class_none, code_none, op_form_none, op_none}
 use Rattle.jtyped.specs.Calling.{Coded, IsAboveHere, method}
 use Rattle.jsafe.specs.Sound.{IsSaid}
 use Rattle.jsound.proofs.Calls.{init_call_is, interface_is, special_is, static_is, virtual_is}

@@ -2,8 +2,8 @@
 use Rattle.jprogram.specs.Classes.{Program}
 use Rattle.jtyping.specs.Typing.{WellTyped}
 use Rattle.jtyping.proofs.Methods.{well_typed_exactly}
-use Rattle.jlink.specs.Coded.{AreFiles}
-use Rattle.jlink.specs.Links.{Links}
+use Rattle.jlinking.specs.jlink.Coded.{AreFiles}
+use Rattle.jlinking.specs.jlink.Links.{Links}
 use Rattle.jsafe.specs.Sound.{IsSound}
 use Rattle.jsound.proofs.Saying.{says}
 

@@ -2,12 +2,12 @@
 use Rattle.std.specs.Prelude.{◌≡◌, ℕ, List, Some}
 use Rattle.jprogram.specs.Classes.{Program}
 use Rattle.jprogram.specs.Members.{main_of}
-use Rattle.jlink.specs.Coded.{AreFiles}
-use Rattle.jlink.specs.Links.{Links}
+use Rattle.jlinking.specs.jlink.Coded.{AreFiles}
+use Rattle.jlinking.specs.jlink.Links.{Links}
 use Rattle.jtyping.specs.Typing.{WellTyped}
-use Rattle.jmachine.specs.declared.plan.Plan.{Plan}
-use Rattle.jmachine.specs.Machine.{run}
-use Rattle.jmachine.specs.Security.{Rules}
+use Rattle.jmodel.specs.declared.jmachine.plan.Plan.{Plan}
+use Rattle.jmodel.specs.jmachine.Machine.{run}
+use Rattle.jmodel.specs.jmachine.Security.{Rules}
 use Rattle.jyield.specs.Laws.{AreSided}
 use Rattle.jsafe.specs.States.{IsTypedRun}
 

@@ -1,6 +1,6 @@
 ghost use Rattle.jprogram.specs.Classes.{Program};
-ghost use Rattle.jlink.specs.Coded.{AreFiles};
-ghost use Rattle.jlink.specs.Links.{Links};
+ghost use Rattle.jlinking.specs.jlink.Coded.{AreFiles};
+ghost use Rattle.jlinking.specs.jlink.Links.{Links};
 ghost use Rattle.jtyping.specs.Typing.{WellTyped};
 ghost use Rattle.jsafe.specs.Sound.{IsSound};
 ghost use Rattle.jsound.specs.Runs.{LinkedRunsTyped};

@@ -2,12 +2,12 @@
 use Rattle.std.proofs.Common.{◌≡◌, ℕ, ◌+◌, ◌*◌, pos, List, [], ◌∷◌, ◌++◌, Option, Some, None, refl}
 use Rattle.std.specs.Prelude.{codes}
 use Rattle.std.specs.List.{flat_map}
-use Rattle.jnames.specs.declared.names.Shuffle.TheVariants.{Dup}
-use Rattle.jcode.specs.declared.names.Access.TheVariants.{Load, Store}
-use Rattle.jcode.specs.declared.names.LocalKind.TheVariants as locals
-use Rattle.jcode.specs.declared.names.Returned.TheVariants.{Nothing}
-use Rattle.jcode.specs.declared.form.LocalForm.TheVariants.{Move}
-use Rattle.jcode.specs.declared.form.Simple.TheVariants as simples
+use Rattle.jground.specs.declared.jnames.names.Shuffle.TheVariants.{Dup}
+use Rattle.jparts.specs.declared.jcode.names.Access.TheVariants.{Load, Store}
+use Rattle.jparts.specs.declared.jcode.names.LocalKind.TheVariants as locals
+use Rattle.jparts.specs.declared.jcode.names.Returned.TheVariants.{Nothing}
+use Rattle.jparts.specs.declared.jcode.form.LocalForm.TheVariants.{Move}
+use Rattle.jparts.specs.declared.jcode.form.Simple.TheVariants as simples
 use Rattle.jlib.specs.declared.side.Side.TheVariants.{Source, Passing}
 use Rattle.jlib.specs.declared.calls.ControllerCall.{ControllerCall}
 use Rattle.jlib.specs.declared.calls.ControllerCall.TheVariants as controller
@@ -20,17 +20,17 @@ use Rattle.jlib.specs.declared.calls.ThreadCall.TheVariants as threads
 use Rattle.jlib.specs.declared.classes.LibClass.{LibClass}
 use Rattle.jlib.specs.declared.classes.LibClass.TheVariants as lib
 use Rattle.jlib.specs.declared.classes.PermissionClass.TheVariants as kinds
-use Rattle.jtypes.specs.declared.vtype.VType.{VType}
-use Rattle.jtypes.specs.declared.vtype.VType.TheVariants as types
+use Rattle.jground.specs.declared.jtypes.vtype.VType.{VType}
+use Rattle.jground.specs.declared.jtypes.vtype.VType.TheVariants as types
 use Rattle.jprogram.specs.declared.member.Member.TheVariants.{Method, LibMethod}
 use Rattle.jprogram.specs.Members.{method_id}
-use Rattle.juses.specs.declared.meaning.How.{How}
-use Rattle.juses.specs.declared.meaning.How.TheVariants as how
-use Rattle.juses.specs.Instructions.{Instruction, Always, Jump, Local, Return, Simple, Stack, Switch, Used}
-use Rattle.juses.specs.Meanings.{Call, Make, Push, Text}
-use Rattle.juses.specs.Typed.{name}
-use Rattle.jrule.specs.Uses.{of_library, string}
-use Rattle.jmachine.specs.Objects.{library_name}
+use Rattle.jmeaning.specs.declared.juses.meaning.How.{How}
+use Rattle.jmeaning.specs.declared.juses.meaning.How.TheVariants as how
+use Rattle.jmeaning.specs.juses.Instructions.{Instruction, Always, Jump, Local, Return, Simple, Stack, Switch, Used}
+use Rattle.jmeaning.specs.juses.Meanings.{Call, Make, Push, Text}
+use Rattle.jmeaning.specs.juses.Typed.{name}
+use Rattle.jmeaning.specs.jrule.Uses.{of_library, string}
+use Rattle.jmodel.specs.jmachine.Objects.{library_name}
 use Rattle.jstands.specs.Expanding.{Place, asking_params, expanded, prologue, rt_meaning}
 
 abbrev call : How → LibClass → List VType → Option VType → LibCall → Instruction

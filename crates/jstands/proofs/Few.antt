@@ -2,10 +2,10 @@
 use Rattle.std.proofs.Common.{ℕ, ◌≤◌, List, length, arith}
 use Rattle.jlib.specs.declared.calls.ControllerCall.{ControllerCall}
 use Rattle.jlib.specs.declared.calls.ControllerCall.TheVariants as controller
-use Rattle.juses.specs.declared.meaning.How.{How}
-use Rattle.juses.specs.Instructions.{Instruction, Array, Jump, Local, Return, Simple, Stack, Switch, Throw, Used}
-use Rattle.juses.specs.Meanings as meanings
-use Rattle.juses.specs.Meanings.{CallMeaning, Meaning}
+use Rattle.jmeaning.specs.declared.juses.meaning.How.{How}
+use Rattle.jmeaning.specs.juses.Instructions.{Instruction, Array, Jump, Local, Return, Simple, Stack, Switch, Throw, Used}
+use Rattle.jmeaning.specs.juses.Meanings as meanings
+use Rattle.jmeaning.specs.juses.Meanings.{CallMeaning, Meaning}
 use Rattle.jstands.specs.Expanding.{Alone, Asking, FewExpanded, Handed, Place, Way, calling, expanded, way_of}
 
 abbrev IsFew : List Instruction → Type 0

@@ -1,10 +1,10 @@
 -- What references of class files mean on either side, computed: those of moved class files mean what calls become.
 use Rattle.std.proofs.Common.{◌≡◌, ℕ, List, [], ◌∷◌, Option, Some, None, refl}
 use Rattle.std.specs.Prelude.{codes}
-use Rattle.jbase.specs.Each.{each_some}
-use Rattle.jbase.specs.First.{first_some}
-use Rattle.jpool.specs.Descriptors.{base_at, class_at, closing_at, descriptor_of, field_of, method_of, params_at, return_at, slots_of, type_at}
-use Rattle.jpool.specs.Names.{is_class_name}
+use Rattle.jground.specs.jbase.Each.{each_some}
+use Rattle.jground.specs.jbase.First.{first_some}
+use Rattle.jparts.specs.jpool.Descriptors.{base_at, class_at, closing_at, descriptor_of, field_of, method_of, params_at, return_at, slots_of, type_at}
+use Rattle.jparts.specs.jpool.Names.{is_class_name}
 use Rattle.jlib.specs.declared.side.Side.{Side}
 use Rattle.jlib.specs.declared.side.Side.TheVariants.{Source, Passing}
 use Rattle.jlib.specs.declared.calls.ControllerCall.{ControllerCall}
@@ -16,14 +16,14 @@ use Rattle.jlib.specs.declared.calls.ThreadCall.TheVariants as threads
 use Rattle.jlib.specs.declared.classes.LibClass.{LibClass}
 use Rattle.jlib.specs.declared.classes.LibClass.TheVariants as lib
 use Rattle.jlib.specs.Classes as library
-use Rattle.jtypes.specs.declared.vtype.VType.{VType}
+use Rattle.jground.specs.declared.jtypes.vtype.VType.{VType}
 use Rattle.jprogram.specs.declared.member.Member.TheVariants.{LibMethod}
 use Rattle.jprogram.specs.Classes.{chain, find, place_of, program}
 use Rattle.jprogram.specs.Members.{resolve_method}
-use Rattle.juses.specs.Meanings.{CallMeaning, call_meant}
-use Rattle.juses.specs.Typed.{type_in, typed}
-use Rattle.jrule.specs.Uses.{of_library}
-use Rattle.jmachine.specs.Objects.{library_name}
+use Rattle.jmeaning.specs.juses.Meanings.{CallMeaning, call_meant}
+use Rattle.jmeaning.specs.juses.Typed.{type_in, typed}
+use Rattle.jmeaning.specs.jrule.Uses.{of_library}
+use Rattle.jmodel.specs.jmachine.Objects.{library_name}
 use Rattle.jstands.specs.Expanding.{asking_params, handed, rt_meaning}
 
 -- a reference in a program without classes of its own means this

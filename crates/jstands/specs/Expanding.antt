@@ -1,9 +1,9 @@
 -- What instructions become in a moved program, by what they mean there: the same as moving does to their bytes.
 use Rattle.std.specs.Prelude.{◌≤◌, ℕ, ℤ, pos, Bool, true, false, List, [], ◌∷◌, length, map, Option, Some, None}
-use Rattle.jcode.specs.declared.names.Access.TheVariants.{Load, Store}
-use Rattle.jcode.specs.declared.names.LocalKind.TheVariants as locals
-use Rattle.jcode.specs.declared.form.LocalForm.TheVariants.{Move}
-use Rattle.jcode.specs.declared.form.Simple.TheVariants as simples
+use Rattle.jparts.specs.declared.jcode.names.Access.TheVariants.{Load, Store}
+use Rattle.jparts.specs.declared.jcode.names.LocalKind.TheVariants as locals
+use Rattle.jparts.specs.declared.jcode.form.LocalForm.TheVariants.{Move}
+use Rattle.jparts.specs.declared.jcode.form.Simple.TheVariants as simples
 use Rattle.jlib.specs.declared.side.Side.TheVariants.{Source, Passing}
 use Rattle.jlib.specs.declared.calls.ControllerCall.{ControllerCall}
 use Rattle.jlib.specs.declared.calls.ControllerCall.TheVariants as controller
@@ -14,19 +14,19 @@ use Rattle.jlib.specs.declared.calls.RtCall.TheVariants as rt
 use Rattle.jlib.specs.declared.calls.ThreadCall.TheVariants as threads
 use Rattle.jlib.specs.declared.classes.LibClass.TheVariants as lib
 use Rattle.jlib.specs.declared.classes.PermissionClass.TheVariants as kinds
-use Rattle.jtypes.specs.declared.vtype.ArrayType.{ArrayType}
-use Rattle.jtypes.specs.declared.vtype.Element.TheVariants as elements
-use Rattle.jtypes.specs.declared.vtype.VType.{VType}
-use Rattle.jtypes.specs.declared.vtype.VType.TheVariants as types
+use Rattle.jground.specs.declared.jtypes.vtype.ArrayType.{ArrayType}
+use Rattle.jground.specs.declared.jtypes.vtype.Element.TheVariants as elements
+use Rattle.jground.specs.declared.jtypes.vtype.VType.{VType}
+use Rattle.jground.specs.declared.jtypes.vtype.VType.TheVariants as types
 use Rattle.jprogram.specs.declared.member.Member.{Member}
 use Rattle.jprogram.specs.declared.member.Member.TheVariants.{Method, LibMethod}
-use Rattle.juses.specs.declared.meaning.How.{How}
-use Rattle.juses.specs.declared.meaning.How.TheVariants as how
-use Rattle.juses.specs.Instructions.{Instruction, Simple, Local, Jump, Switch, Used}
-use Rattle.juses.specs.Meanings.{CallMeaning, Call}
-use Rattle.jrule.specs.Uses.{of_library}
-use Rattle.jmachine.specs.Calls.{Target, Fails, Pushes, Runs}
-use Rattle.jmachine.specs.Objects.{library_name}
+use Rattle.jmeaning.specs.declared.juses.meaning.How.{How}
+use Rattle.jmeaning.specs.declared.juses.meaning.How.TheVariants as how
+use Rattle.jmeaning.specs.juses.Instructions.{Instruction, Simple, Local, Jump, Switch, Used}
+use Rattle.jmeaning.specs.juses.Meanings.{CallMeaning, Call}
+use Rattle.jmeaning.specs.jrule.Uses.{of_library}
+use Rattle.jmodel.specs.jmachine.Calls.{Target, Fails, Pushes, Runs}
+use Rattle.jmodel.specs.jmachine.Objects.{library_name}
 
 -- ---- what calls hand on
 

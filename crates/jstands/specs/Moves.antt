@@ -8,8 +8,8 @@ use Rattle.jlib.specs.declared.calls.ControllerCall.{ControllerCall}
 use Rattle.jlib.specs.declared.calls.LibCall.TheVariants as calls
 use Rattle.jlib.specs.declared.calls.RtCall.{RtCall}
 use Rattle.jlib.specs.declared.classes.LibClass.TheVariants as lib
-use Rattle.jtypes.specs.declared.vtype.Name.{Name}
-use Rattle.jtypes.specs.declared.vtype.VType.{VType}
+use Rattle.jground.specs.declared.jtypes.vtype.Name.{Name}
+use Rattle.jground.specs.declared.jtypes.vtype.VType.{VType}
 use Rattle.jclass.specs.declared.class.CodeBody.{CodeBody}
 use Rattle.jprogram.specs.declared.member.Member.{Member}
 use Rattle.jprogram.specs.declared.member.Member.TheVariants.{LibMethod}
@@ -17,25 +17,25 @@ use Rattle.jprogram.specs.declared.member.MethodId.{MethodId}
 use Rattle.jprogram.specs.declared.member.Selected.TheVariants as selected
 use Rattle.jprogram.specs.Classes.{Program}
 use Rattle.jprogram.specs.Members.{main_of}
-use Rattle.juses.specs.declared.meaning.How.{How}
-use Rattle.juses.specs.declared.meaning.How.TheVariants as how
-use Rattle.juses.specs.Instructions.{Instruction, Used, code_at}
-use Rattle.juses.specs.Meanings.{Call, CallMeaning, Make}
-use Rattle.jops.specs.declared.value.Value.{Value}
-use Rattle.jops.specs.declared.value.Value.TheVariants.{Ctx}
+use Rattle.jmeaning.specs.declared.juses.meaning.How.{How}
+use Rattle.jmeaning.specs.declared.juses.meaning.How.TheVariants as how
+use Rattle.jmeaning.specs.juses.Instructions.{Instruction, Used, code_at}
+use Rattle.jmeaning.specs.juses.Meanings.{Call, CallMeaning, Make}
+use Rattle.jground.specs.declared.jops.value.Value.{Value}
+use Rattle.jground.specs.declared.jops.value.Value.TheVariants.{Ctx}
 use Rattle.jctx.specs.declared.item.Item.{Item}
-use Rattle.jmachine.specs.Asked.{call_taken}
-use Rattle.jmachine.specs.Calls.{Target, Pushes, by_interface, target}
-use Rattle.jmachine.specs.Frames.{domain_of, places_of}
-use Rattle.jmachine.specs.Objects.{Object, library_name}
-use Rattle.jmachine.specs.Operands.{Taken}
-use Rattle.jmachine.specs.Privileges.{run_action}
-use Rattle.jmachine.specs.Opening.{opening_charge, opening_store, strings}
-use Rattle.jmachine.specs.Sites.{Site}
-use Rattle.jmachine.specs.Steps.{fetched, own_fields}
-use Rattle.jmachine.specs.Store.{Store}
-use Rattle.jmachine.specs.Unwinding.{handler_at}
-use Rattle.jmachine.specs.World.{World, world}
+use Rattle.jmodel.specs.jmachine.Asked.{call_taken}
+use Rattle.jmodel.specs.jmachine.Calls.{Target, Pushes, by_interface, target}
+use Rattle.jmodel.specs.jmachine.Frames.{domain_of, places_of}
+use Rattle.jmodel.specs.jmachine.Objects.{Object, library_name}
+use Rattle.jmodel.specs.jmachine.Operands.{Taken}
+use Rattle.jmodel.specs.jmachine.Privileges.{run_action}
+use Rattle.jmodel.specs.jmachine.Opening.{opening_charge, opening_store, strings}
+use Rattle.jmodel.specs.jmachine.Sites.{Site}
+use Rattle.jmodel.specs.jmachine.Steps.{fetched, own_fields}
+use Rattle.jmodel.specs.jmachine.Store.{Store}
+use Rattle.jmodel.specs.jmachine.Unwinding.{handler_at}
+use Rattle.jmodel.specs.jmachine.World.{World, world}
 use Rattle.jstands.specs.Expanding.{Alone, Handed, Place, asking_params, comes_alone, comes_handed, expanded, handed, moved_target, prologue, way_of}
 
 -- ---- classes and fields

@@ -2,19 +2,19 @@
 -- statics, threads and turns are equal, and so are operands and what frames carry; frames differ in their places and in the local that holds
 -- the context.
 use Rattle.std.specs.Prelude.{◌≡◌, ◌≤◌, ◌+◌, ℕ, Bool, List, [], ◌∷◌, length, map, Option, Some, None}
-use Rattle.jperm.specs.declared.permission.Permission.{Permission}
-use Rattle.jops.specs.declared.value.Value.{Value}
-use Rattle.jops.specs.declared.value.Value.TheVariants.{Ctx}
+use Rattle.jrights.specs.declared.jperm.permission.Permission.{Permission}
+use Rattle.jground.specs.declared.jops.value.Value.{Value}
+use Rattle.jground.specs.declared.jops.value.Value.TheVariants.{Ctx}
 use Rattle.jclass.specs.declared.class.CodeBody.{CodeBody}
 use Rattle.jprogram.specs.Classes.{Program}
-use Rattle.juses.specs.Instructions.{Instruction, code_at}
+use Rattle.jmeaning.specs.juses.Instructions.{Instruction, code_at}
 use Rattle.jctx.specs.declared.item.Item.{Item}
 use Rattle.jctx.specs.Contexts.{enter}
-use Rattle.jmachine.specs.declared.plan.Plan.{Plan}
-use Rattle.jmachine.specs.Acts.{FrameOf, GuestOf, State, Outcome}
-use Rattle.jmachine.specs.Frames.{domain_of}
-use Rattle.jmachine.specs.Steps.{fetched, step}
-use Rattle.jmachine.specs.Straight.{local_at}
+use Rattle.jmodel.specs.declared.jmachine.plan.Plan.{Plan}
+use Rattle.jmodel.specs.jmachine.Acts.{FrameOf, GuestOf, State, Outcome}
+use Rattle.jmodel.specs.jmachine.Frames.{domain_of}
+use Rattle.jmodel.specs.jmachine.Steps.{fetched, step}
+use Rattle.jmodel.specs.jmachine.Straight.{local_at}
 use Rattle.jbeside.specs.Beside.{Noted, context_of, shadowed, sourced, unmarked}
 use Rattle.jcount.specs.Counting.{Follows}
 use Rattle.jstands.specs.Expanding.{expanded}

@@ -4,8 +4,8 @@ use Rattle.std.specs.Prelude.{String}
 use Rattle.std.specs.Global.{Vec}
 use Rattle.std.specs.declared.alloc.Global.{Global}
 use Rattle.std.proofs.lemmas.List.{map-append}
-use Rattle.jio.specs.Held.{File}
-use Rattle.jio.specs.Memory.{file_of, files_of}
+use Rattle.jrights.specs.jio.Held.{File}
+use Rattle.jrights.specs.jio.Memory.{file_of, files_of}
 use Rattle.jgen.specs.declared.making.MadeFile.{MadeFile}
 use Rattle.jstore.specs.Made.{as_held}
 

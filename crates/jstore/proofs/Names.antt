@@ -2,7 +2,7 @@
 use Rattle.std.proofs.Common.{◌≡◌, ℕ, ◌^◌, ◌<◌, ◌==◌, false, All, List, ◌++◌, IsUtf8, codes, decimal, length, arith, length-append}
 use Rattle.std.proofs.lemmas.List.Elements.{All-append, All-from_recursion}
 use Rattle.std.proofs.lemmas.Str.{IsUtf8-append, IsUtf8-from_ascii}
-use Rattle.jio.specs.Text.{written}
+use Rattle.jrights.specs.jio.Text.{written}
 use Rattle.jagain.specs.Again.{IsName}
 use Rattle.jstore.specs.Folders.{class_path, place_of}
 use Rattle.jtask.specs.Linking.{units_in}

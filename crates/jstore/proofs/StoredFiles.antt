@@ -3,7 +3,7 @@ use Rattle.std.proofs.Common.{◌≡◌, ℕ, suc, ◌+◌, ◌<◌, List, [], �
 use Rattle.std.specs.Prelude.{codes, option_map}
 use Rattle.std.proofs.Math.Seq.{drop-cons}
 use Rattle.std.proofs.lemmas.List.{map-append, take-append-drop, take_more}
-use Rattle.jio.specs.Held.{File, SameElsewhere, stored}
+use Rattle.jrights.specs.jio.Held.{File, SameElsewhere, stored}
 use Rattle.jjob.specs.Storing.{stored_job}
 use Rattle.jrewrite.specs.declared.rewritten.OutFile.{OutFile}
 use Rattle.jstore.specs.declared.storing.NewFile.{NewFile}

@@ -6,13 +6,13 @@ use Rattle.std.specs.Fmt.{digit_glyph}
 use Rattle.std.specs.List.{AllByRecursion}
 use Rattle.std.specs.Str.{byte}
 use Rattle.std.proofs.lemmas.Fmt.{decimal_by_steps}
-use Rattle.jformat.specs.declared.error.Fault.{Fault}
-use Rattle.jformat.specs.Bodies.{many_at}
-use Rattle.jformat.specs.Format.{fault}
-use Rattle.jio.specs.Text.{written, written_unit}
+use Rattle.jground.specs.declared.jformat.error.Fault.{Fault}
+use Rattle.jground.specs.jformat.Bodies.{many_at}
+use Rattle.jground.specs.jformat.Format.{fault}
+use Rattle.jrights.specs.jio.Text.{written, written_unit}
 use Rattle.jtask.specs.Linking.{units_in}
-use Rattle.jtext.specs.Modified.{goes_on, text, three, three_at, two, two_at, unit_at}
-use Rattle.jbase.specs.Stops.{◌>>=◌}
+use Rattle.jground.specs.jtext.Modified.{goes_on, text, three, three_at, two, two_at, unit_at}
+use Rattle.jground.specs.jbase.Stops.{◌>>=◌}
 use Rattle.jstore.proofs.Binds.{bound}
 
 -- ---- units of a name

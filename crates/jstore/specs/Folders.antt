@@ -1,7 +1,7 @@
 -- The files that a moved program is stored as, below a folder.
 use Rattle.std.specs.Prelude.{ℕ, List, [], ◌∷◌, ◌++◌, map, codes, decimal}
-use Rattle.jio.specs.Held.{File}
-use Rattle.jio.specs.Text.{written}
+use Rattle.jrights.specs.jio.Held.{File}
+use Rattle.jrights.specs.jio.Text.{written}
 use Rattle.jjob.specs.Storing.{stored_job}
 use Rattle.jprogram.specs.Classes.{Program}
 use Rattle.jrewrite.specs.declared.rewritten.OutFile.{OutFile}

@@ -1,6 +1,6 @@
 -- The files of a job that a seed and a size make, as a shelf holds them.
 use Rattle.std.specs.Prelude.{ℕ, List, map}
-use Rattle.jio.specs.Held.{File}
+use Rattle.jrights.specs.jio.Held.{File}
 use Rattle.jgen.specs.declared.making.MadeFile.{MadeFile}
 use Rattle.jgen.specs.Files.{made_job}
 

@@ -1,6 +1,6 @@
 -- Files that are stored one after the other.
 use Rattle.std.specs.Prelude.{◌≡◌, List, [], ◌∷◌, ◌++◌, Option, option_map}
-use Rattle.jio.specs.Held.{File, SameElsewhere, stored}
+use Rattle.jrights.specs.jio.Held.{File, SameElsewhere, stored}
 use Rattle.jstore.specs.declared.storing.NewFile.{NewFile}
 
 -- a file that is to be stored, as a shelf holds it

@@ -1,9 +1,9 @@
 ghost use Rattle.std.specs.Prelude.{◌≡◌, ◌≤◌, IfOk, IsUtf8, string_bytes};
-ghost use Rattle.jio.specs.Memory.{file_of, files_of};
+ghost use Rattle.jrights.specs.jio.Memory.{file_of, files_of};
 ghost use Rattle.jstore.specs.Made.{as_held, held};
 
 use jgen::{MadeFile, make_job};
-use jio::MemoryShelf;
+use jrights::jio::MemoryShelf;
 use std::alloc::{AllocError, Global};
 
 /// The text of the path of a made file.

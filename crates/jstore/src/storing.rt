@@ -1,15 +1,15 @@
 ghost use Rattle.std.specs.Prelude.{◌≡◌, ◌≤◌, ◌<◌, ◌++◌, Err, IfOk, OnErr, OnOk, codes, decimal, false, map};
 ghost use Rattle.std.specs.Fmt.{digit_glyph};
-ghost use Rattle.jbase.specs.Causes.{Rose};
-ghost use Rattle.jio.specs.Text.{written, written_unit};
-ghost use Rattle.jio.specs.declared.shelf.ShelfError.TheVariants.{Failed};
+ghost use Rattle.jground.specs.jbase.Causes.{Rose};
+ghost use Rattle.jrights.specs.jio.Text.{written, written_unit};
+ghost use Rattle.jrights.specs.declared.jio.shelf.ShelfError.TheVariants.{Failed};
 ghost use Rattle.jstore.specs.Folders.{all_below, class_path, files_below, place_of};
 ghost use Rattle.jstore.specs.Storing.{StoresFront, seen, with_files};
 
-use jbase::Seq;
-use jio::{Shelf, ShelfError};
+use jground::jbase::Seq;
 use jjob::{Text, stored_job};
 use jmoving::{OutFile, RewrittenProgram};
+use jrights::jio::{Shelf, ShelfError};
 use jtask::{text_in, units_in};
 use std::alloc::{AllocError, Global};
 

@@ -3,8 +3,8 @@ ghost use Rattle.jtable.specs.Digests;
 
 use crate::pairs::Pair;
 use bitflags::Flags;
-use jbase::Seq;
-use jperm::{BasicClass, Permission};
+use jground::jbase::Seq;
+use jrights::jperm::{BasicClass, Permission};
 
 /// What a digest is multiplied by, squared and to the fourth, each modulo 2 ^ 64.
 const SQUARED: u64 = 956_575_116_354_345;

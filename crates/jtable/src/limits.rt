@@ -1,15 +1,15 @@
 ghost use Rattle.std.specs.Prelude.{◌≡◌, IfOk, OnOk};
 ghost use Rattle.std.specs.List.{list_any};
-ghost use Rattle.jperm.specs.Permissions.{equal};
-ghost use Rattle.jdomain.specs.Stacks.{some_implies};
+ghost use Rattle.jrights.specs.jperm.Permissions.{equal};
+ghost use Rattle.jrights.specs.jdomain.Stacks.{some_implies};
 ghost use Rattle.jctx.specs.Limits.{add_limits, is_within};
 
-use jbase::Seq;
-use jperm::Permission;
+use jground::jbase::Seq;
+use jrights::jperm::Permission;
 use std::alloc::{AllocError, Global};
 
 /// Whether one of the limits by itself implies a permission.
-#[tactic(auto, unfolding(jdomain::specs::Stacks::some_implies))]
+#[tactic(auto, unfolding(jrights::specs::jdomain::Stacks::some_implies))]
 pub fn imply(limits: &[Permission], asked: &Permission) -> bool
     ensures { result ≡ some_implies limits.now asked.now }
 {

@@ -1,6 +1,6 @@
 ghost use Rattle.std.specs.Prelude.{◌≡◌, ◌<◌, ◌∷◌, ◌++◌, [], IfOk, IfSome, OnOk, Some, drop, get_or, length, map, option_map, slice_get};
 ghost use Rattle.std.specs.Option.{option_copied};
-ghost use Rattle.jdomain.specs.Domains.{has};
+ghost use Rattle.jrights.specs.jdomain.Domains.{has};
 ghost use Rattle.jctx.specs.Contexts as contexts;
 ghost use Rattle.jctx.specs.Growing.{added, hidden, joined};
 ghost use Rattle.jctx.specs.Items as items;
@@ -15,8 +15,8 @@ use crate::limits::imply;
 use crate::lists::Lists;
 use crate::pairs::Pair;
 use crate::sets::Sets;
-use jdomain::{Domains, Verdict};
-use jperm::Permission;
+use jrights::jdomain::{Domains, Verdict};
+use jrights::jperm::Permission;
 use std::alloc::{AllocError, Global};
 
 /// Whether an item has another's domain and only limits that the other has too.

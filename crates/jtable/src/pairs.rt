@@ -2,7 +2,7 @@ ghost use Rattle.std.specs.Prelude.{◌≡◌, ◌<◌, ◌≤◌, ◌+◌, ◌/
 ghost use Rattle.jtable.specs.Lists.{BeginsWith};
 ghost use Rattle.jtable.specs.Regions.{AreFilled, all_of};
 
-use jbase::Seq;
+use jground::jbase::Seq;
 use std::alloc::{AllocError, Global};
 use std::marker::Model;
 

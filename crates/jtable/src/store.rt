@@ -1,6 +1,6 @@
 ghost use Rattle.std.specs.Prelude.{◌≡◌, ◌<◌, ◌∷◌, ◌++◌, [], IfOk, IfSome, None, OnErr, OnOk, Some, get_or, length, map, option_map, slice_get, true};
 ghost use Rattle.std.specs.Option.{option_copied};
-ghost use Rattle.jdomain.specs.Domains.{has};
+ghost use Rattle.jrights.specs.jdomain.Domains.{has};
 ghost use Rattle.jctx.specs.Contexts as contexts;
 ghost use Rattle.jctx.specs.Laws.{IsKept};
 ghost use Rattle.jtable.specs.Digests;
@@ -16,8 +16,8 @@ use crate::lists::Lists;
 use crate::making::{add_behind, add_given, add_others, begin, decide};
 use crate::pairs::Pair;
 use crate::sets::Sets;
-use jdomain::{Domains, Verdict};
-use jperm::{Permission, permission_laws};
+use jrights::jdomain::{Domains, Verdict};
+use jrights::jperm::{Permission, permission_laws};
 use std::alloc::{AllocError, Global};
 use std::marker::Model;
 

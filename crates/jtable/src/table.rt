@@ -1,7 +1,7 @@
 ghost use Rattle.std.specs.Prelude.{◌≡◌, ◌<◌, ◌∷◌, [], List, IfOk, IfSome, OnErr, Some, length, slice_get};
 ghost use Rattle.std.specs.Option.{option_copied};
-ghost use Rattle.jdomain.specs.Domains.{has};
-ghost use Rattle.jdomain.specs.Stacks.{Stack, walk};
+ghost use Rattle.jrights.specs.jdomain.Domains.{has};
+ghost use Rattle.jrights.specs.jdomain.Stacks.{Stack, walk};
 ghost use Rattle.jctx.specs.declared.item.Item.{Item};
 ghost use Rattle.jctx.specs.Contexts.{along, verdict};
 ghost use Rattle.jtable.specs.Remembered.{IsEntered};
@@ -11,9 +11,9 @@ use crate::entered::Entered;
 use crate::pairs::Pair;
 use crate::store::Store;
 use jctx::context_laws;
-use jdomain::{Domains, Verdict};
 use jmemo::Memo;
-use jperm::Permission;
+use jrights::jdomain::{Domains, Verdict};
+use jrights::jperm::Permission;
 use std::alloc::{AllocError, Global};
 use std::marker::Model;
 

@@ -1,8 +1,8 @@
 -- What was read for a run are parts that may be linked, each of them a class file.
 use Rattle.std.proofs.Common.{◌≡◌, ◌∙◌, List, Ok, Err, sym, subst}
 use Rattle.std.specs.Prelude.{OnOk, ℕ, Result}
-use Rattle.jbase.specs.Each.{each}
-use Rattle.jio.specs.Held.{File}
+use Rattle.jground.specs.jbase.Each.{each}
+use Rattle.jrights.specs.jio.Held.{File}
 use Rattle.jprogram.specs.declared.part.CodePart.{CodePart}
 use Rattle.jtask.specs.declared.ground.Ground.{Ground}
 use Rattle.jtask.specs.Linking.{AreClasses}

@@ -1,10 +1,10 @@
 -- Going along code sources, as a loop does that may halt.
 use Rattle.std.proofs.Common.{◌≡◌, ◌⊎◌, ℕ, ◌<◌, ◌≤◌, List, length, get_or, drop, Option, Some, Result, Err, sym, ◌∙◌, inl, inr, arith}
-use Rattle.jbase.specs.Causes.{Rose}
-use Rattle.jio.specs.Held.{File}
-use Rattle.jbase.specs.declared.stop.Stop.TheVariants as stops
-use Rattle.jbase.specs.Each.{each}
-use Rattle.jbase.proofs.Loops.{behind, each_fails}
+use Rattle.jground.specs.jbase.Causes.{Rose}
+use Rattle.jrights.specs.jio.Held.{File}
+use Rattle.jground.specs.declared.jbase.stop.Stop.TheVariants as stops
+use Rattle.jground.specs.jbase.Each.{each}
+use Rattle.jground.proofs.JbaseProofs.Loops.{behind, each_fails}
 use Rattle.jtask.specs.declared.halt.Halt.{Halt}
 use Rattle.jtask.specs.declared.halt.Halt.TheVariants as halts
 use Rattle.jtask.specs.Stages.{Stopped, Missing, Refused, Halts, Misses}

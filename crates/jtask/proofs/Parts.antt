@@ -1,7 +1,7 @@
 -- What the classes of a job come to, stage by stage: where one of them halts, and where all go well.
 use Rattle.std.proofs.Common.{◌≡◌, ℕ, List, Ok, refl}
 use Rattle.std.specs.List.{flat_map}
-use Rattle.jtext.specs.Modified.{group}
+use Rattle.jground.specs.jtext.Modified.{group}
 use Rattle.jlib.specs.declared.side.Side.{Side}
 use Rattle.jlib.specs.declared.side.Side.TheVariants.{Source}
 use Rattle.jprogram.specs.declared.member.MethodId.{MethodId}

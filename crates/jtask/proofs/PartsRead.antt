@@ -1,7 +1,7 @@
 -- The class files that are read at paths are parts that may be linked.
 use Rattle.std.proofs.Common.{◌≡◌, ◌∙◌, ℕ, ◌+◌, ◌<◌, ◌≤◌, ◌&&◌, Bool, true, List, [], ◌∷◌, ◌++◌, get_or, length, map, take, refl, sym, ap, subst, arith, le-leb, lt-ltb}
 use Rattle.std.proofs.lemmas.List.{length-map, map-append, take_all, take_more}
-use Rattle.jlink.specs.Links.{AreParts, domains_rise}
+use Rattle.jlinking.specs.jlink.Links.{AreParts, domains_rise}
 use Rattle.jprogram.specs.declared.part.CodePart.{CodePart}
 use Rattle.jtask.specs.declared.ground.ClassPath.{ClassPath}
 use Rattle.jtask.specs.Grounds.{ArePaths, Rise, domains_of}

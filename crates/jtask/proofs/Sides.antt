@@ -5,7 +5,7 @@ use Rattle.jlib.specs.declared.side.Side.{Side}
 use Rattle.jprogram.specs.declared.fault.LinkFault.{LinkFault}
 use Rattle.jprogram.specs.declared.part.CodePart.{CodePart}
 use Rattle.jprogram.specs.Classes.{Program, program}
-use Rattle.jlink.specs.Links.{link_fault}
+use Rattle.jlinking.specs.jlink.Links.{link_fault}
 use Rattle.jtask.specs.Checking.{checked}
 use Rattle.jtask.specs.Linking.{linked, unless_broken}
 use Rattle.jtask.proofs.Mains.{checked_is}

@@ -2,16 +2,16 @@
 use Rattle.std.proofs.Common.{◌≡◌, ◌∙◌, ℕ, List, Ok, Err, Option, Some, None, refl, sym, ap, subst}
 use Rattle.std.specs.Prelude.{Result}
 use Rattle.std.specs.List.{flat_map}
-use Rattle.jbase.specs.Each.{each}
-use Rattle.jbase.specs.Stops.{◌>>=◌}
-use Rattle.jio.specs.Held.{File}
-use Rattle.jperm.specs.declared.permission.Permission.{Permission}
-use Rattle.jtext.specs.Modified.{group}
+use Rattle.jground.specs.jbase.Each.{each}
+use Rattle.jground.specs.jbase.Stops.{◌>>=◌}
+use Rattle.jrights.specs.jio.Held.{File}
+use Rattle.jrights.specs.declared.jperm.permission.Permission.{Permission}
+use Rattle.jground.specs.jtext.Modified.{group}
 use Rattle.jjob.specs.declared.command.Command.TheVariants as commands
 use Rattle.jjob.specs.declared.command.Form.TheVariants.{Inspect, Pass}
 use Rattle.jlib.specs.declared.side.Side.TheVariants.{Source}
-use Rattle.jlink.specs.Coded.{AreFiles}
-use Rattle.jlink.specs.Links.{Links, link_fault}
+use Rattle.jlinking.specs.jlink.Coded.{AreFiles}
+use Rattle.jlinking.specs.jlink.Links.{Links, link_fault}
 use Rattle.jprogram.specs.declared.fault.LinkFault.{LinkFault}
 use Rattle.jprogram.specs.declared.member.MethodId.{MethodId}
 use Rattle.jprogram.specs.declared.part.CodePart.{CodePart}
@@ -20,7 +20,7 @@ use Rattle.jprogram.specs.Members.{main_of}
 use Rattle.jtyping.specs.Typing.{Place, WellTyped, type_fault}
 use Rattle.jrewrite.specs.Linking.{IsLinked}
 use Rattle.jrewrite.specs.Program.{limits, moved}
-use Rattle.jmachine.specs.declared.plan.Plan.{Plan}
+use Rattle.jmodel.specs.declared.jmachine.plan.Plan.{Plan}
 use Rattle.jshow.specs.declared.refusal.Refusal.TheVariants.{NoMain}
 use Rattle.jtask.specs.declared.ground.Ground.{Ground}
 use Rattle.jtask.specs.declared.task.Task.{Task}

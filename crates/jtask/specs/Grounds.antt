@@ -1,11 +1,11 @@
 -- What a job and its policy say, for each verb that reads a job.
 use Rattle.std.specs.Prelude.{◌<◌, ◌≤◌, ℕ, ◌+◌, List, [], ◌∷◌, ◌++◌, length, map}
 use Rattle.url.specs.Parts.{Parts}
-use Rattle.jdomain.specs.Domains.{granted}
+use Rattle.jrights.specs.jdomain.Domains.{granted}
 use Rattle.jpolicy.specs.declared.grant.Grant.{Grant}
 use Rattle.jjob.specs.declared.job.Job.{Job}
 use Rattle.jjob.specs.declared.job.JobSource.{JobSource}
-use Rattle.jmachine.specs.declared.plan.Plan.{Plan}
+use Rattle.jmodel.specs.declared.jmachine.plan.Plan.{Plan}
 use Rattle.jprogram.specs.declared.member.MethodId.{MethodId}
 use Rattle.jtask.specs.declared.ground.ClassPath.{ClassPath}
 use Rattle.jtask.specs.declared.ground.Ground.{Ground}

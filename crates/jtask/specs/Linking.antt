@@ -1,7 +1,7 @@
 -- How the classes of a job link: the program that they make, or the refusal by the first rule of linking that they break.
 use Rattle.std.specs.Prelude.{◌≡◌, ℕ, List, [], ◌++◌, Option, Some, None, option_map, option_and_then, Result, Ok, Err, IsTrue, slice_get}
 use Rattle.std.specs.Result.{result_unwrap_or}
-use Rattle.jtext.specs.Modified.{text}
+use Rattle.jground.specs.jtext.Modified.{text}
 use Rattle.jclass.specs.declared.class.ClassParts.{ClassParts}
 use Rattle.jclass.specs.declared.class.MemberInfo.{MemberInfo}
 use Rattle.jclass.specs.Class.{class_file}
@@ -9,7 +9,7 @@ use Rattle.jprogram.specs.declared.fault.LinkFault.{LinkFault}
 use Rattle.jprogram.specs.declared.part.CodePart.{CodePart}
 use Rattle.jprogram.specs.Parts.{member_desc, member_name, this_name}
 use Rattle.jprogram.specs.Classes.{Program}
-use Rattle.jlink.specs.Links.{AreParts, link_fault}
+use Rattle.jlinking.specs.jlink.Links.{AreParts, link_fault}
 use Rattle.jshow.specs.declared.refusal.Refusal.{Refusal}
 use Rattle.jshow.specs.declared.refusal.Refusal.TheVariants.{BadLink}
 use Rattle.jtask.specs.Stages.{Stopped, Refused}

@@ -1,7 +1,7 @@
 -- Stages of reading: what a call that reads files, or judges what was read, answers beside the value of its definition.
 use Rattle.std.specs.Prelude.{◌≡◌, ◌⊎◌, ℕ, List, Option, Some, ok_or, Result, Ok, Err}
-use Rattle.jbase.specs.Causes.{Rose}
-use Rattle.jio.specs.Held.{File, readable}
+use Rattle.jground.specs.jbase.Causes.{Rose}
+use Rattle.jrights.specs.jio.Held.{File, readable}
 use Rattle.jshow.specs.declared.refusal.Refusal.{Refusal}
 use Rattle.jtask.specs.declared.halt.Halt.{Halt}
 use Rattle.jtask.specs.declared.halt.Halt.TheVariants as halts

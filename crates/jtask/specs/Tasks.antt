@@ -4,12 +4,12 @@
 use Rattle.std.specs.Prelude.{◌≡◌, ℕ, ◌-◌, Bool, true, false, List, [], length, Option, Some, None, Result, Ok, Err}
 use Rattle.std.specs.List.{flat_map}
 use Rattle.std.specs.Result.{result_map_both}
-use Rattle.jbase.specs.Each.{each}
-use Rattle.jbase.specs.Stops.{◌>>=◌}
-use Rattle.jio.specs.Held.{File}
-use Rattle.jtext.specs.Modified.{group}
-use Rattle.jformat.specs.declared.error.At.{At}
-use Rattle.jformat.specs.declared.error.Fault.{Fault}
+use Rattle.jground.specs.jbase.Each.{each}
+use Rattle.jground.specs.jbase.Stops.{◌>>=◌}
+use Rattle.jrights.specs.jio.Held.{File}
+use Rattle.jground.specs.jtext.Modified.{group}
+use Rattle.jground.specs.declared.jformat.error.At.{At}
+use Rattle.jground.specs.declared.jformat.error.Fault.{Fault}
 use Rattle.jclass.specs.declared.class.ClassParts.{ClassParts}
 use Rattle.jclass.specs.declared.fault.ClassFault.{ClassFault}
 use Rattle.jclass.specs.Class.{class_file}
@@ -28,8 +28,8 @@ use Rattle.jprogram.specs.declared.part.CodePart.{CodePart}
 use Rattle.jprogram.specs.declared.member.MethodId.{MethodId}
 use Rattle.jprogram.specs.Classes.{Program, program}
 use Rattle.jprogram.specs.Members.{IsMain, main_of}
-use Rattle.jmachine.specs.declared.plan.Plan.{Plan}
-use Rattle.jperm.specs.declared.permission.Permission.{Permission}
+use Rattle.jmodel.specs.declared.jmachine.plan.Plan.{Plan}
+use Rattle.jrights.specs.declared.jperm.permission.Permission.{Permission}
 use Rattle.jshow.specs.declared.refusal.Refusal.TheVariants.{BadJob, BadPolicy, BadClass, NoMain}
 use Rattle.jtask.specs.declared.ground.ClassPath.{ClassPath}
 use Rattle.jtask.specs.declared.ground.Ground.{Ground}

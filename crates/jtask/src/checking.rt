@@ -10,10 +10,10 @@ use crate::halt::Halt;
 use crate::linking::{member_text, units_in};
 use jcheck::{CheckedProgram, TypeFault, check};
 use jclass::ClassParts;
-use jlink::LinkedProgram;
+use jground::jtext::Units;
+use jlinking::jlink::LinkedProgram;
 use jprogram::{CodePart, this_name};
 use jshow::Refusal;
-use jtext::Units;
 use std::alloc::{AllocError, Global};
 
 // ---- the refusal

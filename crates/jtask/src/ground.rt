@@ -2,13 +2,13 @@ ghost use Rattle.std.specs.Prelude.{◌≡◌, ◌≤◌, ◌++◌, IfOk, OnOk, 
 ghost use Rattle.jjob.specs.Limits.{IsWithin, most_codes};
 ghost use Rattle.jtask.specs.Grounds.{ground_of, paths_from, paths_with, plan_of, urls_of};
 
-use jbase::Seq;
-use jdomain::{CodeSource, Domains};
+use jground::jbase::Seq;
+use jground::jtext::Units;
 use jjob::{Job, JobSource, Text};
-use jmachine::Plan;
+use jmodel::jmachine::Plan;
 use jpolicy::Policy;
 use jprogram::MethodId;
-use jtext::Units;
+use jrights::jdomain::{CodeSource, Domains};
 use std::alloc::{AllocError, Global};
 
 /// The path of a class file, with the number of the code source that it is of.

@@ -1,18 +1,18 @@
 ghost use Rattle.std.specs.Prelude.{◌≡◌, Err, IfOk, Option, Some, option_map};
 ghost use Rattle.jprogram.specs.Classes.{Program, program};
-ghost use Rattle.jlink.specs.Links.{AreParts, LinkErrorIs};
+ghost use Rattle.jlinking.specs.jlink.Links.{AreParts, LinkErrorIs};
 ghost use Rattle.jtask.specs.declared.halt.Halt.TheVariants.{Read};
 ghost use Rattle.jtask.specs.Stages.{Follows};
 ghost use Rattle.jtask.specs.Linking.{AreClasses, link_refusal, linked, member_at, member_text, member_told, refusal_in, units_in, unless_broken};
 
 use crate::halt::Halt;
-use jbase::{Seq, Stop};
 use jclass::{ClassParts, MemberInfo};
+use jground::jbase::{Seq, Stop};
+use jground::jtext::{Units, units_of};
 use jlib::Side;
-use jlink::{LinkError, LinkedProgram, link_or_return};
+use jlinking::jlink::{LinkError, LinkedProgram, link_or_return};
 use jprogram::{CodePart, LinkFault, member_desc, member_name, this_name};
 use jshow::Refusal;
-use jtext::{Units, units_of};
 use std::alloc::{AllocError, Global};
 
 // ---- names

@@ -1,12 +1,12 @@
 ghost use Rattle.std.specs.Prelude.{◌≡◌, ◌≤◌, ◌<◌, ◌^◌, ◌⊎◌, ℕ, IfOk, IsUtf8, List, [], Err, Some, length, true};
 ghost use Rattle.std.specs.Str.{is_utf8};
-ghost use Rattle.jbase.specs.Causes.{Rose};
-ghost use Rattle.jbase.specs.Each.{each};
-ghost use Rattle.jio.specs.Held.{File};
+ghost use Rattle.jground.specs.jbase.Causes.{Rose};
+ghost use Rattle.jground.specs.jbase.Each.{each};
+ghost use Rattle.jrights.specs.jio.Held.{File};
 ghost use Rattle.jclass.specs.Class.{class_file};
 ghost use Rattle.jjob.specs.Jobs.{job};
 ghost use Rattle.jjob.specs.Limits.{IsWithin};
-ghost use Rattle.jlink.specs.Links.{AreParts};
+ghost use Rattle.jlinking.specs.jlink.Links.{AreParts};
 ghost use Rattle.jpolicy.specs.Policies.{policy};
 ghost use Rattle.jtask.specs.declared.halt.Halt.TheVariants.{Read};
 ghost use Rattle.jtask.specs.Grounds.{ArePaths};
@@ -15,15 +15,15 @@ ghost use Rattle.jtask.specs.Tasks.{class_at, class_read, grants_at, grants_of, 
 
 use crate::ground::{ClassPath, Ground, ground_of};
 use crate::halt::Halt;
-use jbase::{Seq, Stop};
 use jclass::{ClassFault, ClassFile, read_class};
-use jformat::At;
-use jio::{Shelf, ShelfError};
+use jground::jbase::{Seq, Stop};
+use jground::jformat::At;
+use jground::jtext::Units;
 use jjob::{Job, JobError, Text, read_job};
 use jpolicy::{Policy, read_policy};
 use jprogram::CodePart;
+use jrights::jio::{Shelf, ShelfError};
 use jshow::Refusal;
-use jtext::Units;
 use std::alloc::{AllocError, Global};
 
 /// All bytes of the file at a path.

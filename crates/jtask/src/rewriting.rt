@@ -12,10 +12,10 @@ use crate::halt::Halt;
 use crate::linking::units_in;
 use jcheck::CheckedProgram;
 use jclass::ClassParts;
+use jground::jtext::Units;
 use jmoving::{RewriteError, RewriteKind, RewrittenProgram, rewrite};
 use jprogram::{CodePart, this_name};
 use jshow::Refusal;
-use jtext::Units;
 use std::alloc::{AllocError, Global};
 
 // ---- the refusal

@@ -1,9 +1,9 @@
-use jbase::Seq;
 use jcheck::{CheckedProgram, PlainProgram};
-use jdomain::{CodeSource, Domains};
+use jground::jbase::Seq;
 use jjob::Text;
-use jmachine::Plan;
+use jmodel::jmachine::Plan;
 use jmoving::RewrittenProgram;
+use jrights::jdomain::{CodeSource, Domains};
 
 /// What is to be done, when all files are read and judged.
 #[rattlefmt::skip]

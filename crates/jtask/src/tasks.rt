@@ -1,10 +1,10 @@
 ghost use Rattle.std.specs.Prelude.{◌≡◌, ◌≤◌, ◌<◌, ◌^◌, ℕ, Err, IfOk, IsTrue, List, None, OnOk, Some, false, length, true};
 ghost use Rattle.std.specs.List.{flat_map};
-ghost use Rattle.jio.specs.Held.{File};
-ghost use Rattle.jtext.specs.Modified.{group};
+ghost use Rattle.jrights.specs.jio.Held.{File};
+ghost use Rattle.jground.specs.jtext.Modified.{group};
 ghost use Rattle.jjob.specs.declared.command.Form.TheVariants.{Pass};
 ghost use Rattle.jlib.specs.declared.side.Side.TheVariants.{Passing, Source};
-ghost use Rattle.jlink.specs.Links.{AreParts};
+ghost use Rattle.jlinking.specs.jlink.Links.{AreParts};
 ghost use Rattle.jprogram.specs.Members.{IsMain, main_of};
 ghost use Rattle.jtask.specs.declared.halt.Halt.TheVariants.{Read};
 ghost use Rattle.jtask.specs.declared.task.Task.TheVariants.{RunPlain};
@@ -23,18 +23,18 @@ use crate::linking::{are_classes, linked};
 use crate::reading::{ground_at, ground_in, parts_at, read_at, text_in};
 use crate::rewriting::rewritten;
 use crate::task::Task;
-use jbase::Seq;
 use jcheck::CheckedProgram;
-use jdomain::Domains;
-use jio::Shelf;
+use jground::jbase::Seq;
+use jground::jtext::{Units, bytes_of};
 use jjob::{Command, Form, Text};
 use jlib::Side;
-use jlink::LinkedProgram;
-use jmachine::Plan;
+use jlinking::jlink::LinkedProgram;
+use jmodel::jmachine::Plan;
 use jmoving::RewrittenProgram;
 use jprogram::{CodePart, MethodId};
+use jrights::jdomain::Domains;
+use jrights::jio::Shelf;
 use jshow::Refusal;
-use jtext::{Units, bytes_of};
 use std::alloc::Global;
 
 /// Whether a command reads files. The others make theirs.

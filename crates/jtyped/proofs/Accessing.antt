@@ -1,38 +1,38 @@
 -- Loads from arrays and stores into them in typed frames.
 use Rattle.std.proofs.Common.{◌≡◌, ℕ, zero, suc, ◌-◌, ℤ, Bool, true, false, List, [], ◌∷◌, length, Option, Some, None, refl, sym, ap, subst, ◌∙◌}
 use Rattle.std.specs.Prelude.{option_and_then, option_map, slice_set, if◌then◌else◌}
-use Rattle.jnames.specs.declared.kinds.Kind.TheVariants as kinds
-use Rattle.jops.specs.declared.value.Value.{Value}
-use Rattle.jops.specs.declared.value.Value.TheVariants.{Int, Ref}
-use Rattle.jcode.specs.declared.names.Element as items
-use Rattle.jcode.specs.declared.names.Element.TheVariants as item
-use Rattle.jcode.specs.declared.form.ArrayForm.TheVariants as forms
-use Rattle.jcode.specs.Forms.{element}
+use Rattle.jground.specs.declared.jnames.kinds.Kind.TheVariants as kinds
+use Rattle.jground.specs.declared.jops.value.Value.{Value}
+use Rattle.jground.specs.declared.jops.value.Value.TheVariants.{Int, Ref}
+use Rattle.jparts.specs.declared.jcode.names.Element as items
+use Rattle.jparts.specs.declared.jcode.names.Element.TheVariants as item
+use Rattle.jparts.specs.declared.jcode.form.ArrayForm.TheVariants as forms
+use Rattle.jparts.specs.jcode.Forms.{element}
 use Rattle.jlib.specs.declared.classes.LibClass.TheVariants as lib
 use Rattle.jlib.specs.declared.classes.Thrown.TheVariants as thrown
-use Rattle.jtypes.specs.declared.vtype.ArrayType.{ArrayType}
-use Rattle.jtypes.specs.declared.vtype.VType.{VType}
-use Rattle.jtypes.specs.declared.vtype.VType.TheVariants as types
-use Rattle.jtypes.specs.Frames.{Frame}
-use Rattle.jtypes.specs.Tree.{Tree}
+use Rattle.jground.specs.declared.jtypes.vtype.ArrayType.{ArrayType}
+use Rattle.jground.specs.declared.jtypes.vtype.VType.{VType}
+use Rattle.jground.specs.declared.jtypes.vtype.VType.TheVariants as types
+use Rattle.jground.specs.jtypes.Frames.{Frame}
+use Rattle.jground.specs.jtypes.Tree.{Tree}
 use Rattle.jprogram.specs.declared.member.Member.{Member}
-use Rattle.juses.specs.Instructions as instructions
-use Rattle.jrule.specs.Arrays as rules
-use Rattle.jrule.specs.Arrays.{component, loaded, loaded_on, operands, wanted}
-use Rattle.jrule.specs.Effects.{Holds, Of, Want, holds, is_int, items_of, same_items}
-use Rattle.jrule.specs.Here.{Here}
-use Rattle.jrule.specs.Operands.{below, pushed, taken as types_taken, with_stack}
-use Rattle.jmachine.specs.Acts.{FrameOf, Row, gives, null, raises}
-use Rattle.jmachine.specs.Arrays.{array, is_stored, items_in, load, load_at, outside, store, store_at, with_item, within}
-use Rattle.jmachine.specs.Doing.{by_taken}
-use Rattle.jmachine.specs.Frames.{with_operands}
-use Rattle.jmachine.specs.Narrowing.{held_by, narrowed, place}
-use Rattle.jmachine.specs.Objects.{Object, Array}
-use Rattle.jmachine.specs.Operands.{Taken, serves, taken, type_of, with_value}
-use Rattle.jmachine.specs.Security.{Rules}
-use Rattle.jmachine.specs.Sites.{Site}
-use Rattle.jmachine.specs.Store.{Store, object_at}
-use Rattle.jmachine.specs.World.{World}
+use Rattle.jmeaning.specs.juses.Instructions as instructions
+use Rattle.jmeaning.specs.jrule.Arrays as rules
+use Rattle.jmeaning.specs.jrule.Arrays.{component, loaded, loaded_on, operands, wanted}
+use Rattle.jmeaning.specs.jrule.Effects.{Holds, Of, Want, holds, is_int, items_of, same_items}
+use Rattle.jmeaning.specs.jrule.Here.{Here}
+use Rattle.jmeaning.specs.jrule.Operands.{below, pushed, taken as types_taken, with_stack}
+use Rattle.jmodel.specs.jmachine.Acts.{FrameOf, Row, gives, null, raises}
+use Rattle.jmodel.specs.jmachine.Arrays.{array, is_stored, items_in, load, load_at, outside, store, store_at, with_item, within}
+use Rattle.jmodel.specs.jmachine.Doing.{by_taken}
+use Rattle.jmodel.specs.jmachine.Frames.{with_operands}
+use Rattle.jmodel.specs.jmachine.Narrowing.{held_by, narrowed, place}
+use Rattle.jmodel.specs.jmachine.Objects.{Object, Array}
+use Rattle.jmodel.specs.jmachine.Operands.{Taken, serves, taken, type_of, with_value}
+use Rattle.jmodel.specs.jmachine.Security.{Rules}
+use Rattle.jmodel.specs.jmachine.Sites.{Site}
+use Rattle.jmodel.specs.jmachine.Store.{Store, object_at}
+use Rattle.jmodel.specs.jmachine.World.{World}
 use Rattle.jtyped.specs.Doings.{CanDo}
 use Rattle.jtyped.specs.Frames.{AllHave, AllHold, Has, News, Suits}
 use Rattle.jtyped.specs.Growing.{Becomes, Grows}

@@ -4,18 +4,18 @@ use Rattle.std.specs.List.{AllByRecursion, flat_map}
 use Rattle.std.specs.Prelude.{reverse, if◌then◌else◌}
 use Rattle.std.proofs.lemmas.Grind.{flat_map-append}
 use Rattle.std.proofs.lemmas.List.{append-nil, append_assoc, reverse-append, reverse-reverse}
-use Rattle.jops.specs.declared.value.Value.{Value}
-use Rattle.jops.specs.Shuffles as shuffles
-use Rattle.jtypes.specs.declared.vtype.VType.{VType}
-use Rattle.jtypes.specs.declared.vtype.VType.TheVariants as types
-use Rattle.jtypes.specs.Frames.{is_long, places, places_of}
-use Rattle.jrule.specs.Here.{Here}
+use Rattle.jground.specs.declared.jops.value.Value.{Value}
+use Rattle.jground.specs.jops.Shuffles as shuffles
+use Rattle.jground.specs.declared.jtypes.vtype.VType.{VType}
+use Rattle.jground.specs.declared.jtypes.vtype.VType.TheVariants as types
+use Rattle.jground.specs.jtypes.Frames.{is_long, places, places_of}
+use Rattle.jmeaning.specs.jrule.Here.{Here}
 use Rattle.jtyping.specs.Declared.{filled}
-use Rattle.jmachine.specs.Frames as machine
-use Rattle.jmachine.specs.Frames.{onto}
-use Rattle.jmachine.specs.Store.{Store}
-use Rattle.jmachine.specs.Straight as straight
-use Rattle.jmachine.specs.World.{World}
+use Rattle.jmodel.specs.jmachine.Frames as machine
+use Rattle.jmodel.specs.jmachine.Frames.{onto}
+use Rattle.jmodel.specs.jmachine.Store.{Store}
+use Rattle.jmodel.specs.jmachine.Straight as straight
+use Rattle.jmodel.specs.jmachine.World.{World}
 use Rattle.jtyped.specs.Calling.{FramesBegin, IsParameter}
 use Rattle.jtyped.specs.Frames.{AllHave, AllHold, Has, News}
 use Rattle.jtyped.proofs.Locals.{hold_length}

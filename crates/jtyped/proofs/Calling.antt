@@ -4,7 +4,7 @@ use Rattle.std.specs.List.{AllByRecursion}
 use Rattle.std.specs.Prelude.{option_and_then, option_map, slice_get, if◌then◌else◌}
 use Rattle.std.specs.Str.{bytes_eq}
 use Rattle.std.proofs.lemmas.List.{reverse-append, reverse-reverse}
-use Rattle.jbase.specs.First.{fault_if, or_else}
+use Rattle.jground.specs.jbase.First.{fault_if, or_else}
 use Rattle.jclass.specs.declared.class.CodeBody.{CodeBody}
 use Rattle.jclass.specs.declared.class.MemberInfo.{MemberInfo}
 use Rattle.jlib.specs.declared.calls.LibCall.{LibCall}
@@ -12,12 +12,12 @@ use Rattle.jlib.specs.declared.classes.LibClass.{LibClass}
 use Rattle.jlib.specs.declared.classes.LibClass.TheVariants as lib
 use Rattle.jlib.specs.Calls as library_calls
 use Rattle.jlib.specs.Classes as library
-use Rattle.jops.specs.declared.value.Value.{Value}
-use Rattle.jops.specs.declared.value.Value.TheVariants.{Ref}
-use Rattle.jtypes.specs.declared.vtype.Name.{Name}
-use Rattle.jtypes.specs.declared.vtype.VType.{VType}
-use Rattle.jtypes.specs.declared.vtype.VType.TheVariants as types
-use Rattle.jtypes.specs.Fitting.{is_above_arrays}
+use Rattle.jground.specs.declared.jops.value.Value.{Value}
+use Rattle.jground.specs.declared.jops.value.Value.TheVariants.{Ref}
+use Rattle.jground.specs.declared.jtypes.vtype.Name.{Name}
+use Rattle.jground.specs.declared.jtypes.vtype.VType.{VType}
+use Rattle.jground.specs.declared.jtypes.vtype.VType.TheVariants as types
+use Rattle.jground.specs.jtypes.Fitting.{is_above_arrays}
 use Rattle.jprogram.specs.declared.member.CallKind.{CallKind}
 use Rattle.jprogram.specs.declared.member.CallKind.TheVariants as kinds
 use Rattle.jprogram.specs.declared.member.ClassId.{ClassId}
@@ -36,23 +36,23 @@ use Rattle.jprogram.specs.Parts.{code_of, member_desc, this_name}
 use Rattle.jprogram.specs.Standing.{StandsInOrder}
 use Rattle.jprogram.proofs.Extending.{extends_chain}
 use Rattle.jprogram.proofs.Settling as settling
-use Rattle.jlink.specs.Called.{begins}
-use Rattle.jlink.specs.Selecting.{IsCalledAs, IsSelectedAs}
-use Rattle.jlink.proofs.Having.{has_some}
-use Rattle.jlink.proofs.Selecting.{selected_as}
-use Rattle.juses.specs.declared.meaning.How.{How}
-use Rattle.juses.specs.declared.meaning.How.TheVariants as how
-use Rattle.juses.specs.Meanings.{CallMeaning}
-use Rattle.juses.specs.Typed.{Called, name, typed}
-use Rattle.jrule.specs.Effects.{Fits, Want}
-use Rattle.jrule.specs.Here.{Here}
-use Rattle.jrule.specs.Uses.{arguments, of_library}
+use Rattle.jlinking.specs.jlink.Called.{begins}
+use Rattle.jlinking.specs.jlink.Selecting.{IsCalledAs, IsSelectedAs}
+use Rattle.jlinking.proofs.JlinkProofs.Having.{has_some}
+use Rattle.jlinking.proofs.JlinkProofs.Selecting.{selected_as}
+use Rattle.jmeaning.specs.declared.juses.meaning.How.{How}
+use Rattle.jmeaning.specs.declared.juses.meaning.How.TheVariants as how
+use Rattle.jmeaning.specs.juses.Meanings.{CallMeaning}
+use Rattle.jmeaning.specs.juses.Typed.{Called, name, typed}
+use Rattle.jmeaning.specs.jrule.Effects.{Fits, Want}
+use Rattle.jmeaning.specs.jrule.Here.{Here}
+use Rattle.jmeaning.specs.jrule.Uses.{arguments, of_library}
 use Rattle.jtyping.specs.Methods.{params_of, receiver as this_of, return_of}
-use Rattle.jmachine.specs.Calls.{Target, Fails, by_class, by_interface, from_above, is_hidden, no_access, null_pointer, on_object, on_value, reached, receiver, special, target, unless, wrong_class}
-use Rattle.jmachine.specs.Objects.{Object, Instance, Thrown, Text, Builder, Piece, Permission, Context, Thread, Bare, Array, class_of, id_of}
-use Rattle.jmachine.specs.Sites.{Site}
-use Rattle.jmachine.specs.Store.{Store, object_at}
-use Rattle.jmachine.specs.World.{World, class_id, fits, is_instance, world}
+use Rattle.jmodel.specs.jmachine.Calls.{Target, Fails, by_class, by_interface, from_above, is_hidden, no_access, null_pointer, on_object, on_value, reached, receiver, special, target, unless, wrong_class}
+use Rattle.jmodel.specs.jmachine.Objects.{Object, Instance, Thrown, Text, Builder, Piece, Permission, Context, Thread, Bare, Array, class_of, id_of}
+use Rattle.jmodel.specs.jmachine.Sites.{Site}
+use Rattle.jmodel.specs.jmachine.Store.{Store, object_at}
+use Rattle.jmodel.specs.jmachine.World.{World, class_id, fits, is_instance, world}
 use Rattle.jtyped.specs.Calling.{AllHaveCode, CallsComeTo, Coded, IsCall, IsGiven, IsReceived, IsRun, IsTarget, method, within}
 use Rattle.jtyped.specs.Frames.{AllHave, Has, News}
 use Rattle.jtyped.specs.Laws.{HasCode}

@@ -2,33 +2,33 @@
 use Rattle.std.proofs.Common.{◌≡◌, Bool, false, List, [], ◌∷◌, ◌++◌, map, Option, Some, refl, sym, ap, subst, ◌∙◌}
 use Rattle.std.specs.List.{AllByRecursion}
 use Rattle.std.specs.Prelude.{option_and_then, option_map}
-use Rattle.jtypes.specs.declared.vtype.Name.{Name}
-use Rattle.jtypes.specs.declared.vtype.VType.{VType}
-use Rattle.jtypes.specs.declared.vtype.VType.TheVariants as types
-use Rattle.jtypes.specs.Frames.{Frame}
+use Rattle.jground.specs.declared.jtypes.vtype.Name.{Name}
+use Rattle.jground.specs.declared.jtypes.vtype.VType.{VType}
+use Rattle.jground.specs.declared.jtypes.vtype.VType.TheVariants as types
+use Rattle.jground.specs.jtypes.Frames.{Frame}
 use Rattle.jprogram.specs.declared.member.Member.{Member}
 use Rattle.jprogram.specs.Classes.{Program, tree}
 use Rattle.jprogram.specs.Standing.{StandsInOrder}
-use Rattle.jlink.specs.Called.{begins}
-use Rattle.juses.specs.declared.meaning.How.{How}
-use Rattle.juses.specs.declared.meaning.How.TheVariants as how
-use Rattle.juses.specs.Instructions.{Used}
-use Rattle.juses.specs.Meanings as meanings
-use Rattle.juses.specs.Meanings.{CallMeaning}
-use Rattle.jrule.specs.Effects.{Fits, Want}
-use Rattle.jrule.specs.Here.{Here}
-use Rattle.jrule.specs.Operands.{exchanged}
-use Rattle.jrule.specs.Rule.{rule}
-use Rattle.jrule.specs.Uses.{arguments, exchange, of_call, receiver}
-use Rattle.jmachine.specs.Acts.{FrameOf}
-use Rattle.jmachine.specs.Calls.{target}
-use Rattle.jmachine.specs.Doing.{by_taken, call, called, doing, used}
-use Rattle.jmachine.specs.Frames.{with_operands}
-use Rattle.jmachine.specs.Operands.{taken}
-use Rattle.jmachine.specs.Security.{Rules}
-use Rattle.jmachine.specs.Sites.{Site}
-use Rattle.jmachine.specs.Store.{Store}
-use Rattle.jmachine.specs.World.{world}
+use Rattle.jlinking.specs.jlink.Called.{begins}
+use Rattle.jmeaning.specs.declared.juses.meaning.How.{How}
+use Rattle.jmeaning.specs.declared.juses.meaning.How.TheVariants as how
+use Rattle.jmeaning.specs.juses.Instructions.{Used}
+use Rattle.jmeaning.specs.juses.Meanings as meanings
+use Rattle.jmeaning.specs.juses.Meanings.{CallMeaning}
+use Rattle.jmeaning.specs.jrule.Effects.{Fits, Want}
+use Rattle.jmeaning.specs.jrule.Here.{Here}
+use Rattle.jmeaning.specs.jrule.Operands.{exchanged}
+use Rattle.jmeaning.specs.jrule.Rule.{rule}
+use Rattle.jmeaning.specs.jrule.Uses.{arguments, exchange, of_call, receiver}
+use Rattle.jmodel.specs.jmachine.Acts.{FrameOf}
+use Rattle.jmodel.specs.jmachine.Calls.{target}
+use Rattle.jmodel.specs.jmachine.Doing.{by_taken, call, called, doing, used}
+use Rattle.jmodel.specs.jmachine.Frames.{with_operands}
+use Rattle.jmodel.specs.jmachine.Operands.{taken}
+use Rattle.jmodel.specs.jmachine.Security.{Rules}
+use Rattle.jmodel.specs.jmachine.Sites.{Site}
+use Rattle.jmodel.specs.jmachine.Store.{Store}
+use Rattle.jmodel.specs.jmachine.World.{world}
 use Rattle.jtyped.specs.Calling.{AllHaveCode, CallsDo, CanCall, IsCall}
 use Rattle.jtyped.specs.Fitting.{IsValueType}
 use Rattle.jtyped.specs.Frames.{AllHold, News, Suits}

@@ -3,32 +3,32 @@ use Rattle.std.proofs.Common.{◌≡◌, ℕ, ℤ, pos, ◌-◌, zero, suc, Bool
 use Rattle.std.specs.List.{AllByRecursion, find}
 use Rattle.std.specs.Ordering.{int_eq}
 use Rattle.std.specs.Bool.{⊤}
-use Rattle.jbase.specs.Each.{each_some}
+use Rattle.jground.specs.jbase.Each.{each_some}
 use Rattle.std.specs.Prelude.{nat_le, nat_lt, take, option_to_list, option_and_then, option_map, slice_get, if◌then◌else◌}
 use Rattle.std.specs.Str.{bytes_eq}
 use Rattle.std.proofs.lemmas.List.{reverse-append}
-use Rattle.jpool.specs.declared.descriptor.Descriptor.{Descriptor}
-use Rattle.jpool.specs.declared.descriptor.Descriptor.TheVariants as descriptors
-use Rattle.jpool.specs.declared.descriptor.FieldType.{FieldType}
-use Rattle.jpool.specs.declared.entry.Entry.{Entry}
-use Rattle.jpool.specs.declared.entry.Entry.TheVariants as entries
-use Rattle.jpool.specs.Descriptors.{descriptor_of}
-use Rattle.jpool.specs.Pools.{name_and_type_at, utf8_at}
-use Rattle.jmaps.specs.declared.types.MapType.{MapType}
-use Rattle.jmaps.specs.declared.types.MapType.TheVariants as items
-use Rattle.jmaps.specs.declared.types.RawFrame.{RawFrame}
-use Rattle.jmaps.specs.Full.{chopped, locals_after, place_from}
-use Rattle.jtypes.specs.declared.vtype.Element.{Element}
-use Rattle.jtypes.specs.declared.vtype.Element.TheVariants as elements
-use Rattle.jtypes.specs.declared.vtype.VType.{VType}
-use Rattle.jtypes.specs.declared.vtype.VType.TheVariants as types
-use Rattle.jtypes.specs.Described.{in_brackets}
-use Rattle.jtypes.specs.Frames.{Frame, is_long, places, places_of}
+use Rattle.jparts.specs.declared.jpool.descriptor.Descriptor.{Descriptor}
+use Rattle.jparts.specs.declared.jpool.descriptor.Descriptor.TheVariants as descriptors
+use Rattle.jparts.specs.declared.jpool.descriptor.FieldType.{FieldType}
+use Rattle.jparts.specs.declared.jpool.entry.Entry.{Entry}
+use Rattle.jparts.specs.declared.jpool.entry.Entry.TheVariants as entries
+use Rattle.jparts.specs.jpool.Descriptors.{descriptor_of}
+use Rattle.jparts.specs.jpool.Pools.{name_and_type_at, utf8_at}
+use Rattle.jparts.specs.declared.jmaps.types.MapType.{MapType}
+use Rattle.jparts.specs.declared.jmaps.types.MapType.TheVariants as items
+use Rattle.jparts.specs.declared.jmaps.types.RawFrame.{RawFrame}
+use Rattle.jparts.specs.jmaps.Full.{chopped, locals_after, place_from}
+use Rattle.jground.specs.declared.jtypes.vtype.Element.{Element}
+use Rattle.jground.specs.declared.jtypes.vtype.Element.TheVariants as elements
+use Rattle.jground.specs.declared.jtypes.vtype.VType.{VType}
+use Rattle.jground.specs.declared.jtypes.vtype.VType.TheVariants as types
+use Rattle.jground.specs.jtypes.Described.{in_brackets}
+use Rattle.jground.specs.jtypes.Frames.{Frame, is_long, places, places_of}
 use Rattle.jprogram.specs.Classes.{Program}
 use Rattle.jprogram.specs.Members.{init}
-use Rattle.jlink.proofs.Having.{each_is, map_is, then_is}
-use Rattle.juses.specs.Meanings.{AClass, AConstant, AField, AMethod, EntryMeaning, as_class, call_meant, class_at, entry_meant, field_entry, field_meant, method_entry, reference}
-use Rattle.juses.specs.Typed.{Typed, Called, Held, Untyped, class_by, class_of, class_type, called, element_in, held, is_context, return_in, there, type_in, type_of, typed, typed_as}
+use Rattle.jlinking.proofs.JlinkProofs.Having.{each_is, map_is, then_is}
+use Rattle.jmeaning.specs.juses.Meanings.{AClass, AConstant, AField, AMethod, EntryMeaning, as_class, call_meant, class_at, entry_meant, field_entry, field_meant, method_entry, reference}
+use Rattle.jmeaning.specs.juses.Typed.{Typed, Called, Held, Untyped, class_by, class_of, class_type, called, element_in, held, is_context, return_in, there, type_in, type_of, typed, typed_as}
 use Rattle.jtyping.specs.Declared.{Written, continued, frame_of, frames_in, item, or_top, written, written_from}
 use Rattle.jtyping.specs.Methods.{Method}
 use Rattle.jtyped.specs.Fitting.{IsValueType}

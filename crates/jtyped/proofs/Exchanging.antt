@@ -1,22 +1,22 @@
 -- From the typing rule's frame to the machine's row, for instructions that take operands.
 use Rattle.std.proofs.Common.{◌≡◌, ℕ, Bool, true, false, List, ◌∷◌, ◌++◌, Option, Some, None, option_map, refl, sym, ap, subst, ◌∙◌}
 use Rattle.std.specs.Prelude.{option_and_then, option_to_list, if◌then◌else◌}
-use Rattle.jops.specs.declared.value.Value.{Value}
-use Rattle.jtypes.specs.declared.vtype.VType.{VType}
-use Rattle.jtypes.specs.Frames.{Frame, within}
-use Rattle.jtypes.specs.Tree.{Tree}
+use Rattle.jground.specs.declared.jops.value.Value.{Value}
+use Rattle.jground.specs.declared.jtypes.vtype.VType.{VType}
+use Rattle.jground.specs.jtypes.Frames.{Frame, within}
+use Rattle.jground.specs.jtypes.Tree.{Tree}
 use Rattle.jprogram.specs.declared.member.Member.{Member}
-use Rattle.juses.specs.Instructions.{Instruction}
-use Rattle.jrule.specs.Effects.{Exchange, Want}
-use Rattle.jrule.specs.Here.{Here}
-use Rattle.jrule.specs.Operands.{below, exchanged, given, taken as types_taken, with_stack}
-use Rattle.jmachine.specs.Acts.{FrameOf, Row}
-use Rattle.jmachine.specs.Doing.{Doing, by_taken}
-use Rattle.jmachine.specs.Frames.{with_operands}
-use Rattle.jmachine.specs.Operands.{taken}
-use Rattle.jmachine.specs.Security.{Rules}
-use Rattle.jmachine.specs.Sites.{Site}
-use Rattle.jmachine.specs.Store.{Store}
+use Rattle.jmeaning.specs.juses.Instructions.{Instruction}
+use Rattle.jmeaning.specs.jrule.Effects.{Exchange, Want}
+use Rattle.jmeaning.specs.jrule.Here.{Here}
+use Rattle.jmeaning.specs.jrule.Operands.{below, exchanged, given, taken as types_taken, with_stack}
+use Rattle.jmodel.specs.jmachine.Acts.{FrameOf, Row}
+use Rattle.jmodel.specs.jmachine.Doing.{Doing, by_taken}
+use Rattle.jmodel.specs.jmachine.Frames.{with_operands}
+use Rattle.jmodel.specs.jmachine.Operands.{taken}
+use Rattle.jmodel.specs.jmachine.Security.{Rules}
+use Rattle.jmodel.specs.jmachine.Sites.{Site}
+use Rattle.jmodel.specs.jmachine.Store.{Store}
 use Rattle.jtyped.specs.Doings.{CanDo}
 use Rattle.jtyped.specs.Frames.{AllHold, News, Suits}
 use Rattle.jtyped.specs.Values.{AllServe}

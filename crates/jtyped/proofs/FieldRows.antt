@@ -2,16 +2,16 @@
 use Rattle.std.proofs.Common.{◌≡◌, ℕ, zero, suc, Bool, true, false, ◌&&◌, List, [], ◌∷◌, Option, Some, None, inl, inr, refl, sym, ap, subst, ◌∙◌}
 use Rattle.std.specs.Prelude.{option_map}
 use Rattle.std.specs.Str.{bytes_eq}
-use Rattle.jcode.specs.declared.names.FieldOp.{FieldOp}
-use Rattle.jcode.specs.declared.names.FieldOp.TheVariants as fields
+use Rattle.jparts.specs.declared.jcode.names.FieldOp.{FieldOp}
+use Rattle.jparts.specs.declared.jcode.names.FieldOp.TheVariants as fields
 use Rattle.jlib.specs.declared.classes.LibClass.TheVariants as lib
-use Rattle.jnames.specs.declared.kinds.Kind.TheVariants as kinds
-use Rattle.jops.specs.declared.value.Value.{Value}
-use Rattle.jops.specs.declared.value.Value.TheVariants.{Ref}
-use Rattle.jtypes.specs.declared.vtype.Name.{Name}
-use Rattle.jtypes.specs.declared.vtype.VType.{VType}
-use Rattle.jtypes.specs.declared.vtype.VType.TheVariants as types
-use Rattle.jtypes.specs.Frames.{Frame}
+use Rattle.jground.specs.declared.jnames.kinds.Kind.TheVariants as kinds
+use Rattle.jground.specs.declared.jops.value.Value.{Value}
+use Rattle.jground.specs.declared.jops.value.Value.TheVariants.{Ref}
+use Rattle.jground.specs.declared.jtypes.vtype.Name.{Name}
+use Rattle.jground.specs.declared.jtypes.vtype.VType.{VType}
+use Rattle.jground.specs.declared.jtypes.vtype.VType.TheVariants as types
+use Rattle.jground.specs.jtypes.Frames.{Frame}
 use Rattle.jprogram.specs.declared.member.Member.{Member}
 use Rattle.jprogram.specs.declared.member.Member.TheVariants.{Field, LibField}
 use Rattle.jprogram.specs.declared.part.ClassRef.TheVariants as refs
@@ -20,24 +20,24 @@ use Rattle.jprogram.specs.Members.{is_static, owner_of}
 use Rattle.jprogram.specs.Standing.{StandsInOrder}
 use Rattle.jprogram.proofs.Extending.{extends_itself}
 use Rattle.jprogram.proofs.Settling as settling
-use Rattle.jlayout.specs.Layout as layouts
-use Rattle.jlink.specs.Fields.{is_plain}
-use Rattle.juses.specs.Instructions.{Used}
-use Rattle.juses.specs.Meanings as meanings
-use Rattle.juses.specs.Meanings.{FieldMeaning}
-use Rattle.jrule.specs.Effects.{Exchange, Fits, Want}
-use Rattle.jrule.specs.Here.{Here}
-use Rattle.jrule.specs.Operands.{exchanged}
-use Rattle.jrule.specs.Rule.{is_own}
-use Rattle.jrule.specs.Uses.{of_field, of_library, written}
-use Rattle.jmachine.specs.Acts.{FrameOf, Row, gives, null}
-use Rattle.jmachine.specs.Doing.{by_taken}
-use Rattle.jmachine.specs.Fields.{field, get_from, get_static, out, put_static}
-use Rattle.jmachine.specs.Operands.{taken}
-use Rattle.jmachine.specs.Security.{Rules}
-use Rattle.jmachine.specs.Sites.{Site}
-use Rattle.jmachine.specs.Store.{Store, object_at, with_object}
-use Rattle.jmachine.specs.World.{fits, world}
+use Rattle.jmeaning.specs.jlayout.Layout as layouts
+use Rattle.jlinking.specs.jlink.Fields.{is_plain}
+use Rattle.jmeaning.specs.juses.Instructions.{Used}
+use Rattle.jmeaning.specs.juses.Meanings as meanings
+use Rattle.jmeaning.specs.juses.Meanings.{FieldMeaning}
+use Rattle.jmeaning.specs.jrule.Effects.{Exchange, Fits, Want}
+use Rattle.jmeaning.specs.jrule.Here.{Here}
+use Rattle.jmeaning.specs.jrule.Operands.{exchanged}
+use Rattle.jmeaning.specs.jrule.Rule.{is_own}
+use Rattle.jmeaning.specs.jrule.Uses.{of_field, of_library, written}
+use Rattle.jmodel.specs.jmachine.Acts.{FrameOf, Row, gives, null}
+use Rattle.jmodel.specs.jmachine.Doing.{by_taken}
+use Rattle.jmodel.specs.jmachine.Fields.{field, get_from, get_static, out, put_static}
+use Rattle.jmodel.specs.jmachine.Operands.{taken}
+use Rattle.jmodel.specs.jmachine.Security.{Rules}
+use Rattle.jmodel.specs.jmachine.Sites.{Site}
+use Rattle.jmodel.specs.jmachine.Store.{Store, object_at, with_object}
+use Rattle.jmodel.specs.jmachine.World.{fits, world}
 use Rattle.jtyped.specs.Doings.{CanDo}
 use Rattle.jtyped.specs.Fitting.{IsValueType}
 use Rattle.jtyped.specs.Frames.{News, Suits}

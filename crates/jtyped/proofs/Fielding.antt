@@ -7,12 +7,12 @@ use Rattle.jclass.specs.declared.class.MemberInfo.{MemberInfo}
 use Rattle.jlib.specs.declared.classes.LibClass.{LibClass}
 use Rattle.jlib.specs.declared.classes.LibClass.TheVariants as lib
 use Rattle.jlib.specs.Classes as library
-use Rattle.jops.specs.declared.value.Value.{Value}
-use Rattle.jops.specs.declared.value.Value.TheVariants.{Ref}
-use Rattle.jtypes.specs.declared.vtype.Name.{Name}
-use Rattle.jtypes.specs.declared.vtype.VType.{VType}
-use Rattle.jtypes.specs.declared.vtype.VType.TheVariants as types
-use Rattle.jtypes.specs.Fitting.{is_above_arrays}
+use Rattle.jground.specs.declared.jops.value.Value.{Value}
+use Rattle.jground.specs.declared.jops.value.Value.TheVariants.{Ref}
+use Rattle.jground.specs.declared.jtypes.vtype.Name.{Name}
+use Rattle.jground.specs.declared.jtypes.vtype.VType.{VType}
+use Rattle.jground.specs.declared.jtypes.vtype.VType.TheVariants as types
+use Rattle.jground.specs.jtypes.Fitting.{is_above_arrays}
 use Rattle.jprogram.specs.declared.member.Member.TheVariants.{Field}
 use Rattle.jprogram.specs.declared.part.ClassRef.TheVariants as refs
 use Rattle.jprogram.specs.declared.part.CodePart.{CodePart}
@@ -24,15 +24,15 @@ use Rattle.jprogram.specs.Standing.{StandsInOrder}
 use Rattle.jprogram.proofs.Extending.{extends_chain}
 use Rattle.jprogram.proofs.Numbers.{own_number}
 use Rattle.jprogram.proofs.Settling.{clash}
-use Rattle.jlayout.specs.Layout as layouts
-use Rattle.jlayout.specs.Layout.{field_type, layout, place_among, slot}
-use Rattle.jlayout.specs.Numbered.{IsFieldOf, all_statics}
-use Rattle.jlayout.proofs.Standings as standings
-use Rattle.jmachine.specs.Fields.{get_from, get_static, put_into, put_static, with_place}
-use Rattle.jmachine.specs.Narrowing.{narrowed}
-use Rattle.jmachine.specs.Objects.{Object, Instance, Thrown, Text, Builder, Piece, Permission, Context, Thread, Bare, Array, class_of}
-use Rattle.jmachine.specs.Store.{Store, object_at, with_object, with_statics}
-use Rattle.jmachine.specs.World.{World, fits, world}
+use Rattle.jmeaning.specs.jlayout.Layout as layouts
+use Rattle.jmeaning.specs.jlayout.Layout.{field_type, layout, place_among, slot}
+use Rattle.jmeaning.specs.jlayout.Numbered.{IsFieldOf, all_statics}
+use Rattle.jmeaning.proofs.JlayoutProofs.Standings as standings
+use Rattle.jmodel.specs.jmachine.Fields.{get_from, get_static, put_into, put_static, with_place}
+use Rattle.jmodel.specs.jmachine.Narrowing.{narrowed}
+use Rattle.jmodel.specs.jmachine.Objects.{Object, Instance, Thrown, Text, Builder, Piece, Permission, Context, Thread, Bare, Array, class_of}
+use Rattle.jmodel.specs.jmachine.Store.{Store, object_at, with_object, with_statics}
+use Rattle.jmodel.specs.jmachine.World.{World, fits, world}
 use Rattle.jtyped.specs.Growing.{Becomes, Grows}
 use Rattle.jtyped.specs.Stores.{IsObject, IsStored}
 use Rattle.jtyped.specs.Uses.{static_types}

@@ -2,33 +2,33 @@
 use Rattle.std.proofs.Common.{◌≡◌, ℕ, zero, suc, ℤ, pos, Bool, true, false, ◌||◌, List, [], ◌∷◌, map, Option, Some, None, is_some, option_map, refl, sym, subst}
 use Rattle.std.specs.Ordering.{int_eq}
 use Rattle.std.specs.Prelude.{option_to_list, if◌then◌else◌}
-use Rattle.jnames.specs.declared.kinds.Kind.{Kind}
-use Rattle.jnames.specs.declared.kinds.Kind.TheVariants as kinds
-use Rattle.jnames.specs.declared.kinds.Kinds.TheVariants as many
-use Rattle.jnames.specs.declared.names.Compare.{Compare}
-use Rattle.jnames.specs.declared.names.Compare.TheVariants as compares
-use Rattle.jops.specs.declared.value.Value.{Value}
-use Rattle.jops.specs.declared.value.Value.TheVariants.{Int, Ref}
-use Rattle.jops.specs.Operations as operations
-use Rattle.jops.proofs.ByKinds.{test_there}
-use Rattle.jcode.specs.declared.names.RefTest.{RefTest}
-use Rattle.jcode.specs.declared.names.RefTest.TheVariants as refs
-use Rattle.jcode.specs.declared.names.Returned.{Returned}
-use Rattle.jcode.specs.declared.names.Returned.TheVariants as results
-use Rattle.jcode.specs.Forms as forms
-use Rattle.jtypes.specs.declared.vtype.VType.{VType}
-use Rattle.jtypes.specs.declared.vtype.VType.TheVariants as types
-use Rattle.jtypes.specs.Fitting as checked
+use Rattle.jground.specs.declared.jnames.kinds.Kind.{Kind}
+use Rattle.jground.specs.declared.jnames.kinds.Kind.TheVariants as kinds
+use Rattle.jground.specs.declared.jnames.kinds.Kinds.TheVariants as many
+use Rattle.jground.specs.declared.jnames.names.Compare.{Compare}
+use Rattle.jground.specs.declared.jnames.names.Compare.TheVariants as compares
+use Rattle.jground.specs.declared.jops.value.Value.{Value}
+use Rattle.jground.specs.declared.jops.value.Value.TheVariants.{Int, Ref}
+use Rattle.jground.specs.jops.Operations as operations
+use Rattle.jground.proofs.JopsProofs.ByKinds.{test_there}
+use Rattle.jparts.specs.declared.jcode.names.RefTest.{RefTest}
+use Rattle.jparts.specs.declared.jcode.names.RefTest.TheVariants as refs
+use Rattle.jparts.specs.declared.jcode.names.Returned.{Returned}
+use Rattle.jparts.specs.declared.jcode.names.Returned.TheVariants as results
+use Rattle.jparts.specs.jcode.Forms as forms
+use Rattle.jground.specs.declared.jtypes.vtype.VType.{VType}
+use Rattle.jground.specs.declared.jtypes.vtype.VType.TheVariants as types
+use Rattle.jground.specs.jtypes.Fitting as checked
 use Rattle.jclass.specs.Stored.{IsIn}
-use Rattle.juses.specs.Instructions.{Instruction, Jump, Switch, Throw, Test, Always, If, IfInt, IfRef, goes_on}
-use Rattle.jrule.specs.Effects.{Fits, Of, is_ref, of_kinds}
-use Rattle.jrule.specs.Here.{Here}
-use Rattle.jrule.specs.Straight.{returns, tested}
-use Rattle.jrule.specs.Uses.{throwable}
-use Rattle.jmachine.specs.Acts.{Jumps, Row, Throws, free, raises}
-use Rattle.jmachine.specs.Store.{Store}
-use Rattle.jmachine.specs.Straight.{branched, case_of, compared, holds, jump, leave, switch, throw}
-use Rattle.jmachine.specs.World.{World}
+use Rattle.jmeaning.specs.juses.Instructions.{Instruction, Jump, Switch, Throw, Test, Always, If, IfInt, IfRef, goes_on}
+use Rattle.jmeaning.specs.jrule.Effects.{Fits, Of, is_ref, of_kinds}
+use Rattle.jmeaning.specs.jrule.Here.{Here}
+use Rattle.jmeaning.specs.jrule.Straight.{returns, tested}
+use Rattle.jmeaning.specs.jrule.Uses.{throwable}
+use Rattle.jmodel.specs.jmachine.Acts.{Jumps, Row, Throws, free, raises}
+use Rattle.jmodel.specs.jmachine.Store.{Store}
+use Rattle.jmodel.specs.jmachine.Straight.{branched, case_of, compared, holds, jump, leave, switch, throw}
+use Rattle.jmodel.specs.jmachine.World.{World}
 use Rattle.jlib.specs.declared.classes.LibClass.TheVariants as lib
 use Rattle.jlib.specs.declared.classes.Thrown.TheVariants as thrown
 use Rattle.jtyped.specs.Frames.{News}

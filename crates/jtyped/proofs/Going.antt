@@ -2,16 +2,16 @@
 use Rattle.std.proofs.Common.{◌≡◌, ℕ, suc, true, List, [], ◌∷◌, ◌++◌, Option, Some, None, refl, sym, ap, subst, ◌∙◌}
 use Rattle.std.specs.Prelude.{ℤ, pos, ◌+ℤ◌, option_to_list, slice_get}
 use Rattle.jclass.specs.Stored.{IsIn}
-use Rattle.jcode.specs.declared.op.Placed.{Placed}
-use Rattle.jcode.specs.Forms.{form}
-use Rattle.jops.specs.declared.value.Value.{Value}
-use Rattle.jtypes.specs.declared.vtype.VType.{VType}
-use Rattle.jtypes.specs.declared.vtype.VType.TheVariants as types
-use Rattle.jtypes.specs.Frames.{Frame}
+use Rattle.jparts.specs.declared.jcode.op.Placed.{Placed}
+use Rattle.jparts.specs.jcode.Forms.{form}
+use Rattle.jground.specs.declared.jops.value.Value.{Value}
+use Rattle.jground.specs.declared.jtypes.vtype.VType.{VType}
+use Rattle.jground.specs.declared.jtypes.vtype.VType.TheVariants as types
+use Rattle.jground.specs.jtypes.Frames.{Frame}
 use Rattle.jprogram.specs.Classes.{Program, tree}
 use Rattle.jprogram.specs.Standing.{StandsInOrder}
-use Rattle.juses.specs.Instructions.{Instruction, instruction, targets}
-use Rattle.jrule.specs.Here.{Here}
+use Rattle.jmeaning.specs.juses.Instructions.{Instruction, instruction, targets}
+use Rattle.jmeaning.specs.jrule.Here.{Here}
 use Rattle.jtyping.specs.Declared.{Written, declared_at}
 use Rattle.jtyping.specs.Methods.{Method, here_of}
 use Rattle.jtyping.specs.Typing.{frame_fits, leads_in}
@@ -20,11 +20,11 @@ use Rattle.jtyping.specs.Typed.{AreFrames, Arrives}
 use Rattle.jtyping.proofs.Chosen.{also_at, declared_there}
 use Rattle.jtyping.proofs.Numbers.{at_target, form_led}
 use Rattle.jtyping.proofs.Successors.{gives_rule, number_onward}
-use Rattle.jmachine.specs.Acts.{Act, FrameOf, Goes, Jumps, Leaves, Raises, Throws}
-use Rattle.jmachine.specs.Doing.{Doing, doing}
-use Rattle.jmachine.specs.Frames.{onward, standing}
-use Rattle.jmachine.specs.Store.{Store}
-use Rattle.jmachine.specs.World.{World, world}
+use Rattle.jmodel.specs.jmachine.Acts.{Act, FrameOf, Goes, Jumps, Leaves, Raises, Throws}
+use Rattle.jmodel.specs.jmachine.Doing.{Doing, doing}
+use Rattle.jmodel.specs.jmachine.Frames.{onward, standing}
+use Rattle.jmodel.specs.jmachine.Store.{Store}
+use Rattle.jmodel.specs.jmachine.World.{World, world}
 use Rattle.jtyped.specs.Doings.{CanDo, GivesOf}
 use Rattle.jtyped.specs.Frames.{AllHaveDimensions, AllHave, AllHold, Has, Holds, IsBelow, IsMade, News, Suits}
 use Rattle.jtyped.specs.Going.{DeclareDimensions, Leads, LeadsOn, StraightLeads, SuitsAt, inside}

@@ -1,16 +1,16 @@
 -- What is known of values is known in each store behind.
 use Rattle.std.proofs.Common.{◌≡◌, ℕ, zero, suc, Bool, true, false, List, [], ◌∷◌, ◌++◌, Option, Some, None, ◌⊎◌, inl, inr, refl, sym, ap, subst, ◌∙◌}
 use Rattle.std.specs.Prelude.{slice_get, slice_set, if◌then◌else◌}
-use Rattle.jops.specs.declared.value.Value.{Value}
-use Rattle.jops.specs.declared.value.Value.TheVariants.{Int, Long, Ref, Ctx}
-use Rattle.jtypes.specs.declared.vtype.Name.{Name}
-use Rattle.jtypes.specs.declared.vtype.VType.{VType}
-use Rattle.jtypes.specs.declared.vtype.VType.TheVariants as types
-use Rattle.jrule.specs.Effects.{Want}
-use Rattle.jrule.specs.Here.{Here}
-use Rattle.jmachine.specs.Objects.{Object, class_of}
-use Rattle.jmachine.specs.Store.{Store, object_at, with_constant, with_made}
-use Rattle.jmachine.specs.World.{World}
+use Rattle.jground.specs.declared.jops.value.Value.{Value}
+use Rattle.jground.specs.declared.jops.value.Value.TheVariants.{Int, Long, Ref, Ctx}
+use Rattle.jground.specs.declared.jtypes.vtype.Name.{Name}
+use Rattle.jground.specs.declared.jtypes.vtype.VType.{VType}
+use Rattle.jground.specs.declared.jtypes.vtype.VType.TheVariants as types
+use Rattle.jmeaning.specs.jrule.Effects.{Want}
+use Rattle.jmeaning.specs.jrule.Here.{Here}
+use Rattle.jmodel.specs.jmachine.Objects.{Object, class_of}
+use Rattle.jmodel.specs.jmachine.Store.{Store, object_at, with_constant, with_made}
+use Rattle.jmodel.specs.jmachine.World.{World}
 use Rattle.jtyped.specs.Frames.{AllHave, AllHold, Has, Holds, IsMade, News}
 use Rattle.jtyped.specs.Growing.{Becomes, Grows, GrowsChanged, GrowsItself, GrowsMade, GrowsOn, SuitsLater}
 use Rattle.jtyped.specs.Values.{Serves, is_whole, known, whole_type}

@@ -11,12 +11,12 @@ use Rattle.jlib.specs.declared.classes.LibClass.{LibClass}
 use Rattle.jlib.specs.declared.classes.LibClass.TheVariants as lib
 use Rattle.jlib.specs.Calls as library_calls
 use Rattle.jlib.specs.Classes as library
-use Rattle.jops.specs.declared.value.Value.{Value}
-use Rattle.jops.specs.declared.value.Value.TheVariants.{Ref}
-use Rattle.jtypes.specs.declared.vtype.Name.{Name}
-use Rattle.jtypes.specs.declared.vtype.VType.{VType}
-use Rattle.jtypes.specs.declared.vtype.VType.TheVariants as types
-use Rattle.jtypes.specs.Frames.{Frame}
+use Rattle.jground.specs.declared.jops.value.Value.{Value}
+use Rattle.jground.specs.declared.jops.value.Value.TheVariants.{Ref}
+use Rattle.jground.specs.declared.jtypes.vtype.Name.{Name}
+use Rattle.jground.specs.declared.jtypes.vtype.VType.{VType}
+use Rattle.jground.specs.declared.jtypes.vtype.VType.TheVariants as types
+use Rattle.jground.specs.jtypes.Frames.{Frame}
 use Rattle.jprogram.specs.declared.member.Member.{Member}
 use Rattle.jprogram.specs.declared.member.Member.TheVariants.{LibMethod, Method}
 use Rattle.jprogram.specs.declared.member.MethodId.{MethodId}
@@ -31,32 +31,32 @@ use Rattle.jprogram.specs.Parts.{code_of, member_desc, member_name, this_name}
 use Rattle.jprogram.specs.Standing.{StandsInOrder}
 use Rattle.jprogram.proofs.Extending.{extends_itself}
 use Rattle.jprogram.proofs.Settling as settling
-use Rattle.jlink.proofs.Having.{has_some}
-use Rattle.juses.specs.declared.meaning.How.TheVariants as how
-use Rattle.juses.specs.Instructions.{Used}
-use Rattle.juses.specs.Meanings as meanings
-use Rattle.juses.specs.Meanings.{CallMeaning}
-use Rattle.juses.specs.Typed.{Called, name, typed}
-use Rattle.jrule.specs.declared.unready.Unready.{Unready}
-use Rattle.jrule.specs.declared.unready.Unready.TheVariants as unready
-use Rattle.jrule.specs.Effects.{Fits}
-use Rattle.jrule.specs.Here.{Here}
-use Rattle.jrule.specs.Objects as rules
-use Rattle.jrule.specs.Objects.{all_replaced, init_of, init_on, is_it, is_named, may_ready_this, replaced, same_name}
-use Rattle.jrule.specs.Operands.{below, given, taken as types_taken, with_stack}
-use Rattle.jrule.specs.Rule.{rule}
-use Rattle.jrule.specs.Uses.{arguments}
+use Rattle.jlinking.proofs.JlinkProofs.Having.{has_some}
+use Rattle.jmeaning.specs.declared.juses.meaning.How.TheVariants as how
+use Rattle.jmeaning.specs.juses.Instructions.{Used}
+use Rattle.jmeaning.specs.juses.Meanings as meanings
+use Rattle.jmeaning.specs.juses.Meanings.{CallMeaning}
+use Rattle.jmeaning.specs.juses.Typed.{Called, name, typed}
+use Rattle.jmeaning.specs.declared.jrule.unready.Unready.{Unready}
+use Rattle.jmeaning.specs.declared.jrule.unready.Unready.TheVariants as unready
+use Rattle.jmeaning.specs.jrule.Effects.{Fits}
+use Rattle.jmeaning.specs.jrule.Here.{Here}
+use Rattle.jmeaning.specs.jrule.Objects as rules
+use Rattle.jmeaning.specs.jrule.Objects.{all_replaced, init_of, init_on, is_it, is_named, may_ready_this, replaced, same_name}
+use Rattle.jmeaning.specs.jrule.Operands.{below, given, taken as types_taken, with_stack}
+use Rattle.jmeaning.specs.jrule.Rule.{rule}
+use Rattle.jmeaning.specs.jrule.Uses.{arguments}
 use Rattle.jtyping.specs.Methods.{params_of, receiver as this_of, return_of}
-use Rattle.jmachine.specs.Acts.{FrameOf}
-use Rattle.jmachine.specs.Calls.{Pushes, begun_on, init_taken, is_begun, may_begin, on_object, on_value, reached, receiver, target}
-use Rattle.jmachine.specs.Doing.{by_taken, call, called, doing, used}
-use Rattle.jmachine.specs.Frames.{with_operands}
-use Rattle.jmachine.specs.Objects.{Object, Instance, Thrown, Text, Builder, Piece, Permission, Context, Thread, Bare, Array, class_of}
-use Rattle.jmachine.specs.Operands.{taken}
-use Rattle.jmachine.specs.Security.{Rules}
-use Rattle.jmachine.specs.Sites.{Site}
-use Rattle.jmachine.specs.Store.{Store, object_at}
-use Rattle.jmachine.specs.World.{World, fits, world}
+use Rattle.jmodel.specs.jmachine.Acts.{FrameOf}
+use Rattle.jmodel.specs.jmachine.Calls.{Pushes, begun_on, init_taken, is_begun, may_begin, on_object, on_value, reached, receiver, target}
+use Rattle.jmodel.specs.jmachine.Doing.{by_taken, call, called, doing, used}
+use Rattle.jmodel.specs.jmachine.Frames.{with_operands}
+use Rattle.jmodel.specs.jmachine.Objects.{Object, Instance, Thrown, Text, Builder, Piece, Permission, Context, Thread, Bare, Array, class_of}
+use Rattle.jmodel.specs.jmachine.Operands.{taken}
+use Rattle.jmodel.specs.jmachine.Security.{Rules}
+use Rattle.jmodel.specs.jmachine.Sites.{Site}
+use Rattle.jmodel.specs.jmachine.Store.{Store, object_at}
+use Rattle.jmodel.specs.jmachine.World.{World, fits, world}
 use Rattle.jtyped.specs.Calling.{AllHaveCode, CanInit, Coded, InitsDo, IsAboveHere, IsBegunBy, IsGiven, IsInit, IsInitTarget, IsUsable, method, within}
 use Rattle.jtyped.specs.Fitting.{IsValueType}
 use Rattle.jtyped.specs.Frames.{AllHave, AllHold, Has, Holds, IsBelow, IsMade, News, Suits}

@@ -2,27 +2,27 @@
 use Rattle.std.proofs.Common.{◌≡◌, ◌≢◌, ℕ, zero, suc, ◌-◌, ◌<◌, Bool, true, false, List, [], ◌∷◌, length, Option, Some, None, refl, sym, ap, subst, arith, ◌∙◌}
 use Rattle.std.specs.Prelude.{nat_lt, slice_get, slice_set, if◌then◌else◌}
 use Rattle.std.proofs.lemmas.Bool.{lt-ltb, ltb-true}
-use Rattle.jnames.specs.declared.kinds.Kind.TheVariants as kinds
-use Rattle.jops.specs.declared.value.Value.{Value}
-use Rattle.jops.specs.declared.value.Value.TheVariants.{Int, Long, Ref, Ctx}
-use Rattle.jcode.specs.declared.names.Element as items
-use Rattle.jcode.specs.declared.names.Element.TheVariants as item
-use Rattle.jtypes.specs.declared.vtype.ArrayType.{ArrayType}
-use Rattle.jtypes.specs.declared.vtype.Element.{Element}
-use Rattle.jtypes.specs.declared.vtype.Element.TheVariants as elements
-use Rattle.jtypes.specs.declared.vtype.VType.{VType}
-use Rattle.jtypes.specs.declared.vtype.VType.TheVariants as types
-use Rattle.jtypes.specs.Described.{alone, in_brackets}
-use Rattle.jtypes.specs.Fitting.{array_fits, element_fits, is_above_array}
-use Rattle.jtypes.specs.Tree.{Tree}
-use Rattle.jrule.specs.Arrays.{component, loaded}
-use Rattle.jrule.specs.Effects.{Holds, Of, held_as, holds, is_array, is_ref, items_of, same_items}
-use Rattle.jrule.specs.Here.{Here}
-use Rattle.jmachine.specs.Arrays.{within}
-use Rattle.jmachine.specs.Narrowing.{narrowed}
-use Rattle.jmachine.specs.Objects.{Array}
-use Rattle.jmachine.specs.Store.{Store, object_at}
-use Rattle.jmachine.specs.World.{World, fits, is_above}
+use Rattle.jground.specs.declared.jnames.kinds.Kind.TheVariants as kinds
+use Rattle.jground.specs.declared.jops.value.Value.{Value}
+use Rattle.jground.specs.declared.jops.value.Value.TheVariants.{Int, Long, Ref, Ctx}
+use Rattle.jparts.specs.declared.jcode.names.Element as items
+use Rattle.jparts.specs.declared.jcode.names.Element.TheVariants as item
+use Rattle.jground.specs.declared.jtypes.vtype.ArrayType.{ArrayType}
+use Rattle.jground.specs.declared.jtypes.vtype.Element.{Element}
+use Rattle.jground.specs.declared.jtypes.vtype.Element.TheVariants as elements
+use Rattle.jground.specs.declared.jtypes.vtype.VType.{VType}
+use Rattle.jground.specs.declared.jtypes.vtype.VType.TheVariants as types
+use Rattle.jground.specs.jtypes.Described.{alone, in_brackets}
+use Rattle.jground.specs.jtypes.Fitting.{array_fits, element_fits, is_above_array}
+use Rattle.jground.specs.jtypes.Tree.{Tree}
+use Rattle.jmeaning.specs.jrule.Arrays.{component, loaded}
+use Rattle.jmeaning.specs.jrule.Effects.{Holds, Of, held_as, holds, is_array, is_ref, items_of, same_items}
+use Rattle.jmeaning.specs.jrule.Here.{Here}
+use Rattle.jmodel.specs.jmachine.Arrays.{within}
+use Rattle.jmodel.specs.jmachine.Narrowing.{narrowed}
+use Rattle.jmodel.specs.jmachine.Objects.{Array}
+use Rattle.jmodel.specs.jmachine.Store.{Store, object_at}
+use Rattle.jmodel.specs.jmachine.World.{World, fits, is_above}
 use Rattle.jtyped.specs.Frames.{News}
 use Rattle.jtyped.specs.Stores.{EachOf, IsStored}
 use Rattle.jtyped.specs.Values.{HasDimensions, IsA, Serves, known, whole_type}

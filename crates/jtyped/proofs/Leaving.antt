@@ -1,35 +1,35 @@
 -- Returns in typed frames: what a method returns fits what it is said to return, where the machine asks for its kind alone.
 use Rattle.std.proofs.Common.{◌≡◌, Bool, true, false, ◌&&◌, List, [], ◌∷◌, map, Option, Some, None, option_map, refl, sym, ap, subst}
 use Rattle.std.specs.Prelude.{option_to_list, if◌then◌else◌}
-use Rattle.jnames.specs.declared.kinds.Kind.{Kind}
-use Rattle.jnames.specs.declared.kinds.Kind.TheVariants as kinds
-use Rattle.jnames.specs.declared.kinds.Kinds.{Kinds}
-use Rattle.jnames.specs.declared.kinds.Kinds.TheVariants as many
-use Rattle.jops.specs.declared.value.Value.{Value}
-use Rattle.jcode.specs.declared.names.Returned.{Returned}
-use Rattle.jcode.specs.declared.names.Returned.TheVariants as results
-use Rattle.jcode.specs.Forms.{returned}
-use Rattle.jtypes.specs.declared.vtype.VType.{VType}
-use Rattle.jtypes.specs.declared.vtype.VType.TheVariants as types
-use Rattle.jtypes.specs.Fitting as checked
-use Rattle.jtypes.specs.Frames.{Frame, is_long}
-use Rattle.jtypes.specs.Tree.{Tree}
+use Rattle.jground.specs.declared.jnames.kinds.Kind.{Kind}
+use Rattle.jground.specs.declared.jnames.kinds.Kind.TheVariants as kinds
+use Rattle.jground.specs.declared.jnames.kinds.Kinds.{Kinds}
+use Rattle.jground.specs.declared.jnames.kinds.Kinds.TheVariants as many
+use Rattle.jground.specs.declared.jops.value.Value.{Value}
+use Rattle.jparts.specs.declared.jcode.names.Returned.{Returned}
+use Rattle.jparts.specs.declared.jcode.names.Returned.TheVariants as results
+use Rattle.jparts.specs.jcode.Forms.{returned}
+use Rattle.jground.specs.declared.jtypes.vtype.VType.{VType}
+use Rattle.jground.specs.declared.jtypes.vtype.VType.TheVariants as types
+use Rattle.jground.specs.jtypes.Fitting as checked
+use Rattle.jground.specs.jtypes.Frames.{Frame, is_long}
+use Rattle.jground.specs.jtypes.Tree.{Tree}
 use Rattle.jprogram.specs.declared.member.Member.{Member}
-use Rattle.juses.specs.Instructions.{Instruction}
-use Rattle.jrule.specs.Effects.{Fits, Of, is_int, is_of, is_ref, of_kinds}
-use Rattle.jrule.specs.Here.{Here}
-use Rattle.jrule.specs.Operands.{below, taken as types_taken}
-use Rattle.jrule.specs.Straight as rule_straight
-use Rattle.jrule.specs.Straight.{may_leave, returns}
-use Rattle.jmachine.specs.Acts.{FrameOf, Leaves, free}
-use Rattle.jmachine.specs.Doing.{by_taken}
-use Rattle.jmachine.specs.Frames.{with_operands}
-use Rattle.jmachine.specs.Operands.{taken, with_value}
-use Rattle.jmachine.specs.Security.{Rules}
-use Rattle.jmachine.specs.Sites.{Site}
-use Rattle.jmachine.specs.Store.{Store}
-use Rattle.jmachine.specs.Straight.{leave}
-use Rattle.jmachine.specs.World.{World, fits}
+use Rattle.jmeaning.specs.juses.Instructions.{Instruction}
+use Rattle.jmeaning.specs.jrule.Effects.{Fits, Of, is_int, is_of, is_ref, of_kinds}
+use Rattle.jmeaning.specs.jrule.Here.{Here}
+use Rattle.jmeaning.specs.jrule.Operands.{below, taken as types_taken}
+use Rattle.jmeaning.specs.jrule.Straight as rule_straight
+use Rattle.jmeaning.specs.jrule.Straight.{may_leave, returns}
+use Rattle.jmodel.specs.jmachine.Acts.{FrameOf, Leaves, free}
+use Rattle.jmodel.specs.jmachine.Doing.{by_taken}
+use Rattle.jmodel.specs.jmachine.Frames.{with_operands}
+use Rattle.jmodel.specs.jmachine.Operands.{taken, with_value}
+use Rattle.jmodel.specs.jmachine.Security.{Rules}
+use Rattle.jmodel.specs.jmachine.Sites.{Site}
+use Rattle.jmodel.specs.jmachine.Store.{Store}
+use Rattle.jmodel.specs.jmachine.Straight.{leave}
+use Rattle.jmodel.specs.jmachine.World.{World, fits}
 use Rattle.jtyped.specs.Doings.{CanDo}
 use Rattle.jtyped.specs.Fitting.{IsValueType}
 use Rattle.jtyped.specs.Frames.{AllHave, AllHold, News, Suits}

@@ -1,38 +1,38 @@
 -- Instructions with a local in typed frames.
 use Rattle.std.proofs.Common.{◌≡◌, ℕ, zero, suc, ◌+◌, ℤ, ◌+ℤ◌, Bool, true, false, ◌&&◌, List, [], ◌∷◌, length, Option, Some, None, option_map, refl, sym, ap, subst, ◌∙◌}
 use Rattle.std.specs.Prelude.{nat_le, option_and_then, slice_get, slice_set, if◌then◌else◌}
-use Rattle.jnames.specs.declared.kinds.Kind.{Kind}
-use Rattle.jnames.specs.declared.kinds.Kind.TheVariants as kinds
-use Rattle.jops.specs.declared.value.Value.{Value}
-use Rattle.jops.specs.declared.value.Value.TheVariants.{Int}
-use Rattle.jops.specs.Kinds as values
-use Rattle.jops.specs.Operations.{int}
-use Rattle.jops.specs.Shuffles as shuffles
-use Rattle.jcode.specs.declared.names.Access.TheVariants.{Load, Store as Keep}
-use Rattle.jcode.specs.declared.names.LocalKind.{LocalKind}
-use Rattle.jcode.specs.declared.names.LocalKind.TheVariants as locals
-use Rattle.jcode.specs.declared.form.LocalForm.{LocalForm}
-use Rattle.jcode.specs.declared.form.LocalForm.TheVariants.{Move as Moves, Increment}
-use Rattle.jcode.specs.Forms as forms
-use Rattle.jtypes.specs.declared.vtype.VType.{VType}
-use Rattle.jtypes.specs.declared.vtype.VType.TheVariants as types
-use Rattle.jtypes.specs.Frames as shapes
-use Rattle.jtypes.specs.Frames.{Frame, is_long}
+use Rattle.jground.specs.declared.jnames.kinds.Kind.{Kind}
+use Rattle.jground.specs.declared.jnames.kinds.Kind.TheVariants as kinds
+use Rattle.jground.specs.declared.jops.value.Value.{Value}
+use Rattle.jground.specs.declared.jops.value.Value.TheVariants.{Int}
+use Rattle.jground.specs.jops.Kinds as values
+use Rattle.jground.specs.jops.Operations.{int}
+use Rattle.jground.specs.jops.Shuffles as shuffles
+use Rattle.jparts.specs.declared.jcode.names.Access.TheVariants.{Load, Store as Keep}
+use Rattle.jparts.specs.declared.jcode.names.LocalKind.{LocalKind}
+use Rattle.jparts.specs.declared.jcode.names.LocalKind.TheVariants as locals
+use Rattle.jparts.specs.declared.jcode.form.LocalForm.{LocalForm}
+use Rattle.jparts.specs.declared.jcode.form.LocalForm.TheVariants.{Move as Moves, Increment}
+use Rattle.jparts.specs.jcode.Forms as forms
+use Rattle.jground.specs.declared.jtypes.vtype.VType.{VType}
+use Rattle.jground.specs.declared.jtypes.vtype.VType.TheVariants as types
+use Rattle.jground.specs.jtypes.Frames as shapes
+use Rattle.jground.specs.jtypes.Frames.{Frame, is_long}
 use Rattle.jprogram.specs.declared.member.Member.{Member}
-use Rattle.juses.specs.Instructions.{Instruction, goes_on}
-use Rattle.jrule.specs.Effects.{is_int, is_of}
-use Rattle.jrule.specs.Here.{Here}
-use Rattle.jrule.specs.Locals as rule_locals
-use Rattle.jrule.specs.Locals.{is_top, is_whole, passes}
-use Rattle.jrule.specs.Operands.{pushed, with_stack}
-use Rattle.jmachine.specs.Acts.{FrameOf, gives}
-use Rattle.jmachine.specs.Doing.{Doing, by_held}
-use Rattle.jmachine.specs.Frames.{with_held}
-use Rattle.jmachine.specs.Security.{Rules}
-use Rattle.jmachine.specs.Sites.{Site}
-use Rattle.jmachine.specs.Store.{Store}
-use Rattle.jmachine.specs.Straight.{Held, holding, increased, loaded, local, local_at, places, stored, with_local}
-use Rattle.jmachine.specs.World.{World}
+use Rattle.jmeaning.specs.juses.Instructions.{Instruction, goes_on}
+use Rattle.jmeaning.specs.jrule.Effects.{is_int, is_of}
+use Rattle.jmeaning.specs.jrule.Here.{Here}
+use Rattle.jmeaning.specs.jrule.Locals as rule_locals
+use Rattle.jmeaning.specs.jrule.Locals.{is_top, is_whole, passes}
+use Rattle.jmeaning.specs.jrule.Operands.{pushed, with_stack}
+use Rattle.jmodel.specs.jmachine.Acts.{FrameOf, gives}
+use Rattle.jmodel.specs.jmachine.Doing.{Doing, by_held}
+use Rattle.jmodel.specs.jmachine.Frames.{with_held}
+use Rattle.jmodel.specs.jmachine.Security.{Rules}
+use Rattle.jmodel.specs.jmachine.Sites.{Site}
+use Rattle.jmodel.specs.jmachine.Store.{Store}
+use Rattle.jmodel.specs.jmachine.Straight.{Held, holding, increased, loaded, local, local_at, places, stored, with_local}
+use Rattle.jmodel.specs.jmachine.World.{World}
 use Rattle.jtyped.specs.Stores.{IsStored}
 use Rattle.jtyped.proofs.Growing.{grows_itself}
 use Rattle.jtyped.specs.Doings.{CanDo}

@@ -2,38 +2,38 @@
 use Rattle.std.proofs.Common.{◌≡◌, ℕ, zero, suc, ◌+◌, ◌-◌, ℤ, pos, Bool, true, false, List, [], ◌∷◌, ◌++◌, length, replicate, Option, Some, None, option_map, refl, sym, ap, subst, arith, ◌∙◌}
 use Rattle.std.specs.Prelude.{slice_get, if◌then◌else◌}
 use Rattle.std.specs.Str.{bytes_eq}
-use Rattle.jnames.specs.declared.kinds.Kind.TheVariants as kinds
+use Rattle.jground.specs.declared.jnames.kinds.Kind.TheVariants as kinds
 use Rattle.jclass.specs.Stored.{IsIn}
-use Rattle.jops.specs.declared.value.Value.{Value}
-use Rattle.jops.specs.declared.value.Value.TheVariants.{Int, Long, Ref}
-use Rattle.jcode.specs.declared.names.ArrayType as codes_of
-use Rattle.jcode.specs.declared.names.CastOp.{CastOp}
-use Rattle.jcode.specs.declared.names.CastOp.TheVariants as casts
-use Rattle.jcode.specs.declared.form.ArrayForm.TheVariants as forms
+use Rattle.jground.specs.declared.jops.value.Value.{Value}
+use Rattle.jground.specs.declared.jops.value.Value.TheVariants.{Int, Long, Ref}
+use Rattle.jparts.specs.declared.jcode.names.ArrayType as codes_of
+use Rattle.jparts.specs.declared.jcode.names.CastOp.{CastOp}
+use Rattle.jparts.specs.declared.jcode.names.CastOp.TheVariants as casts
+use Rattle.jparts.specs.declared.jcode.form.ArrayForm.TheVariants as forms
 use Rattle.jlib.specs.declared.classes.LibClass.TheVariants as lib
 use Rattle.jlib.specs.declared.classes.Thrown.TheVariants as thrown
-use Rattle.jtypes.specs.declared.vtype.ArrayType.{ArrayType}
-use Rattle.jtypes.specs.declared.vtype.Element.{Element}
-use Rattle.jtypes.specs.declared.vtype.Element.TheVariants as elements
-use Rattle.jtypes.specs.declared.vtype.VType.{VType}
-use Rattle.jtypes.specs.declared.vtype.VType.TheVariants as types
-use Rattle.jtypes.specs.Described.{in_brackets}
-use Rattle.juses.specs.Instructions.{Instruction, goes_on}
-use Rattle.juses.specs.Meanings as meanings
-use Rattle.juses.specs.Meanings.{Pushed}
-use Rattle.jrule.specs.Arrays.{component, of_numbers, row}
-use Rattle.jrule.specs.Effects.{Of, is_array, is_ref}
-use Rattle.jrule.specs.Here.{Here}
-use Rattle.jrule.specs.Uses.{constant, of_cast, string}
-use Rattle.jmachine.specs.Acts.{Row, gives, null}
-use Rattle.jmachine.specs.Arrays as machine
-use Rattle.jmachine.specs.Arrays.{array, items_in, made, made_of, make}
-use Rattle.jmachine.specs.Making.{cast, checked, is_one, push, tested, text_loaded, text_made, units_of}
-use Rattle.jmachine.specs.Narrowing.{default, place}
-use Rattle.jmachine.specs.Objects.{Object, Thrown, Text, Array, class_of}
-use Rattle.jmachine.specs.Operands.{type_of}
-use Rattle.jmachine.specs.Store.{Store, constant_at, next_number, object_at, with_constant, with_made}
-use Rattle.jmachine.specs.World.{World}
+use Rattle.jground.specs.declared.jtypes.vtype.ArrayType.{ArrayType}
+use Rattle.jground.specs.declared.jtypes.vtype.Element.{Element}
+use Rattle.jground.specs.declared.jtypes.vtype.Element.TheVariants as elements
+use Rattle.jground.specs.declared.jtypes.vtype.VType.{VType}
+use Rattle.jground.specs.declared.jtypes.vtype.VType.TheVariants as types
+use Rattle.jground.specs.jtypes.Described.{in_brackets}
+use Rattle.jmeaning.specs.juses.Instructions.{Instruction, goes_on}
+use Rattle.jmeaning.specs.juses.Meanings as meanings
+use Rattle.jmeaning.specs.juses.Meanings.{Pushed}
+use Rattle.jmeaning.specs.jrule.Arrays.{component, of_numbers, row}
+use Rattle.jmeaning.specs.jrule.Effects.{Of, is_array, is_ref}
+use Rattle.jmeaning.specs.jrule.Here.{Here}
+use Rattle.jmeaning.specs.jrule.Uses.{constant, of_cast, string}
+use Rattle.jmodel.specs.jmachine.Acts.{Row, gives, null}
+use Rattle.jmodel.specs.jmachine.Arrays as machine
+use Rattle.jmodel.specs.jmachine.Arrays.{array, items_in, made, made_of, make}
+use Rattle.jmodel.specs.jmachine.Making.{cast, checked, is_one, push, tested, text_loaded, text_made, units_of}
+use Rattle.jmodel.specs.jmachine.Narrowing.{default, place}
+use Rattle.jmodel.specs.jmachine.Objects.{Object, Thrown, Text, Array, class_of}
+use Rattle.jmodel.specs.jmachine.Operands.{type_of}
+use Rattle.jmodel.specs.jmachine.Store.{Store, constant_at, next_number, object_at, with_constant, with_made}
+use Rattle.jmodel.specs.jmachine.World.{World}
 use Rattle.jtyped.specs.Fitting.{IsValueType}
 use Rattle.jtyped.specs.Stores.{EachOf, IsStored}
 use Rattle.jtyped.specs.Frames.{News}

@@ -1,22 +1,22 @@
 -- Moves of the stack in typed frames: the same on types and on values, since a move asks of its items alone how wide they are.
 use Rattle.std.proofs.Common.{◌≡◌, ℕ, zero, suc, Bool, true, false, List, [], ◌∷◌, ◌++◌, map, Option, Some, None, option_map, refl, sym, ap, subst, ◌∙◌}
 use Rattle.std.specs.Prelude.{drop, option_and_then, if◌then◌else◌}
-use Rattle.jnames.specs.declared.names.Shuffle.{Shuffle}
-use Rattle.jops.specs.declared.value.Value.{Value}
-use Rattle.jops.specs.Shuffles as shuffles
-use Rattle.jops.specs.Shuffles.{Item, One, Two, Move, shuffle}
-use Rattle.jops.proofs.Fronts.{shuffle_front}
-use Rattle.jtypes.specs.declared.vtype.VType.{VType}
-use Rattle.jtypes.specs.Frames.{Frame, is_long}
-use Rattle.jrule.specs.Here.{Here}
-use Rattle.jrule.specs.Locals.{is_top}
-use Rattle.jrule.specs.Moves.{items, moved, move}
-use Rattle.jrule.specs.Operands.{with_room, with_stack}
-use Rattle.jmachine.specs.Store.{Store}
-use Rattle.jmachine.specs.Straight as machine
-use Rattle.jmachine.specs.Straight.{Held, holding}
-use Rattle.jmachine.specs.World.{World}
-use Rattle.jmachine.proofs.Moving.{item_map, move_map, shuffle_alike}
+use Rattle.jground.specs.declared.jnames.names.Shuffle.{Shuffle}
+use Rattle.jground.specs.declared.jops.value.Value.{Value}
+use Rattle.jground.specs.jops.Shuffles as shuffles
+use Rattle.jground.specs.jops.Shuffles.{Item, One, Two, Move, shuffle}
+use Rattle.jground.proofs.JopsProofs.Fronts.{shuffle_front}
+use Rattle.jground.specs.declared.jtypes.vtype.VType.{VType}
+use Rattle.jground.specs.jtypes.Frames.{Frame, is_long}
+use Rattle.jmeaning.specs.jrule.Here.{Here}
+use Rattle.jmeaning.specs.jrule.Locals.{is_top}
+use Rattle.jmeaning.specs.jrule.Moves.{items, moved, move}
+use Rattle.jmeaning.specs.jrule.Operands.{with_room, with_stack}
+use Rattle.jmodel.specs.jmachine.Store.{Store}
+use Rattle.jmodel.specs.jmachine.Straight as machine
+use Rattle.jmodel.specs.jmachine.Straight.{Held, holding}
+use Rattle.jmodel.specs.jmachine.World.{World}
+use Rattle.jmodel.proofs.JmachineProofs.Moving.{item_map, move_map, shuffle_alike}
 use Rattle.jtyped.specs.Frames.{AllHave, AllHold, Has, News}
 use Rattle.jtyped.proofs.Exchanging.{roomy}
 use Rattle.jtyped.proofs.Locals.{Kept}

@@ -4,38 +4,38 @@ use Rattle.std.specs.List.{AllByRecursion, list_any}
 use Rattle.std.specs.Prelude.{option_map, slice_get, if◌then◌else◌}
 use Rattle.jlib.specs.declared.classes.LibClass.{LibClass}
 use Rattle.jlib.specs.declared.classes.LibClass.TheVariants as lib
-use Rattle.jops.specs.declared.value.Value.{Value}
-use Rattle.jops.specs.declared.value.Value.TheVariants.{Int, Long, Ref}
-use Rattle.jtypes.specs.declared.vtype.Name.{Name}
-use Rattle.jtypes.specs.declared.vtype.VType.{VType}
-use Rattle.jtypes.specs.declared.vtype.VType.TheVariants as types
-use Rattle.jtypes.specs.Frames.{Frame}
+use Rattle.jground.specs.declared.jops.value.Value.{Value}
+use Rattle.jground.specs.declared.jops.value.Value.TheVariants.{Int, Long, Ref}
+use Rattle.jground.specs.declared.jtypes.vtype.Name.{Name}
+use Rattle.jground.specs.declared.jtypes.vtype.VType.{VType}
+use Rattle.jground.specs.declared.jtypes.vtype.VType.TheVariants as types
+use Rattle.jground.specs.jtypes.Frames.{Frame}
 use Rattle.jprogram.specs.declared.member.Member.{Member}
 use Rattle.jprogram.specs.declared.part.ClassRef.{ClassRef}
 use Rattle.jprogram.specs.declared.part.ClassRef.TheVariants as refs
 use Rattle.jprogram.specs.Classes.{Program, find, name_at, ref_of}
 use Rattle.jprogram.proofs.Numbers.{number_name}
-use Rattle.jlayout.specs.Layout.{layout}
-use Rattle.jlink.specs.Fields.{is_plain}
-use Rattle.juses.specs.Instructions.{Used}
-use Rattle.juses.specs.Meanings as meanings
-use Rattle.juses.specs.Typed.{name}
-use Rattle.jrule.specs.declared.unready.Unready.TheVariants as unready
-use Rattle.jrule.specs.Here.{Here}
-use Rattle.jrule.specs.Objects as typed
-use Rattle.jrule.specs.Objects.{all_replaced, is_it, is_uninit, replaced}
-use Rattle.jrule.specs.Operands.{pushed}
-use Rattle.jmachine.specs.Acts.{FrameOf}
-use Rattle.jmachine.specs.Doing.{by_taken}
-use Rattle.jmachine.specs.Frames.{with_operands}
-use Rattle.jmachine.specs.Making.{library_object, make, new, object_of}
-use Rattle.jmachine.specs.Narrowing.{default}
-use Rattle.jmachine.specs.Objects.{Object, class_of, library_name}
-use Rattle.jmachine.specs.Operands.{taken}
-use Rattle.jmachine.specs.Security.{Rules}
-use Rattle.jmachine.specs.Sites.{Site}
-use Rattle.jmachine.specs.Store.{Store, next_number, object_at, with_made}
-use Rattle.jmachine.specs.World.{World, world}
+use Rattle.jmeaning.specs.jlayout.Layout.{layout}
+use Rattle.jlinking.specs.jlink.Fields.{is_plain}
+use Rattle.jmeaning.specs.juses.Instructions.{Used}
+use Rattle.jmeaning.specs.juses.Meanings as meanings
+use Rattle.jmeaning.specs.juses.Typed.{name}
+use Rattle.jmeaning.specs.declared.jrule.unready.Unready.TheVariants as unready
+use Rattle.jmeaning.specs.jrule.Here.{Here}
+use Rattle.jmeaning.specs.jrule.Objects as typed
+use Rattle.jmeaning.specs.jrule.Objects.{all_replaced, is_it, is_uninit, replaced}
+use Rattle.jmeaning.specs.jrule.Operands.{pushed}
+use Rattle.jmodel.specs.jmachine.Acts.{FrameOf}
+use Rattle.jmodel.specs.jmachine.Doing.{by_taken}
+use Rattle.jmodel.specs.jmachine.Frames.{with_operands}
+use Rattle.jmodel.specs.jmachine.Making.{library_object, make, new, object_of}
+use Rattle.jmodel.specs.jmachine.Narrowing.{default}
+use Rattle.jmodel.specs.jmachine.Objects.{Object, class_of, library_name}
+use Rattle.jmodel.specs.jmachine.Operands.{taken}
+use Rattle.jmodel.specs.jmachine.Security.{Rules}
+use Rattle.jmodel.specs.jmachine.Sites.{Site}
+use Rattle.jmodel.specs.jmachine.Store.{Store, next_number, object_at, with_made}
+use Rattle.jmodel.specs.jmachine.World.{World, world}
 use Rattle.jtyped.specs.Doings.{CanDo}
 use Rattle.jtyped.specs.Frames.{AllHave, AllHold, Has, Holds, IsMade, News, Suits}
 use Rattle.jtyped.specs.Stores.{IsObject, IsStored}

@@ -2,23 +2,23 @@
 use Rattle.std.proofs.Common.{◌≡◌, ℕ, zero, suc, ℤ, Bool, true, false, ◌||◌, List, Option, Some, None, refl, sym, ap, subst, ◌∙◌}
 use Rattle.std.specs.Bool.{⊤}
 use Rattle.std.specs.Prelude.{if◌then◌else◌}
-use Rattle.jnames.specs.declared.kinds.Kind.{Kind}
-use Rattle.jnames.specs.declared.kinds.Kind.TheVariants as kinds
-use Rattle.jops.specs.declared.value.Value.{Value}
-use Rattle.jops.specs.declared.value.Value.TheVariants.{Int, Long, Ref, Ctx}
-use Rattle.jops.specs.Kinds as values
-use Rattle.jops.specs.Shuffles as shuffles
-use Rattle.jtypes.specs.declared.vtype.ArrayType.{ArrayType}
-use Rattle.jtypes.specs.declared.vtype.VType.{VType}
-use Rattle.jtypes.specs.declared.vtype.VType.TheVariants as types
-use Rattle.jrule.specs.Effects.{Want, Fits, Of, is_of, is_ref}
-use Rattle.jrule.specs.Here.{Here}
-use Rattle.jrule.specs.Locals.{is_top}
-use Rattle.jtypes.specs.Frames.{is_long}
-use Rattle.jmachine.specs.Objects.{Object, Instance, Thrown, Text, Builder, Piece, Permission, Context, Thread, Bare, Array, class_of}
-use Rattle.jmachine.specs.Operands.{found_type, serves, serves_as, type_of}
-use Rattle.jmachine.specs.Store.{Store, object_at}
-use Rattle.jmachine.specs.World.{World, fits}
+use Rattle.jground.specs.declared.jnames.kinds.Kind.{Kind}
+use Rattle.jground.specs.declared.jnames.kinds.Kind.TheVariants as kinds
+use Rattle.jground.specs.declared.jops.value.Value.{Value}
+use Rattle.jground.specs.declared.jops.value.Value.TheVariants.{Int, Long, Ref, Ctx}
+use Rattle.jground.specs.jops.Kinds as values
+use Rattle.jground.specs.jops.Shuffles as shuffles
+use Rattle.jground.specs.declared.jtypes.vtype.ArrayType.{ArrayType}
+use Rattle.jground.specs.declared.jtypes.vtype.VType.{VType}
+use Rattle.jground.specs.declared.jtypes.vtype.VType.TheVariants as types
+use Rattle.jmeaning.specs.jrule.Effects.{Want, Fits, Of, is_of, is_ref}
+use Rattle.jmeaning.specs.jrule.Here.{Here}
+use Rattle.jmeaning.specs.jrule.Locals.{is_top}
+use Rattle.jground.specs.jtypes.Frames.{is_long}
+use Rattle.jmodel.specs.jmachine.Objects.{Object, Instance, Thrown, Text, Builder, Piece, Permission, Context, Thread, Bare, Array, class_of}
+use Rattle.jmodel.specs.jmachine.Operands.{found_type, serves, serves_as, type_of}
+use Rattle.jmodel.specs.jmachine.Store.{Store, object_at}
+use Rattle.jmodel.specs.jmachine.World.{World, fits}
 use Rattle.jtyped.specs.Values.{Serves, is_whole, known, whole_type}
 use Rattle.jtyped.specs.Frames.{News, Has}
 use Rattle.jtyped.specs.Fitting.{IsValueType}

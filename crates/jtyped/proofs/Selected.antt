@@ -29,7 +29,7 @@ use Rattle.jprogram.specs.Parts.{is_called, member_desc, member_name, this_name}
 use Rattle.jprogram.proofs.Circling.{Among, among_each}
 use Rattle.jtyped.proofs.Fitting.{or_right}
 use Rattle.jprogram.proofs.Standing.{Libs, Nowhere, Stands, Users, stands}
-use Rattle.jlink.proofs.Selecting.{first_called}
+use Rattle.jlinking.proofs.JlinkProofs.Selecting.{first_called}
 
 -- ---- what a class declares
 

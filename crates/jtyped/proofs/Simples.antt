@@ -2,37 +2,37 @@
 use Rattle.std.proofs.Common.{◌≡◌, Bool, true, false, ◌&&◌, List, [], ◌∷◌, Option, Some, None, is_some, option_map, Result, Ok, Err, refl, sym, ap, subst, ◌∙◌}
 use Rattle.std.specs.Bool.{⊤}
 use Rattle.std.specs.Prelude.{option_and_then, option_to_list}
-use Rattle.jnames.specs.declared.kinds.Kind.{Kind}
-use Rattle.jnames.specs.declared.kinds.Kind.TheVariants as kinds
-use Rattle.jnames.specs.declared.kinds.Kinds.{Kinds}
-use Rattle.jnames.specs.declared.kinds.Kinds.TheVariants as many
-use Rattle.jnames.specs.declared.kinds.Effect.{Effect}
-use Rattle.jnames.specs.declared.names.OpTwo.{OpTwo}
-use Rattle.jnames.specs.declared.names.OpTwo.TheVariants as twos
-use Rattle.jnames.specs.declared.names.OpOne.{OpOne}
-use Rattle.jnames.specs.declared.names.OpOne.TheVariants as ones
-use Rattle.jnames.specs.declared.names.Division.{Division}
-use Rattle.jnames.specs.declared.names.Division.TheVariants as divisions
-use Rattle.jnames.specs.Effects.{two_effect, one_effect, division_effect}
-use Rattle.jops.specs.declared.value.Value.{Value}
-use Rattle.jops.specs.declared.value.Value.TheVariants.{Int, Long, Ref}
-use Rattle.jops.specs.declared.value.DivideByZero.{DivideByZero}
-use Rattle.jops.specs.Kinds as values
-use Rattle.jops.specs.Kinds.{are_of, is_given}
-use Rattle.jops.specs.Operations.{two, one, divide}
-use Rattle.jops.proofs.ByKinds.{two_there, two_gives, one_there, one_gives, division_there, division_gives}
-use Rattle.jcode.specs.declared.form.Simple.{Simple}
-use Rattle.jcode.specs.declared.form.Simple.TheVariants as simples
-use Rattle.jcode.specs.Forms.{listed, simple_effect}
-use Rattle.jtypes.specs.declared.vtype.VType.{VType}
-use Rattle.jtypes.specs.declared.vtype.VType.TheVariants as types
-use Rattle.juses.specs.Instructions.{Instruction, goes_on}
-use Rattle.jrule.specs.Effects.{Of, by_effect, of_kinds, typed}
-use Rattle.jrule.specs.Here.{Here}
-use Rattle.jmachine.specs.Acts.{Row, gives}
-use Rattle.jmachine.specs.Store.{Store}
-use Rattle.jmachine.specs.Straight.{gives_one, quotient, simple}
-use Rattle.jmachine.specs.World.{World}
+use Rattle.jground.specs.declared.jnames.kinds.Kind.{Kind}
+use Rattle.jground.specs.declared.jnames.kinds.Kind.TheVariants as kinds
+use Rattle.jground.specs.declared.jnames.kinds.Kinds.{Kinds}
+use Rattle.jground.specs.declared.jnames.kinds.Kinds.TheVariants as many
+use Rattle.jground.specs.declared.jnames.kinds.Effect.{Effect}
+use Rattle.jground.specs.declared.jnames.names.OpTwo.{OpTwo}
+use Rattle.jground.specs.declared.jnames.names.OpTwo.TheVariants as twos
+use Rattle.jground.specs.declared.jnames.names.OpOne.{OpOne}
+use Rattle.jground.specs.declared.jnames.names.OpOne.TheVariants as ones
+use Rattle.jground.specs.declared.jnames.names.Division.{Division}
+use Rattle.jground.specs.declared.jnames.names.Division.TheVariants as divisions
+use Rattle.jground.specs.jnames.Effects.{two_effect, one_effect, division_effect}
+use Rattle.jground.specs.declared.jops.value.Value.{Value}
+use Rattle.jground.specs.declared.jops.value.Value.TheVariants.{Int, Long, Ref}
+use Rattle.jground.specs.declared.jops.value.DivideByZero.{DivideByZero}
+use Rattle.jground.specs.jops.Kinds as values
+use Rattle.jground.specs.jops.Kinds.{are_of, is_given}
+use Rattle.jground.specs.jops.Operations.{two, one, divide}
+use Rattle.jground.proofs.JopsProofs.ByKinds.{two_there, two_gives, one_there, one_gives, division_there, division_gives}
+use Rattle.jparts.specs.declared.jcode.form.Simple.{Simple}
+use Rattle.jparts.specs.declared.jcode.form.Simple.TheVariants as simples
+use Rattle.jparts.specs.jcode.Forms.{listed, simple_effect}
+use Rattle.jground.specs.declared.jtypes.vtype.VType.{VType}
+use Rattle.jground.specs.declared.jtypes.vtype.VType.TheVariants as types
+use Rattle.jmeaning.specs.juses.Instructions.{Instruction, goes_on}
+use Rattle.jmeaning.specs.jrule.Effects.{Of, by_effect, of_kinds, typed}
+use Rattle.jmeaning.specs.jrule.Here.{Here}
+use Rattle.jmodel.specs.jmachine.Acts.{Row, gives}
+use Rattle.jmodel.specs.jmachine.Store.{Store}
+use Rattle.jmodel.specs.jmachine.Straight.{gives_one, quotient, simple}
+use Rattle.jmodel.specs.jmachine.World.{World}
 use Rattle.jtyped.specs.Frames.{AllHave, News}
 use Rattle.jtyped.specs.Values.{AllServe, Serves}
 use Rattle.jtyped.specs.Stores.{IsStored}

@@ -7,14 +7,14 @@ use Rattle.std.specs.Prelude.{get_or, option_and_then, option_map, option_to_lis
 use Rattle.jclass.specs.declared.class.ClassParts.{ClassParts}
 use Rattle.jclass.specs.declared.class.CodeBody.{CodeBody}
 use Rattle.jclass.specs.Stored.{IsIn}
-use Rattle.jcode.specs.declared.op.Handler.{Handler}
-use Rattle.jcode.specs.declared.op.Placed.{Placed}
-use Rattle.jops.specs.declared.value.Value.{Value}
-use Rattle.jops.specs.declared.value.Value.TheVariants.{Ref}
-use Rattle.jpool.specs.declared.entry.Entry.{Entry}
-use Rattle.jtypes.specs.declared.vtype.VType.{VType}
-use Rattle.jtypes.specs.Fitting.{fits}
-use Rattle.jtypes.specs.Frames.{Frame}
+use Rattle.jparts.specs.declared.jcode.op.Handler.{Handler}
+use Rattle.jparts.specs.declared.jcode.op.Placed.{Placed}
+use Rattle.jground.specs.declared.jops.value.Value.{Value}
+use Rattle.jground.specs.declared.jops.value.Value.TheVariants.{Ref}
+use Rattle.jparts.specs.declared.jpool.entry.Entry.{Entry}
+use Rattle.jground.specs.declared.jtypes.vtype.VType.{VType}
+use Rattle.jground.specs.jtypes.Fitting.{fits}
+use Rattle.jground.specs.jtypes.Frames.{Frame}
 use Rattle.jprogram.specs.declared.member.Member.TheVariants.{Method}
 use Rattle.jprogram.specs.declared.member.MethodId.{MethodId}
 use Rattle.jprogram.specs.declared.part.CodePart.{CodePart}
@@ -22,24 +22,24 @@ use Rattle.jprogram.specs.Classes.{Program, tree}
 use Rattle.jprogram.specs.Members.{desc_of, is_init, part_of}
 use Rattle.jprogram.specs.Parts.{code_of, member_desc, this_name}
 use Rattle.jprogram.specs.Standing.{StandsInOrder}
-use Rattle.jlink.proofs.Having.{then_is}
-use Rattle.juses.specs.Instructions.{body_in}
-use Rattle.juses.specs.Meanings.{class_at}
-use Rattle.juses.specs.Typed.{Called, Held, Typed, Untyped, name, typed}
-use Rattle.jrule.specs.Operands.{with_stack}
-use Rattle.jrule.specs.Uses.{throwable}
+use Rattle.jlinking.proofs.JlinkProofs.Having.{then_is}
+use Rattle.jmeaning.specs.juses.Instructions.{body_in}
+use Rattle.jmeaning.specs.juses.Meanings.{class_at}
+use Rattle.jmeaning.specs.juses.Typed.{Called, Held, Typed, Untyped, name, typed}
+use Rattle.jmeaning.specs.jrule.Operands.{with_stack}
+use Rattle.jmeaning.specs.jrule.Uses.{throwable}
 use Rattle.jtyping.specs.Declared.{declared_at, written}
 use Rattle.jtyping.specs.Methods.{params_of, receiver, return_of}
 use Rattle.jtyping.specs.Typing.{caught_fits, caught_type, leads_in}
 use Rattle.jtyping.proofs.Chosen.{also_at}
-use Rattle.jmachine.specs.Acts.{FrameOf}
-use Rattle.jmachine.specs.Frames.{standing}
-use Rattle.jmachine.specs.Objects.{Object, class_of}
-use Rattle.jmachine.specs.Store.{Store, object_at}
-use Rattle.jmachine.specs.Unwinding.{catches, caught, handler_at, handler_from, handler_in, is_caught, number_at, resumed, takes, unwound}
-use Rattle.jcode.specs.Instructions.{covers}
-use Rattle.jmachine.specs.World.{World, fits as runs_fits, world}
-use Rattle.jtypes.specs.Tree.{Tree}
+use Rattle.jmodel.specs.jmachine.Acts.{FrameOf}
+use Rattle.jmodel.specs.jmachine.Frames.{standing}
+use Rattle.jmodel.specs.jmachine.Objects.{Object, class_of}
+use Rattle.jmodel.specs.jmachine.Store.{Store, object_at}
+use Rattle.jmodel.specs.jmachine.Unwinding.{catches, caught, handler_at, handler_from, handler_in, is_caught, number_at, resumed, takes, unwound}
+use Rattle.jparts.specs.jcode.Instructions.{covers}
+use Rattle.jmodel.specs.jmachine.World.{World, fits as runs_fits, world}
+use Rattle.jground.specs.jtypes.Tree.{Tree}
 use Rattle.jtyped.specs.Calling.{Coded, method}
 use Rattle.jtyped.specs.Frames.{AllHave, Suits}
 use Rattle.jtyped.specs.Going.{DeclareDimensions, inside}

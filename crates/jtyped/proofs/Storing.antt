@@ -1,14 +1,14 @@
 -- A store of which all is as the program says, with one more object that is so.
 use Rattle.std.proofs.Common.{◌≡◌, ℕ, zero, suc, ◌+◌, length, arith, List, [], ◌∷◌, ◌++◌, Some, ◌⊎◌, inl, inr, refl, ap, subst, ◌∙◌}
 use Rattle.std.specs.Prelude.{slice_get}
-use Rattle.jops.specs.declared.value.Value.{Value}
-use Rattle.jops.specs.declared.value.Value.TheVariants.{Ref}
-use Rattle.jtypes.specs.declared.vtype.VType.{VType}
-use Rattle.jrule.specs.Arrays.{component}
-use Rattle.jmachine.specs.Objects.{Object, Instance, Thrown, Text, Builder, Piece, Permission, Context, Thread, Bare, Array}
+use Rattle.jground.specs.declared.jops.value.Value.{Value}
+use Rattle.jground.specs.declared.jops.value.Value.TheVariants.{Ref}
+use Rattle.jground.specs.declared.jtypes.vtype.VType.{VType}
+use Rattle.jmeaning.specs.jrule.Arrays.{component}
+use Rattle.jmodel.specs.jmachine.Objects.{Object, Instance, Thrown, Text, Builder, Piece, Permission, Context, Thread, Bare, Array}
 use Rattle.jclass.specs.Stored.{IsIn}
-use Rattle.jmachine.specs.Store.{Store, next_number, object_at, with_constant, with_made}
-use Rattle.jmachine.specs.World.{World}
+use Rattle.jmodel.specs.jmachine.Store.{Store, next_number, object_at, with_constant, with_made}
+use Rattle.jmodel.specs.jmachine.World.{World}
 use Rattle.jtyped.specs.Growing.{Grows}
 use Rattle.jtyped.specs.Stores.{EachOf, IsObject, IsStored, StoredMade}
 use Rattle.jtyped.specs.Values.{AreOf}

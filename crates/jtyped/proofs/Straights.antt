@@ -1,38 +1,38 @@
 -- From the typing rule's frame to the machine's row, for straight instructions.
 use Rattle.std.proofs.Common.{◌≡◌, Bool, List, [], ◌∷◌, Option, Some, None, refl, sym, ap, subst, ◌∙◌}
-use Rattle.jnames.specs.declared.kinds.Kind.TheVariants as kinds
-use Rattle.jcode.specs.declared.names.CastOp.TheVariants as casts
-use Rattle.jcode.specs.declared.names.FieldOp.{FieldOp}
-use Rattle.jcode.specs.declared.form.ArrayForm.TheVariants as arrays
-use Rattle.jcode.specs.Forms.{array_effect, listed, simple_effect}
-use Rattle.jtypes.specs.declared.vtype.ArrayType.{ArrayType}
-use Rattle.jtypes.specs.declared.vtype.Name.{Name}
-use Rattle.jtypes.specs.declared.vtype.VType.{VType}
-use Rattle.jtypes.specs.declared.vtype.VType.TheVariants as types
-use Rattle.jtypes.specs.Fitting as checked
-use Rattle.jtypes.specs.Frames.{Frame}
+use Rattle.jground.specs.declared.jnames.kinds.Kind.TheVariants as kinds
+use Rattle.jparts.specs.declared.jcode.names.CastOp.TheVariants as casts
+use Rattle.jparts.specs.declared.jcode.names.FieldOp.{FieldOp}
+use Rattle.jparts.specs.declared.jcode.form.ArrayForm.TheVariants as arrays
+use Rattle.jparts.specs.jcode.Forms.{array_effect, listed, simple_effect}
+use Rattle.jground.specs.declared.jtypes.vtype.ArrayType.{ArrayType}
+use Rattle.jground.specs.declared.jtypes.vtype.Name.{Name}
+use Rattle.jground.specs.declared.jtypes.vtype.VType.{VType}
+use Rattle.jground.specs.declared.jtypes.vtype.VType.TheVariants as types
+use Rattle.jground.specs.jtypes.Fitting as checked
+use Rattle.jground.specs.jtypes.Frames.{Frame}
 use Rattle.jprogram.specs.declared.member.Member.{Member}
 use Rattle.jprogram.specs.Classes.{Program, tree}
 use Rattle.jprogram.specs.Standing.{StandsInOrder}
-use Rattle.juses.specs.Instructions.{Simple, Local, Stack, Jump, Switch, Return, Throw, Array, Used}
-use Rattle.juses.specs.Meanings as meanings
-use Rattle.juses.specs.Meanings.{FieldMeaning}
-use Rattle.jrule.specs.Arrays.{of_numbers, row}
-use Rattle.jrule.specs.Effects.{gives, Fits, Of, by_effect, of_kinds}
-use Rattle.jrule.specs.Here.{Here}
-use Rattle.jrule.specs.Operands.{exchanged}
-use Rattle.jrule.specs.Rule.{is_own, rule}
-use Rattle.jrule.specs.Straight.{tested}
-use Rattle.jrule.specs.Uses.{constant, exchange, of_cast, of_field, throwable}
-use Rattle.jmachine.specs.Acts.{FrameOf}
-use Rattle.jmachine.specs.Doing.{by, doing, used}
-use Rattle.jmachine.specs.Arrays as array_rows
-use Rattle.jmachine.specs.Making.{cast, push}
-use Rattle.jmachine.specs.Security.{Rules}
-use Rattle.jmachine.specs.Sites.{Site}
-use Rattle.jmachine.specs.Store.{Store}
-use Rattle.jmachine.specs.Straight.{holding, jump, local, simple, stack, switch, throw}
-use Rattle.jmachine.specs.World.{World, world}
+use Rattle.jmeaning.specs.juses.Instructions.{Simple, Local, Stack, Jump, Switch, Return, Throw, Array, Used}
+use Rattle.jmeaning.specs.juses.Meanings as meanings
+use Rattle.jmeaning.specs.juses.Meanings.{FieldMeaning}
+use Rattle.jmeaning.specs.jrule.Arrays.{of_numbers, row}
+use Rattle.jmeaning.specs.jrule.Effects.{gives, Fits, Of, by_effect, of_kinds}
+use Rattle.jmeaning.specs.jrule.Here.{Here}
+use Rattle.jmeaning.specs.jrule.Operands.{exchanged}
+use Rattle.jmeaning.specs.jrule.Rule.{is_own, rule}
+use Rattle.jmeaning.specs.jrule.Straight.{tested}
+use Rattle.jmeaning.specs.jrule.Uses.{constant, exchange, of_cast, of_field, throwable}
+use Rattle.jmodel.specs.jmachine.Acts.{FrameOf}
+use Rattle.jmodel.specs.jmachine.Doing.{by, doing, used}
+use Rattle.jmodel.specs.jmachine.Arrays as array_rows
+use Rattle.jmodel.specs.jmachine.Making.{cast, push}
+use Rattle.jmodel.specs.jmachine.Security.{Rules}
+use Rattle.jmodel.specs.jmachine.Sites.{Site}
+use Rattle.jmodel.specs.jmachine.Store.{Store}
+use Rattle.jmodel.specs.jmachine.Straight.{holding, jump, local, simple, stack, switch, throw}
+use Rattle.jmodel.specs.jmachine.World.{World, world}
 use Rattle.jtyped.specs.Doings.{CanDo}
 use Rattle.jtyped.specs.Frames.{News, Suits}
 use Rattle.jtyped.specs.Laws.{IsAt, StraightDoes}

@@ -2,16 +2,16 @@
 use Rattle.std.proofs.Common.{◌≡◌, Bool, true, false, List, [], ◌∷◌, map, Some, None, option_map, refl, ap, subst, ◌∙◌}
 use Rattle.std.specs.Bool.{⊤}
 use Rattle.std.specs.Prelude.{if◌then◌else◌}
-use Rattle.jnames.specs.declared.kinds.Kind.{Kind}
-use Rattle.jops.specs.declared.value.Value.{Value}
-use Rattle.jtypes.specs.declared.vtype.VType.{VType}
-use Rattle.jtypes.specs.Tree.{Tree}
-use Rattle.jrule.specs.Effects.{Want, Of, meets}
-use Rattle.jrule.specs.Operands.{below}
-use Rattle.jrule.specs.Here.{Here}
-use Rattle.jmachine.specs.Operands.{taken, with_value}
-use Rattle.jmachine.specs.Store.{Store}
-use Rattle.jmachine.specs.World.{World}
+use Rattle.jground.specs.declared.jnames.kinds.Kind.{Kind}
+use Rattle.jground.specs.declared.jops.value.Value.{Value}
+use Rattle.jground.specs.declared.jtypes.vtype.VType.{VType}
+use Rattle.jground.specs.jtypes.Tree.{Tree}
+use Rattle.jmeaning.specs.jrule.Effects.{Want, Of, meets}
+use Rattle.jmeaning.specs.jrule.Operands.{below}
+use Rattle.jmeaning.specs.jrule.Here.{Here}
+use Rattle.jmodel.specs.jmachine.Operands.{taken, with_value}
+use Rattle.jmodel.specs.jmachine.Store.{Store}
+use Rattle.jmodel.specs.jmachine.World.{World}
 use Rattle.jtyped.specs.Values.{AllServe, Serves}
 use Rattle.jtyped.specs.Frames.{AllHave, Has, News}
 use Rattle.jtyped.proofs.OfKinds.{IsPlain, has_kind, served}

@@ -1,16 +1,16 @@
 -- What is known of a value serves where the rule takes it.
 use Rattle.std.proofs.Common.{◌≡◌, ℕ, Bool, true, false, ◌||◌, refl, sym, subst}
-use Rattle.jops.specs.declared.value.Value.{Value}
-use Rattle.jtypes.specs.declared.vtype.Name.{Name}
-use Rattle.jtypes.specs.declared.vtype.VType.{VType}
-use Rattle.jtypes.specs.declared.vtype.VType.TheVariants as types
-use Rattle.jtypes.specs.Fitting as checked
-use Rattle.jtypes.specs.Tree.{Tree}
-use Rattle.jrule.specs.Effects as rule_effects
-use Rattle.jrule.specs.Effects.{Want, Of, Fits, Holds, OrThis}
-use Rattle.jrule.specs.Here.{Here}
-use Rattle.jmachine.specs.Store.{Store}
-use Rattle.jmachine.specs.World.{World, fits}
+use Rattle.jground.specs.declared.jops.value.Value.{Value}
+use Rattle.jground.specs.declared.jtypes.vtype.Name.{Name}
+use Rattle.jground.specs.declared.jtypes.vtype.VType.{VType}
+use Rattle.jground.specs.declared.jtypes.vtype.VType.TheVariants as types
+use Rattle.jground.specs.jtypes.Fitting as checked
+use Rattle.jground.specs.jtypes.Tree.{Tree}
+use Rattle.jmeaning.specs.jrule.Effects as rule_effects
+use Rattle.jmeaning.specs.jrule.Effects.{Want, Of, Fits, Holds, OrThis}
+use Rattle.jmeaning.specs.jrule.Here.{Here}
+use Rattle.jmodel.specs.jmachine.Store.{Store}
+use Rattle.jmodel.specs.jmachine.World.{World, fits}
 use Rattle.jtyped.specs.Values.{Serves}
 use Rattle.jtyped.specs.Frames.{News, Has}
 use Rattle.jtyped.specs.Fitting.{IsValueType}

@@ -8,12 +8,12 @@ use Rattle.jclass.specs.declared.class.MemberInfo.{MemberInfo}
 use Rattle.jlib.specs.declared.calls.LibCall.{LibCall}
 use Rattle.jlib.specs.Calls as library_calls
 use Rattle.jlib.specs.Classes as library
-use Rattle.jops.specs.declared.value.Value.{Value}
-use Rattle.jops.specs.declared.value.Value.TheVariants.{Ref}
-use Rattle.jtypes.specs.declared.vtype.Name.{Name}
-use Rattle.jtypes.specs.declared.vtype.VType.{VType}
-use Rattle.jtypes.specs.declared.vtype.VType.TheVariants as types
-use Rattle.jtypes.specs.Frames.{Frame}
+use Rattle.jground.specs.declared.jops.value.Value.{Value}
+use Rattle.jground.specs.declared.jops.value.Value.TheVariants.{Ref}
+use Rattle.jground.specs.declared.jtypes.vtype.Name.{Name}
+use Rattle.jground.specs.declared.jtypes.vtype.VType.{VType}
+use Rattle.jground.specs.declared.jtypes.vtype.VType.TheVariants as types
+use Rattle.jground.specs.jtypes.Frames.{Frame}
 use Rattle.jprogram.specs.declared.member.Member.{Member}
 use Rattle.jprogram.specs.declared.member.Member.TheVariants.{LibMethod, Method as AMethod}
 use Rattle.jprogram.specs.declared.member.MethodId.{MethodId}
@@ -24,28 +24,28 @@ use Rattle.jprogram.specs.Members.{desc_of, info_of, init, is_abstract, is_stati
 use Rattle.jprogram.specs.Standing.{StandsInOrder}
 use Rattle.jprogram.specs.Parts as parts
 use Rattle.jprogram.specs.Parts.{code_of}
-use Rattle.jlink.specs.Called.{IsNamedCall, begins}
-use Rattle.juses.specs.declared.meaning.How.{How}
-use Rattle.juses.specs.declared.meaning.How.TheVariants as how
-use Rattle.juses.specs.Instructions.{Used}
-use Rattle.juses.specs.Meanings as meanings
-use Rattle.juses.specs.Meanings.{CallMeaning}
-use Rattle.juses.specs.Typed.{Called, typed}
-use Rattle.jrule.specs.Here.{Here}
-use Rattle.jrule.specs.Uses.{arguments, of_library, receiver}
-use Rattle.jrule.specs.Locals.{is_top}
-use Rattle.jrule.specs.Rule.{rule}
+use Rattle.jlinking.specs.jlink.Called.{IsNamedCall, begins}
+use Rattle.jmeaning.specs.declared.juses.meaning.How.{How}
+use Rattle.jmeaning.specs.declared.juses.meaning.How.TheVariants as how
+use Rattle.jmeaning.specs.juses.Instructions.{Used}
+use Rattle.jmeaning.specs.juses.Meanings as meanings
+use Rattle.jmeaning.specs.juses.Meanings.{CallMeaning}
+use Rattle.jmeaning.specs.juses.Typed.{Called, typed}
+use Rattle.jmeaning.specs.jrule.Here.{Here}
+use Rattle.jmeaning.specs.jrule.Uses.{arguments, of_library, receiver}
+use Rattle.jmeaning.specs.jrule.Locals.{is_top}
+use Rattle.jmeaning.specs.jrule.Rule.{rule}
 use Rattle.jtyping.specs.Declared.{first_frame}
 use Rattle.jtyping.specs.Methods.{Method, here_of, method_of}
-use Rattle.jmachine.specs.Acts.{FrameOf}
-use Rattle.jmachine.specs.Calls.{Target, Fails, Pushes, Runs, receiver as oldest, target}
-use Rattle.jmachine.specs.Doing.{called, doing}
-use Rattle.jmachine.specs.Frames.{frame_of, with_operands}
-use Rattle.jmachine.specs.Security.{Rules}
-use Rattle.jmachine.specs.Objects.{Object, class_of}
-use Rattle.jmachine.specs.Sites.{Site}
-use Rattle.jmachine.specs.Store.{Store, object_at}
-use Rattle.jmachine.specs.World.{World, world}
+use Rattle.jmodel.specs.jmachine.Acts.{FrameOf}
+use Rattle.jmodel.specs.jmachine.Calls.{Target, Fails, Pushes, Runs, receiver as oldest, target}
+use Rattle.jmodel.specs.jmachine.Doing.{called, doing}
+use Rattle.jmodel.specs.jmachine.Frames.{frame_of, with_operands}
+use Rattle.jmodel.specs.jmachine.Security.{Rules}
+use Rattle.jmodel.specs.jmachine.Objects.{Object, class_of}
+use Rattle.jmodel.specs.jmachine.Sites.{Site}
+use Rattle.jmodel.specs.jmachine.Store.{Store, object_at}
+use Rattle.jmodel.specs.jmachine.World.{World, world}
 use Rattle.jtyped.specs.Fitting.{IsValueType}
 use Rattle.jtyped.specs.Frames.{AllHave, AllHold, News, Suits}
 use Rattle.jtyped.specs.Growing.{Grows}

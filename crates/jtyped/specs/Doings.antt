@@ -1,17 +1,17 @@
 -- What an instruction is to do, by the frame that the typing rule gives behind it.
 use Rattle.std.specs.Prelude.{◌≡◌, ◌≢◌, List, ◌++◌, true, Option, Some, None}
 use Rattle.std.specs.Option.{option_to_list}
-use Rattle.jtypes.specs.declared.vtype.VType.{VType}
-use Rattle.jtypes.specs.Frames.{Frame}
+use Rattle.jground.specs.declared.jtypes.vtype.VType.{VType}
+use Rattle.jground.specs.jtypes.Frames.{Frame}
 use Rattle.jclass.specs.Stored.{IsIn}
-use Rattle.juses.specs.Instructions.{Instruction, goes_on, targets}
-use Rattle.jrule.specs.Here.{Here}
-use Rattle.jrule.specs.Uses.{throwable}
-use Rattle.jops.specs.declared.value.Value.TheVariants.{Ref}
-use Rattle.jmachine.specs.Acts.{Act, Goes, Jumps, Leaves, Raises, Throws}
-use Rattle.jmachine.specs.Doing.{Doing}
-use Rattle.jmachine.specs.Store.{Store}
-use Rattle.jmachine.specs.World.{World}
+use Rattle.jmeaning.specs.juses.Instructions.{Instruction, goes_on, targets}
+use Rattle.jmeaning.specs.jrule.Here.{Here}
+use Rattle.jmeaning.specs.jrule.Uses.{throwable}
+use Rattle.jground.specs.declared.jops.value.Value.TheVariants.{Ref}
+use Rattle.jmodel.specs.jmachine.Acts.{Act, Goes, Jumps, Leaves, Raises, Throws}
+use Rattle.jmodel.specs.jmachine.Doing.{Doing}
+use Rattle.jmodel.specs.jmachine.Store.{Store}
+use Rattle.jmodel.specs.jmachine.World.{World}
 use Rattle.jtyped.specs.Growing.{Grows}
 use Rattle.jtyped.specs.Stores.{IsStored}
 use Rattle.jtyped.specs.Values.{AreOf, CanBeThrown, IsA}

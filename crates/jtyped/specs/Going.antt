@@ -1,26 +1,26 @@
 -- Where instructions lead in a method whose instructions have frames.
 use Rattle.std.specs.Prelude.{◌≡◌, ◌≢◌, ℕ, ℤ, suc, Bool, List, Option, Some, slice_get}
 use Rattle.std.specs.Option.{option_to_list}
-use Rattle.jcode.specs.declared.op.Placed.{Placed}
-use Rattle.jops.specs.declared.value.Value.TheVariants.{Ref}
-use Rattle.jtypes.specs.declared.vtype.VType.{VType}
-use Rattle.jtypes.specs.Frames.{Frame}
+use Rattle.jparts.specs.declared.jcode.op.Placed.{Placed}
+use Rattle.jground.specs.declared.jops.value.Value.TheVariants.{Ref}
+use Rattle.jground.specs.declared.jtypes.vtype.VType.{VType}
+use Rattle.jground.specs.jtypes.Frames.{Frame}
 use Rattle.jprogram.specs.declared.member.Member.{Member}
 use Rattle.jprogram.specs.Classes.{Program}
 use Rattle.jprogram.specs.Standing.{StandsInOrder}
-use Rattle.juses.specs.Instructions.{Instruction, instruction}
-use Rattle.jrule.specs.Here.{Here}
-use Rattle.jrule.specs.Uses.{throwable}
+use Rattle.jmeaning.specs.juses.Instructions.{Instruction, instruction}
+use Rattle.jmeaning.specs.jrule.Here.{Here}
+use Rattle.jmeaning.specs.jrule.Uses.{throwable}
 use Rattle.jtyping.specs.Declared.{Written, declared_at}
 use Rattle.jtyping.specs.Methods.{Method, here_of}
 use Rattle.jtyping.specs.Typed.{AreFrames}
-use Rattle.jmachine.specs.Acts.{Act, FrameOf, Goes, Jumps, Leaves, Raises, Throws}
-use Rattle.jmachine.specs.Doing.{Doing, doing}
-use Rattle.jmachine.specs.Frames.{onward, standing}
-use Rattle.jmachine.specs.Security.{Rules}
-use Rattle.jmachine.specs.Sites.{Site}
-use Rattle.jmachine.specs.Store.{Store}
-use Rattle.jmachine.specs.World.{world}
+use Rattle.jmodel.specs.jmachine.Acts.{Act, FrameOf, Goes, Jumps, Leaves, Raises, Throws}
+use Rattle.jmodel.specs.jmachine.Doing.{Doing, doing}
+use Rattle.jmodel.specs.jmachine.Frames.{onward, standing}
+use Rattle.jmodel.specs.jmachine.Security.{Rules}
+use Rattle.jmodel.specs.jmachine.Sites.{Site}
+use Rattle.jmodel.specs.jmachine.Store.{Store}
+use Rattle.jmodel.specs.jmachine.World.{world}
 use Rattle.jtyped.specs.Frames.{AllHaveDimensions, News, Suits}
 use Rattle.jtyped.specs.Growing.{Grows}
 use Rattle.jtyped.specs.Stores.{IsStored}

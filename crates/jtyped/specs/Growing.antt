@@ -1,11 +1,11 @@
 -- Stores that come behind others: objects stay of their classes, and what may be used stays so.
 use Rattle.std.specs.Prelude.{◌≡◌, ℕ, true, Some}
-use Rattle.jtypes.specs.Frames.{Frame}
-use Rattle.jrule.specs.Here.{Here}
-use Rattle.jmachine.specs.Acts.{FrameOf}
-use Rattle.jmachine.specs.Objects.{Object, class_of}
-use Rattle.jmachine.specs.Store.{Store, object_at, with_made, with_object}
-use Rattle.jmachine.specs.World.{World}
+use Rattle.jground.specs.jtypes.Frames.{Frame}
+use Rattle.jmeaning.specs.jrule.Here.{Here}
+use Rattle.jmodel.specs.jmachine.Acts.{FrameOf}
+use Rattle.jmodel.specs.jmachine.Objects.{Object, class_of}
+use Rattle.jmodel.specs.jmachine.Store.{Store, object_at, with_made, with_object}
+use Rattle.jmodel.specs.jmachine.World.{World}
 use Rattle.jtyped.specs.Frames.{News, Suits}
 use Rattle.jtyped.specs.Values.{is_piece, is_whole}
 

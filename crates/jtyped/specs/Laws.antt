@@ -1,7 +1,7 @@
 -- Laws: where the typing rule gives a frame behind an instruction, the machine has a row that suits it.
 use Rattle.std.specs.Prelude.{◌≡◌, ⊤, Bool, true, false, List, Option, Some}
-use Rattle.jtypes.specs.Fitting.{fits}
-use Rattle.jtypes.specs.Frames.{Frame, frame_fits}
+use Rattle.jground.specs.jtypes.Fitting.{fits}
+use Rattle.jground.specs.jtypes.Frames.{Frame, frame_fits}
 use Rattle.jlib.specs.declared.calls.LibCall.{LibCall}
 use Rattle.jlib.specs.Classes as library
 use Rattle.jlib.specs.Calls as library_calls
@@ -12,19 +12,19 @@ use Rattle.jprogram.specs.declared.member.Selected.TheVariants as selected
 use Rattle.jprogram.specs.Classes.{Program, tree}
 use Rattle.jprogram.specs.Members.{as_selected, select}
 use Rattle.jprogram.specs.Standing.{StandsInOrder}
-use Rattle.jtypes.specs.declared.vtype.ArrayType.{ArrayType}
-use Rattle.jtypes.specs.declared.vtype.VType.TheVariants as types
-use Rattle.juses.specs.Instructions.{Instruction, Used}
-use Rattle.juses.specs.Meanings as meanings
-use Rattle.jrule.specs.Effects.{is_ref}
-use Rattle.jrule.specs.Here.{Here}
-use Rattle.jrule.specs.Rule.{is_own, rule}
-use Rattle.jmachine.specs.Acts.{FrameOf}
-use Rattle.jmachine.specs.Doing.{doing}
-use Rattle.jmachine.specs.Security.{Rules}
-use Rattle.jmachine.specs.Sites.{Site}
-use Rattle.jmachine.specs.Store.{Store}
-use Rattle.jmachine.specs.World.{World, world}
+use Rattle.jground.specs.declared.jtypes.vtype.ArrayType.{ArrayType}
+use Rattle.jground.specs.declared.jtypes.vtype.VType.TheVariants as types
+use Rattle.jmeaning.specs.juses.Instructions.{Instruction, Used}
+use Rattle.jmeaning.specs.juses.Meanings as meanings
+use Rattle.jmeaning.specs.jrule.Effects.{is_ref}
+use Rattle.jmeaning.specs.jrule.Here.{Here}
+use Rattle.jmeaning.specs.jrule.Rule.{is_own, rule}
+use Rattle.jmodel.specs.jmachine.Acts.{FrameOf}
+use Rattle.jmodel.specs.jmachine.Doing.{doing}
+use Rattle.jmodel.specs.jmachine.Security.{Rules}
+use Rattle.jmodel.specs.jmachine.Sites.{Site}
+use Rattle.jmodel.specs.jmachine.Store.{Store}
+use Rattle.jmodel.specs.jmachine.World.{World, world}
 use Rattle.jtyped.specs.Doings.{CanDo}
 use Rattle.jtyped.specs.Stores.{IsStored}
 use Rattle.jtyped.specs.Frames.{AllHaveDimensions, News, Suits}

@@ -1,25 +1,25 @@
 -- Frames of typed states: the newest stands at an instruction, and each older one awaits what it called.
 use Rattle.std.specs.Prelude.{◌≡◌, ⊤, ℕ, ◌+◌, List, [], ◌∷◌, ◌++◌, Option, Some, slice_get}
 use Rattle.std.specs.Option.{option_to_list}
-use Rattle.jops.specs.declared.value.Value.{Value}
-use Rattle.jops.specs.declared.value.Value.TheVariants.{Ref}
-use Rattle.jtypes.specs.declared.vtype.VType.{VType}
-use Rattle.jtypes.specs.Frames.{Frame}
+use Rattle.jground.specs.declared.jops.value.Value.{Value}
+use Rattle.jground.specs.declared.jops.value.Value.TheVariants.{Ref}
+use Rattle.jground.specs.declared.jtypes.vtype.VType.{VType}
+use Rattle.jground.specs.jtypes.Frames.{Frame}
 use Rattle.jprogram.specs.declared.member.Member.TheVariants.{Method}
 use Rattle.jprogram.specs.declared.member.MethodId.{MethodId}
 use Rattle.jprogram.specs.Classes.{Program}
 use Rattle.jprogram.specs.Members.{desc_of}
 use Rattle.jprogram.specs.Standing.{StandsInOrder}
-use Rattle.juses.specs.Typed.{typed}
-use Rattle.jrule.specs.Uses.{throwable}
+use Rattle.jmeaning.specs.juses.Typed.{typed}
+use Rattle.jmeaning.specs.jrule.Uses.{throwable}
 use Rattle.jtyping.specs.Declared.{written}
 use Rattle.jtyping.specs.Methods.{return_of}
 use Rattle.jtyping.specs.Typed.{Continues, IsTyped}
-use Rattle.jmachine.specs.Acts.{FrameOf}
-use Rattle.jmachine.specs.Objects.{Object, class_of}
-use Rattle.jmachine.specs.Store.{Store, object_at}
-use Rattle.jmachine.specs.Unwinding.{resumed, unwound}
-use Rattle.jmachine.specs.World.{world}
+use Rattle.jmodel.specs.jmachine.Acts.{FrameOf}
+use Rattle.jmodel.specs.jmachine.Objects.{Object, class_of}
+use Rattle.jmodel.specs.jmachine.Store.{Store, object_at}
+use Rattle.jmodel.specs.jmachine.Unwinding.{resumed, unwound}
+use Rattle.jmodel.specs.jmachine.World.{world}
 use Rattle.jtyped.specs.Calling.{Coded, method}
 use Rattle.jtyped.specs.Frames.{AllHave, AllHold, News}
 use Rattle.jtyped.specs.Going.{SuitsAt, inside}

@@ -2,16 +2,16 @@
 use Rattle.std.specs.Prelude.{◌≡◌, ⊤, ℕ, List, [], ◌∷◌, Some}
 use Rattle.jlib.specs.declared.classes.LibClass.TheVariants as lib
 use Rattle.jclass.specs.Stored.{IsIn}
-use Rattle.jops.specs.declared.value.Value.{Value}
-use Rattle.jops.specs.declared.value.Value.TheVariants.{Ref}
-use Rattle.jtypes.specs.declared.vtype.VType.{VType}
-use Rattle.jtypes.specs.declared.vtype.VType.TheVariants as types
-use Rattle.jrule.specs.Arrays.{component}
-use Rattle.jrule.specs.Uses.{string}
-use Rattle.jmachine.specs.Fields.{out}
-use Rattle.jmachine.specs.Objects.{Object, Instance, Thrown, Text, Bare, Array}
-use Rattle.jmachine.specs.Store.{Store, object_at, with_made}
-use Rattle.jmachine.specs.World.{World}
+use Rattle.jground.specs.declared.jops.value.Value.{Value}
+use Rattle.jground.specs.declared.jops.value.Value.TheVariants.{Ref}
+use Rattle.jground.specs.declared.jtypes.vtype.VType.{VType}
+use Rattle.jground.specs.declared.jtypes.vtype.VType.TheVariants as types
+use Rattle.jmeaning.specs.jrule.Arrays.{component}
+use Rattle.jmeaning.specs.jrule.Uses.{string}
+use Rattle.jmodel.specs.jmachine.Fields.{out}
+use Rattle.jmodel.specs.jmachine.Objects.{Object, Instance, Thrown, Text, Bare, Array}
+use Rattle.jmodel.specs.jmachine.Store.{Store, object_at, with_made}
+use Rattle.jmodel.specs.jmachine.World.{World}
 use Rattle.jtyped.specs.Values.{AreOf, CanBeThrown, HasDimensions, IsA, IsBare}
 
 module _ {K : Type 0} (w : World) (s : Store K) where

@@ -1,25 +1,25 @@
 -- What linking says of instructions that ask for a class or a field.
 use Rattle.std.specs.Prelude.{◌≡◌, ⊤, true, List, map, Some, option_map}
 use Rattle.std.specs.List.{AllByRecursion}
-use Rattle.jcode.specs.declared.names.FieldOp.{FieldOp}
-use Rattle.jcode.specs.declared.names.FieldOp.TheVariants as fields
+use Rattle.jparts.specs.declared.jcode.names.FieldOp.{FieldOp}
+use Rattle.jparts.specs.declared.jcode.names.FieldOp.TheVariants as fields
 use Rattle.jclass.specs.declared.class.MemberInfo.{MemberInfo}
 use Rattle.jlib.specs.declared.classes.LibClass.TheVariants as lib
-use Rattle.jtypes.specs.declared.vtype.Name.{Name}
-use Rattle.jtypes.specs.declared.vtype.VType.{VType}
-use Rattle.jtypes.specs.declared.vtype.VType.TheVariants as types
+use Rattle.jground.specs.declared.jtypes.vtype.Name.{Name}
+use Rattle.jground.specs.declared.jtypes.vtype.VType.{VType}
+use Rattle.jground.specs.declared.jtypes.vtype.VType.TheVariants as types
 use Rattle.jprogram.specs.declared.member.Member.{Member}
 use Rattle.jprogram.specs.declared.member.Member.TheVariants.{Field, LibField}
 use Rattle.jprogram.specs.declared.part.ClassRef.{ClassRef}
 use Rattle.jprogram.specs.declared.part.ClassRef.TheVariants as refs
 use Rattle.jprogram.specs.declared.part.CodePart.{CodePart}
 use Rattle.jprogram.specs.Classes.{Program, find, name_at, ref_of}
-use Rattle.jlayout.specs.Layout.{field_type, layout}
-use Rattle.jlayout.specs.Numbered.{IsFieldOf, all_statics}
-use Rattle.jlink.specs.Fields.{IsNamedField, is_plain}
-use Rattle.juses.specs.Meanings.{FieldMeaning}
-use Rattle.jrule.specs.Here.{Here}
-use Rattle.jrule.specs.Uses.{of_library}
+use Rattle.jmeaning.specs.jlayout.Layout.{field_type, layout}
+use Rattle.jmeaning.specs.jlayout.Numbered.{IsFieldOf, all_statics}
+use Rattle.jlinking.specs.jlink.Fields.{IsNamedField, is_plain}
+use Rattle.jmeaning.specs.juses.Meanings.{FieldMeaning}
+use Rattle.jmeaning.specs.jrule.Here.{Here}
+use Rattle.jmeaning.specs.jrule.Uses.{of_library}
 use Rattle.jtyped.specs.Values.{HasDimensions}
 
 -- ---- fields

@@ -2,12 +2,12 @@
 use Rattle.std.proofs.Common.{◌≡◌, ◌↔◌, ℕ, not, List, length, Option, Some, None, refl}
 use Rattle.std.specs.Prelude.{nat_lt, option_and_then, slice_get}
 use Rattle.std.proofs.lemmas.Bool.{le-ltb, ltb-false}
-use Rattle.jbase.specs.First.{fault_if, or_else}
-use Rattle.jbase.proofs.Firsts.{all_pass, none_fails, none_of}
+use Rattle.jground.specs.jbase.First.{fault_if, or_else}
+use Rattle.jground.proofs.JbaseProofs.Firsts.{all_pass, none_fails, none_of}
 use Rattle.jclass.specs.declared.class.ClassParts.{ClassParts}
 use Rattle.jclass.specs.declared.class.CodeBody.{CodeBody}
 use Rattle.jclass.specs.declared.class.MemberInfo.{MemberInfo}
-use Rattle.jtypes.specs.Frames.{places_of}
+use Rattle.jground.specs.jtypes.Frames.{places_of}
 use Rattle.jprogram.specs.declared.part.CodePart.{CodePart}
 use Rattle.jprogram.specs.Parts.{code_of}
 use Rattle.jprogram.specs.Classes.{Program}

@@ -5,24 +5,24 @@ use Rattle.std.specs.Ordering.{int_eq}
 use Rattle.std.proofs.lemmas.Bool.Decides.{Decides-int_eq}
 use Rattle.std.proofs.lemmas.List.Quantifiers.{position-Some}
 use Rattle.std.proofs.lemmas.Option.{slice_get-get_or}
-use Rattle.jbase.specs.Each.{each_some, put_front}
-use Rattle.jpool.specs.declared.entry.Entry.{Entry}
-use Rattle.jcode.specs.declared.op.Case.{Case}
-use Rattle.jcode.specs.declared.op.Placed.{Placed}
-use Rattle.jcode.specs.declared.op.Switch.{Switch}
-use Rattle.jcode.specs.declared.op.Switch.TheVariants as switches
-use Rattle.jcode.specs.declared.form.Form.{Form}
-use Rattle.jcode.specs.declared.form.Form.TheVariants as forms
-use Rattle.jcode.specs.declared.form.Flow.{Flow}
-use Rattle.jcode.specs.declared.form.Flow.TheVariants as flows
-use Rattle.jcode.specs.declared.form.ArrayForm.{ArrayForm}
-use Rattle.jcode.specs.declared.form.ArrayForm.TheVariants as arrays
-use Rattle.jcode.specs.Forms.{branches, flow_branches, goes_on, switch_branches}
+use Rattle.jground.specs.jbase.Each.{each_some, put_front}
+use Rattle.jparts.specs.declared.jpool.entry.Entry.{Entry}
+use Rattle.jparts.specs.declared.jcode.op.Case.{Case}
+use Rattle.jparts.specs.declared.jcode.op.Placed.{Placed}
+use Rattle.jparts.specs.declared.jcode.op.Switch.{Switch}
+use Rattle.jparts.specs.declared.jcode.op.Switch.TheVariants as switches
+use Rattle.jparts.specs.declared.jcode.form.Form.{Form}
+use Rattle.jparts.specs.declared.jcode.form.Form.TheVariants as forms
+use Rattle.jparts.specs.declared.jcode.form.Flow.{Flow}
+use Rattle.jparts.specs.declared.jcode.form.Flow.TheVariants as flows
+use Rattle.jparts.specs.declared.jcode.form.ArrayForm.{ArrayForm}
+use Rattle.jparts.specs.declared.jcode.form.ArrayForm.TheVariants as arrays
+use Rattle.jparts.specs.jcode.Forms.{branches, flow_branches, goes_on, switch_branches}
 use Rattle.jclass.specs.Stored.{IsIn}
 use Rattle.jprogram.specs.Classes.{Program}
-use Rattle.juses.specs.Instructions as instructions
-use Rattle.juses.specs.Instructions.{Instruction, Test, keyed, target, targets}
-use Rattle.juses.specs.Meanings.{Meaning, array_meant, meant}
+use Rattle.jmeaning.specs.juses.Instructions as instructions
+use Rattle.jmeaning.specs.juses.Instructions.{Instruction, Test, keyed, target, targets}
+use Rattle.jmeaning.specs.juses.Meanings.{Meaning, array_meant, meant}
 use Rattle.jtyping.proofs.Tests.{some_is}
 
 -- ---- what is found

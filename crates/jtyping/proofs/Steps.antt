@@ -1,17 +1,17 @@
 -- One instruction: its tests pass exactly where it serves with its frame.
 use Rattle.std.proofs.Common.{◌≡◌, ℕ, Bool, true, false, cond, List, [], ◌∷◌, Option, Some, None, refl, sym, ap, subst}
 use Rattle.std.specs.Prelude.{ℤ, pos, slice_get, option_and_then}
-use Rattle.jcode.specs.declared.op.Handler.{Handler}
-use Rattle.jcode.specs.declared.op.Placed.{Placed}
-use Rattle.jcode.specs.Forms.{branches, form, goes_on}
+use Rattle.jparts.specs.declared.jcode.op.Handler.{Handler}
+use Rattle.jparts.specs.declared.jcode.op.Placed.{Placed}
+use Rattle.jparts.specs.jcode.Forms.{branches, form, goes_on}
 use Rattle.jclass.specs.Stored.{IsIn}
-use Rattle.jtypes.specs.Frames.{Frame}
-use Rattle.jtypes.specs.Tree.{Tree}
+use Rattle.jground.specs.jtypes.Frames.{Frame}
+use Rattle.jground.specs.jtypes.Tree.{Tree}
 use Rattle.jprogram.specs.Classes.{Program, tree}
-use Rattle.jrule.specs.Forms.{by_form}
+use Rattle.jmeaning.specs.jrule.Forms.{by_form}
 use Rattle.jtyping.specs.Declared.{Written, declared_at}
 use Rattle.jtyping.specs.Methods.{Method, here_of}
-use Rattle.jcode.specs.Instructions.{covers}
+use Rattle.jparts.specs.jcode.Instructions.{covers}
 use Rattle.jtyping.specs.Typing.{begun, branch_fits, branches_fit, handler_fits, handler_test, handlers_fit, lets_in, onward, step}
 use Rattle.jtyping.specs.Typed.{Arrives, Follows}
 use Rattle.jtyping.proofs.Tests.{all_in, holds_where, in_all, some_is, where_holds}

@@ -1,27 +1,27 @@
 -- The frames where an instruction leads.
 use Rattle.std.proofs.Common.{◌≡◌, ℕ, suc, Bool, true, false, List, [], ◌∷◌, Option, Some, None, refl, sym, ap, ◌∙◌, subst}
 use Rattle.std.specs.Prelude.{ℤ, pos, ◌+ℤ◌, slice_get}
-use Rattle.jcode.specs.declared.op.Handler.{Handler}
-use Rattle.jcode.specs.declared.op.Placed.{Placed}
-use Rattle.jcode.specs.Forms.{branches, form, goes_on}
+use Rattle.jparts.specs.declared.jcode.op.Handler.{Handler}
+use Rattle.jparts.specs.declared.jcode.op.Placed.{Placed}
+use Rattle.jparts.specs.jcode.Forms.{branches, form, goes_on}
 use Rattle.jclass.specs.Stored.{IsIn}
-use Rattle.jtypes.specs.declared.vtype.VType.{VType}
-use Rattle.jtypes.specs.Fitting.{fits, is_above_arrays}
-use Rattle.jtypes.specs.Frames.{Frame}
-use Rattle.jtypes.specs.Tree.{Tree}
-use Rattle.jtypes.proofs.Along.{fits_itself}
-use Rattle.jtypes.proofs.Framing as framing
+use Rattle.jground.specs.declared.jtypes.vtype.VType.{VType}
+use Rattle.jground.specs.jtypes.Fitting.{fits, is_above_arrays}
+use Rattle.jground.specs.jtypes.Frames.{Frame}
+use Rattle.jground.specs.jtypes.Tree.{Tree}
+use Rattle.jground.proofs.JtypesProofs.Along.{fits_itself}
+use Rattle.jground.proofs.JtypesProofs.Framing as framing
 use Rattle.jprogram.specs.Classes.{Program, tree}
 use Rattle.jprogram.proofs.Extending.{extends_itself}
-use Rattle.juses.specs.Instructions as instructions
-use Rattle.juses.specs.Instructions.{Instruction, instruction, targets}
-use Rattle.jrule.specs.Operands.{with_stack}
-use Rattle.jrule.specs.Rule.{rule}
-use Rattle.jrule.specs.Uses.{throwable}
-use Rattle.jrule.proofs.Forming.{form_agrees}
+use Rattle.jmeaning.specs.juses.Instructions as instructions
+use Rattle.jmeaning.specs.juses.Instructions.{Instruction, instruction, targets}
+use Rattle.jmeaning.specs.jrule.Operands.{with_stack}
+use Rattle.jmeaning.specs.jrule.Rule.{rule}
+use Rattle.jmeaning.specs.jrule.Uses.{throwable}
+use Rattle.jmeaning.proofs.JruleProofs.Forming.{form_agrees}
 use Rattle.jtyping.specs.Declared.{Written, declared_at, first_frame}
 use Rattle.jtyping.specs.Methods.{Method, here_of}
-use Rattle.jcode.specs.Instructions.{covers}
+use Rattle.jparts.specs.jcode.Instructions.{covers}
 use Rattle.jtyping.specs.Typing.{caught_fits, caught_type, frame_fits, leads_in}
 use Rattle.jtyping.specs.Typed.{AreFrames, Arrives, Caught, Continues, FitsAt, Follows, Serves}
 use Rattle.jtyping.proofs.Chosen.{also_at, declared_there}

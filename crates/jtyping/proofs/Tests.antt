@@ -2,8 +2,8 @@
 use Rattle.std.proofs.Common.{◌≡◌, ℕ, zero, suc, Bool, true, false, ◌&&◌, not, List, [], ◌∷◌, Option, Some, None, refl, sym, ap, ◌∙◌, cond}
 use Rattle.std.specs.Prelude.{slice_get}
 use Rattle.std.specs.List.{list_all}
-use Rattle.jbase.specs.First.{fault_if, first_some, or_else}
-use Rattle.jbase.proofs.Firsts.{none_of}
+use Rattle.jground.specs.jbase.First.{fault_if, first_some, or_else}
+use Rattle.jground.proofs.JbaseProofs.Firsts.{none_of}
 use Rattle.jclass.specs.Stored.{IsIn}
 
 pub some_is : {A : Type 0} (a b : A) → Some a ≡ Some b → a ≡ b

@@ -1,41 +1,41 @@
 -- Small methods, and where their first test fails, computed.
 use Rattle.std.proofs.Common.{◌≡◌, ℕ, true, false, List, [], ◌∷◌, Some, None, refl}
 use Rattle.std.specs.Prelude.{pos, codes}
-use Rattle.jbase.specs.First.{first_along, first_some}
-use Rattle.jnames.specs.declared.names.Compare.TheVariants.{Eq}
-use Rattle.jnames.specs.declared.names.Shuffle.TheVariants.{Pop}
-use Rattle.jops.specs.Shuffles.{shuffle}
-use Rattle.jpool.specs.Descriptors.{descriptor_of}
-use Rattle.jpool.specs.Pools.{utf8_at}
-use Rattle.jcode.specs.declared.names.Returned.TheVariants as results
-use Rattle.jcode.specs.declared.names.SmallInt.TheVariants as ints
-use Rattle.jcode.specs.declared.op.Goto.TheVariants as gotos
-use Rattle.jcode.specs.declared.op.IntConst.TheVariants as consts
-use Rattle.jcode.specs.declared.op.Op.{Op}
-use Rattle.jcode.specs.declared.op.Op.TheVariants as ops
-use Rattle.jcode.specs.declared.op.Handler.{Handler}
-use Rattle.jcode.specs.declared.op.Placed.{Placed}
-use Rattle.jcode.specs.Forms.{branches, form, goes_on}
-use Rattle.jmaps.specs.declared.types.MapType.{MapType}
-use Rattle.jmaps.specs.declared.types.MapType.TheVariants as items
-use Rattle.jmaps.specs.declared.types.RawFrame.{RawFrame}
-use Rattle.jmaps.specs.Full.{locals_after}
+use Rattle.jground.specs.jbase.First.{first_along, first_some}
+use Rattle.jground.specs.declared.jnames.names.Compare.TheVariants.{Eq}
+use Rattle.jground.specs.declared.jnames.names.Shuffle.TheVariants.{Pop}
+use Rattle.jground.specs.jops.Shuffles.{shuffle}
+use Rattle.jparts.specs.jpool.Descriptors.{descriptor_of}
+use Rattle.jparts.specs.jpool.Pools.{utf8_at}
+use Rattle.jparts.specs.declared.jcode.names.Returned.TheVariants as results
+use Rattle.jparts.specs.declared.jcode.names.SmallInt.TheVariants as ints
+use Rattle.jparts.specs.declared.jcode.op.Goto.TheVariants as gotos
+use Rattle.jparts.specs.declared.jcode.op.IntConst.TheVariants as consts
+use Rattle.jparts.specs.declared.jcode.op.Op.{Op}
+use Rattle.jparts.specs.declared.jcode.op.Op.TheVariants as ops
+use Rattle.jparts.specs.declared.jcode.op.Handler.{Handler}
+use Rattle.jparts.specs.declared.jcode.op.Placed.{Placed}
+use Rattle.jparts.specs.jcode.Forms.{branches, form, goes_on}
+use Rattle.jparts.specs.declared.jmaps.types.MapType.{MapType}
+use Rattle.jparts.specs.declared.jmaps.types.MapType.TheVariants as items
+use Rattle.jparts.specs.declared.jmaps.types.RawFrame.{RawFrame}
+use Rattle.jparts.specs.jmaps.Full.{locals_after}
 use Rattle.jclass.specs.declared.class.CodeAttribute.TheVariants.{Maps}
 use Rattle.jclass.specs.declared.class.Attribute.TheVariants.{Code}
 use Rattle.jclass.specs.declared.class.MemberInfo.{MemberInfo}
 use Rattle.jlib.specs.declared.side.Side.TheVariants.{Source}
-use Rattle.jtypes.specs.declared.vtype.Name.{Name}
-use Rattle.jtypes.specs.declared.vtype.VType.{VType}
-use Rattle.jtypes.specs.declared.vtype.VType.TheVariants as types
-use Rattle.jtypes.specs.Frames.{all_fit, slots}
+use Rattle.jground.specs.declared.jtypes.vtype.Name.{Name}
+use Rattle.jground.specs.declared.jtypes.vtype.VType.{VType}
+use Rattle.jground.specs.declared.jtypes.vtype.VType.TheVariants as types
+use Rattle.jground.specs.jtypes.Frames.{all_fit, slots}
 use Rattle.jprogram.specs.declared.part.CodePart.{CodePart}
 use Rattle.jprogram.specs.Parts.{code_of}
 use Rattle.jprogram.specs.Classes.{Program, program}
-use Rattle.juses.specs.Meanings.{class_at, entry_meant}
-use Rattle.juses.specs.Typed.{typed}
-use Rattle.jrule.specs.Forms.{by_form}
-use Rattle.jrule.specs.Moves as moves
-use Rattle.jrule.specs.Operands.{below, taken}
+use Rattle.jmeaning.specs.juses.Meanings.{class_at, entry_meant}
+use Rattle.jmeaning.specs.juses.Typed.{typed}
+use Rattle.jmeaning.specs.jrule.Forms.{by_form}
+use Rattle.jmeaning.specs.jrule.Moves as moves
+use Rattle.jmeaning.specs.jrule.Operands.{below, taken}
 use Rattle.jtyping.specs.Declared.{written, written_from}
 use Rattle.jtyping.specs.Methods.{Method, made_in}
 use Rattle.jtyping.specs.Typing.{class_fault, member_fault, method_fault, step, type_fault, walk}

@@ -2,23 +2,23 @@
 use Rattle.std.specs.Prelude.{ℕ, ℤ, pos, ◌-◌, Bool, true, false, ◌&&◌, List, [], ◌∷◌, ◌++◌, length, map, replicate, reverse, nat_le, Option, Some, None, is_some, option_and_then}
 use Rattle.std.specs.List.{find, list_all, list_any}
 use Rattle.std.specs.Ordering.{int_eq}
-use Rattle.jbase.specs.First.{first_some}
-use Rattle.jpool.specs.declared.entry.Entry.{Entry}
-use Rattle.jmaps.specs.declared.types.MapType.{MapType}
-use Rattle.jmaps.specs.declared.types.MapType.TheVariants as items
-use Rattle.jmaps.specs.declared.types.RawFrame.{RawFrame}
-use Rattle.jmaps.specs.Full.{locals_after, place_from}
+use Rattle.jground.specs.jbase.First.{first_some}
+use Rattle.jparts.specs.declared.jpool.entry.Entry.{Entry}
+use Rattle.jparts.specs.declared.jmaps.types.MapType.{MapType}
+use Rattle.jparts.specs.declared.jmaps.types.MapType.TheVariants as items
+use Rattle.jparts.specs.declared.jmaps.types.RawFrame.{RawFrame}
+use Rattle.jparts.specs.jmaps.Full.{locals_after, place_from}
 use Rattle.jclass.specs.declared.class.CodeAttribute.{CodeAttribute}
 use Rattle.jclass.specs.declared.class.CodeAttribute.TheVariants.{Maps, Raw}
 use Rattle.jclass.specs.declared.class.CodeBody.{CodeBody}
 use Rattle.jclass.specs.Codes.{begins}
-use Rattle.jtypes.specs.declared.vtype.Name.{Name}
-use Rattle.jtypes.specs.declared.vtype.VType.{VType}
-use Rattle.jtypes.specs.declared.vtype.VType.TheVariants as types
-use Rattle.jtypes.specs.Frames.{Frame, places_of, within}
+use Rattle.jground.specs.declared.jtypes.vtype.Name.{Name}
+use Rattle.jground.specs.declared.jtypes.vtype.VType.{VType}
+use Rattle.jground.specs.declared.jtypes.vtype.VType.TheVariants as types
+use Rattle.jground.specs.jtypes.Frames.{Frame, places_of, within}
 use Rattle.jprogram.specs.Classes.{Program}
-use Rattle.juses.specs.Meanings.{class_at}
-use Rattle.jrule.specs.Effects.{is_uninit_this}
+use Rattle.jmeaning.specs.juses.Meanings.{class_at}
+use Rattle.jmeaning.specs.jrule.Effects.{is_uninit_this}
 use Rattle.jtyping.specs.Methods.{Method, makes}
 
 -- ---- the items of frames

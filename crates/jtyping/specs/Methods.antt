@@ -1,25 +1,25 @@
 -- What typing has to know of a method with code (JVMS 4.10.1.6).
 use Rattle.std.specs.Prelude.{ℕ, Bool, List, [], ◌∷◌, ◌++◌, reverse, Option, Some, None, option_and_then, ◌==◌, if◌then◌else◌}
 use Rattle.std.specs.List.{find, list_any}
-use Rattle.jpool.specs.declared.entry.Entry.{Entry}
-use Rattle.jcode.specs.declared.form.Form.{Form}
-use Rattle.jcode.specs.declared.form.Form.TheVariants as forms
-use Rattle.jcode.specs.declared.form.PoolForm.TheVariants.{New}
-use Rattle.jcode.specs.declared.op.Placed.{Placed}
-use Rattle.jcode.specs.Forms.{form}
-use Rattle.jcode.specs.Instructions.{covers}
+use Rattle.jparts.specs.declared.jpool.entry.Entry.{Entry}
+use Rattle.jparts.specs.declared.jcode.form.Form.{Form}
+use Rattle.jparts.specs.declared.jcode.form.Form.TheVariants as forms
+use Rattle.jparts.specs.declared.jcode.form.PoolForm.TheVariants.{New}
+use Rattle.jparts.specs.declared.jcode.op.Placed.{Placed}
+use Rattle.jparts.specs.jcode.Forms.{form}
+use Rattle.jparts.specs.jcode.Instructions.{covers}
 use Rattle.jclass.specs.declared.class.ClassParts.{ClassParts}
 use Rattle.jclass.specs.declared.class.CodeBody.{CodeBody}
 use Rattle.jclass.specs.declared.class.MemberInfo.{MemberInfo}
-use Rattle.jtypes.specs.declared.vtype.Name.{Name}
-use Rattle.jtypes.specs.declared.vtype.VType.{VType}
-use Rattle.jtypes.specs.declared.vtype.VType.TheVariants.{UninitThis, Object}
+use Rattle.jground.specs.declared.jtypes.vtype.Name.{Name}
+use Rattle.jground.specs.declared.jtypes.vtype.VType.{VType}
+use Rattle.jground.specs.declared.jtypes.vtype.VType.TheVariants.{UninitThis, Object}
 use Rattle.jprogram.specs.Parts.{is_static, member_desc, super_name, this_name}
 use Rattle.jprogram.specs.Classes.{Program}
 use Rattle.jprogram.specs.Members.{is_init}
-use Rattle.juses.specs.Meanings.{Meaning, Make, meant}
-use Rattle.juses.specs.Typed.{Typed, Called, name, there, typed}
-use Rattle.jrule.specs.Here.{Here}
+use Rattle.jmeaning.specs.juses.Meanings.{Meaning, Make, meant}
+use Rattle.jmeaning.specs.juses.Typed.{Typed, Called, name, there, typed}
+use Rattle.jmeaning.specs.jrule.Here.{Here}
 
 pub record Method : Type 0 where
   -- the name of its class

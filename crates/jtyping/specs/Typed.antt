@@ -1,25 +1,25 @@
 -- Well typed, as a demand on a whole list of frames (JVMS 4.10.1.6): each instruction of a method can be given a frame so that these fit
 -- one another.
 use Rattle.std.specs.Prelude.{◌≡◌, ℕ, ℤ, suc, pos, Bool, true, false, List, [], ◌∷◌, length, Option, Some, None, slice_get, ◌≤◌}
-use Rattle.jcode.specs.declared.op.Handler.{Handler}
-use Rattle.jcode.specs.declared.op.Placed.{Placed}
-use Rattle.jcode.specs.Forms.{branches, form, goes_on}
+use Rattle.jparts.specs.declared.jcode.op.Handler.{Handler}
+use Rattle.jparts.specs.declared.jcode.op.Placed.{Placed}
+use Rattle.jparts.specs.jcode.Forms.{branches, form, goes_on}
 use Rattle.jclass.specs.declared.class.CodeBody.{CodeBody}
 use Rattle.jclass.specs.declared.class.MemberInfo.{MemberInfo}
 use Rattle.jclass.specs.Stored.{IsIn}
-use Rattle.jtypes.specs.declared.vtype.VType.{VType}
-use Rattle.jtypes.specs.Fitting.{fits}
-use Rattle.jtypes.specs.Frames.{Frame, places_of}
-use Rattle.jtypes.specs.Tree.{Tree}
+use Rattle.jground.specs.declared.jtypes.vtype.VType.{VType}
+use Rattle.jground.specs.jtypes.Fitting.{fits}
+use Rattle.jground.specs.jtypes.Frames.{Frame, places_of}
+use Rattle.jground.specs.jtypes.Tree.{Tree}
 use Rattle.jprogram.specs.declared.part.CodePart.{CodePart}
 use Rattle.jprogram.specs.Parts.{code_of}
 use Rattle.jprogram.specs.Classes.{Program, tree}
-use Rattle.jrule.specs.Forms.{by_form}
-use Rattle.jrule.specs.Operands.{with_stack}
-use Rattle.jrule.specs.Uses.{throwable}
+use Rattle.jmeaning.specs.jrule.Forms.{by_form}
+use Rattle.jmeaning.specs.jrule.Operands.{with_stack}
+use Rattle.jmeaning.specs.jrule.Uses.{throwable}
 use Rattle.jtyping.specs.Declared.{Written, declared_at, first_frame, is_good, written}
 use Rattle.jtyping.specs.Methods.{Method, here_of, method_of}
-use Rattle.jcode.specs.Instructions.{covers}
+use Rattle.jparts.specs.jcode.Instructions.{covers}
 use Rattle.jtyping.specs.Typing.{branch_fits, caught_type, frame_fits, handler_fits}
 
 -- A frame where another one arrives: the declared one, which that one fits, or else that one.

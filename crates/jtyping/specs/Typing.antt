@@ -1,27 +1,27 @@
 -- Which methods are well typed, and where one first isn't (JVMS 4.10.1.6): the tests in their order.
 use Rattle.std.specs.Prelude.{◌≡◌, ℕ, ℤ, pos, ◌+ℤ◌, Bool, true, false, ◌&&◌, not, List, [], ◌∷◌, length, Option, Some, None, option_and_then, nat_lt, ◌==◌, if◌then◌else◌}
 use Rattle.std.specs.List.{list_all}
-use Rattle.jbase.specs.First.{fault_if, first_along, first_some, or_else}
-use Rattle.jcode.specs.declared.op.Handler.{Handler}
-use Rattle.jcode.specs.declared.op.Placed.{Placed}
-use Rattle.jcode.specs.Forms.{branches, form, goes_on}
+use Rattle.jground.specs.jbase.First.{fault_if, first_along, first_some, or_else}
+use Rattle.jparts.specs.declared.jcode.op.Handler.{Handler}
+use Rattle.jparts.specs.declared.jcode.op.Placed.{Placed}
+use Rattle.jparts.specs.jcode.Forms.{branches, form, goes_on}
 use Rattle.jclass.specs.declared.class.ClassParts.{ClassParts}
 use Rattle.jclass.specs.declared.class.MemberInfo.{MemberInfo}
-use Rattle.jtypes.specs.declared.vtype.VType.{VType}
-use Rattle.jtypes.specs.Fitting.{fits}
-use Rattle.jtypes.specs.Frames as frames
-use Rattle.jtypes.specs.Frames.{Frame, places_of}
-use Rattle.jtypes.specs.Tree.{Tree}
+use Rattle.jground.specs.declared.jtypes.vtype.VType.{VType}
+use Rattle.jground.specs.jtypes.Fitting.{fits}
+use Rattle.jground.specs.jtypes.Frames as frames
+use Rattle.jground.specs.jtypes.Frames.{Frame, places_of}
+use Rattle.jground.specs.jtypes.Tree.{Tree}
 use Rattle.jprogram.specs.declared.part.CodePart.{CodePart}
 use Rattle.jprogram.specs.Parts.{code_of}
 use Rattle.jprogram.specs.Classes.{Program, tree}
-use Rattle.juses.specs.Meanings.{class_at}
-use Rattle.jrule.specs.Forms.{by_form}
-use Rattle.jrule.specs.Operands.{with_stack}
-use Rattle.jrule.specs.Uses.{throwable}
+use Rattle.jmeaning.specs.juses.Meanings.{class_at}
+use Rattle.jmeaning.specs.jrule.Forms.{by_form}
+use Rattle.jmeaning.specs.jrule.Operands.{with_stack}
+use Rattle.jmeaning.specs.jrule.Uses.{throwable}
 use Rattle.jtyping.specs.Declared.{Written, declared_at, first_frame, is_good, written}
 use Rattle.jtyping.specs.Methods.{Method, here_of, method_of}
-use Rattle.jcode.specs.Instructions.{covers}
+use Rattle.jparts.specs.jcode.Instructions.{covers}
 
 -- ---- from one frame to another
 

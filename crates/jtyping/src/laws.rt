@@ -1,16 +1,16 @@
 ghost use Rattle.std.specs.Prelude.{◌≡◌, ◌↔◌, ℕ, ℤ, ◌+ℤ◌, List, Some, pos, slice_get, true};
-ghost use Rattle.jcode.specs.declared.op.Handler.{Handler};
-ghost use Rattle.jcode.specs.declared.op.Placed.{Placed};
-ghost use Rattle.jcode.specs.Forms.{branches, form, goes_on};
+ghost use Rattle.jparts.specs.declared.jcode.op.Handler.{Handler};
+ghost use Rattle.jparts.specs.declared.jcode.op.Placed.{Placed};
+ghost use Rattle.jparts.specs.jcode.Forms.{branches, form, goes_on};
 ghost use Rattle.jclass.specs.Stored.{IsIn};
-ghost use Rattle.jtypes.specs.Frames.{Frame};
+ghost use Rattle.jground.specs.jtypes.Frames.{Frame};
 ghost use Rattle.jprogram.specs.Classes.{Program, tree};
-ghost use Rattle.juses.specs.Instructions as instructions;
-ghost use Rattle.juses.specs.Instructions.{Instruction, instruction, targets};
-ghost use Rattle.jrule.specs.Rule.{rule};
+ghost use Rattle.jmeaning.specs.juses.Instructions as instructions;
+ghost use Rattle.jmeaning.specs.juses.Instructions.{Instruction, instruction, targets};
+ghost use Rattle.jmeaning.specs.jrule.Rule.{rule};
 ghost use Rattle.jtyping.specs.Declared.{Written, declared_at, first_frame};
 ghost use Rattle.jtyping.specs.Methods.{Method, here_of};
-ghost use Rattle.jcode.specs.Instructions.{covers};
+ghost use Rattle.jparts.specs.jcode.Instructions.{covers};
 ghost use Rattle.jtyping.specs.Typed.{AreFrames, Caught, Continues, FitsAt, HasFrame, ProgramIsTyped, Serves};
 ghost use Rattle.jtyping.specs.Typing.{WellTyped, frame_fits};
 

@@ -4,19 +4,19 @@ use Rattle.std.specs.Prelude.{replicate, Some, None, nat_lt}
 use Rattle.std.specs.List.{list_any}
 use Rattle.std.proofs.lemmas.Bool.{le-ltb, lt-ltb}
 use Rattle.std.proofs.lemmas.List.{length-map, map-append}
-use Rattle.jbase.specs.First.{fault_if}
-use Rattle.jtypes.specs.declared.vtype.VType.{VType}
-use Rattle.jtypes.specs.declared.vtype.VType.TheVariants as types
-use Rattle.jtypes.specs.Frames as frames
-use Rattle.jtypes.specs.Frames.{Frame}
+use Rattle.jground.specs.jbase.First.{fault_if}
+use Rattle.jground.specs.declared.jtypes.vtype.VType.{VType}
+use Rattle.jground.specs.declared.jtypes.vtype.VType.TheVariants as types
+use Rattle.jground.specs.jtypes.Frames as frames
+use Rattle.jground.specs.jtypes.Frames.{Frame}
 use Rattle.jprogram.specs.Classes.{Program}
-use Rattle.juses.specs.declared.types.TypeRef.{TypeRef}
-use Rattle.juses.specs.declared.types.TypeRef.TheVariants as refs
-use Rattle.juses.specs.Types.{named}
-use Rattle.jrule.specs.declared.frame.FrameRef.{FrameRef}
-use Rattle.jrule.specs.Seen.{seen}
-use Rattle.jrule.specs.Effects.{is_uninit_this}
-use Rattle.jrule.specs.Swaps.{is_this}
+use Rattle.jmeaning.specs.declared.juses.types.TypeRef.{TypeRef}
+use Rattle.jmeaning.specs.declared.juses.types.TypeRef.TheVariants as refs
+use Rattle.jmeaning.specs.juses.Types.{named}
+use Rattle.jmeaning.specs.declared.jrule.frame.FrameRef.{FrameRef}
+use Rattle.jmeaning.specs.jrule.Seen.{seen}
+use Rattle.jmeaning.specs.jrule.Effects.{is_uninit_this}
+use Rattle.jmeaning.specs.jrule.Swaps.{is_this}
 use Rattle.jtyping.specs.Declared.{filled as filled_by, first_frame}
 use Rattle.jtyping.specs.Typing.{room_fault}
 use Rattle.jwalk.specs.declared.method.MethodRef.{MethodRef}

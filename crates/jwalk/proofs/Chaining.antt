@@ -5,12 +5,12 @@ use Rattle.std.specs.List.{list_all, list_any}
 use Rattle.std.proofs.lemmas.Bool.{eq-eqb}
 use Rattle.std.proofs.lemmas.Bool.Decides.{nat_tests}
 use Rattle.std.proofs.lemmas.List.{get_or-reverse, length-append, length-reverse, reverse-append, reverse-reverse, take-append-le, take_all}
-use Rattle.jmaps.specs.Full.{chopped}
+use Rattle.jparts.specs.jmaps.Full.{chopped}
 use Rattle.jprogram.specs.declared.part.ClassRef.{ClassRef}
-use Rattle.juses.specs.declared.types.TypeRef.{TypeRef}
-use Rattle.juses.specs.declared.types.TypeRef.TheVariants as refs
-use Rattle.jrule.specs.Slots.{size, slot_count}
-use Rattle.jrule.specs.Swaps.{is_this}
+use Rattle.jmeaning.specs.declared.juses.types.TypeRef.{TypeRef}
+use Rattle.jmeaning.specs.declared.juses.types.TypeRef.TheVariants as refs
+use Rattle.jmeaning.specs.jrule.Slots.{size, slot_count}
+use Rattle.jmeaning.specs.jrule.Swaps.{is_this}
 use Rattle.jwalk.specs.declared.chains.Node.{Node}
 use Rattle.jwalk.specs.Chained.{AreMade, AreNodes, Extends, IsLink, IsNode, SaysMade, chain, is_made, values}
 

@@ -3,34 +3,34 @@ use Rattle.std.proofs.Common.{◌≡◌, ℕ, zero, suc, ◌+◌, Bool, true, fa
 use Rattle.std.specs.Prelude.{slice_get, slice_set, nat_le, option_and_then, ◌&&◌, if◌then◌else◌}
 use Rattle.std.specs.List.{list_any}
 use Rattle.std.proofs.lemmas.List.{length-map, length-set}
-use Rattle.jnames.specs.declared.kinds.Kind.{Kind}
-use Rattle.jpool.specs.declared.entry.Entry.{Entry}
-use Rattle.jcode.specs.declared.names.Access.TheVariants.{Load, Store}
-use Rattle.jcode.specs.declared.form.Form.{Form}
-use Rattle.jcode.specs.declared.form.Form.TheVariants as forms
-use Rattle.jcode.specs.declared.form.LocalForm.{LocalForm}
-use Rattle.jcode.specs.declared.form.LocalForm.TheVariants.{Increment, Move as MoveLocal}
-use Rattle.jcode.specs.Forms.{local as local_kind}
-use Rattle.jtypes.specs.declared.vtype.Name.{Name}
-use Rattle.jtypes.specs.declared.vtype.VType.{VType}
-use Rattle.jtypes.specs.declared.vtype.VType.TheVariants.{Top, Int, Long, Null, UninitThis, Uninit, Object, Array, Ctx}
-use Rattle.jtypes.specs.Frames.{Frame, is_long, places}
-use Rattle.jtypes.specs.Tree.{Tree}
+use Rattle.jground.specs.declared.jnames.kinds.Kind.{Kind}
+use Rattle.jparts.specs.declared.jpool.entry.Entry.{Entry}
+use Rattle.jparts.specs.declared.jcode.names.Access.TheVariants.{Load, Store}
+use Rattle.jparts.specs.declared.jcode.form.Form.{Form}
+use Rattle.jparts.specs.declared.jcode.form.Form.TheVariants as forms
+use Rattle.jparts.specs.declared.jcode.form.LocalForm.{LocalForm}
+use Rattle.jparts.specs.declared.jcode.form.LocalForm.TheVariants.{Increment, Move as MoveLocal}
+use Rattle.jparts.specs.jcode.Forms.{local as local_kind}
+use Rattle.jground.specs.declared.jtypes.vtype.Name.{Name}
+use Rattle.jground.specs.declared.jtypes.vtype.VType.{VType}
+use Rattle.jground.specs.declared.jtypes.vtype.VType.TheVariants.{Top, Int, Long, Null, UninitThis, Uninit, Object, Array, Ctx}
+use Rattle.jground.specs.jtypes.Frames.{Frame, is_long, places}
+use Rattle.jground.specs.jtypes.Tree.{Tree}
 use Rattle.jprogram.specs.Classes.{Program, tree}
-use Rattle.juses.specs.declared.meaning.How.{How}
-use Rattle.juses.specs.declared.meaning.How.TheVariants as how
-use Rattle.juses.specs.Meanings as meanings
-use Rattle.juses.specs.Meanings.{CallMeaning, Meaning, meant}
-use Rattle.jrule.specs.declared.unready.Unready.TheVariants as unready
-use Rattle.jrule.specs.Effects.{Exchange, Want, is_int, is_of}
-use Rattle.jrule.specs.Forms.{by_array, by_form, by_meaning}
-use Rattle.jrule.specs.Here.{Here}
-use Rattle.jrule.specs.Locals.{broken, load_from, local, passes, store_on, with_local}
-use Rattle.jrule.specs.Moves.{move}
-use Rattle.jrule.specs.Objects.{all_replaced, init, init_of, init_on, is_it, is_named, make, may_ready_this, replaced}
-use Rattle.jrule.specs.Operands.{exchanged, given, pushed, taken}
-use Rattle.jrule.specs.Rule.{called, used}
-use Rattle.jrule.specs.Straight.{flow}
+use Rattle.jmeaning.specs.declared.juses.meaning.How.{How}
+use Rattle.jmeaning.specs.declared.juses.meaning.How.TheVariants as how
+use Rattle.jmeaning.specs.juses.Meanings as meanings
+use Rattle.jmeaning.specs.juses.Meanings.{CallMeaning, Meaning, meant}
+use Rattle.jmeaning.specs.declared.jrule.unready.Unready.TheVariants as unready
+use Rattle.jmeaning.specs.jrule.Effects.{Exchange, Want, is_int, is_of}
+use Rattle.jmeaning.specs.jrule.Forms.{by_array, by_form, by_meaning}
+use Rattle.jmeaning.specs.jrule.Here.{Here}
+use Rattle.jmeaning.specs.jrule.Locals.{broken, load_from, local, passes, store_on, with_local}
+use Rattle.jmeaning.specs.jrule.Moves.{move}
+use Rattle.jmeaning.specs.jrule.Objects.{all_replaced, init, init_of, init_on, is_it, is_named, make, may_ready_this, replaced}
+use Rattle.jmeaning.specs.jrule.Operands.{exchanged, given, pushed, taken}
+use Rattle.jmeaning.specs.jrule.Rule.{called, used}
+use Rattle.jmeaning.specs.jrule.Straight.{flow}
 use Rattle.jwalk.specs.Keeping.{Rests}
 use Rattle.jwalk.proofs.Resting.{by_array_rests, exchanged_rests, flow_rests, given_rests, increment_rests, load_rests, move_rests, pushed_rests, taken_rests}
 

@@ -2,16 +2,16 @@
 use Rattle.std.proofs.Common.{◌≡◌, ◌≤◌, ℕ, zero, suc, ◌+◌, List, [], ◌∷◌, ◌++◌, length, Option, Some, None, refl, subst, ap, ◌∙◌, arith}
 use Rattle.std.specs.Prelude.{IsTrue, slice_get}
 use Rattle.std.proofs.lemmas.List.{length-append}
-use Rattle.jbase.specs.First.{first_some, or_else}
-use Rattle.jformat.specs.States.{fits_from, spell_from}
-use Rattle.jformat.proofs.Steps.{first_true, second_true}
-use Rattle.jmaps.specs.declared.types.RawFrame.{RawFrame}
-use Rattle.jmaps.specs.Frames as frames
-use Rattle.jmaps.specs.Frames.{maps}
-use Rattle.jcode.specs.declared.op.Placed.{Placed}
-use Rattle.jcode.specs.Instructions.{code, instructions, place_behind, placed, size}
-use Rattle.jcode.proofs.CodeLaws.{fits_at}
-use Rattle.jcode.proofs.Places.{fit_rises}
+use Rattle.jground.specs.jbase.First.{first_some, or_else}
+use Rattle.jground.specs.jformat.States.{fits_from, spell_from}
+use Rattle.jground.proofs.JformatProofs.Steps.{first_true, second_true}
+use Rattle.jparts.specs.declared.jmaps.types.RawFrame.{RawFrame}
+use Rattle.jparts.specs.jmaps.Frames as frames
+use Rattle.jparts.specs.jmaps.Frames.{maps}
+use Rattle.jparts.specs.declared.jcode.op.Placed.{Placed}
+use Rattle.jparts.specs.jcode.Instructions.{code, instructions, place_behind, placed, size}
+use Rattle.jparts.proofs.JcodeProofs.CodeLaws.{fits_at}
+use Rattle.jparts.proofs.JcodeProofs.Places.{fit_rises}
 use Rattle.jclass.specs.declared.class.ClassParts.{ClassParts}
 use Rattle.jclass.specs.declared.class.CodeAttribute.{CodeAttribute}
 use Rattle.jclass.specs.declared.class.CodeAttribute.TheVariants.{Maps, Raw}

@@ -9,16 +9,16 @@ use Rattle.std.proofs.lemmas.Bool.{cases_Bool, eq-eqb, eqb-true}
 use Rattle.std.proofs.lemmas.Bool.Decides.{Decides-int_eq, nat_tests}
 use Rattle.std.proofs.lemmas.Int.{ints}
 use Rattle.std.proofs.lemmas.List.Recursion.{is_position_or_len}
-use Rattle.jcode.specs.declared.op.Placed.{Placed}
-use Rattle.jcode.specs.Instructions.{place_of}
+use Rattle.jparts.specs.declared.jcode.op.Placed.{Placed}
+use Rattle.jparts.specs.jcode.Instructions.{place_of}
 use Rattle.jclass.specs.declared.class.CodeBody.{CodeBody}
 use Rattle.jclass.specs.Codes.{begins}
-use Rattle.jtypes.specs.Frames.{places_of, within}
+use Rattle.jground.specs.jtypes.Frames.{places_of, within}
 use Rattle.jprogram.specs.declared.part.ClassRef.{ClassRef}
 use Rattle.jprogram.specs.Classes.{Program}
-use Rattle.juses.specs.declared.types.TypeRef.{TypeRef}
-use Rattle.juses.specs.Types.{named}
-use Rattle.jrule.specs.Slots.{size, slot_count}
+use Rattle.jmeaning.specs.declared.juses.types.TypeRef.{TypeRef}
+use Rattle.jmeaning.specs.juses.Types.{named}
+use Rattle.jmeaning.specs.jrule.Slots.{size, slot_count}
 use Rattle.jtyping.specs.Declared.{filled, is_there}
 use Rattle.jwalk.specs.declared.chains.Node.{Node}
 use Rattle.jwalk.specs.declared.declared.Kept.{Kept}

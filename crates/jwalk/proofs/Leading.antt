@@ -3,14 +3,14 @@ use Rattle.std.proofs.Common.{◌≡◌, ℕ, zero, suc, ◌<◌, ℤ, Bool, tru
 use Rattle.std.specs.Borrow.{Bor}
 use Rattle.std.specs.Prelude.{slice_get, if◌then◌else◌}
 use Rattle.std.specs.List.{list_all}
-use Rattle.jcode.specs.declared.form.Flow.{Flow}
-use Rattle.jcode.specs.declared.form.Flow.TheVariants as flows
-use Rattle.jcode.specs.declared.form.Form.{Form}
-use Rattle.jcode.specs.declared.form.Form.TheVariants as forms
-use Rattle.jcode.specs.declared.op.Placed.{Placed}
-use Rattle.jcode.specs.declared.op.Switch.{Switch}
-use Rattle.jcode.specs.Forms.{branches, flow_goes_on, form, goes_on, seen as seen_form, seen_flow}
-use Rattle.jtypes.specs.Frames.{Frame}
+use Rattle.jparts.specs.declared.jcode.form.Flow.{Flow}
+use Rattle.jparts.specs.declared.jcode.form.Flow.TheVariants as flows
+use Rattle.jparts.specs.declared.jcode.form.Form.{Form}
+use Rattle.jparts.specs.declared.jcode.form.Form.TheVariants as forms
+use Rattle.jparts.specs.declared.jcode.op.Placed.{Placed}
+use Rattle.jparts.specs.declared.jcode.op.Switch.{Switch}
+use Rattle.jparts.specs.jcode.Forms.{branches, flow_goes_on, form, goes_on, seen as seen_form, seen_flow}
+use Rattle.jground.specs.jtypes.Frames.{Frame}
 use Rattle.jprogram.specs.Classes.{Program}
 use Rattle.jtyping.specs.Declared.{Written}
 use Rattle.jtyping.specs.Typing.{branch_fits, branches_fit, leave, onward}

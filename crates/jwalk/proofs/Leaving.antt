@@ -6,28 +6,28 @@ use Rattle.std.proofs.Math.Seq.{drop-cons}
 use Rattle.std.proofs.Math.ListN.{drop_of_length-le}
 use Rattle.std.proofs.lemmas.Bool.{cases_lt}
 use Rattle.std.proofs.lemmas.List.{get_or_append_left, get_or_push, length-append, map-append}
-use Rattle.jbase.specs.First.{fault_if, first_some, or_else}
-use Rattle.jpool.specs.declared.entry.Entry.{Entry}
-use Rattle.jmaps.specs.declared.types.RawFrame.{RawFrame}
-use Rattle.jmaps.specs.Full.{locals_after, place_from}
-use Rattle.jmaps.proofs.FullLaws.{locals_map}
+use Rattle.jground.specs.jbase.First.{fault_if, first_some, or_else}
+use Rattle.jparts.specs.declared.jpool.entry.Entry.{Entry}
+use Rattle.jparts.specs.declared.jmaps.types.RawFrame.{RawFrame}
+use Rattle.jparts.specs.jmaps.Full.{locals_after, place_from}
+use Rattle.jparts.proofs.JmapsProofs.FullLaws.{locals_map}
 use Rattle.jclass.specs.declared.class.CodeBody.{CodeBody}
 use Rattle.jclass.specs.Codes.{begins}
-use Rattle.jtypes.specs.declared.vtype.Name.{Name}
-use Rattle.jtypes.specs.declared.vtype.VType.{VType}
-use Rattle.jtypes.specs.declared.vtype.VType.TheVariants as types
-use Rattle.jtypes.specs.Frames.{Frame}
+use Rattle.jground.specs.declared.jtypes.vtype.Name.{Name}
+use Rattle.jground.specs.declared.jtypes.vtype.VType.{VType}
+use Rattle.jground.specs.declared.jtypes.vtype.VType.TheVariants as types
+use Rattle.jground.specs.jtypes.Frames.{Frame}
 use Rattle.jprogram.specs.Classes.{Program}
-use Rattle.juses.specs.declared.types.TypeRef.{TypeRef}
-use Rattle.juses.specs.Types.{named}
-use Rattle.jrule.specs.Slots.{slot_count}
+use Rattle.jmeaning.specs.declared.juses.types.TypeRef.{TypeRef}
+use Rattle.jmeaning.specs.juses.Types.{named}
+use Rattle.jmeaning.specs.jrule.Slots.{slot_count}
 use Rattle.jtyping.specs.Declared.{Written, continued, frame_of, has_room, holds, is_there, item, written_from}
 use Rattle.jwalk.specs.declared.chains.Node.{Node}
 use Rattle.jwalk.specs.declared.declared.Kept.{Kept}
 use Rattle.jwalk.specs.Chained.{Extends, values}
 use Rattle.jwalk.specs.Given.{AreKept, IsKept, Rise, fault_in, given, is_good_in, written_named}
 use Rattle.jwalk.proofs.Chaining.{values_root}
-use Rattle.jrule.proofs.Swapping.{map_reversed}
+use Rattle.jmeaning.proofs.JruleProofs.Swapping.{map_reversed}
 
 -- ---- the frames that are left
 

@@ -5,17 +5,17 @@ use Rattle.std.specs.Prelude.{slice_get, nat_lt, option_and_then, option_map, â—
 use Rattle.std.specs.List.{find, position, position_or_len}
 use Rattle.std.proofs.lemmas.List.Folds.{find_at}
 use Rattle.std.proofs.lemmas.Option.{slice_get-map, slice_get_past}
-use Rattle.jpool.specs.declared.entry.Entry.{Entry}
-use Rattle.jcode.specs.declared.form.Form.{Form}
-use Rattle.jcode.specs.declared.form.Form.TheVariants as forms
-use Rattle.jcode.specs.declared.op.Placed.{Placed}
-use Rattle.jcode.specs.declared.op.Switch.{Switch}
-use Rattle.jcode.specs.Forms.{form, seen}
-use Rattle.jcode.specs.Instructions.{place_of}
-use Rattle.jtypes.specs.declared.vtype.Name.{Name}
+use Rattle.jparts.specs.declared.jpool.entry.Entry.{Entry}
+use Rattle.jparts.specs.declared.jcode.form.Form.{Form}
+use Rattle.jparts.specs.declared.jcode.form.Form.TheVariants as forms
+use Rattle.jparts.specs.declared.jcode.op.Placed.{Placed}
+use Rattle.jparts.specs.declared.jcode.op.Switch.{Switch}
+use Rattle.jparts.specs.jcode.Forms.{form, seen}
+use Rattle.jparts.specs.jcode.Instructions.{place_of}
+use Rattle.jground.specs.declared.jtypes.vtype.Name.{Name}
 use Rattle.jprogram.specs.declared.part.ClassRef.{ClassRef}
 use Rattle.jprogram.specs.Classes.{Program}
-use Rattle.juses.specs.Types.{class_named}
+use Rattle.jmeaning.specs.juses.Types.{class_named}
 use Rattle.jtyping.specs.Methods.{made, made_in}
 use Rattle.jwalk.specs.News.{AreNews, Made, made_at, or_none}
 

@@ -7,20 +7,20 @@ use Rattle.std.proofs.Math.ListN.{drop_of_length-le}
 use Rattle.std.proofs.lemmas.Grind.{flat_map-append}
 use Rattle.std.proofs.lemmas.List.{append-nil, append_assoc, length-map, map-append, reverse-append, reverse-reverse}
 use Rattle.std.proofs.lemmas.Option.{slice_get-get_or, slice_get-map}
-use Rattle.jtypes.specs.declared.vtype.VType.{VType}
-use Rattle.jtypes.specs.declared.vtype.VType.TheVariants as types
-use Rattle.jtypes.specs.Fitting.{fits, is_above_arrays}
-use Rattle.jtypes.specs.Frames.{Frame, all_fit, implies, item_fits, places_of, stack_fits}
-use Rattle.jtypes.proofs.Along.{fits_itself}
+use Rattle.jground.specs.declared.jtypes.vtype.VType.{VType}
+use Rattle.jground.specs.declared.jtypes.vtype.VType.TheVariants as types
+use Rattle.jground.specs.jtypes.Fitting.{fits, is_above_arrays}
+use Rattle.jground.specs.jtypes.Frames.{Frame, all_fit, implies, item_fits, places_of, stack_fits}
+use Rattle.jground.proofs.JtypesProofs.Along.{fits_itself}
 use Rattle.jprogram.specs.Classes.{Program, tree}
-use Rattle.juses.specs.declared.types.TypeRef.{TypeRef}
-use Rattle.juses.specs.declared.types.TypeRef.TheVariants as refs
-use Rattle.juses.specs.Types.{named}
-use Rattle.jrule.specs.Effects.{is_uninit_this}
-use Rattle.jrule.specs.Slots.{size, slot_count}
-use Rattle.jrule.specs.Swaps.{is_this}
-use Rattle.jrule.proofs.Swapping.{map_reversed}
-use Rattle.jlink.specs.Standing.{itself}
+use Rattle.jmeaning.specs.declared.juses.types.TypeRef.{TypeRef}
+use Rattle.jmeaning.specs.declared.juses.types.TypeRef.TheVariants as refs
+use Rattle.jmeaning.specs.juses.Types.{named}
+use Rattle.jmeaning.specs.jrule.Effects.{is_uninit_this}
+use Rattle.jmeaning.specs.jrule.Slots.{size, slot_count}
+use Rattle.jmeaning.specs.jrule.Swaps.{is_this}
+use Rattle.jmeaning.proofs.JruleProofs.Swapping.{map_reversed}
+use Rattle.jlinking.specs.jlink.Standing.{itself}
 use Rattle.jtyping.specs.Declared.{filled}
 use Rattle.jtyping.specs.Typing.{frame_fits}
 use Rattle.jwalk.specs.declared.chains.Node.{Node}

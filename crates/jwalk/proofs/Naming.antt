@@ -5,21 +5,21 @@ use Rattle.std.specs.List.{flat_map, list_all, list_any}
 use Rattle.std.proofs.lemmas.Bool.Decides.{nat_tests}
 use Rattle.std.proofs.lemmas.List.{length-append, length-replicate, map-append, reverse-append}
 use Rattle.std.proofs.lemmas.List.Folds.{list_all-append}
-use Rattle.jtypes.specs.declared.vtype.VType.{VType}
-use Rattle.jtypes.specs.declared.vtype.VType.TheVariants as types
-use Rattle.jtypes.specs.declared.vtype.Name.{Name}
-use Rattle.jtypes.specs.Frames as frames
-use Rattle.jtypes.specs.Frames.{places_of, slots}
+use Rattle.jground.specs.declared.jtypes.vtype.VType.{VType}
+use Rattle.jground.specs.declared.jtypes.vtype.VType.TheVariants as types
+use Rattle.jground.specs.declared.jtypes.vtype.Name.{Name}
+use Rattle.jground.specs.jtypes.Frames as frames
+use Rattle.jground.specs.jtypes.Frames.{places_of, slots}
 use Rattle.jprogram.specs.declared.part.ClassRef.{ClassRef}
 use Rattle.jprogram.specs.Classes.{Program}
-use Rattle.juses.specs.declared.types.TypeRef.{TypeRef}
-use Rattle.juses.specs.declared.types.TypeRef.TheVariants as refs
-use Rattle.juses.specs.Types.{class_named, named}
-use Rattle.jrule.specs.Effects.{is_uninit_this}
-use Rattle.jrule.specs.Slots.{slot_count}
-use Rattle.jrule.specs.Swaps.{is_this}
-use Rattle.jrule.proofs.Counted.{size_named, slots_named}
-use Rattle.jrule.proofs.Swapping.{any_reversed}
+use Rattle.jmeaning.specs.declared.juses.types.TypeRef.{TypeRef}
+use Rattle.jmeaning.specs.declared.juses.types.TypeRef.TheVariants as refs
+use Rattle.jmeaning.specs.juses.Types.{class_named, named}
+use Rattle.jmeaning.specs.jrule.Effects.{is_uninit_this}
+use Rattle.jmeaning.specs.jrule.Slots.{slot_count}
+use Rattle.jmeaning.specs.jrule.Swaps.{is_this}
+use Rattle.jmeaning.proofs.JruleProofs.Counted.{size_named, slots_named}
+use Rattle.jmeaning.proofs.JruleProofs.Swapping.{any_reversed}
 use Rattle.jtyping.specs.Declared.{filled, is_there}
 use Rattle.jwalk.specs.Chained.{is_made}
 use Rattle.jwalk.specs.Given.{places}

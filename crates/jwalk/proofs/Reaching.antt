@@ -2,10 +2,10 @@
 use Rattle.std.proofs.Common.{◌≡◌, ◌≤◌, ℕ, zero, suc, ◌==◌, false, List, [], ◌∷◌, drop, length, Option, Some, None, Result, Ok, Err, sym, ap, subst, ◌∙◌}
 use Rattle.std.proofs.lemmas.List.{drop_all}
 use Rattle.std.specs.Prelude.{pos, option_and_then, slice_get, if◌then◌else◌}
-use Rattle.jcode.specs.declared.op.Placed.{Placed}
-use Rattle.jmaps.specs.declared.types.RawFrame.{RawFrame}
-use Rattle.jtypes.specs.declared.vtype.VType.{VType}
-use Rattle.jtypes.specs.Frames.{Frame}
+use Rattle.jparts.specs.declared.jcode.op.Placed.{Placed}
+use Rattle.jparts.specs.declared.jmaps.types.RawFrame.{RawFrame}
+use Rattle.jground.specs.declared.jtypes.vtype.VType.{VType}
+use Rattle.jground.specs.jtypes.Frames.{Frame}
 use Rattle.jprogram.specs.Classes.{Program}
 use Rattle.jtyping.specs.Declared.{Written, declared_at, frames_in, written, written_from}
 use Rattle.jtyping.specs.Methods.{Method, makes}

@@ -2,41 +2,41 @@
 use Rattle.std.proofs.Common.{◌≡◌, ℕ, Bool, true, false, List, [], ◌∷◌, Option, Some, None, refl, ◌∙◌}
 use Rattle.std.specs.Borrow.{Bor}
 use Rattle.std.specs.Prelude.{slice_get, option_and_then, option_map, ◌&&◌, if◌then◌else◌}
-use Rattle.jnames.specs.declared.names.Shuffle.{Shuffle}
-use Rattle.jnames.specs.declared.kinds.Kind.{Kind}
-use Rattle.jnames.specs.declared.kinds.Kind.TheVariants as kinds
-use Rattle.jpool.specs.declared.entry.Entry.{Entry}
-use Rattle.jcode.specs.declared.names.Access.TheVariants.{Load, Store}
-use Rattle.jcode.specs.declared.names.CallOp.TheVariants as calls
-use Rattle.jcode.specs.declared.names.CastOp.{CastOp}
-use Rattle.jcode.specs.declared.names.FieldOp.{FieldOp}
-use Rattle.jcode.specs.declared.form.ArrayForm.{ArrayForm}
-use Rattle.jcode.specs.declared.form.ArrayForm.TheVariants as arrays
-use Rattle.jcode.specs.declared.form.Flow.{Flow}
-use Rattle.jcode.specs.declared.form.Flow.TheVariants as flows
-use Rattle.jcode.specs.declared.form.Form.{Form}
-use Rattle.jcode.specs.declared.form.Form.TheVariants as forms
-use Rattle.jcode.specs.declared.form.LocalForm.{LocalForm}
-use Rattle.jcode.specs.declared.form.LocalForm.TheVariants.{Increment, Move as MoveLocal}
-use Rattle.jcode.specs.declared.form.PoolForm.{PoolForm}
-use Rattle.jcode.specs.declared.form.PoolForm.TheVariants as pool
-use Rattle.jcode.specs.declared.op.Switch.{Switch}
-use Rattle.jcode.specs.Forms.{array_effect, seen as seen_form}
-use Rattle.jtypes.specs.declared.vtype.VType.{VType}
-use Rattle.jtypes.specs.Frames.{Frame, within}
-use Rattle.jtypes.specs.Tree.{Tree}
+use Rattle.jground.specs.declared.jnames.names.Shuffle.{Shuffle}
+use Rattle.jground.specs.declared.jnames.kinds.Kind.{Kind}
+use Rattle.jground.specs.declared.jnames.kinds.Kind.TheVariants as kinds
+use Rattle.jparts.specs.declared.jpool.entry.Entry.{Entry}
+use Rattle.jparts.specs.declared.jcode.names.Access.TheVariants.{Load, Store}
+use Rattle.jparts.specs.declared.jcode.names.CallOp.TheVariants as calls
+use Rattle.jparts.specs.declared.jcode.names.CastOp.{CastOp}
+use Rattle.jparts.specs.declared.jcode.names.FieldOp.{FieldOp}
+use Rattle.jparts.specs.declared.jcode.form.ArrayForm.{ArrayForm}
+use Rattle.jparts.specs.declared.jcode.form.ArrayForm.TheVariants as arrays
+use Rattle.jparts.specs.declared.jcode.form.Flow.{Flow}
+use Rattle.jparts.specs.declared.jcode.form.Flow.TheVariants as flows
+use Rattle.jparts.specs.declared.jcode.form.Form.{Form}
+use Rattle.jparts.specs.declared.jcode.form.Form.TheVariants as forms
+use Rattle.jparts.specs.declared.jcode.form.LocalForm.{LocalForm}
+use Rattle.jparts.specs.declared.jcode.form.LocalForm.TheVariants.{Increment, Move as MoveLocal}
+use Rattle.jparts.specs.declared.jcode.form.PoolForm.{PoolForm}
+use Rattle.jparts.specs.declared.jcode.form.PoolForm.TheVariants as pool
+use Rattle.jparts.specs.declared.jcode.op.Switch.{Switch}
+use Rattle.jparts.specs.jcode.Forms.{array_effect, seen as seen_form}
+use Rattle.jground.specs.declared.jtypes.vtype.VType.{VType}
+use Rattle.jground.specs.jtypes.Frames.{Frame, within}
+use Rattle.jground.specs.jtypes.Tree.{Tree}
 use Rattle.jprogram.specs.Classes.{Program, tree}
-use Rattle.juses.specs.Meanings as meanings
-use Rattle.juses.specs.Meanings.{EntryMeaning, Meaning, array_made, array_meant, called_by, called_by_interface, cast_by, entry_meant, field_used, long_constant, meant, short_constant}
-use Rattle.juses.specs.Typed.{array_over}
-use Rattle.jrule.specs.Arrays.{array, of_numbers, row}
-use Rattle.jrule.specs.Effects.{Exchange, Of, Want, by_effect, gives, is_int, is_of}
-use Rattle.jrule.specs.Forms.{by_array, by_form, by_meaning}
-use Rattle.jrule.specs.Here.{Here}
-use Rattle.jrule.specs.Locals.{is_whole, load_from, local, passes}
-use Rattle.jrule.specs.Moves.{move, shuffled}
-use Rattle.jrule.specs.Operands.{below, exchanged, given, pushed, taken, with_room, with_stack}
-use Rattle.jrule.specs.Straight.{flow}
+use Rattle.jmeaning.specs.juses.Meanings as meanings
+use Rattle.jmeaning.specs.juses.Meanings.{EntryMeaning, Meaning, array_made, array_meant, called_by, called_by_interface, cast_by, entry_meant, field_used, long_constant, meant, short_constant}
+use Rattle.jmeaning.specs.juses.Typed.{array_over}
+use Rattle.jmeaning.specs.jrule.Arrays.{array, of_numbers, row}
+use Rattle.jmeaning.specs.jrule.Effects.{Exchange, Of, Want, by_effect, gives, is_int, is_of}
+use Rattle.jmeaning.specs.jrule.Forms.{by_array, by_form, by_meaning}
+use Rattle.jmeaning.specs.jrule.Here.{Here}
+use Rattle.jmeaning.specs.jrule.Locals.{is_whole, load_from, local, passes}
+use Rattle.jmeaning.specs.jrule.Moves.{move, shuffled}
+use Rattle.jmeaning.specs.jrule.Operands.{below, exchanged, given, pushed, taken, with_room, with_stack}
+use Rattle.jmeaning.specs.jrule.Straight.{flow}
 use Rattle.jwalk.specs.Keeping.{Rests, is_quiet}
 
 pub if_rests : (f : Frame) (b : Bool) (x : Option Frame) → Rests f x → Rests f (if b then x else None)

@@ -1,11 +1,11 @@
 -- Lists that are turned round, by number and by name.
 use Rattle.std.proofs.Common.{◌≡◌, List, [], ◌∷◌, ◌++◌, map, reverse, ap, ◌∙◌}
 use Rattle.std.proofs.lemmas.List.{map-append, reverse-append}
-use Rattle.jtypes.specs.declared.vtype.VType.{VType}
+use Rattle.jground.specs.declared.jtypes.vtype.VType.{VType}
 use Rattle.jprogram.specs.Classes.{Program}
-use Rattle.juses.specs.declared.types.TypeRef.{TypeRef}
-use Rattle.juses.specs.Types.{named}
-use Rattle.jrule.proofs.Swapping.{map_reversed}
+use Rattle.jmeaning.specs.declared.juses.types.TypeRef.{TypeRef}
+use Rattle.jmeaning.specs.juses.Types.{named}
+use Rattle.jmeaning.proofs.JruleProofs.Swapping.{map_reversed}
 
 pub in_order : (p : Program) (all params : List TypeRef) → all ≡ reverse params → map (named p) all ≡ reverse (map (named p) params)
 in_order p all params is = ap (map (named p)) is ∙ map_reversed (named p) params

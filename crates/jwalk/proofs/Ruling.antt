@@ -3,27 +3,27 @@ use Rattle.std.proofs.Common.{◌≡◌, ℕ, Bool, List, length, Option, Some, 
 use Rattle.std.specs.Borrow.{Bor}
 use Rattle.std.specs.Prelude.{IfSome, option_map}
 use Rattle.std.proofs.lemmas.List.{length-map}
-use Rattle.jpool.specs.declared.entry.Entry.{Entry}
-use Rattle.jcode.specs.declared.form.Flow.{Flow}
-use Rattle.jcode.specs.declared.form.Flow.TheVariants as flows
-use Rattle.jcode.specs.declared.form.Form.{Form}
-use Rattle.jcode.specs.declared.form.Form.TheVariants as forms
-use Rattle.jcode.specs.declared.op.Switch.{Switch}
-use Rattle.jcode.specs.declared.op.Placed.{Placed}
-use Rattle.jcode.specs.Forms.{form, seen as seen_form, seen_flow}
-use Rattle.jtypes.specs.declared.vtype.VType.{VType}
-use Rattle.jtypes.specs.Frames.{Frame}
-use Rattle.jtypes.specs.Tree.{Tree}
+use Rattle.jparts.specs.declared.jpool.entry.Entry.{Entry}
+use Rattle.jparts.specs.declared.jcode.form.Flow.{Flow}
+use Rattle.jparts.specs.declared.jcode.form.Flow.TheVariants as flows
+use Rattle.jparts.specs.declared.jcode.form.Form.{Form}
+use Rattle.jparts.specs.declared.jcode.form.Form.TheVariants as forms
+use Rattle.jparts.specs.declared.jcode.op.Switch.{Switch}
+use Rattle.jparts.specs.declared.jcode.op.Placed.{Placed}
+use Rattle.jparts.specs.jcode.Forms.{form, seen as seen_form, seen_flow}
+use Rattle.jground.specs.declared.jtypes.vtype.VType.{VType}
+use Rattle.jground.specs.jtypes.Frames.{Frame}
+use Rattle.jground.specs.jtypes.Tree.{Tree}
 use Rattle.jprogram.specs.Classes.{Program, tree}
-use Rattle.juses.specs.Types.{named}
-use Rattle.jrule.specs.declared.frame.FrameRef.{FrameRef}
-use Rattle.jrule.specs.Forms.{by_form}
-use Rattle.jrule.specs.Here.{Here}
-use Rattle.jrule.specs.Seen.{seen, seen_here}
-use Rattle.jrule.specs.Straight.{flow}
-use Rattle.juses.specs.Tables.{pool_at}
-use Rattle.jrule.specs.declared.place.HereRef.{HereRef}
-use Rattle.jrule.proofs.Newing.{asks_places}
+use Rattle.jmeaning.specs.juses.Types.{named}
+use Rattle.jmeaning.specs.declared.jrule.frame.FrameRef.{FrameRef}
+use Rattle.jmeaning.specs.jrule.Forms.{by_form}
+use Rattle.jmeaning.specs.jrule.Here.{Here}
+use Rattle.jmeaning.specs.jrule.Seen.{seen, seen_here}
+use Rattle.jmeaning.specs.jrule.Straight.{flow}
+use Rattle.jmeaning.specs.juses.Tables.{pool_at}
+use Rattle.jmeaning.specs.declared.jrule.place.HereRef.{HereRef}
+use Rattle.jmeaning.proofs.JruleProofs.Newing.{asks_places}
 use Rattle.jtyping.specs.Methods.{here_of, makes}
 use Rattle.jwalk.specs.declared.walk.Checking.{Checking}
 use Rattle.jwalk.specs.Checking.{IsChecking, IsHere, here_in, method_of, program_of}

@@ -12,10 +12,10 @@ use Rattle.std.proofs.lemmas.List.Folds.{find_at}
 use Rattle.std.proofs.lemmas.List.Sums.{position_or_len_is}
 use Rattle.std.proofs.lemmas.List.Sorted.{IsNonDecreasingBy-from_default}
 use Rattle.std.proofs.lemmas.Option.{slice_get-get_or, slice_get_past}
-use Rattle.jtypes.specs.Frames.{Frame, places_of}
+use Rattle.jground.specs.jtypes.Frames.{Frame, places_of}
 use Rattle.jprogram.specs.Classes.{Program, tree}
-use Rattle.juses.specs.declared.types.TypeRef.{TypeRef}
-use Rattle.juses.specs.Types.{named}
+use Rattle.jmeaning.specs.declared.juses.types.TypeRef.{TypeRef}
+use Rattle.jmeaning.specs.juses.Types.{named}
 use Rattle.jtyping.specs.Declared.{Written, declared_at, filled}
 use Rattle.jtyping.specs.Typing.{frame_fits}
 use Rattle.jwalk.specs.declared.declared.Kept.{Kept}

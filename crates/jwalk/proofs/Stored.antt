@@ -3,29 +3,29 @@ use Rattle.std.proofs.Common.{◌≡◌, ℕ, zero, suc, ◌+◌, ◌-◌, ◌<�
 use Rattle.std.specs.Prelude.{option_map, slice_get, slice_set, ◌&&◌, nat_le, if◌then◌else◌}
 use Rattle.std.proofs.lemmas.List.{reverse-append}
 use Rattle.std.proofs.lemmas.Option.{slice_get-map}
-use Rattle.jnames.specs.declared.kinds.Kind.{Kind}
-use Rattle.jpool.specs.declared.entry.Entry.{Entry}
-use Rattle.jcode.specs.declared.form.Form.{Form}
-use Rattle.jcode.specs.declared.form.Form.TheVariants as forms
-use Rattle.jcode.specs.declared.form.LocalForm.{LocalForm}
-use Rattle.jcode.specs.declared.form.LocalForm.TheVariants.{Move}
-use Rattle.jcode.specs.declared.names.LocalKind.{LocalKind}
-use Rattle.jcode.specs.declared.names.Access.{Access}
-use Rattle.jcode.specs.declared.names.Access.TheVariants.{Store}
-use Rattle.jcode.specs.Forms as codes
-use Rattle.jcode.specs.declared.op.Switch.{Switch}
-use Rattle.jtypes.specs.declared.vtype.VType.{VType}
-use Rattle.jtypes.specs.declared.vtype.VType.TheVariants.{Top}
-use Rattle.jtypes.specs.Frames.{Frame, is_long, places}
+use Rattle.jground.specs.declared.jnames.kinds.Kind.{Kind}
+use Rattle.jparts.specs.declared.jpool.entry.Entry.{Entry}
+use Rattle.jparts.specs.declared.jcode.form.Form.{Form}
+use Rattle.jparts.specs.declared.jcode.form.Form.TheVariants as forms
+use Rattle.jparts.specs.declared.jcode.form.LocalForm.{LocalForm}
+use Rattle.jparts.specs.declared.jcode.form.LocalForm.TheVariants.{Move}
+use Rattle.jparts.specs.declared.jcode.names.LocalKind.{LocalKind}
+use Rattle.jparts.specs.declared.jcode.names.Access.{Access}
+use Rattle.jparts.specs.declared.jcode.names.Access.TheVariants.{Store}
+use Rattle.jparts.specs.jcode.Forms as codes
+use Rattle.jparts.specs.declared.jcode.op.Switch.{Switch}
+use Rattle.jground.specs.declared.jtypes.vtype.VType.{VType}
+use Rattle.jground.specs.declared.jtypes.vtype.VType.TheVariants.{Top}
+use Rattle.jground.specs.jtypes.Frames.{Frame, is_long, places}
 use Rattle.jprogram.specs.Classes.{Program}
-use Rattle.juses.specs.declared.types.TypeRef.{TypeRef}
-use Rattle.juses.specs.Types.{named}
-use Rattle.jrule.specs.declared.frame.FrameRef.{FrameRef}
-use Rattle.jrule.specs.Effects.{is_of}
-use Rattle.jrule.specs.Forms.{by_form}
-use Rattle.jrule.specs.Here.{Here}
-use Rattle.jrule.specs.Locals.{broken, local, passes, store, store_on, with_local}
-use Rattle.jrule.specs.Seen.{seen}
+use Rattle.jmeaning.specs.declared.juses.types.TypeRef.{TypeRef}
+use Rattle.jmeaning.specs.juses.Types.{named}
+use Rattle.jmeaning.specs.declared.jrule.frame.FrameRef.{FrameRef}
+use Rattle.jmeaning.specs.jrule.Effects.{is_of}
+use Rattle.jmeaning.specs.jrule.Forms.{by_form}
+use Rattle.jmeaning.specs.jrule.Here.{Here}
+use Rattle.jmeaning.specs.jrule.Locals.{broken, local, passes, store, store_on, with_local}
+use Rattle.jmeaning.specs.jrule.Seen.{seen}
 use Rattle.jwalk.specs.Keeping.{Rests}
 use Rattle.jwalk.proofs.Resting.{if_rests}
 

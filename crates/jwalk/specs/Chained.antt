@@ -2,10 +2,10 @@
 use Rattle.std.specs.Prelude.{◌≡◌, ℕ, suc, ◌≤◌, ◌<◌, ◌==◌, Bool, true, List, [], ◌∷◌, length, reverse, Option, is_some, if◌then◌else◌}
 use Rattle.std.specs.List.{list_all, list_any}
 use Rattle.jprogram.specs.declared.part.ClassRef.{ClassRef}
-use Rattle.juses.specs.declared.types.TypeRef.{TypeRef}
-use Rattle.juses.specs.declared.types.TypeRef.TheVariants as refs
-use Rattle.jrule.specs.Slots.{slot_count}
-use Rattle.jrule.specs.Swaps.{is_this}
+use Rattle.jmeaning.specs.declared.juses.types.TypeRef.{TypeRef}
+use Rattle.jmeaning.specs.declared.juses.types.TypeRef.TheVariants as refs
+use Rattle.jmeaning.specs.jrule.Slots.{slot_count}
+use Rattle.jmeaning.specs.jrule.Swaps.{is_this}
 use Rattle.jwalk.specs.declared.chains.Node.{Node}
 
 -- What the chain of a node holds, the newest local first. The nodes stand newest first, and the oldest is node 1; node 0 is before the

@@ -1,17 +1,17 @@
 -- A method that is being checked, by number, and what it stands for.
 use Rattle.std.specs.Prelude.{◌≡◌, ◌≤◌, ℕ, ℤ, Bool, true, IsTrue, List, Option, Some, None, length, slice_get}
 use Rattle.std.specs.List.{list_any}
-use Rattle.jcode.specs.declared.op.Placed.{Placed}
-use Rattle.jcode.specs.Instructions.{covers, Rises}
-use Rattle.jmaps.specs.Frames.{maps}
+use Rattle.jparts.specs.declared.jcode.op.Placed.{Placed}
+use Rattle.jparts.specs.jcode.Instructions.{covers, Rises}
+use Rattle.jparts.specs.jmaps.Frames.{maps}
 use Rattle.jclass.specs.declared.class.CodeBody.{CodeBody}
 use Rattle.jprogram.specs.Classes.{Program}
-use Rattle.jrule.specs.declared.frame.FrameRef.{FrameRef}
-use Rattle.jrule.specs.declared.place.HereRef.{HereRef}
+use Rattle.jmeaning.specs.declared.jrule.frame.FrameRef.{FrameRef}
+use Rattle.jmeaning.specs.declared.jrule.place.HereRef.{HereRef}
 use Rattle.jtyping.specs.Declared.{Written, frames_in}
 use Rattle.jtyping.specs.Methods.{Method}
-use Rattle.juses.specs.Tables.{pool_at}
-use Rattle.juses.specs.Uses.{AreUses}
+use Rattle.jmeaning.specs.juses.Tables.{pool_at}
+use Rattle.jmeaning.specs.juses.Uses.{AreUses}
 use Rattle.jwalk.specs.declared.walk.Checking.{Checking}
 use Rattle.jwalk.specs.declared.held.Held.{Held}
 use Rattle.jwalk.specs.Given.{all_written}

@@ -1,12 +1,12 @@
 -- How a method begins, by number.
 use Rattle.std.specs.Prelude.{◌≡◌, ℕ, List, Option, Some, None}
 use Rattle.std.specs.List.{flat_map}
-use Rattle.jbase.specs.First.{first_along, or_else}
+use Rattle.jground.specs.jbase.First.{first_along, or_else}
 use Rattle.jclass.specs.declared.class.ClassParts.{ClassParts}
 use Rattle.jprogram.specs.Classes.{Program}
-use Rattle.juses.specs.declared.types.TypeRef.{TypeRef}
-use Rattle.jrule.specs.declared.frame.FrameRef.{FrameRef}
-use Rattle.jrule.specs.Seen.{seen}
+use Rattle.jmeaning.specs.declared.juses.types.TypeRef.{TypeRef}
+use Rattle.jmeaning.specs.declared.jrule.frame.FrameRef.{FrameRef}
+use Rattle.jmeaning.specs.jrule.Seen.{seen}
 use Rattle.jtyping.specs.Declared.{Written, first_frame}
 use Rattle.jtyping.specs.Methods.{Method}
 use Rattle.jtyping.specs.Typing.{Place, entry_fault, in_method, member_fault, room_fault, walk}

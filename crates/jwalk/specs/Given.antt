@@ -2,16 +2,16 @@
 use Rattle.std.specs.Prelude.{◌≡◌, ℕ, pos, ◌<◌, ◌≤◌, ◌==◌, Bool, false, ◌&&◌, not, List, [], ◌∷◌, length, get_or, map, reverse, Option, Some, None, Result, Ok, Err}
 use Rattle.std.specs.List.{AllByRecursion, find}
 use Rattle.std.specs.Ordering.{int_eq}
-use Rattle.jbase.specs.First.{fault_if, first_some}
+use Rattle.jground.specs.jbase.First.{fault_if, first_some}
 use Rattle.jclass.specs.declared.class.CodeBody.{CodeBody}
 use Rattle.jclass.specs.Codes.{begins}
-use Rattle.jtypes.specs.declared.vtype.Name.{Name}
-use Rattle.jtypes.specs.Frames.{Frame}
+use Rattle.jground.specs.declared.jtypes.vtype.Name.{Name}
+use Rattle.jground.specs.jtypes.Frames.{Frame}
 use Rattle.jprogram.specs.Classes.{Program}
-use Rattle.juses.specs.declared.types.TypeRef.{TypeRef}
-use Rattle.juses.specs.declared.types.TypeRef.TheVariants as refs
-use Rattle.juses.specs.Types.{named}
-use Rattle.jrule.specs.Slots.{slot_count}
+use Rattle.jmeaning.specs.declared.juses.types.TypeRef.{TypeRef}
+use Rattle.jmeaning.specs.declared.juses.types.TypeRef.TheVariants as refs
+use Rattle.jmeaning.specs.juses.Types.{named}
+use Rattle.jmeaning.specs.jrule.Slots.{slot_count}
 use Rattle.jtyping.specs.Declared.{Written, frame_of, holds}
 use Rattle.jwalk.specs.declared.chains.Node.{Node}
 use Rattle.jwalk.specs.declared.declared.Kept.{Kept}

@@ -1,17 +1,17 @@
 -- What is known of the frame that a walk holds, so that what was tested isn't tested again.
 use Rattle.std.specs.Prelude.{◌≡◌, ℕ, pos, Bool, true, false, ◌&&◌, ◌||◌, List, [], Option, Some, None, IfSome, nat_le, if◌then◌else◌, ⊤}
 use Rattle.std.specs.List.{list_all}
-use Rattle.jcode.specs.declared.form.Form.{Form}
-use Rattle.jcode.specs.declared.form.Form.TheVariants as forms
-use Rattle.jcode.specs.declared.form.LocalForm.TheVariants.{Move}
-use Rattle.jcode.specs.declared.form.PoolForm.TheVariants.{Call, New}
-use Rattle.jcode.specs.declared.names.Access.TheVariants.{Store}
-use Rattle.jcode.specs.declared.names.CallOp.TheVariants.{Special}
-use Rattle.jcode.specs.declared.op.Handler.{Handler}
-use Rattle.jtypes.specs.declared.vtype.VType.{VType}
-use Rattle.jtypes.specs.Frames.{Frame}
+use Rattle.jparts.specs.declared.jcode.form.Form.{Form}
+use Rattle.jparts.specs.declared.jcode.form.Form.TheVariants as forms
+use Rattle.jparts.specs.declared.jcode.form.LocalForm.TheVariants.{Move}
+use Rattle.jparts.specs.declared.jcode.form.PoolForm.TheVariants.{Call, New}
+use Rattle.jparts.specs.declared.jcode.names.Access.TheVariants.{Store}
+use Rattle.jparts.specs.declared.jcode.names.CallOp.TheVariants.{Special}
+use Rattle.jparts.specs.declared.jcode.op.Handler.{Handler}
+use Rattle.jground.specs.declared.jtypes.vtype.VType.{VType}
+use Rattle.jground.specs.jtypes.Frames.{Frame}
 use Rattle.jprogram.specs.Classes.{Program}
-use Rattle.jrule.specs.Seen.{seen}
+use Rattle.jmeaning.specs.jrule.Seen.{seen}
 use Rattle.jtyping.specs.Declared.{Written, declared_at}
 use Rattle.jtyping.specs.Methods.{Method}
 use Rattle.jtyping.specs.Typing.{handlers_fit}

@@ -1,11 +1,11 @@
 -- The `new`s of a method by number.
 use Rattle.std.specs.Prelude.{◌≡◌, ℕ, List, Option, Some, None, option_and_then, option_map, slice_get}
-use Rattle.jcode.specs.declared.op.Placed.{Placed}
-use Rattle.jcode.specs.Instructions.{place_of}
-use Rattle.jpool.specs.declared.entry.Entry.{Entry}
+use Rattle.jparts.specs.declared.jcode.op.Placed.{Placed}
+use Rattle.jparts.specs.jcode.Instructions.{place_of}
+use Rattle.jparts.specs.declared.jpool.entry.Entry.{Entry}
 use Rattle.jprogram.specs.declared.part.ClassRef.{ClassRef}
 use Rattle.jprogram.specs.Classes.{Program}
-use Rattle.juses.specs.Types.{class_named}
+use Rattle.jmeaning.specs.juses.Types.{class_named}
 use Rattle.jtyping.specs.Methods.{made_in}
 
 -- instructions, and of each the class that it makes, if it is a `new`

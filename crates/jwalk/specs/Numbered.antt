@@ -3,9 +3,9 @@ use Rattle.std.specs.Prelude.{◌≡◌, map, option_map, reverse}
 use Rattle.jclass.specs.declared.class.CodeBody.{CodeBody}
 use Rattle.jprogram.specs.declared.part.ClassRef.TheVariants as refs
 use Rattle.jprogram.specs.Classes.{Program}
-use Rattle.juses.specs.Tables.{pool_at}
-use Rattle.juses.specs.Types.{class_named, named}
-use Rattle.juses.specs.Typed.{Typed}
+use Rattle.jmeaning.specs.juses.Tables.{pool_at}
+use Rattle.jmeaning.specs.juses.Types.{class_named, named}
+use Rattle.jmeaning.specs.juses.Typed.{Typed}
 use Rattle.jtyping.specs.Methods.{Method, params_of, return_of}
 use Rattle.jwalk.specs.declared.method.BodyRef.{BodyRef}
 use Rattle.jwalk.specs.declared.method.MethodRef.{MethodRef}

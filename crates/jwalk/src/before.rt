@@ -2,8 +2,8 @@ ghost use Rattle.std.specs.Prelude.{◌≡◌, IfOk, IfSome, IsTrue, Some, optio
 ghost use Rattle.jclass.specs.Class.{class_file};
 ghost use Rattle.jclass.specs.Stored.{IsIn};
 ghost use Rattle.jprogram.specs.Members.{part_of};
-ghost use Rattle.juses.specs.Uses.{AreUses};
-ghost use Rattle.jrule.specs.Seen.{seen};
+ghost use Rattle.jmeaning.specs.juses.Uses.{AreUses};
+ghost use Rattle.jmeaning.specs.jrule.Seen.{seen};
 ghost use Rattle.jwalk.specs.Before;
 ghost use Rattle.jwalk.specs.Checking.{IsChecking, IsCounted, IsGood, frames_of, method_of, program_of};
 ghost use Rattle.jwalk.specs.First.{IsFirst};
@@ -15,10 +15,10 @@ use crate::reading::declared_of;
 use crate::verdict::{first_frame, frames_in};
 use crate::walk::{Checking, first_of};
 use jclass::{ClassParts, MemberInfo};
-use jlink::LinkedProgram;
+use jlinking::jlink::LinkedProgram;
+use jmeaning::jrule::FrameRef;
+use jmeaning::juses::Uses;
 use jprogram::{MethodId, NamedProgram};
-use jrule::FrameRef;
-use juses::Uses;
 use std::alloc::{AllocError, Global};
 
 impl<'a> Checking<'a> {

@@ -1,17 +1,17 @@
 ghost use Rattle.std.specs.Prelude.{◌≡◌, ◌+◌, ◌<◌, ◌≤◌, ◌^◌, ◌∷◌, ◌++◌, ℕ, [], IfOk, IfSome, MatchOption, OnOk, Option};
 ghost use Rattle.std.specs.Prelude.{length, option_map};
 ghost use Rattle.std.specs.List.{list_any};
-ghost use Rattle.jmaps.specs.Full.{chopped, locals_after};
+ghost use Rattle.jparts.specs.jmaps.Full.{chopped, locals_after};
 ghost use Rattle.jprogram.specs.declared.part.ClassRef.{ClassRef};
-ghost use Rattle.jrule.specs.Slots;
-ghost use Rattle.jrule.specs.Slots.{slot_count};
-ghost use Rattle.jrule.specs.Swaps;
-ghost use Rattle.jrule.specs.Swaps.{is_this};
+ghost use Rattle.jmeaning.specs.jrule.Slots;
+ghost use Rattle.jmeaning.specs.jrule.Slots.{slot_count};
+ghost use Rattle.jmeaning.specs.jrule.Swaps;
+ghost use Rattle.jmeaning.specs.jrule.Swaps.{is_this};
 ghost use Rattle.jwalk.specs.Chained;
 ghost use Rattle.jwalk.specs.Chained.{AreMade, Extends, IsLink, IsNode, SaysMade, all_made, chain, values};
 
-use jrule::News;
-use juses::TypeRef;
+use jmeaning::jrule::News;
+use jmeaning::juses::TypeRef;
 use std::alloc::{AllocError, Global};
 use std::marker::Model;
 
@@ -107,7 +107,7 @@ impl Chains {
     }
 
     /// How many places a chain fills.
-    #[tactic(auto, unfolding(jrule::specs::Slots::slot_count))]
+    #[tactic(auto, unfolding(jmeaning::specs::jrule::Slots::slot_count))]
     pub(crate) fn places(&self, end: usize) -> usize
         requires { end ≤ length self.now }
         ensures count { result ≡ slot_count (chain self.now end) }
@@ -155,7 +155,7 @@ impl Chains {
     }
 
     /// A node for one more local behind a chain.
-    #[tactic(auto, unfolding(jrule::specs::Slots::slot_count))]
+    #[tactic(auto, unfolding(jmeaning::specs::jrule::Slots::slot_count))]
     fn behind<N: News>(&self, news: &N, end: usize, kind: TypeRef) -> Node
         requires { end ≤ length self.now }
         ensures node { IsNode self.now result }
@@ -238,7 +238,7 @@ impl Chains {
 
     /// The chain that a written frame has behind the chain of the frame before it, by its type byte and the locals that are written in it
     /// (JVMS 4.7.4); none where it takes away more locals than there are.
-    #[tactic(auto, using(crate::proofs::Chaining::values_root), unfolding(jmaps::specs::Full::locals_after))]
+    #[tactic(auto, using(crate::proofs::Chaining::values_root), unfolding(jparts::specs::jmaps::Full::locals_after))]
     pub(crate) fn follow<N: News>(
         &mut self,
         news: &N,

@@ -1,9 +1,9 @@
 ghost use Rattle.std.specs.Prelude.{◌≡◌, ◌&&◌, IfSome, MatchOption, Some, false, nat_le, nat_lt, true};
-ghost use Rattle.jcode.specs.Forms.{form};
+ghost use Rattle.jparts.specs.jcode.Forms.{form};
 ghost use Rattle.jwalk.specs.Keeping;
 
-use jcode::{Access, CallOp, Form, LocalForm, Op, PoolForm, form_of};
-use jrule::FrameRef;
+use jmeaning::jrule::FrameRef;
+use jparts::jcode::{Access, CallOp, Form, LocalForm, Op, PoolForm, form_of};
 
 /// Where handlers were found to be served by the frame before an instruction, and where the next one begins.
 #[derive(Clone, Copy, Debug)]

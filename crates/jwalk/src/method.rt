@@ -1,22 +1,22 @@
 ghost use Rattle.std.specs.Prelude.{◌≡◌, ◌∷◌, ◌++◌, [], IfOk, None, Some, map, option_and_then, option_map, reverse};
-ghost use Rattle.jbase.specs.Each.{each_some};
+ghost use Rattle.jground.specs.jbase.Each.{each_some};
 ghost use Rattle.jprogram.specs.declared.part.ClassRef.TheVariants as refs;
 ghost use Rattle.jprogram.specs.Members.{part_of};
 ghost use Rattle.jprogram.specs.Parts;
 ghost use Rattle.jprogram.specs.Parts.{code_of, super_name};
-ghost use Rattle.juses.specs.Typed;
-ghost use Rattle.juses.specs.Typed.{there, typed};
-ghost use Rattle.juses.specs.Types.{class_named, named};
+ghost use Rattle.jmeaning.specs.juses.Typed;
+ghost use Rattle.jmeaning.specs.juses.Typed.{there, typed};
+ghost use Rattle.jmeaning.specs.juses.Types.{class_named, named};
 ghost use Rattle.jtyping.specs.Methods;
 ghost use Rattle.jwalk.specs.Numbered.{IsSignature, seen_body, seen_method};
 
 use bitflags::Flags;
-use jbase::Seq;
 use jclass::{Access, Attribute, ClassParts, CodeAttribute, MemberInfo};
-use jcode::{Handler, Placed};
-use jpool::{DescError, Descriptor, FieldType, read_descriptor};
+use jground::jbase::Seq;
+use jmeaning::juses::{TypeRef, class_there, params_in, return_in};
+use jparts::jcode::{Handler, Placed};
+use jparts::jpool::{DescError, Descriptor, FieldType, read_descriptor};
 use jprogram::{ClassRef, NamedProgram, is_init, member_desc, super_name};
-use juses::{TypeRef, class_there, params_in, return_in};
 use std::alloc::{AllocError, Global};
 
 /// The code of a method, lent.
@@ -46,7 +46,7 @@ pub(crate) struct MethodRef<'a> {
 }
 
 /// The code of a method, where it has one.
-#[tactic(auto, unfolding(jprogram::specs::Parts::code_of, jbase::specs::First::first_some))]
+#[tactic(auto, unfolding(jprogram::specs::Parts::code_of, jground::specs::jbase::First::first_some))]
 pub(crate) fn code_in(method: &MemberInfo) -> Option<BodyRef<'_>>
     ensures { option_map seen_body result ≡ code_of method.now }
 {
@@ -126,7 +126,7 @@ fn called(
 }
 
 /// What a text says as a method's descriptor (JVMS 4.3.3).
-#[tactic(auto, unfolding(juses::specs::Typed::typed))]
+#[tactic(auto, unfolding(jmeaning::specs::juses::Typed::typed))]
 fn signature_of(alloc: Global, p: &NamedProgram, text: &[u8]) -> Result<Signature, AllocError>
     ensures { IfOk result (λ s. IsSignature p.now s (typed p.now text.now)) }
 {

@@ -1,18 +1,18 @@
 ghost use Rattle.std.specs.Prelude.{◌≡◌, IfOk, map, option_map};
-ghost use Rattle.jcode.specs.Forms.{form};
-ghost use Rattle.jcode.specs.Instructions.{Rises};
-ghost use Rattle.juses.specs.Meanings.{meaning_of, meant};
-ghost use Rattle.juses.specs.Tables.{pool_at};
-ghost use Rattle.juses.specs.Types.{class_named};
-ghost use Rattle.juses.specs.Uses.{AreUses};
+ghost use Rattle.jparts.specs.jcode.Forms.{form};
+ghost use Rattle.jparts.specs.jcode.Instructions.{Rises};
+ghost use Rattle.jmeaning.specs.juses.Meanings.{meaning_of, meant};
+ghost use Rattle.jmeaning.specs.juses.Tables.{pool_at};
+ghost use Rattle.jmeaning.specs.juses.Types.{class_named};
+ghost use Rattle.jmeaning.specs.juses.Uses.{AreUses};
 ghost use Rattle.jtyping.specs.Methods;
 ghost use Rattle.jwalk.specs.News.{AreNews, made_at};
 
-use jbase::Seq;
-use jcode::{Form, Op, Placed, PoolForm, form_of, place_of};
+use jground::jbase::Seq;
+use jmeaning::jrule::News;
+use jmeaning::juses::{Use, Uses};
+use jparts::jcode::{Form, Op, Placed, PoolForm, form_of, place_of};
 use jprogram::{ClassRef, NamedProgram};
-use jrule::News;
-use juses::{Use, Uses};
 use std::alloc::{AllocError, Global};
 use std::marker::Model;
 
@@ -24,7 +24,7 @@ pub(crate) struct MethodNews<'a> {
 }
 
 impl<'a> Model for MethodNews<'a> {
-    ghost use Rattle.jcode.specs.Instructions.{Rises};
+    ghost use Rattle.jparts.specs.jcode.Instructions.{Rises};
     ghost use Rattle.jwalk.specs.News.{Made};
 
     ghost Value = { Made };

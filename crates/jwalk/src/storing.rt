@@ -1,22 +1,22 @@
 ghost use Rattle.std.specs.Prelude.{◌≡◌, ℕ, IfSome, List, Some, map, slice_get, true};
-ghost use Rattle.jnames.specs.declared.kinds.Kind.{Kind};
-ghost use Rattle.jpool.specs.declared.entry.Entry.{Entry};
-ghost use Rattle.jcode.specs.declared.form.Form.TheVariants as forms;
-ghost use Rattle.jcode.specs.Forms.{form};
-ghost use Rattle.jtypes.specs.Frames;
-ghost use Rattle.juses.specs.Types.{named};
-ghost use Rattle.jrule.specs.Forms.{by_form};
-ghost use Rattle.jrule.specs.Here.{Here};
-ghost use Rattle.jrule.specs.Locals as rule;
-ghost use Rattle.jrule.specs.Seen.{seen};
+ghost use Rattle.jground.specs.declared.jnames.kinds.Kind.{Kind};
+ghost use Rattle.jparts.specs.declared.jpool.entry.Entry.{Entry};
+ghost use Rattle.jparts.specs.declared.jcode.form.Form.TheVariants as forms;
+ghost use Rattle.jparts.specs.jcode.Forms.{form};
+ghost use Rattle.jground.specs.jtypes.Frames;
+ghost use Rattle.jmeaning.specs.juses.Types.{named};
+ghost use Rattle.jmeaning.specs.jrule.Forms.{by_form};
+ghost use Rattle.jmeaning.specs.jrule.Here.{Here};
+ghost use Rattle.jmeaning.specs.jrule.Locals as rule;
+ghost use Rattle.jmeaning.specs.jrule.Seen.{seen};
 ghost use Rattle.jwalk.specs.Keeping.{Rests};
 
 use crate::declared::is_long;
 use crate::held::is_quiet;
-use jcode::{Access, Form, LocalForm, Op, form_of};
+use jmeaning::jrule::{FrameRef, Locals};
+use jmeaning::juses::{ArrayRef, ElementRef, TypeRef};
+use jparts::jcode::{Access, Form, LocalForm, Op, form_of};
 use jprogram::NamedProgram;
-use jrule::{FrameRef, Locals};
-use juses::{ArrayRef, ElementRef, TypeRef};
 
 fn is_long_at(p: &NamedProgram, locals: &Locals, n: usize) -> bool
     ensures { result ≡ rule.passes Frames.is_long (slice_get (map (named p.now) locals.now) n) }

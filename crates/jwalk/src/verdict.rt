@@ -1,11 +1,11 @@
 ghost use Rattle.std.specs.Prelude.{◌≡◌, IfOk, IfSome, IsTrue, Some, length, option_map, slice_get};
 ghost use Rattle.std.specs.List.{list_any};
-ghost use Rattle.jbase.specs.First.{first_some};
+ghost use Rattle.jground.specs.jbase.First.{first_some};
 ghost use Rattle.jclass.specs.Class.{class_file};
 ghost use Rattle.jclass.specs.Stored.{IsIn};
 ghost use Rattle.jprogram.specs.Members.{part_of};
-ghost use Rattle.juses.specs.Uses.{AreUses};
-ghost use Rattle.jrule.specs.Swaps;
+ghost use Rattle.jmeaning.specs.juses.Uses.{AreUses};
+ghost use Rattle.jmeaning.specs.jrule.Swaps;
 ghost use Rattle.jtyping.specs.Declared;
 ghost use Rattle.jtyping.specs.Typing;
 ghost use Rattle.jwalk.specs.Checking.{IsChecking, IsCounted, IsGood, frames_of, method_of, program_of};
@@ -21,18 +21,18 @@ use crate::news::news_of;
 use crate::place::Place;
 use crate::reading::declared_of;
 use crate::walk::Checking;
-use jbase::Seq;
 use jclass::{ClassParts, CodeAttribute, MemberInfo};
-use jmaps::RawFrame;
+use jground::jbase::Seq;
+use jmeaning::jrule::{FrameRef, Locals, Stack};
+use jmeaning::juses::{TypeRef, Uses};
+use jparts::jmaps::RawFrame;
 use jprogram::{CodePart, NamedProgram};
-use jrule::{FrameRef, Locals, Stack};
-use juses::{TypeRef, Uses};
 use std::alloc::{AllocError, Global};
 
 // ---- a method
 
 /// The frames of a method's StackMapTable, none where it has none.
-#[tactic(auto, unfolding(jbase::specs::First::first_some))]
+#[tactic(auto, unfolding(jground::specs::jbase::First::first_some))]
 pub(crate) fn frames_in(attributes: &[CodeAttribute]) -> &[RawFrame]
     ensures { result.now ≡ Declared.or_none (first_some Declared.maps_of attributes.now) }
 {
@@ -168,7 +168,7 @@ fn member_fault(
 }
 
 /// The first test of the methods of a class that fails.
-#[tactic(auto, unfolding(jbase::specs::First::first_along))]
+#[tactic(auto, unfolding(jground::specs::jbase::First::first_along))]
 fn methods_fault(
     alloc: Global,
     p: &NamedProgram,
@@ -213,7 +213,7 @@ fn class_fault(
 
 /// The first test of a program's methods that fails: class by class, and in each method by method. One pass over each method, holding one
 /// frame; None where no test fails.
-#[tactic(auto, unfolding(jbase::specs::First::first_along, jtyping::specs::Typing::type_fault))]
+#[tactic(auto, unfolding(jground::specs::jbase::First::first_along, jtyping::specs::Typing::type_fault))]
 pub fn first_fault(
     alloc: Global,
     p: &NamedProgram,

@@ -1,14 +1,14 @@
 ghost use Rattle.std.specs.Prelude.{◌≡◌, ◌≤◌, ◌||◌, ◌⊎◌, List, IfOk, IfSome, Some, false, option_map, pos, slice_get, true};
 ghost use Rattle.std.specs.List.{list_all, list_any};
-ghost use Rattle.jcode.specs.Forms as forms;
-ghost use Rattle.jcode.specs.Forms.{branches, form};
-ghost use Rattle.jcode.specs.Instructions;
-ghost use Rattle.juses.specs.Types.{named};
-ghost use Rattle.jtypes.specs.Frames.{Frame};
-ghost use Rattle.jpool.specs.declared.entry.Entry.{Entry};
-ghost use Rattle.jrule.specs.Forms.{by_form};
-ghost use Rattle.jrule.specs.Here.{Here};
-ghost use Rattle.jrule.specs.Seen.{seen};
+ghost use Rattle.jparts.specs.jcode.Forms as forms;
+ghost use Rattle.jparts.specs.jcode.Forms.{branches, form};
+ghost use Rattle.jparts.specs.jcode.Instructions;
+ghost use Rattle.jmeaning.specs.juses.Types.{named};
+ghost use Rattle.jground.specs.jtypes.Frames.{Frame};
+ghost use Rattle.jparts.specs.declared.jpool.entry.Entry.{Entry};
+ghost use Rattle.jmeaning.specs.jrule.Forms.{by_form};
+ghost use Rattle.jmeaning.specs.jrule.Here.{Here};
+ghost use Rattle.jmeaning.specs.jrule.Seen.{seen};
 ghost use Rattle.jtyping.specs.Declared.{declared_at};
 ghost use Rattle.jtyping.specs.Methods;
 ghost use Rattle.jtyping.specs.Typing;
@@ -22,11 +22,11 @@ use crate::held::{Arriving, Held, Known, Served, is_same, spans};
 use crate::method::MethodRef;
 use crate::news::MethodNews;
 use crate::storing::rests;
-use jcode::{Form, Handler, Placed, Switch, branch_at, branch_count, form_of, goes_on};
 use jlib::{LibClass, Thrown};
+use jmeaning::jrule::{FrameRef, HereRef, rule};
+use jmeaning::juses::{TypeRef, Uses, type_fits};
+use jparts::jcode::{Form, Handler, Placed, Switch, branch_at, branch_count, form_of, goes_on};
 use jprogram::{ClassRef, NamedProgram};
-use jrule::{FrameRef, HereRef, rule};
-use juses::{TypeRef, Uses, type_fits};
 use std::alloc::{AllocError, Global};
 
 /// A method that is being checked.

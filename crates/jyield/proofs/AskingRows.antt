@@ -1,30 +1,30 @@
 -- Rows of calls of the library that check, keep and enter security contexts.
 use Rattle.std.proofs.Common.{◌≡◌, ℕ, zero, suc, ℤ, Bool, List, [], ◌∷◌, Option, Some, None, option_map, refl, sym, ap, subst, ◌∙◌}
 use Rattle.std.specs.Int.{w32, cast_unsigned}
-use Rattle.jperm.specs.declared.permission.Permission as perms
-use Rattle.jdomain.specs.declared.verdict.Verdict.{Verdict}
-use Rattle.jdomain.specs.declared.verdict.Verdict.TheVariants.{Granted, Denied}
+use Rattle.jrights.specs.declared.jperm.permission.Permission as perms
+use Rattle.jrights.specs.declared.jdomain.verdict.Verdict.{Verdict}
+use Rattle.jrights.specs.declared.jdomain.verdict.Verdict.TheVariants.{Granted, Denied}
 use Rattle.jlib.specs.declared.calls.ControllerCall.TheVariants as controllers
 use Rattle.jlib.specs.declared.calls.LibCall.{LibCall}
 use Rattle.jlib.specs.declared.calls.LibCall.TheVariants as calls
 use Rattle.jlib.specs.declared.calls.RtCall.TheVariants as rt
 use Rattle.jlib.specs.declared.classes.LibClass.TheVariants as lib
-use Rattle.jops.specs.declared.value.Value.{Value}
-use Rattle.jops.specs.declared.value.Value.TheVariants.{Int, Ref, Ctx}
-use Rattle.jtrace.specs.declared.event.Event.TheVariants.{Grant, Deny}
-use Rattle.jtypes.specs.declared.vtype.VType.{VType}
-use Rattle.jtypes.specs.declared.vtype.VType.TheVariants as types
+use Rattle.jground.specs.declared.jops.value.Value.{Value}
+use Rattle.jground.specs.declared.jops.value.Value.TheVariants.{Int, Ref, Ctx}
+use Rattle.jrights.specs.declared.jtrace.event.Event.TheVariants.{Grant, Deny}
+use Rattle.jground.specs.declared.jtypes.vtype.VType.{VType}
+use Rattle.jground.specs.declared.jtypes.vtype.VType.TheVariants as types
 use Rattle.jprogram.specs.declared.member.Member.{Member}
-use Rattle.juses.specs.declared.meaning.How.{How}
-use Rattle.juses.specs.declared.meaning.How.TheVariants as how
-use Rattle.jrule.specs.Uses.{of_library}
-use Rattle.jmachine.specs.Acts.{Row, Raises, free}
-use Rattle.jmachine.specs.Asking.{context_made, context_row, controller_row, kept_checked, rt_row}
-use Rattle.jmachine.specs.Doing.{run}
-use Rattle.jmachine.specs.Objects.{Object, Context}
-use Rattle.jmachine.specs.Security.{Rules, checked, denial_message, judged, kept_in, permission_in}
-use Rattle.jmachine.specs.Sites.{Site}
-use Rattle.jmachine.specs.Store.{Store, next_number, object_at, with_made}
+use Rattle.jmeaning.specs.declared.juses.meaning.How.{How}
+use Rattle.jmeaning.specs.declared.juses.meaning.How.TheVariants as how
+use Rattle.jmeaning.specs.jrule.Uses.{of_library}
+use Rattle.jmodel.specs.jmachine.Acts.{Row, Raises, free}
+use Rattle.jmodel.specs.jmachine.Asking.{context_made, context_row, controller_row, kept_checked, rt_row}
+use Rattle.jmodel.specs.jmachine.Doing.{run}
+use Rattle.jmodel.specs.jmachine.Objects.{Object, Context}
+use Rattle.jmodel.specs.jmachine.Security.{Rules, checked, denial_message, judged, kept_in, permission_in}
+use Rattle.jmodel.specs.jmachine.Sites.{Site}
+use Rattle.jmodel.specs.jmachine.Store.{Store, next_number, object_at, with_made}
 use Rattle.jtyped.specs.Values.{IsA}
 use Rattle.jyield.specs.Given.{AreGiven, IsReceiver, way_of}
 use Rattle.jyield.specs.Laws.{CallYields}

@@ -5,7 +5,7 @@ use Rattle.std.specs.Prelude.{not, codes, option_and_then, if◌then◌else◌}
 use Rattle.std.specs.List.{cons_option, find}
 use Rattle.std.specs.Option.{option_map}
 use Rattle.std.specs.Str.{bytes_eq}
-use Rattle.jbase.specs.First.{fault_if, or_else}
+use Rattle.jground.specs.jbase.First.{fault_if, or_else}
 use Rattle.jlib.specs.declared.calls.BuilderCall.TheVariants as builders
 use Rattle.jlib.specs.declared.calls.ControllerCall.TheVariants as controllers
 use Rattle.jlib.specs.declared.calls.LibCall.{LibCall}
@@ -22,7 +22,7 @@ use Rattle.jlib.specs.declared.side.Side.TheVariants.{Source, Passing}
 use Rattle.jlib.specs.Calls.{desc_of as desc_of_call, is_field, member_named, name_of_call, owner}
 use Rattle.jlib.specs.Classes as library
 use Rattle.jlib.proofs.Found.{call_found}
-use Rattle.jtypes.specs.declared.vtype.VType.TheVariants as types
+use Rattle.jground.specs.declared.jtypes.vtype.VType.TheVariants as types
 use Rattle.jprogram.specs.declared.member.CallKind.TheVariants as kinds
 use Rattle.jprogram.specs.declared.member.ClassId.{ClassId}
 use Rattle.jprogram.specs.declared.member.Member.{Member}
@@ -34,13 +34,13 @@ use Rattle.jprogram.specs.Classes as classes
 use Rattle.jprogram.specs.Classes.{Class, Lib, Program, User}
 use Rattle.jprogram.specs.Members.{as_selected, desc_of, first_by, is_abstract, is_static, lib_method, method_id, method_at, method_in, methods_along, name_of, name_of_id, select}
 use Rattle.jprogram.specs.Standing.{StandsInOrder}
-use Rattle.juses.specs.Meanings.{CallMeaning}
-use Rattle.juses.specs.Typed.{Called, typed}
-use Rattle.jrule.specs.Uses.{of_library}
-use Rattle.jmachine.specs.Calls.{Target, Fails, Runs, by_interface, is_hidden, no_access, reached, unless, wrong_class}
-use Rattle.jmachine.specs.Objects.{Object, class_of, id_of}
-use Rattle.jmachine.specs.Privileges.{run_action}
-use Rattle.jmachine.specs.World.{World, is_instance, world}
+use Rattle.jmeaning.specs.juses.Meanings.{CallMeaning}
+use Rattle.jmeaning.specs.juses.Typed.{Called, typed}
+use Rattle.jmeaning.specs.jrule.Uses.{of_library}
+use Rattle.jmodel.specs.jmachine.Calls.{Target, Fails, Runs, by_interface, is_hidden, no_access, reached, unless, wrong_class}
+use Rattle.jmodel.specs.jmachine.Objects.{Object, class_of, id_of}
+use Rattle.jmodel.specs.jmachine.Privileges.{run_action}
+use Rattle.jmodel.specs.jmachine.World.{World, is_instance, world}
 use Rattle.jtyped.specs.Laws.{HasCode}
 use Rattle.jtyped.specs.Values.{CanBeThrown}
 use Rattle.jtyped.proofs.Codes.{selected_coded}

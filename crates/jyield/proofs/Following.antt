@@ -3,12 +3,12 @@ use Rattle.std.proofs.Common.{◌≡◌, ℕ, zero, suc, ◌+◌, ◌⊎◌, inl
 use Rattle.std.specs.Bool.{⊤}
 use Rattle.std.specs.Prelude.{slice_get, slice_set, if◌then◌else◌}
 use Rattle.jlib.specs.declared.classes.LibClass.TheVariants as lib
-use Rattle.jops.specs.declared.value.Value.TheVariants.{Ref}
-use Rattle.jtypes.specs.declared.vtype.VType.{VType}
-use Rattle.jmachine.specs.Fields.{out}
-use Rattle.jmachine.specs.Objects.{Object, Text, Bare, class_of}
-use Rattle.jmachine.specs.Store.{Store, next_number, object_at, with_made, with_object}
-use Rattle.jmachine.specs.World.{World, fits}
+use Rattle.jground.specs.declared.jops.value.Value.TheVariants.{Ref}
+use Rattle.jground.specs.declared.jtypes.vtype.VType.{VType}
+use Rattle.jmodel.specs.jmachine.Fields.{out}
+use Rattle.jmodel.specs.jmachine.Objects.{Object, Text, Bare, class_of}
+use Rattle.jmodel.specs.jmachine.Store.{Store, next_number, object_at, with_made, with_object}
+use Rattle.jmodel.specs.jmachine.World.{World, fits}
 use Rattle.jtyped.specs.Growing.{Becomes, Grows}
 use Rattle.jtyped.specs.Stores.{IsObject, IsStored}
 use Rattle.jtyped.specs.Values.{IsA, is_whole, whole_type}

@@ -8,18 +8,18 @@ use Rattle.jlib.specs.declared.classes.PermissionClass.{PermissionClass}
 use Rattle.jlib.specs.declared.classes.PermissionClass.TheVariants as permissions
 use Rattle.jlib.specs.declared.side.Side.{Side}
 use Rattle.jlib.specs.Classes as library
-use Rattle.jperm.specs.declared.permission.Permission as perms
-use Rattle.jops.specs.declared.value.Value.{Value}
-use Rattle.jops.specs.declared.value.Value.TheVariants.{Int, Long, Ref, Ctx}
-use Rattle.jtypes.specs.declared.vtype.ArrayType.{ArrayType}
-use Rattle.jtypes.specs.declared.vtype.Name.{Name}
-use Rattle.jtypes.specs.declared.vtype.VType.{VType}
-use Rattle.jtypes.specs.declared.vtype.VType.TheVariants as types
-use Rattle.jrule.specs.Effects.{is_ref}
-use Rattle.jrule.specs.Uses.{of_library}
-use Rattle.jmachine.specs.Objects.{Object, Instance, Thrown, Text, Builder, Piece, Permission, Context, Thread, Bare, Array, class_of, library_name}
-use Rattle.jmachine.specs.Store.{Store, object_at}
-use Rattle.jmachine.specs.World.{World, fits}
+use Rattle.jrights.specs.declared.jperm.permission.Permission as perms
+use Rattle.jground.specs.declared.jops.value.Value.{Value}
+use Rattle.jground.specs.declared.jops.value.Value.TheVariants.{Int, Long, Ref, Ctx}
+use Rattle.jground.specs.declared.jtypes.vtype.ArrayType.{ArrayType}
+use Rattle.jground.specs.declared.jtypes.vtype.Name.{Name}
+use Rattle.jground.specs.declared.jtypes.vtype.VType.{VType}
+use Rattle.jground.specs.declared.jtypes.vtype.VType.TheVariants as types
+use Rattle.jmeaning.specs.jrule.Effects.{is_ref}
+use Rattle.jmeaning.specs.jrule.Uses.{of_library}
+use Rattle.jmodel.specs.jmachine.Objects.{Object, Instance, Thrown, Text, Builder, Piece, Permission, Context, Thread, Bare, Array, class_of, library_name}
+use Rattle.jmodel.specs.jmachine.Store.{Store, object_at}
+use Rattle.jmodel.specs.jmachine.World.{World, fits}
 use Rattle.jtyped.specs.Stores.{IsObject}
 use Rattle.jtyped.specs.Values.{CanBeThrown, IsA, IsBare, is_piece, is_whole, known, whole_type}
 use Rattle.jyield.proofs.Classes.{IsLow, Sort, Raised, Strings, Builders, Permissions, Contexts, Threads, Others, permission_plain, sort_of, thrown_plain}

@@ -1,10 +1,10 @@
 -- Rows of the constructors of permissions.
 use Rattle.std.proofs.Common.{◌≡◌, ℕ, zero, suc, Bool, List, [], ◌∷◌, Option, Some, None, option_map, Result, Ok, Err, refl, sym, ap, subst, ◌∙◌}
 use Rattle.std.specs.Prelude.{option_and_then}
-use Rattle.jperm.specs.declared.permission.Permission as perms
-use Rattle.jperm.specs.declared.making.PermError.{PermError}
-use Rattle.jperm.specs.declared.making.PermError.TheVariants as faults
-use Rattle.jperm.specs.Made.{made}
+use Rattle.jrights.specs.declared.jperm.permission.Permission as perms
+use Rattle.jrights.specs.declared.jperm.making.PermError.{PermError}
+use Rattle.jrights.specs.declared.jperm.making.PermError.TheVariants as faults
+use Rattle.jrights.specs.jperm.Made.{made}
 use Rattle.jlib.specs.declared.calls.LibCall.{LibCall}
 use Rattle.jlib.specs.declared.calls.LibCall.TheVariants as calls
 use Rattle.jlib.specs.declared.calls.PermissionInit.{PermissionInit}
@@ -12,24 +12,24 @@ use Rattle.jlib.specs.declared.calls.PermissionInit.TheVariants as inits
 use Rattle.jlib.specs.declared.classes.LibClass.TheVariants as lib
 use Rattle.jlib.specs.declared.classes.PermissionClass.{PermissionClass}
 use Rattle.jlib.specs.declared.classes.PermissionClass.TheVariants as permissions
-use Rattle.jops.specs.declared.value.Value.{Value}
-use Rattle.jops.specs.declared.value.Value.TheVariants.{Ref}
-use Rattle.jtypes.specs.declared.vtype.VType.{VType}
+use Rattle.jground.specs.declared.jops.value.Value.{Value}
+use Rattle.jground.specs.declared.jops.value.Value.TheVariants.{Ref}
+use Rattle.jground.specs.declared.jtypes.vtype.VType.{VType}
 use Rattle.jprogram.specs.declared.member.Member.{Member}
-use Rattle.juses.specs.declared.meaning.How.{How}
-use Rattle.juses.specs.declared.meaning.How.TheVariants as how
-use Rattle.jrule.specs.Uses.{string as text_type}
-use Rattle.jmachine.specs.Acts.{Row, gives}
-use Rattle.jmachine.specs.Calls.{receiver}
-use Rattle.jmachine.specs.Doing.{run}
-use Rattle.jmachine.specs.Library.{library}
-use Rattle.jmachine.specs.Objects.{Object, Permission}
-use Rattle.jmachine.specs.Permissions as rows
-use Rattle.jmachine.specs.Permissions.{class_of, constructed, fault_class, made_in, text, with_value}
-use Rattle.jmachine.specs.Security.{Rules}
-use Rattle.jmachine.specs.Sites.{Site}
-use Rattle.jmachine.specs.Store.{Store, object_at, with_object}
-use Rattle.jmachine.specs.Texts.{units_in}
+use Rattle.jmeaning.specs.declared.juses.meaning.How.{How}
+use Rattle.jmeaning.specs.declared.juses.meaning.How.TheVariants as how
+use Rattle.jmeaning.specs.jrule.Uses.{string as text_type}
+use Rattle.jmodel.specs.jmachine.Acts.{Row, gives}
+use Rattle.jmodel.specs.jmachine.Calls.{receiver}
+use Rattle.jmodel.specs.jmachine.Doing.{run}
+use Rattle.jmodel.specs.jmachine.Library.{library}
+use Rattle.jmodel.specs.jmachine.Objects.{Object, Permission}
+use Rattle.jmodel.specs.jmachine.Permissions as rows
+use Rattle.jmodel.specs.jmachine.Permissions.{class_of, constructed, fault_class, made_in, text, with_value}
+use Rattle.jmodel.specs.jmachine.Security.{Rules}
+use Rattle.jmodel.specs.jmachine.Sites.{Site}
+use Rattle.jmodel.specs.jmachine.Store.{Store, object_at, with_object}
+use Rattle.jmodel.specs.jmachine.Texts.{units_in}
 use Rattle.jtyped.specs.Values.{CanBeThrown, IsA}
 use Rattle.jyield.specs.Given.{AreGiven, AreOn, IsReceiver, way_of}
 use Rattle.jyield.specs.Laws.{CallYields}

@@ -2,7 +2,7 @@
 use Rattle.std.proofs.Common.{◌≡◌, ℕ, zero, suc, ℤ, Bool, true, List, [], ◌∷◌, ◌++◌, Option, Some, None, is_some, option_map, refl, sym, ap, subst, ◌∙◌}
 use Rattle.std.specs.Option.{option_to_list}
 use Rattle.std.specs.Prelude.{option_and_then}
-use Rattle.jperm.specs.declared.permission.Permission as perms
+use Rattle.jrights.specs.declared.jperm.permission.Permission as perms
 use Rattle.jlib.specs.declared.calls.ControllerCall.TheVariants as controllers
 use Rattle.jlib.specs.declared.calls.LibCall.{LibCall}
 use Rattle.jlib.specs.declared.calls.LibCall.TheVariants as calls
@@ -12,32 +12,32 @@ use Rattle.jlib.specs.declared.classes.PermissionClass.TheVariants as permission
 use Rattle.jlib.specs.declared.side.Side.{Side}
 use Rattle.jlib.specs.declared.side.Side.TheVariants.{Source, Passing}
 use Rattle.jlib.specs.Classes.{same_side}
-use Rattle.jops.specs.declared.value.Value.{Value}
-use Rattle.jops.specs.declared.value.Value.TheVariants.{Int, Ref, Ctx}
-use Rattle.jtypes.specs.declared.vtype.ArrayType.{ArrayType}
-use Rattle.jtypes.specs.declared.vtype.Element.{Element}
-use Rattle.jtypes.specs.declared.vtype.Element.TheVariants as elements
-use Rattle.jtypes.specs.declared.vtype.Name.{Name}
-use Rattle.jtypes.specs.declared.vtype.VType.{VType}
-use Rattle.jtypes.specs.declared.vtype.VType.TheVariants as types
-use Rattle.jtypes.specs.Fitting.{array_fits, class_fits}
+use Rattle.jground.specs.declared.jops.value.Value.{Value}
+use Rattle.jground.specs.declared.jops.value.Value.TheVariants.{Int, Ref, Ctx}
+use Rattle.jground.specs.declared.jtypes.vtype.ArrayType.{ArrayType}
+use Rattle.jground.specs.declared.jtypes.vtype.Element.{Element}
+use Rattle.jground.specs.declared.jtypes.vtype.Element.TheVariants as elements
+use Rattle.jground.specs.declared.jtypes.vtype.Name.{Name}
+use Rattle.jground.specs.declared.jtypes.vtype.VType.{VType}
+use Rattle.jground.specs.declared.jtypes.vtype.VType.TheVariants as types
+use Rattle.jground.specs.jtypes.Fitting.{array_fits, class_fits}
 use Rattle.jprogram.specs.declared.member.Member.{Member}
 use Rattle.jprogram.specs.Classes.{Program}
-use Rattle.juses.specs.declared.meaning.How.{How}
-use Rattle.juses.specs.declared.meaning.How.TheVariants as how
-use Rattle.jrule.specs.Arrays.{component}
-use Rattle.jrule.specs.Uses.{of_library}
-use Rattle.jmachine.specs.Acts.{Row, Calls, free}
-use Rattle.jmachine.specs.Arrays.{items_in}
-use Rattle.jmachine.specs.Asking.{controller_row, domain_of, rt_row}
-use Rattle.jmachine.specs.Calls.{Target, Fails, Pushes, Runs, by_interface}
-use Rattle.jmachine.specs.Doing.{run}
-use Rattle.jmachine.specs.Objects.{Object, Array, class_of, library_name}
-use Rattle.jmachine.specs.Privileges.{acting, acting_on, action, all_limits, given, limit, limited, limited_by, limits, limits_in, privilege, run_action, with_limit, within}
-use Rattle.jmachine.specs.Security.{Privilege, Rules, kept_in, permission_in}
-use Rattle.jmachine.specs.Sites.{Site}
-use Rattle.jmachine.specs.Store.{Store, object_at}
-use Rattle.jmachine.specs.World.{World, fits, is_above, world}
+use Rattle.jmeaning.specs.declared.juses.meaning.How.{How}
+use Rattle.jmeaning.specs.declared.juses.meaning.How.TheVariants as how
+use Rattle.jmeaning.specs.jrule.Arrays.{component}
+use Rattle.jmeaning.specs.jrule.Uses.{of_library}
+use Rattle.jmodel.specs.jmachine.Acts.{Row, Calls, free}
+use Rattle.jmodel.specs.jmachine.Arrays.{items_in}
+use Rattle.jmodel.specs.jmachine.Asking.{controller_row, domain_of, rt_row}
+use Rattle.jmodel.specs.jmachine.Calls.{Target, Fails, Pushes, Runs, by_interface}
+use Rattle.jmodel.specs.jmachine.Doing.{run}
+use Rattle.jmodel.specs.jmachine.Objects.{Object, Array, class_of, library_name}
+use Rattle.jmodel.specs.jmachine.Privileges.{acting, acting_on, action, all_limits, given, limit, limited, limited_by, limits, limits_in, privilege, run_action, with_limit, within}
+use Rattle.jmodel.specs.jmachine.Security.{Privilege, Rules, kept_in, permission_in}
+use Rattle.jmodel.specs.jmachine.Sites.{Site}
+use Rattle.jmodel.specs.jmachine.Store.{Store, object_at}
+use Rattle.jmodel.specs.jmachine.World.{World, fits, is_above, world}
 use Rattle.jtyped.specs.Stores.{EachOf}
 use Rattle.jtyped.specs.Values.{AreOf, IsA}
 use Rattle.jtyped.proofs.OfKinds.{known_value}

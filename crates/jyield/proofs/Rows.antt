@@ -8,29 +8,29 @@ use Rattle.jlib.specs.declared.classes.PermissionClass.{PermissionClass}
 use Rattle.jlib.specs.declared.classes.Thrown.TheVariants as thrown
 use Rattle.jlib.specs.declared.side.Side.{Side}
 use Rattle.jlib.specs.Calls.{desc_of}
-use Rattle.jperm.specs.declared.permission.Permission as perms
-use Rattle.jops.specs.declared.value.Value.{Value}
-use Rattle.jops.specs.declared.value.Value.TheVariants.{Int, Long, Ref, Ctx}
-use Rattle.jtrace.specs.declared.event.Event.{Event}
-use Rattle.jtypes.specs.declared.vtype.ArrayType.{ArrayType}
-use Rattle.jtypes.specs.declared.vtype.Name.{Name}
-use Rattle.jtypes.specs.declared.vtype.VType.{VType}
-use Rattle.jtypes.specs.declared.vtype.VType.TheVariants as types
+use Rattle.jrights.specs.declared.jperm.permission.Permission as perms
+use Rattle.jground.specs.declared.jops.value.Value.{Value}
+use Rattle.jground.specs.declared.jops.value.Value.TheVariants.{Int, Long, Ref, Ctx}
+use Rattle.jrights.specs.declared.jtrace.event.Event.{Event}
+use Rattle.jground.specs.declared.jtypes.vtype.ArrayType.{ArrayType}
+use Rattle.jground.specs.declared.jtypes.vtype.Name.{Name}
+use Rattle.jground.specs.declared.jtypes.vtype.VType.{VType}
+use Rattle.jground.specs.declared.jtypes.vtype.VType.TheVariants as types
 use Rattle.jprogram.specs.declared.member.Member.{Member}
 use Rattle.jprogram.specs.Classes.{Program}
 use Rattle.jprogram.specs.Standing.{StandsInOrder}
-use Rattle.juses.specs.declared.meaning.How.{How}
-use Rattle.juses.specs.declared.meaning.How.TheVariants as how
-use Rattle.juses.specs.Typed.{Called, typed}
-use Rattle.jrule.specs.Uses.{of_library, string}
-use Rattle.jmachine.specs.Acts.{Row, Goes, free, null, raises}
-use Rattle.jmachine.specs.Doing.{run}
-use Rattle.jmachine.specs.Making.{text_made}
-use Rattle.jmachine.specs.Objects.{Object, Text, Builder, Piece, Permission, Context, Thread, class_of}
-use Rattle.jmachine.specs.Security.{Rules}
-use Rattle.jmachine.specs.Sites.{Site}
-use Rattle.jmachine.specs.Store.{Store, next_number, object_at, with_made}
-use Rattle.jmachine.specs.World.{World, fits, world}
+use Rattle.jmeaning.specs.declared.juses.meaning.How.{How}
+use Rattle.jmeaning.specs.declared.juses.meaning.How.TheVariants as how
+use Rattle.jmeaning.specs.juses.Typed.{Called, typed}
+use Rattle.jmeaning.specs.jrule.Uses.{of_library, string}
+use Rattle.jmodel.specs.jmachine.Acts.{Row, Goes, free, null, raises}
+use Rattle.jmodel.specs.jmachine.Doing.{run}
+use Rattle.jmodel.specs.jmachine.Making.{text_made}
+use Rattle.jmodel.specs.jmachine.Objects.{Object, Text, Builder, Piece, Permission, Context, Thread, class_of}
+use Rattle.jmodel.specs.jmachine.Security.{Rules}
+use Rattle.jmodel.specs.jmachine.Sites.{Site}
+use Rattle.jmodel.specs.jmachine.Store.{Store, next_number, object_at, with_made}
+use Rattle.jmodel.specs.jmachine.World.{World, fits, world}
 use Rattle.jtyped.specs.Stores.{IsStored}
 use Rattle.jtyped.specs.Values.{AreOf, CanBeThrown, IsA, is_piece, is_whole}
 use Rattle.jyield.specs.Given.{AreGiven, AreOn, IsBegun, way_of}

@@ -1,8 +1,8 @@
 -- The rules of both machines hand contexts over by their side.
 use Rattle.std.proofs.Common.{ℕ, Bool, refl}
-use Rattle.jperm.specs.declared.permission.Permission.{Permission}
-use Rattle.jrules.specs.Inspecting as inspecting
-use Rattle.jrules.specs.Plain as plain
+use Rattle.jrights.specs.declared.jperm.permission.Permission.{Permission}
+use Rattle.jmodel.specs.jrules.Inspecting as inspecting
+use Rattle.jmodel.specs.jrules.Plain as plain
 use Rattle.jyield.specs.Laws.{AreSided}
 
 pub inspecting_sided : (has : ℕ → Permission → Bool) → AreSided (inspecting.rules has)

@@ -2,11 +2,11 @@
 use Rattle.std.proofs.Common.{◌≡◌, ℕ, ◌⊎◌, inl, inr, Bool, false, sym, true, List, [], ◌∷◌, Option, Some, None, refl, ap, ◌∙◌}
 use Rattle.std.specs.Prelude.{codes, is_some, option_map, reverse, if◌then◌else◌}
 use Rattle.std.specs.Str.{byte}
-use Rattle.jbase.specs.Each.{each_some, put_front}
-use Rattle.jpool.specs.declared.descriptor.Descriptor.TheVariants as descriptors
-use Rattle.jpool.specs.declared.descriptor.FieldType.{FieldType}
-use Rattle.jpool.specs.Descriptors.{base_at, class_at, closing_at, descriptor_of, field_of, method_of, params_at, return_at, slots_of, type_at}
-use Rattle.jpool.specs.Names.{is_class_name}
+use Rattle.jground.specs.jbase.Each.{each_some, put_front}
+use Rattle.jparts.specs.declared.jpool.descriptor.Descriptor.TheVariants as descriptors
+use Rattle.jparts.specs.declared.jpool.descriptor.FieldType.{FieldType}
+use Rattle.jparts.specs.jpool.Descriptors.{base_at, class_at, closing_at, descriptor_of, field_of, method_of, params_at, return_at, slots_of, type_at}
+use Rattle.jparts.specs.jpool.Names.{is_class_name}
 use Rattle.jlib.specs.declared.calls.ControllerCall.TheVariants as controllers
 use Rattle.jlib.specs.declared.calls.LibCall.TheVariants as calls
 use Rattle.jlib.specs.declared.calls.RtCall.TheVariants as rt
@@ -15,15 +15,15 @@ use Rattle.jlib.specs.declared.classes.LibClass.TheVariants as lib
 use Rattle.jlib.specs.declared.classes.PermissionClass.TheVariants as permissions
 use Rattle.jlib.specs.Calls.{desc_of}
 use Rattle.jlib.specs.Classes as library
-use Rattle.jtypes.specs.declared.vtype.ArrayType.{ArrayType}
-use Rattle.jtypes.specs.declared.vtype.Element.TheVariants as elements
-use Rattle.jtypes.specs.declared.vtype.VType.{VType}
-use Rattle.jtypes.specs.declared.vtype.VType.TheVariants as types
+use Rattle.jground.specs.declared.jtypes.vtype.ArrayType.{ArrayType}
+use Rattle.jground.specs.declared.jtypes.vtype.Element.TheVariants as elements
+use Rattle.jground.specs.declared.jtypes.vtype.VType.{VType}
+use Rattle.jground.specs.declared.jtypes.vtype.VType.TheVariants as types
 use Rattle.jprogram.specs.Classes.{Class, Program}
 use Rattle.jprogram.specs.Standing.{StandsInOrder}
 use Rattle.jprogram.proofs.Standing.{lib_find, not_taken}
-use Rattle.juses.specs.Typed.{Called, Held, Untyped, called, held, name, return_in, type_in, type_of, typed, typed_as}
-use Rattle.jrule.specs.Uses.{of_library, string}
+use Rattle.jmeaning.specs.juses.Typed.{Called, Held, Untyped, called, held, name, return_in, type_in, type_of, typed, typed_as}
+use Rattle.jmeaning.specs.jrule.Uses.{of_library, string}
 use Rattle.jyield.proofs.Reserved.{not_found}
 
 -- ---- types

@@ -11,26 +11,26 @@ use Rattle.jlib.specs.declared.calls.StringCall.{StringCall}
 use Rattle.jlib.specs.declared.calls.StringCall.TheVariants as strings
 use Rattle.jlib.specs.declared.classes.LibClass.TheVariants as lib
 use Rattle.jlib.specs.declared.classes.Thrown.TheVariants as thrown
-use Rattle.jops.specs.declared.value.Value.{Value}
-use Rattle.jops.specs.declared.value.Value.TheVariants.{Int, Long, Ref}
-use Rattle.jtrace.specs.declared.event.Event.TheVariants.{Out}
-use Rattle.jtypes.specs.declared.vtype.VType.{VType}
-use Rattle.jtypes.specs.declared.vtype.VType.TheVariants as types
+use Rattle.jground.specs.declared.jops.value.Value.{Value}
+use Rattle.jground.specs.declared.jops.value.Value.TheVariants.{Int, Long, Ref}
+use Rattle.jrights.specs.declared.jtrace.event.Event.TheVariants.{Out}
+use Rattle.jground.specs.declared.jtypes.vtype.VType.{VType}
+use Rattle.jground.specs.declared.jtypes.vtype.VType.TheVariants as types
 use Rattle.jprogram.specs.declared.member.Member.{Member}
-use Rattle.juses.specs.declared.meaning.How.{How}
-use Rattle.juses.specs.declared.meaning.How.TheVariants as how
-use Rattle.jrule.specs.Uses.{of_library, string as text_type}
-use Rattle.jmachine.specs.Acts.{Row, gives}
-use Rattle.jmachine.specs.Calls.{receiver}
-use Rattle.jmachine.specs.Doing.{run}
-use Rattle.jmachine.specs.Library.{library}
-use Rattle.jmachine.specs.Making.{tested, text_made}
-use Rattle.jmachine.specs.Narrowing.{place}
-use Rattle.jmachine.specs.Objects.{Object, Text, Builder, Piece}
-use Rattle.jmachine.specs.Security.{Rules}
-use Rattle.jmachine.specs.Sites.{Site}
-use Rattle.jmachine.specs.Store.{Store, object_at, with_made, with_object}
-use Rattle.jmachine.specs.Texts.{appended, builder, built_in, char_at, equals, line, print, print_end, printed, string, unit_given, units, units_in}
+use Rattle.jmeaning.specs.declared.juses.meaning.How.{How}
+use Rattle.jmeaning.specs.declared.juses.meaning.How.TheVariants as how
+use Rattle.jmeaning.specs.jrule.Uses.{of_library, string as text_type}
+use Rattle.jmodel.specs.jmachine.Acts.{Row, gives}
+use Rattle.jmodel.specs.jmachine.Calls.{receiver}
+use Rattle.jmodel.specs.jmachine.Doing.{run}
+use Rattle.jmodel.specs.jmachine.Library.{library}
+use Rattle.jmodel.specs.jmachine.Making.{tested, text_made}
+use Rattle.jmodel.specs.jmachine.Narrowing.{place}
+use Rattle.jmodel.specs.jmachine.Objects.{Object, Text, Builder, Piece}
+use Rattle.jmodel.specs.jmachine.Security.{Rules}
+use Rattle.jmodel.specs.jmachine.Sites.{Site}
+use Rattle.jmodel.specs.jmachine.Store.{Store, object_at, with_made, with_object}
+use Rattle.jmodel.specs.jmachine.Texts.{appended, builder, built_in, char_at, equals, line, print, print_end, printed, string, unit_given, units, units_in}
 use Rattle.jtyped.specs.Growing.{Grows}
 use Rattle.jtyped.specs.Values.{IsA}
 use Rattle.jtyped.proofs.Growing.{grows_made, serves_kept}

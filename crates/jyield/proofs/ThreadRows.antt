@@ -8,27 +8,27 @@ use Rattle.jlib.specs.declared.calls.ThreadCall.TheVariants as thread_calls
 use Rattle.jlib.specs.declared.classes.LibClass.TheVariants as lib
 use Rattle.jlib.specs.declared.classes.Thrown.TheVariants as thrown
 use Rattle.jlib.specs.declared.side.Side.TheVariants.{Source, Passing}
-use Rattle.jops.specs.declared.value.Value.{Value}
-use Rattle.jops.specs.declared.value.Value.TheVariants.{Ref, Ctx}
+use Rattle.jground.specs.declared.jops.value.Value.{Value}
+use Rattle.jground.specs.declared.jops.value.Value.TheVariants.{Ref, Ctx}
 use Rattle.jthreads.specs.Table.{is_started, join_answer, joined, lives_at, table_after_start, thread_at as entry_at}
 use Rattle.jthreads.specs.declared.table.Joined.{Joined}
 use Rattle.jthreads.specs.declared.table.Joined.TheVariants.{AtOnce, Waits}
 use Rattle.jthreads.specs.declared.thread.Thread as threads
-use Rattle.jtypes.specs.declared.vtype.VType.{VType}
-use Rattle.jtypes.specs.declared.vtype.VType.TheVariants as types
+use Rattle.jground.specs.declared.jtypes.vtype.VType.{VType}
+use Rattle.jground.specs.declared.jtypes.vtype.VType.TheVariants as types
 use Rattle.jprogram.specs.declared.member.Member.{Member}
-use Rattle.juses.specs.declared.meaning.How.{How}
-use Rattle.juses.specs.declared.meaning.How.TheVariants as how
-use Rattle.jrule.specs.Uses.{of_library}
-use Rattle.jmachine.specs.Acts.{Row, Switches, Makes, free, raises}
-use Rattle.jmachine.specs.Asking.{thread_made, thread_row}
-use Rattle.jmachine.specs.Calls.{receiver}
-use Rattle.jmachine.specs.Doing.{run}
-use Rattle.jmachine.specs.Objects.{Object, Thread}
-use Rattle.jmachine.specs.Security.{Rules}
-use Rattle.jmachine.specs.Sites.{Site}
-use Rattle.jmachine.specs.Store.{Store, object_at, with_object}
-use Rattle.jmachine.specs.Threads.{joined_by, number_in, started, thread, waiting}
+use Rattle.jmeaning.specs.declared.juses.meaning.How.{How}
+use Rattle.jmeaning.specs.declared.juses.meaning.How.TheVariants as how
+use Rattle.jmeaning.specs.jrule.Uses.{of_library}
+use Rattle.jmodel.specs.jmachine.Acts.{Row, Switches, Makes, free, raises}
+use Rattle.jmodel.specs.jmachine.Asking.{thread_made, thread_row}
+use Rattle.jmodel.specs.jmachine.Calls.{receiver}
+use Rattle.jmodel.specs.jmachine.Doing.{run}
+use Rattle.jmodel.specs.jmachine.Objects.{Object, Thread}
+use Rattle.jmodel.specs.jmachine.Security.{Rules}
+use Rattle.jmodel.specs.jmachine.Sites.{Site}
+use Rattle.jmodel.specs.jmachine.Store.{Store, object_at, with_object}
+use Rattle.jmodel.specs.jmachine.Threads.{joined_by, number_in, started, thread, waiting}
 use Rattle.jtyped.specs.Growing.{Becomes}
 use Rattle.jtyped.specs.Values.{IsA}
 use Rattle.jtyped.proofs.Growing.{grows_changed, serves_kept}

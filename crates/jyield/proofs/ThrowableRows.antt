@@ -10,25 +10,25 @@ use Rattle.jlib.specs.declared.classes.Thrown.{Thrown as ThrownClass}
 use Rattle.jlib.specs.declared.classes.Thrown.TheVariants as thrown
 use Rattle.jlib.specs.declared.side.Side.{Side}
 use Rattle.jlib.specs.Classes as library_classes
-use Rattle.jops.specs.declared.value.Value.{Value}
-use Rattle.jops.specs.declared.value.Value.TheVariants.{Ref}
-use Rattle.jtypes.specs.declared.vtype.VType.{VType}
-use Rattle.jtypes.specs.declared.vtype.VType.TheVariants as types
+use Rattle.jground.specs.declared.jops.value.Value.{Value}
+use Rattle.jground.specs.declared.jops.value.Value.TheVariants.{Ref}
+use Rattle.jground.specs.declared.jtypes.vtype.VType.{VType}
+use Rattle.jground.specs.declared.jtypes.vtype.VType.TheVariants as types
 use Rattle.jprogram.specs.declared.member.Member.{Member}
-use Rattle.juses.specs.declared.meaning.How.{How}
-use Rattle.juses.specs.declared.meaning.How.TheVariants as how
-use Rattle.jrule.specs.Uses.{of_library, string as text_type}
-use Rattle.jmachine.specs.Acts.{Row, gives}
-use Rattle.jmachine.specs.Calls.{receiver}
-use Rattle.jmachine.specs.Doing.{run}
-use Rattle.jmachine.specs.Library.{library}
-use Rattle.jmachine.specs.Objects.{Object, Instance, Thrown, Text, Builder, Piece, Permission, Context, Thread, Bare, Array, class_of, library_name}
-use Rattle.jmachine.specs.Security.{Rules}
-use Rattle.jmachine.specs.Sites.{Site}
-use Rattle.jmachine.specs.Store.{Store, object_at, with_object}
-use Rattle.jmachine.specs.Throwables as throwables
-use Rattle.jmachine.specs.Throwables.{message_of, told, with_message}
-use Rattle.jmachine.specs.World.{World, fits}
+use Rattle.jmeaning.specs.declared.juses.meaning.How.{How}
+use Rattle.jmeaning.specs.declared.juses.meaning.How.TheVariants as how
+use Rattle.jmeaning.specs.jrule.Uses.{of_library, string as text_type}
+use Rattle.jmodel.specs.jmachine.Acts.{Row, gives}
+use Rattle.jmodel.specs.jmachine.Calls.{receiver}
+use Rattle.jmodel.specs.jmachine.Doing.{run}
+use Rattle.jmodel.specs.jmachine.Library.{library}
+use Rattle.jmodel.specs.jmachine.Objects.{Object, Instance, Thrown, Text, Builder, Piece, Permission, Context, Thread, Bare, Array, class_of, library_name}
+use Rattle.jmodel.specs.jmachine.Security.{Rules}
+use Rattle.jmodel.specs.jmachine.Sites.{Site}
+use Rattle.jmodel.specs.jmachine.Store.{Store, object_at, with_object}
+use Rattle.jmodel.specs.jmachine.Throwables as throwables
+use Rattle.jmodel.specs.jmachine.Throwables.{message_of, told, with_message}
+use Rattle.jmodel.specs.jmachine.World.{World, fits}
 use Rattle.jtyped.specs.Growing.{Becomes}
 use Rattle.jtyped.specs.Values.{CanBeThrown, IsA, is_piece, is_whole}
 use Rattle.jtyped.proofs.Growing.{grows_changed, serves_kept}

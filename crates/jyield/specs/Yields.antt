@@ -4,21 +4,21 @@ use Rattle.std.specs.Option.{option_to_list}
 use Rattle.jlib.specs.declared.classes.LibClass.TheVariants as lib
 use Rattle.jlib.specs.declared.side.Side.{Side}
 use Rattle.jlib.specs.declared.side.Side.TheVariants.{Source, Passing}
-use Rattle.jops.specs.declared.value.Value.{Value}
-use Rattle.jops.specs.declared.value.Value.TheVariants.{Ref}
-use Rattle.jtypes.specs.declared.vtype.VType.{VType}
-use Rattle.jtypes.specs.declared.vtype.VType.TheVariants as types
+use Rattle.jground.specs.declared.jops.value.Value.{Value}
+use Rattle.jground.specs.declared.jops.value.Value.TheVariants.{Ref}
+use Rattle.jground.specs.declared.jtypes.vtype.VType.{VType}
+use Rattle.jground.specs.declared.jtypes.vtype.VType.TheVariants as types
 use Rattle.jprogram.specs.declared.member.MethodId.{MethodId}
-use Rattle.juses.specs.declared.meaning.How.{How}
-use Rattle.juses.specs.declared.meaning.How.TheVariants as how
-use Rattle.jrule.specs.Uses.{of_library}
-use Rattle.jmachine.specs.Acts.{Act, Calls, Goes, Makes, Raises, Row, Switches}
-use Rattle.jmachine.specs.Calls.{Pushes, by_interface, receiver}
-use Rattle.jmachine.specs.Objects.{Object}
-use Rattle.jmachine.specs.Privileges.{run_action}
-use Rattle.jmachine.specs.Sites.{Site}
-use Rattle.jmachine.specs.Store.{Store, object_at}
-use Rattle.jmachine.specs.World.{World}
+use Rattle.jmeaning.specs.declared.juses.meaning.How.{How}
+use Rattle.jmeaning.specs.declared.juses.meaning.How.TheVariants as how
+use Rattle.jmeaning.specs.jrule.Uses.{of_library}
+use Rattle.jmodel.specs.jmachine.Acts.{Act, Calls, Goes, Makes, Raises, Row, Switches}
+use Rattle.jmodel.specs.jmachine.Calls.{Pushes, by_interface, receiver}
+use Rattle.jmodel.specs.jmachine.Objects.{Object}
+use Rattle.jmodel.specs.jmachine.Privileges.{run_action}
+use Rattle.jmodel.specs.jmachine.Sites.{Site}
+use Rattle.jmodel.specs.jmachine.Store.{Store, object_at}
+use Rattle.jmodel.specs.jmachine.World.{World}
 use Rattle.jtyped.specs.Growing.{Grows}
 use Rattle.jtyped.specs.Stores.{IsStored}
 use Rattle.jtyped.specs.Values.{AreOf, CanBeThrown, IsA, is_whole}

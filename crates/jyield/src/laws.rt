@@ -1,5 +1,5 @@
 ghost use Rattle.std.specs.Prelude.{Bool, ℕ};
-ghost use Rattle.jperm.specs.declared.permission.Permission.{Permission};
+ghost use Rattle.jrights.specs.declared.jperm.permission.Permission.{Permission};
 ghost use Rattle.jlib.specs.declared.calls.BuilderCall.{BuilderCall};
 ghost use Rattle.jlib.specs.declared.calls.ControllerCall.{ControllerCall};
 ghost use Rattle.jlib.specs.declared.calls.LibCall.{LibCall};
@@ -11,9 +11,9 @@ ghost use Rattle.jlib.specs.declared.calls.StringCall.{StringCall};
 ghost use Rattle.jlib.specs.declared.calls.ThreadCall.{ThreadCall};
 ghost use Rattle.jlib.specs.declared.calls.ThrownInit.{ThrownInit};
 ghost use Rattle.jlib.specs.declared.classes.Thrown.{Thrown};
-ghost use Rattle.jmachine.specs.Privileges.{run_action};
-ghost use Rattle.jrules.specs.Inspecting as inspecting;
-ghost use Rattle.jrules.specs.Plain as plain;
+ghost use Rattle.jmodel.specs.jmachine.Privileges.{run_action};
+ghost use Rattle.jmodel.specs.jrules.Inspecting as inspecting;
+ghost use Rattle.jmodel.specs.jrules.Plain as plain;
 ghost use Rattle.jyield.specs.Laws.{ActionSays, AreSided, CallYields, InitsYield, InterfaceRaises, RunIsUsers, RunSays, RunsYield, run_call};
 
 /// The laws of the calls of String, StringBuilder and PrintStream: each has a row, and what it gives is of the type that it returns. It has

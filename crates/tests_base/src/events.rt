@@ -1,8 +1,8 @@
 use crate::words::{first, pair, units};
-use jio::{MemorySink, PutFault};
-use jperm::{Actions, Permission, PropertyActions};
-use jtext::Units;
-use jtrace::{End, Event, write_end, write_event};
+use jground::jtext::Units;
+use jrights::jio::{MemorySink, PutFault};
+use jrights::jperm::{Actions, Permission, PropertyActions};
+use jrights::jtrace::{End, Event, write_end, write_event};
 use std::alloc::{AllocError, Global};
 use tests_rows::{Unread, number};
 

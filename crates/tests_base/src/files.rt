@@ -1,8 +1,8 @@
 ghost use Rattle.std.specs.Prelude.{◌≡◌, ◌+◌, ◌<◌, ◌≤◌, ◌^◌, None, IfOk, OnErr, length, min, take};
-ghost use Rattle.jbase.specs.Causes.{HasCause, appended};
+ghost use Rattle.jground.specs.jbase.Causes.{HasCause, appended};
 
 use crate::words::{pair, units};
-use jio::{
+use jrights::jio::{
     MemoryShelf, MemorySink, Part, RealShelf, RealSink, Shelf, Sink, SinkError, put_all,
     write_line, write_line_text,
 };

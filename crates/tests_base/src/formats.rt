@@ -1,10 +1,10 @@
 ghost use Rattle.std.specs.Prelude.{◌≡◌, ◌+◌, ◌<◌, ◌^◌, ◌%◌, Ok, true, nat_lt};
 ghost use Rattle.std.specs.Int.{w16, to_be_bytes};
-ghost use Rattle.jformat.specs.Format.{number_at};
-ghost use Rattle.jformat.proofs.Blocks.{all_law};
+ghost use Rattle.jground.specs.jformat.Format.{number_at};
+ghost use Rattle.jground.proofs.JformatProofs.Blocks.{all_law};
 
-use jbase::Seq;
-use jformat::{
+use jground::jbase::Seq;
+use jground::jformat::{
     BodyReader, ReadError, Reader, StateReader, StateWriter, Writer, block_of, counted_of, i8_of,
     i16_of, many_of, put_block, put_by, put_counted, put_i16, put_sized16, put_u16, times_by_of,
     u16_of, words_of,
@@ -138,7 +138,7 @@ fn block(alloc: Global, bytes: &[u8]) -> Result<String, AllocError> {
 }
 
 /// The bytes that writers put one behind the other: two numbers behind their count, one in a block, two by a state, a sized text, -2.
-#[tactic(auto, unfolding(jformat::specs::States::fits_from))]
+#[tactic(auto, unfolding(jground::specs::jformat::States::fits_from))]
 fn written(alloc: Global) -> Result<String, AllocError> {
     let mut out = Seq::new(alloc);
     put_counted(alloc, &Short, &[256, 7], &mut out)?;

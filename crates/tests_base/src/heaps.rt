@@ -1,6 +1,6 @@
 use crate::words::{first, pair};
-use jheap::{CellType, Heap, Kind};
-use jops::Value;
+use jground::jheap::{CellType, Heap, Kind};
+use jground::jops::Value;
 use std::alloc::Global;
 use tests_rows::{Unread, number};
 

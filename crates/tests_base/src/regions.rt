@@ -1,5 +1,5 @@
 use crate::words::first;
-use jregion::Region;
+use jground::jregion::Region;
 use std::alloc::{AllocError, Global};
 use tests_rows::{Unread, number};
 

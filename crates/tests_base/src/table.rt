@@ -3,7 +3,7 @@ use crate::words::pair;
 use crate::{
     events, files, formats, heaps, library, memo, operations, piles, regions, texts, threads,
 };
-use jtypes::VType;
+use jground::jtypes::VType;
 use std::alloc::{AllocError, Global};
 use tests_rows::Unread;
 

@@ -1,6 +1,6 @@
 use crate::words::units;
-use jbase::Stop;
-use jtext::{Units, bytes_of, same_ignoring_case, units_of};
+use jground::jbase::Stop;
+use jground::jtext::{Units, bytes_of, same_ignoring_case, units_of};
 use std::alloc::{AllocError, Global};
 use tests_rows::{Unread, hex_of};
 

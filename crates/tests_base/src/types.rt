@@ -2,8 +2,8 @@ ghost use Rattle.std.specs.Prelude.{◌≡◌, ⊤};
 ghost use Rattle.tests_base.specs.Few.{few, few_above, few_chain, few_itself, few_object};
 
 use crate::words::pair;
-use jbase::Seq;
-use jtypes::{Ancestry, ArrayType, Element, Name, VType, fits};
+use jground::jbase::Seq;
+use jground::jtypes::{Ancestry, ArrayType, Element, Name, VType, fits};
 use std::alloc::{AllocError, Global};
 use tests_rows::{Unread, number};
 

@@ -4,7 +4,7 @@ use crate::question::{Question, class_id, method_of, number};
 use crate::used::of_types;
 use jclass::ClassParts;
 use jlib::Side;
-use jmembers::members_fault;
+use jlinking::jmembers::members_fault;
 use jprogram::{CallKind, ClassRef, CodePart, NamedProgram};
 use std::alloc::Global;
 use tests_rows::Unread;

@@ -1,7 +1,7 @@
 use jcheck::{CheckedProgram, TypeFault, check};
 use jclass::read_class;
 use jlib::Side;
-use jlink::{LinkError, LinkedProgram, are_parts, link};
+use jlinking::jlink::{LinkError, LinkedProgram, are_parts, link};
 use jprogram::CodePart;
 use std::alloc::Global;
 use std::fmt;

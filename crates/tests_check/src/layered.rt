@@ -4,9 +4,9 @@ ghost use Rattle.jprogram.specs.Standing.{StandsInOrder};
 
 use crate::question::{Question, index, number};
 use crate::used::of_pools;
+use jlinking::jreferring::code_fault;
+use jmeaning::juses::Uses;
 use jprogram::{Interfaces, NamedProgram, program_laws};
-use jreferring::code_fault;
-use juses::Uses;
 use std::alloc::Global;
 use tests_rows::Unread;
 

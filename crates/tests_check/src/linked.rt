@@ -3,9 +3,9 @@ ghost use Rattle.std.specs.Prelude.{◌≡◌, IfOk};
 use crate::question::{Question, class_id, index, method_of, number};
 use jclass::ClassFile;
 use jlib::Side;
-use jlink::{LinkError, LinkedProgram, are_parts, link, link_known};
+use jlinking::jlink::{LinkError, LinkedProgram, are_parts, link, link_known};
+use jmeaning::juses::{code_at, instruction_at};
 use jprogram::{CallKind, ClassRef, CodePart, MethodId};
-use juses::{code_at, instruction_at};
 use std::alloc::{AllocError, Global};
 use tests_rows::Unread;
 

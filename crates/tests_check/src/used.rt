@@ -1,7 +1,7 @@
 use crate::question::{Question, index, number};
-use jcode::{CallOp, CastOp, FieldOp, PoolForm};
+use jmeaning::juses::{ArrayRef, ElementRef, TypeRef, Use, Uses, stands_below, type_fits};
+use jparts::jcode::{CallOp, CastOp, FieldOp, PoolForm};
 use jprogram::{ClassRef, NamedProgram};
-use juses::{ArrayRef, ElementRef, TypeRef, Use, Uses, stands_below, type_fits};
 use std::alloc::Global;
 use tests_rows::Unread;
 

@@ -1,5 +1,5 @@
-use jbase::Stop;
 use jclass::{ClassFile, read_class, write_class};
+use jground::jbase::Stop;
 use std::alloc::{AllocError, Global};
 use tests_rows::{Unread, hex_of};
 

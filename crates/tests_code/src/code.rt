@@ -1,5 +1,5 @@
-use jbase::Stop;
-use jcode::{
+use jground::jbase::Stop;
+use jparts::jcode::{
     Form, Placed, Switch, branch_at, branch_count, decode, effect_of, encode, form_of, goes_on,
 };
 use std::alloc::{AllocError, Global};

@@ -1,6 +1,6 @@
-use jbase::Stop;
 use jclass::{read_class, write_class};
 use jgen::{MadeFile, MadeJob, make_job};
+use jground::jbase::Stop;
 use std::alloc::{AllocError, Global};
 use tests_rows::{Line, Unread, first, number};
 

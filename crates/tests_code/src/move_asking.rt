@@ -1,10 +1,10 @@
 use crate::move_given::method_of;
 use crate::move_reading::{Given, read};
-use jbase::Seq;
-use jcode::{Handler, decode};
-use jmaps::{FullFrame, MapType};
+use jground::jbase::Seq;
 use jmove::{MethodOut, MoveError, limit_of, move_method, moved_descriptor};
-use jpool::{Adder, Entry, read_pool, write_pool};
+use jparts::jcode::{Handler, decode};
+use jparts::jmaps::{FullFrame, MapType};
+use jparts::jpool::{Adder, Entry, read_pool, write_pool};
 use std::alloc::{AllocError, Global};
 use tests_rows::{Unread, first, hex_of, number};
 

@@ -2,10 +2,10 @@ ghost use Rattle.std.specs.Prelude.{◌≡◌, ◌≤◌, All, IfSome, IsTrue};
 ghost use Rattle.jmove.specs.Frames.{width, widths};
 ghost use Rattle.jmove.specs.Moved.{CanMove};
 
-use jbase::Seq;
-use jcode::{Handler, decode};
-use jmaps::{FullFrame, MapType};
+use jground::jbase::Seq;
 use jmove::{Expand, MethodIn};
+use jparts::jcode::{Handler, decode};
+use jparts::jmaps::{FullFrame, MapType};
 use std::alloc::Global;
 
 /// The sizes of a method: its slots, its `max_stack` and its `max_locals`.

@@ -1,8 +1,8 @@
 use crate::move_given::Sizes;
-use jbase::Seq;
-use jcode::{Handler, decode};
-use jmaps::{FullFrame, MapType};
+use jground::jbase::Seq;
 use jmove::Expand;
+use jparts::jcode::{Handler, decode};
+use jparts::jmaps::{FullFrame, MapType};
 use std::alloc::{AllocError, Global};
 use tests_rows::{Unread, first, hex_of, number};
 

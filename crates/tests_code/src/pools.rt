@@ -1,5 +1,5 @@
-use jbase::{Seq, Stop};
-use jpool::{
+use jground::jbase::{Seq, Stop};
+use jparts::jpool::{
     AddError, Adder, DescError, Descriptor, Entry, FieldType, Pool, is_array_descriptor,
     is_class_name, is_field_descriptor, is_method_descriptor, method_slots, read_descriptor,
     read_pool, slots_of, write_pool,

@@ -1,8 +1,8 @@
 ghost use Rattle.std.specs.Prelude.{IsTrue};
-ghost use Rattle.jmaps.specs.Frames.{maps};
+ghost use Rattle.jparts.specs.jmaps.Frames.{maps};
 
-use jbase::{Seq, Stop};
-use jmaps::{
+use jground::jbase::{Seq, Stop};
+use jparts::jmaps::{
     ExpandError, Expansion, FullFrame, MapType, RawFrame, expand, put_frames, read_maps, write_maps,
 };
 use std::alloc::{AllocError, Global};

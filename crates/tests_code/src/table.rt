@@ -1,6 +1,6 @@
 use crate::move_table::Moves;
 use crate::{classes, code, gen_asking, pools, stack_maps, trips};
-use jpool::{Adder, Pool};
+use jparts::jpool::{Adder, Pool};
 use std::alloc::Global;
 use tests_rows::{Line, Unread, first, hex_of};
 

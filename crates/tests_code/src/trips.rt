@@ -1,8 +1,8 @@
-use jbase::Seq;
 use jclass::{read_class, write_class};
-use jcode::{decode, encode};
-use jmaps::{put_frames, read_maps};
-use jpool::{read_pool, write_pool};
+use jground::jbase::Seq;
+use jparts::jcode::{decode, encode};
+use jparts::jmaps::{put_frames, read_maps};
+use jparts::jpool::{read_pool, write_pool};
 use std::alloc::{AllocError, Global};
 use tests_rows::{Unread, first, hex_of, yes_or_no};
 

@@ -1,18 +1,18 @@
 -- The references that the code of a class names, by the place among a method's instructions.
 use Rattle.std.proofs.Common.{◌≡◌, ℕ, Option, Some, None, refl, sym}
 use Rattle.std.specs.Prelude.{option_and_then, option_map, slice_get}
-use Rattle.jcode.specs.declared.op.Placed.{Placed}
-use Rattle.jcode.specs.Forms.{form}
+use Rattle.jparts.specs.declared.jcode.op.Placed.{Placed}
+use Rattle.jparts.specs.jcode.Forms.{form}
 use Rattle.jclass.specs.declared.class.CodeBody.{CodeBody}
 use Rattle.jclass.specs.declared.class.MemberInfo.{MemberInfo}
 use Rattle.jprogram.specs.declared.member.MethodId.{MethodId}
 use Rattle.jprogram.specs.declared.part.CodePart.{CodePart}
 use Rattle.jprogram.specs.Parts.{code_of}
 use Rattle.jprogram.specs.Classes.{Program}
-use Rattle.juses.specs.declared.code.CodeRef.{CodeRef}
-use Rattle.juses.specs.Instructions.{code_at}
-use Rattle.juses.specs.Numbered.{seen_code}
-use Rattle.jlink.specs.Referred.{IsReferred, reference_of}
+use Rattle.jmeaning.specs.declared.juses.code.CodeRef.{CodeRef}
+use Rattle.jmeaning.specs.juses.Instructions.{code_at}
+use Rattle.jmeaning.specs.juses.Numbered.{seen_code}
+use Rattle.jlinking.specs.jlink.Referred.{IsReferred, reference_of}
 
 -- the method and its class, where there is code
 record Found (p : Program) (m : MethodId) (body : CodeBody) : Type 0 where

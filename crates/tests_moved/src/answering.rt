@@ -2,7 +2,7 @@ use crate::asking::selected;
 use crate::comparing::difference;
 use crate::difference::Difference;
 use crate::pair::{Pair, Unmoved, pair_of};
-use jlink::LinkedProgram;
+use jlinking::jlink::LinkedProgram;
 use jprogram::{CodePart, Selected};
 use std::alloc::Global;
 use tests_rows::Unread;

@@ -2,7 +2,7 @@ use crate::classes::class_count;
 use crate::members::{moved_member, moved_selected};
 use crate::references::{call_at, method_count, op_count};
 use crate::selection::class_id;
-use jlink::LinkedProgram;
+use jlinking::jlink::LinkedProgram;
 use jprogram::{CallKind, Member, MethodId, Selected};
 use tests_rows::{Unread, first};
 

@@ -3,7 +3,7 @@ ghost use Rattle.jlib.specs.declared.side.Side.TheVariants as sides;
 
 use jcheck::{CheckedProgram, check};
 use jlib::Side;
-use jlink::{LinkError, LinkedProgram, are_parts, link};
+use jlinking::jlink::{LinkError, LinkedProgram, are_parts, link};
 use jmoving::{RewriteError, RewrittenProgram, rewrite};
 use jprogram::CodePart;
 use std::alloc::Global;

@@ -1,13 +1,13 @@
 ghost use Rattle.std.specs.Prelude.{◌≡◌, IfSome};
-ghost use Rattle.jcode.specs.Forms.{form};
-ghost use Rattle.jlink.specs.Referred;
-ghost use Rattle.jlink.specs.Referred.{IsReferred};
+ghost use Rattle.jparts.specs.jcode.Forms.{form};
+ghost use Rattle.jlinking.specs.jlink.Referred;
+ghost use Rattle.jlinking.specs.jlink.Referred.{IsReferred};
 
 use crate::members::{ENTERS, named_member};
-use jcode::{Form, Op, PoolForm, form_of};
-use jlink::LinkedProgram;
+use jlinking::jlink::LinkedProgram;
+use jmeaning::juses::{CallUse, Use, code_at};
+use jparts::jcode::{Form, Op, PoolForm, form_of};
 use jprogram::{Member, MethodId};
-use juses::{CallUse, Use, code_at};
 use std::alloc::{AllocError, Global};
 
 /// How many methods the class of a number has.

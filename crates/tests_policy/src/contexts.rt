@@ -1,9 +1,9 @@
 use crate::permissions::reads;
 use jctx::{Context, enter, privileged, top};
-use jdomain::{Domains, Verdict};
-use jperm::Permission;
+use jground::jtext::Units;
+use jrights::jdomain::{Domains, Verdict};
+use jrights::jperm::Permission;
 use jtable::Table;
-use jtext::Units;
 use std::alloc::{AllocError, Global};
 use tests_rows::{Unread, first, number};
 

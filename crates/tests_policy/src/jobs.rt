@@ -1,6 +1,6 @@
 use crate::words::told;
+use jground::jtext::Units;
 use jjob::{Command, Form, Job, JobError, Text, WordsError, read_job, read_words, stored_job};
-use jtext::Units;
 use std::alloc::{AllocError, Global};
 use tests_rows::{Unread, bytes_of, first, number, string_of, unquoted};
 

@@ -2,10 +2,10 @@ ghost use Rattle.std.specs.Prelude.{◌<◌, IsTrue, length};
 ghost use Rattle.jkept.specs.Entries.{AllBelow, Below};
 
 use crate::permissions::reads;
-use jdomain::{Domains, Verdict};
+use jground::jtext::Units;
 use jkept::{InspectMark, Kept};
-use jperm::Permission;
-use jtext::Units;
+use jrights::jdomain::{Domains, Verdict};
+use jrights::jperm::Permission;
 use std::alloc::Global;
 use tests_rows::Unread;
 

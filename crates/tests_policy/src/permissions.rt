@@ -1,6 +1,6 @@
 use crate::words::{told, units_if, units_of};
-use jperm::{FilePath, PermClass, PermError, Permission, covers, make};
-use jtext::Units;
+use jground::jtext::Units;
+use jrights::jperm::{FilePath, PermClass, PermError, Permission, covers, make};
 use std::alloc::{AllocError, Global};
 use tests_rows::{Unread, first, unquoted, yes_or_no};
 

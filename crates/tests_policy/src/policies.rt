@@ -1,7 +1,7 @@
 use crate::words::told;
-use jbase::Stop;
+use jground::jbase::Stop;
+use jground::jtext::Units;
 use jpolicy::{Policy, PolicyError, read_policy};
-use jtext::Units;
 use std::alloc::{AllocError, Global};
 use tests_rows::{Unread, bytes_of, unquoted};
 

@@ -1,9 +1,9 @@
 use crate::words::told;
-use jbase::{Seq, Stop};
-use jdomain::{CodeSource, SourceError};
-use jperm::Permission;
+use jground::jbase::{Seq, Stop};
+use jground::jtext::Units;
 use jpolicy::Grant;
-use jtext::Units;
+use jrights::jdomain::{CodeSource, SourceError};
+use jrights::jperm::Permission;
 use std::alloc::{AllocError, Global};
 use tests_rows::{Unread, bytes_of, first, string_of, unquoted, yes_or_no};
 
@@ -33,7 +33,7 @@ fn base_of(alloc: Global, field: &str) -> Result<Option<Units>, Unread> {
         return Ok(None);
     }
     let bytes = bytes_of(alloc, unquoted(field)?)?;
-    match jtext::units_of(alloc, bytes.as_slice()) {
+    match jground::jtext::units_of(alloc, bytes.as_slice()) {
         Ok(units) => Ok(Some(units)),
         Err(Stop::Memory) => Err(Unread::Memory),
         Err(Stop::Fault(_)) => Err(Unread::Line),

@@ -1,9 +1,9 @@
 use crate::kept::{grant, keep, walk};
 use crate::permissions::reads;
-use jdomain::{Domains, Verdict};
+use jground::jtext::Units;
 use jkept::{InspectMark, Kept};
-use jperm::Permission;
-use jtext::Units;
+use jrights::jdomain::{Domains, Verdict};
+use jrights::jperm::Permission;
 use std::alloc::{AllocError, Global};
 use tests_rows::{Unread, first, number};
 

@@ -1,9 +1,9 @@
 use crate::words::units_of;
 use crate::{contexts, jobs, permissions, policies, sources, stacks};
-use jdomain::{CodeSource, Domains};
-use jperm::Permission;
+use jground::jtext::Units;
 use jpolicy::Policy;
-use jtext::Units;
+use jrights::jdomain::{CodeSource, Domains};
+use jrights::jperm::Permission;
 use std::alloc::{AllocError, Global};
 use tests_rows::{Line, Unread, bytes_of, first, number, unquoted, yes_or_no};
 

@@ -1,4 +1,4 @@
-use jtext::Units;
+use jground::jtext::Units;
 use std::alloc::{AllocError, Global};
 use tests_rows::{Unread, string_of, unquoted};
 

@@ -1,7 +1,7 @@
 use Rattle.std.proofs.Common.{None, Some}
 use Rattle.jlib.specs.declared.calls.LibCall.TheVariants as calls
-use Rattle.jguard.proofs.Once.{asked_nothing}
-use Rattle.jcore.specs.Answering.{asked_of}
+use Rattle.jmodel.proofs.JguardProofs.Once.{asked_nothing}
+use Rattle.jstepping.specs.jcore.Answering.{asked_of}
 use Rattle.jcallcheck.proofs.Deciding.{found_as, nothing_answered}
 use Rattle.jcallcheck.proofs.calling.call_kept_check.Goals as goal
 

@@ -1,8 +1,8 @@
 use Rattle.std.proofs.Common.{◌∙◌, ap, sym, Some}
-use Rattle.jchecks.specs.declared.asking.Asked.TheVariants as asks
-use Rattle.jcore.specs.Machines.{store_of, things_of}
-use Rattle.jguard.proofs.Once.{asked_nothing, asked_once}
-use Rattle.jcore.specs.Answering.{asked_of}
+use Rattle.jlibcalls.specs.declared.jchecks.asking.Asked.TheVariants as asks
+use Rattle.jstepping.specs.jcore.Machines.{store_of, things_of}
+use Rattle.jmodel.proofs.JguardProofs.Once.{asked_nothing, asked_once}
+use Rattle.jstepping.specs.jcore.Answering.{asked_of}
 use Rattle.jcallcheck.specs.Finding.{ask_by}
 use Rattle.jcallcheck.proofs.Deciding.{asked_is, asks_as, asks_it, asks_some, decided, held_as, known_ask, none_row, null_row, quiet, stuck_comes}
 use Rattle.jcallcheck.proofs.calling.check_for.Goals as goal

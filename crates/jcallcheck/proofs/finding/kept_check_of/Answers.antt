@@ -1,5 +1,5 @@
 use Rattle.std.proofs.Common.{◌∙◌, arith, sym}
-use Rattle.jcore.specs.Machines.{things_of}
+use Rattle.jstepping.specs.jcore.Machines.{things_of}
 use Rattle.jcallcheck.proofs.Operands.{fewer, kept_found, kept_none, kept_other}
 use Rattle.jcallcheck.proofs.finding.kept_check_of.Goals as goal
 

@@ -1,5 +1,5 @@
 use Rattle.std.proofs.Common.{subst}
-use Rattle.jchecks.specs.declared.judging.Judged.{Judged}
+use Rattle.jlibcalls.specs.declared.jchecks.judging.Judged.{Judged}
 use Rattle.jcallcheck.proofs.Came.{deny_does, fixed_on, grant_does, handled_stand, is_ready, stays_fixed}
 use Rattle.jcallcheck.specs.Coming.{JudgedOn}
 use Rattle.jcallcheck.proofs.judging.decide.Goals as goal

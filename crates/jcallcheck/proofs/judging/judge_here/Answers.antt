@@ -1,7 +1,7 @@
 use Rattle.std.proofs.Common.{refl}
 use Rattle.jlib.specs.declared.classes.LibClass.TheVariants as lib
-use Rattle.jmachine.specs.Security.{denial_message}
-use Rattle.jcore.specs.Machines.{classes_of}
+use Rattle.jmodel.specs.jmachine.Security.{denial_message}
+use Rattle.jstepping.specs.jcore.Machines.{classes_of}
 use Rattle.jcallcheck.proofs.Came.{judged_on}
 use Rattle.jcallcheck.proofs.Lasting.{few_of, machine_with, stand_of, told_stays}
 use Rattle.jcallcheck.proofs.judging.judge_here.Goals as goal

@@ -1,5 +1,5 @@
 use Rattle.std.proofs.Common.{refl}
-use Rattle.jcore.specs.Machines.{classes_of}
+use Rattle.jstepping.specs.jcore.Machines.{classes_of}
 use Rattle.jcallcheck.proofs.Came.{leaves_without, raised_on, stand_without}
 use Rattle.jcallcheck.proofs.Lasting.{few_of, machine_with, null_stays, stand_of}
 use Rattle.jcallcheck.proofs.judging.raise_null.Goals as goal

@@ -1,9 +1,9 @@
 use Rattle.std.proofs.Common.{None, Some}
 use Rattle.jlib.specs.declared.calls.LibCall.TheVariants as calls
 use Rattle.jlib.specs.declared.calls.RtCall.TheVariants as rt
-use Rattle.jmachine.specs.Asked.{Enters}
-use Rattle.jguard.proofs.Once.{asked_nothing, asked_once}
-use Rattle.jcore.specs.Answering.{asked_of}
+use Rattle.jmodel.specs.jmachine.Asked.{Enters}
+use Rattle.jmodel.proofs.JguardProofs.Once.{asked_nothing, asked_once}
+use Rattle.jstepping.specs.jcore.Answering.{asked_of}
 use Rattle.jcallcontext.proofs.Answered.{entering_answered, entering_as, entering_quiet, known_entering, none_answered}
 use Rattle.jcallcontext.proofs.entering.call_enter.Goals as goal
 

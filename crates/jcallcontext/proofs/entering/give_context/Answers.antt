@@ -1,6 +1,6 @@
-use Rattle.jops.specs.declared.value.Value.TheVariants.{Ctx}
-use Rattle.jcontexts.specs.Acting.{GivesOne}
-use Rattle.jcore.specs.Machines.{classes_of}
+use Rattle.jground.specs.declared.jops.value.Value.TheVariants.{Ctx}
+use Rattle.jlibcalls.specs.jcontexts.Acting.{GivesOne}
+use Rattle.jstepping.specs.jcore.Machines.{classes_of}
 use Rattle.jcallcontext.proofs.Left.{few_of, framed_ready, gives_told, of_frames, stand_of}
 use Rattle.jcallcontext.proofs.entering.give_context.Goals as goal
 

@@ -1,7 +1,7 @@
-use Rattle.jinvoke.specs.declared.faces.Target.TheVariants as ways
-use Rattle.jguard.proofs.Once.{asked_nothing, asked_once}
-use Rattle.jcore.specs.Answering.{asked_of}
-use Rattle.jcore.specs.Machines.{classes_of}
+use Rattle.jserving.specs.declared.jinvoke.faces.Target.TheVariants as ways
+use Rattle.jmodel.proofs.JguardProofs.Once.{asked_nothing, asked_once}
+use Rattle.jstepping.specs.jcore.Answering.{asked_of}
+use Rattle.jstepping.specs.jcore.Machines.{classes_of}
 use Rattle.jcallcontext.specs.Finding.{privilege_of}
 use Rattle.jcallcontext.proofs.Found.{fails_answered, fails_silent, known_privilege, on_as, privilege_asked, privilege_quiet}
 use Rattle.jcallcontext.proofs.Found.{pushes_answered, stuck_answered, stuck_silent, within_as}

@@ -1,6 +1,6 @@
-use Rattle.jcontexts.specs.declared.wanting.Privileging.TheVariants as wants
-use Rattle.jguard.proofs.Once.{asked_nothing}
-use Rattle.jcore.specs.Answering.{asked_of}
+use Rattle.jlibcalls.specs.declared.jcontexts.wanting.Privileging.TheVariants as wants
+use Rattle.jmodel.proofs.JguardProofs.Once.{asked_nothing}
+use Rattle.jstepping.specs.jcore.Answering.{asked_of}
 use Rattle.jcallcontext.proofs.Answered.{none_answered}
 use Rattle.jcallcontext.proofs.Found.{null_answered, wanted_as}
 use Rattle.jcallcontext.proofs.privileging.call_privileged.Goals as goal

@@ -1,6 +1,6 @@
-use Rattle.jcontexts.specs.declared.acting.Acted.TheVariants as ways
-use Rattle.jcontexts.specs.Acting.{CallsAction}
-use Rattle.jcore.specs.Machines.{classes_of}
+use Rattle.jlibcalls.specs.declared.jcontexts.acting.Acted.TheVariants as ways
+use Rattle.jlibcalls.specs.jcontexts.Acting.{CallsAction}
+use Rattle.jstepping.specs.jcore.Machines.{classes_of}
 use Rattle.jcallcontext.proofs.Left.{acts_as, begun_told, codeless_comes, few_of, framed_ready, of_frames, stand_of, stands_as}
 use Rattle.jcallcontext.proofs.privileging.push_action.Goals as goal
 

@@ -1,7 +1,7 @@
 use Rattle.std.proofs.Common.{None, Some}
-use Rattle.jmachine.specs.Asked.{Snapshots}
-use Rattle.jguard.proofs.Once.{asked_nothing, asked_once}
-use Rattle.jcore.specs.Answering.{asked_of}
+use Rattle.jmodel.specs.jmachine.Asked.{Snapshots}
+use Rattle.jmodel.proofs.JguardProofs.Once.{asked_nothing, asked_once}
+use Rattle.jstepping.specs.jcore.Answering.{asked_of}
 use Rattle.jcallcontext.proofs.Answered.{known_snapshot, none_answered, snapshot_answered, snapshot_as, snapshot_quiet}
 use Rattle.jcallcontext.proofs.snapping.call_snapshot.Goals as goal
 

@@ -1,8 +1,8 @@
 use Rattle.std.proofs.Common.{true, false, Some}
-use Rattle.jcontexts.specs.Kept.{with_kept}
-use Rattle.jcontexts.specs.Snapshots.{Snapshots}
-use Rattle.jcore.specs.Left.{left_as}
-use Rattle.jcore.specs.Machines.{classes_of, things_of}
+use Rattle.jlibcalls.specs.jcontexts.Kept.{with_kept}
+use Rattle.jlibcalls.specs.jcontexts.Snapshots.{Snapshots}
+use Rattle.jstepping.specs.jcore.Left.{left_as}
+use Rattle.jstepping.specs.jcore.Machines.{classes_of, things_of}
 use Rattle.jcallcontext.proofs.Left.{few_of, full_comes, kept_ready, of_frames, snaps_as, snaps_told, stand_of}
 use Rattle.jcallcontext.proofs.snapping.give_snapshot.Goals as goal
 

@@ -1,5 +1,5 @@
 use Rattle.std.proofs.Common.{List, subst}
-use Rattle.jtrace.specs.declared.event.Event.{Event}
+use Rattle.jrights.specs.declared.jtrace.event.Event.{Event}
 use Rattle.jcallplain.specs.Ways.{Settles}
 use Rattle.jcallplain.proofs.Leaving.{left_stands, ran_comes}
 use Rattle.jcallplain.proofs.calling.call_plain.Goals as goal

@@ -1,11 +1,11 @@
 use Rattle.std.proofs.Common.{rules}
 use Rattle.std.specs.Prelude.{take}
-use Rattle.jmachine.specs.Steps.{site_of}
-use Rattle.jthreading.specs.Laws.{IsNoInit}
-use Rattle.jguard.proofs.Once.{asked_nothing}
+use Rattle.jmodel.specs.jmachine.Steps.{site_of}
+use Rattle.jlibcalls.specs.jthreading.Laws.{IsNoInit}
+use Rattle.jmodel.proofs.JguardProofs.Once.{asked_nothing}
 use Rattle.jlib.specs.declared.calls.LibCall.TheVariants as calls
-use Rattle.jcore.specs.Answering.{asked_of}
-use Rattle.jcore.specs.Machines.{state_of, store_of}
+use Rattle.jstepping.specs.jcore.Answering.{asked_of}
+use Rattle.jstepping.specs.jcore.Machines.{state_of, store_of}
 use Rattle.jcallthread.proofs.Made.{none_answered}
 use Rattle.jcallthread.proofs.calling.call_thread.Goals as goal
 

@@ -1,7 +1,7 @@
 use Rattle.std.proofs.Common.{List, refl, subst}
-use Rattle.jtrace.specs.declared.event.Event.{Event}
-use Rattle.jthreading.specs.declared.switching.Threaded.TheVariants as threaded
-use Rattle.jcore.specs.Raising.{RaisesIn}
+use Rattle.jrights.specs.declared.jtrace.event.Event.{Event}
+use Rattle.jlibcalls.specs.declared.jthreading.switching.Threaded.TheVariants as threaded
+use Rattle.jstepping.specs.jcore.Raising.{RaisesIn}
 use Rattle.jcallthread.proofs.Turned.{as_raised, raised_comes, raised_lives, raised_machine, raised_stands, turned_comes, turned_ready}
 use Rattle.jcallthread.proofs.turning.call_turn.Goals as goal
 

@@ -1,4 +1,4 @@
-use Rattle.jcode.proofs.Places.{fit_rises}
+use Rattle.jparts.proofs.JcodeProofs.Places.{fit_rises}
 use Rattle.jclass.proofs.Stored.{code_fits, code_items, code_leads, code_frames, code_branches, text_is_modified}
 use Rattle.jclass.proofs.laws.stored_laws.Goals as goal
 

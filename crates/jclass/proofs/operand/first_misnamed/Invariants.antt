@@ -1,5 +1,5 @@
 use Rattle.std.proofs.Common.{◌≡◌, drop}
-use Rattle.jbase.specs.First.{first_some}
+use Rattle.jground.specs.jbase.First.{first_some}
 use Rattle.jclass.specs.Operands.{misnamed}
 use Rattle.jclass.proofs.operand.first_misnamed.Given as goal
 

@@ -1,5 +1,5 @@
 use Rattle.std.proofs.Common.{◌≡◌, None, sym, arith, ◌∙◌}
-use Rattle.jpool.specs.Pools.{first_fault}
+use Rattle.jparts.specs.jpool.Pools.{first_fault}
 use Rattle.jclass.specs.Judging.{entry_fault}
 use Rattle.jclass.proofs.ClassLaws.{head_pool}
 use Rattle.jclass.proofs.read.parts_of.Goals as goal

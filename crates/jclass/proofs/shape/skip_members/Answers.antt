@@ -1,5 +1,5 @@
 use Rattle.std.proofs.Common.{subst}
-use Rattle.jbase.specs.Stops.{Gives}
+use Rattle.jground.specs.jbase.Stops.{Gives}
 use Rattle.jclass.specs.Basics.{u2}
 use Rattle.jclass.specs.Shapes
 use Rattle.jclass.proofs.Unseen.{counted_unseen}

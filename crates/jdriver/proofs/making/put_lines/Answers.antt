@@ -1,6 +1,6 @@
 use Rattle.std.proofs.Common.{arith}
 use Rattle.std.proofs.lemmas.Result.{err_from_is_err_and}
-use Rattle.jbase.proofs.Cuts.{cut_more}
+use Rattle.jground.proofs.JbaseProofs.Cuts.{cut_more}
 use Rattle.jshow.proofs.Lines.{wrote_both, wrote_front}
 use Rattle.jdriver.specs.Making.{runs_text}
 use Rattle.jdriver.proofs.making.put_lines.Goals as goal

@@ -1,9 +1,9 @@
 use Rattle.std.specs.Prelude.{codes}
 use Rattle.std.proofs.Common.{arith}
 use Rattle.std.proofs.lemmas.Result.{err_from_is_err_and}
-use Rattle.jbase.proofs.Cuts.{cut_more}
+use Rattle.jground.proofs.JbaseProofs.Cuts.{cut_more}
 use Rattle.jshow.proofs.Lines.{wrote_both, wrote_front}
-use Rattle.jtally.specs.Counting.{tally_line}
+use Rattle.jrights.specs.jtally.Counting.{tally_line}
 use Rattle.jdriver.proofs.making.put_runs.Goals as goal
 
 pub returns-in_err-put_run : goal.returns-in_err-put_run

@@ -1,5 +1,5 @@
 use Rattle.std.proofs.Common.{List, refl, subst, sym}
-use Rattle.jio.specs.Held.{File}
+use Rattle.jrights.specs.jio.Held.{File}
 use Rattle.jshow.specs.Answering.{Answer, Answers}
 use Rattle.jdriver.specs.Answers.{Stores, answer}
 use Rattle.jdriver.proofs.Made.{made_all, made_is, made_some, no_file_fault, no_files, not_both, sized}

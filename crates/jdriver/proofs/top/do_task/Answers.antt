@@ -1,5 +1,5 @@
 use Rattle.std.proofs.Common.{◌∙◌, sym, ap, subst, Ok, Err, arith, List, Option}
-use Rattle.jio.specs.Held.{File}
+use Rattle.jrights.specs.jio.Held.{File}
 use Rattle.jshow.specs.declared.status.Status.TheVariants.{OutOfMemory, ReadFault}
 use Rattle.jshow.specs.Answering.{Answer, Answers}
 use Rattle.jtask.specs.declared.halt.Halt.{Halt}

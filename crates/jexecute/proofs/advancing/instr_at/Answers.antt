@@ -1,6 +1,6 @@
 use Rattle.std.proofs.Common.{◌≡◌, ◌∙◌, ℕ, None, subst}
 use Rattle.jprogram.specs.declared.member.MethodId.{MethodId}
-use Rattle.jmachine.specs.Steps.{fetched}
+use Rattle.jmodel.specs.jmachine.Steps.{fetched}
 use Rattle.jexecute.proofs.Fetched.{fetches_off, fetches_some}
 use Rattle.jexecute.proofs.advancing.instr_at.Goals as goal
 

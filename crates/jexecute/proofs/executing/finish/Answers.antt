@@ -1,4 +1,4 @@
-use Rattle.jstep.specs.declared.outcomes.Stepped.TheVariants as steps
+use Rattle.jstepping.specs.declared.jstep.outcomes.Stepped.TheVariants as steps
 use Rattle.jexecute.proofs.Ended.{finish_as}
 use Rattle.jexecute.proofs.executing.finish.Goals as goal
 

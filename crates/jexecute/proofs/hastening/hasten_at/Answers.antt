@@ -2,8 +2,8 @@ use Rattle.std.specs.Prelude.{length}
 use Rattle.jexecute.specs.Hastening.{program_of}
 use Rattle.jexecute.proofs.Hastened.{quick_stands, ref_hastens, ref_stands, row_hastens}
 use Rattle.jexecute.proofs.Referred.{fetched_exact, fetched_here}
-use Rattle.jrefs.specs.References as refs
-use Rattle.jstep.specs.Rows as rows
+use Rattle.jstepping.specs.jrefs.References as refs
+use Rattle.jstepping.specs.jstep.Rows as rows
 use Rattle.jexecute.proofs.hastening.hasten_at.Goals as goal
 
 -- a row with numbers, a local, or the newest items of the stack

@@ -1,6 +1,6 @@
 use Rattle.std.proofs.Common.{◌∙◌, ◌+◌, ◌-◌, arith, refl, subst, sym}
 use Rattle.jprogram.specs.Classes.{Program}
-use Rattle.jstep.specs.Stepping.{IsFixed}
+use Rattle.jstepping.specs.jstep.Stepping.{IsFixed}
 use Rattle.jexecute.proofs.Hastened.{built_there, came_made, celled_there, few_there, fixed_itself, left_made, method_there, more_quiet, none_quiet, quiet_there, stand_there, stuck_so, within_so}
 use Rattle.jexecute.specs.Hastening.{Turns}
 use Rattle.jexecute.specs.declared.hastening.Turned.TheVariants as turns

@@ -1,7 +1,7 @@
 use Rattle.std.proofs.Common.{◌≡◌, ◌≤◌, ◌-◌, length}
-use Rattle.jcalls.specs.Marks.{AreStanding}
-use Rattle.jstate.specs.Celled.{AreCelled}
-use Rattle.jstate.specs.Seen.{AreBuilt}
+use Rattle.jrows.specs.jcalls.Marks.{AreStanding}
+use Rattle.jmodel.specs.jstate.Celled.{AreCelled}
+use Rattle.jmodel.specs.jstate.Seen.{AreBuilt}
 use Rattle.jexecute.specs.Hastening.{Quietly}
 use Rattle.jexecute.proofs.hastening.hasten_frames.Given as goal
 

@@ -1,4 +1,4 @@
-use Rattle.jpool.specs.declared.entry.Entry.TheVariants.{NameAndType}
+use Rattle.jparts.specs.declared.jpool.entry.Entry.TheVariants.{NameAndType}
 use Rattle.jmove.specs.Additions.{with_entry, with_member, with_text, ◌>>◌}
 use Rattle.jgen.proofs.Putting.{then_puts}
 use Rattle.jgen.proofs.adding.put_both.Goals as goal

@@ -1,4 +1,4 @@
-use Rattle.jpool.specs.declared.entry.Entry.TheVariants.{Class}
+use Rattle.jparts.specs.declared.jpool.entry.Entry.TheVariants.{Class}
 use Rattle.jmove.specs.Additions.{with_class, with_entry, with_text}
 use Rattle.jgen.proofs.Putting.{then_puts}
 use Rattle.jgen.proofs.adding.put_class.Goals as goal

@@ -1,4 +1,4 @@
-use Rattle.jpool.specs.declared.entry.Entry.TheVariants.{Field}
+use Rattle.jparts.specs.declared.jpool.entry.Entry.TheVariants.{Field}
 use Rattle.jmove.specs.Additions.{with_class, with_entry, with_member, ◌>>◌}
 use Rattle.jgen.specs.Items.{with_field}
 use Rattle.jgen.proofs.Putting.{then_puts}

@@ -1,4 +1,4 @@
-use Rattle.jpool.specs.declared.entry.Entry.TheVariants.{Method}
+use Rattle.jparts.specs.declared.jpool.entry.Entry.TheVariants.{Method}
 use Rattle.jmove.specs.Additions.{with_class, with_entry, with_member, ◌>>◌}
 use Rattle.jgen.specs.Items.{with_method}
 use Rattle.jgen.proofs.Putting.{then_puts}

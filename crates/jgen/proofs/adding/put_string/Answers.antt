@@ -1,4 +1,4 @@
-use Rattle.jpool.specs.declared.entry.Entry.TheVariants.{Str}
+use Rattle.jparts.specs.declared.jpool.entry.Entry.TheVariants.{Str}
 use Rattle.jmove.specs.Additions.{with_entry, with_text}
 use Rattle.jgen.specs.Items.{with_string}
 use Rattle.jgen.proofs.Putting.{then_puts}

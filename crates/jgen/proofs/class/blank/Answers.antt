@@ -1,7 +1,7 @@
 use Rattle.std.proofs.Common.{List, ◌++◌, ◌∷◌, [], ap, subst, sym, ◌∙◌}
-use Rattle.jpool.specs.declared.entry.Entry.{Entry}
-use Rattle.jpool.specs.declared.entry.Entry.TheVariants.{Unused}
-use Rattle.jpool.specs.Pools.{IsPool}
+use Rattle.jparts.specs.declared.jpool.entry.Entry.{Entry}
+use Rattle.jparts.specs.declared.jpool.entry.Entry.TheVariants.{Unused}
+use Rattle.jparts.specs.jpool.Pools.{IsPool}
 use Rattle.jgen.proofs.Parting.{blank_pool}
 use Rattle.jgen.proofs.class.blank.Goals as goal
 

@@ -1,5 +1,5 @@
 use Rattle.std.proofs.lemmas.Result.{err_from_is_err_and}
-use Rattle.jpool.specs.declared.entry.Entry.TheVariants.{NameAndType, Utf8}
+use Rattle.jparts.specs.declared.jpool.entry.Entry.TheVariants.{NameAndType, Utf8}
 use Rattle.jmove.specs.Additions.{reference_entry, with_changed, with_entry, with_text, ◌>>◌}
 use Rattle.jmove.proofs.Growing.{entry_grows, first_refused, second_refused, then_adds, then_grows}
 use Rattle.jmove.proofs.adding.put_changed.Goals as goal

@@ -1,5 +1,5 @@
 use Rattle.std.proofs.lemmas.Result.{err_from_is_err_and}
-use Rattle.jpool.specs.declared.entry.Entry.TheVariants.{Class, Utf8}
+use Rattle.jparts.specs.declared.jpool.entry.Entry.TheVariants.{Class, Utf8}
 use Rattle.jmove.specs.Additions.{with_class, with_entry, with_text}
 use Rattle.jmove.proofs.Growing.{entry_grows, first_refused, then_adds}
 use Rattle.jmove.proofs.adding.put_class.Goals as goal

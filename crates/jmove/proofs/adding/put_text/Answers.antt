@@ -1,5 +1,5 @@
 use Rattle.std.proofs.lemmas.Result.{err_from_is_err_and}
-use Rattle.jpool.specs.declared.entry.Entry.TheVariants.{Utf8}
+use Rattle.jparts.specs.declared.jpool.entry.Entry.TheVariants.{Utf8}
 use Rattle.jmove.specs.Additions.{with_text}
 use Rattle.jmove.proofs.Growing.{no_memory, entry_grows}
 use Rattle.jmove.proofs.Turning.{text_there}

@@ -1,6 +1,6 @@
 use Rattle.std.proofs.Common.{◌≡◌, ◌+◌, length, drop}
 use Rattle.std.specs.List.{flat_map}
-use Rattle.jpool.specs.Descriptors.{type_text}
+use Rattle.jparts.specs.jpool.Descriptors.{type_text}
 use Rattle.jmove.proofs.descriptor.types_length.Given as goal
 
 abbrev pub invariant-loop-one : goal.invariant-loop-one

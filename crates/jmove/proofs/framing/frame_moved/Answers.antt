@@ -1,8 +1,8 @@
 use Rattle.std.proofs.Common.{◌≡◌, ℕ, List, [], ◌∷◌, ◌++◌, map, ap, ◌∙◌, refl, append_assoc}
 use Rattle.std.specs.Prelude.{◌-◌}
-use Rattle.jmaps.specs.declared.types.FullFrame.{FullFrame}
-use Rattle.jmaps.specs.declared.types.MapType.{MapType}
-use Rattle.jmaps.specs.declared.types.MapType.TheVariants.{Object}
+use Rattle.jparts.specs.declared.jmaps.types.FullFrame.{FullFrame}
+use Rattle.jparts.specs.declared.jmaps.types.MapType.{MapType}
+use Rattle.jparts.specs.declared.jmaps.types.MapType.TheVariants.{Object}
 use Rattle.jmove.specs.Frames.{moved_frame, moved_type, unsaid, widths}
 use Rattle.jmove.specs.Tables.{in_table}
 use Rattle.jmove.proofs.framing.frame_moved.Goals as goal

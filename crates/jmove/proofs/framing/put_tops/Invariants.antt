@@ -1,5 +1,5 @@
 use Rattle.std.proofs.Common.{◌≡◌, ◌++◌, replicate}
-use Rattle.jmaps.specs.declared.types.MapType.TheVariants.{Top}
+use Rattle.jparts.specs.declared.jmaps.types.MapType.TheVariants.{Top}
 use Rattle.jmove.proofs.framing.put_tops.Given as goal
 
 abbrev pub invariant-loop : goal.invariant-loop

@@ -1,6 +1,6 @@
 use Rattle.std.proofs.Common.{◌∙◌, List, sym, subst}
 use Rattle.std.proofs.lemmas.Result.{err_from_is_err_and}
-use Rattle.jpool.specs.declared.entry.Entry.{Entry}
+use Rattle.jparts.specs.declared.jpool.entry.Entry.{Entry}
 use Rattle.jmove.specs.Additions.{IsFront}
 use Rattle.jmove.specs.declared.naming.Named.{Named}
 use Rattle.jmove.proofs.Growing.{body_grows}

@@ -1,5 +1,5 @@
 use Rattle.std.proofs.Common.{◌≡◌, drop}
-use Rattle.jbase.specs.First.{first_some}
+use Rattle.jground.specs.jbase.First.{first_some}
 use Rattle.jmoveclass.specs.Methods.{maps_of}
 use Rattle.jmoveclass.proofs.body.frames_in.Given as goal
 

@@ -1,5 +1,5 @@
 use Rattle.std.proofs.Common.{◌≡◌, drop}
-use Rattle.jbase.specs.First.{first_some}
+use Rattle.jground.specs.jbase.First.{first_some}
 use Rattle.jmoveclass.specs.Methods.{maps_name}
 use Rattle.jmoveclass.proofs.frames.maps_name.Given as goal
 

@@ -1,5 +1,5 @@
 use Rattle.std.proofs.Common.{◌≡◌, drop}
-use Rattle.jbase.specs.First.{first_along}
+use Rattle.jground.specs.jbase.First.{first_along}
 use Rattle.jmoveclass.specs.Limits.{at_method, method_limit}
 use Rattle.jmoveclass.proofs.limits.methods_limit.Given as goal
 

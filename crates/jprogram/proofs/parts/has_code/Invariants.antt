@@ -1,6 +1,6 @@
 use Rattle.std.proofs.Common.{◌≡◌, drop}
 use Rattle.std.specs.Prelude.{is_some}
-use Rattle.jbase.specs.First.{first_some}
+use Rattle.jground.specs.jbase.First.{first_some}
 use Rattle.jclass.specs.Members.{body_of}
 use Rattle.jprogram.specs.Parts.{has_code}
 use Rattle.jprogram.proofs.parts.has_code.Given as goal

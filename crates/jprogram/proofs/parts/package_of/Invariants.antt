@@ -1,6 +1,6 @@
 use Rattle.std.proofs.Common.{◌≡◌, ◌≤◌, false, length, drop}
 use Rattle.std.specs.List.{list_any}
-use Rattle.jpool.specs.Names.{is_slash}
+use Rattle.jparts.specs.jpool.Names.{is_slash}
 use Rattle.jprogram.proofs.parts.package_of.Given as goal
 
 abbrev pub invariant-loop-end : goal.invariant-loop-end

@@ -1,6 +1,6 @@
 use Rattle.std.proofs.Common.{◌≡◌, ◌+◌, [], ◌∷◌, length, refl, ap, ◌∙◌, arith}
 use Rattle.std.proofs.lemmas.List.{length-append}
-use Rattle.juses.proofs.Spans.{grows_on}
+use Rattle.jmeaning.proofs.JusesProofs.Spans.{grows_on}
 use Rattle.jready.proofs.Growing.{grown_on}
 use Rattle.jready.proofs.Laying.{laid_step}
 use Rattle.jready.proofs.code.put_ops.Goals as goal

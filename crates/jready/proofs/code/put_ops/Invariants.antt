@@ -1,5 +1,5 @@
 use Rattle.std.proofs.Common.{◌≡◌, ◌+◌, length}
-use Rattle.juses.specs.Tables.{Grows}
+use Rattle.jmeaning.specs.juses.Tables.{Grows}
 use Rattle.jready.specs.Laid.{AreLaid}
 use Rattle.jready.specs.Tabled.{Grown}
 use Rattle.jready.proofs.code.put_ops.Given as goal

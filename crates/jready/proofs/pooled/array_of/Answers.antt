@@ -1,4 +1,4 @@
-use Rattle.juses.specs.Tables.{pool_at}
+use Rattle.jmeaning.specs.juses.Tables.{pool_at}
 use Rattle.jready.specs.Meant.{meant}
 use Rattle.jready.proofs.Back.{array_nothing}
 use Rattle.jready.proofs.Exactly.{array_made_so}

@@ -1,11 +1,11 @@
 use Rattle.std.proofs.Common.{◌≡◌, Some, sym, ap, subst, ◌∙◌}
 use Rattle.std.specs.Prelude.{option_map}
 use Rattle.jprogram.specs.declared.member.Member.{Member}
-use Rattle.juses.specs.Instructions.{Used}
-use Rattle.juses.specs.declared.meaning.How.{How}
-use Rattle.juses.specs.Meanings as meanings
-use Rattle.juses.specs.Meanings.{Call, CallMeaning, call_named}
-use Rattle.juses.specs.Tables.{pool_at}
+use Rattle.jmeaning.specs.juses.Instructions.{Used}
+use Rattle.jmeaning.specs.declared.juses.meaning.How.{How}
+use Rattle.jmeaning.specs.juses.Meanings as meanings
+use Rattle.jmeaning.specs.juses.Meanings.{Call, CallMeaning, call_named}
+use Rattle.jmeaning.specs.juses.Tables.{pool_at}
 use Rattle.jready.specs.Exact.{Exact}
 use Rattle.jready.specs.Meant.{call_form, meant}
 use Rattle.jready.specs.Only.{only_call}

@@ -1,7 +1,7 @@
 use Rattle.std.proofs.Common.{ap, ◌∙◌}
 use Rattle.std.specs.Prelude.{option_map}
-use Rattle.juses.specs.Instructions.{Used}
-use Rattle.juses.specs.Tables.{pool_at}
+use Rattle.jmeaning.specs.juses.Instructions.{Used}
+use Rattle.jmeaning.specs.juses.Tables.{pool_at}
 use Rattle.jready.specs.Meant.{meant}
 use Rattle.jready.proofs.pooled.constant.Goals as goal
 

@@ -1,6 +1,6 @@
 use Rattle.std.proofs.Common.{sym}
-use Rattle.juses.specs.Meanings.{field_named}
-use Rattle.juses.specs.Tables.{pool_at}
+use Rattle.jmeaning.specs.juses.Meanings.{field_named}
+use Rattle.jmeaning.specs.juses.Tables.{pool_at}
 use Rattle.jready.specs.Meant.{meant}
 use Rattle.jready.proofs.Back.{field_back, field_nothing}
 use Rattle.jready.proofs.Exactly.{exact_field, exact_out, no_slot}

@@ -1,7 +1,7 @@
 use Rattle.std.proofs.Common.{◌≡◌, sym, subst}
-use Rattle.jcode.specs.declared.form.PoolForm.{PoolForm}
-use Rattle.juses.specs.Meanings.{meant}
-use Rattle.juses.specs.Tables.{pool_at}
+use Rattle.jparts.specs.declared.jcode.form.PoolForm.{PoolForm}
+use Rattle.jmeaning.specs.juses.Meanings.{meant}
+use Rattle.jmeaning.specs.juses.Tables.{pool_at}
 use Rattle.jready.specs.Only.{only_push}
 use Rattle.jready.proofs.Pushing.{constant_pushes, long_pushes}
 use Rattle.jready.proofs.pooled.pool_instr.Goals as goal

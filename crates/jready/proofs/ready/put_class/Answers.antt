@@ -1,6 +1,6 @@
 use Rattle.std.proofs.Common.{◌≡◌, ◌+◌, [], ◌∷◌, length, ap, ◌∙◌, arith}
 use Rattle.std.proofs.lemmas.List.{length-append}
-use Rattle.juses.proofs.Spans.{grows_on}
+use Rattle.jmeaning.proofs.JusesProofs.Spans.{grows_on}
 use Rattle.jready.proofs.Counting.{own_more}
 use Rattle.jready.proofs.ready.put_class.Goals as goal
 

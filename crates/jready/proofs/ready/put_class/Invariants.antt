@@ -1,5 +1,5 @@
 use Rattle.std.proofs.Common.{◌≡◌, ◌+◌, length}
-use Rattle.juses.specs.Tables.{Grows}
+use Rattle.jmeaning.specs.juses.Tables.{Grows}
 use Rattle.jready.specs.Methods.{AreMethods}
 use Rattle.jready.specs.Prepared.{AreOwn}
 use Rattle.jready.proofs.ready.put_class.Given as goal

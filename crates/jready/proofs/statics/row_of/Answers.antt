@@ -1,9 +1,9 @@
 use Rattle.std.proofs.Common.{◌≡◌, ℕ, List, Option, ap, subst, ◌∙◌}
 use Rattle.std.specs.Prelude.{option_and_then, slice_get, unwrap_or}
-use Rattle.jops.specs.declared.value.Value.{Value}
-use Rattle.jlayout.specs.Layout.{element}
-use Rattle.jmachine.specs.Narrowing.{narrowed}
-use Rattle.jmachine.specs.Opening.{value_of}
+use Rattle.jground.specs.declared.jops.value.Value.{Value}
+use Rattle.jmeaning.specs.jlayout.Layout.{element}
+use Rattle.jmodel.specs.jmachine.Narrowing.{narrowed}
+use Rattle.jmodel.specs.jmachine.Opening.{value_of}
 use Rattle.jready.specs.Exact.{narrow}
 use Rattle.jready.specs.Statics.{nothing}
 use Rattle.jready.proofs.Beginning.{cell_is, static_is}

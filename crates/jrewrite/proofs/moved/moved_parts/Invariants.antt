@@ -1,5 +1,5 @@
 use Rattle.std.proofs.Common.{◌≡◌, drop, map, take}
-use Rattle.jbase.specs.First.{first_along}
+use Rattle.jground.specs.jbase.First.{first_along}
 use Rattle.jmoveclass.specs.Limits.{class_limit}
 use Rattle.jmoveclass.specs.Moved.{moved_part}
 use Rattle.jrewrite.specs.Program.{at_class, limits, seen_part}

@@ -1,5 +1,5 @@
 use Rattle.std.specs.Prelude.{codes, decimal}
-use Rattle.jio.specs.Text.{written}
+use Rattle.jrights.specs.jio.Text.{written}
 use Rattle.jstore.proofs.WrittenUnits.{five}
 use Rattle.jstore.proofs.storing.put_class.Goals as goal
 

@@ -1,6 +1,6 @@
 use Rattle.std.proofs.Common.{◌∙◌, [], arith}
 use Rattle.std.specs.Prelude.{get_or}
-use Rattle.jdomain.specs.Domains.{has}
+use Rattle.jrights.specs.jdomain.Domains.{has}
 use Rattle.jtable.specs.Stores.{item_of}
 use Rattle.jtable.proofs.Running.{one_decides}
 use Rattle.jtable.proofs.making.decide.Goals as goal

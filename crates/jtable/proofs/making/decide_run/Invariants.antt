@@ -1,5 +1,5 @@
 use Rattle.std.proofs.Common.{◌≡◌, drop}
-use Rattle.jdomain.specs.Domains.{has}
+use Rattle.jrights.specs.jdomain.Domains.{has}
 use Rattle.jctx.specs.Contexts.{verdict}
 use Rattle.jtable.specs.Stores.{items_of}
 use Rattle.jtable.proofs.making.decide_run.Given as goal

@@ -1,6 +1,6 @@
 use Rattle.std.proofs.Common.{[], sym, arith}
 use Rattle.std.specs.Prelude.{get_or}
-use Rattle.jdomain.specs.Domains.{has}
+use Rattle.jrights.specs.jdomain.Domains.{has}
 use Rattle.jtable.specs.Stores.{item_of}
 use Rattle.jtable.proofs.Running.{no_further, run_denies, run_grants}
 use Rattle.jtable.proofs.making.decide_runs.Goals as goal

@@ -1,6 +1,6 @@
 use Rattle.std.proofs.Common.{◌≡◌, ◌-◌, ◌≤◌, [], drop, length}
 use Rattle.std.specs.Prelude.{get_or}
-use Rattle.jdomain.specs.Domains.{has}
+use Rattle.jrights.specs.jdomain.Domains.{has}
 use Rattle.jctx.specs.Contexts.{verdict}
 use Rattle.jtable.specs.Stores.{items_of}
 use Rattle.jtable.proofs.making.decide_runs.Given as goal

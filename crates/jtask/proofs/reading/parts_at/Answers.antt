@@ -1,7 +1,7 @@
 use Rattle.std.proofs.Common.{Err, sym, ap, ◌∙◌, arith}
 use Rattle.std.proofs.lemmas.Result.{err_from_is_err_and}
-use Rattle.jbase.specs.Each.{each}
-use Rattle.jbase.proofs.Loops.{each_more, each_ends}
+use Rattle.jground.specs.jbase.Each.{each}
+use Rattle.jground.proofs.JbaseProofs.Loops.{each_more, each_ends}
 use Rattle.jtask.specs.declared.halt.Halt.{Halt}
 use Rattle.jtask.specs.declared.halt.Halt.TheVariants.{Read}
 use Rattle.jtask.specs.Tasks.{part_at}

@@ -1,7 +1,7 @@
 use Rattle.std.proofs.Common.{◌≡◌, ◌≤◌, drop, take, List, Some}
-use Rattle.jbase.specs.Each.{each}
-use Rattle.jbase.proofs.Loops.{behind}
-use Rattle.jio.specs.Held.{File}
+use Rattle.jground.specs.jbase.Each.{each}
+use Rattle.jground.proofs.JbaseProofs.Loops.{behind}
+use Rattle.jrights.specs.jio.Held.{File}
 use Rattle.jtask.specs.Grounds.{domains_of}
 use Rattle.jtask.specs.Tasks.{part_at}
 use Rattle.jtask.proofs.PartsRead.{domains_in}

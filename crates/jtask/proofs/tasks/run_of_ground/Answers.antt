@@ -1,5 +1,5 @@
 use Rattle.std.proofs.Common.{◌∙◌, List, ap, sym}
-use Rattle.jbase.specs.Each.{each}
+use Rattle.jground.specs.jbase.Each.{each}
 use Rattle.jtask.specs.declared.ground.ClassPath.{ClassPath}
 use Rattle.jtask.specs.Tasks.{part_at}
 use Rattle.jtask.proofs.Classes.{of_ground, ok_then}

@@ -1,7 +1,7 @@
 use Rattle.std.proofs.Common.{◌≡◌, sym, subst}
 use Rattle.std.specs.List.{flat_map}
 use Rattle.std.proofs.lemmas.Result.{err_from_is_err_and}
-use Rattle.jtext.specs.Modified.{group}
+use Rattle.jground.specs.jtext.Modified.{group}
 use Rattle.jprogram.specs.Classes.{Program, program}
 use Rattle.jshow.specs.declared.refusal.Refusal.TheVariants.{NoMain}
 use Rattle.jtask.specs.Linking.{AreClasses}

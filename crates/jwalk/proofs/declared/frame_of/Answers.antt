@@ -1,6 +1,6 @@
 use Rattle.std.proofs.Common.{◌++◌, ◌-◌, length, replicate, reverse, ap, ◌∙◌, arith}
 use Rattle.std.proofs.lemmas.List.{length-append, length-replicate}
-use Rattle.juses.specs.declared.types.TypeRef.TheVariants as refs
+use Rattle.jmeaning.specs.declared.juses.types.TypeRef.TheVariants as refs
 use Rattle.jwalk.specs.Chained.{chain}
 use Rattle.jwalk.proofs.Matching.{frame_again, places_count}
 use Rattle.jwalk.proofs.declared.frame_of.Goals as goal

@@ -1,9 +1,9 @@
 use Rattle.std.proofs.Common.{ap, sym, ◌∙◌}
 use Rattle.std.specs.Prelude.{map}
-use Rattle.jtypes.specs.Fitting.{fits}
-use Rattle.jtypes.specs.Frames.{implies, stack_fits}
+use Rattle.jground.specs.jtypes.Fitting.{fits}
+use Rattle.jground.specs.jtypes.Frames.{implies, stack_fits}
 use Rattle.jprogram.specs.Classes.{tree}
-use Rattle.juses.specs.Types.{named}
+use Rattle.jmeaning.specs.juses.Types.{named}
 use Rattle.jwalk.proofs.Matching.{flag_fails, locals_count, same_fits, stack_fails}
 use Rattle.jwalk.proofs.declared.kept_fits.Goals as goal
 

@@ -1,8 +1,8 @@
 use Rattle.std.proofs.Common.{◌≡◌, ◌-◌, IfSome, sym, ap, subst, ◌∙◌, arith}
 use Rattle.std.specs.Prelude.{slice_get}
-use Rattle.jtypes.specs.Fitting.{fits}
+use Rattle.jground.specs.jtypes.Fitting.{fits}
 use Rattle.jprogram.specs.Classes.{tree}
-use Rattle.juses.specs.Types.{named}
+use Rattle.jmeaning.specs.juses.Types.{named}
 use Rattle.jwalk.proofs.Matching.{front, front_all, front_fails, front_goes, front_root, place_within}
 use Rattle.jwalk.proofs.declared.locals_fit.Goals as goal
 

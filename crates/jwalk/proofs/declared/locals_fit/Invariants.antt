@@ -1,5 +1,5 @@
 use Rattle.std.proofs.Common.{◌≡◌, ◌≤◌, length}
-use Rattle.jrule.specs.Slots.{slot_count}
+use Rattle.jmeaning.specs.jrule.Slots.{slot_count}
 use Rattle.jwalk.specs.Chained.{chain}
 use Rattle.jwalk.proofs.Matching.{front}
 use Rattle.jwalk.proofs.declared.locals_fit.Given as goal

@@ -1,5 +1,5 @@
 use Rattle.std.proofs.Common.{◌≡◌, drop}
-use Rattle.jbase.specs.First.{first_some}
+use Rattle.jground.specs.jbase.First.{first_some}
 use Rattle.jclass.specs.Members.{body_of}
 use Rattle.jprogram.specs.Parts.{code_of}
 use Rattle.jwalk.proofs.method.code_in.Given as goal

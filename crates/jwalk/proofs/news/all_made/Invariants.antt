@@ -1,8 +1,8 @@
 use Rattle.std.proofs.Common.{◌≡◌, ◌++◌, drop, map}
 use Rattle.std.specs.Prelude.{option_map}
-use Rattle.jcode.specs.Forms.{form}
-use Rattle.juses.specs.Tables.{pool_at}
-use Rattle.juses.specs.Types.{class_named}
+use Rattle.jparts.specs.jcode.Forms.{form}
+use Rattle.jmeaning.specs.juses.Tables.{pool_at}
+use Rattle.jmeaning.specs.juses.Types.{class_named}
 use Rattle.jtyping.specs.Methods.{made}
 use Rattle.jwalk.proofs.news.all_made.Given as goal
 

@@ -1,4 +1,4 @@
-use Rattle.juses.specs.Tables.{pool_at}
+use Rattle.jmeaning.specs.juses.Tables.{pool_at}
 use Rattle.jwalk.proofs.Made.{made_there}
 use Rattle.jwalk.proofs.news.news_of.Goals as goal
 

@@ -1,10 +1,10 @@
 use Rattle.std.proofs.Common.{◌≡◌, ◌+◌, ◌≤◌, [], ◌∷◌, ◌++◌, IfSome, List, None, Some, length, map, drop, refl, sym, ap, subst, ◌∙◌, arith}
 use Rattle.std.proofs.lemmas.List.{append-nil}
-use Rattle.jbase.specs.First.{first_some}
-use Rattle.jmaps.specs.Full.{locals_after}
-use Rattle.jmaps.proofs.FullLaws.{few_frames}
-use Rattle.juses.specs.Tables.{pool_at}
-use Rattle.juses.specs.Types.{named}
+use Rattle.jground.specs.jbase.First.{first_some}
+use Rattle.jparts.specs.jmaps.Full.{locals_after}
+use Rattle.jparts.proofs.JmapsProofs.FullLaws.{few_frames}
+use Rattle.jmeaning.specs.juses.Tables.{pool_at}
+use Rattle.jmeaning.specs.juses.Types.{named}
 use Rattle.jtyping.specs.Declared.{Written, item, written_from}
 use Rattle.jwalk.specs.declared.declared.Kept.{Kept}
 use Rattle.jwalk.specs.Chained.{AreMade, values}

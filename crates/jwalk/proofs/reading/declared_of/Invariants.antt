@@ -1,8 +1,8 @@
 use Rattle.std.proofs.Common.{◌≡◌, ◌*◌, ◌<◌, ◌≤◌, ◌++◌, None, length, map, drop}
 use Rattle.std.specs.Prelude.{IfSome}
-use Rattle.jbase.specs.First.{first_some}
-use Rattle.juses.specs.Tables.{pool_at}
-use Rattle.juses.specs.Types.{named}
+use Rattle.jground.specs.jbase.First.{first_some}
+use Rattle.jmeaning.specs.juses.Tables.{pool_at}
+use Rattle.jmeaning.specs.juses.Types.{named}
 use Rattle.jtyping.specs.Declared.{written_from}
 use Rattle.jwalk.specs.Chained.{AreMade}
 use Rattle.jwalk.specs.Given.{AreKept, Rise, fault_in, given, written_named}

@@ -1,7 +1,7 @@
 use Rattle.std.proofs.Common.{◌≡◌, true, false, sym, ap, ◌∙◌}
 use Rattle.std.specs.Prelude.{is_some, nat_le, not}
 use Rattle.std.specs.List.{list_all}
-use Rattle.jrule.specs.Slots.{slot_count}
+use Rattle.jmeaning.specs.jrule.Slots.{slot_count}
 use Rattle.jwalk.specs.Chained.{chain, is_made}
 use Rattle.jwalk.specs.Numbered.{seen_body}
 use Rattle.jwalk.proofs.Judging.{bad_locals, bad_news, bad_place, bad_stack, few_enough, good_news, parts_good, too_many}

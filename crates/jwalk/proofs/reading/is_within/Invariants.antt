@@ -1,5 +1,5 @@
 use Rattle.std.proofs.Common.{◌≡◌, drop, nat_le}
-use Rattle.jrule.specs.Slots.{slot_count}
+use Rattle.jmeaning.specs.jrule.Slots.{slot_count}
 use Rattle.jwalk.proofs.reading.is_within.Given as goal
 
 abbrev pub invariant-loop-kind : goal.invariant-loop-kind

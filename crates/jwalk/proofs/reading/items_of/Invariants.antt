@@ -1,6 +1,6 @@
 use Rattle.std.proofs.Common.{◌≡◌, map, take}
-use Rattle.juses.specs.Tables.{pool_at}
-use Rattle.juses.specs.Types.{named}
+use Rattle.jmeaning.specs.juses.Tables.{pool_at}
+use Rattle.jmeaning.specs.juses.Types.{named}
 use Rattle.jtyping.specs.Declared.{item}
 use Rattle.jwalk.proofs.reading.items_of.Given as goal
 

@@ -1,4 +1,4 @@
-use Rattle.jrule.specs.Seen.{seen}
+use Rattle.jmeaning.specs.jrule.Seen.{seen}
 use Rattle.jwalk.proofs.Stored.{store_form}
 use Rattle.jwalk.proofs.storing.local_rests.Goals as goal
 

@@ -1,7 +1,7 @@
 use Rattle.std.proofs.Common.{◌≡◌, ◌∙◌, sym}
-use Rattle.jcode.specs.declared.form.Form.TheVariants as forms
-use Rattle.jcode.specs.Forms.{form}
-use Rattle.jrule.specs.Seen.{seen}
+use Rattle.jparts.specs.declared.jcode.form.Form.TheVariants as forms
+use Rattle.jparts.specs.jcode.Forms.{form}
+use Rattle.jmeaning.specs.jrule.Seen.{seen}
 use Rattle.jwalk.proofs.Resting.{form_rests}
 use Rattle.jwalk.proofs.Stored.{local_form}
 use Rattle.jwalk.proofs.Walking.{told}

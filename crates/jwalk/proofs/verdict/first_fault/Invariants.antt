@@ -1,5 +1,5 @@
 use Rattle.std.proofs.Common.{◌≡◌, drop}
-use Rattle.jbase.specs.First.{first_along}
+use Rattle.jground.specs.jbase.First.{first_along}
 use Rattle.jtyping.specs.Typing.{class_fault, type_fault}
 use Rattle.jwalk.proofs.verdict.first_fault.Given as goal
 

@@ -1,5 +1,5 @@
 use Rattle.std.proofs.Common.{◌∙◌}
-use Rattle.jrule.specs.declared.frame.FrameRef.{FrameRef}
+use Rattle.jmeaning.specs.declared.jrule.frame.FrameRef.{FrameRef}
 use Rattle.jwalk.proofs.Beginning.{first_seen, has_room, no_room}
 use Rattle.jwalk.proofs.verdict.first_frame.Goals as goal
 

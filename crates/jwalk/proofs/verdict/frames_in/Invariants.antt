@@ -1,5 +1,5 @@
 use Rattle.std.proofs.Common.{◌≡◌, drop}
-use Rattle.jbase.specs.First.{first_some}
+use Rattle.jground.specs.jbase.First.{first_some}
 use Rattle.jtyping.specs.Declared.{maps_of}
 use Rattle.jwalk.proofs.verdict.frames_in.Given as goal
 

@@ -1,6 +1,6 @@
 use Rattle.std.proofs.Common.{◌≡◌, drop}
 use Rattle.std.specs.List.{list_any}
-use Rattle.jrule.specs.Swaps.{is_this}
+use Rattle.jmeaning.specs.jrule.Swaps.{is_this}
 use Rattle.jwalk.proofs.verdict.has_this.Given as goal
 
 abbrev pub invariant-loop-kind : goal.invariant-loop-kind

@@ -1,5 +1,5 @@
 use Rattle.std.proofs.Common.{map, ap, ◌∙◌}
-use Rattle.juses.specs.Types.{named}
+use Rattle.jmeaning.specs.juses.Types.{named}
 use Rattle.jtyping.specs.Methods.{makes}
 use Rattle.jwalk.specs.Numbered.{seen_method}
 use Rattle.jwalk.proofs.Faults.{good_frames}

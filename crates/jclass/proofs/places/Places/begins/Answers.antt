@@ -1,6 +1,6 @@
 use Rattle.std.proofs.Common.{rules, pos}
 use Rattle.std.proofs.lemmas.List.Sorted.{answers_always}
-use Rattle.jcode.proofs.Places.{fit_rises, searched}
+use Rattle.jparts.proofs.JcodeProofs.Places.{fit_rises, searched}
 use Rattle.jclass.proofs.places.Places.begins.Goals as goal
 
 pub returns : goal.returns

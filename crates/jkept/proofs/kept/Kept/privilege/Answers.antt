@@ -1,5 +1,5 @@
 use Rattle.std.proofs.Common.{◌∙◌, ap}
-use Rattle.jdomain.specs.Stacks.{Privileged}
+use Rattle.jrights.specs.jdomain.Stacks.{Privileged}
 use Rattle.jkept.specs.Things.{given_at, things}
 use Rattle.jkept.proofs.Paths.{path_grown, keeps_from}
 use Rattle.jkept.proofs.kept.Kept.privilege.Goals as goal

@@ -1,5 +1,5 @@
 use Rattle.std.proofs.Common.{◌≤◌, ◌-◌, ◌+◌, length}
-use Rattle.jdomain.specs.Domains.{has}
+use Rattle.jrights.specs.jdomain.Domains.{has}
 use Rattle.jkept.specs.Settled.{Knows}
 use Rattle.jkept.specs.Things.{things}
 use Rattle.jkept.proofs.table.Table.decide_to.Given as goal

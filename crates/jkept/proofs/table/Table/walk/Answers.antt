@@ -1,5 +1,5 @@
 use Rattle.std.proofs.Common.{◌∙◌, arith}
-use Rattle.jdomain.specs.Domains.{has}
+use Rattle.jrights.specs.jdomain.Domains.{has}
 use Rattle.jkept.specs.Things.{things, stack_at}
 use Rattle.jkept.proofs.Ends.{granted_none, pushed_last, settles_some, settles_none}
 use Rattle.jkept.proofs.table.Table.walk.Goals as goal

@@ -1,6 +1,6 @@
 use Rattle.std.proofs.Common.{◌≡◌, ◌≤◌, length, take}
-use Rattle.jdomain.specs.Domains.{has}
-use Rattle.jdomain.specs.Stacks.{walk}
+use Rattle.jrights.specs.jdomain.Domains.{has}
+use Rattle.jrights.specs.jdomain.Stacks.{walk}
 use Rattle.jkept.specs.Settled.{Grants, Knows}
 use Rattle.jkept.specs.Things.{pushed, things, stack_at, stack_of}
 use Rattle.jkept.proofs.table.Table.walk.Given as goal

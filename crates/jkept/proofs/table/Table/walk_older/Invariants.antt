@@ -1,6 +1,6 @@
 use Rattle.std.proofs.Common.{◌≡◌, ◌≤◌, length}
-use Rattle.jdomain.specs.Domains.{has}
-use Rattle.jdomain.specs.Stacks.{walk}
+use Rattle.jrights.specs.jdomain.Domains.{has}
+use Rattle.jrights.specs.jdomain.Stacks.{walk}
 use Rattle.jkept.specs.Entries.{Below}
 use Rattle.jkept.specs.Settled.{Grants, Knows, place}
 use Rattle.jkept.specs.Things.{things, stack_at}

@@ -1,5 +1,5 @@
 use Rattle.std.proofs.Common.{◌≡◌, ◌-◌}
-use Rattle.jbase.specs.First.{first_some}
+use Rattle.jground.specs.jbase.First.{first_some}
 use Rattle.jprogram.specs.Classes.{chain}
 use Rattle.jprogram.specs.Shortly.{decided_at}
 use Rattle.jprogram.proofs.classes.NamedProgram.decided_from.Given as goal

@@ -1,5 +1,5 @@
 use Rattle.std.proofs.Common.{◌≡◌, ◌-◌, ◌+◌, length}
-use Rattle.jbase.specs.First.{first_some}
+use Rattle.jground.specs.jbase.First.{first_some}
 use Rattle.jprogram.specs.Classes.{chain, known}
 use Rattle.jprogram.specs.Lines.{IsAt}
 use Rattle.jprogram.specs.Layers.{at_and_over}

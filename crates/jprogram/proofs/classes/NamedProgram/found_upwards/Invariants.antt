@@ -1,5 +1,5 @@
 use Rattle.std.proofs.Common.{◌≡◌, ◌-◌, ◌+◌, length}
-use Rattle.jbase.specs.First.{first_some}
+use Rattle.jground.specs.jbase.First.{first_some}
 use Rattle.jprogram.specs.Classes.{chain, known}
 use Rattle.jprogram.specs.Layers.{AreClosed, at_and_over, member_at}
 use Rattle.jprogram.proofs.classes.NamedProgram.found_upwards.Given as goal

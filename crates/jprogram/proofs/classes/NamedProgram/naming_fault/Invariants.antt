@@ -1,5 +1,5 @@
 use Rattle.std.proofs.Common.{◌≡◌, drop}
-use Rattle.jbase.specs.First.{first_along}
+use Rattle.jground.specs.jbase.First.{first_along}
 use Rattle.jprogram.specs.Naming.{in_class, naming_test}
 use Rattle.jprogram.proofs.classes.NamedProgram.naming_fault.Given as goal
 

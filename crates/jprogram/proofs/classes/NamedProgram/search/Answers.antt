@@ -1,5 +1,5 @@
 use Rattle.std.proofs.Common.{List, Bool, sym, ap, vec_len, ◌∙◌}
-use Rattle.jbase.specs.First.{first_some}
+use Rattle.jground.specs.jbase.First.{first_some}
 use Rattle.jprogram.specs.Classes.{superinterfaces}
 use Rattle.jprogram.specs.Layers.{is_closed, member_at, waiting_names}
 use Rattle.jprogram.proofs.Going.{is_empty_by, step_begin, step_end, step_found, step_skip, step_skip_costs, step_visit, step_visit_costs}

@@ -1,4 +1,4 @@
-use Rattle.jbase.specs.First.{first_some}
+use Rattle.jground.specs.jbase.First.{first_some}
 use Rattle.jprogram.specs.Classes.{superinterfaces}
 use Rattle.jprogram.specs.Layers.{IsLayered, member_at, waiting_names}
 use Rattle.jprogram.proofs.Going.{Cost, Going}

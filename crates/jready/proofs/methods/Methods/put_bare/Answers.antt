@@ -1,5 +1,5 @@
 use Rattle.std.proofs.Common.{[], ◌∷◌, length, refl, ap, ◌∙◌}
-use Rattle.juses.proofs.Spans.{grows_not}
+use Rattle.jmeaning.proofs.JusesProofs.Spans.{grows_not}
 use Rattle.jready.specs.declared.instr.Instr.TheVariants.{Off}
 use Rattle.jready.proofs.Growing.{grown_not}
 use Rattle.jready.proofs.Putting.{bare_is, puts}

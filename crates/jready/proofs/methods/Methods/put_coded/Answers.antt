@@ -1,6 +1,6 @@
 use Rattle.std.proofs.Common.{◌≡◌, ◌+◌, ℕ, [], ◌∷◌, length, refl, sym, ap, subst, ◌∙◌}
-use Rattle.juses.specs.Numbered.{seen_code}
-use Rattle.juses.proofs.Spans.{grows_on}
+use Rattle.jmeaning.specs.juses.Numbered.{seen_code}
+use Rattle.jmeaning.proofs.JusesProofs.Spans.{grows_on}
 use Rattle.jready.specs.declared.instr.Instr.TheVariants.{Off}
 use Rattle.jready.specs.Laid.{AreLaid}
 use Rattle.jready.proofs.Putting.{coded_is, puts}

@@ -1,6 +1,6 @@
 use Rattle.std.proofs.Common.{◌∙◌, List, ap}
 use Rattle.std.specs.Prelude.{slice_get}
-use Rattle.jdomain.specs.Domains.{has}
+use Rattle.jrights.specs.jdomain.Domains.{has}
 use Rattle.jctx.specs.declared.item.Item.{Item}
 use Rattle.jctx.specs.Contexts.{along, verdict}
 use Rattle.jtable.proofs.Naming.{context_is}

@@ -1,5 +1,5 @@
 use Rattle.std.proofs.Common.{◌≡◌, ◌-◌, ◌+◌, ◌++◌, ◌∷◌, [], ℕ, reverse, suc, sym, ap, ◌∙◌, arith}
-use Rattle.jmaps.specs.Full.{chopped}
+use Rattle.jparts.specs.jmaps.Full.{chopped}
 use Rattle.jwalk.specs.Chained.{values}
 use Rattle.jwalk.proofs.Chaining.{chopped_all, chopped_more, chopped_none, values_more}
 use Rattle.jwalk.proofs.chains.Chains.climb.Goals as goal

@@ -1,5 +1,5 @@
 use Rattle.std.proofs.Common.{◌≡◌, ◌-◌, ◌≤◌, length}
-use Rattle.jmaps.specs.Full.{chopped}
+use Rattle.jparts.specs.jmaps.Full.{chopped}
 use Rattle.jwalk.specs.Chained.{values}
 use Rattle.jwalk.proofs.chains.Chains.climb.Given as goal
 

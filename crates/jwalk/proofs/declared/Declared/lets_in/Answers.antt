@@ -1,6 +1,6 @@
 use Rattle.std.proofs.Common.{rules, length, ap, refl}
 use Rattle.jprogram.specs.Classes.{tree}
-use Rattle.jrule.specs.Seen.{seen}
+use Rattle.jmeaning.specs.jrule.Seen.{seen}
 use Rattle.jtyping.specs.Typing.{lets_in}
 use Rattle.jwalk.proofs.Searching.{declared_none, fits_there, found_again, kept_there, same_there}
 use Rattle.jwalk.proofs.declared.Declared.lets_in.Goals as goal

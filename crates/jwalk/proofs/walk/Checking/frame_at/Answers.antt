@@ -1,7 +1,7 @@
 use Rattle.std.proofs.Common.{drop, refl, sym, ap, ◌∙◌, add-one}
 use Rattle.std.proofs.lemmas.Bool.{ne_eqb}
 use Rattle.std.specs.Prelude.{option_map}
-use Rattle.jrule.specs.Seen.{seen}
+use Rattle.jmeaning.specs.jrule.Seen.{seen}
 use Rattle.jtyping.specs.Typing.{step}
 use Rattle.jwalk.specs.Before.{frame_at}
 use Rattle.jwalk.specs.Checking.{IsHeld, frames_of, method_of, program_of}

@@ -1,4 +1,4 @@
-use Rattle.jrule.specs.Seen.{seen}
+use Rattle.jmeaning.specs.jrule.Seen.{seen}
 use Rattle.jwalk.specs.Checking.{frames_of, program_of}
 use Rattle.jwalk.proofs.Leading.{left}
 use Rattle.jwalk.proofs.walk.Checking.leave.Goals as goal

@@ -1,6 +1,6 @@
 use Rattle.jwalk.specs.Checking.{program_of}
-use Rattle.juses.specs.Tables.{pool_at}
-use Rattle.jrule.specs.Seen.{seen_here}
+use Rattle.jmeaning.specs.juses.Tables.{pool_at}
+use Rattle.jmeaning.specs.jrule.Seen.{seen_here}
 use Rattle.jwalk.specs.News.{made_at}
 use Rattle.jwalk.proofs.Ruling.{counted, ruled}
 use Rattle.jwalk.proofs.walk.Checking.ruled.Goals as goal

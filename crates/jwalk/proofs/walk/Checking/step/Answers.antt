@@ -1,5 +1,5 @@
 use Rattle.jtyping.specs.Methods.{here_of}
-use Rattle.jcode.specs.Forms.{form}
+use Rattle.jparts.specs.jcode.Forms.{form}
 use Rattle.jwalk.specs.Checking.{IsCounted, frames_of, method_of, program_of}
 use Rattle.jwalk.specs.Keeping.{held_seen}
 use Rattle.jwalk.proofs.Serving.{known_behind}

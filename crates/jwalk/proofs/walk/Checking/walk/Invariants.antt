@@ -1,7 +1,7 @@
 use Rattle.std.proofs.Common.{◌≡◌, ℕ, drop, Some}
-use Rattle.jrule.specs.Seen.{seen}
+use Rattle.jmeaning.specs.jrule.Seen.{seen}
 use Rattle.jtyping.specs.Typing as typing
-use Rattle.jrule.specs.declared.frame.FrameRef.{FrameRef}
+use Rattle.jmeaning.specs.declared.jrule.frame.FrameRef.{FrameRef}
 use Rattle.jwalk.specs.declared.held.Arriving.{Arriving}
 use Rattle.jwalk.specs.declared.walk.Checking.{Checking}
 use Rattle.jwalk.specs.Checking.{IsHeld, frames_of, method_of, program_of}

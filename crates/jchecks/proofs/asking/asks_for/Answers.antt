@@ -1,4 +1,0 @@
-use Rattle.jchecks.proofs.asking.asks_for.Goals as goal
-
-pub returns-in-Ref : goal.returns-in-Ref
-returns-in-Ref g c p shapes things constants kept = rw c.in-Ref.is (c.asked_of.ensures p shapes things constants kept)

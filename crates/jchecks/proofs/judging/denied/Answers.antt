@@ -1,7 +1,0 @@
-use Rattle.std.proofs.Common.{◌∙◌}
-use Rattle.std.specs.Str.{chars}
-use Rattle.jchecks.proofs.judging.denied.Goals as goal
-
-pub returns : goal.returns
-unfolding chars
-returns c = c.into_vec-units.ensures ∙ c.in_ok-from_text.ensures

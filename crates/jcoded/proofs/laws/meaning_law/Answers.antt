@@ -1,5 +1,0 @@
-use Rattle.jcoded.proofs.Meaning.{entries_stay}
-use Rattle.jcoded.proofs.laws.meaning_law.Goals as goal
-
-pub returns : goal.returns
-returns g p is typed none i part stands n e at alone = entries_stay p is typed none i part stands n e at alone

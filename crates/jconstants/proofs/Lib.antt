@@ -1,4 +1,0 @@
-mod Nowhere
-mod Numbers
-mod Running
-mod Tables

@@ -1,6 +1,0 @@
-use Rattle.jheap.specs.Heaps.{cells_at}
-use Rattle.jcontexts.specs.Limits.{AreLeft}
-use Rattle.jcontexts.proofs.arrays.all_limits.Given as goal
-
-abbrev pub invariant-loop-i : goal.invariant-loop-i
-invariant-loop-i l = AreLeft l.permissions l.heap l.of (cells_at l.heap l.o) l.limits l.i

@@ -1,6 +1,0 @@
-use Rattle.jcontexts.proofs.Telling.{all_give}
-use Rattle.jcontexts.proofs.entering.enter.Goals as goal
-use Rattle.jops.specs.declared.value.Value.TheVariants as values
-
-pub returns-clause-row : goal.returns-clause-row
-returns-clause-row g c = all_give (values.Ctx c.args.number) c.args.count c.args.frames.now c.give.new.frames c.give.result c.give.ensures

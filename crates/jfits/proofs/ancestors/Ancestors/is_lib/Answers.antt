@@ -1,5 +1,0 @@
-use Rattle.jfits.proofs.Upward.{lib_known}
-use Rattle.jfits.proofs.ancestors.Ancestors.is_lib.Goals as goal
-
-pub are_same-requires-clause-first : goal.are_same-requires-clause-first
-are_same-requires-clause-first c = lib_known c.args.self.now c.order_law.ensures c.args.of c.requires.there

@@ -1,5 +1,0 @@
-use Rattle.jfits.specs.Lined.{AreLinesTo}
-use Rattle.jfits.proofs.lines.lines_of.Given as goal
-
-abbrev pub invariant-loop-i : goal.invariant-loop-i
-invariant-loop-i l = AreLinesTo l.p l.lines l.i

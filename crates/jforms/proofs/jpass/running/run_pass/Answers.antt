@@ -1,0 +1,41 @@
+use Rattle.std.proofs.Common.{subst}
+use Rattle.jrights.specs.jdomain.Domains.{has}
+use Rattle.jprogram.specs.Classes.{Program}
+use Rattle.jsafe.specs.Sound.{IsSound}
+use Rattle.jsmall.specs.Small.{HasSmall}
+use Rattle.jforms.specs.jpass.Passing.{passed}
+use Rattle.jforms.proofs.JpassProofs.Tellings.{complete, simulated, tells}
+use Rattle.jforms.proofs.JpassProofs.Unstuck.{inspected_unstuck, passed_unstuck}
+use Rattle.jforms.proofs.jpass.running.run_pass.Goals as goal
+
+pub is_sound-requires : goal.is_sound-requires
+is_sound-requires g c = rw c.linked.ensures.same c.linked.ensures.well
+
+pub returns-clause-simulated : goal.returns-clause-simulated
+returns-clause-simulated g c =
+    let run = passed (has c.args.domains.now) c.args.program.now c.args.plan.now c.args.plan.now.steps in
+    let told = tells run c.run_plain.result (g.K.Sink.out c.args.out.now) (g.K.Sink.out c.run_plain.new.out)
+    c.run_plain.ensures.written c.run_plain.ensures.end c.run_plain.ensures.cut in
+    λ p is. simulated c.moved_laws.ensures.runs (has c.args.domains.now) p c.args.program.now c.args.plan.now is c.run_plain.result _ _ told
+
+pub returns-clause-complete : goal.returns-clause-complete
+returns-clause-complete g c =
+    let run = passed (has c.args.domains.now) c.args.program.now c.args.plan.now c.args.plan.now.steps in
+    let told = tells run c.run_plain.result (g.K.Sink.out c.args.out.now) (g.K.Sink.out c.run_plain.new.out)
+    c.run_plain.ensures.written c.run_plain.ensures.end c.run_plain.ensures.cut in
+    λ p is. complete c.moved_laws.ensures.runs (has c.args.domains.now) p c.args.program.now c.args.plan.now is c.run_plain.result _ _ told
+
+pub returns-clause-steps : goal.returns-clause-steps
+returns-clause-steps g c =
+    let sound : IsSound c.args.program.now = rw c.linked.ensures.same at c.is_sound.ensures in
+    passed_unstuck c.states_laws.ensures.run c.rules_laws.ensures.plain (has c.args.domains.now) c.args.program.now c.args.plan.now c.linked.ensures.side sound c.requires.main
+
+pub returns-clause-unstuck : goal.returns-clause-unstuck
+returns-clause-unstuck g c =
+    λ p is. inspected_unstuck c.runs_law.ensures c.rules_laws.ensures.inspecting (has c.args.domains.now) p c.args.plan.now is.main.0 is.linked is.typed is.main.1
+
+pub returns-clause-small : goal.returns-clause-small
+returns-clause-small g c =
+    let h = has c.args.domains.now in
+    λ p is k. subst (λ (q : Program). HasSmall p (passed h q c.args.plan.now k).state) is.moved
+    (c.small_law.ensures h p c.args.plan.now k is.linked is.typed is.small)

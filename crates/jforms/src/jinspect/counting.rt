@@ -1,0 +1,32 @@
+ghost use Rattle.std.specs.Prelude.{◌≡◌, IfOk};
+ghost use Rattle.jrights.specs.jdomain.Domains.{has};
+ghost use Rattle.jlib.specs.declared.side.Side.TheVariants.{Source};
+ghost use Rattle.jmodel.specs.jmachine.Machine.{run};
+ghost use Rattle.jmodel.specs.jrules.Inspecting.{rules as inspecting};
+ghost use Rattle.jprogram.specs.Members.{IsMain};
+ghost use Rattle.jforms.specs.jwhole.Tallied.{tally_of};
+
+use crate::jinspect::inspector::Inspector;
+use crate::jwhole::count;
+use jcheck::CheckedProgram;
+use jmodel::jmachine::Plan;
+use jrights::jdomain::Domains;
+use jrights::jtally::Tally;
+use jyield::rules_laws;
+use std::alloc::{AllocError, Global};
+
+/// Counts the run of a checked program by the rules of frames, as `run_inspect` writes it. Want of memory may come at any time.
+pub fn count_inspect(
+    alloc: Global,
+    program: &CheckedProgram,
+    domains: &Domains,
+    plan: &Plan,
+) -> Result<Tally, AllocError>
+    requires main { IsMain program.now plan.now.main }
+    requires side { program.now.side ≡ Source }
+    ensures { IfOk result (λ t. t ≡ tally_of (run (inspecting (has domains.now)) program.now plan.now plan.now.steps)) }
+{
+    rules_laws();
+    let guard = Inspector::open(alloc, domains)?;
+    count(alloc, program.linked(), plan, guard)
+}

@@ -1,0 +1,45 @@
+ghost use Rattle.std.specs.Prelude.{◌≡◌, ◌≤◌, Err, IfOk, OnErr, OnOk};
+ghost use Rattle.jground.specs.jbase.Causes.{IsCut, Rose, appended};
+ghost use Rattle.jrights.specs.jdomain.Domains.{has};
+ghost use Rattle.jlib.specs.declared.side.Side.TheVariants.{Source};
+ghost use Rattle.jrights.specs.declared.jtrace.fault.RunFault.TheVariants.{Sink as SinkFault};
+ghost use Rattle.jmodel.specs.jmachine.Machine.{run as run_of};
+ghost use Rattle.jmodel.specs.jmachine.Runs.{ending, run_text};
+ghost use Rattle.jmodel.specs.jrules.Inspecting.{rules as inspecting};
+ghost use Rattle.jprogram.specs.Members.{IsMain};
+
+use crate::jinspect::inspector::Inspector;
+use crate::jwhole::run;
+use jcheck::CheckedProgram;
+use jmodel::jmachine::Plan;
+use jrights::jdomain::Domains;
+use jrights::jio::Sink;
+use jrights::jtrace::{End, RunFault};
+use jyield::rules_laws;
+use std::alloc::Global;
+
+/// Runs a checked program of the source side by the rules of frames: each check walks the stack (class documentation of AccessController). It writes
+/// a line for each event and one for the end, which is `Bound` where the run has not ended after the plan's steps. It begins with the `main` of
+/// a class.
+///
+/// At a fault a front of the text went out. `RunFault::Sink` is answered only where the sink counted a fault in this call; want of memory
+/// may come at any time.
+pub fn run_inspect<K: Sink>(
+    alloc: Global,
+    program: &CheckedProgram,
+    domains: &Domains,
+    plan: &Plan,
+    out: &mut K,
+) -> Result<End, RunFault>
+    requires side { program.now.side ≡ Source }
+    requires main { IsMain program.now plan.now.main }
+    ensures written { OnOk result (K.out out.new ≡ appended (K.out out.old) (run_text (run_of (inspecting (has domains.now)) program.now plan.now plan.now.steps))) }
+    ensures end { IfOk result (λ end. end ≡ ending (run_of (inspecting (has domains.now)) program.now plan.now plan.now.steps)) }
+    ensures cut { OnErr result (IsCut (K.out out.old) (K.out out.new) (run_text (run_of (inspecting (has domains.now)) program.now plan.now plan.now.steps))) }
+    ensures later { K.faults out.old ≤ K.faults out.new }
+    ensures cause { result ≡ Err SinkFault → Rose (K.faults out.old) (K.faults out.new) }
+{
+    rules_laws();
+    let guard = Inspector::open(alloc, domains)?;
+    run(alloc, program.linked(), plan, guard, out)
+}

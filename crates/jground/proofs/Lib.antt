@@ -1,0 +1,7 @@
+pub mod JbaseProofs
+pub mod JopsProofs
+pub mod JtypesProofs
+pub mod JformatProofs
+pub mod JtextProofs
+pub mod JregionProofs
+pub mod JheapProofs

@@ -1,0 +1,8 @@
+pub mod jbase
+pub mod jnames
+pub mod jops
+pub mod jtypes
+pub mod jformat
+pub mod jtext
+pub mod jregion
+pub mod jheap

@@ -1,6 +1,0 @@
-mod Answering
-mod Fetching
-mod Keeping
-mod Lifting
-pub mod Once
-mod Stepping

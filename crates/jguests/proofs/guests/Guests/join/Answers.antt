@@ -1,7 +1,0 @@
-use Rattle.std.proofs.Common.{subst, sym}
-use Rattle.jguests.specs.Guested.{AwaitLiving}
-use Rattle.jguests.proofs.Waiting.{join_awaits}
-use Rattle.jguests.proofs.guests.Guests.join.Goals as goal
-
-pub returns-clause-wait : goal.returns-clause-wait
-returns-clause-wait g c wait = subst AwaitLiving (sym c.join.ensures.table) (join_awaits c.args.self.now.at c.args.t c.args.self.now.table wait)

@@ -1,9 +1,0 @@
-mod Knowing
-mod Caught
-mod Picked
-mod Asking
-mod Classed
-mod Facing
-mod Invoked
-mod Stepping
-mod Within

@@ -1,5 +1,0 @@
-use Rattle.jlayout.proofs.Placing.{Counting}
-use Rattle.jlayout.proofs.counts.counts_of.Given as goal
-
-abbrev pub invariant-loop-class : goal.invariant-loop-class
-invariant-loop-class l = Counting l.p l.class l.known l.counts

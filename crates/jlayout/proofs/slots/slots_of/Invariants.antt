@@ -1,5 +1,0 @@
-use Rattle.jlayout.proofs.Placing.{Placed}
-use Rattle.jlayout.proofs.slots.slots_of.Given as goal
-
-abbrev pub invariant-loop-field : goal.invariant-loop-field
-invariant-loop-field l = Placed l.fn.first l.fields l.field-index l.slots l.next

@@ -1,0 +1,4 @@
+pub mod Nowhere
+pub mod Numbers
+pub mod Running
+pub mod Tables

@@ -1,0 +1,10 @@
+pub mod Calling
+pub mod Finding
+pub mod Holding
+pub mod Keeping
+pub mod Limiting
+pub mod Making
+pub mod Requesting
+pub mod Snapping
+pub mod Starting
+pub mod Telling

@@ -1,0 +1,12 @@
+pub mod Calls
+pub mod Dispatch
+pub mod Ended
+pub mod Giving
+pub mod Holding
+pub mod Joining
+pub mod Keeping
+pub mod Lasting
+pub mod Missing
+pub mod Numbering
+pub mod Operands
+pub mod Plain

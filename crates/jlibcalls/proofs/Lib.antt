@@ -1,0 +1,5 @@
+pub mod JlibraryProofs
+pub mod JcontextsProofs
+pub mod JchecksProofs
+pub mod JthreadingProofs
+pub mod JconstantsProofs

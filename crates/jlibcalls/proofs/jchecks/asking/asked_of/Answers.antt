@@ -1,0 +1,11 @@
+use Rattle.std.proofs.Common.{◌≡◌, Some, rules}
+use Rattle.jground.specs.jheap.Heaps as heaps
+use Rattle.jmodel.specs.jstate.Seen.{place_in}
+use Rattle.jlibcalls.specs.jchecks.Asks.{number_held}
+use Rattle.jlibcalls.proofs.JchecksProofs.Holding.{asks_one}
+use Rattle.jlibcalls.proofs.jchecks.asking.asked_of.Goals as goal
+
+pub returns-in-Some : goal.returns-in-Some
+returns-in-Some g c p shapes things constants kept =
+    let is : Some c.in-Some.one.now ≡ place_in c.args.permissions.now (number_held (heaps.object_at c.args.heap.now c.args.o)) = search rules in
+    asks_one _ c.heap_laws.ensures.each p shapes things constants c.args.heap.now c.args.permissions.now kept c.args.o c.in-Some.one.now c.if-o-eq0.false is

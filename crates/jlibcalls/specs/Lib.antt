@@ -1,0 +1,5 @@
+pub mod jlibrary
+pub mod jcontexts
+pub mod jchecks
+pub mod jthreading
+pub mod jconstants

@@ -1,0 +1,48 @@
+ghost use Rattle.std.specs.Prelude.{◌≡◌, is_some, true};
+ghost use Rattle.jground.specs.jheap.Heaps.{cells_at, object_at};
+ghost use Rattle.jmodel.specs.jstate.Seen.{first, number_in};
+ghost use Rattle.jlibcalls.specs.jthreading.Finding.{thread_in};
+
+use jground::jheap::{CellType, Heap, Kind};
+use jground::jops::Value;
+use jlib::LibClass;
+use jmodel::jstate::class_numbered;
+use jprogram::ClassRef;
+
+/// The number in the first cell of an object that is there, 0 where it has none.
+fn first_cell(heap: &Heap, o: u32) -> u64
+    requires { is_some (object_at heap.now o) ≡ true }
+    ensures { result ≡ first (cells_at heap.now o) }
+{
+    if heap.len(o) == 0 {
+        return 0;
+    }
+    match heap.cell(o, 0, CellType::Ctx) {
+        Value::Ctx(n) => n,
+        _ => unreachable!(),
+    }
+}
+
+/// The thread for which an object of Thread stands, if it does.
+fn number_of(heap: &Heap, o: u32) -> Option<u64>
+    requires { is_some (object_at heap.now o) ≡ true }
+    ensures { result ≡ number_in (first (cells_at heap.now o)) }
+{
+    first_cell(heap, o).checked_sub(1)
+}
+
+/// The thread for which the object stands that a value names, if it does.
+pub(crate) fn thread_in(heap: &Heap, value: Value) -> Option<u64>
+    ensures { result ≡ thread_in heap.now value }
+{
+    let Value::Ref(o) = value else {
+        return None;
+    };
+    match heap.found(o) {
+        Some(Kind::Object(n)) => match class_numbered(n) {
+            ClassRef::Lib(LibClass::Thread) => number_of(heap, o),
+            _ => None,
+        },
+        _ => None,
+    }
+}

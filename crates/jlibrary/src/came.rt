@@ -1,9 +1,0 @@
-use jtexts::Ran;
-use jtrace::Event;
-
-/// What a call of the library came to, and what it told.
-#[derive(Drop)]
-pub(crate) struct Came {
-    pub ran: Ran,
-    pub told: Option<Event>,
-}

@@ -1,7 +1,0 @@
-use Rattle.std.proofs.Common.{take}
-use Rattle.std.specs.List.{AllByRecursion}
-use Rattle.jlink.specs.Coded.{IsFile}
-use Rattle.jlink.proofs.files.are_files.Given as goal
-
-abbrev pub invariant-loop-part : goal.invariant-loop-part
-invariant-loop-part l = AllByRecursion IsFile (take l.part-index l.p.parts)

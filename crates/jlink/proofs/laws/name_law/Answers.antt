@@ -1,5 +1,0 @@
-use Rattle.jlink.proofs.Filed.{has_name}
-use Rattle.jlink.proofs.laws.name_law.Goals as goal
-
-pub returns : goal.returns
-returns c p i part files at e = has_name part.class (files i part at) e

@@ -1,6 +1,0 @@
-use Rattle.std.proofs.Common.{sym, ◌∙◌}
-use Rattle.jlink.proofs.There.{there_is}
-use Rattle.jlink.proofs.linked.LinkedProgram.resolve.Goals as goal
-
-pub unreachable-requires : goal.unreachable-requires
-unreachable-requires c = there_is c.args.self.now c.args.class c.args.pool c.member_at.ensures.links c.requires (sym c.member_at.ensures.member ∙ c.in-None.is)

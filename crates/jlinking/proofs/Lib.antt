@@ -1,0 +1,3 @@
+pub mod JmembersProofs
+pub mod JreferringProofs
+pub mod JlinkProofs

@@ -1,0 +1,5 @@
+use Rattle.jlinking.proofs.JlinkProofs.Calling.{named}
+use Rattle.jlinking.proofs.jlink.laws.call_law.Goals as goal
+
+pub returns : goal.returns
+returns c = named

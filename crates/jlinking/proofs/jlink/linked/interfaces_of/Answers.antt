@@ -1,0 +1,5 @@
+use Rattle.jlinking.proofs.JlinkProofs.Layered.{ordered}
+use Rattle.jlinking.proofs.jlink.linked.interfaces_of.Goals as goal
+
+pub of-requires : goal.of-requires
+of-requires c = ordered c.args.program.now c.requires

@@ -1,0 +1,11 @@
+use Rattle.std.proofs.Common.{◌≡◌, drop}
+use Rattle.jground.specs.jbase.First.{first_along}
+use Rattle.jlinking.specs.jreferring.Code.{in_method, method_test, methods_fault}
+use Rattle.jlinking.specs.jreferring.Known.{AreHanded}
+use Rattle.jlinking.proofs.jreferring.code.methods_fault.Given as goal
+
+abbrev pub invariant-loop-j : goal.invariant-loop-j
+invariant-loop-j l =
+    (first_along (λ j m. in_method l.i j (method_test l.home.program.now l.home.from.now l.home.pool.now l.table m)) l.j (drop l.j l.methods)
+    ≡ methods_fault l.home.program.now l.i l.home.from.now l.home.pool.now l.table l.methods)
+    × AreHanded l.home.program.now l.home.from.now l.home.pool.now l.handed

@@ -1,0 +1,7 @@
+use Rattle.std.proofs.Common.{◌≡◌, drop}
+use Rattle.jground.specs.jbase.First.{first_some}
+use Rattle.jlinking.specs.jreferring.Units.{attribute_test}
+use Rattle.jlinking.proofs.jreferring.units.attributes_test.Given as goal
+
+abbrev pub invariant-loop-one : goal.invariant-loop-one
+invariant-loop-one l = first_some (attribute_test l.table) (drop l.one-index l.attributes) ≡ first_some (attribute_test l.table) l.attributes

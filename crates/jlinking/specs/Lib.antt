@@ -1,0 +1,3 @@
+pub mod jmembers
+pub mod jreferring
+pub mod jlink

@@ -1,0 +1,9 @@
+//! Linking, as rooms: members (jmembers), what code refers to (jreferring), and programs that link (jlink).
+//!
+//! Each room is a module, whose head says what it holds, what is proved of it and who may name it; its definitions lie in `specs/` under its
+//! name, and so does its part of `proofs/`.
+#![tactic(auto)]
+
+pub mod jlink;
+pub mod jmembers;
+pub mod jreferring;

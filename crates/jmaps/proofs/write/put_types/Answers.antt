@@ -1,5 +1,0 @@
-use Rattle.jmaps.proofs.FullLaws.{all_are}
-use Rattle.jmaps.proofs.write.put_types.Goals as goal
-
-pub put_each-requires : goal.put_each-requires
-put_each-requires c = all_are c.args.items.now

@@ -1,0 +1,17 @@
+-- What a descriptor says that a field holds.
+use Rattle.std.proofs.Common.{◌≡◌, List, Option, Some, None, refl}
+use Rattle.jground.specs.declared.jtypes.vtype.VType.{VType}
+use Rattle.jground.specs.declared.jtypes.vtype.VType.TheVariants as types
+use Rattle.jmeaning.specs.juses.Typed as typed
+use Rattle.jmeaning.specs.jlayout.Kinds.{or_top}
+use Rattle.jmeaning.specs.jlayout.Layout.{held}
+
+pub held_field : (o : Option VType) → or_top o ≡ held (typed.held o)
+held_field None = refl
+held_field (Some t) = refl
+
+-- that of a method is no field's
+pub held_method : (params : Option (List VType)) (ret : Option (Option VType)) → types.Top ≡ held (typed.called params ret)
+held_method None ret = refl
+held_method (Some ps) None = refl
+held_method (Some ps) (Some r) = refl

@@ -1,0 +1,3 @@
+pub mod JusesProofs
+pub mod JlayoutProofs
+pub mod JruleProofs

@@ -1,0 +1,3 @@
+pub mod juses
+pub mod jlayout
+pub mod jrule

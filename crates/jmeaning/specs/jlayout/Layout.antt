@@ -1,0 +1,83 @@
+-- Where fields stand: those of an object in its own list, those of classes in the one list of all statics.
+use Rattle.std.specs.Prelude.{ℕ, ◌+◌, Bool, not, ◌==◌, List, [], length, map, reverse, take, drop, Option, Some, None, option_map, if◌then◌else◌}
+use Rattle.std.specs.List.{filter, flat_map}
+use Rattle.jparts.specs.declared.jpool.descriptor.Descriptor.{Descriptor}
+use Rattle.jparts.specs.declared.jpool.descriptor.Descriptor.TheVariants as descriptors
+use Rattle.jparts.specs.declared.jpool.descriptor.FieldType.{FieldType}
+use Rattle.jparts.specs.jpool.Descriptors.{descriptor_of}
+use Rattle.jclass.specs.declared.class.ClassParts.{ClassParts}
+use Rattle.jclass.specs.declared.class.MemberInfo.{MemberInfo}
+use Rattle.jground.specs.declared.jtypes.vtype.Element.{Element}
+use Rattle.jground.specs.declared.jtypes.vtype.VType.{VType}
+use Rattle.jground.specs.declared.jtypes.vtype.VType.TheVariants as types
+use Rattle.jground.specs.jtypes.Described.{element_of}
+use Rattle.jprogram.specs.declared.member.Member.{Member}
+use Rattle.jprogram.specs.declared.member.Member.TheVariants.{Field}
+use Rattle.jprogram.specs.declared.part.CodePart.{CodePart}
+use Rattle.jprogram.specs.Parts as parts
+use Rattle.jprogram.specs.Classes.{Class, Program, User, find, up}
+use Rattle.jprogram.specs.Members.{info_of}
+use Rattle.jmeaning.specs.juses.Typed.{Typed, Held, name, typed}
+
+abbrev pub is_static : MemberInfo → Bool
+is_static m = parts.is_static m.flags
+
+abbrev pub is_instance : MemberInfo → Bool
+is_instance m = not (is_static m)
+
+-- ---- the fields of an object: those of the classes above first, in each class in its order
+
+abbrev pub held : Typed → VType
+held = elim [ Held t ↦ t | _ ↦ types.Top ]
+
+abbrev pub field_type : Program → ClassParts → MemberInfo → VType
+field_type p c m = held (typed p (parts.member_desc c m))
+
+abbrev pub own_types : Program → Option Class → List VType
+own_types p (Some (User i c)) = map (field_type p c) (filter is_instance c.fields)
+own_types p _ = []
+
+-- of classes that stand nearest first
+abbrev pub types_along : Program → List (List ℕ) → List VType
+types_along p names = flat_map (λ c. own_types p (find p c)) (reverse names)
+
+-- the types of the fields of an object of the class of a name
+unfoldable pub layout : Program → List ℕ → List VType
+layout p c = types_along p (up p c)
+
+-- those of the classes above it alone
+unfoldable pub layout_above : Program → List ℕ → List VType
+layout_above p c = types_along p (drop 1 (up p c))
+
+-- ---- the statics of a program: those of its classes in their order, in each class in its order
+
+abbrev pub statics_of : CodePart → List MemberInfo
+statics_of part = filter is_static part.class.fields
+
+-- how many stand before those of the class at a place
+unfoldable pub statics_before : Program → ℕ → ℕ
+statics_before p i = length (flat_map statics_of (take i p.parts))
+
+-- ---- the place of a field in its list
+
+abbrev pub place_among : Program → ℕ → ℕ → ClassParts → MemberInfo → ℕ
+place_among p i j c m =
+    if is_static m then statics_before p i + length (filter is_static (take j c.fields))
+    else length (layout_above p (parts.this_name c)) + length (filter is_instance (take j c.fields))
+
+-- where a user's field stands: among the statics, or among the fields of each object that has it
+unfoldable pub slot : Program → Member → Option ℕ
+slot p = elim [ Field i j ↦ option_map (λ one. place_among p i j one.0 one.1) (info_of p (Field i j)) | _ ↦ None ]
+
+-- ---- what a field holds
+
+abbrev pub element_by : FieldType → Option Element
+element_by t = if t.depth == 0 then element_of t.base (name t.class) else None
+
+abbrev pub element_in : Option Descriptor → Option Element
+element_in (Some (descriptors.Field t)) = element_by t
+element_in d = None
+
+-- what a field of a descriptor holds, where it is no array
+unfoldable pub element : List ℕ → Option Element
+element desc = element_in (descriptor_of desc)

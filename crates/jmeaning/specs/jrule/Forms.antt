@@ -1,0 +1,40 @@
+-- The rule by the form of an instruction and the pool of its class, wherever the instruction leads.
+use Rattle.std.specs.Prelude.{◌≡◌, ℕ, List, Option, Some, None}
+use Rattle.jparts.specs.declared.jpool.entry.Entry.{Entry}
+use Rattle.jparts.specs.declared.jcode.op.Placed.{Placed}
+use Rattle.jparts.specs.declared.jcode.op.Switch.{Switch}
+use Rattle.jparts.specs.declared.jcode.form.Form.{Form}
+use Rattle.jparts.specs.declared.jcode.form.Form.TheVariants as forms
+use Rattle.jparts.specs.declared.jcode.form.ArrayForm.{ArrayForm}
+use Rattle.jparts.specs.declared.jcode.form.ArrayForm.TheVariants as arrays
+use Rattle.jground.specs.jtypes.Frames.{Frame}
+use Rattle.jprogram.specs.Classes.{Program, tree}
+use Rattle.jmeaning.specs.juses.Instructions as instructions
+use Rattle.jmeaning.specs.juses.Instructions.{Instruction}
+use Rattle.jmeaning.specs.juses.Meanings.{Meaning, array_meant, meant}
+use Rattle.jmeaning.specs.jrule.Arrays.{array}
+use Rattle.jmeaning.specs.jrule.Here.{Here}
+use Rattle.jmeaning.specs.jrule.Locals.{local}
+use Rattle.jmeaning.specs.jrule.Moves.{move}
+use Rattle.jmeaning.specs.jrule.Rule.{rule, used}
+use Rattle.jmeaning.specs.jrule.Straight.{flow, simple}
+
+abbrev pub by_meaning : Program → Here → Option Meaning → Frame → Option Frame
+by_meaning p here x f = elim x [ None ↦ None | Some m ↦ used p here m f ]
+
+-- an array of references is made by an entry of the pool
+abbrev pub by_array : Program → Here → List Entry → ArrayForm → Frame → Option Frame
+by_array p here pool = elim [ arrays.NewRef i ↦ by_meaning p here (array_meant p pool i) | form ↦ array (tree p) here.max_stack form ]
+
+unfoldable pub by_form : {S : Type 0} → Program → Here → List Entry → Form S → Frame → Option Frame
+by_form p here pool (forms.Simple form) = simple (tree p) here.max_stack form
+by_form p here pool (forms.Local form) = local here.max_stack form
+by_form p here pool (forms.Stack form) = move here.max_stack form
+by_form p here pool (forms.Flow form) = flow (tree p) here.is_init here.returns form
+by_form p here pool (forms.Array form) = by_array p here pool form
+by_form p here pool (forms.Pool form) = by_meaning p here (meant p pool form)
+
+-- what an instruction does is what its form does
+abbrev pub IsByForm : Program → Type 0
+IsByForm p = (here : Here) (pool : List Entry) (ops : List Placed) (at : ℕ) (form : Form Switch) (i : Instruction) (f : Frame) →
+    instructions.by_form p pool ops at form ≡ Some i → rule p here i f ≡ by_form p here pool form f

@@ -1,0 +1,27 @@
+-- The rule of moves of the stack (JVMS 4.10.1.9). A long is an item of two slots, any other an item of one. Of Top it isn't known
+-- which it is, so that no item stands there or below.
+use Rattle.std.specs.Prelude.{ℕ, ◌++◌, List, [], ◌∷◌, drop, Option, option_map, option_and_then, if◌then◌else◌}
+use Rattle.jground.specs.declared.jnames.names.Shuffle.{Shuffle}
+use Rattle.jground.specs.jops.Shuffles.{Item, One, Two, Move, shuffle}
+use Rattle.jground.specs.declared.jtypes.vtype.VType.{VType}
+use Rattle.jground.specs.jtypes.Frames.{Frame, is_long}
+use Rattle.jmeaning.specs.jrule.Locals.{is_top}
+use Rattle.jmeaning.specs.jrule.Operands.{with_room}
+
+abbrev pub item : VType → Item VType
+item a = if is_long a then Two a else One a
+
+-- the newest first
+unfoldable pub items : List VType → List (Item VType)
+items [] = []
+items (a ∷ stack) = if is_top a then [] else item a ∷ items stack
+
+abbrev pub moved : List VType → Move VType → List VType
+moved stack m = m.put ++ drop m.taken stack
+
+-- the operands behind a move
+abbrev pub shuffled : Shuffle → List VType → Option (List VType)
+shuffled s stack = option_map (moved stack) (shuffle s (items stack))
+
+abbrev pub move : ℕ → Shuffle → Frame → Option Frame
+move most s f = option_and_then (with_room most f) (shuffled s f.stack)

@@ -1,0 +1,220 @@
+-- What an instruction means by the pool of its class (JVMS 4.4, 5.1, 6.5), classes and types by name.
+use Rattle.std.specs.Prelude.{ℕ, ℤ, Bool, List, map, take, drop, Option, Some, None, option_map, option_and_then, slice_get, if◌then◌else◌}
+use Rattle.std.specs.Str.{bytes_eq}
+use Rattle.jparts.specs.declared.jpool.entry.Entry.{Entry}
+use Rattle.jparts.specs.declared.jpool.entry.Entry.TheVariants as entries
+use Rattle.jparts.specs.jpool.Pools.{name_and_type_at, utf8_at}
+use Rattle.jparts.specs.declared.jcode.names.CallOp.{CallOp}
+use Rattle.jparts.specs.declared.jcode.names.CallOp.TheVariants as calls
+use Rattle.jparts.specs.declared.jcode.names.CastOp.{CastOp}
+use Rattle.jparts.specs.declared.jcode.names.FieldOp.{FieldOp}
+use Rattle.jparts.specs.declared.jcode.form.PoolForm.{PoolForm}
+use Rattle.jparts.specs.declared.jcode.form.PoolForm.TheVariants as forms
+use Rattle.jground.specs.declared.jtypes.vtype.Name.{Name}
+use Rattle.jground.specs.declared.jtypes.vtype.VType.{VType}
+use Rattle.jground.specs.declared.jtypes.vtype.VType.TheVariants as types
+use Rattle.jprogram.specs.declared.member.Member.{Member}
+use Rattle.jprogram.specs.Parts.{class_text, text}
+use Rattle.jprogram.specs.Classes.{Program}
+use Rattle.jprogram.specs.Members.{init, resolve_field, resolve_method}
+use Rattle.jmeaning.specs.declared.juses.meaning.Constant.{Constant}
+use Rattle.jmeaning.specs.declared.juses.meaning.Constant.TheVariants as numbered
+use Rattle.jmeaning.specs.declared.juses.meaning.How.{How}
+use Rattle.jmeaning.specs.declared.juses.meaning.How.TheVariants as how
+use Rattle.jmeaning.specs.declared.juses.meaning.FieldUse.{FieldUse}
+use Rattle.jmeaning.specs.declared.juses.meaning.CallUse.{CallUse}
+use Rattle.jmeaning.specs.declared.juses.meaning.Span.{Span}
+use Rattle.jmeaning.specs.declared.juses.meaning.Use.{Use}
+use Rattle.jmeaning.specs.declared.juses.meaning.Use.TheVariants as uses
+use Rattle.jmeaning.specs.declared.juses.types.TypeRef.{TypeRef}
+use Rattle.jmeaning.specs.juses.Types.{class_named, named}
+use Rattle.jmeaning.specs.juses.Typed.{Typed, Held, Called, array_over, class_type, name, typed}
+
+-- ---- meanings
+
+pub data Pushed : Type 0 where
+  Int Long : ℤ → Pushed
+  -- a string of this text
+  Text : List ℕ → Pushed
+
+pub record FieldMeaning : Type 0 where
+  -- the class by which it is named
+  pub owner : Name
+  pub held : VType
+  pub member : Member
+
+pub record CallMeaning : Type 0 where
+  -- the class by which it is named
+  pub owner : Name
+  -- the newest first, as operands stand
+  pub params : List VType
+  pub ret : Option VType
+  pub member : Member
+
+pub data Meaning : Type 0 where
+  Push : Pushed → Meaning
+  Field : FieldOp → FieldMeaning → Meaning
+  Call : How → CallMeaning → Meaning
+  -- makes an object
+  Make : Name → Meaning
+  -- makes an array of this type
+  MakeArray : VType → Meaning
+  -- tests that a reference is of a type
+  Cast : CastOp → VType → Meaning
+
+-- ---- references (JVMS 4.4.2, 5.4.3)
+
+-- what a reference says: the name of the class by which it names its member, that name, and its descriptor
+pub record Reference : Type 0 where
+  pub owner : List ℕ
+  pub name : List ℕ
+  pub desc : List ℕ
+
+abbrev pub reference : List Entry → ℕ → ℕ × ℕ → Reference
+reference pool class both = record { owner = class_text pool class; name = text pool both.0; desc = text pool both.1 }
+
+abbrev pub field_as : Name → Option Member → Typed → Option FieldMeaning
+field_as owner (Some m) (Held t) = Some (record { owner = owner; held = t; member = m })
+field_as owner m t = None
+
+-- a field: what its reference stands for, and the type that the reference says
+unfoldable pub field_meant : Program → Reference → Option FieldMeaning
+field_meant p r = field_as (name r.owner) (resolve_field p r.owner r.name r.desc) (typed p r.desc)
+
+abbrev pub call_as : Name → Option Member → Typed → Option CallMeaning
+call_as owner (Some m) (Called params ret) = Some (record { owner = owner; params = params; ret = ret; member = m })
+call_as owner m t = None
+
+-- a method: what its reference stands for, and the types that the reference says
+unfoldable pub call_meant : Program → Reference → Option CallMeaning
+call_meant p r = call_as (name r.owner) (resolve_method p r.owner r.name r.desc) (typed p r.desc)
+
+-- ---- what an entry stands for
+
+pub data EntryMeaning : Type 0 where
+  AConstant : Pushed → EntryMeaning
+  AClass : VType → EntryMeaning
+  AField : FieldMeaning → EntryMeaning
+  -- an `<init>`, or another method
+  AMethod : Bool → CallMeaning → EntryMeaning
+
+abbrev pub class_meant : Program → Option (List ℕ) → Option EntryMeaning
+class_meant p text = option_map AClass (option_and_then (class_type p) text)
+
+abbrev pub field_entry : Program → Reference → Option EntryMeaning
+field_entry p r = option_map AField (field_meant p r)
+
+abbrev pub method_entry : Program → Reference → Option EntryMeaning
+method_entry p r = option_map (AMethod (bytes_eq r.name init)) (call_meant p r)
+
+-- what an entry of a pool stands for in a program; none where that isn't there, and of the kinds that are left out
+unfoldable pub entry_meant : Program → List Entry → Option Entry → Option EntryMeaning
+entry_meant p pool (Some (entries.Integer n)) = Some (AConstant (Int n))
+entry_meant p pool (Some (entries.Long n)) = Some (AConstant (Long n))
+entry_meant p pool (Some (entries.Str i)) = Some (AConstant (Text (text pool i)))
+entry_meant p pool (Some (entries.Class i)) = class_meant p (utf8_at pool i)
+entry_meant p pool (Some (entries.Field class both)) = option_and_then (λ b. field_entry p (reference pool class b)) (name_and_type_at pool both)
+entry_meant p pool (Some (entries.Method class both)) = option_and_then (λ b. method_entry p (reference pool class b)) (name_and_type_at pool both)
+entry_meant p pool (Some (entries.InterfaceMethod class both)) = option_and_then (λ b. method_entry p (reference pool class b)) (name_and_type_at pool both)
+entry_meant p pool _ = None
+
+-- ---- what an instruction makes of it
+
+-- an int or a string
+abbrev pub short_constant : EntryMeaning → Option Meaning
+short_constant (AConstant (Int n)) = Some (Push (Int n))
+short_constant (AConstant (Text t)) = Some (Push (Text t))
+short_constant _ = None
+
+abbrev pub long_constant : EntryMeaning → Option Meaning
+long_constant (AConstant (Long n)) = Some (Push (Long n))
+long_constant _ = None
+
+abbrev pub field_used : FieldOp → EntryMeaning → Option Meaning
+field_used op = elim [ AField f ↦ Some (Field op f) | _ ↦ None ]
+
+-- a special call of an `<init>` is a case of its own
+abbrev pub how_of : CallOp → Bool → How
+how_of x is_init = elim x [ calls.Virtual ↦ how.Virtual | calls.Special ↦ if is_init then how.Init else how.Special | calls.Static ↦ how.Static ]
+
+abbrev pub called_by : CallOp → EntryMeaning → Option Meaning
+called_by op = elim [ AMethod is_init c ↦ Some (Call (how_of op is_init) c) | _ ↦ None ]
+
+abbrev pub called_by_interface : EntryMeaning → Option Meaning
+called_by_interface = elim [ AMethod is_init c ↦ Some (Call how.Interface c) | _ ↦ None ]
+
+-- no object is made of an array's class
+abbrev pub made : EntryMeaning → Option Meaning
+made (AClass (types.Object c)) = Some (Make c)
+made _ = None
+
+abbrev pub array_made : EntryMeaning → Option Meaning
+array_made = elim [ AClass t ↦ option_map MakeArray (array_over t) | _ ↦ None ]
+
+abbrev pub cast_by : CastOp → EntryMeaning → Option Meaning
+cast_by op = elim [ AClass t ↦ Some (Cast op t) | _ ↦ None ]
+
+abbrev pub used : PoolForm → EntryMeaning → Option Meaning
+used (forms.Constant i) e = short_constant e
+used (forms.LongConstant i) e = long_constant e
+used (forms.Field op i) e = field_used op e
+used (forms.Call op i) e = called_by op e
+used (forms.CallInterface i slots) e = called_by_interface e
+used (forms.New i) e = made e
+used (forms.Cast op i) e = cast_by op e
+
+abbrev pub index_of : PoolForm → ℕ
+index_of (forms.Constant i) = i
+index_of (forms.LongConstant i) = i
+index_of (forms.Field op i) = i
+index_of (forms.Call op i) = i
+index_of (forms.CallInterface i slots) = i
+index_of (forms.New i) = i
+index_of (forms.Cast op i) = i
+
+-- what an instruction by an entry of the pool means
+unfoldable pub meant : Program → List Entry → PoolForm → Option Meaning
+meant p pool f = option_and_then (used f) (entry_meant p pool (slice_get pool (index_of f)))
+
+-- what the instruction means that makes an array of the class at an index
+unfoldable pub array_meant : Program → List Entry → ℕ → Option Meaning
+array_meant p pool i = option_and_then array_made (entry_meant p pool (slice_get pool i))
+
+-- the member of a field or of a call
+abbrev pub member_meant : Meaning → Option Member
+member_meant (Field op f) = Some f.member
+member_meant (Call by c) = Some c.member
+member_meant m = None
+
+abbrev pub as_class : EntryMeaning → Option VType
+as_class = elim [ AClass t ↦ Some t | _ ↦ None ]
+
+-- the type of the class at an index
+unfoldable pub class_at : Program → List Entry → ℕ → Option VType
+class_at p pool i = option_and_then as_class (entry_meant p pool (slice_get pool i))
+
+-- ---- by number
+
+abbrev pub pushed_named : List Entry → Constant → Pushed
+pushed_named pool (numbered.Int n) = Int n
+pushed_named pool (numbered.Long n) = Long n
+pushed_named pool (numbered.Text i) = Text (text pool i)
+
+abbrev pub field_named : Program → FieldUse → FieldMeaning
+field_named p f = record { owner = class_named p f.owner; held = named p f.held; member = f.member }
+
+-- the types that stand at a span of a list
+abbrev pub spanned : List TypeRef → Span → List TypeRef
+spanned types s = take s.count (drop s.first types)
+
+abbrev pub call_named : Program → List TypeRef → CallUse → CallMeaning
+call_named p types c = record { owner = class_named p c.owner; params = map (named p) (spanned types c.params); ret = option_map (named p) c.ret; member = c.member }
+
+-- the meaning of what is said by number: by a program, the pool of its class, and the list in which the types of parameters stand
+abbrev pub meaning_of : Program → List Entry → List TypeRef → Use → Meaning
+meaning_of p pool types (uses.Push c) = Push (pushed_named pool c)
+meaning_of p pool types (uses.Field op f) = Field op (field_named p f)
+meaning_of p pool types (uses.Call by c) = Call by (call_named p types c)
+meaning_of p pool types (uses.Make c) = Make (class_named p c)
+meaning_of p pool types (uses.MakeArray t) = MakeArray (named p t)
+meaning_of p pool types (uses.Cast op t) = Cast op (named p t)

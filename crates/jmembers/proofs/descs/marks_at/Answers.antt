@@ -1,9 +1,0 @@
-use Rattle.std.proofs.Common.{ap, ◌∙◌}
-use Rattle.jmembers.proofs.Marking.{marked, marks_or}
-use Rattle.jmembers.proofs.descs.marks_at.Goals as goal
-
-pub returns-in-Some : goal.returns-in-Some
-returns-in-Some c = ap marks_or c.in-Some.ensures ∙ marked c.args.program.now c.args.entries.now c.args.marks.now c.args.i c.requires
-
-pub returns-in-None : goal.returns-in-None
-returns-in-None c = ap marks_or c.in-None.ensures ∙ marked c.args.program.now c.args.entries.now c.args.marks.now c.args.i c.requires

@@ -1,6 +1,0 @@
-use Rattle.std.proofs.Common.{take}
-use Rattle.jmembers.specs.Known.{AreFirst}
-use Rattle.jmembers.proofs.numbers.first_places.Given as goal
-
-abbrev pub invariant-loop-i : goal.invariant-loop-i
-invariant-loop-i l = AreFirst (take l.i l.entries) l.places

@@ -1,0 +1,29 @@
+-- Rows of calls of the library that ask nothing of access control.
+use Rattle.std.specs.Prelude.{List, [], ◌∷◌, Option, Some, None}
+use Rattle.jlib.specs.declared.calls.ThrownInit.TheVariants as given
+use Rattle.jlib.specs.declared.calls.LibCall.{LibCall}
+use Rattle.jlib.specs.declared.calls.LibCall.TheVariants as calls
+use Rattle.jground.specs.declared.jops.value.Value.{Value}
+use Rattle.jmodel.specs.jmachine.Store.{Store}
+use Rattle.jmodel.specs.jmachine.Acts.{Row, gives}
+use Rattle.jmodel.specs.jmachine.Sites.{Site}
+use Rattle.jmodel.specs.jmachine.Permissions as permissions
+use Rattle.jmodel.specs.jmachine.Texts as texts
+use Rattle.jmodel.specs.jmachine.Throwables as throwables
+
+-- the constructor of Object does nothing
+abbrev pub object_init : {K E : Type 0} → Store K → List (Value K) → Option (Row K E)
+object_init s (v ∷ []) = Some (gives s [])
+object_init s values = None
+
+unfoldable pub library : {K E : Type 0} → Site → Store K → LibCall → List (Value K) → Option (Row K E)
+library at s calls.ObjectInit values = object_init s values
+library at s (calls.ThrownInit class how) values = throwables.init s how values
+library at s calls.AccessControlInit values = throwables.init s given.Message values
+library at s calls.GetMessage values = throwables.message s values
+library at s (calls.String call) values = texts.string s call values
+library at s (calls.Builder call) values = texts.builder s call values
+library at s calls.PrintEnd values = texts.print_end s at.thread values
+library at s (calls.Print piece) values = texts.print s at.thread piece values
+library at s (calls.PermissionInit call) values = permissions.init s at.cwd call values
+library at s call values = None

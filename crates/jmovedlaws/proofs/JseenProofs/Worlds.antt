@@ -1,0 +1,35 @@
+-- A program and the moved one have the same classes and fields.
+use Rattle.std.proofs.Common.{◌≡◌, ℕ, None, ap, ◌∙◌}
+use Rattle.std.proofs.Math.Path.{fun_ext}
+use Rattle.jground.specs.declared.jtypes.vtype.Name.{Name}
+use Rattle.jmeaning.specs.jlayout.Layout as fields
+use Rattle.jprogram.specs.declared.member.Member.{Member}
+use Rattle.jprogram.specs.declared.part.ClassRef.TheVariants as refs
+use Rattle.jprogram.specs.Classes as classes
+use Rattle.jprogram.specs.Classes.{Program}
+use Rattle.jmeaning.specs.juses.Typed.{name}
+use Rattle.jmodel.specs.jmachine.World.{world}
+use Rattle.jtyping.specs.Typing.{WellTyped}
+use Rattle.jrewrite.specs.Linking.{IsLinked}
+use Rattle.jrewrite.specs.Program.{limits, moved}
+use Rattle.jrewrite.proofs.Membering.{all_moving}
+use Rattle.jrewrite.proofs.Plainly.{is_plain}
+use Rattle.jstands.specs.Moves.{SameClasses}
+use Rattle.jmovedlaws.proofs.JseenProofs.Classes.{all_implement, name_plain, name_same, same_tree}
+use Rattle.jmovedlaws.proofs.JseenProofs.Fields.{element_same, layout_same, slot_same}
+
+layout_at : (p : Program) → IsLinked p → (i : ℕ) → fields.layout (moved p) (classes.name_at (moved p) (refs.User i)) ≡ fields.layout p (classes.name_at p (refs.User i))
+layout_at p linked i = ap (fields.layout (moved p)) (name_same p (is_plain p linked) i) ∙ layout_same p linked (classes.name_at p (refs.User i)) (name_plain p (is_plain p linked) i)
+
+pub classes_stay : (p : Program) → IsLinked p → WellTyped p → limits p ≡ None → SameClasses (world p) (world (moved p))
+unfolding world
+classes_stay p linked well few =
+    let is = is_plain p linked in
+    record {
+      tree = same_tree p is;
+      named = fun_ext (λ (i : ℕ). ap name (name_same p is i));
+      implements = fun_ext (λ (c : Name). fun_ext (λ (d : Name). all_implement p is c.0 d.0));
+      layout = fun_ext (λ (i : ℕ). layout_at p linked i);
+      slot = fun_ext (λ (m : Member). slot_same p linked m);
+      element = fun_ext (λ (m : Member). element_same p linked (all_moving p linked well few) m);
+    }

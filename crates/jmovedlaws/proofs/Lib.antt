@@ -1,0 +1,3 @@
+pub mod JseenProofs
+pub mod JcodedProofs
+pub mod JretypeProofs

@@ -1,0 +1,3 @@
+pub mod jseen
+pub mod jcoded
+pub mod jretype

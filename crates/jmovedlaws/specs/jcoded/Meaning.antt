@@ -1,0 +1,23 @@
+-- What the entries of a moved class's pool stand for.
+use Rattle.std.specs.Prelude.{◌≡◌, ℕ, Some, None, slice_get}
+use Rattle.jprogram.specs.declared.part.CodePart.{CodePart}
+use Rattle.jprogram.specs.Classes.{Program}
+use Rattle.jmeaning.specs.juses.Meanings.{AClass, AConstant, AField, AMethod, EntryMeaning, entry_meant}
+use Rattle.jtyping.specs.Typing.{WellTyped}
+use Rattle.jmoveclass.specs.Moved.{moved_class}
+use Rattle.jrewrite.specs.Linking.{IsLinked}
+use Rattle.jrewrite.specs.Program.{limits, moved}
+use Rattle.jstands.specs.Expanding.{Alone, way_of}
+
+-- no context is handed on by it
+abbrev pub HandsNone : EntryMeaning → Type 0
+HandsNone (AMethod begins c) = way_of c.member ≡ Alone
+HandsNone (AConstant x) = Unit {0}
+HandsNone (AClass t) = Unit {0}
+HandsNone (AField f) = Unit {0}
+
+-- Each entry of a class's pool stands in the moved class for what it stood for, but the references of methods that are handed a context.
+abbrev pub EntriesStay : Type 0
+EntriesStay = (p : Program) → IsLinked p → WellTyped p → limits p ≡ None → (i : ℕ) (part : CodePart) → slice_get p.parts i ≡ Some part
+    → (n : ℕ) (e : EntryMeaning) → entry_meant p part.class.pool (slice_get part.class.pool n) ≡ Some e → HandsNone e
+    → entry_meant (moved p) (moved_class p part.domain part.class).pool (slice_get (moved_class p part.domain part.class).pool n) ≡ Some e

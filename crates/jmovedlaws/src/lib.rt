@@ -1,0 +1,9 @@
+//! Laws of moved programs, as rooms: what is seen of them (jseen), their code (jcoded) and their types (jretype).
+//!
+//! Each room is a module, whose head says what it holds, what is proved of it and who may name it; its definitions lie in `specs/` under its
+//! name, and so does its part of `proofs/`.
+#![tactic(auto)]
+
+pub mod jcoded;
+pub mod jretype;
+pub mod jseen;

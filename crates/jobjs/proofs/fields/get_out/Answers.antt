@@ -1,5 +1,0 @@
-use Rattle.jobjs.proofs.Statics.{all_out}
-use Rattle.jobjs.proofs.fields.get_out.Goals as goal
-
-pub returns-clause-row : goal.returns-clause-row
-returns-clause-row g c = all_out c.way_laws.ensures c.push_one.result c.args.frames.now c.push_one.new.frames c.push_one.ensures.way c.push_one.ensures.frames

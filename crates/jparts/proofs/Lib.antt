@@ -1,0 +1,3 @@
+pub mod JpoolProofs
+pub mod JmapsProofs
+pub mod JcodeProofs

@@ -1,0 +1,6 @@
+use Rattle.jparts.specs.jmaps.Frames.{frame, frames, maps}
+use Rattle.jparts.proofs.jmaps.read.all_of.Goals as goal
+
+pub returns : goal.returns
+unfolding maps frames frame
+returns c = c.frames_of.ensures

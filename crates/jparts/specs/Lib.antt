@@ -1,0 +1,3 @@
+pub mod jpool
+pub mod jmaps
+pub mod jcode

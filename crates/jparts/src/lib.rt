@@ -1,0 +1,9 @@
+//! The parts of class files, as rooms: the constant pool (jpool), stack maps (jmaps) and code (jcode).
+//!
+//! Each room is a module, whose head says what it holds, what is proved of it and who may name it; its definitions lie in `specs/` under its
+//! name, and so does its part of `proofs/`.
+#![tactic(auto)]
+
+pub mod jcode;
+pub mod jmaps;
+pub mod jpool;

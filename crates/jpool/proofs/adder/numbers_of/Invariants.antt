@@ -1,6 +1,0 @@
-use Rattle.std.proofs.Common.{take}
-use Rattle.jpool.specs.Adding.{AreLeast}
-use Rattle.jpool.proofs.adder.numbers_of.Given as goal
-
-abbrev pub invariant-loop-i : goal.invariant-loop-i
-invariant-loop-i l = AreLeast l.numbers (take l.i l.entries)

@@ -1,8 +1,0 @@
-use Rattle.jpool.proofs.Spelled.{read_found, read_only}
-use Rattle.jpool.proofs.descriptor.read_descriptor.Goals as goal
-
-pub returns-clause-found : goal.returns-clause-found
-returns-clause-found c = read_found c.args.text.now c.read_either.result c.read_either.ensures
-
-pub returns-clause-only : goal.returns-clause-only
-returns-clause-only c = read_only c.args.text.now c.read_either.result c.read_either.ensures

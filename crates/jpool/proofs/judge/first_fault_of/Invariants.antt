@@ -1,6 +1,0 @@
-use Rattle.std.proofs.Common.{◌≡◌, drop}
-use Rattle.jpool.specs.Pools.{first_fault}
-use Rattle.jpool.proofs.judge.first_fault_of.Given as goal
-
-abbrev pub invariant-loop-one : goal.invariant-loop-one
-invariant-loop-one g l = first_fault (g.T.EntryTest.faults l.test) l.left (drop l.one-index l.entries) ≡ first_fault (g.T.EntryTest.faults l.test) l.fn.left l.entries

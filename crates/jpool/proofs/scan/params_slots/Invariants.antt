@@ -1,8 +1,0 @@
-use Rattle.std.proofs.Common.{◌≡◌, ◌-◌, ◌*◌, ◌≤◌, List, length}
-use Rattle.jpool.specs.declared.descriptor.FieldType.{FieldType}
-use Rattle.jpool.specs.Descriptors.{params_at, slots_of}
-use Rattle.jpool.proofs.Params.{behind}
-use Rattle.jpool.proofs.scan.params_slots.Given as goal
-
-abbrev pub invariant-loop : goal.invariant-loop
-invariant-loop l = (done : List FieldType) × (l.count ≡ slots_of done) × (l.count ≤ 2 * l.counter) × (behind done (params_at (length l.text - l.counter) l.rest) ≡ params_at (length l.text) l.text)

@@ -1,7 +1,0 @@
-use Rattle.std.proofs.Common.{◌≡◌, ◌+◌, drop}
-use Rattle.std.specs.List.{position_or_len}
-use Rattle.jpool.specs.Descriptors.{is_semicolon}
-use Rattle.jpool.proofs.scan.semicolon_of.Given as goal
-
-abbrev pub invariant-loop-i : goal.invariant-loop-i
-invariant-loop-i l = l.i + position_or_len is_semicolon (drop l.i l.text) ≡ position_or_len is_semicolon l.text

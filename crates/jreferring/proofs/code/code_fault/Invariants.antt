@@ -1,7 +1,0 @@
-use Rattle.std.proofs.Common.{◌≡◌, drop}
-use Rattle.jbase.specs.First.{first_along}
-use Rattle.jreferring.specs.Code.{class_fault}
-use Rattle.jreferring.proofs.code.code_fault.Given as goal
-
-abbrev pub invariant-loop-i : goal.invariant-loop-i
-invariant-loop-i l = first_along (λ i part. class_fault l.program i part.class) l.i (drop l.i l.program.parts) ≡ first_along (λ i part. class_fault l.program i part.class) 0 l.program.parts

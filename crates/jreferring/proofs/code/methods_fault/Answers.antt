@@ -1,9 +1,0 @@
-use Rattle.std.proofs.Common.{◌≡◌, refl}
-use Rattle.jpool.specs.Descriptors.{descriptor_of}
-use Rattle.jprogram.specs.Parts.{text}
-use Rattle.juses.proofs.Noting.{all_none}
-use Rattle.jreferring.specs.Names.{params_test}
-use Rattle.jreferring.proofs.code.methods_fault.Goals as goal
-
-pub loop-j-init : goal.loop-j-init
-loop-j-init c = (refl, all_none (λ i o. o ≡ params_test c.args.home.program.now c.args.home.from.now (descriptor_of (text c.args.home.pool.now i))) c.new-handed.result c.new-handed.ensures.empty)

@@ -1,9 +1,0 @@
-use Rattle.jreferring.proofs.entries.class.Goals as goal
-
-pub returns-clause-kept : goal.returns-clause-kept
-returns-clause-kept c = record {
-  classes = c.in_ok-one.ensures.kept;
-  owners = c.requires.owners;
-  descs = c.requires.descs;
-  references = c.requires.references;
-}

@@ -1,9 +1,0 @@
-use Rattle.std.proofs.Common.{◌≡◌, map, take}
-use Rattle.jreferring.specs.Entries.{judge}
-use Rattle.jreferring.specs.Known.{AreKnown}
-use Rattle.jreferring.proofs.entries.judge_all.Given as goal
-
-abbrev pub invariant-loop-one : goal.invariant-loop-one
-invariant-loop-one l =
-    (l.table.items ≡ map (judge l.home.program.now l.home.from.now l.home.pool.now) (take l.one-index l.entries))
-    × AreKnown l.home.program.now l.home.from.now l.home.pool.now l.known

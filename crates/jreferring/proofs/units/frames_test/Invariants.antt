@@ -1,7 +1,0 @@
-use Rattle.std.proofs.Common.{◌≡◌, drop}
-use Rattle.jbase.specs.First.{first_some}
-use Rattle.jreferring.specs.Units.{frame_test}
-use Rattle.jreferring.proofs.units.frames_test.Given as goal
-
-abbrev pub invariant-loop-one : goal.invariant-loop-one
-invariant-loop-one l = first_some (frame_test l.table) (drop l.one-index l.frames) ≡ first_some (frame_test l.table) l.frames

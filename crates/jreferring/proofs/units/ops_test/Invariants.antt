@@ -1,7 +1,0 @@
-use Rattle.std.proofs.Common.{◌≡◌, drop}
-use Rattle.jbase.specs.First.{first_some}
-use Rattle.jreferring.specs.Units.{op_test}
-use Rattle.jreferring.proofs.units.ops_test.Given as goal
-
-abbrev pub invariant-loop-one : goal.invariant-loop-one
-invariant-loop-one l = first_some (op_test l.table) (drop l.one-index l.ops) ≡ first_some (op_test l.table) l.ops

@@ -1,5 +1,0 @@
-use Rattle.jrefs.proofs.Finding.{whole}
-use Rattle.jrefs.proofs.fields.element_of.Goals as goal
-
-pub returns-in-Whole : goal.returns-in-Whole
-returns-in-Whole c p v = rw c.in-Whole.is (whole v)

@@ -1,9 +1,0 @@
-use Rattle.std.proofs.Common.{ap, ◌∙◌}
-use Rattle.juses.specs.Tables.{pool_at}
-use Rattle.jready.specs.Only.{only_field}
-use Rattle.jrefs.proofs.looking.field_used.Goals as goal
-
-pub returns : goal.returns
-returns c =
-    let p = c.args.x.now.ancestors.now in
-    c.field_in.ensures p (pool_at p c.args.class) c.uses_of.result.now.types ∙ ap only_field (c.use_at-found.ensures p c.uses_of.ensures)

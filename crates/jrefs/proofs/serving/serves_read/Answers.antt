@@ -1,8 +1,0 @@
-use Rattle.jstate.specs.Seen.{store_by}
-use Rattle.jrefs.proofs.Stores.{store_is}
-use Rattle.jrefs.proofs.serving.serves_read.Goals as goal
-
-pub returns : goal.returns
-returns g c f owned others constants at own seen site =
-    c.get_field_serves.ensures at own (store_by c.args.x.now.ancestors.now c.args.x.now.shapes.now others constants c.args.heap.now) f
-    (record { things = seen.things; constants = constants; counted = seen.counted; seen = store_is c.args.x.now c.args.counts c.args.heap.now others constants seen }) site.world owned

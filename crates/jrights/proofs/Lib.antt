@@ -1,0 +1,5 @@
+pub mod JioProofs
+pub mod JpermProofs
+pub mod JtraceProofs
+pub mod JdomainProofs
+pub mod JtallyProofs

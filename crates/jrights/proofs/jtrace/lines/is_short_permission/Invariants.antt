@@ -1,0 +1,10 @@
+use Rattle.std.proofs.Common.{◌≡◌, ◌≤◌, take, length}
+use Rattle.jrights.specs.jperm.Texts.{parts}
+use Rattle.jrights.proofs.JtraceProofs.Counts.{joined}
+use Rattle.jrights.proofs.jtrace.lines.is_short_permission.Given as goal
+
+abbrev pub invariant-loop-at : goal.invariant-loop-at
+invariant-loop-at l = record {
+  counted : l.units ≡ length (joined (take l.at (parts l.asked)));
+  few : l.units ≤ 4294967295;
+}

@@ -1,0 +1,12 @@
+//! Permissions and what is told of them, as rooms: input and output (jio), permissions (jperm), lines (jtrace), domains (jdomain) and
+//! counts (jtally).
+//!
+//! Each room is a module, whose head says what it holds, what is proved of it and who may name it; its definitions lie in `specs/` under its
+//! name, and so does its part of `proofs/`.
+#![tactic(auto)]
+
+pub mod jdomain;
+pub mod jio;
+pub mod jperm;
+pub mod jtally;
+pub mod jtrace;

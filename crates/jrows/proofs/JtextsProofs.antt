@@ -1,0 +1,16 @@
+pub mod Appending
+pub mod BuilderRows
+pub mod Celling
+pub mod ConstantRows
+pub mod Costs
+pub mod Gathering
+pub mod LoadRows
+pub mod Numbered
+pub mod PrintRows
+pub mod Reading
+pub mod StringRows
+pub mod TellingRows
+pub mod TextRows
+pub mod ThrownRows
+pub mod Units
+pub mod Writing

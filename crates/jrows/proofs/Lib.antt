@@ -1,0 +1,4 @@
+pub mod JactsProofs
+pub mod JtextsProofs
+pub mod JobjsProofs
+pub mod JcallsProofs

@@ -1,0 +1,4 @@
+pub mod jacts
+pub mod jtexts
+pub mod jobjs
+pub mod jcalls

@@ -1,0 +1,49 @@
+ghost use Rattle.std.specs.Prelude.{◌≡◌, ◌<◌, ◌+◌, ◌^◌, [], ℕ, List, IfOk, OnOk};
+ghost use Rattle.jprogram.specs.Classes.{Program};
+ghost use Rattle.jground.specs.declared.jtypes.vtype.VType.TheVariants as types;
+ghost use Rattle.jmeaning.specs.juses.Instructions as instructions;
+ghost use Rattle.jmeaning.specs.juses.Meanings as meanings;
+ghost use Rattle.jmeaning.specs.juses.Types.{array_named};
+ghost use Rattle.jmodel.specs.jstate.Celled.{StayCelled};
+ghost use Rattle.jmodel.specs.jstate.Seen.{AreBuilt, Things, array_at as shape_at, store_by};
+ghost use Rattle.jmodel.specs.declared.jstate.shapes.Shapes.{Shapes};
+ghost use Rattle.jrows.specs.jacts.Ways.{Acts, Rests, leaves};
+ghost use Rattle.jrows.specs.jobjs.Staying.{Stays};
+
+use crate::jacts::{Way, count_of, make_array, switch_key};
+use jground::jheap::Heap;
+use jlib::{LibClass, Thrown};
+use jmodel::jstate::{Frames, built_laws, celled_laws, heap_laws};
+use std::alloc::{AllocError, Global};
+
+/// A new array of references (JVMS 6.5: anewarray), of the heap's number for its type: of so many items as an operand says, each null.
+#[inline]
+pub fn new_refs<M: Copy>(
+    alloc: Global,
+    frames: &mut Frames<M>,
+    heap: &mut Heap,
+    number: u32,
+) -> Result<Way, AllocError>
+    requires place { frames.old.newest.place + 1 < 2 ^ 32 }
+    requires built { AreBuilt heap.old.objects }
+    ensures row { IfOk result (λ way. (p : Program) (shapes : Shapes) (things : Things) (constants : List (List ℕ × ℕ)) →
+        Acts (instructions.Used (meanings.MakeArray (types.Array (array_named p (shape_at shapes number))))) frames.old.newest (store_by p shapes things constants heap.old)
+        (leaves way [] frames.new.newest (store_by p shapes things constants heap.new))) }
+    ensures stays { IfOk result (λ way. Stays way frames.old.newest frames.new.newest) }
+    ensures below { OnOk result (frames.new.below ≡ frames.old.below) }
+    ensures rests { IfOk result (λ way. Rests way frames.old frames.new) }
+    ensures kept { IfOk result (λ way. Rests way heap.old heap.new) }
+    ensures built { OnOk result (AreBuilt heap.new.objects) }
+    ensures celled { OnOk result (StayCelled heap.old.objects heap.new.objects) }
+{
+    heap_laws();
+    built_laws();
+    celled_laws();
+    let Some(n) = switch_key(frames) else {
+        return Ok(Way::Stuck);
+    };
+    match count_of(n) {
+        None => Ok(Way::Raises(LibClass::Thrown(Thrown::NegativeArraySizeException))),
+        Some(count) => make_array(alloc, frames, heap, number, count),
+    }
+}

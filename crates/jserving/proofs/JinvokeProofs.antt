@@ -1,0 +1,9 @@
+pub mod Knowing
+pub mod Caught
+pub mod Picked
+pub mod Asking
+pub mod Classed
+pub mod Facing
+pub mod Invoked
+pub mod Stepping
+pub mod Within

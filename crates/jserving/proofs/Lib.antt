@@ -1,0 +1,4 @@
+pub mod JfitsProofs
+pub mod JserveProofs
+pub mod JinvokeProofs
+pub mod JshapesProofs

@@ -1,0 +1,12 @@
+use Rattle.std.proofs.Common.{◌≡◌, drop}
+use Rattle.std.specs.List.{find}
+use Rattle.jready.specs.Handling.{row_takes}
+use Rattle.jground.specs.declared.jtypes.vtype.VType.TheVariants as types
+use Rattle.jmeaning.specs.juses.Tables.{pool_at}
+use Rattle.jmeaning.specs.juses.Types.{class_named}
+use Rattle.jserving.proofs.jinvoke.catching.first_taking.Given as goal
+
+abbrev pub invariant-loop-row : goal.invariant-loop-row
+invariant-loop-row l =
+    let tests = row_takes l.known (pool_at l.known l.class) (types.Object (class_named l.known l.thrown)) l.place in
+    find tests (drop l.row-index l.rows) ≡ find tests l.rows

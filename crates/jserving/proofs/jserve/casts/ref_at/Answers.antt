@@ -1,0 +1,8 @@
+use Rattle.std.proofs.Common.{ap, ◌∙◌}
+use Rattle.jground.specs.declared.jnames.kinds.Kind.TheVariants as wanted
+use Rattle.jmeaning.specs.jrule.Effects.{Of}
+use Rattle.jserving.specs.jserve.Served.{one_serves, serves_in}
+use Rattle.jserving.proofs.jserve.casts.ref_at.Goals as goal
+
+pub returns : goal.returns
+returns g c p = c.is_reference.ensures p ∙ ap (one_serves (serves_in p c.args.x.now) (Of wanted.Ref)) c.operand.ensures

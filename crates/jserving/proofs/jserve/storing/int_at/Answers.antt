@@ -1,0 +1,8 @@
+use Rattle.std.proofs.Common.{ap, ◌∙◌}
+use Rattle.jground.specs.declared.jnames.kinds.Kind.TheVariants as wanted
+use Rattle.jmeaning.specs.jrule.Effects.{Of}
+use Rattle.jserving.specs.jserve.Served.{one_serves, serves_in}
+use Rattle.jserving.proofs.jserve.storing.int_at.Goals as goal
+
+pub returns : goal.returns
+returns g c p x = c.is_int.ensures p x ∙ ap (one_serves (serves_in p x) (Of wanted.Int)) c.operand.ensures

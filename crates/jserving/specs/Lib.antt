@@ -1,0 +1,4 @@
+pub mod jfits
+pub mod jserve
+pub mod jinvoke
+pub mod jshapes

@@ -1,0 +1,74 @@
+-- What a step comes to that calls a method, by the place where it stands and by what its operands are.
+use Rattle.std.specs.Prelude.{◌≡◌, ◌<◌, ⊤, ℕ, Bool, List, length, Option, Some, option_map, slice_get}
+use Rattle.jground.specs.jheap.Heaps.{Heaped}
+use Rattle.jprogram.specs.declared.member.Member.{Member}
+use Rattle.jprogram.specs.declared.member.Member.TheVariants as members
+use Rattle.jprogram.specs.declared.member.MethodId.{MethodId}
+use Rattle.jprogram.specs.Classes.{Program}
+use Rattle.jmeaning.specs.declared.juses.meaning.How.{How}
+use Rattle.jmeaning.specs.juses.Meanings.{Call, CallMeaning, meant}
+use Rattle.jmeaning.specs.juses.Tables.{pool_at}
+use Rattle.jmodel.specs.declared.jmachine.plan.Plan.{Plan}
+use Rattle.jmodel.specs.jmachine.Acts.{State}
+use Rattle.jmodel.specs.jmachine.Security.{Rules}
+use Rattle.jready.specs.Meant.{call_form}
+use Rattle.jmodel.specs.jstate.Framed.{Framed}
+use Rattle.jmodel.specs.declared.jstate.shapes.Shapes.{Shapes}
+use Rattle.jmodel.specs.jstate.Seen.{Things, store_by}
+use Rattle.jrows.specs.declared.jcalls.calls.Called.{Called}
+use Rattle.jrows.specs.declared.jcalls.calls.Callee.{Callee}
+use Rattle.jrows.specs.declared.jcalls.calls.Found.{Found}
+use Rattle.jrows.specs.declared.jcalls.calls.Found.TheVariants as found
+use Rattle.jrows.specs.jcalls.Calling.{CalledAs, Takes, calls}
+use Rattle.jrows.specs.jcalls.Marks.{marks_of}
+use Rattle.jrows.specs.declared.jcalls.receiver.Receiver.{Receiver}
+use Rattle.jrows.specs.declared.jcalls.receiver.Receiver.TheVariants as receivers
+use Rattle.jserving.specs.declared.jinvoke.choosing.Answer.{Answer}
+use Rattle.jserving.specs.declared.jinvoke.choosing.Chosen.{Chosen}
+use Rattle.jserving.specs.declared.jinvoke.choosing.Chosen.TheVariants as chosens
+use Rattle.jserving.specs.jinvoke.Answers.{answer, nothing, number_by}
+
+-- ---- frames of what is selected
+
+-- a user's method is of one of so many classes
+abbrev pub IsMarked : ℕ → Chosen → Type 0
+IsMarked count (chosens.Method m has_code most stack) = m.class < count
+IsMarked count c = ⊤
+
+abbrev pub callee : {E : Type 0} → MethodId → Bool → ℕ → ℕ → E → Callee E
+callee m has_code most stack mark = record { method = m; has_code = has_code; most = most; stack = stack; mark = mark }
+
+-- with what the frames of its class carry
+abbrev pub marked : {E : Type 0} → List E → Chosen → Option (Found E)
+marked marks (chosens.Method m has_code most stack) = option_map (λ mark. found.Method (callee m has_code most stack mark)) (slice_get marks m.class)
+marked marks (chosens.Lib call) = Some (found.Lib call)
+marked marks chosens.Abstract = Some found.Abstract
+marked marks chosens.Missing = Some found.Missing
+
+-- ---- what is known of a call on an object
+
+abbrev pub answer_at : Program → (class : ℕ) → How → (pool : ℕ) → Receiver → Answer
+answer_at p class by pool (receivers.Object kind) = answer p (record { class = class; pool = pool; by = by; on = number_by kind })
+answer_at p class by pool on = nothing
+
+-- ---- the method that an entry names
+
+-- a user's member is of a class of the program
+abbrev pub MemberWithin : Program → Member → Type 0
+MemberWithin p (members.Method m) = m.class < length p.parts
+MemberWithin p m = ⊤
+
+-- So is the method that the entry at an index of a class's pool names for such a call.
+abbrev pub CallWithin : Program → ℕ → How → ℕ → Type 0
+CallWithin p class by pool = (way : How) (c : CallMeaning) → meant p (pool_at p class) (call_form by pool) ≡ Some (Call way c) → MemberWithin p c.member
+
+-- ---- what a step comes to
+
+-- A call by the entry at an index of the pool of the newest frame's class did what a step does that executes it, whatever the rules and the
+-- state are: where its operands serve, and these are what the rules give to frames of each class.
+abbrev pub Invokes : {E : Type 0} → Program → How → ℕ → List E → Heaped → (count depth : ℕ) → Framed E → Called → Framed E → Type 0
+Invokes {E} p by pool marks h count depth f way g =
+    (r : Rules ℕ E) (plan : Plan) (s : State ℕ E) (shapes : Shapes) (things : Things) (constants : List (List ℕ × ℕ)) (c : CallMeaning)
+    → meant p (pool_at p f.newest.method.class) (call_form by pool) ≡ Some (Call by c)
+    → marks ≡ marks_of r.entry_of p → s.store ≡ store_by p shapes things constants h → plan.depth ≡ depth → Takes p s by c count f
+    → CalledAs r p plan s count f way g (calls r p plan s f by c)

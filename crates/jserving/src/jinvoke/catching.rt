@@ -1,0 +1,90 @@
+ghost use Rattle.std.specs.Prelude.{◌≡◌};
+ghost use Rattle.std.specs.List.{find};
+ghost use Rattle.jmodel.specs.jmachine.Unwinding.{handler_at};
+ghost use Rattle.jready.specs.Handling.{handled, row_takes};
+ghost use Rattle.jground.specs.declared.jtypes.vtype.VType.TheVariants as types;
+ghost use Rattle.jmeaning.specs.juses.Tables.{pool_at};
+ghost use Rattle.jmeaning.specs.juses.Types.{class_named};
+ghost use Rattle.jserving.specs.jinvoke.Told.{Told};
+
+use crate::jinvoke::known::Known;
+use jprogram::{ClassRef, MethodId};
+use jready::HandlerRow;
+use jrows::jcalls::Handlers;
+
+/// An object of a class is thrown, in a program.
+#[derive(Clone, Copy)]
+pub struct ThrownAs<'k, 'p> {
+    pub known: &'k Known<'p>,
+    pub class: ClassRef,
+}
+
+/// Whether a handler handles what is thrown at a place of the code of a part.
+fn takes(known: &Known<'_>, thrown: ClassRef, class: u32, place: u32, row: HandlerRow) -> bool
+    ensures { result ≡ row_takes known.now (pool_at known.now class) (types.Object (class_named known.now thrown)) place row }
+{
+    if place < row.start || place >= row.end {
+        return false;
+    }
+    if row.class == 0 {
+        return true;
+    }
+    known.is_caught(thrown, class, row.class)
+}
+
+/// The first handler that handles it.
+fn first_taking(
+    known: &Known<'_>,
+    thrown: ClassRef,
+    class: u32,
+    place: u32,
+    rows: &[HandlerRow],
+) -> Option<HandlerRow>
+    ensures { result ≡ find (row_takes known.now (pool_at known.now class) (types.Object (class_named known.now thrown)) place) rows.now }
+{
+    for row in rows {
+        if takes(known, thrown, class, place, *row) {
+            return Some(*row);
+        }
+    }
+    None
+}
+
+/// The number at which the first of them goes on that handles it.
+fn handled_at(
+    known: &Known<'_>,
+    thrown: ClassRef,
+    class: u32,
+    place: u32,
+    rows: &[HandlerRow],
+) -> Option<u32>
+    ensures { result ≡ handled known.now (pool_at known.now class) (types.Object (class_named known.now thrown)) place rows.now }
+{
+    match first_taking(known, thrown, class, place, rows) {
+        None => None,
+        Some(row) => row.to,
+    }
+}
+
+impl<'k, 'p> Handlers for ThrownAs<'k, 'p> {
+    ghost goes = { λ t m i. handler_at t.known.now (types.Object (class_named t.known.now t.class)) m i };
+
+    #[tactic(auto, using(crate::proofs::JinvokeProofs::Caught::without_code, crate::proofs::JinvokeProofs::Caught::behind_code, crate::proofs::JinvokeProofs::Caught::within_code))]
+    fn find(&self, method: MethodId, place: u32) -> Option<u32> {
+        let ready = self.known.ready();
+        let Some(row) = ready.row_of(method) else {
+            return None;
+        };
+        let rows = ready.handlers(&row);
+        if place >= row.count {
+            return None;
+        }
+        handled_at(self.known, self.class, method.class, place, rows)
+    }
+}
+
+/// The law of handlers: where all frames go on is told as the machine's definition has it. It has no body to run; its contract is the law.
+#[tactic(auto, using(crate::proofs::JinvokeProofs::Caught::all_told))]
+pub fn told_law<M>()
+    ensures { Told M }
+{}

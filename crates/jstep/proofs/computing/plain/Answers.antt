@@ -1,9 +1,0 @@
-use Rattle.juses.specs.Instructions.{Simple}
-use Rattle.jready.specs.Meant.{plain_meant}
-use Rattle.jstep.proofs.Numbers.{ok_meant}
-use Rattle.jstep.proofs.computing.plain.Goals as goal
-
-pub returns-clause-row : goal.returns-clause-row
-returns-clause-row g c =
-    ok_meant c.simple.result (plain_meant c.args.tables.now c.args.f) (Simple c.form_of.result) c.args.frames.now.newest c.simple.new.frames.newest
-    c.form_of.ensures c.simple.ensures.row

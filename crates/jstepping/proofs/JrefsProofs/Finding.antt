@@ -1,0 +1,97 @@
+-- What was found of an entry is what an instruction names.
+use Rattle.std.proofs.Common.{◌≡◌, ◌∙◌, ℕ, ◌<◌, Bool, List, length, Option, Some, None, refl, sym, ap}
+use Rattle.jparts.specs.declared.jcode.form.PoolForm.TheVariants as forms
+use Rattle.jparts.specs.declared.jcode.names.CastOp.{CastOp}
+use Rattle.jground.specs.declared.jheap.cell.CellType.{CellType}
+use Rattle.jground.specs.declared.jheap.cell.CellType.TheVariants as cells
+use Rattle.jground.specs.declared.jops.value.Value.{Value}
+use Rattle.jground.specs.declared.jops.value.Value.TheVariants.{Int, Long, Ref, Ctx}
+use Rattle.jparts.specs.declared.jpool.entry.Entry.{Entry}
+use Rattle.jprogram.specs.declared.member.MethodId.{MethodId}
+use Rattle.jprogram.specs.declared.part.ClassRef.TheVariants as refs
+use Rattle.jprogram.specs.Classes.{Program}
+use Rattle.jground.specs.declared.jtypes.vtype.Element.TheVariants as elements
+use Rattle.jground.specs.declared.jtypes.vtype.VType.{VType}
+use Rattle.jground.specs.declared.jtypes.vtype.VType.TheVariants as types
+use Rattle.jmeaning.specs.declared.juses.meaning.FieldUse.{FieldUse}
+use Rattle.jmeaning.specs.declared.juses.types.TypeRef.{TypeRef}
+use Rattle.jmeaning.specs.juses.Meanings as meanings
+use Rattle.jmeaning.specs.juses.Meanings.{FieldMeaning, field_named, meant}
+use Rattle.jmeaning.specs.juses.Tables.{pool_at}
+use Rattle.jmeaning.specs.juses.Types.{class_named, named}
+use Rattle.jmodel.specs.jmachine.Narrowing.{narrowed}
+use Rattle.jmodel.specs.jmachine.Steps.{own_fields}
+use Rattle.jready.specs.Exact as exact
+use Rattle.jready.specs.Only.{only_cast, only_field}
+use Rattle.jstepping.specs.declared.jrefs.looking.FieldAt.{FieldAt}
+use Rattle.jstepping.specs.jrefs.Naming.{NamesField}
+
+-- nothing is narrower than an int that is kept whole
+pub whole : (v : Value ℕ) → v ≡ narrowed (Some elements.Int) v
+whole (Int x) = refl
+whole (Long x) = refl
+whole (Ref n) = refl
+whole (Ctx k) = refl
+
+module _ (p : Program) (class : ℕ) (a : FieldAt) where
+  abbrev Found : Option FieldMeaning → Type 0
+  Found o = o ≡ only_field (meant p (pool_at p class) (forms.Field a.op a.pool))
+
+  used_is : (g f : FieldMeaning) → Found (Some g) → NamesField p class a f → g ≡ f
+  used_is g f e n = let both : Some g ≡ Some f = e ∙ ap only_field n.means in cc
+
+  pub never_none : {A : Type 0} (f : FieldMeaning) → Found None → NamesField p class a f → A
+  never_none f e n = let both : None ≡ Some f = e ∙ ap only_field n.means in absurd cc
+
+  pub owner_used : (u : FieldUse) → Found (Some (field_named p u)) → (f : FieldMeaning) → NamesField p class a f → Some (class_named p u.owner) ≡ Some f.owner
+  owner_used u e f n = ap (λ (g : FieldMeaning). Some g.owner) (used_is (field_named p u) f e n)
+
+  pub held_used : (u : FieldUse) → Found (Some (field_named p u)) → (f : FieldMeaning) → NamesField p class a f → Some (named p u.held) ≡ Some f.held
+  held_used u e f n = ap (λ (g : FieldMeaning). Some g.held) (used_is (field_named p u) f e n)
+
+  pub own_used : (m : MethodId) (u : FieldUse) (b : Bool) → Found (Some (field_named p u)) → b ≡ own_fields p m u.member → (f : FieldMeaning) → NamesField p class a f
+      → b ≡ own_fields p m f.member
+  own_used m u b e is f n = is ∙ ap (λ (g : FieldMeaning). own_fields p m g.member) (used_is (field_named p u) f e n)
+
+  pub owner_place : a.owner < length p.parts → (f : FieldMeaning) → NamesField p class a f → Some (class_named p (refs.User a.owner)) ≡ Some f.owner
+  owner_place inside f n = ap (λ d. Some d) (sym (n.holds.owned inside))
+
+  -- ---- numbers, by their cells
+
+  int_held : (t : VType) (cell : CellType) → cell ≡ cells.Int → exact.cell_of t ≡ cell → t ≡ types.Int
+  int_held types.Int cell is e = refl
+  int_held types.Long cell is e = let both : cells.Long ≡ cells.Int = e ∙ is in absurd cc
+  int_held types.Ctx cell is e = let both : cells.Ctx ≡ cells.Int = e ∙ is in absurd cc
+  int_held types.Top cell is e = let both : cells.Ref ≡ cells.Int = e ∙ is in absurd cc
+  int_held types.Null cell is e = let both : cells.Ref ≡ cells.Int = e ∙ is in absurd cc
+  int_held types.UninitThis cell is e = let both : cells.Ref ≡ cells.Int = e ∙ is in absurd cc
+  int_held (types.Uninit o) cell is e = let both : cells.Ref ≡ cells.Int = e ∙ is in absurd cc
+  int_held (types.Object c) cell is e = let both : cells.Ref ≡ cells.Int = e ∙ is in absurd cc
+  int_held (types.Array b) cell is e = let both : cells.Ref ≡ cells.Int = e ∙ is in absurd cc
+
+  long_held : (t : VType) (cell : CellType) → cell ≡ cells.Long → exact.cell_of t ≡ cell → t ≡ types.Long
+  long_held types.Long cell is e = refl
+  long_held types.Int cell is e = let both : cells.Int ≡ cells.Long = e ∙ is in absurd cc
+  long_held types.Ctx cell is e = let both : cells.Ctx ≡ cells.Long = e ∙ is in absurd cc
+  long_held types.Top cell is e = let both : cells.Ref ≡ cells.Long = e ∙ is in absurd cc
+  long_held types.Null cell is e = let both : cells.Ref ≡ cells.Long = e ∙ is in absurd cc
+  long_held types.UninitThis cell is e = let both : cells.Ref ≡ cells.Long = e ∙ is in absurd cc
+  long_held (types.Uninit o) cell is e = let both : cells.Ref ≡ cells.Long = e ∙ is in absurd cc
+  long_held (types.Object c) cell is e = let both : cells.Ref ≡ cells.Long = e ∙ is in absurd cc
+  long_held (types.Array b) cell is e = let both : cells.Ref ≡ cells.Long = e ∙ is in absurd cc
+
+  pub held_int : a.cell ≡ cells.Int → (f : FieldMeaning) → NamesField p class a f → Some types.Int ≡ Some f.held
+  held_int is f n = ap (λ (t : VType). Some t) (sym (int_held f.held a.cell is n.holds.celled))
+
+  pub held_long : a.cell ≡ cells.Long → (f : FieldMeaning) → NamesField p class a f → Some types.Long ≡ Some f.held
+  held_long is f n = ap (λ (t : VType). Some t) (sym (long_held f.held a.cell is n.holds.celled))
+
+-- ---- casts
+
+pub cast_is : (p : Program) (es : List Entry) (op : CastOp) (i : ℕ) (t : TypeRef) (v : VType) → Some (named p t) ≡ only_cast (meant p es (forms.Cast op i))
+    → meant p es (forms.Cast op i) ≡ Some (meanings.Cast op v) → named p t ≡ v
+cast_is p es op i t v e m = let both : Some (named p t) ≡ Some v = e ∙ ap only_cast m in cc
+
+pub never_cast : {A : Type 0} (p : Program) (es : List Entry) (op : CastOp) (i : ℕ) (v : VType) → None ≡ only_cast (meant p es (forms.Cast op i))
+    → meant p es (forms.Cast op i) ≡ Some (meanings.Cast op v) → A
+never_cast p es op i v e m = let both : None ≡ Some v = e ∙ ap only_cast m in absurd cc

@@ -1,0 +1,4 @@
+pub mod Below
+pub mod Receiving
+pub mod Reached
+pub mod Told

@@ -1,0 +1,7 @@
+use Rattle.std.proofs.Common.{rules}
+use Rattle.std.proofs.lemmas.List.Edits.{map_over_more}
+use Rattle.jmodel.specs.jmachine.Unwinding.{dotted}
+use Rattle.jstepping.proofs.jcore.telling.with_dots.Goals as goal
+
+pub loop-unit-preserved : goal.loop-unit-preserved
+loop-unit-preserved c = search (rules, map_over_more dotted)

@@ -1,0 +1,6 @@
+use Rattle.std.proofs.Common.{◌≡◌, ◌++◌, drop, map, take}
+use Rattle.jmodel.specs.jmachine.Unwinding.{dotted}
+use Rattle.jstepping.proofs.jcore.telling.with_dots.Given as goal
+
+abbrev pub invariant-loop-unit : goal.invariant-loop-unit
+invariant-loop-unit l = l.unit-items ≡ map dotted (take l.unit-index l.initial.unit-items) ++ drop l.unit-index l.initial.unit-items

@@ -1,0 +1,13 @@
+use Rattle.std.proofs.Common.{take}
+use Rattle.jmodel.specs.jstate.Celled.{StayCelled}
+use Rattle.jmodel.specs.jstate.Seen.{AreBuilt}
+use Rattle.jstepping.specs.jopen.Rows.{texts_of}
+use Rattle.jstepping.specs.jopen.Texts.{HasMade}
+use Rattle.jstepping.proofs.jopen.texts.make_all.Given as goal
+
+abbrev pub invariant-loop-row : goal.invariant-loop-row
+invariant-loop-row l = record {
+  built : AreBuilt l.heap.objects;
+  celled : StayCelled l.initial.heap.objects l.heap.objects;
+  made : HasMade l.initial.constants.program l.cells (texts_of l.initial.constants.program (take l.row-index l.rows)) l.constants l.heap;
+}

@@ -1,0 +1,5 @@
+pub mod jstep
+pub mod jcore
+pub mod jrefs
+pub mod jopen
+pub mod jtold

@@ -1,6 +1,0 @@
-use Rattle.std.proofs.Common.{◌≡◌, drop}
-use Rattle.jtext.specs.Texts.{same_ignoring_case}
-use Rattle.jtext.proofs.compare.same_ignoring_case.Given as goal
-
-abbrev pub invariant-loop-i : goal.invariant-loop-i
-invariant-loop-i l = same_ignoring_case (drop l.i l.text) (drop l.i l.word) ≡ same_ignoring_case l.text l.word

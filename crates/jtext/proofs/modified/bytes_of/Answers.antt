@@ -1,5 +1,0 @@
-use Rattle.jtext.proofs.Groups.{any_fits}
-use Rattle.jtext.proofs.modified.bytes_of.Goals as goal
-
-pub put_each-requires : goal.put_each-requires
-put_each-requires c = any_fits c.as_slice.result.now

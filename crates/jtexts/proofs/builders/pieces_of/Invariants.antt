@@ -1,9 +1,0 @@
-use Rattle.std.specs.Prelude.{reverse}
-use Rattle.jtexts.proofs.Gathering.{Gathers, steps_left}
-use Rattle.jtexts.proofs.builders.pieces_of.Given as goal
-
-abbrev pub invariant-loop-next : goal.invariant-loop-next
-invariant-loop-next l = Gathers l.heap l.fn.last l.next (reverse l.pieces.items)
-
-abbrev pub decreases-loop-next : goal.decreases-loop-next
-decreases-loop-next l = steps_left l.next

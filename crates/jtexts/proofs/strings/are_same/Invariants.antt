@@ -1,9 +1,0 @@
-use Rattle.std.proofs.Common.{◌≡◌, drop}
-use Rattle.std.specs.Str.{bytes_eq}
-use Rattle.jheap.specs.Heaps.{cells_at}
-use Rattle.jstate.specs.Seen.{units_of}
-use Rattle.jtexts.proofs.strings.are_same.Given as goal
-
-abbrev pub invariant-loop-i : goal.invariant-loop-i
-invariant-loop-i l =
-    bytes_eq (units_of (drop l.i (cells_at l.heap l.a))) (units_of (drop l.i (cells_at l.heap l.b))) ≡ bytes_eq (units_of (cells_at l.heap l.a)) (units_of (cells_at l.heap l.b))

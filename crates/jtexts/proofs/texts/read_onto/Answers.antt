@@ -1,9 +1,0 @@
-use Rattle.std.proofs.Common.{arith}
-use Rattle.jheap.specs.Heaps.{cells_at}
-use Rattle.jtexts.proofs.Units.{read_on}
-use Rattle.jtexts.proofs.texts.read_onto.Goals as goal
-
-pub loop-i-preserved : goal.loop-i-preserved
-loop-i-preserved c =
-    rw (c.in_ok-push.ensures.items, c.unit.ensures)
-    (read_on c.loop-i.units.items _ (cells_at c.args.heap.now c.args.o) c.loop-i.i (omega (arith, c.loop-i-test.true, c.len-i-end.ensures)) c.loop-i.invariant)

@@ -1,7 +1,0 @@
-use Rattle.std.proofs.Common.{◌≡◌, ◌++◌, drop}
-use Rattle.jheap.specs.Heaps.{cells_at}
-use Rattle.jstate.specs.Seen.{units_of}
-use Rattle.jtexts.proofs.texts.read_onto.Given as goal
-
-abbrev pub invariant-loop-i : goal.invariant-loop-i
-invariant-loop-i l = l.units.items ++ units_of (drop l.i (cells_at l.heap l.o)) ≡ l.initial.units.items ++ units_of (cells_at l.heap l.o)

@@ -1,5 +1,0 @@
-use Rattle.jtexts.proofs.TellingRows.{cell_there}
-use Rattle.jtexts.proofs.thrown.put_message.Goals as goal
-
-pub len-requires : goal.len-requires
-len-requires c = cell_there c.args.heap.now c.args.o c.args.at c.requires

@@ -1,4 +1,0 @@
-mod Below
-mod Receiving
-mod Reached
-mod Told

@@ -1,5 +1,0 @@
-use Rattle.jtold.proofs.Told.{tells}
-use Rattle.jtold.proofs.told_law.Goals as goal
-
-pub returns : goal.returns
-returns c = tells c.call_law.ensures c.name_law.ensures c.selection_law.ensures c.heap_laws.ensures.each

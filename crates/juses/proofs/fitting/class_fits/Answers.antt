@@ -1,5 +1,0 @@
-use Rattle.juses.proofs.Naming.{one_fits}
-use Rattle.juses.proofs.fitting.class_fits.Goals as goal
-
-pub returns-then-are_one : goal.returns-then-are_one
-returns-then-are_one c = one_fits c.args.p.now c.args.c c.args.d (c.are_one.ensures c.if-are_one.true)
