@@ -126,7 +126,7 @@ class Definitions:
                 self.reach(aliases[first], rest.split(".")[0])
 
     def reach_contract(self, crate, function):
-        for path in glob.glob(f"{CRATES}/{crate}/src/*.rt"):
+        for path in glob.glob(f"{CRATES}/{crate}/src/**/*.rt", recursive=True):
             text = open(path).read()
             head = re.search(r"pub fn " + function + r"<.*?\n\{", text, re.S)
             if head:
@@ -178,10 +178,10 @@ def main():
     all = Definitions()
     if sys.argv[1:] == ["headline"]:
         for clause in ("AnswersSome", "AnswersAll"):
-            all.reach("jdriver.specs.Headline", clause)
+            all.reach("jtop.specs.jdriver.Headline", clause)
     else:
         for function in ("javasec", "dispatch"):
-            all.reach_contract("jdriver", function)
+            all.reach_contract("jtop", function)
     all.close()
     lines, types = collections.Counter(), collections.Counter()
     for module in {module for module, _ in all.reached}:

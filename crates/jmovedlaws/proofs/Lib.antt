@@ -1,3 +1,4 @@
 pub mod JseenProofs
 pub mod JcodedProofs
 pub mod JretypeProofs
+pub mod JsmallProofs

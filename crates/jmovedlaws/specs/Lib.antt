@@ -1,3 +1,4 @@
 pub mod jseen
 pub mod jcoded
 pub mod jretype
+pub mod jsmall

@@ -13,5 +13,5 @@
 
 mod rewritten;
 
-pub use jrewrite::{OutFile, RewriteError, RewriteKind};
+pub use jrewriting::jrewrite::{OutFile, RewriteError, RewriteKind};
 pub use rewritten::{RewrittenProgram, rewrite};

@@ -2,10 +2,10 @@ ghost use Rattle.std.specs.Prelude.{◌≡◌, ℕ, IfOk, List, MatchResult, Non
 ghost use Rattle.jlib.specs.declared.side.Side.TheVariants as sides;
 ghost use Rattle.jlinking.specs.jlink.Links.{Links};
 ghost use Rattle.jprogram.specs.Members.{main_of};
-ghost use Rattle.jrewrite.specs.Files;
-ghost use Rattle.jrewrite.specs.Files.{IsRewritten};
-ghost use Rattle.jrewrite.specs.Program;
-ghost use Rattle.jrewrite.specs.Program.{RewriteErrorIs};
+ghost use Rattle.jrewriting.specs.jrewrite.Files;
+ghost use Rattle.jrewriting.specs.jrewrite.Files.{IsRewritten};
+ghost use Rattle.jrewriting.specs.jrewrite.Program;
+ghost use Rattle.jrewriting.specs.jrewrite.Program.{RewriteErrorIs};
 ghost use Rattle.jtyping.specs.Typing.{WellTyped};
 
 use jcheck::{CheckedProgram, PlainProgram};
@@ -13,7 +13,7 @@ use jground::jbase::Seq;
 use jlinking::jlink::LinkedProgram;
 use jmovedlaws::jretype::types_law;
 use jmovedlaws::jseen::begin_law;
-use jrewrite::{OutFile, RewriteError, files_of, link_law, moved_program};
+use jrewriting::jrewrite::{OutFile, RewriteError, files_of, link_law, moved_program};
 use std::alloc::{AllocError, Global};
 use std::marker::Model;
 
@@ -26,7 +26,7 @@ pub struct RewrittenProgram {
 
 impl Model for RewrittenProgram {
     ghost use Rattle.jprogram.specs.Classes.{Program};
-    ghost use Rattle.jrewrite.specs.Files.{IsRewritten};
+    ghost use Rattle.jrewriting.specs.jrewrite.Files.{IsRewritten};
     ghost use Rattle.jtyping.specs.Typing.{WellTyped};
 
     ghost Value = { Program };

@@ -18,8 +18,8 @@ use Rattle.jprogram.specs.declared.part.CodePart.{CodePart}
 use Rattle.jprogram.specs.Classes.{Program, program}
 use Rattle.jprogram.specs.Members.{main_of}
 use Rattle.jtyping.specs.Typing.{Place, WellTyped, type_fault}
-use Rattle.jrewrite.specs.Linking.{IsLinked}
-use Rattle.jrewrite.specs.Program.{limits, moved}
+use Rattle.jrewriting.specs.jrewrite.Linking.{IsLinked}
+use Rattle.jrewriting.specs.jrewrite.Program.{limits, moved}
 use Rattle.jmodel.specs.declared.jmachine.plan.Plan.{Plan}
 use Rattle.jshow.specs.declared.refusal.Refusal.TheVariants.{NoMain}
 use Rattle.jtask.specs.declared.ground.Ground.{Ground}

@@ -5,8 +5,8 @@ use Rattle.jmoveclass.specs.declared.limit.Limit.{Limit}
 use Rattle.jprogram.specs.declared.part.CodePart.{CodePart}
 use Rattle.jprogram.specs.Parts.{this_name}
 use Rattle.jprogram.specs.Classes.{Program}
-use Rattle.jrewrite.specs.declared.part.Place.{Place}
-use Rattle.jrewrite.specs.Program.{limits, moved}
+use Rattle.jrewriting.specs.declared.jrewrite.part.Place.{Place}
+use Rattle.jrewriting.specs.jrewrite.Program.{limits, moved}
 use Rattle.jshow.specs.declared.refusal.Refusal.{Refusal}
 use Rattle.jshow.specs.declared.refusal.Refusal.TheVariants.{BadRewrite}
 use Rattle.jtask.specs.Checking.{method_told}

@@ -1,8 +1,8 @@
 ghost use Rattle.std.specs.Prelude.{◌≡◌, ℕ, Err, IfOk, List, OnOk, Option, Some};
 ghost use Rattle.jlib.specs.declared.side.Side.TheVariants as sides;
 ghost use Rattle.jprogram.specs.Members.{main_of};
-ghost use Rattle.jrewrite.specs.declared.part.Place.{Place};
-ghost use Rattle.jrewrite.specs.Program.{RewriteErrorIs};
+ghost use Rattle.jrewriting.specs.declared.jrewrite.part.Place.{Place};
+ghost use Rattle.jrewriting.specs.jrewrite.Program.{RewriteErrorIs};
 ghost use Rattle.jtask.specs.declared.halt.Halt.TheVariants.{Read};
 ghost use Rattle.jtask.specs.Rewriting.{limit_refusal, limit_told, limited_told, rewritten, unless_limited};
 ghost use Rattle.jtask.specs.Stages.{Follows};

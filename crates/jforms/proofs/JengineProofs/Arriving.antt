@@ -18,8 +18,8 @@ use Rattle.jstepping.specs.declared.jcore.machine.Machine.{Machine}
 use Rattle.jstepping.specs.jcore.Answering.{Answered, AsksKnown}
 use Rattle.jstepping.specs.jcore.Comings.{GoesOn, outcome_by}
 use Rattle.jstepping.specs.jcore.Machines.{AreRules, StaysFixed, state_of}
-use Rattle.jsafe.specs.States as states
-use Rattle.jsafe.specs.States.{IsTypedState, StatesStep}
+use Rattle.jsafety.specs.jsafe.States as states
+use Rattle.jsafety.specs.jsafe.States.{IsTypedState, StatesStep}
 use Rattle.jforms.specs.jengine.Engines.{IsEngine, IsSafe, asks_next, next_of}
 use Rattle.jforms.proofs.JengineProofs.Asking.{carry_then}
 

@@ -19,7 +19,7 @@ use Rattle.jstepping.specs.declared.jopen.opening.FirstFrame.{FirstFrame}
 use Rattle.jstepping.specs.jopen.Opened as opened
 use Rattle.jstepping.specs.declared.jcore.machine.Machine.{Machine}
 use Rattle.jstepping.specs.jcore.Machines.{state_of}
-use Rattle.jsafe.specs.States.{IsTypedState, OpensTyped}
+use Rattle.jsafety.specs.jsafe.States.{IsTypedState, OpensTyped}
 use Rattle.jprogram.specs.Members.{IsMain}
 use Rattle.jforms.specs.jengine.Engines.{IsEngine, IsSafe}
 use Rattle.jforms.specs.jengine.Grounds.{BegunOr, IsBegun, StartsOr}

@@ -5,7 +5,7 @@ use Rattle.jrights.specs.declared.jtrace.event.End.{End}
 use Rattle.jmodel.specs.jmachine.Acts.{Outcome, Went, Over, NoStep}
 use Rattle.jmodel.specs.jmachine.Maps.{outcome_map, run_map}
 use Rattle.jmodel.specs.jmachine.Runs.{Run, after, next, next_at, run_from}
-use Rattle.jcount.specs.Counting.{HasEnded, IsSilent, Leads, LeadsOut, going}
+use Rattle.jbesides.specs.jcount.Counting.{HasEnded, IsSilent, Leads, LeadsOut, going}
 
 module _ {S T : Type 0} (h : S → T) (one : S → Outcome S) (other : T → Outcome T) (alike : (s : S) → outcome_map h (one s) ≡ other (h s)) where
   after_alike : (r : Run S) (o : Outcome S) → run_map h (after one r o) ≡ after other (run_map h r) (outcome_map h o)

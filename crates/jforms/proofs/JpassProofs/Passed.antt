@@ -15,12 +15,12 @@ use Rattle.jmodel.specs.jmachine.Steps.{step}
 use Rattle.jrights.specs.jdomain.Stacks.{Stack}
 use Rattle.jmodel.specs.jrules.Inspecting as inspecting
 use Rattle.jmodel.specs.jrules.Inspecting.{Carried}
-use Rattle.jbeside.specs.Alike.{ShadowedRuns, SourcedRuns, SourcedSteps, state_along}
-use Rattle.jbeside.specs.Beside.{shadowed, sourced}
-use Rattle.jcount.specs.Counting.{EndsAll, Follows, IsUnstuck, KeepsAll, Leads}
-use Rattle.jcount.proofs.Counts.{no_more}
-use Rattle.jstands.specs.Stands.{LocallyFollows, Point, Stands, before, behind}
-use Rattle.jfollow.specs.Begins.{BeginsInFour, first, first_moved}
+use Rattle.jbesides.specs.jbeside.Alike.{ShadowedRuns, SourcedRuns, SourcedSteps, state_along}
+use Rattle.jbesides.specs.jbeside.Beside.{shadowed, sourced}
+use Rattle.jbesides.specs.jcount.Counting.{EndsAll, Follows, IsUnstuck, KeepsAll, Leads}
+use Rattle.jbesides.proofs.JcountProofs.Counts.{no_more}
+use Rattle.jbesides.specs.jstands.Stands.{LocallyFollows, Point, Stands, before, behind}
+use Rattle.jbesides.specs.jfollow.Begins.{BeginsInFour, first, first_moved}
 use Rattle.jforms.specs.jpass.Passing.{Complete, PassTheorem, PassesUnstuck, Simulated, UnstuckFor, inspected, passed}
 use Rattle.jforms.proofs.JpassProofs.Told.{near_all, told_all}
 

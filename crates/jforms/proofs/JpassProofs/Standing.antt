@@ -11,10 +11,10 @@ use Rattle.jmodel.specs.jmachine.Steps.{step}
 use Rattle.jmodel.specs.jrules.Inspecting as inspecting
 use Rattle.jmodel.specs.jrules.Inspecting.{Carried}
 use Rattle.jmodel.specs.jrules.Plain as plain
-use Rattle.jbeside.specs.Alike.{ShadowedSteps, SourcedSteps, state_along, state_left}
-use Rattle.jcount.specs.Counting.{Answers}
-use Rattle.jstands.specs.Moves.{Moves}
-use Rattle.jstands.specs.Stands.{LocallyFollows, Point, Stands, before, behind}
+use Rattle.jbesides.specs.jbeside.Alike.{ShadowedSteps, SourcedSteps, state_along, state_left}
+use Rattle.jbesides.specs.jcount.Counting.{Answers}
+use Rattle.jbesides.specs.jstands.Moves.{Moves}
+use Rattle.jbesides.specs.jstands.Stands.{LocallyFollows, Point, Stands, before, behind}
 use Rattle.jforms.specs.jpass.Standing.{StandsFor, StandsThroughout}
 use Rattle.jforms.proofs.JpassProofs.Lasting.{leads, leads_out}
 

@@ -5,8 +5,8 @@ use Rattle.jrights.specs.declared.jtrace.event.End.{End}
 use Rattle.jmodel.specs.jmachine.Acts.{Outcome}
 use Rattle.jmodel.specs.jmachine.Runs.{Run, run_from}
 use Rattle.jmodel.proofs.JmachineProofs.Courses.{later}
-use Rattle.jcount.specs.Counting.{Ends, EndsAll, Follows, IsUnstuck, Keeps, KeepsAll, Leads, going}
-use Rattle.jcount.proofs.Counts.{no_more, none_yet}
+use Rattle.jbesides.specs.jcount.Counting.{Ends, EndsAll, Follows, IsUnstuck, Keeps, KeepsAll, Leads, going}
+use Rattle.jbesides.proofs.JcountProofs.Counts.{no_more, none_yet}
 
 module _ {S T : Type 0} (R : S → T → Type 0) (keeps : KeepsAll R) (ends : EndsAll R) (fast : S → Outcome S) (slow : T → Outcome T)
     (local : Follows R fast slow 7) (s : S) (t u : T) (lead : Leads slow 4 t [] u) (stands : R s u) where

@@ -6,7 +6,7 @@ use Rattle.jctx.specs.declared.item.Item.{Item}
 use Rattle.jlib.specs.declared.side.Side.TheVariants.{Passing, Source}
 use Rattle.jprogram.specs.Classes.{Program}
 use Rattle.jprogram.specs.Members.{IsMain, main_of}
-use Rattle.jrewrite.specs.Linking.{IsLinked}
+use Rattle.jrewriting.specs.jrewrite.Linking.{IsLinked}
 use Rattle.jtyping.specs.Typing.{WellTyped}
 use Rattle.jmodel.specs.declared.jmachine.plan.Plan.{Plan}
 use Rattle.jmodel.specs.jmachine.Acts.{Outcome, State}
@@ -16,11 +16,11 @@ use Rattle.jmodel.specs.jmachine.Steps.{step}
 use Rattle.jmodel.specs.jrules.Inspecting as inspecting
 use Rattle.jmodel.specs.jrules.Inspecting.{Carried}
 use Rattle.jmodel.specs.jrules.Plain as plain
-use Rattle.jcount.specs.Counting.{HasStep}
-use Rattle.jyield.specs.Laws.{AreSided}
-use Rattle.jsafe.specs.Sound.{IsSound}
-use Rattle.jsafe.specs.States.{ComesTo, IsTypedRun, RunsTyped}
-use Rattle.jsound.specs.Runs.{LinkedRunsTyped}
+use Rattle.jbesides.specs.jcount.Counting.{HasStep}
+use Rattle.jsafety.specs.jyield.Laws.{AreSided}
+use Rattle.jsafety.specs.jsafe.Sound.{IsSound}
+use Rattle.jsafety.specs.jsafe.States.{ComesTo, IsTypedRun, RunsTyped}
+use Rattle.jsafety.specs.jsound.Runs.{LinkedRunsTyped}
 use Rattle.jforms.specs.jpass.Passing.{NeverStuck, Passes, PassesUnstuck, inspected, passed}
 
 has_step : {K E : Type 0} (r : Rules K E) (p : Program) (plan : Plan) (x : Run (State K E)) → IsTypedRun r p plan x → HasStep (step r p plan) x

@@ -12,10 +12,10 @@ use Rattle.jground.specs.declared.jops.value.Value.{Value}
 use Rattle.jrows.specs.jtexts.Messages.{MayBeTold}
 use Rattle.jmodel.specs.jstate.Framed.{Framed}
 use Rattle.jmodel.specs.jguard.Standing.{AnswersFor, IsKnownIn}
-use Rattle.jcallplain.specs.Running.{MayTell}
+use Rattle.jcalling.specs.jcallplain.Running.{MayTell}
 use Rattle.jstepping.specs.jcore.Answering.{Answered, AsksKnown, asked_of, outcome_of}
 use Rattle.jstepping.specs.jcore.Machines.{AreRules, StaysFixed}
-use Rattle.jexecute.specs.Executing.{HasFrames, HasRules, StandsAt}
+use Rattle.jcalling.specs.jexecute.Executing.{HasFrames, HasRules, StandsAt}
 use Rattle.jforms.specs.jengine.Engines.{asks_next, next_of}
 use Rattle.jforms.proofs.JengineProofs.Asking.{carry_then, marked}
 

@@ -13,11 +13,11 @@ use Rattle.jstepping.specs.declared.jcore.machine.Machine.{Machine}
 use Rattle.jstepping.specs.jcore.Answering.{Answered}
 use Rattle.jstepping.specs.jcore.Comings.{GoesOn}
 use Rattle.jstepping.specs.jcore.Machines.{StaysFixed, state_of}
-use Rattle.jexecute.specs.declared.hastening.Hasty.{Hasty}
-use Rattle.jexecute.specs.declared.executing.Executed.{Executed}
-use Rattle.jexecute.specs.Executing.{CameTo, Executes}
-use Rattle.jexecute.specs.Hastening.{Closes, Leads, Tries}
-use Rattle.jsafe.specs.States.{StatesStep}
+use Rattle.jcalling.specs.declared.jexecute.hastening.Hasty.{Hasty}
+use Rattle.jcalling.specs.declared.jexecute.executing.Executed.{Executed}
+use Rattle.jcalling.specs.jexecute.Executing.{CameTo, Executes}
+use Rattle.jcalling.specs.jexecute.Hastening.{Closes, Leads, Tries}
+use Rattle.jsafety.specs.jsafe.States.{StatesStep}
 use Rattle.jforms.specs.jengine.Engines.{IsEngine, asks_next, next_of}
 use Rattle.jforms.proofs.JengineProofs.Arriving.{engine_again, engine_steps, knows, never_stuck, same_steps}
 use Rattle.jforms.proofs.JengineProofs.Asking.{answers_none}

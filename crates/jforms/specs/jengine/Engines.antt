@@ -10,9 +10,9 @@ use Rattle.jmodel.specs.jguard.Guarded.{MarksStand}
 use Rattle.jmodel.specs.jguard.Standing.{StandsFor}
 use Rattle.jstepping.specs.declared.jcore.machine.Machine.{Machine}
 use Rattle.jstepping.specs.jcore.Machines.{IsReady, state_of}
-use Rattle.jyield.specs.Laws.{AreSided}
-use Rattle.jsafe.specs.Sound.{IsSound}
-use Rattle.jsafe.specs.States.{IsTypedState}
+use Rattle.jsafety.specs.jyield.Laws.{AreSided}
+use Rattle.jsafety.specs.jsafe.Sound.{IsSound}
+use Rattle.jsafety.specs.jsafe.States.{IsTypedState}
 
 -- By rules a program has no run that is stuck: it links and is well typed, it is on their side, and they hand contexts over by it.
 pub record IsSafe {K E : Type 0} (rules : Rules K E) (p : Program) : Type 0 where

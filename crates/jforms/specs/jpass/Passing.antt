@@ -6,9 +6,9 @@ use Rattle.jrights.specs.declared.jtrace.event.End.{End}
 use Rattle.jprogram.specs.Classes.{Program}
 use Rattle.jprogram.specs.Members.{main_of}
 use Rattle.jctx.specs.declared.item.Item.{Item}
-use Rattle.jrewrite.specs.Linking.{IsLinked}
+use Rattle.jrewriting.specs.jrewrite.Linking.{IsLinked}
 use Rattle.jtyping.specs.Typing.{WellTyped}
-use Rattle.jrewrite.specs.Program.{limits, moved}
+use Rattle.jrewriting.specs.jrewrite.Program.{limits, moved}
 use Rattle.jmodel.specs.declared.jmachine.plan.Plan.{Plan}
 use Rattle.jmodel.specs.jmachine.Acts.{Outcome, State}
 use Rattle.jmodel.specs.jmachine.Machine.{run}
@@ -17,8 +17,8 @@ use Rattle.jmodel.specs.jmachine.Steps.{step}
 use Rattle.jmodel.specs.jrules.Inspecting as inspecting
 use Rattle.jmodel.specs.jrules.Inspecting.{Carried}
 use Rattle.jmodel.specs.jrules.Plain as plain
-use Rattle.jcount.specs.Counting.{HasStep}
-use Rattle.jstands.specs.Moves.{Moves}
+use Rattle.jbesides.specs.jcount.Counting.{HasStep}
+use Rattle.jbesides.specs.jstands.Moves.{Moves}
 
 -- the run of a program as it was written, by the machine that walks frames,
 abbrev pub inspected : (ℕ → Permission → Bool) → Program → Plan → ℕ → Run (State Stack Carried)

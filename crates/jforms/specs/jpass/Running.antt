@@ -5,9 +5,9 @@ use Rattle.jrights.specs.declared.jtrace.event.End.{End}
 use Rattle.jrights.specs.declared.jtrace.fault.RunFault.{RunFault}
 use Rattle.jprogram.specs.Classes.{Program}
 use Rattle.jprogram.specs.Members.{main_of}
-use Rattle.jrewrite.specs.Linking.{IsLinked}
+use Rattle.jrewriting.specs.jrewrite.Linking.{IsLinked}
 use Rattle.jtyping.specs.Typing.{WellTyped}
-use Rattle.jrewrite.specs.Program.{limits, moved}
+use Rattle.jrewriting.specs.jrewrite.Program.{limits, moved}
 use Rattle.jmodel.specs.declared.jmachine.plan.Plan.{Plan}
 use Rattle.jmodel.specs.jmachine.Runs.{Run, ending, run_text}
 

@@ -4,19 +4,19 @@ use Rattle.jrights.specs.declared.jperm.permission.Permission.{Permission}
 use Rattle.jrights.specs.jdomain.Stacks.{Stack}
 use Rattle.jprogram.specs.Classes.{Program}
 use Rattle.jctx.specs.declared.item.Item.{Item}
-use Rattle.jrewrite.specs.Linking.{IsLinked}
+use Rattle.jrewriting.specs.jrewrite.Linking.{IsLinked}
 use Rattle.jtyping.specs.Typing.{WellTyped}
-use Rattle.jrewrite.specs.Program.{limits, moved}
+use Rattle.jrewriting.specs.jrewrite.Program.{limits, moved}
 use Rattle.jmodel.specs.declared.jmachine.plan.Plan.{Plan}
 use Rattle.jmodel.specs.jmachine.Acts.{State}
 use Rattle.jmodel.specs.jmachine.Steps.{step}
 use Rattle.jmodel.specs.jrules.Inspecting as inspecting
 use Rattle.jmodel.specs.jrules.Inspecting.{Carried}
 use Rattle.jmodel.specs.jrules.Plain as plain
-use Rattle.jbeside.specs.Alike.{state_along, state_left}
-use Rattle.jcount.specs.Counting.{Follows}
-use Rattle.jstands.specs.Moves.{Moves}
-use Rattle.jstands.specs.Stands.{Point, Stands}
+use Rattle.jbesides.specs.jbeside.Alike.{state_along, state_left}
+use Rattle.jbesides.specs.jcount.Counting.{Follows}
+use Rattle.jbesides.specs.jstands.Moves.{Moves}
+use Rattle.jbesides.specs.jstands.Stands.{Point, Stands}
 
 -- With contexts in place of its stacks the inspecting state is one of the first machine between; a state of the second one stands for that;
 -- and it is the plain state, but for what its frames carry.

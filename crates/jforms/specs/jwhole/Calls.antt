@@ -4,8 +4,8 @@ use Rattle.jlib.specs.declared.calls.LibCall.{LibCall}
 use Rattle.jlib.specs.declared.calls.LibCall.TheVariants as calls
 use Rattle.jlib.specs.declared.calls.RtCall.TheVariants as rt
 use Rattle.jlibcalls.specs.jlibrary.Ran.{IsAskFree}
-use Rattle.jcallcheck.specs.Finding.{IsCheck}
-use Rattle.jcallcontext.specs.Finding.{IsPrivileged, IsSnapshot}
+use Rattle.jcalling.specs.jcallcheck.Finding.{IsCheck}
+use Rattle.jcalling.specs.jcallcontext.Finding.{IsPrivileged, IsSnapshot}
 use Rattle.jforms.specs.declared.jwhole.advancing.Asking.{Asking}
 use Rattle.jforms.specs.declared.jwhole.advancing.Asking.TheVariants as asking
 

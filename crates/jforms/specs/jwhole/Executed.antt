@@ -4,8 +4,8 @@ use Rattle.jrows.specs.jcalls.Marks.{marks_of}
 use Rattle.jstepping.specs.declared.jcore.machine.Machine.{Machine}
 use Rattle.jstepping.specs.jcore.Answering.{AsksKnown}
 use Rattle.jstepping.specs.jcore.Machines.{StaysFixed}
-use Rattle.jexecute.specs.declared.executing.Executed.{Executed}
-use Rattle.jexecute.specs.Executing.{Executes}
+use Rattle.jcalling.specs.declared.jexecute.executing.Executed.{Executed}
+use Rattle.jcalling.specs.jexecute.Executing.{Executes}
 use Rattle.jforms.specs.jengine.Engines.{asks_next}
 
 -- A step of a machine came to this, and has left another, for which what it asks of access control is known to the guard.

@@ -14,7 +14,7 @@ use jlinking::jlink::LinkedProgram;
 use jmodel::jguard::{Guard, Sided, guard_laws};
 use jmodel::jmachine::Plan;
 use jprogram::MethodId;
-use jsafe::states_laws;
+use jsafety::jsafe::states_laws;
 use jstepping::jcore::Machine;
 use jstepping::jopen::FirstFrame;
 use std::alloc::{AllocError, Global};

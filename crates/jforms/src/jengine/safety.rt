@@ -1,10 +1,10 @@
 ghost use Rattle.jtyping.specs.Typing.{WellTyped};
-ghost use Rattle.jsafe.specs.Sound.{IsSound};
+ghost use Rattle.jsafety.specs.jsafe.Sound.{IsSound};
 
 use jlinking::jlink::{LinkedProgram, are_files};
 use jmodel::jguard::Guard;
-use jsafe::OneMachine;
-use jsound::sound_law;
+use jsafety::jsafe::OneMachine;
+use jsafety::jsound::sound_law;
 use std::marker::PhantomData;
 
 /// The machine by a guard's rules, of which laws of typed states (`states_laws`) are asked.

@@ -12,7 +12,7 @@ use jcheck::CheckedProgram;
 use jmodel::jmachine::Plan;
 use jrights::jdomain::Domains;
 use jrights::jtally::Tally;
-use jyield::rules_laws;
+use jsafety::jyield::rules_laws;
 use std::alloc::{AllocError, Global};
 
 /// Counts the run of a checked program by the rules of frames, as `run_inspect` writes it. Want of memory may come at any time.

@@ -15,7 +15,7 @@ use jmodel::jmachine::Plan;
 use jrights::jdomain::Domains;
 use jrights::jio::Sink;
 use jrights::jtrace::{End, RunFault};
-use jyield::rules_laws;
+use jsafety::jyield::rules_laws;
 use std::alloc::Global;
 
 /// Runs a checked program of the source side by the rules of frames: each check walks the stack (class documentation of AccessController). It writes

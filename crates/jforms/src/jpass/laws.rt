@@ -2,19 +2,19 @@ ghost use Rattle.jforms.specs.jpass.Passing.{MovedPasses, PassTheorem};
 ghost use Rattle.jforms.specs.jpass.Standing.{MovedStands, StandsThroughout};
 
 use crate::jpass::machines::ByFrames;
-use jbeside::beside_laws;
-use jcount::{TwoStates, count_laws};
-use jfollow::{follow_law, opening_law};
+use jbesides::jbeside::beside_laws;
+use jbesides::jcount::{TwoStates, count_laws};
+use jbesides::jfollow::{follow_law, opening_law};
 use jmovedlaws::jcoded::moves_law;
-use jsound::runs_law;
-use jyield::rules_laws;
+use jsafety::jsound::runs_law;
+use jsafety::jyield::rules_laws;
 
 /// The states of the machines between, and which of them stand for which, by a program and its moved program.
 struct Between;
 
 impl TwoStates for Between {
     ghost use Rattle.jprogram.specs.Classes.{Program};
-    ghost use Rattle.jstands.specs.Stands.{Point, Stands};
+    ghost use Rattle.jbesides.specs.jstands.Stands.{Point, Stands};
 
     ghost S = { Point };
 

@@ -1,4 +1,4 @@
-use jsafe::OneMachine;
+use jsafety::jsafe::OneMachine;
 
 /// The machine that walks frames.
 pub(crate) struct ByFrames;

@@ -11,20 +11,20 @@ ghost use Rattle.jmodel.specs.jrules.Plain.{rules as plain};
 ghost use Rattle.jprogram.specs.Members.{IsMain};
 ghost use Rattle.jforms.specs.jpass.Passing.{NeverStuck, inspected, passed};
 ghost use Rattle.jforms.specs.jpass.Running.{AfterSome, IsMoved, OnceEnded, Tells};
-ghost use Rattle.jsmall.specs.Small.{HasSmall};
+ghost use Rattle.jmovedlaws.specs.jsmall.Small.{HasSmall};
 
 use crate::jpass::laws::moved_laws;
 use crate::jpass::machines::{ByContexts, ByFrames};
 use crate::jplain::{is_sound, run_plain};
 use jcheck::PlainProgram;
 use jmodel::jmachine::Plan;
+use jmovedlaws::jsmall::small_law;
 use jrights::jdomain::Domains;
 use jrights::jio::Sink;
 use jrights::jtrace::{End, RunFault};
-use jsafe::states_laws;
-use jsmall::small_law;
-use jsound::runs_law;
-use jyield::rules_laws;
+use jsafety::jsafe::states_laws;
+use jsafety::jsound::runs_law;
+use jsafety::jyield::rules_laws;
 use std::alloc::Global;
 
 /// Runs a well-typed program of the passing side by the rules of contexts, as [`run_plain`] does. Of each program that links, is well typed, breaks no

@@ -11,7 +11,7 @@ use jcheck::PlainProgram;
 use jmodel::jmachine::Plan;
 use jrights::jdomain::Domains;
 use jrights::jtally::Tally;
-use jyield::rules_laws;
+use jsafety::jyield::rules_laws;
 use std::alloc::{AllocError, Global};
 
 /// Counts the run of a program of the passing side by the rules of contexts, as `run_plain` writes it. Want of memory may come at any time.

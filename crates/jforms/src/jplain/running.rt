@@ -14,7 +14,7 @@ use jmodel::jmachine::Plan;
 use jrights::jdomain::Domains;
 use jrights::jio::Sink;
 use jrights::jtrace::{End, RunFault};
-use jyield::rules_laws;
+use jsafety::jyield::rules_laws;
 use std::alloc::Global;
 
 /// Runs a program of the passing side that is well typed by the rules of contexts: each check is decided by the context that the call hands over,

@@ -6,7 +6,7 @@ ghost use Rattle.jmodel.specs.jmachine.Machine.{run};
 ghost use Rattle.jmodel.specs.jmachine.Runs.{Run, next, run_from, told_by};
 ghost use Rattle.jmodel.specs.jrun.Running.{told_in};
 ghost use Rattle.jrights.specs.jtally.Events.{counted};
-ghost use Rattle.jyield.specs.Laws.{AreSided};
+ghost use Rattle.jsafety.specs.jyield.Laws.{AreSided};
 ghost use Rattle.jprogram.specs.Members.{IsMain};
 ghost use Rattle.jforms.specs.jengine.Courses.{Stands, end_of, steps};
 ghost use Rattle.jforms.specs.jengine.Grounds.{IsGround};

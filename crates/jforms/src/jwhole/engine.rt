@@ -6,7 +6,7 @@ ghost use Rattle.jmodel.specs.jmachine.Opening.{opening_state};
 ghost use Rattle.jmodel.specs.jmachine.Steps.{step as steps_by};
 ghost use Rattle.jmodel.specs.jguard.Standing.{AskedOnce, Keeps};
 ghost use Rattle.jmodel.specs.jrun.Coming.{ComesTo, WhereWent, came_as};
-ghost use Rattle.jyield.specs.Laws.{AreSided};
+ghost use Rattle.jsafety.specs.jyield.Laws.{AreSided};
 ghost use Rattle.jforms.specs.jengine.Courses.{AreLive, Holds, Runs, Stands, asks_of, end_in, end_of, is_lost, steps};
 ghost use Rattle.jprogram.specs.Members.{IsMain};
 ghost use Rattle.jforms.specs.jengine.Grounds.{IsGround};

@@ -9,10 +9,10 @@ ghost use Rattle.jforms.specs.jengine.Engines.{IsEngine, asks_next};
 
 use crate::jengine::ByRules;
 use crate::jwhole::advancing::{advance, answer};
-use jexecute::hasten;
+use jcalling::jexecute::hasten;
 use jmodel::jguard::{Guard, guard_laws};
 use jmodel::jrun::{Came, Stepped, Stepping, Stretch};
-use jsafe::states_laws;
+use jsafety::jsafe::states_laws;
 use jstepping::jcore::Machine;
 use std::alloc::{AllocError, Global};
 

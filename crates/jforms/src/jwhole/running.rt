@@ -4,7 +4,7 @@ ghost use Rattle.jrights.specs.declared.jtrace.fault.RunFault.TheVariants.{Sink 
 ghost use Rattle.jtyping.specs.Typing.{WellTyped};
 ghost use Rattle.jmodel.specs.jmachine.Machine.{run as run_of};
 ghost use Rattle.jmodel.specs.jmachine.Runs.{ending, run_text};
-ghost use Rattle.jyield.specs.Laws.{AreSided};
+ghost use Rattle.jsafety.specs.jyield.Laws.{AreSided};
 ghost use Rattle.jprogram.specs.Members.{IsMain};
 ghost use Rattle.jforms.specs.jengine.Engines.{IsSafe};
 ghost use Rattle.jforms.specs.jengine.Grounds.{IsGround};

@@ -4,7 +4,7 @@ use Rattle.std.specs.Prelude.{slice_get}
 use Rattle.jclass.specs.declared.class.CodeBody.{CodeBody}
 use Rattle.jmoveclass.specs.Beginning.{slots}
 use Rattle.jmoveclass.specs.Moved.{moved_class}
-use Rattle.jmovefile.proofs.Bodying.{new_body}
+use Rattle.jrewriting.proofs.JmovefileProofs.Bodying.{new_body}
 use Rattle.jprogram.specs.declared.member.MethodId.{MethodId}
 use Rattle.jprogram.specs.Classes.{Program}
 use Rattle.jmeaning.specs.juses.Instructions.{Instruction, code_at}
@@ -12,11 +12,11 @@ use Rattle.jmodel.specs.jmachine.Frames.{domain_in}
 use Rattle.jmodel.specs.jmachine.Steps.{fetched}
 use Rattle.jmodel.specs.jmachine.World.{world}
 use Rattle.jtyping.specs.Typing.{WellTyped}
-use Rattle.jrewrite.specs.Linking.{IsLinked}
-use Rattle.jrewrite.specs.Program.{limits, moved}
-use Rattle.jrewrite.proofs.Overriding.{info_is}
-use Rattle.jstands.specs.Expanding.{prologue}
-use Rattle.jstands.specs.Moves.{MovedCode, SameClasses}
+use Rattle.jrewriting.specs.jrewrite.Linking.{IsLinked}
+use Rattle.jrewriting.specs.jrewrite.Program.{limits, moved}
+use Rattle.jrewriting.proofs.JrewriteProofs.Overriding.{info_is}
+use Rattle.jbesides.specs.jstands.Expanding.{prologue}
+use Rattle.jbesides.specs.jstands.Moves.{MovedCode, SameClasses}
 use Rattle.jmovedlaws.specs.jcoded.Slots.{slots_at, slots_in}
 use Rattle.jmovedlaws.proofs.JcodedProofs.Coded.{Both, both_of, code_there}
 use Rattle.jmovedlaws.proofs.JcodedProofs.Fetching.{fetches_law, first_law, next_law, number, place}

@@ -28,9 +28,9 @@ use Rattle.jmodel.specs.jmachine.Calls.{Pushes, by_interface}
 use Rattle.jmodel.specs.jmachine.Objects.{Object}
 use Rattle.jmodel.specs.jmachine.Privileges.{run_action}
 use Rattle.jmodel.specs.jmachine.World.{world}
-use Rattle.jrewrite.proofs.Overriding.{info_is}
-use Rattle.jrewrite.proofs.Rooming.{library_desc}
-use Rattle.jstands.specs.Moves.{run_of}
+use Rattle.jrewriting.proofs.JrewriteProofs.Overriding.{info_is}
+use Rattle.jrewriting.proofs.JrewriteProofs.Rooming.{library_desc}
+use Rattle.jbesides.specs.jstands.Moves.{run_of}
 use Rattle.jmovedlaws.specs.jcoded.Slots.{MainFills, RunsFill, slots_at, slots_in}
 use Rattle.jmovedlaws.proofs.JcodedProofs.Filling.{interface_suits, suits_slots}
 

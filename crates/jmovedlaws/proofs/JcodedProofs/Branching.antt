@@ -18,13 +18,13 @@ use Rattle.jparts.specs.jcode.Instructions.{code}
 use Rattle.jmove.specs.declared.method.Expand.{Expand}
 use Rattle.jmove.specs.declared.method.Setting.{Setting}
 use Rattle.jmove.specs.Lines.{case_with, distance, switch_with}
-use Rattle.jmoved.specs.Numbers.{index_of, moved, new_place}
-use Rattle.jmoved.proofs.Leading.{jumps, leads, within}
-use Rattle.jmoved.proofs.Ranging.{there}
+use Rattle.jrewriting.specs.jmoved.Numbers.{index_of, moved, new_place}
+use Rattle.jrewriting.proofs.JmovedProofs.Leading.{jumps, leads, within}
+use Rattle.jrewriting.proofs.JmovedProofs.Ranging.{there}
 use Rattle.jprogram.proofs.Settling.{clash}
 use Rattle.jmeaning.specs.juses.Instructions.{Instruction, Jump, Switch, Test, cases, default, jump, keyed, switch, target}
 use Rattle.jlinking.proofs.JlinkProofs.Having.{map_is, then_is}
-use Rattle.jstands.specs.Expanding.{led_case}
+use Rattle.jbesides.specs.jstands.Expanding.{led_case}
 
 -- ---- the instruction to which a branch leads
 

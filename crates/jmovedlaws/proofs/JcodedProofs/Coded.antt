@@ -26,7 +26,7 @@ use Rattle.jmove.specs.Moved.{moved_by}
 use Rattle.jmoveclass.specs.Calls.{expand_by, expands}
 use Rattle.jmoveclass.specs.Methods.{frames_in, frames_of, with_code, with_first}
 use Rattle.jmoveclass.specs.Moved.{moved_class, moved_part}
-use Rattle.jmovefile.proofs.Bodying.{new_body}
+use Rattle.jrewriting.proofs.JmovefileProofs.Bodying.{new_body}
 use Rattle.jprogram.specs.declared.member.MethodId.{MethodId}
 use Rattle.jprogram.specs.declared.part.CodePart.{CodePart}
 use Rattle.jprogram.specs.Classes.{Program}
@@ -36,14 +36,14 @@ use Rattle.jmeaning.specs.juses.Instructions.{body_in, code_at, instruction, ins
 use Rattle.jlinking.proofs.JlinkProofs.Coded.{IsCoded, coded}
 use Rattle.jlinking.proofs.JlinkProofs.Having.{first_in}
 use Rattle.jtyping.specs.Typing.{WellTyped}
-use Rattle.jrewrite.specs.Linking.{IsLinked}
-use Rattle.jrewrite.specs.Program.{limits, moved}
-use Rattle.jrewrite.proofs.Calls.{Known}
-use Rattle.jrewrite.proofs.Coding.{stands_for}
-use Rattle.jrewrite.proofs.Overriding.{moved_at, pair_at}
-use Rattle.jrewrite.proofs.Putting.{AreNumbered, IsNumber, IsSecurity, numbers_on, security_on}
-use Rattle.jrewrite.proofs.Walking.{AllPut, AttributePut, IsPutCode, MethodPut, MethodsPut, class_put, known_of}
-use Rattle.jrewrite.proofs.Declaring.{first_false}
+use Rattle.jrewriting.specs.jrewrite.Linking.{IsLinked}
+use Rattle.jrewriting.specs.jrewrite.Program.{limits, moved}
+use Rattle.jrewriting.proofs.JrewriteProofs.Calls.{Known}
+use Rattle.jrewriting.proofs.JrewriteProofs.Coding.{stands_for}
+use Rattle.jrewriting.proofs.JrewriteProofs.Overriding.{moved_at, pair_at}
+use Rattle.jrewriting.proofs.JrewriteProofs.Putting.{AreNumbered, IsNumber, IsSecurity, numbers_on, security_on}
+use Rattle.jrewriting.proofs.JrewriteProofs.Walking.{AllPut, AttributePut, IsPutCode, MethodPut, MethodsPut, class_put, known_of}
+use Rattle.jrewriting.proofs.JrewriteProofs.Declaring.{first_false}
 
 -- ---- the code of a method in a class
 

@@ -17,8 +17,8 @@ use Rattle.jmove.specs.declared.method.Expand.TheVariants as kinds
 use Rattle.jmoveclass.specs.Calls.{calling}
 use Rattle.jmoveclass.proofs.Fronts.{at_front, same_text}
 use Rattle.jmoveclass.proofs.Keeping.{good_is}
-use Rattle.jmovefile.proofs.Texts.{longer_well}
-use Rattle.jmovefile.proofs.Referring.{reference as entry_of}
+use Rattle.jrewriting.proofs.JmovefileProofs.Texts.{longer_well}
+use Rattle.jrewriting.proofs.JmovefileProofs.Referring.{reference as entry_of}
 use Rattle.jground.specs.declared.jtypes.vtype.Name.{Name}
 use Rattle.jground.specs.declared.jtypes.vtype.VType.{VType}
 use Rattle.jprogram.specs.declared.member.Member.{Member}
@@ -28,13 +28,13 @@ use Rattle.jprogram.specs.Naming.{class_reserved, text_reserved}
 use Rattle.jprogram.specs.Parts.{or_empty, text}
 use Rattle.jmeaning.specs.juses.Meanings.{AClass, AConstant, AField, AMethod, CallMeaning, EntryMeaning, Reference, Text, call_as, call_meant, class_meant, entry_meant, field_as, field_entry, field_meant, method_entry, reference}
 use Rattle.jmeaning.specs.juses.Typed.{Called, Held, Typed, Untyped, name, typed}
-use Rattle.jrewrite.specs.Program.{moved}
-use Rattle.jrewrite.proofs.Calls.{Known, Takes, target_on}
-use Rattle.jrewrite.proofs.Coding.{stands_for}
-use Rattle.jrewrite.proofs.Judging.{Says, desc_kept, entry_kept, field_says, no_entry_fault, owner_kept, says_on, stays}
-use Rattle.jrewrite.proofs.Plainly.{is_plain}
-use Rattle.jrewrite.proofs.Targets.{Change, Target, changed_desc, referred_is}
-use Rattle.jstands.specs.Expanding.{handed, moved_member}
+use Rattle.jrewriting.specs.jrewrite.Program.{moved}
+use Rattle.jrewriting.proofs.JrewriteProofs.Calls.{Known, Takes, target_on}
+use Rattle.jrewriting.proofs.JrewriteProofs.Coding.{stands_for}
+use Rattle.jrewriting.proofs.JrewriteProofs.Judging.{Says, desc_kept, entry_kept, field_says, no_entry_fault, owner_kept, says_on, stays}
+use Rattle.jrewriting.proofs.JrewriteProofs.Plainly.{is_plain}
+use Rattle.jrewriting.proofs.JrewriteProofs.Targets.{Change, Target, changed_desc, referred_is}
+use Rattle.jbesides.specs.jstands.Expanding.{handed, moved_member}
 use Rattle.jmovedlaws.proofs.JcodedProofs.Resolved.{change_resolved, field_resolved, method_resolved}
 use Rattle.jmovedlaws.proofs.JseenProofs.Types.{typed_same}
 use Rattle.jmovedlaws.proofs.JcodedProofs.Types.{class_type_same, typed_handed}

@@ -20,13 +20,13 @@ use Rattle.jmove.proofs.Coding.{code_laid}
 use Rattle.jmoveclass.specs.Beginning.{slots}
 use Rattle.jmoveclass.specs.Calls.{expand_by}
 use Rattle.jmoveclass.specs.Moved.{moved_class}
-use Rattle.jmoved.specs.Numbers as numbers
-use Rattle.jmoved.specs.Numbers.{IsNth, index_of, new_place, standing}
-use Rattle.jmoved.proofs.Leading.{first_of, within}
-use Rattle.jmoved.proofs.Numbering.{begun, fetched, next}
-use Rattle.jmoved.proofs.Ranging.{there}
-use Rattle.jmovefile.proofs.Bodying.{begin_of, new_body, set_of}
-use Rattle.jmovefile.proofs.Pooling.{ops_named}
+use Rattle.jrewriting.specs.jmoved.Numbers as numbers
+use Rattle.jrewriting.specs.jmoved.Numbers.{IsNth, index_of, new_place, standing}
+use Rattle.jrewriting.proofs.JmovedProofs.Leading.{first_of, within}
+use Rattle.jrewriting.proofs.JmovedProofs.Numbering.{begun, fetched, next}
+use Rattle.jrewriting.proofs.JmovedProofs.Ranging.{there}
+use Rattle.jrewriting.proofs.JmovefileProofs.Bodying.{begin_of, new_body, set_of}
+use Rattle.jrewriting.proofs.JmovefileProofs.Pooling.{ops_named}
 use Rattle.jprogram.specs.declared.member.MethodId.{MethodId}
 use Rattle.jprogram.specs.Classes.{Program}
 use Rattle.jprogram.proofs.Settling.{or_right}
@@ -35,10 +35,10 @@ use Rattle.jmeaning.specs.juses.Instructions.{Always, Array, Instruction, Jump, 
 use Rattle.jlinking.proofs.JlinkProofs.Having.{then_is}
 use Rattle.jmodel.specs.jmachine.Steps as steps
 use Rattle.jmodel.specs.jmachine.Steps.{has_next, is_followed, unless_last}
-use Rattle.jrewrite.specs.Program.{moved}
-use Rattle.jrewrite.proofs.Coding.{stands_for}
-use Rattle.jrewrite.proofs.Security.{rt_of}
-use Rattle.jstands.specs.Expanding.{Place, expanded, prologue, rt_meaning}
+use Rattle.jrewriting.specs.jrewrite.Program.{moved}
+use Rattle.jrewriting.proofs.JrewriteProofs.Coding.{stands_for}
+use Rattle.jrewriting.proofs.JrewriteProofs.Security.{rt_of}
+use Rattle.jbesides.specs.jstands.Expanding.{Place, expanded, prologue, rt_meaning}
 use Rattle.jmovedlaws.proofs.JcodedProofs.Coded.{Both, IsThere, code_there, first_there, has_bytes, instruction_there, numbered_at, same_count}
 use Rattle.jmovedlaws.proofs.JcodedProofs.Instructing.{Each, Means, keep_means, load_means, op_row, push_means, static_means}
 use Rattle.jmovedlaws.proofs.JcodedProofs.Rt.{method_rt}

@@ -50,7 +50,7 @@ use Rattle.jmodel.specs.jmachine.Operands.{Taken, taken}
 use Rattle.jmodel.specs.jmachine.Sites.{Site}
 use Rattle.jmodel.specs.jmachine.Store.{Store, object_of}
 use Rattle.jmodel.specs.jmachine.World.{World, class_id, world}
-use Rattle.jrewrite.proofs.Rooming.{of_empty}
+use Rattle.jrewriting.proofs.JrewriteProofs.Rooming.{of_empty}
 use Rattle.jmovedlaws.specs.jseen.Calls.{calls_static}
 use Rattle.jmovedlaws.proofs.JseenProofs.Called.{fetched_at}
 use Rattle.jmovedlaws.proofs.JseenProofs.Linked.{call_says}

@@ -21,12 +21,12 @@ use Rattle.jmove.specs.declared.method.Setting.{Setting}
 use Rattle.jmove.specs.Moved.{expansion, moved_handler}
 use Rattle.jmove.proofs.Coding.{code_laid}
 use Rattle.jmoveclass.specs.Moved.{moved_class}
-use Rattle.jmoved.specs.Numbers.{IsNth, new_place, standing}
-use Rattle.jmoved.specs.Ranges.{Covers, IsRange}
-use Rattle.jmoved.proofs.Leading.{jumps, numbered}
-use Rattle.jmoved.proofs.Numbering.{fetched}
-use Rattle.jmoved.proofs.Ranging.{labelled, ranges, there}
-use Rattle.jmovefile.proofs.Bodying.{begin_of, code_parts_of, new_body, set_of}
+use Rattle.jrewriting.specs.jmoved.Numbers.{IsNth, new_place, standing}
+use Rattle.jrewriting.specs.jmoved.Ranges.{Covers, IsRange}
+use Rattle.jrewriting.proofs.JmovedProofs.Leading.{jumps, numbered}
+use Rattle.jrewriting.proofs.JmovedProofs.Numbering.{fetched}
+use Rattle.jrewriting.proofs.JmovedProofs.Ranging.{labelled, ranges, there}
+use Rattle.jrewriting.proofs.JmovefileProofs.Bodying.{begin_of, code_parts_of, new_body, set_of}
 use Rattle.jground.specs.declared.jtypes.vtype.Name.{Name}
 use Rattle.jground.specs.declared.jtypes.vtype.VType.{VType}
 use Rattle.jground.specs.jtypes.Fitting.{fits_where, is_above_arrays}
@@ -40,11 +40,11 @@ use Rattle.jmodel.specs.jmachine.Steps as steps
 use Rattle.jmodel.specs.jmachine.Unwinding.{catches, handler_at, handler_from, handler_in, is_caught, number_at, takes}
 use Rattle.jparts.specs.jcode.Instructions.{covers}
 use Rattle.jmodel.specs.jmachine.World.{World, is_instance, world}
-use Rattle.jrewrite.specs.Program.{moved}
-use Rattle.jrewrite.proofs.Bodies.{caught}
-use Rattle.jrewrite.proofs.Coding.{stays_by}
-use Rattle.jstands.specs.Expanding.{expanded}
-use Rattle.jstands.specs.Moves.{SameClasses}
+use Rattle.jrewriting.specs.jrewrite.Program.{moved}
+use Rattle.jrewriting.proofs.JrewriteProofs.Bodies.{caught}
+use Rattle.jrewriting.proofs.JrewriteProofs.Coding.{stays_by}
+use Rattle.jbesides.specs.jstands.Expanding.{expanded}
+use Rattle.jbesides.specs.jstands.Moves.{SameClasses}
 use Rattle.jmovedlaws.proofs.JcodedProofs.Coded.{Both, IsThere}
 use Rattle.jmovedlaws.proofs.JcodedProofs.Entries.{entry_same}
 use Rattle.jmovedlaws.proofs.JcodedProofs.Fetching.{each, fits, got, many, number, place, row_at}

@@ -40,8 +40,8 @@ use Rattle.jmove.specs.Lines.{distance, led, switch_with}
 use Rattle.jmove.specs.Moved as moves
 use Rattle.jmove.specs.Moved.{call_static, expansion, move_ref, push_int}
 use Rattle.jmoveclass.specs.Calls.{calling, calling_library, expand_by}
-use Rattle.jmoved.specs.Numbers as numbers
-use Rattle.jmoved.specs.Numbers.{index_of, new_place}
+use Rattle.jrewriting.specs.jmoved.Numbers as numbers
+use Rattle.jrewriting.specs.jmoved.Numbers.{index_of, new_place}
 use Rattle.jprogram.specs.declared.member.Member.{Member}
 use Rattle.jprogram.specs.declared.member.Member.TheVariants as members
 use Rattle.jprogram.specs.Classes.{Program}
@@ -53,14 +53,14 @@ use Rattle.jmeaning.specs.juses.Meanings.{AClass, AConstant, AField, AMethod, Ca
 use Rattle.jmeaning.specs.juses.Typed.{array_over}
 use Rattle.jground.specs.declared.jtypes.vtype.VType.TheVariants as types
 use Rattle.jlinking.proofs.JlinkProofs.Having.{map_is, then_is}
-use Rattle.jrewrite.specs.Program.{moved}
-use Rattle.jrewrite.proofs.Calls.{Known}
-use Rattle.jrewrite.proofs.Coding.{Stays, called_target, index_is, interface_target, stands_for, stays_by}
-use Rattle.jrewrite.proofs.Putting.{IsNumber}
-use Rattle.jrewrite.proofs.Security.{rt_of}
-use Rattle.jrewrite.proofs.Targets.{Target}
-use Rattle.jstands.specs.Expanding as stands
-use Rattle.jstands.specs.Expanding.{Alone, Asking, Handed, Place, Way, expanded, handed, keep, load, push, rt_meaning, way_of}
+use Rattle.jrewriting.specs.jrewrite.Program.{moved}
+use Rattle.jrewriting.proofs.JrewriteProofs.Calls.{Known}
+use Rattle.jrewriting.proofs.JrewriteProofs.Coding.{Stays, called_target, index_is, interface_target, stands_for, stays_by}
+use Rattle.jrewriting.proofs.JrewriteProofs.Putting.{IsNumber}
+use Rattle.jrewriting.proofs.JrewriteProofs.Security.{rt_of}
+use Rattle.jrewriting.proofs.JrewriteProofs.Targets.{Target}
+use Rattle.jbesides.specs.jstands.Expanding as stands
+use Rattle.jbesides.specs.jstands.Expanding.{Alone, Asking, Handed, Place, Way, expanded, handed, keep, load, push, rt_meaning, way_of}
 use Rattle.jmovedlaws.proofs.JcodedProofs.Branching.{jump_moved, switch_moved}
 use Rattle.jmovedlaws.proofs.JcodedProofs.Entries.{entry_same, member_is, method_handed, method_same}
 use Rattle.jmovedlaws.proofs.JcodedProofs.Rt.{method_rt}

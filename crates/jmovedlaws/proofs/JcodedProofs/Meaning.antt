@@ -9,18 +9,18 @@ use Rattle.jmove.specs.declared.method.Expand.{Expand}
 use Rattle.jmove.specs.declared.method.Expand.TheVariants.{Same, Call, Check, Snapshot, Privileged, PrivilegedWith, PrivilegedLimited}
 use Rattle.jmoveclass.specs.Calls.{calling}
 use Rattle.jmoveclass.specs.Moved.{moved_class}
-use Rattle.jmovefile.proofs.Calling.{kind_in}
+use Rattle.jrewriting.proofs.JmovefileProofs.Calling.{kind_in}
 use Rattle.jprogram.specs.declared.member.Member.{Member}
 use Rattle.jprogram.specs.Classes.{Program}
 use Rattle.jprogram.specs.Members.{init}
 use Rattle.jmeaning.specs.juses.Meanings.{AMethod, CallMeaning, EntryMeaning, Reference, call_meant, entry_meant, method_entry}
 use Rattle.jlinking.proofs.JlinkProofs.Having.{map_is}
-use Rattle.jrewrite.specs.Program.{moved}
-use Rattle.jrewrite.proofs.Calls.{Known}
-use Rattle.jrewrite.proofs.Coding.{stands_for}
-use Rattle.jrewrite.proofs.Targets.{Target, target_of}
-use Rattle.jrewrite.proofs.Walking.{known_of}
-use Rattle.jstands.specs.Expanding.{Alone, way_of}
+use Rattle.jrewriting.specs.jrewrite.Program.{moved}
+use Rattle.jrewriting.proofs.JrewriteProofs.Calls.{Known}
+use Rattle.jrewriting.proofs.JrewriteProofs.Coding.{stands_for}
+use Rattle.jrewriting.proofs.JrewriteProofs.Targets.{Target, target_of}
+use Rattle.jrewriting.proofs.JrewriteProofs.Walking.{known_of}
+use Rattle.jbesides.specs.jstands.Expanding.{Alone, way_of}
 use Rattle.jmovedlaws.specs.jcoded.Meaning.{EntriesStay, HandsNone}
 use Rattle.jmovedlaws.proofs.JcodedProofs.Entries.{entry_same, member_is, method_at, method_same, said}
 use Rattle.jmovedlaws.proofs.JcodedProofs.Instructing.{way_by, way_is}

@@ -3,10 +3,10 @@ use Rattle.std.specs.Prelude.{◌≡◌, None}
 use Rattle.jprogram.specs.Classes.{Program}
 use Rattle.jmodel.specs.jmachine.World.{world}
 use Rattle.jtyping.specs.Typing.{WellTyped}
-use Rattle.jrewrite.specs.Linking.{IsLinked}
-use Rattle.jrewrite.specs.Program.{limits, moved}
-use Rattle.jrewrite.proofs.Overriding.{moved_side}
-use Rattle.jstands.specs.Moves.{Fills, SameClasses}
+use Rattle.jrewriting.specs.jrewrite.Linking.{IsLinked}
+use Rattle.jrewriting.specs.jrewrite.Program.{limits, moved}
+use Rattle.jrewriting.proofs.JrewriteProofs.Overriding.{moved_side}
+use Rattle.jbesides.specs.jstands.Moves.{Fills, SameClasses}
 use Rattle.jmovedlaws.proofs.JseenProofs.Making.{makes_same}
 use Rattle.jmovedlaws.proofs.JseenProofs.Openings.{domain_same, main_coded, own_same}
 use Rattle.jmovedlaws.proofs.JseenProofs.Same.{calls_stay}

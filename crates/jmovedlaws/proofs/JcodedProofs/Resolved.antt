@@ -11,16 +11,16 @@ use Rattle.jprogram.specs.declared.member.Member.TheVariants as members
 use Rattle.jprogram.specs.Classes.{Program}
 use Rattle.jprogram.specs.Members.{resolve_field, resolve_method}
 use Rattle.jprogram.specs.Naming.{class_reserved, text_reserved}
-use Rattle.jrewrite.specs.Linking.{IsLinked}
-use Rattle.jrewrite.specs.Program.{moved}
-use Rattle.jrewrite.proofs.Calls.{Known, unchanged_is}
-use Rattle.jrewrite.proofs.Changing.{form_of, run_form}
-use Rattle.jrewrite.proofs.Fielding.{any, field_same}
-use Rattle.jrewrite.proofs.Keeping.{IsItself, methods_kept, unchanged}
-use Rattle.jrewrite.proofs.Plainly.{is_plain}
-use Rattle.jrewrite.proofs.Resolving.{Finds, field_finds, method_finds}
-use Rattle.jrewrite.proofs.Targets.{Change, Target, change_found, changed_desc, plain_owner}
-use Rattle.jstands.specs.Expanding.{moved_member, passing}
+use Rattle.jrewriting.specs.jrewrite.Linking.{IsLinked}
+use Rattle.jrewriting.specs.jrewrite.Program.{moved}
+use Rattle.jrewriting.proofs.JrewriteProofs.Calls.{Known, unchanged_is}
+use Rattle.jrewriting.proofs.JrewriteProofs.Changing.{form_of, run_form}
+use Rattle.jrewriting.proofs.JrewriteProofs.Fielding.{any, field_same}
+use Rattle.jrewriting.proofs.JrewriteProofs.Keeping.{IsItself, methods_kept, unchanged}
+use Rattle.jrewriting.proofs.JrewriteProofs.Plainly.{is_plain}
+use Rattle.jrewriting.proofs.JrewriteProofs.Resolving.{Finds, field_finds, method_finds}
+use Rattle.jrewriting.proofs.JrewriteProofs.Targets.{Change, Target, change_found, changed_desc, plain_owner}
+use Rattle.jbesides.specs.jstands.Expanding.{moved_member, passing}
 
 -- ---- fields
 

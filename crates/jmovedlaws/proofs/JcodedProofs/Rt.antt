@@ -25,9 +25,9 @@ use Rattle.jprogram.specs.Classes.{Class, Program}
 use Rattle.jprogram.specs.Members.{init}
 use Rattle.jmeaning.specs.juses.Meanings.{AMethod, call_as, call_meant, entry_meant, method_entry}
 use Rattle.jmeaning.specs.juses.Typed.{Called, called, name, return_in, type_in, type_of, typed, typed_as}
-use Rattle.jrewrite.proofs.Putting.{IsSecurity}
-use Rattle.jrewrite.proofs.Security.{IsPassing, find_lib, found, no_init, rt_of, security_found}
-use Rattle.jstands.specs.Expanding.{action, context, permission as permitted, permissions, rt_meaning, rt_params, rt_ret}
+use Rattle.jrewriting.proofs.JrewriteProofs.Putting.{IsSecurity}
+use Rattle.jrewriting.proofs.JrewriteProofs.Security.{IsPassing, find_lib, found, no_init, rt_of, security_found}
+use Rattle.jbesides.specs.jstands.Expanding.{action, context, permission as permitted, permissions, rt_meaning, rt_params, rt_ret}
 use Rattle.jmovedlaws.proofs.JcodedProofs.Entries.{method_at, said}
 use Rattle.jmovedlaws.proofs.JcodedProofs.Types.{context_in}
 

@@ -18,10 +18,10 @@ use Rattle.jground.specs.declared.jtypes.vtype.VType.TheVariants as types
 use Rattle.jprogram.specs.Classes.{Class, Program}
 use Rattle.jprogram.specs.Naming.{class_reserved, desc_reserved, is_reserved, return_reserved, text_reserved, type_reserved}
 use Rattle.jmeaning.specs.juses.Typed.{Called, Typed, called, class_by, class_of, class_type, name, return_in, there, type_in, type_of, typed, typed_as}
-use Rattle.jrewrite.specs.Program.{moved}
-use Rattle.jrewrite.proofs.Declaring.{first_false, second_false}
-use Rattle.jrewrite.proofs.Security.{IsPassing, find_lib}
-use Rattle.jrewrite.proofs.Standing.{IsPlain}
+use Rattle.jrewriting.specs.jrewrite.Program.{moved}
+use Rattle.jrewriting.proofs.JrewriteProofs.Declaring.{first_false, second_false}
+use Rattle.jrewriting.proofs.JrewriteProofs.Security.{IsPassing, find_lib}
+use Rattle.jrewriting.proofs.JrewriteProofs.Standing.{IsPlain}
 use Rattle.jmovedlaws.proofs.JseenProofs.Types.{found_same, return_same, type_same, types_same}
 
 -- ---- the same classes

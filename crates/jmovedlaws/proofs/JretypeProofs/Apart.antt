@@ -17,12 +17,12 @@ use Rattle.jmove.specs.Moved.{expansion, expansions, lines, moved_handler}
 use Rattle.jmove.proofs.Assembling.{end_reach, place_skip}
 use Rattle.jmove.proofs.Placing.{passed, place_within}
 use Rattle.jmove.proofs.Sizes.{size_some}
-use Rattle.jmoved.specs.Numbers.{IsNth, index_of, moved, new_place, standing}
-use Rattle.jmoved.specs.Ranges.{Covers, IsRange}
-use Rattle.jmoved.proofs.Leading.{first_of, within}
-use Rattle.jmoved.proofs.Numbering.{fetched}
-use Rattle.jmoved.proofs.Placing.{ends, rise}
-use Rattle.jmoved.proofs.Ranging.{at_label, labelled, ranges, there}
+use Rattle.jrewriting.specs.jmoved.Numbers.{IsNth, index_of, moved, new_place, standing}
+use Rattle.jrewriting.specs.jmoved.Ranges.{Covers, IsRange}
+use Rattle.jrewriting.proofs.JmovedProofs.Leading.{first_of, within}
+use Rattle.jrewriting.proofs.JmovedProofs.Numbering.{fetched}
+use Rattle.jrewriting.proofs.JmovedProofs.Placing.{ends, rise}
+use Rattle.jrewriting.proofs.JmovedProofs.Ranging.{at_label, labelled, ranges, there}
 use Rattle.jmovedlaws.specs.jretype.Places.{IsApart}
 
 -- ---- places by themselves

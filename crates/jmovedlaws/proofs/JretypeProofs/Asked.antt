@@ -26,9 +26,9 @@ use Rattle.jmeaning.specs.declared.juses.meaning.How.TheVariants as how
 use Rattle.jmeaning.specs.juses.Instructions.{Used, instruction_at}
 use Rattle.jmeaning.specs.juses.Meanings.{Call, CallMeaning}
 use Rattle.jmeaning.specs.juses.Typed.{Called, type_in, typed}
-use Rattle.jrewrite.specs.Linking.{IsLinked}
-use Rattle.jrewrite.proofs.Plainly.{is_plain}
-use Rattle.jstands.specs.Expanding.{Asking, asking_params, library_way, way_of}
+use Rattle.jrewriting.specs.jrewrite.Linking.{IsLinked}
+use Rattle.jrewriting.proofs.JrewriteProofs.Plainly.{is_plain}
+use Rattle.jbesides.specs.jstands.Expanding.{Asking, asking_params, library_way, way_of}
 use Rattle.jmovedlaws.specs.jseen.Calls.{calls_static}
 use Rattle.jmovedlaws.proofs.JseenProofs.Classes.{ordered}
 use Rattle.jmovedlaws.proofs.JseenProofs.Linked.{call_says}

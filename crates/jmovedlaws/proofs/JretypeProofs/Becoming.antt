@@ -56,10 +56,10 @@ use Rattle.jmove.proofs.Coding.{code_laid}
 use Rattle.jmove.proofs.Growing.{body_grows, front_on}
 use Rattle.jmove.proofs.Limiting.{no_limit, short}
 use Rattle.jmove.proofs.Renumbering.{named_can, named_limit}
-use Rattle.jmoved.specs.Numbers.{IsNth}
-use Rattle.jmoved.specs.Ranges.{IsRange}
-use Rattle.jmoved.proofs.Framing.{written}
-use Rattle.jmoved.proofs.Leading.{within}
+use Rattle.jrewriting.specs.jmoved.Numbers.{IsNth}
+use Rattle.jrewriting.specs.jmoved.Ranges.{IsRange}
+use Rattle.jrewriting.proofs.JmovedProofs.Framing.{written}
+use Rattle.jrewriting.proofs.JmovedProofs.Leading.{within}
 use Rattle.jmoveclass.specs.Beginning as begun
 use Rattle.jmoveclass.specs.Beginning.{params_in, slots}
 use Rattle.jmoveclass.specs.Calls.{expands}
@@ -70,14 +70,14 @@ use Rattle.jmoveclass.proofs.Attributing as limiting
 use Rattle.jmoveclass.proofs.Coding.{code_can, code_limit}
 use Rattle.jmoveclass.proofs.Keeping.{good_is}
 use Rattle.jmoveclass.proofs.Stored.{frames_fit}
-use Rattle.jmovefile.specs.Files.{CanBeFile}
-use Rattle.jmovefile.proofs.Beginning.{AreItems}
-use Rattle.jmovefile.proofs.Bodying.{begin_of, code_parts_of, new_body, new_frames, set_of}
-use Rattle.jmovefile.proofs.Framing.{RawItems, raw_items}
-use Rattle.jmovefile.proofs.Mapping.{can_write_full, frames_there}
-use Rattle.jmovefile.proofs.Members.{Like}
-use Rattle.jmovefile.proofs.Methods.{has_none}
-use Rattle.jmovefile.proofs.Sound.{front_length}
+use Rattle.jrewriting.specs.jmovefile.Files.{CanBeFile}
+use Rattle.jrewriting.proofs.JmovefileProofs.Beginning.{AreItems}
+use Rattle.jrewriting.proofs.JmovefileProofs.Bodying.{begin_of, code_parts_of, new_body, new_frames, set_of}
+use Rattle.jrewriting.proofs.JmovefileProofs.Framing.{RawItems, raw_items}
+use Rattle.jrewriting.proofs.JmovefileProofs.Mapping.{can_write_full, frames_there}
+use Rattle.jrewriting.proofs.JmovefileProofs.Members.{Like}
+use Rattle.jrewriting.proofs.JmovefileProofs.Methods.{has_none}
+use Rattle.jrewriting.proofs.JmovefileProofs.Sound.{front_length}
 use Rattle.jprogram.specs.declared.member.MethodId.{MethodId}
 use Rattle.jprogram.specs.declared.part.ClassRef.{ClassRef}
 use Rattle.jprogram.specs.declared.part.CodePart.{CodePart}
@@ -98,34 +98,34 @@ use Rattle.jtyping.specs.Methods.{Method, method_of, params_of, receiver}
 use Rattle.jtyping.specs.Typed.{IsTyped}
 use Rattle.jtyping.specs.Typing.{WellTyped, caught_type, method_fault}
 use Rattle.jtyping.proofs.Methods.{method_typed, typed_method, well_typed_exactly}
-use Rattle.jrewrite.specs.Linking.{IsLinked}
-use Rattle.jrewrite.specs.Program.{limits, moved}
-use Rattle.jrewrite.proofs.Calls.{Known}
-use Rattle.jrewrite.proofs.Bodies.{IsCodePut}
-use Rattle.jrewrite.proofs.Coding.{stays_by}
-use Rattle.jrewrite.proofs.Declaring.{first_false, second_false}
-use Rattle.jrewrite.proofs.Filed.{can_be_file}
-use Rattle.jrewrite.proofs.Framed.{Keep, frames_same, framed, stand_of, wide_of}
-use Rattle.jrewrite.proofs.Membering.{all_moving, moving_of}
-use Rattle.jrewrite.proofs.Overriding.{moved_at, moved_side, pair_at}
-use Rattle.jrewrite.proofs.Params.{class_named, desc_free}
-use Rattle.jrewrite.proofs.Plainly.{is_plain}
-use Rattle.jrewrite.proofs.Putting.{AreNumbered, IsContext, IsSecurity, context_on, numbers_on, security_on}
-use Rattle.jrewrite.proofs.Security.{IsPassing}
-use Rattle.jrewrite.proofs.Standing.{IsPlain, names_stay, part_of_moved, plain_at, text_plain}
-use Rattle.jrewrite.proofs.Walking.{OfMethod, code_put, known_of, of_method}
-use Rattle.jrewrite.proofs.Widths.{Under, under_items}
+use Rattle.jrewriting.specs.jrewrite.Linking.{IsLinked}
+use Rattle.jrewriting.specs.jrewrite.Program.{limits, moved}
+use Rattle.jrewriting.proofs.JrewriteProofs.Calls.{Known}
+use Rattle.jrewriting.proofs.JrewriteProofs.Bodies.{IsCodePut}
+use Rattle.jrewriting.proofs.JrewriteProofs.Coding.{stays_by}
+use Rattle.jrewriting.proofs.JrewriteProofs.Declaring.{first_false, second_false}
+use Rattle.jrewriting.proofs.JrewriteProofs.Filed.{can_be_file}
+use Rattle.jrewriting.proofs.JrewriteProofs.Framed.{Keep, frames_same, framed, stand_of, wide_of}
+use Rattle.jrewriting.proofs.JrewriteProofs.Membering.{all_moving, moving_of}
+use Rattle.jrewriting.proofs.JrewriteProofs.Overriding.{moved_at, moved_side, pair_at}
+use Rattle.jrewriting.proofs.JrewriteProofs.Params.{class_named, desc_free}
+use Rattle.jrewriting.proofs.JrewriteProofs.Plainly.{is_plain}
+use Rattle.jrewriting.proofs.JrewriteProofs.Putting.{AreNumbered, IsContext, IsSecurity, context_on, numbers_on, security_on}
+use Rattle.jrewriting.proofs.JrewriteProofs.Security.{IsPassing}
+use Rattle.jrewriting.proofs.JrewriteProofs.Standing.{IsPlain, names_stay, part_of_moved, plain_at, text_plain}
+use Rattle.jrewriting.proofs.JrewriteProofs.Walking.{OfMethod, code_put, known_of, of_method}
+use Rattle.jrewriting.proofs.JrewriteProofs.Widths.{Under, under_items}
 use Rattle.jmovedlaws.proofs.JseenProofs.Classes.{moved_ordered, ordered, same_tree}
 use Rattle.jmovedlaws.proofs.JseenProofs.Twins.{same_twin}
 use Rattle.jmovedlaws.proofs.JseenProofs.Types.{type_same}
-use Rattle.jstands.specs.Expanding.{expanded, rt_meaning}
+use Rattle.jbesides.specs.jstands.Expanding.{expanded, rt_meaning}
 use Rattle.jmovedlaws.proofs.JcodedProofs.Coded.{Both, IsThere, code_there, first_there, has_bytes, instruction_there}
 use Rattle.jmovedlaws.proofs.JcodedProofs.Entries.{entry_same}
 use Rattle.jmovedlaws.proofs.JcodedProofs.Fetching as fetching
 use Rattle.jmovedlaws.proofs.JcodedProofs.Instructing.{Each, Means, is_name, static_means}
 use Rattle.jmovedlaws.proofs.JcodedProofs.Rt.{method_rt}
 use Rattle.jmovedlaws.proofs.JcodedProofs.Types.{context_in}
-use Rattle.jrewrite.proofs.Security.{rt_of}
+use Rattle.jrewriting.proofs.JrewriteProofs.Security.{rt_of}
 use Rattle.jmovedlaws.specs.jretype.Full.{StandFor}
 use Rattle.jmovedlaws.proofs.JretypeProofs.Asked.{asked}
 use Rattle.jmovedlaws.proofs.JretypeProofs.Describing.{Says, method_is, says}

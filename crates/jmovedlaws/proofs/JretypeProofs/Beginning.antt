@@ -19,7 +19,7 @@ use Rattle.jmove.specs.Lines.{led, reach}
 use Rattle.jmove.specs.Moved.{call_static, move_ref, moved_handler, push_int}
 use Rattle.jmove.proofs.Coding.{code_laid}
 use Rattle.jmove.proofs.Sizes.{size_some}
-use Rattle.jmoved.proofs.Placing.{first}
+use Rattle.jrewriting.proofs.JmovedProofs.Placing.{first}
 use Rattle.jprogram.specs.Classes.{tree}
 use Rattle.jmeaning.specs.declared.juses.meaning.How.TheVariants as how
 use Rattle.jmeaning.specs.juses.Instructions.{Used, instruction}
@@ -37,7 +37,7 @@ use Rattle.jmeaning.proofs.JruleProofs.Keeping.{precise_is, sharp_frame}
 use Rattle.jmeaning.proofs.JruleProofs.Precise.{InOrder, sharp_itself}
 use Rattle.jmeaning.proofs.JruleProofs.Sharper.{LocalsSharp}
 use Rattle.jmeaning.proofs.JruleProofs.SharpLocals.{locals_of}
-use Rattle.jstands.specs.Expanding.{keep, load, push, rt_meaning}
+use Rattle.jbesides.specs.jstands.Expanding.{keep, load, push, rt_meaning}
 use Rattle.jtyping.specs.Declared.{declared_at, filled, first_frame}
 use Rattle.jtyping.specs.Typed.{AreFrames, Follows}
 use Rattle.jtyping.specs.Typing.{begun, handler_fits, handler_test, handlers_fit, onward}

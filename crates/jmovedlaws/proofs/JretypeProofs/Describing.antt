@@ -18,26 +18,26 @@ use Rattle.jground.specs.declared.jtypes.vtype.VType.TheVariants.{Ctx}
 use Rattle.jlinking.specs.jmembers.Declares.{desc_left_out, desc_missing, param_left_out, return_left_out, return_missing, text_left_out, text_missing, type_missing}
 use Rattle.jmoveclass.specs.Methods.{new_desc}
 use Rattle.jmoveclass.specs.Moved.{moved_class}
-use Rattle.jmovefile.proofs.Members.{Like}
-use Rattle.jmovefile.proofs.Texts.{good_types}
+use Rattle.jrewriting.proofs.JmovefileProofs.Members.{Like}
+use Rattle.jrewriting.proofs.JmovefileProofs.Texts.{good_types}
 use Rattle.jprogram.specs.declared.part.CodePart.{CodePart}
 use Rattle.jprogram.specs.Classes.{Program, find}
 use Rattle.jprogram.specs.Members.{init, is_init}
 use Rattle.jprogram.specs.Naming.{is_reserved}
 use Rattle.jprogram.specs.Parts.{is_static, member_desc, member_name, super_name, this_name}
-use Rattle.jrewrite.specs.Linking.{IsLinked}
-use Rattle.jrewrite.specs.Program.{limits, moved}
-use Rattle.jrewrite.proofs.Declaring.{Facts, desc_is, first_false, name_same, second_false}
-use Rattle.jrewrite.proofs.Finding.{above_same}
-use Rattle.jrewrite.proofs.Membering.{moving_of}
-use Rattle.jrewrite.proofs.Moving.{tested_at}
-use Rattle.jrewrite.proofs.Overriding.{moved_side}
-use Rattle.jrewrite.proofs.Params.{desc_free}
-use Rattle.jrewrite.proofs.Plainly.{is_plain}
-use Rattle.jrewrite.proofs.Security.{IsPassing}
-use Rattle.jrewrite.proofs.Standing.{AllPlain, IsPlain, missing_name, names_stay, plain_above, plain_at}
-use Rattle.jrewrite.proofs.Starting.{are_there, return_some}
-use Rattle.jrewrite.proofs.Walking.{known_of}
+use Rattle.jrewriting.specs.jrewrite.Linking.{IsLinked}
+use Rattle.jrewriting.specs.jrewrite.Program.{limits, moved}
+use Rattle.jrewriting.proofs.JrewriteProofs.Declaring.{Facts, desc_is, first_false, name_same, second_false}
+use Rattle.jrewriting.proofs.JrewriteProofs.Finding.{above_same}
+use Rattle.jrewriting.proofs.JrewriteProofs.Membering.{moving_of}
+use Rattle.jrewriting.proofs.JrewriteProofs.Moving.{tested_at}
+use Rattle.jrewriting.proofs.JrewriteProofs.Overriding.{moved_side}
+use Rattle.jrewriting.proofs.JrewriteProofs.Params.{desc_free}
+use Rattle.jrewriting.proofs.JrewriteProofs.Plainly.{is_plain}
+use Rattle.jrewriting.proofs.JrewriteProofs.Security.{IsPassing}
+use Rattle.jrewriting.proofs.JrewriteProofs.Standing.{AllPlain, IsPlain, missing_name, names_stay, plain_above, plain_at}
+use Rattle.jrewriting.proofs.JrewriteProofs.Starting.{are_there, return_some}
+use Rattle.jrewriting.proofs.JrewriteProofs.Walking.{known_of}
 use Rattle.jtyping.specs.Methods.{Method, method_of, params_of, receiver, return_of}
 use Rattle.jtyping.specs.Typing.{WellTyped}
 use Rattle.jmeaning.specs.juses.Typed.{Called, Typed, called, name, return_in, there, type_in, typed, typed_as}

@@ -27,7 +27,7 @@ use Rattle.jlinking.proofs.JlinkProofs.Having.{map_is, then_is}
 use Rattle.jmeaning.specs.jrule.Here.{Here}
 use Rattle.jmeaning.specs.jrule.Operands.{with_stack}
 use Rattle.jmeaning.specs.jrule.Rule.{rule}
-use Rattle.jstands.specs.Expanding.{Alone, Asking, Handed, Way, asking_params, calling, expanded, handed, load, push, rt_meaning, way_of}
+use Rattle.jbesides.specs.jstands.Expanding.{Alone, Asking, Handed, Way, asking_params, calling, expanded, handed, load, push, rt_meaning, way_of}
 use Rattle.jmovedlaws.proofs.JcodedProofs.Instructing.{Each}
 use Rattle.jmovedlaws.proofs.JretypeProofs.Stepping.{IsAsked, IsMoving, Moving, asked_ret, context_taken, handed_rule, load_rule, number, number_taken, place, push_rule, static_is, static_rule}
 

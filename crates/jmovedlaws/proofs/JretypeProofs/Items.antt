@@ -5,7 +5,7 @@ use Rattle.std.specs.Str.{byte}
 use Rattle.std.proofs.lemmas.Bool.{eqb-true, ltb-false}
 use Rattle.jground.proofs.JformatProofs.Steps.{second_true}
 use Rattle.jmoveclass.specs.Beginning.{class_name, is_reference}
-use Rattle.jrewrite.proofs.Params.{array_named, class_named}
+use Rattle.jrewriting.proofs.JrewriteProofs.Params.{array_named, class_named}
 use Rattle.jparts.specs.declared.jpool.descriptor.Descriptor.{Descriptor}
 use Rattle.jparts.specs.declared.jpool.descriptor.Descriptor.TheVariants as descriptors
 use Rattle.jparts.specs.declared.jpool.descriptor.FieldType.{FieldType}
@@ -28,7 +28,7 @@ use Rattle.jlinking.specs.jreferring.Names as names
 use Rattle.jlinking.specs.jreferring.Names.{type_named}
 use Rattle.jmeaning.specs.juses.Meanings.{AClass, AConstant, AField, AMethod, EntryMeaning, as_class, call_meant, class_at, entry_meant, field_meant, reference}
 use Rattle.jmeaning.specs.juses.Typed.{class_by, class_of, class_type, element_in, is_context, name, there, type_in, type_of}
-use Rattle.jrewrite.proofs.Judging.{class_entry}
+use Rattle.jrewriting.proofs.JrewriteProofs.Judging.{class_entry}
 use Rattle.jtyping.specs.Declared.{item, or_top}
 use Rattle.jmovedlaws.proofs.JretypeProofs.Framing.{ClassesAreShort}
 use Rattle.jmovedlaws.proofs.JretypeProofs.Settled.{map_some, map_some_by, then_some, then_some_by}

@@ -23,8 +23,8 @@ use Rattle.jground.specs.jtypes.Frames.{Frame, all_fit}
 use Rattle.jground.specs.jtypes.Tree.{Tree}
 use Rattle.jmove.specs.Lines.{distance, led, with_branches}
 use Rattle.jmove.specs.Moved.{moved_handler}
-use Rattle.jmoved.proofs.Leading.{each_branch, leads}
-use Rattle.jmoved.proofs.Ranging.{labelled}
+use Rattle.jrewriting.proofs.JmovedProofs.Leading.{each_branch, leads}
+use Rattle.jrewriting.proofs.JmovedProofs.Ranging.{labelled}
 use Rattle.jprogram.specs.Classes.{tree}
 use Rattle.jmeaning.specs.juses.Meanings.{class_at}
 use Rattle.jmeaning.specs.jrule.Operands.{with_stack}

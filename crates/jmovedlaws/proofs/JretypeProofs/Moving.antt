@@ -15,10 +15,10 @@ use Rattle.jground.specs.declared.jtypes.vtype.VType.TheVariants.{Top, Int, Long
 use Rattle.jground.specs.jtypes.Frames.{Frame, places, places_of, slots, within}
 use Rattle.jlinking.proofs.JlinkProofs.Having.{map_is}
 use Rattle.jmove.specs.Moved.{expansion}
-use Rattle.jmoved.specs.Numbers.{index_of, standing}
-use Rattle.jmoved.proofs.Leading.{first_of}
-use Rattle.jmoved.proofs.Numbering.{fetched}
-use Rattle.jmoved.proofs.Ranging.{labelled}
+use Rattle.jrewriting.specs.jmoved.Numbers.{index_of, standing}
+use Rattle.jrewriting.proofs.JmovedProofs.Leading.{first_of}
+use Rattle.jrewriting.proofs.JmovedProofs.Numbering.{fetched}
+use Rattle.jrewriting.proofs.JmovedProofs.Ranging.{labelled}
 use Rattle.jprogram.specs.Classes.{tree}
 use Rattle.jmeaning.proofs.JruleProofs.Both.{and_true}
 use Rattle.jtyping.specs.Declared.{Written, first_frame, has_room, holds, is_good, is_there}

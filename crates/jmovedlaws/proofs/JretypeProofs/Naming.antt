@@ -31,11 +31,11 @@ use Rattle.jmove.specs.Moved.{expansion, lines}
 use Rattle.jmove.proofs.Bounds.{laid_above}
 use Rattle.jmove.proofs.Coding.{code_laid}
 use Rattle.jmove.proofs.Sizes.{size_some}
-use Rattle.jmoved.specs.Numbers.{IsNth, index_of, moved, new_place, standing}
-use Rattle.jmoved.proofs.Leading.{first_of}
-use Rattle.jmoved.proofs.Numbering.{fetched, not_first}
-use Rattle.jmoved.proofs.Ranging.{labelled}
-use Rattle.jmoved.proofs.Sizing.{laid_placed}
+use Rattle.jrewriting.specs.jmoved.Numbers.{IsNth, index_of, moved, new_place, standing}
+use Rattle.jrewriting.proofs.JmovedProofs.Leading.{first_of}
+use Rattle.jrewriting.proofs.JmovedProofs.Numbering.{fetched, not_first}
+use Rattle.jrewriting.proofs.JmovedProofs.Ranging.{labelled}
+use Rattle.jrewriting.proofs.JmovedProofs.Sizing.{laid_placed}
 use Rattle.jprogram.specs.Classes.{Program}
 use Rattle.jground.specs.declared.jtypes.vtype.Name.{Name}
 use Rattle.jtyping.specs.Methods.{made, made_by, made_in}
@@ -44,7 +44,7 @@ use Rattle.jmeaning.specs.juses.Instructions.{Instruction, Jump, Switch, Used, i
 use Rattle.jmeaning.specs.juses.Meanings as meanings
 use Rattle.jmeaning.specs.juses.Meanings.{AClass, AConstant, AField, AMethod, CallMeaning, EntryMeaning, Make, Meaning, array_made, array_meant, entry_meant, meant, used}
 use Rattle.jmeaning.specs.juses.Typed.{array_over}
-use Rattle.jstands.specs.Expanding.{Alone, Asking, Handed, Place, Way, calling, expanded, way_of}
+use Rattle.jbesides.specs.jstands.Expanding.{Alone, Asking, Handed, Place, Way, calling, expanded, way_of}
 use Rattle.jmeaning.specs.declared.juses.meaning.How.{How}
 use Rattle.jmeaning.specs.declared.juses.meaning.How.TheVariants as how
 use Rattle.jmovedlaws.proofs.JcodedProofs.Instructing.{Each, Means}

@@ -32,15 +32,15 @@ use Rattle.jmoveclass.specs.Puts.{with_each}
 use Rattle.jmoveclass.proofs.Fronts.{class_name_stays}
 use Rattle.jmoveclass.proofs.Growth.{attribute_grows, item_grows, method_grows}
 use Rattle.jmoveclass.proofs.Turning.{each_grows}
-use Rattle.jmovefile.specs.Files.{CanBeFile}
-use Rattle.jmovefile.proofs.Beginning.{Begins}
-use Rattle.jmovefile.proofs.Methods.{movable_of}
-use Rattle.jmovefile.proofs.Pooling.{Grown, code_calls, few_in, new_text, put_attribute, put_method, sound_of}
-use Rattle.jmovefile.proofs.Sound.{IsSound, entry_front, front_length, put_class, put_text}
-use Rattle.jmovefile.proofs.Texts.{IsTypeText, class_text}
+use Rattle.jrewriting.specs.jmovefile.Files.{CanBeFile}
+use Rattle.jrewriting.proofs.JmovefileProofs.Beginning.{Begins}
+use Rattle.jrewriting.proofs.JmovefileProofs.Methods.{movable_of}
+use Rattle.jrewriting.proofs.JmovefileProofs.Pooling.{Grown, code_calls, few_in, new_text, put_attribute, put_method, sound_of}
+use Rattle.jrewriting.proofs.JmovefileProofs.Sound.{IsSound, entry_front, front_length, put_class, put_text}
+use Rattle.jrewriting.proofs.JmovefileProofs.Texts.{IsTypeText, class_text}
 use Rattle.jprogram.specs.Classes.{Program}
 use Rattle.jprogram.specs.Parts.{is_static, this_name}
-use Rattle.jrewrite.proofs.Walking.{Coded, OfMethod}
+use Rattle.jrewriting.proofs.JrewriteProofs.Walking.{Coded, OfMethod}
 use Rattle.jmeaning.specs.juses.Typed.{name, type_in}
 use Rattle.jtyping.specs.Declared.{item}
 use Rattle.jtyping.specs.Methods.{receiver}

@@ -16,11 +16,11 @@ use Rattle.jmove.specs.declared.method.Expand.TheVariants.{Same, Call, Check, Sn
 use Rattle.jmove.specs.Lines.{Laid, distance, led, reach}
 use Rattle.jmove.specs.Moved.{call_static, calling, expansion, move_ref, moved_handler, push_int}
 use Rattle.jparts.specs.declared.jcode.names.Access.TheVariants.{Load}
-use Rattle.jmoved.specs.Numbers.{IsNth}
-use Rattle.jmoved.proofs.Leading.{within}
-use Rattle.jmoved.proofs.Placing.{ends}
-use Rattle.jmoved.proofs.Ranging.{there}
-use Rattle.jstands.specs.Expanding.{expanded}
+use Rattle.jrewriting.specs.jmoved.Numbers.{IsNth}
+use Rattle.jrewriting.proofs.JmovedProofs.Leading.{within}
+use Rattle.jrewriting.proofs.JmovedProofs.Placing.{ends}
+use Rattle.jrewriting.proofs.JmovedProofs.Ranging.{there}
+use Rattle.jbesides.specs.jstands.Expanding.{expanded}
 use Rattle.jmeaning.specs.juses.Instructions.{Instruction, Used, instruction}
 use Rattle.jmeaning.specs.juses.Meanings as meanings
 use Rattle.jmeaning.specs.jrule.Forms.{by_form}

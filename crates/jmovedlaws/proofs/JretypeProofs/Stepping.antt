@@ -30,8 +30,8 @@ use Rattle.jmove.specs.declared.method.Expand.{Expand}
 use Rattle.jmove.specs.declared.method.Setting.{Setting}
 use Rattle.jmove.specs.Moved as moves
 use Rattle.jmove.specs.Moved.{expansion, moved_handler}
-use Rattle.jmoved.specs.Numbers.{IsNth, index_of, moved, new_place}
-use Rattle.jmoved.specs.Ranges.{IsRange}
+use Rattle.jrewriting.specs.jmoved.Numbers.{IsNth, index_of, moved, new_place}
+use Rattle.jrewriting.specs.jmoved.Ranges.{IsRange}
 use Rattle.jprogram.specs.declared.member.Member.{Member}
 use Rattle.jprogram.specs.Classes.{Program, extends, tree}
 use Rattle.jprogram.specs.Standing.{StandsInOrder}
@@ -56,7 +56,7 @@ use Rattle.jmeaning.proofs.JruleProofs.Precise.{InOrder, sharp_context}
 use Rattle.jmeaning.proofs.JruleProofs.Sharper.{LocalsSharp}
 use Rattle.jmeaning.proofs.JruleProofs.SharpLocals.{head_sharp, more_right, tail_sharp}
 use Rattle.jmeaning.proofs.JruleProofs.Widening.{looks_no_further}
-use Rattle.jstands.specs.Expanding.{Asking, Place, asking_params, context, expanded, handed, load, push, rt_meaning, way_of}
+use Rattle.jbesides.specs.jstands.Expanding.{Asking, Place, asking_params, context, expanded, handed, load, push, rt_meaning, way_of}
 use Rattle.jtyping.specs.Declared.{Written, is_good, written}
 use Rattle.jtyping.specs.Methods.{Method, here_of, makes}
 use Rattle.jtyping.specs.Typing.{caught_type}

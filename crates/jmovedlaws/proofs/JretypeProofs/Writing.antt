@@ -23,7 +23,7 @@ use Rattle.jtyping.specs.Declared.{Written, frames_in, holds, is_good, item, wri
 use Rattle.jtyping.specs.Methods.{Method, makes}
 use Rattle.jtyping.proofs.Tests.{both_of}
 use Rattle.jclass.specs.Codes.{begins}
-use Rattle.jrewrite.proofs.Framed.{frames_same}
+use Rattle.jrewriting.proofs.JrewriteProofs.Framed.{frames_same}
 use Rattle.jmovedlaws.specs.jretype.Full.{StandFor, in_full}
 use Rattle.jmovedlaws.proofs.JretypeProofs.Carrying.{carried_written}
 use Rattle.jmovedlaws.proofs.JretypeProofs.Framing.{frame_is}

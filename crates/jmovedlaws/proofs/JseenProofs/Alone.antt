@@ -36,10 +36,10 @@ use Rattle.jmeaning.specs.juses.Typed.{name}
 use Rattle.jmodel.specs.jmachine.Calls.{by_class, from_above, reached, special}
 use Rattle.jmodel.specs.jmachine.Objects.{Object, class_of, id_of}
 use Rattle.jmodel.specs.jmachine.World.{class_id, fits, world}
-use Rattle.jrewrite.specs.Program.{moved}
-use Rattle.jrewrite.proofs.Overriding.{AllMoving}
-use Rattle.jrewrite.proofs.Standing.{IsPlain}
-use Rattle.jstands.specs.Expanding.{way_of}
+use Rattle.jrewriting.specs.jrewrite.Program.{moved}
+use Rattle.jrewriting.proofs.JrewriteProofs.Overriding.{AllMoving}
+use Rattle.jrewriting.proofs.JrewriteProofs.Standing.{IsPlain}
+use Rattle.jbesides.specs.jstands.Expanding.{way_of}
 use Rattle.jmovedlaws.specs.jseen.Calls.{IsResolvedCall, calls_static}
 use Rattle.jmovedlaws.specs.jseen.Found.{is_handed, library_handed}
 use Rattle.jmovedlaws.proofs.JseenProofs.Chosen.{select_same}

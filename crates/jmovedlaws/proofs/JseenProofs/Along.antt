@@ -17,8 +17,8 @@ use Rattle.jprogram.specs.Supers.{is_barred, lists_a_class, super_barred}
 use Rattle.jprogram.proofs.Extending.{up_is}
 use Rattle.jprogram.proofs.Settling.{name_is}
 use Rattle.jprogram.proofs.Standing.{Stands, Users, Libs, Nowhere, any_of_all, lib_find, not_bad, not_taken, or_none, stands}
-use Rattle.jrewrite.proofs.Sides.{source_plain}
-use Rattle.jrewrite.proofs.Standing.{IsPlain, plain_at, text_plain}
+use Rattle.jrewriting.proofs.JrewriteProofs.Sides.{source_plain}
+use Rattle.jrewriting.proofs.JrewriteProofs.Standing.{IsPlain, plain_at, text_plain}
 
 -- ---- a front of a chain
 

@@ -28,10 +28,10 @@ use Rattle.jmeaning.specs.juses.Typed.{Called, type_in, typed}
 use Rattle.jmeaning.specs.jrule.Uses.{of_library}
 use Rattle.jmodel.specs.jmachine.Steps.{fetched}
 use Rattle.jmodel.specs.jmachine.World.{world}
-use Rattle.jrewrite.specs.Linking.{IsLinked}
-use Rattle.jrewrite.proofs.Plainly.{is_plain}
-use Rattle.jstands.specs.Expanding.{asking_params, context}
-use Rattle.jstands.specs.Moves.{AsDeclared}
+use Rattle.jrewriting.specs.jrewrite.Linking.{IsLinked}
+use Rattle.jrewriting.proofs.JrewriteProofs.Plainly.{is_plain}
+use Rattle.jbesides.specs.jstands.Expanding.{asking_params, context}
+use Rattle.jbesides.specs.jstands.Moves.{AsDeclared}
 use Rattle.jmovedlaws.specs.jseen.Calls.{calls_static}
 use Rattle.jmovedlaws.proofs.JseenProofs.Called.{fetched_at}
 use Rattle.jmovedlaws.proofs.JseenProofs.Classes.{ordered}

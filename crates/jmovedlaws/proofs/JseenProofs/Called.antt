@@ -26,14 +26,14 @@ use Rattle.jmodel.specs.jmachine.Steps.{fetched, is_followed, unless_last}
 use Rattle.jmodel.specs.jmachine.Store.{Store, object_at, object_of}
 use Rattle.jmodel.specs.jmachine.World.{World, fits, world}
 use Rattle.jtyping.specs.Typing.{WellTyped}
-use Rattle.jrewrite.specs.Linking.{IsLinked}
-use Rattle.jrewrite.specs.Program.{limits, moved}
-use Rattle.jrewrite.proofs.Membering.{all_moving}
-use Rattle.jrewrite.proofs.Plainly.{is_plain}
-use Rattle.jrewrite.proofs.Overriding.{AllMoving}
-use Rattle.jrewrite.proofs.Standing.{IsPlain}
-use Rattle.jstands.specs.Expanding.{Alone, Handed, comes_alone, comes_handed, handed, moved_target, way_of}
-use Rattle.jstands.specs.Moves.{Calling, there}
+use Rattle.jrewriting.specs.jrewrite.Linking.{IsLinked}
+use Rattle.jrewriting.specs.jrewrite.Program.{limits, moved}
+use Rattle.jrewriting.proofs.JrewriteProofs.Membering.{all_moving}
+use Rattle.jrewriting.proofs.JrewriteProofs.Plainly.{is_plain}
+use Rattle.jrewriting.proofs.JrewriteProofs.Overriding.{AllMoving}
+use Rattle.jrewriting.proofs.JrewriteProofs.Standing.{IsPlain}
+use Rattle.jbesides.specs.jstands.Expanding.{Alone, Handed, comes_alone, comes_handed, handed, moved_target, way_of}
+use Rattle.jbesides.specs.jstands.Moves.{Calling, there}
 use Rattle.jmovedlaws.specs.jseen.Calls.{IsResolvedCall}
 use Rattle.jmovedlaws.specs.jseen.Found.{is_handed}
 use Rattle.jmovedlaws.proofs.JseenProofs.Alone.{object_alone}

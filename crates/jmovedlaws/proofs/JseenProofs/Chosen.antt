@@ -15,12 +15,12 @@ use Rattle.jprogram.specs.Naming.{is_reserved}
 use Rattle.jprogram.specs.Parts.{member_desc}
 use Rattle.jprogram.proofs.Settling.{clash}
 use Rattle.jmoveclass.specs.Methods.{new_desc}
-use Rattle.jrewrite.specs.Program.{moved}
-use Rattle.jrewrite.proofs.Declaring.{Facts}
-use Rattle.jrewrite.proofs.Overriding.{AllMoving, at_once_same}
-use Rattle.jrewrite.proofs.Standing.{AllPlain, IsPlain}
-use Rattle.jrewrite.proofs.Upward.{up_same}
-use Rattle.jstands.specs.Expanding.{moved_member, passing}
+use Rattle.jrewriting.specs.jrewrite.Program.{moved}
+use Rattle.jrewriting.proofs.JrewriteProofs.Declaring.{Facts}
+use Rattle.jrewriting.proofs.JrewriteProofs.Overriding.{AllMoving, at_once_same}
+use Rattle.jrewriting.proofs.JrewriteProofs.Standing.{AllPlain, IsPlain}
+use Rattle.jrewriting.proofs.JrewriteProofs.Upward.{up_same}
+use Rattle.jbesides.specs.jstands.Expanding.{moved_member, passing}
 use Rattle.jmovedlaws.specs.jseen.Clear.{IsClear, IsClearAt}
 use Rattle.jmovedlaws.specs.jseen.Found.{kept, library_handed}
 use Rattle.jmovedlaws.specs.jseen.Selected.{moved_selected}

@@ -23,10 +23,10 @@ use Rattle.jprogram.proofs.Standing.{Stands, Users, Libs, Nowhere, stands}
 use Rattle.jprogram.proofs.Settling.{clash}
 use Rattle.jmeaning.specs.jlayout.Layout.{own_types}
 use Rattle.jmoveclass.specs.Moved.{moved_part}
-use Rattle.jrewrite.specs.Program.{moved}
-use Rattle.jrewrite.proofs.Finding.{SameFound, above_same, named_at, part_moved, this_same}
-use Rattle.jrewrite.proofs.Standing.{AllPlain, IsPlain, any_same, extending_stays, names_stay, part_of_moved, plain_above, plain_at, same, text_plain}
-use Rattle.jrewrite.proofs.Upward.{extends_same, interface_name, supers_above, up_same}
+use Rattle.jrewriting.specs.jrewrite.Program.{moved}
+use Rattle.jrewriting.proofs.JrewriteProofs.Finding.{SameFound, above_same, named_at, part_moved, this_same}
+use Rattle.jrewriting.proofs.JrewriteProofs.Standing.{AllPlain, IsPlain, any_same, extending_stays, names_stay, part_of_moved, plain_above, plain_at, same, text_plain}
+use Rattle.jrewriting.proofs.JrewriteProofs.Upward.{extends_same, interface_name, supers_above, up_same}
 use Rattle.jmovedlaws.proofs.JseenProofs.Along.{found_plain}
 
 -- the classes of both stand in order

@@ -22,10 +22,10 @@ use Rattle.jmodel.specs.jmachine.Calls.{Target, Pushes, is_hidden, no_access, ov
 use Rattle.jmodel.specs.jmachine.Objects.{Object, Array, Bare, Builder, Context, Instance, Permission, Piece, Text, Thread, Thrown, class_of, id_of}
 use Rattle.jmodel.specs.jmachine.World.{World, is_instance, world}
 use Rattle.jprogram.specs.Parts.{is_public_reach}
-use Rattle.jrewrite.specs.Program.{moved}
-use Rattle.jrewrite.proofs.Overriding.{AllMoving}
-use Rattle.jrewrite.proofs.Standing.{IsPlain}
-use Rattle.jstands.specs.Expanding.{moved_member, moved_target}
+use Rattle.jrewriting.specs.jrewrite.Program.{moved}
+use Rattle.jrewriting.proofs.JrewriteProofs.Overriding.{AllMoving}
+use Rattle.jrewriting.proofs.JrewriteProofs.Standing.{IsPlain}
+use Rattle.jbesides.specs.jstands.Expanding.{moved_member, moved_target}
 use Rattle.jmovedlaws.specs.jseen.Selected.{moved_selected}
 use Rattle.jmovedlaws.proofs.JseenProofs.Classes.{all_extends, all_implement, name_same}
 use Rattle.jmovedlaws.proofs.JseenProofs.Selecting.{moved_as, same_as}

@@ -30,10 +30,10 @@ use Rattle.jmodel.specs.jmachine.Calls.{Target, by_class, by_interface, from_abo
 use Rattle.jmodel.specs.jmachine.Objects.{Object, class_of, id_of}
 use Rattle.jmodel.specs.jmachine.Sites.{Site}
 use Rattle.jmodel.specs.jmachine.World.{World, class_id, fits, is_instance, world}
-use Rattle.jrewrite.specs.Program.{moved}
-use Rattle.jrewrite.proofs.Overriding.{AllMoving}
-use Rattle.jrewrite.proofs.Standing.{IsPlain}
-use Rattle.jstands.specs.Expanding.{Handed, handed, moved_member, moved_target, way_of}
+use Rattle.jrewriting.specs.jrewrite.Program.{moved}
+use Rattle.jrewriting.proofs.JrewriteProofs.Overriding.{AllMoving}
+use Rattle.jrewriting.proofs.JrewriteProofs.Standing.{IsPlain}
+use Rattle.jbesides.specs.jstands.Expanding.{Handed, handed, moved_member, moved_target, way_of}
 use Rattle.jmovedlaws.specs.jseen.Calls.{IsResolvedCall}
 use Rattle.jmovedlaws.specs.jseen.Selected.{moved_selected}
 use Rattle.jmovedlaws.proofs.JseenProofs.Classes.{name_same, super_same}

@@ -34,9 +34,9 @@ use Rattle.jmeaning.specs.juses.Meanings.{CallMeaning}
 use Rattle.jmodel.specs.jmachine.Calls.{Pushes, Target, by_interface, from_above, is_hidden, no_access, overflow, reached, special, unless, wrong_class}
 use Rattle.jmodel.specs.jmachine.Objects.{Object, class_of, id_of}
 use Rattle.jmodel.specs.jmachine.World.{class_id, is_instance, world}
-use Rattle.jrewrite.proofs.Overriding.{AllMoving}
-use Rattle.jrewrite.proofs.Standing.{IsPlain}
-use Rattle.jstands.specs.Expanding.{Alone, Handed, comes_alone, comes_handed, runs_alone, runs_handed, way_of}
+use Rattle.jrewriting.proofs.JrewriteProofs.Overriding.{AllMoving}
+use Rattle.jrewriting.proofs.JrewriteProofs.Standing.{IsPlain}
+use Rattle.jbesides.specs.jstands.Expanding.{Alone, Handed, comes_alone, comes_handed, runs_alone, runs_handed, way_of}
 use Rattle.jmovedlaws.specs.jseen.Calls.{IsResolvedCall}
 use Rattle.jmovedlaws.specs.jseen.Clear.{IsClear, IsClearAt}
 use Rattle.jmovedlaws.specs.jseen.Found.{is_handed, library_handed}

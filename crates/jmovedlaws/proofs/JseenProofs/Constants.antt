@@ -23,9 +23,9 @@ use Rattle.jground.specs.declared.jops.value.Value.TheVariants.{Ref}
 use Rattle.jmove.specs.Additions.{IsFront}
 use Rattle.jmoveclass.proofs.Fronts.{kept_test, same_text}
 use Rattle.jmoveclass.proofs.Keeping.{good_is}
-use Rattle.jmovefile.proofs.Sound.{IsSound}
-use Rattle.jrewrite.proofs.Judging.{no_entry_fault}
-use Rattle.jrewrite.proofs.Membering.{class_fields}
+use Rattle.jrewriting.proofs.JmovefileProofs.Sound.{IsSound}
+use Rattle.jrewriting.proofs.JrewriteProofs.Judging.{no_entry_fault}
+use Rattle.jrewriting.proofs.JrewriteProofs.Membering.{class_fields}
 
 -- ---- in a longer pool
 

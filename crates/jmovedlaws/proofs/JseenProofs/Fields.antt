@@ -26,16 +26,16 @@ use Rattle.jmeaning.specs.juses.Typed as typing
 use Rattle.jmove.specs.Additions.{context_type}
 use Rattle.jmoveclass.specs.Methods.{new_desc}
 use Rattle.jmoveclass.specs.Moved.{moved_class, moved_part}
-use Rattle.jrewrite.specs.Linking.{IsLinked}
-use Rattle.jrewrite.specs.Program.{moved}
-use Rattle.jrewrite.proofs.Declaring.{second_false}
-use Rattle.jrewrite.proofs.Fielding.{fielded}
-use Rattle.jrewrite.proofs.Finding.{IsMovedClass, SameFound, part_moved, this_same}
-use Rattle.jrewrite.proofs.Membering.{any_at, fields_same}
-use Rattle.jrewrite.proofs.Overriding.{AllMoving}
-use Rattle.jrewrite.proofs.Plainly.{is_plain}
-use Rattle.jrewrite.proofs.Standing.{IsPlain, plain_at, same, text_plain}
-use Rattle.jrewrite.proofs.Upward.{up_same}
+use Rattle.jrewriting.specs.jrewrite.Linking.{IsLinked}
+use Rattle.jrewriting.specs.jrewrite.Program.{moved}
+use Rattle.jrewriting.proofs.JrewriteProofs.Declaring.{second_false}
+use Rattle.jrewriting.proofs.JrewriteProofs.Fielding.{fielded}
+use Rattle.jrewriting.proofs.JrewriteProofs.Finding.{IsMovedClass, SameFound, part_moved, this_same}
+use Rattle.jrewriting.proofs.JrewriteProofs.Membering.{any_at, fields_same}
+use Rattle.jrewriting.proofs.JrewriteProofs.Overriding.{AllMoving}
+use Rattle.jrewriting.proofs.JrewriteProofs.Plainly.{is_plain}
+use Rattle.jrewriting.proofs.JrewriteProofs.Standing.{IsPlain, plain_at, same, text_plain}
+use Rattle.jrewriting.proofs.JrewriteProofs.Upward.{up_same}
 use Rattle.jmovedlaws.proofs.JseenProofs.Classes.{kept_types}
 use Rattle.jmovedlaws.proofs.JseenProofs.Types.{typed_same}
 use Rattle.jmovedlaws.proofs.JseenProofs.Twins.{Declared, declared, moved_desc, none_pair, old_desc}

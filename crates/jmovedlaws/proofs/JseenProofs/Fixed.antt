@@ -14,7 +14,7 @@ use Rattle.jprogram.specs.Classes.{Program, onward, up}
 use Rattle.jprogram.specs.Parts.{is_interface, member_desc, member_name, super_name}
 use Rattle.jprogram.proofs.Standing.{any_none, fault_none}
 use Rattle.jlinking.specs.jlink.Links.{Links}
-use Rattle.jrewrite.proofs.Moving.{at_none, members_none}
+use Rattle.jrewriting.proofs.JrewriteProofs.Moving.{at_none, members_none}
 
 -- no opened class that counts has a concrete method of its name and descriptor
 pub not_fixed_at : (p : Program) (i k : ℕ) (part : CodePart) (m : MemberInfo) → Links p → slice_get p.parts i ≡ Some part → slice_get part.class.methods k ≡ Some m → is_fixed p part.class (member_name part.class m) (member_desc part.class m) ≡ false

@@ -28,10 +28,10 @@ use Rattle.jlinking.specs.jlink.Links.{Links}
 use Rattle.jmeaning.specs.juses.Typed.{name}
 use Rattle.jmodel.specs.jmachine.Objects.{Object, class_of, id_of}
 use Rattle.jmodel.specs.jmachine.World.{fits, is_instance, world}
-use Rattle.jrewrite.specs.Program.{moved}
-use Rattle.jrewrite.proofs.Overriding.{AllMoving}
-use Rattle.jrewrite.proofs.Standing.{IsPlain}
-use Rattle.jstands.specs.Expanding.{Alone, Handed, Way, moved_member, way_of}
+use Rattle.jrewriting.specs.jrewrite.Program.{moved}
+use Rattle.jrewriting.proofs.JrewriteProofs.Overriding.{AllMoving}
+use Rattle.jrewriting.proofs.JrewriteProofs.Standing.{IsPlain}
+use Rattle.jbesides.specs.jstands.Expanding.{Alone, Handed, Way, moved_member, way_of}
 use Rattle.jmovedlaws.specs.jseen.Found.{is_handed, library_handed}
 use Rattle.jmovedlaws.specs.jseen.Selected.{moved_selected}
 use Rattle.jmovedlaws.proofs.JseenProofs.Along.{LibAt}

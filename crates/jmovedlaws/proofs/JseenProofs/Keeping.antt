@@ -23,13 +23,13 @@ use Rattle.jprogram.specs.Parts.{is_called, member_desc, or_empty}
 use Rattle.jprogram.proofs.Standing.{Stands, Users, Libs, Nowhere, stands}
 use Rattle.jmoveclass.specs.Methods.{new_desc}
 use Rattle.jlinking.proofs.JlinkProofs.Having.{map_is, then_is}
-use Rattle.jrewrite.specs.Program.{moved}
-use Rattle.jrewrite.proofs.Changing.{methods_changed}
-use Rattle.jrewrite.proofs.Declaring.{Facts}
-use Rattle.jrewrite.proofs.Finding.{SameFound}
-use Rattle.jrewrite.proofs.Overriding.{AllMoving, moved_side, position_same}
-use Rattle.jrewrite.proofs.Standing.{IsPlain, same}
-use Rattle.jstands.specs.Expanding.{passing}
+use Rattle.jrewriting.specs.jrewrite.Program.{moved}
+use Rattle.jrewriting.proofs.JrewriteProofs.Changing.{methods_changed}
+use Rattle.jrewriting.proofs.JrewriteProofs.Declaring.{Facts}
+use Rattle.jrewriting.proofs.JrewriteProofs.Finding.{SameFound}
+use Rattle.jrewriting.proofs.JrewriteProofs.Overriding.{AllMoving, moved_side, position_same}
+use Rattle.jrewriting.proofs.JrewriteProofs.Standing.{IsPlain, same}
+use Rattle.jbesides.specs.jstands.Expanding.{passing}
 use Rattle.jmovedlaws.specs.jseen.Found.{kept, library_handed}
 use Rattle.jmovedlaws.proofs.JseenProofs.Clearing.{lib_found, user_found}
 use Rattle.jmovedlaws.proofs.JseenProofs.Library.{added, passing_form, unadded}

@@ -25,9 +25,9 @@ use Rattle.jlib.specs.Calls.{call_stands_on, desc_of, is_concrete, is_field, is_
 use Rattle.jlib.specs.Classes.{is_interface, is_open, superclass}
 use Rattle.jmove.specs.Additions.{moved_descriptor}
 use Rattle.jprogram.specs.Members as members_of
-use Rattle.jrewrite.proofs.Declaring.{ends_so}
+use Rattle.jrewriting.proofs.JrewriteProofs.Declaring.{ends_so}
 use Rattle.jprogram.specs.Parts.{or_empty}
-use Rattle.jstands.specs.Expanding.{Alone, Asking, Handed, Way, library_way, passing, runs_alone, runs_handed}
+use Rattle.jbesides.specs.jstands.Expanding.{Alone, Asking, Handed, Way, library_way, passing, runs_alone, runs_handed}
 use Rattle.jmovedlaws.specs.jseen.Found.{is_handed, library_handed}
 
 -- ---- methods of opened classes

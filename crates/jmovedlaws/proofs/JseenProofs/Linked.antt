@@ -56,16 +56,16 @@ use Rattle.jlinking.proofs.JlinkProofs.Having.{first_in, map_is, then_is}
 use Rattle.jlinking.proofs.JlinkProofs.Selecting.{method_called}
 use Rattle.jlinking.proofs.JlinkProofs.There.{class_none, code_none, op_form_none, op_none}
 use Rattle.jlinking.proofs.JlinkProofs.Typed.{no_fault}
-use Rattle.jmovefile.proofs.Calling.{kind_in, kind_of_reference}
-use Rattle.jmovefile.proofs.Pooling.{sound_of}
-use Rattle.jmovefile.proofs.Referring.{reference}
-use Rattle.jmovefile.proofs.Sound.{IsSound}
-use Rattle.jrewrite.specs.Linking.{IsLinked}
-use Rattle.jrewrite.proofs.Judging.{owner_kept}
-use Rattle.jrewrite.proofs.Plainly.{is_plain}
-use Rattle.jrewrite.proofs.Rooming.{either, resolved_desc}
-use Rattle.jrewrite.proofs.Standing.{plain_at}
-use Rattle.jrewrite.proofs.Targets.{Target, call_use, plain_owner, sort_by, target_of, target_use}
+use Rattle.jrewriting.proofs.JmovefileProofs.Calling.{kind_in, kind_of_reference}
+use Rattle.jrewriting.proofs.JmovefileProofs.Pooling.{sound_of}
+use Rattle.jrewriting.proofs.JmovefileProofs.Referring.{reference}
+use Rattle.jrewriting.proofs.JmovefileProofs.Sound.{IsSound}
+use Rattle.jrewriting.specs.jrewrite.Linking.{IsLinked}
+use Rattle.jrewriting.proofs.JrewriteProofs.Judging.{owner_kept}
+use Rattle.jrewriting.proofs.JrewriteProofs.Plainly.{is_plain}
+use Rattle.jrewriting.proofs.JrewriteProofs.Rooming.{either, resolved_desc}
+use Rattle.jrewriting.proofs.JrewriteProofs.Standing.{plain_at}
+use Rattle.jrewriting.proofs.JrewriteProofs.Targets.{Target, call_use, plain_owner, sort_by, target_of, target_use}
 use Rattle.jmovedlaws.specs.jseen.Calls.{IsResolvedCall, by_interface, calls_static}
 
 -- ---- the entry

@@ -13,17 +13,17 @@ use Rattle.jclass.specs.Stored.{IsIn}
 use Rattle.jlib.specs.declared.side.Side.{Side}
 use Rattle.jlib.specs.declared.side.Side.TheVariants.{Passing, Source}
 use Rattle.jmove.specs.Additions.{moved_descriptor}
-use Rattle.jmovefile.proofs.Members.{Alike, Like}
+use Rattle.jrewriting.proofs.JmovefileProofs.Members.{Alike, Like}
 use Rattle.jprogram.specs.Classes.{Class, Lib, Program, User, find}
 use Rattle.jprogram.specs.Members.{is_main, main_desc, main_in, main_of, method_id}
 use Rattle.jprogram.specs.Naming.{is_reserved}
 use Rattle.jprogram.specs.Parts as parts
 use Rattle.jprogram.specs.Parts.{has_code, is_called}
-use Rattle.jrewrite.specs.Program.{moved}
-use Rattle.jrewrite.proofs.Declaring.{Moving}
-use Rattle.jrewrite.proofs.Finding.{SameFound}
-use Rattle.jrewrite.proofs.Overriding.{AllMoving, called_there, moved_side}
-use Rattle.jrewrite.proofs.Standing.{IsPlain, same}
+use Rattle.jrewriting.specs.jrewrite.Program.{moved}
+use Rattle.jrewriting.proofs.JrewriteProofs.Declaring.{Moving}
+use Rattle.jrewriting.proofs.JrewriteProofs.Finding.{SameFound}
+use Rattle.jrewriting.proofs.JrewriteProofs.Overriding.{AllMoving, called_there, moved_side}
+use Rattle.jrewriting.proofs.JrewriteProofs.Standing.{IsPlain, same}
 use Rattle.jmovedlaws.proofs.JseenProofs.Chosen.{MovedText}
 use Rattle.jmovedlaws.proofs.JseenProofs.Classes.{either_name, kept_main}
 use Rattle.jmovedlaws.proofs.JseenProofs.Texts.{text_of}

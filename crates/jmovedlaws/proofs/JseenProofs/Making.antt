@@ -41,10 +41,10 @@ use Rattle.jlinking.proofs.JlinkProofs.Filed.{has_code, named_well}
 use Rattle.jlinking.proofs.JlinkProofs.Having.{map_is, then_is}
 use Rattle.jmodel.specs.jmachine.Steps.{fetched}
 use Rattle.jmodel.specs.jmachine.World.{world}
-use Rattle.jrewrite.specs.Linking.{IsLinked}
-use Rattle.jrewrite.specs.Program.{moved}
-use Rattle.jrewrite.proofs.Plainly.{is_plain}
-use Rattle.jrewrite.proofs.Standing.{IsPlain, same}
+use Rattle.jrewriting.specs.jrewrite.Linking.{IsLinked}
+use Rattle.jrewriting.specs.jrewrite.Program.{moved}
+use Rattle.jrewriting.proofs.JrewriteProofs.Plainly.{is_plain}
+use Rattle.jrewriting.proofs.JrewriteProofs.Standing.{IsPlain, same}
 use Rattle.jmovedlaws.proofs.JseenProofs.Along.{found_plain}
 use Rattle.jmovedlaws.proofs.JseenProofs.Called.{fetched_at}
 use Rattle.jmovedlaws.proofs.JseenProofs.Classes.{ref_same}

@@ -28,8 +28,8 @@ use Rattle.jprogram.proofs.Circling.{or_split}
 use Rattle.jprogram.proofs.Extending.{extends_chain, interfaces_extend, object_find, object_up, up_is}
 use Rattle.jprogram.proofs.Settling.{clash, name_is}
 use Rattle.jprogram.proofs.Standing.{any_of_all}
-use Rattle.jrewrite.proofs.Overriding.{AllMoving}
-use Rattle.jrewrite.proofs.Standing.{IsPlain}
+use Rattle.jrewriting.proofs.JrewriteProofs.Overriding.{AllMoving}
+use Rattle.jrewriting.proofs.JrewriteProofs.Standing.{IsPlain}
 use Rattle.jmovedlaws.specs.jseen.Clear.{IsClear}
 use Rattle.jmovedlaws.specs.jseen.Found.{library_handed}
 use Rattle.jmovedlaws.proofs.JseenProofs.Along.{LibAt, OpenAt, UserAt, found_plain, lib_along, not_both}

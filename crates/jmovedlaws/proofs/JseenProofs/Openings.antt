@@ -26,11 +26,11 @@ use Rattle.jmodel.specs.jmachine.Steps.{own_fields}
 use Rattle.jmodel.specs.jmachine.World.{world}
 use Rattle.jtyping.specs.Typing.{WellTyped}
 use Rattle.jmoveclass.specs.Moved.{moved_part}
-use Rattle.jrewrite.specs.Linking.{IsLinked}
-use Rattle.jrewrite.specs.Program.{limits, moved}
-use Rattle.jrewrite.proofs.Finding.{part_moved}
-use Rattle.jrewrite.proofs.Membering.{all_moving}
-use Rattle.jrewrite.proofs.Plainly.{is_plain}
+use Rattle.jrewriting.specs.jrewrite.Linking.{IsLinked}
+use Rattle.jrewriting.specs.jrewrite.Program.{limits, moved}
+use Rattle.jrewriting.proofs.JrewriteProofs.Finding.{part_moved}
+use Rattle.jrewriting.proofs.JrewriteProofs.Membering.{all_moving}
+use Rattle.jrewriting.proofs.JrewriteProofs.Plainly.{is_plain}
 use Rattle.jmovedlaws.proofs.JseenProofs.Classes.{ordered}
 use Rattle.jmovedlaws.proofs.JseenProofs.Coming.{named_same}
 use Rattle.jmovedlaws.proofs.JseenProofs.Twins.{method_name, same_twin}

@@ -17,7 +17,7 @@ use Rattle.jprogram.proofs.Implementing.{faces_are}
 use Rattle.jprogram.proofs.Settling.{name_is}
 use Rattle.jprogram.proofs.Standing.{all_append, any_of_all, lib_find, not_taken}
 use Rattle.jlinking.proofs.JlinkProofs.Having.{first_in}
-use Rattle.jrewrite.proofs.Rooming.{either}
+use Rattle.jrewriting.proofs.JrewriteProofs.Rooming.{either}
 use Rattle.jmovedlaws.proofs.JseenProofs.Along.{LibAt, lib_along}
 
 -- ---- lists

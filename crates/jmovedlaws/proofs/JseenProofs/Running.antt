@@ -23,11 +23,11 @@ use Rattle.jmodel.specs.jmachine.Calls.{by_interface}
 use Rattle.jmodel.specs.jmachine.Objects.{Object, class_of, id_of, library_name}
 use Rattle.jmodel.specs.jmachine.Privileges.{run_action}
 use Rattle.jmodel.specs.jmachine.World.{is_instance, world}
-use Rattle.jrewrite.specs.Program.{moved}
-use Rattle.jrewrite.proofs.Overriding.{AllMoving}
-use Rattle.jrewrite.proofs.Standing.{IsPlain}
-use Rattle.jstands.specs.Expanding.{moved_target}
-use Rattle.jstands.specs.Moves.{run_of}
+use Rattle.jrewriting.specs.jrewrite.Program.{moved}
+use Rattle.jrewriting.proofs.JrewriteProofs.Overriding.{AllMoving}
+use Rattle.jrewriting.proofs.JrewriteProofs.Standing.{IsPlain}
+use Rattle.jbesides.specs.jstands.Expanding.{moved_target}
+use Rattle.jbesides.specs.jstands.Moves.{run_of}
 use Rattle.jmovedlaws.specs.jseen.Selected.{moved_selected}
 use Rattle.jmovedlaws.proofs.JseenProofs.Comes.{interface_moved}
 use Rattle.jmovedlaws.proofs.JseenProofs.Handing.{has_selects}

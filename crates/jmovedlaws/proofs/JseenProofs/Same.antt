@@ -2,11 +2,11 @@
 use Rattle.std.proofs.Common.{◌≡◌, None}
 use Rattle.jprogram.specs.Classes.{Program}
 use Rattle.jtyping.specs.Typing.{WellTyped}
-use Rattle.jrewrite.specs.Linking.{IsLinked}
-use Rattle.jrewrite.specs.Program.{limits, moved}
-use Rattle.jrewrite.proofs.Membering.{all_moving}
-use Rattle.jrewrite.proofs.Plainly.{is_plain}
-use Rattle.jstands.specs.Moves.{SameCalls}
+use Rattle.jrewriting.specs.jrewrite.Linking.{IsLinked}
+use Rattle.jrewriting.specs.jrewrite.Program.{limits, moved}
+use Rattle.jrewriting.proofs.JrewriteProofs.Membering.{all_moving}
+use Rattle.jrewriting.proofs.JrewriteProofs.Plainly.{is_plain}
+use Rattle.jbesides.specs.jstands.Moves.{SameCalls}
 use Rattle.jmovedlaws.proofs.JseenProofs.Asks.{asks_so, controller_itself, rt_itself}
 use Rattle.jmovedlaws.proofs.JseenProofs.Called.{call_alone, call_handed, call_to_alone, call_to_handed}
 use Rattle.jmovedlaws.proofs.JseenProofs.Classes.{ordered}

@@ -10,8 +10,8 @@ use Rattle.jprogram.specs.declared.member.Selected.{Selected}
 use Rattle.jprogram.specs.declared.member.Selected.TheVariants as selected
 use Rattle.jprogram.specs.Classes.{Program}
 use Rattle.jprogram.specs.Members.{as_selected, before, first_by, first_taking, is_abstract, is_static, overrides, overrides_at_once, same_method, takes_call}
-use Rattle.jrewrite.specs.Program.{moved}
-use Rattle.jstands.specs.Expanding.{moved_member, passing}
+use Rattle.jrewriting.specs.jrewrite.Program.{moved}
+use Rattle.jbesides.specs.jstands.Expanding.{moved_member, passing}
 use Rattle.jmovedlaws.specs.jseen.Selected.{moved_selected}
 
 -- ---- which of some methods

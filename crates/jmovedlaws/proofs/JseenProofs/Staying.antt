@@ -33,12 +33,12 @@ use Rattle.jprogram.proofs.Standing.{Stands, Users, Libs, Nowhere, any_of_all, l
 use Rattle.jmoveclass.specs.Methods.{new_desc}
 use Rattle.jlinking.specs.jlink.Links.{Links}
 use Rattle.jlinking.proofs.JlinkProofs.Selecting.{first_called}
-use Rattle.jmovefile.proofs.Members.{Alike, Like}
-use Rattle.jrewrite.specs.Program.{moved}
-use Rattle.jrewrite.proofs.Declaring.{Moving, desc_is, ends_so, new_ends}
-use Rattle.jrewrite.proofs.Finding.{SameFound}
-use Rattle.jrewrite.proofs.Overriding.{AllMoving, moved_side}
-use Rattle.jrewrite.proofs.Standing.{IsPlain, same}
+use Rattle.jrewriting.proofs.JmovefileProofs.Members.{Alike, Like}
+use Rattle.jrewriting.specs.jrewrite.Program.{moved}
+use Rattle.jrewriting.proofs.JrewriteProofs.Declaring.{Moving, desc_is, ends_so, new_ends}
+use Rattle.jrewriting.proofs.JrewriteProofs.Finding.{SameFound}
+use Rattle.jrewriting.proofs.JrewriteProofs.Overriding.{AllMoving, moved_side}
+use Rattle.jrewriting.proofs.JrewriteProofs.Standing.{IsPlain, same}
 use Rattle.jmovedlaws.proofs.JseenProofs.Along.{OpenAt, UserAt, found_plain, open_above_it, user_open, within}
 use Rattle.jmovedlaws.proofs.JseenProofs.Clearing.{fixes_found, one_named, onward_free, open_in, user_found}
 use Rattle.jmovedlaws.proofs.JseenProofs.Fixed.{class_fixed, face_fixed, not_fixed_at}

@@ -15,12 +15,12 @@ use Rattle.jmodel.specs.jmachine.Narrowing.{default, narrowed}
 use Rattle.jmodel.specs.jmachine.Opening.{constant_of, constants_of, distinct, first_objects, first_value, opening_charge, opening_store, string_in, strings, strings_in, value_of, values_in}
 use Rattle.jmodel.specs.jmachine.Store.{Store}
 use Rattle.jmoveclass.specs.Moved.{moved_class, moved_part}
-use Rattle.jmovefile.proofs.Pooling.{sound_of}
-use Rattle.jrewrite.specs.Linking.{IsLinked}
-use Rattle.jrewrite.specs.Program.{moved}
-use Rattle.jrewrite.proofs.Fielding.{fielded}
-use Rattle.jrewrite.proofs.Finding.{pool_front}
-use Rattle.jrewrite.proofs.Membering.{fields_same}
+use Rattle.jrewriting.proofs.JmovefileProofs.Pooling.{sound_of}
+use Rattle.jrewriting.specs.jrewrite.Linking.{IsLinked}
+use Rattle.jrewriting.specs.jrewrite.Program.{moved}
+use Rattle.jrewriting.proofs.JrewriteProofs.Fielding.{fielded}
+use Rattle.jrewriting.proofs.JrewriteProofs.Finding.{pool_front}
+use Rattle.jrewriting.proofs.JrewriteProofs.Membering.{fields_same}
 use Rattle.jmovedlaws.proofs.JseenProofs.Constants.{string_same, value_same}
 use Rattle.jmovedlaws.proofs.JseenProofs.Fields.{all_by, map_filter, type_kept}
 

@@ -24,10 +24,10 @@ use Rattle.jprogram.specs.Members.{desc_of, method_at, name_of}
 use Rattle.jprogram.specs.Parts.{member_desc, or_empty}
 use Rattle.jlinking.proofs.JlinkProofs.Selecting.{first_called}
 use Rattle.jmoveclass.specs.Methods.{new_desc}
-use Rattle.jrewrite.specs.Program.{moved}
-use Rattle.jrewrite.proofs.Overriding.{AllMoving}
-use Rattle.jrewrite.proofs.Standing.{IsPlain}
-use Rattle.jstands.specs.Expanding.{moved_member, passing}
+use Rattle.jrewriting.specs.jrewrite.Program.{moved}
+use Rattle.jrewriting.proofs.JrewriteProofs.Overriding.{AllMoving}
+use Rattle.jrewriting.proofs.JrewriteProofs.Standing.{IsPlain}
+use Rattle.jbesides.specs.jstands.Expanding.{moved_member, passing}
 use Rattle.jmovedlaws.specs.jseen.Found.{library_handed}
 use Rattle.jmovedlaws.proofs.JseenProofs.Chosen.{MovedText}
 use Rattle.jmovedlaws.proofs.JseenProofs.Clearing.{user_found}

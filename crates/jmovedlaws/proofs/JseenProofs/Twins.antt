@@ -18,14 +18,14 @@ use Rattle.jprogram.specs.Parts as parts
 use Rattle.jprogram.specs.Parts.{member_desc, this_name}
 use Rattle.jmoveclass.specs.Methods.{new_desc}
 use Rattle.jmoveclass.specs.Moved.{moved_class, moved_part}
-use Rattle.jmovefile.proofs.Members.{Alike, Like}
-use Rattle.jrewrite.specs.Program.{moved}
-use Rattle.jrewrite.proofs.Declaring.{Moving, desc_is, name_same}
-use Rattle.jrewrite.proofs.Finding.{named_at, part_moved, this_same}
-use Rattle.jrewrite.proofs.Membering.{fields_same}
-use Rattle.jrewrite.proofs.Overriding.{AllMoving, Likewise, info_is, moved_at, pair_at, user_likewise}
-use Rattle.jrewrite.proofs.Standing.{IsPlain}
-use Rattle.jstands.specs.Expanding.{moved_member, passing}
+use Rattle.jrewriting.proofs.JmovefileProofs.Members.{Alike, Like}
+use Rattle.jrewriting.specs.jrewrite.Program.{moved}
+use Rattle.jrewriting.proofs.JrewriteProofs.Declaring.{Moving, desc_is, name_same}
+use Rattle.jrewriting.proofs.JrewriteProofs.Finding.{named_at, part_moved, this_same}
+use Rattle.jrewriting.proofs.JrewriteProofs.Membering.{fields_same}
+use Rattle.jrewriting.proofs.JrewriteProofs.Overriding.{AllMoving, Likewise, info_is, moved_at, pair_at, user_likewise}
+use Rattle.jrewriting.proofs.JrewriteProofs.Standing.{IsPlain}
+use Rattle.jbesides.specs.jstands.Expanding.{moved_member, passing}
 
 -- what calls and fields ask of a member
 pub record Twin (p : Program) (x y : Member) : Type 0 where

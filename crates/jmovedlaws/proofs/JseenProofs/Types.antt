@@ -14,9 +14,9 @@ use Rattle.jground.specs.jtypes.Described.{element_of}
 use Rattle.jprogram.specs.Classes.{Program, find}
 use Rattle.jprogram.specs.Naming.{desc_reserved, is_reserved, return_reserved, text_reserved, type_reserved}
 use Rattle.jmeaning.specs.juses.Typed.{called, held, name, return_in, type_in, type_of, typed, typed_as}
-use Rattle.jrewrite.specs.Program.{moved}
-use Rattle.jrewrite.proofs.Declaring.{first_false, second_false}
-use Rattle.jrewrite.proofs.Standing.{IsPlain, missing_name}
+use Rattle.jrewriting.specs.jrewrite.Program.{moved}
+use Rattle.jrewriting.proofs.JrewriteProofs.Declaring.{first_false, second_false}
+use Rattle.jrewriting.proofs.JrewriteProofs.Standing.{IsPlain, missing_name}
 
 not_same : (a b : Bool) → not a ≡ not b → a ≡ b
 not_same true true e = refl

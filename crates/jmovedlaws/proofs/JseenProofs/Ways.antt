@@ -14,10 +14,10 @@ use Rattle.jlinking.specs.jlink.Standing.{in_order}
 use Rattle.jtyping.specs.Typing.{WellTyped}
 use Rattle.jmoveclass.specs.Methods.{new_desc}
 use Rattle.jmoveclass.specs.Moved.{moved_class}
-use Rattle.jrewrite.specs.Linking.{IsLinked}
-use Rattle.jrewrite.specs.Program.{limits, moved}
-use Rattle.jrewrite.proofs.Membering.{all_moving}
-use Rattle.jrewrite.proofs.Plainly.{is_plain}
+use Rattle.jrewriting.specs.jrewrite.Linking.{IsLinked}
+use Rattle.jrewriting.specs.jrewrite.Program.{limits, moved}
+use Rattle.jrewriting.proofs.JrewriteProofs.Membering.{all_moving}
+use Rattle.jrewriting.proofs.JrewriteProofs.Plainly.{is_plain}
 use Rattle.jmovedlaws.specs.jseen.Clear.{IsClear}
 use Rattle.jmovedlaws.specs.jseen.Found.{kept}
 use Rattle.jmovedlaws.proofs.JseenProofs.Keeping.{found_kept}

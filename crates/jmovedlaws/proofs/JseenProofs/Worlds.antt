@@ -10,11 +10,11 @@ use Rattle.jprogram.specs.Classes.{Program}
 use Rattle.jmeaning.specs.juses.Typed.{name}
 use Rattle.jmodel.specs.jmachine.World.{world}
 use Rattle.jtyping.specs.Typing.{WellTyped}
-use Rattle.jrewrite.specs.Linking.{IsLinked}
-use Rattle.jrewrite.specs.Program.{limits, moved}
-use Rattle.jrewrite.proofs.Membering.{all_moving}
-use Rattle.jrewrite.proofs.Plainly.{is_plain}
-use Rattle.jstands.specs.Moves.{SameClasses}
+use Rattle.jrewriting.specs.jrewrite.Linking.{IsLinked}
+use Rattle.jrewriting.specs.jrewrite.Program.{limits, moved}
+use Rattle.jrewriting.proofs.JrewriteProofs.Membering.{all_moving}
+use Rattle.jrewriting.proofs.JrewriteProofs.Plainly.{is_plain}
+use Rattle.jbesides.specs.jstands.Moves.{SameClasses}
 use Rattle.jmovedlaws.proofs.JseenProofs.Classes.{all_implement, name_plain, name_same, same_tree}
 use Rattle.jmovedlaws.proofs.JseenProofs.Fields.{element_same, layout_same, slot_same}
 

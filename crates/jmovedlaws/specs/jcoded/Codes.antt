@@ -5,9 +5,9 @@ use Rattle.jprogram.specs.declared.member.MethodId.{MethodId}
 use Rattle.jprogram.specs.Classes.{Program}
 use Rattle.jmeaning.specs.juses.Instructions.{code_at}
 use Rattle.jtyping.specs.Typing.{WellTyped}
-use Rattle.jrewrite.specs.Linking.{IsLinked}
-use Rattle.jrewrite.specs.Program.{limits, moved}
-use Rattle.jstands.specs.Moves.{MovedCode}
+use Rattle.jrewriting.specs.jrewrite.Linking.{IsLinked}
+use Rattle.jrewriting.specs.jrewrite.Program.{limits, moved}
+use Rattle.jbesides.specs.jstands.Moves.{MovedCode}
 
 -- Each method's code is moved: what is fetched of it and where it handles what is thrown is what moving says by what instructions mean.
 abbrev pub CodesMove : Type 0

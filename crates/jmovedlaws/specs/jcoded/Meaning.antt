@@ -5,9 +5,9 @@ use Rattle.jprogram.specs.Classes.{Program}
 use Rattle.jmeaning.specs.juses.Meanings.{AClass, AConstant, AField, AMethod, EntryMeaning, entry_meant}
 use Rattle.jtyping.specs.Typing.{WellTyped}
 use Rattle.jmoveclass.specs.Moved.{moved_class}
-use Rattle.jrewrite.specs.Linking.{IsLinked}
-use Rattle.jrewrite.specs.Program.{limits, moved}
-use Rattle.jstands.specs.Expanding.{Alone, way_of}
+use Rattle.jrewriting.specs.jrewrite.Linking.{IsLinked}
+use Rattle.jrewriting.specs.jrewrite.Program.{limits, moved}
+use Rattle.jbesides.specs.jstands.Expanding.{Alone, way_of}
 
 -- no context is handed on by it
 abbrev pub HandsNone : EntryMeaning → Type 0

@@ -20,8 +20,8 @@ use Rattle.jprogram.specs.Classes.{Program}
 use Rattle.jprogram.specs.Members.{info_of, main_of}
 use Rattle.jmeaning.specs.declared.juses.meaning.How.{How}
 use Rattle.jmeaning.specs.juses.Meanings.{CallMeaning}
-use Rattle.jrewrite.specs.Linking.{IsLinked}
-use Rattle.jstands.specs.Moves.{Calling, run_of}
+use Rattle.jrewriting.specs.jrewrite.Linking.{IsLinked}
+use Rattle.jbesides.specs.jstands.Moves.{Calling, run_of}
 
 abbrev pub slots_in : Option (ClassParts × MemberInfo) → ℕ
 slots_in None = 0

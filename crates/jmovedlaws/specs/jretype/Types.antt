@@ -2,8 +2,8 @@
 use Rattle.std.specs.Prelude.{◌≡◌, None}
 use Rattle.jprogram.specs.Classes.{Program}
 use Rattle.jtyping.specs.Typing.{WellTyped}
-use Rattle.jrewrite.specs.Linking.{IsLinked}
-use Rattle.jrewrite.specs.Program.{limits, moved}
+use Rattle.jrewriting.specs.jrewrite.Linking.{IsLinked}
+use Rattle.jrewriting.specs.jrewrite.Program.{limits, moved}
 
 -- The moved program is well typed, where the program links, is well typed and breaks no limit.
 abbrev pub TypesStay : Type 0

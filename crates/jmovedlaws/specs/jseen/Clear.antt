@@ -9,7 +9,7 @@ use Rattle.jprogram.specs.declared.member.MethodId.{MethodId}
 use Rattle.jprogram.specs.Classes.{Program, extends, find, holds, implements, is_interface, up}
 use Rattle.jprogram.specs.Members.{init, method_at, resolve_method}
 use Rattle.jprogram.specs.Naming.{is_reserved}
-use Rattle.jrewrite.specs.Linking.{IsLinked}
+use Rattle.jrewriting.specs.jrewrite.Linking.{IsLinked}
 use Rattle.jmovedlaws.specs.jseen.Found.{library_handed}
 
 -- what the class of a name declares of this name and descriptor is no method of the library that is handed no context

@@ -11,9 +11,9 @@ use Rattle.jprogram.specs.Naming.{is_reserved}
 use Rattle.jprogram.specs.Parts.{member_desc}
 use Rattle.jtyping.specs.Typing.{WellTyped}
 use Rattle.jmoveclass.specs.Methods.{new_desc}
-use Rattle.jrewrite.specs.Linking.{IsLinked}
-use Rattle.jrewrite.specs.Program.{limits, moved}
-use Rattle.jstands.specs.Expanding.{Way, Handed, library_way, passing}
+use Rattle.jrewriting.specs.jrewrite.Linking.{IsLinked}
+use Rattle.jrewriting.specs.jrewrite.Program.{limits, moved}
+use Rattle.jbesides.specs.jstands.Expanding.{Way, Handed, library_way, passing}
 
 abbrev pub is_handed : Way → Bool
 is_handed Handed = true

@@ -14,8 +14,8 @@ use Rattle.jmodel.specs.jmachine.Opening.{opening_charge, opening_store, strings
 use Rattle.jmodel.specs.jmachine.Steps.{fetched, own_fields}
 use Rattle.jmodel.specs.jmachine.World.{world}
 use Rattle.jtyping.specs.Typing.{WellTyped}
-use Rattle.jrewrite.specs.Linking.{IsLinked}
-use Rattle.jrewrite.specs.Program.{limits, moved}
+use Rattle.jrewriting.specs.jrewrite.Linking.{IsLinked}
+use Rattle.jrewriting.specs.jrewrite.Program.{limits, moved}
 
 -- A method's domain is what it was,
 abbrev pub DomainsStay : Type 0

@@ -1,7 +1,7 @@
 -- What a selected method is in a moved program.
 use Rattle.jprogram.specs.declared.member.Selected.{Selected}
 use Rattle.jprogram.specs.declared.member.Selected.TheVariants.{Abstract, Lib}
-use Rattle.jstands.specs.Expanding.{moved_member, passing}
+use Rattle.jbesides.specs.jstands.Expanding.{moved_member, passing}
 
 -- a method of the library in its passing form
 abbrev pub moved_selected : Selected → Selected

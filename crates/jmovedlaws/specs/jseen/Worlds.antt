@@ -3,9 +3,9 @@ use Rattle.std.specs.Prelude.{◌≡◌, None}
 use Rattle.jprogram.specs.Classes.{Program}
 use Rattle.jmodel.specs.jmachine.World.{world}
 use Rattle.jtyping.specs.Typing.{WellTyped}
-use Rattle.jrewrite.specs.Linking.{IsLinked}
-use Rattle.jrewrite.specs.Program.{limits, moved}
-use Rattle.jstands.specs.Moves.{SameClasses}
+use Rattle.jrewriting.specs.jrewrite.Linking.{IsLinked}
+use Rattle.jrewriting.specs.jrewrite.Program.{limits, moved}
+use Rattle.jbesides.specs.jstands.Moves.{SameClasses}
 
 -- Classes and fields are the same, where the program links, is well typed and breaks no limit.
 abbrev pub ClassesStay : Type 0

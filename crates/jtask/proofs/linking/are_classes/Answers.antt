@@ -2,7 +2,7 @@ use Rattle.std.proofs.Common.{◌≤◌, List, length, ap, arith, subst}
 use Rattle.std.specs.List.{AllByRecursion}
 use Rattle.std.proofs.lemmas.List.{take_all}
 use Rattle.jprogram.specs.declared.part.CodePart.{CodePart}
-use Rattle.jrewrite.proofs.Rewriting.{IsFile, file_at}
+use Rattle.jrewriting.proofs.JrewriteProofs.Rewriting.{IsFile, file_at}
 use Rattle.jtask.proofs.linking.are_classes.Goals as goal
 
 pub returns : goal.returns

@@ -1,6 +1,6 @@
 use Rattle.std.proofs.Common.{take}
 use Rattle.std.specs.List.{AllByRecursion}
-use Rattle.jrewrite.proofs.Rewriting.{IsFile}
+use Rattle.jrewriting.proofs.JrewriteProofs.Rewriting.{IsFile}
 use Rattle.jtask.proofs.linking.are_classes.Given as goal
 
 abbrev pub invariant-loop-part : goal.invariant-loop-part

@@ -1,8 +1,8 @@
 use Rattle.std.proofs.Common.{subst}
 use Rattle.jrights.specs.jdomain.Domains.{has}
 use Rattle.jprogram.specs.Classes.{Program}
-use Rattle.jsafe.specs.Sound.{IsSound}
-use Rattle.jsmall.specs.Small.{HasSmall}
+use Rattle.jsafety.specs.jsafe.Sound.{IsSound}
+use Rattle.jmovedlaws.specs.jsmall.Small.{HasSmall}
 use Rattle.jforms.specs.jpass.Passing.{passed}
 use Rattle.jforms.proofs.JpassProofs.Tellings.{complete, simulated, tells}
 use Rattle.jforms.proofs.JpassProofs.Unstuck.{inspected_unstuck, passed_unstuck}

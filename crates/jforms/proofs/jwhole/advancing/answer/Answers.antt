@@ -1,6 +1,6 @@
 use Rattle.std.proofs.Common.{◌∙◌, sym}
 use Rattle.jmodel.proofs.JguardProofs.Once.{asked_alike, asked_nothing}
-use Rattle.jexecute.specs.Executing.{CameTo, StandsAt}
+use Rattle.jcalling.specs.jexecute.Executing.{CameTo, StandsAt}
 use Rattle.jforms.specs.jengine.Engines.{asks_next}
 use Rattle.jforms.proofs.JengineProofs.Asking.{answers_none, carry_then}
 use Rattle.jforms.proofs.JwholeProofs.Called.{answered_at, known_at, tells_at}

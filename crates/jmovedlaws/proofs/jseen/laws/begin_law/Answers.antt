@@ -1,6 +1,6 @@
 use Rattle.jmovedlaws.proofs.jseen.laws.begin_law.Goals as goal
-use Rattle.jrewrite.proofs.Membering.{all_moving}
-use Rattle.jrewrite.proofs.Plainly.{is_plain}
+use Rattle.jrewriting.proofs.JrewriteProofs.Membering.{all_moving}
+use Rattle.jrewriting.proofs.JrewriteProofs.Plainly.{is_plain}
 use Rattle.jmovedlaws.proofs.JseenProofs.Mains.{main_same}
 use Rattle.jmovedlaws.proofs.JseenProofs.Making.{makes_same}
 use Rattle.jmovedlaws.proofs.JseenProofs.Openings.{domain_same, main_coded, own_same}

@@ -1,0 +1,4 @@
+pub mod JbesideProofs
+pub mod JcountProofs
+pub mod JstandsProofs
+pub mod JfollowProofs

@@ -1,0 +1,4 @@
+pub mod jbeside
+pub mod jcount
+pub mod jstands
+pub mod jfollow

@@ -1,4 +1,0 @@
-mod Came
-mod Deciding
-mod Lasting
-mod Operands

@@ -1,4 +1,0 @@
-use Rattle.jcallcontext.proofs.finding.action_target.Goals as goal
-
-pub by_interface-requires : goal.by_interface-requires
-by_interface-requires g c = record { marks = c.requires.fixed.marks }

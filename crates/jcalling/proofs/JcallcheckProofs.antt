@@ -1,0 +1,4 @@
+pub mod Came
+pub mod Deciding
+pub mod Lasting
+pub mod Operands

@@ -1,0 +1,19 @@
+use Rattle.std.proofs.Common.{◌≡◌, ◌≤◌, ◌-◌, length}
+use Rattle.jrows.specs.jcalls.Marks.{AreStanding}
+use Rattle.jmodel.specs.jstate.Celled.{AreCelled}
+use Rattle.jmodel.specs.jstate.Seen.{AreBuilt}
+use Rattle.jcalling.specs.jexecute.Hastening.{Quietly, program_of}
+use Rattle.jcalling.proofs.jexecute.hastening.hasten_within.Given as goal
+
+abbrev pub invariant-loop-steps : goal.invariant-loop-steps
+invariant-loop-steps g l = record {
+  quiet : Quietly (program_of l.fixed) l.fixed l.counts l.steps l.initial.frames l.initial.heap l.frames l.heap;
+  method : l.row.id ≡ l.frames.newest.method;
+  stand : AreStanding (length l.fixed.marks.now) l.frames;
+  built : AreBuilt l.heap.objects;
+  celled : AreCelled l.fixed.shapes.now l.heap.objects;
+  few : l.steps ≤ l.most;
+}
+
+abbrev pub decreases-loop-steps : goal.decreases-loop-steps
+decreases-loop-steps g l = l.most - l.steps

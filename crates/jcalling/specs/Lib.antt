@@ -1,0 +1,5 @@
+pub mod jcallplain
+pub mod jbegin
+pub mod jcallcheck
+pub mod jcallcontext
+pub mod jexecute

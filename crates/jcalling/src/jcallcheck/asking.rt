@@ -1,0 +1,36 @@
+ghost use Rattle.std.specs.Prelude.{◌≡◌, IfOk, OnOk};
+ghost use Rattle.jmodel.specs.jmachine.Asked.{Decided, carried};
+ghost use Rattle.jmodel.specs.jguard.Standing.{AnswersFor, IsKnownIn, Keeps};
+ghost use Rattle.jstepping.specs.jcore.Machines.{state_of};
+ghost use Rattle.jcalling.specs.jcallcheck.Finding.{ask_by};
+
+use crate::jcallcheck::finding::Whom;
+use jmodel::jguard::{Guard, ask_check, ask_kept_check};
+use jrights::jdomain::Verdict;
+use jrights::jperm::Permission;
+use jstepping::jcore::Machine;
+use std::alloc::{AllocError, Global};
+
+/// Asks whether a permission is granted.
+pub(crate) fn ask<G: Guard>(
+    alloc: Global,
+    m: &Machine<'_, '_, G::Mark>,
+    guard: &mut G,
+    whom: Whom,
+    asked: &Permission,
+) -> Result<Verdict, AllocError>
+    requires { IsKnownIn (G.kept guard.old) (G.entry guard.old) (state_of m.now) (ask_by whom asked.now) }
+    ensures answer { IfOk result (λ v. AnswersFor (G.kept guard.old) (G.kept guard.new) (G.entry guard.old) (G.entry guard.new) (G.rules guard.old)
+        (ask_by whom asked.now) (carried (state_of m.now)) m.now.guests.running.inherited (Decided v)) }
+    ensures once { OnOk result (G.asked guard.old (ask_by whom asked.now) guard.new) }
+    ensures rules { G.rules guard.new ≡ G.rules guard.old }
+    ensures keeps { Keeps (G.kept guard.old) (G.kept guard.new) }
+    ensures marks { Keeps (G.entry guard.old) (G.entry guard.new) }
+{
+    let marks = m.marks();
+    let inherited = m.guests.running.inherited;
+    match whom {
+        Whom::Thread(ctx) => ask_check(alloc, guard, asked, ctx, marks, inherited),
+        Whom::Kept(number) => ask_kept_check(alloc, guard, asked, number, marks, inherited),
+    }
+}

@@ -1,0 +1,11 @@
+pub mod Asks
+pub mod Coming
+pub mod Fine
+pub mod Guarded
+pub mod Holding
+pub mod Library
+pub mod Members
+pub mod Rows
+pub mod Small
+pub mod Standing
+pub mod Telling

@@ -1,9 +1,0 @@
-use Rattle.jmovefile.proofs.Framing.{full_items, named_fits, raw_items}
-use Rattle.jmoveclass.specs.Methods.{frames_in}
-use Rattle.jmovefile.proofs.laws.frame_laws.Goals as goal
-
-pub returns-clause-full : goal.returns-clause-full
-returns-clause-full g pool first b h k = full_items pool first b h (raw_items pool (frames_in b) k)
-
-pub returns-clause-written : goal.returns-clause-written
-returns-clause-written g pool fs write fit k = named_fits pool fs write fit k

@@ -1,5 +1,0 @@
-use Rattle.jrewrite.proofs.Filed.{parts_are_files}
-use Rattle.jrewrite.proofs.laws.part_laws.Goals as goal
-
-pub returns : goal.returns
-returns g p is typed none i part at = parts_are_files p is typed none i part at

@@ -1,9 +1,0 @@
-use Rattle.jrewrite.proofs.Standing.{extending_stays, names_stay}
-use Rattle.jrewrite.proofs.Plainly.{is_plain}
-use Rattle.jrewrite.proofs.laws.standing_laws.Goals as goal
-
-pub returns-clause-names : goal.returns-clause-names
-returns-clause-names g p is = names_stay p (is_plain p is)
-
-pub returns-clause-supers : goal.returns-clause-supers
-returns-clause-supers g p is = extending_stays p (is_plain p is)

@@ -1,6 +1,0 @@
-use Rattle.std.proofs.Common.{◌≡◌, map, take}
-use Rattle.jrewrite.specs.Files.{out_file}
-use Rattle.jrewrite.proofs.rewritten.out_files.Given as goal
-
-abbrev pub invariant-loop-part : goal.invariant-loop-part
-invariant-loop-part l = l.files ≡ map out_file (take l.part-index l.parts)

@@ -1,0 +1,3 @@
+pub mod JmovedProofs
+pub mod JmovefileProofs
+pub mod JrewriteProofs

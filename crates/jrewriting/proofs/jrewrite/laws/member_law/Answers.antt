@@ -1,0 +1,5 @@
+use Rattle.jrewriting.proofs.JrewriteProofs.Membering.{members_stay}
+use Rattle.jrewriting.proofs.jrewrite.laws.member_law.Goals as goal
+
+pub returns : goal.returns
+returns g p is typed none = members_stay p is typed none

@@ -1,0 +1,3 @@
+pub mod jmoved
+pub mod jmovefile
+pub mod jrewrite

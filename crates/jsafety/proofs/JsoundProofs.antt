@@ -1,0 +1,10 @@
+pub mod Calls
+pub mod Codes
+pub mod Declaring
+pub mod Entries
+pub mod Fields
+pub mod Libraries
+pub mod News
+pub mod Saying
+pub mod Running
+pub mod Sounding

@@ -1,0 +1,4 @@
+pub mod JtypedProofs
+pub mod JyieldProofs
+pub mod JsafeProofs
+pub mod JsoundProofs

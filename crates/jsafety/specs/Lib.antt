@@ -1,0 +1,4 @@
+pub mod jtyped
+pub mod jyield
+pub mod jsafe
+pub mod jsound

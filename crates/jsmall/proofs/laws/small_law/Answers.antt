@@ -1,5 +1,0 @@
-use Rattle.jsmall.proofs.Small.{stay_small}
-use Rattle.jsmall.proofs.laws.small_law.Goals as goal
-
-pub returns : goal.returns
-returns c = stay_small c.asking_laws.ensures.at c.asking_laws.ensures.opening

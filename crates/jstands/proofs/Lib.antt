@@ -1,3 +1,0 @@
-mod Examples
-mod Few
-mod References

@@ -1,0 +1,11 @@
+pub mod Ends
+pub mod Grounds
+pub mod Headlines
+pub mod Made
+pub mod Parts
+pub mod Rewriting
+pub mod Running
+pub mod Sized
+pub mod StoredFiles
+pub mod Tops
+pub mod Unstuck

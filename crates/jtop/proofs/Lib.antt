@@ -1,0 +1,2 @@
+pub mod JdriverProofs
+pub mod JstoreProofs

@@ -1,0 +1,2 @@
+pub mod jdriver
+pub mod jstore

@@ -1,8 +1,0 @@
-use Rattle.jyield.proofs.Sided.{inspecting_sided, plain_sided}
-use Rattle.jyield.proofs.laws.rules_laws.Goals as goal
-
-pub returns-clause-inspecting : goal.returns-clause-inspecting
-returns-clause-inspecting c = inspecting_sided
-
-pub returns-clause-plain : goal.returns-clause-plain
-returns-clause-plain c = plain_sided
