@@ -7,13 +7,14 @@ ghost use Rattle.jrights.specs.jperm.Paths.{path_covers, same_path, is_below, is
 use jground::jtext::Units;
 use std::alloc::{AllocError, Global};
 use std::marker::Model;
+use std::rc::Rc;
 
 const SLASH: u16 = b'/' as u16;
 
-/// A path that begins at the root. Contracts see its text.
+/// A path that begins at the root. Contracts see its text, which a path shares with its copies.
 #[derive(Debug, Drop)]
 pub struct AbsolutePath {
-    text: Units,
+    text: Rc<Units, Global>,
 }
 
 impl Model for AbsolutePath {
@@ -22,18 +23,20 @@ impl Model for AbsolutePath {
 
     ghost Value = { List ℕ };
 
-    ghost view = { λ p. p.text };
+    ghost view = { λ p. p.text.value };
 
-    ghost invariant = { λ p. IsTrue (is_absolute p.text) };
+    ghost invariant = { λ p. IsTrue (is_absolute p.text.value) };
 }
 
 impl AbsolutePath {
-    /// The path of a text that begins with a slash. It takes no memory.
-    pub fn new(text: Units) -> AbsolutePath
+    /// The path of a text that begins with a slash.
+    pub fn new(alloc: Global, text: Units) -> Result<AbsolutePath, AllocError>
         requires { IsTrue (is_absolute text) }
-        ensures { result ≡ text }
+        ensures { IfOk result (λ p. p ≡ text) }
     {
-        AbsolutePath { text }
+        Ok(AbsolutePath {
+            text: Rc::new(alloc, text)?,
+        })
     }
 
     /// The units of the path, lent.
@@ -41,15 +44,15 @@ impl AbsolutePath {
         ensures value { result.now ≡ self.now }
         ensures absolute { IsTrue (is_absolute self.now) }
     {
-        self.text.as_slice()
+        self.text.as_ref().as_slice()
     }
 
-    /// The same path again.
-    pub fn copy(&self, alloc: Global) -> Result<AbsolutePath, AllocError>
+    /// The same path again. Its text isn't copied.
+    pub fn copy(&self) -> Result<AbsolutePath, AllocError>
         ensures { IfOk result (λ p. p ≡ self.now) }
     {
         Ok(AbsolutePath {
-            text: self.text.copy(alloc)?,
+            text: self.text.clone()?,
         })
     }
 }
@@ -111,15 +114,15 @@ impl FilePath {
         }
     }
 
-    /// The same path again.
-    pub fn copy(&self, alloc: Global) -> Result<FilePath, AllocError>
+    /// The same path again. Its text isn't copied.
+    pub fn copy(&self) -> Result<FilePath, AllocError>
         ensures { IfOk result (λ p. p ≡ self.now) }
     {
         match self {
             FilePath::AllFiles => Ok(FilePath::AllFiles),
-            FilePath::Below(dir) => Ok(FilePath::Below(dir.copy(alloc)?)),
-            FilePath::Children(dir) => Ok(FilePath::Children(dir.copy(alloc)?)),
-            FilePath::Exact(path) => Ok(FilePath::Exact(path.copy(alloc)?)),
+            FilePath::Below(dir) => Ok(FilePath::Below(dir.copy()?)),
+            FilePath::Children(dir) => Ok(FilePath::Children(dir.copy()?)),
+            FilePath::Exact(path) => Ok(FilePath::Exact(path.copy()?)),
         }
     }
 }

@@ -128,7 +128,7 @@ impl Permission {
                 name,
                 actions,
             } => Ok(Permission::File {
-                path: path.copy(alloc)?,
+                path: path.copy()?,
                 name: name.copy(alloc)?,
                 actions: actions.copy(),
             }),

@@ -45,7 +45,7 @@ fn absolute(alloc: Global, directory: &[u16], name: &[u16]) -> Result<AbsolutePa
     let mut names = start(alloc, directory, name)?;
     follow(alloc, &mut names, name)?;
     let path = path_of_names(alloc, &names)?;
-    Ok(AbsolutePath::new(path))
+    AbsolutePath::new(alloc, path)
 }
 
 /// The names from which a name leads on: none where it begins with a slash, else the directory's.
