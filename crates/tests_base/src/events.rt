@@ -4,7 +4,7 @@ use jrights::jio::{MemorySink, PutFault};
 use jrights::jperm::{Actions, Permission, PropertyActions};
 use jrights::jtrace::{End, Event, write_end, write_event};
 use std::alloc::{AllocError, Global};
-use tests_rows::{Unread, number};
+use tests_rows::{Unread, between, debug_pair, number};
 
 /// A check's permission on the property `x`.
 fn asked(alloc: Global) -> Result<Permission, AllocError> {
@@ -14,35 +14,47 @@ fn asked(alloc: Global) -> Result<Permission, AllocError> {
     })
 }
 
+fn denied(alloc: Global, thread: u32, domain: u32) -> Result<Event, AllocError> {
+    let asked = asked(alloc)?;
+    Ok(Event::Deny {
+        thread,
+        asked,
+        domain,
+    })
+}
+
+fn granted(alloc: Global, thread: u32) -> Result<Event, AllocError> {
+    let asked = asked(alloc)?;
+    Ok(Event::Grant { thread, asked })
+}
+
+fn thrown(alloc: Global, thread: u32, class: &str) -> Result<Event, AllocError> {
+    let class = Units::from_text(alloc, class)?;
+    Ok(Event::Throw { thread, class })
+}
+
+fn uncaught(alloc: Global, thread: u32, class: &str) -> Result<Event, AllocError> {
+    let class = Units::from_text(alloc, class)?;
+    Ok(Event::Uncaught { thread, class })
+}
+
+fn printed(alloc: Global, thread: u32, word: &str) -> Result<Event, Unread> {
+    let text = Units::from_vec(units(alloc, word)?);
+    Ok(Event::Out { thread, text })
+}
+
 /// The event of words: a thread's number first.
 fn event(alloc: Global, kind: &str, words: &str) -> Result<Event, Unread> {
     let (thread, rest) = first(words);
     let thread = number::<u32>(thread)?;
-    let event = match kind {
-        "out" => Event::Out {
-            thread,
-            text: Units::from_vec(units(alloc, rest)?),
-        },
-        "grant" => Event::Grant {
-            thread,
-            asked: asked(alloc)?,
-        },
-        "deny" => Event::Deny {
-            thread,
-            asked: asked(alloc)?,
-            domain: number::<u32>(rest)?,
-        },
-        "throw" => Event::Throw {
-            thread,
-            class: Units::from_text(alloc, rest)?,
-        },
-        "uncaught" => Event::Uncaught {
-            thread,
-            class: Units::from_text(alloc, rest)?,
-        },
-        _ => return Err(Unread::Line),
-    };
-    Ok(event)
+    match kind {
+        "out" => printed(alloc, thread, rest),
+        "grant" => Ok(granted(alloc, thread)?),
+        "deny" => Ok(denied(alloc, thread, number::<u32>(rest)?)?),
+        "throw" => Ok(thrown(alloc, thread, rest)?),
+        "uncaught" => Ok(uncaught(alloc, thread, rest)?),
+        _ => Err(Unread::Line),
+    }
 }
 
 /// Writes an event's line where it is short enough.
@@ -59,29 +71,58 @@ fn line(alloc: Global, to: &MemorySink) -> Result<String, Unread> {
         return Err(Unread::Line);
     };
     match text.strip_suffix('\n') {
-        Some(line) => Ok(format!(in alloc; "<{line}>")?),
+        Some(line) => Ok(between(alloc, "<", line, ">")?),
         None => Err(Unread::Line),
     }
+}
+
+/// The line of an event, written to a sink.
+fn told_by(alloc: Global, to: &mut MemorySink, event: &Event) -> Result<String, Unread> {
+    match write_short(to, event)? {
+        Ok(()) => line(alloc, to),
+        Err(_) => Err(Unread::Line),
+    }
+}
+
+fn told_of(alloc: Global, event: &Event) -> Result<String, Unread> {
+    let mut to = MemorySink::open(alloc, 4096, Vec::new(alloc))?;
+    told_by(alloc, &mut to, event)
 }
 
 /// The line of an event.
 fn told(alloc: Global, words: &str) -> Result<String, Unread> {
     let (kind, rest) = pair(words)?;
     let event = event(alloc, kind, rest)?;
-    let mut to = MemorySink::open(alloc, 4096, Vec::new(alloc))?;
-    match write_short(&mut to, &event)? {
-        Ok(()) => line(alloc, &to),
-        Err(_) => Err(Unread::Line),
-    }
+    told_of(alloc, &event)
+}
+
+/// What becomes of an event's line in a sink, and how many bytes went out.
+fn written(alloc: Global, to: &mut MemorySink, event: &Event) -> Result<String, Unread> {
+    let written = write_short(to, event)?;
+    Ok(debug_pair(alloc, &written, &to.bytes().len())?)
+}
+
+/// A long text.
+fn letters(alloc: Global) -> Result<Event, AllocError> {
+    let text = "a".repeat(alloc, 600)?;
+    printed_text(alloc, text.as_str())
+}
+
+fn printed_text(alloc: Global, text: &str) -> Result<Event, AllocError> {
+    let text = Units::from_text(alloc, text)?;
+    Ok(Event::Out { thread: 0, text })
+}
+
+fn long_in(alloc: Global, to: &mut MemorySink) -> Result<String, Unread> {
+    let event = letters(alloc)?;
+    written(alloc, to, &event)
 }
 
 /// What becomes of the line of a long text where the put of a number fails, and how many bytes went out.
 fn long(alloc: Global, words: &str) -> Result<String, Unread> {
     let bad_puts = Vec::from_slice(alloc, &[number::<u64>(words)?])?;
     let mut to = MemorySink::open(alloc, 4096, bad_puts)?;
-    let text = Units::from_text(alloc, "a".repeat(alloc, 600)?.as_str())?;
-    let written = write_short(&mut to, &Event::Out { thread: 0, text })?;
-    Ok(format!(in alloc; "{written:?} {}", to.bytes().len())?)
+    long_in(alloc, &mut to)
 }
 
 fn end_of(name: &str) -> Result<End, Unread> {
@@ -95,13 +136,18 @@ fn end_of(name: &str) -> Result<End, Unread> {
     }
 }
 
-/// The line of an end.
-fn ended(alloc: Global, name: &str) -> Result<String, Unread> {
-    let mut to = MemorySink::open(alloc, 4096, Vec::new(alloc))?;
-    match write_end(&mut to, end_of(name)?) {
-        Ok(()) => line(alloc, &to),
+fn ended_in(alloc: Global, to: &mut MemorySink, end: End) -> Result<String, Unread> {
+    match write_end(to, end) {
+        Ok(()) => line(alloc, to),
         Err(_) => Err(Unread::Line),
     }
+}
+
+/// The line of an end.
+fn ended(alloc: Global, name: &str) -> Result<String, Unread> {
+    let end = end_of(name)?;
+    let mut to = MemorySink::open(alloc, 4096, Vec::new(alloc))?;
+    ended_in(alloc, &mut to, end)
 }
 
 /// What is asked of events and ends.

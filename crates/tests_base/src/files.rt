@@ -8,7 +8,7 @@ use jrights::jio::{
 };
 use std::alloc::{AllocError, Global};
 use std::fs;
-use tests_rows::{Unread, hex_of, number};
+use tests_rows::{Unread, between, debug, debug_pair, hex_of, number};
 
 /// Takes one byte a put, and fails at one put.
 #[derive(Drop)]
@@ -66,7 +66,7 @@ fn text(alloc: Global, word: &str) -> Result<String, Unread> {
         return Err(Unread::Line);
     };
     match str::from_utf8(sink.bytes()) {
-        Ok(text) => Ok(format!(in alloc; "<{text}>")?),
+        Ok(text) => Ok(between(alloc, "<", text, ">")?),
         Err(_) => Err(Unread::Line),
     }
 }
@@ -74,22 +74,30 @@ fn text(alloc: Global, word: &str) -> Result<String, Unread> {
 /// What becomes of a line with a text of so many letters where the put of a number fails, and how many bytes went out.
 fn pieces(alloc: Global, words: &str) -> Result<String, Unread> {
     let (letters, bad_put) = pair(words)?;
+    let bad_put = number::<u64>(bad_put)?;
     let text = vec![in alloc; 0x78u16; usize::from(number::<u16>(letters)?)]?;
-    let mut sink = sink(alloc, 1000, number::<u64>(bad_put)?)?;
+    Ok(pieces_of(alloc, text.as_slice(), bad_put)?)
+}
+
+/// The same of a text.
+fn pieces_of(alloc: Global, text: &[u16], bad_put: u64) -> Result<String, AllocError>
+    requires { length text.now < 2 ^ 16 }
+{
+    let mut sink = sink(alloc, 1000, bad_put)?;
     let parts = [
         Part::Number(7),
         Part::Plain(" "),
-        Part::Text(text.as_slice()),
+        Part::Text(text),
     ];
     let written = write_line(&mut sink, &parts);
-    Ok(format!(in alloc; "{written:?} {}", sink.bytes().len())?)
+    debug_pair(alloc, &written, &sink.bytes().len())
 }
 
 /// What becomes of 18 bytes that go out one by one where the put of a number fails, and how many went out.
 fn drips(alloc: Global, bad_put: &str) -> Result<String, Unread> {
     let mut drip = Drip::new(number::<u64>(bad_put)?);
     let put = put_all(&mut drip, b"grant 0 (\"a\" \"b\")\n");
-    Ok(format!(in alloc; "{put:?} {}", drip.len)?)
+    Ok(debug_pair(alloc, &put, &drip.len)?)
 }
 
 /// What becomes of each word that is put into a sink with room for six bytes, whose second put fails, and what it holds then.
@@ -122,15 +130,26 @@ fn memory(alloc: Global) -> Result<MemoryShelf, AllocError> {
     MemoryShelf::open(alloc, files, bad_reads, bad_writes)
 }
 
+/// Whether the bytes of hexadecimal text are stored.
+fn stored<S: Shelf>(alloc: Global, shelf: &mut S, path: &str, what: &str) -> Result<String, Unread> {
+    let bytes = hex_of(alloc, what)?;
+    let stored = shelf.write(alloc, path, bytes.as_slice());
+    Ok(debug(alloc, &stored.is_ok())?)
+}
+
+/// The bytes at a path.
+fn read<S: Shelf>(alloc: Global, shelf: &mut S, path: &str) -> Result<String, AllocError> {
+    match shelf.read(alloc, path) {
+        Ok(bytes) => hex::encode(alloc, bytes.as_slice()),
+        Err(_) => String::from_str(alloc, "none"),
+    }
+}
+
 /// What a shelf answers to a word: to a path what it reads, to a path with `=` and bytes behind it whether these are stored.
 fn step<S: Shelf>(alloc: Global, shelf: &mut S, word: &str) -> Result<String, Unread> {
-    if let Some((path, what)) = word.split_once('=') {
-        let stored = shelf.write(alloc, path, hex_of(alloc, what)?.as_slice());
-        return Ok(format!(in alloc; "{}", stored.is_ok())?);
-    }
-    match shelf.read(alloc, word) {
-        Ok(bytes) => Ok(hex::encode(alloc, bytes.as_slice())?),
-        Err(_) => Ok(String::from_str(alloc, "none")?),
+    match word.split_once('=') {
+        Some((path, what)) => stored(alloc, shelf, path, what),
+        None => Ok(read(alloc, shelf, word)?),
     }
 }
 
@@ -152,7 +171,7 @@ fn in_memory(alloc: Global, words: &str) -> Result<String, Unread> {
     for path in ["a/one", "two", "three"] {
         let bytes = shelf.file(path).unwrap_or(&[]);
         let digits = hex::encode(alloc, bytes)?;
-        found.push_str(format!(in alloc; "<{}> ", digits.as_str())?.as_str())?;
+        found.push_str(between(alloc, "<", digits.as_str(), "> ")?.as_str())?;
     }
     Ok(found)
 }
@@ -197,7 +216,7 @@ fn short_sink(alloc: Global) -> Result<String, AllocError> {
     let mut sink = RealSink::new(three.as_mut_slice());
     let first = sink.put(b"four");
     let second = sink.put(b"four");
-    format!(in alloc; "{first:?} {second:?}")
+    debug_pair(alloc, &first, &second)
 }
 
 /// What is asked of shelves, of sinks and of lines.

@@ -10,7 +10,7 @@ use jground::jformat::{
     u16_of, words_of,
 };
 use std::alloc::{AllocError, Global};
-use tests_rows::{Unread, hex_of};
+use tests_rows::{Unread, debug, debug_pair, hex_of};
 
 /// Numbers of two bytes.
 struct Short;
@@ -116,24 +116,24 @@ fn list(
     read: Result<(Seq<u16>, &[u8]), ReadError<u8>>,
 ) -> Result<String, AllocError> {
     match read {
-        Ok((items, rest)) => format!(in alloc; "{:?} {rest:?}", items.as_slice()),
-        Err(stop) => format!(in alloc; "{stop:?}"),
+        Ok((items, rest)) => debug_pair(alloc, &items.as_slice(), &rest),
+        Err(stop) => debug(alloc, &stop),
     }
 }
 
 /// Items up to the end.
 fn many(alloc: Global, bytes: &[u8]) -> Result<String, AllocError> {
     match many_of(alloc, &Short, 1, bytes) {
-        Ok(items) => format!(in alloc; "{:?}", items.as_slice()),
-        Err(stop) => format!(in alloc; "{stop:?}"),
+        Ok(items) => debug(alloc, &items.as_slice()),
+        Err(stop) => debug(alloc, &stop),
     }
 }
 
 /// The text of a block, and what stands behind it.
 fn block(alloc: Global, bytes: &[u8]) -> Result<String, AllocError> {
     match block_of(alloc, &Text, 0, bytes) {
-        Ok((text, rest)) => format!(in alloc; "{:?} {rest:?}", text.as_slice()),
-        Err(stop) => format!(in alloc; "{stop:?}"),
+        Ok((text, rest)) => debug_pair(alloc, &text.as_slice(), &rest),
+        Err(stop) => debug(alloc, &stop),
     }
 }
 
@@ -152,7 +152,7 @@ fn written(alloc: Global) -> Result<String, AllocError> {
 /// What is asked of a text that is to begin with the word `run`.
 fn behind_run(alloc: Global, text: &str) -> Result<String, AllocError> {
     let read = words_of(3, b"run ", text.as_bytes());
-    format!(in alloc; "{read:?}")
+    debug(alloc, &read)
 }
 
 /// What is asked of formats.
@@ -169,8 +169,8 @@ pub fn found(alloc: Global, kind: &str, words: &str) -> Result<String, Unread> {
         "three" => Ok(list(alloc, times_by_of(alloc, &Nth, 0, 3, bytes))?),
         "many" => Ok(many(alloc, bytes)?),
         "block" => Ok(block(alloc, bytes)?),
-        "i16" => Ok(format!(in alloc; "{:?}", i16_of(0u8, bytes))?),
-        "i8" => Ok(format!(in alloc; "{:?}", i8_of(0u8, bytes))?),
+        "i16" => Ok(debug(alloc, &i16_of(0u8, bytes))?),
+        "i8" => Ok(debug(alloc, &i8_of(0u8, bytes))?),
         _ => Err(Unread::Line),
     }
 }

@@ -1,8 +1,8 @@
 use crate::words::{first, pair};
 use jground::jheap::{CellType, Heap, Kind};
 use jground::jops::Value;
-use std::alloc::Global;
-use tests_rows::{Unread, number};
+use std::alloc::{AllocError, Global};
+use tests_rows::{Unread, debug_behind, debug_pair, number};
 
 fn kind_of(name: &str) -> Result<Kind, Unread> {
     match name {
@@ -18,9 +18,16 @@ fn kind_of(name: &str) -> Result<Kind, Unread> {
 fn made(alloc: Global, words: &str) -> Result<String, Unread> {
     let (kind, rest) = pair(words)?;
     let (len, cells) = pair(rest)?;
-    let mut heap = Heap::open(alloc, u32::from(number::<u16>(cells)?))?;
-    let made = heap.make(kind_of(kind)?, number::<u32>(len)?);
-    Ok(format!(in alloc; "{made:?} {}", heap.left())?)
+    let (kind, len) = (kind_of(kind)?, number::<u32>(len)?);
+    let cells = u32::from(number::<u16>(cells)?);
+    let mut heap = Heap::open(alloc, cells)?;
+    Ok(made_in(alloc, &mut heap, kind, len)?)
+}
+
+/// The same in a heap.
+fn made_in(alloc: Global, heap: &mut Heap, kind: Kind, len: u32) -> Result<String, AllocError> {
+    let made = heap.make(kind, len);
+    debug_pair(alloc, &made, &heap.left())
 }
 
 /// What a heap with so many cells answers to each word: a kind and a length make an object; `left`; `found` with a number.
@@ -31,17 +38,28 @@ fn steps(alloc: Global, words: &str) -> Result<String, Unread> {
         return Err(Unread::Line);
     }
     let mut heap = Heap::open(alloc, cells)?;
+    steps_in(alloc, &mut heap, rest)
+}
+
+fn steps_in(alloc: Global, heap: &mut Heap, words: &str) -> Result<String, Unread> {
     let mut found = String::new(alloc);
-    for step in rest.split(", ") {
+    for step in words.split(", ") {
         let (word, count) = first(step);
-        let one = match word {
-            "left" => format!(in alloc; " {}", heap.left())?,
-            "found" => format!(in alloc; " {:?}", heap.found(number::<u32>(count)?))?,
-            _ => format!(in alloc; " {:?}", heap.make(kind_of(word)?, number::<u32>(count)?))?,
-        };
+        let one = step_in(alloc, heap, word, count)?;
         found.push_str(one.as_str())?;
     }
     Ok(found)
+}
+
+fn step_in(alloc: Global, heap: &mut Heap, word: &str, count: &str) -> Result<String, Unread> {
+    match word {
+        "left" => Ok(debug_behind(alloc, " ", &heap.left())?),
+        "found" => Ok(debug_behind(alloc, " ", &heap.found(number::<u32>(count)?))?),
+        _ => {
+            let made = heap.make(kind_of(word)?, number::<u32>(count)?);
+            Ok(debug_behind(alloc, " ", &made)?)
+        }
+    }
 }
 
 /// The second of two statics as it is at first and with -1 in it, then the first with the least long in it, and the second again.

@@ -1,7 +1,7 @@
 use crate::words::pair;
 use jlib::{LibClass, Side, class, member, open_classes};
 use std::alloc::Global;
-use tests_rows::Unread;
+use tests_rows::{Unread, debug, debug_behind, debug_pair};
 
 fn class_of(name: &str) -> Result<LibClass, Unread> {
     class(Side::Source, name.as_bytes()).ok_or(Unread::Line)
@@ -12,7 +12,7 @@ fn classes(alloc: Global, name: &str) -> Result<String, Unread> {
     let name = name.as_bytes();
     let source = class(Side::Source, name);
     let passing = class(Side::Passing, name);
-    Ok(format!(in alloc; "{source:?} {passing:?}")?)
+    Ok(debug_pair(alloc, &source, &passing)?)
 }
 
 /// The member of a class by its name and descriptor, on either side.
@@ -22,7 +22,7 @@ fn members(alloc: Global, words: &str) -> Result<String, Unread> {
     let (owner, name, desc) = (owner.as_bytes(), name.as_bytes(), desc.as_bytes());
     let source = member(Side::Source, owner, name, desc);
     let passing = member(Side::Passing, owner, name, desc);
-    Ok(format!(in alloc; "{source:?} {passing:?}")?)
+    Ok(debug_pair(alloc, &source, &passing)?)
 }
 
 /// What a class is: the class above it, and whether it is open, an interface, or abstract.
@@ -39,7 +39,7 @@ fn about(alloc: Global, name: &str) -> Result<String, Unread> {
 /// The interface that a class implements.
 fn implemented(alloc: Global, name: &str) -> Result<String, Unread> {
     let found = class_of(name)?;
-    Ok(format!(in alloc; "{:?}", found.implemented())?)
+    Ok(debug(alloc, &found.implemented())?)
 }
 
 /// Whether users may not override a member below a class.
@@ -48,16 +48,16 @@ fn fixed(alloc: Global, words: &str) -> Result<String, Unread> {
     let (name, desc) = pair(rest)?;
     let below = class_of(below)?;
     let is = below.has_fixed(name.as_bytes(), desc.as_bytes());
-    Ok(format!(in alloc; "{is}")?)
+    Ok(debug(alloc, &is)?)
 }
 
 /// How many classes are open, and those among them that let no member of a name and a descriptor be overridden.
 fn opened(alloc: Global, words: &str) -> Result<String, Unread> {
     let (name, desc) = pair(words)?;
-    let mut text = format!(in alloc; "{}", open_classes().len())?;
+    let mut text = debug(alloc, &open_classes().len())?;
     for one in open_classes() {
         if one.fixes(name.as_bytes(), desc.as_bytes()) {
-            let more = format!(in alloc; " {one:?}")?;
+            let more = debug_behind(alloc, " ", &one)?;
             text.push_str(more.as_str())?;
         }
     }

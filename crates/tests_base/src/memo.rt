@@ -1,6 +1,6 @@
 use jmemo::{Key, Memo};
 use std::alloc::Global;
-use tests_rows::{Unread, number};
+use tests_rows::{Unread, debug_behind, number};
 
 /// A method that is looked for in a class.
 #[derive(Clone, Copy, PartialEq, Eq)]
@@ -42,7 +42,7 @@ pub fn found(alloc: Global, words: &str) -> Result<String, Unread> {
             continue;
         }
         let got = memo.get(key(word)?);
-        found.push_str(format!(in alloc; " {got:?}")?.as_str())?;
+        found.push_str(debug_behind(alloc, " ", &got)?.as_str())?;
     }
     Ok(found)
 }

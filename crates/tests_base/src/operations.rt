@@ -10,7 +10,7 @@ use jground::jnames::Shuffle::{Dup, Dup2, Dup2X1, Dup2X2, DupX1, DupX2, Pop, Pop
 use jground::jops::Value::{Ctx, Int, Long, Ref};
 use jground::jops::{DivideByZero, Shuffled, Value, divide, one, shuffle, test, two};
 use std::alloc::Global;
-use tests_rows::{Unread, number};
+use tests_rows::{Unread, debug, number};
 
 /// What two ints give.
 #[tactic(auto, unfolding(jground::specs::jops::Operations::two))]
@@ -128,7 +128,7 @@ fn computed(alloc: Global, words: &str) -> Result<String, Unread> {
             "lneg" | "l2i" => of_long(name, number::<i64>(rest)?),
             _ => of_int(name, number::<i32>(rest)?),
         };
-        return Ok(format!(in alloc; "{found:?}")?);
+        return Ok(debug(alloc, &found)?);
     };
     let found = match name {
         "lshl" | "lshr" | "lushr" => shifted(name, number::<i64>(x)?, number::<i32>(y)?),
@@ -137,7 +137,7 @@ fn computed(alloc: Global, words: &str) -> Result<String, Unread> {
         }
         _ => of_ints(name, number::<i32>(x)?, number::<i32>(y)?),
     };
-    Ok(format!(in alloc; "{found:?}")?)
+    Ok(debug(alloc, &found)?)
 }
 
 /// What is asked of a division.
@@ -148,7 +148,7 @@ fn quotient(alloc: Global, words: &str) -> Result<String, Unread> {
         "ldiv" | "lrem" => long_divided(name, number::<i64>(x)?, number::<i64>(y)?),
         _ => divided(name, number::<i32>(x)?, number::<i32>(y)?),
     };
-    Ok(format!(in alloc; "{found:?}")?)
+    Ok(debug(alloc, &found)?)
 }
 
 /// What is asked of a test of two ints, or of two references.
@@ -160,7 +160,7 @@ fn tested(alloc: Global, words: &str, of_refs: bool) -> Result<String, Unread> {
     } else {
         holds(name, number::<i32>(x)?, number::<i32>(y)?)
     };
-    Ok(format!(in alloc; "{found:?}")?)
+    Ok(debug(alloc, &found)?)
 }
 
 /// Items of one slot, longs, and a place where no item is.

@@ -4,7 +4,7 @@ ghost use Rattle.std.specs.Option.{option_to_list};
 use crate::words::first;
 use jpile::{Pile, Spread};
 use std::alloc::{AllocError, Global};
-use tests_rows::{Unread, number};
+use tests_rows::{Unread, debug, debug_behind, number};
 
 /// Items that are written as what they are in another list.
 struct Pairs;
@@ -34,11 +34,11 @@ fn change(pile: &mut Pile<u32>, word: &str, i: usize, item: u32) -> Result<bool,
 fn told(alloc: Global, pile: &mut Pile<u32>, word: &str, i: usize) -> Result<String, Unread> {
     let len = pile.len();
     match word {
-        "get" if i < len => Ok(format!(in alloc; " {}", pile.get(i))?),
-        "at" if i < len => Ok(format!(in alloc; " {}", pile.at(i))?),
-        "top" if i <= len => Ok(format!(in alloc; " {:?}", pile.top(i))?),
-        "len" => Ok(format!(in alloc; " {len}")?),
-        "pop" if 0 < len => Ok(format!(in alloc; " {}", pile.pop())?),
+        "get" if i < len => Ok(debug_behind(alloc, " ", &pile.get(i))?),
+        "at" if i < len => Ok(debug_behind(alloc, " ", &pile.at(i))?),
+        "top" if i <= len => Ok(debug_behind(alloc, " ", &pile.top(i))?),
+        "len" => Ok(debug_behind(alloc, " ", &len)?),
+        "pop" if 0 < len => Ok(debug_behind(alloc, " ", &pile.pop())?),
         _ => Err(Unread::Line),
     }
 }
@@ -69,7 +69,7 @@ fn spread(alloc: Global) -> Result<String, AllocError> {
     let mut pile = Pile::new(alloc);
     pile.push(9)?;
     pile.open_from::<(u32, Option<u32>), Pairs>(from.top(2), 5, 0)?;
-    let opened = format!(in alloc; "{:?}", pile.top(pile.len()))?;
+    let opened = debug(alloc, &pile.top(pile.len()))?;
     pile.close();
     format!(in alloc; "{} {:?}", opened.as_str(), pile.top(pile.len()))
 }

@@ -1,26 +1,35 @@
 use crate::words::first;
 use jground::jregion::Region;
 use std::alloc::{AllocError, Global};
-use tests_rows::{Unread, number};
+use tests_rows::{Unread, debug_behind, number};
 
 /// What a region answers to each word: `place` with a length, `room`.
 fn steps(alloc: Global, words: &str) -> Result<String, Unread> {
     let (cells, rest) = first(words);
     let mut region = Region::open(alloc, number::<u32>(cells)?)?;
+    steps_in(alloc, &mut region, rest)
+}
+
+fn steps_in(alloc: Global, region: &mut Region, words: &str) -> Result<String, Unread> {
     let mut found = String::new(alloc);
-    for step in rest.split(", ") {
+    for step in words.split(", ") {
         let (word, len) = first(step);
-        let one = match word {
-            "place" if region.place(number::<u32>(len)?).is_some() => String::from_str(
-                alloc, " block",
-            )?,
-            "place" => String::from_str(alloc, " none")?,
-            "room" => format!(in alloc; " {}", region.room())?,
-            _ => return Err(Unread::Line),
-        };
+        let one = step_in(alloc, region, word, len)?;
         found.push_str(one.as_str())?;
     }
     Ok(found)
+}
+
+fn step_in(alloc: Global, region: &mut Region, word: &str, len: &str) -> Result<String, Unread> {
+    match word {
+        "place" => {
+            let block = region.place(number::<u32>(len)?);
+            let told = if block.is_some() { " block" } else { " none" };
+            Ok(String::from_str(alloc, told)?)
+        }
+        "room" => Ok(debug_behind(alloc, " ", &region.room())?),
+        _ => Err(Unread::Line),
+    }
 }
 
 /// What two blocks hold, of 2 cells and of 3: each as it was placed, and once numbers were put into them.

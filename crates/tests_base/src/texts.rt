@@ -2,7 +2,7 @@ use crate::words::units;
 use jground::jbase::Stop;
 use jground::jtext::{Units, bytes_of, same_ignoring_case, units_of};
 use std::alloc::{AllocError, Global};
-use tests_rows::{Unread, hex_of};
+use tests_rows::{Unread, between, debug, debug_behind, hex_of};
 
 /// The bytes of units, where these are read from them again.
 fn spelled(alloc: Global, word: &str) -> Result<String, Unread> {
@@ -11,7 +11,7 @@ fn spelled(alloc: Global, word: &str) -> Result<String, Unread> {
     match units_of(alloc, written.as_slice()) {
         Ok(text) if text.as_slice() == given.as_slice() => {
             let digits = hex::encode(alloc, written.as_slice())?;
-            Ok(format!(in alloc; "<{}>", digits.as_str())?)
+            Ok(between(alloc, "<", digits.as_str(), ">")?)
         }
         _ => Err(Unread::Line),
     }
@@ -34,7 +34,7 @@ fn faults(alloc: Global, word: &str) -> Result<String, Unread> {
         let mut all = Vec::from_slice(alloc, front.as_slice())?;
         all.extend_from_slice(bad.as_slice())?;
         let at = fault_in(alloc, all.as_slice())?;
-        found.push_str(format!(in alloc; " {at}")?.as_str())?;
+        found.push_str(debug_behind(alloc, " ", &at)?.as_str())?;
         front.extend_from_slice(b"a\xc3\xa9\xe4\xb8\xad")?;
     }
     Ok(found)
@@ -43,14 +43,14 @@ fn faults(alloc: Global, word: &str) -> Result<String, Unread> {
 /// The units of a text.
 fn taken(alloc: Global, text: &str) -> Result<String, AllocError> {
     let units = Units::from_text(alloc, text)?.copy(alloc)?;
-    format!(in alloc; "{:?}", units.as_slice())
+    debug(alloc, &units.as_slice())
 }
 
 /// Whether two texts are one but for the case of letters.
 fn same(alloc: Global, text: &str, word: &str) -> Result<String, AllocError> {
     let units = Units::from_text(alloc, text)?;
     let same = same_ignoring_case(units.as_slice(), word.as_bytes());
-    format!(in alloc; "{same}")
+    debug(alloc, &same)
 }
 
 /// What is asked of texts.

@@ -4,7 +4,7 @@ ghost use Rattle.jthreads.specs.Table.{running};
 use crate::words::{numbers, pair};
 use jthreads::Threads;
 use std::alloc::{AllocError, Global};
-use tests_rows::{Unread, number};
+use tests_rows::{Unread, debug, number};
 
 /// Threads 0 to 8, of which these can run: the others aren't started, and thread 0 waits for itself.
 fn table_of(alloc: Global, runnable: &[u32]) -> Result<Threads, AllocError> {
@@ -25,11 +25,29 @@ fn table_of(alloc: Global, runnable: &[u32]) -> Result<Threads, AllocError> {
 fn picked(alloc: Global, words: &str) -> Result<String, Unread> {
     let (schedule, rest) = pair(words)?;
     let (taken, runnable) = pair(rest)?;
+    let taken = number::<u64>(taken)?;
     let schedule = numbers(alloc, schedule)?;
+    picked_by(alloc, schedule.as_slice(), taken, runnable)
+}
+
+fn picked_by(
+    alloc: Global,
+    schedule: &[u32],
+    taken: u64,
+    runnable: &str,
+) -> Result<String, Unread> {
     let runnable = numbers(alloc, runnable)?;
-    let threads = table_of(alloc, runnable.as_slice())?;
-    let found = threads.pick(schedule.as_slice(), number::<u64>(taken)?);
-    Ok(format!(in alloc; "{found:?}")?)
+    Ok(picked_among(alloc, schedule, taken, runnable.as_slice())?)
+}
+
+fn picked_among(
+    alloc: Global,
+    schedule: &[u32],
+    taken: u64,
+    runnable: &[u32],
+) -> Result<String, AllocError> {
+    let threads = table_of(alloc, runnable)?;
+    debug(alloc, &threads.pick(schedule, taken))
 }
 
 /// The threads that can run, each picked by its place.

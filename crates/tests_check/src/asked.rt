@@ -7,7 +7,7 @@ use jlib::Side;
 use jlinking::jmembers::members_fault;
 use jprogram::{CallKind, ClassRef, CodePart, NamedProgram};
 use std::alloc::Global;
-use tests_rows::Unread;
+use tests_rows::{Unread, debug};
 
 fn call_kind(word: &str) -> Result<CallKind, Unread> {
     match word {
@@ -22,13 +22,13 @@ fn call_kind(word: &str) -> Result<CallKind, Unread> {
 fn of_classes(alloc: Global, p: &NamedProgram, q: &Question<'_>) -> Result<Option<String>, Unread> {
     let (a, b) = (q.a.as_bytes(), q.b.as_bytes());
     let found = match q.word {
-        "class" => format!(in alloc; "{:?}", p.class_of(a))?,
-        "super" => format!(in alloc; "{:?}", p.super_of(ClassRef::User(number(q.a)?)))?,
-        "is_name" => format!(in alloc; "{}", p.name_of(ClassRef::User(number(q.a)?)) == b)?,
-        "main" => format!(in alloc; "{:?}", p.main_of(a))?,
-        "extends" => format!(in alloc; "{}", p.extends(a, b))?,
-        "implements" => format!(in alloc; "{}", implements(alloc, p, q.a, q.b)?)?,
-        "may_name" => format!(in alloc; "{}", p.may_name(a, b))?,
+        "class" => debug(alloc, &p.class_of(a))?,
+        "super" => debug(alloc, &p.super_of(ClassRef::User(number(q.a)?)))?,
+        "is_name" => debug(alloc, &(p.name_of(ClassRef::User(number(q.a)?)) == b))?,
+        "main" => debug(alloc, &p.main_of(a))?,
+        "extends" => debug(alloc, &p.extends(a, b))?,
+        "implements" => debug(alloc, &implements(alloc, p, q.a, q.b)?)?,
+        "may_name" => debug(alloc, &p.may_name(a, b))?,
         _ => return Ok(None),
     };
     Ok(Some(found))
@@ -38,12 +38,12 @@ fn of_classes(alloc: Global, p: &NamedProgram, q: &Question<'_>) -> Result<Optio
 fn of_own(alloc: Global, p: &NamedProgram, q: &Question<'_>) -> Result<Option<String>, Unread> {
     let (a, b, c) = (q.a.as_bytes(), q.b.as_bytes(), q.c.as_bytes());
     let found = match q.word {
-        "method_in" => format!(in alloc; "{:?}", p.method_in(b, c, a))?,
-        "field_in" => format!(in alloc; "{:?}", p.field_in(b, c, a))?,
-        "may_use" => format!(in alloc; "{}", p.may_use(a, method_of(q.b, q.c)?))?,
+        "method_in" => debug(alloc, &p.method_in(b, c, a))?,
+        "field_in" => debug(alloc, &p.field_in(b, c, a))?,
+        "may_use" => debug(alloc, &p.may_use(a, method_of(q.b, q.c)?))?,
         "select" => {
             let method = method_of(q.b, q.c)?;
-            format!(in alloc; "{:?}", p.select(class_id(q.a)?, method, call_kind(q.d)?))?
+            debug(alloc, &p.select(class_id(q.a)?, method, call_kind(q.d)?))?
         }
         _ => return Ok(None),
     };
@@ -65,7 +65,7 @@ fn of_rule(
         "circle" => p.circle_test(alloc, class)?,
         _ => return Err(Unread::Line),
     };
-    Ok(format!(in alloc; "{kind:?}")?)
+    Ok(debug(alloc, &kind)?)
 }
 
 /// What the rules of classes say: the first fault, or what one rule says of one class.
@@ -81,7 +81,7 @@ fn of_rules(alloc: Global, p: &NamedProgram, q: &Question<'_>) -> Result<String,
             return of_rule(alloc, p, q, part.class.parts());
         }
     };
-    Ok(format!(in alloc; "{fault:?}")?)
+    Ok(debug(alloc, &fault)?)
 }
 
 fn program_of(alloc: Global, parts: Vec<CodePart>, side: Side) -> Result<NamedProgram, Unread> {

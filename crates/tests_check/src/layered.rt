@@ -8,7 +8,7 @@ use jlinking::jreferring::code_fault;
 use jmeaning::juses::Uses;
 use jprogram::{Interfaces, NamedProgram, program_laws};
 use std::alloc::Global;
-use tests_rows::Unread;
+use tests_rows::{Unread, debug};
 
 /// Whether the classes of a program stand in order.
 fn is_in_order(alloc: Global, program: &NamedProgram) -> bool
@@ -50,18 +50,18 @@ fn resolved(alloc: Global, p: &NamedProgram, q: &Question<'_>) -> Result<Option<
     requires { IsLayered p.now }
 {
     let found = match q.word {
-        "code" => format!(in alloc; "{:?}", code_fault(alloc, p)?)?,
+        "code" => debug(alloc, &code_fault(alloc, p)?)?,
         "method" => {
             let found = p.resolve_method(alloc, q.a.as_bytes(), q.b.as_bytes(), q.c.as_bytes())?;
-            format!(in alloc; "{found:?}")?
+            debug(alloc, &found)?
         }
         "field" => {
             let found = p.resolve_field(alloc, q.a.as_bytes(), q.b.as_bytes(), q.c.as_bytes())?;
-            format!(in alloc; "{found:?}")?
+            debug(alloc, &found)?
         }
         "reference" => {
             let found = p.resolved(alloc, number(q.a)?, index(q.b)?)?;
-            format!(in alloc; "{found:?}")?
+            debug(alloc, &found)?
         }
         _ => return Ok(None),
     };

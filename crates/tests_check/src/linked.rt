@@ -7,7 +7,7 @@ use jlinking::jlink::{LinkError, LinkedProgram, are_parts, link, link_known};
 use jmeaning::juses::{code_at, instruction_at};
 use jprogram::{CallKind, ClassRef, CodePart, MethodId};
 use std::alloc::{AllocError, Global};
-use tests_rows::Unread;
+use tests_rows::{Unread, debug, debug_pair};
 
 /// The one part of a program again.
 fn copied(alloc: Global, parts: &[CodePart]) -> Result<Vec<CodePart>, AllocError>
@@ -52,16 +52,16 @@ fn sizes(alloc: Global, p: &LinkedProgram, m: MethodId) -> Result<String, AllocE
 fn answer(alloc: Global, p: &LinkedProgram, q: &Question<'_>) -> Result<String, Unread> {
     let name = q.a.as_bytes();
     Ok(match q.word {
-        "side" => format!(in alloc; "{:?} {}", p.side(), p.parts().len())?,
-        "class" => format!(in alloc; "{:?}", p.class_of(name))?,
-        "main" => format!(in alloc; "{:?}", p.main_of(name))?,
+        "side" => debug_pair(alloc, &p.side(), &p.parts().len())?,
+        "class" => debug(alloc, &p.class_of(name))?,
+        "main" => debug(alloc, &p.main_of(name))?,
         "is_name" => {
             let is = p.name_of(ClassRef::User(number(q.a)?)) == q.b.as_bytes();
-            format!(in alloc; "{is}")?
+            debug(alloc, &is)?
         }
         "select" => {
             let method = method_of(q.b, q.c)?;
-            format!(in alloc; "{:?}", p.select(class_id(q.a)?, method, CallKind::Virtual))?
+            debug(alloc, &p.select(class_id(q.a)?, method, CallKind::Virtual))?
         }
         _ => of_code(alloc, p, q)?,
     })
@@ -75,11 +75,11 @@ fn of_code(alloc: Global, p: &LinkedProgram, q: &Question<'_>) -> Result<String,
         "sizes" => Ok(sizes(alloc, p, m)?),
         "member_at" => {
             let i = index(q.b)?;
-            Ok(format!(in alloc; "{:?}", p.uses().member_at(class, i))?)
+            Ok(debug(alloc, &p.uses().member_at(class, i))?)
         }
         "instruction" => {
             let one = instruction_at(alloc, p.named(), p.uses(), m, number(q.c)?)?;
-            Ok(format!(in alloc; "{one:?}")?)
+            Ok(debug(alloc, &one)?)
         }
         _ => Err(Unread::Line),
     }
@@ -92,7 +92,7 @@ pub fn fault_of(alloc: Global, parts: Vec<CodePart>, side: Side) -> Result<Strin
     }
     match link(alloc, parts, side) {
         Ok(_) => Ok(String::from_str(alloc, "it links")?),
-        Err(LinkError::At(fault)) => Ok(format!(in alloc; "{fault:?}")?),
+        Err(LinkError::At(fault)) => Ok(debug(alloc, &fault)?),
         Err(LinkError::Memory) => Err(Unread::Memory),
     }
 }

@@ -3,7 +3,7 @@ use jmeaning::juses::{ArrayRef, ElementRef, TypeRef, Use, Uses, stands_below, ty
 use jparts::jcode::{CallOp, CastOp, FieldOp, PoolForm};
 use jprogram::{ClassRef, NamedProgram};
 use std::alloc::Global;
-use tests_rows::Unread;
+use tests_rows::{Unread, debug};
 
 /// What an instruction of a name says of an entry.
 fn form_of(name: &str, i: u16) -> Result<PoolForm, Unread> {
@@ -23,7 +23,7 @@ fn form_of(name: &str, i: u16) -> Result<PoolForm, Unread> {
 /// A use as a text: of a call how, the class by which it is named, what it calls, its parameters with the last one first, and its result.
 fn shown(alloc: Global, uses: &Uses, one: Option<Use>) -> Result<String, Unread> {
     let Some(Use::Call(how, call)) = one else {
-        return Ok(format!(in alloc; "{one:?}")?);
+        return Ok(debug(alloc, &one)?);
     };
     let params = uses.params(call.params);
     Ok(format!(in alloc;
@@ -40,9 +40,9 @@ pub fn of_pools(alloc: Global, uses: &Uses, q: &Question<'_>) -> Result<Option<S
         _ => return Ok(None),
     };
     let found = match q.word {
-        "class_at" => format!(in alloc; "{:?}", uses.class_at(class, i))?,
-        "array_at" => format!(in alloc; "{:?}", uses.array_use_at(class, i))?,
-        "member_at" => format!(in alloc; "{:?}", uses.member_at(class, i))?,
+        "class_at" => debug(alloc, &uses.class_at(class, i))?,
+        "array_at" => debug(alloc, &uses.array_use_at(class, i))?,
+        "member_at" => debug(alloc, &uses.member_at(class, i))?,
         _ => shown(alloc, uses, uses.use_at(class, form_of(q.b, i)?))?,
     };
     Ok(Some(found))
@@ -93,5 +93,5 @@ pub fn of_types(
         "below" => stands_below(p, class_of(p, q.a)?, class_of(p, q.b)?),
         _ => return Ok(None),
     };
-    Ok(Some(format!(in alloc; "{is}")?))
+    Ok(Some(debug(alloc, &is)?))
 }

@@ -1,7 +1,7 @@
 use jclass::{ClassFile, read_class, write_class};
 use jground::jbase::Stop;
 use std::alloc::{AllocError, Global};
-use tests_rows::{Unread, hex_of};
+use tests_rows::{Unread, debug_pair, hex_of};
 
 /// Whether a class file that was read is written as it was.
 fn written(alloc: Global, class: &ClassFile, bytes: &[u8]) -> Result<String, AllocError> {
@@ -22,7 +22,7 @@ pub fn read(alloc: Global, front: &[u8], words: &str) -> Result<String, Unread> 
     match read_class(alloc, bytes.as_slice()) {
         Ok(class) => Ok(written(alloc, &class, bytes.as_slice())?),
         Err(Stop::Fault(fault)) => match (fault.at as usize).checked_sub(front.len()) {
-            Some(at) => Ok(format!(in alloc; "{at} {:?}", fault.kind)?),
+            Some(at) => Ok(debug_pair(alloc, &at, &fault.kind)?),
             None => Ok(format!(in alloc; "in front {} {:?}", fault.at, fault.kind)?),
         },
         Err(Stop::Memory) => Err(Unread::Memory),

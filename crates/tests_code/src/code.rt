@@ -3,21 +3,21 @@ use jparts::jcode::{
     Form, Placed, Switch, branch_at, branch_count, decode, effect_of, encode, form_of, goes_on,
 };
 use std::alloc::{AllocError, Global};
-use tests_rows::{Unread, hex_of};
+use tests_rows::{Unread, debug, debug_pair, hex_of};
 
 /// How many instructions a code has, if it is written back as it was, or its first fault.
 pub fn read(alloc: Global, words: &str) -> Result<String, Unread> {
     let bytes = hex_of(alloc, words)?;
     let ops = match decode(alloc, bytes.as_slice()) {
         Ok(ops) => ops,
-        Err(Stop::Fault(fault)) => return Ok(format!(in alloc; "{} {:?}", fault.at, fault.kind)?),
+        Err(Stop::Fault(fault)) => return Ok(debug_pair(alloc, &fault.at, &fault.kind)?),
         Err(Stop::Memory) => return Err(Unread::Memory),
     };
     let again = encode(alloc, ops.as_slice())?;
     if again.as_slice() != bytes.as_slice() {
         return Ok(String::from_str(alloc, "not written as it was")?);
     }
-    Ok(format!(in alloc; "{}", ops.len())?)
+    Ok(debug(alloc, &ops.len())?)
 }
 
 /// The instructions of a code that is one.
@@ -38,7 +38,7 @@ pub fn listed(alloc: Global, words: &str) -> Result<String, Unread> {
         if !text.is_empty() {
             text.push_str(", ")?;
         }
-        let told = format!(in alloc; "{} {:?}", one.at, one.op)?;
+        let told = debug_pair(alloc, &one.at, &one.op)?;
         text.push_str(told.as_str())?;
     }
     Ok(text)
@@ -56,7 +56,7 @@ pub fn form(alloc: Global, words: &str) -> Result<String, Unread> {
             "{form:?} takes {:?} gives {:?}",
             effect.takes, effect.gives
         )?),
-        None => Ok(format!(in alloc; "{form:?}")?),
+        None => Ok(debug(alloc, &form)?),
     }
 }
 

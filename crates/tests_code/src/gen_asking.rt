@@ -2,7 +2,7 @@ use jclass::{read_class, write_class};
 use jgen::{MadeFile, MadeJob, make_job};
 use jground::jbase::Stop;
 use std::alloc::{AllocError, Global};
-use tests_rows::{Line, Unread, first, number};
+use tests_rows::{Line, Unread, debug, first, number};
 
 /// The job of a seed and a size.
 fn job_of(alloc: Global, words: &str) -> Result<MadeJob, Unread> {
@@ -56,7 +56,7 @@ fn digest_text(alloc: Global, files: &[MadeFile]) -> Result<String, AllocError> 
         digest = with_bytes(digest, file.path.as_slice());
         digest = with_bytes(digest, file.bytes.as_slice());
     }
-    Ok(format!(in alloc; "{digest}")?)
+    Ok(debug(alloc, &digest)?)
 }
 
 /// Whether bytes are those of a class file, which is written as it was read.
@@ -79,7 +79,7 @@ fn classes_text(alloc: Global, files: &[MadeFile]) -> Result<String, AllocError>
             classes = classes.saturating_add(1);
         }
     }
-    Ok(format!(in alloc; "{classes}")?)
+    Ok(debug(alloc, &classes)?)
 }
 
 /// What is answered to a question.

@@ -6,7 +6,7 @@ use jparts::jcode::{Handler, decode};
 use jparts::jmaps::{FullFrame, MapType};
 use jparts::jpool::{Adder, Entry, read_pool, write_pool};
 use std::alloc::{AllocError, Global};
-use tests_rows::{Unread, first, hex_of, number};
+use tests_rows::{Unread, between, debug, first, hex_of, number};
 
 /// An adder over the pool that bytes spell, to which a text was added, where there is one.
 fn adder_of(alloc: Global, bytes: &[u8], added: &str) -> Result<Adder, Unread> {
@@ -66,7 +66,7 @@ fn limit(alloc: Global, given: Given) -> Result<String, Unread> {
     } = given;
     let kinds = kinds.as_slice();
     match method_of(alloc, code.as_slice(), sizes, handlers, frames, kinds) {
-        Some(m) => Ok(format!(in alloc; "{:?}", limit_of(&m, kinds))?),
+        Some(m) => Ok(debug(alloc, &limit_of(&m, kinds))?),
         None => Err(Unread::Line),
     }
 }
@@ -77,9 +77,9 @@ fn is_code(alloc: Global, m: &MethodOut, words: &str) -> Result<String, Unread> 
     let Ok(ops) = decode(alloc, bytes.as_slice()) else {
         return Err(Unread::Line);
     };
-    let wanted = format!(in alloc; "{:?}", ops.as_slice())?;
-    let found = format!(in alloc; "{:?}", m.ops.as_slice())?;
-    Ok(format!(in alloc; "{}", found.as_str() == wanted.as_str())?)
+    let wanted = debug(alloc, &ops.as_slice())?;
+    let found = debug(alloc, &m.ops.as_slice())?;
+    Ok(debug(alloc, &(found.as_str() == wanted.as_str()))?)
 }
 
 fn put_types(alloc: Global, types: &[MapType], out: &mut String) -> Result<(), AllocError> {
@@ -143,9 +143,9 @@ fn of_method(alloc: Global, m: &MethodOut, word: &str, rest: &str) -> Result<Str
         "sizes" => Ok(format!(in alloc; "{} {} {}", m.slots, m.max_stack, m.max_locals)?),
         "handlers" => Ok(handlers_text(alloc, m.handlers.as_slice())?),
         "frames" => Ok(frames_text(alloc, m.frames.as_slice())?),
-        "count" => Ok(format!(in alloc; "{}", m.frames.as_slice().len())?),
+        "count" => Ok(debug(alloc, &m.frames.as_slice().len())?),
         "length" => match m.ops.as_slice().last() {
-            Some(last) => Ok(format!(in alloc; "{}", last.at.wrapping_add(1))?),
+            Some(last) => Ok(debug(alloc, &last.at.wrapping_add(1))?),
             None => Err(Unread::Line),
         },
         _ => Err(Unread::Line),
@@ -156,12 +156,12 @@ fn of_method(alloc: Global, m: &MethodOut, word: &str, rest: &str) -> Result<Str
 fn of_pool(alloc: Global, pool: Adder, word: &str, rest: &str) -> Result<String, Unread> {
     let pool = pool.into_pool();
     if word == "entries" {
-        return Ok(format!(in alloc; "{}", pool.entries().len())?);
+        return Ok(debug(alloc, &pool.entries().len())?);
     }
     let wanted = hex_of(alloc, rest)?;
     let written = write_pool(alloc, &pool)?;
     let is = written.as_slice() == wanted.as_slice();
-    Ok(format!(in alloc; "{is}")?)
+    Ok(debug(alloc, &is)?)
 }
 
 /// Why the method of fields isn't moved, the limit that it breaks, and how many entries the pool has then.
@@ -197,11 +197,11 @@ pub fn answer(
     let mut pool = adder_of(alloc, pool, added)?;
     let came = moved(alloc, given, number::<u32>(domain)?, &mut pool)?;
     match word {
-        "error" => Ok(format!(in alloc; "{:?}", came.err())?),
+        "error" => Ok(debug(alloc, &came.err())?),
         "entries" | "pool" => of_pool(alloc, pool, word, rest),
         _ => match came {
             Ok(m) => of_method(alloc, &m, word, rest),
-            Err(error) => Ok(format!(in alloc; "{error:?}")?),
+            Err(error) => Ok(debug(alloc, &error)?),
         },
     }
 }

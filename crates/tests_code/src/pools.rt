@@ -5,14 +5,14 @@ use jparts::jpool::{
     read_pool, slots_of, write_pool,
 };
 use std::alloc::{AllocError, Global};
-use tests_rows::{Unread, bytes_of, first, hex_of, number, unquoted, yes_or_no};
+use tests_rows::{Unread, between, bytes_of, debug, debug_behind, debug_pair, first, hex_of, number, unquoted, yes_or_no};
 
 /// How bytes of a text are told, or none.
 pub fn told_if(alloc: Global, text: Option<&[u8]>) -> Result<String, AllocError> {
     match text {
         Some(text) => {
             let text = String::from_utf8_lossy(alloc, text)?;
-            format!(in alloc; "'{}'", text.as_str())
+            between(alloc, "'", text.as_str(), "'")
         }
         None => String::from_str(alloc, "-"),
     }
@@ -35,7 +35,7 @@ fn tested(alloc: Global, text: &[u8]) -> Result<String, AllocError> {
     match (field, is_array_descriptor(text), slots) {
         (true, true, None) => String::from_str(alloc, "array"),
         (true, false, None) => String::from_str(alloc, "field"),
-        (false, false, Some(slots)) => format!(in alloc; "method of {slots}"),
+        (false, false, Some(slots)) => debug_behind(alloc, "method of ", &slots),
         (false, false, None) => String::from_str(alloc, "none"),
         _ => String::from_str(alloc, "more than one"),
     }
@@ -47,7 +47,7 @@ fn read(alloc: Global, text: &[u8]) -> Result<String, Unread> {
         Ok(Descriptor::Field(one)) if 0 < one.depth => Ok(String::from_str(alloc, "array")?),
         Ok(Descriptor::Field(_)) => Ok(String::from_str(alloc, "field")?),
         Ok(Descriptor::Method { params, .. }) => {
-            Ok(format!(in alloc; "method of {}", slots_of(params.as_slice()))?)
+            Ok(debug_behind(alloc, "method of ", &slots_of(params.as_slice()))?)
         }
         Err(DescError::Memory) => Err(Unread::Memory),
         Err(_) => Ok(String::from_str(alloc, "none")?),
@@ -113,13 +113,13 @@ pub fn pool(alloc: Global, fields: &str) -> Result<String, Unread> {
     let at = number::<u32>(at)?;
     let bytes = hex_of(alloc, words)?;
     match read_pool(alloc, bytes.as_slice(), at) {
-        Ok((pool, behind)) => {
-            if !is_kept(alloc, &pool, bytes.as_slice(), at, behind)? {
+        Ok((pool, end)) => {
+            if !is_kept(alloc, &pool, bytes.as_slice(), at, end)? {
                 return Ok(String::from_str(alloc, "not written as it was")?);
             }
-            Ok(format!(in alloc; "to {behind}")?)
+            Ok(debug_behind(alloc, "to ", &end)?)
         }
-        Err(Stop::Fault(fault)) => Ok(format!(in alloc; "{} {:?}", fault.at, fault.kind)?),
+        Err(Stop::Fault(fault)) => Ok(debug_pair(alloc, &fault.at, &fault.kind)?),
         Err(Stop::Memory) => Err(Unread::Memory),
     }
 }
@@ -142,11 +142,11 @@ pub fn looked_up(alloc: Global, pool: &Pool, how: &str, index: &str) -> Result<S
         "text" => Ok(told_if(alloc, pool.utf8(i))?),
         "class" => Ok(told_if(alloc, pool.class_name(i))?),
         "entry" => match pool.entry(i) {
-            Some(entry) => Ok(format!(in alloc; "{entry:?}")?),
+            Some(entry) => Ok(debug(alloc, &entry)?),
             None => Ok(String::from_str(alloc, "-")?),
         },
         "both" => match pool.name_and_type(i) {
-            Some((name, descriptor)) => Ok(format!(in alloc; "{name} {descriptor}")?),
+            Some((name, descriptor)) => Ok(debug_pair(alloc, &name, &descriptor)?),
             None => Ok(String::from_str(alloc, "-")?),
         },
         _ => Err(Unread::Line),
@@ -203,8 +203,8 @@ fn add(alloc: Global, adder: &mut Adder, entry: &str) -> Result<Result<u16, AddE
 /// The index at which an adder has an entry that is added, or why it has none.
 pub fn added(alloc: Global, adder: &mut Adder, entry: &str) -> Result<String, Unread> {
     match add(alloc, adder, entry)? {
-        Ok(index) => Ok(format!(in alloc; "{index}")?),
+        Ok(index) => Ok(debug(alloc, &index)?),
         Err(AddError::Memory) => Err(Unread::Memory),
-        Err(why) => Ok(format!(in alloc; "{why:?}")?),
+        Err(why) => Ok(debug(alloc, &why)?),
     }
 }

@@ -6,7 +6,7 @@ use jparts::jmaps::{
     ExpandError, Expansion, FullFrame, MapType, RawFrame, expand, put_frames, read_maps, write_maps,
 };
 use std::alloc::{AllocError, Global};
-use tests_rows::{Unread, hex_of, number};
+use tests_rows::{Unread, debug, debug_behind, debug_pair, hex_of, number};
 
 /// How many frames a StackMapTable's content spells, or its first fault.
 pub fn read(alloc: Global, words: &str) -> Result<String, Unread> {
@@ -16,7 +16,7 @@ pub fn read(alloc: Global, words: &str) -> Result<String, Unread> {
     }
     match read_maps(alloc, bytes.as_slice()) {
         Ok(raw) => Ok(format!(in alloc; "{} frames", raw.len())?),
-        Err(Stop::Fault(fault)) => Ok(format!(in alloc; "{} {:?}", fault.at, fault.kind)?),
+        Err(Stop::Fault(fault)) => Ok(debug_pair(alloc, &fault.at, &fault.kind)?),
         Err(Stop::Memory) => Err(Unread::Memory),
     }
 }
@@ -49,7 +49,7 @@ fn types_of(alloc: Global, words: &str) -> Result<Vec<MapType>, Unread> {
 
 fn put_types(alloc: Global, types: &[MapType], text: &mut String) -> Result<(), AllocError> {
     for one in types {
-        let told = format!(in alloc; " {one:?}")?;
+        let told = debug_behind(alloc, " ", &one)?;
         text.push_str(told.as_str())?;
     }
     Ok(())
@@ -123,7 +123,7 @@ fn same_fault(alloc: Global, one: &ExpandError, other: &ExpandError) -> Result<S
     if one != other {
         return differing(alloc);
     }
-    Ok(format!(in alloc; "{one:?}")?)
+    Ok(debug(alloc, &one)?)
 }
 
 /// What the two ways to the frames in full say, where they say the same.

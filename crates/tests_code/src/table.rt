@@ -2,7 +2,7 @@ use crate::move_table::Moves;
 use crate::{classes, code, gen_asking, pools, stack_maps, trips};
 use jparts::jpool::{Adder, Pool};
 use std::alloc::Global;
-use tests_rows::{Line, Unread, first, hex_of};
+use tests_rows::{Line, Unread, debug, first, hex_of};
 
 /// What the rows of a section are about.
 #[derive(Clone, Copy)]
@@ -59,7 +59,7 @@ impl Table {
             ("adder", _, Some(adder)) => adder.pool().entries().len(),
             _ => return Err(Unread::Line),
         };
-        Ok(format!(in alloc; "{count}")?)
+        Ok(debug(alloc, &count)?)
     }
 
     /// What the pool has at an index.

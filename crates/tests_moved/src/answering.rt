@@ -5,7 +5,7 @@ use crate::pair::{Pair, Unmoved, pair_of};
 use jlinking::jlink::LinkedProgram;
 use jprogram::{CodePart, Selected};
 use std::alloc::Global;
-use tests_rows::Unread;
+use tests_rows::{Unread, debug};
 
 fn difference_text(alloc: Global, found: Option<Difference>) -> Result<String, Unread> {
     match found {
@@ -21,7 +21,7 @@ fn selected_text(
 ) -> Result<String, Unread> {
     match other {
         Some(other) => Ok(format!(in alloc; "{found:?} and {other:?}")?),
-        None => Ok(format!(in alloc; "{found:?}")?),
+        None => Ok(debug(alloc, &found)?),
     }
 }
 

@@ -1,23 +1,59 @@
-use crate::permissions::reads;
-use jctx::{Context, enter, privileged, top};
+ghost use Rattle.std.specs.Prelude.{◌<◌, length};
+
+use crate::permissions::readings;
+use crate::words::put_number;
+use jctx::{Context, Item, enter, privileged, top};
 use jground::jtext::Units;
 use jrights::jdomain::{Domains, Verdict};
 use jrights::jperm::Permission;
 use jtable::Table;
 use std::alloc::{AllocError, Global};
-use tests_rows::{Unread, first, number};
+use tests_rows::{Unread, debug_behind, first, number};
 
 /// The limits that a word names: to read a property, or none.
 fn limits_of(alloc: Global, directory: &Units, name: &str) -> Result<Vec<Permission>, Unread> {
-    let mut limits = Vec::new(alloc);
-    if !name.is_empty() {
-        let limit = reads(alloc, directory, name)?;
-        limits.push(limit).map_err(AllocError::from)?;
+    if name.is_empty() {
+        return Ok(Vec::new(alloc));
     }
-    Ok(limits)
+    readings(alloc, directory, &[name])
+}
+
+/// The context of a privilege with limits that is given the context of one domain.
+fn limited_in(
+    alloc: Global,
+    given: u32,
+    domain: u32,
+    limits: &[Permission],
+    behind: &Context,
+) -> Result<Context, AllocError> {
+    let empty = top(alloc)?;
+    let given = enter(alloc, &empty, given)?;
+    privileged(alloc, domain, Some(&given), Some(limits), behind)
 }
 
 /// The context of a privilege with limits, maybe in the context of one domain that is given.
+fn limited_by(
+    alloc: Global,
+    given: Option<u32>,
+    domain: u32,
+    limits: &[Permission],
+    behind: &Context,
+) -> Result<Context, AllocError> {
+    match given {
+        Some(given) => limited_in(alloc, given, domain, limits, behind),
+        None => privileged(alloc, domain, None, Some(limits), behind),
+    }
+}
+
+/// The number behind a sign, where there is one.
+fn given_of(word: &str) -> Result<Option<u32>, Unread> {
+    match word {
+        "" => Ok(None),
+        word => Ok(Some(number(word)?)),
+    }
+}
+
+/// The same, where words say the limits and what is given.
 fn limited(
     alloc: Global,
     directory: &Units,
@@ -25,13 +61,10 @@ fn limited(
     words: &str,
     behind: &Context,
 ) -> Result<Context, Unread> {
-    let Some((name, given)) = words.split_once('@') else {
-        let limits = limits_of(alloc, directory, words)?;
-        return Ok(privileged(alloc, domain, None, Some(limits.as_slice()), behind)?);
-    };
+    let (name, given) = words.split_once('@').unwrap_or((words, ""));
+    let given = given_of(given)?;
     let limits = limits_of(alloc, directory, name)?;
-    let given = enter(alloc, &top(alloc)?, number(given)?)?;
-    Ok(privileged(alloc, domain, Some(&given), Some(limits.as_slice()), behind)?)
+    Ok(limited_by(alloc, given, domain, limits.as_slice(), behind)?)
 }
 
 /// The context behind one more word.
@@ -62,18 +95,23 @@ fn context_of(alloc: Global, directory: &Units, words: &str) -> Result<Context, 
     Ok(context)
 }
 
+/// Puts the domain of an item behind a text, and a stroke for each of its limits.
+fn put_item(alloc: Global, item: &Item, text: &mut String) -> Result<(), AllocError> {
+    if !text.is_empty() {
+        text.push(' ')?;
+    }
+    put_number(alloc, u64::from(item.domain), text)?;
+    for _ in item.limits.as_slice() {
+        text.push('\'')?;
+    }
+    Ok(())
+}
+
 /// A context as a text: the domain of each item, with a stroke behind it for each of its limits; `-` where there is none.
 fn shown(alloc: Global, context: &Context) -> Result<String, AllocError> {
     let mut text = String::new(alloc);
     for item in context.as_slice() {
-        if !text.is_empty() {
-            text.push(' ')?;
-        }
-        let domain = format!(in alloc; "{}", item.domain)?;
-        text.push_str(domain.as_str())?;
-        for _ in item.limits.as_slice() {
-            text.push('\'')?;
-        }
+        put_item(alloc, item, &mut text)?;
     }
     if text.is_empty() {
         text.push('-')?;
@@ -81,43 +119,84 @@ fn shown(alloc: Global, context: &Context) -> Result<String, AllocError> {
     Ok(text)
 }
 
+/// Whether the copy of a context shows a text.
+fn is_copied(alloc: Global, context: &Context, text: &str) -> Result<bool, AllocError> {
+    let copy = context.copy(alloc)?;
+    let again = shown(alloc, &copy)?;
+    Ok(again.as_str() == text)
+}
+
 /// What a context shows, and its copy too.
 pub fn context(alloc: Global, directory: &Units, words: &str) -> Result<String, Unread> {
     let context = context_of(alloc, directory, words)?;
     let text = shown(alloc, &context)?;
-    let again = shown(alloc, &context.copy(alloc)?)?;
-    if again.as_str() != text.as_str() {
-        return Ok(String::from_str(alloc, "its copy is another")?);
+    if is_copied(alloc, &context, text.as_str())? {
+        return Ok(text);
     }
-    Ok(text)
+    Ok(String::from_str(alloc, "its copy is another")?)
 }
 
 /// A verdict as a text.
-fn told(alloc: Global, verdict: &Verdict) -> Result<String, Unread> {
+fn told(alloc: Global, verdict: Verdict) -> Result<String, AllocError> {
     match verdict {
-        Verdict::Granted => Ok(String::from_str(alloc, "granted")?),
-        Verdict::Denied(domain) => Ok(format!(in alloc; "denied by {domain}")?),
+        Verdict::Granted => String::from_str(alloc, "granted"),
+        Verdict::Denied(domain) => {
+            debug_behind(alloc, "denied by ", &domain)
+        }
     }
 }
 
-/// What the context of the number that words make answers.
+/// What the context of a number answers.
+fn verdict_at(
+    contexts: &Table,
+    n: u64,
+    domains: &Domains,
+    asked: &Permission,
+) -> Result<Verdict, Unread> {
+    if n >= contexts.len() {
+        return Err(Unread::Line);
+    }
+    Ok(contexts.verdict(n, domains, asked))
+}
+
+/// What the context of the number that words make answers, in a table.
+fn verdict_in(
+    alloc: Global,
+    directory: &Units,
+    contexts: &mut Table,
+    domains: &Domains,
+    words: &str,
+    asked: &Permission,
+) -> Result<Verdict, Unread> {
+    if words == "-" {
+        return verdict_at(contexts, 0, domains, asked);
+    }
+    let n = number_of(alloc, directory, contexts, words, 0)?;
+    verdict_at(contexts, n, domains, asked)
+}
+
+/// The same, in a new table.
 fn verdict_by_number(
     alloc: Global,
     directory: &Units,
     domains: &Domains,
     words: &str,
     asked: &Permission,
-) -> Result<String, Unread> {
+) -> Result<Verdict, Unread> {
     let mut contexts = Table::open(alloc)?;
-    let n = if words == "-" {
-        0
-    } else {
-        number_of(alloc, directory, &mut contexts, words, 0)?
-    };
-    if n >= contexts.len() {
-        return Err(Unread::Line);
-    }
-    told(alloc, &contexts.verdict(n, domains, asked))
+    verdict_in(alloc, directory, &mut contexts, domains, words, asked)
+}
+
+/// What the walk of the context that words make answers.
+fn verdict_of_walk(
+    alloc: Global,
+    directory: &Units,
+    domains: &Domains,
+    words: &str,
+    asked: &Permission,
+) -> Result<Verdict, Unread> {
+    let context = context_of(alloc, directory, words)?;
+    Ok(context.verdict(domains, asked))
 }
 
 /// What the walk of a context answers, and that of its number too.
@@ -128,13 +207,28 @@ pub fn verdict(
     words: &str,
     asked: &Permission,
 ) -> Result<String, Unread> {
-    let context = context_of(alloc, directory, words)?;
-    let text = told(alloc, &context.verdict(domains, asked))?;
+    let walked = verdict_of_walk(alloc, directory, domains, words, asked)?;
     let by_number = verdict_by_number(alloc, directory, domains, words, asked)?;
-    if by_number.as_str() != text.as_str() {
+    if by_number != walked {
         return Ok(String::from_str(alloc, "by its number it is another")?);
     }
-    Ok(text)
+    Ok(told(alloc, walked)?)
+}
+
+/// The number of the context of a privilege with limits, in the first context, behind that of a number.
+fn limited_behind(
+    alloc: Global,
+    directory: &Units,
+    contexts: &mut Table,
+    domain: u32,
+    name: &str,
+    n: u64,
+) -> Result<u64, Unread>
+    requires known { n < length contexts.old }
+    requires some { 0 < length contexts.old }
+{
+    let limits = limits_of(alloc, directory, name)?;
+    Ok(contexts.privileged(alloc, domain, Some(0), Some(limits.as_slice()), n)?)
 }
 
 /// The number of a context behind one more word, where the words before have this number.
@@ -153,8 +247,7 @@ fn number_behind(
     }
     match word.split_once(':') {
         Some((domain, name)) => {
-            let limits = limits_of(alloc, directory, name)?;
-            Ok(contexts.privileged(alloc, number(domain)?, Some(0), Some(limits.as_slice()), n)?)
+            limited_behind(alloc, directory, contexts, number(domain)?, name, n)
         }
         None => Ok(contexts.enter(alloc, n, number(word)?)?),
     }
@@ -175,19 +268,49 @@ fn number_of(
     Ok(number)
 }
 
+/// The number of the last context where words stand so often behind the one of a number.
+fn last_turn(
+    alloc: Global,
+    directory: &Units,
+    contexts: &mut Table,
+    words: &str,
+    from: u64,
+    times: u32,
+) -> Result<u64, Unread> {
+    let mut last = from;
+    for _ in 0..times {
+        last = number_of(alloc, directory, contexts, words, from)?;
+    }
+    Ok(last)
+}
+
+/// Three numbers.
+fn three(alloc: Global, one: u64, two: u64, three: u64) -> Result<String, AllocError> {
+    format!(in alloc; "{one}, {two}, {three}")
+}
+
+/// What `turns` says, in a table.
+fn turns_in(
+    alloc: Global,
+    directory: &Units,
+    contexts: &mut Table,
+    base: &str,
+    words: &str,
+    times: u32,
+) -> Result<String, Unread> {
+    let from = number_of(alloc, directory, contexts, base, 0)?;
+    let last = last_turn(alloc, directory, contexts, words, from, times)?;
+    Ok(three(alloc, from, last, contexts.len())?)
+}
+
 /// The numbers of contexts where words stand behind those of a loop, so often: each turn begins with the same context. That of the
 /// first words, that of the last turn, and how many contexts have numbers.
 pub fn turns(alloc: Global, directory: &Units, fields: &str) -> Result<String, Unread> {
     let (times, fields) = first(fields)?;
     let (base, words) = first(fields)?;
+    let times = number(times)?;
     let mut contexts = Table::open(alloc)?;
-    let from = number_of(alloc, directory, &mut contexts, base, 0)?;
-    let mut last = from;
-    for _ in 0..number::<u32>(times)? {
-        last = number_of(alloc, directory, &mut contexts, words, from)?;
-    }
-    let len = contexts.len();
-    Ok(format!(in alloc; "{from}, {last}, {len}")?)
+    turns_in(alloc, directory, &mut contexts, base, words, times)
 }
 
 /// The number of the context of so many domains, each called by the one before.
@@ -202,12 +325,16 @@ fn risen(alloc: Global, contexts: &mut Table, count: u32) -> Result<u64, Unread>
     Ok(n)
 }
 
+/// What `rising` says, in a table.
+fn rising_in(alloc: Global, contexts: &mut Table, count: u32) -> Result<String, Unread> {
+    let once = risen(alloc, contexts, count)?;
+    let again = risen(alloc, contexts, count)?;
+    Ok(three(alloc, once, again, contexts.len())?)
+}
+
 /// The numbers of the contexts of so many domains, made twice, and how many contexts have numbers.
 pub fn rising(alloc: Global, count: &str) -> Result<String, Unread> {
     let count = number(count)?;
     let mut contexts = Table::open(alloc)?;
-    let once = risen(alloc, &mut contexts, count)?;
-    let again = risen(alloc, &mut contexts, count)?;
-    let len = contexts.len();
-    Ok(format!(in alloc; "{once}, {again}, {len}")?)
+    rising_in(alloc, &mut contexts, count)
 }

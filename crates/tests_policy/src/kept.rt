@@ -56,6 +56,12 @@ pub fn grant(
     Ok(kept.privilege(alloc, given, limits)?)
 }
 
+/// The permission to read the property x.
+fn reads_x(alloc: Global) -> Result<Permission, Unread> {
+    let root = Units::from_text(alloc, "/")?;
+    reads(alloc, &root, "x")
+}
+
 /// What a walk decides on reading the property x.
 pub fn walk(
     alloc: Global,
@@ -70,7 +76,6 @@ pub fn walk(
     if !is_given(kept.len(), inherited) {
         return Err(Unread::Line);
     }
-    let root = Units::from_text(alloc, "/")?;
-    let x = reads(alloc, &root, "x")?;
+    let x = reads_x(alloc)?;
     Ok(kept.walk(alloc, domains, marks, inherited, &x)?)
 }

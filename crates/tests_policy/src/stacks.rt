@@ -1,11 +1,11 @@
 use crate::kept::{grant, keep, walk};
-use crate::permissions::reads;
-use jground::jtext::Units;
-use jkept::{InspectMark, Kept};
+use crate::permissions::readings;
+use crate::words::{put, put_number};
 use jrights::jdomain::{Domains, Verdict};
-use jrights::jperm::Permission;
+use jkept::{InspectMark, Kept};
+use jground::jtext::Units;
 use std::alloc::{AllocError, Global};
-use tests_rows::{Unread, first, number};
+use tests_rows::{Unread, debug_behind, first, number};
 
 /// The mark of a frame.
 fn mark(domain: u32, privileged: Option<u64>) -> InspectMark {
@@ -20,12 +20,8 @@ fn limited(
     names: &[&str],
 ) -> Result<u64, Unread> {
     let root = Units::from_text(alloc, "/")?;
-    let mut limits = Vec::new(alloc);
-    for name in names {
-        let limit = reads(alloc, &root, name)?;
-        limits.push(limit).map_err(AllocError::from)?;
-    }
-    grant(alloc, kept, given, Some(&limits))
+    let limits = readings(alloc, &root, names)?;
+    grant(alloc, kept, given, Some(limits.as_slice()))
 }
 
 /// The number of a stack of two frames that aren't privileged.
@@ -65,11 +61,11 @@ fn within(alloc: Global, kept: &mut Kept) -> Result<u64, Unread> {
 }
 
 /// The privileges that stacks write as letters, from `a` on.
-fn privileges(alloc: Global, kept: &mut Kept) -> Result<Vec<u64>, Unread> {
-    let mut made = Vec::new(alloc);
-    for letter in b"abcdefgh" {
-        let one = privilege(alloc, kept, *letter)?;
-        made.push(one).map_err(AllocError::from)?;
+fn privileges(alloc: Global, kept: &mut Kept) -> Result<[u64; 8], Unread> {
+    let letters = b"abcdefgh";
+    let mut made = [0; 8];
+    for i in 0..8usize {
+        made[i] = privilege(alloc, kept, letters[i])?;
     }
     Ok(made)
 }
@@ -82,12 +78,15 @@ fn mark_of(privileges: &[u64], domain: u8, letter: u8) -> InspectMark {
 }
 
 /// The marks of a stack that is written as two bytes a frame, the oldest first: its domain, and its privilege or `-`.
-fn marks_of(alloc: Global, privileges: &[u64], stack: &str) -> Result<Vec<InspectMark>, Unread> {
+fn marks_of(
+    alloc: Global,
+    privileges: &[u64],
+    stack: &str,
+) -> Result<Vec<InspectMark>, AllocError> {
     let mut marks = Vec::new(alloc);
     let bytes = stack.as_bytes();
     for i in 0..bytes.len() / 2 {
-        let one = mark_of(privileges, bytes[2 * i], bytes[2 * i + 1]);
-        marks.push(one).map_err(AllocError::from)?;
+        marks.push(mark_of(privileges, bytes[2 * i], bytes[2 * i + 1]))?;
     }
     Ok(marks)
 }
@@ -96,18 +95,46 @@ fn marks_of(alloc: Global, privileges: &[u64], stack: &str) -> Result<Vec<Inspec
 fn put_verdict(alloc: Global, verdict: Verdict, out: &mut String) -> Result<(), AllocError> {
     match verdict {
         Verdict::Granted => out.push('+'),
-        Verdict::Denied(domain) => out.push_str(format!(in alloc; "{domain}")?.as_str()),
+        Verdict::Denied(domain) => put_number(alloc, u64::from(domain), out),
     }
+}
+
+/// What is told of one verdict.
+fn told(alloc: Global, verdict: Verdict) -> Result<String, AllocError> {
+    let mut out = String::new(alloc);
+    put_verdict(alloc, verdict, &mut out)?;
+    Ok(out)
+}
+
+/// What the walk of a stack decides, whose privileges are kept for it.
+fn walk_of(
+    alloc: Global,
+    kept: &mut Kept,
+    domains: &Domains,
+    stack: &str,
+) -> Result<Verdict, Unread> {
+    let privileges = privileges(alloc, kept)?;
+    let marks = marks_of(alloc, &privileges, stack)?;
+    walk(alloc, kept, domains, marks.as_slice(), None)
 }
 
 /// What a walk of a stack decides that isn't kept.
 pub fn walked(alloc: Global, domains: &Domains, stack: &str) -> Result<String, Unread> {
     let mut kept = Kept::open(alloc)?;
-    let privileges = privileges(alloc, &mut kept)?;
-    let marks = marks_of(alloc, privileges.as_slice(), stack)?;
-    let mut out = String::new(alloc);
-    put_verdict(alloc, walk(alloc, &kept, domains, &marks, None)?, &mut out)?;
-    Ok(out)
+    let verdict = walk_of(alloc, &mut kept, domains, stack)?;
+    Ok(told(alloc, verdict)?)
+}
+
+/// Keeps a stack on an inherited one: its number.
+fn keep_stack(
+    alloc: Global,
+    kept: &mut Kept,
+    privileges: &[u64],
+    inherited: Option<u64>,
+    stack: &str,
+) -> Result<u64, Unread> {
+    let marks = marks_of(alloc, privileges, stack)?;
+    keep(alloc, kept, marks.as_slice(), inherited)
 }
 
 /// Keeps the stacks of a group, which stand between `,`, on an inherited one, and puts their numbers.
@@ -120,67 +147,106 @@ fn keep_group(
 ) -> Result<(), Unread> {
     let privileges = privileges(alloc, kept)?;
     for stack in group.split(',') {
-        let marks = marks_of(alloc, privileges.as_slice(), stack)?;
-        let one = keep(alloc, kept, &marks, inherited)?;
-        numbers.push(one).map_err(AllocError::from)?;
+        let one = keep_stack(alloc, kept, &privileges, inherited, stack)?;
+        put(one, numbers)?;
     }
     Ok(())
+}
+
+/// The number of the stack that others inherit, `-` for none.
+fn inherited(alloc: Global, kept: &mut Kept, stack: &str) -> Result<Option<u64>, Unread> {
+    if stack == "-" {
+        return Ok(None);
+    }
+    Ok(Some(keep_stack(alloc, kept, &[], None, stack)?))
+}
+
+/// Puts what is decided on kept stacks.
+fn put_verdicts(
+    alloc: Global,
+    kept: &Kept,
+    domains: &Domains,
+    numbers: &[u64],
+    out: &mut String,
+) -> Result<(), Unread> {
+    for one in numbers {
+        let verdict = walk(alloc, kept, domains, &[], Some(*one))?;
+        put_verdict(alloc, verdict, out)?;
+    }
+    Ok(())
+}
+
+/// Keeps the stacks of groups, on an inherited one, and puts what is decided on them then.
+fn decide(
+    alloc: Global,
+    kept: &mut Kept,
+    domains: &Domains,
+    fields: &str,
+    out: &mut String,
+) -> Result<(), Unread> {
+    let (base, groups) = first(fields)?;
+    let inherited = inherited(alloc, kept, base)?;
+    let mut numbers = Vec::new(alloc);
+    for group in groups.split(' ') {
+        keep_group(alloc, kept, inherited, group, &mut numbers)?;
+    }
+    put_verdicts(alloc, kept, domains, numbers.as_slice(), out)
 }
 
 /// What is decided on the stacks of groups, which stand between single spaces, on an inherited one, `-` for none: all of them are kept
 /// before the first is decided.
 pub fn decided(alloc: Global, domains: &Domains, fields: &str) -> Result<String, Unread> {
-    let (base, groups) = first(fields)?;
     let mut kept = Kept::open(alloc)?;
-    let inherited = match base {
-        "-" => None,
-        stack => {
-            let marks = marks_of(alloc, &[], stack)?;
-            Some(keep(alloc, &mut kept, &marks, None)?)
-        }
-    };
-    let mut numbers = Vec::new(alloc);
-    for group in groups.split(' ') {
-        keep_group(alloc, &mut kept, inherited, group, &mut numbers)?;
-    }
     let mut out = String::new(alloc);
-    for one in numbers.as_slice() {
-        let verdict = walk(alloc, &kept, domains, &[], Some(*one))?;
-        put_verdict(alloc, verdict, &mut out)?;
-    }
+    decide(alloc, &mut kept, domains, fields, &mut out)?;
     Ok(out)
 }
 
 /// Whether two stacks without privileges have one number, and how many entries there are then.
+fn entries_in(alloc: Global, kept: &mut Kept, one: &str, other: &str) -> Result<String, Unread> {
+    let one = keep_stack(alloc, kept, &[], None, one)?;
+    let other = keep_stack(alloc, kept, &[], None, other)?;
+    let words = if other == one { "the same, " } else { "another, " };
+    Ok(debug_behind(alloc, words, &kept.len())?)
+}
+
+/// The same, where nothing was kept.
 pub fn entries(alloc: Global, fields: &str) -> Result<String, Unread> {
     let (one, other) = first(fields)?;
     let mut kept = Kept::open(alloc)?;
-    let marks = marks_of(alloc, &[], one)?;
-    let one = keep(alloc, &mut kept, &marks, None)?;
-    let marks = marks_of(alloc, &[], other)?;
-    let is_same = keep(alloc, &mut kept, &marks, None)? == one;
-    let len = kept.len();
-    let word = if is_same { "the same" } else { "another" };
-    Ok(format!(in alloc; "{word}, {len}")?)
+    entries_in(alloc, &mut kept, one, other)
+}
+
+/// The number of a stack in which two frames are given the stack before, under limits that imply nothing, so often; the oldest stack
+/// has one frame of a domain.
+fn linked(alloc: Global, kept: &mut Kept, oldest: u32, long: u32) -> Result<u64, Unread> {
+    let mut given = keep(alloc, kept, &[mark(oldest, None)], None)?;
+    for _ in 0..long {
+        let one = limited(alloc, kept, Some(given), &[])?;
+        let frame = mark(0, Some(one));
+        given = keep(alloc, kept, &[frame, frame], None)?;
+    }
+    Ok(given)
+}
+
+/// What is decided on such a stack.
+fn chain_in(
+    alloc: Global,
+    kept: &mut Kept,
+    domains: &Domains,
+    oldest: u32,
+    long: u32,
+) -> Result<String, Unread> {
+    let given = linked(alloc, kept, oldest, long)?;
+    let verdict = walk(alloc, kept, domains, &[], Some(given))?;
+    Ok(told(alloc, verdict)?)
 }
 
 /// What is decided on a stack in which two frames are given the stack before, under limits that imply nothing, so often; the oldest
 /// stack has one frame of a domain.
 pub fn chain(alloc: Global, domains: &Domains, fields: &str) -> Result<String, Unread> {
     let (oldest, long) = first(fields)?;
-    let empty: [Permission; 0] = [];
+    let (oldest, long) = (number(oldest)?, number(long)?);
     let mut kept = Kept::open(alloc)?;
-    let mut given = keep(alloc, &mut kept, &[mark(number(oldest)?, None)], None)?;
-    for _ in 0..number::<u32>(long)? {
-        let one = grant(alloc, &mut kept, Some(given), Some(&empty))?;
-        let frame = mark(0, Some(one));
-        given = keep(alloc, &mut kept, &[frame, frame], None)?;
-    }
-    let mut out = String::new(alloc);
-    put_verdict(
-        alloc,
-        walk(alloc, &kept, domains, &[], Some(given))?,
-        &mut out,
-    )?;
-    Ok(out)
+    chain_in(alloc, &mut kept, domains, oldest, long)
 }

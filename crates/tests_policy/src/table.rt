@@ -1,10 +1,10 @@
-use crate::words::units_of;
+use crate::words::{put, units_of};
 use crate::{contexts, jobs, permissions, policies, sources, stacks};
 use jground::jtext::Units;
 use jpolicy::Policy;
 use jrights::jdomain::{CodeSource, Domains};
 use jrights::jperm::Permission;
-use std::alloc::{AllocError, Global};
+use std::alloc::Global;
 use tests_rows::{Line, Unread, bytes_of, first, number, unquoted, yes_or_no};
 
 /// What was read so far.
@@ -50,34 +50,78 @@ impl Table {
         Ok(Domains::open(alloc, &policy, sources, &self.granted_in)?)
     }
 
-    /// The permissions of a domain.
-    fn granted(&self, alloc: Global, field: &str) -> Result<String, Unread> {
-        let d = number(field)?;
-        let policy = self.granting(alloc)?;
+    /// The permissions of a domain under a policy.
+    fn list(&self, alloc: Global, policy: &Policy, d: u32) -> Result<String, Unread> {
         let sources = self.sources.as_slice();
         if sources.len() <= d as usize {
             return Err(Unread::Line);
         }
-        let domains = Domains::open(alloc, &policy, sources, &self.granted_in)?;
+        let domains = Domains::open(alloc, policy, sources, &self.granted_in)?;
         Ok(sources::listed(alloc, domains.list(d))?)
     }
 
+    /// The permissions of a domain.
+    fn granted(&self, alloc: Global, field: &str) -> Result<String, Unread> {
+        let d = number(field)?;
+        let policy = self.granting(alloc)?;
+        self.list(alloc, &policy, d)
+    }
+
     /// Whether a domain has a permission.
-    fn has(&self, alloc: Global, fields: &str) -> Result<String, Unread> {
+    fn has_asked(
+        &self,
+        alloc: Global,
+        d: u32,
+        asked: &Permission,
+    ) -> Result<&'static str, Unread> {
+        let domains = self.domains(alloc)?;
+        Ok(yes_or_no(domains.implies(d, asked)))
+    }
+
+    /// The same of the permission that a field says.
+    fn has(&self, alloc: Global, fields: &str) -> Result<&'static str, Unread> {
         let (d, asked) = first(fields)?;
         let d = number(d)?;
         let asked = permissions::permission(alloc, &self.directory, asked)?;
-        let domains = self.domains(alloc)?;
-        let has = domains.implies(d, &asked);
-        Ok(String::from_str(alloc, yes_or_no(has))?)
+        self.has_asked(alloc, d, &asked)
     }
 
     /// What a context answers about a permission.
+    fn verdict_on(&self, alloc: Global, words: &str, asked: &Permission) -> Result<String, Unread> {
+        let domains = self.domains(alloc)?;
+        contexts::verdict(alloc, &self.directory, &domains, words, asked)
+    }
+
+    /// The same of the permission that a field says.
     fn verdict(&self, alloc: Global, fields: &str) -> Result<String, Unread> {
         let (words, asked) = first(fields)?;
         let asked = permissions::permission(alloc, &self.directory, asked)?;
+        self.verdict_on(alloc, words, &asked)
+    }
+
+    /// What was found for a row that asks what domains decide.
+    fn decided(&self, alloc: Global, kind: &str, fields: &str) -> Result<String, Unread> {
         let domains = self.domains(alloc)?;
-        contexts::verdict(alloc, &self.directory, &domains, words, &asked)
+        match kind {
+            "walk" => stacks::walked(alloc, &domains, fields),
+            "kept" => stacks::decided(alloc, &domains, fields),
+            "chain" => stacks::chain(alloc, &domains, fields),
+            _ => Err(Unread::Line),
+        }
+    }
+
+    /// The word that was found for a row.
+    fn word(&self, alloc: Global, kind: &str, fields: &str) -> Result<&'static str, Unread> {
+        let directory = &self.directory;
+        match kind {
+            "implies" => permissions::implies(alloc, directory, fields),
+            "equal" => permissions::equal(alloc, directory, fields),
+            "covers" => permissions::covered(alloc, directory, self.held.as_slice(), fields),
+            "for" => sources::matched(alloc, false, fields),
+            "for more" => sources::matched(alloc, true, fields),
+            "has" => self.has(alloc, fields),
+            _ => Err(Unread::Line),
+        }
     }
 
     /// What was found for a row of jobs, of commands or of kept stacks.
@@ -87,10 +131,8 @@ impl Table {
             "long job" => jobs::long_job(alloc, fields),
             "command" => jobs::command(alloc, fields),
             "stored" => jobs::stored(alloc, fields),
-            "walk" => stacks::walked(alloc, &self.domains(alloc)?, fields),
-            "kept" => stacks::decided(alloc, &self.domains(alloc)?, fields),
             "entries" => stacks::entries(alloc, fields),
-            "chain" => stacks::chain(alloc, &self.domains(alloc)?, fields),
+            "walk" | "kept" | "chain" => self.decided(alloc, kind, fields),
             _ => Err(Unread::Line),
         }
     }
@@ -100,17 +142,12 @@ impl Table {
         match kind {
             "made" => permissions::made(alloc, &self.directory, fields),
             "path" => permissions::path(alloc, fields),
-            "implies" => permissions::implies(alloc, &self.directory, fields),
-            "equal" => permissions::equal(alloc, &self.directory, fields),
-            "covers" => {
-                permissions::covered(alloc, &self.directory, self.held.as_slice(), fields)
+            "implies" | "equal" | "covers" | "for" | "for more" | "has" => {
+                Ok(String::from_str(alloc, self.word(alloc, kind, fields)?)?)
             }
             "read" => policies::read(alloc, self.properties.as_slice(), fields),
             "source" => sources::source(alloc, fields),
-            "for" => sources::matched(alloc, false, fields),
-            "for more" => sources::matched(alloc, true, fields),
             "granted" => self.granted(alloc, fields),
-            "has" => self.has(alloc, fields),
             "context" => contexts::context(alloc, &self.directory, fields),
             "verdict" => self.verdict(alloc, fields),
             "turns" => contexts::turns(alloc, &self.directory, fields),
@@ -123,23 +160,29 @@ impl Table {
         let (name, value) = first(fields)?;
         let name = units_of(alloc, unquoted(name)?)?;
         let value = units_of(alloc, unquoted(value)?)?;
-        Ok(
-            self.properties
-                .push((name, value))
-                .map_err(AllocError::from)?,
-        )
+        Ok(put((name, value), &mut self.properties)?)
     }
 
     /// Puts a line behind those of the policy.
     fn put_policy(&mut self, alloc: Global, field: &str) -> Result<(), Unread> {
         let line = bytes_of(alloc, unquoted(field)?)?;
-        self.policy.push(b'\n').map_err(AllocError::from)?;
+        self.policy.extend_from_slice(b"\n")?;
         Ok(self.policy.extend_from_slice(line.as_slice())?)
     }
 
     fn put_source(&mut self, alloc: Global, field: &str) -> Result<(), Unread> {
         let source = sources::source_of(alloc, field)?;
-        Ok(self.sources.push(source).map_err(AllocError::from)?)
+        Ok(put(source, &mut self.sources)?)
+    }
+
+    fn set_directory(&mut self, alloc: Global, field: &str) -> Result<(), Unread> {
+        self.directory = units_of(alloc, unquoted(field)?)?;
+        Ok(())
+    }
+
+    fn set_held(&mut self, alloc: Global, fields: &str) -> Result<(), Unread> {
+        self.held = permissions::all(alloc, &self.directory, fields)?;
+        Ok(())
     }
 
     /// Begins other domains, with a policy whose names are read in a directory.
@@ -153,8 +196,8 @@ impl Table {
 
     fn known(&mut self, alloc: Global, kind: &str, fields: &str) -> Result<bool, Unread> {
         match kind {
-            "directory" => self.directory = units_of(alloc, unquoted(fields)?)?,
-            "held" => self.held = permissions::all(alloc, &self.directory, fields)?,
+            "directory" => self.set_directory(alloc, fields)?,
+            "held" => self.set_held(alloc, fields)?,
             "property" => self.put_property(alloc, fields)?,
             "domains" => self.begin(alloc, fields)?,
             "policy" => self.put_policy(alloc, fields)?,

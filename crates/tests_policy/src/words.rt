@@ -1,6 +1,6 @@
 use jground::jtext::Units;
 use std::alloc::{AllocError, Global};
-use tests_rows::{Unread, string_of, unquoted};
+use tests_rows::{Unread, between, debug, string_of, unquoted};
 
 /// The units of the text that is spelled so.
 pub fn units_of(alloc: Global, text: &str) -> Result<Units, Unread> {
@@ -16,8 +16,19 @@ pub fn units_if(alloc: Global, field: &str) -> Result<Option<Units>, Unread> {
     }
 }
 
+/// Puts an item behind a list.
+pub fn put<T: Drop>(item: T, list: &mut Vec<T>) -> Result<(), AllocError> {
+    Ok(list.push(item)?)
+}
+
+/// Puts a number behind a text.
+pub fn put_number(alloc: Global, number: u64, out: &mut String) -> Result<(), AllocError> {
+    let digits = debug(alloc, &number)?;
+    out.push_str(digits.as_str())
+}
+
 /// How units are told: between quotes.
 pub fn told(alloc: Global, units: &[u16]) -> Result<String, AllocError> {
     let text = String::from_utf16_lossy(alloc, units)?;
-    format!(in alloc; "'{}'", text.as_str())
+    between(alloc, "'", text.as_str(), "'")
 }

@@ -8,5 +8,6 @@ mod words;
 
 pub use section::{Line, Section};
 pub use words::{
-    Unread, bytes_of, first, hex_of, is_spelled, number, put_hex, string_of, unquoted, yes_or_no,
+    Unread, between, bytes_of, debug, debug_behind, debug_pair, first, hex_of, is_spelled, number,
+    put_hex, string_of, unquoted, yes_or_no,
 };
