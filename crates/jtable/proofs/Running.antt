@@ -98,6 +98,14 @@ one_decides f has asked [] p one is = absurd (omega (arith, one))
 one_decides f has asked (q ∷ []) p one is = cc
 one_decides f has asked (q ∷ r ∷ list) p one is = absurd (omega (arith, one))
 
+-- and one of two pairs as their items do
+pub two_decides : (f : Pair → Item) (has : ℕ → Permission → Bool) (asked : Permission) (list : List Pair) (p q : Pair) → length list ≡ 2
+    → Some p ≡ slice_get list 0 → Some q ≡ slice_get list 1 → verdict has asked (f p ∷ f q ∷ []) ≡ verdict has asked (map f list)
+two_decides f has asked [] p q two is next = absurd (omega (arith, two))
+two_decides f has asked (a ∷ []) p q two is next = absurd (omega (arith, two))
+two_decides f has asked (a ∷ b ∷ []) p q two is next = cc
+two_decides f has asked (a ∷ b ∷ c ∷ list) p q two is next = absurd (omega (arith, two))
+
 -- ---- runs that are compared
 
 and_assoc : (a b c : Bool) → ((a && b) && c) ≡ (a && (b && c))

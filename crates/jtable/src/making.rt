@@ -335,7 +335,25 @@ fn decide_runs(
     Verdict::Granted
 }
 
-/// What a list decides for a permission. One of a single item is decided without runs.
+/// What two items decide for a permission.
+fn decide_two(
+    sets: &Sets,
+    first: Pair,
+    second: Pair,
+    domains: &Domains,
+    asked: &Permission,
+) -> Verdict
+    requires first { first.limits < length sets.now }
+    requires second { second.limits < length sets.now }
+    ensures { result ≡ contexts.verdict (has domains.now) asked.now (items_of sets.now (first ∷ second ∷ [])) }
+{
+    if fails(sets, first, domains, asked) {
+        return Verdict::Denied(first.domain);
+    }
+    decide_item(sets, second, domains, asked)
+}
+
+/// What a list decides for a permission. One of one or two items is decided without runs.
 pub fn decide(
     sets: &Sets,
     lists: &Lists,
@@ -347,8 +365,12 @@ pub fn decide(
     requires lists { AllNamed (length sets.now) lists.now }
     ensures { result ≡ contexts.verdict (has domains.now) asked.now (items_of sets.now (get_or lists.now n [])) }
 {
-    if lists.count(n) == 1 {
+    let count = lists.count(n);
+    if count == 1 {
         return decide_item(sets, lists.head(n), domains, asked);
+    }
+    if count == 2 {
+        return decide_two(sets, lists.head(n), lists.read(n, 1), domains, asked);
     }
     decide_runs(sets, lists, n, domains, asked)
 }
