@@ -178,10 +178,10 @@ def main():
     all = Definitions()
     if sys.argv[1:] == ["headline"]:
         for clause in ("AnswersSome", "AnswersAll"):
-            all.reach("jtop.specs.jdriver.Headline", clause)
+            all.reach("jdriver.specs.Headline", clause)
     else:
         for function in ("javasec", "dispatch"):
-            all.reach_contract("jtop", function)
+            all.reach_contract("jdriver", function)
     all.close()
     lines, types = collections.Counter(), collections.Counter()
     for module in {module for module, _ in all.reached}:

@@ -13,7 +13,7 @@ mod rows;
 
 use asking::is_right;
 use jrights::jio::RealShelf;
-use jtop::jmain::run;
+use jmain::run;
 use rows::row_of;
 use std::io;
 use std::process::ExitCode;

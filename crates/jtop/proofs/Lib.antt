@@ -1,2 +1,0 @@
-pub mod JdriverProofs
-pub mod JstoreProofs

@@ -1,2 +1,0 @@
-pub mod jdriver
-pub mod jstore
