@@ -84,11 +84,7 @@ fn pieces_of(alloc: Global, text: &[u16], bad_put: u64) -> Result<String, AllocE
     requires { length text.now < 2 ^ 16 }
 {
     let mut sink = sink(alloc, 1000, bad_put)?;
-    let parts = [
-        Part::Number(7),
-        Part::Plain(" "),
-        Part::Text(text),
-    ];
+    let parts = [Part::Number(7), Part::Plain(" "), Part::Text(text)];
     let written = write_line(&mut sink, &parts);
     debug_pair(alloc, &written, &sink.bytes().len())
 }
@@ -131,7 +127,12 @@ fn memory(alloc: Global) -> Result<MemoryShelf, AllocError> {
 }
 
 /// Whether the bytes of hexadecimal text are stored.
-fn stored<S: Shelf>(alloc: Global, shelf: &mut S, path: &str, what: &str) -> Result<String, Unread> {
+fn stored<S: Shelf>(
+    alloc: Global,
+    shelf: &mut S,
+    path: &str,
+    what: &str,
+) -> Result<String, Unread> {
     let bytes = hex_of(alloc, what)?;
     let stored = shelf.write(alloc, path, bytes.as_slice());
     Ok(debug(alloc, &stored.is_ok())?)

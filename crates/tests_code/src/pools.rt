@@ -5,7 +5,10 @@ use jparts::jpool::{
     read_pool, slots_of, write_pool,
 };
 use std::alloc::{AllocError, Global};
-use tests_rows::{Unread, between, bytes_of, debug, debug_behind, debug_pair, first, hex_of, number, unquoted, yes_or_no};
+use tests_rows::{
+    Unread, between, bytes_of, debug, debug_behind, debug_pair, first, hex_of, number, unquoted,
+    yes_or_no,
+};
 
 /// How bytes of a text are told, or none.
 pub fn told_if(alloc: Global, text: Option<&[u8]>) -> Result<String, AllocError> {

@@ -140,9 +140,7 @@ pub fn context(alloc: Global, directory: &Units, words: &str) -> Result<String, 
 fn told(alloc: Global, verdict: Verdict) -> Result<String, AllocError> {
     match verdict {
         Verdict::Granted => String::from_str(alloc, "granted"),
-        Verdict::Denied(domain) => {
-            debug_behind(alloc, "denied by ", &domain)
-        }
+        Verdict::Denied(domain) => { debug_behind(alloc, "denied by ", &domain) }
     }
 }
 

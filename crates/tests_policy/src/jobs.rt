@@ -1,11 +1,13 @@
 use crate::words::told;
 use jground::jbase::Seq;
+use jground::jtext::Units;
 use jjob::{
     Command, Form, Job, JobError, JobSource, Text, WordsError, read_job, read_words, stored_job,
 };
-use jground::jtext::Units;
 use std::alloc::{AllocError, Global};
-use tests_rows::{Unread, between, bytes_of, debug, debug_behind, first, number, string_of, unquoted};
+use tests_rows::{
+    Unread, between, bytes_of, debug, debug_behind, first, number, string_of, unquoted,
+};
 
 fn put(out: &mut Vec<u16>, text: &str, end: u8) -> Result<(), AllocError> {
     for unit in text.encode_utf16() {

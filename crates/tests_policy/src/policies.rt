@@ -1,7 +1,7 @@
 use crate::words::told;
 use jground::jbase::Stop;
-use jpolicy::{Grant, GrantEntry, Policy, PolicyError, read_policy};
 use jground::jtext::Units;
+use jpolicy::{Grant, GrantEntry, Policy, PolicyError, read_policy};
 use std::alloc::{AllocError, Global};
 use tests_rows::{Unread, bytes_of, debug_pair, unquoted};
 

@@ -1,9 +1,9 @@
 use crate::kept::{grant, keep, walk};
 use crate::permissions::readings;
 use crate::words::{put, put_number};
-use jrights::jdomain::{Domains, Verdict};
-use jkept::{InspectMark, Kept};
 use jground::jtext::Units;
+use jkept::{InspectMark, Kept};
+use jrights::jdomain::{Domains, Verdict};
 use std::alloc::{AllocError, Global};
 use tests_rows::{Unread, debug_behind, first, number};
 
@@ -206,7 +206,11 @@ pub fn decided(alloc: Global, domains: &Domains, fields: &str) -> Result<String,
 fn entries_in(alloc: Global, kept: &mut Kept, one: &str, other: &str) -> Result<String, Unread> {
     let one = keep_stack(alloc, kept, &[], None, one)?;
     let other = keep_stack(alloc, kept, &[], None, other)?;
-    let words = if other == one { "the same, " } else { "another, " };
+    let words = if other == one {
+        "the same, "
+    } else {
+        "another, "
+    };
     Ok(debug_behind(alloc, words, &kept.len())?)
 }
 

@@ -68,12 +68,7 @@ impl Table {
     }
 
     /// Whether a domain has a permission.
-    fn has_asked(
-        &self,
-        alloc: Global,
-        d: u32,
-        asked: &Permission,
-    ) -> Result<&'static str, Unread> {
+    fn has_asked(&self, alloc: Global, d: u32, asked: &Permission) -> Result<&'static str, Unread> {
         let domains = self.domains(alloc)?;
         Ok(yes_or_no(domains.implies(d, asked)))
     }

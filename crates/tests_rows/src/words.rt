@@ -115,7 +115,11 @@ pub fn debug_pair<A: fmt::Debug, B: fmt::Debug>(
 }
 
 /// The same of a value behind words.
-pub fn debug_behind<T: fmt::Debug>(alloc: Global, words: &str, one: &T) -> Result<String, AllocError> {
+pub fn debug_behind<T: fmt::Debug>(
+    alloc: Global,
+    words: &str,
+    one: &T,
+) -> Result<String, AllocError> {
     format!(in alloc; "{words}{one:?}")
 }
 
