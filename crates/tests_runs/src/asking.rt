@@ -1,6 +1,6 @@
 use crate::rows::{Asked, Faults, Row, Stored};
-use jrights::jio::{MemoryShelf, MemorySink, Shelf};
 use jmain::javasec;
+use jrights::jio::{MemoryShelf, MemorySink, Shelf};
 use std::alloc::{AllocError, Global};
 
 /// Files by their paths, with what they hold.

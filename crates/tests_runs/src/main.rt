@@ -12,8 +12,8 @@ mod asking;
 mod rows;
 
 use asking::is_right;
-use jrights::jio::RealShelf;
 use jmain::run;
+use jrights::jio::RealShelf;
 use rows::row_of;
 use std::io;
 use std::process::ExitCode;
