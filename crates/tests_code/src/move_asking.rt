@@ -6,7 +6,7 @@ use jparts::jcode::{Handler, decode};
 use jparts::jmaps::{FullFrame, MapType};
 use jparts::jpool::{Adder, Entry, read_pool, write_pool};
 use std::alloc::{AllocError, Global};
-use tests_rows::{Unread, between, debug, first, hex_of, number};
+use tests_rows::{Unread, debug, first, hex_of, number};
 
 /// An adder over the pool that bytes spell, to which a text was added, where there is one.
 fn adder_of(alloc: Global, bytes: &[u8], added: &str) -> Result<Adder, Unread> {
