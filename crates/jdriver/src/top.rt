@@ -46,8 +46,16 @@ fn do_task<S: Shelf, K: Sink>(
 {
     moved_laws();
     match task_of(alloc, command, shelf) {
-        Ok(task) => show(alloc, &task, shelf, out),
-        Err(Halt::Refused(refusal)) => show_refusal(alloc, &refusal, out),
+        Ok(task) => {
+            let status = show(alloc, &task, shelf, out);
+            drop(task);
+            status
+        }
+        Err(Halt::Refused(refusal)) => {
+            let status = show_refusal(alloc, &refusal, out);
+            drop(refusal);
+            status
+        }
         Err(Halt::Read) => Status::ReadFault,
         Err(Halt::Memory) => Status::OutOfMemory,
     }
