@@ -1,6 +1,6 @@
 -- What a call of Thread does to a machine by numbers.
 use Rattle.std.specs.Prelude.{◌≡◌, ℕ, [], take, Some}
-use Rattle.jground.specs.jheap.Heaps.{Heaped}
+use Rattle.jheap.specs.Heaps.{Heaped}
 use Rattle.jlib.specs.declared.calls.ThreadCall.{ThreadCall}
 use Rattle.jlib.specs.declared.side.Side.{Side}
 use Rattle.jmodel.specs.declared.jrun.came.Came.{Came}

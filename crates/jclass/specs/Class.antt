@@ -11,7 +11,6 @@ use Rattle.jclass.specs.declared.class.Attribute.{Attribute}
 use Rattle.jclass.specs.declared.class.MemberInfo.{MemberInfo}
 use Rattle.jclass.specs.declared.class.ClassParts.{ClassParts}
 use Rattle.jclass.specs.declared.fault.ClassFault.{ClassFault}
-use Rattle.jclass.specs.declared.read.Tail.{Tail}
 use Rattle.jclass.specs.declared.fault.ClassFault.TheVariants.{Trailing}
 use Rattle.jclass.specs.Basics.{u2, access, index}
 use Rattle.jclass.specs.Rules.{names_class, names_super}
@@ -27,9 +26,6 @@ TailParts = Access × (ℕ × (ℕ × (List ℕ × (List MemberInfo × (List Mem
 unfoldable pub tail : List Entry → Format ClassFault TailParts
 tail pool = access · index (names_class pool) · index (names_super pool) · counted u2 (index (names_class pool))
     · counted u2 (field pool) · counted u2 (method pool) · counted u2 (class_attribute pool)
-
-abbrev pub tail_parts : Tail → TailParts
-tail_parts t = (t.flags, (t.this_class, (t.super_class, (t.interfaces, (t.fields, (t.methods, t.attributes))))))
 
 abbrev pub class_from : HeadParts × TailParts → ClassParts
 class_from p = record {

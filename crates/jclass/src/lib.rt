@@ -1,6 +1,6 @@
-//! Class files whole, both ways (JVMS 4.1 to 4.7). A class file is read in three passes over the same bytes, and the first that finds a
-//! fault ends the reading: its shape, its pool entry by entry, and then the rest by the pool. `ClassFile` holds parts that some bytes
-//! spell.
+//! Class files (JVMS 4.1 to 4.7): what spells one, and its parts, both ways. A class file is read in three passes over the same bytes, and
+//! the first that finds a fault ends the reading: its shape, its pool entry by entry, and then the rest by the pool. Here is what each
+//! pass reads; `read_class`, which goes through them, stands in jreadclass. `ClassFile` holds parts that some bytes spell.
 //!
 //! - `Basics`: numbers, flags, indices with a test, one of two formats by a test.
 //! - `Shapes`: the first pass (attributes as runs of bytes, gone over without keeping them).
@@ -10,11 +10,10 @@
 //! - `Stored`: what a class file holds, as laws speak of it.
 //! - `AttributeLaws`, `CodeLaws`: laws of these formats that readers of blocks need, which is why they stand in `specs/`.
 //!
-//! Proved: `read_class` accepts exactly the bytes that spell a class file, and names the first fault of the first pass that finds one,
-//! with its kind and place; `write_class` gives the bytes that spell it; `spelling_laws`: one spelling a class file, one class file a
-//! spelling, and bytes spell one exactly where reading finds no fault; `stored_laws`: each code in a class file is code of at most
-//! 65,535 bytes whose places rise, whose branches and handlers lead to instructions and whose frames are frames, and each text is
-//! modified UTF-8; copies are equal.
+//! Proved: each reader of a part answers what its format reads; `write_class` gives the bytes that spell a class file; `spelling_laws`:
+//! one spelling a class file, one class file a spelling, and bytes spell one exactly where reading finds no fault; `stored_laws`: each
+//! code in a class file is code of at most 65,535 bytes whose places rise, whose branches and handlers lead to instructions and whose
+//! frames are frames, and each text is modified UTF-8; copies are equal.
 //!
 //! Rooms of linking, checking, the machine's definition, the machine, moving, jobs and the top may name it, and tests.
 #![tactic(auto)]
@@ -32,16 +31,18 @@ mod laws;
 mod member;
 mod operand;
 mod places;
-mod read;
 mod shape;
 mod text;
 mod write;
 
 pub use access::Access;
+pub use attribute::{ClassAttributes, access_of};
 pub use class::{Attribute, ClassParts, CodeAttribute, MemberInfo};
 pub use class_file::ClassFile;
 pub use fault::{ClassError, ClassFault};
-pub use known::is_text;
+pub use judge::judge;
+pub use known::{Known, is_text};
 pub use laws::{spelling_laws, stored_laws};
-pub use read::read_class;
+pub use member::{Fields, Methods};
+pub use shape::{Head, head_of, skip_tail};
 pub use write::write_class;

@@ -3,8 +3,8 @@ use Rattle.std.proofs.Common.{◌≡◌, ℕ, Bool, true, false, ◌&&◌, ◌||
 use Rattle.std.specs.List.{list_any}
 use Rattle.std.proofs.lemmas.List.Folds.{list_any-append}
 use Rattle.std.proofs.lemmas.List.{map-append}
-use Rattle.jrights.specs.declared.jperm.permission.Permission.{Permission}
-use Rattle.jrights.specs.jperm.Permissions.{equal}
+use Rattle.jperm.specs.declared.permission.Permission.{Permission}
+use Rattle.jperm.specs.Permissions.{equal}
 use Rattle.jctx.proofs.Bools.{EqualIsSame, and_both, and_left, and_right, or_cases, or_left, or_right}
 use Rattle.jctx.proofs.Growth.{hidden-covers, joined-append, joined-keep_after}
 use Rattle.jctx.specs.declared.item.Item.{Item}

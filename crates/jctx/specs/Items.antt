@@ -1,6 +1,6 @@
 -- The items of a security context: each a domain that is asked, and the limits under which it is.
 use Rattle.std.specs.Prelude.{ℕ, Bool, not, ◌&&◌, ◌==◌, List, []}
-use Rattle.jrights.specs.declared.jperm.permission.Permission.{Permission}
+use Rattle.jperm.specs.declared.permission.Permission.{Permission}
 use Rattle.jrights.specs.jdomain.Stacks.{some_implies}
 use Rattle.jctx.specs.declared.item.Item.{Item}
 use Rattle.jctx.specs.Limits.{is_within, add_limits}

@@ -1,7 +1,7 @@
 -- The laws of security contexts.
 use Rattle.std.specs.Prelude.{◌≡◌, ℕ, ◌<◌, ◌≤◌, ◌==◌, true, Bool, List, [], ◌∷◌, Option, length, map}
 use Rattle.std.specs.List.{All, IsDistinct, list_any}
-use Rattle.jrights.specs.declared.jperm.permission.Permission.{Permission}
+use Rattle.jperm.specs.declared.permission.Permission.{Permission}
 use Rattle.jrights.specs.jdomain.Stacks.{Stack, walk}
 use Rattle.jctx.specs.declared.item.Item.{Item}
 use Rattle.jctx.specs.Items.{plain}

@@ -1,8 +1,8 @@
 -- The limits of a privilege, as a list of permissions in the order in which they came (class documentation of AccessController).
 use Rattle.std.specs.Prelude.{Bool, List, [], ◌∷◌, ◌++◌, if◌then◌else◌}
 use Rattle.std.specs.List.{list_all, list_any}
-use Rattle.jrights.specs.declared.jperm.permission.Permission.{Permission}
-use Rattle.jrights.specs.jperm.Permissions.{equal}
+use Rattle.jperm.specs.declared.permission.Permission.{Permission}
+use Rattle.jperm.specs.Permissions.{equal}
 
 -- whether every member equals one of the others
 abbrev pub is_within : List Permission → List Permission → Bool

@@ -6,8 +6,8 @@ ghost use Rattle.jctx.specs.Growing.{hidden};
 ghost use Rattle.jctx.specs.Items.{plain};
 
 use crate::item::Item;
+use jperm::{Permission, permission_laws};
 use jrights::jdomain::{Domains, Verdict};
-use jrights::jperm::{Permission, permission_laws};
 use std::alloc::{AllocError, Global};
 use std::marker::Model;
 

@@ -3,8 +3,8 @@ ghost use Rattle.jrights.specs.jdomain.Domains.{has};
 ghost use Rattle.jctx.specs.Items.{fails, covers, plain, with_limits};
 
 use crate::limits::Limits;
+use jperm::Permission;
 use jrights::jdomain::Domains;
-use jrights::jperm::Permission;
 use std::alloc::{AllocError, Global};
 
 /// A domain that is asked, where none of the limits implies the permission.

@@ -1,6 +1,6 @@
 ghost use Rattle.jctx.specs.Laws.{AlongIsKept, DecidesAsTheWalk, DomainsDiffer, EnterSame, EnteredIsKept, IsSmall, PrivilegedIsKept, PrivilegedSame};
 
-use jrights::jperm::permission_laws;
+use jperm::permission_laws;
 
 /// The laws of security contexts. The context of a stack decides as the walk of the stack does. In a context that `enter` or
 /// `privileged` makes, or that is of a stack, no item is covered by an earlier one; where such a context has no limits, its domains

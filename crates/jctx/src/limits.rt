@@ -1,10 +1,10 @@
 ghost use Rattle.std.specs.Prelude.{◌≡◌, [], IfOk, OnOk};
 ghost use Rattle.std.specs.List.{list_any};
-ghost use Rattle.jrights.specs.jperm.Permissions.{equal};
+ghost use Rattle.jperm.specs.Permissions.{equal};
 ghost use Rattle.jrights.specs.jdomain.Stacks.{some_implies};
 ghost use Rattle.jctx.specs.Limits.{add_limits, is_within};
 
-use jrights::jperm::Permission;
+use jperm::Permission;
 use std::alloc::{AllocError, Global};
 use std::marker::Model;
 
@@ -16,7 +16,7 @@ pub struct Limits {
 
 impl Model for Limits {
     ghost use Rattle.std.specs.Prelude.{List};
-    ghost use Rattle.jrights.specs.declared.jperm.permission.Permission.{Permission};
+    ghost use Rattle.jperm.specs.declared.permission.Permission.{Permission};
 
     ghost Value = { List Permission };
 

@@ -6,7 +6,7 @@ ghost use Rattle.jctx.specs.Items.{with_limits};
 ghost use Rattle.jctx.specs.Laws.{IsKept};
 
 use crate::context::Context;
-use jrights::jperm::{Permission, permission_laws};
+use jperm::{Permission, permission_laws};
 use std::alloc::{AllocError, Global};
 
 /// Adds a copy of each item that none before it covers.

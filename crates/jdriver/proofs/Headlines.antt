@@ -2,7 +2,7 @@
 use Rattle.std.proofs.Common.{◌≡◌, ◌∙◌, ℕ, List, [], Option, Some, None, Ok, Err, refl, sym, ap, subst, arith}
 use Rattle.jground.proofs.JbaseProofs.Cuts.{cut_none}
 use Rattle.jrights.specs.jio.Held.{File}
-use Rattle.jrights.specs.declared.jperm.permission.Permission.{Permission}
+use Rattle.jperm.specs.declared.permission.Permission.{Permission}
 use Rattle.jrights.specs.declared.jtrace.event.End.{End}
 use Rattle.jrights.specs.jdomain.Domains.{has}
 use Rattle.jjob.specs.declared.command.Command.{Command}

@@ -2,7 +2,7 @@
 use Rattle.std.proofs.Common.{◌≡◌, ◌≤◌, ◌∙◌, ℕ, List, [], Option, Result, Ok, Err, refl, sym, ap, subst}
 use Rattle.std.specs.Prelude.{false, true}
 use Rattle.jrights.specs.jio.Held.{File}
-use Rattle.jrights.specs.declared.jperm.permission.Permission.{Permission}
+use Rattle.jperm.specs.declared.permission.Permission.{Permission}
 use Rattle.jjob.specs.declared.command.Command.{Command}
 use Rattle.jjob.specs.declared.command.Command.TheVariants as commands
 use Rattle.jprogram.specs.Classes.{Program}

@@ -3,7 +3,7 @@ use Rattle.std.specs.Prelude.{◌≡◌, ℕ, List, Ok}
 use Rattle.std.specs.List.{AllByRecursion}
 use Rattle.jground.specs.jformat.Format.{IsBytes}
 use Rattle.jrights.specs.jio.Held.{File}
-use Rattle.jrights.specs.declared.jperm.permission.Permission.{Permission}
+use Rattle.jperm.specs.declared.permission.Permission.{Permission}
 use Rattle.jrights.specs.jdomain.Domains.{has}
 use Rattle.jjob.specs.declared.command.Command.{Command}
 use Rattle.jjob.specs.declared.command.Command.TheVariants.{Run}

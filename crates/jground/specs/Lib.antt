@@ -1,8 +1,6 @@
 pub mod jbase
 pub mod jnames
 pub mod jops
-pub mod jtypes
 pub mod jformat
 pub mod jtext
 pub mod jregion
-pub mod jheap

@@ -1,6 +1,5 @@
 //! What stands on nothing of Java's files, as rooms: first elements and sequences (jbase), kinds and names of operations (jnames), their
-//! values (jops), verification types (jtypes), formats and their readers (jformat), texts (jtext), regions of cells (jregion) and the heap
-//! (jheap).
+//! values (jops), formats and their readers (jformat), texts (jtext) and regions of cells (jregion).
 //!
 //! Each room is a module, whose head says what it holds, what is proved of it and who may name it; its definitions lie in `specs/` under its
 //! name, and so does its part of `proofs/`.
@@ -8,9 +7,7 @@
 
 pub mod jbase;
 pub mod jformat;
-pub mod jheap;
 pub mod jnames;
 pub mod jops;
 pub mod jregion;
 pub mod jtext;
-pub mod jtypes;

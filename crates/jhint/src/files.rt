@@ -1,11 +1,11 @@
 ghost use Rattle.std.specs.Prelude.{◌≡◌, ◌≤◌, ◌<◌, ◌^◌, IfSome, length};
 
 use crate::said::Said;
-use jclass::read_class;
 use jjob::{Job, JobSource, Text, read_job};
 use jlib::Side;
 use jlinking::jlink::{LinkedProgram, are_parts, link};
 use jprogram::{CodePart, NamedProgram};
+use jreadclass::read_class;
 use jrights::jio::Shelf;
 use std::alloc::Global;
 

@@ -1,7 +1,7 @@
 -- Each entry of a table stands for what it says over the whole table.
 use Rattle.std.proofs.Common.{◌≡◌, ℕ, zero, suc, ◌+◌, ◌<◌, List, [], ◌∷◌, ◌++◌, Option, Some, None, length, refl, sym, ap, ◌∙◌, arith, length-append, slice_get, add-zero, zero-add}
 use Rattle.jrights.specs.jdomain.Stacks.{Stack, Privileged, Within}
-use Rattle.jrights.specs.declared.jperm.permission.Permission.{Permission}
+use Rattle.jperm.specs.declared.permission.Permission.{Permission}
 use Rattle.jkept.specs.declared.mark.InspectMark.{InspectMark}
 use Rattle.jkept.specs.declared.entry.KeptEntry.{KeptEntry}
 use Rattle.jkept.specs.declared.entry.KeptEntry.TheVariants.{Empty, Frame, Privilege}

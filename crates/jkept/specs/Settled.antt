@@ -1,6 +1,6 @@
 -- Where a walk ends, by one frame.
 use Rattle.std.specs.Prelude.{ℕ, ◌+◌, ◌≡◌, ◌<◌, ⊤, Bool, true, false, List, Option, Some, None, is_none, unwrap_or, length, slice_get, if◌then◌else◌}
-use Rattle.jrights.specs.declared.jperm.permission.Permission.{Permission}
+use Rattle.jperm.specs.declared.permission.Permission.{Permission}
 use Rattle.jrights.specs.declared.jdomain.verdict.Verdict.{Verdict}
 use Rattle.jrights.specs.declared.jdomain.verdict.Verdict.TheVariants.{Granted, Denied}
 use Rattle.jrights.specs.jdomain.Stacks.{Stack, Bottom, Given, Mark, Unmarked, Privileged, some_implies, walk, walk_given}

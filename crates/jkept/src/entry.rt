@@ -1,6 +1,6 @@
 use crate::mark::InspectMark;
 use jground::jbase::Seq;
-use jrights::jperm::Permission;
+use jperm::Permission;
 
 /// A frame on the stack that an older number stands for; without one it is the oldest frame of all.
 #[derive(Clone, Copy)]

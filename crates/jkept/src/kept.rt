@@ -10,8 +10,8 @@ use crate::mark::InspectMark;
 use crate::path::Path;
 use crate::table::Table;
 use jground::jbase::Seq;
+use jperm::Permission;
 use jrights::jdomain::{Domains, Verdict};
-use jrights::jperm::Permission;
 use std::alloc::{AllocError, Global};
 use std::marker::Model;
 

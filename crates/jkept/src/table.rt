@@ -5,7 +5,7 @@ ghost use Rattle.jkept.specs.Things.{given_at, mark_at, things};
 
 use crate::entry::KeptEntry;
 use jground::jbase::Seq;
-use jrights::jperm::Permission;
+use jperm::Permission;
 use std::alloc::{AllocError, Global};
 use std::marker::Model;
 

@@ -1,5 +1,5 @@
 ghost use Rattle.std.specs.Prelude.{◌≡◌, ℕ, Bool, ◌<◌, ◌≤◌, IfOk, IfSome, OnOk, Some, None, length, slice_get, true};
-ghost use Rattle.jrights.specs.declared.jperm.permission.Permission.{Permission};
+ghost use Rattle.jperm.specs.declared.permission.Permission.{Permission};
 ghost use Rattle.jrights.specs.jdomain.Domains.{has};
 ghost use Rattle.jrights.specs.jdomain.Stacks.{some_implies, walk, walk_given};
 ghost use Rattle.jkept.specs.Entries.{AllBelow, Below};
@@ -10,8 +10,8 @@ use crate::entry::{KeptEntry, KeptFrame};
 use crate::mark::InspectMark;
 use crate::table::Table;
 use jground::jbase::Seq;
+use jperm::Permission;
 use jrights::jdomain::{Domains, Verdict};
-use jrights::jperm::Permission;
 use std::alloc::{AllocError, Global};
 
 // ---- what a privilege settles

@@ -11,7 +11,7 @@ use Rattle.jlib.specs.declared.classes.Thrown.TheVariants as thrown
 use Rattle.jlib.specs.declared.classes.PermissionClass.{PermissionClass}
 use Rattle.jlib.specs.declared.classes.PermissionClass.TheVariants as permission
 use Rattle.jlib.specs.Classes as library
-use Rattle.jground.specs.jtypes.Tree.{InterfacesExtendTheirs}
+use Rattle.jtypes.specs.Tree.{InterfacesExtendTheirs}
 use Rattle.jprogram.specs.Parts as parts
 use Rattle.jprogram.specs.Parts.{super_name}
 use Rattle.jprogram.specs.Classes.{Class, Lib, Program, above, above_name, chain, extends, face_names, find, holds, is_interface, known, object, onward, tree, up}

@@ -1,7 +1,7 @@
 ghost use Rattle.std.specs.Prelude.{◌≡◌, List, ℕ, Some, option_map, slice_get, true};
 ghost use Rattle.jlib.specs.declared.classes.LibClass.{LibClass};
 ghost use Rattle.jlib.specs.Classes as library;
-ghost use Rattle.jground.specs.jtypes.Tree.{InterfacesExtendTheirs};
+ghost use Rattle.jtypes.specs.Tree.{InterfacesExtendTheirs};
 ghost use Rattle.jprogram.specs.declared.part.ClassRef.{ClassRef};
 ghost use Rattle.jprogram.specs.declared.part.ClassRef.TheVariants as refs;
 ghost use Rattle.jprogram.specs.declared.part.CodePart.{CodePart};

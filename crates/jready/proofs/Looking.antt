@@ -5,7 +5,7 @@ use Rattle.std.specs.Prelude.{nat_lt, option_and_then, option_map, slice_get, sl
 use Rattle.std.proofs.lemmas.Bool.{cases_lt}
 use Rattle.jparts.specs.declared.jcode.op.Placed.{Placed}
 use Rattle.jclass.specs.declared.class.CodeBody.{CodeBody}
-use Rattle.jground.specs.declared.jtypes.vtype.VType.{VType}
+use Rattle.jtypes.specs.declared.vtype.VType.{VType}
 use Rattle.jprogram.specs.declared.member.MethodId.{MethodId}
 use Rattle.jprogram.specs.declared.part.CodePart.{CodePart}
 use Rattle.jprogram.specs.Classes.{Program}

@@ -24,7 +24,7 @@ use Rattle.jparts.specs.jpool.Pools.{name_and_type_at}
 use Rattle.jparts.specs.declared.jcode.form.PoolForm.TheVariants as forms
 use Rattle.jparts.specs.declared.jcode.names.CallOp.{CallOp}
 use Rattle.jparts.specs.declared.jcode.names.FieldOp.{FieldOp}
-use Rattle.jground.specs.declared.jtypes.vtype.Name.{Name}
+use Rattle.jtypes.specs.declared.vtype.Name.{Name}
 use Rattle.jmeaning.specs.declared.juses.meaning.How.{How}
 use Rattle.jmeaning.specs.juses.Meanings.{AClass, AConstant, AField, AMethod, Call, CallMeaning, EntryMeaning, Field as FieldOf, FieldMeaning, Reference, call_as}
 use Rattle.jmeaning.specs.juses.Meanings.{call_meant, called_by, called_by_interface, entry_meant, field_as, field_entry, field_meant, field_used, meant}

@@ -1,7 +1,7 @@
 -- The parts of what an instruction means.
 use Rattle.std.specs.Prelude.{ℕ, Option, Some, None}
-use Rattle.jground.specs.declared.jtypes.vtype.Name.{Name}
-use Rattle.jground.specs.declared.jtypes.vtype.VType.{VType}
+use Rattle.jtypes.specs.declared.vtype.Name.{Name}
+use Rattle.jtypes.specs.declared.vtype.VType.{VType}
 use Rattle.jprogram.specs.declared.member.Member.{Member}
 use Rattle.jprogram.specs.declared.member.Member.TheVariants as members
 use Rattle.jmeaning.specs.declared.juses.meaning.How.{How}

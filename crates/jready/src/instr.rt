@@ -1,9 +1,9 @@
 ghost use Rattle.std.specs.Prelude.{◌≡◌};
 ghost use Rattle.jready.specs.Exact.{narrow};
 
-use jground::jheap::CellType;
 use jground::jnames::{Division, OpOne, OpTwo, Shuffle};
 use jground::jops::{Value, one};
+use jheap::CellType;
 use jlib::{LibCall, LibClass};
 use jmeaning::juses::{How, Span, When};
 use jparts::jcode::{ArrayType, CastOp, Element, FieldOp, LocalForm, Returned};

@@ -21,7 +21,7 @@ use crate::fields::narrow_at;
 use crate::instr::{Instr, ObjectInstr, Push};
 use crate::known::{Known, number_at};
 use crate::tables::Tables;
-use jground::jheap::CellType;
+use jheap::CellType;
 use jmeaning::juses::{CallUse, Constant, FieldUse, How, Span, TypeRef, Use};
 use jparts::jcode::{CastOp, FieldOp, PoolForm};
 use jprogram::{ClassRef, Member};

@@ -1,5 +1,5 @@
 ghost use Rattle.std.specs.Prelude.{◌⊎◌, ◌≡◌, ◌+◌, ◌^◌, ◌<◌, ◌≤◌, ℕ, IfOk, IfSome, None, OnOk, Some, length, slice_get};
-ghost use Rattle.jground.specs.declared.jtypes.vtype.VType.{VType};
+ghost use Rattle.jtypes.specs.declared.vtype.VType.{VType};
 ghost use Rattle.jmeaning.specs.juses.Instructions;
 ghost use Rattle.jmeaning.specs.juses.Meanings.{spanned};
 ghost use Rattle.jmeaning.specs.juses.Tables.{Grows, pool_at};

@@ -1,5 +1,4 @@
-//! Permissions and what is told of them, as rooms: input and output (jio), permissions (jperm), lines (jtrace), domains (jdomain) and
-//! counts (jtally).
+//! What is told of permissions and who has them, as rooms: input and output (jio), lines (jtrace), domains (jdomain) and counts (jtally).
 //!
 //! Each room is a module, whose head says what it holds, what is proved of it and who may name it; its definitions lie in `specs/` under its
 //! name, and so does its part of `proofs/`.
@@ -7,6 +6,5 @@
 
 pub mod jdomain;
 pub mod jio;
-pub mod jperm;
 pub mod jtally;
 pub mod jtrace;

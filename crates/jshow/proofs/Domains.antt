@@ -7,7 +7,7 @@ use Rattle.std.proofs.lemmas.List.{append-nil}
 use Rattle.url.specs.Parts.{Parts}
 use Rattle.jground.specs.jbase.Causes.{appended, IsCut}
 use Rattle.jground.proofs.JbaseProofs.Cuts.{appended_both, appended_nil, cut_more, cut_then}
-use Rattle.jrights.specs.declared.jperm.permission.Permission.{Permission}
+use Rattle.jperm.specs.declared.permission.Permission.{Permission}
 use Rattle.jshow.specs.Listings.{domain_lines, listing}
 
 -- All lines are those that went out, and those of the domains from the i-th on.

@@ -2,9 +2,9 @@
 use Rattle.std.specs.Prelude.{ℕ, ◌+◌, List, [], ◌∷◌, ◌++◌, codes, decimal}
 use Rattle.std.specs.List.{flat_map}
 use Rattle.url.specs.Parts.{Parts, serialize}
-use Rattle.jrights.specs.declared.jperm.permission.Permission.{Permission}
-use Rattle.jrights.specs.declared.jperm.permission.Permission.TheVariants.{Unresolved}
-use Rattle.jrights.specs.jperm.Texts.{text_of}
+use Rattle.jperm.specs.declared.permission.Permission.{Permission}
+use Rattle.jperm.specs.declared.permission.Permission.TheVariants.{Unresolved}
+use Rattle.jperm.specs.Texts.{text_of}
 use Rattle.jshow.specs.Refusals.{text_line}
 
 -- what a permission's line begins with

@@ -5,9 +5,9 @@ ghost use Rattle.jshow.specs.Refusals.{text_line};
 ghost use Rattle.jshow.specs.Listings.{domain_line, domain_lines, listing, permission_line, permission_lines, permission_units, permission_word};
 
 use jground::jtext::Units;
+use jperm::Permission;
 use jrights::jdomain::{CodeSource, Domains};
 use jrights::jio::{Part, Sink, write_line};
-use jrights::jperm::Permission;
 use jrights::jtrace::RunFault;
 use std::alloc::{AllocError, Global};
 

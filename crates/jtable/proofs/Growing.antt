@@ -4,7 +4,7 @@ use Rattle.std.specs.Prelude.{Decides, slice_get, get_or}
 use Rattle.std.proofs.lemmas.Bool.Decides.{Decides-eqb}
 use Rattle.std.proofs.lemmas.Option.{get_or_from_slice_get}
 use Rattle.std.proofs.lemmas.List.{at_drop_more}
-use Rattle.jrights.specs.declared.jperm.permission.Permission.{Permission}
+use Rattle.jperm.specs.declared.permission.Permission.{Permission}
 use Rattle.jctx.specs.declared.item.Item.{Item}
 use Rattle.jctx.specs.Growing.{added, hidden, joined}
 use Rattle.jctx.specs.Items.{covers}

@@ -4,8 +4,8 @@ use Rattle.std.specs.Prelude.{slice_get, get_or}
 use Rattle.std.specs.List.{list_any}
 use Rattle.std.proofs.lemmas.List.{length-append, map-append, append-nil}
 use Rattle.std.proofs.lemmas.Option.{slice_get-map, slice_get-get_or, get_or_from_slice_get}
-use Rattle.jrights.specs.declared.jperm.permission.Permission.{Permission}
-use Rattle.jrights.specs.jperm.Permissions.{equal}
+use Rattle.jperm.specs.declared.permission.Permission.{Permission}
+use Rattle.jperm.specs.Permissions.{equal}
 use Rattle.jctx.specs.declared.item.Item.{Item}
 use Rattle.jctx.specs.Growing.{added}
 use Rattle.jctx.specs.Items.{with_limits}

@@ -1,7 +1,7 @@
 -- What is alike is the same.
 use Rattle.std.proofs.Common.{◌≡◌, ◌≢◌, ◌∙◌, ◌↔◌, ℕ, Bool, true, false, ◌&&◌, ◌==◌, List, [], ◌∷◌, length, refl, sym, ap, ap₂, arith, eqb-true, eq-eqb}
-use Rattle.jrights.specs.declared.jperm.permission.Permission.{Permission}
-use Rattle.jrights.specs.jperm.Permissions.{equal}
+use Rattle.jperm.specs.declared.permission.Permission.{Permission}
+use Rattle.jperm.specs.Permissions.{equal}
 use Rattle.jtable.specs.declared.pairs.Pair.{Pair}
 use Rattle.jtable.specs.Tables.{pairwise, alike, same_limits, same_pair}
 

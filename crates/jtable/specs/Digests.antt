@@ -1,9 +1,9 @@
 -- Numbers by which most limits, and most contexts, are told apart: of the names and actions in limits; of the numbers in pairs.
 use Rattle.std.specs.Prelude.{ℕ, ◌+◌, ◌*◌, ◌/◌, ◌%◌, ◌^◌, List, fold}
-use Rattle.jrights.specs.declared.jperm.permission.BasicClass.{BasicClass}
-use Rattle.jrights.specs.declared.jperm.permission.BasicClass.TheVariants.{Runtime, Security}
-use Rattle.jrights.specs.declared.jperm.permission.Permission.{Permission}
-use Rattle.jrights.specs.declared.jperm.permission.Permission.TheVariants.{All, Basic, Property, File, Unresolved}
+use Rattle.jperm.specs.declared.permission.BasicClass.{BasicClass}
+use Rattle.jperm.specs.declared.permission.BasicClass.TheVariants.{Runtime, Security}
+use Rattle.jperm.specs.declared.permission.Permission.{Permission}
+use Rattle.jperm.specs.declared.permission.Permission.TheVariants.{All, Basic, Property, File, Unresolved}
 use Rattle.jtable.specs.declared.pairs.Pair.{Pair}
 
 -- a digest of pairs with one more number

@@ -1,6 +1,6 @@
 -- Limits with new ones added, by their numbers.
 use Rattle.std.specs.Prelude.{◌≡◌, List, Some, slice_get}
-use Rattle.jrights.specs.declared.jperm.permission.Permission.{Permission}
+use Rattle.jperm.specs.declared.permission.Permission.{Permission}
 use Rattle.jctx.specs.Limits.{add_limits}
 use Rattle.jtable.specs.declared.making.Extended.{Extended}
 use Rattle.jtable.specs.Sets.{limits_at}

@@ -1,6 +1,6 @@
 -- Lists of limits by number, each once; number 0 is none.
 use Rattle.std.specs.Prelude.{◌≡◌, ℕ, List, [], Some, get_or, slice_get}
-use Rattle.jrights.specs.declared.jperm.permission.Permission.{Permission}
+use Rattle.jperm.specs.declared.permission.Permission.{Permission}
 use Rattle.jtable.specs.Tables.{AreDistinct}
 
 -- the limits of a number

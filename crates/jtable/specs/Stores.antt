@@ -1,7 +1,7 @@
 -- Contexts as lists of pairs, and limits by number: what they stand for.
 use Rattle.std.specs.Prelude.{◌≡◌, ℕ, ◌<◌, ◌++◌, List, [], ◌∷◌, Some, get_or, map, slice_get}
 use Rattle.std.proofs.Common.{◌⊎◌}
-use Rattle.jrights.specs.declared.jperm.permission.Permission.{Permission}
+use Rattle.jperm.specs.declared.permission.Permission.{Permission}
 use Rattle.jctx.specs.declared.item.Item.{Item}
 use Rattle.jtable.specs.declared.pairs.Pair.{Pair}
 use Rattle.jtable.specs.Sets.{limits_at}

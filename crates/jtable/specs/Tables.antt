@@ -1,8 +1,8 @@
 -- Contexts by number, each once.
 use Rattle.std.specs.Prelude.{◌≡◌, ℕ, suc, if◌then◌else◌, Bool, true, false, ◌&&◌, ◌==◌, not, List, [], ◌∷◌, ◌++◌, length, Option, Some, filter, option_map, slice_get}
 use Rattle.std.proofs.Common.{◌⊎◌, ◌≢◌}
-use Rattle.jrights.specs.declared.jperm.permission.Permission.{Permission}
-use Rattle.jrights.specs.jperm.Permissions.{equal}
+use Rattle.jperm.specs.declared.permission.Permission.{Permission}
+use Rattle.jperm.specs.Permissions.{equal}
 use Rattle.jctx.specs.declared.item.Item.{Item}
 use Rattle.jctx.specs.Contexts.{enter, privileged}
 use Rattle.jctx.specs.Laws.{IsKept}

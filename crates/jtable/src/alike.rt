@@ -4,7 +4,7 @@ ghost use Rattle.jtable.specs.Tables.{alike, pairwise, same_limits, same_pair};
 use crate::lists::Lists;
 use crate::pairs::Pair;
 use jground::jbase::Seq;
-use jrights::jperm::Permission;
+use jperm::Permission;
 
 /// Whether permissions are the same, one by one.
 fn same_members(a: &[Permission], b: &[Permission]) -> bool

@@ -4,7 +4,7 @@ ghost use Rattle.jtable.specs.Digests;
 use crate::pairs::Pair;
 use bitflags::Flags;
 use jground::jbase::Seq;
-use jrights::jperm::{BasicClass, Permission};
+use jperm::{BasicClass, Permission};
 
 /// What a digest is multiplied by, squared and to the fourth, each modulo 2 ^ 64.
 const SQUARED: u64 = 956_575_116_354_345;

@@ -1,11 +1,11 @@
 ghost use Rattle.std.specs.Prelude.{◌≡◌, IfOk, OnOk};
 ghost use Rattle.std.specs.List.{list_any};
-ghost use Rattle.jrights.specs.jperm.Permissions.{equal};
+ghost use Rattle.jperm.specs.Permissions.{equal};
 ghost use Rattle.jrights.specs.jdomain.Stacks.{some_implies};
 ghost use Rattle.jctx.specs.Limits.{add_limits, is_within};
 
 use jground::jbase::Seq;
-use jrights::jperm::Permission;
+use jperm::Permission;
 use std::alloc::{AllocError, Global};
 
 /// Whether one of the limits by itself implies a permission.

@@ -15,8 +15,8 @@ use crate::limits::imply;
 use crate::lists::Lists;
 use crate::pairs::Pair;
 use crate::sets::Sets;
+use jperm::Permission;
 use jrights::jdomain::{Domains, Verdict};
-use jrights::jperm::Permission;
 use std::alloc::{AllocError, Global};
 
 /// Whether an item has another's domain and only limits that the other has too.

@@ -10,7 +10,7 @@ use crate::digest::digest_limits;
 use crate::index::Index;
 use crate::limits::{are_within, with_new};
 use jground::jbase::Seq;
-use jrights::jperm::{Permission, permission_laws};
+use jperm::{Permission, permission_laws};
 use std::alloc::{AllocError, Global};
 use std::marker::Model;
 
@@ -23,7 +23,7 @@ pub struct Sets {
 
 impl Model for Sets {
     ghost use Rattle.std.specs.Prelude.{◌≡◌, List, map};
-    ghost use Rattle.jrights.specs.declared.jperm.permission.Permission.{Permission};
+    ghost use Rattle.jperm.specs.declared.permission.Permission.{Permission};
     ghost use Rattle.jtable.specs.Digests.{digest_limits};
     ghost use Rattle.jtable.specs.Sets.{AreSets};
 

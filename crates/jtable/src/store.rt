@@ -16,8 +16,8 @@ use crate::lists::Lists;
 use crate::making::{add_behind, add_given, add_others, begin, decide};
 use crate::pairs::Pair;
 use crate::sets::Sets;
+use jperm::{Permission, permission_laws};
 use jrights::jdomain::{Domains, Verdict};
-use jrights::jperm::{Permission, permission_laws};
 use std::alloc::{AllocError, Global};
 use std::marker::Model;
 

@@ -12,8 +12,8 @@ use crate::pairs::Pair;
 use crate::store::Store;
 use jctx::context_laws;
 use jmemo::Memo;
+use jperm::Permission;
 use jrights::jdomain::{Domains, Verdict};
-use jrights::jperm::Permission;
 use std::alloc::{AllocError, Global};
 use std::marker::Model;
 

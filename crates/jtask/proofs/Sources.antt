@@ -5,7 +5,7 @@ use Rattle.std.specs.List.{flat_map}
 use Rattle.jground.specs.jbase.Each.{each}
 use Rattle.jground.specs.jbase.Stops.{◌>>=◌}
 use Rattle.jrights.specs.jio.Held.{File}
-use Rattle.jrights.specs.declared.jperm.permission.Permission.{Permission}
+use Rattle.jperm.specs.declared.permission.Permission.{Permission}
 use Rattle.jground.specs.jtext.Modified.{group}
 use Rattle.jjob.specs.declared.command.Command.TheVariants as commands
 use Rattle.jjob.specs.declared.command.Form.TheVariants.{Inspect, Pass}

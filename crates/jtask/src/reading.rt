@@ -15,13 +15,14 @@ ghost use Rattle.jtask.specs.Tasks.{class_at, class_read, grants_at, grants_of, 
 
 use crate::ground::{ClassPath, Ground, ground_of};
 use crate::halt::Halt;
-use jclass::{ClassFault, ClassFile, read_class};
+use jclass::{ClassFault, ClassFile};
 use jground::jbase::{Seq, Stop};
 use jground::jformat::At;
 use jground::jtext::Units;
 use jjob::{Job, JobError, Text, read_job};
 use jpolicy::{Policy, read_policy};
 use jprogram::CodePart;
+use jreadclass::read_class;
 use jrights::jio::{Shelf, ShelfError};
 use jshow::Refusal;
 use std::alloc::{AllocError, Global};

@@ -2,7 +2,7 @@
 use Rattle.std.proofs.Common.{◌≡◌, ℕ, zero, suc, true, List, [], ◌∷◌, length, Some, refl, ap, subst, arith}
 use Rattle.std.specs.Prelude.{pos, slice_get}
 use Rattle.jparts.specs.declared.jcode.op.Placed.{Placed}
-use Rattle.jground.specs.jtypes.Frames.{Frame}
+use Rattle.jtypes.specs.Frames.{Frame}
 use Rattle.jprogram.specs.Classes.{Program, tree}
 use Rattle.jtyping.specs.Declared.{Written, declared_at, first_frame}
 use Rattle.jtyping.specs.Methods.{Method}

@@ -7,7 +7,7 @@ use Rattle.jground.proofs.JbaseProofs.Firsts.{all_pass, none_fails, none_of}
 use Rattle.jclass.specs.declared.class.ClassParts.{ClassParts}
 use Rattle.jclass.specs.declared.class.CodeBody.{CodeBody}
 use Rattle.jclass.specs.declared.class.MemberInfo.{MemberInfo}
-use Rattle.jground.specs.jtypes.Frames.{places_of}
+use Rattle.jtypes.specs.Frames.{places_of}
 use Rattle.jprogram.specs.declared.part.CodePart.{CodePart}
 use Rattle.jprogram.specs.Parts.{code_of}
 use Rattle.jprogram.specs.Classes.{Program}

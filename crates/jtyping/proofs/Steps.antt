@@ -5,8 +5,8 @@ use Rattle.jparts.specs.declared.jcode.op.Handler.{Handler}
 use Rattle.jparts.specs.declared.jcode.op.Placed.{Placed}
 use Rattle.jparts.specs.jcode.Forms.{branches, form, goes_on}
 use Rattle.jclass.specs.Stored.{IsIn}
-use Rattle.jground.specs.jtypes.Frames.{Frame}
-use Rattle.jground.specs.jtypes.Tree.{Tree}
+use Rattle.jtypes.specs.Frames.{Frame}
+use Rattle.jtypes.specs.Tree.{Tree}
 use Rattle.jprogram.specs.Classes.{Program, tree}
 use Rattle.jmeaning.specs.jrule.Forms.{by_form}
 use Rattle.jtyping.specs.Declared.{Written, declared_at}

@@ -5,12 +5,12 @@ use Rattle.jparts.specs.declared.jcode.op.Handler.{Handler}
 use Rattle.jparts.specs.declared.jcode.op.Placed.{Placed}
 use Rattle.jparts.specs.jcode.Forms.{branches, form, goes_on}
 use Rattle.jclass.specs.Stored.{IsIn}
-use Rattle.jground.specs.declared.jtypes.vtype.VType.{VType}
-use Rattle.jground.specs.jtypes.Fitting.{fits, is_above_arrays}
-use Rattle.jground.specs.jtypes.Frames.{Frame}
-use Rattle.jground.specs.jtypes.Tree.{Tree}
-use Rattle.jground.proofs.JtypesProofs.Along.{fits_itself}
-use Rattle.jground.proofs.JtypesProofs.Framing as framing
+use Rattle.jtypes.specs.declared.vtype.VType.{VType}
+use Rattle.jtypes.specs.Fitting.{fits, is_above_arrays}
+use Rattle.jtypes.specs.Frames.{Frame}
+use Rattle.jtypes.specs.Tree.{Tree}
+use Rattle.jtypes.proofs.Along.{fits_itself}
+use Rattle.jtypes.proofs.Framing as framing
 use Rattle.jprogram.specs.Classes.{Program, tree}
 use Rattle.jprogram.proofs.Extending.{extends_itself}
 use Rattle.jmeaning.specs.juses.Instructions as instructions

@@ -24,10 +24,10 @@ use Rattle.jclass.specs.declared.class.CodeAttribute.TheVariants.{Maps}
 use Rattle.jclass.specs.declared.class.Attribute.TheVariants.{Code}
 use Rattle.jclass.specs.declared.class.MemberInfo.{MemberInfo}
 use Rattle.jlib.specs.declared.side.Side.TheVariants.{Source}
-use Rattle.jground.specs.declared.jtypes.vtype.Name.{Name}
-use Rattle.jground.specs.declared.jtypes.vtype.VType.{VType}
-use Rattle.jground.specs.declared.jtypes.vtype.VType.TheVariants as types
-use Rattle.jground.specs.jtypes.Frames.{all_fit, slots}
+use Rattle.jtypes.specs.declared.vtype.Name.{Name}
+use Rattle.jtypes.specs.declared.vtype.VType.{VType}
+use Rattle.jtypes.specs.declared.vtype.VType.TheVariants as types
+use Rattle.jtypes.specs.Frames.{all_fit, slots}
 use Rattle.jprogram.specs.declared.part.CodePart.{CodePart}
 use Rattle.jprogram.specs.Parts.{code_of}
 use Rattle.jprogram.specs.Classes.{Program, program}

@@ -3,7 +3,7 @@ ghost use Rattle.jparts.specs.declared.jcode.op.Handler.{Handler};
 ghost use Rattle.jparts.specs.declared.jcode.op.Placed.{Placed};
 ghost use Rattle.jparts.specs.jcode.Forms.{branches, form, goes_on};
 ghost use Rattle.jclass.specs.Stored.{IsIn};
-ghost use Rattle.jground.specs.jtypes.Frames.{Frame};
+ghost use Rattle.jtypes.specs.Frames.{Frame};
 ghost use Rattle.jprogram.specs.Classes.{Program, tree};
 ghost use Rattle.jmeaning.specs.juses.Instructions as instructions;
 ghost use Rattle.jmeaning.specs.juses.Instructions.{Instruction, instruction, targets};

@@ -11,11 +11,11 @@ use Rattle.jparts.specs.declared.jcode.form.Form.TheVariants as forms
 use Rattle.jparts.specs.declared.jcode.form.LocalForm.{LocalForm}
 use Rattle.jparts.specs.declared.jcode.form.LocalForm.TheVariants.{Increment, Move as MoveLocal}
 use Rattle.jparts.specs.jcode.Forms.{local as local_kind}
-use Rattle.jground.specs.declared.jtypes.vtype.Name.{Name}
-use Rattle.jground.specs.declared.jtypes.vtype.VType.{VType}
-use Rattle.jground.specs.declared.jtypes.vtype.VType.TheVariants.{Top, Int, Long, Null, UninitThis, Uninit, Object, Array, Ctx}
-use Rattle.jground.specs.jtypes.Frames.{Frame, is_long, places}
-use Rattle.jground.specs.jtypes.Tree.{Tree}
+use Rattle.jtypes.specs.declared.vtype.Name.{Name}
+use Rattle.jtypes.specs.declared.vtype.VType.{VType}
+use Rattle.jtypes.specs.declared.vtype.VType.TheVariants.{Top, Int, Long, Null, UninitThis, Uninit, Object, Array, Ctx}
+use Rattle.jtypes.specs.Frames.{Frame, is_long, places}
+use Rattle.jtypes.specs.Tree.{Tree}
 use Rattle.jprogram.specs.Classes.{Program, tree}
 use Rattle.jmeaning.specs.declared.juses.meaning.How.{How}
 use Rattle.jmeaning.specs.declared.juses.meaning.How.TheVariants as how

@@ -2,7 +2,7 @@
 use Rattle.std.proofs.Common.{◌≡◌, ℕ, List, Option, None, Result, Ok, sym, subst, ap, ◌∙◌}
 use Rattle.jground.specs.jbase.First.{or_else}
 use Rattle.jparts.specs.declared.jmaps.types.RawFrame.{RawFrame}
-use Rattle.jground.specs.declared.jtypes.vtype.VType.{VType}
+use Rattle.jtypes.specs.declared.vtype.VType.{VType}
 use Rattle.jprogram.specs.Classes.{Program}
 use Rattle.jtyping.specs.Declared.{Written, frames_in, written, written_from}
 use Rattle.jtyping.specs.Methods.{Method, makes}

@@ -13,7 +13,7 @@ use Rattle.jparts.specs.declared.jcode.op.Placed.{Placed}
 use Rattle.jparts.specs.jcode.Instructions.{place_of}
 use Rattle.jclass.specs.declared.class.CodeBody.{CodeBody}
 use Rattle.jclass.specs.Codes.{begins}
-use Rattle.jground.specs.jtypes.Frames.{places_of, within}
+use Rattle.jtypes.specs.Frames.{places_of, within}
 use Rattle.jprogram.specs.declared.part.ClassRef.{ClassRef}
 use Rattle.jprogram.specs.Classes.{Program}
 use Rattle.jmeaning.specs.declared.juses.types.TypeRef.{TypeRef}

@@ -10,7 +10,7 @@ use Rattle.jparts.specs.declared.jcode.form.Form.TheVariants as forms
 use Rattle.jparts.specs.declared.jcode.op.Placed.{Placed}
 use Rattle.jparts.specs.declared.jcode.op.Switch.{Switch}
 use Rattle.jparts.specs.jcode.Forms.{branches, flow_goes_on, form, goes_on, seen as seen_form, seen_flow}
-use Rattle.jground.specs.jtypes.Frames.{Frame}
+use Rattle.jtypes.specs.Frames.{Frame}
 use Rattle.jprogram.specs.Classes.{Program}
 use Rattle.jtyping.specs.Declared.{Written}
 use Rattle.jtyping.specs.Typing.{branch_fits, branches_fit, leave, onward}

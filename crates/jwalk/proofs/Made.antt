@@ -12,7 +12,7 @@ use Rattle.jparts.specs.declared.jcode.op.Placed.{Placed}
 use Rattle.jparts.specs.declared.jcode.op.Switch.{Switch}
 use Rattle.jparts.specs.jcode.Forms.{form, seen}
 use Rattle.jparts.specs.jcode.Instructions.{place_of}
-use Rattle.jground.specs.declared.jtypes.vtype.Name.{Name}
+use Rattle.jtypes.specs.declared.vtype.Name.{Name}
 use Rattle.jprogram.specs.declared.part.ClassRef.{ClassRef}
 use Rattle.jprogram.specs.Classes.{Program}
 use Rattle.jmeaning.specs.juses.Types.{class_named}

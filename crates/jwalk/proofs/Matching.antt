@@ -7,11 +7,11 @@ use Rattle.std.proofs.Math.ListN.{drop_of_length-le}
 use Rattle.std.proofs.lemmas.Grind.{flat_map-append}
 use Rattle.std.proofs.lemmas.List.{append-nil, append_assoc, length-map, map-append, reverse-append, reverse-reverse}
 use Rattle.std.proofs.lemmas.Option.{slice_get-get_or, slice_get-map}
-use Rattle.jground.specs.declared.jtypes.vtype.VType.{VType}
-use Rattle.jground.specs.declared.jtypes.vtype.VType.TheVariants as types
-use Rattle.jground.specs.jtypes.Fitting.{fits, is_above_arrays}
-use Rattle.jground.specs.jtypes.Frames.{Frame, all_fit, implies, item_fits, places_of, stack_fits}
-use Rattle.jground.proofs.JtypesProofs.Along.{fits_itself}
+use Rattle.jtypes.specs.declared.vtype.VType.{VType}
+use Rattle.jtypes.specs.declared.vtype.VType.TheVariants as types
+use Rattle.jtypes.specs.Fitting.{fits, is_above_arrays}
+use Rattle.jtypes.specs.Frames.{Frame, all_fit, implies, item_fits, places_of, stack_fits}
+use Rattle.jtypes.proofs.Along.{fits_itself}
 use Rattle.jprogram.specs.Classes.{Program, tree}
 use Rattle.jmeaning.specs.declared.juses.types.TypeRef.{TypeRef}
 use Rattle.jmeaning.specs.declared.juses.types.TypeRef.TheVariants as refs

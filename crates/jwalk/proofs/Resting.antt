@@ -22,9 +22,9 @@ use Rattle.jparts.specs.declared.jcode.form.PoolForm.{PoolForm}
 use Rattle.jparts.specs.declared.jcode.form.PoolForm.TheVariants as pool
 use Rattle.jparts.specs.declared.jcode.op.Switch.{Switch}
 use Rattle.jparts.specs.jcode.Forms.{array_effect, seen as seen_form}
-use Rattle.jground.specs.declared.jtypes.vtype.VType.{VType}
-use Rattle.jground.specs.jtypes.Frames.{Frame, within}
-use Rattle.jground.specs.jtypes.Tree.{Tree}
+use Rattle.jtypes.specs.declared.vtype.VType.{VType}
+use Rattle.jtypes.specs.Frames.{Frame, within}
+use Rattle.jtypes.specs.Tree.{Tree}
 use Rattle.jprogram.specs.Classes.{Program, tree}
 use Rattle.jmeaning.specs.juses.Meanings as meanings
 use Rattle.jmeaning.specs.juses.Meanings.{EntryMeaning, Meaning, array_made, array_meant, called_by, called_by_interface, cast_by, entry_meant, field_used, long_constant, meant, short_constant}

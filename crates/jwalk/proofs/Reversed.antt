@@ -1,7 +1,7 @@
 -- Lists that are turned round, by number and by name.
 use Rattle.std.proofs.Common.{◌≡◌, List, [], ◌∷◌, ◌++◌, map, reverse, ap, ◌∙◌}
 use Rattle.std.proofs.lemmas.List.{map-append, reverse-append}
-use Rattle.jground.specs.declared.jtypes.vtype.VType.{VType}
+use Rattle.jtypes.specs.declared.vtype.VType.{VType}
 use Rattle.jprogram.specs.Classes.{Program}
 use Rattle.jmeaning.specs.declared.juses.types.TypeRef.{TypeRef}
 use Rattle.jmeaning.specs.juses.Types.{named}

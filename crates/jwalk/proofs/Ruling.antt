@@ -11,9 +11,9 @@ use Rattle.jparts.specs.declared.jcode.form.Form.TheVariants as forms
 use Rattle.jparts.specs.declared.jcode.op.Switch.{Switch}
 use Rattle.jparts.specs.declared.jcode.op.Placed.{Placed}
 use Rattle.jparts.specs.jcode.Forms.{form, seen as seen_form, seen_flow}
-use Rattle.jground.specs.declared.jtypes.vtype.VType.{VType}
-use Rattle.jground.specs.jtypes.Frames.{Frame}
-use Rattle.jground.specs.jtypes.Tree.{Tree}
+use Rattle.jtypes.specs.declared.vtype.VType.{VType}
+use Rattle.jtypes.specs.Frames.{Frame}
+use Rattle.jtypes.specs.Tree.{Tree}
 use Rattle.jprogram.specs.Classes.{Program, tree}
 use Rattle.jmeaning.specs.juses.Types.{named}
 use Rattle.jmeaning.specs.declared.jrule.frame.FrameRef.{FrameRef}

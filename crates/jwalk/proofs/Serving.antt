@@ -9,8 +9,8 @@ use Rattle.jparts.specs.declared.jpool.entry.Entry.{Entry}
 use Rattle.jparts.specs.declared.jcode.form.Form.{Form}
 use Rattle.jparts.specs.declared.jcode.op.Handler.{Handler}
 use Rattle.jparts.specs.declared.jcode.op.Switch.{Switch}
-use Rattle.jground.specs.declared.jtypes.vtype.VType.{VType}
-use Rattle.jground.specs.jtypes.Frames.{Frame}
+use Rattle.jtypes.specs.declared.vtype.VType.{VType}
+use Rattle.jtypes.specs.Frames.{Frame}
 use Rattle.jprogram.specs.Classes.{Program}
 use Rattle.jmeaning.specs.declared.jrule.frame.FrameRef.{FrameRef}
 use Rattle.jmeaning.specs.jrule.Forms.{by_form}

@@ -14,9 +14,9 @@ use Rattle.jparts.specs.declared.jcode.names.Access.{Access}
 use Rattle.jparts.specs.declared.jcode.names.Access.TheVariants.{Store}
 use Rattle.jparts.specs.jcode.Forms as codes
 use Rattle.jparts.specs.declared.jcode.op.Switch.{Switch}
-use Rattle.jground.specs.declared.jtypes.vtype.VType.{VType}
-use Rattle.jground.specs.declared.jtypes.vtype.VType.TheVariants.{Top}
-use Rattle.jground.specs.jtypes.Frames.{Frame, is_long, places}
+use Rattle.jtypes.specs.declared.vtype.VType.{VType}
+use Rattle.jtypes.specs.declared.vtype.VType.TheVariants.{Top}
+use Rattle.jtypes.specs.Frames.{Frame, is_long, places}
 use Rattle.jprogram.specs.Classes.{Program}
 use Rattle.jmeaning.specs.declared.juses.types.TypeRef.{TypeRef}
 use Rattle.jmeaning.specs.juses.Types.{named}

@@ -3,7 +3,7 @@ use Rattle.std.proofs.Common.{◌≡◌, ◌<◌, ◌≤◌, ℕ, zero, suc, ◌
 use Rattle.std.proofs.lemmas.List.{drop_all, length-drop, take_all}
 use Rattle.std.specs.Prelude.{IfSome, pos, slice_get}
 use Rattle.jparts.specs.declared.jcode.op.Placed.{Placed}
-use Rattle.jground.specs.jtypes.Frames.{Frame}
+use Rattle.jtypes.specs.Frames.{Frame}
 use Rattle.jprogram.specs.Classes.{Program}
 use Rattle.jtyping.specs.Declared.{Written, declared_at}
 use Rattle.jtyping.specs.Methods.{Method}

@@ -8,8 +8,8 @@ use Rattle.jparts.specs.declared.jcode.form.PoolForm.TheVariants.{Call, New}
 use Rattle.jparts.specs.declared.jcode.names.Access.TheVariants.{Store}
 use Rattle.jparts.specs.declared.jcode.names.CallOp.TheVariants.{Special}
 use Rattle.jparts.specs.declared.jcode.op.Handler.{Handler}
-use Rattle.jground.specs.declared.jtypes.vtype.VType.{VType}
-use Rattle.jground.specs.jtypes.Frames.{Frame}
+use Rattle.jtypes.specs.declared.vtype.VType.{VType}
+use Rattle.jtypes.specs.Frames.{Frame}
 use Rattle.jprogram.specs.Classes.{Program}
 use Rattle.jmeaning.specs.jrule.Seen.{seen}
 use Rattle.jtyping.specs.Declared.{Written, declared_at}

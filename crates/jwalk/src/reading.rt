@@ -2,7 +2,7 @@ ghost use Rattle.std.specs.Prelude.{◌≡◌, ◌<◌, ◌≤◌, ◌^◌, ℕ,
 ghost use Rattle.jparts.specs.jcode.Instructions.{Rises};
 ghost use Rattle.jparts.specs.jmaps.Frames.{maps};
 ghost use Rattle.jparts.specs.jmaps.Full;
-ghost use Rattle.jground.specs.declared.jtypes.vtype.Name.{Name};
+ghost use Rattle.jtypes.specs.declared.vtype.Name.{Name};
 ghost use Rattle.jmeaning.specs.juses.Meanings;
 ghost use Rattle.jmeaning.specs.juses.Tables.{pool_at};
 ghost use Rattle.jmeaning.specs.juses.Types.{class_named, named};

@@ -3,7 +3,7 @@ ghost use Rattle.jground.specs.declared.jnames.kinds.Kind.{Kind};
 ghost use Rattle.jparts.specs.declared.jpool.entry.Entry.{Entry};
 ghost use Rattle.jparts.specs.declared.jcode.form.Form.TheVariants as forms;
 ghost use Rattle.jparts.specs.jcode.Forms.{form};
-ghost use Rattle.jground.specs.jtypes.Frames;
+ghost use Rattle.jtypes.specs.Frames;
 ghost use Rattle.jmeaning.specs.juses.Types.{named};
 ghost use Rattle.jmeaning.specs.jrule.Forms.{by_form};
 ghost use Rattle.jmeaning.specs.jrule.Here.{Here};

@@ -4,7 +4,7 @@ ghost use Rattle.jparts.specs.jcode.Forms as forms;
 ghost use Rattle.jparts.specs.jcode.Forms.{branches, form};
 ghost use Rattle.jparts.specs.jcode.Instructions;
 ghost use Rattle.jmeaning.specs.juses.Types.{named};
-ghost use Rattle.jground.specs.jtypes.Frames.{Frame};
+ghost use Rattle.jtypes.specs.Frames.{Frame};
 ghost use Rattle.jparts.specs.declared.jpool.entry.Entry.{Entry};
 ghost use Rattle.jmeaning.specs.jrule.Forms.{by_form};
 ghost use Rattle.jmeaning.specs.jrule.Here.{Here};

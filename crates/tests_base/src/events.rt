@@ -1,7 +1,7 @@
 use crate::words::{first, pair, units};
 use jground::jtext::Units;
+use jperm::{Actions, Permission, PropertyActions};
 use jrights::jio::{MemorySink, PutFault};
-use jrights::jperm::{Actions, Permission, PropertyActions};
 use jrights::jtrace::{End, Event, write_end, write_event};
 use std::alloc::{AllocError, Global};
 use tests_rows::{Unread, between, debug_pair, number};

@@ -1,6 +1,6 @@
 use crate::words::{first, pair};
-use jground::jheap::{CellType, Heap, Kind};
 use jground::jops::Value;
+use jheap::{CellType, Heap, Kind};
 use std::alloc::{AllocError, Global};
 use tests_rows::{Unread, debug_behind, debug_pair, number};
 

@@ -3,7 +3,7 @@ use crate::words::pair;
 use crate::{
     events, files, formats, heaps, library, memo, operations, piles, regions, texts, threads,
 };
-use jground::jtypes::VType;
+use jtypes::VType;
 use std::alloc::{AllocError, Global};
 use tests_rows::Unread;
 

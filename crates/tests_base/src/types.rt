@@ -3,7 +3,7 @@ ghost use Rattle.tests_base.specs.Few.{few, few_above, few_chain, few_itself, fe
 
 use crate::words::pair;
 use jground::jbase::Seq;
-use jground::jtypes::{Ancestry, ArrayType, Element, Name, VType, fits};
+use jtypes::{Ancestry, ArrayType, Element, Name, VType, fits};
 use std::alloc::{AllocError, Global};
 use tests_rows::{Unread, number};
 

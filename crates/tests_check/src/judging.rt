@@ -1,8 +1,8 @@
 use jcheck::{CheckedProgram, TypeFault, check};
-use jclass::read_class;
 use jlib::Side;
 use jlinking::jlink::{LinkError, LinkedProgram, are_parts, link};
 use jprogram::CodePart;
+use jreadclass::read_class;
 use std::alloc::Global;
 use std::fmt;
 use tests_rows::Unread;

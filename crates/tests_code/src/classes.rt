@@ -1,5 +1,6 @@
-use jclass::{ClassFile, read_class, write_class};
+use jclass::{ClassFile, write_class};
 use jground::jbase::Stop;
+use jreadclass::read_class;
 use std::alloc::{AllocError, Global};
 use tests_rows::{Unread, debug_pair, hex_of};
 

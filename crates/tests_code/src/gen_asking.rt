@@ -1,6 +1,7 @@
-use jclass::{read_class, write_class};
+use jclass::write_class;
 use jgen::{MadeFile, MadeJob, make_job};
 use jground::jbase::Stop;
+use jreadclass::read_class;
 use std::alloc::{AllocError, Global};
 use tests_rows::{Line, Unread, debug, first, number};
 

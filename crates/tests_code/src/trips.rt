@@ -1,8 +1,9 @@
-use jclass::{read_class, write_class};
+use jclass::write_class;
 use jground::jbase::Seq;
 use jparts::jcode::{decode, encode};
 use jparts::jmaps::{put_frames, read_maps};
 use jparts::jpool::{read_pool, write_pool};
+use jreadclass::read_class;
 use std::alloc::{AllocError, Global};
 use tests_rows::{Unread, first, hex_of, yes_or_no};
 

@@ -1,8 +1,8 @@
 use crate::difference::Difference;
 use jground::jbase::Seq;
-use jground::jtypes::Name;
 use jlinking::jlink::LinkedProgram;
 use jprogram::ClassRef;
+use jtypes::Name;
 use std::alloc::{AllocError, Global};
 
 /// The interfaces of the library that a class of a user may list.

@@ -2,9 +2,9 @@ use crate::classes::{class_count, classes_difference, faces_difference, faces_of
 use crate::difference::Difference;
 use crate::references::{method_count, names_same};
 use crate::selection::selects_same;
-use jground::jtypes::Name;
 use jlinking::jlink::LinkedProgram;
 use jprogram::MethodId;
+use jtypes::Name;
 use std::alloc::{AllocError, Global};
 
 /// What differs of a method: what its instructions name, or what is selected where it is called or what it calls is.

@@ -1,10 +1,10 @@
 use crate::classes::{class_count, has_face};
 use crate::members::{moved_member, moved_selected};
 use crate::references::{call_at, op_count};
-use jground::jtypes::Name;
 use jlib::open_classes;
 use jlinking::jlink::LinkedProgram;
 use jprogram::{CallKind, ClassId, ClassRef, Member, MethodId};
+use jtypes::Name;
 
 const OBJECT: &[u8] = b"java/lang/Object";
 

@@ -1,6 +1,6 @@
 use crate::answering::answered;
-use jclass::read_class;
 use jprogram::CodePart;
+use jreadclass::read_class;
 use std::alloc::{AllocError, Global};
 use tests_rows::{Unread, first, put_hex};
 

@@ -4,8 +4,8 @@ ghost use Rattle.jkept.specs.Entries.{AllBelow, Below};
 use crate::permissions::reads;
 use jground::jtext::Units;
 use jkept::{InspectMark, Kept};
+use jperm::Permission;
 use jrights::jdomain::{Domains, Verdict};
-use jrights::jperm::Permission;
 use std::alloc::Global;
 use tests_rows::Unread;
 

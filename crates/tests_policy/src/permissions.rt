@@ -1,6 +1,6 @@
 use crate::words::{put, told, units_if, units_of};
 use jground::jtext::Units;
-use jrights::jperm::{FilePath, PermClass, PermError, Permission, covers, make};
+use jperm::{FilePath, PermClass, PermError, Permission, covers, make};
 use std::alloc::{AllocError, Global};
 use std::slice::from_ref;
 use tests_rows::{Unread, debug, first, unquoted, yes_or_no};

@@ -1,9 +1,9 @@
 use crate::words::told;
 use jground::jbase::{Seq, Stop};
 use jground::jtext::Units;
+use jperm::Permission;
 use jpolicy::Grant;
 use jrights::jdomain::{CodeSource, SourceError};
-use jrights::jperm::Permission;
 use std::alloc::{AllocError, Global};
 use tests_rows::{Unread, between, bytes_of, debug, first, string_of, unquoted, yes_or_no};
 

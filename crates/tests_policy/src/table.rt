@@ -1,9 +1,9 @@
 use crate::words::{put, units_of};
 use crate::{contexts, jobs, permissions, policies, sources, stacks};
 use jground::jtext::Units;
+use jperm::Permission;
 use jpolicy::Policy;
 use jrights::jdomain::{CodeSource, Domains};
-use jrights::jperm::Permission;
 use std::alloc::Global;
 use tests_rows::{Line, Unread, bytes_of, first, number, unquoted, yes_or_no};
 

@@ -1,6 +1,6 @@
 -- The inspecting machine answers as the first of the machines between, and the second of these as the plain machine.
 use Rattle.std.proofs.Common.{◌≡◌, ℕ, List, [], ◌∷◌, map, Option, Some, None, option_map, refl, sym, ap, ◌∙◌}
-use Rattle.jrights.specs.declared.jperm.permission.Permission.{Permission}
+use Rattle.jperm.specs.declared.permission.Permission.{Permission}
 use Rattle.jrights.specs.jdomain.Stacks as stacks
 use Rattle.jrights.specs.jdomain.Stacks.{Stack}
 use Rattle.jctx.specs.declared.item.Item.{Item}

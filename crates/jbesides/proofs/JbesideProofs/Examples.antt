@@ -1,8 +1,8 @@
 -- The contexts of frames, computed: of a privilege in the middle, with what it was given and with limits, and of what a thread inherited.
 use Rattle.std.proofs.Common.{◌≡◌, [], ◌∷◌, Some, None, refl}
 use Rattle.std.specs.Prelude.{codes}
-use Rattle.jrights.specs.declared.jperm.permission.Permission.{Permission}
-use Rattle.jrights.specs.declared.jperm.permission.Permission.TheVariants.{Property}
+use Rattle.jperm.specs.declared.permission.Permission.{Permission}
+use Rattle.jperm.specs.declared.permission.Permission.TheVariants.{Property}
 use Rattle.jrights.specs.jdomain.Stacks as stacks
 use Rattle.jctx.specs.Items.{plain, with_limits}
 use Rattle.jctx.specs.Contexts.{along}

@@ -1,7 +1,7 @@
 -- A call, and what stands for it: silent steps that put values on the operands, and a call that takes these with the others.
 use Rattle.std.proofs.Common.{◌≡◌, ℕ, zero, suc, ◌+◌, ◌≤◌, Bool, List, [], ◌∷◌, ◌++◌, length, Option, Some, None, option_map, refl, sym, ap, ◌∙◌, subst, arith}
 use Rattle.std.specs.Prelude.{slice_get}
-use Rattle.jrights.specs.declared.jperm.permission.Permission.{Permission as Perm}
+use Rattle.jperm.specs.declared.permission.Permission.{Permission as Perm}
 use Rattle.jrights.specs.declared.jdomain.verdict.Verdict.{Verdict}
 use Rattle.jrights.specs.declared.jdomain.verdict.Verdict.TheVariants.{Granted, Denied}
 use Rattle.jlib.specs.declared.side.Side.{Side}

@@ -1,6 +1,6 @@
 -- How a run begins: main's prologue is a lead of four steps.
 use Rattle.std.proofs.Common.{◌≡◌, ℕ, ◌+◌, ◌<◌, Bool, false, List, [], ◌∷◌, length, Option, Some, None, option_map, refl, sym, ap, ◌∙◌, subst, arith}
-use Rattle.jrights.specs.declared.jperm.permission.Permission.{Permission}
+use Rattle.jperm.specs.declared.permission.Permission.{Permission}
 use Rattle.jground.specs.declared.jops.value.Value.TheVariants.{Ref, Ctx}
 use Rattle.jthreads.specs.Table as threads
 use Rattle.jclass.specs.declared.class.CodeBody.{CodeBody}

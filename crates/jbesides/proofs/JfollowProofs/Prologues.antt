@@ -3,7 +3,7 @@
 use Rattle.std.proofs.Common.{◌≡◌, ℕ, ◌+◌, ◌-◌, ◌≤◌, pos, Bool, List, [], ◌∷◌, length, Option, Some, None, option_map, refl, ap, ◌∙◌, arith}
 use Rattle.std.specs.Prelude.{option_and_then, slice_set, if◌then◌else◌}
 use Rattle.std.proofs.lemmas.Bool.{le-leb}
-use Rattle.jrights.specs.declared.jperm.permission.Permission.{Permission}
+use Rattle.jperm.specs.declared.permission.Permission.{Permission}
 use Rattle.jground.specs.declared.jnames.kinds.Kind.TheVariants as kinds
 use Rattle.jparts.specs.declared.jcode.names.Access.TheVariants.{Load, Store as Keep}
 use Rattle.jparts.specs.declared.jcode.names.LocalKind.TheVariants as locals

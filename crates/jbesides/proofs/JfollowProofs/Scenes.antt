@@ -1,7 +1,7 @@
 -- The two machines before a step, with threads and frames that stand for one another.
 use Rattle.std.proofs.Common.{◌≡◌, ℕ, suc, List, [], ◌∷◌, length, Option, refl, ap, ◌∙◌}
 use Rattle.std.specs.Prelude.{Bool, nat_le}
-use Rattle.jrights.specs.declared.jperm.permission.Permission.{Permission}
+use Rattle.jperm.specs.declared.permission.Permission.{Permission}
 use Rattle.jprogram.specs.declared.member.MethodId.{MethodId}
 use Rattle.jprogram.specs.Classes.{Program}
 use Rattle.jctx.specs.declared.item.Item.{Item}

@@ -6,8 +6,8 @@ use Rattle.jparts.specs.declared.jcode.names.FieldOp.{FieldOp}
 use Rattle.jground.specs.declared.jops.value.Value.{Value}
 use Rattle.jlib.specs.declared.side.Side.TheVariants.{Source, Passing}
 use Rattle.jprogram.specs.declared.member.Member.{Member}
-use Rattle.jground.specs.declared.jtypes.vtype.Name.{Name}
-use Rattle.jground.specs.declared.jtypes.vtype.VType.{VType}
+use Rattle.jtypes.specs.declared.vtype.Name.{Name}
+use Rattle.jtypes.specs.declared.vtype.VType.{VType}
 use Rattle.jmeaning.specs.declared.juses.meaning.How.{How}
 use Rattle.jmeaning.specs.declared.juses.meaning.How.TheVariants as how
 use Rattle.jmeaning.specs.juses.Meanings.{CallMeaning}

@@ -5,8 +5,8 @@ use Rattle.jground.specs.declared.jops.value.Value.TheVariants.{Ctx}
 use Rattle.jlib.specs.declared.classes.LibClass.{LibClass}
 use Rattle.jthreads.specs.declared.thread.Thread.{Thread as Entered}
 use Rattle.jthreads.specs.Table.{table_after_end}
-use Rattle.jground.specs.declared.jtypes.vtype.Name.{Name}
-use Rattle.jground.specs.declared.jtypes.vtype.VType.{VType}
+use Rattle.jtypes.specs.declared.vtype.Name.{Name}
+use Rattle.jtypes.specs.declared.vtype.VType.{VType}
 use Rattle.jrights.specs.declared.jtrace.event.Event.{Event}
 use Rattle.jrights.specs.declared.jtrace.event.Event.TheVariants.{Throw, Uncaught}
 use Rattle.jrights.specs.declared.jtrace.event.End.{End}

@@ -1,7 +1,7 @@
 -- Laws: the inspecting machine does what the first of the machines between does, and the second of these what the plain machine does. Of one
 -- program they take the same steps, and their runs tell the same events and end alike.
 use Rattle.std.specs.Prelude.{◌≡◌, ℕ, Bool, List}
-use Rattle.jrights.specs.declared.jperm.permission.Permission.{Permission}
+use Rattle.jperm.specs.declared.permission.Permission.{Permission}
 use Rattle.jrights.specs.jdomain.Stacks.{Stack}
 use Rattle.jprogram.specs.Classes.{Program}
 use Rattle.jctx.specs.declared.item.Item.{Item}

@@ -3,7 +3,7 @@
 -- that it is handed, and never looks at its frames. So they differ in the programs that they run, and in where they have contexts from; in
 -- what they keep and carry they don't.
 use Rattle.std.specs.Prelude.{ℕ, Bool, List, [], ◌∷◌, Option, Some, None}
-use Rattle.jrights.specs.declared.jperm.permission.Permission.{Permission}
+use Rattle.jperm.specs.declared.permission.Permission.{Permission}
 use Rattle.jrights.specs.jdomain.Stacks as stacks
 use Rattle.jlib.specs.declared.side.Side.TheVariants.{Source, Passing}
 use Rattle.jctx.specs.declared.item.Item.{Item}

@@ -1,6 +1,6 @@
 -- How the runs of a program and of its moved program begin: `main` of the latter enters its context first.
 use Rattle.std.specs.Prelude.{◌≡◌, ℕ, Bool, List, [], Some}
-use Rattle.jrights.specs.declared.jperm.permission.Permission.{Permission}
+use Rattle.jperm.specs.declared.permission.Permission.{Permission}
 use Rattle.jprogram.specs.Classes.{Program}
 use Rattle.jprogram.specs.Members.{main_of}
 use Rattle.jmodel.specs.declared.jmachine.plan.Plan.{Plan}

@@ -2,7 +2,7 @@
 -- statics, threads and turns are equal, and so are operands and what frames carry; frames differ in their places and in the local that holds
 -- the context.
 use Rattle.std.specs.Prelude.{◌≡◌, ◌≤◌, ◌+◌, ℕ, Bool, List, [], ◌∷◌, length, map, Option, Some, None}
-use Rattle.jrights.specs.declared.jperm.permission.Permission.{Permission}
+use Rattle.jperm.specs.declared.permission.Permission.{Permission}
 use Rattle.jground.specs.declared.jops.value.Value.{Value}
 use Rattle.jground.specs.declared.jops.value.Value.TheVariants.{Ctx}
 use Rattle.jclass.specs.declared.class.CodeBody.{CodeBody}

@@ -1,7 +1,7 @@
 -- What a call that checks a permission is answered, and comes to.
 use Rattle.std.proofs.Common.{◌≡◌, ◌∙◌, ℕ, zero, suc, List, ◌∷◌, map, take, Option, Some, None, refl, sym, ap, subst}
 use Rattle.std.specs.Prelude.{option_map}
-use Rattle.jrights.specs.declared.jperm.permission.Permission as perms
+use Rattle.jperm.specs.declared.permission.Permission as perms
 use Rattle.jrights.specs.declared.jdomain.verdict.Verdict.{Verdict}
 use Rattle.jrights.specs.declared.jdomain.verdict.Verdict.TheVariants as verdicts
 use Rattle.jlib.specs.declared.calls.LibCall.{LibCall}

@@ -9,7 +9,7 @@ use Rattle.jlib.specs.declared.classes.Thrown.{Thrown as ThrownClass}
 use Rattle.jlib.specs.declared.side.Side.{Side}
 use Rattle.jground.specs.declared.jops.value.Value.{Value}
 use Rattle.jground.specs.declared.jops.value.Value.TheVariants.{Ctx}
-use Rattle.jrights.specs.declared.jperm.permission.Permission as perms
+use Rattle.jperm.specs.declared.permission.Permission as perms
 use Rattle.jmodel.specs.jmachine.Acts.{FrameOf, Row, gives, raises, null}
 use Rattle.jmodel.specs.jmachine.Asked.{Allowed, Answer, Enters, Snapshots, carried, run_asks, where_run}
 use Rattle.jmodel.specs.jmachine.Asking.{context_made}

@@ -1,7 +1,7 @@
 -- A step of a thread's frames, by where the row of its instruction is found.
 use Rattle.std.proofs.Common.{◌≡◌, ◌⊎◌, ◌<◌, ◌+◌, ◌^◌, ℕ, List, None, sym, subst, inl, inr}
 use Rattle.std.specs.Prelude.{IfOk, Ok, OnOk, Err, Result}
-use Rattle.jground.specs.jheap.Heaps.{Heaped, Object}
+use Rattle.jheap.specs.Heaps.{Heaped, Object}
 use Rattle.jprogram.specs.Classes.{Program}
 use Rattle.jmeaning.specs.juses.Instructions.{instruction_at}
 use Rattle.jmodel.specs.jmachine.Acts.{FrameOf}

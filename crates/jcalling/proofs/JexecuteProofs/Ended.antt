@@ -1,7 +1,7 @@
 -- What a step of the running thread came to, for its machine.
 use Rattle.std.proofs.Common.{◌≡◌, ◌∙◌, ℕ, List, Option, Some, None, refl, sym, ap, subst, take}
 use Rattle.std.specs.Prelude.{IfOk, Ok, Err, Result}
-use Rattle.jground.specs.jheap.Heaps.{Heaped}
+use Rattle.jheap.specs.Heaps.{Heaped}
 use Rattle.jlib.specs.declared.calls.LibCall.{LibCall}
 use Rattle.jlib.specs.declared.calls.LibCall.TheVariants as calls
 use Rattle.jmeaning.specs.juses.Instructions.{instruction_at}

@@ -1,7 +1,7 @@
 -- A quick try to make a step: what it came to, for the frames of a thread and for its machine.
 use Rattle.std.proofs.Common.{◌≡◌, ◌∙◌, ◌+◌, ◌-◌, ◌<◌, ◌≤◌, ℕ, zero, suc, add-one, arith, List, [], length, Option, Some, refl, sym, ap, subst}
 use Rattle.std.specs.Prelude.{⊤, IfOk, OnOk, Ok, Err, Result, None, Bool, true, false}
-use Rattle.jground.specs.jheap.Heaps.{Heaped}
+use Rattle.jheap.specs.Heaps.{Heaped}
 use Rattle.jprogram.specs.declared.member.MethodId.{MethodId}
 use Rattle.jprogram.specs.Classes.{Program}
 use Rattle.jmodel.specs.jmachine.Steps.{step}

@@ -3,14 +3,14 @@ use Rattle.std.proofs.Common.{◌≡◌, ◌∙◌, ◌<◌, ◌+◌, ◌^◌, �
 use Rattle.std.specs.Prelude.{IfOk, Ok, OnOk, Err, Result, option_and_then, option_map, slice_get}
 use Rattle.jparts.specs.declared.jcode.names.CastOp.{CastOp}
 use Rattle.jparts.specs.declared.jcode.names.FieldOp.{FieldOp}
-use Rattle.jground.specs.jheap.Heaps as heaps
-use Rattle.jground.specs.jheap.Heaps.{Heaped}
+use Rattle.jheap.specs.Heaps as heaps
+use Rattle.jheap.specs.Heaps.{Heaped}
 use Rattle.jlib.specs.declared.side.Side.{Side}
 use Rattle.jparts.specs.declared.jpool.entry.Entry.{Entry}
 use Rattle.jprogram.specs.declared.member.MethodId.{MethodId}
 use Rattle.jprogram.specs.Classes.{Program}
-use Rattle.jground.specs.declared.jtypes.vtype.VType.{VType}
-use Rattle.jground.specs.declared.jtypes.vtype.VType.TheVariants as types
+use Rattle.jtypes.specs.declared.vtype.VType.{VType}
+use Rattle.jtypes.specs.declared.vtype.VType.TheVariants as types
 use Rattle.jmeaning.specs.juses.Instructions.{Instruction, Used, instruction_at}
 use Rattle.jmeaning.specs.juses.Meanings as meanings
 use Rattle.jmeaning.specs.juses.Meanings.{AClass, AConstant, AField, AMethod, EntryMeaning, array_made, cast_by, entry_meant, field_used, made}

@@ -1,9 +1,9 @@
 -- What a step comes to whose call checks a permission, in a machine by numbers.
 use Rattle.std.specs.Prelude.{◌≡◌, ℕ, List, [], take, Option, Some}
-use Rattle.jrights.specs.declared.jperm.permission.Permission as perms
+use Rattle.jperm.specs.declared.permission.Permission as perms
 use Rattle.jrights.specs.declared.jdomain.verdict.Verdict.{Verdict}
 use Rattle.jrights.specs.declared.jdomain.verdict.Verdict.TheVariants as verdicts
-use Rattle.jground.specs.jheap.Heaps.{Heaped}
+use Rattle.jheap.specs.Heaps.{Heaped}
 use Rattle.jlib.specs.declared.classes.LibClass.TheVariants as lib
 use Rattle.jlib.specs.declared.classes.Thrown.TheVariants as thrown
 use Rattle.jground.specs.declared.jops.value.Value.{Value}

@@ -1,7 +1,7 @@
 -- What a call of the library checks: a permission, by the thread that runs, or by what an AccessControlContext keeps (class documentation of
 -- AccessController and of AccessControlContext).
 use Rattle.std.specs.Prelude.{◌≡◌, ⊤, ℕ, List, take, Option, Some, None}
-use Rattle.jrights.specs.declared.jperm.permission.Permission as perms
+use Rattle.jperm.specs.declared.permission.Permission as perms
 use Rattle.jrights.specs.declared.jdomain.verdict.Verdict.{Verdict}
 use Rattle.jlib.specs.declared.calls.ControllerCall.TheVariants as controller
 use Rattle.jlib.specs.declared.calls.LibCall.{LibCall}

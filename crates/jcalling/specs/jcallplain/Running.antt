@@ -1,8 +1,8 @@
 -- How the library ran in the running thread.
 use Rattle.std.specs.Prelude.{◌≡◌, ℕ, List, Some, take}
-use Rattle.jrights.specs.declared.jperm.permission.Permission as perms
+use Rattle.jperm.specs.declared.permission.Permission as perms
 use Rattle.jground.specs.declared.jops.value.Value.{Value}
-use Rattle.jground.specs.jheap.Heaps.{Heaped}
+use Rattle.jheap.specs.Heaps.{Heaped}
 use Rattle.jlib.specs.declared.calls.LibCall.{LibCall}
 use Rattle.jmodel.specs.jmachine.Calls.{receiver}
 use Rattle.jmodel.specs.jstate.Framed.{Framed}

@@ -1,6 +1,6 @@
 -- One step of a thread's frames, but for what the library does: what it came to, whatever the rules are that it runs under.
 use Rattle.std.specs.Prelude.{◌≡◌, ◌⊎◌, ◌<◌, ◌+◌, ◌^◌, ⊤, ℕ, List}
-use Rattle.jground.specs.jheap.Heaps.{Heaped}
+use Rattle.jheap.specs.Heaps.{Heaped}
 use Rattle.jprogram.specs.Classes.{Program}
 use Rattle.jmeaning.specs.juses.Instructions.{instruction_at}
 use Rattle.jmodel.specs.declared.jmachine.plan.Plan.{Plan}

@@ -1,6 +1,6 @@
 -- One step of the running thread of a machine by numbers, but for what the library does.
 use Rattle.std.specs.Prelude.{◌≡◌, ⊤, ℕ, List, None, Some, take}
-use Rattle.jground.specs.jheap.Heaps.{Heaped}
+use Rattle.jheap.specs.Heaps.{Heaped}
 use Rattle.jlib.specs.declared.calls.LibCall.{LibCall}
 use Rattle.jground.specs.declared.jops.value.Value.{Value}
 use Rattle.jmeaning.specs.juses.Instructions.{instruction_at}

@@ -1,6 +1,6 @@
 -- A quick try to make a step of a running thread: of which instructions it is made, and what it came to.
 use Rattle.std.specs.Prelude.{◌≡◌, ◌≤◌, ◌<◌, ⊤, ℕ, zero, suc, Bool, true, false, [], List, length, Option, Some, None}
-use Rattle.jground.specs.jheap.Heaps.{Heaped}
+use Rattle.jheap.specs.Heaps.{Heaped}
 use Rattle.jprogram.specs.declared.member.MethodId.{MethodId}
 use Rattle.jprogram.specs.Classes.{Program}
 use Rattle.jready.specs.declared.instr.Instr.{Instr}

@@ -6,8 +6,8 @@ ghost use Rattle.jcalling.specs.jcallcheck.Finding.{ask_by};
 
 use crate::jcallcheck::finding::Whom;
 use jmodel::jguard::{Guard, ask_check, ask_kept_check};
+use jperm::Permission;
 use jrights::jdomain::Verdict;
-use jrights::jperm::Permission;
 use jstepping::jcore::Machine;
 use std::alloc::{AllocError, Global};
 

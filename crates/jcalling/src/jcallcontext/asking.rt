@@ -8,7 +8,7 @@ ghost use Rattle.jcalling.specs.jcallcontext.Finding.{privilege_of};
 use jground::jbase::Seq;
 use jlibcalls::jcontexts::{Entering, Wanted};
 use jmodel::jguard::{Guard, Marked, ask_enter, ask_privilege, ask_snapshot};
-use jrights::jperm::Permission;
+use jperm::Permission;
 use jstepping::jcore::Machine;
 use std::alloc::{AllocError, Global};
 

@@ -11,7 +11,7 @@ ghost use Rattle.jcalling.specs.jexecute.Advancing.{Advances, Fetches, lasting_b
 use crate::jexecute::grouping::{Group, group_of};
 use crate::jexecute::loading::step_load;
 use crate::jexecute::referring::step_refs;
-use jground::jheap::Heap;
+use jheap::Heap;
 use jlibcalls::jconstants::Constants;
 use jmodel::jstate::Frames;
 use jready::{Instr, MethodRow};

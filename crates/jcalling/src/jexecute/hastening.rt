@@ -15,7 +15,7 @@ ghost use Rattle.jcalling.specs.jexecute.Hastening.{Begins, Hastens, IsQuickOf, 
 
 use crate::jexecute::advancing::site_of;
 use crate::jexecute::executing::{Executed, finish, kept_counts, linked};
-use jground::jheap::Heap;
+use jheap::Heap;
 use jmeaning::juses::When;
 use jmodel::jguests::guest_laws;
 use jmodel::jstate::Frames;

@@ -10,7 +10,7 @@ ghost use Rattle.jlibcalls.specs.jconstants.Loads.{RaisesNothing};
 ghost use Rattle.jstepping.specs.jstep.Stepping.{IsFixed, StepsAlike, StoodAs};
 ghost use Rattle.jcalling.specs.jexecute.Advancing.{Advances, Fetches, quiet_as};
 
-use jground::jheap::Heap;
+use jheap::Heap;
 use jlibcalls::jconstants::Constants;
 use jmodel::jstate::Frames;
 use jrows::jacts::Way;

@@ -8,7 +8,7 @@ ghost use Rattle.jstepping.specs.jrefs.References.{IsHere, IsLasting};
 ghost use Rattle.jstepping.specs.jstep.Stepping.{IsFixed, StepsAlike, StoodAs};
 ghost use Rattle.jcalling.specs.jexecute.Advancing.{Advances, Fetches, lasting_by};
 
-use jground::jheap::Heap;
+use jheap::Heap;
 use jmodel::jstate::Frames;
 use jready::Instr;
 use jrows::jcalls::Counts;

@@ -1,7 +1,7 @@
 -- The runs of a program and of its moved program: by the local simulation, the moved one's lead, and the machines between.
 use Rattle.std.proofs.Common.{◌≡◌, ℕ, ◌+◌, ◌*◌, ◌≤◌, Bool, true, false, [], Some, None, refl, sym, ap, ◌∙◌, arith}
 use Rattle.std.specs.Prelude.{nat_le, if◌then◌else◌}
-use Rattle.jrights.specs.declared.jperm.permission.Permission.{Permission}
+use Rattle.jperm.specs.declared.permission.Permission.{Permission}
 use Rattle.jrights.specs.declared.jtrace.event.End.{End}
 use Rattle.jrights.specs.declared.jtrace.event.End.TheVariants as ends
 use Rattle.jprogram.specs.Classes.{Program}

@@ -1,6 +1,6 @@
 -- The local simulation between the inspecting and the plain machine, by that between the machines between.
 use Rattle.std.proofs.Common.{◌≡◌, ℕ, Bool, List, refl, sym, subst}
-use Rattle.jrights.specs.declared.jperm.permission.Permission.{Permission}
+use Rattle.jperm.specs.declared.permission.Permission.{Permission}
 use Rattle.jrights.specs.jdomain.Stacks.{Stack}
 use Rattle.jprogram.specs.Classes.{Program}
 use Rattle.jctx.specs.declared.item.Item.{Item}

@@ -1,6 +1,6 @@
 -- No run of a program that links and is well typed is stuck, by either machine.
 use Rattle.std.proofs.Common.{◌≡◌, ◌∙◌, ℕ, Bool, List, Some, refl, subst, sym}
-use Rattle.jrights.specs.declared.jperm.permission.Permission.{Permission}
+use Rattle.jperm.specs.declared.permission.Permission.{Permission}
 use Rattle.jrights.specs.jdomain.Stacks.{Stack}
 use Rattle.jctx.specs.declared.item.Item.{Item}
 use Rattle.jlib.specs.declared.side.Side.TheVariants.{Passing, Source}

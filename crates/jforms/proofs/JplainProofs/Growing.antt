@@ -3,7 +3,7 @@ use Rattle.std.proofs.Common.{◌≡◌, ◌∙◌, ◌⊎◌, inl, inr, ℕ, ze
 use Rattle.std.specs.Prelude.{IfSome, slice_get, get_or}
 use Rattle.std.proofs.lemmas.List.{length-append}
 use Rattle.std.proofs.lemmas.Option.{slice_get_within, slice_get-get_or}
-use Rattle.jrights.specs.declared.jperm.permission.Permission.{Permission}
+use Rattle.jperm.specs.declared.permission.Permission.{Permission}
 use Rattle.jctx.specs.declared.item.Item.{Item}
 use Rattle.jtable.specs.Tables.{Holds, HoldsEntered, HoldsPrivileged}
 use Rattle.jforms.specs.jplain.Plains.{GrowsByOne, IsEntered, IsPrivileged, IsThat}

@@ -1,6 +1,6 @@
 -- What the inspecting guard's numbers and marks stand for: stacks, and what frames carry.
 use Rattle.std.specs.Prelude.{◌≡◌, ◌<◌, ℕ, List, Option, Some, None, length, option_map, nat_lt, if◌then◌else◌}
-use Rattle.jrights.specs.declared.jperm.permission.Permission.{Permission}
+use Rattle.jperm.specs.declared.permission.Permission.{Permission}
 use Rattle.jrights.specs.jdomain.Stacks.{Stack, Mark, Unmarked}
 use Rattle.jkept.specs.declared.entry.KeptEntry.{KeptEntry}
 use Rattle.jkept.specs.declared.mark.InspectMark.{InspectMark}

@@ -1,6 +1,6 @@
 -- What a moved program's run tells of the inspecting run, and of it alone.
 use Rattle.std.specs.Prelude.{◌≡◌, ◌<◌, ◌≤◌, ◌+◌, ◌*◌, ℕ, Bool, List, Some, None}
-use Rattle.jrights.specs.declared.jperm.permission.Permission.{Permission}
+use Rattle.jperm.specs.declared.permission.Permission.{Permission}
 use Rattle.jrights.specs.jdomain.Stacks.{Stack}
 use Rattle.jrights.specs.declared.jtrace.event.End.{End}
 use Rattle.jprogram.specs.Classes.{Program}

@@ -8,8 +8,8 @@ ghost use Rattle.jforms.specs.jinspect.Inspects.{IsMarked, IsStack, newest_domai
 
 use jkept::{InspectMark, Kept};
 use jmodel::jguard::{Answer, Ask, Guard, OnSource};
+use jperm::Permission;
 use jrights::jdomain::Domains;
-use jrights::jperm::Permission;
 use std::alloc::{AllocError, Global};
 use std::marker::Model;
 

@@ -4,8 +4,8 @@ ghost use Rattle.jrights.specs.jdomain.Domains.{has};
 ghost use Rattle.jforms.specs.jplain.Plains.{GrowsByOne, IsContext, IsDecided, IsHanded, context_at, number_or_first};
 
 use jmodel::jguard::{Answer, Ask, Guard, OnPassing};
+use jperm::Permission;
 use jrights::jdomain::{Domains, Verdict};
-use jrights::jperm::Permission;
 use jtable::Table;
 use std::alloc::{AllocError, Global};
 use std::marker::Model;

@@ -3,8 +3,8 @@ use Rattle.std.proofs.Common.{◌≡◌, ℕ, suc, ◌+◌, ◌<◌, List, [], �
 use Rattle.std.proofs.lemmas.List.{append-nil, drop_all}
 use Rattle.std.specs.List.{flat_map}
 use Rattle.std.specs.Prelude.{codes}
-use Rattle.jrights.specs.declared.jperm.permission.Permission.{Permission}
-use Rattle.jrights.specs.jperm.Texts.{parts, text_of}
+use Rattle.jperm.specs.declared.permission.Permission.{Permission}
+use Rattle.jperm.specs.Texts.{parts, text_of}
 use Rattle.jmodel.specs.jmachine.Security.{denial_message}
 
 abbrev joined : List (List ℕ) → List ℕ

@@ -1,7 +1,7 @@
 -- Loads of constants as instructions.
 use Rattle.std.proofs.Common.{◌≡◌, ℕ, Bool, true, false, List, [], ◌∷◌, Option, Some, None, refl, ap}
 use Rattle.std.specs.Prelude.{if◌then◌else◌}
-use Rattle.jground.specs.jheap.Heaps.{Heaped}
+use Rattle.jheap.specs.Heaps.{Heaped}
 use Rattle.jground.specs.declared.jops.value.Value.TheVariants.{Ref}
 use Rattle.jmeaning.specs.juses.Instructions.{Used}
 use Rattle.jmeaning.specs.juses.Meanings as meanings

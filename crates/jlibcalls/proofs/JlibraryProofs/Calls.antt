@@ -3,8 +3,8 @@ use Rattle.std.proofs.Common.{◌≡◌, ℕ, Bool, List, [], Option, None, refl
 use Rattle.std.specs.Option.{option_to_list}
 use Rattle.std.specs.Prelude.{⊤, Result, Ok, Err, IfOk}
 use Rattle.jground.specs.declared.jops.value.Value.{Value}
-use Rattle.jrights.specs.declared.jperm.permission.Permission as perms
-use Rattle.jground.specs.jheap.Heaps.{Heaped}
+use Rattle.jperm.specs.declared.permission.Permission as perms
+use Rattle.jheap.specs.Heaps.{Heaped}
 use Rattle.jlib.specs.declared.calls.BuilderCall.{BuilderCall}
 use Rattle.jlib.specs.declared.calls.LibCall.{LibCall}
 use Rattle.jlib.specs.declared.calls.LibCall.TheVariants as calls

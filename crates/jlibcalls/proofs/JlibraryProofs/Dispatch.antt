@@ -3,7 +3,7 @@ use Rattle.std.proofs.Common.{◌≡◌, ℕ, List, [], ◌∷◌, Option, Some,
 use Rattle.std.specs.Option.{option_to_list}
 use Rattle.std.specs.Prelude.{Result, Ok, Err, IfOk}
 use Rattle.jground.specs.declared.jops.value.Value.{Value}
-use Rattle.jground.specs.jheap.Heaps.{Heaped}
+use Rattle.jheap.specs.Heaps.{Heaped}
 use Rattle.jrights.specs.declared.jtrace.event.Event.{Event}
 use Rattle.jprogram.specs.Classes.{Program}
 use Rattle.jlib.specs.declared.calls.Piece.{Piece}

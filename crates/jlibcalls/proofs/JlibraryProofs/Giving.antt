@@ -3,8 +3,8 @@ use Rattle.std.proofs.Common.{◌≡◌, ℕ, zero, suc, true, false, List, [], 
 use Rattle.std.specs.Prelude.{Result, Ok, Err, IfOk, option_map}
 use Rattle.jground.specs.declared.jops.value.Value.{Value}
 use Rattle.jground.specs.declared.jops.value.Value.TheVariants.{Ctx, Int, Long, Ref}
-use Rattle.jrights.specs.declared.jperm.permission.Permission as perms
-use Rattle.jground.specs.jheap.Heaps.{Heaped}
+use Rattle.jperm.specs.declared.permission.Permission as perms
+use Rattle.jheap.specs.Heaps.{Heaped}
 use Rattle.jlib.specs.declared.calls.PermissionInit.{PermissionInit}
 use Rattle.jprogram.specs.Classes.{Program}
 use Rattle.jmodel.specs.jmachine.Acts.{Row}

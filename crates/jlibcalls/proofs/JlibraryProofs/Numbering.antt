@@ -3,11 +3,11 @@ use Rattle.std.proofs.Common.{◌≡◌, ◌∙◌, ◌⊎◌, inl, inr, ℕ, ze
 use Rattle.std.proofs.Math.Dec.{leb}
 use Rattle.std.proofs.lemmas.Bool.Decides.{leb_tells}
 use Rattle.std.specs.Prelude.{drop, map, replicate, slice_get, if◌then◌else◌}
-use Rattle.jrights.specs.declared.jperm.permission.Permission as perms
-use Rattle.jrights.specs.declared.jperm.permission.Permission.TheVariants as kept
-use Rattle.jground.specs.declared.jheap.cell.Kind.{Kind}
-use Rattle.jground.specs.declared.jheap.cell.Kind.TheVariants as kinds
-use Rattle.jground.specs.jheap.Heaps as heaps
+use Rattle.jperm.specs.declared.permission.Permission as perms
+use Rattle.jperm.specs.declared.permission.Permission.TheVariants as kept
+use Rattle.jheap.specs.declared.cell.Kind.{Kind}
+use Rattle.jheap.specs.declared.cell.Kind.TheVariants as kinds
+use Rattle.jheap.specs.Heaps as heaps
 use Rattle.jlib.specs.declared.classes.LibClass.TheVariants as lib
 use Rattle.jprogram.specs.declared.part.ClassRef.{ClassRef}
 use Rattle.jprogram.specs.declared.part.ClassRef.TheVariants as refs

@@ -3,10 +3,10 @@ use Rattle.std.proofs.Common.{◌≡◌, ℕ, zero, suc, Bool, true, false, List
 use Rattle.std.specs.Prelude.{⊤, Result, Ok, Err, option_and_then, option_map, slice_get}
 use Rattle.jground.specs.declared.jops.value.Value.{Value}
 use Rattle.jground.specs.declared.jops.value.Value.TheVariants.{Ctx, Int, Long, Ref}
-use Rattle.jrights.specs.declared.jperm.making.PermError.{PermError}
-use Rattle.jrights.specs.declared.jperm.making.PermError.TheVariants as errors
-use Rattle.jrights.specs.declared.jperm.permission.Permission as perms
-use Rattle.jrights.specs.jperm.Made.{made}
+use Rattle.jperm.specs.declared.making.PermError.{PermError}
+use Rattle.jperm.specs.declared.making.PermError.TheVariants as errors
+use Rattle.jperm.specs.declared.permission.Permission as perms
+use Rattle.jperm.specs.Made.{made}
 use Rattle.jlib.specs.declared.calls.BuilderCall.{BuilderCall}
 use Rattle.jlib.specs.declared.calls.BuilderCall.TheVariants as builders
 use Rattle.jlib.specs.declared.calls.LibCall.{LibCall}

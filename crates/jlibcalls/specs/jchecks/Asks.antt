@@ -1,10 +1,10 @@
 -- What a check of a permission asks (class documentation of AccessController).
 use Rattle.std.specs.Prelude.{◌≡◌, ℕ, List, Option, Some, None}
-use Rattle.jrights.specs.declared.jperm.permission.Permission as perms
+use Rattle.jperm.specs.declared.permission.Permission as perms
 use Rattle.jrights.specs.declared.jdomain.verdict.Verdict.{Verdict}
-use Rattle.jground.specs.declared.jheap.cell.Kind.{Kind}
-use Rattle.jground.specs.declared.jheap.cell.Kind.TheVariants as kinds
-use Rattle.jground.specs.jheap.Heaps as heaps
+use Rattle.jheap.specs.declared.cell.Kind.{Kind}
+use Rattle.jheap.specs.declared.cell.Kind.TheVariants as kinds
+use Rattle.jheap.specs.Heaps as heaps
 use Rattle.jground.specs.declared.jops.value.Value.{Value}
 use Rattle.jmodel.specs.jmachine.Acts.{null}
 use Rattle.jmodel.specs.jmachine.Security.{checked, judged}

@@ -1,6 +1,6 @@
 -- What loads of string constants come to (JVMS 6.5: ldc).
 use Rattle.std.specs.Prelude.{◌≡◌, ⊤, ℕ, List, [], ◌∷◌, Option, Some, None}
-use Rattle.jground.specs.jheap.Heaps.{Heaped}
+use Rattle.jheap.specs.Heaps.{Heaped}
 use Rattle.jground.specs.declared.jops.value.Value.TheVariants.{Ref}
 use Rattle.jprogram.specs.Classes.{Program}
 use Rattle.jmeaning.specs.juses.Instructions.{Instruction, Used}

@@ -1,6 +1,6 @@
 -- How a thread begins (JVMS 2.11; class documentation of Thread): with `run` of its Runnable, if it has one.
 use Rattle.std.specs.Prelude.{◌≡◌, ◌⊎◌, ◌<◌, ⊤, ℕ, Bool, true, false, List, [], ◌∷◌, Option, Some, None, option_map}
-use Rattle.jground.specs.jheap.Heaps.{Heaped}
+use Rattle.jheap.specs.Heaps.{Heaped}
 use Rattle.jlib.specs.declared.calls.LibCall.{LibCall}
 use Rattle.jlib.specs.declared.calls.LibCall.TheVariants as calls
 use Rattle.jlib.specs.declared.classes.LibClass.TheVariants as lib
@@ -10,7 +10,7 @@ use Rattle.jprogram.specs.declared.member.Member.TheVariants.{LibMethod}
 use Rattle.jprogram.specs.Classes.{Program}
 use Rattle.jrights.specs.declared.jtrace.event.Event.TheVariants.{Throw, Uncaught}
 use Rattle.jrights.specs.declared.jtrace.event.End.TheVariants.{HeapFull}
-use Rattle.jground.specs.declared.jtypes.vtype.VType.TheVariants as types
+use Rattle.jtypes.specs.declared.vtype.VType.TheVariants as types
 use Rattle.jmeaning.specs.juses.Meanings.{CallMeaning}
 use Rattle.jmodel.specs.declared.jmachine.plan.Plan.{Plan}
 use Rattle.jmodel.specs.jmachine.Acts.{NoStep, Outcome, Over, State}

@@ -1,7 +1,7 @@
 -- What a call of doPrivileged asks, and what its step comes to by what is answered (class documentation of AccessController).
 use Rattle.std.specs.Prelude.{◌≡◌, ℕ, Bool, List, Option, Some, None, option_map, option_and_then}
-use Rattle.jrights.specs.declared.jperm.permission.Permission as perms
-use Rattle.jground.specs.jheap.Heaps.{Heaped}
+use Rattle.jperm.specs.declared.permission.Permission as perms
+use Rattle.jheap.specs.Heaps.{Heaped}
 use Rattle.jlib.specs.declared.side.Side.{Side}
 use Rattle.jground.specs.declared.jops.value.Value.{Value}
 use Rattle.jprogram.specs.declared.member.Member.{Member}

@@ -1,7 +1,7 @@
 -- What a step comes to that takes a snapshot of what is kept (class documentation of AccessController: getContext).
 use Rattle.std.specs.Prelude.{◌≡◌, ◌+◌, ℕ, Bool, true, false, List, [], length, take, Option, Some}
 use Rattle.jground.specs.declared.jops.value.Value.{Value}
-use Rattle.jground.specs.jheap.Heaps.{Heaped}
+use Rattle.jheap.specs.Heaps.{Heaped}
 use Rattle.jrights.specs.declared.jtrace.event.End.TheVariants.{HeapFull}
 use Rattle.jprogram.specs.Classes.{Program}
 use Rattle.jmodel.specs.declared.jmachine.plan.Plan.{Plan}

@@ -1,9 +1,9 @@
 -- Laws of which permissions objects hold.
 use Rattle.std.specs.Prelude.{◌≡◌, ℕ, List, length, Option}
-use Rattle.jrights.specs.declared.jperm.permission.Permission as perms
-use Rattle.jground.specs.declared.jheap.cell.Kind.{Kind}
-use Rattle.jground.specs.jheap.Heaps as heaps
-use Rattle.jground.specs.jheap.Heaps.{Heaped}
+use Rattle.jperm.specs.declared.permission.Permission as perms
+use Rattle.jheap.specs.declared.cell.Kind.{Kind}
+use Rattle.jheap.specs.Heaps as heaps
+use Rattle.jheap.specs.Heaps.{Heaped}
 use Rattle.jrights.specs.declared.jtrace.event.Event.{Event}
 use Rattle.jprogram.specs.Classes.{Program}
 use Rattle.jmodel.specs.jmachine.Acts.{FrameOf}

@@ -1,9 +1,9 @@
 -- What a call of the library came to, by what the machine's definition says that it does.
 use Rattle.std.specs.Prelude.{◌≡◌, ⊤, ℕ, Bool, List, [], ◌∷◌, drop, take, Option, Some, None}
 use Rattle.std.specs.Option.{option_to_list}
-use Rattle.jrights.specs.declared.jperm.permission.Permission as perms
+use Rattle.jperm.specs.declared.permission.Permission as perms
 use Rattle.jground.specs.declared.jops.value.Value.{Value}
-use Rattle.jground.specs.jheap.Heaps.{Heaped}
+use Rattle.jheap.specs.Heaps.{Heaped}
 use Rattle.jlib.specs.declared.calls.LibCall.{LibCall}
 use Rattle.jlib.specs.declared.calls.LibCall.TheVariants as calls
 use Rattle.jlib.specs.declared.classes.LibClass.TheVariants as lib

@@ -1,6 +1,6 @@
 -- Laws: what calls of Thread ask of access control, and which constructors have no step.
 use Rattle.std.specs.Prelude.{◌≡◌, ⊤, ℕ, List, Some, None, take}
-use Rattle.jground.specs.jheap.Heaps.{Heaped}
+use Rattle.jheap.specs.Heaps.{Heaped}
 use Rattle.jlib.specs.declared.calls.LibCall.TheVariants as calls
 use Rattle.jlib.specs.declared.calls.ThreadCall.{ThreadCall}
 use Rattle.jlib.specs.declared.calls.ThreadCall.TheVariants as threads

@@ -1,6 +1,6 @@
 -- What a step comes to that calls a method of Thread.
 use Rattle.std.specs.Prelude.{◌≡◌, ◌≤◌, ◌<◌, ◌+◌, ◌^◌, ℕ, List, [], length, Some}
-use Rattle.jground.specs.jheap.Heaps.{Heaped}
+use Rattle.jheap.specs.Heaps.{Heaped}
 use Rattle.jlib.specs.declared.calls.LibCall.TheVariants as calls
 use Rattle.jlib.specs.declared.calls.ThreadCall.{ThreadCall}
 use Rattle.jlib.specs.declared.classes.LibClass.TheVariants as lib

@@ -1,15 +1,15 @@
 ghost use Rattle.std.specs.Prelude.{◌≡◌, ℕ, List, option_map};
-ghost use Rattle.jground.specs.jheap.Heaps;
+ghost use Rattle.jheap.specs.Heaps;
 ghost use Rattle.jground.specs.declared.jops.value.Value.TheVariants as values;
 ghost use Rattle.jprogram.specs.Classes.{Program};
 ghost use Rattle.jmodel.specs.declared.jstate.shapes.Shapes.{Shapes};
 ghost use Rattle.jmodel.specs.jstate.Seen.{Things, place_in, store_by};
 ghost use Rattle.jlibcalls.specs.jchecks.Asks.{Asks, number_held};
 
-use jground::jheap::{Heap, Kind};
 use jground::jops::Value;
+use jheap::{Heap, Kind};
 use jmodel::jstate::heap_laws;
-use jrights::jperm::Permission;
+use jperm::Permission;
 use jrows::jcalls::{Needs, first_cell, needs_of};
 
 /// What a check of a permission asks.

@@ -11,12 +11,12 @@ ghost use Rattle.jrows.specs.jcalls.Telling.{TellsHeap};
 ghost use Rattle.jrows.specs.jcalls.Throws.{LeavesStanding};
 ghost use Rattle.jlibcalls.specs.jchecks.Judges.{Judges};
 
-use jground::jheap::Heap;
 use jground::jtext::Units;
+use jheap::Heap;
 use jlib::LibClass;
 use jmodel::jstate::{Frames, library_number};
+use jperm::{PARTS, Permission, text_laws};
 use jrights::jdomain::Verdict;
-use jrights::jperm::{PARTS, Permission, text_laws};
 use jrows::jcalls::{Handlers, Raised, raise_with};
 use std::alloc::{AllocError, Global};
 

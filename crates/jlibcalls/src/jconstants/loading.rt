@@ -9,8 +9,8 @@ ghost use Rattle.jlibcalls.specs.jconstants.Made.{IsObject, IsTable, constants_i
 use crate::jconstants::known::note;
 use crate::jconstants::table::{MadeText, Table, object_of, put};
 use crate::jconstants::texts::units_of;
-use jground::jheap::Heap;
 use jground::jtext::Units;
+use jheap::Heap;
 use jrows::jtexts::{constant_laws, make_constant};
 use std::alloc::{AllocError, Global};
 

@@ -1,5 +1,5 @@
 ghost use Rattle.std.specs.Prelude.{◌≡◌, ◌++◌, ◌∷◌, [], IfOk, OnOk, is_some, option_map, true};
-ghost use Rattle.jground.specs.jheap.Heaps.{cells_at, object_at};
+ghost use Rattle.jheap.specs.Heaps.{cells_at, object_at};
 ghost use Rattle.jprogram.specs.declared.part.ClassRef.TheVariants as refs;
 ghost use Rattle.jmodel.specs.jstate.Numbers;
 ghost use Rattle.jmodel.specs.jstate.Seen;
@@ -9,13 +9,13 @@ ghost use Rattle.jlibcalls.specs.jcontexts.Limits.{LimitIs, Limits, LimitsAre, l
 
 use crate::jcontexts::contexts::first_cell;
 use jground::jbase::Seq;
-use jground::jheap::{CellType, Heap, Kind};
 use jground::jops::Value;
+use jheap::{CellType, Heap, Kind};
 use jlib::LibClass;
 use jmeaning::juses::{ArrayRef, ElementRef};
 use jmodel::jstate::{Shapes, array_type, class_numbered, heap_laws};
+use jperm::Permission;
 use jprogram::ClassRef;
-use jrights::jperm::Permission;
 use std::alloc::{AllocError, Global};
 
 /// What an item of an array of permissions is.

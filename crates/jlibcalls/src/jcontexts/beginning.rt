@@ -8,8 +8,8 @@ ghost use Rattle.jrows.specs.jcalls.Throws.{RaisedHeap};
 ghost use Rattle.jlibcalls.specs.jcontexts.Kept.{StayKept};
 ghost use Rattle.jlibcalls.specs.jcontexts.Beginning.{AsksNothing, Begins, BeginsStanding, EndsUnbegun, FailsFirst, StuckUnbegun};
 
-use jground::jheap::{Heap, Kind};
 use jground::jops::Value;
+use jheap::{Heap, Kind};
 use jlib::{Side, Thrown};
 use jmodel::jstate::{Frames, built_laws, celled_laws, heap_laws, number_laws, thrown_number};
 use jrows::jcalls::Callee;

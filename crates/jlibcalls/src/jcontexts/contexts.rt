@@ -1,5 +1,5 @@
 ghost use Rattle.std.specs.Prelude.{◌≡◌, ℕ, List, is_some, true};
-ghost use Rattle.jground.specs.jheap.Heaps.{cells_at, object_at};
+ghost use Rattle.jheap.specs.Heaps.{cells_at, object_at};
 ghost use Rattle.jmodel.specs.jmachine.Privileges;
 ghost use Rattle.jmodel.specs.jmachine.Security.{kept_in};
 ghost use Rattle.jmodel.specs.jmachine.Store.{object_of};
@@ -10,8 +10,8 @@ ghost use Rattle.jmodel.specs.jstate.Numbers;
 ghost use Rattle.jmodel.specs.jstate.Seen.{Things, first, place_in, store_by};
 ghost use Rattle.jlibcalls.specs.jcontexts.Kept;
 
-use jground::jheap::{CellType, Heap, Kind};
 use jground::jops::Value;
+use jheap::{CellType, Heap, Kind};
 use jlib::LibClass;
 use jmodel::jstate::{class_numbered, heap_laws};
 use jprogram::ClassRef;

@@ -10,8 +10,8 @@ ghost use Rattle.jlibcalls.specs.jcontexts.Kept.{AreKept, IsKeptAt, StayHeld, wi
 ghost use Rattle.jlibcalls.specs.jcontexts.Snapshots.{MakesContext, Snapshots};
 
 use jground::jbase::Seq;
-use jground::jheap::{Heap, Kind};
 use jground::jops::Value;
+use jheap::{Heap, Kind};
 use jlib::LibClass;
 use jmodel::jstate::{Frames, built_laws, celled_laws, heap_laws, library_number};
 use std::alloc::{AllocError, Global};

@@ -9,11 +9,11 @@ use crate::jcontexts::arrays::limits;
 use crate::jcontexts::contexts::given;
 use crate::jcontexts::requests::{Besides, Form, Request, request_by};
 use jground::jbase::Seq;
-use jground::jheap::Heap;
 use jground::jops::Value;
+use jheap::Heap;
 use jlib::Side;
 use jmodel::jstate::{Frames, Shapes};
-use jrights::jperm::Permission;
+use jperm::Permission;
 use std::alloc::{AllocError, Global};
 
 /// A privilege that is asked for, where the action's `run` is called.

@@ -9,13 +9,13 @@ ghost use Rattle.jlibcalls.specs.jlibrary.Held.{AreHeld, HasHolder, is_permissio
 ghost use Rattle.jlibcalls.specs.jlibrary.Ran.{Constructs};
 
 use jground::jbase::Seq;
-use jground::jheap::{Heap, Kind};
 use jground::jops::Value;
 use jground::jtext::Units;
+use jheap::{Heap, Kind};
 use jlib::{LibClass, PermissionInit, Thrown};
 use jmodel::jstate::{built_laws, celled_laws, class_numbered, heap_laws};
+use jperm::{PermClass, PermError, Permission, make};
 use jprogram::ClassRef;
-use jrights::jperm::{PermClass, PermError, Permission, make};
 use jrows::jtexts::{Ran, ran_laws};
 use std::alloc::{AllocError, Global};
 

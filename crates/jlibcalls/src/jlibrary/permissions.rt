@@ -11,12 +11,12 @@ ghost use Rattle.jlibcalls.specs.jlibrary.Values.{one_in};
 use crate::jlibrary::making::construct;
 use crate::jlibrary::taken::{one, three, two};
 use jground::jbase::Seq;
-use jground::jheap::Heap;
 use jground::jops::Value;
 use jground::jtext::Units;
+use jheap::Heap;
 use jlib::PermissionInit;
 use jmodel::jstate::Frames;
-use jrights::jperm::Permission;
+use jperm::Permission;
 use jrows::jtexts::{Ran, is_null, reference, text_units};
 use std::alloc::{AllocError, Global};
 

@@ -8,8 +8,8 @@ ghost use Rattle.jlibcalls.specs.jlibrary.Ran.{Does, came_by};
 
 use crate::jlibrary::came::Came;
 use crate::jlibrary::taken::{one, two};
-use jground::jheap::Heap;
 use jground::jtext::Units;
+use jheap::Heap;
 use jlib::Piece;
 use jmodel::jstate::Frames;
 use jrights::jtrace::Event;

@@ -15,10 +15,10 @@ use crate::jlibrary::running::Fixed;
 use crate::jlibrary::texts::{builder, string};
 use crate::jlibrary::thrown::{get_message, object, thrown_init, told};
 use jground::jbase::Seq;
-use jground::jheap::Heap;
+use jheap::Heap;
 use jlib::LibCall;
 use jmodel::jstate::{Frames, celled_laws};
-use jrights::jperm::Permission;
+use jperm::Permission;
 use jrows::jtexts::{Ran, cells_laws};
 use std::alloc::{AllocError, Global};
 

@@ -10,8 +10,8 @@ ghost use Rattle.jrows.specs.jtexts.HeapBuilders.{HasLast};
 ghost use Rattle.jlibcalls.specs.jlibrary.Ran.{Does};
 
 use crate::jlibrary::taken::{one, two};
-use jground::jheap::Heap;
 use jground::jops::Value;
+use jheap::Heap;
 use jlib::{BuilderCall, Piece, StringCall};
 use jmodel::jstate::Frames;
 use jrows::jtexts::{

@@ -12,7 +12,7 @@ ghost use Rattle.jrows.specs.jtexts.Rans.{Comes, leaves};
 ghost use Rattle.jlibcalls.specs.jlibrary.Ran.{Does};
 
 use crate::jlibrary::taken::{one, two};
-use jground::jheap::Heap;
+use jheap::Heap;
 use jlib::ThrownInit;
 use jmodel::jstate::{Frames, Shapes};
 use jrows::jtexts::{Ran, init, init_message, message, object_init};

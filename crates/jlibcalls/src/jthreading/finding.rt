@@ -1,10 +1,10 @@
 ghost use Rattle.std.specs.Prelude.{◌≡◌, is_some, true};
-ghost use Rattle.jground.specs.jheap.Heaps.{cells_at, object_at};
+ghost use Rattle.jheap.specs.Heaps.{cells_at, object_at};
 ghost use Rattle.jmodel.specs.jstate.Seen.{first, number_in};
 ghost use Rattle.jlibcalls.specs.jthreading.Finding.{thread_in};
 
-use jground::jheap::{CellType, Heap, Kind};
 use jground::jops::Value;
+use jheap::{CellType, Heap, Kind};
 use jlib::LibClass;
 use jmodel::jstate::class_numbered;
 use jprogram::ClassRef;

@@ -10,8 +10,8 @@ ghost use Rattle.jlibcalls.specs.jthreading.Switching.{behind, gone};
 ghost use Rattle.jlibcalls.specs.jthreading.Threading.{MayCall};
 
 use crate::jthreading::switching::{go_on, operand_at};
-use jground::jheap::{Heap, Kind};
 use jground::jops::Value;
+use jheap::{Heap, Kind};
 use jlib::{LibClass, Side};
 use jmodel::jguests::{Guests, guest_laws};
 use jmodel::jstate::{Shapes, built_laws, celled_laws, class_numbered, heap_laws};

@@ -6,8 +6,8 @@ ghost use Rattle.jlibcalls.specs.jthreading.Threading.{CallsThread, MayCall};
 ghost use Rattle.jlibcalls.specs.jthreading.Switching.{OperandIs, Shrunk, WentOn};
 
 use crate::jthreading::finding::thread_in;
-use jground::jheap::Heap;
 use jground::jops::Value;
+use jheap::Heap;
 use jlib::Thrown;
 use jmodel::jguests::{Guests, Turned, guest_laws};
 use jmodel::jstate::heap_laws;

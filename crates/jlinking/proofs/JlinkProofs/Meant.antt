@@ -16,8 +16,8 @@ use Rattle.jparts.specs.declared.jcode.names.CallOp.{CallOp}
 use Rattle.jparts.specs.declared.jcode.names.CastOp.{CastOp}
 use Rattle.jparts.specs.declared.jcode.names.FieldOp.{FieldOp}
 use Rattle.jclass.specs.Operands.{is_field, is_interface_method, is_method}
-use Rattle.jground.specs.declared.jtypes.vtype.VType.{VType}
-use Rattle.jground.specs.declared.jtypes.vtype.VType.TheVariants as types
+use Rattle.jtypes.specs.declared.vtype.VType.{VType}
+use Rattle.jtypes.specs.declared.vtype.VType.TheVariants as types
 use Rattle.jprogram.specs.declared.fault.LinkKind.{LinkKind}
 use Rattle.jprogram.specs.declared.fault.LinkKind.TheVariants.{BadUse, LeftOut}
 use Rattle.jprogram.specs.Parts.{class_text, or_empty, text}

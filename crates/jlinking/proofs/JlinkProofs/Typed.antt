@@ -16,12 +16,12 @@ use Rattle.jparts.specs.declared.jpool.descriptor.FieldType.{FieldType}
 use Rattle.jparts.specs.jpool.Descriptors.{class_text, descriptor_of, descriptor_text, is_base, is_class_sign, is_return, is_type, is_well_formed, type_text}
 use Rattle.jparts.specs.jpool.Names.{is_class_name}
 use Rattle.jparts.proofs.JpoolProofs.Spelled.{descriptor_take}
-use Rattle.jground.specs.declared.jtypes.vtype.Element.{Element}
-use Rattle.jground.specs.declared.jtypes.vtype.Element.TheVariants as elements
-use Rattle.jground.specs.declared.jtypes.vtype.Name.{Name}
-use Rattle.jground.specs.declared.jtypes.vtype.VType.{VType}
-use Rattle.jground.specs.declared.jtypes.vtype.VType.TheVariants as types
-use Rattle.jground.specs.jtypes.Described.{element_of, in_brackets}
+use Rattle.jtypes.specs.declared.vtype.Element.{Element}
+use Rattle.jtypes.specs.declared.vtype.Element.TheVariants as elements
+use Rattle.jtypes.specs.declared.vtype.Name.{Name}
+use Rattle.jtypes.specs.declared.vtype.VType.{VType}
+use Rattle.jtypes.specs.declared.vtype.VType.TheVariants as types
+use Rattle.jtypes.specs.Described.{element_of, in_brackets}
 use Rattle.jprogram.specs.declared.fault.LinkKind.{LinkKind}
 use Rattle.jprogram.specs.declared.fault.LinkKind.TheVariants.{LeftOut, NoClass, NotAccessible}
 use Rattle.jprogram.specs.Classes.{Program, find}

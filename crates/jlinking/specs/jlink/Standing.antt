@@ -3,8 +3,8 @@ use Rattle.std.specs.Prelude.{◌≡◌, None, true, codes}
 use Rattle.std.proofs.Common.{ap, ◌∙◌}
 use Rattle.jground.specs.jbase.First.{or_else}
 use Rattle.jground.proofs.JbaseProofs.Firsts.{none_of}
-use Rattle.jground.specs.declared.jtypes.vtype.Name.{Name}
-use Rattle.jground.specs.jtypes.Tree.{InterfacesExtendTheirs}
+use Rattle.jtypes.specs.declared.vtype.Name.{Name}
+use Rattle.jtypes.specs.Tree.{InterfacesExtendTheirs}
 use Rattle.jprogram.specs.Classes.{Program, extends, tree}
 use Rattle.jprogram.specs.Naming.{naming_fault}
 use Rattle.jprogram.specs.Standing.{StandsInOrder}

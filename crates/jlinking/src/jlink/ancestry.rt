@@ -1,7 +1,7 @@
 ghost use Rattle.jlinking.specs.jlink.Standing.{below_object, chain, interfaces, itself};
 
 use crate::jlink::linked::LinkedProgram;
-use jground::jtypes::{Ancestry, Name};
+use jtypes::{Ancestry, Name};
 
 impl Ancestry for LinkedProgram {
     ghost use Rattle.jprogram.specs.Classes.{tree};

@@ -11,12 +11,12 @@ ghost use Rattle.jmeaning.specs.juses.Uses.{AreUses};
 
 use crate::jlink::error::LinkError;
 use crate::jlink::phases::link_fault;
-use jground::jtypes::Name;
 use jlib::Side;
 use jmeaning::juses::Uses;
 use jprogram::{
     CallKind, ClassId, ClassRef, CodePart, Interfaces, Member, MethodId, NamedProgram, Selected,
 };
+use jtypes::Name;
 use std::alloc::{AllocError, AllocFailed, Global};
 use std::marker::Model;
 

@@ -1,7 +1,7 @@
 -- What a descriptor says that a field holds.
 use Rattle.std.proofs.Common.{◌≡◌, List, Option, Some, None, refl}
-use Rattle.jground.specs.declared.jtypes.vtype.VType.{VType}
-use Rattle.jground.specs.declared.jtypes.vtype.VType.TheVariants as types
+use Rattle.jtypes.specs.declared.vtype.VType.{VType}
+use Rattle.jtypes.specs.declared.vtype.VType.TheVariants as types
 use Rattle.jmeaning.specs.juses.Typed as typed
 use Rattle.jmeaning.specs.jlayout.Kinds.{or_top}
 use Rattle.jmeaning.specs.jlayout.Layout.{held}

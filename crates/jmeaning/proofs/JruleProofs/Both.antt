@@ -1,7 +1,7 @@
 -- Tests of which both hold, and such as one implies.
 use Rattle.std.proofs.Common.{◌≡◌, Bool, true, false, refl}
 use Rattle.std.specs.Prelude.{◌&&◌}
-use Rattle.jground.specs.jtypes.Frames.{implies}
+use Rattle.jtypes.specs.Frames.{implies}
 
 pub both : (a b : Bool) → (a && b) ≡ true → (a ≡ true) × (b ≡ true)
 both true true e = (refl, refl)

@@ -7,11 +7,11 @@ use Rattle.std.proofs.lemmas.Bool.Decides.{nat_tests}
 use Rattle.std.proofs.lemmas.List.{map-append, set-append_left}
 use Rattle.jground.specs.declared.jnames.kinds.Kind.{Kind}
 use Rattle.jground.specs.declared.jnames.names.Shuffle.{Shuffle}
-use Rattle.jground.specs.declared.jtypes.vtype.Name.{Name}
-use Rattle.jground.specs.declared.jtypes.vtype.VType.{VType}
-use Rattle.jground.specs.declared.jtypes.vtype.VType.TheVariants.{Top, Int, Long, Null, UninitThis, Uninit, Object, Array, Ctx}
-use Rattle.jground.specs.jtypes.Frames.{Frame, is_long, places, within}
-use Rattle.jground.specs.jtypes.Tree.{Tree}
+use Rattle.jtypes.specs.declared.vtype.Name.{Name}
+use Rattle.jtypes.specs.declared.vtype.VType.{VType}
+use Rattle.jtypes.specs.declared.vtype.VType.TheVariants.{Top, Int, Long, Null, UninitThis, Uninit, Object, Array, Ctx}
+use Rattle.jtypes.specs.Frames.{Frame, is_long, places, within}
+use Rattle.jtypes.specs.Tree.{Tree}
 use Rattle.jmeaning.specs.juses.Meanings.{CallMeaning}
 use Rattle.jmeaning.specs.declared.jrule.unready.Unready.{Unready}
 use Rattle.jmeaning.specs.declared.jrule.unready.Unready.TheVariants as unready

@@ -5,7 +5,7 @@ use Rattle.jmeaning.specs.declared.juses.types.TypeRef.{TypeRef}
 use Rattle.jmeaning.specs.declared.juses.types.TypeRef.TheVariants as refs
 use Rattle.jmeaning.specs.juses.Types.{named}
 use Rattle.jprogram.specs.Classes.{Program}
-use Rattle.jground.specs.jtypes.Frames.{places, slots}
+use Rattle.jtypes.specs.Frames.{places, slots}
 use Rattle.jmeaning.specs.jrule.Slots.{long_count, longs_in, size, slot_count}
 
 pub size_named : (p : Program) (k : TypeRef) → length (places (named p k)) ≡ size k

@@ -10,7 +10,7 @@ use Rattle.jparts.specs.declared.jcode.form.Flow.{Flow}
 use Rattle.jparts.specs.declared.jcode.form.Flow.TheVariants as flows
 use Rattle.jparts.specs.declared.jcode.form.ArrayForm.{ArrayForm}
 use Rattle.jparts.specs.declared.jcode.form.ArrayForm.TheVariants as arrays
-use Rattle.jground.specs.jtypes.Frames.{Frame}
+use Rattle.jtypes.specs.Frames.{Frame}
 use Rattle.jprogram.specs.Classes.{Program, tree}
 use Rattle.jmeaning.specs.juses.Instructions as instructions
 use Rattle.jmeaning.specs.juses.Instructions.{Instruction, Test}

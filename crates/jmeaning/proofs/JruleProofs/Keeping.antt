@@ -17,10 +17,10 @@ use Rattle.jparts.specs.declared.jcode.form.LocalForm.{LocalForm}
 use Rattle.jparts.specs.declared.jcode.form.LocalForm.TheVariants.{Move, Increment}
 use Rattle.jparts.specs.jcode.Forms as codes_of
 use Rattle.jparts.specs.jcode.Forms.{array_effect, compared, simple_effect}
-use Rattle.jground.specs.declared.jtypes.vtype.VType.{VType}
-use Rattle.jground.specs.jtypes.Fitting.{fits}
-use Rattle.jground.specs.jtypes.Frames.{Frame, all_fit, frame_fits, implies, is_long, item_fits, stack_fits}
-use Rattle.jground.specs.jtypes.Tree.{Tree}
+use Rattle.jtypes.specs.declared.vtype.VType.{VType}
+use Rattle.jtypes.specs.Fitting.{fits}
+use Rattle.jtypes.specs.Frames.{Frame, all_fit, frame_fits, implies, is_long, item_fits, stack_fits}
+use Rattle.jtypes.specs.Tree.{Tree}
 use Rattle.jprogram.specs.Classes.{Program, tree}
 use Rattle.jmeaning.specs.declared.juses.meaning.How.TheVariants as how
 use Rattle.jmeaning.specs.juses.Meanings as meanings

@@ -8,9 +8,9 @@ use Rattle.jprogram.specs.Classes.{Program}
 use Rattle.jmeaning.specs.declared.juses.types.TypeRef.{TypeRef}
 use Rattle.jmeaning.specs.declared.juses.types.TypeRef.TheVariants as refs
 use Rattle.jmeaning.specs.juses.Types.{named}
-use Rattle.jground.specs.declared.jtypes.vtype.VType.{VType}
-use Rattle.jground.specs.declared.jtypes.vtype.VType.TheVariants.{Top}
-use Rattle.jground.specs.jtypes.Frames.{is_long}
+use Rattle.jtypes.specs.declared.vtype.VType.{VType}
+use Rattle.jtypes.specs.declared.vtype.VType.TheVariants.{Top}
+use Rattle.jtypes.specs.Frames.{is_long}
 use Rattle.jmeaning.specs.jrule.Locals.{broken, passes, with_local}
 
 pub set_named : (p : Program) (ts : List TypeRef) (i : ℕ) (t : TypeRef) → map (named p) (slice_set ts i t) ≡ slice_set (map (named p) ts) i (named p t)

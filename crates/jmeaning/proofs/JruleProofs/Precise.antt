@@ -5,15 +5,15 @@ use Rattle.jground.specs.declared.jnames.kinds.Kind.{Kind}
 use Rattle.jground.specs.declared.jnames.kinds.Kind.TheVariants as kinds
 use Rattle.jparts.specs.declared.jcode.names.Element as items
 use Rattle.jparts.specs.declared.jcode.names.Element.TheVariants as item
-use Rattle.jground.specs.declared.jtypes.vtype.Name.{Name}
-use Rattle.jground.specs.declared.jtypes.vtype.Element.{Element}
-use Rattle.jground.specs.declared.jtypes.vtype.Element.TheVariants as elements
-use Rattle.jground.specs.declared.jtypes.vtype.ArrayType.{ArrayType}
-use Rattle.jground.specs.declared.jtypes.vtype.VType.{VType}
-use Rattle.jground.specs.declared.jtypes.vtype.VType.TheVariants.{Top, Int, Long, Null, UninitThis, Uninit, Object, Array, Ctx}
-use Rattle.jground.specs.jtypes.Fitting.{array_fits, class_fits, element_fits, fits, is_above_array, is_above_arrays}
-use Rattle.jground.specs.jtypes.Frames.{implies, is_long}
-use Rattle.jground.specs.jtypes.Tree.{InterfacesExtendTheirs, Tree}
+use Rattle.jtypes.specs.declared.vtype.Name.{Name}
+use Rattle.jtypes.specs.declared.vtype.Element.{Element}
+use Rattle.jtypes.specs.declared.vtype.Element.TheVariants as elements
+use Rattle.jtypes.specs.declared.vtype.ArrayType.{ArrayType}
+use Rattle.jtypes.specs.declared.vtype.VType.{VType}
+use Rattle.jtypes.specs.declared.vtype.VType.TheVariants.{Top, Int, Long, Null, UninitThis, Uninit, Object, Array, Ctx}
+use Rattle.jtypes.specs.Fitting.{array_fits, class_fits, element_fits, fits, is_above_array, is_above_arrays}
+use Rattle.jtypes.specs.Frames.{implies, is_long}
+use Rattle.jtypes.specs.Tree.{InterfacesExtendTheirs, Tree}
 use Rattle.jmeaning.specs.jrule.Effects.{Fits, Holds, Of, OrThis, Want, held_as, holds, is_of, is_uninit_this, items_of, meets, same_items}
 use Rattle.jmeaning.specs.jrule.Locals.{is_top}
 use Rattle.jmeaning.specs.jrule.Precise.{item_precise, precise}

@@ -1,7 +1,7 @@
 -- Room for one more operand, by number and by name.
 use Rattle.std.proofs.Common.{◌≡◌, ℕ, Bool, true, false, List, Some, None, map, nat_le, ap, sym, ◌∙◌}
 use Rattle.std.specs.Prelude.{if◌then◌else◌}
-use Rattle.jground.specs.jtypes.Frames.{Frame, within}
+use Rattle.jtypes.specs.Frames.{Frame, within}
 use Rattle.jprogram.specs.Classes.{Program}
 use Rattle.jmeaning.specs.declared.juses.types.TypeRef.{TypeRef}
 use Rattle.jmeaning.specs.juses.Types.{named}

@@ -6,12 +6,12 @@ use Rattle.jground.specs.declared.jnames.names.Shuffle.TheVariants.{Dup2, DupX1,
 use Rattle.jparts.specs.declared.jcode.names.Element.TheVariants as items
 use Rattle.jparts.specs.declared.jcode.names.Returned.TheVariants as results
 use Rattle.jground.specs.jops.Shuffles.{shuffle}
-use Rattle.jground.specs.declared.jtypes.vtype.Name.{Name}
-use Rattle.jground.specs.declared.jtypes.vtype.Element.TheVariants as elements
-use Rattle.jground.specs.declared.jtypes.vtype.VType.{VType}
-use Rattle.jground.specs.declared.jtypes.vtype.VType.TheVariants.{Top, Int, Long, Null, UninitThis, Uninit, Object, Array}
-use Rattle.jground.specs.jtypes.Frames.{Frame, all_fit, slots}
-use Rattle.jground.specs.jtypes.Tree.{Tree}
+use Rattle.jtypes.specs.declared.vtype.Name.{Name}
+use Rattle.jtypes.specs.declared.vtype.Element.TheVariants as elements
+use Rattle.jtypes.specs.declared.vtype.VType.{VType}
+use Rattle.jtypes.specs.declared.vtype.VType.TheVariants.{Top, Int, Long, Null, UninitThis, Uninit, Object, Array}
+use Rattle.jtypes.specs.Frames.{Frame, all_fit, slots}
+use Rattle.jtypes.specs.Tree.{Tree}
 use Rattle.jmeaning.specs.jrule.Arrays as array
 use Rattle.jmeaning.specs.jrule.Here.{Here}
 use Rattle.jmeaning.specs.jrule.Locals as locals

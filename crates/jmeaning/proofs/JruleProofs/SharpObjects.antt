@@ -5,16 +5,16 @@ use Rattle.std.specs.List.{list_any}
 use Rattle.jparts.specs.declared.jcode.names.Element as items
 use Rattle.jparts.specs.declared.jcode.names.Element.TheVariants as item
 use Rattle.jparts.specs.declared.jcode.form.ArrayForm.TheVariants as arrays
-use Rattle.jground.specs.declared.jtypes.vtype.Name.{Name}
-use Rattle.jground.specs.declared.jtypes.vtype.Element.{Element}
-use Rattle.jground.specs.declared.jtypes.vtype.Element.TheVariants as elements
-use Rattle.jground.specs.declared.jtypes.vtype.ArrayType.{ArrayType}
-use Rattle.jground.specs.declared.jtypes.vtype.VType.{VType}
-use Rattle.jground.specs.declared.jtypes.vtype.VType.TheVariants.{Top, Int, Long, Null, UninitThis, Uninit, Object, Array, Ctx}
-use Rattle.jground.specs.jtypes.Described.{alone, in_brackets}
-use Rattle.jground.specs.jtypes.Fitting.{array_fits, element_fits}
-use Rattle.jground.specs.jtypes.Frames.{Frame, all_fit, implies, is_long}
-use Rattle.jground.specs.jtypes.Tree.{Tree}
+use Rattle.jtypes.specs.declared.vtype.Name.{Name}
+use Rattle.jtypes.specs.declared.vtype.Element.{Element}
+use Rattle.jtypes.specs.declared.vtype.Element.TheVariants as elements
+use Rattle.jtypes.specs.declared.vtype.ArrayType.{ArrayType}
+use Rattle.jtypes.specs.declared.vtype.VType.{VType}
+use Rattle.jtypes.specs.declared.vtype.VType.TheVariants.{Top, Int, Long, Null, UninitThis, Uninit, Object, Array, Ctx}
+use Rattle.jtypes.specs.Described.{alone, in_brackets}
+use Rattle.jtypes.specs.Fitting.{array_fits, element_fits}
+use Rattle.jtypes.specs.Frames.{Frame, all_fit, implies, is_long}
+use Rattle.jtypes.specs.Tree.{Tree}
 use Rattle.jmeaning.specs.juses.Meanings.{CallMeaning}
 use Rattle.jmeaning.specs.declared.jrule.unready.Unready.{Unready}
 use Rattle.jmeaning.specs.declared.jrule.unready.Unready.TheVariants as unready

@@ -4,10 +4,10 @@ use Rattle.std.specs.Prelude.{option_map, option_and_then, if◌then◌else◌}
 use Rattle.jground.specs.declared.jnames.names.Shuffle.{Shuffle}
 use Rattle.jground.specs.jops.Shuffles.{Item, One, Two, shuffle}
 use Rattle.jground.specs.jops.Shuffles as shuffles
-use Rattle.jground.specs.declared.jtypes.vtype.VType.{VType}
-use Rattle.jground.specs.declared.jtypes.vtype.VType.TheVariants.{Top}
-use Rattle.jground.specs.jtypes.Frames.{Frame, all_fit, implies, is_long, places, slots, within}
-use Rattle.jground.specs.jtypes.Tree.{Tree}
+use Rattle.jtypes.specs.declared.vtype.VType.{VType}
+use Rattle.jtypes.specs.declared.vtype.VType.TheVariants.{Top}
+use Rattle.jtypes.specs.Frames.{Frame, all_fit, implies, is_long, places, slots, within}
+use Rattle.jtypes.specs.Tree.{Tree}
 use Rattle.jmeaning.specs.jrule.Effects.{Exchange, Want, meets}
 use Rattle.jmeaning.specs.jrule.Moves.{move, moved, shuffled}
 use Rattle.jmeaning.specs.jrule.Moves as moves

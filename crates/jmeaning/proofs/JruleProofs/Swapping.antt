@@ -10,9 +10,9 @@ use Rattle.jmeaning.specs.juses.Types.{named}
 use Rattle.jprogram.specs.Classes.{Program}
 use Rattle.jmeaning.specs.declared.jrule.unready.Unready.{Unready}
 use Rattle.jmeaning.specs.declared.jrule.unready.Unready.TheVariants as unready
-use Rattle.jground.specs.declared.jtypes.vtype.VType.{VType}
-use Rattle.jground.specs.declared.jtypes.vtype.VType.TheVariants.{Top, Uninit}
-use Rattle.jground.specs.jtypes.Frames.{Frame}
+use Rattle.jtypes.specs.declared.vtype.VType.{VType}
+use Rattle.jtypes.specs.declared.vtype.VType.TheVariants.{Top, Uninit}
+use Rattle.jtypes.specs.Frames.{Frame}
 use Rattle.jmeaning.specs.declared.jrule.frame.FrameRef.{FrameRef}
 use Rattle.jmeaning.specs.jrule.Operands.{pushed}
 use Rattle.jmeaning.specs.jrule.Seen.{seen}

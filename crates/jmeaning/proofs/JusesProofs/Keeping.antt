@@ -6,7 +6,7 @@ use Rattle.jparts.specs.declared.jpool.entry.Entry.{Entry}
 use Rattle.jparts.specs.declared.jpool.entry.Entry.TheVariants as entries
 use Rattle.jparts.specs.jpool.Pools.{name_and_type_at, utf8_at}
 use Rattle.jparts.specs.declared.jcode.form.PoolForm.{PoolForm}
-use Rattle.jground.specs.declared.jtypes.vtype.Name.{Name}
+use Rattle.jtypes.specs.declared.vtype.Name.{Name}
 use Rattle.jprogram.specs.declared.member.Member.{Member}
 use Rattle.jprogram.specs.declared.part.ClassRef.{ClassRef}
 use Rattle.jprogram.specs.declared.part.CodePart.{CodePart}

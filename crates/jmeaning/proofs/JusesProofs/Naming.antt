@@ -17,7 +17,7 @@ use Rattle.jprogram.specs.Parts.{this_name}
 use Rattle.jprogram.specs.Classes.{Class, Lib, Program, User, above, chain, extends, faces_of, find, found_at, known, name_at, object, onward, over, place_of, ref_of, superinterfaces, tree, up}
 use Rattle.jprogram.specs.Classes as classes
 use Rattle.jprogram.specs.Members.{field_at, field_in, init, method_at, method_in, resolve_field, resolve_method}
-use Rattle.jground.specs.jtypes.Fitting.{class_fits}
+use Rattle.jtypes.specs.Fitting.{class_fits}
 use Rattle.jprogram.proofs.Going.{place_named}
 use Rattle.jmeaning.specs.juses.Types.{class_named}
 use Rattle.jmeaning.specs.juses.Typed.{name, there}

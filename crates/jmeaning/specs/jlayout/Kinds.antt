@@ -1,7 +1,7 @@
 -- What fields hold, where their types are known by number.
 use Rattle.std.specs.Prelude.{Option, Some, None}
-use Rattle.jground.specs.declared.jtypes.vtype.VType.{VType}
-use Rattle.jground.specs.declared.jtypes.vtype.VType.TheVariants as types
+use Rattle.jtypes.specs.declared.vtype.VType.{VType}
+use Rattle.jtypes.specs.declared.vtype.VType.TheVariants as types
 
 -- a type, if there is one
 abbrev pub or_top : Option VType → VType

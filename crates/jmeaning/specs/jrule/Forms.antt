@@ -7,7 +7,7 @@ use Rattle.jparts.specs.declared.jcode.form.Form.{Form}
 use Rattle.jparts.specs.declared.jcode.form.Form.TheVariants as forms
 use Rattle.jparts.specs.declared.jcode.form.ArrayForm.{ArrayForm}
 use Rattle.jparts.specs.declared.jcode.form.ArrayForm.TheVariants as arrays
-use Rattle.jground.specs.jtypes.Frames.{Frame}
+use Rattle.jtypes.specs.Frames.{Frame}
 use Rattle.jprogram.specs.Classes.{Program, tree}
 use Rattle.jmeaning.specs.juses.Instructions as instructions
 use Rattle.jmeaning.specs.juses.Instructions.{Instruction}

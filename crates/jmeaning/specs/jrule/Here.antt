@@ -1,7 +1,7 @@
 -- What the typing rule has to know of the place where an instruction stands (JVMS 4.10.1.1).
 use Rattle.std.specs.Prelude.{ℕ, Bool, Option}
-use Rattle.jground.specs.declared.jtypes.vtype.Name.{Name}
-use Rattle.jground.specs.declared.jtypes.vtype.VType.{VType}
+use Rattle.jtypes.specs.declared.vtype.Name.{Name}
+use Rattle.jtypes.specs.declared.vtype.VType.{VType}
 
 pub record Here : Type 0 where
   -- the name of the class

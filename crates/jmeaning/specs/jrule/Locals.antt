@@ -5,9 +5,9 @@ use Rattle.jparts.specs.declared.jcode.names.Access.TheVariants.{Load, Store}
 use Rattle.jparts.specs.declared.jcode.form.LocalForm.{LocalForm}
 use Rattle.jparts.specs.declared.jcode.form.LocalForm.TheVariants.{Move, Increment}
 use Rattle.jparts.specs.jcode.Forms as forms
-use Rattle.jground.specs.declared.jtypes.vtype.VType.{VType}
-use Rattle.jground.specs.declared.jtypes.vtype.VType.TheVariants.{Top}
-use Rattle.jground.specs.jtypes.Frames.{Frame, is_long, places}
+use Rattle.jtypes.specs.declared.vtype.VType.{VType}
+use Rattle.jtypes.specs.declared.vtype.VType.TheVariants.{Top}
+use Rattle.jtypes.specs.Frames.{Frame, is_long, places}
 use Rattle.jmeaning.specs.jrule.Effects.{is_int, is_of}
 use Rattle.jmeaning.specs.jrule.Operands.{pushed}
 

@@ -3,8 +3,8 @@
 use Rattle.std.specs.Prelude.{ℕ, ◌++◌, List, [], ◌∷◌, drop, Option, option_map, option_and_then, if◌then◌else◌}
 use Rattle.jground.specs.declared.jnames.names.Shuffle.{Shuffle}
 use Rattle.jground.specs.jops.Shuffles.{Item, One, Two, Move, shuffle}
-use Rattle.jground.specs.declared.jtypes.vtype.VType.{VType}
-use Rattle.jground.specs.jtypes.Frames.{Frame, is_long}
+use Rattle.jtypes.specs.declared.vtype.VType.{VType}
+use Rattle.jtypes.specs.Frames.{Frame, is_long}
 use Rattle.jmeaning.specs.jrule.Locals.{is_top}
 use Rattle.jmeaning.specs.jrule.Operands.{with_room}
 

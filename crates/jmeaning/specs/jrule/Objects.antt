@@ -2,11 +2,11 @@
 use Rattle.std.specs.Prelude.{ℕ, Bool, false, ◌==◌, ◌&&◌, ◌||◌, not, List, ◌∷◌, map, Option, Some, None, option_and_then, if◌then◌else◌}
 use Rattle.std.specs.List.{list_any}
 use Rattle.std.specs.Str.{bytes_eq}
-use Rattle.jground.specs.declared.jtypes.vtype.Name.{Name}
-use Rattle.jground.specs.declared.jtypes.vtype.VType.{VType}
-use Rattle.jground.specs.declared.jtypes.vtype.VType.TheVariants.{Top, UninitThis, Uninit, Object}
-use Rattle.jground.specs.jtypes.Frames.{Frame}
-use Rattle.jground.specs.jtypes.Tree.{Tree}
+use Rattle.jtypes.specs.declared.vtype.Name.{Name}
+use Rattle.jtypes.specs.declared.vtype.VType.{VType}
+use Rattle.jtypes.specs.declared.vtype.VType.TheVariants.{Top, UninitThis, Uninit, Object}
+use Rattle.jtypes.specs.Frames.{Frame}
+use Rattle.jtypes.specs.Tree.{Tree}
 use Rattle.jmeaning.specs.juses.Meanings.{CallMeaning}
 use Rattle.jmeaning.specs.declared.jrule.unready.Unready.{Unready}
 use Rattle.jmeaning.specs.declared.jrule.unready.Unready.TheVariants as unready

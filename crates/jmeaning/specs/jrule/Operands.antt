@@ -1,8 +1,8 @@
 -- The operands of an instruction: what is taken from the stack of a frame, and what is put there (JVMS 2.6.2, 4.10.1.4).
 use Rattle.std.specs.Prelude.{ℕ, List, [], ◌∷◌, Option, Some, None, option_map, option_and_then, if◌then◌else◌}
-use Rattle.jground.specs.declared.jtypes.vtype.VType.{VType}
-use Rattle.jground.specs.jtypes.Frames.{Frame, within}
-use Rattle.jground.specs.jtypes.Tree.{Tree}
+use Rattle.jtypes.specs.declared.vtype.VType.{VType}
+use Rattle.jtypes.specs.Frames.{Frame, within}
+use Rattle.jtypes.specs.Tree.{Tree}
 use Rattle.jmeaning.specs.jrule.Effects.{Exchange, Want, meets}
 
 -- what stands below the operands that are wanted, the newest first

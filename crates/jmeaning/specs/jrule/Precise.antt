@@ -2,11 +2,11 @@
 use Rattle.std.specs.Prelude.{◌≡◌, Bool, true, false, ◌&&◌, List, [], ◌∷◌, Some}
 use Rattle.jparts.specs.declared.jpool.entry.Entry.{Entry}
 use Rattle.jparts.specs.declared.jcode.form.Form.{Form}
-use Rattle.jground.specs.declared.jtypes.vtype.VType.{VType}
-use Rattle.jground.specs.declared.jtypes.vtype.VType.TheVariants.{Top}
-use Rattle.jground.specs.jtypes.Fitting.{fits, fits_where}
-use Rattle.jground.specs.jtypes.Frames.{Frame, all_fit, frame_fits, implies, is_long}
-use Rattle.jground.specs.jtypes.Tree.{Tree}
+use Rattle.jtypes.specs.declared.vtype.VType.{VType}
+use Rattle.jtypes.specs.declared.vtype.VType.TheVariants.{Top}
+use Rattle.jtypes.specs.Fitting.{fits, fits_where}
+use Rattle.jtypes.specs.Frames.{Frame, all_fit, frame_fits, implies, is_long}
+use Rattle.jtypes.specs.Tree.{Tree}
 use Rattle.jprogram.specs.Classes.{Program, tree}
 use Rattle.jprogram.specs.Standing.{StandsInOrder}
 use Rattle.jmeaning.specs.jrule.Forms.{by_form}

@@ -1,8 +1,8 @@
 -- The typing rule: the frame behind an instruction, or none where the frame before it doesn't serve (JVMS 4.10.1.9).
 use Rattle.std.specs.Prelude.{Bool, ◌&&◌, Option}
 use Rattle.std.specs.Str.{bytes_eq}
-use Rattle.jground.specs.declared.jtypes.vtype.Name.{Name}
-use Rattle.jground.specs.jtypes.Frames.{Frame}
+use Rattle.jtypes.specs.declared.vtype.Name.{Name}
+use Rattle.jtypes.specs.Frames.{Frame}
 use Rattle.jprogram.specs.declared.member.Member.{Member}
 use Rattle.jprogram.specs.Classes.{Program, tree}
 use Rattle.jprogram.specs.Members.{owner_of}

@@ -10,10 +10,10 @@ use Rattle.jparts.specs.declared.jcode.form.Simple.{Simple}
 use Rattle.jparts.specs.declared.jcode.form.Flow.{Flow}
 use Rattle.jparts.specs.declared.jcode.form.Flow.TheVariants as flows
 use Rattle.jparts.specs.jcode.Forms.{compared, simple_effect}
-use Rattle.jground.specs.declared.jtypes.vtype.VType.{VType}
-use Rattle.jground.specs.declared.jtypes.vtype.VType.TheVariants.{Int, Long}
-use Rattle.jground.specs.jtypes.Frames.{Frame}
-use Rattle.jground.specs.jtypes.Tree.{Tree}
+use Rattle.jtypes.specs.declared.vtype.VType.{VType}
+use Rattle.jtypes.specs.declared.vtype.VType.TheVariants.{Int, Long}
+use Rattle.jtypes.specs.Frames.{Frame}
+use Rattle.jtypes.specs.Tree.{Tree}
 use Rattle.jmeaning.specs.juses.Instructions.{Test, Always, If, IfInt, IfRef}
 use Rattle.jmeaning.specs.jrule.Effects.{Fits, Of, by_effect, is_ref, of_kinds}
 use Rattle.jmeaning.specs.jrule.Operands.{exchanged, taken}

@@ -1,10 +1,10 @@
 -- Verification types by number, and what they stand for: types by the names of classes (JVMS 4.10.1.2).
-use Rattle.jground.specs.declared.jtypes.vtype.Name.{Name}
-use Rattle.jground.specs.declared.jtypes.vtype.Element.{Element}
-use Rattle.jground.specs.declared.jtypes.vtype.Element.TheVariants as elements
-use Rattle.jground.specs.declared.jtypes.vtype.ArrayType.{ArrayType}
-use Rattle.jground.specs.declared.jtypes.vtype.VType.{VType}
-use Rattle.jground.specs.declared.jtypes.vtype.VType.TheVariants as types
+use Rattle.jtypes.specs.declared.vtype.Name.{Name}
+use Rattle.jtypes.specs.declared.vtype.Element.{Element}
+use Rattle.jtypes.specs.declared.vtype.Element.TheVariants as elements
+use Rattle.jtypes.specs.declared.vtype.ArrayType.{ArrayType}
+use Rattle.jtypes.specs.declared.vtype.VType.{VType}
+use Rattle.jtypes.specs.declared.vtype.VType.TheVariants as types
 use Rattle.jprogram.specs.declared.part.ClassRef.{ClassRef}
 use Rattle.jprogram.specs.Classes.{Program, name_at}
 use Rattle.jmeaning.specs.declared.juses.types.ElementRef.{ElementRef}

@@ -1,6 +1,6 @@
 ghost use Rattle.std.specs.Prelude.{◌≡◌, ◌∷◌, [], IfOk, option_map};
 ghost use Rattle.jprogram.specs.Classes.{tree};
-ghost use Rattle.jground.specs.jtypes.Described.{alone};
+ghost use Rattle.jtypes.specs.Described.{alone};
 ghost use Rattle.jmeaning.specs.juses.Types.{array_named, element_named, named};
 ghost use Rattle.jmeaning.specs.jrule.Arrays;
 ghost use Rattle.jmeaning.specs.jrule.Effects;

@@ -1,7 +1,7 @@
 ghost use Rattle.std.specs.Prelude.{◌≡◌, ◌+◌, ◌<◌, ◌≤◌, IfOk, length, map, nat_le, option_map, slice_get};
 ghost use Rattle.jparts.specs.jcode.Forms as forms;
 ghost use Rattle.jmeaning.specs.juses.Types.{named};
-ghost use Rattle.jground.specs.jtypes.Frames;
+ghost use Rattle.jtypes.specs.Frames;
 ghost use Rattle.jmeaning.specs.jrule.Locals as rule;
 ghost use Rattle.jmeaning.specs.jrule.Seen.{seen};
 ghost use Rattle.jmeaning.specs.jrule.Slots.{size};

@@ -1,8 +1,8 @@
 ghost use Rattle.std.specs.Prelude.{◌≡◌, true};
 ghost use Rattle.jprogram.specs.Classes;
 ghost use Rattle.jprogram.specs.Classes.{name_at, tree};
-ghost use Rattle.jground.specs.declared.jtypes.vtype.VType.TheVariants.{Object};
-ghost use Rattle.jground.specs.jtypes.Fitting;
+ghost use Rattle.jtypes.specs.declared.vtype.VType.TheVariants.{Object};
+ghost use Rattle.jtypes.specs.Fitting;
 ghost use Rattle.jmeaning.specs.juses.Types.{class_named, element_named, named};
 
 use crate::juses::types::{ArrayRef, ElementRef, TypeRef};

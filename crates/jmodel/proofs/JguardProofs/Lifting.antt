@@ -1,7 +1,7 @@
 -- Rules over what may be missing: they answer as the rules do where nothing is.
 use Rattle.std.proofs.Common.{◌≡◌, ◌∙◌, ℕ, List, [], ◌∷◌, map, Option, Some, None, option_map, refl, sym, ap}
 use Rattle.std.specs.Prelude.{unwrap_or}
-use Rattle.jrights.specs.declared.jperm.permission.Permission.{Permission}
+use Rattle.jperm.specs.declared.permission.Permission.{Permission}
 use Rattle.jrights.specs.declared.jdomain.verdict.Verdict.TheVariants.{Granted}
 use Rattle.jmodel.specs.jmachine.Maps.{privilege_map}
 use Rattle.jmodel.specs.jmachine.Natural.{RulesAgree}

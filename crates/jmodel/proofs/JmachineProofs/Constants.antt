@@ -25,8 +25,8 @@ use Rattle.jclass.specs.Judging as judging
 use Rattle.jclass.specs.Members.{field, method}
 use Rattle.jclass.specs.Rules.{field_descriptor, is_int, names_class, names_super, suits_field}
 use Rattle.jprogram.specs.Classes.{Program}
-use Rattle.jground.specs.declared.jtypes.vtype.VType.{VType}
-use Rattle.jground.specs.declared.jtypes.vtype.VType.TheVariants as types
+use Rattle.jtypes.specs.declared.vtype.VType.{VType}
+use Rattle.jtypes.specs.declared.vtype.VType.TheVariants as types
 use Rattle.jmeaning.specs.juses.Typed.{type_in, typed}
 use Rattle.jmeaning.specs.jlayout.Layout.{held}
 use Rattle.jmodel.specs.jmachine.Opening.{value_in}

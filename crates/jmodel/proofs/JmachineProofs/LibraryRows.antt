@@ -1,9 +1,9 @@
 -- The rows of calls of the library don't depend on what is kept.
 use Rattle.std.proofs.Common.{◌≡◌, ◌∙◌, ℕ, zero, suc, pos, List, [], ◌∷◌, ◌++◌, length, Option, Some, None, option_map, Result, Ok, Err, refl, sym, ap}
 use Rattle.std.specs.Prelude.{option_and_then, slice_get}
-use Rattle.jrights.specs.declared.jperm.permission.Permission as perms
-use Rattle.jrights.specs.declared.jperm.making.PermError.{PermError}
-use Rattle.jrights.specs.jperm.Made.{made}
+use Rattle.jperm.specs.declared.permission.Permission as perms
+use Rattle.jperm.specs.declared.making.PermError.{PermError}
+use Rattle.jperm.specs.Made.{made}
 use Rattle.jground.specs.declared.jops.value.Value.{Value}
 use Rattle.jground.specs.declared.jops.value.Value.TheVariants.{Int, Long, Ref, Ctx}
 use Rattle.jlib.specs.declared.calls.LibCall.{LibCall}

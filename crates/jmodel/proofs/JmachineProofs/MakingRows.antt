@@ -4,8 +4,8 @@ use Rattle.jground.specs.declared.jops.value.Value.{Value}
 use Rattle.jground.specs.declared.jops.value.Value.TheVariants.{Int, Long, Ref, Ctx}
 use Rattle.jlib.specs.declared.classes.LibClass.{LibClass}
 use Rattle.jlib.specs.declared.classes.LibClass.TheVariants as lib
-use Rattle.jground.specs.declared.jtypes.vtype.Name.{Name}
-use Rattle.jground.specs.declared.jtypes.vtype.VType.{VType}
+use Rattle.jtypes.specs.declared.vtype.Name.{Name}
+use Rattle.jtypes.specs.declared.vtype.VType.{VType}
 use Rattle.jparts.specs.declared.jcode.names.CastOp.{CastOp}
 use Rattle.jparts.specs.declared.jcode.names.CastOp.TheVariants as casts
 use Rattle.jprogram.specs.declared.part.ClassRef.{ClassRef}

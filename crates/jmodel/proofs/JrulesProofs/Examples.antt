@@ -1,8 +1,8 @@
 -- Rows that ask, computed: what the inspecting machine and the plain one make of checks and of privileges.
 use Rattle.std.proofs.Common.{◌≡◌, ℕ, pos, Bool, true, false, List, [], ◌∷◌, Option, Some, None, refl}
 use Rattle.std.specs.Prelude.{codes, nat_lt}
-use Rattle.jrights.specs.declared.jperm.permission.Permission.{Permission as Perm}
-use Rattle.jrights.specs.declared.jperm.permission.Permission.TheVariants.{Property}
+use Rattle.jperm.specs.declared.permission.Permission.{Permission as Perm}
+use Rattle.jperm.specs.declared.permission.Permission.TheVariants.{Property}
 use Rattle.jrights.specs.jdomain.Stacks.{Stack, Bottom, Entry, Unmarked, Privileged, Nothing, Within, some_implies}
 use Rattle.jctx.specs.declared.item.Item.{Item}
 use Rattle.jctx.specs.Items as items
@@ -16,7 +16,7 @@ use Rattle.jprogram.specs.declared.member.Selected.TheVariants as selected
 use Rattle.jprogram.specs.Members.{method_id}
 use Rattle.jthreads.specs.Table.{opened}
 use Rattle.jrights.specs.declared.jtrace.event.Event.TheVariants.{Grant, Deny}
-use Rattle.jground.specs.declared.jtypes.vtype.Element.TheVariants as elements
+use Rattle.jtypes.specs.declared.vtype.Element.TheVariants as elements
 use Rattle.jmeaning.specs.juses.Typed.{name}
 use Rattle.jmodel.specs.jmachine.Acts.{Row, Goes, Calls, Raises, free, costs, null}
 use Rattle.jmodel.specs.jmachine.Asking.{context_row, controller_row, rt_row}

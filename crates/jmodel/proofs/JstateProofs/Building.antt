@@ -3,8 +3,8 @@ use Rattle.std.proofs.Common.{◌≡◌, ℕ, zero, suc, ◌+◌, ◌≤◌, Lis
 use Rattle.std.specs.Prelude.{◌⊎◌, slice_get, slice_set}
 use Rattle.std.specs.List.{AllByRecursion}
 use Rattle.std.proofs.lemmas.List.{length-append}
-use Rattle.jground.specs.jheap.Heaps as heaps
-use Rattle.jground.specs.jheap.Heaps.{changed, fresh}
+use Rattle.jheap.specs.Heaps as heaps
+use Rattle.jheap.specs.Heaps.{changed, fresh}
 use Rattle.jmodel.specs.jstate.Seen.{NamesWithin}
 use Rattle.jmodel.specs.jstate.SeenLaws.{MadeStaysBuilt, MoreStaysBuilt, NamedStaysBuilt, WrittenStaysBuilt, with_number}
 use Rattle.jmodel.proofs.JstateProofs.Seeing.{names_none}

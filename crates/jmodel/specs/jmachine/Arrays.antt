@@ -3,9 +3,9 @@
 use Rattle.std.specs.Prelude.{ℕ, zero, ℤ, pos, Bool, false, List, [], ◌∷◌, length, replicate, Option, Some, None, option_map, option_and_then, slice_get, slice_set, nat_lt, if◌then◌else◌}
 use Rattle.jlib.specs.declared.classes.Thrown.TheVariants as thrown
 use Rattle.jlib.specs.declared.classes.LibClass.TheVariants as lib
-use Rattle.jground.specs.declared.jtypes.vtype.ArrayType.{ArrayType}
-use Rattle.jground.specs.declared.jtypes.vtype.VType.{VType}
-use Rattle.jground.specs.declared.jtypes.vtype.VType.TheVariants as types
+use Rattle.jtypes.specs.declared.vtype.ArrayType.{ArrayType}
+use Rattle.jtypes.specs.declared.vtype.VType.{VType}
+use Rattle.jtypes.specs.declared.vtype.VType.TheVariants as types
 use Rattle.jground.specs.declared.jops.value.Value.{Value}
 use Rattle.jground.specs.declared.jops.value.Value.TheVariants.{Int, Ref}
 use Rattle.jparts.specs.declared.jcode.form.ArrayForm.{ArrayForm}

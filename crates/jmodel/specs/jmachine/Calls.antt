@@ -7,8 +7,8 @@ use Rattle.jlib.specs.declared.calls.LibCall.{LibCall}
 use Rattle.jlib.specs.declared.classes.Thrown.TheVariants as thrown
 use Rattle.jlib.specs.declared.classes.LibClass.{LibClass}
 use Rattle.jlib.specs.declared.classes.LibClass.TheVariants as lib
-use Rattle.jground.specs.declared.jtypes.vtype.Name.{Name}
-use Rattle.jground.specs.declared.jtypes.vtype.VType.TheVariants as types
+use Rattle.jtypes.specs.declared.vtype.Name.{Name}
+use Rattle.jtypes.specs.declared.vtype.VType.TheVariants as types
 use Rattle.jground.specs.declared.jops.value.Value.{Value}
 use Rattle.jground.specs.declared.jops.value.Value.TheVariants.{Ref}
 use Rattle.jprogram.specs.declared.member.CallKind.TheVariants as kinds

@@ -1,15 +1,15 @@
 -- The objects of the heap. `K` is what stands for a security context.
 use Rattle.std.specs.Prelude.{ℕ, Bool, true, List, Option, is_some}
-use Rattle.jrights.specs.declared.jperm.permission.Permission as perms
+use Rattle.jperm.specs.declared.permission.Permission as perms
 use Rattle.jground.specs.declared.jops.value.Value.{Value}
 use Rattle.jlib.specs.declared.classes.LibClass.{LibClass}
 use Rattle.jlib.specs.declared.classes.LibClass.TheVariants as lib
 use Rattle.jlib.specs.declared.classes.PermissionClass.{PermissionClass}
 use Rattle.jlib.specs.Classes as library
-use Rattle.jground.specs.declared.jtypes.vtype.Name.{Name}
-use Rattle.jground.specs.declared.jtypes.vtype.ArrayType.{ArrayType}
-use Rattle.jground.specs.declared.jtypes.vtype.VType.{VType}
-use Rattle.jground.specs.declared.jtypes.vtype.VType.TheVariants as types
+use Rattle.jtypes.specs.declared.vtype.Name.{Name}
+use Rattle.jtypes.specs.declared.vtype.ArrayType.{ArrayType}
+use Rattle.jtypes.specs.declared.vtype.VType.{VType}
+use Rattle.jtypes.specs.declared.vtype.VType.TheVariants as types
 use Rattle.jprogram.specs.declared.member.ClassId.{ClassId}
 use Rattle.jprogram.specs.declared.member.ClassId.TheVariants as id
 use Rattle.jmeaning.specs.juses.Typed.{name}

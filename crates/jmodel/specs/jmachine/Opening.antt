@@ -6,8 +6,8 @@ use Rattle.jground.specs.jbase.First.{first_some}
 use Rattle.jparts.specs.declared.jpool.entry.Entry.{Entry}
 use Rattle.jparts.specs.declared.jpool.entry.Entry.TheVariants as entries
 use Rattle.jlib.specs.declared.classes.LibClass.TheVariants as lib
-use Rattle.jground.specs.declared.jtypes.vtype.ArrayType.{ArrayType}
-use Rattle.jground.specs.declared.jtypes.vtype.Element.TheVariants as elements
+use Rattle.jtypes.specs.declared.vtype.ArrayType.{ArrayType}
+use Rattle.jtypes.specs.declared.vtype.Element.TheVariants as elements
 use Rattle.jground.specs.declared.jops.value.Value.{Value}
 use Rattle.jground.specs.declared.jops.value.Value.TheVariants.{Int, Long, Ref}
 use Rattle.jthreads.specs.Table as threads

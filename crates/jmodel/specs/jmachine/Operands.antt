@@ -1,7 +1,7 @@
 -- Taking operands: which values serve where an instruction wants something, by the table that types are checked by.
 use Rattle.std.specs.Prelude.{ℕ, zero, Bool, false, ◌||◌, List, [], ◌∷◌, Option, Some, None, option_map, if◌then◌else◌}
-use Rattle.jground.specs.declared.jtypes.vtype.VType.{VType}
-use Rattle.jground.specs.declared.jtypes.vtype.VType.TheVariants as types
+use Rattle.jtypes.specs.declared.vtype.VType.{VType}
+use Rattle.jtypes.specs.declared.vtype.VType.TheVariants as types
 use Rattle.jground.specs.declared.jops.value.Value.{Value}
 use Rattle.jground.specs.declared.jops.value.Value.TheVariants.{Int, Long, Ref, Ctx}
 use Rattle.jmeaning.specs.jrule.Effects.{Want, Of, Fits, Holds, OrThis, holds, is_of}

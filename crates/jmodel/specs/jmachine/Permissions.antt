@@ -1,11 +1,11 @@
 -- Rows of the constructors of permissions (class documentation of these).
 use Rattle.std.specs.Prelude.{ℕ, zero, List, [], ◌∷◌, Option, Some, None, option_map, option_and_then, Result, Ok, Err}
-use Rattle.jrights.specs.declared.jperm.permission.Permission as perms
-use Rattle.jrights.specs.declared.jperm.making.PermClass.{PermClass}
-use Rattle.jrights.specs.declared.jperm.making.PermClass.TheVariants as classes
-use Rattle.jrights.specs.declared.jperm.making.PermError.{PermError}
-use Rattle.jrights.specs.declared.jperm.making.PermError.TheVariants.{NoName}
-use Rattle.jrights.specs.jperm.Made.{made}
+use Rattle.jperm.specs.declared.permission.Permission as perms
+use Rattle.jperm.specs.declared.making.PermClass.{PermClass}
+use Rattle.jperm.specs.declared.making.PermClass.TheVariants as classes
+use Rattle.jperm.specs.declared.making.PermError.{PermError}
+use Rattle.jperm.specs.declared.making.PermError.TheVariants.{NoName}
+use Rattle.jperm.specs.Made.{made}
 use Rattle.jlib.specs.declared.calls.PermissionInit.{PermissionInit}
 use Rattle.jlib.specs.declared.calls.PermissionInit.TheVariants as inits
 use Rattle.jlib.specs.declared.classes.Thrown.TheVariants as thrown

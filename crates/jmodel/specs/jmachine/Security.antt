@@ -1,8 +1,8 @@
 -- What a machine does for access control (class documentation of AccessController), and checks of permissions. The inspecting machine and
 -- the plain one differ in these rules alone.
 use Rattle.std.specs.Prelude.{ℕ, zero, List, [], ◌∷◌, ◌++◌, Option, Some, None, option_map, codes}
-use Rattle.jrights.specs.declared.jperm.permission.Permission as perms
-use Rattle.jrights.specs.jperm.Texts.{text_of}
+use Rattle.jperm.specs.declared.permission.Permission as perms
+use Rattle.jperm.specs.Texts.{text_of}
 use Rattle.jrights.specs.declared.jdomain.verdict.Verdict.{Verdict}
 use Rattle.jrights.specs.declared.jdomain.verdict.Verdict.TheVariants.{Granted, Denied}
 use Rattle.jlib.specs.declared.side.Side.{Side}

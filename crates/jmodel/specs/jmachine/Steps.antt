@@ -3,7 +3,7 @@ use Rattle.std.specs.Prelude.{ℕ, zero, ◌+◌, Bool, true, false, ◌&&◌, �
 use Rattle.std.specs.Str.{bytes_eq}
 use Rattle.jlib.specs.declared.calls.LibCall.TheVariants as calls
 use Rattle.jlib.specs.declared.classes.LibClass.TheVariants as lib
-use Rattle.jground.specs.declared.jtypes.vtype.VType.{VType}
+use Rattle.jtypes.specs.declared.vtype.VType.{VType}
 use Rattle.jclass.specs.declared.class.CodeBody.{CodeBody}
 use Rattle.jground.specs.declared.jops.value.Value.{Value}
 use Rattle.jground.specs.declared.jops.value.Value.TheVariants.{Ref}

@@ -1,6 +1,6 @@
 -- The inspecting machine's rules: what is kept is a stack, and a frame carries its entry (class documentation of AccessController).
 use Rattle.std.specs.Prelude.{ℕ, Bool, List, [], ◌∷◌, Option, Some, None}
-use Rattle.jrights.specs.declared.jperm.permission.Permission.{Permission}
+use Rattle.jperm.specs.declared.permission.Permission.{Permission}
 use Rattle.jrights.specs.jdomain.Stacks.{Stack, Bottom, Entry, Mark, Unmarked, Privileged, Given, Nothing, Within, walk}
 use Rattle.jlib.specs.declared.side.Side.TheVariants.{Source}
 use Rattle.jmodel.specs.jmachine.Security.{Rules}

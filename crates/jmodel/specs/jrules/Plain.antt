@@ -1,6 +1,6 @@
 -- The plain machine's rules: what is kept is a context, which each method is given, and frames carry nothing (Wallach, Appel and Felten, 2000).
 use Rattle.std.specs.Prelude.{ℕ, Bool, List, [], Option, Some, unwrap_or}
-use Rattle.jrights.specs.declared.jperm.permission.Permission.{Permission}
+use Rattle.jperm.specs.declared.permission.Permission.{Permission}
 use Rattle.jlib.specs.declared.side.Side.TheVariants.{Passing}
 use Rattle.jctx.specs.declared.item.Item.{Item}
 use Rattle.jctx.specs.Contexts.{enter, privileged, verdict}

@@ -1,16 +1,16 @@
 -- What the numbers of the heap stand for: its objects as the machine's definition has them.
 use Rattle.std.specs.Prelude.{◌≡◌, ◌≤◌, ℕ, zero, suc, ◌%◌, ◌^◌, ◌++◌, Bool, true, false, List, [], ◌∷◌, length, drop, map, Option, Some, None, nat_lt, slice_get, unwrap_or, if◌then◌else◌}
 use Rattle.std.specs.List.{AllByRecursion}
-use Rattle.jrights.specs.declared.jperm.permission.Permission as perms
+use Rattle.jperm.specs.declared.permission.Permission as perms
 use Rattle.jground.specs.declared.jops.value.Value.{Value}
 use Rattle.jparts.specs.declared.jcode.names.ArrayType.{ArrayType}
-use Rattle.jground.specs.declared.jheap.cell.CellType.{CellType}
-use Rattle.jground.specs.declared.jheap.cell.CellType.TheVariants as cells
-use Rattle.jground.specs.declared.jheap.cell.Kind.{Kind}
-use Rattle.jground.specs.declared.jheap.cell.Kind.TheVariants as kinds
-use Rattle.jground.specs.jheap.Heaps as heaps
-use Rattle.jground.specs.jheap.Heaps.{Heaped}
-use Rattle.jground.specs.jheap.Raw.{of_raw}
+use Rattle.jheap.specs.declared.cell.CellType.{CellType}
+use Rattle.jheap.specs.declared.cell.CellType.TheVariants as cells
+use Rattle.jheap.specs.declared.cell.Kind.{Kind}
+use Rattle.jheap.specs.declared.cell.Kind.TheVariants as kinds
+use Rattle.jheap.specs.Heaps as heaps
+use Rattle.jheap.specs.Heaps.{Heaped}
+use Rattle.jheap.specs.Raw.{of_raw}
 use Rattle.jlib.specs.declared.classes.LibClass.{LibClass}
 use Rattle.jlib.specs.declared.classes.LibClass.TheVariants as lib
 use Rattle.jprogram.specs.declared.part.ClassRef.{ClassRef}

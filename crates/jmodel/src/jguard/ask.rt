@@ -1,5 +1,5 @@
+use jperm::Permission;
 use jrights::jdomain::Verdict;
-use jrights::jperm::Permission;
 
 /// What is asked. `ctx` is the context that the call was given, on the passing side; the numbers are ones that the guard gave.
 #[derive(Clone, Copy)]

@@ -6,8 +6,8 @@ ghost use Rattle.jmodel.specs.jguard.Standing.{AnswersFor, AreKnown, IsAskKnown,
 
 use crate::jguard::ask::{Answer, Ask};
 use crate::jguard::guard::Guard;
+use jperm::Permission;
 use jrights::jdomain::Verdict;
-use jrights::jperm::Permission;
 use std::alloc::{AllocError, Global};
 
 /// The verdict of an answer to a check.

@@ -4,7 +4,7 @@ ghost use Rattle.jmodel.specs.jstate.SeenLaws.{AddsOne, IsEnough, Makes, Reads, 
 ghost use Rattle.jmodel.specs.jstate.SeenLaws.{KeepsPieces, MadeStaysBuilt, MoreStaysBuilt, NamedStaysBuilt, WrittenStaysBuilt};
 
 use jground::jbase::Seq;
-use jground::jheap::CellType;
+use jheap::CellType;
 use jmeaning::juses::ArrayRef;
 
 /// What objects of a user's class hold.

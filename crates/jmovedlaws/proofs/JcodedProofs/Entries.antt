@@ -19,8 +19,8 @@ use Rattle.jmoveclass.proofs.Fronts.{at_front, same_text}
 use Rattle.jmoveclass.proofs.Keeping.{good_is}
 use Rattle.jrewriting.proofs.JmovefileProofs.Texts.{longer_well}
 use Rattle.jrewriting.proofs.JmovefileProofs.Referring.{reference as entry_of}
-use Rattle.jground.specs.declared.jtypes.vtype.Name.{Name}
-use Rattle.jground.specs.declared.jtypes.vtype.VType.{VType}
+use Rattle.jtypes.specs.declared.vtype.Name.{Name}
+use Rattle.jtypes.specs.declared.vtype.VType.{VType}
 use Rattle.jprogram.specs.declared.member.Member.{Member}
 use Rattle.jprogram.specs.Classes.{Program}
 use Rattle.jprogram.specs.Members.{init, resolve_field, resolve_method}

@@ -14,9 +14,9 @@ use Rattle.jclass.specs.declared.class.MemberInfo.{MemberInfo}
 use Rattle.jlib.specs.declared.side.Side.TheVariants.{Source}
 use Rattle.jlib.specs.declared.classes.LibClass.{LibClass}
 use Rattle.jmoveclass.specs.Beginning.{params_in, this_slots}
-use Rattle.jground.specs.declared.jtypes.vtype.Name.{Name}
-use Rattle.jground.specs.declared.jtypes.vtype.VType.{VType}
-use Rattle.jground.specs.declared.jtypes.vtype.VType.TheVariants as types
+use Rattle.jtypes.specs.declared.vtype.Name.{Name}
+use Rattle.jtypes.specs.declared.vtype.VType.{VType}
+use Rattle.jtypes.specs.declared.vtype.VType.TheVariants as types
 use Rattle.jprogram.specs.declared.member.CallKind.{CallKind}
 use Rattle.jprogram.specs.declared.member.CallKind.TheVariants as kinds
 use Rattle.jprogram.specs.declared.member.ClassId.{ClassId}

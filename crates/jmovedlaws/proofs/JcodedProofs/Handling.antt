@@ -27,10 +27,10 @@ use Rattle.jrewriting.proofs.JmovedProofs.Leading.{jumps, numbered}
 use Rattle.jrewriting.proofs.JmovedProofs.Numbering.{fetched}
 use Rattle.jrewriting.proofs.JmovedProofs.Ranging.{labelled, ranges, there}
 use Rattle.jrewriting.proofs.JmovefileProofs.Bodying.{begin_of, code_parts_of, new_body, set_of}
-use Rattle.jground.specs.declared.jtypes.vtype.Name.{Name}
-use Rattle.jground.specs.declared.jtypes.vtype.VType.{VType}
-use Rattle.jground.specs.jtypes.Fitting.{fits_where, is_above_arrays}
-use Rattle.jground.specs.jtypes.Tree.{Tree}
+use Rattle.jtypes.specs.declared.vtype.Name.{Name}
+use Rattle.jtypes.specs.declared.vtype.VType.{VType}
+use Rattle.jtypes.specs.Fitting.{fits_where, is_above_arrays}
+use Rattle.jtypes.specs.Tree.{Tree}
 use Rattle.jprogram.specs.declared.member.MethodId.{MethodId}
 use Rattle.jprogram.specs.Classes.{Program}
 use Rattle.jmeaning.specs.juses.Instructions.{Instruction, body_in}

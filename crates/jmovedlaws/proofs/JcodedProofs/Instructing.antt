@@ -51,7 +51,7 @@ use Rattle.jmeaning.specs.juses.Instructions.{Always, If, IfInt, IfRef, Instruct
 use Rattle.jmeaning.specs.juses.Meanings as meanings
 use Rattle.jmeaning.specs.juses.Meanings.{AClass, AConstant, AField, AMethod, CallMeaning, EntryMeaning, Meaning, array_made, array_meant, called_by, called_by_interface, cast_by, entry_meant, field_used, how_of, long_constant, made, meant, short_constant, used}
 use Rattle.jmeaning.specs.juses.Typed.{array_over}
-use Rattle.jground.specs.declared.jtypes.vtype.VType.TheVariants as types
+use Rattle.jtypes.specs.declared.vtype.VType.TheVariants as types
 use Rattle.jlinking.proofs.JlinkProofs.Having.{map_is, then_is}
 use Rattle.jrewriting.specs.jrewrite.Program.{moved}
 use Rattle.jrewriting.proofs.JrewriteProofs.Calls.{Known}

@@ -12,9 +12,9 @@ use Rattle.jlib.specs.declared.side.Side.TheVariants.{Passing}
 use Rattle.jlib.specs.declared.classes.LibClass.TheVariants as lib
 use Rattle.jlib.proofs.Found.{class_only}
 use Rattle.jmove.specs.Additions.{context_type}
-use Rattle.jground.specs.declared.jtypes.vtype.Element.TheVariants as elements
-use Rattle.jground.specs.declared.jtypes.vtype.VType.{VType}
-use Rattle.jground.specs.declared.jtypes.vtype.VType.TheVariants as types
+use Rattle.jtypes.specs.declared.vtype.Element.TheVariants as elements
+use Rattle.jtypes.specs.declared.vtype.VType.{VType}
+use Rattle.jtypes.specs.declared.vtype.VType.TheVariants as types
 use Rattle.jprogram.specs.Classes.{Class, Program}
 use Rattle.jprogram.specs.Naming.{class_reserved, desc_reserved, is_reserved, return_reserved, text_reserved, type_reserved}
 use Rattle.jmeaning.specs.juses.Typed.{Called, Typed, called, class_by, class_of, class_type, name, return_in, there, type_in, type_of, typed, typed_as}

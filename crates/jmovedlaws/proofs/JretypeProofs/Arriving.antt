@@ -10,9 +10,9 @@ use Rattle.jclass.specs.Codes.{begins}
 use Rattle.jclass.specs.Stored.{IsIn}
 use Rattle.jparts.specs.declared.jmaps.types.RawFrame.{RawFrame}
 use Rattle.jparts.specs.jmaps.Full.{locals_after, place_from}
-use Rattle.jground.specs.declared.jtypes.vtype.VType.{VType}
-use Rattle.jground.specs.declared.jtypes.vtype.VType.TheVariants.{Top, Ctx}
-use Rattle.jground.specs.jtypes.Frames.{Frame, places_of, slots, within}
+use Rattle.jtypes.specs.declared.vtype.VType.{VType}
+use Rattle.jtypes.specs.declared.vtype.VType.TheVariants.{Top, Ctx}
+use Rattle.jtypes.specs.Frames.{Frame, places_of, slots, within}
 use Rattle.jprogram.specs.Classes.{Program, tree}
 use Rattle.jmeaning.proofs.JruleProofs.Keeping.{sharp_is}
 use Rattle.jmeaning.proofs.JruleProofs.Ordered.{precise_itself}

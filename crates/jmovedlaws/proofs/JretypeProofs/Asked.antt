@@ -13,7 +13,7 @@ use Rattle.jlib.specs.declared.calls.ThreadCall.TheVariants as threads
 use Rattle.jlib.specs.declared.classes.LibClass.TheVariants as lib
 use Rattle.jlib.specs.declared.classes.PermissionClass.TheVariants as permissions
 use Rattle.jlib.specs.Calls as library
-use Rattle.jground.specs.declared.jtypes.vtype.VType.{VType}
+use Rattle.jtypes.specs.declared.vtype.VType.{VType}
 use Rattle.jprogram.specs.declared.member.Member.{Member}
 use Rattle.jprogram.specs.declared.member.Member.TheVariants.{LibField, LibMethod, Field, Method}
 use Rattle.jprogram.specs.declared.member.MethodId.{MethodId}

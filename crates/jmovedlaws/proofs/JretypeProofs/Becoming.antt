@@ -11,7 +11,7 @@ use Rattle.jground.proofs.JformatProofs.Steps.{first_true, second_true}
 use Rattle.jparts.specs.declared.jpool.descriptor.FieldType.{FieldType}
 use Rattle.jparts.specs.declared.jpool.entry.Entry.{Entry}
 use Rattle.jparts.specs.jpool.Descriptors.{slots_of}
-use Rattle.jground.specs.jtypes.Frames.{places_of}
+use Rattle.jtypes.specs.Frames.{places_of}
 use Rattle.jparts.specs.jpool.Names.{is_class_name}
 use Rattle.jparts.specs.jpool.Pools.{class_name_at, is_class}
 use Rattle.jparts.proofs.JpoolProofs.PoolLaws.{at_index}
@@ -36,11 +36,11 @@ use Rattle.jparts.specs.declared.jmaps.types.MapType.{MapType}
 use Rattle.jparts.specs.declared.jmaps.types.MapType.TheVariants as items
 use Rattle.jparts.specs.declared.jmaps.types.RawFrame.{RawFrame}
 use Rattle.jparts.specs.jmaps.Frames.{map_type}
-use Rattle.jground.specs.declared.jtypes.vtype.Name.{Name}
-use Rattle.jground.specs.declared.jtypes.vtype.Element.TheVariants as elements
-use Rattle.jground.specs.declared.jtypes.vtype.VType.{VType}
-use Rattle.jground.specs.declared.jtypes.vtype.VType.TheVariants.{Object, Ctx}
-use Rattle.jground.specs.jtypes.Described.{in_brackets}
+use Rattle.jtypes.specs.declared.vtype.Name.{Name}
+use Rattle.jtypes.specs.declared.vtype.Element.TheVariants as elements
+use Rattle.jtypes.specs.declared.vtype.VType.{VType}
+use Rattle.jtypes.specs.declared.vtype.VType.TheVariants.{Object, Ctx}
+use Rattle.jtypes.specs.Described.{in_brackets}
 use Rattle.jlinking.proofs.JlinkProofs.Coded.{means}
 use Rattle.jlinking.proofs.JlinkProofs.Having.{first_in}
 use Rattle.jmove.specs.declared.method.Expand.{Expand}

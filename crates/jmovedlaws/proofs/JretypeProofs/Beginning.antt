@@ -11,10 +11,10 @@ use Rattle.jparts.specs.declared.jcode.op.Placed.{Placed}
 use Rattle.jparts.specs.jcode.Forms.{form}
 use Rattle.jparts.specs.jcode.Instructions.{code, covers, size}
 use Rattle.jlib.specs.declared.calls.RtCall.TheVariants as rt
-use Rattle.jground.specs.declared.jtypes.vtype.VType.{VType}
-use Rattle.jground.specs.declared.jtypes.vtype.VType.TheVariants.{Top, Int, Ctx}
-use Rattle.jground.specs.jtypes.Frames.{Frame, all_fit, implies, is_long, places, places_of, slots}
-use Rattle.jground.specs.jtypes.Tree.{Tree}
+use Rattle.jtypes.specs.declared.vtype.VType.{VType}
+use Rattle.jtypes.specs.declared.vtype.VType.TheVariants.{Top, Int, Ctx}
+use Rattle.jtypes.specs.Frames.{Frame, all_fit, implies, is_long, places, places_of, slots}
+use Rattle.jtypes.specs.Tree.{Tree}
 use Rattle.jmove.specs.Lines.{led, reach}
 use Rattle.jmove.specs.Moved.{call_static, move_ref, moved_handler, push_int}
 use Rattle.jmove.proofs.Coding.{code_laid}

@@ -12,9 +12,9 @@ use Rattle.jparts.specs.jpool.Descriptors.{descriptor_of}
 use Rattle.jclass.specs.declared.class.ClassParts.{ClassParts}
 use Rattle.jclass.specs.declared.class.CodeBody.{CodeBody}
 use Rattle.jclass.specs.declared.class.MemberInfo.{MemberInfo}
-use Rattle.jground.specs.declared.jtypes.vtype.Name.{Name}
-use Rattle.jground.specs.declared.jtypes.vtype.VType.{VType}
-use Rattle.jground.specs.declared.jtypes.vtype.VType.TheVariants.{Ctx}
+use Rattle.jtypes.specs.declared.vtype.Name.{Name}
+use Rattle.jtypes.specs.declared.vtype.VType.{VType}
+use Rattle.jtypes.specs.declared.vtype.VType.TheVariants.{Ctx}
 use Rattle.jlinking.specs.jmembers.Declares.{desc_left_out, desc_missing, param_left_out, return_left_out, return_missing, text_left_out, text_missing, type_missing}
 use Rattle.jmoveclass.specs.Methods.{new_desc}
 use Rattle.jmoveclass.specs.Moved.{moved_class}

@@ -13,9 +13,9 @@ use Rattle.jparts.specs.jcode.Forms.{branches, goes_on}
 use Rattle.jlib.specs.declared.calls.ControllerCall.{ControllerCall}
 use Rattle.jlib.specs.declared.calls.ControllerCall.TheVariants as controller
 use Rattle.jlib.specs.declared.calls.RtCall.TheVariants as rt
-use Rattle.jground.specs.declared.jtypes.vtype.VType.{VType}
-use Rattle.jground.specs.declared.jtypes.vtype.VType.TheVariants.{Int, Ctx}
-use Rattle.jground.specs.jtypes.Frames.{Frame, slots}
+use Rattle.jtypes.specs.declared.vtype.VType.{VType}
+use Rattle.jtypes.specs.declared.vtype.VType.TheVariants.{Int, Ctx}
+use Rattle.jtypes.specs.Frames.{Frame, slots}
 use Rattle.jprogram.specs.Classes.{Program}
 use Rattle.jmeaning.specs.declared.juses.meaning.How.{How}
 use Rattle.jmeaning.specs.declared.juses.meaning.How.TheVariants as how

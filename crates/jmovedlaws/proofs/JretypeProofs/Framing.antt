@@ -12,9 +12,9 @@ use Rattle.jparts.specs.declared.jpool.entry.Entry.{Entry}
 use Rattle.jprogram.specs.Classes.{Program}
 use Rattle.jmeaning.specs.jrule.Effects.{is_uninit_this}
 use Rattle.jmeaning.proofs.JruleProofs.Swapping.{map_reversed}
-use Rattle.jground.specs.declared.jtypes.vtype.VType.{VType}
-use Rattle.jground.specs.declared.jtypes.vtype.VType.TheVariants.{Top, Int, Long, Null, UninitThis, Uninit, Object, Array, Ctx}
-use Rattle.jground.specs.jtypes.Frames.{is_long, places, places_of}
+use Rattle.jtypes.specs.declared.vtype.VType.{VType}
+use Rattle.jtypes.specs.declared.vtype.VType.TheVariants.{Top, Int, Long, Null, UninitThis, Uninit, Object, Array, Ctx}
+use Rattle.jtypes.specs.Frames.{is_long, places, places_of}
 use Rattle.jtyping.specs.Declared.{filled, frame_of, item, or_top}
 use Rattle.jmeaning.specs.juses.Meanings.{class_at}
 use Rattle.jmovedlaws.specs.jretype.Full.{in_full}

@@ -6,10 +6,10 @@ use Rattle.std.proofs.lemmas.List.Concat.{flat_map-append, flat_map-cons}
 use Rattle.jparts.specs.declared.jpool.descriptor.Descriptor.TheVariants as descriptors
 use Rattle.jparts.specs.declared.jpool.descriptor.FieldType.{FieldType}
 use Rattle.jparts.specs.jpool.Descriptors.{descriptor_of, slots_of}
-use Rattle.jground.specs.declared.jtypes.vtype.Name.{Name}
-use Rattle.jground.specs.declared.jtypes.vtype.VType.{VType}
-use Rattle.jground.specs.declared.jtypes.vtype.VType.TheVariants.{Top, Int, Long, Null, UninitThis, Uninit, Object, Array, Ctx}
-use Rattle.jground.specs.jtypes.Frames.{places, places_of}
+use Rattle.jtypes.specs.declared.vtype.Name.{Name}
+use Rattle.jtypes.specs.declared.vtype.VType.{VType}
+use Rattle.jtypes.specs.declared.vtype.VType.TheVariants.{Top, Int, Long, Null, UninitThis, Uninit, Object, Array, Ctx}
+use Rattle.jtypes.specs.Frames.{places, places_of}
 use Rattle.jprogram.specs.Classes.{Program}
 use Rattle.jmeaning.proofs.JruleProofs.Swapping.{any_reversed}
 use Rattle.jmeaning.specs.jrule.Further.{is_unready}

@@ -16,13 +16,13 @@ use Rattle.jparts.specs.jpool.Names.{is_class_name}
 use Rattle.jparts.specs.jpool.Pools.{class_name_at, name_and_type_at, name_in, utf8_at}
 use Rattle.jlinking.proofs.JlinkProofs.Having.{map_is, then_is}
 use Rattle.jparts.specs.declared.jmaps.types.MapType.TheVariants as items
-use Rattle.jground.specs.declared.jtypes.vtype.Name.{Name}
-use Rattle.jground.specs.declared.jtypes.vtype.Element.{Element}
-use Rattle.jground.specs.declared.jtypes.vtype.Element.TheVariants as elements
-use Rattle.jground.specs.declared.jtypes.vtype.VType.{VType}
-use Rattle.jground.specs.declared.jtypes.vtype.VType.TheVariants.{Int, Long, Ctx}
-use Rattle.jground.specs.jtypes.Described.{element_of, in_brackets}
-use Rattle.jground.specs.jtypes.Frames.{is_long}
+use Rattle.jtypes.specs.declared.vtype.Name.{Name}
+use Rattle.jtypes.specs.declared.vtype.Element.{Element}
+use Rattle.jtypes.specs.declared.vtype.Element.TheVariants as elements
+use Rattle.jtypes.specs.declared.vtype.VType.{VType}
+use Rattle.jtypes.specs.declared.vtype.VType.TheVariants.{Int, Long, Ctx}
+use Rattle.jtypes.specs.Described.{element_of, in_brackets}
+use Rattle.jtypes.specs.Frames.{is_long}
 use Rattle.jprogram.specs.Classes.{Program}
 use Rattle.jlinking.specs.jreferring.Names as names
 use Rattle.jlinking.specs.jreferring.Names.{type_named}

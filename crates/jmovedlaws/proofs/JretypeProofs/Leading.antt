@@ -15,12 +15,12 @@ use Rattle.jparts.specs.jcode.Forms.{branches, form, goes_on}
 use Rattle.jparts.specs.jcode.Instructions.{covers, is_place, placed_at}
 use Rattle.jclass.specs.Codes.{begins}
 use Rattle.jclass.specs.Stored.{IsIn}
-use Rattle.jground.specs.declared.jtypes.vtype.VType.{VType}
-use Rattle.jground.specs.declared.jtypes.vtype.VType.TheVariants.{Top, Ctx}
-use Rattle.jground.specs.jtypes.Fitting.{fits}
-use Rattle.jground.specs.jtypes.Frames as frames
-use Rattle.jground.specs.jtypes.Frames.{Frame, all_fit}
-use Rattle.jground.specs.jtypes.Tree.{Tree}
+use Rattle.jtypes.specs.declared.vtype.VType.{VType}
+use Rattle.jtypes.specs.declared.vtype.VType.TheVariants.{Top, Ctx}
+use Rattle.jtypes.specs.Fitting.{fits}
+use Rattle.jtypes.specs.Frames as frames
+use Rattle.jtypes.specs.Frames.{Frame, all_fit}
+use Rattle.jtypes.specs.Tree.{Tree}
 use Rattle.jmove.specs.Lines.{distance, led, with_branches}
 use Rattle.jmove.specs.Moved.{moved_handler}
 use Rattle.jrewriting.proofs.JmovedProofs.Leading.{each_branch, leads}

@@ -10,9 +10,9 @@ use Rattle.jground.specs.jbase.First.{fault_if}
 use Rattle.jparts.specs.jcode.Instructions.{is_place}
 use Rattle.jclass.specs.Codes.{begins}
 use Rattle.jclass.specs.Stored.{IsIn}
-use Rattle.jground.specs.declared.jtypes.vtype.VType.{VType}
-use Rattle.jground.specs.declared.jtypes.vtype.VType.TheVariants.{Top, Int, Long, Null, UninitThis, Uninit, Object, Array, Ctx}
-use Rattle.jground.specs.jtypes.Frames.{Frame, places, places_of, slots, within}
+use Rattle.jtypes.specs.declared.vtype.VType.{VType}
+use Rattle.jtypes.specs.declared.vtype.VType.TheVariants.{Top, Int, Long, Null, UninitThis, Uninit, Object, Array, Ctx}
+use Rattle.jtypes.specs.Frames.{Frame, places, places_of, slots, within}
 use Rattle.jlinking.proofs.JlinkProofs.Having.{map_is}
 use Rattle.jmove.specs.Moved.{expansion}
 use Rattle.jrewriting.specs.jmoved.Numbers.{index_of, standing}

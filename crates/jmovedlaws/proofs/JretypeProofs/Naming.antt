@@ -37,7 +37,7 @@ use Rattle.jrewriting.proofs.JmovedProofs.Numbering.{fetched, not_first}
 use Rattle.jrewriting.proofs.JmovedProofs.Ranging.{labelled}
 use Rattle.jrewriting.proofs.JmovedProofs.Sizing.{laid_placed}
 use Rattle.jprogram.specs.Classes.{Program}
-use Rattle.jground.specs.declared.jtypes.vtype.Name.{Name}
+use Rattle.jtypes.specs.declared.vtype.Name.{Name}
 use Rattle.jtyping.specs.Methods.{made, made_by, made_in}
 use Rattle.jmeaning.specs.juses.Instructions as instructions
 use Rattle.jmeaning.specs.juses.Instructions.{Instruction, Jump, Switch, Used, instruction}

@@ -18,8 +18,8 @@ use Rattle.jclass.specs.declared.class.MemberInfo.{MemberInfo}
 use Rattle.jclass.specs.Stored.{IsIn}
 use Rattle.jparts.specs.declared.jmaps.types.MapType.{MapType}
 use Rattle.jparts.specs.declared.jmaps.types.MapType.TheVariants as items
-use Rattle.jground.specs.declared.jtypes.vtype.VType.{VType}
-use Rattle.jground.specs.declared.jtypes.vtype.VType.TheVariants.{UninitThis, Object}
+use Rattle.jtypes.specs.declared.vtype.VType.{VType}
+use Rattle.jtypes.specs.declared.vtype.VType.TheVariants.{UninitThis, Object}
 use Rattle.jmove.specs.Additions.{IsFront, giving, with_class, with_text, ◌>>◌}
 use Rattle.jmove.proofs.Growing.{front_on, front_self}
 use Rattle.jmoveclass.specs.Beginning.{class_name, is_reference, params_of, this_item, with_beginning, with_item, with_this}

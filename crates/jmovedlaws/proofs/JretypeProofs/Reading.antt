@@ -12,7 +12,7 @@ use Rattle.jparts.specs.declared.jmaps.types.MapType.{MapType}
 use Rattle.jparts.specs.declared.jmaps.types.RawFrame.{RawFrame}
 use Rattle.jparts.specs.jmaps.Full.{can_follow, delta_behind, expand_from, full_forms, is_behind, locals_after, locals_before, or_number, place_after, place_behind, place_from, stands, with_locals}
 use Rattle.jparts.proofs.JmapsProofs.FullLaws.{locals_map}
-use Rattle.jground.specs.declared.jtypes.vtype.VType.{VType}
+use Rattle.jtypes.specs.declared.vtype.VType.{VType}
 use Rattle.jprogram.specs.Classes.{Program}
 use Rattle.jtyping.specs.Declared.{Written, continued, frame_of, item, written_from}
 use Rattle.jmovedlaws.specs.jretype.Full.{AreReadBack, SaysFull, StandFor, in_full}

@@ -8,9 +8,9 @@ use Rattle.jparts.specs.declared.jcode.op.Placed.{Placed}
 use Rattle.jparts.specs.jcode.Forms.{branches, form, goes_on}
 use Rattle.jparts.specs.jcode.Instructions.{covers, is_place, size}
 use Rattle.jclass.specs.Stored.{IsIn}
-use Rattle.jground.specs.declared.jtypes.vtype.VType.{VType}
-use Rattle.jground.specs.declared.jtypes.vtype.VType.TheVariants.{Int, Ctx}
-use Rattle.jground.specs.jtypes.Frames.{Frame, slots}
+use Rattle.jtypes.specs.declared.vtype.VType.{VType}
+use Rattle.jtypes.specs.declared.vtype.VType.TheVariants.{Int, Ctx}
+use Rattle.jtypes.specs.Frames.{Frame, slots}
 use Rattle.jmove.specs.declared.method.Expand.{Expand}
 use Rattle.jmove.specs.declared.method.Expand.TheVariants.{Same, Call, Check, Snapshot, Privileged, PrivilegedWith, PrivilegedLimited}
 use Rattle.jmove.specs.Lines.{Laid, distance, led, reach}

@@ -20,12 +20,12 @@ use Rattle.jlib.specs.declared.calls.ControllerCall.{ControllerCall}
 use Rattle.jlib.specs.declared.calls.ControllerCall.TheVariants as controller
 use Rattle.jlib.specs.declared.classes.LibClass.TheVariants as lib
 use Rattle.jlib.specs.declared.calls.RtCall.TheVariants as rt
-use Rattle.jground.specs.declared.jtypes.vtype.Name.{Name}
-use Rattle.jground.specs.declared.jtypes.vtype.VType.{VType}
-use Rattle.jground.specs.declared.jtypes.vtype.VType.TheVariants.{Top, Int, Long, Null, UninitThis, Uninit, Object, Array, Ctx}
-use Rattle.jground.specs.jtypes.Frames as frames
-use Rattle.jground.specs.jtypes.Frames.{Frame, slots}
-use Rattle.jground.specs.jtypes.Tree.{Tree}
+use Rattle.jtypes.specs.declared.vtype.Name.{Name}
+use Rattle.jtypes.specs.declared.vtype.VType.{VType}
+use Rattle.jtypes.specs.declared.vtype.VType.TheVariants.{Top, Int, Long, Null, UninitThis, Uninit, Object, Array, Ctx}
+use Rattle.jtypes.specs.Frames as frames
+use Rattle.jtypes.specs.Frames.{Frame, slots}
+use Rattle.jtypes.specs.Tree.{Tree}
 use Rattle.jmove.specs.declared.method.Expand.{Expand}
 use Rattle.jmove.specs.declared.method.Setting.{Setting}
 use Rattle.jmove.specs.Moved as moves

@@ -12,8 +12,8 @@ use Rattle.jparts.specs.declared.jmaps.types.MapType.{MapType}
 use Rattle.jparts.specs.declared.jmaps.types.MapType.TheVariants as items
 use Rattle.jparts.specs.declared.jmaps.types.RawFrame.{RawFrame}
 use Rattle.jparts.specs.jmaps.Full.{can_write, expand_from, full_forms}
-use Rattle.jground.specs.declared.jtypes.vtype.VType.{VType}
-use Rattle.jground.specs.declared.jtypes.vtype.VType.TheVariants.{Top, Ctx}
+use Rattle.jtypes.specs.declared.vtype.VType.{VType}
+use Rattle.jtypes.specs.declared.vtype.VType.TheVariants.{Top, Ctx}
 use Rattle.jmove.specs.Frames.{moved_frame, widths}
 use Rattle.jmoveclass.specs.Methods as class
 use Rattle.jmoveclass.specs.Methods.{frames_of, maps_name, moved_maps, or_no_frames, or_none}

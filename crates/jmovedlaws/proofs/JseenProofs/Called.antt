@@ -2,7 +2,7 @@
 use Rattle.std.proofs.Common.{◌≡◌, ℕ, zero, suc, Bool, true, false, List, [], ◌∷◌, Option, Some, None, refl, ap, sym, ◌∙◌, subst}
 use Rattle.std.specs.Prelude.{option_and_then, option_map, slice_get, if◌then◌else◌}
 use Rattle.jlib.specs.declared.side.Side.TheVariants.{Source}
-use Rattle.jground.specs.declared.jtypes.vtype.VType.TheVariants as types
+use Rattle.jtypes.specs.declared.vtype.VType.TheVariants as types
 use Rattle.jground.specs.declared.jops.value.Value.{Value}
 use Rattle.jground.specs.declared.jops.value.Value.TheVariants.{Int, Long, Ref, Ctx}
 use Rattle.jctx.specs.declared.item.Item.{Item}

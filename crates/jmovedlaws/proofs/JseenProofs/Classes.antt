@@ -10,7 +10,7 @@ use Rattle.jlib.specs.declared.classes.PermissionClass.TheVariants as permission
 use Rattle.jlib.specs.declared.classes.Thrown.TheVariants as thrown
 use Rattle.jlib.specs.Classes as library
 use Rattle.jlib.proofs.Found.{class_found}
-use Rattle.jground.specs.declared.jtypes.vtype.Name.{Name}
+use Rattle.jtypes.specs.declared.vtype.Name.{Name}
 use Rattle.jprogram.specs.declared.part.ClassRef.TheVariants as refs
 use Rattle.jprogram.specs.declared.part.CodePart.{CodePart}
 use Rattle.jprogram.specs.Classes.{Class, Lib, Program, User, above, extends, face_names, faces_of, find, holds, implements, is_interface, known, name_at, named, object, onward, over, ref_of, super_at, superinterfaces, tree, up}

@@ -10,7 +10,7 @@ use Rattle.jlib.specs.declared.side.Side.TheVariants.{Passing, Source}
 use Rattle.jlib.specs.Calls as library
 use Rattle.jlib.specs.Classes as library_classes
 use Rattle.jlib.proofs.Found.{call_only}
-use Rattle.jground.specs.declared.jtypes.vtype.VType.TheVariants as types
+use Rattle.jtypes.specs.declared.vtype.VType.TheVariants as types
 use Rattle.jprogram.specs.declared.member.CallKind.TheVariants as kinds
 use Rattle.jprogram.specs.declared.member.Member.TheVariants.{LibMethod}
 use Rattle.jprogram.specs.Classes.{Lib, Program, find, holds, is_interface}

@@ -8,9 +8,9 @@ use Rattle.jparts.specs.declared.jpool.descriptor.Descriptor.{Descriptor}
 use Rattle.jparts.specs.declared.jpool.descriptor.Descriptor.TheVariants as descriptors
 use Rattle.jparts.specs.declared.jpool.descriptor.FieldType.{FieldType}
 use Rattle.jparts.specs.jpool.Descriptors.{descriptor_of}
-use Rattle.jground.specs.declared.jtypes.vtype.Element.TheVariants as elements
-use Rattle.jground.specs.declared.jtypes.vtype.VType.{VType}
-use Rattle.jground.specs.jtypes.Described.{element_of}
+use Rattle.jtypes.specs.declared.vtype.Element.TheVariants as elements
+use Rattle.jtypes.specs.declared.vtype.VType.{VType}
+use Rattle.jtypes.specs.Described.{element_of}
 use Rattle.jprogram.specs.Classes.{Program, find}
 use Rattle.jprogram.specs.Naming.{desc_reserved, is_reserved, return_reserved, text_reserved, type_reserved}
 use Rattle.jmeaning.specs.juses.Typed.{called, held, name, return_in, type_in, type_of, typed, typed_as}

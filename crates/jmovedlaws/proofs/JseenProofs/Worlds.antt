@@ -1,7 +1,7 @@
 -- A program and the moved one have the same classes and fields.
 use Rattle.std.proofs.Common.{◌≡◌, ℕ, None, ap, ◌∙◌}
 use Rattle.std.proofs.Math.Path.{fun_ext}
-use Rattle.jground.specs.declared.jtypes.vtype.Name.{Name}
+use Rattle.jtypes.specs.declared.vtype.Name.{Name}
 use Rattle.jmeaning.specs.jlayout.Layout as fields
 use Rattle.jprogram.specs.declared.member.Member.{Member}
 use Rattle.jprogram.specs.declared.part.ClassRef.TheVariants as refs

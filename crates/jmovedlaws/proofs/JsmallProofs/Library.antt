@@ -18,13 +18,13 @@ use Rattle.jlib.specs.declared.calls.ThrownInit.TheVariants as given
 use Rattle.jlib.specs.declared.classes.LibClass.TheVariants as lib
 use Rattle.jlib.specs.declared.classes.Thrown.TheVariants as thrown
 use Rattle.jground.specs.declared.jops.value.Value.TheVariants.{Int, Long, Ref, Ctx}
-use Rattle.jrights.specs.declared.jperm.permission.Permission as perms
-use Rattle.jrights.specs.declared.jperm.making.PermError.{PermError}
-use Rattle.jrights.specs.jperm.Made.{made as perm_made}
+use Rattle.jperm.specs.declared.permission.Permission as perms
+use Rattle.jperm.specs.declared.making.PermError.{PermError}
+use Rattle.jperm.specs.Made.{made as perm_made}
 use Rattle.jmeaning.specs.jrule.Arrays.{of_numbers}
-use Rattle.jground.specs.declared.jtypes.vtype.ArrayType.{ArrayType}
-use Rattle.jground.specs.declared.jtypes.vtype.VType.{VType}
-use Rattle.jground.specs.declared.jtypes.vtype.VType.TheVariants as types
+use Rattle.jtypes.specs.declared.vtype.ArrayType.{ArrayType}
+use Rattle.jtypes.specs.declared.vtype.VType.{VType}
+use Rattle.jtypes.specs.declared.vtype.VType.TheVariants as types
 use Rattle.jthreads.specs.Table.{is_started, join_answer, table_after_start}
 use Rattle.jthreads.specs.declared.table.Joined.{Joined}
 use Rattle.jthreads.specs.declared.table.Joined.TheVariants.{AtOnce, Waits}

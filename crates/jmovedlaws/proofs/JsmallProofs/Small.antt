@@ -6,7 +6,7 @@ use Rattle.std.specs.List.{AllByRecursion, list_any}
 use Rattle.std.proofs.lemmas.Bool.{eqb-true}
 use Rattle.std.proofs.lemmas.List.{length-map}
 use Rattle.std.proofs.lemmas.Map.Made.{length-le_from_is_member}
-use Rattle.jrights.specs.declared.jperm.permission.Permission.{Permission}
+use Rattle.jperm.specs.declared.permission.Permission.{Permission}
 use Rattle.jlib.specs.declared.side.Side.TheVariants.{Passing}
 use Rattle.jground.specs.declared.jops.value.Value.{Value}
 use Rattle.jground.specs.declared.jops.value.Value.TheVariants.{Int, Long, Ref, Ctx}

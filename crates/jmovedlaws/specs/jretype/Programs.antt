@@ -1,6 +1,6 @@
 -- What the rule asks of a program.
 use Rattle.std.specs.Prelude.{◌≡◌}
-use Rattle.jground.specs.jtypes.Frames.{Frame}
+use Rattle.jtypes.specs.Frames.{Frame}
 use Rattle.jprogram.specs.declared.member.Member.{Member}
 use Rattle.jprogram.specs.Classes.{Program, tree}
 use Rattle.jmeaning.specs.juses.Instructions.{Instruction}

@@ -1,7 +1,7 @@
 -- Small contexts: of a moved program, each context that stands in a state has domains of the program's classes alone.
 use Rattle.std.specs.Prelude.{◌≡◌, ◌≤◌, ◌==◌, ℕ, true, Bool, List, [], ◌∷◌, length, map, None, if◌then◌else◌}
 use Rattle.std.specs.List.{All, AllByRecursion, list_any}
-use Rattle.jrights.specs.declared.jperm.permission.Permission.{Permission}
+use Rattle.jperm.specs.declared.permission.Permission.{Permission}
 use Rattle.jprogram.specs.Classes.{Program}
 use Rattle.jctx.specs.declared.item.Item.{Item}
 use Rattle.jctx.specs.Laws.{IsKept, domains}

@@ -16,9 +16,9 @@ use Rattle.jparts.specs.jmaps.Full.{expand_from, locals_after, locals_before, or
 use Rattle.jclass.specs.declared.class.CodeAttribute.{CodeAttribute}
 use Rattle.jclass.specs.declared.class.CodeAttribute.TheVariants.{Maps, Raw}
 use Rattle.jclass.specs.declared.class.CodeBody.{CodeBody}
-use Rattle.jground.specs.declared.jtypes.vtype.VType.{VType}
-use Rattle.jground.specs.declared.jtypes.vtype.VType.TheVariants as types
-use Rattle.jground.specs.jtypes.Frames.{places_of, within}
+use Rattle.jtypes.specs.declared.vtype.VType.{VType}
+use Rattle.jtypes.specs.declared.vtype.VType.TheVariants as types
+use Rattle.jtypes.specs.Frames.{places_of, within}
 use Rattle.jmove.specs.Frames.{widths}
 use Rattle.jrewriting.specs.jmoved.Frames.{StandAt}
 use Rattle.jprogram.specs.Classes.{Program}

@@ -5,8 +5,8 @@ use Rattle.std.proofs.lemmas.List.{length-append}
 use Rattle.jparts.specs.declared.jmaps.types.MapType.{MapType}
 use Rattle.jparts.specs.declared.jmaps.types.MapType.TheVariants as items
 use Rattle.jparts.specs.jmaps.Full.{chopped, locals_after}
-use Rattle.jground.specs.declared.jtypes.vtype.VType.{VType}
-use Rattle.jground.specs.jtypes.Frames.{is_long, places, places_of}
+use Rattle.jtypes.specs.declared.vtype.VType.{VType}
+use Rattle.jtypes.specs.Frames.{is_long, places, places_of}
 use Rattle.jmove.specs.Frames.{width, widths}
 use Rattle.jparts.specs.declared.jpool.entry.Entry.{Entry}
 use Rattle.jprogram.specs.Classes.{Program}

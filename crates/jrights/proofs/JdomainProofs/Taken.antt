@@ -2,7 +2,7 @@
 use Rattle.std.proofs.Common.{◌≡◌, ℕ, Bool, true, false, cond, List, [], ◌∷◌, ◌++◌, map, refl, ap₂}
 use Rattle.std.specs.Prelude.{flat_map}
 use Rattle.url.specs.Parts.{Parts}
-use Rattle.jrights.specs.declared.jperm.permission.Permission.{Permission}
+use Rattle.jperm.specs.declared.permission.Permission.{Permission}
 use Rattle.jpolicy.specs.declared.grant.Grant.{Grant}
 use Rattle.jrights.specs.jdomain.Domains.{granted, permissions_of}
 use Rattle.jrights.specs.jdomain.Shares.{share_of, taken}

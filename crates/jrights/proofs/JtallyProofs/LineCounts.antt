@@ -4,7 +4,7 @@ use Rattle.std.specs.List.{count_by, flat_map, starts_with}
 use Rattle.std.proofs.lemmas.List.Concat.{flat_map-cons}
 use Rattle.std.proofs.lemmas.List.Sums.{sum_by-cons}
 use Rattle.jrights.specs.jio.Text.{written}
-use Rattle.jrights.specs.jperm.Texts.{text_of}
+use Rattle.jperm.specs.Texts.{text_of}
 use Rattle.jrights.specs.declared.jtrace.event.Event.{Event}
 use Rattle.jrights.specs.declared.jtrace.event.Event.TheVariants as events
 use Rattle.jrights.specs.declared.jtrace.event.End.{End}

@@ -2,12 +2,12 @@
 use Rattle.std.specs.Prelude.{ℕ, Bool, false, List, Option, Some, None, unwrap_or, option_map, filter, flat_map, map, slice_get, if◌then◌else◌}
 use Rattle.std.specs.Result.{result_unwrap_or}
 use Rattle.url.specs.Parts.{Parts}
-use Rattle.jrights.specs.declared.jperm.making.PermClass.{PermClass}
-use Rattle.jrights.specs.declared.jperm.permission.Permission.{Permission}
-use Rattle.jrights.specs.declared.jperm.permission.Permission.TheVariants.{Unresolved}
-use Rattle.jrights.specs.jperm.Made.{made}
-use Rattle.jrights.specs.jperm.Permissions.{covers}
-use Rattle.jrights.specs.jperm.Texts.{class_named}
+use Rattle.jperm.specs.declared.making.PermClass.{PermClass}
+use Rattle.jperm.specs.declared.permission.Permission.{Permission}
+use Rattle.jperm.specs.declared.permission.Permission.TheVariants.{Unresolved}
+use Rattle.jperm.specs.Made.{made}
+use Rattle.jperm.specs.Permissions.{covers}
+use Rattle.jperm.specs.Texts.{class_named}
 use Rattle.jpolicy.specs.declared.grant.Grant.{Grant}
 use Rattle.jpolicy.specs.declared.grant.GrantEntry.{GrantEntry}
 use Rattle.jrights.specs.jdomain.Sources.{matches}

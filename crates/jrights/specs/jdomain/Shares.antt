@@ -7,7 +7,7 @@ use Rattle.std.specs.BTreeMap as tree
 use Rattle.std.specs.BTreeMap.{BTreeMap}
 use Rattle.std.specs.Global.{Vec}
 use Rattle.url.specs.Parts.{Parts}
-use Rattle.jrights.specs.declared.jperm.permission.Permission.{Permission}
+use Rattle.jperm.specs.declared.permission.Permission.{Permission}
 use Rattle.jpolicy.specs.declared.grant.Grant.{Grant}
 use Rattle.jrights.specs.declared.jdomain.share.Share.{Share}
 use Rattle.jrights.specs.jdomain.Domains.{permissions_of}

@@ -8,7 +8,7 @@ use Rattle.url.specs.Host.{host_text}
 use Rattle.url.specs.Parser.{parse_url}
 use Rattle.url.specs.Parts.{Parts, nonempty_host}
 use Rattle.jground.specs.jbase.Stops.{◌>>=◌}
-use Rattle.jrights.specs.jperm.Names.{but_last}
+use Rattle.jperm.specs.Names.{but_last}
 use Rattle.jpolicy.specs.declared.grant.Grant.{Grant}
 use Rattle.jrights.specs.declared.jdomain.code.Code.{Code}
 use Rattle.jrights.specs.declared.jdomain.code.Code.TheVariants.{All, Nothing, Under}

@@ -4,7 +4,7 @@ use Rattle.std.specs.List.{flat_map}
 use Rattle.jrights.specs.jio.LineOf.{part_of, part_room}
 use Rattle.jrights.specs.jio.Text.{written}
 use Rattle.jrights.specs.declared.jio.parts.Part.{Part}
-use Rattle.jrights.specs.jperm.Texts.{text_of}
+use Rattle.jperm.specs.Texts.{text_of}
 use Rattle.jrights.specs.declared.jtrace.event.Event.{Event}
 use Rattle.jrights.specs.declared.jtrace.event.Event.TheVariants as events
 use Rattle.jrights.specs.declared.jtrace.event.End.{End}

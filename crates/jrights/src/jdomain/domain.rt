@@ -4,8 +4,8 @@ ghost use Rattle.jrights.specs.jdomain.Domains.{granted, has};
 use crate::jdomain::lists::{Lists, lists_of};
 use crate::jdomain::share::shares_of;
 use crate::jdomain::source::CodeSource;
-use crate::jperm::Permission;
 use jground::jtext::Units;
+use jperm::Permission;
 use jpolicy::Policy;
 use std::alloc::{AllocError, Global};
 use std::marker::Model;
@@ -19,7 +19,7 @@ pub struct Domains {
 
 impl Model for Domains {
     ghost use Rattle.std.specs.Prelude.{◌<◌, All, List, length, map};
-    ghost use Rattle.jrights.specs.declared.jperm.permission.Permission.{Permission};
+    ghost use Rattle.jperm.specs.declared.permission.Permission.{Permission};
     ghost use Rattle.jrights.specs.jdomain.Shares.{list_at};
 
     ghost Value = { List (List Permission) };

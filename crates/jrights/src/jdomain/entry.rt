@@ -1,10 +1,10 @@
 ghost use Rattle.std.specs.Prelude.{◌≡◌, IfOk, map};
-ghost use Rattle.jrights.specs.declared.jperm.permission.Permission.TheVariants.{Unresolved};
+ghost use Rattle.jperm.specs.declared.permission.Permission.TheVariants.{Unresolved};
 ghost use Rattle.jrights.specs.jdomain.Domains.{made_by, permission_of};
 
-use crate::jperm::{PermClass, PermError, Permission, make};
 use jground::jbase::Seq;
 use jground::jtext::Units;
+use jperm::{PermClass, PermError, Permission, make};
 use jpolicy::GrantEntry;
 use std::alloc::{AllocError, Global};
 

@@ -3,8 +3,8 @@ ghost use Rattle.jrights.specs.jdomain.Shares.{IsList, Keeps, Knows, list_at, ta
 
 use crate::jdomain::share::{Share, marks, taken};
 use crate::jdomain::source::CodeSource;
-use crate::jperm::Indexed;
 use jground::jbase::Seq;
+use jperm::Indexed;
 use std::alloc::{AllocError, Global};
 use std::collections::BTreeMap;
 

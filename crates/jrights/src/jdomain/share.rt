@@ -4,9 +4,9 @@ ghost use Rattle.jrights.specs.jdomain.Shares.{marks, share_of, taken};
 use crate::jdomain::code::Code;
 use crate::jdomain::entry::permissions_of;
 use crate::jdomain::source::CodeSource;
-use crate::jperm::Permission;
 use jground::jbase::Seq;
 use jground::jtext::Units;
+use jperm::Permission;
 use jpolicy::Grant;
 use std::alloc::{AllocError, Global};
 

@@ -1,5 +1,5 @@
-use crate::jperm::Permission;
 use jground::jtext::Units;
+use jperm::Permission;
 
 /// What happened in a step of a run. A thread is named by its number.
 #[rattlefmt::skip]

@@ -1,12 +1,12 @@
 ghost use Rattle.std.specs.Prelude.{◌≡◌, ◌+◌, ◌*◌, ◌<◌, ◌≤◌, ◌^◌, IfErr, OnOk, nat_le, length, take, codes};
 ghost use Rattle.jground.specs.jbase.Causes.{HasCause, appended};
 ghost use Rattle.jrights.specs.jio.Puts.{IsCutAt};
-ghost use Rattle.jrights.specs.jperm.Texts.{text_of};
+ghost use Rattle.jperm.specs.Texts.{text_of};
 ghost use Rattle.jrights.specs.jtrace.Lines.{line, end_line, line_feed, told, checked, behind_denial, most_units, units_of, texts, room};
 
 use crate::jio::{Part, PutFault, Sink, put_all, write_line};
-use crate::jperm::{PARTS, Permission, text_laws};
 use crate::jtrace::event::{End, Event};
+use jperm::{PARTS, Permission, text_laws};
 
 /// The most units of an event's text that `write_event` writes.
 pub const MOST_UNITS: usize = 4_294_967_295;

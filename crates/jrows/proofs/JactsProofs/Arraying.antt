@@ -5,11 +5,11 @@ use Rattle.std.proofs.lemmas.List.{length-map}
 use Rattle.jground.specs.declared.jnames.kinds.Kind.TheVariants as wanted
 use Rattle.jground.specs.declared.jops.value.Value.{Value}
 use Rattle.jground.specs.declared.jops.value.Value.TheVariants.{Int, Long, Ref, Ctx}
-use Rattle.jground.specs.declared.jheap.cell.Kind.{Kind}
-use Rattle.jground.specs.declared.jheap.cell.Kind.TheVariants as kinds
-use Rattle.jground.specs.jheap.Heaps as heaps
-use Rattle.jground.specs.jheap.Heaps.{Heaped, cells_at, kind_at}
-use Rattle.jground.specs.jheap.Raw.{of_raw}
+use Rattle.jheap.specs.declared.cell.Kind.{Kind}
+use Rattle.jheap.specs.declared.cell.Kind.TheVariants as kinds
+use Rattle.jheap.specs.Heaps as heaps
+use Rattle.jheap.specs.Heaps.{Heaped, cells_at, kind_at}
+use Rattle.jheap.specs.Raw.{of_raw}
 use Rattle.jlib.specs.declared.classes.LibClass.{LibClass}
 use Rattle.jlib.specs.declared.classes.LibClass.TheVariants as lib
 use Rattle.jlib.specs.declared.classes.Thrown.TheVariants as thrown
@@ -21,8 +21,8 @@ use Rattle.jmeaning.specs.jrule.Effects.{Of, Want}
 use Rattle.jmeaning.specs.jrule.Effects as types
 use Rattle.jmeaning.specs.juses.Instructions as instructions
 use Rattle.jmeaning.specs.juses.Types.{array_named}
-use Rattle.jground.specs.declared.jtypes.vtype.Name.{Name}
-use Rattle.jground.specs.declared.jtypes.vtype.ArrayType.{ArrayType}
+use Rattle.jtypes.specs.declared.vtype.Name.{Name}
+use Rattle.jtypes.specs.declared.vtype.ArrayType.{ArrayType}
 use Rattle.jmodel.specs.jmachine.Acts.{FrameOf}
 use Rattle.jmodel.specs.jmachine.Arrays as rows
 use Rattle.jmodel.specs.jmachine.Doing.{doing}

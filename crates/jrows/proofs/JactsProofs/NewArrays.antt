@@ -5,18 +5,18 @@ use Rattle.std.proofs.lemmas.Bool.{le-leb, lt-ltb}
 use Rattle.std.proofs.lemmas.List.{length-map}
 use Rattle.jparts.specs.declared.jcode.names.ArrayType.{ArrayType as ArrayKind}
 use Rattle.jparts.specs.declared.jcode.form.ArrayForm.TheVariants as forms
-use Rattle.jground.specs.declared.jheap.cell.Kind.TheVariants as kinds
-use Rattle.jground.specs.declared.jheap.cell.CellType.TheVariants as cells
-use Rattle.jground.specs.jheap.Heaps.{Heaped, made}
-use Rattle.jground.specs.jheap.Raw.{of_raw}
+use Rattle.jheap.specs.declared.cell.Kind.TheVariants as kinds
+use Rattle.jheap.specs.declared.cell.CellType.TheVariants as cells
+use Rattle.jheap.specs.Heaps.{Heaped, made}
+use Rattle.jheap.specs.Raw.{of_raw}
 use Rattle.jlib.specs.declared.classes.LibClass.{LibClass}
 use Rattle.jlib.specs.declared.classes.LibClass.TheVariants as lib
 use Rattle.jlib.specs.declared.classes.Thrown.TheVariants as thrown
 use Rattle.jground.specs.declared.jops.value.Value.TheVariants.{Ref}
 use Rattle.jprogram.specs.Classes.{Program}
 use Rattle.jmeaning.specs.jrule.Arrays.{component}
-use Rattle.jground.specs.declared.jtypes.vtype.ArrayType.{ArrayType}
-use Rattle.jground.specs.jtypes.Described.{in_brackets}
+use Rattle.jtypes.specs.declared.vtype.ArrayType.{ArrayType}
+use Rattle.jtypes.specs.Described.{in_brackets}
 use Rattle.jmeaning.specs.declared.juses.types.ArrayRef.{ArrayRef}
 use Rattle.jmeaning.specs.declared.juses.types.ElementRef.{ElementRef}
 use Rattle.jmeaning.specs.declared.juses.types.ElementRef.TheVariants as elements

@@ -10,12 +10,12 @@ use Rattle.jparts.specs.declared.jcode.names.ArrayType.{ArrayType as ArrayKind}
 use Rattle.jparts.specs.jcode.Forms.{element}
 use Rattle.jground.specs.declared.jnames.kinds.Kind.{Kind}
 use Rattle.jground.specs.declared.jnames.kinds.Kind.TheVariants as wanted
-use Rattle.jground.specs.declared.jheap.cell.Kind.{Kind as CellKind}
-use Rattle.jground.specs.declared.jheap.cell.Kind.TheVariants as kinds
-use Rattle.jground.specs.jheap.Heaps as heaps
-use Rattle.jground.specs.jheap.Heaps.{Heaped, cells_at, with_cell}
-use Rattle.jground.specs.jheap.Raw.{of_raw, raw}
-use Rattle.jground.specs.jheap.Raw as numbers
+use Rattle.jheap.specs.declared.cell.Kind.{Kind as CellKind}
+use Rattle.jheap.specs.declared.cell.Kind.TheVariants as kinds
+use Rattle.jheap.specs.Heaps as heaps
+use Rattle.jheap.specs.Heaps.{Heaped, cells_at, with_cell}
+use Rattle.jheap.specs.Raw.{of_raw, raw}
+use Rattle.jheap.specs.Raw as numbers
 use Rattle.jlib.specs.declared.classes.LibClass.TheVariants as lib
 use Rattle.jlib.specs.declared.classes.Thrown.TheVariants as thrown
 use Rattle.jground.specs.declared.jops.value.Value.{Value}
@@ -25,12 +25,12 @@ use Rattle.jprogram.specs.Classes.{Program}
 use Rattle.jmeaning.specs.jrule.Arrays.{operands}
 use Rattle.jmeaning.specs.jrule.Effects.{Of, Holds, Want, items_of, same_items}
 use Rattle.jmeaning.specs.jrule.Effects as rules
-use Rattle.jground.specs.declared.jtypes.vtype.Element as elements_of
-use Rattle.jground.specs.declared.jtypes.vtype.Element.TheVariants as elements
-use Rattle.jground.specs.declared.jtypes.vtype.ArrayType.{ArrayType}
-use Rattle.jground.specs.declared.jtypes.vtype.VType.{VType}
-use Rattle.jground.specs.declared.jtypes.vtype.VType.TheVariants as types
-use Rattle.jground.specs.jtypes.Described.{alone, in_brackets}
+use Rattle.jtypes.specs.declared.vtype.Element as elements_of
+use Rattle.jtypes.specs.declared.vtype.Element.TheVariants as elements
+use Rattle.jtypes.specs.declared.vtype.ArrayType.{ArrayType}
+use Rattle.jtypes.specs.declared.vtype.VType.{VType}
+use Rattle.jtypes.specs.declared.vtype.VType.TheVariants as types
+use Rattle.jtypes.specs.Described.{alone, in_brackets}
 use Rattle.jmeaning.specs.declared.juses.types.ArrayRef.{ArrayRef}
 use Rattle.jmeaning.specs.juses.Instructions as instructions
 use Rattle.jmeaning.specs.juses.Types.{array_named, element_named}

@@ -1,8 +1,8 @@
 -- What raises, throws or finds too few cells changes nothing.
 use Rattle.std.proofs.Common.{ℕ, Option, Some, None, inl, inr, refl}
 use Rattle.std.specs.Prelude.{IfOk, Result, Ok, Err}
-use Rattle.jground.specs.declared.jheap.cell.Kind.{Kind}
-use Rattle.jground.specs.jheap.Heaps.{Heaped}
+use Rattle.jheap.specs.declared.cell.Kind.{Kind}
+use Rattle.jheap.specs.Heaps.{Heaped}
 use Rattle.jground.specs.declared.jops.value.Value.{Value}
 use Rattle.jmodel.specs.jstate.Framed.{Framed}
 use Rattle.jrows.specs.jacts.Accesses.{HasPut}

@@ -7,7 +7,7 @@ use Rattle.jground.specs.declared.jnames.kinds.Kind.TheVariants as kinds
 use Rattle.jground.specs.declared.jnames.kinds.Kinds.TheVariants as many
 use Rattle.jground.specs.declared.jops.value.Value.{Value}
 use Rattle.jground.specs.jops.Kinds.{is_of}
-use Rattle.jground.specs.jheap.Heaps.{Heaped}
+use Rattle.jheap.specs.Heaps.{Heaped}
 use Rattle.jparts.specs.declared.jcode.names.Returned.{Returned}
 use Rattle.jparts.specs.declared.jcode.names.Returned.TheVariants as returned_kinds
 use Rattle.jparts.specs.jcode.Forms.{returned}

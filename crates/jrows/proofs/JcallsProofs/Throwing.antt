@@ -2,8 +2,8 @@
 use Rattle.std.proofs.Common.{◌≡◌, ◌∙◌, inl, inr, ℕ, suc, ◌+◌, ◌<◌, true, false, List, [], ◌∷◌, ◌++◌, length, Option, Some, None, refl, sym, ap, arith, rules, le-leb}
 use Rattle.std.specs.Prelude.{IfOk, OnOk, Ok, Err, Result, nat_le, slice_get}
 use Rattle.std.proofs.lemmas.List.{length-map}
-use Rattle.jground.specs.declared.jheap.cell.Kind.TheVariants as kinds
-use Rattle.jground.specs.jheap.Heaps.{Heaped, Makes as MakesOne, made}
+use Rattle.jheap.specs.declared.cell.Kind.TheVariants as kinds
+use Rattle.jheap.specs.Heaps.{Heaped, Makes as MakesOne, made}
 use Rattle.jlib.specs.declared.classes.LibClass.TheVariants as lib
 use Rattle.jlib.specs.declared.classes.Thrown.{Thrown as ThrownClass}
 use Rattle.jprogram.specs.declared.part.ClassRef.{ClassRef}

@@ -4,13 +4,13 @@ use Rattle.std.specs.Prelude.{get_or, is_some, nat_lt, option_and_then, option_m
 use Rattle.std.proofs.lemmas.Bool.{lt-ltb}
 use Rattle.std.proofs.lemmas.Option.{slice_get-get_or, slice_get_within}
 use Rattle.jparts.specs.declared.jcode.names.FieldOp.TheVariants as ops
-use Rattle.jground.specs.declared.jheap.cell.CellType.{CellType}
-use Rattle.jground.specs.declared.jheap.cell.Kind.{Kind}
-use Rattle.jground.specs.declared.jheap.cell.Kind.TheVariants as kinds
-use Rattle.jground.specs.jheap.Heaps as heaps
-use Rattle.jground.specs.jheap.Heaps.{Heaped, cells_at}
-use Rattle.jground.specs.jheap.Raw.{of_raw, raw}
-use Rattle.jground.specs.jheap.Raw as numbers
+use Rattle.jheap.specs.declared.cell.CellType.{CellType}
+use Rattle.jheap.specs.declared.cell.Kind.{Kind}
+use Rattle.jheap.specs.declared.cell.Kind.TheVariants as kinds
+use Rattle.jheap.specs.Heaps as heaps
+use Rattle.jheap.specs.Heaps.{Heaped, cells_at}
+use Rattle.jheap.specs.Raw.{of_raw, raw}
+use Rattle.jheap.specs.Raw as numbers
 use Rattle.jlib.specs.declared.classes.LibClass.TheVariants as lib
 use Rattle.jlib.specs.declared.classes.Thrown.TheVariants as thrown
 use Rattle.jground.specs.declared.jops.value.Value.{Value}

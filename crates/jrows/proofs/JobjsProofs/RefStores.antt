@@ -5,13 +5,13 @@ use Rattle.std.proofs.lemmas.List.{length-map}
 use Rattle.jparts.specs.declared.jcode.names.Element.TheVariants as items
 use Rattle.jparts.specs.declared.jcode.form.ArrayForm.TheVariants as forms
 use Rattle.jground.specs.declared.jnames.kinds.Kind.TheVariants as wanted
-use Rattle.jground.specs.declared.jheap.cell.CellType.TheVariants as cells
-use Rattle.jground.specs.declared.jheap.cell.Kind.{Kind}
-use Rattle.jground.specs.declared.jheap.cell.Kind.TheVariants as kinds
-use Rattle.jground.specs.jheap.Heaps as heaps
-use Rattle.jground.specs.jheap.Heaps.{Heaped, cells_at, kind_at, with_cell}
-use Rattle.jground.specs.jheap.Raw.{of_raw, raw}
-use Rattle.jground.specs.jheap.Raw as numbers
+use Rattle.jheap.specs.declared.cell.CellType.TheVariants as cells
+use Rattle.jheap.specs.declared.cell.Kind.{Kind}
+use Rattle.jheap.specs.declared.cell.Kind.TheVariants as kinds
+use Rattle.jheap.specs.Heaps as heaps
+use Rattle.jheap.specs.Heaps.{Heaped, cells_at, kind_at, with_cell}
+use Rattle.jheap.specs.Raw.{of_raw, raw}
+use Rattle.jheap.specs.Raw as numbers
 use Rattle.jlib.specs.declared.classes.LibClass.TheVariants as lib
 use Rattle.jlib.specs.declared.classes.Thrown.TheVariants as thrown
 use Rattle.jground.specs.declared.jops.value.Value.{Value}
@@ -21,7 +21,7 @@ use Rattle.jprogram.specs.declared.member.Member.{Member}
 use Rattle.jprogram.specs.declared.part.ClassRef.{ClassRef}
 use Rattle.jprogram.specs.declared.part.ClassRef.TheVariants as classes
 use Rattle.jmeaning.specs.jrule.Effects.{Of, Holds, Want, same_items}
-use Rattle.jground.specs.declared.jtypes.vtype.Element.{Element}
+use Rattle.jtypes.specs.declared.vtype.Element.{Element}
 use Rattle.jmeaning.specs.declared.juses.types.ArrayRef.{ArrayRef}
 use Rattle.jmeaning.specs.declared.juses.types.ElementRef.{ElementRef}
 use Rattle.jmeaning.specs.declared.juses.types.ElementRef.TheVariants as refs

@@ -3,19 +3,19 @@ use Rattle.std.proofs.Common.{◌≡◌, ◌∙◌, ℕ, zero, suc, ℤ, pos, �
 use Rattle.std.specs.Prelude.{IfOk, Result, Ok, Err, nat_le, nat_lt, slice_get, if◌then◌else◌}
 use Rattle.std.proofs.lemmas.Bool.{le-leb, lt-ltb}
 use Rattle.std.proofs.lemmas.List.{length-map}
-use Rattle.jground.specs.declared.jheap.cell.Kind.TheVariants as kinds
-use Rattle.jground.specs.declared.jheap.cell.CellType.TheVariants as cells
-use Rattle.jground.specs.jheap.Heaps.{Heaped, made}
-use Rattle.jground.specs.jheap.Raw.{of_raw}
+use Rattle.jheap.specs.declared.cell.Kind.TheVariants as kinds
+use Rattle.jheap.specs.declared.cell.CellType.TheVariants as cells
+use Rattle.jheap.specs.Heaps.{Heaped, made}
+use Rattle.jheap.specs.Raw.{of_raw}
 use Rattle.jlib.specs.declared.classes.LibClass.TheVariants as lib
 use Rattle.jlib.specs.declared.classes.Thrown.TheVariants as thrown
 use Rattle.jground.specs.declared.jops.value.Value.TheVariants.{Ref}
 use Rattle.jprogram.specs.Classes.{Program}
 use Rattle.jmeaning.specs.jrule.Arrays.{component}
 use Rattle.jmeaning.specs.jrule.Uses.{exchange}
-use Rattle.jground.specs.declared.jtypes.vtype.ArrayType.{ArrayType}
-use Rattle.jground.specs.declared.jtypes.vtype.VType.TheVariants as types
-use Rattle.jground.specs.jtypes.Described.{in_brackets}
+use Rattle.jtypes.specs.declared.vtype.ArrayType.{ArrayType}
+use Rattle.jtypes.specs.declared.vtype.VType.TheVariants as types
+use Rattle.jtypes.specs.Described.{in_brackets}
 use Rattle.jmeaning.specs.declared.juses.types.ArrayRef.{ArrayRef}
 use Rattle.jmeaning.specs.declared.juses.types.ElementRef.{ElementRef}
 use Rattle.jmeaning.specs.declared.juses.types.ElementRef.TheVariants as elements

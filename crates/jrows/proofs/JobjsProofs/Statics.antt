@@ -4,11 +4,11 @@ use Rattle.std.specs.Prelude.{Result, Ok, Err, IfOk, OnOk, get_or, is_some, opti
 use Rattle.std.proofs.lemmas.Bool.{lt-ltb}
 use Rattle.std.proofs.lemmas.Option.{slice_get-get_or, slice_get_within}
 use Rattle.jparts.specs.declared.jcode.names.FieldOp.TheVariants as ops
-use Rattle.jground.specs.declared.jheap.cell.CellType.{CellType}
-use Rattle.jground.specs.jheap.Heaps as heaps
-use Rattle.jground.specs.jheap.Heaps.{Heaped}
-use Rattle.jground.specs.jheap.Raw.{of_raw, raw}
-use Rattle.jground.specs.jheap.Raw as numbers
+use Rattle.jheap.specs.declared.cell.CellType.{CellType}
+use Rattle.jheap.specs.Heaps as heaps
+use Rattle.jheap.specs.Heaps.{Heaped}
+use Rattle.jheap.specs.Raw.{of_raw, raw}
+use Rattle.jheap.specs.Raw as numbers
 use Rattle.jground.specs.declared.jops.value.Value.{Value}
 use Rattle.jground.specs.declared.jops.value.Value.TheVariants.{Int, Long, Ref, Ctx}
 use Rattle.jprogram.specs.Classes.{Program}
@@ -16,7 +16,7 @@ use Rattle.jprogram.specs.declared.member.Member.{Member}
 use Rattle.jprogram.specs.declared.member.Member.TheVariants as members
 use Rattle.jmeaning.specs.jrule.Effects.{Fits}
 use Rattle.jmeaning.specs.jrule.Uses.{exchange}
-use Rattle.jground.specs.declared.jtypes.vtype.Element.{Element}
+use Rattle.jtypes.specs.declared.vtype.Element.{Element}
 use Rattle.jmeaning.specs.declared.juses.types.ElementRef.{ElementRef}
 use Rattle.jmeaning.specs.juses.Types.{element_named}
 use Rattle.jmeaning.specs.juses.Instructions as instructions

@@ -8,7 +8,7 @@ use Rattle.jground.specs.declared.jops.value.Value.TheVariants.{Int, Long, Ref, 
 use Rattle.jprogram.specs.declared.member.Member.{Member}
 use Rattle.jmeaning.specs.jrule.Effects.{Of}
 use Rattle.jmeaning.specs.jrule.Uses.{exchange}
-use Rattle.jground.specs.declared.jtypes.vtype.VType.{VType}
+use Rattle.jtypes.specs.declared.vtype.VType.{VType}
 use Rattle.jmeaning.specs.juses.Instructions as instructions
 use Rattle.jmeaning.specs.juses.Meanings as meanings
 use Rattle.jmodel.specs.jmachine.Acts.{FrameOf, gives}

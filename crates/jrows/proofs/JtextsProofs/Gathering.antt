@@ -2,10 +2,10 @@
 use Rattle.std.proofs.Common.{◌≡◌, ◌∙◌, ℕ, zero, suc, ◌<◌, List, [], ◌∷◌, ◌++◌, Option, Some, None, refl, sym, ap, arith}
 use Rattle.std.specs.Prelude.{slice_get, is_some, reverse, true}
 use Rattle.std.proofs.lemmas.List.{reverse-append}
-use Rattle.jground.specs.declared.jheap.cell.Kind.{Kind}
-use Rattle.jground.specs.declared.jheap.cell.Kind.TheVariants as kinds
-use Rattle.jground.specs.jheap.Heaps as heaps
-use Rattle.jground.specs.jheap.Heaps.{Heaped, before_at, cells_at}
+use Rattle.jheap.specs.declared.cell.Kind.{Kind}
+use Rattle.jheap.specs.declared.cell.Kind.TheVariants as kinds
+use Rattle.jheap.specs.Heaps as heaps
+use Rattle.jheap.specs.Heaps.{Heaped, before_at, cells_at}
 use Rattle.jmodel.specs.jstate.Seen.{AreBuilt, built, built_at, built_by, units_of}
 use Rattle.jmodel.specs.jstate.SeenLaws.{IsEnough}
 use Rattle.jrows.specs.jtexts.HeapBuilders.{AreThere, behind, piece_found, piece_number}

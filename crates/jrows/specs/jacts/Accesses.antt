@@ -2,10 +2,10 @@
 use Rattle.std.specs.Prelude.{◌≡◌, ◌<◌, ◌+◌, ℕ, ℤ, drop, length, Option, Some, None, option_and_then, option_map, slice_get, nat_lt, if◌then◌else◌}
 use Rattle.jparts.specs.declared.jcode.names.Element.{Element}
 use Rattle.jparts.specs.declared.jcode.names.Element.TheVariants as items
-use Rattle.jground.specs.declared.jheap.cell.CellType.{CellType}
-use Rattle.jground.specs.declared.jheap.cell.CellType.TheVariants as cells
-use Rattle.jground.specs.jheap.Heaps.{Heaped, cells_at, with_cell}
-use Rattle.jground.specs.jheap.Raw.{of_raw, raw, type_of}
+use Rattle.jheap.specs.declared.cell.CellType.{CellType}
+use Rattle.jheap.specs.declared.cell.CellType.TheVariants as cells
+use Rattle.jheap.specs.Heaps.{Heaped, cells_at, with_cell}
+use Rattle.jheap.specs.Raw.{of_raw, raw, type_of}
 use Rattle.jlib.specs.declared.classes.LibClass.{LibClass}
 use Rattle.jlib.specs.declared.classes.LibClass.TheVariants as lib
 use Rattle.jlib.specs.declared.classes.Thrown.TheVariants as thrown

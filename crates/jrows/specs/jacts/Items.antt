@@ -3,11 +3,11 @@ use Rattle.std.specs.Prelude.{◌≡◌, ◌+◌, ◌<◌, ◌⊎◌, ℕ, zero,
 use Rattle.jparts.specs.declared.jcode.names.ArrayType.{ArrayType as ArrayKind}
 use Rattle.jground.specs.declared.jops.value.Value.{Value}
 use Rattle.jground.specs.declared.jops.value.Value.TheVariants.{Ref}
-use Rattle.jground.specs.declared.jheap.cell.Kind.{Kind}
-use Rattle.jground.specs.declared.jheap.cell.Kind.TheVariants as kinds
-use Rattle.jground.specs.jheap.Heaps.{Heaped, charge, kind_at, made}
+use Rattle.jheap.specs.declared.cell.Kind.{Kind}
+use Rattle.jheap.specs.declared.cell.Kind.TheVariants as kinds
+use Rattle.jheap.specs.Heaps.{Heaped, charge, kind_at, made}
 use Rattle.jmeaning.specs.jrule.Arrays.{of_numbers}
-use Rattle.jground.specs.declared.jtypes.vtype.ArrayType.{ArrayType}
+use Rattle.jtypes.specs.declared.vtype.ArrayType.{ArrayType}
 use Rattle.jmodel.specs.jmachine.Frames.{standing}
 use Rattle.jmodel.specs.jstate.Framed.{Framed, with_newest}
 use Rattle.jrows.specs.declared.jacts.way.Way.{Way}

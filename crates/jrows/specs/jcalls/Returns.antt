@@ -2,7 +2,7 @@
 use Rattle.std.specs.Prelude.{◌≡◌, ⊤, ℕ, List, [], Some, false}
 use Rattle.jground.specs.declared.jnames.kinds.Kind.{Kind}
 use Rattle.jground.specs.declared.jnames.kinds.Kind.TheVariants as kinds
-use Rattle.jground.specs.jheap.Heaps.{Heaped}
+use Rattle.jheap.specs.Heaps.{Heaped}
 use Rattle.jparts.specs.declared.jcode.names.Returned.{Returned}
 use Rattle.jparts.specs.declared.jcode.names.Returned.TheVariants as results
 use Rattle.jground.specs.declared.jops.value.Value.{Value}

@@ -1,14 +1,14 @@
 -- Fields by their slots, and the types of their cells.
 use Rattle.std.specs.Prelude.{◌≡◌, ◌-◌, ℕ, Bool, true, false, Option, Some, None, option_and_then, slice_get, nat_lt, if◌then◌else◌}
-use Rattle.jground.specs.declared.jheap.cell.CellType.{CellType}
-use Rattle.jground.specs.jheap.Heaps.{Heaped}
-use Rattle.jground.specs.jheap.Raw as numbers
+use Rattle.jheap.specs.declared.cell.CellType.{CellType}
+use Rattle.jheap.specs.Heaps.{Heaped}
+use Rattle.jheap.specs.Raw as numbers
 use Rattle.jground.specs.declared.jops.value.Value.{Value}
 use Rattle.jprogram.specs.declared.member.Member.{Member}
 use Rattle.jprogram.specs.declared.member.Member.TheVariants.{LibField, LibMethod}
 use Rattle.jprogram.specs.Classes.{Program}
 use Rattle.jmeaning.specs.jrule.Effects.{Fits}
-use Rattle.jground.specs.declared.jtypes.vtype.VType.{VType}
+use Rattle.jtypes.specs.declared.vtype.VType.{VType}
 use Rattle.jmeaning.specs.declared.juses.types.ElementRef.{ElementRef}
 use Rattle.jmeaning.specs.juses.Types.{element_named}
 use Rattle.jmodel.specs.jmachine.Narrowing.{narrowed}

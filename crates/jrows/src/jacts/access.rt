@@ -1,6 +1,6 @@
 ghost use Rattle.std.specs.Prelude.{◌≡◌, ◌<◌, ◌≤◌, ◌+◌, ◌^◌, [], ℕ, List, IfSome, is_some, length, slice_get, true};
 ghost use Rattle.jparts.specs.declared.jcode.form.ArrayForm.TheVariants as forms;
-ghost use Rattle.jground.specs.jheap.Heaps.{cells_at, object_at};
+ghost use Rattle.jheap.specs.Heaps.{cells_at, object_at};
 ghost use Rattle.jmodel.specs.jmachine.Arrays as rows;
 ghost use Rattle.jmodel.specs.jmachine.Narrowing.{place as place_of};
 ghost use Rattle.jprogram.specs.Classes.{Program};
@@ -16,8 +16,8 @@ use crate::jacts::arrays::{Found, array_at};
 use crate::jacts::jumps::int_at;
 use crate::jacts::straight::give_for;
 use crate::jacts::way::Way;
-use jground::jheap::{CellType, Heap};
 use jground::jops::Value;
+use jheap::{CellType, Heap};
 use jlib::{LibClass, Thrown};
 use jmeaning::juses::{ArrayRef, ElementRef};
 use jmodel::jstate::{Frames, Shapes, element_of, numbers_at, row_type};

@@ -2,8 +2,8 @@ ghost use Rattle.std.specs.Prelude.{◌≡◌, ◌<◌, ◌≤◌, ◌+◌, ◌^
 ghost use Rattle.jparts.specs.jcode.Forms;
 ghost use Rattle.jparts.specs.declared.jcode.names.Element.TheVariants as items;
 ghost use Rattle.jparts.specs.declared.jcode.form.ArrayForm.TheVariants as forms;
-ghost use Rattle.jground.specs.jheap.Heaps.{cells_at, look_at, object_at, with_cell};
-ghost use Rattle.jground.specs.jheap.Raw;
+ghost use Rattle.jheap.specs.Heaps.{cells_at, look_at, object_at, with_cell};
+ghost use Rattle.jheap.specs.Raw;
 ghost use Rattle.jmodel.specs.jmachine.Narrowing;
 ghost use Rattle.jground.specs.jops.Kinds.{is_of};
 ghost use Rattle.jprogram.specs.Classes.{Program};
@@ -21,9 +21,9 @@ use crate::jacts::access::{items_at, within};
 use crate::jacts::arrays::Found;
 use crate::jacts::jumps::int_at;
 use crate::jacts::way::Way;
-use jground::jheap::{Heap, Look, raw_laws};
 use jground::jnames::{Kind, OpOne};
 use jground::jops::{Value, one};
+use jheap::{Heap, Look, raw_laws};
 use jlib::{LibClass, Thrown};
 use jmeaning::juses::{ArrayRef, ElementRef};
 use jmodel::jstate::{

@@ -9,7 +9,7 @@ ghost use Rattle.jrows.specs.jcalls.Throws.{LeavesStanding, RaisedHeap, Raises, 
 
 use crate::jcalls::handlers::Handlers;
 use crate::jcalls::unwinding::unwind;
-use jground::jheap::{Heap, Kind};
+use jheap::{Heap, Kind};
 use jlib::Thrown;
 use jmodel::jstate::{Frames, built_laws, celled_laws, heap_laws, number_laws};
 use std::alloc::{AllocError, Global};

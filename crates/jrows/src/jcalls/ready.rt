@@ -1,13 +1,13 @@
 ghost use Rattle.std.specs.Prelude.{◌≡◌, is_some, true};
-ghost use Rattle.jground.specs.jheap.Heaps.{cells_at, object_at};
+ghost use Rattle.jheap.specs.Heaps.{cells_at, object_at};
 ghost use Rattle.jprogram.specs.declared.part.ClassRef.TheVariants as refs;
 ghost use Rattle.jmodel.specs.jstate.Numbers;
 ghost use Rattle.jmodel.specs.jstate.Seen.{Things, first, number_in};
 ghost use Rattle.jrows.specs.jcalls.Readiness;
 ghost use Rattle.jrows.specs.jcalls.Readiness.{AreCounted, holds_counted, needed, ready_by, ready_counted};
 
-use jground::jheap::{CellType, Heap, Kind};
 use jground::jops::Value;
+use jheap::{CellType, Heap, Kind};
 use jlib::LibClass;
 use jmodel::jstate::class_numbered;
 use jprogram::ClassRef;

@@ -2,8 +2,8 @@ ghost use Rattle.std.specs.Prelude.{◌≡◌, ◌≤◌, length, take};
 ghost use Rattle.jmodel.specs.jmachine.Calls;
 ghost use Rattle.jrows.specs.jcalls.Calling.{receiver_seen};
 
-use jground::jheap::{Heap, Kind};
 use jground::jops::Value;
+use jheap::{Heap, Kind};
 use jmodel::jstate::Frames;
 
 /// The object on which a method is called.

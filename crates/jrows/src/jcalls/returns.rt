@@ -9,9 +9,9 @@ ghost use Rattle.jrows.specs.jcalls.Returns.{IsNumber, Leaves, Returns, ReturnsR
 
 use crate::jcalls::marks::unmark;
 use crate::jcalls::ready::{Counts, is_reference};
-use jground::jheap::Heap;
 use jground::jnames::Kind;
 use jground::jops::Value;
+use jheap::Heap;
 use jmodel::jstate::{Frames, heap_laws};
 use std::alloc::AllocError;
 

@@ -1,6 +1,6 @@
 ghost use Rattle.std.specs.Prelude.{◌≡◌, ◌<◌, ◌+◌, ◌^◌, [], ℕ, List, IfOk, OnOk};
 ghost use Rattle.jprogram.specs.Classes.{Program};
-ghost use Rattle.jground.specs.declared.jtypes.vtype.VType.TheVariants as types;
+ghost use Rattle.jtypes.specs.declared.vtype.VType.TheVariants as types;
 ghost use Rattle.jmeaning.specs.juses.Instructions as instructions;
 ghost use Rattle.jmeaning.specs.juses.Meanings as meanings;
 ghost use Rattle.jmeaning.specs.juses.Types.{array_named};
@@ -11,7 +11,7 @@ ghost use Rattle.jrows.specs.jacts.Ways.{Acts, Rests, leaves};
 ghost use Rattle.jrows.specs.jobjs.Staying.{Stays};
 
 use crate::jacts::{Way, count_of, make_array, switch_key};
-use jground::jheap::Heap;
+use jheap::Heap;
 use jlib::{LibClass, Thrown};
 use jmodel::jstate::{Frames, built_laws, celled_laws, heap_laws};
 use std::alloc::{AllocError, Global};

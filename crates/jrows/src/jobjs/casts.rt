@@ -4,7 +4,7 @@ ghost use Rattle.jmodel.specs.jmachine.Sites.{Site};
 ghost use Rattle.jmodel.specs.jmachine.Store.{Store};
 ghost use Rattle.jground.specs.declared.jops.value.Value.TheVariants as values;
 ghost use Rattle.jprogram.specs.declared.member.Member.{Member};
-ghost use Rattle.jground.specs.declared.jtypes.vtype.VType.{VType};
+ghost use Rattle.jtypes.specs.declared.vtype.VType.{VType};
 ghost use Rattle.jmeaning.specs.juses.Instructions as instructions;
 ghost use Rattle.jmeaning.specs.juses.Meanings as meanings;
 ghost use Rattle.jrows.specs.jacts.Ways.{ActsWhere, Rests, leaves};

@@ -1,8 +1,8 @@
 ghost use Rattle.std.specs.Prelude.{◌≡◌, ◌<◌, ◌≤◌, ◌+◌, ◌^◌, ◌∷◌, [], ℕ, drop, List, Bool, length, option_map, slice_get, slice_set, is_some, true, IfOk, OnOk};
 ghost use Rattle.jparts.specs.declared.jcode.names.FieldOp.TheVariants as ops;
-ghost use Rattle.jground.specs.declared.jheap.cell.CellType.{CellType as CellKind};
-ghost use Rattle.jground.specs.jheap.Heaps.{cells_at, object_at, with_statics};
-ghost use Rattle.jground.specs.jheap.Raw.{of_raw as raw_value, raw as raw_number, type_of};
+ghost use Rattle.jheap.specs.declared.cell.CellType.{CellType as CellKind};
+ghost use Rattle.jheap.specs.Heaps.{cells_at, object_at, with_statics};
+ghost use Rattle.jheap.specs.Raw.{of_raw as raw_value, raw as raw_number, type_of};
 ghost use Rattle.jmodel.specs.jmachine.Frames.{onward, standing};
 ghost use Rattle.jmodel.specs.jmachine.Sites.{Site};
 ghost use Rattle.jmodel.specs.jmachine.Store.{Store};
@@ -24,8 +24,8 @@ ghost use Rattle.jrows.specs.jobjs.Staying.{Stays};
 
 use crate::jacts::{Way, narrowed, put_at, way_laws};
 use crate::jobjs::target::{Target, target_at};
-use jground::jheap::{CellType, Heap, raw_laws};
 use jground::jops::Value;
+use jheap::{CellType, Heap, raw_laws};
 use jlib::{LIBRARY_CLASSES, LibClass, Thrown};
 use jmeaning::juses::ElementRef;
 use jmodel::jstate::{Frames, built_laws, cell_laws, celled_laws, heap_laws};

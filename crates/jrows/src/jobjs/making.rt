@@ -1,12 +1,12 @@
 ghost use Rattle.std.specs.Prelude.{◌≡◌, ◌<◌, ◌+◌, ◌^◌, ◌∷◌, [], ℕ, List, Bool, IfOk, OnOk, MatchOption, Some, length, option_map, slice_get};
-ghost use Rattle.jground.specs.declared.jheap.cell.Kind.TheVariants as kinds;
+ghost use Rattle.jheap.specs.declared.cell.Kind.TheVariants as kinds;
 ghost use Rattle.jmodel.specs.jmachine.Frames.{onward};
 ghost use Rattle.jmodel.specs.jmachine.Sites.{Site};
 ghost use Rattle.jground.specs.declared.jops.value.Value.TheVariants as values;
 ghost use Rattle.jprogram.specs.Classes.{Program};
 ghost use Rattle.jprogram.specs.declared.member.Member.{Member};
 ghost use Rattle.jprogram.specs.declared.part.ClassRef.TheVariants as refs;
-ghost use Rattle.jground.specs.declared.jtypes.vtype.Name.{Name};
+ghost use Rattle.jtypes.specs.declared.vtype.Name.{Name};
 ghost use Rattle.jmeaning.specs.juses.Instructions as instructions;
 ghost use Rattle.jmeaning.specs.juses.Meanings as meanings;
 ghost use Rattle.jmodel.specs.jstate.Celled;
@@ -23,8 +23,8 @@ ghost use Rattle.jrows.specs.jobjs.Staying.{Stays};
 
 use crate::jacts::Way;
 use crate::jobjs::fields::push_one;
-use jground::jheap::{Heap, Kind};
 use jground::jops::Value;
+use jheap::{Heap, Kind};
 use jlib::{LIBRARY_CLASSES, LibClass};
 use jmodel::jstate::{
     Frames, Shape, Shapes, built_laws, celled_laws, cells_of, heap_laws, library_number,

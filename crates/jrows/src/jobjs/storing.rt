@@ -1,7 +1,7 @@
 ghost use Rattle.std.specs.Prelude.{◌≡◌, ◌<◌, ◌≤◌, ◌+◌, ◌^◌, [], ℕ, List, Bool, is_some, length, slice_get, true};
 ghost use Rattle.jparts.specs.declared.jcode.names.Element.TheVariants as items;
 ghost use Rattle.jparts.specs.declared.jcode.form.ArrayForm.TheVariants as forms;
-ghost use Rattle.jground.specs.jheap.Heaps.{cells_at, object_at};
+ghost use Rattle.jheap.specs.Heaps.{cells_at, object_at};
 ghost use Rattle.jmodel.specs.jmachine.Arrays as rows;
 ghost use Rattle.jmodel.specs.jmachine.Narrowing.{place as place_of};
 ghost use Rattle.jmodel.specs.jmachine.Sites.{Site};
@@ -16,8 +16,8 @@ ghost use Rattle.jrows.specs.jobjs.Stored.{HasStored, MayStore, ServeStore, held
 ghost use Rattle.jrows.specs.jobjs.Staying.{Stays};
 
 use crate::jacts::{Way, int_at, put_at, way_laws, within};
-use jground::jheap::{Heap, Kind};
 use jground::jops::Value;
+use jheap::{Heap, Kind};
 use jlib::{LibClass, Thrown};
 use jmodel::jstate::{Frames, built_laws, celled_laws, heap_laws};
 

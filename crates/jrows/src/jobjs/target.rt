@@ -1,8 +1,8 @@
 ghost use Rattle.std.specs.Prelude.{◌≡◌, slice_get};
 ghost use Rattle.jrows.specs.jobjs.Serving.{target_seen};
 
-use jground::jheap::{Heap, Kind};
 use jground::jops::Value;
+use jheap::{Heap, Kind};
 use jmodel::jstate::Frames;
 
 /// What an operand is that is wanted to be an object of a class.

@@ -1,6 +1,6 @@
 ghost use Rattle.std.specs.Prelude.{◌≡◌, ◌≤◌, ◌∷◌, [], ℕ, List, IfOk, OnOk, Some, false, length as len, reverse};
-ghost use Rattle.jground.specs.jheap.Heaps.{HasCell, kind_at, with_before, with_cell};
-ghost use Rattle.jground.specs.declared.jheap.cell.Kind.TheVariants as kinds;
+ghost use Rattle.jheap.specs.Heaps.{HasCell, kind_at, with_before, with_cell};
+ghost use Rattle.jheap.specs.declared.cell.Kind.TheVariants as kinds;
 ghost use Rattle.jground.specs.declared.jops.value.Value.{Value as Held};
 ghost use Rattle.jground.specs.declared.jops.value.Value.TheVariants as values;
 ghost use Rattle.jlib.specs.declared.calls.BuilderCall.TheVariants as calls;
@@ -18,8 +18,8 @@ use crate::jtexts::ran::Ran;
 use crate::jtexts::shown::shown;
 use crate::jtexts::texts::{is_null, read_onto, text_of};
 use crate::jtexts::thrown::named_at;
-use jground::jheap::{Heap, Kind};
 use jground::jops::Value;
+use jheap::{Heap, Kind};
 use jlib::{LibClass, Piece, Thrown};
 use jmodel::jstate::{celled_laws, heap_laws, library_number, piece_laws};
 use std::alloc::{AllocError, Global};

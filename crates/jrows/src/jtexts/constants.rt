@@ -1,6 +1,6 @@
 ghost use Rattle.std.specs.Prelude.{◌≡◌, [], ℕ, List, IfOk, None, OnOk};
 ghost use Rattle.jprogram.specs.Classes.{Program};
-ghost use Rattle.jground.specs.declared.jheap.cell.Kind.TheVariants as kinds;
+ghost use Rattle.jheap.specs.declared.cell.Kind.TheVariants as kinds;
 ghost use Rattle.jmeaning.specs.juses.Meanings as meanings;
 ghost use Rattle.jmodel.specs.jmachine.Making.{push, units_of as units_held};
 ghost use Rattle.jmodel.specs.jmachine.Store.{constant_at};
@@ -12,7 +12,7 @@ ghost use Rattle.jrows.specs.jtexts.HeapTexts.{Puts};
 ghost use Rattle.jrows.specs.jtexts.Rans.{Comes, leaves};
 
 use crate::jtexts::making::put_units;
-use jground::jheap::{Heap, Kind};
+use jheap::{Heap, Kind};
 use jmodel::jstate::piece_laws;
 use std::alloc::{AllocError, Global};
 

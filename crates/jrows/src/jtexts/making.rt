@@ -1,5 +1,5 @@
 ghost use Rattle.std.specs.Prelude.{◌≡◌, ◌<◌, ◌^◌, [], ℕ, List, IfOk, OnOk, Some, length as len};
-ghost use Rattle.jground.specs.jheap.Heaps.{cells_at};
+ghost use Rattle.jheap.specs.Heaps.{cells_at};
 ghost use Rattle.jprogram.specs.Classes.{Program};
 ghost use Rattle.jmodel.specs.jmachine.Making as making;
 ghost use Rattle.jmodel.specs.declared.jstate.shapes.Shapes.{Shapes};
@@ -9,8 +9,8 @@ ghost use Rattle.jrows.specs.jtexts.HeapTexts.{HoldsUnits, Puts, written};
 ghost use Rattle.jrows.specs.jtexts.Rans.{Comes, leaves};
 
 use crate::jtexts::ran::Ran;
-use jground::jheap::{Heap, Kind};
 use jground::jops::Value;
+use jheap::{Heap, Kind};
 use jmodel::jstate::{celled_laws, piece_laws};
 use std::alloc::{AllocError, Global};
 

@@ -8,9 +8,9 @@ ghost use Rattle.jmodel.specs.jstate.Seen.{Things, store_by};
 ghost use Rattle.jrows.specs.jtexts.Printed.{Prints};
 
 use crate::jtexts::shown::shown;
-use jground::jheap::Heap;
 use jground::jops::Value;
 use jground::jtext::Units;
+use jheap::Heap;
 use jlib::Piece;
 use jmodel::jstate::heap_laws;
 use std::alloc::{AllocError, Global};

@@ -5,9 +5,9 @@ ghost use Rattle.jmodel.specs.declared.jstate.shapes.Shapes.{Shapes};
 ghost use Rattle.jmodel.specs.jstate.Seen.{Things, store_by};
 
 use crate::jtexts::texts::{read_onto, text_of};
-use jground::jheap::Heap;
 use jground::jops::Value;
 use jground::jtext::Units;
+use jheap::Heap;
 use jmodel::jstate::heap_laws;
 use std::alloc::{AllocError, Global};
 

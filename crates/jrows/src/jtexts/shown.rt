@@ -7,9 +7,9 @@ ghost use Rattle.jrows.specs.jtexts.Shown.{int_in, long_in, shown as shown_as, s
 
 use crate::jtexts::texts::{is_null, read_onto, text_of};
 use itoa::Buffer;
-use jground::jheap::Heap;
 use jground::jops::Value;
 use jground::jtext::Units;
+use jheap::Heap;
 use jlib::Piece;
 use std::alloc::{AllocError, Global};
 

@@ -1,6 +1,6 @@
 ghost use Rattle.std.specs.Prelude.{◌≡◌, ◌<◌, ◌^◌, ◌∷◌, [], ℕ, List, IfOk, OnOk, is_some, length as len, option_and_then, pos, slice_get, true};
 ghost use Rattle.std.specs.Str.{bytes_eq};
-ghost use Rattle.jground.specs.jheap.Heaps.{cells_at, object_at};
+ghost use Rattle.jheap.specs.Heaps.{cells_at, object_at};
 ghost use Rattle.jground.specs.declared.jops.value.Value.TheVariants as values;
 ghost use Rattle.jlib.specs.declared.calls.StringCall.TheVariants as calls;
 ghost use Rattle.jprogram.specs.Classes.{Program};
@@ -14,8 +14,8 @@ ghost use Rattle.jrows.specs.jtexts.Rans.{Comes, flag as flag_value, leaves};
 use crate::jtexts::making::text_made;
 use crate::jtexts::ran::Ran;
 use crate::jtexts::texts::{is_null, read_onto, text_of};
-use jground::jheap::Heap;
 use jground::jops::Value;
+use jheap::Heap;
 use jlib::{LibClass, Thrown};
 use jmodel::jstate::heap_laws;
 use std::alloc::{AllocError, Global};

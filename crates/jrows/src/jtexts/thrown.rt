@@ -1,5 +1,5 @@
 ghost use Rattle.std.specs.Prelude.{◌≡◌, ◌<◌, ◌∷◌, [], ℕ, List, drop, is_some, slice_get, true};
-ghost use Rattle.jground.specs.jheap.Heaps.{HasCell, cells_at, object_at, with_cell};
+ghost use Rattle.jheap.specs.Heaps.{HasCell, cells_at, object_at, with_cell};
 ghost use Rattle.jprogram.specs.Classes.{Program};
 ghost use Rattle.jmodel.specs.jmachine.Library.{object_init as init_row};
 ghost use Rattle.jmodel.specs.jmachine.Store.{Store};
@@ -13,8 +13,8 @@ ghost use Rattle.jrows.specs.jtexts.Messages.{CanBeTold, CanTell, message_by_sha
 ghost use Rattle.jrows.specs.jtexts.Rans.{Comes, leaves};
 
 use crate::jtexts::ran::Ran;
-use jground::jheap::{CellType, Heap, Kind};
 use jground::jops::Value;
+use jheap::{CellType, Heap, Kind};
 use jlib::LibClass;
 use jmodel::jstate::{Shapes, built_laws, celled_laws, class_numbered, heap_laws};
 use jprogram::ClassRef;

@@ -7,7 +7,7 @@ use Rattle.jprogram.specs.declared.part.CodePart.{CodePart}
 use Rattle.jprogram.specs.Parts.{code_of}
 use Rattle.jmeaning.specs.juses.Instructions.{body_in, code_at}
 use Rattle.jground.specs.declared.jops.value.Value.{Value}
-use Rattle.jground.specs.declared.jtypes.vtype.VType.{VType}
+use Rattle.jtypes.specs.declared.vtype.VType.{VType}
 use Rattle.jprogram.specs.declared.member.MethodId.{MethodId}
 use Rattle.jprogram.specs.Classes.{Program}
 use Rattle.jtyping.specs.Declared.{declared_at, first_frame, written}

@@ -8,8 +8,8 @@ use Rattle.jclass.specs.Stored.{IsIn}
 use Rattle.jlib.specs.declared.classes.LibClass.TheVariants as lib
 use Rattle.jground.specs.declared.jops.value.Value.{Value}
 use Rattle.jground.specs.declared.jops.value.Value.TheVariants.{Ref}
-use Rattle.jground.specs.declared.jtypes.vtype.VType.{VType}
-use Rattle.jground.specs.declared.jtypes.vtype.VType.TheVariants as types
+use Rattle.jtypes.specs.declared.vtype.VType.{VType}
+use Rattle.jtypes.specs.declared.vtype.VType.TheVariants as types
 use Rattle.jprogram.specs.declared.part.CodePart.{CodePart}
 use Rattle.jprogram.specs.Classes.{Program}
 use Rattle.jmodel.specs.jmachine.Fields.{out}
@@ -29,7 +29,7 @@ use Rattle.jlib.specs.declared.side.Side.{Side}
 use Rattle.jlib.specs.declared.side.Side.TheVariants.{Source, Passing}
 use Rattle.jlib.specs.Classes as library
 use Rattle.jlib.specs.Classes.{same_side}
-use Rattle.jground.specs.jtypes.Fitting.{array_fits}
+use Rattle.jtypes.specs.Fitting.{array_fits}
 use Rattle.jprogram.specs.declared.member.MethodId.{MethodId}
 use Rattle.jprogram.specs.Members.{is_init, is_main, main_desc, main_in, main_of, method_id}
 use Rattle.jprogram.specs.Parts as parts

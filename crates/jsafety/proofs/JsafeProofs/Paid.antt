@@ -1,6 +1,6 @@
 -- A store with fewer cells left holds the same.
 use Rattle.std.proofs.Common.{◌≡◌, ℕ, zero, suc, List, Some, refl}
-use Rattle.jground.specs.declared.jtypes.vtype.VType.{VType}
+use Rattle.jtypes.specs.declared.vtype.VType.{VType}
 use Rattle.jmodel.specs.jmachine.Objects.{Object}
 use Rattle.jmodel.specs.jmachine.Store.{Store, object_at, paid}
 use Rattle.jmodel.specs.jmachine.World.{World}

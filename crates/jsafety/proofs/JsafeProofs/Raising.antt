@@ -13,7 +13,7 @@ use Rattle.jprogram.specs.Standing.{StandsInOrder}
 use Rattle.jprogram.proofs.Extending.{extends_chain, extends_itself, up_is}
 use Rattle.jprogram.proofs.Settling.{name_equal}
 use Rattle.jprogram.proofs.Standing.{lib_find, not_taken}
-use Rattle.jground.specs.jtypes.Fitting.{class_fits}
+use Rattle.jtypes.specs.Fitting.{class_fits}
 use Rattle.jmodel.specs.jmachine.Objects.{library_name}
 use Rattle.jmodel.specs.jmachine.World.{world}
 use Rattle.jsafety.specs.jtyped.Values.{CanBeThrown}

@@ -12,7 +12,7 @@ use Rattle.jparts.specs.declared.jpool.entry.Entry.{Entry}
 use Rattle.jparts.specs.declared.jcode.names.CallOp.{CallOp}
 use Rattle.jparts.specs.declared.jcode.names.CallOp.TheVariants as ops
 use Rattle.jclass.specs.declared.class.ClassParts.{ClassParts}
-use Rattle.jground.specs.declared.jtypes.vtype.Name.{Name}
+use Rattle.jtypes.specs.declared.vtype.Name.{Name}
 use Rattle.jlib.specs.declared.calls.LibCall.{LibCall}
 use Rattle.jlib.specs.Calls as library_calls
 use Rattle.jlib.specs.Classes as library

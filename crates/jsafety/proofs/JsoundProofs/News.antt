@@ -15,13 +15,13 @@ use Rattle.jparts.specs.jpool.Descriptors.{descriptor_of, descriptor_text, field
 use Rattle.jparts.proofs.JpoolProofs.Spelled.{descriptor_again, descriptor_take, field_take}
 use Rattle.jclass.specs.declared.class.ClassParts.{ClassParts}
 use Rattle.jclass.specs.declared.class.MemberInfo.{MemberInfo}
-use Rattle.jground.specs.declared.jtypes.vtype.ArrayType.{ArrayType}
-use Rattle.jground.specs.declared.jtypes.vtype.Element.{Element}
-use Rattle.jground.specs.declared.jtypes.vtype.Element.TheVariants as elements
-use Rattle.jground.specs.declared.jtypes.vtype.Name.{Name}
-use Rattle.jground.specs.declared.jtypes.vtype.VType.{VType}
-use Rattle.jground.specs.declared.jtypes.vtype.VType.TheVariants as types
-use Rattle.jground.specs.jtypes.Described.{in_brackets}
+use Rattle.jtypes.specs.declared.vtype.ArrayType.{ArrayType}
+use Rattle.jtypes.specs.declared.vtype.Element.{Element}
+use Rattle.jtypes.specs.declared.vtype.Element.TheVariants as elements
+use Rattle.jtypes.specs.declared.vtype.Name.{Name}
+use Rattle.jtypes.specs.declared.vtype.VType.{VType}
+use Rattle.jtypes.specs.declared.vtype.VType.TheVariants as types
+use Rattle.jtypes.specs.Described.{in_brackets}
 use Rattle.jprogram.specs.declared.fault.LinkKind.TheVariants.{NoClass, NotAccessible}
 use Rattle.jprogram.specs.declared.part.ClassRef.TheVariants as refs
 use Rattle.jprogram.specs.declared.part.CodePart.{CodePart}

@@ -17,9 +17,9 @@ use Rattle.jparts.specs.declared.jcode.op.Switch.{Switch as SwitchOp}
 use Rattle.jparts.specs.jcode.Forms.{form}
 use Rattle.jclass.specs.declared.class.ClassParts.{ClassParts}
 use Rattle.jclass.specs.Class.{class_file}
-use Rattle.jground.specs.declared.jtypes.vtype.Name.{Name}
-use Rattle.jground.specs.declared.jtypes.vtype.VType.{VType}
-use Rattle.jground.specs.declared.jtypes.vtype.VType.TheVariants as types
+use Rattle.jtypes.specs.declared.vtype.Name.{Name}
+use Rattle.jtypes.specs.declared.vtype.VType.{VType}
+use Rattle.jtypes.specs.declared.vtype.VType.TheVariants as types
 use Rattle.jprogram.specs.declared.member.MethodId.{MethodId}
 use Rattle.jprogram.specs.Classes.{Program, above, above_name, extends, find, object, onward, ref_of, up}
 use Rattle.jprogram.specs.Parts.{super_name, this_name}

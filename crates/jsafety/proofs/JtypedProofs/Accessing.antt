@@ -10,11 +10,11 @@ use Rattle.jparts.specs.declared.jcode.form.ArrayForm.TheVariants as forms
 use Rattle.jparts.specs.jcode.Forms.{element}
 use Rattle.jlib.specs.declared.classes.LibClass.TheVariants as lib
 use Rattle.jlib.specs.declared.classes.Thrown.TheVariants as thrown
-use Rattle.jground.specs.declared.jtypes.vtype.ArrayType.{ArrayType}
-use Rattle.jground.specs.declared.jtypes.vtype.VType.{VType}
-use Rattle.jground.specs.declared.jtypes.vtype.VType.TheVariants as types
-use Rattle.jground.specs.jtypes.Frames.{Frame}
-use Rattle.jground.specs.jtypes.Tree.{Tree}
+use Rattle.jtypes.specs.declared.vtype.ArrayType.{ArrayType}
+use Rattle.jtypes.specs.declared.vtype.VType.{VType}
+use Rattle.jtypes.specs.declared.vtype.VType.TheVariants as types
+use Rattle.jtypes.specs.Frames.{Frame}
+use Rattle.jtypes.specs.Tree.{Tree}
 use Rattle.jprogram.specs.declared.member.Member.{Member}
 use Rattle.jmeaning.specs.juses.Instructions as instructions
 use Rattle.jmeaning.specs.jrule.Arrays as rules

@@ -6,9 +6,9 @@ use Rattle.std.proofs.lemmas.Grind.{flat_map-append}
 use Rattle.std.proofs.lemmas.List.{append-nil, append_assoc, reverse-append, reverse-reverse}
 use Rattle.jground.specs.declared.jops.value.Value.{Value}
 use Rattle.jground.specs.jops.Shuffles as shuffles
-use Rattle.jground.specs.declared.jtypes.vtype.VType.{VType}
-use Rattle.jground.specs.declared.jtypes.vtype.VType.TheVariants as types
-use Rattle.jground.specs.jtypes.Frames.{is_long, places, places_of}
+use Rattle.jtypes.specs.declared.vtype.VType.{VType}
+use Rattle.jtypes.specs.declared.vtype.VType.TheVariants as types
+use Rattle.jtypes.specs.Frames.{is_long, places, places_of}
 use Rattle.jmeaning.specs.jrule.Here.{Here}
 use Rattle.jtyping.specs.Declared.{filled}
 use Rattle.jmodel.specs.jmachine.Frames as machine

@@ -2,7 +2,7 @@
 use Rattle.std.proofs.Common.{◌≡◌, ℕ, zero, suc, List, [], ◌∷◌, Some, ◌⊎◌, inl, inr, sym, subst}
 use Rattle.std.specs.Bool.{⊤}
 use Rattle.std.specs.Prelude.{slice_get, slice_set}
-use Rattle.jground.specs.declared.jtypes.vtype.VType.{VType}
+use Rattle.jtypes.specs.declared.vtype.VType.{VType}
 use Rattle.jmodel.specs.jmachine.Objects.{Object, Bare, Text}
 use Rattle.jmodel.specs.jmachine.Store.{Store, object_at, with_object}
 use Rattle.jmodel.specs.jmachine.World.{World}

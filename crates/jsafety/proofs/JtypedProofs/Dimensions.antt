@@ -18,12 +18,12 @@ use Rattle.jparts.specs.declared.jmaps.types.MapType.{MapType}
 use Rattle.jparts.specs.declared.jmaps.types.MapType.TheVariants as items
 use Rattle.jparts.specs.declared.jmaps.types.RawFrame.{RawFrame}
 use Rattle.jparts.specs.jmaps.Full.{chopped, locals_after, place_from}
-use Rattle.jground.specs.declared.jtypes.vtype.Element.{Element}
-use Rattle.jground.specs.declared.jtypes.vtype.Element.TheVariants as elements
-use Rattle.jground.specs.declared.jtypes.vtype.VType.{VType}
-use Rattle.jground.specs.declared.jtypes.vtype.VType.TheVariants as types
-use Rattle.jground.specs.jtypes.Described.{in_brackets}
-use Rattle.jground.specs.jtypes.Frames.{Frame, is_long, places, places_of}
+use Rattle.jtypes.specs.declared.vtype.Element.{Element}
+use Rattle.jtypes.specs.declared.vtype.Element.TheVariants as elements
+use Rattle.jtypes.specs.declared.vtype.VType.{VType}
+use Rattle.jtypes.specs.declared.vtype.VType.TheVariants as types
+use Rattle.jtypes.specs.Described.{in_brackets}
+use Rattle.jtypes.specs.Frames.{Frame, is_long, places, places_of}
 use Rattle.jprogram.specs.Classes.{Program}
 use Rattle.jprogram.specs.Members.{init}
 use Rattle.jlinking.proofs.JlinkProofs.Having.{each_is, map_is, then_is}

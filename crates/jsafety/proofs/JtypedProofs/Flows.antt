@@ -16,9 +16,9 @@ use Rattle.jparts.specs.declared.jcode.names.RefTest.TheVariants as refs
 use Rattle.jparts.specs.declared.jcode.names.Returned.{Returned}
 use Rattle.jparts.specs.declared.jcode.names.Returned.TheVariants as results
 use Rattle.jparts.specs.jcode.Forms as forms
-use Rattle.jground.specs.declared.jtypes.vtype.VType.{VType}
-use Rattle.jground.specs.declared.jtypes.vtype.VType.TheVariants as types
-use Rattle.jground.specs.jtypes.Fitting as checked
+use Rattle.jtypes.specs.declared.vtype.VType.{VType}
+use Rattle.jtypes.specs.declared.vtype.VType.TheVariants as types
+use Rattle.jtypes.specs.Fitting as checked
 use Rattle.jclass.specs.Stored.{IsIn}
 use Rattle.jmeaning.specs.juses.Instructions.{Instruction, Jump, Switch, Throw, Test, Always, If, IfInt, IfRef, goes_on}
 use Rattle.jmeaning.specs.jrule.Effects.{Fits, Of, is_ref, of_kinds}

@@ -7,14 +7,14 @@ use Rattle.jground.specs.declared.jops.value.Value.{Value}
 use Rattle.jground.specs.declared.jops.value.Value.TheVariants.{Int, Long, Ref, Ctx}
 use Rattle.jparts.specs.declared.jcode.names.Element as items
 use Rattle.jparts.specs.declared.jcode.names.Element.TheVariants as item
-use Rattle.jground.specs.declared.jtypes.vtype.ArrayType.{ArrayType}
-use Rattle.jground.specs.declared.jtypes.vtype.Element.{Element}
-use Rattle.jground.specs.declared.jtypes.vtype.Element.TheVariants as elements
-use Rattle.jground.specs.declared.jtypes.vtype.VType.{VType}
-use Rattle.jground.specs.declared.jtypes.vtype.VType.TheVariants as types
-use Rattle.jground.specs.jtypes.Described.{alone, in_brackets}
-use Rattle.jground.specs.jtypes.Fitting.{array_fits, element_fits, is_above_array}
-use Rattle.jground.specs.jtypes.Tree.{Tree}
+use Rattle.jtypes.specs.declared.vtype.ArrayType.{ArrayType}
+use Rattle.jtypes.specs.declared.vtype.Element.{Element}
+use Rattle.jtypes.specs.declared.vtype.Element.TheVariants as elements
+use Rattle.jtypes.specs.declared.vtype.VType.{VType}
+use Rattle.jtypes.specs.declared.vtype.VType.TheVariants as types
+use Rattle.jtypes.specs.Described.{alone, in_brackets}
+use Rattle.jtypes.specs.Fitting.{array_fits, element_fits, is_above_array}
+use Rattle.jtypes.specs.Tree.{Tree}
 use Rattle.jmeaning.specs.jrule.Arrays.{component, loaded}
 use Rattle.jmeaning.specs.jrule.Effects.{Holds, Of, held_as, holds, is_array, is_ref, items_of, same_items}
 use Rattle.jmeaning.specs.jrule.Here.{Here}

@@ -9,11 +9,11 @@ use Rattle.jground.specs.declared.jops.value.Value.{Value}
 use Rattle.jparts.specs.declared.jcode.names.Returned.{Returned}
 use Rattle.jparts.specs.declared.jcode.names.Returned.TheVariants as results
 use Rattle.jparts.specs.jcode.Forms.{returned}
-use Rattle.jground.specs.declared.jtypes.vtype.VType.{VType}
-use Rattle.jground.specs.declared.jtypes.vtype.VType.TheVariants as types
-use Rattle.jground.specs.jtypes.Fitting as checked
-use Rattle.jground.specs.jtypes.Frames.{Frame, is_long}
-use Rattle.jground.specs.jtypes.Tree.{Tree}
+use Rattle.jtypes.specs.declared.vtype.VType.{VType}
+use Rattle.jtypes.specs.declared.vtype.VType.TheVariants as types
+use Rattle.jtypes.specs.Fitting as checked
+use Rattle.jtypes.specs.Frames.{Frame, is_long}
+use Rattle.jtypes.specs.Tree.{Tree}
 use Rattle.jprogram.specs.declared.member.Member.{Member}
 use Rattle.jmeaning.specs.juses.Instructions.{Instruction}
 use Rattle.jmeaning.specs.jrule.Effects.{Fits, Of, is_int, is_of, is_ref, of_kinds}

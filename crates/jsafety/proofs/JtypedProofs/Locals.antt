@@ -14,10 +14,10 @@ use Rattle.jparts.specs.declared.jcode.names.LocalKind.TheVariants as locals
 use Rattle.jparts.specs.declared.jcode.form.LocalForm.{LocalForm}
 use Rattle.jparts.specs.declared.jcode.form.LocalForm.TheVariants.{Move as Moves, Increment}
 use Rattle.jparts.specs.jcode.Forms as forms
-use Rattle.jground.specs.declared.jtypes.vtype.VType.{VType}
-use Rattle.jground.specs.declared.jtypes.vtype.VType.TheVariants as types
-use Rattle.jground.specs.jtypes.Frames as shapes
-use Rattle.jground.specs.jtypes.Frames.{Frame, is_long}
+use Rattle.jtypes.specs.declared.vtype.VType.{VType}
+use Rattle.jtypes.specs.declared.vtype.VType.TheVariants as types
+use Rattle.jtypes.specs.Frames as shapes
+use Rattle.jtypes.specs.Frames.{Frame, is_long}
 use Rattle.jprogram.specs.declared.member.Member.{Member}
 use Rattle.jmeaning.specs.juses.Instructions.{Instruction, goes_on}
 use Rattle.jmeaning.specs.jrule.Effects.{is_int, is_of}

@@ -12,12 +12,12 @@ use Rattle.jparts.specs.declared.jcode.names.CastOp.TheVariants as casts
 use Rattle.jparts.specs.declared.jcode.form.ArrayForm.TheVariants as forms
 use Rattle.jlib.specs.declared.classes.LibClass.TheVariants as lib
 use Rattle.jlib.specs.declared.classes.Thrown.TheVariants as thrown
-use Rattle.jground.specs.declared.jtypes.vtype.ArrayType.{ArrayType}
-use Rattle.jground.specs.declared.jtypes.vtype.Element.{Element}
-use Rattle.jground.specs.declared.jtypes.vtype.Element.TheVariants as elements
-use Rattle.jground.specs.declared.jtypes.vtype.VType.{VType}
-use Rattle.jground.specs.declared.jtypes.vtype.VType.TheVariants as types
-use Rattle.jground.specs.jtypes.Described.{in_brackets}
+use Rattle.jtypes.specs.declared.vtype.ArrayType.{ArrayType}
+use Rattle.jtypes.specs.declared.vtype.Element.{Element}
+use Rattle.jtypes.specs.declared.vtype.Element.TheVariants as elements
+use Rattle.jtypes.specs.declared.vtype.VType.{VType}
+use Rattle.jtypes.specs.declared.vtype.VType.TheVariants as types
+use Rattle.jtypes.specs.Described.{in_brackets}
 use Rattle.jmeaning.specs.juses.Instructions.{Instruction, goes_on}
 use Rattle.jmeaning.specs.juses.Meanings as meanings
 use Rattle.jmeaning.specs.juses.Meanings.{Pushed}

@@ -6,8 +6,8 @@ use Rattle.jground.specs.declared.jops.value.Value.{Value}
 use Rattle.jground.specs.jops.Shuffles as shuffles
 use Rattle.jground.specs.jops.Shuffles.{Item, One, Two, Move, shuffle}
 use Rattle.jground.proofs.JopsProofs.Fronts.{shuffle_front}
-use Rattle.jground.specs.declared.jtypes.vtype.VType.{VType}
-use Rattle.jground.specs.jtypes.Frames.{Frame, is_long}
+use Rattle.jtypes.specs.declared.vtype.VType.{VType}
+use Rattle.jtypes.specs.Frames.{Frame, is_long}
 use Rattle.jmeaning.specs.jrule.Here.{Here}
 use Rattle.jmeaning.specs.jrule.Locals.{is_top}
 use Rattle.jmeaning.specs.jrule.Moves.{items, moved, move}

@@ -8,13 +8,13 @@ use Rattle.jground.specs.declared.jops.value.Value.{Value}
 use Rattle.jground.specs.declared.jops.value.Value.TheVariants.{Int, Long, Ref, Ctx}
 use Rattle.jground.specs.jops.Kinds as values
 use Rattle.jground.specs.jops.Shuffles as shuffles
-use Rattle.jground.specs.declared.jtypes.vtype.ArrayType.{ArrayType}
-use Rattle.jground.specs.declared.jtypes.vtype.VType.{VType}
-use Rattle.jground.specs.declared.jtypes.vtype.VType.TheVariants as types
+use Rattle.jtypes.specs.declared.vtype.ArrayType.{ArrayType}
+use Rattle.jtypes.specs.declared.vtype.VType.{VType}
+use Rattle.jtypes.specs.declared.vtype.VType.TheVariants as types
 use Rattle.jmeaning.specs.jrule.Effects.{Want, Fits, Of, is_of, is_ref}
 use Rattle.jmeaning.specs.jrule.Here.{Here}
 use Rattle.jmeaning.specs.jrule.Locals.{is_top}
-use Rattle.jground.specs.jtypes.Frames.{is_long}
+use Rattle.jtypes.specs.Frames.{is_long}
 use Rattle.jmodel.specs.jmachine.Objects.{Object, Instance, Thrown, Text, Builder, Piece, Permission, Context, Thread, Bare, Array, class_of}
 use Rattle.jmodel.specs.jmachine.Operands.{found_type, serves, serves_as, type_of}
 use Rattle.jmodel.specs.jmachine.Store.{Store, object_at}

@@ -24,8 +24,8 @@ use Rattle.jground.proofs.JopsProofs.ByKinds.{two_there, two_gives, one_there, o
 use Rattle.jparts.specs.declared.jcode.form.Simple.{Simple}
 use Rattle.jparts.specs.declared.jcode.form.Simple.TheVariants as simples
 use Rattle.jparts.specs.jcode.Forms.{listed, simple_effect}
-use Rattle.jground.specs.declared.jtypes.vtype.VType.{VType}
-use Rattle.jground.specs.declared.jtypes.vtype.VType.TheVariants as types
+use Rattle.jtypes.specs.declared.vtype.VType.{VType}
+use Rattle.jtypes.specs.declared.vtype.VType.TheVariants as types
 use Rattle.jmeaning.specs.juses.Instructions.{Instruction, goes_on}
 use Rattle.jmeaning.specs.jrule.Effects.{Of, by_effect, of_kinds, typed}
 use Rattle.jmeaning.specs.jrule.Here.{Here}

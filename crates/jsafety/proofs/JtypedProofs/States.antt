@@ -12,9 +12,9 @@ use Rattle.jparts.specs.declared.jcode.op.Placed.{Placed}
 use Rattle.jground.specs.declared.jops.value.Value.{Value}
 use Rattle.jground.specs.declared.jops.value.Value.TheVariants.{Ref}
 use Rattle.jparts.specs.declared.jpool.entry.Entry.{Entry}
-use Rattle.jground.specs.declared.jtypes.vtype.VType.{VType}
-use Rattle.jground.specs.jtypes.Fitting.{fits}
-use Rattle.jground.specs.jtypes.Frames.{Frame}
+use Rattle.jtypes.specs.declared.vtype.VType.{VType}
+use Rattle.jtypes.specs.Fitting.{fits}
+use Rattle.jtypes.specs.Frames.{Frame}
 use Rattle.jprogram.specs.declared.member.Member.TheVariants.{Method}
 use Rattle.jprogram.specs.declared.member.MethodId.{MethodId}
 use Rattle.jprogram.specs.declared.part.CodePart.{CodePart}
@@ -39,7 +39,7 @@ use Rattle.jmodel.specs.jmachine.Store.{Store, object_at}
 use Rattle.jmodel.specs.jmachine.Unwinding.{catches, caught, handler_at, handler_from, handler_in, is_caught, number_at, resumed, takes, unwound}
 use Rattle.jparts.specs.jcode.Instructions.{covers}
 use Rattle.jmodel.specs.jmachine.World.{World, fits as runs_fits, world}
-use Rattle.jground.specs.jtypes.Tree.{Tree}
+use Rattle.jtypes.specs.Tree.{Tree}
 use Rattle.jsafety.specs.jtyped.Calling.{Coded, method}
 use Rattle.jsafety.specs.jtyped.Frames.{AllHave, Suits}
 use Rattle.jsafety.specs.jtyped.Going.{DeclareDimensions, inside}

@@ -5,12 +5,12 @@ use Rattle.jparts.specs.declared.jcode.names.CastOp.TheVariants as casts
 use Rattle.jparts.specs.declared.jcode.names.FieldOp.{FieldOp}
 use Rattle.jparts.specs.declared.jcode.form.ArrayForm.TheVariants as arrays
 use Rattle.jparts.specs.jcode.Forms.{array_effect, listed, simple_effect}
-use Rattle.jground.specs.declared.jtypes.vtype.ArrayType.{ArrayType}
-use Rattle.jground.specs.declared.jtypes.vtype.Name.{Name}
-use Rattle.jground.specs.declared.jtypes.vtype.VType.{VType}
-use Rattle.jground.specs.declared.jtypes.vtype.VType.TheVariants as types
-use Rattle.jground.specs.jtypes.Fitting as checked
-use Rattle.jground.specs.jtypes.Frames.{Frame}
+use Rattle.jtypes.specs.declared.vtype.ArrayType.{ArrayType}
+use Rattle.jtypes.specs.declared.vtype.Name.{Name}
+use Rattle.jtypes.specs.declared.vtype.VType.{VType}
+use Rattle.jtypes.specs.declared.vtype.VType.TheVariants as types
+use Rattle.jtypes.specs.Fitting as checked
+use Rattle.jtypes.specs.Frames.{Frame}
 use Rattle.jprogram.specs.declared.member.Member.{Member}
 use Rattle.jprogram.specs.Classes.{Program, tree}
 use Rattle.jprogram.specs.Standing.{StandsInOrder}

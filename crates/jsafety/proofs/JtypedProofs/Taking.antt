@@ -4,8 +4,8 @@ use Rattle.std.specs.Bool.{⊤}
 use Rattle.std.specs.Prelude.{if◌then◌else◌}
 use Rattle.jground.specs.declared.jnames.kinds.Kind.{Kind}
 use Rattle.jground.specs.declared.jops.value.Value.{Value}
-use Rattle.jground.specs.declared.jtypes.vtype.VType.{VType}
-use Rattle.jground.specs.jtypes.Tree.{Tree}
+use Rattle.jtypes.specs.declared.vtype.VType.{VType}
+use Rattle.jtypes.specs.Tree.{Tree}
 use Rattle.jmeaning.specs.jrule.Effects.{Want, Of, meets}
 use Rattle.jmeaning.specs.jrule.Operands.{below}
 use Rattle.jmeaning.specs.jrule.Here.{Here}

@@ -22,7 +22,7 @@ use Rattle.jlib.specs.declared.side.Side.TheVariants.{Source, Passing}
 use Rattle.jlib.specs.Calls.{desc_of as desc_of_call, is_field, member_named, name_of_call, owner}
 use Rattle.jlib.specs.Classes as library
 use Rattle.jlib.proofs.Found.{call_found}
-use Rattle.jground.specs.declared.jtypes.vtype.VType.TheVariants as types
+use Rattle.jtypes.specs.declared.vtype.VType.TheVariants as types
 use Rattle.jprogram.specs.declared.member.CallKind.TheVariants as kinds
 use Rattle.jprogram.specs.declared.member.ClassId.{ClassId}
 use Rattle.jprogram.specs.declared.member.Member.{Member}

@@ -4,7 +4,7 @@ use Rattle.std.specs.Bool.{⊤}
 use Rattle.std.specs.Prelude.{slice_get, slice_set, if◌then◌else◌}
 use Rattle.jlib.specs.declared.classes.LibClass.TheVariants as lib
 use Rattle.jground.specs.declared.jops.value.Value.TheVariants.{Ref}
-use Rattle.jground.specs.declared.jtypes.vtype.VType.{VType}
+use Rattle.jtypes.specs.declared.vtype.VType.{VType}
 use Rattle.jmodel.specs.jmachine.Fields.{out}
 use Rattle.jmodel.specs.jmachine.Objects.{Object, Text, Bare, class_of}
 use Rattle.jmodel.specs.jmachine.Store.{Store, next_number, object_at, with_made, with_object}

@@ -8,7 +8,7 @@ use Rattle.jlib.specs.declared.calls.RtCall.{RtCall}
 use Rattle.jlib.specs.declared.calls.RtCall.TheVariants as rt
 use Rattle.jlib.specs.declared.side.Side.{Side}
 use Rattle.jlib.specs.declared.side.Side.TheVariants.{Source, Passing}
-use Rattle.jground.specs.declared.jtypes.vtype.VType.{VType}
+use Rattle.jtypes.specs.declared.vtype.VType.{VType}
 use Rattle.jmeaning.specs.juses.Typed.{Called, Held}
 use Rattle.jsafety.specs.jyield.Laws.{CallYields}
 use Rattle.jsafety.proofs.JyieldProofs.AskingRows.{check_yields, enter_yields, kept_yields, rt_check_yields, rt_snapshot_yields, snapshot_yields}

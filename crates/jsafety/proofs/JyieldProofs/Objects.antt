@@ -8,13 +8,13 @@ use Rattle.jlib.specs.declared.classes.PermissionClass.{PermissionClass}
 use Rattle.jlib.specs.declared.classes.PermissionClass.TheVariants as permissions
 use Rattle.jlib.specs.declared.side.Side.{Side}
 use Rattle.jlib.specs.Classes as library
-use Rattle.jrights.specs.declared.jperm.permission.Permission as perms
+use Rattle.jperm.specs.declared.permission.Permission as perms
 use Rattle.jground.specs.declared.jops.value.Value.{Value}
 use Rattle.jground.specs.declared.jops.value.Value.TheVariants.{Int, Long, Ref, Ctx}
-use Rattle.jground.specs.declared.jtypes.vtype.ArrayType.{ArrayType}
-use Rattle.jground.specs.declared.jtypes.vtype.Name.{Name}
-use Rattle.jground.specs.declared.jtypes.vtype.VType.{VType}
-use Rattle.jground.specs.declared.jtypes.vtype.VType.TheVariants as types
+use Rattle.jtypes.specs.declared.vtype.ArrayType.{ArrayType}
+use Rattle.jtypes.specs.declared.vtype.Name.{Name}
+use Rattle.jtypes.specs.declared.vtype.VType.{VType}
+use Rattle.jtypes.specs.declared.vtype.VType.TheVariants as types
 use Rattle.jmeaning.specs.jrule.Effects.{is_ref}
 use Rattle.jmeaning.specs.jrule.Uses.{of_library}
 use Rattle.jmodel.specs.jmachine.Objects.{Object, Instance, Thrown, Text, Builder, Piece, Permission, Context, Thread, Bare, Array, class_of, library_name}

@@ -6,9 +6,9 @@ use Rattle.jlib.specs.declared.classes.LibClass.TheVariants as lib
 use Rattle.jlib.specs.declared.side.Side.{Side}
 use Rattle.jlib.specs.Classes as library
 use Rattle.jlib.proofs.Beginning.{none_named}
-use Rattle.jground.specs.declared.jtypes.vtype.VType.{VType}
-use Rattle.jground.specs.jtypes.Fitting as checked
-use Rattle.jground.specs.jtypes.Fitting.{class_fits, is_above_arrays}
+use Rattle.jtypes.specs.declared.vtype.VType.{VType}
+use Rattle.jtypes.specs.Fitting as checked
+use Rattle.jtypes.specs.Fitting.{class_fits, is_above_arrays}
 use Rattle.jprogram.specs.declared.part.ClassRef.TheVariants as refs
 use Rattle.jprogram.specs.declared.part.CodePart.{CodePart}
 use Rattle.jprogram.specs.Classes.{Lib, Program, User, extends, find, holds, is_interface, name_at, named, ref_of, tree}

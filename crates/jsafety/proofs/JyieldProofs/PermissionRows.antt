@@ -1,10 +1,10 @@
 -- Rows of the constructors of permissions.
 use Rattle.std.proofs.Common.{◌≡◌, ℕ, zero, suc, Bool, List, [], ◌∷◌, Option, Some, None, option_map, Result, Ok, Err, refl, sym, ap, subst, ◌∙◌}
 use Rattle.std.specs.Prelude.{option_and_then}
-use Rattle.jrights.specs.declared.jperm.permission.Permission as perms
-use Rattle.jrights.specs.declared.jperm.making.PermError.{PermError}
-use Rattle.jrights.specs.declared.jperm.making.PermError.TheVariants as faults
-use Rattle.jrights.specs.jperm.Made.{made}
+use Rattle.jperm.specs.declared.permission.Permission as perms
+use Rattle.jperm.specs.declared.making.PermError.{PermError}
+use Rattle.jperm.specs.declared.making.PermError.TheVariants as faults
+use Rattle.jperm.specs.Made.{made}
 use Rattle.jlib.specs.declared.calls.LibCall.{LibCall}
 use Rattle.jlib.specs.declared.calls.LibCall.TheVariants as calls
 use Rattle.jlib.specs.declared.calls.PermissionInit.{PermissionInit}
@@ -14,7 +14,7 @@ use Rattle.jlib.specs.declared.classes.PermissionClass.{PermissionClass}
 use Rattle.jlib.specs.declared.classes.PermissionClass.TheVariants as permissions
 use Rattle.jground.specs.declared.jops.value.Value.{Value}
 use Rattle.jground.specs.declared.jops.value.Value.TheVariants.{Ref}
-use Rattle.jground.specs.declared.jtypes.vtype.VType.{VType}
+use Rattle.jtypes.specs.declared.vtype.VType.{VType}
 use Rattle.jprogram.specs.declared.member.Member.{Member}
 use Rattle.jmeaning.specs.declared.juses.meaning.How.{How}
 use Rattle.jmeaning.specs.declared.juses.meaning.How.TheVariants as how

@@ -1,6 +1,6 @@
 -- The rules of both machines hand contexts over by their side.
 use Rattle.std.proofs.Common.{ℕ, Bool, refl}
-use Rattle.jrights.specs.declared.jperm.permission.Permission.{Permission}
+use Rattle.jperm.specs.declared.permission.Permission.{Permission}
 use Rattle.jmodel.specs.jrules.Inspecting as inspecting
 use Rattle.jmodel.specs.jrules.Plain as plain
 use Rattle.jsafety.specs.jyield.Laws.{AreSided}

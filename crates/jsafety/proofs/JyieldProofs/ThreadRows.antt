@@ -14,8 +14,8 @@ use Rattle.jthreads.specs.Table.{is_started, join_answer, joined, lives_at, tabl
 use Rattle.jthreads.specs.declared.table.Joined.{Joined}
 use Rattle.jthreads.specs.declared.table.Joined.TheVariants.{AtOnce, Waits}
 use Rattle.jthreads.specs.declared.thread.Thread as threads
-use Rattle.jground.specs.declared.jtypes.vtype.VType.{VType}
-use Rattle.jground.specs.declared.jtypes.vtype.VType.TheVariants as types
+use Rattle.jtypes.specs.declared.vtype.VType.{VType}
+use Rattle.jtypes.specs.declared.vtype.VType.TheVariants as types
 use Rattle.jprogram.specs.declared.member.Member.{Member}
 use Rattle.jmeaning.specs.declared.juses.meaning.How.{How}
 use Rattle.jmeaning.specs.declared.juses.meaning.How.TheVariants as how

@@ -1,8 +1,8 @@
 -- What an instruction is to do, by the frame that the typing rule gives behind it.
 use Rattle.std.specs.Prelude.{◌≡◌, ◌≢◌, List, ◌++◌, true, Option, Some, None}
 use Rattle.std.specs.Option.{option_to_list}
-use Rattle.jground.specs.declared.jtypes.vtype.VType.{VType}
-use Rattle.jground.specs.jtypes.Frames.{Frame}
+use Rattle.jtypes.specs.declared.vtype.VType.{VType}
+use Rattle.jtypes.specs.Frames.{Frame}
 use Rattle.jclass.specs.Stored.{IsIn}
 use Rattle.jmeaning.specs.juses.Instructions.{Instruction, goes_on, targets}
 use Rattle.jmeaning.specs.jrule.Here.{Here}

@@ -1,8 +1,8 @@
 -- What fits what where a machine runs, by what fits as programs are checked.
 use Rattle.std.specs.Prelude.{◌≡◌, ℕ, List, true, ⊤}
-use Rattle.jground.specs.declared.jtypes.vtype.VType.{VType}
-use Rattle.jground.specs.declared.jtypes.vtype.VType.TheVariants as types
-use Rattle.jground.specs.jtypes.Fitting as checked
+use Rattle.jtypes.specs.declared.vtype.VType.{VType}
+use Rattle.jtypes.specs.declared.vtype.VType.TheVariants as types
+use Rattle.jtypes.specs.Fitting as checked
 use Rattle.jprogram.specs.Classes.{Program, find, holds, implements, is_interface, tree}
 use Rattle.jprogram.specs.Standing.{StandsInOrder}
 use Rattle.jmodel.specs.jmachine.World.{fits, is_instance, world}

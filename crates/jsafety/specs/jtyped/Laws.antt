@@ -1,7 +1,7 @@
 -- Laws: where the typing rule gives a frame behind an instruction, the machine has a row that suits it.
 use Rattle.std.specs.Prelude.{◌≡◌, ⊤, Bool, true, false, List, Option, Some}
-use Rattle.jground.specs.jtypes.Fitting.{fits}
-use Rattle.jground.specs.jtypes.Frames.{Frame, frame_fits}
+use Rattle.jtypes.specs.Fitting.{fits}
+use Rattle.jtypes.specs.Frames.{Frame, frame_fits}
 use Rattle.jlib.specs.declared.calls.LibCall.{LibCall}
 use Rattle.jlib.specs.Classes as library
 use Rattle.jlib.specs.Calls as library_calls
@@ -12,8 +12,8 @@ use Rattle.jprogram.specs.declared.member.Selected.TheVariants as selected
 use Rattle.jprogram.specs.Classes.{Program, tree}
 use Rattle.jprogram.specs.Members.{as_selected, select}
 use Rattle.jprogram.specs.Standing.{StandsInOrder}
-use Rattle.jground.specs.declared.jtypes.vtype.ArrayType.{ArrayType}
-use Rattle.jground.specs.declared.jtypes.vtype.VType.TheVariants as types
+use Rattle.jtypes.specs.declared.vtype.ArrayType.{ArrayType}
+use Rattle.jtypes.specs.declared.vtype.VType.TheVariants as types
 use Rattle.jmeaning.specs.juses.Instructions.{Instruction, Used}
 use Rattle.jmeaning.specs.juses.Meanings as meanings
 use Rattle.jmeaning.specs.jrule.Effects.{is_ref}

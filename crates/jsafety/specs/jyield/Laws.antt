@@ -1,6 +1,6 @@
 -- Laws: each call of the library with values of its descriptor's types has a row, and what it gives is of the type that it returns.
 use Rattle.std.specs.Prelude.{◌≡◌, ℕ, Bool, List, [], Option, Some, None, is_some}
-use Rattle.jrights.specs.declared.jperm.permission.Permission.{Permission}
+use Rattle.jperm.specs.declared.permission.Permission.{Permission}
 use Rattle.jlib.specs.declared.calls.LibCall.{LibCall}
 use Rattle.jlib.specs.declared.calls.LibCall.TheVariants as calls
 use Rattle.jlib.specs.declared.classes.LibClass.{LibClass}
@@ -10,8 +10,8 @@ use Rattle.jlib.specs.declared.side.Side.TheVariants.{Passing}
 use Rattle.jlib.specs.Calls.{desc_of}
 use Rattle.jlib.specs.Classes.{same_side}
 use Rattle.jground.specs.declared.jops.value.Value.{Value}
-use Rattle.jground.specs.declared.jtypes.vtype.Name.{Name}
-use Rattle.jground.specs.declared.jtypes.vtype.VType.{VType}
+use Rattle.jtypes.specs.declared.vtype.Name.{Name}
+use Rattle.jtypes.specs.declared.vtype.VType.{VType}
 use Rattle.jprogram.specs.declared.member.Member.{Member}
 use Rattle.jprogram.specs.declared.member.Member.TheVariants.{LibMethod}
 use Rattle.jprogram.specs.Classes.{Program}

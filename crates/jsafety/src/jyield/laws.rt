@@ -1,5 +1,5 @@
 ghost use Rattle.std.specs.Prelude.{Bool, ℕ};
-ghost use Rattle.jrights.specs.declared.jperm.permission.Permission.{Permission};
+ghost use Rattle.jperm.specs.declared.permission.Permission.{Permission};
 ghost use Rattle.jlib.specs.declared.calls.BuilderCall.{BuilderCall};
 ghost use Rattle.jlib.specs.declared.calls.ControllerCall.{ControllerCall};
 ghost use Rattle.jlib.specs.declared.calls.LibCall.{LibCall};

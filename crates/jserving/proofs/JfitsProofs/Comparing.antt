@@ -1,10 +1,10 @@
 -- Types by number that fit.
 use Rattle.std.proofs.Common.{◌≡◌, ◌∙◌, ℕ, ◌<◌, Bool, true, false, ◌||◌, refl, sym, ap}
-use Rattle.jground.specs.declared.jtypes.vtype.Element.{Element}
-use Rattle.jground.specs.declared.jtypes.vtype.Name.{Name}
-use Rattle.jground.specs.jtypes.Fitting.{array_fits, class_fits, element_fits, is_above_array}
-use Rattle.jground.specs.jtypes.Tree.{Tree}
-use Rattle.jground.proofs.JtypesProofs.Dimensions.{as_many_fit, fewer_fail, more_fit}
+use Rattle.jtypes.specs.declared.vtype.Element.{Element}
+use Rattle.jtypes.specs.declared.vtype.Name.{Name}
+use Rattle.jtypes.specs.Fitting.{array_fits, class_fits, element_fits, is_above_array}
+use Rattle.jtypes.specs.Tree.{Tree}
+use Rattle.jtypes.proofs.Dimensions.{as_many_fit, fewer_fail, more_fit}
 use Rattle.jprogram.specs.declared.part.ClassRef.{ClassRef}
 use Rattle.jprogram.specs.declared.part.ClassRef.TheVariants as refs
 use Rattle.jprogram.specs.Classes.{Program, extends}

@@ -13,7 +13,7 @@ use Rattle.jprogram.specs.Classes.{Program}
 use Rattle.jready.specs.declared.handlers.HandlerRow.{HandlerRow}
 use Rattle.jready.specs.declared.methods.MethodRow.{MethodRow}
 use Rattle.jready.specs.Handling.{handled}
-use Rattle.jground.specs.declared.jtypes.vtype.VType.{VType}
+use Rattle.jtypes.specs.declared.vtype.VType.{VType}
 use Rattle.jmeaning.specs.juses.Instructions.{body_in, code_at}
 use Rattle.jmeaning.specs.juses.Tables.{pool_at, pool_in}
 

@@ -1,17 +1,17 @@
 -- The classes of objects.
 use Rattle.std.proofs.Common.{◌≡◌, ◌∙◌, ℕ, List, Option, Some, None, refl, sym, ap}
 use Rattle.std.specs.Prelude.{option_map, slice_get}
-use Rattle.jground.specs.declared.jheap.cell.Kind.{Kind}
-use Rattle.jground.specs.declared.jheap.cell.Kind.TheVariants as kinds
-use Rattle.jground.specs.jheap.Heaps as heaps
-use Rattle.jground.specs.jheap.Heaps.{Heaped, kind_at}
+use Rattle.jheap.specs.declared.cell.Kind.{Kind}
+use Rattle.jheap.specs.declared.cell.Kind.TheVariants as kinds
+use Rattle.jheap.specs.Heaps as heaps
+use Rattle.jheap.specs.Heaps.{Heaped, kind_at}
 use Rattle.jlib.specs.declared.classes.LibClass.TheVariants as lib
 use Rattle.jprogram.specs.declared.part.ClassRef.{ClassRef}
 use Rattle.jprogram.specs.declared.part.ClassRef.TheVariants as refs
 use Rattle.jprogram.specs.Classes.{Program}
-use Rattle.jground.specs.declared.jtypes.vtype.Name.{Name}
-use Rattle.jground.specs.declared.jtypes.vtype.VType.{VType}
-use Rattle.jground.specs.declared.jtypes.vtype.VType.TheVariants as types
+use Rattle.jtypes.specs.declared.vtype.Name.{Name}
+use Rattle.jtypes.specs.declared.vtype.VType.{VType}
+use Rattle.jtypes.specs.declared.vtype.VType.TheVariants as types
 use Rattle.jmeaning.specs.juses.Types.{array_named, class_named}
 use Rattle.jmodel.specs.jmachine.Objects.{Object, class_of, library_name}
 use Rattle.jmodel.specs.jmachine.Store.{object_at}

@@ -15,9 +15,9 @@ use Rattle.jprogram.specs.declared.part.ClassRef.TheVariants as refs
 use Rattle.jprogram.specs.Classes.{Class, Program, User, Lib, find, holds, is_interface, ref_of}
 use Rattle.jprogram.specs.Standing.{StandsInOrder}
 use Rattle.jmeaning.specs.jrule.Uses.{throwable}
-use Rattle.jground.specs.declared.jtypes.vtype.ArrayType.{ArrayType}
-use Rattle.jground.specs.declared.jtypes.vtype.VType.{VType}
-use Rattle.jground.specs.declared.jtypes.vtype.VType.TheVariants as types
+use Rattle.jtypes.specs.declared.vtype.ArrayType.{ArrayType}
+use Rattle.jtypes.specs.declared.vtype.VType.{VType}
+use Rattle.jtypes.specs.declared.vtype.VType.TheVariants as types
 use Rattle.jmeaning.specs.declared.juses.types.TypeRef.{TypeRef}
 use Rattle.jmeaning.specs.juses.Types.{named}
 

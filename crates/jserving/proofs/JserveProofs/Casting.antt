@@ -11,10 +11,10 @@ use Rattle.jlib.specs.declared.classes.Thrown.TheVariants as thrown
 use Rattle.jground.specs.declared.jnames.kinds.Kind.TheVariants as wanted
 use Rattle.jground.specs.declared.jops.value.Value.{Value}
 use Rattle.jground.specs.declared.jops.value.Value.TheVariants.{Ref}
-use Rattle.jground.specs.declared.jtypes.vtype.ArrayType.{ArrayType}
-use Rattle.jground.specs.declared.jtypes.vtype.VType.{VType}
-use Rattle.jground.specs.declared.jtypes.vtype.VType.TheVariants.{Array as ArrayVType}
-use Rattle.jground.specs.jtypes.Described.{alone, in_brackets}
+use Rattle.jtypes.specs.declared.vtype.ArrayType.{ArrayType}
+use Rattle.jtypes.specs.declared.vtype.VType.{VType}
+use Rattle.jtypes.specs.declared.vtype.VType.TheVariants.{Array as ArrayVType}
+use Rattle.jtypes.specs.Described.{alone, in_brackets}
 use Rattle.jprogram.specs.declared.member.Member.{Member}
 use Rattle.jprogram.specs.declared.part.ClassRef.TheVariants as refs
 use Rattle.jprogram.specs.Classes.{Program}

@@ -1,9 +1,9 @@
 -- How types are compared where a machine runs: as they fit, or as casts and stores into arrays ask whether an object is one of a type.
 use Rattle.std.specs.Prelude.{Bool, false, ◌||◌}
-use Rattle.jground.specs.declared.jtypes.vtype.Name.{Name}
-use Rattle.jground.specs.declared.jtypes.vtype.VType.{VType}
-use Rattle.jground.specs.jtypes.Fitting.{fits_where, is_above_arrays}
-use Rattle.jground.specs.jtypes.Tree.{Tree}
+use Rattle.jtypes.specs.declared.vtype.Name.{Name}
+use Rattle.jtypes.specs.declared.vtype.VType.{VType}
+use Rattle.jtypes.specs.Fitting.{fits_where, is_above_arrays}
+use Rattle.jtypes.specs.Tree.{Tree}
 use Rattle.jprogram.specs.Classes.{Program, implements, tree}
 use Rattle.jserving.specs.declared.jfits.fitting.Asked.{Asked}
 use Rattle.jserving.specs.declared.jfits.fitting.Asked.TheVariants as asked

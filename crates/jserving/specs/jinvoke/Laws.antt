@@ -1,10 +1,10 @@
 -- Laws of what a machine by number knows of calls and of what is thrown.
 use Rattle.std.specs.Prelude.{◌≡◌, ℕ, List, Option, Some}
-use Rattle.jground.specs.declared.jheap.cell.Kind.{Kind}
-use Rattle.jground.specs.declared.jheap.cell.Kind.TheVariants as kinds
-use Rattle.jground.specs.jheap.Heaps.{Heaped, kind_at}
+use Rattle.jheap.specs.declared.cell.Kind.{Kind}
+use Rattle.jheap.specs.declared.cell.Kind.TheVariants as kinds
+use Rattle.jheap.specs.Heaps.{Heaped, kind_at}
 use Rattle.jlib.specs.declared.calls.LibCall.{LibCall}
-use Rattle.jground.specs.declared.jtypes.vtype.VType.TheVariants as types
+use Rattle.jtypes.specs.declared.vtype.VType.TheVariants as types
 use Rattle.jprogram.specs.Classes.{Program}
 use Rattle.jmeaning.specs.declared.juses.meaning.How.{How}
 use Rattle.jmeaning.specs.declared.juses.meaning.Span.{Span}

@@ -1,7 +1,7 @@
 -- What is thrown is handled where the machine's definition says.
 use Rattle.std.specs.Prelude.{ℕ, List}
 use Rattle.std.specs.List.{AllByRecursion}
-use Rattle.jground.specs.declared.jtypes.vtype.VType.{VType}
+use Rattle.jtypes.specs.declared.vtype.VType.{VType}
 use Rattle.jprogram.specs.Classes.{Program}
 use Rattle.jmodel.specs.jmachine.Acts.{FrameOf}
 use Rattle.jmodel.specs.jmachine.Unwinding.{handler_at}

@@ -1,7 +1,7 @@
 -- The array into which a reference is stored.
 use Rattle.std.specs.Prelude.{ℕ, Option, Some, None}
-use Rattle.jground.specs.declared.jheap.cell.Kind.{Kind}
-use Rattle.jground.specs.declared.jheap.cell.Kind.TheVariants as kinds
+use Rattle.jheap.specs.declared.cell.Kind.{Kind}
+use Rattle.jheap.specs.declared.cell.Kind.TheVariants as kinds
 use Rattle.jrows.specs.declared.jobjs.storing.Held.{Held}
 use Rattle.jrows.specs.declared.jobjs.storing.Held.TheVariants as helds
 

@@ -1,8 +1,8 @@
 -- The cells of the objects of users' classes, by the places of these classes: those of the classes above first.
 use Rattle.std.specs.Prelude.{◌≡◌, ◌+◌, ◌<◌, ◌^◌, ℕ, List, [], length, map, Option, Some, None, slice_get}
 use Rattle.std.specs.List.{filter}
-use Rattle.jground.specs.declared.jheap.cell.CellType.{CellType}
-use Rattle.jground.specs.declared.jheap.cell.CellType.TheVariants as cells
+use Rattle.jheap.specs.declared.cell.CellType.{CellType}
+use Rattle.jheap.specs.declared.cell.CellType.TheVariants as cells
 use Rattle.jclass.specs.declared.class.MemberInfo.{MemberInfo}
 use Rattle.jprogram.specs.declared.part.CodePart.{CodePart}
 use Rattle.jprogram.specs.Parts.{this_name}

@@ -1,6 +1,6 @@
 ghost use Rattle.std.specs.Prelude.{◌≡◌, true};
-ghost use Rattle.jground.specs.declared.jtypes.vtype.VType.TheVariants as types;
-ghost use Rattle.jground.specs.jtypes.Fitting;
+ghost use Rattle.jtypes.specs.declared.vtype.VType.TheVariants as types;
+ghost use Rattle.jtypes.specs.Fitting;
 ghost use Rattle.jprogram.specs.Classes.{tree};
 ghost use Rattle.jprogram.specs.Implementing.{IsNumber};
 ghost use Rattle.jmeaning.specs.juses.Types.{class_named, element_named, named};

@@ -2,7 +2,7 @@ ghost use Rattle.std.specs.Prelude.{◌≡◌};
 ghost use Rattle.std.specs.List.{find};
 ghost use Rattle.jmodel.specs.jmachine.Unwinding.{handler_at};
 ghost use Rattle.jready.specs.Handling.{handled, row_takes};
-ghost use Rattle.jground.specs.declared.jtypes.vtype.VType.TheVariants as types;
+ghost use Rattle.jtypes.specs.declared.vtype.VType.TheVariants as types;
 ghost use Rattle.jmeaning.specs.juses.Tables.{pool_at};
 ghost use Rattle.jmeaning.specs.juses.Types.{class_named};
 ghost use Rattle.jserving.specs.jinvoke.Told.{Told};

@@ -9,7 +9,7 @@ ghost use Rattle.jprogram.specs.declared.member.Member.TheVariants as members;
 ghost use Rattle.jprogram.specs.declared.member.Selected.TheVariants as selections;
 ghost use Rattle.jprogram.specs.Classes.{Program};
 ghost use Rattle.jready.specs.Meant.{call_form};
-ghost use Rattle.jground.specs.jtypes.Fitting;
+ghost use Rattle.jtypes.specs.Fitting;
 ghost use Rattle.jmeaning.specs.declared.juses.types.TypeRef.{TypeRef};
 ghost use Rattle.jmeaning.specs.juses.Meanings.{call_named, meaning_of};
 ghost use Rattle.jmeaning.specs.juses.Types.{class_named};
@@ -20,7 +20,7 @@ ghost use Rattle.jserving.specs.jinvoke.Faces.{face_answer};
 
 use crate::jinvoke::asked::{Asked, Face};
 use crate::jinvoke::known::Known;
-use jground::jheap::Kind;
+use jheap::Kind;
 use jlib::{LibCall, LibClass};
 use jmeaning::juses::{CallUse, How, Use, code_at};
 use jmodel::jstate::{class_numbered, library_number};

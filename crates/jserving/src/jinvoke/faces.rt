@@ -14,7 +14,7 @@ use crate::jinvoke::answers::Calls;
 use crate::jinvoke::asked::Face;
 use crate::jinvoke::choosing::{Answer, number_of};
 use crate::jinvoke::invoking::found_by;
-use jground::jheap::Heap;
+use jheap::Heap;
 use jlib::Thrown;
 use jmodel::jstate::heap_laws;
 use jrows::jcalls::{Callee, Found};

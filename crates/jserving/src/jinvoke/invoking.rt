@@ -7,7 +7,7 @@ ghost use Rattle.jserving.specs.jinvoke.Invoking.{CallWithin, answer_at, Invokes
 
 use crate::jinvoke::answers::Calls;
 use crate::jinvoke::choosing::{Answer, CallKey, Chosen, asked_of};
-use jground::jheap::Heap;
+use jheap::Heap;
 use jmeaning::juses::How;
 use jmodel::jstate::{Frames, heap_laws};
 use jrows::jcalls::{

@@ -1,5 +1,5 @@
 ghost use Rattle.std.specs.Prelude.{◌≡◌, ◌≤◌, ◌+◌, ℕ, length, slice_get, true};
-ghost use Rattle.jground.specs.jheap.Heaps.{kind_at};
+ghost use Rattle.jheap.specs.Heaps.{kind_at};
 ghost use Rattle.jmodel.specs.jmachine.Store.{Store};
 ghost use Rattle.jmeaning.specs.juses.Meanings.{CallMeaning};
 ghost use Rattle.jmeaning.specs.declared.juses.meaning.How.TheVariants as how;

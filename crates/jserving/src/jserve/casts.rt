@@ -14,10 +14,10 @@ ghost use Rattle.jprogram.specs.Classes.{Program};
 ghost use Rattle.jmeaning.specs.jrule.Arrays;
 ghost use Rattle.jmeaning.specs.jrule.Effects;
 ghost use Rattle.jmeaning.specs.jrule.Effects.{Of, of_kinds};
-ghost use Rattle.jground.specs.declared.jtypes.vtype.VType.{VType};
+ghost use Rattle.jtypes.specs.declared.vtype.VType.{VType};
 ghost use Rattle.jmeaning.specs.juses.Meanings as meanings;
 ghost use Rattle.jmeaning.specs.juses.Types.{array_named, element_named, named};
-ghost use Rattle.jground.specs.jtypes.Described;
+ghost use Rattle.jtypes.specs.Described;
 ghost use Rattle.jserving.specs.jserve.Served.{ServeThrown, one_serves, serves_in};
 ghost use Rattle.jserving.specs.jserve.Valued.{IsStore, type_in};
 

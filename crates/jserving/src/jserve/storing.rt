@@ -1,6 +1,6 @@
 ghost use Rattle.std.specs.Prelude.{◌≡◌, ◌<◌, ℕ, IfSome, Some, length, slice_get};
 ghost use Rattle.jparts.specs.declared.jcode.names.Element.TheVariants as items;
-ghost use Rattle.jground.specs.jheap.Heaps.{kind_at};
+ghost use Rattle.jheap.specs.Heaps.{kind_at};
 ghost use Rattle.jmodel.specs.jmachine.Sites.{Site};
 ghost use Rattle.jmodel.specs.jmachine.Store.{Store};
 ghost use Rattle.jmodel.specs.jmachine.World.{world};
@@ -18,8 +18,8 @@ ghost use Rattle.jserving.specs.jserve.Valued.{IsStore};
 use crate::jfits::Ancestors;
 use crate::jserve::casts::{is_stored, ref_at};
 use crate::jserve::values::{Objects, value_type};
-use jground::jheap::{Heap, Kind};
 use jground::jops::Value;
+use jheap::{Heap, Kind};
 use jmeaning::juses::{ArrayRef, ElementRef, TypeRef};
 use jmodel::jstate::{Frames, array_type, heap_laws};
 

@@ -1,10 +1,10 @@
 ghost use Rattle.std.specs.Prelude.{◌≡◌, ◌<◌, None, Some, option_and_then};
-ghost use Rattle.jground.specs.jheap.Heaps.{object_at};
+ghost use Rattle.jheap.specs.Heaps.{object_at};
 ghost use Rattle.jserving.specs.jserve.Valued;
 ghost use Rattle.jserving.specs.jserve.Valued.{type_in};
 
-use jground::jheap::{Heap, Kind};
 use jground::jops::Value;
+use jheap::{Heap, Kind};
 use jlib::LibClass;
 use jmeaning::juses::TypeRef;
 use jmodel::jstate::{Shapes, array_type, class_numbered};

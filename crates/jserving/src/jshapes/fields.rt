@@ -9,7 +9,7 @@ ghost use Rattle.jserving.specs.jshapes.Fielded;
 use bitflags::Flags;
 use jclass::{Access, MemberInfo};
 use jground::jbase::Seq;
-use jground::jheap::CellType;
+use jheap::CellType;
 use jlinking::jlink::LinkedProgram;
 use jmeaning::jlayout::held_type;
 use jmeaning::juses::TypeRef;

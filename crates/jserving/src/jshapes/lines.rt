@@ -5,7 +5,7 @@ ghost use Rattle.jserving.specs.jshapes.Fielded.{AreLines, IsLine};
 
 use crate::jshapes::fields::own_cells;
 use jground::jbase::Seq;
-use jground::jheap::CellType;
+use jheap::CellType;
 use jlinking::jlink::LinkedProgram;
 use jprogram::{ClassRef, CodePart};
 use std::alloc::{AllocError, Global};

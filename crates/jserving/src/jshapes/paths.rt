@@ -7,7 +7,7 @@ ghost use Rattle.jserving.specs.jshapes.Fielded.{AreLines};
 
 use crate::jshapes::lines::Line;
 use jground::jbase::Seq;
-use jground::jheap::CellType;
+use jheap::CellType;
 use jlinking::jlink::LinkedProgram;
 use std::alloc::{AllocError, Global};
 

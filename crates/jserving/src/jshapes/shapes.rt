@@ -11,7 +11,7 @@ ghost use Rattle.jserving.specs.jshapes.Tied.{AreTied};
 use crate::jshapes::arrays::{NumberArrays, arrays_of, number_arrays};
 use crate::jshapes::users::users_of;
 use jground::jbase::Seq;
-use jground::jheap::CellType;
+use jheap::CellType;
 use jmodel::jstate::Shapes;
 use jready::Ready;
 use std::alloc::{AllocError, Global};

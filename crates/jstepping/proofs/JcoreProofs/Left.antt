@@ -1,7 +1,7 @@
 -- A machine in the midst of a step, by what it was.
 use Rattle.std.proofs.Common.{◌∙◌, ℕ, inl, inr, refl, subst, sym, ap}
-use Rattle.jground.specs.declared.jheap.cell.Kind.TheVariants as kinds
-use Rattle.jground.specs.jheap.Heaps.{Heaped}
+use Rattle.jheap.specs.declared.cell.Kind.TheVariants as kinds
+use Rattle.jheap.specs.Heaps.{Heaped}
 use Rattle.jlib.specs.declared.classes.Thrown.{Thrown as ThrownClass}
 use Rattle.jprogram.specs.Classes.{Program}
 use Rattle.jmodel.specs.jmachine.Acts.{State}

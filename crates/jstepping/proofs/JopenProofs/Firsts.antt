@@ -6,7 +6,7 @@ use Rattle.std.specs.Str.{bytes_eq}
 use Rattle.std.proofs.lemmas.Slice.Eq.{bytes_eq-Decides}
 use Rattle.jclass.specs.declared.class.ClassParts.{ClassParts}
 use Rattle.jclass.specs.declared.class.MemberInfo.{MemberInfo}
-use Rattle.jground.specs.declared.jheap.cell.CellType.{CellType}
+use Rattle.jheap.specs.declared.cell.CellType.{CellType}
 use Rattle.jground.specs.declared.jops.value.Value.{Value}
 use Rattle.jground.specs.declared.jops.value.Value.TheVariants.{Ref}
 use Rattle.jparts.specs.declared.jpool.entry.Entry.{Entry}
@@ -14,7 +14,7 @@ use Rattle.jparts.specs.declared.jpool.entry.Entry.TheVariants as entries
 use Rattle.jprogram.specs.declared.part.CodePart.{CodePart}
 use Rattle.jprogram.specs.Classes.{Program}
 use Rattle.jprogram.specs.Parts.{member_desc, text}
-use Rattle.jground.specs.declared.jtypes.vtype.Element.{Element}
+use Rattle.jtypes.specs.declared.vtype.Element.{Element}
 use Rattle.jmeaning.specs.jlayout.Layout.{element, field_type}
 use Rattle.jmodel.specs.jmachine.Making.{units_of}
 use Rattle.jmodel.specs.jmachine.Narrowing.{default, narrowed}

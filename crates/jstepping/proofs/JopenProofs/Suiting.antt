@@ -5,9 +5,9 @@ use Rattle.std.specs.List.{AllByRecursion, filter, flat_map, list_all}
 use Rattle.std.proofs.lemmas.List.{map-append}
 use Rattle.jground.specs.jbase.First.{first_some}
 use Rattle.jground.proofs.JformatProofs.Steps.{first_true, second_true}
-use Rattle.jground.specs.declared.jheap.cell.CellType.{CellType}
-use Rattle.jground.specs.declared.jheap.cell.CellType.TheVariants as cells
-use Rattle.jground.specs.jheap.Raw.{type_of}
+use Rattle.jheap.specs.declared.cell.CellType.{CellType}
+use Rattle.jheap.specs.declared.cell.CellType.TheVariants as cells
+use Rattle.jheap.specs.Raw.{type_of}
 use Rattle.jground.specs.declared.jops.value.Value.{Value}
 use Rattle.jground.specs.declared.jops.value.Value.TheVariants.{Ref}
 use Rattle.jparts.specs.declared.jpool.entry.Entry.{Entry}
@@ -22,9 +22,9 @@ use Rattle.jclass.specs.Rules.{suits, suits_field, suits_type}
 use Rattle.jprogram.specs.declared.part.CodePart.{CodePart}
 use Rattle.jprogram.specs.Classes.{Program, find}
 use Rattle.jprogram.specs.Parts.{member_desc, or_empty, text}
-use Rattle.jground.specs.declared.jtypes.vtype.Element.TheVariants as elements
-use Rattle.jground.specs.declared.jtypes.vtype.VType.{VType}
-use Rattle.jground.specs.declared.jtypes.vtype.VType.TheVariants as types
+use Rattle.jtypes.specs.declared.vtype.Element.TheVariants as elements
+use Rattle.jtypes.specs.declared.vtype.VType.{VType}
+use Rattle.jtypes.specs.declared.vtype.VType.TheVariants as types
 use Rattle.jmeaning.specs.juses.Typed as typing
 use Rattle.jmeaning.specs.juses.Typed.{type_in, typed}
 use Rattle.jmeaning.specs.jlayout.Layout.{element, field_type, held, is_static}

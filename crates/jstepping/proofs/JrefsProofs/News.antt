@@ -20,12 +20,12 @@ use Rattle.jprogram.specs.Classes.{Program, find, name_at, ref_of}
 use Rattle.jprogram.specs.Members.{init}
 use Rattle.jprogram.proofs.Numbers.{own_number}
 use Rattle.jprogram.proofs.Standing.{Libs, Nowhere, Stands, Users, stands}
-use Rattle.jground.specs.declared.jtypes.vtype.Element.{Element}
-use Rattle.jground.specs.declared.jtypes.vtype.Element.TheVariants as elements
-use Rattle.jground.specs.declared.jtypes.vtype.Name.{Name}
-use Rattle.jground.specs.declared.jtypes.vtype.VType.{VType}
-use Rattle.jground.specs.declared.jtypes.vtype.VType.TheVariants as types
-use Rattle.jground.specs.jtypes.Described.{in_brackets}
+use Rattle.jtypes.specs.declared.vtype.Element.{Element}
+use Rattle.jtypes.specs.declared.vtype.Element.TheVariants as elements
+use Rattle.jtypes.specs.declared.vtype.Name.{Name}
+use Rattle.jtypes.specs.declared.vtype.VType.{VType}
+use Rattle.jtypes.specs.declared.vtype.VType.TheVariants as types
+use Rattle.jtypes.specs.Described.{in_brackets}
 use Rattle.jmeaning.specs.declared.juses.types.ArrayRef.{ArrayRef}
 use Rattle.jmeaning.specs.juses.Meanings as meanings
 use Rattle.jmeaning.specs.juses.Meanings.{AClass, AConstant, AField, AMethod, Cast, EntryMeaning, Make, Meaning, cast_by, entry_meant, field_entry, made, meant, method_entry, reference, used}

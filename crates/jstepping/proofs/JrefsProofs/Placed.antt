@@ -4,7 +4,7 @@ use Rattle.std.specs.Prelude.{map, nat_lt, option_and_then, option_map, slice_ge
 use Rattle.std.proofs.lemmas.Option.{slice_get-map, slice_get_within}
 use Rattle.jclass.specs.declared.class.ClassParts.{ClassParts}
 use Rattle.jclass.specs.declared.class.MemberInfo.{MemberInfo}
-use Rattle.jground.specs.declared.jheap.cell.CellType.{CellType}
+use Rattle.jheap.specs.declared.cell.CellType.{CellType}
 use Rattle.jprogram.specs.declared.member.Member.TheVariants as members
 use Rattle.jprogram.specs.declared.part.ClassRef.{ClassRef}
 use Rattle.jprogram.specs.declared.part.ClassRef.TheVariants as refs
@@ -15,8 +15,8 @@ use Rattle.jprogram.specs.Classes.{Program, User, extends, find, name_at, named,
 use Rattle.jprogram.specs.Members.{info_of, is_static, part_of, user_is}
 use Rattle.jprogram.specs.Standing.{StandsInOrder}
 use Rattle.jprogram.proofs.Numbers.{own_number}
-use Rattle.jground.specs.declared.jtypes.vtype.VType.{VType}
-use Rattle.jground.specs.declared.jtypes.vtype.VType.TheVariants as types
+use Rattle.jtypes.specs.declared.vtype.VType.{VType}
+use Rattle.jtypes.specs.declared.vtype.VType.TheVariants as types
 use Rattle.jmeaning.specs.juses.Meanings.{FieldMeaning}
 use Rattle.jmeaning.specs.jlayout.Layout as fields
 use Rattle.jmeaning.specs.jlayout.Layout.{field_type, layout, slot}

@@ -1,7 +1,7 @@
 -- Rows that were done for all that makes the same of the objects were done for what the machine keeps, and leave them alike.
 use Rattle.std.proofs.Common.{◌≡◌, ℕ, [], Option, Some, None, refl, sym, subst}
 use Rattle.std.specs.Prelude.{Result, Ok, Err, IfOk, false}
-use Rattle.jground.specs.jheap.Heaps.{Heaped}
+use Rattle.jheap.specs.Heaps.{Heaped}
 use Rattle.jmodel.specs.jmachine.Acts.{FrameOf}
 use Rattle.jmodel.specs.jmachine.Sites.{Site}
 use Rattle.jmodel.specs.jmachine.Steps.{own_fields}

@@ -1,6 +1,6 @@
 -- Stores that are the same, whatever else is kept.
 use Rattle.std.proofs.Common.{◌≡◌, ℕ, List, ap}
-use Rattle.jground.specs.jheap.Heaps.{Heaped}
+use Rattle.jheap.specs.Heaps.{Heaped}
 use Rattle.jmodel.specs.jmachine.Objects.{Object}
 use Rattle.jmodel.specs.jstate.Seen.{Things, store_by, values_of}
 use Rattle.jrows.specs.declared.jcalls.ready.Counts.{Counts}

@@ -2,9 +2,9 @@
 use Rattle.std.proofs.Common.{◌≡◌, ℕ, Some, refl, sym, subst}
 use Rattle.std.specs.Prelude.{IfOk, Result}
 use Rattle.jparts.specs.declared.jcode.names.FieldOp.{FieldOp}
-use Rattle.jground.specs.jheap.Heaps.{Heaped}
+use Rattle.jheap.specs.Heaps.{Heaped}
 use Rattle.jprogram.specs.declared.member.Member.TheVariants as members
-use Rattle.jground.specs.declared.jtypes.vtype.VType.{VType}
+use Rattle.jtypes.specs.declared.vtype.VType.{VType}
 use Rattle.jmeaning.specs.juses.Instructions.{Instruction, Used}
 use Rattle.jmeaning.specs.juses.Meanings as meanings
 use Rattle.jmeaning.specs.juses.Meanings.{FieldMeaning}

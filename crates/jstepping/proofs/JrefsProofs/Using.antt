@@ -8,7 +8,7 @@ use Rattle.jparts.specs.declared.jcode.names.Element.TheVariants as items
 use Rattle.jparts.specs.declared.jcode.names.FieldOp.{FieldOp}
 use Rattle.jparts.specs.declared.jcode.names.FieldOp.TheVariants as ops
 use Rattle.jparts.specs.declared.jcode.names.RefTest.{RefTest}
-use Rattle.jground.specs.jheap.Heaps.{Heaped}
+use Rattle.jheap.specs.Heaps.{Heaped}
 use Rattle.jlib.specs.declared.classes.LibClass.{LibClass}
 use Rattle.jground.specs.declared.jops.value.Value.{Value}
 use Rattle.jparts.specs.declared.jpool.entry.Entry.{Entry}
@@ -21,9 +21,9 @@ use Rattle.jprogram.specs.Members.{is_static}
 use Rattle.jlinking.specs.jreferring.References.{takes_static}
 use Rattle.jmeaning.specs.jrule.Effects.{Fits}
 use Rattle.jmeaning.specs.jrule.Uses.{exchange}
-use Rattle.jground.specs.declared.jtypes.vtype.Name.{Name}
-use Rattle.jground.specs.declared.jtypes.vtype.VType.{VType}
-use Rattle.jground.specs.declared.jtypes.vtype.VType.TheVariants as types
+use Rattle.jtypes.specs.declared.vtype.Name.{Name}
+use Rattle.jtypes.specs.declared.vtype.VType.{VType}
+use Rattle.jtypes.specs.declared.vtype.VType.TheVariants as types
 use Rattle.jmeaning.specs.juses.Instructions as instructions
 use Rattle.jmeaning.specs.juses.Meanings as meanings
 use Rattle.jmeaning.specs.juses.Meanings.{FieldMeaning, Make, meant}

@@ -4,7 +4,7 @@ use Rattle.std.proofs.Math.Dec.{leb-zero}
 use Rattle.std.specs.Prelude.{◌-◌, length, nat_le, if◌then◌else◌}
 use Rattle.jrights.specs.declared.jtrace.event.Event.{Event}
 use Rattle.jrights.specs.declared.jtrace.event.End.TheVariants.{HeapFull}
-use Rattle.jground.specs.declared.jtypes.vtype.VType.{VType}
+use Rattle.jtypes.specs.declared.vtype.VType.{VType}
 use Rattle.jlib.specs.declared.classes.LibClass.{LibClass}
 use Rattle.jground.specs.declared.jops.value.Value.{Value}
 use Rattle.jprogram.specs.Classes.{Program}

@@ -1,9 +1,9 @@
 -- What a step leaves of the objects: their cells, and what they name of what is kept.
 use Rattle.std.proofs.Common.{◌≡◌, List, inl, inr, subst, sym}
 use Rattle.std.specs.Prelude.{IfOk, Ok, Err, OnOk, Result}
-use Rattle.jground.specs.declared.jheap.cell.Kind.TheVariants as kinds
-use Rattle.jground.specs.jheap.Heaps as heaps
-use Rattle.jground.specs.jheap.Heaps.{Heaped}
+use Rattle.jheap.specs.declared.cell.Kind.TheVariants as kinds
+use Rattle.jheap.specs.Heaps as heaps
+use Rattle.jheap.specs.Heaps.{Heaped}
 use Rattle.jlib.specs.declared.classes.LibClass.{LibClass}
 use Rattle.jlib.specs.declared.classes.Thrown.{Thrown as ThrownClass}
 use Rattle.jprogram.specs.Classes.{Program}

@@ -4,7 +4,7 @@ use Rattle.std.specs.Prelude.{IfOk, Ok, Err, Result, option_map, slice_get}
 use Rattle.jparts.specs.declared.jcode.form.LocalForm.{LocalForm}
 use Rattle.jparts.specs.declared.jcode.form.Simple.TheVariants as simples
 use Rattle.jrights.specs.declared.jdomain.verdict.Verdict.TheVariants.{Granted}
-use Rattle.jground.specs.jheap.Heaps.{Heaped}
+use Rattle.jheap.specs.Heaps.{Heaped}
 use Rattle.jlib.specs.declared.side.Side.TheVariants.{Passing}
 use Rattle.jground.specs.declared.jnames.names.Shuffle.{Shuffle}
 use Rattle.jparts.specs.declared.jpool.entry.Entry.{Entry}

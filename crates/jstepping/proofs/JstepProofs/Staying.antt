@@ -17,8 +17,8 @@ use Rattle.jprogram.specs.declared.member.Member.{Member}
 use Rattle.jmeaning.specs.jrule.Effects.{Of, of_kinds}
 use Rattle.jmeaning.specs.jrule.Straight.{tested}
 use Rattle.jmeaning.specs.jrule.Uses.{exchange}
-use Rattle.jground.specs.declared.jtypes.vtype.ArrayType.{ArrayType}
-use Rattle.jground.specs.declared.jtypes.vtype.VType.TheVariants as types
+use Rattle.jtypes.specs.declared.vtype.ArrayType.{ArrayType}
+use Rattle.jtypes.specs.declared.vtype.VType.TheVariants as types
 use Rattle.jmeaning.specs.juses.Instructions.{Instruction, Simple, Local, Stack, Jump, Switch, Return, Throw, Array, Used, Test}
 use Rattle.jmeaning.specs.juses.Meanings as meanings
 use Rattle.jmodel.specs.jmachine.Acts.{Act, FrameOf, Goes, Jumps, Leaves, Calls, Raises, Throws, Switches, Makes, Row, gives, raises}

@@ -1,6 +1,6 @@
 -- A machine in the midst of a step, when its running thread has other frames, and it another heap, permissions and kept numbers.
 use Rattle.std.specs.Prelude.{◌≡◌, ℕ, Option, Some}
-use Rattle.jground.specs.jheap.Heaps.{Heaped}
+use Rattle.jheap.specs.Heaps.{Heaped}
 use Rattle.jlib.specs.declared.classes.Thrown.{Thrown as ThrownClass}
 use Rattle.jmodel.specs.jmachine.Acts.{State}
 use Rattle.jmodel.specs.jmachine.Turns.{thread_of}

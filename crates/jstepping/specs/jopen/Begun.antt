@@ -1,6 +1,6 @@
 -- The heap in which a run begins.
 use Rattle.std.specs.Prelude.{◌≡◌, ◌<◌, ◌≤◌, ℕ, List, [], length, Option, Some, None}
-use Rattle.jground.specs.jheap.Heaps.{Heaped}
+use Rattle.jheap.specs.Heaps.{Heaped}
 use Rattle.jprogram.specs.Classes.{Program}
 use Rattle.jmodel.specs.jmachine.Opening.{arguments_number, opening_charge, opening_store}
 use Rattle.jready.specs.declared.statics.StaticRow.{StaticRow}

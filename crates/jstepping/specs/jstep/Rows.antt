@@ -1,7 +1,7 @@
 -- What an instruction by number did that the machine's definition has a row for.
 use Rattle.std.specs.Prelude.{◌≡◌, ⊤, ℕ, List, [], Option, Some}
 use Rattle.jparts.specs.declared.jcode.names.Element.TheVariants as items
-use Rattle.jground.specs.jheap.Heaps.{Heaped}
+use Rattle.jheap.specs.Heaps.{Heaped}
 use Rattle.jground.specs.declared.jops.value.Value.{Value}
 use Rattle.jground.specs.declared.jops.value.Value.TheVariants as values
 use Rattle.jprogram.specs.Classes.{Program}

@@ -1,13 +1,13 @@
 -- What a step by number came to, whatever the rules are that it runs under.
 use Rattle.std.specs.Prelude.{◌≡◌, ◌≤◌, ⊤, ℕ, true, false, List, [], ◌∷◌, length, map, take, Option, Some, None}
-use Rattle.jground.specs.declared.jheap.cell.Kind.TheVariants as kinds
-use Rattle.jground.specs.jheap.Heaps.{Heaped, Object, kind_at}
+use Rattle.jheap.specs.declared.cell.Kind.TheVariants as kinds
+use Rattle.jheap.specs.Heaps.{Heaped, Object, kind_at}
 use Rattle.jparts.specs.declared.jcode.names.Returned.{Returned}
 use Rattle.jlib.specs.declared.calls.LibCall.{LibCall}
 use Rattle.jlib.specs.declared.classes.LibClass.TheVariants as lib
 use Rattle.jlib.specs.declared.classes.Thrown.{Thrown as ThrownClass}
-use Rattle.jground.specs.declared.jtypes.vtype.VType.{VType}
-use Rattle.jground.specs.declared.jtypes.vtype.VType.TheVariants as types
+use Rattle.jtypes.specs.declared.vtype.VType.{VType}
+use Rattle.jtypes.specs.declared.vtype.VType.TheVariants as types
 use Rattle.jrights.specs.declared.jtrace.event.Event.{Event}
 use Rattle.jrights.specs.declared.jtrace.event.Event.TheVariants.{Throw, Uncaught}
 use Rattle.jrights.specs.declared.jtrace.event.End.TheVariants.{HeapFull}

@@ -4,12 +4,12 @@ ghost use Rattle.jstepping.specs.jcore.Machines.{state_of};
 
 use crate::jstep::Fixed;
 use jground::jbase::Seq;
-use jground::jheap::Heap;
+use jheap::Heap;
 use jlib::Side;
 use jlibcalls::jconstants::Constants;
 use jmodel::jguests::Guests;
 use jmodel::jmachine::Plan;
-use jrights::jperm::Permission;
+use jperm::Permission;
 use jserving::jinvoke::Calls;
 
 /// A machine by numbers. `M` is what a frame carries.

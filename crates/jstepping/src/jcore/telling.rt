@@ -1,6 +1,6 @@
 ghost use Rattle.std.specs.Prelude.{◌≡◌, IfOk, map};
 ghost use Rattle.jprogram.specs.Classes.{name_at};
-ghost use Rattle.jground.specs.declared.jtypes.vtype.VType.TheVariants as types;
+ghost use Rattle.jtypes.specs.declared.vtype.VType.TheVariants as types;
 ghost use Rattle.jmeaning.specs.juses.Types.{class_named};
 ghost use Rattle.jmodel.specs.jmachine.Making;
 ghost use Rattle.jmodel.specs.jmachine.Unwinding;

@@ -5,7 +5,7 @@ ghost use Rattle.jstepping.specs.jopen.Begun.{BeginsOr, HasOut, HasStrings};
 
 use crate::jopen::statics::put_statics;
 use crate::jopen::texts::make_all;
-use jground::jheap::{Heap, Kind};
+use jheap::{Heap, Kind};
 use jlib::LibClass;
 use jlibcalls::jconstants::Constants;
 use jlinking::jlink::{LinkedProgram, are_files};

@@ -6,8 +6,8 @@ ghost use Rattle.jserving.specs.jshapes.Tied.{AreTied};
 ghost use Rattle.jstepping.specs.jopen.Opened.{BeginsMain, IsAlone, OpensOr};
 
 use crate::jopen::heap::begin;
-use jground::jheap::Heap;
 use jground::jops::Value;
+use jheap::Heap;
 use jlibcalls::jconstants::Constants;
 use jlinking::jlink::LinkedProgram;
 use jmeaning::juses::code_at;

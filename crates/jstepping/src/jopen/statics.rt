@@ -1,13 +1,13 @@
 ghost use Rattle.std.specs.Prelude.{◌≡◌, ◌<◌, ◌^◌, [], IfOk, OnOk, length, option_map, replicate, slice_set, unwrap_or};
-ghost use Rattle.jground.specs.jheap.Heaps.{with_statics};
-ghost use Rattle.jground.specs.jheap.Raw;
+ghost use Rattle.jheap.specs.Heaps.{with_statics};
+ghost use Rattle.jheap.specs.Raw;
 ghost use Rattle.jground.specs.declared.jops.value.Value.TheVariants as values;
 ghost use Rattle.jready.specs.Statics as held;
 ghost use Rattle.jstepping.specs.jopen.Rows.{row_value, values_of};
 ghost use Rattle.jstepping.specs.jopen.Texts.{HasSet};
 
-use jground::jheap::{CellType, Heap, raw_laws};
 use jground::jops::Value;
+use jheap::{CellType, Heap, raw_laws};
 use jlibcalls::jconstants::Constants;
 use jready::{First, StaticRow};
 use std::alloc::{AllocError, Global};

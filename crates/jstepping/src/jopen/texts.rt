@@ -5,7 +5,7 @@ ghost use Rattle.jmodel.specs.jstate.Seen.{AreBuilt};
 ghost use Rattle.jstepping.specs.jopen.Rows.{row_text, texts_of};
 ghost use Rattle.jstepping.specs.jopen.Texts.{HasMade, MakesFor, texts_charge};
 
-use jground::jheap::Heap;
+use jheap::Heap;
 use jlibcalls::jconstants::Constants;
 use jready::{First, StaticRow};
 use std::alloc::{AllocError, Global};

@@ -10,7 +10,7 @@ ghost use Rattle.jrows.specs.jacts.Ways.{Rests};
 
 use crate::jrefs::lasting::Lasting;
 use crate::jrefs::serving::{holds_stored, serves_store};
-use jground::jheap::Heap;
+use jheap::Heap;
 use jmodel::jstate::Frames;
 use jrows::jacts::Way;
 use jrows::jcalls::Counts;

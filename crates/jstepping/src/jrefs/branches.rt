@@ -6,7 +6,7 @@ ghost use Rattle.jrows.specs.jacts.Ways.{Rests};
 
 use crate::jrefs::lasting::Lasting;
 use crate::jrefs::serving::serves_test;
-use jground::jheap::Heap;
+use jheap::Heap;
 use jmodel::jstate::Frames;
 use jparts::jcode::RefTest;
 use jrows::jacts::Way;

@@ -19,7 +19,7 @@ ghost use Rattle.jrows.specs.jacts.Ways.{Rests};
 use crate::jrefs::lasting::Lasting;
 use crate::jrefs::looking::{FieldAt, held_of, owner_of};
 use crate::jrefs::serving::{serves_read, serves_write};
-use jground::jheap::Heap;
+use jheap::Heap;
 use jmeaning::juses::ElementRef;
 use jmodel::jstate::{Frames, heap_laws};
 use jready::Narrow;

@@ -17,7 +17,7 @@ ghost use Rattle.jstepping.specs.jrefs.Naming.{NamesField};
 ghost use Rattle.jstepping.specs.jrefs.References.{IsLasting};
 
 use crate::jrefs::lasting::Lasting;
-use jground::jheap::CellType;
+use jheap::CellType;
 use jmeaning::juses::{FieldUse, TypeRef, Use, Uses};
 use jparts::jcode::{CastOp, FieldOp, PoolForm};
 use jprogram::{ClassRef, Member, MethodId, NamedProgram};

@@ -5,7 +5,7 @@ ghost use Rattle.jmeaning.specs.juses.Instructions as instructions;
 ghost use Rattle.jmeaning.specs.juses.Meanings as meanings;
 ghost use Rattle.jmeaning.specs.juses.Tables.{pool_at};
 ghost use Rattle.jmeaning.specs.juses.Types.{class_named};
-ghost use Rattle.jground.specs.declared.jtypes.vtype.VType.{VType};
+ghost use Rattle.jtypes.specs.declared.vtype.VType.{VType};
 ghost use Rattle.jready.specs.Exact.{MakesArray};
 ghost use Rattle.jmodel.specs.jstate.Celled.{AreCelled};
 ghost use Rattle.jmodel.specs.jstate.Seen.{AreBuilt};
@@ -16,7 +16,7 @@ ghost use Rattle.jstepping.specs.jrefs.Seen.{SeenActs};
 ghost use Rattle.jrows.specs.jacts.Ways.{Rests};
 
 use crate::jrefs::lasting::Lasting;
-use jground::jheap::Heap;
+use jheap::Heap;
 use jlib::LibClass;
 use jmodel::jstate::Frames;
 use jrows::jacts::Way;

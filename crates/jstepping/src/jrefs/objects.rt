@@ -20,7 +20,7 @@ use crate::jrefs::lasting::Lasting;
 use crate::jrefs::looking::FieldAt;
 use crate::jrefs::making::{make_array, make_library, make_user};
 use crate::jrefs::statics::{read_static, write_static};
-use jground::jheap::Heap;
+use jheap::Heap;
 use jlinking::jlink::field_law;
 use jmeaning::juses::TypeRef;
 use jmodel::jstate::Frames;

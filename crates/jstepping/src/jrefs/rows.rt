@@ -15,7 +15,7 @@ use crate::jrefs::branches::branch;
 use crate::jrefs::lasting::Lasting;
 use crate::jrefs::looking::FieldAt;
 use crate::jrefs::objects::{field, object};
-use jground::jheap::Heap;
+use jheap::Heap;
 use jlinking::jlink::field_law;
 use jmeaning::juses::When;
 use jmodel::jstate::Frames;

@@ -6,7 +6,7 @@ ghost use Rattle.jmodel.specs.jmachine.World.{world};
 ghost use Rattle.jrows.specs.jobjs.Branching.{ServeTest};
 ghost use Rattle.jrows.specs.jobjs.Serving.{IsOne};
 ghost use Rattle.jrows.specs.jobjs.Stored.{MayStore, ServeStore};
-ghost use Rattle.jground.specs.declared.jtypes.vtype.VType.{VType};
+ghost use Rattle.jtypes.specs.declared.vtype.VType.{VType};
 ghost use Rattle.jmeaning.specs.juses.Meanings as meanings;
 ghost use Rattle.jmeaning.specs.juses.Meanings.{FieldMeaning};
 ghost use Rattle.jmeaning.specs.juses.Types.{class_named, named};
@@ -17,7 +17,7 @@ ghost use Rattle.jstepping.specs.jrefs.Seen.{AreSeen, ServesAs, ServesOwn};
 
 use crate::jrefs::lasting::Lasting;
 use crate::jrefs::looking::{FieldAt, writes_own};
-use jground::jheap::Heap;
+use jheap::Heap;
 use jmeaning::juses::TypeRef;
 use jmodel::jstate::Frames;
 use jparts::jcode::RefTest;

@@ -14,7 +14,7 @@ use crate::jrefs::fields::element_of;
 use crate::jrefs::lasting::Lasting;
 use crate::jrefs::looking::{FieldAt, held_of};
 use crate::jrefs::serving::serves_static;
-use jground::jheap::Heap;
+use jheap::Heap;
 use jmodel::jstate::{Frames, cell_laws};
 use jrows::jacts::Way;
 use jrows::jcalls::Counts;

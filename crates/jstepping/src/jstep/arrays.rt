@@ -7,7 +7,7 @@ ghost use Rattle.jrows.specs.jacts.Ways.{Acts, Rests, leaves};
 ghost use Rattle.jserving.specs.jshapes.Numbered.{AreRows};
 ghost use Rattle.jstepping.specs.jstep.Rows.{StoresNumber};
 
-use jground::jheap::Heap;
+use jheap::Heap;
 use jmodel::jstate::{Frames, Shapes};
 use jready::ArrayInstr;
 use jrows::jacts::{Way, array_length, array_load, array_store, new_array};

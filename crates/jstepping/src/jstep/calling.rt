@@ -12,7 +12,7 @@ ghost use Rattle.jstepping.specs.jstep.Serving.{ServesCall, TakesCall};
 use crate::jstep::fixed::Fixed;
 use crate::jstep::outcomes::Stepped;
 use crate::jstep::settling::settle_call;
-use jground::jheap::Heap;
+use jheap::Heap;
 use jmeaning::juses::{How, Span, TypeRef};
 use jmodel::jstate::Frames;
 use jprogram::ClassRef;

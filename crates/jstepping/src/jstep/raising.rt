@@ -9,7 +9,7 @@ ghost use Rattle.jserving.specs.jshapes.Alike.{NamesNoMore};
 ghost use Rattle.jstepping.specs.jstep.Stepping.{IsQuiet, RaisesAs, StoodAs, ThrowsAs};
 
 use crate::jstep::outcomes::{Stepped, stepped_of};
-use jground::jheap::Heap;
+use jheap::Heap;
 use jlib::{LibClass, Thrown};
 use jmodel::jstate::{Frames, heap_laws, thrown_number};
 use jprogram::ClassRef;

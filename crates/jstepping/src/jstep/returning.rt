@@ -8,7 +8,7 @@ ghost use Rattle.jstepping.specs.jstep.Stepping.{Executes, ReturnsAs, StoodAs};
 
 use crate::jstep::fixed::Fixed;
 use crate::jstep::outcomes::{Stepped, left_of};
-use jground::jheap::Heap;
+use jheap::Heap;
 use jmodel::jstate::Frames;
 use jparts::jcode::Returned;
 use jrows::jcalls::{Counts, Leaving, return_int, return_long, return_nothing, return_ref};

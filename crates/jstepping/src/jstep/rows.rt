@@ -12,7 +12,7 @@ use crate::jstep::arrays::array;
 use crate::jstep::computing::{plain, push};
 use crate::jstep::fixed::Fixed;
 use crate::jstep::jumps::{flow, lookup, table};
-use jground::jheap::Heap;
+use jheap::Heap;
 use jmodel::jstate::Frames;
 use jready::Instr;
 use jrows::jacts::{Way, local, stack};

@@ -8,7 +8,7 @@ ghost use Rattle.jstepping.specs.jstep.Stepping.{CallLeft, IsQuiet, Settles, Set
 
 use crate::jstep::outcomes::Stepped;
 use crate::jstep::raising::{settle_raised, thrown_class};
-use jground::jheap::Heap;
+use jheap::Heap;
 use jmodel::jstate::Frames;
 use jrows::jacts::Way;
 use jrows::jcalls::Called;

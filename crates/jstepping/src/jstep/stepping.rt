@@ -20,7 +20,7 @@ use crate::jstep::returning::step_return;
 use crate::jstep::rows::run;
 use crate::jstep::settling::settle;
 use crate::jstep::throwing::step_throw;
-use jground::jheap::Heap;
+use jheap::Heap;
 use jmodel::jstate::Frames;
 use jready::{FlowInstr, Instr};
 use jrows::jcalls::Counts;

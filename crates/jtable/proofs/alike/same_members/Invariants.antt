@@ -1,5 +1,5 @@
 use Rattle.std.proofs.Common.{◌≡◌, drop}
-use Rattle.jrights.specs.jperm.Permissions.{equal}
+use Rattle.jperm.specs.Permissions.{equal}
 use Rattle.jtable.specs.Tables.{pairwise}
 use Rattle.jtable.proofs.alike.same_members.Given as goal
 

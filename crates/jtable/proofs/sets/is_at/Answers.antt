@@ -2,7 +2,7 @@ use Rattle.std.proofs.Common.{◌∙◌, List, [], length, sym, ap, arith}
 use Rattle.std.specs.Prelude.{get_or}
 use Rattle.std.proofs.lemmas.List.{length-map, get_or_read}
 use Rattle.std.proofs.lemmas.Option.{slice_get-get_or}
-use Rattle.jrights.specs.declared.jperm.permission.Permission.{Permission}
+use Rattle.jperm.specs.declared.permission.Permission.{Permission}
 use Rattle.jtable.specs.Digests.{digest_limits}
 use Rattle.jtable.specs.Tables.{same_limits}
 use Rattle.jtable.proofs.Finding.{digest_tells, not_alike}

@@ -1,7 +1,7 @@
 use Rattle.std.proofs.Common.{ap, sym, ◌∙◌}
 use Rattle.std.specs.Prelude.{map}
-use Rattle.jground.specs.jtypes.Fitting.{fits}
-use Rattle.jground.specs.jtypes.Frames.{implies, stack_fits}
+use Rattle.jtypes.specs.Fitting.{fits}
+use Rattle.jtypes.specs.Frames.{implies, stack_fits}
 use Rattle.jprogram.specs.Classes.{tree}
 use Rattle.jmeaning.specs.juses.Types.{named}
 use Rattle.jwalk.proofs.Matching.{flag_fails, locals_count, same_fits, stack_fails}

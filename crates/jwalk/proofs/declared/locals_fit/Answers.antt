@@ -1,6 +1,6 @@
 use Rattle.std.proofs.Common.{◌≡◌, ◌-◌, IfSome, sym, ap, subst, ◌∙◌, arith}
 use Rattle.std.specs.Prelude.{slice_get}
-use Rattle.jground.specs.jtypes.Fitting.{fits}
+use Rattle.jtypes.specs.Fitting.{fits}
 use Rattle.jprogram.specs.Classes.{tree}
 use Rattle.jmeaning.specs.juses.Types.{named}
 use Rattle.jwalk.proofs.Matching.{front, front_all, front_fails, front_goes, front_root, place_within}

@@ -1,6 +1,6 @@
 use Rattle.std.proofs.Common.{◌≡◌, List, ap, subst}
 use Rattle.std.specs.Prelude.{IfOk}
-use Rattle.jrights.specs.declared.jperm.permission.Permission.{Permission}
+use Rattle.jperm.specs.declared.permission.Permission.{Permission}
 use Rattle.jprogram.specs.Classes.{Program}
 use Rattle.jrights.specs.jdomain.Domains.{has}
 use Rattle.jmodel.specs.jmachine.Machine.{run}

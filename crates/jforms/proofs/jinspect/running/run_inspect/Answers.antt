@@ -1,7 +1,7 @@
 use Rattle.std.proofs.Common.{List, OnErr, ap, subst}
 use Rattle.jground.specs.jbase.Causes.{IsCut}
 use Rattle.jground.proofs.JbaseProofs.Cuts.{cut_none}
-use Rattle.jrights.specs.declared.jperm.permission.Permission.{Permission}
+use Rattle.jperm.specs.declared.permission.Permission.{Permission}
 use Rattle.jprogram.specs.Classes.{Program}
 use Rattle.jrights.specs.jdomain.Domains.{has}
 use Rattle.jmodel.specs.jmachine.Machine.{run as run_of}

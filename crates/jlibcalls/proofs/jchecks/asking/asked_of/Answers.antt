@@ -1,5 +1,5 @@
 use Rattle.std.proofs.Common.{◌≡◌, Some, rules}
-use Rattle.jground.specs.jheap.Heaps as heaps
+use Rattle.jheap.specs.Heaps as heaps
 use Rattle.jmodel.specs.jstate.Seen.{place_in}
 use Rattle.jlibcalls.specs.jchecks.Asks.{number_held}
 use Rattle.jlibcalls.proofs.JchecksProofs.Holding.{asks_one}

@@ -1,6 +1,6 @@
 use Rattle.std.proofs.Common.{◌≡◌, ◌++◌, drop}
 use Rattle.std.specs.List.{flat_map}
-use Rattle.jrights.specs.jperm.Texts.{parts}
+use Rattle.jperm.specs.Texts.{parts}
 use Rattle.jmodel.specs.jmachine.Security.{denial_message}
 use Rattle.jlibcalls.proofs.jchecks.judging.message_of.Given as goal
 

@@ -1,4 +1,4 @@
-use Rattle.jground.specs.jheap.Heaps.{cells_at}
+use Rattle.jheap.specs.Heaps.{cells_at}
 use Rattle.jlibcalls.specs.jcontexts.Limits.{AreLeft}
 use Rattle.jlibcalls.proofs.jcontexts.arrays.all_limits.Given as goal
 

@@ -1,6 +1,6 @@
 use Rattle.std.proofs.Common.{◌≡◌, ◌∙◌, ◌+◌, ℕ, [], suc, Option, Some, length, sym, ap, arith}
 use Rattle.std.specs.Prelude.{option_map}
-use Rattle.jground.specs.jheap.Heaps as heaps
+use Rattle.jheap.specs.Heaps as heaps
 use Rattle.jmodel.specs.jmachine.Acts.{State, Went}
 use Rattle.jmodel.specs.jmachine.Objects.{Thread}
 use Rattle.jmodel.specs.jmachine.Store.{with_object}

@@ -1,7 +1,7 @@
 use Rattle.std.proofs.Common.{◌≡◌, ap, sym, ◌∙◌, arith}
 use Rattle.jprogram.specs.Classes.{tree}
-use Rattle.jground.specs.jtypes.Fitting.{array_fits, is_above_arrays}
-use Rattle.jground.proofs.JtypesProofs.Dimensions.{as_many_fit, fewer_fail, more_fit}
+use Rattle.jtypes.specs.Fitting.{array_fits, is_above_arrays}
+use Rattle.jtypes.proofs.Dimensions.{as_many_fit, fewer_fail, more_fit}
 use Rattle.jmeaning.specs.juses.Types.{element_named}
 use Rattle.jmeaning.proofs.juses.fitting.array_fits.Goals as goal
 

@@ -2,7 +2,7 @@ use Rattle.std.proofs.Common.{◌≡◌, ◌∙◌, ℕ, List, Some, length, sym
 use Rattle.std.specs.Ordering.{nat_cmp}
 use Rattle.std.specs.Cmp.Lexicographic.{slice_cmp}
 use Rattle.std.specs.BTreeMap as tree
-use Rattle.jrights.specs.declared.jperm.permission.Permission.{Permission}
+use Rattle.jperm.specs.declared.permission.Permission.{Permission}
 use Rattle.jrights.specs.jdomain.Shares.{marks, number_at}
 use Rattle.jrights.proofs.JdomainProofs.Sharing.{is_last, keeps_more, knows_more}
 use Rattle.jrights.proofs.jdomain.lists.number_of.Goals as goal

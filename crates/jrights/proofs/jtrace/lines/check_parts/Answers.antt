@@ -2,7 +2,7 @@ use Rattle.std.proofs.Common.{ℕ, ◌+◌, ◌<◌, List, ◌++◌, length, tak
 use Rattle.std.specs.Prelude.{codes, decimal}
 use Rattle.std.proofs.Math.ListN.{length-set}
 use Rattle.jrights.specs.jio.Text.{written}
-use Rattle.jrights.specs.jperm.Texts.{parts}
+use Rattle.jperm.specs.Texts.{parts}
 use Rattle.jrights.proofs.JtraceProofs.Counts.{joined, joined_more, counted_more}
 use Rattle.jrights.proofs.JtraceProofs.PartsOf.{next_texts, next_room}
 use Rattle.jrights.proofs.jtrace.lines.check_parts.Goals as goal

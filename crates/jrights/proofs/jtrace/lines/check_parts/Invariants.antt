@@ -1,5 +1,5 @@
 use Rattle.std.proofs.Common.{◌≡◌, ◌+◌, ◌*◌, take, length}
-use Rattle.jrights.specs.jperm.Texts.{parts}
+use Rattle.jperm.specs.Texts.{parts}
 use Rattle.jrights.specs.jtrace.Lines.{checked, texts, room}
 use Rattle.jrights.proofs.JtraceProofs.Counts.{joined}
 use Rattle.jrights.proofs.jtrace.lines.check_parts.Given as goal

@@ -1,5 +1,5 @@
 use Rattle.std.proofs.Common.{arith}
-use Rattle.jrights.specs.jperm.Texts.{parts}
+use Rattle.jperm.specs.Texts.{parts}
 use Rattle.jrights.proofs.JtraceProofs.Counts.{too_long, next_count}
 use Rattle.jrights.proofs.jtrace.lines.is_short_permission.Goals as goal
 

@@ -1,5 +1,5 @@
 use Rattle.std.proofs.Common.{◌≡◌, ◌≤◌, take, length}
-use Rattle.jrights.specs.jperm.Texts.{parts}
+use Rattle.jperm.specs.Texts.{parts}
 use Rattle.jrights.proofs.JtraceProofs.Counts.{joined}
 use Rattle.jrights.proofs.jtrace.lines.is_short_permission.Given as goal
 

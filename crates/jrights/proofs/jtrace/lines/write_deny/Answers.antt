@@ -1,7 +1,7 @@
 use Rattle.std.proofs.Common.{◌≡◌, List, ℕ, OnOk, IfErr, codes, refl, ap, subst, arith}
 use Rattle.jground.specs.jbase.Causes.{appended}
 use Rattle.jrights.specs.jio.Puts.{IsCutAt}
-use Rattle.jrights.specs.jperm.Texts.{text_of}
+use Rattle.jperm.specs.Texts.{text_of}
 use Rattle.std.specs.Prelude.{decimal}
 use Rattle.jrights.proofs.JtraceProofs.PartsOf.{deny_fits, deny_line}
 use Rattle.jrights.proofs.jtrace.lines.write_deny.Goals as goal

@@ -1,7 +1,7 @@
 use Rattle.std.proofs.Common.{◌≡◌, ◌∙◌, List, ℕ, OnOk, IfErr, codes, ap, subst, arith}
 use Rattle.jground.specs.jbase.Causes.{appended}
 use Rattle.jrights.specs.jio.Puts.{IsCutAt}
-use Rattle.jrights.specs.jperm.Texts.{text_of}
+use Rattle.jperm.specs.Texts.{text_of}
 use Rattle.jrights.specs.jtrace.Lines.{texts, room}
 use Rattle.jrights.proofs.JtraceProofs.PartsOf.{grant_line, room_is}
 use Rattle.jrights.proofs.jtrace.lines.write_grant.Goals as goal

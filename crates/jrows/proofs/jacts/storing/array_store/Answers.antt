@@ -2,7 +2,7 @@ use Rattle.std.proofs.Common.{◌≡◌, None, of_z, rules, to_z}
 use Rattle.std.specs.Prelude.{length, slice_get}
 use Rattle.std.specs.Int.{w32}
 use Rattle.jparts.specs.jcode.Forms.{element}
-use Rattle.jground.specs.jheap.Heaps.{cells_at}
+use Rattle.jheap.specs.Heaps.{cells_at}
 use Rattle.jmodel.specs.jmachine.Arrays.{within}
 use Rattle.jmodel.specs.jmachine.Narrowing.{place}
 use Rattle.jrows.specs.jacts.Accesses.{kept_if}

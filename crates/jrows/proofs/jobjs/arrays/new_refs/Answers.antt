@@ -7,7 +7,7 @@ use Rattle.jrows.specs.jacts.Ways.{int_in}
 use Rattle.jrows.proofs.JactsProofs.Jumping.{has_one}
 use Rattle.jrows.proofs.JactsProofs.NewArrays.{made_celled, made_stays, of_place}
 use Rattle.jrows.proofs.JobjsProofs.Refs.{all_refs, refs_negative, refs_stuck}
-use Rattle.jground.specs.declared.jheap.cell.Kind.TheVariants as kinds
+use Rattle.jheap.specs.declared.cell.Kind.TheVariants as kinds
 use Rattle.jrows.proofs.JactsProofs.Resting.{made_frames, made_heap}
 use Rattle.jrows.proofs.jobjs.arrays.new_refs.Goals as goal
 

@@ -1,5 +1,5 @@
 use Rattle.jrows.proofs.JobjsProofs.News.{library_celled, library_row, new_stays}
-use Rattle.jground.specs.declared.jheap.cell.Kind.TheVariants as kinds
+use Rattle.jheap.specs.declared.cell.Kind.TheVariants as kinds
 use Rattle.jrows.proofs.JobjsProofs.Resting.{new_frames, new_heap}
 use Rattle.jrows.proofs.jobjs.making.new_library.Goals as goal
 

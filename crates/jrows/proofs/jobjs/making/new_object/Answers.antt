@@ -1,7 +1,7 @@
 use Rattle.std.proofs.Common.{◌+◌}
 use Rattle.jrows.proofs.JobjsProofs.News.{new_stays, user_celled, user_none, user_row}
 use Rattle.jmodel.specs.jstate.Seen.{store_by}
-use Rattle.jground.specs.declared.jheap.cell.Kind.TheVariants as kinds
+use Rattle.jheap.specs.declared.cell.Kind.TheVariants as kinds
 use Rattle.jrows.proofs.JobjsProofs.Resting.{new_frames, new_heap}
 use Rattle.jrows.proofs.jobjs.making.new_object.Goals as goal
 

@@ -1,6 +1,6 @@
 use Rattle.std.proofs.Common.{◌≡◌, drop}
 use Rattle.std.specs.Str.{bytes_eq}
-use Rattle.jground.specs.jheap.Heaps.{cells_at}
+use Rattle.jheap.specs.Heaps.{cells_at}
 use Rattle.jmodel.specs.jstate.Seen.{units_of}
 use Rattle.jrows.proofs.jtexts.strings.are_same.Given as goal
 

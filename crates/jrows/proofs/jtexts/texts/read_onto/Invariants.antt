@@ -1,5 +1,5 @@
 use Rattle.std.proofs.Common.{◌≡◌, ◌++◌, drop}
-use Rattle.jground.specs.jheap.Heaps.{cells_at}
+use Rattle.jheap.specs.Heaps.{cells_at}
 use Rattle.jmodel.specs.jstate.Seen.{units_of}
 use Rattle.jrows.proofs.jtexts.texts.read_onto.Given as goal
 

@@ -1,7 +1,7 @@
 use Rattle.std.proofs.Common.{◌≡◌, drop}
 use Rattle.std.specs.List.{find}
 use Rattle.jready.specs.Handling.{row_takes}
-use Rattle.jground.specs.declared.jtypes.vtype.VType.TheVariants as types
+use Rattle.jtypes.specs.declared.vtype.VType.TheVariants as types
 use Rattle.jmeaning.specs.juses.Tables.{pool_at}
 use Rattle.jmeaning.specs.juses.Types.{class_named}
 use Rattle.jserving.proofs.jinvoke.catching.first_taking.Given as goal

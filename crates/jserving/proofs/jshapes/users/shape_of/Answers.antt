@@ -1,5 +1,5 @@
 use Rattle.std.proofs.Common.{List, ◌∙◌, ap, arith, length}
-use Rattle.jground.specs.declared.jheap.cell.CellType.{CellType}
+use Rattle.jheap.specs.declared.cell.CellType.{CellType}
 use Rattle.jprogram.specs.Classes.{Program}
 use Rattle.jserving.specs.jshapes.Fielded.{cells_at}
 use Rattle.jserving.proofs.JshapesProofs.Laying.{world_cells}

@@ -2,7 +2,7 @@ use Rattle.std.proofs.Common.{◌≡◌, ◌∙◌, ◌++◌, ◌∷◌, [], ℕ
 use Rattle.std.specs.Prelude.{slice_get}
 use Rattle.std.proofs.lemmas.List.{map-append}
 use Rattle.std.proofs.lemmas.Option.{slice_get_within}
-use Rattle.jrights.specs.declared.jperm.permission.Permission.{Permission}
+use Rattle.jperm.specs.declared.permission.Permission.{Permission}
 use Rattle.jtable.specs.Digests.{digest_limits}
 use Rattle.jtable.specs.Tables.{IsNew}
 use Rattle.jtable.proofs.Chaining.{at_end, front}

@@ -1,6 +1,6 @@
 use Rattle.std.proofs.Common.{◌∙◌, ◌==◌, ◌<◌, List, [], length, ap, arith}
 use Rattle.std.specs.Prelude.{get_or}
-use Rattle.jrights.specs.declared.jperm.permission.Permission.{Permission}
+use Rattle.jperm.specs.declared.permission.Permission.{Permission}
 use Rattle.jtable.specs.Stores.{Stored, context_in}
 use Rattle.jtable.specs.Tables.{begins_with}
 use Rattle.jtable.proofs.Growing.{begins_other, begins_same}

@@ -1,7 +1,7 @@
 use Rattle.std.proofs.Common.{◌≡◌, ℕ, List, [], option_map, ap, subst}
 use Rattle.std.specs.Prelude.{OnOk, get_or}
 use Rattle.std.specs.Option.{option_copied}
-use Rattle.jrights.specs.declared.jperm.permission.Permission.{Permission}
+use Rattle.jperm.specs.declared.permission.Permission.{Permission}
 use Rattle.jctx.specs.Contexts.{privileged}
 use Rattle.jctx.proofs.Growth.{privileged_joined}
 use Rattle.jtable.specs.Lists.{Extends}

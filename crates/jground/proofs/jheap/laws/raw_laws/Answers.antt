@@ -1,5 +1,0 @@
-use Rattle.jground.proofs.JheapProofs.RawLaws.{gives_back}
-use Rattle.jground.proofs.jheap.laws.raw_laws.Goals as goal
-
-pub returns : goal.returns
-returns c = gives_back

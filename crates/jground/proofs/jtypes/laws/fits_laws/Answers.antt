@@ -1,5 +1,0 @@
-use Rattle.jground.proofs.JtypesProofs.Along.{fits_itself}
-use Rattle.jground.proofs.jtypes.laws.fits_laws.Goals as goal
-
-pub returns-clause-itself : goal.returns-clause-itself
-returns-clause-itself g c = λ n above a. fits_itself above (g.N.Ancestry.tree n) (λ name. g.met.N.Ancestry.reflexive n name) a

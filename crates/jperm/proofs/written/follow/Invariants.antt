@@ -1,0 +1,14 @@
+use Rattle.std.proofs.Common.{◌≡◌, fold}
+use Rattle.std.specs.Option.{option_copied}
+use Rattle.jperm.specs.Paths.{slash}
+use Rattle.jperm.specs.Pieces.{pieces, pieces_if}
+use Rattle.jperm.specs.Written.{next}
+use Rattle.jperm.proofs.Walks.{left_of}
+use Rattle.jperm.proofs.written.follow.Given as goal
+
+abbrev pub invariant-loop-left : goal.invariant-loop-left
+invariant-loop-left l =
+    fold next l.names.items (pieces_if slash (option_copied l.left)) ≡ fold next l.fn.names.items (pieces slash l.fn.path)
+
+abbrev pub decreases-loop-left : goal.decreases-loop-left
+decreases-loop-left l = left_of (option_copied l.left)

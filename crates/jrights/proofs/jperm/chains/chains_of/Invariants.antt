@@ -1,5 +1,0 @@
-use Rattle.jrights.proofs.JpermProofs.Chaining.{Standing}
-use Rattle.jrights.proofs.jperm.chains.chains_of.Given as goal
-
-abbrev pub invariant-loop-member : goal.invariant-loop-member
-invariant-loop-member l = Standing l.list l.member-index l.heads l.older

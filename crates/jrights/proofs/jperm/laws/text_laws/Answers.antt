@@ -1,8 +1,0 @@
-use Rattle.jrights.proofs.JpermProofs.Parts.{eleven, parts_join}
-use Rattle.jrights.proofs.jperm.laws.text_laws.Goals as goal
-
-pub returns-clause-count : goal.returns-clause-count
-returns-clause-count c = eleven
-
-pub returns-clause-whole : goal.returns-clause-whole
-returns-clause-whole c = parts_join

@@ -1,7 +1,0 @@
-use Rattle.std.specs.Option.{option_copied}
-use Rattle.jrights.specs.jperm.Actions.{file_actions}
-use Rattle.jrights.proofs.JpermProofs.Named.{wanted_some}
-use Rattle.jrights.proofs.jperm.making.file.Goals as goal
-
-pub new-requires : goal.new-requires
-new-requires c = wanted_some file_actions (option_copied c.args.actions) c.in_ok-actions.actions.0 c.in_ok-actions.ensures
