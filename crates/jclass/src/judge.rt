@@ -64,7 +64,7 @@ impl<'r, 'a> EntryTest for Among<'r, 'a> {
 }
 
 /// The first fault of a pool's entries, at its tag, where `left` bytes are left at the first entry.
-pub fn judge(
+pub fn judge_pool(
     alloc: Global,
     entries: &[Entry],
     left: usize,

@@ -40,7 +40,7 @@ pub use attribute::{ClassAttributes, access_of};
 pub use class::{Attribute, ClassParts, CodeAttribute, MemberInfo};
 pub use class_file::ClassFile;
 pub use fault::{ClassError, ClassFault};
-pub use judge::judge;
+pub use judge::judge_pool;
 pub use known::{Known, is_text};
 pub use laws::{spelling_laws, stored_laws};
 pub use member::{Fields, Methods};

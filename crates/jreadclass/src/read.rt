@@ -15,7 +15,7 @@ ghost use Rattle.jreadclass.specs.Tails.{tail_parts};
 use jclass::ClassFault::{Index, Trailing, Truncated};
 use jclass::{
     Access, Attribute, ClassAttributes, ClassError, ClassFault, ClassFile, ClassParts, Fields,
-    Head, Known, MemberInfo, Methods, access_of, head_of, judge, skip_tail,
+    Head, Known, MemberInfo, Methods, access_of, head_of, judge_pool, skip_tail,
 };
 use jground::jbase::{Seq, Stop};
 use jground::jformat::{ReadError, Reader, counted_of, fault, stop_at, u16_of};
@@ -160,7 +160,7 @@ fn parts_of(
     ensures { Gives (λ c. c) result ((whole kinds.Trailing Class.strict).read bytes.now) }
 {
     let left = bytes.len().saturating_sub(10);
-    if let Some(found) = judge(alloc, head.entries.as_slice(), left)? {
+    if let Some(found) = judge_pool(alloc, head.entries.as_slice(), left)? {
         return Err(Stop::Fault(found));
     }
     let pool = Pool::from_entries(head.entries);

@@ -304,8 +304,8 @@ fn decide_run(sets: &Sets, run: &[Pair], domains: &Domains, asked: &Permission) 
     ensures { result ≡ contexts.verdict (has domains.now) asked.now (items_of sets.now run.now) }
 {
     for pair in run {
-        if let Verdict::Denied(d) = decide_item(sets, *pair, domains, asked) {
-            return Verdict::Denied(d);
+        if fails(sets, *pair, domains, asked) {
+            return Verdict::Denied(pair.domain);
         }
     }
     Verdict::Granted
