@@ -98,9 +98,16 @@ fn runnable(
 {
     let joined = linked(alloc, parts, side)?;
     are_classes(&joined);
-    let main = main_named(alloc, &joined, name)?;
-    let program = checked(alloc, joined)?;
-    Ok((program, main))
+    match main_named(alloc, &joined, name) {
+        Ok(main) => {
+            let program = checked(alloc, joined)?;
+            Ok((program, main))
+        }
+        Err(halt) => {
+            drop(joined);
+            Err(halt)
+        }
+    }
 }
 
 /// The run of a program of the passing side.
@@ -196,9 +203,19 @@ fn run_of_parts(
     ensures kind { IfOk result (λ t. is_stored t ≡ false) }
     ensures unread { result ≡ Err Read → ⊥ }
 {
-    let (program, main) = runnable(alloc, side_of(form), &ground.main, parts)?;
-    let plan = ground.setting.plan(main);
-    run_in(alloc, form, program, ground.domains, plan)
+    match runnable(alloc, side_of(form), &ground.main, parts) {
+        Ok((program, main)) => {
+            let plan = ground.setting.plan(main);
+            drop(ground.sources);
+            drop(ground.classes);
+            drop(ground.main);
+            run_in(alloc, form, program, ground.domains, plan)
+        }
+        Err(halt) => {
+            drop(ground);
+            Err(halt)
+        }
+    }
 }
 
 #[tactic(auto, unfolding(crate::specs::Tasks::run_of_ground))]
@@ -218,8 +235,13 @@ fn run_of_ground<S: Shelf>(
     ensures later { S.read_faults shelf.old ≤ S.read_faults shelf.new }
     ensures cause { Excused result (S.read_faults shelf.old) (S.read_faults shelf.new) (S.held shelf.old) (λ files. run_of_ground files form ground) }
 {
-    let parts = parts_at(alloc, ground.classes.as_slice(), shelf)?;
-    run_of_parts(alloc, form, ground, parts)
+    match parts_at(alloc, ground.classes.as_slice(), shelf) {
+        Ok(parts) => run_of_parts(alloc, form, ground, parts),
+        Err(halt) => {
+            drop(ground);
+            Err(halt)
+        }
+    }
 }
 
 #[tactic(auto, unfolding(crate::specs::Tasks::run_at))]
@@ -267,8 +289,9 @@ fn check_of_ground<S: Shelf>(
     ensures later { S.read_faults shelf.old ≤ S.read_faults shelf.new }
     ensures cause { Excused result (S.read_faults shelf.old) (S.read_faults shelf.new) (S.held shelf.old) (λ files. check_of_ground files side ground) }
 {
-    let parts = parts_at(alloc, ground.classes.as_slice(), shelf)?;
-    check_of_parts(alloc, side, parts)
+    let parts = parts_at(alloc, ground.classes.as_slice(), shelf);
+    drop(ground);
+    check_of_parts(alloc, side, parts?)
 }
 
 #[tactic(auto, unfolding(crate::specs::Tasks::check_at))]
@@ -337,8 +360,16 @@ fn rewrite_of_ground<S: Shelf>(
     ensures later { S.read_faults shelf.old ≤ S.read_faults shelf.new }
     ensures cause { Excused result (S.read_faults shelf.old) (S.read_faults shelf.new) (S.held shelf.old) (λ files. rewrite_of_ground files text to ground) }
 {
-    let parts = parts_at(alloc, ground.classes.as_slice(), shelf)?;
-    rewrite_of_parts(alloc, text, to, parts)
+    let parts = parts_at(alloc, ground.classes.as_slice(), shelf);
+    drop(ground);
+    match parts {
+        Ok(parts) => rewrite_of_parts(alloc, text, to, parts),
+        Err(halt) => {
+            drop(text);
+            drop(to);
+            Err(halt)
+        }
+    }
 }
 
 /// The rewriting of the classes of a job of this text.
@@ -391,6 +422,9 @@ fn policy_at<S: Shelf>(alloc: Global, path: &str, shelf: &mut S) -> Result<Task,
     ensures cause { Excused result (S.read_faults shelf.old) (S.read_faults shelf.new) (S.held shelf.old) (λ files. policy_at files path.now) }
 {
     let ground = ground_at(alloc, path, shelf)?;
+    drop(ground.classes);
+    drop(ground.main);
+    drop(ground.setting);
     Ok(Task::Policy {
         sources: ground.sources,
         domains: ground.domains,

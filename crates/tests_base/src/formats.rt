@@ -155,15 +155,8 @@ fn behind_run(alloc: Global, text: &str) -> Result<String, AllocError> {
     debug(alloc, &read)
 }
 
-/// What is asked of formats.
-pub fn found(alloc: Global, kind: &str, words: &str) -> Result<String, Unread> {
-    match kind {
-        "written" => return Ok(written(alloc)?),
-        "words" => return Ok(behind_run(alloc, words)?),
-        _ => {}
-    }
-    let bytes = hex_of(alloc, words)?;
-    let bytes = bytes.as_slice();
+/// What is asked of bytes.
+fn of_bytes(alloc: Global, kind: &str, bytes: &[u8]) -> Result<String, Unread> {
     match kind {
         "counted" => Ok(list(alloc, counted_of(alloc, &Short, 0, bytes))?),
         "three" => Ok(list(alloc, times_by_of(alloc, &Nth, 0, 3, bytes))?),
@@ -173,4 +166,15 @@ pub fn found(alloc: Global, kind: &str, words: &str) -> Result<String, Unread> {
         "i8" => Ok(debug(alloc, &i8_of(0u8, bytes))?),
         _ => Err(Unread::Line),
     }
+}
+
+/// What is asked of formats.
+pub fn found(alloc: Global, kind: &str, words: &str) -> Result<String, Unread> {
+    match kind {
+        "written" => return Ok(written(alloc)?),
+        "words" => return Ok(behind_run(alloc, words)?),
+        _ => {}
+    }
+    let bytes = hex_of(alloc, words)?;
+    of_bytes(alloc, kind, bytes.as_slice())
 }

@@ -23,27 +23,9 @@ mod types;
 mod words;
 
 use std::io;
-use table::{Line, Table};
+use table::Table;
+use tests_rows::ask;
 
 fn main(rt: HostRuntime) -> io::Result<()> {
-    let alloc = rt.alloc();
-    let mut table = Table::new(alloc);
-    let (mut asked, mut right) = (0u32, 0u32);
-    for (i, line) in rt.lines(alloc).enumerate() {
-        let line = line?;
-        let place = i.saturating_add(1);
-        match table.read(&rt, line.as_str()) {
-            Ok(Line::Known) => {}
-            Ok(Line::Row(wanted, found)) => {
-                let is_right = found.as_str().trim() == wanted;
-                if !is_right {
-                    println!(rt; "line {place}: {}", found.as_str())?;
-                }
-                asked = asked.saturating_add(1);
-                right = right.saturating_add(u32::from(is_right));
-            }
-            Err(why) => println!(rt; "line {place}: {why}")?,
-        }
-    }
-    println!(rt; "{right} of {asked} as they say")
+    ask(&rt, &mut Table::new(rt.alloc()))
 }

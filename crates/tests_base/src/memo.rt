@@ -32,17 +32,25 @@ fn key(word: &str) -> Result<Call, Unread> {
     })
 }
 
-/// What is got of a key by each word that has one alone; a word with `=` puts what stands behind it.
-pub fn found(alloc: Global, words: &str) -> Result<String, Unread> {
-    let mut memo: Memo<Call, u32> = Memo::new(alloc)?;
+/// What is got of a key by a word that has one alone; a word with `=` puts what stands behind it.
+fn step(alloc: Global, memo: &mut Memo<Call, u32>, word: &str) -> Result<String, Unread> {
+    if let Some((at, what)) = word.split_once('=') {
+        memo.put(key(at)?, number::<u32>(what)?);
+        return Ok(String::new(alloc));
+    }
+    Ok(debug_behind(alloc, " ", &memo.get(key(word)?))?)
+}
+
+fn steps(alloc: Global, memo: &mut Memo<Call, u32>, words: &str) -> Result<String, Unread> {
     let mut found = String::new(alloc);
     for word in words.split(' ') {
-        if let Some((at, what)) = word.split_once('=') {
-            memo.put(key(at)?, number::<u32>(what)?);
-            continue;
-        }
-        let got = memo.get(key(word)?);
-        found.push_str(debug_behind(alloc, " ", &got)?.as_str())?;
+        found.push_str(step(alloc, memo, word)?.as_str())?;
     }
     Ok(found)
+}
+
+/// What is got by each word.
+pub fn found(alloc: Global, words: &str) -> Result<String, Unread> {
+    let mut memo: Memo<Call, u32> = Memo::new(alloc)?;
+    steps(alloc, &mut memo, words)
 }

@@ -9,7 +9,7 @@ use jground::jnames::OpTwo::{
 use jground::jnames::Shuffle::{Dup, Dup2, Dup2X1, Dup2X2, DupX1, DupX2, Pop, Pop2, Swap};
 use jground::jops::Value::{Ctx, Int, Long, Ref};
 use jground::jops::{DivideByZero, Shuffled, Value, divide, one, shuffle, test, two};
-use std::alloc::Global;
+use std::alloc::{AllocError, Global};
 use tests_rows::{Unread, debug, number};
 
 /// What two ints give.
@@ -120,22 +120,31 @@ fn ref_holds(name: &str, x: u32, y: u32) -> Option<bool> {
     }
 }
 
+/// What a number gives.
+fn of_one(name: &str, x: &str) -> Result<Option<Value>, Unread> {
+    match name {
+        "lneg" | "l2i" => Ok(of_long(name, number::<i64>(x)?)),
+        _ => Ok(of_int(name, number::<i32>(x)?)),
+    }
+}
+
+/// What two numbers give.
+fn of_two(name: &str, x: &str, y: &str) -> Result<Option<Value>, Unread> {
+    match name {
+        "lshl" | "lshr" | "lushr" => Ok(shifted(name, number::<i64>(x)?, number::<i32>(y)?)),
+        "ladd" | "lsub" | "lmul" | "land" | "lor" | "lxor" | "lcmp" => {
+            Ok(of_longs(name, number::<i64>(x)?, number::<i64>(y)?))
+        }
+        _ => Ok(of_ints(name, number::<i32>(x)?, number::<i32>(y)?)),
+    }
+}
+
 /// What is asked of ints and longs, by the name of an instruction.
 fn computed(alloc: Global, words: &str) -> Result<String, Unread> {
     let (name, rest) = pair(words)?;
-    let Some((x, y)) = rest.split_once(' ') else {
-        let found = match name {
-            "lneg" | "l2i" => of_long(name, number::<i64>(rest)?),
-            _ => of_int(name, number::<i32>(rest)?),
-        };
-        return Ok(debug(alloc, &found)?);
-    };
-    let found = match name {
-        "lshl" | "lshr" | "lushr" => shifted(name, number::<i64>(x)?, number::<i32>(y)?),
-        "ladd" | "lsub" | "lmul" | "land" | "lor" | "lxor" | "lcmp" => {
-            of_longs(name, number::<i64>(x)?, number::<i64>(y)?)
-        }
-        _ => of_ints(name, number::<i32>(x)?, number::<i32>(y)?),
+    let found = match rest.split_once(' ') {
+        Some((x, y)) => of_two(name, x, y)?,
+        None => of_one(name, rest)?,
     };
     Ok(debug(alloc, &found)?)
 }
@@ -223,15 +232,21 @@ fn letter(item: Value) -> char {
     }
 }
 
+/// The items that an instruction puts.
+fn letters(alloc: Global, moved: &Shuffled) -> Result<String, AllocError> {
+    let mut items = String::new(alloc);
+    for item in moved.values.iter().take(moved.put as usize) {
+        items.push(letter(*item))?;
+    }
+    Ok(items)
+}
+
 /// How many items an instruction takes, and those that it puts.
 fn shuffled(alloc: Global, words: &str) -> Result<String, Unread> {
     let Some(moved) = moved(words).or(moved_longs(words)) else {
         return Err(Unread::Line);
     };
-    let mut items = String::new(alloc);
-    for item in moved.values.iter().take(moved.put as usize) {
-        items.push(letter(*item))?;
-    }
+    let items = letters(alloc, &moved)?;
     Ok(format!(in alloc; "{} <{}>", moved.taken, items.as_str())?)
 }
 

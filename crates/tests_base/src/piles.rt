@@ -43,19 +43,22 @@ fn told(alloc: Global, pile: &mut Pile<u32>, word: &str, i: usize) -> Result<Str
     }
 }
 
-/// What a list answers, word by word. Behind a word may stand the number that it asks of, and an item.
+/// What a list answers to a word, behind which may stand the number that it asks of, and an item.
+fn step(alloc: Global, pile: &mut Pile<u32>, words: &str) -> Result<String, Unread> {
+    let (word, rest) = first(words);
+    let (i, item) = first(rest);
+    let i = number::<u32>(i).unwrap_or(0) as usize;
+    if change(pile, word, i, number::<u32>(item).unwrap_or(0))? {
+        return Ok(String::new(alloc));
+    }
+    told(alloc, pile, word, i)
+}
+
+/// What a list answers, word by word.
 fn steps(alloc: Global, pile: &mut Pile<u32>, words: &str) -> Result<String, Unread> {
     let mut found = String::new(alloc);
-    for step in words.split(", ") {
-        let (word, rest) = first(step);
-        let (i, item) = first(rest);
-        let (i, item) = (
-            number::<u32>(i).unwrap_or(0) as usize,
-            number::<u32>(item).unwrap_or(0),
-        );
-        if !change(pile, word, i, item)? {
-            found.push_str(told(alloc, pile, word, i)?.as_str())?;
-        }
+    for one in words.split(", ") {
+        found.push_str(step(alloc, pile, one)?.as_str())?;
     }
     Ok(found)
 }

@@ -5,7 +5,7 @@ use crate::{
 };
 use jtypes::VType;
 use std::alloc::{AllocError, Global};
-use tests_rows::Unread;
+use tests_rows::{Line, Rows, Unread};
 
 /// What was read so far.
 #[derive(Drop)]
@@ -14,14 +14,6 @@ pub struct Table {
     section: String,
     /// The types that marks stand for.
     types: Vec<VType>,
-}
-
-/// What a line is.
-pub enum Line<'a> {
-    /// One that says nothing, or that later lines are read by.
-    Known,
-    /// The answer that it wants, and the one that was found.
-    Row(&'a str, String),
 }
 
 impl Table {
@@ -69,9 +61,10 @@ impl Table {
         }
         Ok(true)
     }
+}
 
-    /// Reads a line, and answers where it asks something.
-    pub fn read<'a>(&mut self, rt: &HostRuntime, line: &'a str) -> Result<Line<'a>, Unread> {
+impl Rows for Table {
+    fn read<'a>(&mut self, rt: &HostRuntime, line: &'a str) -> Result<Line<'a>, Unread> {
         if line.is_empty() || line.starts_with('#') {
             return Ok(Line::Known);
         }
@@ -83,6 +76,7 @@ impl Table {
             return Err(Unread::Line);
         };
         let found = self.found(rt, kind, words.trim_end())?;
+        let found = String::from_str(rt.alloc(), found.as_str().trim())?;
         Ok(Line::Row(wanted, found))
     }
 }

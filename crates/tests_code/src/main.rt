@@ -18,32 +18,8 @@ mod trips;
 
 use std::io;
 use table::Table;
-use tests_rows::{Line, Section, is_spelled};
+use tests_rows::ask;
 
 fn main(rt: HostRuntime) -> io::Result<()> {
-    let alloc = rt.alloc();
-    let mut table = Table::new(alloc);
-    let mut section = Section::new(String::new(alloc));
-    for (i, line) in rt.lines(alloc).enumerate() {
-        let line = line?;
-        let place = i.saturating_add(1);
-        match table.read(alloc, line.as_str()) {
-            Ok(Line::Known) => {}
-            Ok(Line::Section(name)) => {
-                if !section.is_empty() {
-                    println!(rt; "{section}")?;
-                }
-                section = Section::new(String::from_str(alloc, name)?);
-            }
-            Ok(Line::Row(wanted, found)) => {
-                let right = is_spelled(alloc, wanted, found.as_str());
-                if !right {
-                    println!(rt; "line {place}: {}", found.as_str())?;
-                }
-                section.count(right);
-            }
-            Err(why) => println!(rt; "line {place}: {why}")?,
-        }
-    }
-    println!(rt; "{section}")
+    ask(&rt, &mut Table::new(rt.alloc()))
 }

@@ -2,7 +2,7 @@ use crate::move_table::Moves;
 use crate::{classes, code, gen_asking, pools, stack_maps, trips};
 use jparts::jpool::{Adder, Pool};
 use std::alloc::Global;
-use tests_rows::{Line, Unread, debug, first, hex_of};
+use tests_rows::{Line, Rows, Unread, debug, first, hex_of};
 
 /// What the rows of a section are about.
 #[derive(Clone, Copy)]
@@ -137,9 +137,11 @@ impl Table {
         let found = self.found(alloc, kind, asked)?;
         Ok(Line::Row(wanted, found))
     }
+}
 
-    /// Reads a line, and answers where it asks something.
-    pub fn read<'a>(&mut self, alloc: Global, line: &'a str) -> Result<Line<'a>, Unread> {
+impl Rows for Table {
+    fn read<'a>(&mut self, rt: &HostRuntime, line: &'a str) -> Result<Line<'a>, Unread> {
+        let alloc = rt.alloc();
         if line.is_empty() || line.starts_with('#') {
             return Ok(Line::Known);
         }

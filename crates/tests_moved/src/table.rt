@@ -2,7 +2,7 @@ use crate::answering::answered;
 use jprogram::CodePart;
 use jreadclass::read_class;
 use std::alloc::{AllocError, Global};
-use tests_rows::{Unread, first, put_hex};
+use tests_rows::{Line, Rows, Unread, first, put_hex};
 
 /// Bytes of a class file, with a name.
 #[derive(Drop)]
@@ -17,14 +17,6 @@ pub struct Table {
     named: Vec<Named>,
     /// The names of the classes of the program of which something is asked.
     asked: String,
-}
-
-/// What a line is.
-pub enum Line<'a> {
-    /// One that later lines are read by.
-    Known,
-    /// The answer that it wants, and the one that was found.
-    Row(&'a str, String),
 }
 
 fn bytes_of(alloc: Global, words: &str) -> Result<Vec<u8>, Unread> {
@@ -111,9 +103,11 @@ impl Table {
             _ => Err(Unread::Line),
         }
     }
+}
 
-    /// Reads a line, and answers where it asks something.
-    pub fn read<'a>(&mut self, alloc: Global, line: &'a str) -> Result<Line<'a>, Unread> {
+impl Rows for Table {
+    fn read<'a>(&mut self, rt: &HostRuntime, line: &'a str) -> Result<Line<'a>, Unread> {
+        let alloc = rt.alloc();
         if line.is_empty() || line.starts_with('#') {
             return Ok(Line::Known);
         }

@@ -5,7 +5,7 @@ use jperm::Permission;
 use jpolicy::Policy;
 use jrights::jdomain::{CodeSource, Domains};
 use std::alloc::Global;
-use tests_rows::{Line, Unread, bytes_of, first, number, unquoted, yes_or_no};
+use tests_rows::{Line, Rows, Unread, bytes_of, first, number, unquoted, yes_or_no};
 
 /// What was read so far.
 #[derive(Drop)]
@@ -201,9 +201,11 @@ impl Table {
         }
         Ok(true)
     }
+}
 
-    /// Reads a line, and answers where it asks something.
-    pub fn read<'a>(&mut self, alloc: Global, line: &'a str) -> Result<Line<'a>, Unread> {
+impl Rows for Table {
+    fn read<'a>(&mut self, rt: &HostRuntime, line: &'a str) -> Result<Line<'a>, Unread> {
+        let alloc = rt.alloc();
         if line.is_empty() || line.starts_with('#') {
             return Ok(Line::Known);
         }

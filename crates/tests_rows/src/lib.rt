@@ -1,11 +1,13 @@
-//! What the programs of tests share: how the fields of their rows are spelled, and how their rows are counted.
+//! What the programs of tests share: how the fields of their rows are spelled, and how their rows are asked and counted.
 //!
 //! Programs of tests alone name it.
 #![tactic(auto)]
 
+mod asking;
 mod section;
 mod words;
 
+pub use asking::{Rows, ask};
 pub use section::{Line, Section};
 pub use words::{
     Unread, between, bytes_of, debug, debug_behind, debug_pair, first, hex_of, is_spelled, number,

@@ -1,4 +1,5 @@
-use std::fmt;
+use std::alloc::{AllocError, Global};
+use std::{fmt, io};
 
 /// What a line is.
 pub enum Line<'a> {
@@ -10,7 +11,7 @@ pub enum Line<'a> {
     Row(&'a str, String),
 }
 
-/// Rows under one name: how many were asked, and how many were answered as they say.
+/// Rows under one name, or none: how many were asked, and how many were answered as they say.
 #[derive(Drop)]
 pub struct Section {
     name: String,
@@ -19,13 +20,21 @@ pub struct Section {
 }
 
 impl Section {
-    /// No rows yet.
-    pub fn new(name: String) -> Section {
+    /// No rows yet, and no name.
+    pub fn new(alloc: Global) -> Section {
         Section {
-            name,
+            name: String::new(alloc),
             asked: 0,
             right: 0,
         }
+    }
+
+    /// Begins again, under a name.
+    pub fn begin(&mut self, name: &str) -> Result<(), AllocError> {
+        self.name.clear();
+        self.asked = 0;
+        self.right = 0;
+        self.name.push_str(name)
     }
 
     /// Whether it has no rows yet.
@@ -38,16 +47,18 @@ impl Section {
         self.asked = self.asked.saturating_add(1);
         self.right = self.right.saturating_add(u32::from(right));
     }
+
+    /// Tells how many rows were asked and answered.
+    pub fn tell(&self, rt: &HostRuntime) -> io::Result<()> {
+        println!(rt; "{self}")
+    }
 }
 
 impl fmt::Display for Section {
     fn fmt<W: fmt::Write>(&self, f: &mut fmt::Formatter<W>) -> fmt::Result {
-        write!(
-            f,
-            "{}: {} of {} as they say",
-            self.name.as_str(),
-            self.right,
-            self.asked
-        )
+        if !self.name.is_empty() {
+            write!(f, "{}: ", self.name.as_str())?;
+        }
+        write!(f, "{} of {} as they say", self.right, self.asked)
     }
 }
