@@ -158,7 +158,7 @@ const LIBRARY: [LibClass; LIBRARY_CLASSES as usize] = [
 ];
 
 /// The class of one of the heap's numbers.
-#[inline]
+#[inline(always)]
 #[tactic(auto, using(crate::proofs::JstateProofs::Numbering::users_class))]
 pub fn class_numbered(n: u32) -> ClassRef
     ensures { result ≡ Numbers.class_numbered n }

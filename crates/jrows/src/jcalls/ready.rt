@@ -34,7 +34,7 @@ pub struct Counts {
 }
 
 /// What an object of a class of the library has to hold.
-#[inline]
+#[inline(always)]
 fn library_needs(class: LibClass) -> Needs
     ensures { result ≡ needed (refs.Lib class) }
 {
@@ -48,7 +48,7 @@ fn library_needs(class: LibClass) -> Needs
 }
 
 /// What an object of a class has to hold.
-#[inline]
+#[inline(always)]
 pub fn needs_of(class: u32) -> Needs
     ensures { result ≡ needed (Numbers.class_numbered class) }
 {
@@ -100,7 +100,7 @@ pub fn first_cell(heap: &Heap, o: u32) -> u64
 }
 
 /// Whether an object holds what its class needs.
-#[inline]
+#[inline(always)]
 #[tactic(auto, using(crate::proofs::JcallsProofs::Readying::holds_permission, crate::proofs::JcallsProofs::Readying::holds_context, crate::proofs::JcallsProofs::Readying::holds_thread))]
 fn holds(heap: &Heap, o: u32, needs: Needs, counts: Counts) -> bool
     requires { is_some (object_at heap.now o) ≡ true }
@@ -117,7 +117,7 @@ fn holds(heap: &Heap, o: u32, needs: Needs, counts: Counts) -> bool
 }
 
 /// Whether an object of a kind, which is there, may be used.
-#[inline]
+#[inline(always)]
 pub fn is_ready(heap: &Heap, o: u32, kind: Kind, counts: Counts) -> bool
     requires { is_some (object_at heap.now o) ≡ true }
     ensures counted { result ≡ ready_counted counts kind (cells_at heap.now o) }
