@@ -353,7 +353,7 @@ fn decide_two(
     decide_item(sets, second, domains, asked)
 }
 
-/// What a list decides for a permission. One of one or two items is decided without runs.
+/// What a list decides for a permission. One of one or two items is decided without runs, and one that lies in one region as a whole.
 pub fn decide(
     sets: &Sets,
     lists: &Lists,
@@ -371,6 +371,13 @@ pub fn decide(
     }
     if count == 2 {
         return decide_two(sets, lists.head(n), lists.read(n, 1), domains, asked);
+    }
+    if count == 0 {
+        return Verdict::Granted;
+    }
+    let run = lists.run(n, 0);
+    if run.len() == count {
+        return decide_run(sets, run, domains, asked);
     }
     decide_runs(sets, lists, n, domains, asked)
 }
