@@ -86,6 +86,7 @@ fn of_rules(alloc: Global, p: &NamedProgram, q: &Question<'_>) -> Result<String,
 
 fn program_of(alloc: Global, parts: Vec<CodePart>, side: Side) -> Result<NamedProgram, Unread> {
     if parts.len() > 0xffff {
+        drop(parts);
         return Err(Unread::Line);
     }
     match NamedProgram::of(alloc, parts, side) {
@@ -119,7 +120,9 @@ fn of_named(
     question: &str,
 ) -> Result<String, Unread> {
     let p = program_of(alloc, parts, side)?;
-    of_program(alloc, &p, &Question::of(question))
+    let found = of_program(alloc, &p, &Question::of(question));
+    drop(p);
+    found
 }
 
 /// What is asked of a program.

@@ -44,8 +44,14 @@ pub fn part_of(alloc: Global, bytes: &[u8]) -> Result<CodePart, Unread> {
 
 fn accepted(checked: CheckedProgram) -> Verdict {
     match checked.into_plain() {
-        Ok(_) => Verdict::Plain,
-        Err(_) => Verdict::Typed,
+        Ok(program) => {
+            drop(program);
+            Verdict::Plain
+        }
+        Err(checked) => {
+            drop(checked);
+            Verdict::Typed
+        }
     }
 }
 
@@ -72,6 +78,7 @@ fn refused(program: &LinkedProgram, fault: TypeFault) -> Result<Verdict, Unread>
 /// Links and checks a program.
 pub fn judged(alloc: Global, parts: Vec<CodePart>, side: Side) -> Result<Verdict, Unread> {
     if !are_parts(&parts) {
+        drop(parts);
         return Err(Unread::Line);
     }
     let program = match link(alloc, parts, side) {
@@ -81,6 +88,10 @@ pub fn judged(alloc: Global, parts: Vec<CodePart>, side: Side) -> Result<Verdict
     };
     match check(alloc, program) {
         Ok(checked) => Ok(accepted(checked)),
-        Err((program, fault)) => refused(&program, fault),
+        Err((program, fault)) => {
+            let found = refused(&program, fault);
+            drop(program);
+            found
+        }
     }
 }

@@ -88,10 +88,14 @@ fn of_code(alloc: Global, p: &LinkedProgram, q: &Question<'_>) -> Result<String,
 /// The first broken rule of linking where parts don't link.
 pub fn fault_of(alloc: Global, parts: Vec<CodePart>, side: Side) -> Result<String, Unread> {
     if !are_parts(&parts) {
+        drop(parts);
         return Err(Unread::Line);
     }
     match link(alloc, parts, side) {
-        Ok(_) => Ok(String::from_str(alloc, "it links")?),
+        Ok(program) => {
+            drop(program);
+            Ok(String::from_str(alloc, "it links")?)
+        }
         Err(LinkError::At(fault)) => Ok(debug(alloc, &fault)?),
         Err(LinkError::Memory) => Err(Unread::Memory),
     }
@@ -100,6 +104,7 @@ pub fn fault_of(alloc: Global, parts: Vec<CodePart>, side: Side) -> Result<Strin
 /// The program of parts that link.
 fn linked(alloc: Global, parts: Vec<CodePart>, side: Side) -> Result<LinkedProgram, Unread> {
     if !are_parts(&parts) {
+        drop(parts);
         return Err(Unread::Line);
     }
     match link(alloc, parts, side) {
@@ -112,7 +117,9 @@ fn linked(alloc: Global, parts: Vec<CodePart>, side: Side) -> Result<LinkedProgr
 /// What is answered of the same program, of its own parts, which are known to link.
 fn answer_again(alloc: Global, p: &LinkedProgram, q: &Question<'_>) -> Result<String, Unread> {
     let same = again(alloc, p)?;
-    answer(alloc, &same, q)
+    let found = answer(alloc, &same, q);
+    drop(same);
+    found
 }
 
 /// What is answered of a program, where its own parts, made a program again, have the same answer.
@@ -133,5 +140,7 @@ pub fn of_linked(
     q: &Question<'_>,
 ) -> Result<String, Unread> {
     let program = linked(alloc, parts, side)?;
-    both(alloc, &program, q)
+    let found = both(alloc, &program, q);
+    drop(program);
+    found
 }

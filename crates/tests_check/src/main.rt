@@ -79,26 +79,46 @@ impl Counts {
     }
 }
 
-fn main(rt: HostRuntime) -> io::Result<()> {
-    let alloc = rt.alloc();
-    let mut table = Table::new(alloc);
-    let mut counts = Counts::NONE;
-    for (i, line) in rt.lines(alloc).enumerate() {
-        let line = line?;
-        let place = i.saturating_add(1);
-        match table.read(alloc, line.as_str()) {
-            Ok(Line::Known) => {}
-            Ok(Line::Row(group, shows, wanted, found)) => {
-                let right = found.as_str() == wanted;
-                if !right {
-                    println!(rt; "line {place}: {shows}: {}", found.as_str())?;
-                }
-                counts.count(group, right);
+/// Asks what a line asks, and tells the answer that was found where it isn't the one that the line wants.
+fn ask_line(
+    rt: &HostRuntime,
+    table: &mut Table,
+    place: usize,
+    line: &str,
+    counts: &mut Counts,
+) -> io::Result<()> {
+    match table.read(rt.alloc(), line) {
+        Ok(Line::Known) => Ok(()),
+        Ok(Line::Row(group, shows, wanted, found)) => {
+            let right = found.as_str() == wanted;
+            counts.count(group, right);
+            if right {
+                return Ok(());
             }
-            Err(why) => println!(rt; "line {place}: {why}")?,
+            println!(rt; "line {place}: {shows}: {}", found.as_str())
         }
+        Err(why) => println!(rt; "line {place}: {why}"),
     }
+}
+
+fn ask(rt: &HostRuntime, table: &mut Table) -> io::Result<Counts> {
+    let mut counts = Counts::NONE;
+    for (i, line) in rt.lines(rt.alloc()).enumerate() {
+        let line = line?;
+        ask_line(rt, table, i.saturating_add(1), line.as_str(), &mut counts)?;
+    }
+    Ok(counts)
+}
+
+fn tell(rt: &HostRuntime, counts: Counts) -> io::Result<()> {
     println!(rt; "accepted: {}", counts.accepted)?;
     println!(rt; "refused: {}", counts.refused)?;
     println!(rt; "answered: {}", counts.answered)
+}
+
+fn main(rt: HostRuntime) -> io::Result<()> {
+    let mut table = Table::new(rt.alloc());
+    let counts = ask(&rt, &mut table);
+    drop(table);
+    tell(&rt, counts?)
 }

@@ -43,6 +43,12 @@ pub enum Group {
     Answered,
 }
 
+/// Puts the class that bytes spell behind others.
+fn put_class(alloc: Global, bytes: &[u8], parts: &mut Vec<CodePart>) -> Result<(), Unread> {
+    let part = part_of(alloc, bytes)?;
+    Ok(parts.push(part).map_err(AllocError::from)?)
+}
+
 /// The row on a verdict.
 fn judged_row<'a>(
     alloc: Global,
@@ -105,7 +111,10 @@ impl Table {
     fn parts(&self, alloc: Global, names: &str) -> Result<Vec<CodePart>, Unread> {
         let mut parts = Vec::new(alloc);
         for word in names.split(' ') {
-            self.put_part(alloc, word, &mut parts)?;
+            if let Err(why) = self.put_part(alloc, word, &mut parts) {
+                drop(parts);
+                return Err(why);
+            }
         }
         Ok(parts)
     }
@@ -124,9 +133,13 @@ impl Table {
     fn on_row(&self, alloc: Global, row: &Row<'_>) -> Result<Verdict, Unread> {
         let bytes = self.class_of(alloc, row)?;
         let mut parts = self.parts(alloc, self.beside.as_str())?;
-        let part = part_of(alloc, bytes.as_slice())?;
-        parts.push(part).map_err(AllocError::from)?;
-        judged(alloc, parts, self.side)
+        match put_class(alloc, bytes.as_slice(), &mut parts) {
+            Ok(()) => judged(alloc, parts, self.side),
+            Err(why) => {
+                drop(parts);
+                Err(why)
+            }
+        }
     }
 
     fn method<'a>(&self, alloc: Global, line: &'a str) -> Result<Line<'a>, Unread> {

@@ -21,7 +21,11 @@ pub fn read(alloc: Global, front: &[u8], words: &str) -> Result<String, Unread> 
     let behind = hex_of(alloc, words)?;
     bytes.extend_from_slice(behind.as_slice())?;
     match read_class(alloc, bytes.as_slice()) {
-        Ok(class) => Ok(written(alloc, &class, bytes.as_slice())?),
+        Ok(class) => {
+            let found = written(alloc, &class, bytes.as_slice());
+            drop(class);
+            Ok(found?)
+        }
         Err(Stop::Fault(fault)) => match (fault.at as usize).checked_sub(front.len()) {
             Some(at) => Ok(debug_pair(alloc, &at, &fault.kind)?),
             None => Ok(format!(in alloc; "in front {} {:?}", fault.at, fault.kind)?),

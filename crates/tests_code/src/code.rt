@@ -5,19 +5,27 @@ use jparts::jcode::{
 use std::alloc::{AllocError, Global};
 use tests_rows::{Unread, debug, debug_pair, hex_of};
 
-/// How many instructions a code has, if it is written back as it was, or its first fault.
+/// How many instructions a code has, if it is written back as it was.
+fn kept(alloc: Global, ops: &[Placed], bytes: &[u8]) -> Result<String, AllocError> {
+    let again = encode(alloc, ops)?;
+    if again.as_slice() != bytes {
+        return String::from_str(alloc, "not written as it was");
+    }
+    debug(alloc, &ops.len())
+}
+
+/// The same, or its first fault.
 pub fn read(alloc: Global, words: &str) -> Result<String, Unread> {
     let bytes = hex_of(alloc, words)?;
-    let ops = match decode(alloc, bytes.as_slice()) {
-        Ok(ops) => ops,
-        Err(Stop::Fault(fault)) => return Ok(debug_pair(alloc, &fault.at, &fault.kind)?),
-        Err(Stop::Memory) => return Err(Unread::Memory),
-    };
-    let again = encode(alloc, ops.as_slice())?;
-    if again.as_slice() != bytes.as_slice() {
-        return Ok(String::from_str(alloc, "not written as it was")?);
+    match decode(alloc, bytes.as_slice()) {
+        Ok(ops) => {
+            let found = kept(alloc, ops.as_slice(), bytes.as_slice());
+            drop(ops);
+            Ok(found?)
+        }
+        Err(Stop::Fault(fault)) => Ok(debug_pair(alloc, &fault.at, &fault.kind)?),
+        Err(Stop::Memory) => Err(Unread::Memory),
     }
-    Ok(debug(alloc, &ops.len())?)
 }
 
 /// The instructions of a code that is one.
@@ -30,11 +38,9 @@ fn decoded(alloc: Global, words: &str) -> Result<Vec<Placed>, Unread> {
     }
 }
 
-/// The instructions of a code, each with its place.
-pub fn listed(alloc: Global, words: &str) -> Result<String, Unread> {
-    let ops = decoded(alloc, words)?;
+fn list(alloc: Global, ops: &[Placed]) -> Result<String, Unread> {
     let mut text = String::new(alloc);
-    for one in &ops {
+    for one in ops {
         if !text.is_empty() {
             text.push_str(", ")?;
         }
@@ -44,9 +50,23 @@ pub fn listed(alloc: Global, words: &str) -> Result<String, Unread> {
     Ok(text)
 }
 
+/// The instructions of a code, each with its place.
+pub fn listed(alloc: Global, words: &str) -> Result<String, Unread> {
+    let ops = decoded(alloc, words)?;
+    let found = list(alloc, ops.as_slice());
+    drop(ops);
+    found
+}
+
 /// The form of a code's first instruction, and what it takes and gives, where the form alone says that.
 pub fn form(alloc: Global, words: &str) -> Result<String, Unread> {
     let ops = decoded(alloc, words)?;
+    let found = form_at(alloc, ops.as_slice());
+    drop(ops);
+    found
+}
+
+fn form_at(alloc: Global, ops: &[Placed]) -> Result<String, Unread> {
     let Some(one) = ops.first() else {
         return Err(Unread::Line);
     };
@@ -81,6 +101,12 @@ fn branches_of(alloc: Global, form: &Form<&Switch>) -> Result<String, AllocError
 /// Where a code's first instruction leads, and whether the next one may follow.
 pub fn branches(alloc: Global, words: &str) -> Result<String, Unread> {
     let ops = decoded(alloc, words)?;
+    let found = branches_at(alloc, ops.as_slice());
+    drop(ops);
+    found
+}
+
+fn branches_at(alloc: Global, ops: &[Placed]) -> Result<String, Unread> {
     let Some(one) = ops.first() else {
         return Err(Unread::Line);
     };

@@ -64,8 +64,9 @@ fn digest_text(alloc: Global, files: &[MadeFile]) -> Result<String, AllocError> 
 fn is_class(alloc: Global, bytes: &[u8]) -> Result<bool, AllocError> {
     match read_class(alloc, bytes) {
         Ok(class) => {
-            let again = write_class(alloc, &class)?;
-            Ok(again.as_slice() == bytes)
+            let again = write_class(alloc, &class);
+            drop(class);
+            Ok(again?.as_slice() == bytes)
         }
         Err(Stop::Fault(_)) => Ok(false),
         Err(Stop::Memory) => Err(AllocError),
@@ -83,14 +84,8 @@ fn classes_text(alloc: Global, files: &[MadeFile]) -> Result<String, AllocError>
     Ok(debug(alloc, &classes)?)
 }
 
-/// What is answered to a question.
-fn answer(alloc: Global, question: &str) -> Result<String, Unread> {
-    let Some((word, words)) = question.split_once(' ') else {
-        return Err(Unread::Line);
-    };
-    let (words, path) = words.split_once(" of ").unwrap_or((words, ""));
-    let job = job_of(alloc, words)?;
-    let files = job.files.as_slice();
+/// What is asked of files by a word.
+fn of_files(alloc: Global, files: &[MadeFile], word: &str, path: &str) -> Result<String, Unread> {
     match word {
         "file" => file_text(alloc, files, path),
         "paths" => paths_text(alloc, files),
@@ -98,6 +93,18 @@ fn answer(alloc: Global, question: &str) -> Result<String, Unread> {
         "classes" => Ok(classes_text(alloc, files)?),
         _ => Err(Unread::Line),
     }
+}
+
+/// What is answered to a question.
+fn answer(alloc: Global, question: &str) -> Result<String, Unread> {
+    let Some((word, words)) = question.split_once(' ') else {
+        return Err(Unread::Line);
+    };
+    let (words, path) = words.split_once(" of ").unwrap_or((words, ""));
+    let job = job_of(alloc, words)?;
+    let found = of_files(alloc, job.files.as_slice(), word, path);
+    drop(job);
+    found
 }
 
 /// Reads a line about made jobs, and answers it.

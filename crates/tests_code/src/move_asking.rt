@@ -4,21 +4,12 @@ use jground::jbase::Seq;
 use jmove::{MethodOut, MoveError, limit_of, move_method, moved_descriptor};
 use jparts::jcode::{Handler, decode};
 use jparts::jmaps::{FullFrame, MapType};
-use jparts::jpool::{Adder, Entry, read_pool, write_pool};
+use jparts::jpool::{Adder, Entry, Pool, read_pool, write_pool};
 use std::alloc::{AllocError, Global};
 use tests_rows::{Unread, debug, first, hex_of, number};
 
-/// An adder over the pool that bytes spell, to which a text was added, where there is one.
-fn adder_of(alloc: Global, bytes: &[u8], added: &str) -> Result<Adder, Unread> {
-    let Ok((pool, _)) = read_pool(alloc, bytes, 0) else {
-        return Err(Unread::Line);
-    };
-    if pool.entries().is_empty() {
-        return Err(Unread::Line);
-    }
-    let Ok(mut adder) = Adder::over(alloc, pool) else {
-        return Err(Unread::Memory);
-    };
+/// Adds a text, where there is one.
+fn add_text(alloc: Global, adder: &mut Adder, added: &str) -> Result<(), Unread> {
     if added.len() > 0xffff {
         return Err(Unread::Line);
     }
@@ -28,7 +19,32 @@ fn adder_of(alloc: Global, bytes: &[u8], added: &str) -> Result<Adder, Unread> {
             return Err(Unread::Line);
         }
     }
-    Ok(adder)
+    Ok(())
+}
+
+fn with_text(alloc: Global, mut adder: Adder, added: &str) -> Result<Adder, Unread> {
+    match add_text(alloc, &mut adder, added) {
+        Ok(()) => Ok(adder),
+        Err(why) => {
+            drop(adder);
+            Err(why)
+        }
+    }
+}
+
+/// An adder over the pool that bytes spell, to which a text was added, where there is one.
+fn adder_of(alloc: Global, bytes: &[u8], added: &str) -> Result<Adder, Unread> {
+    let Ok((pool, _)) = read_pool(alloc, bytes, 0) else {
+        return Err(Unread::Line);
+    };
+    if pool.entries().is_empty() {
+        drop(pool);
+        return Err(Unread::Line);
+    }
+    match Adder::over(alloc, pool) {
+        Ok(adder) => with_text(alloc, adder, added),
+        Err(_) => Err(Unread::Memory),
+    }
 }
 
 /// Moves a method of a domain.
@@ -38,6 +54,10 @@ fn moved(
     domain: u32,
     pool: &mut Adder,
 ) -> Result<Result<MethodOut, MoveError>, Unread> {
+    if domain >= 4096 {
+        drop(given);
+        return Err(Unread::Line);
+    }
     let Given {
         sizes,
         code,
@@ -46,11 +66,12 @@ fn moved(
         frames,
     } = given;
     let kinds = kinds.as_slice();
-    if domain >= 4096 {
-        return Err(Unread::Line);
-    }
     match method_of(alloc, code.as_slice(), sizes, handlers, frames, kinds) {
-        Some(m) => Ok(move_method(alloc, &m, kinds, domain, pool)),
+        Some(m) => {
+            let found = move_method(alloc, &m, kinds, domain, pool);
+            drop(m);
+            Ok(found)
+        }
         None => Err(Unread::Line),
     }
 }
@@ -66,7 +87,11 @@ fn limit(alloc: Global, given: Given) -> Result<String, Unread> {
     } = given;
     let kinds = kinds.as_slice();
     match method_of(alloc, code.as_slice(), sizes, handlers, frames, kinds) {
-        Some(m) => Ok(debug(alloc, &limit_of(&m, kinds))?),
+        Some(m) => {
+            let found = debug(alloc, &limit_of(&m, kinds));
+            drop(m);
+            Ok(found?)
+        }
         None => Err(Unread::Line),
     }
 }
@@ -153,13 +178,12 @@ fn of_method(alloc: Global, m: &MethodOut, word: &str, rest: &str) -> Result<Str
 }
 
 /// What is asked of the pool behind a method that was moved, or wasn't.
-fn of_pool(alloc: Global, pool: Adder, word: &str, rest: &str) -> Result<String, Unread> {
-    let pool = pool.into_pool();
+fn of_pool(alloc: Global, pool: &Pool, word: &str, rest: &str) -> Result<String, Unread> {
     if word == "entries" {
         return Ok(debug(alloc, &pool.entries().len())?);
     }
     let wanted = hex_of(alloc, rest)?;
-    let written = write_pool(alloc, &pool)?;
+    let written = write_pool(alloc, pool)?;
     let is = written.as_slice() == wanted.as_slice();
     Ok(debug(alloc, &is)?)
 }
@@ -180,6 +204,59 @@ fn limits(
     Ok(format!(in alloc; "{error:?} {} {entries}", broken.as_str())?)
 }
 
+/// What is asked of a method that was moved, or wasn't, by a word and the words behind it.
+fn of_moved(
+    alloc: Global,
+    came: Result<MethodOut, MoveError>,
+    word: &str,
+    rest: &str,
+) -> Result<String, Unread> {
+    if word == "error" {
+        return Ok(debug(alloc, &came.err())?);
+    }
+    match came {
+        Ok(m) => {
+            let found = of_method(alloc, &m, word, rest);
+            drop(m);
+            found
+        }
+        Err(error) => Ok(debug(alloc, &error)?),
+    }
+}
+
+/// The same, or what is asked of the pool behind it.
+fn of_both(
+    alloc: Global,
+    came: Result<MethodOut, MoveError>,
+    pool: Pool,
+    (word, rest): (&str, &str),
+) -> Result<String, Unread> {
+    if word == "entries" || word == "pool" {
+        drop(came);
+        let found = of_pool(alloc, &pool, word, rest);
+        drop(pool);
+        return found;
+    }
+    drop(pool);
+    of_moved(alloc, came, word, rest)
+}
+
+fn of_given(
+    alloc: Global,
+    given: Given,
+    domain: u32,
+    mut pool: Adder,
+    words: (&str, &str),
+) -> Result<String, Unread> {
+    match moved(alloc, given, domain, &mut pool) {
+        Ok(came) => of_both(alloc, came, pool.into_pool(), words),
+        Err(why) => {
+            drop(pool);
+            Err(why)
+        }
+    }
+}
+
 /// What is asked of a method, by a word and the words behind it: over the pool that bytes spell, to which a text was added, of a domain.
 pub fn answer(
     alloc: Global,
@@ -193,16 +270,14 @@ pub fn answer(
     if word == "limits" {
         return limits(alloc, pool, added, number::<u32>(domain)?, fields);
     }
-    let given = read(alloc, fields)?;
-    let mut pool = adder_of(alloc, pool, added)?;
-    let came = moved(alloc, given, number::<u32>(domain)?, &mut pool)?;
-    match word {
-        "error" => Ok(debug(alloc, &came.err())?),
-        "entries" | "pool" => of_pool(alloc, pool, word, rest),
-        _ => match came {
-            Ok(m) => of_method(alloc, &m, word, rest),
-            Err(error) => Ok(debug(alloc, &error)?),
-        },
+    let domain = number::<u32>(domain)?;
+    let pool = adder_of(alloc, pool, added)?;
+    match read(alloc, fields) {
+        Ok(given) => of_given(alloc, given, domain, pool, (word, rest)),
+        Err(why) => {
+            drop(pool);
+            Err(why)
+        }
     }
 }
 

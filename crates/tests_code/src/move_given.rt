@@ -55,6 +55,8 @@ pub fn method_of(
 {
     let (slots, max_stack, max_locals) = sizes;
     if !lie_within(frames.as_slice(), max_locals) {
+        drop(handlers);
+        drop(frames);
         return None;
     }
     match decode(alloc, code) {
@@ -64,6 +66,9 @@ pub fn method_of(
                 || slots > 255
                 || max_locals > 0xffff
             {
+                drop(ops);
+                drop(handlers);
+                drop(frames);
                 return None;
             }
             Some(MethodIn {
@@ -75,6 +80,10 @@ pub fn method_of(
                 frames,
             })
         }
-        Err(_) => None,
+        Err(_) => {
+            drop(handlers);
+            drop(frames);
+            None
+        }
     }
 }

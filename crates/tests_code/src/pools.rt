@@ -110,6 +110,13 @@ fn is_kept(
     }
 }
 
+fn told_end(alloc: Global, kept: bool, end: u32) -> Result<String, AllocError> {
+    if kept {
+        return debug_behind(alloc, "to ", &end);
+    }
+    String::from_str(alloc, "not written as it was")
+}
+
 /// Where the pool ends that begins at a place of some bytes, if it is written as it was, or its first fault.
 pub fn pool(alloc: Global, fields: &str) -> Result<String, Unread> {
     let (at, words) = first(fields)?;
@@ -117,10 +124,9 @@ pub fn pool(alloc: Global, fields: &str) -> Result<String, Unread> {
     let bytes = hex_of(alloc, words)?;
     match read_pool(alloc, bytes.as_slice(), at) {
         Ok((pool, end)) => {
-            if !is_kept(alloc, &pool, bytes.as_slice(), at, end)? {
-                return Ok(String::from_str(alloc, "not written as it was")?);
-            }
-            Ok(debug_behind(alloc, "to ", &end)?)
+            let kept = is_kept(alloc, &pool, bytes.as_slice(), at, end);
+            drop(pool);
+            Ok(told_end(alloc, kept?, end)?)
         }
         Err(Stop::Fault(fault)) => Ok(debug_pair(alloc, &fault.at, &fault.kind)?),
         Err(Stop::Memory) => Err(Unread::Memory),
@@ -160,6 +166,7 @@ pub fn looked_up(alloc: Global, pool: &Pool, how: &str, index: &str) -> Result<S
 pub fn adder_of(alloc: Global, fields: &str) -> Result<Adder, Unread> {
     let pool = pool_of(alloc, fields)?;
     if pool.entries().is_empty() {
+        drop(pool);
         return Err(Unread::Line);
     }
     Ok(Adder::over(alloc, pool)?)

@@ -36,8 +36,9 @@ fn pool_comes_back(alloc: Global, bytes: &[u8]) -> Result<bool, AllocError> {
     let Ok((pool, behind)) = read_pool(alloc, bytes, 0) else {
         return Ok(false);
     };
-    let written = write_pool(alloc, &pool)?;
-    Ok(written.as_slice() == bytes && behind as usize == bytes.len())
+    let written = write_pool(alloc, &pool);
+    drop(pool);
+    Ok(written?.as_slice() == bytes && behind as usize == bytes.len())
 }
 
 /// Whether the bytes are frames that are written as they were read.
@@ -49,7 +50,9 @@ fn maps_come_back(alloc: Global, bytes: &[u8]) -> Result<bool, AllocError> {
         return Ok(false);
     };
     let mut written = Seq::new(alloc);
-    put_frames(alloc, &frames, &mut written)?;
+    let put = put_frames(alloc, &frames, &mut written);
+    drop(frames);
+    put?;
     Ok(written.as_slice() == bytes)
 }
 
@@ -58,8 +61,9 @@ fn code_comes_back(alloc: Global, bytes: &[u8]) -> Result<bool, AllocError> {
     let Ok(ops) = decode(alloc, bytes) else {
         return Ok(false);
     };
-    let written = encode(alloc, &ops)?;
-    Ok(written.as_slice() == bytes)
+    let written = encode(alloc, &ops);
+    drop(ops);
+    Ok(written?.as_slice() == bytes)
 }
 
 /// Whether the bytes are a class file that is written as it was read.
@@ -67,8 +71,9 @@ fn class_comes_back(alloc: Global, bytes: &[u8]) -> Result<bool, AllocError> {
     let Ok(class) = read_class(alloc, bytes) else {
         return Ok(false);
     };
-    let written = write_class(alloc, &class)?;
-    Ok(written.as_slice() == bytes)
+    let written = write_class(alloc, &class);
+    drop(class);
+    Ok(written?.as_slice() == bytes)
 }
 
 /// Whether a part is written byte for byte as it was read. What can't be read doesn't come back.
