@@ -11,7 +11,7 @@ use crate::jengine::grounds::Ground;
 use crate::jengine::safety::ByRules;
 use jlib::Side;
 use jlinking::jlink::LinkedProgram;
-use jmodel::jguard::{Guard, guard_laws};
+use jmodel::jguard::{Guard, Sided, guard_laws};
 use jmodel::jmachine::Plan;
 use jprogram::MethodId;
 use jsafety::jsafe::states_laws;
