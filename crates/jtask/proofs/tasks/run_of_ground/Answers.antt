@@ -5,7 +5,7 @@ use Rattle.jtask.specs.Tasks.{part_at}
 use Rattle.jtask.proofs.Classes.{of_ground, ok_then}
 use Rattle.jtask.proofs.tasks.run_of_ground.Goals as goal
 
-pub returns-clause-classes : goal.returns-clause-classes
-returns-clause-classes g c = λ files told.
-    let read = ap (λ (paths : List ClassPath). each (part_at files) paths) (sym c.as_slice.ensures) ∙ c.in_ok-parts.ensures.value files told in
-    ok_then c.run_of_parts.result (of_ground files c.args.ground c.in_ok-parts.parts read) c.run_of_parts.ensures.classes
+pub returns-in-Ok-clause-classes : goal.returns-in-Ok-clause-classes
+returns-in-Ok-clause-classes g c = λ files told.
+    let read = ap (λ (paths : List ClassPath). each (part_at files) paths) (sym c.as_slice.ensures) ∙ c.in-Ok.ensures.value files told in
+    ok_then c.run_of_parts.result (of_ground files c.args.ground c.in-Ok.parts read) c.run_of_parts.ensures.classes

@@ -15,26 +15,24 @@ returns-in_err-joined-clause-value c =
     let p = err_from_is_err_and c.from_residual.result c.from_residual.ensures.1 in
     rw (p.1, p.2) (run_unlinked c.args.side c.args.name.now c.args.parts c.in_err-joined.field-0.0 c.in_err-joined.ensures.value)
 
-pub returns-in_err-main-clause-value : goal.returns-in_err-main-clause-value
-returns-in_err-main-clause-value c =
-    let p = err_from_is_err_and c.from_residual-in_err-main.result c.from_residual-in_err-main.ensures.1 in
-    rw (p.1, p.2) (run_unnamed c.args.side c.args.name.now c.args.parts c.in_err-main.field-0.0 c.in_ok-joined.joined c.in_ok-joined.ensures.value c.in_err-main.ensures.value)
+pub returns-in-Err-clause-value : goal.returns-in-Err-clause-value
+returns-in-Err-clause-value c = run_unnamed c.args.side c.args.name.now c.args.parts c.in-Err.halt c.in_ok-joined.joined c.in_ok-joined.ensures.value c.in-Err.ensures.value
 
-pub returns-in_err-program-clause-value : goal.returns-in_err-program-clause-value
-returns-in_err-program-clause-value c =
-    let p = err_from_is_err_and c.from_residual-in_err-program.result c.from_residual-in_err-program.ensures.1 in
-    rw (p.1, p.2) (run_untyped c.args.side c.args.name.now c.args.parts c.in_err-program.field-0.0 c.in_ok-joined.joined c.in_ok-main.main c.in_ok-joined.ensures.value c.in_ok-main.ensures.value c.in_err-program.ensures.value)
+pub returns-in_err-program-in-Ok-clause-value : goal.returns-in_err-program-in-Ok-clause-value
+returns-in_err-program-in-Ok-clause-value c =
+    let p = err_from_is_err_and c.from_residual-in_err-program-in-Ok.result c.from_residual-in_err-program-in-Ok.ensures.1 in
+    rw (p.1, p.2) (run_untyped c.args.side c.args.name.now c.args.parts c.in_err-program-in-Ok.field-0.0 c.in_ok-joined.joined c.in-Ok.main c.in_ok-joined.ensures.value c.in-Ok.ensures.value c.in_err-program-in-Ok.ensures.value)
 
-pub returns-clause-value : goal.returns-clause-value
-returns-clause-value c = runs c.args.side c.args.name.now c.args.parts c.in_ok-joined.joined c.in_ok-program.program c.in_ok-main.main c.in_ok-joined.ensures.value c.in_ok-main.ensures.value c.in_ok-program.ensures.value
+pub returns-in_ok-program-in-Ok-clause-value : goal.returns-in_ok-program-in-Ok-clause-value
+returns-in_ok-program-in-Ok-clause-value c = runs c.args.side c.args.name.now c.args.parts c.in_ok-joined.joined c.in_ok-program-in-Ok.program c.in-Ok.main c.in_ok-joined.ensures.value c.in-Ok.ensures.value c.in_ok-program-in-Ok.ensures.value
 
-pub returns-clause-main : goal.returns-clause-main
-returns-clause-main c = run_main (NoMain c.args.name.now) c.in_ok-joined.joined c.in_ok-program.program (flat_map group c.args.name.now) c.in_ok-main.main c.in_ok-main.ensures.value c.in_ok-program.ensures.value
+pub returns-in_ok-program-in-Ok-clause-main : goal.returns-in_ok-program-in-Ok-clause-main
+returns-in_ok-program-in-Ok-clause-main c = run_main (NoMain c.args.name.now) c.in_ok-joined.joined c.in_ok-program-in-Ok.program (flat_map group c.args.name.now) c.in-Ok.main c.in-Ok.ensures.value c.in_ok-program-in-Ok.ensures.value
 
-pub returns-clause-side : goal.returns-clause-side
-returns-clause-side c = on_side c.args.side c.args.parts c.in_ok-joined.joined c.in_ok-program.program c.in_ok-joined.ensures.value c.in_ok-program.ensures.value
+pub returns-in_ok-program-in-Ok-clause-side : goal.returns-in_ok-program-in-Ok-clause-side
+returns-in_ok-program-in-Ok-clause-side c = on_side c.args.side c.args.parts c.in_ok-joined.joined c.in_ok-program-in-Ok.program c.in_ok-joined.ensures.value c.in_ok-program-in-Ok.ensures.value
 
-pub returns-clause-classes : goal.returns-clause-classes
-returns-clause-classes c =
+pub returns-in_ok-program-in-Ok-clause-classes : goal.returns-in_ok-program-in-Ok-clause-classes
+returns-in_ok-program-in-Ok-clause-classes c =
     let same : program c.args.side c.args.parts ≡ c.in_ok-joined.joined = linked_is (program c.args.side c.args.parts) c.in_ok-joined.joined c.in_ok-joined.ensures.value in
     subst (λ (p : Program). AreClasses p.parts) (sym same) c.are_classes.ensures
