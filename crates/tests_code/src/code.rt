@@ -5,23 +5,23 @@ use jparts::jcode::{
 use std::alloc::{AllocError, Global};
 use tests_rows::{Unread, debug, debug_pair, hex_of};
 
-/// How many instructions a code has, if it is written back as it was.
-fn kept(alloc: Global, ops: &[Placed], bytes: &[u8]) -> Result<String, AllocError> {
-    let again = encode(alloc, ops)?;
-    if again.as_slice() != bytes {
-        return String::from_str(alloc, "not written as it was");
+/// How many instructions a code has that is written back as it was, or isn't.
+fn told(alloc: Global, count: usize, kept: bool) -> Result<String, AllocError> {
+    if kept {
+        return debug(alloc, &count);
     }
-    debug(alloc, &ops.len())
+    String::from_str(alloc, "not written as it was")
 }
 
-/// The same, or its first fault.
+/// How many instructions a code has, if it is written back as it was, or its first fault.
 pub fn read(alloc: Global, words: &str) -> Result<String, Unread> {
     let bytes = hex_of(alloc, words)?;
     match decode(alloc, bytes.as_slice()) {
         Ok(ops) => {
-            let found = kept(alloc, ops.as_slice(), bytes.as_slice());
+            let count = ops.len();
+            let again = encode(alloc, ops.as_slice());
             drop(ops);
-            Ok(found?)
+            Ok(told(alloc, count, again?.as_slice() == bytes.as_slice())?)
         }
         Err(Stop::Fault(fault)) => Ok(debug_pair(alloc, &fault.at, &fault.kind)?),
         Err(Stop::Memory) => Err(Unread::Memory),
