@@ -1,10 +1,11 @@
-use crate::words::{first, pair, units};
+use crate::files::sink;
+use crate::words::{first, units};
 use jground::jtext::Units;
 use jperm::{Actions, Permission, PropertyActions};
 use jrights::jio::{MemorySink, PutFault};
 use jrights::jtrace::{End, Event, write_end, write_event};
 use std::alloc::{AllocError, Global};
-use tests_rows::{Unread, between, debug_pair, number};
+use tests_rows::{Answer, Unread, number};
 
 /// A check's permission on the property `x`.
 fn asked(alloc: Global) -> Result<Permission, AllocError> {
@@ -38,19 +39,16 @@ fn uncaught(alloc: Global, thread: u32, class: &str) -> Result<Event, AllocError
     Ok(Event::Uncaught { thread, class })
 }
 
-fn printed(alloc: Global, thread: u32, word: &str) -> Result<Event, Unread> {
-    let text = Units::from_vec(units(alloc, word)?);
-    Ok(Event::Out { thread, text })
-}
-
-/// The event of words: a thread's number first.
-fn event(alloc: Global, kind: &str, words: &str) -> Result<Event, Unread> {
-    let (thread, rest) = first(words);
-    let thread = number::<u32>(thread)?;
+/// The event of a kind, a thread's number and what stands behind that.
+fn event_of(kind: &str, thread: u32, rest: &str, answer: &mut Answer) -> Result<Event, Unread> {
+    let alloc = answer.alloc();
     match kind {
-        "out" => printed(alloc, thread, rest),
+        "out" => {
+            let text = Units::from_vec(units(rest, answer));
+            Ok(Event::Out { thread, text })
+        }
         "grant" => Ok(granted(alloc, thread)?),
-        "deny" => Ok(denied(alloc, thread, number::<u32>(rest)?)?),
+        "deny" => Ok(denied(alloc, thread, number(rest)?)?),
         "throw" => Ok(thrown(alloc, thread, rest)?),
         "uncaught" => Ok(uncaught(alloc, thread, rest)?),
         _ => Err(Unread::Line),
@@ -58,104 +56,95 @@ fn event(alloc: Global, kind: &str, words: &str) -> Result<Event, Unread> {
 }
 
 /// Writes an event's line where it is short enough.
-fn write_short(to: &mut MemorySink, event: &Event) -> Result<Result<(), PutFault>, Unread> {
+fn write_short(to: &mut MemorySink, event: &Event, answer: &mut Answer) -> Result<(), PutFault> {
     if !event.is_short() {
-        return Err(Unread::Line);
+        answer.refuse();
+        return Ok(());
     }
-    Ok(write_event(to, event))
+    write_event(to, event)
 }
 
-/// What a sink holds: one line, which is told without its end.
-fn line(alloc: Global, to: &MemorySink) -> Result<String, Unread> {
-    let Ok(text) = str::from_utf8(to.bytes()) else {
-        return Err(Unread::Line);
-    };
-    match text.strip_suffix('\n') {
-        Some(line) => Ok(between(alloc, "<", line, ">")?),
-        None => Err(Unread::Line),
+/// Tells what a sink holds once it was written to: one line, without its end.
+fn tell_line(to: &MemorySink, is_written: bool, answer: &mut Answer) {
+    match to.bytes().strip_suffix(b"\n") {
+        Some(line) if is_written => answer.tell_between("<", line, ">"),
+        _ => answer.refuse(),
     }
-}
-
-/// The line of an event, written to a sink.
-fn told_by(alloc: Global, to: &mut MemorySink, event: &Event) -> Result<String, Unread> {
-    match write_short(to, event)? {
-        Ok(()) => line(alloc, to),
-        Err(_) => Err(Unread::Line),
-    }
-}
-
-fn told_of(alloc: Global, event: &Event) -> Result<String, Unread> {
-    let mut to = MemorySink::open(alloc, 4096, Vec::new(alloc))?;
-    told_by(alloc, &mut to, event)
 }
 
 /// The line of an event.
-fn told(alloc: Global, words: &str) -> Result<String, Unread> {
-    let (kind, rest) = pair(words)?;
-    let event = event(alloc, kind, rest)?;
-    told_of(alloc, &event)
+fn told(event: &Event, answer: &mut Answer) {
+    let alloc = answer.alloc();
+    let Ok(mut to) = MemorySink::open(alloc, 4096, Vec::new(alloc)) else {
+        return answer.lack();
+    };
+    let written = write_short(&mut to, event, answer);
+    tell_line(&to, written.is_ok(), answer);
 }
 
-/// What becomes of an event's line in a sink, and how many bytes went out.
-fn written(alloc: Global, to: &mut MemorySink, event: &Event) -> Result<String, Unread> {
-    let written = write_short(to, event)?;
-    Ok(debug_pair(alloc, &written, &to.bytes().len())?)
-}
-
-/// A long text.
-fn letters(alloc: Global) -> Result<Event, AllocError> {
-    let text = "a".repeat(alloc, 600)?;
-    printed_text(alloc, text.as_str())
-}
-
-fn printed_text(alloc: Global, text: &str) -> Result<Event, AllocError> {
-    let text = Units::from_text(alloc, text)?;
-    Ok(Event::Out { thread: 0, text })
-}
-
-fn long_in(alloc: Global, to: &mut MemorySink) -> Result<String, Unread> {
-    let event = letters(alloc)?;
-    written(alloc, to, &event)
-}
-
-/// What becomes of the line of a long text where the put of a number fails, and how many bytes went out.
-fn long(alloc: Global, words: &str) -> Result<String, Unread> {
-    let bad_puts = Vec::from_slice(alloc, &[number::<u64>(words)?])?;
-    let mut to = MemorySink::open(alloc, 4096, bad_puts)?;
-    long_in(alloc, &mut to)
-}
-
-fn end_of(name: &str) -> Result<End, Unread> {
-    match name {
-        "Finished" => Ok(End::Finished),
-        "Uncaught" => Ok(End::Uncaught),
-        "Deadlock" => Ok(End::Deadlock),
-        "HeapFull" => Ok(End::HeapFull),
-        "Bound" => Ok(End::Bound),
-        _ => Err(Unread::Line),
+/// The line of the event that words say: its kind, a thread's number, and more.
+fn event(words: &str, answer: &mut Answer) {
+    let (kind, rest) = first(words);
+    let (thread, rest) = first(rest);
+    let thread = answer.number(thread);
+    match event_of(kind, thread, rest, answer) {
+        Ok(event) => told(&event, answer),
+        Err(_) => answer.refuse(),
     }
 }
 
-fn ended_in(alloc: Global, to: &mut MemorySink, end: End) -> Result<String, Unread> {
-    match write_end(to, end) {
-        Ok(()) => line(alloc, to),
-        Err(_) => Err(Unread::Line),
+/// The event of a long text.
+fn letters(alloc: Global) -> Result<Event, AllocError> {
+    let text = Units::from_vec(vec![in alloc; 0x61u16; 600]?);
+    Ok(Event::Out { thread: 0, text })
+}
+
+/// What becomes of an event's line in a sink, and how many bytes went out.
+fn written(to: &mut MemorySink, event: &Event, answer: &mut Answer) {
+    let written = write_short(to, event, answer);
+    answer.debug_pair(&written, &to.bytes().len());
+}
+
+/// What becomes of the line of a long text where the put of a number fails, and how many bytes went out.
+fn long(words: &str, answer: &mut Answer) {
+    let alloc = answer.alloc();
+    let bad_put = answer.number::<u64>(words);
+    match (letters(alloc), sink(alloc, 4096, bad_put)) {
+        (Ok(event), Ok(mut to)) => written(&mut to, &event, answer),
+        _ => answer.lack(),
+    }
+}
+
+fn end_of(name: &str) -> Option<End> {
+    match name {
+        "Finished" => Some(End::Finished),
+        "Uncaught" => Some(End::Uncaught),
+        "Deadlock" => Some(End::Deadlock),
+        "HeapFull" => Some(End::HeapFull),
+        "Bound" => Some(End::Bound),
+        _ => None,
     }
 }
 
 /// The line of an end.
-fn ended(alloc: Global, name: &str) -> Result<String, Unread> {
-    let end = end_of(name)?;
-    let mut to = MemorySink::open(alloc, 4096, Vec::new(alloc))?;
-    ended_in(alloc, &mut to, end)
+fn ended(name: &str, answer: &mut Answer) {
+    let alloc = answer.alloc();
+    let Some(end) = end_of(name) else {
+        return answer.refuse();
+    };
+    let Ok(mut to) = MemorySink::open(alloc, 4096, Vec::new(alloc)) else {
+        return answer.lack();
+    };
+    let written = write_end(&mut to, end);
+    tell_line(&to, written.is_ok(), answer);
 }
 
 /// What is asked of events and ends.
-pub fn found(alloc: Global, kind: &str, words: &str) -> Result<String, Unread> {
+pub fn found(kind: &str, words: &str, answer: &mut Answer) {
     match kind {
-        "event" => told(alloc, words),
-        "long" => long(alloc, words),
-        "end" => ended(alloc, words),
-        _ => Err(Unread::Line),
+        "event" => event(words, answer),
+        "long" => long(words, answer),
+        "end" => ended(words, answer),
+        _ => answer.refuse(),
     }
 }

@@ -1,14 +1,14 @@
 ghost use Rattle.std.specs.Prelude.{◌≡◌, ◌+◌, ◌<◌, ◌≤◌, ◌^◌, None, IfOk, OnErr, length, min, take};
 ghost use Rattle.jground.specs.jbase.Causes.{HasCause, appended};
 
-use crate::words::{pair, units};
+use crate::words::{first, units};
 use jrights::jio::{
     MemoryShelf, MemorySink, Part, RealShelf, RealSink, Shelf, Sink, SinkError, put_all,
     write_line, write_line_text,
 };
 use std::alloc::{AllocError, Global};
 use std::fs;
-use tests_rows::{Unread, between, debug, debug_pair, hex_of, number};
+use tests_rows::Answer;
 
 /// Takes one byte a put, and fails at one put.
 #[derive(Drop)]
@@ -50,62 +50,65 @@ impl Sink for Drip {
 }
 
 /// A sink in memory, whose put of a number fails.
-fn sink(alloc: Global, room: usize, bad_put: u64) -> Result<MemorySink, AllocError> {
+pub fn sink(alloc: Global, room: usize, bad_put: u64) -> Result<MemorySink, AllocError> {
     let bad_puts = Vec::from_slice(alloc, &[bad_put])?;
     MemorySink::open(alloc, room, bad_puts)
 }
 
 /// What a line has of a short text.
-fn text(alloc: Global, word: &str) -> Result<String, Unread> {
-    let units = units(alloc, word)?;
+fn text(word: &str, answer: &mut Answer) {
+    let units = units(word, answer);
     if 100 < units.len() {
-        return Err(Unread::Line);
+        return answer.refuse();
     }
-    let mut sink = sink(alloc, 100, 0)?;
-    let Ok(()) = write_line_text(&mut sink, units.as_slice()) else {
-        return Err(Unread::Line);
+    let Ok(mut sink) = sink(answer.alloc(), 100, 0) else {
+        return answer.lack();
     };
-    match str::from_utf8(sink.bytes()) {
-        Ok(text) => Ok(between(alloc, "<", text, ">")?),
-        Err(_) => Err(Unread::Line),
+    match write_line_text(&mut sink, units.as_slice()) {
+        Ok(()) => answer.tell_between("<", sink.bytes(), ">"),
+        Err(_) => answer.refuse(),
     }
 }
 
-/// What becomes of a line with a text of so many letters where the put of a number fails, and how many bytes went out.
-fn pieces(alloc: Global, words: &str) -> Result<String, Unread> {
-    let (letters, bad_put) = pair(words)?;
-    let bad_put = number::<u64>(bad_put)?;
-    let text = vec![in alloc; 0x78u16; usize::from(number::<u16>(letters)?)]?;
-    Ok(pieces_of(alloc, text.as_slice(), bad_put)?)
-}
-
-/// The same of a text.
-fn pieces_of(alloc: Global, text: &[u16], bad_put: u64) -> Result<String, AllocError>
+/// What becomes of a line with a text where the put of a number fails, and how many bytes went out.
+fn pieces_of(text: &[u16], bad_put: u64, answer: &mut Answer)
     requires { length text.now < 2 ^ 16 }
 {
-    let mut sink = sink(alloc, 1000, bad_put)?;
+    let Ok(mut sink) = sink(answer.alloc(), 1000, bad_put) else {
+        return answer.lack();
+    };
     let parts = [Part::Number(7), Part::Plain(" "), Part::Text(text)];
     let written = write_line(&mut sink, &parts);
-    debug_pair(alloc, &written, &sink.bytes().len())
+    answer.debug_pair(&written, &sink.bytes().len());
+}
+
+/// The same of a text of so many letters.
+fn pieces(words: &str, answer: &mut Answer) {
+    let (letters, bad_put) = first(words);
+    let alloc = answer.alloc();
+    let bad_put = answer.number(bad_put);
+    match vec![in alloc; 0x78u16; usize::from(answer.number::<u16>(letters))] {
+        Ok(text) => pieces_of(text.as_slice(), bad_put, answer),
+        Err(_) => answer.lack(),
+    }
 }
 
 /// What becomes of 18 bytes that go out one by one where the put of a number fails, and how many went out.
-fn drips(alloc: Global, bad_put: &str) -> Result<String, Unread> {
-    let mut drip = Drip::new(number::<u64>(bad_put)?);
+fn drips(bad_put: &str, answer: &mut Answer) {
+    let mut drip = Drip::new(answer.number(bad_put));
     let put = put_all(&mut drip, b"grant 0 (\"a\" \"b\")\n");
-    Ok(debug_pair(alloc, &put, &drip.len)?)
+    answer.debug_pair(&put, &drip.len);
 }
 
 /// What becomes of each word that is put into a sink with room for six bytes, whose second put fails, and what it holds then.
-fn puts(alloc: Global, words: &str) -> Result<String, AllocError> {
-    let mut sink = sink(alloc, 6, 2)?;
-    let mut found = String::new(alloc);
+fn puts(words: &str, answer: &mut Answer) {
+    let Ok(mut sink) = sink(answer.alloc(), 6, 2) else {
+        return answer.lack();
+    };
     for word in words.split(' ') {
-        let put = sink.put(word.as_bytes());
-        found.push_str(format!(in alloc; "{put:?} ")?.as_str())?;
+        answer.spaced(&sink.put(word.as_bytes()));
     }
-    let held = str::from_utf8(sink.bytes()).unwrap_or("?");
-    format!(in alloc; "{}<{held}>", found.as_str())
+    answer.tell_between(" <", sink.bytes(), ">");
 }
 
 fn file(alloc: Global, path: &str, bytes: &str) -> Result<(String, Vec<u8>), AllocError> {
@@ -126,112 +129,96 @@ fn memory(alloc: Global) -> Result<MemoryShelf, AllocError> {
     MemoryShelf::open(alloc, files, bad_reads, bad_writes)
 }
 
-/// Whether the bytes of hexadecimal text are stored.
-fn stored<S: Shelf>(
-    alloc: Global,
-    shelf: &mut S,
-    path: &str,
-    what: &str,
-) -> Result<String, Unread> {
-    let bytes = hex_of(alloc, what)?;
-    let stored = shelf.write(alloc, path, bytes.as_slice());
-    Ok(debug(alloc, &stored.is_ok())?)
+/// Tells whether the bytes of hexadecimal text are stored.
+fn store<S: Shelf>(shelf: &mut S, path: &str, what: &str, answer: &mut Answer) {
+    let bytes = answer.bytes(what);
+    let stored = shelf.write(answer.alloc(), path, bytes.as_slice());
+    answer.debug(&stored.is_ok());
 }
 
-/// The bytes at a path.
-fn read<S: Shelf>(alloc: Global, shelf: &mut S, path: &str) -> Result<String, AllocError> {
-    match shelf.read(alloc, path) {
-        Ok(bytes) => hex::encode(alloc, bytes.as_slice()),
-        Err(_) => String::from_str(alloc, "none"),
+/// Tells the bytes at a path.
+fn tell_file<S: Shelf>(shelf: &mut S, path: &str, answer: &mut Answer) {
+    match shelf.read(answer.alloc(), path) {
+        Ok(bytes) => answer.hex(bytes.as_slice()),
+        Err(_) => answer.tell("none"),
     }
 }
 
-/// What a shelf answers to a word: to a path what it reads, to a path with `=` and bytes behind it whether these are stored.
-fn step<S: Shelf>(alloc: Global, shelf: &mut S, word: &str) -> Result<String, Unread> {
-    match word.split_once('=') {
-        Some((path, what)) => stored(alloc, shelf, path, what),
-        None => Ok(read(alloc, shelf, word)?),
-    }
-}
-
-/// What a shelf answers, word by word.
-fn steps<S: Shelf>(alloc: Global, shelf: &mut S, words: &str) -> Result<String, Unread> {
-    let mut found = String::new(alloc);
+/// What a shelf answers, word by word: to a path what it reads, to a path with `=` and bytes behind it whether these are stored.
+fn steps<S: Shelf>(shelf: &mut S, words: &str, answer: &mut Answer) {
     for word in words.split(' ') {
-        let told = step(alloc, shelf, word)?;
-        found.push_str(told.as_str())?;
-        found.push(' ').map_err(AllocError::from)?;
+        answer.space();
+        match word.split_once('=') {
+            Some((path, what)) => store(shelf, path, what, answer),
+            None => tell_file(shelf, word, answer),
+        }
     }
-    Ok(found)
 }
 
 /// What a shelf in memory answers, word by word, and what its files are then.
-fn in_memory(alloc: Global, words: &str) -> Result<String, Unread> {
-    let mut shelf = memory(alloc)?;
-    let mut found = steps(alloc, &mut shelf, words)?;
+fn in_memory(words: &str, answer: &mut Answer) {
+    let Ok(mut shelf) = memory(answer.alloc()) else {
+        return answer.lack();
+    };
+    steps(&mut shelf, words, answer);
     for path in ["a/one", "two", "three"] {
-        let bytes = shelf.file(path).unwrap_or(&[]);
-        let digits = hex::encode(alloc, bytes)?;
-        found.push_str(between(alloc, "<", digits.as_str(), "> ")?.as_str())?;
+        answer.tell(" <");
+        answer.hex(shelf.file(path).unwrap_or(&[]));
+        answer.tell(">");
     }
-    Ok(found)
 }
 
 /// What the shelf of real files answers, word by word. What it made goes then.
-fn real(rt: &HostRuntime, words: &str) -> Result<String, Unread> {
-    let found = steps(rt.alloc(), &mut RealShelf::new(rt), words)?;
-    match fs::remove_dir_all(rt, "made") {
-        Ok(()) => Ok(found),
-        Err(_) => Err(Unread::Line),
+fn real(rt: &HostRuntime, words: &str, answer: &mut Answer) {
+    steps(&mut RealShelf::new(rt), words, answer);
+    if fs::remove_dir_all(rt, "made").is_err() {
+        answer.refuse();
     }
 }
 
 /// Puts words into a real file.
-fn put_words(rt: &HostRuntime, path: &str, words: &str) -> Result<(), Unread> {
+fn put_words(rt: &HostRuntime, path: &str, words: &str, answer: &mut Answer) {
     let Ok(file) = fs::File::create(rt, path) else {
-        return Err(Unread::Line);
+        return answer.refuse();
     };
     let mut sink = RealSink::new(file);
     for word in words.split(',') {
         if put_all(&mut sink, word.as_bytes()).is_err() {
-            return Err(Unread::Line);
+            answer.refuse();
         }
     }
-    Ok(())
 }
 
 /// What a real file holds into which words were put one behind the other. It goes then.
-fn real_sink(rt: &HostRuntime, words: &str) -> Result<String, Unread> {
+fn real_sink(rt: &HostRuntime, words: &str, answer: &mut Answer) {
     let path = "written_by_a_test.txt";
-    put_words(rt, path, words)?;
-    let found = step(rt.alloc(), &mut RealShelf::new(rt), path)?;
-    match fs::remove_file(rt, path) {
-        Ok(()) => Ok(found),
-        Err(_) => Err(Unread::Line),
+    put_words(rt, path, words, answer);
+    tell_file(&mut RealShelf::new(rt), path, answer);
+    if fs::remove_file(rt, path).is_err() {
+        answer.refuse();
     }
 }
 
 /// What becomes of four bytes that are put where there is room for three, and of four more.
-fn short_sink(alloc: Global) -> Result<String, AllocError> {
+fn short_sink(answer: &mut Answer) {
     let mut three = [0u8; 3];
     let mut sink = RealSink::new(three.as_mut_slice());
     let first = sink.put(b"four");
     let second = sink.put(b"four");
-    debug_pair(alloc, &first, &second)
+    answer.debug_pair(&first, &second);
 }
 
 /// What is asked of shelves, of sinks and of lines.
-pub fn found(rt: &HostRuntime, kind: &str, words: &str) -> Result<String, Unread> {
-    let alloc = rt.alloc();
+pub fn found(rt: &HostRuntime, kind: &str, words: &str, answer: &mut Answer) {
     match kind {
-        "text" => text(alloc, words),
-        "pieces" => pieces(alloc, words),
-        "drips" => drips(alloc, words),
-        "puts" => Ok(puts(alloc, words)?),
-        "memory" => in_memory(alloc, words),
-        "real" => real(rt, words),
-        "real_sink" => real_sink(rt, words),
-        "short_sink" => Ok(short_sink(alloc)?),
-        _ => Err(Unread::Line),
+        "text" => text(words, answer),
+        "pieces" => pieces(words, answer),
+        "drips" => drips(words, answer),
+        "puts" => puts(words, answer),
+        "memory" => in_memory(words, answer),
+        "real" => real(rt, words, answer),
+        "real_sink" => real_sink(rt, words, answer),
+        "short_sink" => short_sink(answer),
+        _ => answer.refuse(),
     }
 }

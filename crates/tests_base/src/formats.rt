@@ -10,7 +10,7 @@ use jground::jformat::{
     u16_of, words_of,
 };
 use std::alloc::{AllocError, Global};
-use tests_rows::{Unread, debug, debug_pair, hex_of};
+use tests_rows::Answer;
 
 /// Numbers of two bytes.
 struct Short;
@@ -111,70 +111,66 @@ impl StateWriter for Nth {
 }
 
 /// Items, and what stands behind them.
-fn list(
-    alloc: Global,
-    read: Result<(Seq<u16>, &[u8]), ReadError<u8>>,
-) -> Result<String, AllocError> {
+fn list(read: Result<(Seq<u16>, &[u8]), ReadError<u8>>, answer: &mut Answer) {
     match read {
-        Ok((items, rest)) => debug_pair(alloc, &items.as_slice(), &rest),
-        Err(stop) => debug(alloc, &stop),
+        Ok((items, rest)) => answer.debug_pair(&items.as_slice(), &rest),
+        Err(stop) => answer.debug(&stop),
     }
 }
 
 /// Items up to the end.
-fn many(alloc: Global, bytes: &[u8]) -> Result<String, AllocError> {
-    match many_of(alloc, &Short, 1, bytes) {
-        Ok(items) => debug(alloc, &items.as_slice()),
-        Err(stop) => debug(alloc, &stop),
+fn many(bytes: &[u8], answer: &mut Answer) {
+    match many_of(answer.alloc(), &Short, 1, bytes) {
+        Ok(items) => answer.debug(&items.as_slice()),
+        Err(stop) => answer.debug(&stop),
     }
 }
 
 /// The text of a block, and what stands behind it.
-fn block(alloc: Global, bytes: &[u8]) -> Result<String, AllocError> {
-    match block_of(alloc, &Text, 0, bytes) {
-        Ok((text, rest)) => debug_pair(alloc, &text.as_slice(), &rest),
-        Err(stop) => debug(alloc, &stop),
+fn block(bytes: &[u8], answer: &mut Answer) {
+    match block_of(answer.alloc(), &Text, 0, bytes) {
+        Ok((text, rest)) => answer.debug_pair(&text.as_slice(), &rest),
+        Err(stop) => answer.debug(&stop),
     }
 }
 
 /// The bytes that writers put one behind the other: two numbers behind their count, one in a block, two by a state, a sized text, -2.
 #[tactic(auto, unfolding(jground::specs::jformat::States::fits_from))]
-fn written(alloc: Global) -> Result<String, AllocError> {
+fn written(alloc: Global) -> Result<Seq<u8>, AllocError> {
     let mut out = Seq::new(alloc);
     put_counted(alloc, &Short, &[256, 7], &mut out)?;
     put_block(alloc, &Short, &9, &mut out)?;
     put_by(alloc, &Nth, 0, &[1, 2], &mut out)?;
     put_sized16(b"a", &mut out)?;
     put_i16(-2, &mut out)?;
-    hex::encode(alloc, out.as_slice())
+    Ok(out)
 }
 
-/// What is asked of a text that is to begin with the word `run`.
-fn behind_run(alloc: Global, text: &str) -> Result<String, AllocError> {
-    let read = words_of(3, b"run ", text.as_bytes());
-    debug(alloc, &read)
-}
-
-/// What is asked of bytes.
-fn of_bytes(alloc: Global, kind: &str, bytes: &[u8]) -> Result<String, Unread> {
-    match kind {
-        "counted" => Ok(list(alloc, counted_of(alloc, &Short, 0, bytes))?),
-        "three" => Ok(list(alloc, times_by_of(alloc, &Nth, 0, 3, bytes))?),
-        "many" => Ok(many(alloc, bytes)?),
-        "block" => Ok(block(alloc, bytes)?),
-        "i16" => Ok(debug(alloc, &i16_of(0u8, bytes))?),
-        "i8" => Ok(debug(alloc, &i8_of(0u8, bytes))?),
-        _ => Err(Unread::Line),
+/// Those bytes.
+fn all_written(answer: &mut Answer) {
+    match written(answer.alloc()) {
+        Ok(bytes) => answer.hex(bytes.as_slice()),
+        Err(_) => answer.lack(),
     }
 }
 
 /// What is asked of formats.
-pub fn found(alloc: Global, kind: &str, words: &str) -> Result<String, Unread> {
+pub fn found(kind: &str, words: &str, answer: &mut Answer) {
     match kind {
-        "written" => return Ok(written(alloc)?),
-        "words" => return Ok(behind_run(alloc, words)?),
+        "written" => return all_written(answer),
+        "words" => return answer.debug(&words_of(3, b"run ", words.as_bytes())),
         _ => {}
     }
-    let bytes = hex_of(alloc, words)?;
-    of_bytes(alloc, kind, bytes.as_slice())
+    let alloc = answer.alloc();
+    let bytes = answer.bytes(words);
+    let bytes = bytes.as_slice();
+    match kind {
+        "counted" => list(counted_of(alloc, &Short, 0, bytes), answer),
+        "three" => list(times_by_of(alloc, &Nth, 0, 3, bytes), answer),
+        "many" => many(bytes, answer),
+        "block" => block(bytes, answer),
+        "i16" => answer.debug(&i16_of(0u8, bytes)),
+        "i8" => answer.debug(&i8_of(0u8, bytes)),
+        _ => answer.refuse(),
+    }
 }

@@ -1,86 +1,93 @@
-use crate::words::{first, pair};
+use crate::words::first;
 use jground::jops::Value;
 use jheap::{CellType, Heap, Kind};
-use std::alloc::{AllocError, Global};
-use tests_rows::{Unread, debug_behind, debug_pair, number};
+use tests_rows::Answer;
 
-fn kind_of(name: &str) -> Result<Kind, Unread> {
+fn kind_of(name: &str) -> Option<Kind> {
     match name {
-        "object" => Ok(Kind::Object(7)),
-        "array" => Ok(Kind::Array(1)),
-        "text" => Ok(Kind::Text),
-        "piece" => Ok(Kind::Piece),
-        _ => Err(Unread::Line),
+        "object" => Some(Kind::Object(7)),
+        "array" => Some(Kind::Array(1)),
+        "text" => Some(Kind::Text),
+        "piece" => Some(Kind::Piece),
+        _ => None,
     }
+}
+
+/// What is made of the kind of a name and a length.
+fn make(heap: &mut Heap, name: &str, len: &str, answer: &mut Answer) {
+    let Some(kind) = kind_of(name) else {
+        return answer.refuse();
+    };
+    let len = answer.number(len);
+    answer.debug(&heap.make(kind, len));
 }
 
 /// What is made of a kind and a length in a heap with so many cells, and how many of these are left.
-fn made(alloc: Global, words: &str) -> Result<String, Unread> {
-    let (kind, rest) = pair(words)?;
-    let (len, cells) = pair(rest)?;
-    let (kind, len) = (kind_of(kind)?, number::<u32>(len)?);
-    let cells = u32::from(number::<u16>(cells)?);
-    let mut heap = Heap::open(alloc, cells)?;
-    Ok(made_in(alloc, &mut heap, kind, len)?)
-}
-
-/// The same in a heap.
-fn made_in(alloc: Global, heap: &mut Heap, kind: Kind, len: u32) -> Result<String, AllocError> {
-    let made = heap.make(kind, len);
-    debug_pair(alloc, &made, &heap.left())
+fn made(words: &str, answer: &mut Answer) {
+    let (kind, rest) = first(words);
+    let (len, cells) = first(rest);
+    let cells = u32::from(answer.number::<u16>(cells));
+    let Ok(mut heap) = Heap::open(answer.alloc(), cells) else {
+        return answer.lack();
+    };
+    make(&mut heap, kind, len, answer);
+    answer.spaced(&heap.left());
 }
 
 /// What a heap with so many cells answers to each word: a kind and a length make an object; `left`; `found` with a number.
-fn steps(alloc: Global, words: &str) -> Result<String, Unread> {
+fn steps(words: &str, answer: &mut Answer) {
     let (cells, rest) = first(words);
-    let cells = number::<u32>(cells)?;
+    let cells = answer.number::<u32>(cells);
     if cells >= 0x8000_0000 {
-        return Err(Unread::Line);
+        return answer.refuse();
     }
-    let mut heap = Heap::open(alloc, cells)?;
-    steps_in(alloc, &mut heap, rest)
+    let Ok(mut heap) = Heap::open(answer.alloc(), cells) else {
+        return answer.lack();
+    };
+    for step in rest.split(", ") {
+        step_in(&mut heap, step, answer);
+    }
 }
 
-fn steps_in(alloc: Global, heap: &mut Heap, words: &str) -> Result<String, Unread> {
-    let mut found = String::new(alloc);
-    for step in words.split(", ") {
-        let (word, count) = first(step);
-        let one = step_in(alloc, heap, word, count)?;
-        found.push_str(one.as_str())?;
-    }
-    Ok(found)
-}
-
-fn step_in(alloc: Global, heap: &mut Heap, word: &str, count: &str) -> Result<String, Unread> {
+fn step_in(heap: &mut Heap, step: &str, answer: &mut Answer) {
+    let (word, count) = first(step);
+    answer.space();
     match word {
-        "left" => Ok(debug_behind(alloc, " ", &heap.left())?),
-        "found" => Ok(debug_behind(alloc, " ", &heap.found(number::<u32>(count)?))?),
-        _ => {
-            let made = heap.make(kind_of(word)?, number::<u32>(count)?);
-            Ok(debug_behind(alloc, " ", &made)?)
+        "left" => answer.debug(&heap.left()),
+        "found" => {
+            let number = answer.number(count);
+            answer.debug(&heap.found(number));
         }
+        _ => make(heap, word, count, answer),
     }
 }
 
 /// The second of two statics as it is at first and with -1 in it, then the first with the least long in it, and the second again.
-fn statics(alloc: Global) -> Result<String, Unread> {
-    let mut heap = Heap::open(alloc, 0)?;
-    heap.add_statics(alloc, 2)?;
+fn statics(answer: &mut Answer) {
+    let alloc = answer.alloc();
+    let Ok(mut heap) = Heap::open(alloc, 0) else {
+        return answer.lack();
+    };
+    let Ok(()) = heap.add_statics(alloc, 2) else {
+        return answer.lack();
+    };
     let before = heap.static_at(1, CellType::Int);
     heap.set_static(1, Value::Int(-1));
     let behind = heap.static_at(1, CellType::Int);
     heap.set_static(0, Value::Long(i64::MIN));
     let other = heap.static_at(0, CellType::Long);
     let last = heap.static_at(1, CellType::Int);
-    Ok(format!(in alloc; "{before:?} {behind:?} {other:?} {last:?}")?)
+    answer.debug_pair(&before, &behind);
+    answer.spaced(&other);
+    answer.spaced(&last);
 }
 
 /// What is asked of heaps.
-pub fn found(alloc: Global, kind: &str, words: &str) -> Result<String, Unread> {
+pub fn found(kind: &str, words: &str, answer: &mut Answer) {
     match kind {
-        "make" => made(alloc, words),
-        "heap" => steps(alloc, words),
-        "statics" => statics(alloc),
-        _ => Err(Unread::Line),
+        "make" => made(words, answer),
+        "heap" => steps(words, answer),
+        "statics" => statics(answer),
+        _ => answer.refuse(),
     }
 }

@@ -1,6 +1,5 @@
 use jmemo::{Key, Memo};
-use std::alloc::Global;
-use tests_rows::{Unread, debug_behind, number};
+use tests_rows::Answer;
 
 /// A method that is looked for in a class.
 #[derive(Clone, Copy, PartialEq, Eq)]
@@ -22,35 +21,30 @@ impl Key for Call {
 }
 
 /// The numbers of a class and of a method, parted by a comma.
-fn key(word: &str) -> Result<Call, Unread> {
-    let Some((class, method)) = word.split_once(',') else {
-        return Err(Unread::Line);
-    };
-    Ok(Call {
-        class: number::<u32>(class)?,
-        method: number::<u32>(method)?,
-    })
+fn key(word: &str, answer: &mut Answer) -> Call {
+    let (class, method) = word.split_once(',').unwrap_or((word, ""));
+    Call {
+        class: answer.number(class),
+        method: answer.number(method),
+    }
 }
 
 /// What is got of a key by a word that has one alone; a word with `=` puts what stands behind it.
-fn step(alloc: Global, memo: &mut Memo<Call, u32>, word: &str) -> Result<String, Unread> {
+fn step(memo: &mut Memo<Call, u32>, word: &str, answer: &mut Answer) {
     if let Some((at, what)) = word.split_once('=') {
-        memo.put(key(at)?, number::<u32>(what)?);
-        return Ok(String::new(alloc));
+        let key = key(at, answer);
+        return memo.put(key, answer.number(what));
     }
-    Ok(debug_behind(alloc, " ", &memo.get(key(word)?))?)
-}
-
-fn steps(alloc: Global, memo: &mut Memo<Call, u32>, words: &str) -> Result<String, Unread> {
-    let mut found = String::new(alloc);
-    for word in words.split(' ') {
-        found.push_str(step(alloc, memo, word)?.as_str())?;
-    }
-    Ok(found)
+    let found = memo.get(key(word, answer));
+    answer.spaced(&found);
 }
 
 /// What is got by each word.
-pub fn found(alloc: Global, words: &str) -> Result<String, Unread> {
-    let mut memo: Memo<Call, u32> = Memo::new(alloc)?;
-    steps(alloc, &mut memo, words)
+pub fn found(words: &str, answer: &mut Answer) {
+    let Ok(mut memo) = Memo::new(answer.alloc()) else {
+        return answer.lack();
+    };
+    for word in words.split(' ') {
+        step(&mut memo, word, answer);
+    }
 }

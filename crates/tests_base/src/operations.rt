@@ -1,4 +1,4 @@
-use crate::words::pair;
+use crate::words::first;
 use jground::jnames::Compare::{Eq, Ge, Gt, Le, Lt, Ne};
 use jground::jnames::Division::{Idiv, Irem, Ldiv, Lrem};
 use jground::jnames::OpOne::{I2b, I2c, I2l, I2s, Ineg, L2i, Lneg};
@@ -9,8 +9,7 @@ use jground::jnames::OpTwo::{
 use jground::jnames::Shuffle::{Dup, Dup2, Dup2X1, Dup2X2, DupX1, DupX2, Pop, Pop2, Swap};
 use jground::jops::Value::{Ctx, Int, Long, Ref};
 use jground::jops::{DivideByZero, Shuffled, Value, divide, one, shuffle, test, two};
-use std::alloc::{AllocError, Global};
-use tests_rows::{Unread, debug, number};
+use tests_rows::Answer;
 
 /// What two ints give.
 #[tactic(auto, unfolding(jground::specs::jops::Operations::two))]
@@ -120,56 +119,62 @@ fn ref_holds(name: &str, x: u32, y: u32) -> Option<bool> {
     }
 }
 
-/// What a number gives.
-fn of_one(name: &str, x: &str) -> Result<Option<Value>, Unread> {
-    match name {
-        "lneg" | "l2i" => Ok(of_long(name, number::<i64>(x)?)),
-        _ => Ok(of_int(name, number::<i32>(x)?)),
+/// What a number gives. The name of an instruction that takes a long begins with `l`.
+fn of_one(name: &str, x: &str, answer: &mut Answer) -> Option<Value> {
+    if name.starts_with('l') {
+        return of_long(name, answer.number(x));
     }
+    of_int(name, answer.number(x))
 }
 
 /// What two numbers give.
-fn of_two(name: &str, x: &str, y: &str) -> Result<Option<Value>, Unread> {
-    match name {
-        "lshl" | "lshr" | "lushr" => Ok(shifted(name, number::<i64>(x)?, number::<i32>(y)?)),
-        "ladd" | "lsub" | "lmul" | "land" | "lor" | "lxor" | "lcmp" => {
-            Ok(of_longs(name, number::<i64>(x)?, number::<i64>(y)?))
-        }
-        _ => Ok(of_ints(name, number::<i32>(x)?, number::<i32>(y)?)),
+fn of_two(name: &str, x: &str, y: &str, answer: &mut Answer) -> Option<Value> {
+    if !name.starts_with('l') {
+        return of_ints(name, answer.number(x), answer.number(y));
     }
+    let x = answer.number(x);
+    if name.contains("sh") {
+        return shifted(name, x, answer.number(y));
+    }
+    of_longs(name, x, answer.number(y))
 }
 
 /// What is asked of ints and longs, by the name of an instruction.
-fn computed(alloc: Global, words: &str) -> Result<String, Unread> {
-    let (name, rest) = pair(words)?;
+fn computed(words: &str, answer: &mut Answer) {
+    let (name, rest) = first(words);
     let found = match rest.split_once(' ') {
-        Some((x, y)) => of_two(name, x, y)?,
-        None => of_one(name, rest)?,
+        Some((x, y)) => of_two(name, x, y, answer),
+        None => of_one(name, rest, answer),
     };
-    Ok(debug(alloc, &found)?)
+    answer.debug(&found);
 }
 
 /// What is asked of a division.
-fn quotient(alloc: Global, words: &str) -> Result<String, Unread> {
-    let (name, rest) = pair(words)?;
-    let (x, y) = pair(rest)?;
-    let found = match name {
-        "ldiv" | "lrem" => long_divided(name, number::<i64>(x)?, number::<i64>(y)?),
-        _ => divided(name, number::<i32>(x)?, number::<i32>(y)?),
+fn quotient(words: &str, answer: &mut Answer) {
+    let (name, rest) = first(words);
+    let (x, y) = first(rest);
+    let found = if name.starts_with('l') {
+        long_divided(name, answer.number(x), answer.number(y))
+    } else {
+        divided(name, answer.number(x), answer.number(y))
     };
-    Ok(debug(alloc, &found)?)
+    answer.debug(&found);
 }
 
-/// What is asked of a test of two ints, or of two references.
-fn tested(alloc: Global, words: &str, of_refs: bool) -> Result<String, Unread> {
-    let (name, rest) = pair(words)?;
-    let (x, y) = pair(rest)?;
-    let found = if of_refs {
-        ref_holds(name, number::<u32>(x)?, number::<u32>(y)?)
-    } else {
-        holds(name, number::<i32>(x)?, number::<i32>(y)?)
-    };
-    Ok(debug(alloc, &found)?)
+/// What is asked of a test of two ints.
+fn tested(words: &str, answer: &mut Answer) {
+    let (name, rest) = first(words);
+    let (x, y) = first(rest);
+    let found = holds(name, answer.number(x), answer.number(y));
+    answer.debug(&found);
+}
+
+/// What is asked of a test of two references.
+fn refs_tested(words: &str, answer: &mut Answer) {
+    let (name, rest) = first(words);
+    let (x, y) = first(rest);
+    let found = ref_holds(name, answer.number(x), answer.number(y));
+    answer.debug(&found);
 }
 
 /// Items of one slot, longs, and a place where no item is.
@@ -220,44 +225,39 @@ fn moved_longs(words: &str) -> Option<Shuffled> {
 }
 
 /// The letter of an item.
-fn letter(item: Value) -> char {
+fn letter(item: Value) -> &'static str {
     match item {
-        Ref(1) => 'A',
-        Int(2) => 'B',
-        Ctx(3) => 'C',
-        Ref(4) => 'D',
-        Long(5) => 'J',
-        Long(6) => 'K',
-        _ => '?',
+        Ref(1) => "A",
+        Int(2) => "B",
+        Ctx(3) => "C",
+        Ref(4) => "D",
+        Long(5) => "J",
+        Long(6) => "K",
+        _ => "?",
     }
-}
-
-/// The items that an instruction puts.
-fn letters(alloc: Global, moved: &Shuffled) -> Result<String, AllocError> {
-    let mut items = String::new(alloc);
-    for item in moved.values.iter().take(moved.put as usize) {
-        items.push(letter(*item))?;
-    }
-    Ok(items)
 }
 
 /// How many items an instruction takes, and those that it puts.
-fn shuffled(alloc: Global, words: &str) -> Result<String, Unread> {
+fn shuffled(words: &str, answer: &mut Answer) {
     let Some(moved) = moved(words).or(moved_longs(words)) else {
-        return Err(Unread::Line);
+        return answer.refuse();
     };
-    let items = letters(alloc, &moved)?;
-    Ok(format!(in alloc; "{} <{}>", moved.taken, items.as_str())?)
+    answer.debug(&moved.taken);
+    answer.tell(" <");
+    for item in moved.values.iter().take(moved.put as usize) {
+        answer.tell(letter(*item));
+    }
+    answer.tell(">");
 }
 
 /// What is asked of operations.
-pub fn found(alloc: Global, kind: &str, words: &str) -> Result<String, Unread> {
+pub fn found(kind: &str, words: &str, answer: &mut Answer) {
     match kind {
-        "computes" => computed(alloc, words),
-        "divides" => quotient(alloc, words),
-        "compares" => tested(alloc, words, false),
-        "compares_refs" => tested(alloc, words, true),
-        "moves" => shuffled(alloc, words),
-        _ => Err(Unread::Line),
+        "computes" => computed(words, answer),
+        "divides" => quotient(words, answer),
+        "compares" => tested(words, answer),
+        "compares_refs" => refs_tested(words, answer),
+        "moves" => shuffled(words, answer),
+        _ => answer.refuse(),
     }
 }

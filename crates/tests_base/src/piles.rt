@@ -4,7 +4,7 @@ ghost use Rattle.std.specs.Option.{option_to_list};
 use crate::words::first;
 use jpile::{Pile, Spread};
 use std::alloc::{AllocError, Global};
-use tests_rows::{Unread, debug, debug_behind, number};
+use tests_rows::Answer;
 
 /// Items that are written as what they are in another list.
 struct Pairs;
@@ -31,57 +31,66 @@ fn change(pile: &mut Pile<u32>, word: &str, i: usize, item: u32) -> Result<bool,
 }
 
 /// What a list answers to a word and a number.
-fn told(alloc: Global, pile: &mut Pile<u32>, word: &str, i: usize) -> Result<String, Unread> {
+fn told(pile: &mut Pile<u32>, word: &str, i: usize, answer: &mut Answer) {
     let len = pile.len();
+    answer.space();
     match word {
-        "get" if i < len => Ok(debug_behind(alloc, " ", &pile.get(i))?),
-        "at" if i < len => Ok(debug_behind(alloc, " ", &pile.at(i))?),
-        "top" if i <= len => Ok(debug_behind(alloc, " ", &pile.top(i))?),
-        "len" => Ok(debug_behind(alloc, " ", &len)?),
-        "pop" if 0 < len => Ok(debug_behind(alloc, " ", &pile.pop())?),
-        _ => Err(Unread::Line),
+        "get" if i < len => answer.debug(&pile.get(i)),
+        "at" if i < len => answer.debug(&pile.at(i)),
+        "top" if i <= len => answer.debug(&pile.top(i)),
+        "len" => answer.debug(&len),
+        "pop" if 0 < len => answer.debug(&pile.pop()),
+        _ => answer.refuse(),
     }
 }
 
 /// What a list answers to a word, behind which may stand the number that it asks of, and an item.
-fn step(alloc: Global, pile: &mut Pile<u32>, words: &str) -> Result<String, Unread> {
+fn step(pile: &mut Pile<u32>, words: &str, answer: &mut Answer) {
     let (word, rest) = first(words);
     let (i, item) = first(rest);
-    let i = number::<u32>(i).unwrap_or(0) as usize;
-    if change(pile, word, i, number::<u32>(item).unwrap_or(0))? {
-        return Ok(String::new(alloc));
+    let i = i.parse::<u32>().unwrap_or(0) as usize;
+    match change(pile, word, i, item.parse::<u32>().unwrap_or(0)) {
+        Ok(true) => {}
+        Ok(false) => told(pile, word, i, answer),
+        Err(_) => answer.lack(),
     }
-    told(alloc, pile, word, i)
 }
 
 /// What a list answers, word by word.
-fn steps(alloc: Global, pile: &mut Pile<u32>, words: &str) -> Result<String, Unread> {
-    let mut found = String::new(alloc);
+fn steps(words: &str, answer: &mut Answer) {
+    let mut pile = Pile::new(answer.alloc());
     for one in words.split(", ") {
-        found.push_str(step(alloc, pile, one)?.as_str())?;
+        step(&mut pile, one, answer);
     }
-    Ok(found)
 }
 
-/// The newest list that is opened of the two newest items of another, with -, 9 and that list's own below it once it is closed.
-fn spread(alloc: Global) -> Result<String, AllocError> {
+/// A list of 9, on which one is opened of the two newest items of another.
+fn opened(alloc: Global, pile: &mut Pile<u32>) -> Result<(), AllocError> {
     let mut from = Pile::new(alloc);
     from.push((1, None))?;
     from.push((2, Some(3)))?;
     from.push((4, None))?;
-    let mut pile = Pile::new(alloc);
     pile.push(9)?;
-    pile.open_from::<(u32, Option<u32>), Pairs>(from.top(2), 5, 0)?;
-    let opened = debug(alloc, &pile.top(pile.len()))?;
+    pile.open_from::<(u32, Option<u32>), Pairs>(from.top(2), 5, 0)
+}
+
+/// The newest list that is opened of the two newest items of another, with -, 9 and that list's own below it once it is closed.
+fn spread(answer: &mut Answer) {
+    let alloc = answer.alloc();
+    let mut pile = Pile::new(alloc);
+    if opened(alloc, &mut pile).is_err() {
+        return answer.lack();
+    }
+    answer.debug(&pile.top(pile.len()));
     pile.close();
-    format!(in alloc; "{} {:?}", opened.as_str(), pile.top(pile.len()))
+    answer.spaced(&pile.top(pile.len()));
 }
 
 /// What is asked of lists one on the other.
-pub fn found(alloc: Global, kind: &str, words: &str) -> Result<String, Unread> {
+pub fn found(kind: &str, words: &str, answer: &mut Answer) {
     match kind {
-        "pile" => steps(alloc, &mut Pile::new(alloc), words),
-        "spread" => Ok(spread(alloc)?),
-        _ => Err(Unread::Line),
+        "pile" => steps(words, answer),
+        "spread" => spread(answer),
+        _ => answer.refuse(),
     }
 }

@@ -1,59 +1,57 @@
 use crate::words::first;
 use jground::jregion::Region;
-use std::alloc::{AllocError, Global};
-use tests_rows::{Unread, debug_behind, number};
+use tests_rows::Answer;
 
 /// What a region answers to each word: `place` with a length, `room`.
-fn steps(alloc: Global, words: &str) -> Result<String, Unread> {
+fn steps(words: &str, answer: &mut Answer) {
     let (cells, rest) = first(words);
-    let mut region = Region::open(alloc, number::<u32>(cells)?)?;
-    steps_in(alloc, &mut region, rest)
-}
-
-fn steps_in(alloc: Global, region: &mut Region, words: &str) -> Result<String, Unread> {
-    let mut found = String::new(alloc);
-    for step in words.split(", ") {
-        let (word, len) = first(step);
-        let one = step_in(alloc, region, word, len)?;
-        found.push_str(one.as_str())?;
+    let cells = answer.number(cells);
+    let Ok(mut region) = Region::open(answer.alloc(), cells) else {
+        return answer.lack();
+    };
+    for step in rest.split(", ") {
+        step_in(&mut region, step, answer);
     }
-    Ok(found)
 }
 
-fn step_in(alloc: Global, region: &mut Region, word: &str, len: &str) -> Result<String, Unread> {
+fn step_in(region: &mut Region, step: &str, answer: &mut Answer) {
+    let (word, len) = first(step);
     match word {
         "place" => {
-            let block = region.place(number::<u32>(len)?);
-            let told = if block.is_some() { " block" } else { " none" };
-            Ok(String::from_str(alloc, told)?)
+            let block = region.place(answer.number(len));
+            answer.space();
+            answer.tell(if block.is_some() { "block" } else { "none" });
         }
-        "room" => Ok(debug_behind(alloc, " ", &region.room())?),
-        _ => Err(Unread::Line),
+        "room" => answer.spaced(&region.room()),
+        _ => answer.refuse(),
     }
 }
 
 /// What two blocks hold, of 2 cells and of 3: each as it was placed, and once numbers were put into them.
-fn cells(alloc: Global) -> Result<String, AllocError> {
-    let mut region = Region::open(alloc, 5)?;
-    let Some(one) = region.place(2) else {
-        return String::from_str(alloc, "none");
+fn cells(answer: &mut Answer) {
+    let Ok(mut region) = Region::open(answer.alloc(), 5) else {
+        return answer.lack();
     };
-    let fresh = region.read(one, 1);
+    let Some(one) = region.place(2) else {
+        return answer.refuse();
+    };
+    answer.debug(&region.read(one, 1));
     region.write(one, 1, 7);
     let Some(other) = region.place(3) else {
-        return String::from_str(alloc, "none");
+        return answer.refuse();
     };
     region.write(other, 0, u64::MAX);
-    let (a, b) = (region.read(one, 0), region.read(one, 1));
-    let (c, d) = (region.read(other, 0), region.read(other, 2));
-    format!(in alloc; "{fresh} {a} {b} {c} {d}")
+    answer.spaced(&region.read(one, 0));
+    answer.spaced(&region.read(one, 1));
+    answer.spaced(&region.read(other, 0));
+    answer.spaced(&region.read(other, 2));
 }
 
 /// What is asked of regions.
-pub fn found(alloc: Global, kind: &str, words: &str) -> Result<String, Unread> {
+pub fn found(kind: &str, words: &str, answer: &mut Answer) {
     match kind {
-        "region" => steps(alloc, words),
-        "cells" => Ok(cells(alloc)?),
-        _ => Err(Unread::Line),
+        "region" => steps(words, answer),
+        "cells" => cells(answer),
+        _ => answer.refuse(),
     }
 }

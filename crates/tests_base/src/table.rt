@@ -1,11 +1,11 @@
-use crate::types::{marks, type_of};
-use crate::words::pair;
+use crate::types::type_of;
+use crate::words::first;
 use crate::{
-    events, files, formats, heaps, library, memo, operations, piles, regions, texts, threads,
+    events, files, formats, heaps, library, memo, operations, piles, regions, texts, threads, types,
 };
 use jtypes::VType;
 use std::alloc::{AllocError, Global};
-use tests_rows::{Line, Rows, Unread};
+use tests_rows::{Answer, Line, Rows, Unread};
 
 /// What was read so far.
 #[derive(Drop)]
@@ -24,29 +24,22 @@ impl Table {
         }
     }
 
-    /// The marks of a type.
-    fn marks(&self, alloc: Global, words: &str) -> Result<String, Unread> {
-        let one = type_of(alloc, words)?;
-        Ok(marks(alloc, &one, self.types.as_slice())?)
-    }
-
-    /// What was found for a row.
-    fn found(&self, rt: &HostRuntime, kind: &str, words: &str) -> Result<String, Unread> {
-        let alloc = rt.alloc();
+    /// Answers a row.
+    fn answer(&self, rt: &HostRuntime, kind: &str, words: &str, answer: &mut Answer) {
         match self.section.as_str() {
-            "formats" => formats::found(alloc, kind, words),
-            "texts" => texts::found(alloc, kind, words),
-            "files" => files::found(rt, kind, words),
-            "operations" => operations::found(alloc, kind, words),
-            "heaps" => heaps::found(alloc, kind, words),
-            "memo" => memo::found(alloc, words),
-            "piles" => piles::found(alloc, kind, words),
-            "regions" => regions::found(alloc, kind, words),
-            "library" => library::found(alloc, kind, words),
-            "types" => self.marks(alloc, words),
-            "threads" => threads::found(alloc, kind, words),
-            "events" => events::found(alloc, kind, words),
-            _ => Err(Unread::Line),
+            "formats" => formats::found(kind, words, answer),
+            "texts" => texts::found(kind, words, answer),
+            "files" => files::found(rt, kind, words, answer),
+            "operations" => operations::found(kind, words, answer),
+            "heaps" => heaps::found(kind, words, answer),
+            "memo" => memo::found(words, answer),
+            "piles" => piles::found(kind, words, answer),
+            "regions" => regions::found(kind, words, answer),
+            "library" => library::found(kind, words, answer),
+            "types" => types::found(words, self.types.as_slice(), answer),
+            "threads" => threads::found(kind, words, answer),
+            "events" => events::found(kind, words, answer),
+            _ => answer.refuse(),
         }
     }
 
@@ -68,15 +61,15 @@ impl Rows for Table {
         if line.is_empty() || line.starts_with('#') {
             return Ok(Line::Known);
         }
-        let (kind, rest) = pair(line)?;
+        let (kind, rest) = first(line);
         if self.known(rt.alloc(), kind, rest)? {
             return Ok(Line::Known);
         }
         let Some((words, wanted)) = rest.rsplit_once("| ") else {
             return Err(Unread::Line);
         };
-        let found = self.found(rt, kind, words.trim_end())?;
-        let found = String::from_str(rt.alloc(), found.as_str().trim())?;
-        Ok(Line::Row(wanted, found))
+        let mut answer = Answer::new(rt.alloc());
+        self.answer(rt, kind, words.trim_end(), &mut answer);
+        Ok(Line::Row(wanted, answer.into_text()?))
     }
 }

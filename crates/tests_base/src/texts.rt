@@ -2,67 +2,89 @@ use crate::words::units;
 use jground::jbase::Stop;
 use jground::jtext::{Units, bytes_of, same_ignoring_case, units_of};
 use std::alloc::{AllocError, Global};
-use tests_rows::{Unread, between, debug, debug_behind, hex_of};
+use tests_rows::Answer;
 
-/// The bytes of units, where these are read from them again.
-fn spelled(alloc: Global, word: &str) -> Result<String, Unread> {
-    let given = units(alloc, word)?;
-    let written = bytes_of(alloc, &Units::from_slice(alloc, given.as_slice())?)?;
-    match units_of(alloc, written.as_slice()) {
-        Ok(text) if text.as_slice() == given.as_slice() => {
-            let digits = hex::encode(alloc, written.as_slice())?;
-            Ok(between(alloc, "<", digits.as_str(), ">")?)
+/// The bytes of units.
+fn written(alloc: Global, units: &[u16]) -> Result<Vec<u8>, AllocError> {
+    let units = Units::from_slice(alloc, units)?;
+    bytes_of(alloc, &units)
+}
+
+/// Tells the bytes of units, where these are read from them again.
+fn told(units: &[u16], bytes: &[u8], answer: &mut Answer) {
+    match units_of(answer.alloc(), bytes) {
+        Ok(text) if text.as_slice() == units => {
+            answer.tell("<");
+            answer.hex(bytes);
+            answer.tell(">");
         }
-        _ => Err(Unread::Line),
+        _ => answer.refuse(),
     }
 }
 
-/// The place of the fault in bytes that are a text up to there.
-fn fault_in(alloc: Global, bytes: &[u8]) -> Result<u32, Unread> {
-    match units_of(alloc, bytes) {
-        Err(Stop::Fault(fault)) => Ok(fault.at),
-        _ => Err(Unread::Line),
+/// The bytes of units, where these are read from them again.
+fn spelled(word: &str, answer: &mut Answer) {
+    let units = units(word, answer);
+    match written(answer.alloc(), units.as_slice()) {
+        Ok(bytes) => told(units.as_slice(), bytes.as_slice(), answer),
+        Err(_) => answer.lack(),
+    }
+}
+
+/// The place of the fault in bytes behind others that are a text.
+fn fault_behind(front: &[u8], bad: &[u8], answer: &mut Answer) {
+    let alloc = answer.alloc();
+    let mut all = Vec::new(alloc);
+    answer.needs(all.extend_from_slice(front));
+    answer.needs(all.extend_from_slice(bad));
+    match units_of(alloc, all.as_slice()) {
+        Err(Stop::Fault(fault)) => answer.spaced(&fault.at),
+        _ => answer.refuse(),
     }
 }
 
 /// The places of the fault behind no, one and up to eight groups of one, two and three bytes each.
-fn faults(alloc: Global, word: &str) -> Result<String, Unread> {
-    let bad = hex_of(alloc, word)?;
-    let mut front = Vec::new(alloc);
-    let mut found = String::new(alloc);
+fn faults(word: &str, answer: &mut Answer) {
+    let bad = answer.bytes(word);
+    let mut front = Vec::new(answer.alloc());
     for _ in 0..9 {
-        let mut all = Vec::from_slice(alloc, front.as_slice())?;
-        all.extend_from_slice(bad.as_slice())?;
-        let at = fault_in(alloc, all.as_slice())?;
-        found.push_str(debug_behind(alloc, " ", &at)?.as_str())?;
-        front.extend_from_slice(b"a\xc3\xa9\xe4\xb8\xad")?;
+        fault_behind(front.as_slice(), bad.as_slice(), answer);
+        answer.needs(front.extend_from_slice(b"a\xc3\xa9\xe4\xb8\xad"));
     }
-    Ok(found)
+}
+
+/// The units of a text, copied.
+fn copied(alloc: Global, text: &str) -> Result<Units, AllocError> {
+    let units = Units::from_text(alloc, text)?;
+    units.copy(alloc)
 }
 
 /// The units of a text.
-fn taken(alloc: Global, text: &str) -> Result<String, AllocError> {
-    let units = Units::from_text(alloc, text)?.copy(alloc)?;
-    debug(alloc, &units.as_slice())
+fn taken(text: &str, answer: &mut Answer) {
+    match copied(answer.alloc(), text) {
+        Ok(units) => answer.debug(&units.as_slice()),
+        Err(_) => answer.lack(),
+    }
 }
 
-/// Whether two texts are one but for the case of letters.
-fn same(alloc: Global, text: &str, word: &str) -> Result<String, AllocError> {
-    let units = Units::from_text(alloc, text)?;
-    let same = same_ignoring_case(units.as_slice(), word.as_bytes());
-    debug(alloc, &same)
+/// Whether two texts, parted by `=`, are one but for the case of letters.
+fn same(texts: &str, answer: &mut Answer) {
+    let Some((text, word)) = texts.split_once('=') else {
+        return answer.refuse();
+    };
+    match Units::from_text(answer.alloc(), text) {
+        Ok(units) => answer.debug(&same_ignoring_case(units.as_slice(), word.as_bytes())),
+        Err(_) => answer.lack(),
+    }
 }
 
 /// What is asked of texts.
-pub fn found(alloc: Global, kind: &str, words: &str) -> Result<String, Unread> {
+pub fn found(kind: &str, words: &str, answer: &mut Answer) {
     match kind {
-        "spelled" => spelled(alloc, words),
-        "bad" => faults(alloc, words),
-        "units" => Ok(taken(alloc, words)?),
-        "same" => {
-            let (text, word) = words.split_once('=').ok_or(Unread::Line)?;
-            Ok(same(alloc, text, word)?)
-        }
-        _ => Err(Unread::Line),
+        "spelled" => spelled(words, answer),
+        "bad" => faults(words, answer),
+        "units" => taken(words, answer),
+        "same" => same(words, answer),
+        _ => answer.refuse(),
     }
 }

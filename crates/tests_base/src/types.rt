@@ -1,11 +1,11 @@
 ghost use Rattle.std.specs.Prelude.{◌≡◌, ⊤};
 ghost use Rattle.tests_base.specs.Few.{few, few_above, few_chain, few_itself, few_object};
 
-use crate::words::pair;
+use crate::words::first;
 use jground::jbase::Seq;
 use jtypes::{Ancestry, ArrayType, Element, Name, VType, fits};
 use std::alloc::{AllocError, Global};
-use tests_rows::{Unread, number};
+use tests_rows::{Answer, Unread, number};
 
 /// A program where `p/B` extends `p/A`, and `p/I`, `Cloneable` and `Serializable` are interfaces.
 struct Few;
@@ -84,16 +84,16 @@ fn vtype(alloc: Global, depth: u32, text: &[u8]) -> Result<VType, AllocError> {
 
 /// The type of words: its dimensions, and its letter or its class's name.
 pub fn type_of(alloc: Global, words: &str) -> Result<VType, Unread> {
-    let (depth, name) = pair(words)?;
-    Ok(vtype(alloc, number::<u32>(depth)?, name.as_bytes())?)
+    let (depth, name) = first(words);
+    Ok(vtype(alloc, number(depth)?, name.as_bytes())?)
 }
 
-/// A mark for each type of a list: `1` where a type fits it.
-pub fn marks(alloc: Global, a: &VType, all: &[VType]) -> Result<String, AllocError> {
-    let mut marks = String::new(alloc);
+/// A mark for each type of a list: `1` where the type of words fits it.
+pub fn found(words: &str, all: &[VType], answer: &mut Answer) {
+    let Ok(a) = type_of(answer.alloc(), words) else {
+        return answer.refuse();
+    };
     for b in all {
-        let mark = if fits(&Few, a, b) { '1' } else { '.' };
-        marks.push(mark)?;
+        answer.tell(if fits(&Few, &a, b) { "1" } else { "." });
     }
-    Ok(marks)
 }

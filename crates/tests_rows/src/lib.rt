@@ -3,10 +3,12 @@
 //! Programs of tests alone name it.
 #![tactic(auto)]
 
+mod answer;
 mod asking;
 mod section;
 mod words;
 
+pub use answer::Answer;
 pub use asking::{Rows, ask};
 pub use section::{Line, Section};
 pub use words::{
