@@ -2,116 +2,89 @@ use jground::jbase::Stop;
 use jparts::jcode::{
     Form, Placed, Switch, branch_at, branch_count, decode, effect_of, encode, form_of, goes_on,
 };
-use std::alloc::{AllocError, Global};
-use tests_rows::{Unread, debug, debug_pair, hex_of};
+use tests_rows::Answer;
 
-/// How many instructions a code has that is written back as it was, or isn't.
-fn told(alloc: Global, count: usize, kept: bool) -> Result<String, AllocError> {
-    if kept {
-        return debug(alloc, &count);
+/// Tells how many instructions a code has that is written back as it was, or isn't.
+fn tell_count(ops: &[Placed], bytes: &[u8], answer: &mut Answer) {
+    match encode(answer.alloc(), ops) {
+        Ok(again) if again.as_slice() == bytes => answer.debug(&ops.len()),
+        Ok(_) => answer.tell("not written as it was"),
+        Err(_) => answer.lack(),
     }
-    String::from_str(alloc, "not written as it was")
 }
 
 /// How many instructions a code has, if it is written back as it was, or its first fault.
-pub fn read(alloc: Global, words: &str) -> Result<String, Unread> {
-    let bytes = hex_of(alloc, words)?;
-    match decode(alloc, bytes.as_slice()) {
+pub fn read(words: &str, answer: &mut Answer) {
+    let bytes = answer.bytes(words);
+    match decode(answer.alloc(), bytes.as_slice()) {
         Ok(ops) => {
-            let count = ops.len();
-            let again = encode(alloc, ops.as_slice());
+            tell_count(ops.as_slice(), bytes.as_slice(), answer);
             drop(ops);
-            Ok(told(alloc, count, again?.as_slice() == bytes.as_slice())?)
         }
-        Err(Stop::Fault(fault)) => Ok(debug_pair(alloc, &fault.at, &fault.kind)?),
-        Err(Stop::Memory) => Err(Unread::Memory),
+        Err(Stop::Fault(fault)) => answer.debug_pair(&fault.at, &fault.kind),
+        Err(Stop::Memory) => answer.lack(),
     }
 }
 
-/// The instructions of a code that is one.
-fn decoded(alloc: Global, words: &str) -> Result<Vec<Placed>, Unread> {
-    let bytes = hex_of(alloc, words)?;
-    match decode(alloc, bytes.as_slice()) {
-        Ok(ops) => Ok(ops),
-        Err(Stop::Fault(_)) => Err(Unread::Line),
-        Err(Stop::Memory) => Err(Unread::Memory),
-    }
+/// What of a code that is one is asked.
+#[derive(Clone, Copy)]
+pub enum Asked {
+    /// Its instructions, each with its place.
+    List,
+    /// The form of its first instruction, and what that takes and gives, where the form alone says that.
+    Form,
+    /// Where its first instruction leads, and whether the next one may follow.
+    Branches,
 }
 
-fn list(alloc: Global, ops: &[Placed]) -> Result<String, Unread> {
-    let mut text = String::new(alloc);
-    for one in ops {
-        if !text.is_empty() {
-            text.push_str(", ")?;
+fn tell_list(ops: &[Placed], answer: &mut Answer) {
+    for (i, one) in ops.iter().enumerate() {
+        if i > 0 {
+            answer.tell(", ");
         }
-        let told = debug_pair(alloc, &one.at, &one.op)?;
-        text.push_str(told.as_str())?;
-    }
-    Ok(text)
-}
-
-/// The instructions of a code, each with its place.
-pub fn listed(alloc: Global, words: &str) -> Result<String, Unread> {
-    let ops = decoded(alloc, words)?;
-    let found = list(alloc, ops.as_slice());
-    drop(ops);
-    found
-}
-
-/// The form of a code's first instruction, and what it takes and gives, where the form alone says that.
-pub fn form(alloc: Global, words: &str) -> Result<String, Unread> {
-    let ops = decoded(alloc, words)?;
-    let found = form_at(alloc, ops.as_slice());
-    drop(ops);
-    found
-}
-
-fn form_at(alloc: Global, ops: &[Placed]) -> Result<String, Unread> {
-    let Some(one) = ops.first() else {
-        return Err(Unread::Line);
-    };
-    let form = form_of(&one.op);
-    match effect_of(&form) {
-        Some(effect) => Ok(format!(in alloc;
-            "{form:?} takes {:?} gives {:?}",
-            effect.takes, effect.gives
-        )?),
-        None => Ok(debug(alloc, &form)?),
+        answer.debug_pair(&one.at, &one.op);
     }
 }
 
-/// A branch of a form by its distance.
-fn branch(alloc: Global, form: &Form<&Switch>, i: usize) -> Result<String, AllocError> {
-    match branch_at(form, i) {
-        Some(by) => format!(in alloc; "{by} "),
-        None => Ok(String::new(alloc)),
+fn tell_form(form: &Form<&Switch>, answer: &mut Answer) {
+    answer.debug(form);
+    if let Some(effect) = effect_of(form) {
+        answer.tell(" takes ");
+        answer.debug(&effect.takes);
+        answer.tell(" gives ");
+        answer.debug(&effect.gives);
     }
 }
 
-/// Where a form leads, and nowhere else: one more is asked than it has.
-fn branches_of(alloc: Global, form: &Form<&Switch>) -> Result<String, AllocError> {
-    let mut text = String::new(alloc);
+/// Tells the distance of each branch, and whether there are no others: one more is asked than the form has.
+fn tell_branches(form: &Form<&Switch>, answer: &mut Answer) {
     for i in 0..=branch_count(form) {
-        let told = branch(alloc, form, i)?;
-        text.push_str(told.as_str())?;
+        if let Some(by) = branch_at(form, i) {
+            answer.debug(&by);
+            answer.tell(" ");
+        }
     }
-    Ok(text)
+    answer.tell(if goes_on(form) { "on" } else { "ends" });
 }
 
-/// Where a code's first instruction leads, and whether the next one may follow.
-pub fn branches(alloc: Global, words: &str) -> Result<String, Unread> {
-    let ops = decoded(alloc, words)?;
-    let found = branches_at(alloc, ops.as_slice());
-    drop(ops);
-    found
+fn tell_asked(asked: Asked, ops: &[Placed], answer: &mut Answer) {
+    match (asked, ops.first()) {
+        (Asked::List, _) => tell_list(ops, answer),
+        (Asked::Form, Some(one)) => tell_form(&form_of(&one.op), answer),
+        (Asked::Branches, Some(one)) => tell_branches(&form_of(&one.op), answer),
+        _ => answer.refuse(),
+    }
 }
 
-fn branches_at(alloc: Global, ops: &[Placed]) -> Result<String, Unread> {
-    let Some(one) = ops.first() else {
-        return Err(Unread::Line);
-    };
-    let form = form_of(&one.op);
-    let mut text = branches_of(alloc, &form)?;
-    text.push_str(if goes_on(&form) { "on" } else { "ends" })?;
-    Ok(text)
+/// What is asked of a code that is one.
+pub fn asked(asked: Asked, words: &str, answer: &mut Answer) {
+    let bytes = answer.bytes(words);
+    match decode(answer.alloc(), bytes.as_slice()) {
+        Ok(ops) => {
+            tell_asked(asked, ops.as_slice(), answer);
+            drop(ops);
+        }
+        Err(Stop::Fault(_)) => answer.refuse(),
+        Err(Stop::Memory) => answer.lack(),
+    }
 }

@@ -1,43 +1,24 @@
 use jclass::write_class;
-use jgen::{MadeFile, MadeJob, make_job};
+use jgen::{MadeFile, make_job};
 use jground::jbase::Stop;
 use jreadclass::read_class;
 use std::alloc::{AllocError, Global};
-use tests_rows::{Line, Unread, debug, first, number};
+use tests_rows::Answer;
 
-/// The job of a seed and a size.
-fn job_of(alloc: Global, words: &str) -> Result<MadeJob, Unread> {
-    let Some((seed, size)) = words.split_once(' ') else {
-        return Err(Unread::Line);
-    };
-    let seed = number::<u64>(seed)?;
-    let size = number::<u32>(size)?;
-    if size < 1 || size > 1000 {
-        return Err(Unread::Line);
-    }
-    Ok(make_job(alloc, seed, size)?)
-}
-
-/// The file of a path, in hexadecimal digits.
-fn file_text(alloc: Global, files: &[MadeFile], path: &str) -> Result<String, Unread> {
+/// Tells the file of a path, in hexadecimal digits.
+fn tell_file(files: &[MadeFile], path: &str, answer: &mut Answer) {
     for file in files {
         if file.path.as_slice() == path.as_bytes() {
-            return Ok(hex::encode(alloc, file.bytes.as_slice())?);
+            return answer.hex(file.bytes.as_slice());
         }
     }
-    Err(Unread::Line)
+    answer.refuse();
 }
 
-/// The paths in their order, each with a space behind it.
-fn paths_text(alloc: Global, files: &[MadeFile]) -> Result<String, Unread> {
-    let mut out = Vec::new(alloc);
+/// Tells the paths in their order, each with a space behind it.
+fn tell_paths(files: &[MadeFile], answer: &mut Answer) {
     for file in files {
-        out.extend_from_slice(file.path.as_slice())?;
-        out.extend_from_slice(b" ")?;
-    }
-    match String::from_utf8(out) {
-        Ok(text) => Ok(text),
-        Err(_) => Err(Unread::Line),
+        answer.tell_between("", file.path.as_slice(), " ");
     }
 }
 
@@ -51,13 +32,13 @@ fn with_bytes(digest: u64, bytes: &[u8]) -> u64 {
 }
 
 /// The digest of all paths and bytes.
-fn digest_text(alloc: Global, files: &[MadeFile]) -> Result<String, AllocError> {
+fn digest_of(files: &[MadeFile]) -> u64 {
     let mut digest = 0xcbf2_9ce4_8422_2325;
     for file in files {
         digest = with_bytes(digest, file.path.as_slice());
         digest = with_bytes(digest, file.bytes.as_slice());
     }
-    Ok(debug(alloc, &digest)?)
+    digest
 }
 
 /// Whether bytes are those of a class file, which is written as it was read.
@@ -73,43 +54,44 @@ fn is_class(alloc: Global, bytes: &[u8]) -> Result<bool, AllocError> {
     }
 }
 
-/// How many files are class files.
-fn classes_text(alloc: Global, files: &[MadeFile]) -> Result<String, AllocError> {
+/// Tells how many files are class files.
+fn tell_classes(files: &[MadeFile], answer: &mut Answer) {
     let mut classes = 0u32;
     for file in files {
-        if is_class(alloc, file.bytes.as_slice())? {
-            classes = classes.saturating_add(1);
+        match is_class(answer.alloc(), file.bytes.as_slice()) {
+            Ok(is) => classes = classes.saturating_add(u32::from(is)),
+            Err(_) => answer.lack(),
         }
     }
-    Ok(debug(alloc, &classes)?)
+    answer.debug(&classes);
 }
 
 /// What is asked of files by a word.
-fn of_files(alloc: Global, files: &[MadeFile], word: &str, path: &str) -> Result<String, Unread> {
+fn of_files(files: &[MadeFile], word: &str, path: &str, answer: &mut Answer) {
     match word {
-        "file" => file_text(alloc, files, path),
-        "paths" => paths_text(alloc, files),
-        "digest" => Ok(digest_text(alloc, files)?),
-        "classes" => Ok(classes_text(alloc, files)?),
-        _ => Err(Unread::Line),
+        "file" => tell_file(files, path, answer),
+        "paths" => tell_paths(files, answer),
+        "digest" => answer.debug(&digest_of(files)),
+        "classes" => tell_classes(files, answer),
+        _ => answer.refuse(),
     }
 }
 
-/// What is answered to a question.
-fn answer(alloc: Global, question: &str) -> Result<String, Unread> {
-    let Some((word, words)) = question.split_once(' ') else {
-        return Err(Unread::Line);
-    };
+/// What is asked of the job of a seed and a size.
+pub fn asked(question: &str, answer: &mut Answer) {
+    let (word, words) = question.split_once(' ').unwrap_or((question, ""));
     let (words, path) = words.split_once(" of ").unwrap_or((words, ""));
-    let job = job_of(alloc, words)?;
-    let found = of_files(alloc, job.files.as_slice(), word, path);
-    drop(job);
-    found
-}
-
-/// Reads a line about made jobs, and answers it.
-pub fn read<'a>(alloc: Global, line: &'a str) -> Result<Line<'a>, Unread> {
-    let (question, wanted) = first(line)?;
-    let found = answer(alloc, question)?;
-    Ok(Line::Row(wanted, found))
+    let (seed, size) = words.split_once(' ').unwrap_or((words, ""));
+    let seed = answer.number(seed);
+    let size = answer.number::<u32>(size);
+    if size < 1 || size > 1000 {
+        return answer.refuse();
+    }
+    match make_job(answer.alloc(), seed, size) {
+        Ok(job) => {
+            of_files(job.files.as_slice(), word, path, answer);
+            drop(job);
+        }
+        Err(_) => answer.lack(),
+    }
 }

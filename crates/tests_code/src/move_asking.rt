@@ -1,293 +1,242 @@
+ghost use Rattle.std.specs.Prelude.{◌<◌};
+ghost use Rattle.jmove.specs.Moved.{CanMove};
+
 use crate::move_given::method_of;
-use crate::move_reading::{Given, read};
+use crate::move_reading::{Given, parted, read};
 use jground::jbase::Seq;
-use jmove::{MethodOut, MoveError, limit_of, move_method, moved_descriptor};
-use jparts::jcode::{Handler, decode};
+use jmove::{Expand, MethodIn, MethodOut, MoveError, limit_of, move_method, moved_descriptor};
+use jparts::jcode::{Handler, Placed, decode};
 use jparts::jmaps::{FullFrame, MapType};
 use jparts::jpool::{Adder, Entry, Pool, read_pool, write_pool};
-use std::alloc::{AllocError, Global};
-use tests_rows::{Unread, debug, first, hex_of, number};
+use std::alloc::Global;
+use tests_rows::{Answer, debug};
 
 /// Adds a text, where there is one.
-fn add_text(alloc: Global, adder: &mut Adder, added: &str) -> Result<(), Unread> {
+fn add_text(alloc: Global, adder: &mut Adder, added: &str) -> bool {
+    if added == "-" {
+        return true;
+    }
     if added.len() > 0xffff {
-        return Err(Unread::Line);
+        return false;
     }
-    if added != "-" {
-        let text = Seq::from_slice(alloc, added.as_bytes())?;
-        if adder.add(Entry::Utf8(text)).is_err() {
-            return Err(Unread::Line);
-        }
-    }
-    Ok(())
-}
-
-fn with_text(alloc: Global, mut adder: Adder, added: &str) -> Result<Adder, Unread> {
-    match add_text(alloc, &mut adder, added) {
-        Ok(()) => Ok(adder),
-        Err(why) => {
-            drop(adder);
-            Err(why)
-        }
+    match Seq::from_slice(alloc, added.as_bytes()) {
+        Ok(text) => adder.add(Entry::Utf8(text)).is_ok(),
+        Err(_) => false,
     }
 }
 
 /// An adder over the pool that bytes spell, to which a text was added, where there is one.
-fn adder_of(alloc: Global, bytes: &[u8], added: &str) -> Result<Adder, Unread> {
+fn adder_of(alloc: Global, bytes: &[u8], added: &str) -> Option<Adder> {
     let Ok((pool, _)) = read_pool(alloc, bytes, 0) else {
-        return Err(Unread::Line);
+        return None;
     };
     if pool.entries().is_empty() {
         drop(pool);
-        return Err(Unread::Line);
+        return None;
     }
-    match Adder::over(alloc, pool) {
-        Ok(adder) => with_text(alloc, adder, added),
-        Err(_) => Err(Unread::Memory),
-    }
-}
-
-/// Moves a method of a domain.
-fn moved(
-    alloc: Global,
-    given: Given,
-    domain: u32,
-    pool: &mut Adder,
-) -> Result<Result<MethodOut, MoveError>, Unread> {
-    if domain >= 4096 {
-        drop(given);
-        return Err(Unread::Line);
-    }
-    let Given {
-        sizes,
-        code,
-        kinds,
-        handlers,
-        frames,
-    } = given;
-    let kinds = kinds.as_slice();
-    match method_of(alloc, code.as_slice(), sizes, handlers, frames, kinds) {
-        Some(m) => {
-            let found = move_method(alloc, &m, kinds, domain, pool);
-            drop(m);
-            Ok(found)
-        }
-        None => Err(Unread::Line),
-    }
-}
-
-/// The limit that a method breaks.
-fn limit(alloc: Global, given: Given) -> Result<String, Unread> {
-    let Given {
-        sizes,
-        code,
-        kinds,
-        handlers,
-        frames,
-    } = given;
-    let kinds = kinds.as_slice();
-    match method_of(alloc, code.as_slice(), sizes, handlers, frames, kinds) {
-        Some(m) => {
-            let found = debug(alloc, &limit_of(&m, kinds));
-            drop(m);
-            Ok(found?)
-        }
-        None => Err(Unread::Line),
-    }
-}
-
-/// Whether the instructions of a method are those of code.
-fn is_code(alloc: Global, m: &MethodOut, words: &str) -> Result<String, Unread> {
-    let bytes = hex_of(alloc, words)?;
-    let Ok(ops) = decode(alloc, bytes.as_slice()) else {
-        return Err(Unread::Line);
+    let Ok(mut adder) = Adder::over(alloc, pool) else {
+        return None;
     };
-    let wanted = debug(alloc, &ops.as_slice())?;
-    let found = debug(alloc, &m.ops.as_slice())?;
-    Ok(debug(alloc, &(found.as_str() == wanted.as_str()))?)
-}
-
-fn put_types(alloc: Global, types: &[MapType], out: &mut String) -> Result<(), AllocError> {
-    for one in types {
-        let text = match one {
-            MapType::Top => String::from_str(alloc, "T,")?,
-            MapType::Int => String::from_str(alloc, "I,")?,
-            MapType::Long => String::from_str(alloc, "J,")?,
-            MapType::Object(i) => format!(in alloc; "O{i},")?,
-            MapType::Uninit(at) => format!(in alloc; "U{at},")?,
-            _ => String::from_str(alloc, "?,")?,
-        };
-        out.push_str(text.as_str())?;
+    if add_text(alloc, &mut adder, added) {
+        return Some(adder);
     }
-    Ok(())
+    drop(adder);
+    None
 }
 
-/// Parts a text from what comes next by a space.
-fn part(out: &mut String) -> Result<(), AllocError> {
-    if !out.is_empty() {
-        out.push(' ')?;
+/// Tells whether instructions are these.
+fn tell_same(ops: &[Placed], wanted: &[Placed], answer: &mut Answer) {
+    match (debug(answer.alloc(), &ops), debug(answer.alloc(), &wanted)) {
+        (Ok(found), Ok(wanted)) => answer.debug(&(found.as_str() == wanted.as_str())),
+        _ => answer.lack(),
     }
-    Ok(())
 }
 
-/// Frames as a text: each with its place, its locals and its stack, and a comma behind each type.
-fn frames_text(alloc: Global, frames: &[FullFrame]) -> Result<String, AllocError> {
-    let mut out = String::new(alloc);
+/// Tells whether the instructions of a method are those of code.
+fn tell_code(m: &MethodOut, words: &str, answer: &mut Answer) {
+    let bytes = answer.bytes(words);
+    match decode(answer.alloc(), bytes.as_slice()) {
+        Ok(ops) => {
+            tell_same(m.ops.as_slice(), ops.as_slice(), answer);
+            drop(ops);
+        }
+        Err(_) => answer.refuse(),
+    }
+}
+
+fn tell_type(one: MapType, answer: &mut Answer) {
+    match one {
+        MapType::Top => answer.tell("T"),
+        MapType::Int => answer.tell("I"),
+        MapType::Long => answer.tell("J"),
+        MapType::Object(i) => {
+            answer.tell("O");
+            answer.debug(&i);
+        }
+        MapType::Uninit(at) => {
+            answer.tell("U");
+            answer.debug(&at);
+        }
+        _ => answer.tell("?"),
+    }
+    answer.tell(",");
+}
+
+/// Tells a frame: its place, its locals and its stack, and a comma behind each type.
+fn tell_frame(frame: &FullFrame, answer: &mut Answer) {
+    answer.spaced(&frame.at);
+    for types in [frame.locals.as_slice(), frame.stack.as_slice()] {
+        answer.tell(":");
+        for one in types {
+            tell_type(*one, answer);
+        }
+    }
+}
+
+fn tell_frames(frames: &[FullFrame], answer: &mut Answer) {
+    if frames.is_empty() {
+        return answer.tell("-");
+    }
     for frame in frames {
-        part(&mut out)?;
-        let at = format!(in alloc; "{}:", frame.at)?;
-        out.push_str(at.as_str())?;
-        put_types(alloc, frame.locals.as_slice(), &mut out)?;
-        out.push(':')?;
-        put_types(alloc, frame.stack.as_slice(), &mut out)?;
+        tell_frame(frame, answer);
     }
-    if out.is_empty() {
-        out.push('-')?;
-    }
-    Ok(out)
 }
 
-/// Handlers as a text: each with its range, its place and its class.
-fn handlers_text(alloc: Global, handlers: &[Handler]) -> Result<String, AllocError> {
-    let mut out = String::new(alloc);
+/// Tells a handler: its range, its place and its class.
+fn tell_handler(one: &Handler, answer: &mut Answer) {
+    answer.spaced(&one.start);
+    answer.tell("-");
+    answer.debug(&one.end);
+    answer.tell(":");
+    answer.debug(&one.at);
+    answer.tell(":");
+    answer.debug(&one.class);
+}
+
+fn tell_handlers(handlers: &[Handler], answer: &mut Answer) {
+    if handlers.is_empty() {
+        return answer.tell("-");
+    }
     for one in handlers {
-        part(&mut out)?;
-        let text = format!(in alloc; "{}-{}:{}:{}", one.start, one.end, one.at, one.class)?;
-        out.push_str(text.as_str())?;
+        tell_handler(one, answer);
     }
-    if out.is_empty() {
-        out.push('-')?;
-    }
-    Ok(out)
 }
 
 /// What is asked of a moved method.
-fn of_method(alloc: Global, m: &MethodOut, word: &str, rest: &str) -> Result<String, Unread> {
+fn of_method(m: &MethodOut, word: &str, rest: &str, answer: &mut Answer) {
     match word {
-        "code" => is_code(alloc, m, rest),
-        "sizes" => Ok(format!(in alloc; "{} {} {}", m.slots, m.max_stack, m.max_locals)?),
-        "handlers" => Ok(handlers_text(alloc, m.handlers.as_slice())?),
-        "frames" => Ok(frames_text(alloc, m.frames.as_slice())?),
-        "count" => Ok(debug(alloc, &m.frames.as_slice().len())?),
+        "code" => tell_code(m, rest, answer),
+        "sizes" => {
+            answer.debug_pair(&m.slots, &m.max_stack);
+            answer.spaced(&m.max_locals);
+        }
+        "handlers" => tell_handlers(m.handlers.as_slice(), answer),
+        "frames" => tell_frames(m.frames.as_slice(), answer),
+        "count" => answer.debug(&m.frames.as_slice().len()),
         "length" => match m.ops.as_slice().last() {
-            Some(last) => Ok(debug(alloc, &last.at.wrapping_add(1))?),
-            None => Err(Unread::Line),
+            Some(last) => answer.debug(&last.at.wrapping_add(1)),
+            None => answer.refuse(),
         },
-        _ => Err(Unread::Line),
+        _ => answer.refuse(),
     }
 }
 
-/// What is asked of the pool behind a method that was moved, or wasn't.
-fn of_pool(alloc: Global, pool: &Pool, word: &str, rest: &str) -> Result<String, Unread> {
-    if word == "entries" {
-        return Ok(debug(alloc, &pool.entries().len())?);
+/// Tells whether a pool is written as these bytes.
+fn tell_pool(pool: &Pool, words: &str, answer: &mut Answer) {
+    let wanted = answer.bytes(words);
+    match write_pool(answer.alloc(), pool) {
+        Ok(written) => answer.debug(&(written.as_slice() == wanted.as_slice())),
+        Err(_) => answer.lack(),
     }
-    let wanted = hex_of(alloc, rest)?;
-    let written = write_pool(alloc, pool)?;
-    let is = written.as_slice() == wanted.as_slice();
-    Ok(debug(alloc, &is)?)
 }
 
-/// Why the method of fields isn't moved, the limit that it breaks, and how many entries the pool has then.
-fn limits(
-    alloc: Global,
-    pool: &[u8],
-    added: &str,
-    domain: u32,
-    fields: &str,
-) -> Result<String, Unread> {
-    let broken = limit(alloc, read(alloc, fields)?)?;
-    let mut pool = adder_of(alloc, pool, added)?;
-    let came = moved(alloc, read(alloc, fields)?, domain, &mut pool)?;
-    let error = came.err();
-    let entries = pool.into_pool().entries().len();
-    Ok(format!(in alloc; "{error:?} {} {entries}", broken.as_str())?)
-}
-
-/// What is asked of a method that was moved, or wasn't, by a word and the words behind it.
+/// What is asked of a method that was moved, or wasn't, and of the pool behind it.
 fn of_moved(
-    alloc: Global,
     came: Result<MethodOut, MoveError>,
+    pool: &Pool,
     word: &str,
     rest: &str,
-) -> Result<String, Unread> {
-    if word == "error" {
-        return Ok(debug(alloc, &came.err())?);
-    }
-    match came {
-        Ok(m) => {
-            let found = of_method(alloc, &m, word, rest);
+    answer: &mut Answer,
+) {
+    match (word, came) {
+        ("entries", _) => answer.debug(&pool.entries().len()),
+        ("pool", _) => tell_pool(pool, rest, answer),
+        ("error", came) => answer.debug(&came.err()),
+        (_, Ok(m)) => {
+            of_method(&m, word, rest, answer);
             drop(m);
-            found
         }
-        Err(error) => Ok(debug(alloc, &error)?),
+        (_, Err(error)) => answer.debug(&error),
     }
 }
 
-/// The same, or what is asked of the pool behind it.
-fn of_both(
-    alloc: Global,
-    came: Result<MethodOut, MoveError>,
-    pool: Pool,
-    (word, rest): (&str, &str),
-) -> Result<String, Unread> {
-    if word == "entries" || word == "pool" {
-        drop(came);
-        let found = of_pool(alloc, &pool, word, rest);
-        drop(pool);
-        return found;
-    }
-    drop(pool);
-    of_moved(alloc, came, word, rest)
-}
-
+/// What is asked of a method that can be moved, by a word and the words behind it. Of `limits` it is why it isn't moved, the limit that it
+/// breaks, and how many entries the pool has then.
 fn of_given(
-    alloc: Global,
-    given: Given,
+    m: &MethodIn,
+    kinds: &[Expand],
     domain: u32,
     mut pool: Adder,
-    words: (&str, &str),
-) -> Result<String, Unread> {
-    match moved(alloc, given, domain, &mut pool) {
-        Ok(came) => of_both(alloc, came, pool.into_pool(), words),
-        Err(why) => {
+    (word, rest): (&str, &str),
+    answer: &mut Answer,
+)
+    requires can { CanMove m.now kinds.now }
+    requires domain { domain < 4096 }
+{
+    let came = move_method(answer.alloc(), m, kinds, domain, &mut pool);
+    let pool = pool.into_pool();
+    if word == "limits" {
+        answer.debug_pair(&came.err(), &limit_of(m, kinds));
+        answer.spaced(&pool.entries().len());
+    } else {
+        of_moved(came, &pool, word, rest, answer);
+    }
+    drop(pool);
+}
+
+/// What is asked of a method of a domain over a pool.
+fn of_fields(given: Given, domain: u32, pool: Adder, words: (&str, &str), answer: &mut Answer) {
+    let Given {
+        sizes,
+        code,
+        kinds,
+        handlers,
+        frames,
+    } = given;
+    let alloc = answer.alloc();
+    let kinds = kinds.as_slice();
+    match method_of(alloc, code.as_slice(), sizes, handlers, frames, kinds) {
+        Some(m) if domain < 4096 => {
+            of_given(&m, kinds, domain, pool, words, answer);
+            drop(m);
+        }
+        _ => {
             drop(pool);
-            Err(why)
+            answer.refuse();
         }
     }
 }
 
 /// What is asked of a method, by a word and the words behind it: over the pool that bytes spell, to which a text was added, of a domain.
-pub fn answer(
-    alloc: Global,
-    pool: &[u8],
-    given: &str,
-    word: &str,
-    rest: &str,
-) -> Result<String, Unread> {
-    let (added, fields) = first(given)?;
-    let (domain, fields) = first(fields)?;
-    if word == "limits" {
-        return limits(alloc, pool, added, number::<u32>(domain)?, fields);
-    }
-    let domain = number::<u32>(domain)?;
-    let pool = adder_of(alloc, pool, added)?;
-    match read(alloc, fields) {
-        Ok(given) => of_given(alloc, given, domain, pool, (word, rest)),
-        Err(why) => {
-            drop(pool);
-            Err(why)
+pub fn asked(pool: &[u8], given: &str, words: (&str, &str), answer: &mut Answer) {
+    let (added, fields) = parted(given, " | ");
+    let (domain, fields) = parted(fields, " | ");
+    let domain = answer.number(domain);
+    let given = read(fields, answer);
+    match adder_of(answer.alloc(), pool, added) {
+        Some(pool) => of_fields(given, domain, pool, words, answer),
+        None => {
+            drop(given);
+            answer.refuse();
         }
     }
 }
 
 /// A descriptor with a context.
-pub fn descriptor(alloc: Global, text: &str) -> Result<String, Unread> {
-    let Some(found) = moved_descriptor(alloc, text.as_bytes())? else {
-        return Err(Unread::Line);
-    };
-    let Ok(text) = str::from_utf8(found.as_slice()) else {
-        return Err(Unread::Line);
-    };
-    Ok(String::from_str(alloc, text)?)
+pub fn descriptor(text: &str, answer: &mut Answer) {
+    match moved_descriptor(answer.alloc(), text.as_bytes()) {
+        Ok(Some(found)) => answer.tell_between("", found.as_slice(), ""),
+        Ok(None) => answer.refuse(),
+        Err(_) => answer.lack(),
+    }
 }

@@ -3,132 +3,160 @@ use jground::jbase::Seq;
 use jmove::Expand;
 use jparts::jcode::{Handler, decode};
 use jparts::jmaps::{FullFrame, MapType};
-use std::alloc::{AllocError, Global};
-use tests_rows::{Unread, first, hex_of, number};
+use tests_rows::Answer;
 
-/// A part of a word before a sign, and what stands behind the sign.
-fn parted(word: &str, sign: char) -> Result<(&str, &str), Unread> {
-    word.split_once(sign).ok_or(Unread::Line)
+/// A part of a word before a sign, and what stands behind the sign, nothing where it isn't there.
+pub fn parted<'a>(word: &'a str, sign: &str) -> (&'a str, &'a str) {
+    word.split_once(sign).unwrap_or((word, ""))
+}
+
+/// A letter, and what stands behind it.
+fn lettered(word: &str) -> (&str, &str) {
+    word.split_at_checked(1).unwrap_or(("", word))
 }
 
 /// What becomes of an instruction: a letter, and behind most an index into the pool.
-fn kind_of(word: &str) -> Result<Expand, Unread> {
-    let Some((letter, i)) = word.split_at_checked(1) else {
-        return Err(Unread::Line);
-    };
-    match letter {
-        "s" => Ok(Expand::Same),
-        "c" => Ok(Expand::Call(number::<u16>(i)?)),
-        "k" => Ok(Expand::Check(number::<u16>(i)?)),
-        "n" => Ok(Expand::Snapshot(number::<u16>(i)?)),
-        "p" => Ok(Expand::Privileged(number::<u16>(i)?)),
-        "w" => Ok(Expand::PrivilegedWith(number::<u16>(i)?)),
-        "l" => Ok(Expand::PrivilegedLimited(number::<u16>(i)?)),
-        _ => Err(Unread::Line),
+fn kind_of(word: &str, answer: &mut Answer) -> Expand {
+    let (letter, i) = lettered(word);
+    if letter == "s" {
+        return Expand::Same;
     }
+    let i = answer.number(i);
+    match letter {
+        "c" => Expand::Call(i),
+        "k" => Expand::Check(i),
+        "n" => Expand::Snapshot(i),
+        "p" => Expand::Privileged(i),
+        "w" => Expand::PrivilegedWith(i),
+        "l" => Expand::PrivilegedLimited(i),
+        _ => {
+            answer.refuse();
+            Expand::Same
+        }
+    }
+}
+
+/// That each instruction of code stays the same.
+fn same_of(code: &[u8], answer: &mut Answer) -> Vec<Expand> {
+    let mut kinds = Vec::new(answer.alloc());
+    let Ok(ops) = decode(answer.alloc(), code) else {
+        answer.refuse();
+        return kinds;
+    };
+    for _ in ops.as_slice() {
+        if kinds.push(Expand::Same).is_err() {
+            answer.lack();
+        }
+    }
+    drop(ops);
+    kinds
 }
 
 /// What becomes of each instruction of code; of `-` each stays the same.
-fn kinds_of(alloc: Global, code: &[u8], words: &str) -> Result<Vec<Expand>, Unread> {
-    let mut kinds = Vec::new(alloc);
-    if words != "-" {
-        for word in words.split(' ') {
-            kinds.push(kind_of(word)?).map_err(AllocError::from)?;
-        }
-        return Ok(kinds);
+fn kinds_of(code: &[u8], words: &str, answer: &mut Answer) -> Vec<Expand> {
+    if words == "-" {
+        return same_of(code, answer);
     }
-    let Ok(ops) = decode(alloc, code) else {
-        return Err(Unread::Line);
-    };
-    for _ in ops.as_slice() {
-        kinds.push(Expand::Same).map_err(AllocError::from)?;
-    }
-    Ok(kinds)
-}
-
-fn handler_of(word: &str) -> Result<Handler, Unread> {
-    let (range, behind) = parted(word, ':')?;
-    let (start, end) = parted(range, '-')?;
-    let (at, class) = parted(behind, ':')?;
-    Ok(Handler {
-        start: number::<u32>(start)?,
-        end: number::<u32>(end)?,
-        at: number::<u32>(at)?,
-        class: number::<u16>(class)?,
-    })
-}
-
-fn handlers_of(alloc: Global, words: &str) -> Result<Seq<Handler>, Unread> {
-    let mut handlers = Seq::new(alloc);
-    if words != "-" {
-        for word in words.split(' ') {
-            handlers.push(handler_of(word)?)?;
+    let mut kinds = Vec::new(answer.alloc());
+    for word in words.split(' ') {
+        let kind = kind_of(word, answer);
+        if kinds.push(kind).is_err() {
+            answer.lack();
         }
     }
-    Ok(handlers)
+    kinds
+}
+
+fn handler_of(word: &str, answer: &mut Answer) -> Handler {
+    let (range, behind) = parted(word, ":");
+    let (start, end) = parted(range, "-");
+    let (at, class) = parted(behind, ":");
+    Handler {
+        start: answer.number(start),
+        end: answer.number(end),
+        at: answer.number(at),
+        class: answer.number(class),
+    }
+}
+
+fn handlers_of(words: &str, answer: &mut Answer) -> Seq<Handler> {
+    let mut handlers = Seq::new(answer.alloc());
+    if words == "-" {
+        return handlers;
+    }
+    for word in words.split(' ') {
+        let one = handler_of(word, answer);
+        answer.needs(handlers.push(one));
+    }
+    handlers
 }
 
 /// A type of a frame: a letter, and behind some a number.
-fn type_of(word: &str) -> Result<MapType, Unread> {
-    let Some((letter, n)) = word.split_at_checked(1) else {
-        return Err(Unread::Line);
-    };
+fn type_of(word: &str, answer: &mut Answer) -> MapType {
+    let (letter, n) = lettered(word);
     match letter {
-        "T" => Ok(MapType::Top),
-        "I" => Ok(MapType::Int),
-        "J" => Ok(MapType::Long),
-        "O" => Ok(MapType::Object(number::<u16>(n)?)),
-        "U" => Ok(MapType::Uninit(number::<u16>(n)?)),
-        _ => Err(Unread::Line),
+        "T" => MapType::Top,
+        "I" => MapType::Int,
+        "J" => MapType::Long,
+        "O" => MapType::Object(answer.number(n)),
+        "U" => MapType::Uninit(answer.number(n)),
+        _ => {
+            answer.refuse();
+            MapType::Top
+        }
     }
 }
 
-fn types_of(alloc: Global, words: &str) -> Result<Seq<MapType>, Unread> {
-    let mut types = Seq::new(alloc);
+fn types_of(words: &str, answer: &mut Answer) -> Seq<MapType> {
+    let mut types = Seq::new(answer.alloc());
     for word in words.split(',') {
         if !word.is_empty() {
-            types.push(type_of(word)?)?;
+            let one = type_of(word, answer);
+            answer.needs(types.push(one));
         }
     }
-    Ok(types)
+    types
+}
+
+/// Puts a frame behind others.
+fn put_frame(at: u32, locals: &str, stack: &str, frames: &mut Seq<FullFrame>, answer: &mut Answer) {
+    let locals = types_of(locals, answer);
+    let stack = types_of(stack, answer);
+    answer.needs(frames.push(FullFrame { at, locals, stack }));
 }
 
 /// Puts frames behind others: one `PLACE:LOCALS:STACK`, or as many as the number before a `*`, at the places from 0 on.
-fn put_frames(alloc: Global, word: &str, frames: &mut Seq<FullFrame>) -> Result<(), Unread> {
+fn put_frames(word: &str, frames: &mut Seq<FullFrame>, answer: &mut Answer) {
     if let Some((times, locals)) = word.split_once('*') {
-        for at in 0..number::<u32>(times)? {
-            let locals = types_of(alloc, locals)?;
-            let stack = Seq::new(alloc);
-            frames.push(FullFrame { at, locals, stack })?;
+        for at in 0..answer.number::<u32>(times) {
+            put_frame(at, locals, "", frames, answer);
         }
-        return Ok(());
+        return;
     }
-    let (at, behind) = parted(word, ':')?;
-    let (locals, stack) = parted(behind, ':')?;
-    let locals = types_of(alloc, locals)?;
-    let stack = types_of(alloc, stack)?;
-    let at = number::<u32>(at)?;
-    Ok(frames.push(FullFrame { at, locals, stack })?)
+    let (at, behind) = parted(word, ":");
+    let (locals, stack) = parted(behind, ":");
+    put_frame(answer.number(at), locals, stack, frames, answer);
 }
 
-fn frames_of(alloc: Global, words: &str) -> Result<Seq<FullFrame>, Unread> {
-    let mut frames = Seq::new(alloc);
-    if words != "-" {
-        for word in words.split(' ') {
-            put_frames(alloc, word, &mut frames)?;
-        }
+fn frames_of(words: &str, answer: &mut Answer) -> Seq<FullFrame> {
+    let mut frames = Seq::new(answer.alloc());
+    if words == "-" {
+        return frames;
     }
-    Ok(frames)
+    for word in words.split(' ') {
+        put_frames(word, &mut frames, answer);
+    }
+    frames
 }
 
-fn sizes_of(words: &str) -> Result<Sizes, Unread> {
-    let (slots, behind) = parted(words, ' ')?;
-    let (stack, locals) = parted(behind, ' ')?;
-    Ok((
-        number::<u32>(slots)?,
-        number::<u32>(stack)?,
-        number::<u32>(locals)?,
-    ))
+fn sizes_of(words: &str, answer: &mut Answer) -> Sizes {
+    let (slots, behind) = parted(words, " ");
+    let (stack, locals) = parted(behind, " ");
+    (
+        answer.number(slots),
+        answer.number(stack),
+        answer.number(locals),
+    )
 }
 
 /// A method, and what becomes of each of its instructions.
@@ -142,21 +170,21 @@ pub struct Given {
 }
 
 /// The method of fields: its sizes, its code, what becomes of each instruction, its handlers and its frames.
-pub fn read(alloc: Global, fields: &str) -> Result<Given, Unread> {
-    let (sizes, rest) = first(fields)?;
-    let (code, rest) = first(rest)?;
-    let (kinds, rest) = first(rest)?;
-    let (handlers, frames) = first(rest)?;
-    let sizes = sizes_of(sizes)?;
-    let code = hex_of(alloc, code)?;
-    let kinds = kinds_of(alloc, code.as_slice(), kinds)?;
-    let handlers = handlers_of(alloc, handlers)?;
-    let frames = frames_of(alloc, frames)?;
-    Ok(Given {
+pub fn read(fields: &str, answer: &mut Answer) -> Given {
+    let (sizes, rest) = parted(fields, " | ");
+    let (code, rest) = parted(rest, " | ");
+    let (kinds, rest) = parted(rest, " | ");
+    let (handlers, frames) = parted(rest, " | ");
+    let sizes = sizes_of(sizes, answer);
+    let code = answer.bytes(code);
+    let kinds = kinds_of(code.as_slice(), kinds, answer);
+    let handlers = handlers_of(handlers, answer);
+    let frames = frames_of(frames, answer);
+    Given {
         sizes,
         code,
         kinds,
         handlers,
         frames,
-    })
+    }
 }

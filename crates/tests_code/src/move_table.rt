@@ -1,6 +1,7 @@
-use crate::move_asking::{answer, descriptor};
+use crate::move_asking::{asked, descriptor};
+use crate::move_reading::parted;
 use std::alloc::{AllocError, Global};
-use tests_rows::{Line, Unread, first, hex_of};
+use tests_rows::{Answer, Unread, first, hex_of};
 
 /// A pool with a name.
 #[derive(Drop)]
@@ -42,38 +43,28 @@ impl Moves {
         Ok(self.pools.push(named).map_err(AllocError::from)?)
     }
 
-    fn known(&mut self, alloc: Global, kind: &str, fields: &str) -> Result<(), Unread> {
+    /// Whether a line is a pool, or a method of which later lines ask.
+    pub fn is_known(&mut self, alloc: Global, line: &str) -> Result<bool, Unread> {
+        let (kind, fields) = parted(line, " ");
         match kind {
-            "pool" => self.put_pool(alloc, fields),
-            "given" => {
-                self.given = String::from_str(alloc, fields)?;
-                Ok(())
-            }
-            _ => Err(Unread::Line),
+            "pool" => self.put_pool(alloc, fields)?,
+            "given" => self.given = String::from_str(alloc, fields)?,
+            _ => return Ok(false),
         }
+        Ok(true)
     }
 
-    /// What was found for a question.
-    fn found(&self, alloc: Global, question: &str) -> Result<String, Unread> {
-        let (word, rest) = question.split_once(' ').unwrap_or((question, ""));
+    /// Answers a row.
+    pub fn ask(&self, row: &str, answer: &mut Answer) {
+        let (_, question) = parted(row, "ask ");
+        let (word, rest) = parted(question, " ");
         if word == "descriptor" {
-            return descriptor(alloc, rest);
+            return descriptor(rest, answer);
         }
-        let (pool, given) = first(self.given.as_str())?;
-        answer(alloc, self.find(pool)?, given, word, rest)
-    }
-
-    /// Reads a line about methods that are moved, and answers where it asks something.
-    pub fn read<'a>(&mut self, alloc: Global, line: &'a str) -> Result<Line<'a>, Unread> {
-        let Some((kind, rest)) = line.split_once(' ') else {
-            return Err(Unread::Line);
-        };
-        if kind != "ask" {
-            self.known(alloc, kind, rest)?;
-            return Ok(Line::Known);
+        let (name, given) = parted(self.given.as_str(), " | ");
+        match self.find(name) {
+            Ok(pool) => asked(pool, given, (word, rest), answer),
+            Err(_) => answer.refuse(),
         }
-        let (question, wanted) = first(rest)?;
-        let found = self.found(alloc, question)?;
-        Ok(Line::Row(wanted, found))
     }
 }

@@ -4,132 +4,142 @@ use jparts::jpool::{
     is_class_name, is_field_descriptor, is_method_descriptor, method_slots, read_descriptor,
     read_pool, slots_of, write_pool,
 };
-use std::alloc::{AllocError, Global};
-use tests_rows::{
-    Unread, between, bytes_of, debug, debug_behind, debug_pair, first, hex_of, number, unquoted,
-    yes_or_no,
-};
+use std::alloc::Global;
+use tests_rows::{Answer, Unread, first, hex_of, number, yes_or_no};
 
-/// How bytes of a text are told, or none.
-pub fn told_if(alloc: Global, text: Option<&[u8]>) -> Result<String, AllocError> {
-    match text {
-        Some(text) => {
-            let text = String::from_utf8_lossy(alloc, text)?;
-            between(alloc, "'", text.as_str(), "'")
+/// Tells a text between quotes, or that there is none.
+fn tell_if(text: Option<&[u8]>, answer: &mut Answer) {
+    let Some(text) = text else {
+        return answer.tell("-");
+    };
+    match String::from_utf8_lossy(answer.alloc(), text) {
+        Ok(text) => {
+            answer.tell("'");
+            answer.tell(text.as_str());
+            answer.tell("'");
         }
-        None => String::from_str(alloc, "-"),
+        Err(_) => answer.lack(),
     }
 }
 
 /// Whether a text names a class.
-pub fn class_name(alloc: Global, field: &str) -> Result<String, Unread> {
-    let text = bytes_of(alloc, unquoted(field)?)?;
-    let named = is_class_name(text.as_slice());
-    Ok(String::from_str(alloc, yes_or_no(named))?)
+pub fn class_name(field: &str, answer: &mut Answer) {
+    let text = answer.spelled(field);
+    answer.tell(yes_or_no(is_class_name(text.as_slice())));
 }
 
-/// What a text is as a descriptor, by the tests that make nothing of it.
-fn tested(alloc: Global, text: &[u8]) -> Result<String, AllocError> {
+/// What a text is as a descriptor.
+#[derive(Clone, Copy, PartialEq, Eq)]
+enum Described {
+    Array,
+    Field,
+    /// That of a method, whose parameters take so many slots.
+    Method(u32),
+    None,
+    /// Tests that can't both hold do, or two that say the same differ.
+    Otherwise,
+}
+
+/// What a text is by the tests that make nothing of it.
+fn tested(text: &[u8]) -> Described {
     let slots = method_slots(text);
     if is_method_descriptor(text) != slots.is_some() {
-        return String::from_str(alloc, "the tests differ");
+        return Described::Otherwise;
     }
-    let field = is_field_descriptor(text);
-    match (field, is_array_descriptor(text), slots) {
-        (true, true, None) => String::from_str(alloc, "array"),
-        (true, false, None) => String::from_str(alloc, "field"),
-        (false, false, Some(slots)) => debug_behind(alloc, "method of ", &slots),
-        (false, false, None) => String::from_str(alloc, "none"),
-        _ => String::from_str(alloc, "more than one"),
+    match (is_field_descriptor(text), is_array_descriptor(text), slots) {
+        (true, true, None) => Described::Array,
+        (true, false, None) => Described::Field,
+        (false, false, Some(slots)) => Described::Method(slots),
+        (false, false, None) => Described::None,
+        _ => Described::Otherwise,
     }
 }
 
-/// What a text is as a descriptor that is read.
-fn read(alloc: Global, text: &[u8]) -> Result<String, Unread> {
+/// What a text is as a descriptor that is read; none where there is no memory.
+fn read(alloc: Global, text: &[u8]) -> Option<Described> {
     match read_descriptor(alloc, text) {
-        Ok(Descriptor::Field(one)) if 0 < one.depth => Ok(String::from_str(alloc, "array")?),
-        Ok(Descriptor::Field(_)) => Ok(String::from_str(alloc, "field")?),
+        Ok(Descriptor::Field(one)) if 0 < one.depth => Some(Described::Array),
+        Ok(Descriptor::Field(_)) => Some(Described::Field),
         Ok(Descriptor::Method { params, .. }) => {
-            Ok(debug_behind(alloc, "method of ", &slots_of(params.as_slice()))?)
+            Some(Described::Method(slots_of(params.as_slice())))
         }
-        Err(DescError::Memory) => Err(Unread::Memory),
-        Err(_) => Ok(String::from_str(alloc, "none")?),
+        Err(DescError::Memory) => None,
+        Err(_) => Some(Described::None),
+    }
+}
+
+fn tell_described(one: Described, answer: &mut Answer) {
+    match one {
+        Described::Array => answer.tell("array"),
+        Described::Field => answer.tell("field"),
+        Described::Method(slots) => {
+            answer.tell("method of ");
+            answer.debug(&slots);
+        }
+        Described::None => answer.tell("none"),
+        Described::Otherwise => answer.tell("otherwise"),
     }
 }
 
 /// What a text is as a descriptor, if the tests and what is read agree.
-pub fn descriptor(alloc: Global, field: &str) -> Result<String, Unread> {
-    let text = bytes_of(alloc, unquoted(field)?)?;
-    let tested = tested(alloc, text.as_slice())?;
-    let read = read(alloc, text.as_slice())?;
-    if tested.as_str() != read.as_str() {
-        return Ok(String::from_str(alloc, "read as another")?);
+pub fn descriptor(field: &str, answer: &mut Answer) {
+    let text = answer.spelled(field);
+    match read(answer.alloc(), text.as_slice()) {
+        Some(read) if tested(text.as_slice()) == read => tell_described(read, answer),
+        Some(_) => answer.tell("read as another"),
+        None => answer.lack(),
     }
-    Ok(read)
 }
 
-/// A type: how deep an array it is, its first letter, and its class.
-fn put_type(alloc: Global, one: &FieldType, text: &mut String) -> Result<(), AllocError> {
-    let class = told_if(alloc, Some(one.class.as_slice()))?;
-    let base = char::from(one.base);
-    let told = format!(in alloc; "{} {base} {}", one.depth, class.as_str())?;
-    text.push_str(told.as_str())
+/// Tells a type: how deep an array it is, its first letter, and its class.
+fn tell_type(one: &FieldType, answer: &mut Answer) {
+    answer.debug(&one.depth);
+    answer.tell(" ");
+    answer.tell_between("", &[one.base], " ");
+    tell_if(Some(one.class.as_slice()), answer);
 }
 
 /// The types of a method's descriptor: its parameters, and behind `gives` its result.
-pub fn parts(alloc: Global, field: &str) -> Result<String, Unread> {
-    let text = bytes_of(alloc, unquoted(field)?)?;
-    let Ok(Descriptor::Method { params, ret }) = read_descriptor(alloc, text.as_slice()) else {
-        return Err(Unread::Line);
+pub fn parts(field: &str, answer: &mut Answer) {
+    let text = answer.spelled(field);
+    let Ok(Descriptor::Method { params, ret }) = read_descriptor(answer.alloc(), text.as_slice())
+    else {
+        return answer.refuse();
     };
-    let mut told = String::new(alloc);
     for one in params.as_slice() {
-        put_type(alloc, one, &mut told)?;
-        told.push_str(", ")?;
+        tell_type(one, answer);
+        answer.tell(", ");
     }
-    told.push_str("gives ")?;
+    answer.tell("gives ");
     match &ret {
-        Some(one) => put_type(alloc, one, &mut told)?,
-        None => told.push('V')?,
-    }
-    Ok(told)
-}
-
-/// Whether a pool is written as it was, between two places.
-fn is_kept(
-    alloc: Global,
-    pool: &Pool,
-    bytes: &[u8],
-    at: u32,
-    behind: u32,
-) -> Result<bool, AllocError> {
-    let again = write_pool(alloc, pool)?;
-    match bytes.get(at as usize..behind as usize) {
-        Some(part) => Ok(part == again.as_slice()),
-        None => Ok(false),
+        Some(one) => tell_type(one, answer),
+        None => answer.tell("V"),
     }
 }
 
-fn told_end(alloc: Global, kept: bool, end: u32) -> Result<String, AllocError> {
-    if kept {
-        return debug_behind(alloc, "to ", &end);
+/// Tells where a pool ends that stands between two places, if it is written as it was.
+fn tell_end(pool: &Pool, bytes: &[u8], at: u32, end: u32, answer: &mut Answer) {
+    let Ok(again) = write_pool(answer.alloc(), pool) else {
+        return answer.lack();
+    };
+    if bytes.get(at as usize..end as usize) != Some(again.as_slice()) {
+        return answer.tell("not written as it was");
     }
-    String::from_str(alloc, "not written as it was")
+    answer.tell("to ");
+    answer.debug(&end);
 }
 
 /// Where the pool ends that begins at a place of some bytes, if it is written as it was, or its first fault.
-pub fn pool(alloc: Global, fields: &str) -> Result<String, Unread> {
-    let (at, words) = first(fields)?;
-    let at = number::<u32>(at)?;
-    let bytes = hex_of(alloc, words)?;
-    match read_pool(alloc, bytes.as_slice(), at) {
+pub fn pool(at: &str, words: &str, answer: &mut Answer) {
+    let at = answer.number(at);
+    let bytes = answer.bytes(words);
+    match read_pool(answer.alloc(), bytes.as_slice(), at) {
         Ok((pool, end)) => {
-            let kept = is_kept(alloc, &pool, bytes.as_slice(), at, end);
+            tell_end(&pool, bytes.as_slice(), at, end, answer);
             drop(pool);
-            Ok(told_end(alloc, kept?, end)?)
         }
-        Err(Stop::Fault(fault)) => Ok(debug_pair(alloc, &fault.at, &fault.kind)?),
-        Err(Stop::Memory) => Err(Unread::Memory),
+        Err(Stop::Fault(fault)) => answer.debug_pair(&fault.at, &fault.kind),
+        Err(Stop::Memory) => answer.lack(),
     }
 }
 
@@ -145,20 +155,20 @@ pub fn pool_of(alloc: Global, fields: &str) -> Result<Pool, Unread> {
 }
 
 /// What a pool has at an index.
-pub fn looked_up(alloc: Global, pool: &Pool, how: &str, index: &str) -> Result<String, Unread> {
-    let i = number::<u16>(index)?;
+pub fn looked_up(pool: &Pool, how: &str, index: &str, answer: &mut Answer) {
+    let i = answer.number(index);
     match how {
-        "text" => Ok(told_if(alloc, pool.utf8(i))?),
-        "class" => Ok(told_if(alloc, pool.class_name(i))?),
+        "text" => tell_if(pool.utf8(i), answer),
+        "class" => tell_if(pool.class_name(i), answer),
         "entry" => match pool.entry(i) {
-            Some(entry) => Ok(debug(alloc, &entry)?),
-            None => Ok(String::from_str(alloc, "-")?),
+            Some(entry) => answer.debug(&entry),
+            None => answer.tell("-"),
         },
         "both" => match pool.name_and_type(i) {
-            Some((name, descriptor)) => Ok(debug_pair(alloc, &name, &descriptor)?),
-            None => Ok(String::from_str(alloc, "-")?),
+            Some((name, descriptor)) => answer.debug_pair(&name, &descriptor),
+            None => answer.tell("-"),
         },
-        _ => Err(Unread::Line),
+        _ => answer.refuse(),
     }
 }
 
@@ -172,49 +182,46 @@ pub fn adder_of(alloc: Global, fields: &str) -> Result<Adder, Unread> {
     Ok(Adder::over(alloc, pool)?)
 }
 
+/// Tells the index at which an adder has an entry that was added, or why it has none.
+fn tell_added(added: Result<u16, AddError>, answer: &mut Answer) {
+    match added {
+        Ok(index) => answer.debug(&index),
+        Err(AddError::Memory) => answer.lack(),
+        Err(why) => answer.debug(&why),
+    }
+}
+
 /// Adds a text.
-fn add_text(
-    alloc: Global,
-    adder: &mut Adder,
-    field: &str,
-) -> Result<Result<u16, AddError>, Unread> {
-    let text = bytes_of(alloc, unquoted(field)?)?;
+fn add_text(adder: &mut Adder, field: &str, answer: &mut Answer) {
+    let text = answer.spelled(field);
     if 65_535 < text.len() {
-        return Err(Unread::Line);
+        return answer.refuse();
     }
-    Ok(adder.add(Entry::Utf8(Seq::from_vec(text))))
+    tell_added(adder.add(Entry::Utf8(Seq::from_vec(text))), answer);
 }
 
-/// Adds a name and type.
-fn add_both(adder: &mut Adder, numbers: &str) -> Result<Result<u16, AddError>, Unread> {
-    let Some((name, descriptor)) = numbers.split_once(' ') else {
-        return Err(Unread::Line);
+/// Adds an entry that numbers are.
+fn add_number(adder: &mut Adder, kind: &str, content: &str, answer: &mut Answer) {
+    let (one, other) = content.split_once(' ').unwrap_or((content, ""));
+    let added = match kind {
+        "NameAndType" => {
+            let name = answer.number(one);
+            adder.add(Entry::NameAndType(name, answer.number(other)))
+        }
+        "Integer" => adder.add(Entry::Integer(answer.number(one))),
+        "Float" => adder.add(Entry::Float(answer.number(one))),
+        "Long" => adder.add(Entry::Long(answer.number(one))),
+        "Double" => adder.add(Entry::Double(answer.number(one))),
+        _ => return answer.refuse(),
     };
-    let name = number::<u16>(name)?;
-    let descriptor = number::<u16>(descriptor)?;
-    Ok(adder.add(Entry::NameAndType(name, descriptor)))
-}
-
-fn add(alloc: Global, adder: &mut Adder, entry: &str) -> Result<Result<u16, AddError>, Unread> {
-    let Some((kind, content)) = entry.split_once(' ') else {
-        return Err(Unread::Line);
-    };
-    match kind {
-        "Utf8" => add_text(alloc, adder, content),
-        "NameAndType" => add_both(adder, content),
-        "Integer" => Ok(adder.add(Entry::Integer(number::<i32>(content)?))),
-        "Float" => Ok(adder.add(Entry::Float(number::<u32>(content)?))),
-        "Long" => Ok(adder.add(Entry::Long(number::<i64>(content)?))),
-        "Double" => Ok(adder.add(Entry::Double(number::<u64>(content)?))),
-        _ => Err(Unread::Line),
-    }
+    tell_added(added, answer);
 }
 
 /// The index at which an adder has an entry that is added, or why it has none.
-pub fn added(alloc: Global, adder: &mut Adder, entry: &str) -> Result<String, Unread> {
-    match add(alloc, adder, entry)? {
-        Ok(index) => Ok(debug(alloc, &index)?),
-        Err(AddError::Memory) => Err(Unread::Memory),
-        Err(why) => Ok(debug(alloc, &why)?),
+pub fn added(adder: &mut Adder, entry: &str, answer: &mut Answer) {
+    let (kind, content) = entry.split_once(' ').unwrap_or((entry, ""));
+    if kind == "Utf8" {
+        return add_text(adder, content, answer);
     }
+    add_number(adder, kind, content, answer);
 }

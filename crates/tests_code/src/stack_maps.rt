@@ -6,45 +6,45 @@ use jparts::jmaps::{
     ExpandError, Expansion, FullFrame, MapType, RawFrame, expand, put_frames, read_maps, write_maps,
 };
 use std::alloc::{AllocError, Global};
-use tests_rows::{Unread, debug, debug_behind, debug_pair, hex_of, number};
+use tests_rows::{Answer, debug_behind};
 
 /// How many frames a StackMapTable's content spells, or its first fault.
-pub fn read(alloc: Global, words: &str) -> Result<String, Unread> {
-    let bytes = hex_of(alloc, words)?;
+pub fn read(words: &str, answer: &mut Answer) {
+    let bytes = answer.bytes(words);
     if 0x7fff_ffff < bytes.len() {
-        return Err(Unread::Line);
+        return answer.refuse();
     }
-    match read_maps(alloc, bytes.as_slice()) {
-        Ok(raw) => Ok(format!(in alloc; "{} frames", raw.len())?),
-        Err(Stop::Fault(fault)) => Ok(debug_pair(alloc, &fault.at, &fault.kind)?),
-        Err(Stop::Memory) => Err(Unread::Memory),
+    match read_maps(answer.alloc(), bytes.as_slice()) {
+        Ok(raw) => {
+            answer.debug(&raw.len());
+            answer.tell(" frames");
+        }
+        Err(Stop::Fault(fault)) => answer.debug_pair(&fault.at, &fault.kind),
+        Err(Stop::Memory) => answer.lack(),
     }
 }
 
-fn type_of(word: &str) -> Result<MapType, Unread> {
+fn type_of(word: &str, answer: &mut Answer) -> MapType {
     if word == "Int" {
-        return Ok(MapType::Int);
+        return MapType::Int;
     }
-    let Some(class) = word.strip_prefix("Object(") else {
-        return Err(Unread::Line);
-    };
-    let Some(class) = class.strip_suffix(')') else {
-        return Err(Unread::Line);
-    };
-    Ok(MapType::Object(number::<u16>(class)?))
+    let class = word.strip_prefix("Object(").unwrap_or("");
+    MapType::Object(answer.number(class.strip_suffix(')').unwrap_or("")))
 }
 
 /// The types that words say; `-` are none.
-fn types_of(alloc: Global, words: &str) -> Result<Vec<MapType>, Unread> {
-    let mut types = Vec::new(alloc);
+fn types_of(words: &str, answer: &mut Answer) -> Vec<MapType> {
+    let mut types = Vec::new(answer.alloc());
     if words == "-" {
-        return Ok(types);
+        return types;
     }
     for word in words.split(' ') {
-        let one = type_of(word)?;
-        types.push(one).map_err(AllocError::from)?;
+        let one = type_of(word, answer);
+        if types.push(one).is_err() {
+            answer.lack();
+        }
     }
-    Ok(types)
+    types
 }
 
 fn put_types(alloc: Global, types: &[MapType], text: &mut String) -> Result<(), AllocError> {
@@ -107,57 +107,46 @@ fn steps(alloc: Global, first: &[MapType], raw: &[RawFrame]) -> Result<String, E
     Ok(text)
 }
 
-/// What is told where the two ways to the frames in full differ.
-fn differing(alloc: Global) -> Result<String, Unread> {
-    Ok(String::from_str(alloc, "one at a time they are others")?)
-}
-
-fn same_text(alloc: Global, one: &str, other: &str) -> Result<String, Unread> {
-    if one != other {
-        return differing(alloc);
-    }
-    Ok(String::from_str(alloc, one)?)
-}
-
-fn same_fault(alloc: Global, one: &ExpandError, other: &ExpandError) -> Result<String, Unread> {
-    if one != other {
-        return differing(alloc);
-    }
-    Ok(debug(alloc, &one)?)
-}
-
 /// What the two ways to the frames in full say, where they say the same.
-fn told(
-    alloc: Global,
-    full: Result<String, ExpandError>,
-    steps: Result<String, ExpandError>,
-) -> Result<String, Unread> {
-    match (&full, &steps) {
-        (Ok(one), Ok(other)) => same_text(alloc, one.as_str(), other.as_str()),
-        (Err(ExpandError::Memory), _) | (_, Err(ExpandError::Memory)) => Err(Unread::Memory),
-        (Err(one), Err(other)) => same_fault(alloc, one, other),
-        _ => differing(alloc),
+fn tell_both(
+    full: &Result<String, ExpandError>,
+    steps: &Result<String, ExpandError>,
+    answer: &mut Answer,
+) {
+    match (full, steps) {
+        (Ok(one), Ok(other)) if one.as_str() == other.as_str() => answer.tell(one.as_str()),
+        (Err(ExpandError::Memory), _) | (_, Err(ExpandError::Memory)) => answer.lack(),
+        (Err(one), Err(other)) if one == other => answer.debug(one),
+        _ => answer.tell("one at a time they are others"),
     }
+}
+
+/// The frames of a table in full, behind some first locals, if it is written back as it was.
+fn frames_of(first: &[MapType], raw: &[RawFrame], bytes: &[u8], answer: &mut Answer)
+    requires { IsTrue (maps.fits raw.now) }
+{
+    let alloc = answer.alloc();
+    let mut again = Seq::new(alloc);
+    answer.needs(put_frames(alloc, raw, &mut again));
+    if again.as_slice() != bytes {
+        return answer.tell("not written as it was");
+    }
+    let full = full(alloc, first, raw);
+    let steps = steps(alloc, first, raw);
+    tell_both(&full, &steps, answer);
 }
 
 /// The frames of a StackMapTable in full, behind some first locals, if it is written back as it was.
-pub fn frames(alloc: Global, first: &str, words: &str) -> Result<String, Unread> {
-    let first = types_of(alloc, first)?;
-    let bytes = hex_of(alloc, words)?;
+pub fn frames(first: &str, words: &str, answer: &mut Answer) {
+    let first = types_of(first, answer);
+    let bytes = answer.bytes(words);
     if 0x7fff_ffff < bytes.len() {
-        return Err(Unread::Line);
+        return answer.refuse();
     }
-    let Ok(raw) = read_maps(alloc, bytes.as_slice()) else {
-        return Err(Unread::Line);
-    };
-    let mut again = Seq::new(alloc);
-    put_frames(alloc, raw.as_slice(), &mut again)?;
-    if again.as_slice() != bytes.as_slice() {
-        return Ok(String::from_str(alloc, "not written as it was")?);
+    match read_maps(answer.alloc(), bytes.as_slice()) {
+        Ok(raw) => frames_of(first.as_slice(), raw.as_slice(), bytes.as_slice(), answer),
+        Err(_) => answer.refuse(),
     }
-    let full = full(alloc, first.as_slice(), raw.as_slice());
-    let steps = steps(alloc, first.as_slice(), raw.as_slice());
-    told(alloc, full, steps)
 }
 
 /// Two frames in full as they are written: at 3 with the locals Object(14) and Uninit(9), and at 10 with Long on the stack.
@@ -179,7 +168,9 @@ fn full_forms(alloc: Global) -> Result<Vec<u8>, AllocError> {
 }
 
 /// Those two frames as hexadecimal text.
-pub fn two_full(alloc: Global) -> Result<String, Unread> {
-    let bytes = full_forms(alloc)?;
-    Ok(hex::encode(alloc, bytes.as_slice())?)
+pub fn two_full(answer: &mut Answer) {
+    match full_forms(answer.alloc()) {
+        Ok(bytes) => answer.hex(bytes.as_slice()),
+        Err(_) => answer.lack(),
+    }
 }

@@ -1,8 +1,10 @@
+use crate::code::Asked;
+use crate::move_reading::parted;
 use crate::move_table::Moves;
 use crate::{classes, code, gen_asking, pools, stack_maps, trips};
 use jparts::jpool::{Adder, Pool};
 use std::alloc::Global;
-use tests_rows::{Line, Rows, Unread, debug, first, hex_of};
+use tests_rows::{Answer, Line, Rows, Unread, hex_of};
 
 /// What the rows of a section are about.
 #[derive(Clone, Copy)]
@@ -53,56 +55,51 @@ impl Table {
     }
 
     /// How many indices the pool that grows has, or else the one that is asked.
-    fn indices(&self, alloc: Global, which: &str) -> Result<String, Unread> {
-        let count = match (which, &self.pool, &self.adder) {
-            ("pool", Some(pool), _) => pool.entries().len(),
-            ("adder", _, Some(adder)) => adder.pool().entries().len(),
-            _ => return Err(Unread::Line),
-        };
-        Ok(debug(alloc, &count)?)
+    fn indices(&self, which: &str, answer: &mut Answer) {
+        match (which, &self.pool, &self.adder) {
+            ("pool", Some(pool), _) => answer.debug(&pool.entries().len()),
+            ("adder", _, Some(adder)) => answer.debug(&adder.pool().entries().len()),
+            _ => answer.refuse(),
+        }
     }
 
     /// What the pool has at an index.
-    fn look_up(&self, alloc: Global, how: &str, index: &str) -> Result<String, Unread> {
+    fn look_up(&self, how: &str, index: &str, answer: &mut Answer) {
         match &self.pool {
-            Some(pool) => pools::looked_up(alloc, pool, how, index),
-            None => Err(Unread::Line),
+            Some(pool) => pools::looked_up(pool, how, index, answer),
+            None => answer.refuse(),
         }
     }
 
-    fn add(&mut self, alloc: Global, entry: &str) -> Result<String, Unread> {
+    fn add(&mut self, entry: &str, answer: &mut Answer) {
         match &mut self.adder {
-            Some(adder) => pools::added(alloc, adder, entry),
-            None => Err(Unread::Line),
+            Some(adder) => pools::added(adder, entry, answer),
+            None => answer.refuse(),
         }
     }
 
-    fn frames(&self, alloc: Global, fields: &str) -> Result<String, Unread> {
-        let (locals, words) = first(fields)?;
-        stack_maps::frames(alloc, locals, words)
-    }
-
-    /// What was found for a row.
-    fn found(&mut self, alloc: Global, kind: &str, fields: &str) -> Result<String, Unread> {
+    /// Answers a row about class files and their parts.
+    fn ask_part(&mut self, kind: &str, fields: &str, answer: &mut Answer) {
+        let (one, other) = parted(fields, " | ");
         match kind {
-            "name" => pools::class_name(alloc, fields),
-            "descriptor" => pools::descriptor(alloc, fields),
-            "parts" => pools::parts(alloc, fields),
-            "pool" => pools::pool(alloc, fields),
-            "indices" => self.indices(alloc, fields),
-            "text" | "class" | "entry" | "both" => self.look_up(alloc, kind, fields),
-            "add" => self.add(alloc, fields),
-            "maps" => stack_maps::read(alloc, fields),
-            "frames" => self.frames(alloc, fields),
-            "full" => stack_maps::two_full(alloc),
-            "code" => code::read(alloc, fields),
-            "list" => code::listed(alloc, fields),
-            "form" => code::form(alloc, fields),
-            "branches" => code::branches(alloc, fields),
-            "file" => classes::read(alloc, &[], fields),
-            "behind" => classes::read(alloc, self.front.as_slice(), fields),
-            "back" => trips::back(alloc, fields),
-            _ => Err(Unread::Line),
+            "name" => pools::class_name(fields, answer),
+            "descriptor" => pools::descriptor(fields, answer),
+            "parts" => pools::parts(fields, answer),
+            "pool" => pools::pool(one, other, answer),
+            "indices" => self.indices(fields, answer),
+            "text" | "class" | "entry" | "both" => self.look_up(kind, fields, answer),
+            "add" => self.add(fields, answer),
+            "maps" => stack_maps::read(fields, answer),
+            "frames" => stack_maps::frames(one, other, answer),
+            "full" => stack_maps::two_full(answer),
+            "code" => code::read(fields, answer),
+            "list" => code::asked(Asked::List, fields, answer),
+            "form" => code::asked(Asked::Form, fields, answer),
+            "branches" => code::asked(Asked::Branches, fields, answer),
+            "file" => classes::read(&[], fields, answer),
+            "behind" => classes::read(self.front.as_slice(), fields, answer),
+            "back" => trips::back(one, other, answer),
+            _ => answer.refuse(),
         }
     }
 
@@ -125,17 +122,28 @@ impl Table {
         Ok(true)
     }
 
-    /// Reads a line about class files and their parts, and answers where it asks something.
-    fn read_part<'a>(&mut self, alloc: Global, line: &'a str) -> Result<Line<'a>, Unread> {
-        let (kind, fields) = first(line)?;
-        if self.known(alloc, kind, fields)? {
-            return Ok(Line::Known);
+    /// Whether a line is one that later lines are read by.
+    fn is_known(&mut self, alloc: Global, line: &str) -> Result<bool, Unread> {
+        match self.about {
+            About::Parts => {
+                let (kind, fields) = parted(line, " | ");
+                self.known(alloc, kind, fields)
+            }
+            About::Jobs => Ok(false),
+            About::Moves => self.moves.is_known(alloc, line),
         }
-        let Some((asked, wanted)) = fields.rsplit_once(" | ") else {
-            return Err(Unread::Line);
-        };
-        let found = self.found(alloc, kind, asked)?;
-        Ok(Line::Row(wanted, found))
+    }
+
+    /// Answers a row.
+    fn ask(&mut self, question: &str, answer: &mut Answer) {
+        match self.about {
+            About::Parts => {
+                let (kind, fields) = parted(question, " | ");
+                self.ask_part(kind, fields, answer);
+            }
+            About::Jobs => gen_asking::asked(question, answer),
+            About::Moves => self.moves.ask(question, answer),
+        }
     }
 }
 
@@ -149,10 +157,14 @@ impl Rows for Table {
             self.about = About::of(name);
             return Ok(Line::Section(name));
         }
-        match self.about {
-            About::Parts => self.read_part(alloc, line),
-            About::Jobs => gen_asking::read(alloc, line),
-            About::Moves => self.moves.read(alloc, line),
+        if self.is_known(alloc, line)? {
+            return Ok(Line::Known);
         }
+        let Some((question, wanted)) = line.rsplit_once(" | ") else {
+            return Err(Unread::Line);
+        };
+        let mut answer = Answer::new(alloc);
+        self.ask(question, &mut answer);
+        Ok(Line::Row(wanted, answer.into_text()?))
     }
 }

@@ -5,7 +5,7 @@ use jparts::jmaps::{put_frames, read_maps};
 use jparts::jpool::{read_pool, write_pool};
 use jreadclass::read_class;
 use std::alloc::{AllocError, Global};
-use tests_rows::{Unread, first, hex_of, yes_or_no};
+use tests_rows::{Answer, yes_or_no};
 
 /// A part of a class file.
 #[derive(Clone, Copy)]
@@ -21,13 +21,13 @@ enum Part {
 }
 
 /// The part that a word names.
-fn part_of(word: &str) -> Result<Part, Unread> {
+fn part_of(word: &str) -> Option<Part> {
     match word {
-        "pool" => Ok(Part::Pool),
-        "maps" => Ok(Part::Maps),
-        "code" => Ok(Part::Code),
-        "class" => Ok(Part::Class),
-        _ => Err(Unread::Line),
+        "pool" => Some(Part::Pool),
+        "maps" => Some(Part::Maps),
+        "code" => Some(Part::Code),
+        "class" => Some(Part::Class),
+        _ => None,
     }
 }
 
@@ -86,11 +86,14 @@ fn comes_back(alloc: Global, part: Part, bytes: &[u8]) -> Result<bool, AllocErro
     }
 }
 
-/// Whether the part of fields, by its word and its bytes, comes back.
-pub fn back(alloc: Global, fields: &str) -> Result<String, Unread> {
-    let (word, words) = first(fields)?;
-    let part = part_of(word)?;
-    let bytes = hex_of(alloc, words)?;
-    let back = comes_back(alloc, part, bytes.as_slice())?;
-    Ok(String::from_str(alloc, yes_or_no(back))?)
+/// Whether the part that a word names, of these bytes, comes back.
+pub fn back(word: &str, words: &str, answer: &mut Answer) {
+    let Some(part) = part_of(word) else {
+        return answer.refuse();
+    };
+    let bytes = answer.bytes(words);
+    match comes_back(answer.alloc(), part, bytes.as_slice()) {
+        Ok(back) => answer.tell(yes_or_no(back)),
+        Err(_) => answer.lack(),
+    }
 }

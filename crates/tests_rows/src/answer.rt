@@ -1,4 +1,4 @@
-use crate::words::{Unread, hex_of, number};
+use crate::words::{Unread, hex_of, number, spelled, text_of};
 use std::alloc::{AllocError, Global};
 use std::fmt;
 use std::str::FromStr;
@@ -116,6 +116,28 @@ impl Answer {
             Err(why) => {
                 self.fault = Some(why);
                 Vec::new(self.alloc)
+            }
+        }
+    }
+
+    /// The bytes that a field spells between quotes. Where it doesn't there is no answer.
+    pub fn spelled(&mut self, field: &str) -> Vec<u8> {
+        match spelled(self.alloc, field) {
+            Ok(bytes) => bytes,
+            Err(why) => {
+                self.fault = Some(why);
+                Vec::new(self.alloc)
+            }
+        }
+    }
+
+    /// The text that a field spells between quotes. Where it doesn't there is no answer.
+    pub fn text_of(&mut self, field: &str) -> String {
+        match text_of(self.alloc, field) {
+            Ok(text) => text,
+            Err(why) => {
+                self.fault = Some(why);
+                String::new(self.alloc)
             }
         }
     }

@@ -89,6 +89,16 @@ pub fn string_of(alloc: Global, text: &str) -> Result<String, Unread> {
     }
 }
 
+/// The bytes that a field spells between quotes.
+pub fn spelled(alloc: Global, field: &str) -> Result<Vec<u8>, Unread> {
+    bytes_of(alloc, unquoted(field)?)
+}
+
+/// The text that a field spells between quotes.
+pub fn text_of(alloc: Global, field: &str) -> Result<String, Unread> {
+    string_of(alloc, unquoted(field)?)
+}
+
 /// The number that is written so.
 pub fn number<N: FromStr>(word: &str) -> Result<N, Unread>
 where
