@@ -1,14 +1,14 @@
 ghost use Rattle.std.specs.Prelude.{◌<◌, length};
 
 use crate::permissions::readings;
-use crate::words::put_number;
+use crate::words::parted;
 use jctx::{Context, Item, enter, privileged, top};
 use jground::jtext::Units;
 use jperm::Permission;
 use jrights::jdomain::{Domains, Verdict};
 use jtable::Table;
 use std::alloc::{AllocError, Global};
-use tests_rows::{Unread, debug_behind, first, number};
+use tests_rows::{Answer, Unread, number};
 
 /// The limits that a word names: to read a property, or none.
 fn limits_of(alloc: Global, directory: &Units, name: &str) -> Result<Vec<Permission>, Unread> {
@@ -95,52 +95,50 @@ fn context_of(alloc: Global, directory: &Units, words: &str) -> Result<Context, 
     Ok(context)
 }
 
-/// Puts the domain of an item behind a text, and a stroke for each of its limits.
-fn put_item(alloc: Global, item: &Item, text: &mut String) -> Result<(), AllocError> {
-    if !text.is_empty() {
-        text.push(' ')?;
-    }
-    put_number(alloc, u64::from(item.domain), text)?;
+/// Tells the domain of an item, and a stroke for each of its limits.
+fn tell_item(item: &Item, answer: &mut Answer) {
+    answer.spaced(&item.domain);
     for _ in item.limits.as_slice() {
-        text.push('\'')?;
+        answer.tell("'");
     }
-    Ok(())
 }
 
-/// A context as a text: the domain of each item, with a stroke behind it for each of its limits; `-` where there is none.
-fn shown(alloc: Global, context: &Context) -> Result<String, AllocError> {
-    let mut text = String::new(alloc);
+/// Tells a context: the domain of each item, with a stroke behind it for each of its limits; `-` where there is none.
+fn tell_context(context: &Context, answer: &mut Answer) {
+    if context.as_slice().is_empty() {
+        return answer.tell("-");
+    }
     for item in context.as_slice() {
-        put_item(alloc, item, &mut text)?;
+        tell_item(item, answer);
     }
-    if text.is_empty() {
-        text.push('-')?;
-    }
-    Ok(text)
 }
 
-/// Whether the copy of a context shows a text.
-fn is_copied(alloc: Global, context: &Context, text: &str) -> Result<bool, AllocError> {
-    let copy = context.copy(alloc)?;
-    let again = shown(alloc, &copy)?;
-    Ok(again.as_str() == text)
+/// A context as a text.
+fn shown(alloc: Global, context: &Context) -> Result<String, Unread> {
+    let mut answer = Answer::new(alloc);
+    tell_context(context, &mut answer);
+    answer.into_text()
+}
+
+/// Tells a context, if its copy is told so too.
+fn tell_copied(context: &Context, copy: &Context, answer: &mut Answer) {
+    match (shown(answer.alloc(), context), shown(answer.alloc(), copy)) {
+        (Ok(one), Ok(other)) if one.as_str() == other.as_str() => answer.tell(one.as_str()),
+        (Ok(_), Ok(_)) => answer.tell("its copy is another"),
+        _ => answer.lack(),
+    }
 }
 
 /// What a context shows, and its copy too.
-pub fn context(alloc: Global, directory: &Units, words: &str) -> Result<String, Unread> {
-    let context = context_of(alloc, directory, words)?;
-    let text = shown(alloc, &context)?;
-    if is_copied(alloc, &context, text.as_str())? {
-        return Ok(text);
-    }
-    Ok(String::from_str(alloc, "its copy is another")?)
-}
-
-/// A verdict as a text.
-fn told(alloc: Global, verdict: Verdict) -> Result<String, AllocError> {
-    match verdict {
-        Verdict::Granted => String::from_str(alloc, "granted"),
-        Verdict::Denied(domain) => { debug_behind(alloc, "denied by ", &domain) }
+pub fn context(directory: &Units, words: &str, answer: &mut Answer) {
+    let alloc = answer.alloc();
+    let context = match context_of(alloc, directory, words) {
+        Ok(context) => context,
+        Err(why) => return answer.fail(why),
+    };
+    match context.copy(alloc) {
+        Ok(copy) => tell_copied(&context, &copy, answer),
+        Err(_) => answer.lack(),
     }
 }
 
@@ -199,18 +197,26 @@ fn verdict_of_walk(
 
 /// What the walk of a context answers, and that of its number too.
 pub fn verdict(
-    alloc: Global,
     directory: &Units,
     domains: &Domains,
     words: &str,
     asked: &Permission,
-) -> Result<String, Unread> {
-    let walked = verdict_of_walk(alloc, directory, domains, words, asked)?;
-    let by_number = verdict_by_number(alloc, directory, domains, words, asked)?;
-    if by_number != walked {
-        return Ok(String::from_str(alloc, "by its number it is another")?);
+    answer: &mut Answer,
+) {
+    let alloc = answer.alloc();
+    let walked = verdict_of_walk(alloc, directory, domains, words, asked);
+    let numbered = verdict_by_number(alloc, directory, domains, words, asked);
+    match (walked, numbered) {
+        (Ok(walked), Ok(numbered)) if walked != numbered => {
+            answer.tell("by its number it is another");
+        }
+        (Ok(Verdict::Granted), Ok(_)) => answer.tell("granted"),
+        (Ok(Verdict::Denied(domain)), Ok(_)) => {
+            answer.tell("denied by ");
+            answer.debug(&domain);
+        }
+        (Err(why), _) | (_, Err(why)) => answer.fail(why),
     }
-    Ok(told(alloc, walked)?)
 }
 
 /// The number of the context of a privilege with limits, in the first context, behind that of a number.
@@ -282,33 +288,47 @@ fn last_turn(
     Ok(last)
 }
 
-/// Three numbers.
-fn three(alloc: Global, one: u64, two: u64, three: u64) -> Result<String, AllocError> {
-    format!(in alloc; "{one}, {two}, {three}")
+/// Tells three numbers.
+fn tell_three(one: u64, two: u64, three: u64, answer: &mut Answer) {
+    answer.debug(&one);
+    answer.tell(", ");
+    answer.debug(&two);
+    answer.tell(", ");
+    answer.debug(&three);
 }
 
-/// What `turns` says, in a table.
-fn turns_in(
+/// The numbers of the contexts of words, and of the last turn of others behind them.
+fn turned(
     alloc: Global,
     directory: &Units,
     contexts: &mut Table,
-    base: &str,
-    words: &str,
+    (base, words): (&str, &str),
     times: u32,
-) -> Result<String, Unread> {
+) -> Result<(u64, u64), Unread> {
     let from = number_of(alloc, directory, contexts, base, 0)?;
     let last = last_turn(alloc, directory, contexts, words, from, times)?;
-    Ok(three(alloc, from, last, contexts.len())?)
+    Ok((from, last))
+}
+
+/// Tells two numbers of contexts, and how many have numbers.
+fn tell_numbers(found: Result<(u64, u64), Unread>, contexts: &Table, answer: &mut Answer) {
+    match found {
+        Ok((one, other)) => tell_three(one, other, contexts.len(), answer),
+        Err(why) => answer.fail(why),
+    }
 }
 
 /// The numbers of contexts where words stand behind those of a loop, so often: each turn begins with the same context. That of the
 /// first words, that of the last turn, and how many contexts have numbers.
-pub fn turns(alloc: Global, directory: &Units, fields: &str) -> Result<String, Unread> {
-    let (times, fields) = first(fields)?;
-    let (base, words) = first(fields)?;
-    let times = number(times)?;
-    let mut contexts = Table::open(alloc)?;
-    turns_in(alloc, directory, &mut contexts, base, words, times)
+pub fn turns(directory: &Units, fields: &str, answer: &mut Answer) {
+    let (times, fields) = parted(fields);
+    let alloc = answer.alloc();
+    let times = answer.number(times);
+    let Ok(mut contexts) = Table::open(alloc) else {
+        return answer.lack();
+    };
+    let found = turned(alloc, directory, &mut contexts, parted(fields), times);
+    tell_numbers(found, &contexts, answer);
 }
 
 /// The number of the context of so many domains, each called by the one before.
@@ -323,16 +343,20 @@ fn risen(alloc: Global, contexts: &mut Table, count: u32) -> Result<u64, Unread>
     Ok(n)
 }
 
-/// What `rising` says, in a table.
-fn rising_in(alloc: Global, contexts: &mut Table, count: u32) -> Result<String, Unread> {
+/// The numbers of the contexts of so many domains, made twice.
+fn twice(alloc: Global, contexts: &mut Table, count: u32) -> Result<(u64, u64), Unread> {
     let once = risen(alloc, contexts, count)?;
     let again = risen(alloc, contexts, count)?;
-    Ok(three(alloc, once, again, contexts.len())?)
+    Ok((once, again))
 }
 
 /// The numbers of the contexts of so many domains, made twice, and how many contexts have numbers.
-pub fn rising(alloc: Global, count: &str) -> Result<String, Unread> {
-    let count = number(count)?;
-    let mut contexts = Table::open(alloc)?;
-    rising_in(alloc, &mut contexts, count)
+pub fn rising(count: &str, answer: &mut Answer) {
+    let alloc = answer.alloc();
+    let count = answer.number(count);
+    let Ok(mut contexts) = Table::open(alloc) else {
+        return answer.lack();
+    };
+    let found = twice(alloc, &mut contexts, count);
+    tell_numbers(found, &contexts, answer);
 }

@@ -1,9 +1,9 @@
-use crate::words::{put, told, units_if, units_of};
+use crate::words::{parted, put, tell_units, units_if, units_of};
 use jground::jtext::Units;
 use jperm::{FilePath, PermClass, PermError, Permission, covers, make};
-use std::alloc::{AllocError, Global};
+use std::alloc::Global;
 use std::slice::from_ref;
-use tests_rows::{Unread, debug, first, unquoted, yes_or_no};
+use tests_rows::{Answer, Unread, unquoted, yes_or_no};
 
 fn class_of(word: &str) -> Result<PermClass, Unread> {
     match word {
@@ -70,22 +70,36 @@ pub fn readings(
     Ok(list)
 }
 
-/// The text of the permission that a class makes of a name and actions, or why it makes none.
-pub fn made(alloc: Global, directory: &Units, fields: &str) -> Result<String, Unread> {
-    let (class, fields) = first(fields)?;
-    let (name, actions) = first(fields)?;
+/// What a class makes of a name and actions, `-` for none.
+fn make_of(
+    alloc: Global,
+    directory: &Units,
+    class: &str,
+    name: &str,
+    actions: &str,
+) -> Result<Result<Permission, PermError>, Unread> {
+    let class = class_of(class)?;
     let name = units_if(alloc, name)?;
     let actions = units_if(alloc, actions)?;
-    match make(
-        alloc,
-        class_of(class)?,
-        name.as_ref(),
-        actions.as_ref(),
-        directory,
-    ) {
-        Ok(permission) => Ok(told(alloc, permission.text(alloc)?.as_slice())?),
-        Err(PermError::Memory) => Err(Unread::Memory),
-        Err(why) => Ok(debug(alloc, &why)?),
+    Ok(make(alloc, class, name.as_ref(), actions.as_ref(), directory))
+}
+
+fn tell_permission(permission: &Permission, answer: &mut Answer) {
+    match permission.text(answer.alloc()) {
+        Ok(text) => tell_units(text.as_slice(), answer),
+        Err(_) => answer.lack(),
+    }
+}
+
+/// The text of the permission that a class makes of a name and actions, or why it makes none.
+pub fn made(directory: &Units, fields: &str, answer: &mut Answer) {
+    let (class, fields) = parted(fields);
+    let (name, actions) = parted(fields);
+    match make_of(answer.alloc(), directory, class, name, actions) {
+        Ok(Ok(permission)) => tell_permission(&permission, answer),
+        Ok(Err(PermError::Memory)) => answer.lack(),
+        Ok(Err(why)) => answer.debug(&why),
+        Err(why) => answer.fail(why),
     }
 }
 
@@ -93,33 +107,44 @@ fn is_all_files(path: &FilePath) -> bool {
     path.equal(&FilePath::AllFiles)
 }
 
-/// A path behind a word on what of it is named.
-fn located(alloc: Global, how: &str, path: &[u16]) -> Result<String, AllocError> {
-    let path = told(alloc, path)?;
-    format!(in alloc; "{how} {}", path.as_str())
+/// Tells a path behind a word on what of it is named.
+fn tell_located(how: &str, path: &[u16], answer: &mut Answer) {
+    answer.tell(how);
+    tell_units(path, answer);
 }
 
-/// What a path names.
-fn named(alloc: Global, path: &FilePath) -> Result<String, AllocError> {
+/// Tells what a path names.
+fn tell_named(path: &FilePath, answer: &mut Answer) {
     if is_all_files(path) {
-        return String::from_str(alloc, "all files");
+        return answer.tell("all files");
     }
     match path {
-        FilePath::AllFiles => String::from_str(alloc, "not equal to itself"),
-        FilePath::Exact(path) => located(alloc, "exactly", path.as_slice()),
-        FilePath::Children(path) => located(alloc, "in", path.as_slice()),
-        FilePath::Below(path) => located(alloc, "below", path.as_slice()),
+        FilePath::AllFiles => answer.tell("not equal to itself"),
+        FilePath::Exact(path) => tell_located("exactly ", path.as_slice(), answer),
+        FilePath::Children(path) => tell_located("in ", path.as_slice(), answer),
+        FilePath::Below(path) => tell_located("below ", path.as_slice(), answer),
+    }
+}
+
+/// The permission on a file whose name is read in a directory.
+fn file_of(alloc: Global, directory: &str, name: &str) -> Result<Permission, Unread> {
+    let directory = units_of(alloc, unquoted(directory)?)?;
+    made_of(alloc, &directory, PermClass::File, unquoted(name)?, "read")
+}
+
+fn tell_file(permission: &Permission, answer: &mut Answer) {
+    match permission {
+        Permission::File { path, .. } => tell_named(path, answer),
+        _ => answer.refuse(),
     }
 }
 
 /// What the path of a file permission names, whose name is read in a directory.
-pub fn path(alloc: Global, fields: &str) -> Result<String, Unread> {
-    let (directory, name) = first(fields)?;
-    let directory = units_of(alloc, unquoted(directory)?)?;
-    let permission = made_of(alloc, &directory, PermClass::File, unquoted(name)?, "read")?;
-    match &permission {
-        Permission::File { path, .. } => Ok(named(alloc, path)?),
-        _ => Err(Unread::Line),
+pub fn path(fields: &str, answer: &mut Answer) {
+    let (directory, name) = parted(fields);
+    match file_of(answer.alloc(), directory, name) {
+        Ok(permission) => tell_file(&permission, answer),
+        Err(why) => answer.fail(why),
     }
 }
 
@@ -133,57 +158,46 @@ fn implied(held: &Permission, asked: &Permission) -> &'static str {
     }
 }
 
-/// What is told of a permission and one that a field says.
-fn implies_other(
-    alloc: Global,
-    directory: &Units,
-    held: &Permission,
-    field: &str,
-) -> Result<&'static str, Unread> {
-    let asked = permission(alloc, directory, field)?;
-    Ok(implied(held, &asked))
+/// Tells whether the copy of a permission equals another.
+fn tell_equal(one: &Permission, other: &Permission, answer: &mut Answer) {
+    match one.copy(answer.alloc()) {
+        Ok(copy) => answer.tell(yes_or_no(copy.equal(other))),
+        Err(_) => answer.lack(),
+    }
 }
 
-/// Whether a permission implies another, and covers it as a list of one.
-pub fn implies(alloc: Global, directory: &Units, fields: &str) -> Result<&'static str, Unread> {
-    let (held, asked) = first(fields)?;
-    let held = permission(alloc, directory, held)?;
-    implies_other(alloc, directory, &held, asked)
+/// What is asked of two permissions.
+fn of_two(kind: &str, one: &Permission, other: &Permission, answer: &mut Answer) {
+    match kind {
+        "implies" => answer.tell(implied(one, other)),
+        "equal" => tell_equal(one, other, answer),
+        _ => answer.refuse(),
+    }
 }
 
-/// Whether the copy of a permission equals another.
-fn copy_equals(alloc: Global, one: &Permission, other: &Permission) -> Result<bool, AllocError> {
-    let copy = one.copy(alloc)?;
-    Ok(copy.equal(other))
+/// What is asked of a permission and one that a field says.
+fn of_other(kind: &str, directory: &Units, one: &Permission, field: &str, answer: &mut Answer) {
+    match permission(answer.alloc(), directory, field) {
+        Ok(other) => of_two(kind, one, &other, answer),
+        Err(why) => answer.fail(why),
+    }
 }
 
-/// Whether a permission's copy equals one that a field says.
-fn equal_other(
-    alloc: Global,
-    directory: &Units,
-    one: &Permission,
-    field: &str,
-) -> Result<&'static str, Unread> {
-    let other = permission(alloc, directory, field)?;
-    Ok(yes_or_no(copy_equals(alloc, one, &other)?))
-}
-
-/// Whether a permission's copy equals another.
-pub fn equal(alloc: Global, directory: &Units, fields: &str) -> Result<&'static str, Unread> {
-    let (one, other) = first(fields)?;
-    let one = permission(alloc, directory, one)?;
-    equal_other(alloc, directory, &one, other)
+/// Whether a permission implies another, and covers it as a list of one; or whether its copy equals the other.
+pub fn compared(kind: &str, directory: &Units, fields: &str, answer: &mut Answer) {
+    let (one, other) = parted(fields);
+    match permission(answer.alloc(), directory, one) {
+        Ok(one) => of_other(kind, directory, &one, other, answer),
+        Err(why) => answer.fail(why),
+    }
 }
 
 /// Whether a list covers a permission.
-pub fn covered(
-    alloc: Global,
-    directory: &Units,
-    held: &[Permission],
-    field: &str,
-) -> Result<&'static str, Unread> {
-    let asked = permission(alloc, directory, field)?;
-    Ok(yes_or_no(covers(held, &asked)))
+pub fn covered(directory: &Units, held: &[Permission], field: &str, answer: &mut Answer) {
+    match permission(answer.alloc(), directory, field) {
+        Ok(asked) => answer.tell(yes_or_no(covers(held, &asked))),
+        Err(why) => answer.fail(why),
+    }
 }
 
 /// The permissions that fields say; none for `-`.

@@ -1,9 +1,8 @@
-use crate::words::told;
 use jground::jbase::Stop;
 use jground::jtext::Units;
 use jpolicy::{Grant, GrantEntry, Policy, PolicyError, read_policy};
-use std::alloc::{AllocError, Global};
-use tests_rows::{Unread, bytes_of, debug_pair, unquoted};
+use std::alloc::Global;
+use tests_rows::Answer;
 
 /// The policy of a text, if it isn't too long to be asked.
 pub fn policy_of(
@@ -17,63 +16,56 @@ pub fn policy_of(
     read_policy(alloc, bytes, properties)
 }
 
-fn put(sign: &[u16], text: Option<&Units>, out: &mut Vec<u16>) -> Result<(), AllocError> {
-    out.extend_from_slice(sign)?;
+/// Tells a text that is there behind a `=`; `-` stands for one that isn't.
+fn tell_if(text: Option<&Units>, answer: &mut Answer) {
     match text {
         Some(units) => {
-            out.push(b'=' as u16)?;
-            out.extend_from_slice(units.as_slice())?;
+            answer.tell("=");
+            answer.units(units.as_slice());
         }
-        None => out.push(b'-' as u16)?,
+        None => answer.tell("-"),
     }
-    Ok(())
 }
 
-fn put_entry(entry: &GrantEntry, out: &mut Vec<u16>) -> Result<(), AllocError> {
-    let blank = [b' ' as u16];
-    out.push(b'|' as u16)?;
-    out.extend_from_slice(entry.class.as_slice())?;
-    put(&blank, entry.name.as_ref(), out)?;
-    put(&blank, entry.actions.as_ref(), out)?;
+fn tell_entry(entry: &GrantEntry, answer: &mut Answer) {
+    answer.tell("|");
+    answer.units(entry.class.as_slice());
+    answer.tell(" ");
+    tell_if(entry.name.as_ref(), answer);
+    answer.tell(" ");
+    tell_if(entry.actions.as_ref(), answer);
     if entry.signed {
-        out.push(b'!' as u16)?;
+        answer.tell("!");
     }
-    Ok(())
 }
 
-fn put_grant(grant: &Grant, out: &mut Vec<u16>) -> Result<(), AllocError> {
-    put(&[], grant.code_base.as_ref(), out)?;
+fn tell_grant(grant: &Grant, answer: &mut Answer) {
+    tell_if(grant.code_base.as_ref(), answer);
     if grant.asks_more {
-        out.push(b'+' as u16)?;
+        answer.tell("+");
     }
     for entry in grant.entries.as_slice() {
-        put_entry(entry, out)?;
+        tell_entry(entry, answer);
     }
-    out.push(b';' as u16)?;
-    Ok(())
+    answer.tell(";");
 }
 
-/// A policy as a line: each grant with its code base and a `+` where it asks for more, then each entry behind a `|`, with a `!` where it
-/// is signed, and a `;`. A text that is there stands behind a `=`; `-` stands for one that isn't.
-fn line_of(alloc: Global, policy: &Policy) -> Result<String, AllocError> {
-    let mut out = Vec::new(alloc);
+/// Tells a policy: each grant with its code base and a `+` where it asks for more, then each entry behind a `|`, with a `!` where it is
+/// signed, and a `;`.
+fn tell_policy(policy: &Policy, answer: &mut Answer) {
+    answer.tell("'");
     for grant in policy.as_slice() {
-        put_grant(grant, &mut out)?;
+        tell_grant(grant, answer);
     }
-    told(alloc, out.as_slice())
-}
-
-/// The grants of a text as a line, or the place and kind of its fault.
-fn told_of(alloc: Global, text: &[u8], properties: &[(Units, Units)]) -> Result<String, Unread> {
-    match policy_of(alloc, text, properties) {
-        Ok(policy) => Ok(line_of(alloc, &policy)?),
-        Err(Stop::Fault(fault)) => Ok(debug_pair(alloc, &fault.at, &fault.kind)?),
-        Err(Stop::Memory) => Err(Unread::Memory),
-    }
+    answer.tell("'");
 }
 
 /// The grants of a policy file as a line, or the place and kind of its fault.
-pub fn read(alloc: Global, properties: &[(Units, Units)], field: &str) -> Result<String, Unread> {
-    let bytes = bytes_of(alloc, unquoted(field)?)?;
-    told_of(alloc, bytes.as_slice(), properties)
+pub fn read(properties: &[(Units, Units)], field: &str, answer: &mut Answer) {
+    let bytes = answer.spelled(field);
+    match policy_of(answer.alloc(), bytes.as_slice(), properties) {
+        Ok(policy) => tell_policy(&policy, answer),
+        Err(Stop::Fault(fault)) => answer.debug_pair(&fault.at, &fault.kind),
+        Err(Stop::Memory) => answer.lack(),
+    }
 }

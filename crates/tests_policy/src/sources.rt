@@ -1,11 +1,11 @@
-use crate::words::told;
+use crate::words::parted;
 use jground::jbase::{Seq, Stop};
 use jground::jtext::Units;
 use jperm::Permission;
 use jpolicy::Grant;
 use jrights::jdomain::{CodeSource, SourceError};
-use std::alloc::{AllocError, Global};
-use tests_rows::{Unread, between, bytes_of, debug, first, string_of, unquoted, yes_or_no};
+use std::alloc::Global;
+use tests_rows::{Answer, Unread, bytes_of, string_of, unquoted, yes_or_no};
 
 /// The code source that a field is, or why it is none.
 fn read(alloc: Global, field: &str) -> Result<Result<CodeSource, SourceError>, Unread> {
@@ -23,11 +23,12 @@ pub fn source_of(alloc: Global, field: &str) -> Result<CodeSource, Unread> {
 }
 
 /// The URL of a code source, or why it is none.
-pub fn source(alloc: Global, field: &str) -> Result<String, Unread> {
-    match read(alloc, field)? {
-        Ok(source) => Ok(between(alloc, "'", source.text(), "'")?),
-        Err(SourceError::Memory) => Err(Unread::Memory),
-        Err(why) => Ok(debug(alloc, &why)?),
+pub fn source(field: &str, answer: &mut Answer) {
+    match read(answer.alloc(), field) {
+        Ok(Ok(source)) => answer.tell_between("'", source.text().as_bytes(), "'"),
+        Ok(Err(SourceError::Memory)) => answer.lack(),
+        Ok(Err(why)) => answer.debug(&why),
+        Err(why) => answer.fail(why),
     }
 }
 
@@ -60,27 +61,36 @@ fn is_for(alloc: Global, grant: &Grant, source: &str) -> Result<bool, Unread> {
 }
 
 /// Whether a grant with a code base, that may ask for more than its code, is for the code of a source.
-pub fn matched(alloc: Global, asks_more: bool, fields: &str) -> Result<&'static str, Unread> {
-    let (base, source) = first(fields)?;
-    let grant = grant_of(alloc, base_of(alloc, base)?, asks_more);
-    Ok(yes_or_no(is_for(alloc, &grant, source)?))
+pub fn matched(asks_more: bool, fields: &str, answer: &mut Answer) {
+    let (base, source) = parted(fields);
+    let alloc = answer.alloc();
+    let base = match base_of(alloc, base) {
+        Ok(base) => base,
+        Err(why) => return answer.fail(why),
+    };
+    match is_for(alloc, &grant_of(alloc, base, asks_more), source) {
+        Ok(is) => answer.tell(yes_or_no(is)),
+        Err(why) => answer.fail(why),
+    }
 }
 
-/// Puts the text of a permission behind a `|`, or the class alone where it is unresolved.
-fn put(alloc: Global, permission: &Permission, out: &mut Vec<u16>) -> Result<(), AllocError> {
-    out.push(b'|' as u16)?;
+/// Tells the text of a permission, or the class alone where it is unresolved.
+fn tell_one(permission: &Permission, answer: &mut Answer) {
     if let Permission::Unresolved { class } = permission {
-        return out.extend_from_slice(class.as_slice());
+        return answer.units(class.as_slice());
     }
-    let text = permission.text(alloc)?;
-    out.extend_from_slice(text.as_slice())
+    match permission.text(answer.alloc()) {
+        Ok(text) => answer.units(text.as_slice()),
+        Err(_) => answer.lack(),
+    }
 }
 
-/// The texts of permissions, each behind a `|`, and the class alone where one is unresolved.
-pub fn listed(alloc: Global, list: &[Permission]) -> Result<String, AllocError> {
-    let mut out = Vec::new(alloc);
+/// Tells the texts of permissions, each behind a `|`, and the class alone where one is unresolved.
+pub fn tell_list(list: &[Permission], answer: &mut Answer) {
+    answer.tell("'");
     for permission in list {
-        put(alloc, permission, &mut out)?;
+        answer.tell("|");
+        tell_one(permission, answer);
     }
-    told(alloc, out.as_slice())
+    answer.tell("'");
 }

@@ -1,11 +1,11 @@
 use crate::kept::{grant, keep, walk};
 use crate::permissions::readings;
-use crate::words::{put, put_number};
+use crate::words::{parted, put};
 use jground::jtext::Units;
 use jkept::{InspectMark, Kept};
 use jrights::jdomain::{Domains, Verdict};
 use std::alloc::{AllocError, Global};
-use tests_rows::{Unread, debug_behind, first, number};
+use tests_rows::{Answer, Unread};
 
 /// The mark of a frame.
 fn mark(domain: u32, privileged: Option<u64>) -> InspectMark {
@@ -91,19 +91,13 @@ fn marks_of(
     Ok(marks)
 }
 
-/// How a verdict is told: `+` for what is granted, and else the domain that denies.
-fn put_verdict(alloc: Global, verdict: Verdict, out: &mut String) -> Result<(), AllocError> {
+/// Tells a verdict: `+` for what is granted, and else the domain that denies.
+fn tell_verdict(verdict: Result<Verdict, Unread>, answer: &mut Answer) {
     match verdict {
-        Verdict::Granted => out.push('+'),
-        Verdict::Denied(domain) => put_number(alloc, u64::from(domain), out),
+        Ok(Verdict::Granted) => answer.tell("+"),
+        Ok(Verdict::Denied(domain)) => answer.debug(&domain),
+        Err(why) => answer.fail(why),
     }
-}
-
-/// What is told of one verdict.
-fn told(alloc: Global, verdict: Verdict) -> Result<String, AllocError> {
-    let mut out = String::new(alloc);
-    put_verdict(alloc, verdict, &mut out)?;
-    Ok(out)
 }
 
 /// What the walk of a stack decides, whose privileges are kept for it.
@@ -119,10 +113,12 @@ fn walk_of(
 }
 
 /// What a walk of a stack decides that isn't kept.
-pub fn walked(alloc: Global, domains: &Domains, stack: &str) -> Result<String, Unread> {
-    let mut kept = Kept::open(alloc)?;
-    let verdict = walk_of(alloc, &mut kept, domains, stack)?;
-    Ok(told(alloc, verdict)?)
+pub fn walked(domains: &Domains, stack: &str, answer: &mut Answer) {
+    let alloc = answer.alloc();
+    let Ok(mut kept) = Kept::open(alloc) else {
+        return answer.lack();
+    };
+    tell_verdict(walk_of(alloc, &mut kept, domains, stack), answer);
 }
 
 /// Keeps a stack on an inherited one: its number.
@@ -161,64 +157,61 @@ fn inherited(alloc: Global, kept: &mut Kept, stack: &str) -> Result<Option<u64>,
     Ok(Some(keep_stack(alloc, kept, &[], None, stack)?))
 }
 
-/// Puts what is decided on kept stacks.
-fn put_verdicts(
-    alloc: Global,
-    kept: &Kept,
-    domains: &Domains,
-    numbers: &[u64],
-    out: &mut String,
-) -> Result<(), Unread> {
-    for one in numbers {
-        let verdict = walk(alloc, kept, domains, &[], Some(*one))?;
-        put_verdict(alloc, verdict, out)?;
-    }
-    Ok(())
-}
-
-/// Keeps the stacks of groups, on an inherited one, and puts what is decided on them then.
-fn decide(
+/// Keeps the stacks of groups, which stand between single spaces, on an inherited one: their numbers.
+fn keep_groups(
     alloc: Global,
     kept: &mut Kept,
-    domains: &Domains,
-    fields: &str,
-    out: &mut String,
-) -> Result<(), Unread> {
-    let (base, groups) = first(fields)?;
+    base: &str,
+    groups: &str,
+) -> Result<Vec<u64>, Unread> {
     let inherited = inherited(alloc, kept, base)?;
     let mut numbers = Vec::new(alloc);
     for group in groups.split(' ') {
         keep_group(alloc, kept, inherited, group, &mut numbers)?;
     }
-    put_verdicts(alloc, kept, domains, numbers.as_slice(), out)
+    Ok(numbers)
 }
 
-/// What is decided on the stacks of groups, which stand between single spaces, on an inherited one, `-` for none: all of them are kept
-/// before the first is decided.
-pub fn decided(alloc: Global, domains: &Domains, fields: &str) -> Result<String, Unread> {
-    let mut kept = Kept::open(alloc)?;
-    let mut out = String::new(alloc);
-    decide(alloc, &mut kept, domains, fields, &mut out)?;
-    Ok(out)
+/// Tells what is decided on kept stacks.
+fn tell_verdicts(kept: &Kept, domains: &Domains, numbers: &[u64], answer: &mut Answer) {
+    for one in numbers {
+        tell_verdict(walk(answer.alloc(), kept, domains, &[], Some(*one)), answer);
+    }
 }
 
-/// Whether two stacks without privileges have one number, and how many entries there are then.
-fn entries_in(alloc: Global, kept: &mut Kept, one: &str, other: &str) -> Result<String, Unread> {
+/// What is decided on the stacks of groups, on an inherited one, `-` for none: all of them are kept before the first is decided.
+pub fn decided(domains: &Domains, fields: &str, answer: &mut Answer) {
+    let (base, groups) = parted(fields);
+    let alloc = answer.alloc();
+    let Ok(mut kept) = Kept::open(alloc) else {
+        return answer.lack();
+    };
+    match keep_groups(alloc, &mut kept, base, groups) {
+        Ok(numbers) => tell_verdicts(&kept, domains, numbers.as_slice(), answer),
+        Err(why) => answer.fail(why),
+    }
+}
+
+/// The numbers of two stacks without privileges.
+fn keep_two(alloc: Global, kept: &mut Kept, one: &str, other: &str) -> Result<(u64, u64), Unread> {
     let one = keep_stack(alloc, kept, &[], None, one)?;
     let other = keep_stack(alloc, kept, &[], None, other)?;
-    let words = if other == one {
-        "the same, "
-    } else {
-        "another, "
-    };
-    Ok(debug_behind(alloc, words, &kept.len())?)
+    Ok((one, other))
 }
 
-/// The same, where nothing was kept.
-pub fn entries(alloc: Global, fields: &str) -> Result<String, Unread> {
-    let (one, other) = first(fields)?;
-    let mut kept = Kept::open(alloc)?;
-    entries_in(alloc, &mut kept, one, other)
+/// Whether two stacks without privileges have one number, and how many entries there are then, where nothing was kept.
+pub fn entries(fields: &str, answer: &mut Answer) {
+    let (one, other) = parted(fields);
+    let alloc = answer.alloc();
+    let Ok(mut kept) = Kept::open(alloc) else {
+        return answer.lack();
+    };
+    match keep_two(alloc, &mut kept, one, other) {
+        Ok((one, other)) if one == other => answer.tell("the same, "),
+        Ok(_) => answer.tell("another, "),
+        Err(why) => answer.fail(why),
+    }
+    answer.debug(&kept.len());
 }
 
 /// The number of a stack in which two frames are given the stack before, under limits that imply nothing, so often; the oldest stack
@@ -234,23 +227,25 @@ fn linked(alloc: Global, kept: &mut Kept, oldest: u32, long: u32) -> Result<u64,
 }
 
 /// What is decided on such a stack.
-fn chain_in(
+fn chain_of(
     alloc: Global,
     kept: &mut Kept,
     domains: &Domains,
     oldest: u32,
     long: u32,
-) -> Result<String, Unread> {
+) -> Result<Verdict, Unread> {
     let given = linked(alloc, kept, oldest, long)?;
-    let verdict = walk(alloc, kept, domains, &[], Some(given))?;
-    Ok(told(alloc, verdict)?)
+    walk(alloc, kept, domains, &[], Some(given))
 }
 
 /// What is decided on a stack in which two frames are given the stack before, under limits that imply nothing, so often; the oldest
 /// stack has one frame of a domain.
-pub fn chain(alloc: Global, domains: &Domains, fields: &str) -> Result<String, Unread> {
-    let (oldest, long) = first(fields)?;
-    let (oldest, long) = (number(oldest)?, number(long)?);
-    let mut kept = Kept::open(alloc)?;
-    chain_in(alloc, &mut kept, domains, oldest, long)
+pub fn chain(domains: &Domains, fields: &str, answer: &mut Answer) {
+    let (oldest, long) = parted(fields);
+    let (oldest, long) = (answer.number(oldest), answer.number(long));
+    let alloc = answer.alloc();
+    let Ok(mut kept) = Kept::open(alloc) else {
+        return answer.lack();
+    };
+    tell_verdict(chain_of(alloc, &mut kept, domains, oldest, long), answer);
 }

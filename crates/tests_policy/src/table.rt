@@ -1,11 +1,11 @@
-use crate::words::{put, units_of};
+use crate::words::{parted, put, units_of};
 use crate::{contexts, jobs, permissions, policies, sources, stacks};
 use jground::jtext::Units;
 use jperm::Permission;
 use jpolicy::Policy;
 use jrights::jdomain::{CodeSource, Domains};
 use std::alloc::Global;
-use tests_rows::{Line, Rows, Unread, bytes_of, first, number, unquoted, yes_or_no};
+use tests_rows::{Answer, Line, Rows, Unread, bytes_of, first, unquoted, yes_or_no};
 
 /// What was read so far.
 #[derive(Drop)]
@@ -50,104 +50,89 @@ impl Table {
         Ok(Domains::open(alloc, &policy, sources, &self.granted_in)?)
     }
 
-    /// The permissions of a domain under a policy.
-    fn list(&self, alloc: Global, policy: &Policy, d: u32) -> Result<String, Unread> {
-        let sources = self.sources.as_slice();
-        if sources.len() <= d as usize {
-            return Err(Unread::Line);
-        }
-        let domains = Domains::open(alloc, policy, sources, &self.granted_in)?;
-        Ok(sources::listed(alloc, domains.list(d))?)
-    }
-
     /// The permissions of a domain.
-    fn granted(&self, alloc: Global, field: &str) -> Result<String, Unread> {
-        let d = number(field)?;
-        let policy = self.granting(alloc)?;
-        self.list(alloc, &policy, d)
-    }
-
-    /// Whether a domain has a permission.
-    fn has_asked(&self, alloc: Global, d: u32, asked: &Permission) -> Result<&'static str, Unread> {
-        let domains = self.domains(alloc)?;
-        Ok(yes_or_no(domains.implies(d, asked)))
-    }
-
-    /// The same of the permission that a field says.
-    fn has(&self, alloc: Global, fields: &str) -> Result<&'static str, Unread> {
-        let (d, asked) = first(fields)?;
-        let d = number(d)?;
-        let asked = permissions::permission(alloc, &self.directory, asked)?;
-        self.has_asked(alloc, d, &asked)
-    }
-
-    /// What a context answers about a permission.
-    fn verdict_on(&self, alloc: Global, words: &str, asked: &Permission) -> Result<String, Unread> {
-        let domains = self.domains(alloc)?;
-        contexts::verdict(alloc, &self.directory, &domains, words, asked)
-    }
-
-    /// The same of the permission that a field says.
-    fn verdict(&self, alloc: Global, fields: &str) -> Result<String, Unread> {
-        let (words, asked) = first(fields)?;
-        let asked = permissions::permission(alloc, &self.directory, asked)?;
-        self.verdict_on(alloc, words, &asked)
-    }
-
-    /// What was found for a row that asks what domains decide.
-    fn decided(&self, alloc: Global, kind: &str, fields: &str) -> Result<String, Unread> {
-        let domains = self.domains(alloc)?;
-        match kind {
-            "walk" => stacks::walked(alloc, &domains, fields),
-            "kept" => stacks::decided(alloc, &domains, fields),
-            "chain" => stacks::chain(alloc, &domains, fields),
-            _ => Err(Unread::Line),
+    fn granted(&self, field: &str, answer: &mut Answer) {
+        let d = answer.number::<u32>(field);
+        if self.sources.len() <= d as usize {
+            return answer.refuse();
+        }
+        match self.domains(answer.alloc()) {
+            Ok(domains) => sources::tell_list(domains.list(d), answer),
+            Err(why) => answer.fail(why),
         }
     }
 
-    /// The word that was found for a row.
-    fn word(&self, alloc: Global, kind: &str, fields: &str) -> Result<&'static str, Unread> {
+    /// What is asked of domains and of a permission: whether one has it, or what a context answers.
+    fn of_asked(
+        &self,
+        kind: &str,
+        domains: &Domains,
+        words: &str,
+        asked: &Permission,
+        answer: &mut Answer,
+    ) {
+        match kind {
+            "has" => {
+                let d = answer.number(words);
+                answer.tell(yes_or_no(domains.implies(d, asked)));
+            }
+            _ => contexts::verdict(&self.directory, domains, words, asked, answer),
+        }
+    }
+
+    /// The same of the permission that the last field says.
+    fn of_permission(&self, kind: &str, domains: &Domains, fields: &str, answer: &mut Answer) {
+        let (words, asked) = parted(fields);
+        match permissions::permission(answer.alloc(), &self.directory, asked) {
+            Ok(asked) => self.of_asked(kind, domains, words, &asked, answer),
+            Err(why) => answer.fail(why),
+        }
+    }
+
+    /// Answers a row that asks what domains decide.
+    fn decide(&self, kind: &str, fields: &str, answer: &mut Answer) {
+        let domains = match self.domains(answer.alloc()) {
+            Ok(domains) => domains,
+            Err(why) => return answer.fail(why),
+        };
+        match kind {
+            "has" | "verdict" => self.of_permission(kind, &domains, fields, answer),
+            "walk" => stacks::walked(&domains, fields, answer),
+            "kept" => stacks::decided(&domains, fields, answer),
+            _ => stacks::chain(&domains, fields, answer),
+        }
+    }
+
+    /// Answers a row of jobs, of commands or of kept stacks.
+    fn ask_below(&self, kind: &str, fields: &str, answer: &mut Answer) {
+        match kind {
+            "job" => jobs::job(fields, answer),
+            "long job" => jobs::long_job(fields, answer),
+            "command" => jobs::command(fields, answer),
+            "stored" => jobs::stored(fields, answer),
+            "entries" => stacks::entries(fields, answer),
+            "has" | "verdict" | "walk" | "kept" | "chain" => self.decide(kind, fields, answer),
+            _ => answer.refuse(),
+        }
+    }
+
+    /// Answers a row.
+    fn ask(&self, kind: &str, fields: &str, answer: &mut Answer) {
         let directory = &self.directory;
         match kind {
-            "implies" => permissions::implies(alloc, directory, fields),
-            "equal" => permissions::equal(alloc, directory, fields),
-            "covers" => permissions::covered(alloc, directory, self.held.as_slice(), fields),
-            "for" => sources::matched(alloc, false, fields),
-            "for more" => sources::matched(alloc, true, fields),
-            "has" => self.has(alloc, fields),
-            _ => Err(Unread::Line),
-        }
-    }
-
-    /// What was found for a row of jobs, of commands or of kept stacks.
-    fn found_below(&self, alloc: Global, kind: &str, fields: &str) -> Result<String, Unread> {
-        match kind {
-            "job" => jobs::job(alloc, fields),
-            "long job" => jobs::long_job(alloc, fields),
-            "command" => jobs::command(alloc, fields),
-            "stored" => jobs::stored(alloc, fields),
-            "entries" => stacks::entries(alloc, fields),
-            "walk" | "kept" | "chain" => self.decided(alloc, kind, fields),
-            _ => Err(Unread::Line),
-        }
-    }
-
-    /// What was found for a row.
-    fn found(&self, alloc: Global, kind: &str, fields: &str) -> Result<String, Unread> {
-        match kind {
-            "made" => permissions::made(alloc, &self.directory, fields),
-            "path" => permissions::path(alloc, fields),
-            "implies" | "equal" | "covers" | "for" | "for more" | "has" => {
-                Ok(String::from_str(alloc, self.word(alloc, kind, fields)?)?)
-            }
-            "read" => policies::read(alloc, self.properties.as_slice(), fields),
-            "source" => sources::source(alloc, fields),
-            "granted" => self.granted(alloc, fields),
-            "context" => contexts::context(alloc, &self.directory, fields),
-            "verdict" => self.verdict(alloc, fields),
-            "turns" => contexts::turns(alloc, &self.directory, fields),
-            "rising" => contexts::rising(alloc, fields),
-            _ => self.found_below(alloc, kind, fields),
+            "made" => permissions::made(directory, fields, answer),
+            "path" => permissions::path(fields, answer),
+            "implies" | "equal" => permissions::compared(kind, directory, fields, answer),
+            "covers" => permissions::covered(directory, self.held.as_slice(), fields, answer),
+            "for" => sources::matched(false, fields, answer),
+            "for more" => sources::matched(true, fields, answer),
+            "read" => policies::read(self.properties.as_slice(), fields, answer),
+            "source" => sources::source(fields, answer),
+            "granted" => self.granted(fields, answer),
+            "context" => contexts::context(directory, fields, answer),
+            "turns" => contexts::turns(directory, fields, answer),
+            "rising" => contexts::rising(fields, answer),
+            _ => self.ask_below(kind, fields, answer),
         }
     }
 
@@ -219,7 +204,8 @@ impl Rows for Table {
         let Some((asked, wanted)) = fields.rsplit_once(" | ") else {
             return Err(Unread::Line);
         };
-        let found = self.found(alloc, kind, asked)?;
-        Ok(Line::Row(wanted, found))
+        let mut answer = Answer::new(alloc);
+        self.ask(kind, asked, &mut answer);
+        Ok(Line::Row(wanted, answer.into_text()?))
     }
 }

@@ -1,6 +1,6 @@
 use jground::jtext::Units;
 use std::alloc::{AllocError, Global};
-use tests_rows::{Unread, between, debug, string_of, unquoted};
+use tests_rows::{Answer, Unread, string_of, unquoted};
 
 /// The units of the text that is spelled so.
 pub fn units_of(alloc: Global, text: &str) -> Result<Units, Unread> {
@@ -21,14 +21,14 @@ pub fn put<T: Drop>(item: T, list: &mut Vec<T>) -> Result<(), AllocError> {
     Ok(list.push(item)?)
 }
 
-/// Puts a number behind a text.
-pub fn put_number(alloc: Global, number: u64, out: &mut String) -> Result<(), AllocError> {
-    let digits = debug(alloc, &number)?;
-    out.push_str(digits.as_str())
+/// A field, and those behind it, none where it is the last.
+pub fn parted(fields: &str) -> (&str, &str) {
+    fields.split_once(" | ").unwrap_or((fields, ""))
 }
 
-/// How units are told: between quotes.
-pub fn told(alloc: Global, units: &[u16]) -> Result<String, AllocError> {
-    let text = String::from_utf16_lossy(alloc, units)?;
-    between(alloc, "'", text.as_str(), "'")
+/// Tells units between quotes.
+pub fn tell_units(units: &[u16], answer: &mut Answer) {
+    answer.tell("'");
+    answer.units(units);
+    answer.tell("'");
 }

@@ -36,6 +36,11 @@ impl Answer {
         self.fault = Some(Unread::Memory);
     }
 
+    /// There is none, for this reason.
+    pub fn fail(&mut self, why: Unread) {
+        self.fault = Some(why);
+    }
+
     /// Goes on where there was memory.
     pub fn needs(&mut self, done: Result<(), AllocError>) {
         if done.is_err() {
@@ -73,6 +78,14 @@ impl Answer {
         self.debug(one);
         self.tell(" ");
         self.debug(other);
+    }
+
+    /// Tells units, in which an unpaired surrogate is a sign that stands for what isn't a text.
+    pub fn units(&mut self, units: &[u16]) {
+        match String::from_utf16_lossy(self.alloc, units) {
+            Ok(text) => self.tell(text.as_str()),
+            Err(_) => self.lack(),
+        }
     }
 
     /// Tells bytes, by two hexadecimal digits each.
