@@ -50,14 +50,23 @@ impl Table {
         Ok(Domains::open(alloc, &policy, sources, &self.granted_in)?)
     }
 
-    /// The permissions of a domain.
-    fn granted(&self, field: &str, answer: &mut Answer) {
-        let d = answer.number::<u32>(field);
-        if self.sources.len() <= d as usize {
+    /// The permissions of a domain under a policy.
+    fn tell_list(&self, policy: &Policy, d: u32, answer: &mut Answer) {
+        let sources = self.sources.as_slice();
+        if sources.len() <= d as usize {
             return answer.refuse();
         }
-        match self.domains(answer.alloc()) {
+        match Domains::open(answer.alloc(), policy, sources, &self.granted_in) {
             Ok(domains) => sources::tell_list(domains.list(d), answer),
+            Err(_) => answer.lack(),
+        }
+    }
+
+    /// The permissions of a domain.
+    fn granted(&self, field: &str, answer: &mut Answer) {
+        let d = answer.number(field);
+        match self.granting(answer.alloc()) {
+            Ok(policy) => self.tell_list(&policy, d, answer),
             Err(why) => answer.fail(why),
         }
     }
