@@ -1,87 +1,106 @@
 use crate::layered::{implements, of_members};
 use crate::linked::{fault_of, of_linked};
-use crate::question::{Question, class_id, method_of, number};
+use crate::question::{Question, class_id, method_of};
 use crate::used::of_types;
 use jclass::ClassParts;
 use jlib::Side;
 use jlinking::jmembers::members_fault;
 use jprogram::{CallKind, ClassRef, CodePart, NamedProgram};
 use std::alloc::Global;
-use tests_rows::{Unread, debug};
+use tests_rows::{Answer, Unread};
 
-fn call_kind(word: &str) -> Result<CallKind, Unread> {
+fn call_kind(word: &str) -> Option<CallKind> {
     match word {
-        "virtual" => Ok(CallKind::Virtual),
-        "interface" => Ok(CallKind::Interface),
-        "special" => Ok(CallKind::Special),
-        _ => Err(Unread::Line),
+        "virtual" => Some(CallKind::Virtual),
+        "interface" => Some(CallKind::Interface),
+        "special" => Some(CallKind::Special),
+        _ => None,
     }
 }
 
-/// What is asked of classes.
-fn of_classes(alloc: Global, p: &NamedProgram, q: &Question<'_>) -> Result<Option<String>, Unread> {
+/// Answers what is asked of classes; false where something else is.
+fn of_classes(p: &NamedProgram, q: &Question<'_>, answer: &mut Answer) -> bool {
     let (a, b) = (q.a.as_bytes(), q.b.as_bytes());
-    let found = match q.word {
-        "class" => debug(alloc, &p.class_of(a))?,
-        "super" => debug(alloc, &p.super_of(ClassRef::User(number(q.a)?)))?,
-        "is_name" => debug(alloc, &(p.name_of(ClassRef::User(number(q.a)?)) == b))?,
-        "main" => debug(alloc, &p.main_of(a))?,
-        "extends" => debug(alloc, &p.extends(a, b))?,
-        "implements" => debug(alloc, &implements(alloc, p, q.a, q.b)?)?,
-        "may_name" => debug(alloc, &p.may_name(a, b))?,
-        _ => return Ok(None),
-    };
-    Ok(Some(found))
+    match q.word {
+        "class" => answer.debug(&p.class_of(a)),
+        "super" => {
+            let class = ClassRef::User(answer.number(q.a));
+            answer.debug(&p.super_of(class));
+        }
+        "is_name" => {
+            let class = ClassRef::User(answer.number(q.a));
+            answer.debug(&(p.name_of(class) == b));
+        }
+        "main" => answer.debug(&p.main_of(a)),
+        "extends" => answer.debug(&p.extends(a, b)),
+        "implements" => implements(p, q, answer),
+        "may_name" => answer.debug(&p.may_name(a, b)),
+        _ => return false,
+    }
+    true
 }
 
-/// What is asked of members.
-fn of_own(alloc: Global, p: &NamedProgram, q: &Question<'_>) -> Result<Option<String>, Unread> {
-    let (a, b, c) = (q.a.as_bytes(), q.b.as_bytes(), q.c.as_bytes());
-    let found = match q.word {
-        "method_in" => debug(alloc, &p.method_in(b, c, a))?,
-        "field_in" => debug(alloc, &p.field_in(b, c, a))?,
-        "may_use" => debug(alloc, &p.may_use(a, method_of(q.b, q.c)?))?,
-        "select" => {
-            let method = method_of(q.b, q.c)?;
-            debug(alloc, &p.select(class_id(q.a)?, method, call_kind(q.d)?))?
-        }
-        _ => return Ok(None),
+/// What is selected where a method is called on a class.
+fn select(p: &NamedProgram, q: &Question<'_>, answer: &mut Answer) {
+    let Some(kind) = call_kind(q.d) else {
+        return answer.refuse();
     };
-    Ok(Some(found))
+    let class = class_id(q.a, answer);
+    let method = method_of(q.b, q.c, answer);
+    answer.debug(&p.select(class, method, kind));
+}
+
+/// Answers what is asked of members; false where something else is.
+fn of_own(p: &NamedProgram, q: &Question<'_>, answer: &mut Answer) -> bool {
+    let (a, b, c) = (q.a.as_bytes(), q.b.as_bytes(), q.c.as_bytes());
+    match q.word {
+        "method_in" => answer.debug(&p.method_in(b, c, a)),
+        "field_in" => answer.debug(&p.field_in(b, c, a)),
+        "may_use" => {
+            let method = method_of(q.b, q.c, answer);
+            answer.debug(&p.may_use(a, method));
+        }
+        "select" => select(p, q, answer),
+        _ => return false,
+    }
+    true
 }
 
 /// What a rule of classes says of one.
-fn of_rule(
-    alloc: Global,
-    p: &NamedProgram,
-    q: &Question<'_>,
-    class: &ClassParts,
-) -> Result<String, Unread> {
-    let kind = match q.word {
-        "missing" => p.missing_test(class),
-        "super_rule" => p.super_test(class),
-        "reserved" => p.reserved_test(alloc, class)?,
-        "taken" => p.taken_test(number(q.a)?, class),
-        "circle" => p.circle_test(alloc, class)?,
-        _ => return Err(Unread::Line),
+fn of_rule(p: &NamedProgram, q: &Question<'_>, class: &ClassParts, answer: &mut Answer) {
+    let alloc = answer.alloc();
+    let found = match q.word {
+        "missing" => Ok(p.missing_test(class)),
+        "super_rule" => Ok(p.super_test(class)),
+        "reserved" => p.reserved_test(alloc, class),
+        "taken" => Ok(p.taken_test(answer.number(q.a), class)),
+        "circle" => p.circle_test(alloc, class),
+        _ => return answer.refuse(),
     };
-    Ok(debug(alloc, &kind)?)
+    match found {
+        Ok(kind) => answer.debug(&kind),
+        Err(_) => answer.lack(),
+    }
 }
 
 /// What the rules of classes say: the first fault, or what one rule says of one class.
-fn of_rules(alloc: Global, p: &NamedProgram, q: &Question<'_>) -> Result<String, Unread> {
-    let fault = match q.word {
-        "names" => p.naming_fault(alloc)?,
-        "supers" => p.supers_fault(alloc)?,
-        "members" => members_fault(alloc, p)?,
+fn of_rules(p: &NamedProgram, q: &Question<'_>, answer: &mut Answer) {
+    let alloc = answer.alloc();
+    let found = match q.word {
+        "names" => p.naming_fault(alloc),
+        "supers" => p.supers_fault(alloc),
+        "members" => members_fault(alloc, p),
         _ => {
-            let Some(part) = p.parts().get(number(q.a)? as usize) else {
-                return Err(Unread::Line);
+            return match p.parts().get(answer.number::<u32>(q.a) as usize) {
+                Some(part) => of_rule(p, q, part.class.parts(), answer),
+                None => answer.refuse(),
             };
-            return of_rule(alloc, p, q, part.class.parts());
         }
     };
-    Ok(debug(alloc, &fault)?)
+    match found {
+        Ok(fault) => answer.debug(&fault),
+        Err(_) => answer.lack(),
+    }
 }
 
 fn program_of(alloc: Global, parts: Vec<CodePart>, side: Side) -> Result<NamedProgram, Unread> {
@@ -96,47 +115,34 @@ fn program_of(alloc: Global, parts: Vec<CodePart>, side: Side) -> Result<NamedPr
 }
 
 /// What is asked of a program by its parts.
-fn of_program(alloc: Global, p: &NamedProgram, q: &Question<'_>) -> Result<String, Unread> {
-    if let Some(found) = of_classes(alloc, p, q)? {
-        return Ok(found);
+fn of_program(p: &NamedProgram, q: &Question<'_>, answer: &mut Answer) {
+    let is_answered = of_classes(p, q, answer)
+        || of_own(p, q, answer)
+        || of_types(p, q, answer)
+        || of_members(p, q, answer);
+    if !is_answered {
+        of_rules(p, q, answer);
     }
-    if let Some(found) = of_own(alloc, p, q)? {
-        return Ok(found);
-    }
-    if let Some(found) = of_types(alloc, p, q)? {
-        return Ok(found);
-    }
-    if let Some(found) = of_members(alloc, p, q)? {
-        return Ok(found);
-    }
-    of_rules(alloc, p, q)
 }
 
 /// What is asked of a program that need not link.
-fn of_named(
-    alloc: Global,
-    parts: Vec<CodePart>,
-    side: Side,
-    question: &str,
-) -> Result<String, Unread> {
-    let p = program_of(alloc, parts, side)?;
-    let found = of_program(alloc, &p, &Question::of(question));
-    drop(p);
-    found
+fn of_named(parts: Vec<CodePart>, side: Side, question: &str, answer: &mut Answer) {
+    match program_of(answer.alloc(), parts, side) {
+        Ok(p) => {
+            of_program(&p, &Question::of(question), answer);
+            drop(p);
+        }
+        Err(why) => answer.fail(why),
+    }
 }
 
 /// What is asked of a program.
-pub fn answer(
-    alloc: Global,
-    parts: Vec<CodePart>,
-    side: Side,
-    question: &str,
-) -> Result<String, Unread> {
+pub fn ask(parts: Vec<CodePart>, side: Side, question: &str, answer: &mut Answer) {
     if question == "link" {
-        return fault_of(alloc, parts, side);
+        return fault_of(parts, side, answer);
     }
     match question.strip_prefix("linked ") {
-        Some(question) => of_linked(alloc, parts, side, &Question::of(question)),
-        None => of_named(alloc, parts, side, question),
+        Some(question) => of_linked(parts, side, &Question::of(question), answer),
+        None => of_named(parts, side, question, answer),
     }
 }

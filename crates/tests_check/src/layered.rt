@@ -2,13 +2,14 @@ ghost use Rattle.std.specs.Prelude.{◌≡◌, true};
 ghost use Rattle.jprogram.specs.Layers.{IsLayered};
 ghost use Rattle.jprogram.specs.Standing.{StandsInOrder};
 
-use crate::question::{Question, index, number};
+use crate::question::Question;
 use crate::used::of_pools;
 use jlinking::jreferring::code_fault;
 use jmeaning::juses::Uses;
 use jprogram::{Interfaces, NamedProgram, program_laws};
-use std::alloc::Global;
-use tests_rows::{Unread, debug};
+use std::alloc::{AllocError, Global};
+use std::fmt;
+use tests_rows::Answer;
 
 /// Whether the classes of a program stand in order.
 fn is_in_order(alloc: Global, program: &NamedProgram) -> bool
@@ -32,54 +33,55 @@ fn is_layered(alloc: Global, program: &NamedProgram) -> bool
 }
 
 /// Whether a class implements an interface.
-pub fn implements(
-    alloc: Global,
-    p: &NamedProgram,
-    class: &str,
-    interface: &str,
-) -> Result<bool, Unread> {
-    if !is_in_order(alloc, p) {
-        return Err(Unread::Line);
+pub fn implements(p: &NamedProgram, q: &Question<'_>, answer: &mut Answer) {
+    if !is_in_order(answer.alloc(), p) {
+        return answer.refuse();
     }
-    let table = Interfaces::of(alloc, p)?;
-    Ok(p.implements(&table, class.as_bytes(), interface.as_bytes()))
+    match Interfaces::of(answer.alloc(), p) {
+        Ok(table) => answer.debug(&p.implements(&table, q.a.as_bytes(), q.b.as_bytes())),
+        Err(_) => answer.lack(),
+    }
 }
 
-/// What members stand for, and the first fault of code.
-fn resolved(alloc: Global, p: &NamedProgram, q: &Question<'_>) -> Result<Option<String>, Unread>
+/// Tells what was found, where there was memory for it.
+fn tell<T: fmt::Debug>(found: Result<T, AllocError>, answer: &mut Answer) {
+    match found {
+        Ok(one) => answer.debug(&one),
+        Err(_) => answer.lack(),
+    }
+}
+
+/// Answers what members stand for, and the first fault of code; false where something else is asked.
+fn resolved(p: &NamedProgram, q: &Question<'_>, answer: &mut Answer) -> bool
     requires { IsLayered p.now }
 {
-    let found = match q.word {
-        "code" => debug(alloc, &code_fault(alloc, p)?)?,
-        "method" => {
-            let found = p.resolve_method(alloc, q.a.as_bytes(), q.b.as_bytes(), q.c.as_bytes())?;
-            debug(alloc, &found)?
-        }
-        "field" => {
-            let found = p.resolve_field(alloc, q.a.as_bytes(), q.b.as_bytes(), q.c.as_bytes())?;
-            debug(alloc, &found)?
-        }
+    let alloc = answer.alloc();
+    let (a, b, c) = (q.a.as_bytes(), q.b.as_bytes(), q.c.as_bytes());
+    match q.word {
+        "code" => tell(code_fault(alloc, p), answer),
+        "method" => tell(p.resolve_method(alloc, a, b, c), answer),
+        "field" => tell(p.resolve_field(alloc, a, b, c), answer),
         "reference" => {
-            let found = p.resolved(alloc, number(q.a)?, index(q.b)?)?;
-            debug(alloc, &found)?
+            let (class, i) = (answer.number(q.a), answer.number(q.b));
+            tell(p.resolved(alloc, class, i), answer);
         }
-        _ => return Ok(None),
-    };
-    Ok(Some(found))
+        _ => return false,
+    }
+    true
 }
 
-/// What is asked of a program whose members can be resolved; none where they can't.
-pub fn of_members(
-    alloc: Global,
-    p: &NamedProgram,
-    q: &Question<'_>,
-) -> Result<Option<String>, Unread> {
+/// Answers what is asked of a program whose members can be resolved; false where they can't, or something else is asked.
+pub fn of_members(p: &NamedProgram, q: &Question<'_>, answer: &mut Answer) -> bool {
+    let alloc = answer.alloc();
     if !is_layered(alloc, p) {
-        return Ok(None);
+        return false;
     }
-    if let Some(found) = resolved(alloc, p, q)? {
-        return Ok(Some(found));
+    if resolved(p, q, answer) {
+        return true;
     }
-    let uses = Uses::of(alloc, p)?;
-    of_pools(alloc, &uses, q)
+    let Ok(uses) = Uses::of(alloc, p) else {
+        answer.lack();
+        return true;
+    };
+    of_pools(&uses, q, answer)
 }

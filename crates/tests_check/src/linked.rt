@@ -1,13 +1,13 @@
 ghost use Rattle.std.specs.Prelude.{◌≡◌, IfOk};
 
-use crate::question::{Question, class_id, index, method_of, number};
+use crate::question::{Question, class_id, method_of};
 use jclass::ClassFile;
 use jlib::Side;
 use jlinking::jlink::{LinkError, LinkedProgram, are_parts, link, link_known};
 use jmeaning::juses::{code_at, instruction_at};
 use jprogram::{CallKind, ClassRef, CodePart, MethodId};
 use std::alloc::{AllocError, Global};
-use tests_rows::{Unread, debug, debug_pair};
+use tests_rows::{Answer, Unread};
 
 /// The one part of a program again.
 fn copied(alloc: Global, parts: &[CodePart]) -> Result<Vec<CodePart>, AllocError>
@@ -34,70 +34,72 @@ fn again(alloc: Global, program: &LinkedProgram) -> Result<LinkedProgram, AllocE
     }
 }
 
-/// The numbers of a method's code: its maxima, its instructions, its handlers and its attributes.
-fn sizes(alloc: Global, p: &LinkedProgram, m: MethodId) -> Result<String, AllocError> {
+/// Tells the numbers of a method's code: its maxima, its instructions, its handlers and its attributes.
+fn tell_sizes(p: &LinkedProgram, m: MethodId, answer: &mut Answer) {
     let Some(code) = code_at(p.named(), m) else {
-        return String::from_str(alloc, "None");
+        return answer.tell("None");
     };
-    let (ops, handlers) = (code.ops.len(), code.handlers.len());
-    format!(in alloc;
-        "{} {} {ops} {handlers} {}",
-        code.max_stack,
-        code.max_locals,
-        code.attributes.len()
-    )
+    answer.debug_pair(&code.max_stack, &code.max_locals);
+    answer.spaced(&code.ops.len());
+    answer.spaced(&code.handlers.len());
+    answer.spaced(&code.attributes.len());
 }
 
-/// What is asked of a program that links.
-fn answer(alloc: Global, p: &LinkedProgram, q: &Question<'_>) -> Result<String, Unread> {
+/// Answers what is asked of the code and of the pool of a program that links.
+fn of_code(p: &LinkedProgram, q: &Question<'_>, answer: &mut Answer) {
+    let class = answer.number(q.a);
+    if q.word == "member_at" {
+        let i = answer.number(q.b);
+        return answer.debug(&p.uses().member_at(class, i));
+    }
+    let method = answer.number(q.b);
+    let m = MethodId { class, method };
+    if q.word == "sizes" {
+        return tell_sizes(p, m, answer);
+    }
+    if q.word != "instruction" {
+        return answer.refuse();
+    }
+    let place = answer.number(q.c);
+    match instruction_at(answer.alloc(), p.named(), p.uses(), m, place) {
+        Ok(one) => answer.debug(&one),
+        Err(_) => answer.lack(),
+    }
+}
+
+/// Answers what is asked of a program that links.
+fn of_program(p: &LinkedProgram, q: &Question<'_>, answer: &mut Answer) {
     let name = q.a.as_bytes();
-    Ok(match q.word {
-        "side" => debug_pair(alloc, &p.side(), &p.parts().len())?,
-        "class" => debug(alloc, &p.class_of(name))?,
-        "main" => debug(alloc, &p.main_of(name))?,
+    match q.word {
+        "side" => answer.debug_pair(&p.side(), &p.parts().len()),
+        "class" => answer.debug(&p.class_of(name)),
+        "main" => answer.debug(&p.main_of(name)),
         "is_name" => {
-            let is = p.name_of(ClassRef::User(number(q.a)?)) == q.b.as_bytes();
-            debug(alloc, &is)?
+            let class = ClassRef::User(answer.number(q.a));
+            answer.debug(&(p.name_of(class) == q.b.as_bytes()));
         }
         "select" => {
-            let method = method_of(q.b, q.c)?;
-            debug(alloc, &p.select(class_id(q.a)?, method, CallKind::Virtual))?
+            let class = class_id(q.a, answer);
+            let method = method_of(q.b, q.c, answer);
+            answer.debug(&p.select(class, method, CallKind::Virtual));
         }
-        _ => of_code(alloc, p, q)?,
-    })
-}
-
-/// What is asked of the code and of the pool of a program that links.
-fn of_code(alloc: Global, p: &LinkedProgram, q: &Question<'_>) -> Result<String, Unread> {
-    let (class, method) = (number(q.a)?, number(q.b)?);
-    let m = MethodId { class, method };
-    match q.word {
-        "sizes" => Ok(sizes(alloc, p, m)?),
-        "member_at" => {
-            let i = index(q.b)?;
-            Ok(debug(alloc, &p.uses().member_at(class, i))?)
-        }
-        "instruction" => {
-            let one = instruction_at(alloc, p.named(), p.uses(), m, number(q.c)?)?;
-            Ok(debug(alloc, &one)?)
-        }
-        _ => Err(Unread::Line),
+        _ => of_code(p, q, answer),
     }
 }
 
 /// The first broken rule of linking where parts don't link.
-pub fn fault_of(alloc: Global, parts: Vec<CodePart>, side: Side) -> Result<String, Unread> {
+pub fn fault_of(parts: Vec<CodePart>, side: Side, answer: &mut Answer) {
     if !are_parts(&parts) {
         drop(parts);
-        return Err(Unread::Line);
+        return answer.refuse();
     }
-    match link(alloc, parts, side) {
+    match link(answer.alloc(), parts, side) {
         Ok(program) => {
             drop(program);
-            Ok(String::from_str(alloc, "it links")?)
+            answer.tell("it links");
         }
-        Err(LinkError::At(fault)) => Ok(debug(alloc, &fault)?),
-        Err(LinkError::Memory) => Err(Unread::Memory),
+        Err(LinkError::At(fault)) => answer.debug(&fault),
+        Err(LinkError::Memory) => answer.lack(),
     }
 }
 
@@ -114,33 +116,38 @@ fn linked(alloc: Global, parts: Vec<CodePart>, side: Side) -> Result<LinkedProgr
     }
 }
 
+/// What is answered of a program.
+fn answer_of(alloc: Global, p: &LinkedProgram, q: &Question<'_>) -> Result<String, Unread> {
+    let mut answer = Answer::new(alloc);
+    of_program(p, q, &mut answer);
+    answer.into_text()
+}
+
 /// What is answered of the same program, of its own parts, which are known to link.
 fn answer_again(alloc: Global, p: &LinkedProgram, q: &Question<'_>) -> Result<String, Unread> {
     let same = again(alloc, p)?;
-    let found = answer(alloc, &same, q);
+    let found = answer_of(alloc, &same, q);
     drop(same);
     found
 }
 
 /// What is answered of a program, where its own parts, made a program again, have the same answer.
-fn both(alloc: Global, p: &LinkedProgram, q: &Question<'_>) -> Result<String, Unread> {
-    let found = answer(alloc, p, q)?;
-    let other = answer_again(alloc, p, q)?;
-    if other.as_str() != found.as_str() {
-        return Ok(String::from_str(alloc, "another one, made again")?);
+fn of_both(p: &LinkedProgram, q: &Question<'_>, answer: &mut Answer) {
+    let alloc = answer.alloc();
+    match (answer_of(alloc, p, q), answer_again(alloc, p, q)) {
+        (Ok(one), Ok(other)) if one.as_str() == other.as_str() => answer.tell(one.as_str()),
+        (Ok(_), Ok(_)) => answer.tell("another one, made again"),
+        (Err(why), _) | (_, Err(why)) => answer.fail(why),
     }
-    Ok(found)
 }
 
 /// What is asked of a program of one part that links: the same where it is made again of what is known to link.
-pub fn of_linked(
-    alloc: Global,
-    parts: Vec<CodePart>,
-    side: Side,
-    q: &Question<'_>,
-) -> Result<String, Unread> {
-    let program = linked(alloc, parts, side)?;
-    let found = both(alloc, &program, q);
-    drop(program);
-    found
+pub fn of_linked(parts: Vec<CodePart>, side: Side, q: &Question<'_>, answer: &mut Answer) {
+    match linked(answer.alloc(), parts, side) {
+        Ok(program) => {
+            of_both(&program, q, answer);
+            drop(program);
+        }
+        Err(why) => answer.fail(why),
+    }
 }

@@ -1,5 +1,5 @@
 use jprogram::{ClassId, Member, MethodId};
-use tests_rows::Unread;
+use tests_rows::Answer;
 
 /// A question: its word, and up to four words behind it, which are empty where they aren't there.
 #[derive(Clone, Copy)]
@@ -30,34 +30,18 @@ impl<'a> Question<'a> {
     }
 }
 
-/// The number that is written so.
-pub fn number(word: &str) -> Result<u32, Unread> {
-    match word.parse::<u32>() {
-        Ok(n) => Ok(n),
-        Err(_) => Err(Unread::Line),
-    }
-}
-
-/// The index into a pool that is written so.
-pub fn index(word: &str) -> Result<u16, Unread> {
-    match word.parse::<u16>() {
-        Ok(n) => Ok(n),
-        Err(_) => Err(Unread::Line),
-    }
-}
-
 /// A method by the numbers of its class and of its own.
-pub fn method_of(class: &str, method: &str) -> Result<Member, Unread> {
-    Ok(Member::Method(MethodId {
-        class: number(class)?,
-        method: number(method)?,
-    }))
+pub fn method_of(class: &str, method: &str, answer: &mut Answer) -> Member {
+    Member::Method(MethodId {
+        class: answer.number(class),
+        method: answer.number(method),
+    })
 }
 
 /// The class of an object: a number, or an array.
-pub fn class_id(word: &str) -> Result<ClassId, Unread> {
+pub fn class_id(word: &str, answer: &mut Answer) -> ClassId {
     match word {
-        "array" => Ok(ClassId::Array),
-        _ => Ok(ClassId::User(number(word)?)),
+        "array" => ClassId::Array,
+        _ => ClassId::User(answer.number(word)),
     }
 }

@@ -1,11 +1,11 @@
-use crate::asked::answer;
+use crate::asked::ask;
 use crate::judging::{Verdict, judged, part_of};
 use crate::rows::Row;
 use crate::words::put_u16;
 use jlib::Side;
 use jprogram::CodePart;
 use std::alloc::{AllocError, Global};
-use tests_rows::{Unread, hex_of, put_hex};
+use tests_rows::{Answer, Unread, hex_of, put_hex};
 
 /// Bytes with a name: a class file, or what stands before a method's attributes.
 #[derive(Drop)]
@@ -167,8 +167,9 @@ impl Table {
             return Err(Unread::Line);
         };
         let parts = self.parts(alloc, self.over.as_str())?;
-        let found = answer(alloc, parts, self.side, question)?;
-        Ok(Line::Row(Group::Answered, question, wanted, found))
+        let mut answer = Answer::new(alloc);
+        ask(parts, self.side, question, &mut answer);
+        Ok(Line::Row(Group::Answered, question, wanted, answer.into_text()?))
     }
 
     /// The classes of which the lines behind ask something. What they show stands behind them.

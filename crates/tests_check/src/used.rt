@@ -1,51 +1,58 @@
-use crate::question::{Question, index, number};
+use crate::question::Question;
 use jmeaning::juses::{ArrayRef, ElementRef, TypeRef, Use, Uses, stands_below, type_fits};
 use jparts::jcode::{CallOp, CastOp, FieldOp, PoolForm};
 use jprogram::{ClassRef, NamedProgram};
-use std::alloc::Global;
-use tests_rows::{Unread, debug};
+use tests_rows::{Answer, Unread};
 
 /// What an instruction of a name says of an entry.
-fn form_of(name: &str, i: u16) -> Result<PoolForm, Unread> {
+fn form_of(name: &str, i: u16) -> Option<PoolForm> {
     match name {
-        "ldc" => Ok(PoolForm::Constant(i)),
-        "ldc2_w" => Ok(PoolForm::LongConstant(i)),
-        "getfield" => Ok(PoolForm::Field(FieldOp::GetField, i)),
-        "new" => Ok(PoolForm::New(i)),
-        "instanceof" => Ok(PoolForm::Cast(CastOp::InstanceOf, i)),
-        "checkcast" => Ok(PoolForm::Cast(CastOp::CheckCast, i)),
-        "invokevirtual" => Ok(PoolForm::Call(CallOp::Virtual, i)),
-        "invokespecial" => Ok(PoolForm::Call(CallOp::Special, i)),
-        _ => Err(Unread::Line),
+        "ldc" => Some(PoolForm::Constant(i)),
+        "ldc2_w" => Some(PoolForm::LongConstant(i)),
+        "getfield" => Some(PoolForm::Field(FieldOp::GetField, i)),
+        "new" => Some(PoolForm::New(i)),
+        "instanceof" => Some(PoolForm::Cast(CastOp::InstanceOf, i)),
+        "checkcast" => Some(PoolForm::Cast(CastOp::CheckCast, i)),
+        "invokevirtual" => Some(PoolForm::Call(CallOp::Virtual, i)),
+        "invokespecial" => Some(PoolForm::Call(CallOp::Special, i)),
+        _ => None,
     }
 }
 
-/// A use as a text: of a call how, the class by which it is named, what it calls, its parameters with the last one first, and its result.
-fn shown(alloc: Global, uses: &Uses, one: Option<Use>) -> Result<String, Unread> {
+/// Tells a use: of a call how, the class by which it is named, what it calls, its parameters with the last one first, and its result.
+fn tell_use(uses: &Uses, one: Option<Use>, answer: &mut Answer) {
     let Some(Use::Call(how, call)) = one else {
-        return Ok(debug(alloc, &one)?);
+        return answer.debug(&one);
     };
-    let params = uses.params(call.params);
-    Ok(format!(in alloc;
-        "{how:?} {:?} {:?} {params:?} {:?}",
-        call.owner, call.member, call.ret
-    )?)
+    answer.debug_pair(&how, &call.owner);
+    answer.spaced(&call.member);
+    answer.spaced(&uses.params(call.params));
+    answer.spaced(&call.ret);
 }
 
-/// What is asked of the entries of pools.
-pub fn of_pools(alloc: Global, uses: &Uses, q: &Question<'_>) -> Result<Option<String>, Unread> {
-    let (class, i) = match q.word {
-        "use" => (number(q.a)?, index(q.c)?),
-        "class_at" | "array_at" | "member_at" => (number(q.a)?, index(q.b)?),
-        _ => return Ok(None),
-    };
-    let found = match q.word {
-        "class_at" => debug(alloc, &uses.class_at(class, i))?,
-        "array_at" => debug(alloc, &uses.array_use_at(class, i))?,
-        "member_at" => debug(alloc, &uses.member_at(class, i))?,
-        _ => shown(alloc, uses, uses.use_at(class, form_of(q.b, i)?))?,
-    };
-    Ok(Some(found))
+/// The use of an entry by an instruction of a name.
+fn of_use(uses: &Uses, class: u32, name: &str, i: u16, answer: &mut Answer) {
+    match form_of(name, i) {
+        Some(form) => tell_use(uses, uses.use_at(class, form), answer),
+        None => answer.refuse(),
+    }
+}
+
+/// Answers what is asked of the entries of pools; false where something else is.
+pub fn of_pools(uses: &Uses, q: &Question<'_>, answer: &mut Answer) -> bool {
+    match q.word {
+        "use" | "class_at" | "array_at" | "member_at" => {}
+        _ => return false,
+    }
+    let class = answer.number(q.a);
+    let i = answer.number(if q.word == "use" { q.c } else { q.b });
+    match q.word {
+        "class_at" => answer.debug(&uses.class_at(class, i)),
+        "array_at" => answer.debug(&uses.array_use_at(class, i)),
+        "member_at" => answer.debug(&uses.member_at(class, i)),
+        _ => of_use(uses, class, q.b, i, answer),
+    }
+    true
 }
 
 /// What an array holds, or an object's class, by its name.
@@ -82,16 +89,22 @@ fn type_of(p: &NamedProgram, name: &str) -> Result<TypeRef, Unread> {
     }
 }
 
-/// What is asked of two types or of two classes, by their names.
-pub fn of_types(
-    alloc: Global,
-    p: &NamedProgram,
-    q: &Question<'_>,
-) -> Result<Option<String>, Unread> {
-    let is = match q.word {
-        "fits" => type_fits(p, type_of(p, q.a)?, type_of(p, q.b)?),
-        "below" => stands_below(p, class_of(p, q.a)?, class_of(p, q.b)?),
-        _ => return Ok(None),
-    };
-    Ok(Some(debug(alloc, &is)?))
+/// Whether a type fits another, or a class stands below another, by their names.
+fn is(p: &NamedProgram, q: &Question<'_>) -> Result<bool, Unread> {
+    if q.word == "fits" {
+        return Ok(type_fits(p, type_of(p, q.a)?, type_of(p, q.b)?));
+    }
+    Ok(stands_below(p, class_of(p, q.a)?, class_of(p, q.b)?))
+}
+
+/// Answers what is asked of two types or of two classes; false where something else is asked.
+pub fn of_types(p: &NamedProgram, q: &Question<'_>, answer: &mut Answer) -> bool {
+    if q.word != "fits" && q.word != "below" {
+        return false;
+    }
+    match is(p, q) {
+        Ok(is) => answer.debug(&is),
+        Err(why) => answer.fail(why),
+    }
+    true
 }
