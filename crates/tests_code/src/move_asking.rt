@@ -177,12 +177,13 @@ fn of_given(
     kinds: &[Expand],
     domain: u32,
     mut pool: Adder,
-    (word, rest): (&str, &str),
+    words: (&str, &str),
     answer: &mut Answer,
 )
     requires can { CanMove m.now kinds.now }
     requires domain { domain < 4096 }
 {
+    let (word, rest) = words;
     let came = move_method(answer.alloc(), m, kinds, domain, &mut pool);
     let pool = pool.into_pool();
     if word == "limits" {

@@ -34,7 +34,7 @@ enum Described {
     Array,
     Field,
     /// That of a method, whose parameters take so many slots.
-    Method(u32),
+    Method(usize),
     None,
     /// Tests that can't both hold do, or two that say the same differ.
     Otherwise,
