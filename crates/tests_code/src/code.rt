@@ -77,7 +77,7 @@ fn tell_asked(asked: Asked, ops: &[Placed], answer: &mut Answer) {
 }
 
 /// What is asked of a code that is one.
-pub fn asked(asked: Asked, words: &str, answer: &mut Answer) {
+pub fn ask(asked: Asked, words: &str, answer: &mut Answer) {
     let bytes = answer.bytes(words);
     match decode(answer.alloc(), bytes.as_slice()) {
         Ok(ops) => {
