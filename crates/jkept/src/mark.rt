@@ -12,7 +12,7 @@ impl InspectMark {
     pub(crate) fn is(&self, other: &InspectMark) -> bool
         ensures { IsTrue result → self.now ≡ other.now }
     {
-        self.domain == other.domain && is_same(self.privileged, other.privileged)
+        is_same(self.privileged, other.privileged) && self.domain == other.domain
     }
 }
 

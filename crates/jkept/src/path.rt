@@ -22,20 +22,20 @@ pub struct Path {
     pub frames: Vec<Noted>,
 }
 
-/// How many of the oldest marks are those of the frames.
+/// How many of the oldest marks are those of the frames. Each snapshot goes through all of a stack here, so that this stays a function of
+/// its own, whose loop lies alike in every program.
+#[inline(never)]
 fn common(frames: &[Noted], marks: &[InspectMark]) -> usize
     ensures within { result ≤ length marks.now }
     ensures same { marks_of (take result frames.now) ≡ take result marks.now }
 {
-    for (n, mark) in marks.iter().enumerate() {
-        if n == frames.len() {
-            return n;
-        }
-        if !frames[n].mark.is(mark) {
+    let most = frames.len().min(marks.len());
+    for n in 0..most {
+        if !frames[n].mark.is(&marks[n]) {
             return n;
         }
     }
-    marks.len()
+    most
 }
 
 impl Path {

@@ -5,7 +5,7 @@ use Rattle.std.proofs.lemmas.List.{length-append, length-drop, length-map, lengt
 use Rattle.std.proofs.lemmas.Option.{slice_get-map, slice_get_read, get_or_from_slice_get}
 use Rattle.jtable.specs.declared.lists.Entry.{Entry}
 use Rattle.jtable.specs.declared.pairs.Pair.{Pair}
-use Rattle.jtable.specs.Lists.{AreWithin, BeginsWith, Extends, IsHead, KeepHeads, list_of, lists_of}
+use Rattle.jtable.specs.Lists.{AreWithin, BeginsWith, Extends, KeepFronts, KeepsFront, list_of, lists_of}
 use Rattle.jtable.proofs.Tabling.{stands, Old, Last}
 
 get_front : {T : Type 0} (n i : ℕ) (xs : List T) → i < n → slice_get (take n xs) i ≡ slice_get xs i
@@ -56,8 +56,14 @@ module _ (pairs : List Pair) (entries : List Entry) (now : List (List Pair)) (n 
   pub pair_here : (i : ℕ) → i < length (get_or now n []) → slice_get pairs (e.first + i) ≡ slice_get (get_or now n []) i
   pair_here i below = sym (pair_of pairs e i (omega (arith, below, count_here))) ∙ ap (λ (l : List Pair). slice_get l i) list_here
 
-  pub head_here : KeepHeads pairs entries → 0 < length (get_or now n []) → Some e.head ≡ slice_get (get_or now n []) 0
-  head_here keep some = subst (λ (l : List Pair). IsHead l e.head) list_here (keep n e entry_there) some
+  front_here : KeepFronts pairs entries → KeepsFront (get_or now n []) e
+  front_here keep = subst (λ (l : List Pair). KeepsFront l e) list_here (keep n e entry_there)
+
+  pub head_here : KeepFronts pairs entries → 0 < length (get_or now n []) → Some e.head ≡ slice_get (get_or now n []) 0
+  head_here keep some = (front_here keep).0 some
+
+  pub next_here : KeepFronts pairs entries → 1 < length (get_or now n []) → Some e.next ≡ slice_get (get_or now n []) 1
+  next_here keep some = (front_here keep).1 some
 
   -- what begins the pairs from a place on begins the list from there on
   pub run_here : (i : ℕ) (run : List Pair) → i < length (get_or now n []) → BeginsWith (take (e.count - i) (drop (e.first + i) pairs)) run → BeginsWith (drop i (get_or now n [])) run
@@ -89,8 +95,8 @@ pub stay_within : (old new : List Pair) (entries : List Entry) → AreWithin (le
 stay_within old new entries within extends i e is =
     omega (arith, within i e is, ap length extends.is, length-append old extends.more)
 
-pub stay_heads : (old new : List Pair) (entries : List Entry) → AreWithin (length old) entries → KeepHeads old entries → Extends old new → KeepHeads new entries
-stay_heads old new entries within keep extends i e is = subst (λ (l : List Pair). IsHead l e.head) (sym same) (keep i e is)
+pub stay_fronts : (old new : List Pair) (entries : List Entry) → AreWithin (length old) entries → KeepFronts old entries → Extends old new → KeepFronts new entries
+stay_fronts old new entries within keep extends i e is = subst (λ (l : List Pair). KeepsFront l e) (sym same) (keep i e is)
   where
     same : list_of new e ≡ list_of old e
     same = ap (λ (ps : List Pair). list_of ps e) extends.is ∙ list_stays old extends.more e (within i e is)
@@ -119,16 +125,16 @@ pushed_within old new list entries e within is first count i x at = by_case (sta
     by_case (inl o) = omega (arith, within i x o.old, long)
     by_case (inr l) = subst (λ (y : Entry). y.first + y.count ≤ length new) l.is (omega (arith, first, count, long))
 
-pub pushed_heads : (old new list : List Pair) (entries : List Entry) (e : Entry) → AreWithin (length old) entries → KeepHeads old entries → new ≡ old ++ list → e.first ≡ length old
-    → e.count ≡ length list → IsHead list e.head → KeepHeads new (entries ++ e ∷ [])
-pushed_heads old new list entries e within keep is first count head i x at = by_case (stands entries e i x at)
+pub pushed_fronts : (old new list : List Pair) (entries : List Entry) (e : Entry) → AreWithin (length old) entries → KeepFronts old entries → new ≡ old ++ list → e.first ≡ length old
+    → e.count ≡ length list → KeepsFront list e → KeepFronts new (entries ++ e ∷ [])
+pushed_fronts old new list entries e within keep is first count head i x at = by_case (stands entries e i x at)
   where
     here : list_of new e ≡ list
     here = ap (λ (ps : List Pair). list_of ps e) is ∙ last_list old list e first count
 
-    by_case : Old entries i x ⊎ Last entries e i x → IsHead (list_of new x) x.head
-    by_case (inl o) = stay_heads old new entries within keep (record { more = list; is = is }) i x o.old
-    by_case (inr l) = subst (λ (y : Entry). IsHead (list_of new y) y.head) l.is (subst (λ (ps : List Pair). IsHead ps e.head) (sym here) head)
+    by_case : Old entries i x ⊎ Last entries e i x → KeepsFront (list_of new x) x
+    by_case (inl o) = stay_fronts old new entries within keep (record { more = list; is = is }) i x o.old
+    by_case (inr l) = subst (λ (y : Entry). KeepsFront (list_of new y) y) l.is (subst (λ (ps : List Pair). KeepsFront ps e) (sym here) head)
 
 -- what holds of each entry holds of those that are kept
 cut_each : (P : Entry → Type 0) (count : ℕ) (entries : List Entry) → ((i : ℕ) (e : Entry) → slice_get entries i ≡ Some e → P e)
@@ -141,8 +147,8 @@ cut_each P (suc count) (x ∷ entries) each (suc i) e is = cut_each P count entr
 pub cut_within : (count n : ℕ) (entries : List Entry) → AreWithin n entries → AreWithin n (take count entries)
 cut_within count n entries within = cut_each (λ (e : Entry). e.first + e.count ≤ n) count entries within
 
-pub cut_heads : (count : ℕ) (pairs : List Pair) (entries : List Entry) → KeepHeads pairs entries → KeepHeads pairs (take count entries)
-cut_heads count pairs entries keep = cut_each (λ (e : Entry). IsHead (list_of pairs e) e.head) count entries keep
+pub cut_fronts : (count : ℕ) (pairs : List Pair) (entries : List Entry) → KeepFronts pairs entries → KeepFronts pairs (take count entries)
+cut_fronts count pairs entries keep = cut_each (λ (e : Entry). KeepsFront (list_of pairs e) e) count entries keep
 
 pub cut_lists : (count : ℕ) (pairs : List Pair) (entries : List Entry) → lists_of pairs (take count entries) ≡ take count (lists_of pairs entries)
 cut_lists zero pairs entries = refl

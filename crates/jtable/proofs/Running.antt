@@ -1,5 +1,5 @@
 -- Lists that are gone through run by run.
-use Rattle.std.proofs.Common.{◌≡◌, ◌∙◌, ◌+◌, ◌≤◌, ℕ, zero, suc, Bool, true, false, ◌&&◌, ◌==◌, cond, List, [], ◌∷◌, ◌++◌, length, drop, take, map, not, Some, refl, sym, ap, ap₂, arith, append_assoc}
+use Rattle.std.proofs.Common.{◌≡◌, ◌∙◌, ◌+◌, ◌≤◌, ℕ, zero, suc, Bool, true, false, ◌&&◌, ◌==◌, cond, List, [], ◌∷◌, ◌++◌, length, drop, take, map, not, Some, refl, sym, subst, ap, ap₂, arith, append-nil, append_assoc}
 use Rattle.std.specs.Prelude.{slice_get}
 use Rattle.std.proofs.lemmas.List.{length-append, length-drop, length-take-le, drop-drop, map-append, take-append-drop}
 use Rattle.std.proofs.lemmas.List.Elements.{filter-append}
@@ -41,6 +41,14 @@ named_take count (suc n) (x ∷ xs) named (suc i) p is = named_take count n xs (
 
 pub named_drop : (count n : ℕ) (xs : List Pair) → AreNamed count xs → AreNamed count (drop n xs)
 named_drop count n xs named i p is = named (n + i) p (sym (get_behind n i xs) ∙ is)
+
+named_front : (count : ℕ) (xs ys : List Pair) → AreNamed count (xs ++ ys) → AreNamed count xs
+named_front count [] ys named i p is = cc
+named_front count (x ∷ xs) ys named zero p is = named zero p is
+named_front count (x ∷ xs) ys named (suc i) p is = named_front count xs ys (λ j q e. named (suc j) q e) i p is
+
+pub named_run : (count i : ℕ) (list run : List Pair) → BeginsWith (drop i list) run → AreNamed count list → AreNamed count run
+named_run count i list run begins named = named_front count run begins.more (subst (λ (l : List Pair). AreNamed count l) begins.is (named_drop count i list named))
 
 -- ---- items of other domains
 
@@ -105,6 +113,25 @@ two_decides f has asked [] p q two is next = absurd (omega (arith, two))
 two_decides f has asked (a ∷ []) p q two is next = absurd (omega (arith, two))
 two_decides f has asked (a ∷ b ∷ []) p q two is next = cc
 two_decides f has asked (a ∷ b ∷ c ∷ list) p q two is next = absurd (omega (arith, two))
+
+-- a run that is no shorter than a list that it begins is all of it
+module _ {T : Type 0} (list run : List T) where
+  without_more : (more : List T) → list ≡ run ++ more → length list ≤ length run → list ≡ run
+  without_more [] is all = is ∙ append-nil run
+  without_more (x ∷ more) is all = absurd (omega (arith, all, ap length is, length-append run (x ∷ more)))
+
+  whole_run : BeginsWith list run → length list ≤ length run → list ≡ run
+  whole_run begins all = without_more begins.more begins.is all
+
+-- the first two pairs of a list and all that are behind them decide as their items do
+pub all_decides : (f : Pair → Item) (has : ℕ → Permission → Bool) (asked : Permission) (list : List Pair) (p q : Pair) (run : List Pair)
+    → Some p ≡ slice_get list 0 → Some q ≡ slice_get list 1 → BeginsWith (drop 2 list) run → length list ≤ 2 + length run
+    → verdict has asked (f p ∷ f q ∷ map f run) ≡ verdict has asked (map f list)
+all_decides f has asked [] p q run is next begins all = cc
+all_decides f has asked (a ∷ []) p q run is next begins all = cc
+all_decides f has asked (a ∷ b ∷ list) p q run is next begins all =
+    let rest : list ≡ run = whole_run list run begins (omega (arith, all)) in
+    cc
 
 -- ---- runs that are compared
 

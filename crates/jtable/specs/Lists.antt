@@ -14,13 +14,16 @@ lists_of pairs entries = map (list_of pairs) entries
 abbrev pub AreWithin : ℕ → List Entry → Type 0
 AreWithin count entries = (i : ℕ) (e : Entry) → slice_get entries i ≡ Some e → e.first + e.count ≤ count
 
--- A pair is a list's first, where that has one.
-abbrev pub IsHead : List Pair → Pair → Type 0
-IsHead list pair = 0 < length list → Some pair ≡ slice_get list 0
+-- A pair is the one at a place of a list, where that has so many.
+abbrev pub IsAt : ℕ → List Pair → Pair → Type 0
+IsAt i list pair = i < length list → Some pair ≡ slice_get list i
 
--- Each entry keeps its list's first pair.
-abbrev pub KeepHeads : List Pair → List Entry → Type 0
-KeepHeads pairs entries = (i : ℕ) (e : Entry) → slice_get entries i ≡ Some e → IsHead (list_of pairs e) e.head
+-- An entry keeps its list's first two pairs.
+abbrev pub KeepsFront : List Pair → Entry → Type 0
+KeepsFront list e = IsAt 0 list e.head × IsAt 1 list e.next
+
+abbrev pub KeepFronts : List Pair → List Entry → Type 0
+KeepFronts pairs entries = (i : ℕ) (e : Entry) → slice_get entries i ≡ Some e → KeepsFront (list_of pairs e) e
 
 -- A list is another one with more behind.
 pub record Extends {T : Type 0} (old new : List T) : Type 0 where

@@ -1,16 +1,17 @@
 ghost use Rattle.std.specs.Prelude.{◌≡◌, ◌<◌, ◌≤◌, ◌∷◌, ◌++◌, [], OnErr, OnOk, Some, drop, get_or, length, slice_get, take};
-ghost use Rattle.jtable.specs.Lists.{BeginsWith, Extends, IsHead};
+ghost use Rattle.jtable.specs.Lists.{BeginsWith, Extends, IsAt};
 
 use crate::pairs::{Pair, Pairs};
 use std::alloc::{AllocError, Global};
 use std::marker::Model;
 
-/// A list of pairs: the place of its first, how many they are, and its first itself. Without pairs that is any.
+/// A list of pairs: the place of its first, how many they are, and its first two themselves. Where it has fewer, these are any.
 #[derive(Clone, Copy)]
 pub struct Entry {
     first: usize,
     count: usize,
     head: Pair,
+    next: Pair,
 }
 
 /// Lists of pairs by number. Contracts see the list of them.
@@ -23,13 +24,13 @@ pub struct Lists {
 impl Model for Lists {
     ghost use Rattle.std.specs.Prelude.{List, length};
     ghost use Rattle.jtable.specs.declared.pairs.Pair.{Pair};
-    ghost use Rattle.jtable.specs.Lists.{AreWithin, KeepHeads, lists_of};
+    ghost use Rattle.jtable.specs.Lists.{AreWithin, KeepFronts, lists_of};
 
     ghost Value = { List (List Pair) };
 
     ghost view = { λ l. lists_of l.pairs l.entries.items };
 
-    ghost invariant = { λ l. AreWithin (length l.pairs) l.entries.items × KeepHeads l.pairs l.entries.items };
+    ghost invariant = { λ l. AreWithin (length l.pairs) l.entries.items × KeepFronts l.pairs l.entries.items };
 }
 
 /// Puts pairs behind the others. After an error some of them are there.
@@ -43,13 +44,13 @@ fn push_all(alloc: Global, pairs: &mut Pairs, list: &[Pair]) -> Result<(), Alloc
     Ok(())
 }
 
-/// A list's first pair, or any where it has none.
-fn head_of(list: &[Pair]) -> Pair
-    ensures { IsHead list.now result }
+/// A list's pair at a place, or any where it has none there.
+fn pair_at(list: &[Pair], i: usize) -> Pair
+    ensures { IsAt i list.now result }
 {
-    match list {
-        [pair, ..] => *pair,
-        [] => Pair {
+    match list.get(i) {
+        Some(pair) => *pair,
+        None => Pair {
             limits: 0,
             domain: 0,
         },
@@ -94,6 +95,16 @@ impl Lists {
         self.entries[n].head
     }
 
+    /// The second pair of a list. It is there.
+    #[inline]
+    pub fn next(&self, n: usize) -> Pair
+        requires list { n < length self.now }
+        requires pair { 1 < length (get_or self.now n []) }
+        ensures { Some result ≡ slice_get (get_or self.now n []) 1 }
+    {
+        self.entries[n].next
+    }
+
     /// A pair of a list. It is there.
     #[inline]
     pub fn read(&self, n: usize, i: usize) -> Pair
@@ -128,8 +139,14 @@ impl Lists {
         let first = self.pairs.len();
         let count = list.len();
         push_all(alloc, &mut self.pairs, list)?;
-        let head = head_of(list);
-        self.entries.push(Entry { first, count, head })?;
+        let head = pair_at(list, 0);
+        let next = pair_at(list, 1);
+        self.entries.push(Entry {
+            first,
+            count,
+            head,
+            next,
+        })?;
         Ok(())
     }
 

@@ -353,7 +353,31 @@ fn decide_two(
     decide_item(sets, second, domains, asked)
 }
 
-/// What a list decides for a permission. One of one or two items is decided without runs, and one that lies in one region as a whole.
+/// What two items and those behind them decide for a permission.
+fn decide_all(
+    sets: &Sets,
+    head: Pair,
+    next: Pair,
+    behind: &[Pair],
+    domains: &Domains,
+    asked: &Permission,
+) -> Verdict
+    requires head { head.limits < length sets.now }
+    requires next { next.limits < length sets.now }
+    requires behind { AreNamed (length sets.now) behind.now }
+    ensures { result ≡ contexts.verdict (has domains.now) asked.now (items_of sets.now (head ∷ next ∷ behind.now)) }
+{
+    if fails(sets, head, domains, asked) {
+        return Verdict::Denied(head.domain);
+    }
+    if fails(sets, next, domains, asked) {
+        return Verdict::Denied(next.domain);
+    }
+    decide_run(sets, behind, domains, asked)
+}
+
+/// What a list decides for a permission. One of one or two items is decided without runs, and one that lies in one region as a whole: its
+/// first two items need no look into the region.
 pub fn decide(
     sets: &Sets,
     lists: &Lists,
@@ -366,18 +390,19 @@ pub fn decide(
     ensures { result ≡ contexts.verdict (has domains.now) asked.now (items_of sets.now (get_or lists.now n [])) }
 {
     let count = lists.count(n);
-    if count == 1 {
-        return decide_item(sets, lists.head(n), domains, asked);
-    }
-    if count == 2 {
-        return decide_two(sets, lists.head(n), lists.read(n, 1), domains, asked);
-    }
     if count == 0 {
         return Verdict::Granted;
     }
-    let run = lists.run(n, 0);
-    if run.len() == count {
-        return decide_run(sets, run, domains, asked);
+    let head = lists.head(n);
+    if count == 1 {
+        return decide_item(sets, head, domains, asked);
     }
-    decide_runs(sets, lists, n, domains, asked)
+    if count == 2 {
+        return decide_two(sets, head, lists.next(n), domains, asked);
+    }
+    let behind = lists.run(n, 2);
+    if behind.len() < count - 2 {
+        return decide_runs(sets, lists, n, domains, asked);
+    }
+    decide_all(sets, head, lists.next(n), behind, domains, asked)
 }

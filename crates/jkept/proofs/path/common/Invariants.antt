@@ -1,9 +1,6 @@
-use Rattle.std.proofs.Common.{◌≡◌, ◌≤◌, length, take}
+use Rattle.std.proofs.Common.{◌≡◌, take}
 use Rattle.jkept.specs.Paths.{marks_of}
 use Rattle.jkept.proofs.path.common.Given as goal
 
 abbrev pub invariant-loop-n : goal.invariant-loop-n
-invariant-loop-n l = record {
-  within : l.n ≤ length l.frames;
-  same : marks_of (take l.n l.frames) ≡ take l.n l.marks;
-}
+invariant-loop-n l = marks_of (take l.n l.frames) ≡ take l.n l.marks

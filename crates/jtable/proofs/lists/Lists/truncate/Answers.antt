@@ -1,13 +1,13 @@
 use Rattle.std.proofs.Common.{◌∙◌, length, take, ap}
 use Rattle.jtable.specs.Lists.{lists_of}
-use Rattle.jtable.proofs.Listing.{cut_heads, cut_lists, cut_within}
+use Rattle.jtable.proofs.Listing.{cut_fronts, cut_lists, cut_within}
 use Rattle.jtable.proofs.lists.Lists.truncate.Goals as goal
 
 pub invariant_of-self : goal.invariant_of-self
 invariant_of-self c =
     rw c.truncate.ensures.items (
       cut_within c.args.count (length c.self.inside.pairs) c.self.inside.entries.items c.self.invariant.0,
-      cut_heads c.args.count c.self.inside.pairs c.self.inside.entries.items c.self.invariant.1,
+      cut_fronts c.args.count c.self.inside.pairs c.self.inside.entries.items c.self.invariant.1,
     )
 
 pub returns : goal.returns
