@@ -108,6 +108,17 @@ impl Answer {
         }
     }
 
+    /// What stands in front of a sign, and what stands behind it. Where there is no such sign there is no answer.
+    pub fn parted<'a>(&mut self, words: &'a str, sign: &str) -> (&'a str, &'a str) {
+        match words.split_once(sign) {
+            Some(parts) => parts,
+            None => {
+                self.refuse();
+                (words, "")
+            }
+        }
+    }
+
     /// The number that is written so. Where it is none there is no answer.
     pub fn number<N: FromStr + Default>(&mut self, word: &str) -> N
     where
