@@ -84,7 +84,7 @@ fn told(event: &Event, answer: &mut Answer) {
 
 /// The line of the event that words say: its kind, a thread's number, and more.
 fn event(words: &str, answer: &mut Answer) {
-    let (kind, rest) = first(words);
+    let (kind, rest) = answer.parted(words, " ");
     let (thread, rest) = first(rest);
     let thread = answer.number(thread);
     match event_of(kind, thread, rest, answer) {

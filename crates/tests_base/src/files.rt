@@ -1,7 +1,7 @@
 ghost use Rattle.std.specs.Prelude.{◌≡◌, ◌+◌, ◌<◌, ◌≤◌, ◌^◌, None, IfOk, OnErr, length, min, take};
 ghost use Rattle.jground.specs.jbase.Causes.{HasCause, appended};
 
-use crate::words::{first, units};
+use crate::words::units;
 use jrights::jio::{
     MemoryShelf, MemorySink, Part, RealShelf, RealSink, Shelf, Sink, SinkError, put_all,
     write_line, write_line_text,
@@ -84,7 +84,7 @@ fn pieces_of(text: &[u16], bad_put: u64, answer: &mut Answer)
 
 /// The same of a text of so many letters.
 fn pieces(words: &str, answer: &mut Answer) {
-    let (letters, bad_put) = first(words);
+    let (letters, bad_put) = answer.parted(words, " ");
     let alloc = answer.alloc();
     let bad_put = answer.number(bad_put);
     match vec![in alloc; 0x78u16; usize::from(answer.number::<u16>(letters))] {

@@ -24,8 +24,8 @@ fn make(heap: &mut Heap, name: &str, len: &str, answer: &mut Answer) {
 
 /// What is made of a kind and a length in a heap with so many cells, and how many of these are left.
 fn made(words: &str, answer: &mut Answer) {
-    let (kind, rest) = first(words);
-    let (len, cells) = first(rest);
+    let (kind, rest) = answer.parted(words, " ");
+    let (len, cells) = answer.parted(rest, " ");
     let cells = u32::from(answer.number::<u16>(cells));
     let Ok(mut heap) = Heap::open(answer.alloc(), cells) else {
         return answer.lack();

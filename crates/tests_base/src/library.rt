@@ -1,4 +1,3 @@
-use crate::words::first;
 use jlib::{LibClass, Side, class, member, open_classes};
 use tests_rows::Answer;
 
@@ -12,8 +11,8 @@ fn classes(name: &str, answer: &mut Answer) {
 
 /// The member of a class by its name and descriptor, on either side.
 fn members(words: &str, answer: &mut Answer) {
-    let (owner, rest) = first(words);
-    let (name, desc) = first(rest);
+    let (owner, rest) = answer.parted(words, " ");
+    let (name, desc) = answer.parted(rest, " ");
     let (owner, name, desc) = (owner.as_bytes(), name.as_bytes(), desc.as_bytes());
     let source = member(Side::Source, owner, name, desc);
     let passing = member(Side::Passing, owner, name, desc);
@@ -31,14 +30,18 @@ fn about(found: LibClass, name: &str, answer: &mut Answer) {
 }
 
 /// Whether users may not override a member below a class.
-fn fixed(below: LibClass, words: &str, answer: &mut Answer) {
-    let (name, desc) = first(words);
-    answer.debug(&below.has_fixed(name.as_bytes(), desc.as_bytes()));
+fn fixed(words: &str, answer: &mut Answer) {
+    let (below, rest) = answer.parted(words, " ");
+    let (name, desc) = answer.parted(rest, " ");
+    match class(Side::Source, below.as_bytes()) {
+        Some(below) => answer.debug(&below.has_fixed(name.as_bytes(), desc.as_bytes())),
+        None => answer.refuse(),
+    }
 }
 
 /// How many classes are open, and those among them that let no member of a name and a descriptor be overridden.
 fn opened(words: &str, answer: &mut Answer) {
-    let (name, desc) = first(words);
+    let (name, desc) = answer.parted(words, " ");
     answer.debug(&open_classes().len());
     for one in open_classes() {
         if one.fixes(name.as_bytes(), desc.as_bytes()) {
@@ -47,16 +50,14 @@ fn opened(words: &str, answer: &mut Answer) {
     }
 }
 
-/// What is asked of a class by its name and words behind that: what it is, the interface that it implements, what it fixes.
-fn of_class(kind: &str, words: &str, answer: &mut Answer) {
-    let (name, rest) = first(words);
+/// What is asked of a class by its name: what it is, or the interface that it implements.
+fn of_class(kind: &str, name: &str, answer: &mut Answer) {
     let Some(found) = class(Side::Source, name.as_bytes()) else {
         return answer.refuse();
     };
     match kind {
         "is" => about(found, name, answer),
         "implements" => answer.debug(&found.implemented()),
-        "fixed" => fixed(found, rest, answer),
         _ => answer.refuse(),
     }
 }
@@ -66,6 +67,7 @@ pub fn found(kind: &str, words: &str, answer: &mut Answer) {
     match kind {
         "class" => classes(words, answer),
         "member" => members(words, answer),
+        "fixed" => fixed(words, answer),
         "open" => opened(words, answer),
         _ => of_class(kind, words, answer),
     }

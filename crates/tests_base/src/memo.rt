@@ -22,7 +22,7 @@ impl Key for Call {
 
 /// The numbers of a class and of a method, parted by a comma.
 fn key(word: &str, answer: &mut Answer) -> Call {
-    let (class, method) = word.split_once(',').unwrap_or((word, ""));
+    let (class, method) = answer.parted(word, ",");
     Call {
         class: answer.number(class),
         method: answer.number(method),

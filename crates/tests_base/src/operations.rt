@@ -1,4 +1,3 @@
-use crate::words::first;
 use jground::jnames::Compare::{Eq, Ge, Gt, Le, Lt, Ne};
 use jground::jnames::Division::{Idiv, Irem, Ldiv, Lrem};
 use jground::jnames::OpOne::{I2b, I2c, I2l, I2s, Ineg, L2i, Lneg};
@@ -141,7 +140,7 @@ fn of_two(name: &str, x: &str, y: &str, answer: &mut Answer) -> Option<Value> {
 
 /// What is asked of ints and longs, by the name of an instruction.
 fn computed(words: &str, answer: &mut Answer) {
-    let (name, rest) = first(words);
+    let (name, rest) = answer.parted(words, " ");
     let found = match rest.split_once(' ') {
         Some((x, y)) => of_two(name, x, y, answer),
         None => of_one(name, rest, answer),
@@ -151,8 +150,8 @@ fn computed(words: &str, answer: &mut Answer) {
 
 /// What is asked of a division.
 fn quotient(words: &str, answer: &mut Answer) {
-    let (name, rest) = first(words);
-    let (x, y) = first(rest);
+    let (name, rest) = answer.parted(words, " ");
+    let (x, y) = answer.parted(rest, " ");
     let found = if name.starts_with('l') {
         long_divided(name, answer.number(x), answer.number(y))
     } else {
@@ -163,16 +162,16 @@ fn quotient(words: &str, answer: &mut Answer) {
 
 /// What is asked of a test of two ints.
 fn tested(words: &str, answer: &mut Answer) {
-    let (name, rest) = first(words);
-    let (x, y) = first(rest);
+    let (name, rest) = answer.parted(words, " ");
+    let (x, y) = answer.parted(rest, " ");
     let found = holds(name, answer.number(x), answer.number(y));
     answer.debug(&found);
 }
 
 /// What is asked of a test of two references.
 fn refs_tested(words: &str, answer: &mut Answer) {
-    let (name, rest) = first(words);
-    let (x, y) = first(rest);
+    let (name, rest) = answer.parted(words, " ");
+    let (x, y) = answer.parted(rest, " ");
     let found = ref_holds(name, answer.number(x), answer.number(y));
     answer.debug(&found);
 }

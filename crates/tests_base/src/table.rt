@@ -1,5 +1,4 @@
 use crate::types::type_of;
-use crate::words::first;
 use crate::{
     events, files, formats, heaps, library, memo, operations, piles, regions, texts, threads, types,
 };
@@ -61,7 +60,9 @@ impl Rows for Table {
         if line.is_empty() || line.starts_with('#') {
             return Ok(Line::Known);
         }
-        let (kind, rest) = first(line);
+        let Some((kind, rest)) = line.split_once(' ') else {
+            return Err(Unread::Line);
+        };
         if self.known(rt.alloc(), kind, rest)? {
             return Ok(Line::Known);
         }

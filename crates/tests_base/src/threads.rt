@@ -1,7 +1,7 @@
 ghost use Rattle.std.specs.Prelude.{◌≡◌, ◌∷◌, [], IfOk};
 ghost use Rattle.jthreads.specs.Table.{running};
 
-use crate::words::{first, numbers};
+use crate::words::numbers;
 use jthreads::Threads;
 use std::alloc::{AllocError, Global};
 use tests_rows::Answer;
@@ -23,8 +23,8 @@ fn table_of(alloc: Global, runnable: &[u32]) -> Result<Threads, AllocError> {
 
 /// Which thread is picked: by a schedule, how many of its numbers were taken, and the threads that can run.
 fn picked(words: &str, answer: &mut Answer) {
-    let (schedule, rest) = first(words);
-    let (taken, runnable) = first(rest);
+    let (schedule, rest) = answer.parted(words, " ");
+    let (taken, runnable) = answer.parted(rest, " ");
     let taken = answer.number(taken);
     let schedule = numbers(schedule, answer);
     let runnable = numbers(runnable, answer);

@@ -1,7 +1,6 @@
 ghost use Rattle.std.specs.Prelude.{◌≡◌, ⊤};
 ghost use Rattle.tests_base.specs.Few.{few, few_above, few_chain, few_itself, few_object};
 
-use crate::words::first;
 use jground::jbase::Seq;
 use jtypes::{Ancestry, ArrayType, Element, Name, VType, fits};
 use std::alloc::{AllocError, Global};
@@ -84,7 +83,7 @@ fn vtype(alloc: Global, depth: u32, text: &[u8]) -> Result<VType, AllocError> {
 
 /// The type of words: its dimensions, and its letter or its class's name.
 pub fn type_of(alloc: Global, words: &str) -> Result<VType, Unread> {
-    let (depth, name) = first(words);
+    let (depth, name) = words.split_once(' ').ok_or(Unread::Line)?;
     Ok(vtype(alloc, number(depth)?, name.as_bytes())?)
 }
 

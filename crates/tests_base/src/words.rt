@@ -5,6 +5,13 @@ pub fn first(words: &str) -> (&str, &str) {
     words.split_once(' ').unwrap_or((words, ""))
 }
 
+/// Puts a number behind others.
+fn put<N: Drop>(one: N, all: &mut Vec<N>, answer: &mut Answer) {
+    if all.push(one).is_err() {
+        answer.lack();
+    }
+}
+
 /// The numbers of a word, parted by commas; `-` has none.
 pub fn numbers(word: &str, answer: &mut Answer) -> Vec<u32> {
     let mut all = Vec::new(answer.alloc());
@@ -12,23 +19,21 @@ pub fn numbers(word: &str, answer: &mut Answer) -> Vec<u32> {
         return all;
     }
     for one in word.split(',') {
-        let number = answer.number(one);
-        if all.push(number).is_err() {
-            answer.lack();
-        }
+        put(answer.number(one), &mut all, answer);
     }
     all
 }
 
-/// The units of hexadecimal text, parted by commas; `-` has none.
+/// The units of hexadecimal text, four digits each, parted by commas; `-` has none.
 pub fn units(word: &str, answer: &mut Answer) -> Vec<u16> {
     let mut units = Vec::new(answer.alloc());
     if word == "-" {
         return units;
     }
     for digits in word.split(',') {
-        match u16::from_str_radix(digits, 16) {
-            Ok(unit) if units.push(unit).is_ok() => {}
+        let bytes = answer.bytes(digits);
+        match bytes.as_slice() {
+            [high, low] => put(u16::from_be_bytes([*high, *low]), &mut units, answer),
             _ => answer.refuse(),
         }
     }
