@@ -44,7 +44,7 @@ pub fn implements(p: &NamedProgram, q: &Question<'_>, answer: &mut Answer) {
 }
 
 /// Tells what was found, where there was memory for it.
-fn tell<T: fmt::Debug>(found: Result<T, AllocError>, answer: &mut Answer) {
+fn tell<T: fmt::Debug + Drop>(found: Result<T, AllocError>, answer: &mut Answer) {
     match found {
         Ok(one) => answer.debug(&one),
         Err(_) => answer.lack(),
