@@ -79,9 +79,9 @@ fn of_files(files: &[MadeFile], word: &str, path: &str, answer: &mut Answer) {
 
 /// What is asked of the job of a seed and a size.
 pub fn asked(question: &str, answer: &mut Answer) {
-    let (word, words) = question.split_once(' ').unwrap_or((question, ""));
+    let (word, words) = answer.parted(question, " ");
     let (words, path) = words.split_once(" of ").unwrap_or((words, ""));
-    let (seed, size) = words.split_once(' ').unwrap_or((words, ""));
+    let (seed, size) = answer.parted(words, " ");
     let seed = answer.number(seed);
     let size = answer.number::<u32>(size);
     if size < 1 || size > 1000 {

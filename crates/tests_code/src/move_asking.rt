@@ -2,7 +2,7 @@ ghost use Rattle.std.specs.Prelude.{◌<◌};
 ghost use Rattle.jmove.specs.Moved.{CanMove};
 
 use crate::move_given::method_of;
-use crate::move_reading::{Given, parted, read};
+use crate::move_reading::{Given, read};
 use jground::jbase::Seq;
 use jmove::{Expand, MethodIn, MethodOut, MoveError, limit_of, move_method, moved_descriptor};
 use jparts::jcode::{Handler, Placed, decode};
@@ -220,8 +220,8 @@ fn of_fields(given: Given, domain: u32, pool: Adder, words: (&str, &str), answer
 
 /// What is asked of a method, by a word and the words behind it: over the pool that bytes spell, to which a text was added, of a domain.
 pub fn asked(pool: &[u8], given: &str, words: (&str, &str), answer: &mut Answer) {
-    let (added, fields) = parted(given, " | ");
-    let (domain, fields) = parted(fields, " | ");
+    let (added, fields) = answer.parted(given, " | ");
+    let (domain, fields) = answer.parted(fields, " | ");
     let domain = answer.number(domain);
     let given = read(fields, answer);
     match adder_of(answer.alloc(), pool, added) {

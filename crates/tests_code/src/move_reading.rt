@@ -5,11 +5,6 @@ use jparts::jcode::{Handler, decode};
 use jparts::jmaps::{FullFrame, MapType};
 use tests_rows::Answer;
 
-/// A part of a word before a sign, and what stands behind the sign, nothing where it isn't there.
-pub fn parted<'a>(word: &'a str, sign: &str) -> (&'a str, &'a str) {
-    word.split_once(sign).unwrap_or((word, ""))
-}
-
 /// A letter, and what stands behind it.
 fn lettered(word: &str) -> (&str, &str) {
     word.split_at_checked(1).unwrap_or(("", word))
@@ -68,9 +63,9 @@ fn kinds_of(code: &[u8], words: &str, answer: &mut Answer) -> Vec<Expand> {
 }
 
 fn handler_of(word: &str, answer: &mut Answer) -> Handler {
-    let (range, behind) = parted(word, ":");
-    let (start, end) = parted(range, "-");
-    let (at, class) = parted(behind, ":");
+    let (range, behind) = answer.parted(word, ":");
+    let (start, end) = answer.parted(range, "-");
+    let (at, class) = answer.parted(behind, ":");
     Handler {
         start: answer.number(start),
         end: answer.number(end),
@@ -133,8 +128,8 @@ fn put_frames(word: &str, frames: &mut Seq<FullFrame>, answer: &mut Answer) {
         }
         return;
     }
-    let (at, behind) = parted(word, ":");
-    let (locals, stack) = parted(behind, ":");
+    let (at, behind) = answer.parted(word, ":");
+    let (locals, stack) = answer.parted(behind, ":");
     put_frame(answer.number(at), locals, stack, frames, answer);
 }
 
@@ -150,8 +145,8 @@ fn frames_of(words: &str, answer: &mut Answer) -> Seq<FullFrame> {
 }
 
 fn sizes_of(words: &str, answer: &mut Answer) -> Sizes {
-    let (slots, behind) = parted(words, " ");
-    let (stack, locals) = parted(behind, " ");
+    let (slots, behind) = answer.parted(words, " ");
+    let (stack, locals) = answer.parted(behind, " ");
     (
         answer.number(slots),
         answer.number(stack),
@@ -171,10 +166,10 @@ pub struct Given {
 
 /// The method of fields: its sizes, its code, what becomes of each instruction, its handlers and its frames.
 pub fn read(fields: &str, answer: &mut Answer) -> Given {
-    let (sizes, rest) = parted(fields, " | ");
-    let (code, rest) = parted(rest, " | ");
-    let (kinds, rest) = parted(rest, " | ");
-    let (handlers, frames) = parted(rest, " | ");
+    let (sizes, rest) = answer.parted(fields, " | ");
+    let (code, rest) = answer.parted(rest, " | ");
+    let (kinds, rest) = answer.parted(rest, " | ");
+    let (handlers, frames) = answer.parted(rest, " | ");
     let sizes = sizes_of(sizes, answer);
     let code = answer.bytes(code);
     let kinds = kinds_of(code.as_slice(), kinds, answer);

@@ -1,5 +1,4 @@
 use crate::move_asking::{asked, descriptor};
-use crate::move_reading::parted;
 use std::alloc::{AllocError, Global};
 use tests_rows::{Answer, Unread, first, hex_of};
 
@@ -45,7 +44,9 @@ impl Moves {
 
     /// Whether a line is a pool, or a method of which later lines ask.
     pub fn is_known(&mut self, alloc: Global, line: &str) -> Result<bool, Unread> {
-        let (kind, fields) = parted(line, " ");
+        let Some((kind, fields)) = line.split_once(' ') else {
+            return Err(Unread::Line);
+        };
         match kind {
             "pool" => self.put_pool(alloc, fields)?,
             "given" => self.given = String::from_str(alloc, fields)?,
@@ -56,12 +57,14 @@ impl Moves {
 
     /// Answers a row.
     pub fn ask(&self, row: &str, answer: &mut Answer) {
-        let (_, question) = parted(row, "ask ");
-        let (word, rest) = parted(question, " ");
+        let Some(question) = row.strip_prefix("ask ") else {
+            return answer.refuse();
+        };
+        let (word, rest) = question.split_once(' ').unwrap_or((question, ""));
         if word == "descriptor" {
             return descriptor(rest, answer);
         }
-        let (name, given) = parted(self.given.as_str(), " | ");
+        let (name, given) = answer.parted(self.given.as_str(), " | ");
         match self.find(name) {
             Ok(pool) => asked(pool, given, (word, rest), answer),
             Err(_) => answer.refuse(),

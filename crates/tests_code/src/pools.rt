@@ -202,16 +202,16 @@ fn add_text(adder: &mut Adder, field: &str, answer: &mut Answer) {
 
 /// Adds an entry that numbers are.
 fn add_number(adder: &mut Adder, kind: &str, content: &str, answer: &mut Answer) {
-    let (one, other) = content.split_once(' ').unwrap_or((content, ""));
     let added = match kind {
         "NameAndType" => {
-            let name = answer.number(one);
-            adder.add(Entry::NameAndType(name, answer.number(other)))
+            let (name, descriptor) = answer.parted(content, " ");
+            let name = answer.number(name);
+            adder.add(Entry::NameAndType(name, answer.number(descriptor)))
         }
-        "Integer" => adder.add(Entry::Integer(answer.number(one))),
-        "Float" => adder.add(Entry::Float(answer.number(one))),
-        "Long" => adder.add(Entry::Long(answer.number(one))),
-        "Double" => adder.add(Entry::Double(answer.number(one))),
+        "Integer" => adder.add(Entry::Integer(answer.number(content))),
+        "Float" => adder.add(Entry::Float(answer.number(content))),
+        "Long" => adder.add(Entry::Long(answer.number(content))),
+        "Double" => adder.add(Entry::Double(answer.number(content))),
         _ => return answer.refuse(),
     };
     tell_added(added, answer);
@@ -219,7 +219,7 @@ fn add_number(adder: &mut Adder, kind: &str, content: &str, answer: &mut Answer)
 
 /// The index at which an adder has an entry that is added, or why it has none.
 pub fn added(adder: &mut Adder, entry: &str, answer: &mut Answer) {
-    let (kind, content) = entry.split_once(' ').unwrap_or((entry, ""));
+    let (kind, content) = answer.parted(entry, " ");
     if kind == "Utf8" {
         return add_text(adder, content, answer);
     }

@@ -1,10 +1,9 @@
 use crate::code::Asked;
-use crate::move_reading::parted;
 use crate::move_table::Moves;
 use crate::{classes, code, gen_asking, pools, stack_maps, trips};
 use jparts::jpool::{Adder, Pool};
 use std::alloc::Global;
-use tests_rows::{Answer, Line, Rows, Unread, hex_of};
+use tests_rows::{Answer, Line, Rows, Unread, first, hex_of};
 
 /// What the rows of a section are about.
 #[derive(Clone, Copy)]
@@ -25,6 +24,16 @@ impl About {
             "moved methods" => About::Moves,
             _ => About::Parts,
         }
+    }
+}
+
+/// Answers a row about a part that two fields say.
+fn ask_two(kind: &str, fields: &str, answer: &mut Answer) {
+    let (one, other) = answer.parted(fields, " | ");
+    match kind {
+        "pool" => pools::pool(one, other, answer),
+        "frames" => stack_maps::frames(one, other, answer),
+        _ => trips::back(one, other, answer),
     }
 }
 
@@ -80,17 +89,15 @@ impl Table {
 
     /// Answers a row about class files and their parts.
     fn ask_part(&mut self, kind: &str, fields: &str, answer: &mut Answer) {
-        let (one, other) = parted(fields, " | ");
         match kind {
             "name" => pools::class_name(fields, answer),
             "descriptor" => pools::descriptor(fields, answer),
             "parts" => pools::parts(fields, answer),
-            "pool" => pools::pool(one, other, answer),
+            "pool" | "frames" | "back" => ask_two(kind, fields, answer),
             "indices" => self.indices(fields, answer),
             "text" | "class" | "entry" | "both" => self.look_up(kind, fields, answer),
             "add" => self.add(fields, answer),
             "maps" => stack_maps::read(fields, answer),
-            "frames" => stack_maps::frames(one, other, answer),
             "full" => stack_maps::two_full(answer),
             "code" => code::read(fields, answer),
             "list" => code::ask(Asked::List, fields, answer),
@@ -98,7 +105,6 @@ impl Table {
             "branches" => code::ask(Asked::Branches, fields, answer),
             "file" => classes::read(&[], fields, answer),
             "behind" => classes::read(self.front.as_slice(), fields, answer),
-            "back" => trips::back(one, other, answer),
             _ => answer.refuse(),
         }
     }
@@ -126,7 +132,7 @@ impl Table {
     fn is_known(&mut self, alloc: Global, line: &str) -> Result<bool, Unread> {
         match self.about {
             About::Parts => {
-                let (kind, fields) = parted(line, " | ");
+                let (kind, fields) = first(line)?;
                 self.known(alloc, kind, fields)
             }
             About::Jobs => Ok(false),
@@ -138,7 +144,7 @@ impl Table {
     fn ask(&mut self, question: &str, answer: &mut Answer) {
         match self.about {
             About::Parts => {
-                let (kind, fields) = parted(question, " | ");
+                let (kind, fields) = answer.parted(question, " | ");
                 self.ask_part(kind, fields, answer);
             }
             About::Jobs => gen_asking::asked(question, answer),
