@@ -1,7 +1,6 @@
 ghost use Rattle.std.specs.Prelude.{◌<◌, length};
 
 use crate::permissions::readings;
-use crate::words::parted;
 use jctx::{Context, Item, enter, privileged, top};
 use jground::jtext::Units;
 use jperm::Permission;
@@ -321,13 +320,14 @@ fn tell_numbers(found: Result<(u64, u64), Unread>, contexts: &Table, answer: &mu
 /// The numbers of contexts where words stand behind those of a loop, so often: each turn begins with the same context. That of the
 /// first words, that of the last turn, and how many contexts have numbers.
 pub fn turns(directory: &Units, fields: &str, answer: &mut Answer) {
-    let (times, fields) = parted(fields);
+    let (times, fields) = answer.parted(fields, " | ");
+    let words = answer.parted(fields, " | ");
     let alloc = answer.alloc();
     let times = answer.number(times);
     let Ok(mut contexts) = Table::open(alloc) else {
         return answer.lack();
     };
-    let found = turned(alloc, directory, &mut contexts, parted(fields), times);
+    let found = turned(alloc, directory, &mut contexts, words, times);
     tell_numbers(found, &contexts, answer);
 }
 

@@ -1,4 +1,3 @@
-use crate::words::parted;
 use jground::jtext::Units;
 use jjob::{
     Command, Form, Job, JobError, JobSource, Text, WordsError, read_job, read_words, stored_job,
@@ -102,9 +101,9 @@ fn put_spelled(field: &str, times: u32, bytes: &mut Vec<u8>, answer: &mut Answer
 
 /// Whether a first text, as many times another, and a last one are a job, or their first bad line.
 pub fn long_job(fields: &str, answer: &mut Answer) {
-    let (start, rest) = parted(fields);
-    let (part, rest) = parted(rest);
-    let (times, last) = parted(rest);
+    let (start, rest) = answer.parted(fields, " | ");
+    let (part, rest) = answer.parted(rest, " | ");
+    let (times, last) = answer.parted(rest, " | ");
     let times = answer.number(times);
     let mut bytes = answer.spelled(start);
     put_spelled(part, times, &mut bytes, answer);
@@ -209,7 +208,7 @@ fn paths_if(alloc: Global, field: &str) -> Result<Vec<Text>, Unread> {
 
 /// The text of a job, behind it paths, each but the first behind a bar: the text that is stored with these in the place of its classes'.
 pub fn stored(fields: &str, answer: &mut Answer) {
-    let (text, paths) = parted(fields);
+    let (text, paths) = answer.parted(fields, " | ");
     let alloc = answer.alloc();
     let text = answer.text_of(text);
     let Ok(paths) = paths_if(alloc, paths) else {

@@ -1,4 +1,4 @@
-use crate::words::{parted, put, tell_units, units_if, units_of};
+use crate::words::{put, tell_units, units_if, units_of};
 use jground::jtext::Units;
 use jperm::{FilePath, PermClass, PermError, Permission, covers, make};
 use std::alloc::Global;
@@ -93,8 +93,8 @@ fn tell_permission(permission: &Permission, answer: &mut Answer) {
 
 /// The text of the permission that a class makes of a name and actions, or why it makes none.
 pub fn made(directory: &Units, fields: &str, answer: &mut Answer) {
-    let (class, fields) = parted(fields);
-    let (name, actions) = parted(fields);
+    let (class, fields) = answer.parted(fields, " | ");
+    let (name, actions) = answer.parted(fields, " | ");
     match make_of(answer.alloc(), directory, class, name, actions) {
         Ok(Ok(permission)) => tell_permission(&permission, answer),
         Ok(Err(PermError::Memory)) => answer.lack(),
@@ -141,7 +141,7 @@ fn tell_file(permission: &Permission, answer: &mut Answer) {
 
 /// What the path of a file permission names, whose name is read in a directory.
 pub fn path(fields: &str, answer: &mut Answer) {
-    let (directory, name) = parted(fields);
+    let (directory, name) = answer.parted(fields, " | ");
     match file_of(answer.alloc(), directory, name) {
         Ok(permission) => tell_file(&permission, answer),
         Err(why) => answer.fail(why),
@@ -185,7 +185,7 @@ fn of_other(kind: &str, directory: &Units, one: &Permission, field: &str, answer
 
 /// Whether a permission implies another, and covers it as a list of one; or whether its copy equals the other.
 pub fn compared(kind: &str, directory: &Units, fields: &str, answer: &mut Answer) {
-    let (one, other) = parted(fields);
+    let (one, other) = answer.parted(fields, " | ");
     match permission(answer.alloc(), directory, one) {
         Ok(one) => of_other(kind, directory, &one, other, answer),
         Err(why) => answer.fail(why),

@@ -1,4 +1,3 @@
-use crate::words::parted;
 use jground::jbase::{Seq, Stop};
 use jground::jtext::Units;
 use jperm::Permission;
@@ -62,7 +61,7 @@ fn is_for(alloc: Global, grant: &Grant, source: &str) -> Result<bool, Unread> {
 
 /// Whether a grant with a code base, that may ask for more than its code, is for the code of a source.
 pub fn matched(asks_more: bool, fields: &str, answer: &mut Answer) {
-    let (base, source) = parted(fields);
+    let (base, source) = answer.parted(fields, " | ");
     let alloc = answer.alloc();
     let base = match base_of(alloc, base) {
         Ok(base) => base,

@@ -1,6 +1,6 @@
 use crate::kept::{grant, keep, walk};
 use crate::permissions::readings;
-use crate::words::{parted, put};
+use crate::words::put;
 use jground::jtext::Units;
 use jkept::{InspectMark, Kept};
 use jrights::jdomain::{Domains, Verdict};
@@ -181,7 +181,7 @@ fn tell_verdicts(kept: &Kept, domains: &Domains, numbers: &[u64], answer: &mut A
 
 /// What is decided on the stacks of groups, on an inherited one, `-` for none: all of them are kept before the first is decided.
 pub fn decided(domains: &Domains, fields: &str, answer: &mut Answer) {
-    let (base, groups) = parted(fields);
+    let (base, groups) = answer.parted(fields, " | ");
     let alloc = answer.alloc();
     let Ok(mut kept) = Kept::open(alloc) else {
         return answer.lack();
@@ -201,7 +201,7 @@ fn keep_two(alloc: Global, kept: &mut Kept, one: &str, other: &str) -> Result<(u
 
 /// Whether two stacks without privileges have one number, and how many entries there are then, where nothing was kept.
 pub fn entries(fields: &str, answer: &mut Answer) {
-    let (one, other) = parted(fields);
+    let (one, other) = answer.parted(fields, " | ");
     let alloc = answer.alloc();
     let Ok(mut kept) = Kept::open(alloc) else {
         return answer.lack();
@@ -241,7 +241,7 @@ fn chain_of(
 /// What is decided on a stack in which two frames are given the stack before, under limits that imply nothing, so often; the oldest
 /// stack has one frame of a domain.
 pub fn chain(domains: &Domains, fields: &str, answer: &mut Answer) {
-    let (oldest, long) = parted(fields);
+    let (oldest, long) = answer.parted(fields, " | ");
     let (oldest, long) = (answer.number(oldest), answer.number(long));
     let alloc = answer.alloc();
     let Ok(mut kept) = Kept::open(alloc) else {

@@ -1,4 +1,4 @@
-use crate::words::{parted, put, units_of};
+use crate::words::{put, units_of};
 use crate::{contexts, jobs, permissions, policies, sources, stacks};
 use jground::jtext::Units;
 use jperm::Permission;
@@ -91,7 +91,7 @@ impl Table {
 
     /// The same of the permission that the last field says.
     fn of_permission(&self, kind: &str, domains: &Domains, fields: &str, answer: &mut Answer) {
-        let (words, asked) = parted(fields);
+        let (words, asked) = answer.parted(fields, " | ");
         match permissions::permission(answer.alloc(), &self.directory, asked) {
             Ok(asked) => self.of_asked(kind, domains, words, &asked, answer),
             Err(why) => answer.fail(why),

@@ -21,11 +21,6 @@ pub fn put<T: Drop>(item: T, list: &mut Vec<T>) -> Result<(), AllocError> {
     Ok(list.push(item)?)
 }
 
-/// A field, and those behind it, none where it is the last.
-pub fn parted(fields: &str) -> (&str, &str) {
-    fields.split_once(" | ").unwrap_or((fields, ""))
-}
-
 /// Tells units between quotes.
 pub fn tell_units(units: &[u16], answer: &mut Answer) {
     answer.tell("'");
