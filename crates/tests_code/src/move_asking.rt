@@ -82,15 +82,19 @@ fn tell_type(one: MapType, answer: &mut Answer) {
     answer.tell(",");
 }
 
+/// Tells types behind a `:`.
+fn tell_types(types: &[MapType], answer: &mut Answer) {
+    answer.tell(":");
+    for one in types {
+        tell_type(*one, answer);
+    }
+}
+
 /// Tells a frame: its place, its locals and its stack, and a comma behind each type.
 fn tell_frame(frame: &FullFrame, answer: &mut Answer) {
     answer.spaced(&frame.at);
-    for types in [frame.locals.as_slice(), frame.stack.as_slice()] {
-        answer.tell(":");
-        for one in types {
-            tell_type(*one, answer);
-        }
-    }
+    tell_types(frame.locals.as_slice(), answer);
+    tell_types(frame.stack.as_slice(), answer);
 }
 
 fn tell_frames(frames: &[FullFrame], answer: &mut Answer) {
