@@ -121,7 +121,9 @@ fn shown(alloc: Global, context: &Context) -> Result<String, Unread> {
 
 /// Tells a context, if its copy is told so too.
 fn tell_copied(context: &Context, copy: &Context, answer: &mut Answer) {
-    match (shown(answer.alloc(), context), shown(answer.alloc(), copy)) {
+    let one = shown(answer.alloc(), context);
+    let other = shown(answer.alloc(), copy);
+    match (&one, &other) {
         (Ok(one), Ok(other)) if one.as_str() == other.as_str() => answer.tell(one.as_str()),
         (Ok(_), Ok(_)) => answer.tell("its copy is another"),
         _ => answer.lack(),

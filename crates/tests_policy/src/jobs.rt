@@ -36,12 +36,14 @@ fn tell_props(job: &Job, answer: &mut Answer) {
     answer.tell("|");
 }
 
-fn tell_lists(job: &Job, answer: &mut Answer) {
+fn tell_sources(job: &Job, answer: &mut Answer) {
     for source in job.sources.as_slice() {
         tell_source(source, answer);
     }
     answer.tell("|");
-    tell_units(&job.main, "|", answer);
+}
+
+fn tell_schedule(job: &Job, answer: &mut Answer) {
     for pick in job.schedule.as_slice() {
         tell_number(u64::from(*pick), ",", answer);
     }
@@ -57,7 +59,9 @@ fn tell_job(job: &Job, answer: &mut Answer) {
     }
     tell_props(job, answer);
     tell_units(&job.cwd, "|", answer);
-    tell_lists(job, answer);
+    tell_sources(job, answer);
+    tell_units(&job.main, "|", answer);
+    tell_schedule(job, answer);
     tell_number(u64::from(job.heap), "|", answer);
     tell_number(u64::from(job.depth), "|", answer);
     tell_number(job.steps, "'", answer);
@@ -125,15 +129,14 @@ fn name_of(form: Form) -> &'static str {
     }
 }
 
-/// Tells words between quotes, with spaces between.
-fn tell_words(words: &[&str], answer: &mut Answer) {
+/// Tells a verb and two words.
+fn tell_verb(verb: &str, one: &str, other: &str, answer: &mut Answer) {
     answer.tell("'");
-    for (i, word) in words.iter().enumerate() {
-        if i > 0 {
-            answer.tell(" ");
-        }
-        answer.tell(word);
-    }
+    answer.tell(verb);
+    answer.tell(" ");
+    answer.tell(one);
+    answer.tell(" ");
+    answer.tell(other);
     answer.tell("'");
 }
 
@@ -146,14 +149,10 @@ fn tell_gen(seed: u64, size: u32, answer: &mut Answer) {
 
 fn tell_command(command: &Command, answer: &mut Answer) {
     match command {
-        Command::Run { form, job } => tell_words(&["run", name_of(*form), job.as_str()], answer),
-        Command::Check { form, job } => {
-            tell_words(&["check", name_of(*form), job.as_str()], answer);
-        }
-        Command::Rewrite { job, to } => {
-            tell_words(&["rewrite", job.as_str(), to.as_str()], answer);
-        }
-        Command::Policy { job } => tell_words(&["policy", job.as_str()], answer),
+        Command::Run { form, job } => tell_verb("run", name_of(*form), job.as_str(), answer),
+        Command::Check { form, job } => tell_verb("check", name_of(*form), job.as_str(), answer),
+        Command::Rewrite { job, to } => tell_verb("rewrite", job.as_str(), to.as_str(), answer),
+        Command::Policy { job } => answer.tell_between("'policy ", job.as_str().as_bytes(), "'"),
         Command::Gen { seed, size } => tell_gen(*seed, *size, answer),
     }
 }
