@@ -134,10 +134,12 @@ fn answer_again(alloc: Global, p: &LinkedProgram, q: &Question<'_>) -> Result<St
 /// What is answered of a program, where its own parts, made a program again, have the same answer.
 fn of_both(p: &LinkedProgram, q: &Question<'_>, answer: &mut Answer) {
     let alloc = answer.alloc();
-    match (answer_of(alloc, p, q), answer_again(alloc, p, q)) {
+    let one = answer_of(alloc, p, q);
+    let other = answer_again(alloc, p, q);
+    match (&one, &other) {
         (Ok(one), Ok(other)) if one.as_str() == other.as_str() => answer.tell(one.as_str()),
         (Ok(_), Ok(_)) => answer.tell("another one, made again"),
-        (Err(why), _) | (_, Err(why)) => answer.fail(why),
+        (Err(why), _) | (_, Err(why)) => answer.fail(*why),
     }
 }
 
