@@ -2,12 +2,18 @@ use jground::jbase::Stop;
 use jparts::jcode::{
     Form, Placed, Switch, branch_at, branch_count, decode, effect_of, encode, form_of, goes_on,
 };
+use std::alloc::AllocError;
 use tests_rows::Answer;
 
-/// Tells how many instructions a code has that is written back as it was, or isn't.
-fn tell_count(ops: &[Placed], bytes: &[u8], answer: &mut Answer) {
-    match encode(answer.alloc(), ops) {
-        Ok(again) if again.as_slice() == bytes => answer.debug(&ops.len()),
+/// Tells how many instructions a code has that is written back as it was, or that it isn't.
+fn tell_count(
+    count: usize,
+    again: &Result<Vec<u8>, AllocError>,
+    bytes: &[u8],
+    answer: &mut Answer,
+) {
+    match again {
+        Ok(again) if again.as_slice() == bytes => answer.debug(&count),
         Ok(_) => answer.tell("not written as it was"),
         Err(_) => answer.lack(),
     }
@@ -18,7 +24,8 @@ pub fn read(words: &str, answer: &mut Answer) {
     let bytes = answer.bytes(words);
     match decode(answer.alloc(), bytes.as_slice()) {
         Ok(ops) => {
-            tell_count(ops.as_slice(), bytes.as_slice(), answer);
+            let again = encode(answer.alloc(), ops.as_slice());
+            tell_count(ops.len(), &again, bytes.as_slice(), answer);
             drop(ops);
         }
         Err(Stop::Fault(fault)) => answer.debug_pair(&fault.at, &fault.kind),
