@@ -2,14 +2,14 @@ use crate::opcodes::name_of;
 use crate::outline::Outline;
 use crate::references::{reference_of, say_reference};
 use crate::said::{Piece, Said};
-use crate::scene::{Scene, scene_of, told_in};
+use crate::scene::{Scene, Told, member_of, scene_of};
 use crate::stacks::say_found;
 use jclass::write_class;
 use jground::jnames::{Kind, Kinds};
-use jground::jtext::{Units, bytes_of};
+use jground::jtext::Units;
 use jlinking::jlink::LinkedProgram;
 use jparts::jcode::{Op, Placed, effect_of, form_of};
-use jprogram::{CodePart, MethodId};
+use jprogram::{MethodId, member_desc, member_name};
 use jwalk::frame_before;
 
 fn word_of(kind: Kind) -> &'static str {
@@ -23,31 +23,29 @@ fn word_of(kind: Kind) -> &'static str {
     }
 }
 
+/// Says two kinds, the one that lies lower first.
+fn say_two(above: Kind, below: Kind, said: &mut Said) {
+    let pieces = [Piece::Words(word_of(below)), Piece::Words(word_of(above))];
+    said.say("% and %", &pieces);
+}
+
 /// Says kinds, the one that lies lowest first.
 fn say_kinds(kinds: Kinds, said: &mut Said) {
     match kinds {
         Kinds::None => said.words("nothing"),
         Kinds::One(a) => said.words(word_of(a)),
-        Kinds::Two(a, b) => said.say(&[
-            Piece::Words(word_of(b)),
-            Piece::Words(" and "),
-            Piece::Words(word_of(a)),
-        ]),
-        Kinds::Three(a, b, c) => said.say(&[
-            Piece::Words(word_of(c)),
-            Piece::Words(", "),
-            Piece::Words(word_of(b)),
-            Piece::Words(" and "),
-            Piece::Words(word_of(a)),
-        ]),
+        Kinds::Two(a, b) => say_two(a, b, said),
+        Kinds::Three(a, b, c) => {
+            said.say("%, ", &[Piece::Words(word_of(c))]);
+            say_two(a, b, said);
+        }
     }
 }
 
 /// Says what an instruction names, or else takes.
 fn say_wanted(scene: Scene<'_>, op: &Op, said: &mut Said) {
     if let Some(reference) = reference_of(scene, op) {
-        said.words(" of ");
-        say_reference(reference, said);
+        say_reference(" of ", reference, "", said);
         return;
     }
     if let Some(effect) = effect_of(&form_of(op)) {
@@ -58,36 +56,28 @@ fn say_wanted(scene: Scene<'_>, op: &Op, said: &mut Said) {
 
 /// Says what an instruction finds, where that is known.
 fn say_before(program: &LinkedProgram, m: MethodId, one: &Placed, said: &mut Said) {
-    match frame_before(said.alloc, program, m, one.at) {
+    let known = match frame_before(said.alloc, program, m, one.at) {
         Ok(Some(frame)) => {
             say_found(program.named(), &one.op, &frame, said);
-            said.words("; that");
+            "; that"
         }
-        _ => said.words("; what is there then"),
-    }
+        _ => "; what is there then",
+    };
+    said.words(known);
     said.words(", or the frame declared there or behind it, doesn't fit: compile anew");
 }
 
-// ---- its name
-
-/// Says the name of the instruction at a byte of a method of a class file.
-fn say_opcode(file: &[u8], told: &[u8], at: u32, said: &mut Said) {
-    let outline = Outline::of(file, said);
-    match outline.opcode_at(told, at as usize) {
-        Some(opcode) => said.words(name_of(opcode)),
-        None => said.lose(),
-    }
+/// Says the name of the instruction at a byte of a method of a class, which is written for it.
+fn say_name(scene: Scene<'_>, told: Told<'_>, at: u32, said: &mut Said) {
+    let Ok(file) = write_class(said.alloc, scene.file) else {
+        said.lose();
+        return;
+    };
+    let name = member_name(scene.class, told.info);
+    let desc = member_desc(scene.class, told.info);
+    let outline = Outline::of(&file, said);
+    said.words(name_of(outline.opcode_at(name, desc, at as usize)));
 }
-
-/// The same of a class, which is written for it.
-fn say_name(part: &CodePart, told: &[u8], at: u32, said: &mut Said) {
-    match write_class(said.alloc, &part.class) {
-        Ok(file) => say_opcode(&file, told, at, said),
-        Err(_) => said.lose(),
-    }
-}
-
-// ---- the instruction
 
 /// The instruction at a byte of code.
 fn op_at(ops: &[Placed], at: u32) -> Option<&Placed> {
@@ -99,42 +89,22 @@ fn op_at(ops: &[Placed], at: u32) -> Option<&Placed> {
     None
 }
 
-/// The method that a refusal names, and the instruction in it.
-fn found<'a>(scene: Scene<'a>, told: &[u8], at: u32) -> Option<(MethodId, &'a Placed)> {
-    let method = told_in(scene, told)?;
-    let one = op_at(method.code?.ops, at)?;
-    let id = MethodId {
-        class: scene.number,
-        method: method.number,
-    };
-    Some((id, one))
-}
-
 /// Says which instruction of a method it is that isn't well typed, what it takes and what it finds.
-fn say_instruction(
-    program: &LinkedProgram,
-    scene: Scene<'_>,
-    told: &[u8],
-    at: u32,
-    said: &mut Said,
-) {
-    let Some((m, one)) = found(scene, told, at) else {
+fn say_method(program: &LinkedProgram, scene: Scene<'_>, told: Told<'_>, at: u32, said: &mut Said) {
+    let Some(code) = told.code else {
+        return;
+    };
+    let Some(one) = op_at(code.ops, at) else {
         said.words("a frame where no instruction begins");
         return;
     };
-    match program.parts().get(m.class as usize) {
-        Some(part) => say_name(part, told, at, said),
-        None => said.lose(),
-    }
+    let m = MethodId {
+        class: scene.number,
+        method: told.number,
+    };
+    say_name(scene, told, at, said);
     say_wanted(scene, &one.op, said);
     say_before(program, m, one, said);
-}
-
-fn say_method(program: &LinkedProgram, scene: Scene<'_>, told: &Units, at: u32, said: &mut Said) {
-    match bytes_of(said.alloc, told) {
-        Ok(told) => say_instruction(program, scene, told.as_slice(), at, said),
-        Err(_) => said.lose(),
-    }
 }
 
 /// Says which instruction stands where a method isn't well typed, what it takes and what it finds.
@@ -145,17 +115,16 @@ pub fn say_check<'a>(
     at: u32,
     said: &mut Said,
 ) {
-    said.say(&[
-        Piece::Words("class "),
+    let place = [
         Piece::Units(class.as_slice()),
-        Piece::Words(", "),
         Piece::Units(told.as_slice()),
-        Piece::Words(" at "),
-        Piece::Number(u64::from(at)),
-        Piece::Words(": "),
-    ]);
-    match scene_of(said.alloc, program.named(), class) {
-        Some(scene) => say_method(program, scene, told, at, said),
-        None => said.lose(),
+        Piece::Number(at as u64),
+    ];
+    said.about("class %, % at %: ", &place);
+    let Some(scene) = scene_of(said.alloc, program.named(), class) else {
+        return;
+    };
+    if let Some(told) = member_of(said.alloc, scene, told) {
+        say_method(program, scene, told, at, said);
     }
 }

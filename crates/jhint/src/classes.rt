@@ -1,5 +1,5 @@
 use crate::opcodes::{mend_of, name_of};
-use crate::outline::{Naming, Outline, Spot, short};
+use crate::outline::{Naming, Outline, Spot, byte, short};
 use crate::said::{Piece, Said};
 use jclass::ClassFault;
 
@@ -34,51 +34,55 @@ fn meaning_of(kind: ClassFault) -> &'static str {
 // ---- the place
 
 fn say_member(outline: &Outline<'_>, naming: Naming, said: &mut Said) {
-    if naming.is_field {
-        said.words(", in field ");
+    let words = if naming.is_field {
+        ", in field %%"
     } else {
-        said.words(", in method ");
-    }
-    said.say(&[
-        Piece::Name(outline.text(naming.name)),
-        Piece::Name(outline.text(naming.desc)),
-    ]);
+        ", in method %%"
+    };
+    let name = Piece::Name(outline.text(naming.name));
+    said.say(words, &[name, Piece::Name(outline.text(naming.desc))]);
+}
+
+fn say_number(words: &str, number: usize, said: &mut Said) {
+    said.say(words, &[Piece::Number(number as u64)]);
+}
+
+/// Says the part in which a byte stands.
+fn say_part(outline: &Outline<'_>, at: usize, said: &mut Said) {
+    let part = outline.part_at(at);
+    let words = match part.spot {
+        Spot::Head => ", in its head",
+        Spot::Entry(index) => return say_number(", in pool entry %", index, said),
+        Spot::Class => ", behind the pool",
+        Spot::Member(naming) => return say_member(outline, naming, said),
+        Spot::Code(naming) => {
+            say_member(outline, naming, said);
+            return say_number(", its code at %", at.saturating_sub(part.from), said);
+        }
+        Spot::Behind => ", in what stands behind the methods",
+    };
+    said.words(words);
 }
 
 /// Says in which part of the file a byte stands.
 fn say_place(file: &[u8], at: usize, said: &mut Said) {
     let outline = Outline::of(file, said);
-    let part = outline.part_at(at);
-    match part.spot {
-        Spot::Head => said.words(", in its head"),
-        Spot::Entry(index) => said.say(&[
-            Piece::Words(", in pool entry "),
-            Piece::Number(index as u64),
-        ]),
-        Spot::Class => said.words(", behind the pool"),
-        Spot::Member(naming) => say_member(&outline, naming, said),
-        Spot::Code(naming) => {
-            say_member(&outline, naming, said);
-            said.say(&[
-                Piece::Words(", its code at "),
-                Piece::Number(at.saturating_sub(part.from) as u64),
-            ]);
-        }
-        Spot::Behind => said.words(", in what stands behind the methods"),
-    }
+    say_part(&outline, at, said);
 }
 
 // ---- the sentences
 
+fn say_two(front: &str, end: &str, said: &mut Said) {
+    said.words(front);
+    said.words(end);
+}
+
 /// Says which version a class file has, and which are read.
 fn say_version(file: &[u8], said: &mut Said) {
-    let version = short(file, 6) as u64;
-    said.say(&[Piece::Words(" has version "), Piece::Number(version)]);
+    let version = short(file, 6);
+    say_number(" has version %", version, said);
     if 49 <= version {
-        said.say(&[
-            Piece::Words(", which is Java "),
-            Piece::Number(version - 44),
-        ]);
+        say_number(", which is Java %", version - 44, said);
     }
     said.words("; 50 to 52 are read, Java 6 to 8: `javac --release 8`");
 }
@@ -87,12 +91,12 @@ fn say_version(file: &[u8], said: &mut Said) {
 fn say_instruction(file: &[u8], at: usize, kind: ClassFault, said: &mut Said) {
     let opcode = match kind {
         ClassFault::Opcode(opcode) | ClassFault::LeftOut(opcode) => opcode,
-        ClassFault::Operand | ClassFault::Target => file.get(at).copied().unwrap_or(255),
+        ClassFault::Operand | ClassFault::Target => byte(file, at),
         _ => return,
     };
-    said.say(&[Piece::Words(", "), Piece::Words(name_of(opcode))]);
+    say_two(", ", name_of(opcode), said);
     if let ClassFault::LeftOut(_) = kind {
-        said.say(&[Piece::Words(": "), Piece::Words(mend_of(opcode))]);
+        say_two(": ", mend_of(opcode), said);
     }
 }
 
@@ -104,7 +108,6 @@ pub fn say_class(path: &str, file: &[u8], at: u32, kind: ClassFault, said: &mut 
         return;
     }
     say_place(file, at as usize, said);
-    said.words(": ");
-    said.words(meaning_of(kind));
+    say_two(": ", meaning_of(kind), said);
     say_instruction(file, at as usize, kind, said);
 }

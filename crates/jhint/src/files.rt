@@ -1,7 +1,7 @@
 ghost use Rattle.std.specs.Prelude.{◌≡◌, ◌≤◌, ◌<◌, ◌^◌, IfSome, length};
 
 use crate::said::Said;
-use jjob::{Job, JobSource, Text, read_job};
+use jjob::{JobSource, Text};
 use jlib::Side;
 use jlinking::jlink::{LinkedProgram, are_parts, link};
 use jprogram::{CodePart, NamedProgram};
@@ -18,16 +18,6 @@ pub fn bytes_at<S: Shelf>(alloc: Global, path: &str, shelf: &mut S) -> Option<Ve
 {
     match shelf.read(alloc, path) {
         Ok(bytes) => Some(bytes),
-        Err(_) => None,
-    }
-}
-
-/// The job of a text.
-pub fn job_of(alloc: Global, text: &[u8]) -> Option<Job>
-    requires { length text.now < 2 ^ 31 }
-{
-    match read_job(alloc, text) {
-        Ok(job) => Some(job),
         Err(_) => None,
     }
 }
@@ -77,7 +67,10 @@ pub fn named(alloc: Global, parts: Vec<CodePart>, side: Side) -> Option<NamedPro
         drop(parts);
         return None;
     }
-    NamedProgram::of(alloc, parts, side).ok()
+    match NamedProgram::of(alloc, parts, side) {
+        Ok(program) => Some(program),
+        Err(_) => None,
+    }
 }
 
 /// The program of some classes, where they link.
@@ -86,5 +79,8 @@ pub fn linked(alloc: Global, parts: Vec<CodePart>, side: Side) -> Option<LinkedP
         drop(parts);
         return None;
     }
-    link(alloc, parts, side).ok()
+    match link(alloc, parts, side) {
+        Ok(program) => Some(program),
+        Err(_) => None,
+    }
 }

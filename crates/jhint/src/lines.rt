@@ -23,14 +23,11 @@ fn front_of(line: &str, mark: char) -> &str {
     }
 }
 
-fn key_of(line: &str) -> &str {
-    front_of(line, ' ')
-}
-
-/// What a line of a key is to be.
-fn rule_of(key: &str) -> &'static str {
+/// What a line of the same key is to be.
+fn rule_of(line: &str) -> &'static str {
+    let key = front_of(line, ' ');
     for rule in RULES.split('\n') {
-        if key_of(rule) == key {
+        if front_of(rule, ' ') == key {
             return rule;
         }
     }
@@ -39,63 +36,52 @@ fn rule_of(key: &str) -> &'static str {
 
 /// What two lines that may not both stand have in common, empty where any may stand beside this one: the key, and of a property its name too.
 fn said_by(line: &str) -> &str {
-    let key = key_of(line);
-    if key == "prop" {
-        return front_of(line, '=');
+    match rule_of(line) {
+        rule if rule.ends_with("each NAME once") => front_of(line, '='),
+        rule if rule.ends_with("once") => front_of(line, ' '),
+        _ => "",
     }
-    if rule_of(key).ends_with("once") {
-        return key;
-    }
-    ""
 }
 
-/// The number of the first line before another that says the same.
-fn earlier(text: &str, number: u64, line: &str) -> Option<u64> {
-    let sought = said_by(line);
-    let mut next: u64 = 1;
-    for other in text.split('\n') {
-        if number <= next || sought.is_empty() {
-            return None;
+/// The number of the first line that says something.
+fn first_with(text: &str, sought: &str) -> u32 {
+    let mut number: u32 = 1;
+    for line in text.split('\n') {
+        if said_by(line) == sought {
+            return number;
         }
-        if said_by(other) == sought {
-            return Some(next);
-        }
-        next = next.saturating_add(1);
+        number = number.saturating_add(1);
     }
-    None
+    number
+}
+
+/// Says of a line of a job's text which rule it breaks.
+fn say_rule(text: &str, number: u32, line: &str, said: &mut Said) {
+    let sought = said_by(line);
+    let first = first_with(text, sought);
+    if sought.is_empty() || first == number {
+        said.words(rule_of(line));
+        return;
+    }
+    said.say("line % says it already", &[Piece::Number(first as u64)]);
 }
 
 fn say_of_text(text: &str, number: u32, said: &mut Said) {
-    let line = text
-        .split('\n')
-        .nth((number as usize).saturating_sub(1))
-        .unwrap_or("");
-    if line.is_empty() {
-        said.words(": a line `main NAME` is missing, as `main app/Main`");
-        return;
-    }
-    said.say(&[
-        Piece::Words(", \""),
-        Piece::Text(line),
-        Piece::Words("\": "),
-    ]);
-    match earlier(text, u64::from(number), line) {
-        Some(first) => said.say(&[
-            Piece::Words("line "),
-            Piece::Number(first),
-            Piece::Words(" says it already"),
-        ]),
-        None => said.words(rule_of(key_of(line))),
+    match text.split('\n').nth((number as usize).saturating_sub(1)) {
+        Some(line) if !line.is_empty() => {
+            said.say(", \"%\": ", &[Piece::Text(line)]);
+            say_rule(text, number, line, said);
+        }
+        _ => said.words(": a line `main NAME` is missing, as `main app/Main`"),
     }
 }
 
 /// Says of a job's text which rule its line of a number breaks, counted from 1.
 pub fn say_line(path: &str, text: &[u8], number: u32, said: &mut Said) {
-    said.say(&[
-        Piece::Text(path),
-        Piece::Words(", line "),
-        Piece::Number(u64::from(number)),
-    ]);
+    said.say(
+        "%, line %",
+        &[Piece::Text(path), Piece::Number(number as u64)],
+    );
     match str::from_utf8(text) {
         Ok(text) => say_of_text(text, number, said),
         Err(_) => said.words(": the bytes there are no UTF-8"),

@@ -27,16 +27,33 @@ fn form_for(side: Side) -> &'static str {
     }
 }
 
-/// Says a class that neither the job nor its side's library has.
-fn say_missing(side: Side, name: &[u8], said: &mut Said) {
+/// Says behind words a class that neither the job nor its side's library has.
+fn say_missing<'a>(front: &'a str, side: Side, name: &'a [u8], said: &mut Said) {
     let reason = match class(other(side), name) {
         Some(_) => form_for(side),
         None => ", which neither the job nor the library has",
     };
-    said.say(&[Piece::Name(name), Piece::Words(reason)]);
+    said.say(
+        "%%%",
+        &[Piece::Words(front), Piece::Name(name), Piece::Words(reason)],
+    );
 }
 
 // ---- a class by itself
+
+/// The first class that isn't there of the one that a class extends and of those that it lists.
+fn missing_above<'a>(scene: Scene<'a>, above: &'a [u8]) -> Option<&'a [u8]> {
+    if !scene.has(above) {
+        return Some(above);
+    }
+    for face in scene.class.interfaces.as_slice() {
+        let name = class_text(&scene.class.pool, *face);
+        if !scene.has(name) {
+            return Some(name);
+        }
+    }
+    None
+}
 
 /// Says the first class that isn't there among those that a class extends or lists.
 fn say_above(scene: Scene<'_>, said: &mut Said) {
@@ -44,19 +61,9 @@ fn say_above(scene: Scene<'_>, said: &mut Said) {
         said.words("it extends no class");
         return;
     };
-    said.words("it extends or lists ");
-    if scene.program.class_of(above).is_none() {
-        say_missing(scene.program.side(), above, said);
-        return;
+    if let Some(name) = missing_above(scene, above) {
+        say_missing("it extends or lists ", scene.program.side(), name, said);
     }
-    for face in scene.class.interfaces.as_slice() {
-        let name = class_text(&scene.class.pool, *face);
-        if scene.program.class_of(name).is_none() {
-            say_missing(scene.program.side(), name, said);
-            return;
-        }
-    }
-    said.lose();
 }
 
 /// Says the first interface that a class lists and that is none, or else the class that it may not extend.
@@ -64,51 +71,46 @@ fn say_barred(scene: Scene<'_>, said: &mut Said) {
     for face in scene.class.interfaces.as_slice() {
         let name = class_text(&scene.class.pool, *face);
         if !scene.program.is_interface(name) {
-            said.say(&[
-                Piece::Words("it lists "),
-                Piece::Name(name),
-                Piece::Words(" as an interface, which it isn't"),
-            ]);
+            said.say(
+                "it lists % as an interface, which it isn't",
+                &[Piece::Name(name)],
+            );
             return;
         }
     }
-    said.say(&[
-        Piece::Words("it extends "),
-        Piece::Name(super_name(scene.class).unwrap_or(b"nothing")),
-        Piece::Words(", which is final, an interface, or no class that users may extend"),
-    ]);
+    let above = super_name(scene.class).unwrap_or(b"nothing");
+    let words = "it extends %, which is final, an interface, or no class that users may extend";
+    said.say(words, &[Piece::Name(above)]);
 }
 
 /// Says which rule a class breaks by itself.
 fn say_of_class(scene: Scene<'_>, kind: LinkKind, said: &mut Said) {
-    match kind {
-        LinkKind::NoClass => say_above(scene, said),
-        LinkKind::BadSuper => say_barred(scene, said),
-        LinkKind::Circular => said.words("it stands above itself: class files of two builds"),
-        _ => said.words(
+    let words = match kind {
+        LinkKind::NoClass => return say_above(scene, said),
+        LinkKind::BadSuper => return say_barred(scene, said),
+        LinkKind::Circular => "it stands above itself: class files of two builds",
+        _ =>
             "names that begin with sps/ are those of moved programs: another package, or `check --form=plain`",
-        ),
-    }
+    };
+    said.words(words);
 }
 
 /// Says where the class stands whose name is taken.
 fn say_taken(side: Side, name: &Units, said: &mut Said) {
     let Ok(bytes) = bytes_of(said.alloc, name) else {
-        said.lose();
         return;
     };
-    if class(side, bytes.as_slice()).is_some() {
-        said.words("the library has a class of this name");
-    } else {
-        said.words("an earlier line of the job names a class of this name");
-    }
+    let words = match class(side, &bytes) {
+        Some(_) => "the library has a class of this name",
+        None => "an earlier line of the job names a class of this name",
+    };
+    said.words(words);
 }
 
 // ---- a class by a member
 
 /// Why a field or a method may not be used.
-fn reason_of(scene: Scene<'_>, kind: LinkKind, one: Reference<'_>) -> &'static str {
-    let side = scene.program.side();
+fn reason_of(side: Side, kind: LinkKind, one: Reference<'_>) -> &'static str {
     if let LinkKind::NotAccessible = kind {
         return ", which may not be used so from there: private, of another package, or final";
     }
@@ -118,71 +120,53 @@ fn reason_of(scene: Scene<'_>, kind: LinkKind, one: Reference<'_>) -> &'static s
     }
 }
 
-/// Says which field or method it is that a method's code names.
-fn say_bad_member(scene: Scene<'_>, kind: LinkKind, ops: &[Placed], said: &mut Said)
-    requires { IsLayered scene.program.now }
-{
-    let Some(one) = bad_member(said.alloc, scene, kind, ops) else {
-        said.lose();
+/// Says which field or method it is that code names, where members can be resolved.
+fn say_used(scene: Scene<'_>, kind: LinkKind, ops: &[Placed], said: &mut Said) {
+    if !is_layered(said.alloc, scene.program) {
         return;
-    };
-    said.words("it uses ");
-    say_reference(one, said);
-    said.words(reason_of(scene, kind, one));
+    }
+    if let Some(one) = bad_member(said.alloc, scene, kind, ops) {
+        let reason = reason_of(scene.program.side(), kind, one);
+        say_reference("it uses ", one, reason, said);
+    }
 }
 
-/// The same of a member, where members can be resolved.
-fn say_used(scene: Scene<'_>, kind: LinkKind, told: Told<'_>, said: &mut Said) {
-    let Some(code) = told.code else {
-        said.lose();
+/// Says the class that a member names and that breaks a rule.
+fn say_named(scene: Scene<'_>, kind: LinkKind, name: &[u8], said: &mut Said) {
+    if let LinkKind::NoClass = kind {
+        say_missing("it names ", scene.program.side(), name, said);
         return;
-    };
-    if is_layered(said.alloc, scene.program) {
-        say_bad_member(scene, kind, code.ops, said);
-    } else {
-        said.lose();
     }
+    let words = "it names %, which isn't public and stands in another package";
+    said.say(words, &[Piece::Name(name)]);
 }
 
 /// Says which class or member it is that a member names.
-fn say_named(scene: Scene<'_>, kind: LinkKind, told: Told<'_>, said: &mut Said) {
-    let Some(name) = bad_class(scene, kind, told) else {
-        say_used(scene, kind, told, said);
-        return;
-    };
-    said.words("it names ");
-    if let LinkKind::NoClass = kind {
-        say_missing(scene.program.side(), name, said);
+fn say_names(scene: Scene<'_>, kind: LinkKind, told: Told<'_>, said: &mut Said) {
+    if let Some(name) = bad_class(scene, kind, told) {
+        say_named(scene, kind, name, said);
         return;
     }
-    said.say(&[
-        Piece::Name(name),
-        Piece::Words(", which isn't public and stands in another package"),
-    ]);
+    if let Some(code) = told.code {
+        say_used(scene, kind, code.ops, said);
+    }
 }
 
 /// Says which rule a class breaks by a member.
-fn say_of_member(scene: Scene<'_>, kind: LinkKind, told: &Units, said: &mut Said) {
-    let Some(one) = member_of(said.alloc, scene, told) else {
-        said.lose();
-        return;
+fn say_of_member(scene: Scene<'_>, kind: LinkKind, told: Told<'_>, said: &mut Said) {
+    let words = match kind {
+        LinkKind::NoClass | LinkKind::NoMember | LinkKind::NotAccessible => {
+            return say_names(scene, kind, told, said);
+        }
+        LinkKind::LeftOut => left_out(scene, told),
+        LinkKind::Twice => "an earlier member of the class has this name and descriptor",
+        LinkKind::OverridesLibrary => {
+            "it overrides a method of the library that has code: another name"
+        }
+        LinkKind::FinalMethod => "it overrides a final method of a class above",
+        _ => "it uses a class or a member otherwise than it is declared: class files of two builds",
     };
-    match kind {
-        LinkKind::NoClass | LinkKind::NoMember | LinkKind::NotAccessible => say_named(
-            scene, kind, one, said,
-        ),
-        LinkKind::LeftOut => said.words(left_out(scene, one)),
-        LinkKind::Twice => said.words(
-            "an earlier member of the class has this name and descriptor",
-        ),
-        LinkKind::OverridesLibrary => said.words(
-            "it overrides a method of the library that has code: another name",
-        ),
-        LinkKind::FinalMethod => said.words("it overrides a final method of a class above"),
-        _ => said.words(
-            "it uses a class or a member otherwise than it is declared: class files of two builds",
-        ),
-    }
+    said.words(words);
 }
 
 /// Says which rule of linking a class breaks, by a member or by itself.
@@ -199,11 +183,13 @@ pub fn say_link(
         return;
     }
     let Some(scene) = scene_of(said.alloc, program, name) else {
-        said.lose();
         return;
     };
-    match member {
-        Some(told) => say_of_member(scene, kind, told, said),
-        None => say_of_class(scene, kind, said),
+    let Some(member) = member else {
+        say_of_class(scene, kind, said);
+        return;
+    };
+    if let Some(told) = member_of(said.alloc, scene, member) {
+        say_of_member(scene, kind, told, said);
     }
 }

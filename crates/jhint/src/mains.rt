@@ -6,31 +6,28 @@ use jground::jtext::Units;
 use jlib::Side;
 use jprogram::{NamedProgram, Reach, has_code, member_desc, member_name, reach_of};
 
-/// The descriptor of the method with which a run begins.
-fn desc_of(side: Side) -> &'static [u8] {
+/// Of the method with which a run begins the descriptor, and that a class has none.
+fn wanted(side: Side) -> (&'static [u8], &'static str) {
     match side {
-        Side::Source => b"([Ljava/lang/String;)V",
-        Side::Passing => b"([Ljava/lang/String;Lsps/Ctx;)V",
+        Side::Source => (
+            b"([Ljava/lang/String;)V",
+            ": the class has no `public static void main(String[])`",
+        ),
+        Side::Passing => (
+            b"([Ljava/lang/String;Lsps/Ctx;)V",
+            ": the class has no `public static void main(String[], sps.Ctx)`",
+        ),
     }
 }
 
-/// That a class has no such method.
-fn missing(side: Side) -> &'static str {
-    match side {
-        Side::Source => ": the class has no `public static void main(String[])`",
-        Side::Passing => ": the class has no `public static void main(String[], sps.Ctx)`",
-    }
-}
-
-/// Why a method of this name isn't the one with which a run begins.
-fn reason(side: Side, class: &ClassParts, method: &MemberInfo) -> &'static str {
-    if member_desc(class, method) != desc_of(side) {
+/// Why a method of this name, with a descriptor or another, isn't the one with which a run begins.
+fn reason(method: &MemberInfo, is_wanted: bool) -> &'static str {
+    if !is_wanted {
         return " takes or gives something else";
     }
-    match reach_of(method.flags) {
-        Reach::Public => {}
-        _ => return " isn't public",
-    }
+    let Reach::Public = reach_of(method.flags) else {
+        return " isn't public";
+    };
     if !method.flags.contains(Access::STATIC) {
         return " isn't static";
     }
@@ -40,25 +37,25 @@ fn reason(side: Side, class: &ClassParts, method: &MemberInfo) -> &'static str {
     " serves"
 }
 
-fn say_mains(side: Side, class: &ClassParts, said: &mut Said) {
+/// Says why no method called `main` is the one with a descriptor with which a run begins.
+fn say_mains(class: &ClassParts, desc: &[u8], said: &mut Said) {
     for method in class.methods.as_slice() {
         if member_name(class, method) == b"main".as_slice() {
-            said.say(&[
-                Piece::Words("; main"),
-                Piece::Name(member_desc(class, method)),
-                Piece::Words(reason(side, class, method)),
-            ]);
+            let found = member_desc(class, method);
+            let why = reason(method, found == desc);
+            said.say("; main%%", &[Piece::Name(found), Piece::Words(why)]);
         }
     }
 }
 
 /// Says of a class in which a run is to begin why it can't.
 pub fn say_main(program: &NamedProgram, name: &Units, said: &mut Said) {
-    said.say(&[Piece::Words("main "), Piece::Units(name.as_slice())]);
+    said.say("main %", &[Piece::Units(name.as_slice())]);
     let Some(scene) = scene_of(said.alloc, program, name) else {
         said.words(": the job has no class of this name, which is written with slashes");
         return;
     };
-    said.words(missing(program.side()));
-    say_mains(program.side(), scene.class, said);
+    let (desc, missing) = wanted(program.side());
+    said.words(missing);
+    say_mains(scene.class, desc, said);
 }

@@ -35,68 +35,79 @@ pub struct Part {
 pub struct Outline<'a> {
     file: &'a [u8],
     parts: Vec<Part>,
-    /// Where the next part begins.
+    /// Where what isn't gone through yet begins.
     at: usize,
     /// No memory was left for a part.
     is_lost: bool,
 }
 
+/// The byte at a place, 255 where none is there.
+pub fn byte(file: &[u8], at: usize) -> u8 {
+    match file.get(at) {
+        Some(byte) => *byte,
+        None => 255,
+    }
+}
+
 /// The number of two bytes at a place, 0 where they aren't there.
 pub fn short(file: &[u8], at: usize) -> usize {
-    match file.get(at..at.saturating_add(2)) {
-        Some([a, b]) => usize::from(u16::from_be_bytes([*a, *b])),
+    match file.split_at_checked(at) {
+        Some((_, [a, b, ..])) => usize::from(u16::from_be_bytes([*a, *b])),
         _ => 0,
     }
 }
 
-fn long(file: &[u8], at: usize) -> usize {
-    let low = short(file, at.saturating_add(2));
-    short(file, at).saturating_mul(0x1_0000).saturating_add(low)
-}
-
-/// The size of an entry of the pool by its tag (JVMS 4.4), the most there is where there is no such tag.
-fn entry_size(file: &[u8], at: usize) -> usize {
-    match file.get(at).copied() {
-        Some(1) => short(file, at.saturating_add(1)).saturating_add(3),
-        Some(5 | 6) => 9,
-        Some(3 | 4 | 9 | 10 | 11 | 12 | 18) => 5,
-        Some(7 | 8 | 16) => 3,
-        Some(15) => 4,
-        _ => usize::MAX,
-    }
-}
-
-/// Whether an entry of the pool is a long or a double, which takes two indices.
-fn is_wide(file: &[u8], at: usize) -> bool {
-    match file.get(at).copied() {
-        Some(5 | 6) => true,
-        _ => false,
-    }
-}
-
 impl<'a> Outline<'a> {
-    /// Puts a part of a size behind the others.
-    fn mark(&mut self, spot: Spot, size: usize) {
+    /// The number of two bytes so far ahead.
+    fn short(&self, ahead: usize) -> usize {
+        short(self.file, self.at.saturating_add(ahead))
+    }
+
+    /// The number of four bytes so far ahead.
+    fn long(&self, ahead: usize) -> usize {
+        let low = self.short(ahead.saturating_add(2));
+        self.short(ahead)
+            .saturating_mul(0x1_0000)
+            .saturating_add(low)
+    }
+
+    /// Puts a part that begins so far ahead behind the others.
+    fn mark(&mut self, spot: Spot, ahead: usize) {
         let part = Part {
             spot,
-            from: self.at,
+            from: self.at.saturating_add(ahead),
         };
         if self.parts.push(part).is_err() {
             self.is_lost = true;
         }
+    }
+
+    fn pass(&mut self, size: usize) {
         self.at = self.at.saturating_add(size);
     }
 
-    /// Marks the entries of the pool.
-    fn mark_pool(&mut self) {
+    /// The size of an entry of the pool by its tag (JVMS 4.4), the most there is where there is no such tag.
+    fn entry_size(&self) -> usize {
+        match byte(self.file, self.at) {
+            1 => self.short(1).saturating_add(3),
+            5 | 6 => 9,
+            3 | 4 | 9 | 10 | 11 | 12 | 18 => 5,
+            7 | 8 | 16 => 3,
+            15 => 4,
+            _ => usize::MAX,
+        }
+    }
+
+    /// Marks the entries of the pool, of which a long or a double takes two indices.
+    fn mark_pool(&mut self, count: usize) {
         let mut is_second = false;
-        for index in 1..short(self.file, 8) {
+        for index in 1..count {
+            self.mark(Spot::Entry(index), 0);
             if is_second {
-                self.mark(Spot::Entry(index), 0);
                 is_second = false;
             } else {
-                is_second = is_wide(self.file, self.at);
-                self.mark(Spot::Entry(index), entry_size(self.file, self.at));
+                is_second = matches!(byte(self.file, self.at), 5 | 6);
+                self.pass(self.entry_size());
             }
         }
     }
@@ -106,51 +117,57 @@ impl<'a> Outline<'a> {
         let Some(part) = self.parts.get(index) else {
             return b"";
         };
-        let from = part.from;
-        if self.file.get(from).copied() != Some(1) {
+        let Some((_, [1, a, b, behind @ ..])) = self.file.split_at_checked(part.from) else {
             return b"";
+        };
+        match behind.split_at_checked(usize::from(u16::from_be_bytes([*a, *b]))) {
+            Some((text, _)) => text,
+            None => b"",
         }
-        let size = short(self.file, from.saturating_add(1));
-        let begin = from.saturating_add(3);
-        self.file
-            .get(begin..begin.saturating_add(size))
-            .unwrap_or(b"")
     }
 
     /// Passes an attribute, and marks the code in it, where it is a Code (JVMS 4.7.3).
     fn mark_attribute(&mut self, naming: Naming) {
-        let size = long(self.file, self.at.saturating_add(2));
-        let end = self.at.saturating_add(6).saturating_add(size);
-        let name = short(self.file, self.at);
-        if self.text(name) == b"Code".as_slice() {
-            self.at = self.at.saturating_add(14);
-            let size = long(self.file, self.at.saturating_sub(4));
-            self.mark(Spot::Code(naming), size);
-            self.mark(Spot::Member(naming), 0);
+        if self.text(self.short(0)) == b"Code".as_slice() {
+            self.mark(Spot::Code(naming), 14);
+            self.mark(Spot::Member(naming), self.long(10).saturating_add(14));
         }
-        self.at = end;
+        self.pass(self.long(2).saturating_add(6));
     }
 
     /// Marks a member, with its flags, its name, its descriptor and its attributes.
     fn mark_member(&mut self, is_field: bool) {
         let naming = Naming {
             is_field,
-            name: short(self.file, self.at.saturating_add(2)),
-            desc: short(self.file, self.at.saturating_add(4)),
+            name: self.short(2),
+            desc: self.short(4),
         };
-        let count = short(self.file, self.at.saturating_add(6));
-        self.mark(Spot::Member(naming), 8);
+        let count = self.short(6);
+        self.mark(Spot::Member(naming), 0);
+        self.pass(8);
         for _ in 0..count {
             self.mark_attribute(naming);
         }
     }
 
     fn mark_members(&mut self, is_field: bool) {
-        let count = short(self.file, self.at);
-        self.at = self.at.saturating_add(2);
+        let count = self.short(0);
+        self.pass(2);
         for _ in 0..count {
             self.mark_member(is_field);
         }
+    }
+
+    /// Marks all parts behind one another.
+    fn mark_all(&mut self) {
+        self.mark(Spot::Head, 0);
+        self.pass(10);
+        self.mark_pool(short(self.file, 8));
+        self.mark(Spot::Class, 0);
+        self.pass(self.short(6).saturating_mul(2).saturating_add(8));
+        self.mark_members(true);
+        self.mark_members(false);
+        self.mark(Spot::Behind, 0);
     }
 
     /// The outline of a file. Where memory runs out nothing is said.
@@ -161,13 +178,7 @@ impl<'a> Outline<'a> {
             at: 0,
             is_lost: false,
         };
-        outline.mark(Spot::Head, 10);
-        outline.mark_pool();
-        let faces = short(file, outline.at.saturating_add(6));
-        outline.mark(Spot::Class, faces.saturating_mul(2).saturating_add(8));
-        outline.mark_members(true);
-        outline.mark_members(false);
-        outline.mark(Spot::Behind, 0);
+        outline.mark_all();
         if outline.is_lost {
             said.lose();
         }
@@ -188,22 +199,21 @@ impl<'a> Outline<'a> {
         found
     }
 
-    /// Whether a part is the code of a member of this name, and of this descriptor behind it.
-    fn is_code(&self, spot: Spot, told: &[u8]) -> bool {
+    /// Whether a part is the code of a method of this name and descriptor.
+    fn is_code(&self, spot: Spot, name: &[u8], desc: &[u8]) -> bool {
         match spot {
-            Spot::Code(naming) => told.strip_prefix(self.text(naming.name))
-                == Some(self.text(naming.desc)),
+            Spot::Code(naming) => self.text(naming.name) == name && self.text(naming.desc) == desc,
             _ => false,
         }
     }
 
-    /// The opcode at a byte of the code of a method.
-    pub fn opcode_at(&self, told: &[u8], at: usize) -> Option<u8> {
+    /// The opcode at a byte of the code of a method, 255 where none is there.
+    pub fn opcode_at(&self, name: &[u8], desc: &[u8], at: usize) -> u8 {
         for part in self.parts.as_slice() {
-            if self.is_code(part.spot, told) {
-                return self.file.get(part.from.saturating_add(at)).copied();
+            if self.is_code(part.spot, name, desc) {
+                return byte(self.file, part.from.saturating_add(at));
             }
         }
-        None
+        255
     }
 }

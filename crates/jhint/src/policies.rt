@@ -1,6 +1,5 @@
 use crate::said::{Piece, Said};
 use jground::jbase::Stop;
-use jground::jformat::At;
 use jground::jtext::Units;
 use jpolicy::{PolicyFault, read_policy};
 
@@ -18,8 +17,8 @@ const MARKS: &str = "; } { , * \"text\"";
 
 // ---- the place
 
-/// Says the file, and the line and the column behind the front of its text, counted from 1.
-fn say_place(path: &str, front: &[u8], said: &mut Said) {
+/// The line and the column behind the front of a text, counted from 1.
+fn place_behind(front: &[u8]) -> (u64, u64) {
     let mut line: u64 = 1;
     let mut column: u64 = 1;
     for byte in front {
@@ -30,14 +29,18 @@ fn say_place(path: &str, front: &[u8], said: &mut Said) {
             column = column.saturating_add(1);
         }
     }
-    said.say(&[
+    (line, column)
+}
+
+/// Says the file, and the line and the column behind the front of its text.
+fn say_place(path: &str, front: &[u8], said: &mut Said) {
+    let (line, column) = place_behind(front);
+    let pieces = [
         Piece::Text(path),
-        Piece::Words(", line "),
         Piece::Number(line),
-        Piece::Words(", column "),
         Piece::Number(column),
-        Piece::Words(": "),
-    ]);
+    ];
+    said.say("%, line %, column %: ", &pieces);
 }
 
 fn is_word(byte: u8) -> bool {
@@ -82,15 +85,18 @@ fn token_size(text: &[u8]) -> usize {
 
 // ---- what may stand there
 
+fn put(text: &mut Vec<u8>, bytes: &[u8], said: &mut Said) {
+    if text.extend_from_slice(bytes).is_err() {
+        said.lose();
+    }
+}
+
 /// The front of a policy with a token behind it.
 fn joined(front: &[u8], token: &str, said: &mut Said) -> Vec<u8> {
     let mut text = Vec::new(said.alloc);
-    let no_front = text.extend_from_slice(front).is_err();
-    let no_space = text.extend_from_slice(b" ").is_err();
-    let no_token = text.extend_from_slice(token.as_bytes()).is_err();
-    if no_front || no_space || no_token {
-        said.lose();
-    }
+    put(&mut text, front, said);
+    put(&mut text, b" ", said);
+    put(&mut text, token.as_bytes(), said);
     text
 }
 
@@ -105,7 +111,7 @@ fn is_good(text: &[u8], at: usize, props: &[(Units, Units)], said: &mut Said) ->
             drop(policy);
             true
         }
-        Err(Stop::Fault(At { at: found, .. })) => found as usize != at,
+        Err(Stop::Fault(fault)) => fault.at as usize != at,
         Err(Stop::Memory) => {
             said.lose();
             false
@@ -123,7 +129,7 @@ fn may_stand(front: &[u8], token: &str, props: &[(Units, Units)], said: &mut Sai
 fn say_those(front: &[u8], tokens: &str, props: &[(Units, Units)], said: &mut Said) {
     for token in tokens.split(' ') {
         if may_stand(front, token, props, said) {
-            said.say(&[Piece::Words(" "), Piece::Words(token)]);
+            said.say(" %", &[Piece::Words(token)]);
         }
     }
 }
@@ -141,9 +147,8 @@ fn say_allowed(front: &[u8], props: &[(Units, Units)], said: &mut Said) {
 
 /// What is wrong with a token.
 fn wrong_of(token: &[u8]) -> &'static str {
-    let last = token.get(token.len().saturating_sub(1)).copied();
     match token {
-        [b'"', _, ..] if last == Some(b'"') => "` isn't allowed there",
+        [b'"', .., b'"'] => "` isn't allowed there",
         [b'"', ..] => "` is a string that its line doesn't end",
         [b'/', b'*'] => "` begins a comment that isn't closed",
         _ => "` isn't allowed there",
@@ -156,11 +161,7 @@ fn say_token(token: &[u8], said: &mut Said) {
         return;
     }
     let shown = str::from_utf8(token).unwrap_or("..");
-    said.say(&[
-        Piece::Words("`"),
-        Piece::Text(shown),
-        Piece::Words(wrong_of(token)),
-    ]);
+    said.say("`%%", &[Piece::Text(shown), Piece::Words(wrong_of(token))]);
 }
 
 /// Says which token stands behind the front of a policy, and what may stand there.
@@ -181,15 +182,13 @@ pub fn say_policy(
     said: &mut Said,
 ) {
     let Some((front, rest)) = text.split_at_checked(at as usize) else {
-        said.lose();
         return;
     };
     say_place(path, front, said);
-    match kind {
-        PolicyFault::NotUtf8 => said.words("the bytes there are no UTF-8"),
-        PolicyFault::SelfExpansion => {
-            said.words("`${{..}}` isn't read here: write what it stands for")
-        }
-        PolicyFault::Syntax => say_syntax(front, rest, props, said),
-    }
+    let words = match kind {
+        PolicyFault::NotUtf8 => "the bytes there are no UTF-8",
+        PolicyFault::SelfExpansion => "`${{..}}` isn't read here: write what it stands for",
+        PolicyFault::Syntax => return say_syntax(front, rest, props, said),
+    };
+    said.words(words);
 }

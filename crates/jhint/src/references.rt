@@ -3,10 +3,10 @@ ghost use Rattle.jprogram.specs.Layers.{IsLayered};
 use crate::said::{Piece, Said};
 use crate::scene::{Scene, Told};
 use jmeaning::juses::CodeRef;
-use jparts::jcode::{ArrayForm, FieldOp, Form, Handler, Op, Placed, PoolForm, form_of};
+use jparts::jcode::{ArrayForm, FieldOp, Form, Op, Placed, PoolForm, form_of};
 use jparts::jpool::Entry;
 use jprogram::{LinkKind, Member, class_text, member_desc, text_at, this_name};
-use std::alloc::{AllocError, Global};
+use std::alloc::Global;
 
 #[derive(Clone, Copy)]
 pub enum Sort {
@@ -24,19 +24,21 @@ pub struct Reference<'a> {
     pub desc: &'a [u8],
 }
 
-/// Says a reference: its class, and its name and descriptor.
-pub fn say_reference(one: Reference<'_>, said: &mut Said) {
+/// Says a reference between words: its class, and its name and descriptor.
+pub fn say_reference<'a>(front: &'a str, one: Reference<'a>, end: &'a str, said: &mut Said) {
     let mark = match one.sort {
         Sort::Field => " ",
         _ => "",
     };
-    said.say(&[
+    let pieces = [
+        Piece::Words(front),
         Piece::Name(one.owner),
-        Piece::Words("."),
         Piece::Name(one.name),
         Piece::Words(mark),
         Piece::Name(one.desc),
-    ]);
+        Piece::Words(end),
+    ];
+    said.say("%%.%%%%", &pieces);
 }
 
 // ---- what code names
@@ -44,12 +46,14 @@ pub fn say_reference(one: Reference<'_>, said: &mut Said) {
 /// The entry of the pool that an instruction names, where it is a class or a member.
 fn index_of(op: &Op) -> Option<u16> {
     match form_of(op) {
-        Form::Pool(PoolForm::Field(_, i)) => Some(i),
-        Form::Pool(PoolForm::Call(_, i)) => Some(i),
-        Form::Pool(PoolForm::CallInterface(i, _)) => Some(i),
-        Form::Pool(PoolForm::New(i)) => Some(i),
-        Form::Pool(PoolForm::Cast(_, i)) => Some(i),
-        Form::Array(ArrayForm::NewRef(i)) => Some(i),
+        Form::Array(ArrayForm::NewRef(i))
+        | Form::Pool(
+            PoolForm::Field(_, i)
+            | PoolForm::Call(_, i)
+            | PoolForm::CallInterface(i, _)
+            | PoolForm::New(i)
+            | PoolForm::Cast(_, i),
+        ) => Some(i),
         _ => None,
     }
 }
@@ -57,10 +61,10 @@ fn index_of(op: &Op) -> Option<u16> {
 /// What an entry of the pool says of a field or a method.
 pub fn reference_at(scene: Scene<'_>, i: u16) -> Option<Reference<'_>> {
     let pool = &scene.class.pool;
-    let (sort, class, both) = match pool.entry(i)? {
-        Entry::Field(class, both) => (Sort::Field, *class, *both),
-        Entry::Method(class, both) => (Sort::Method, *class, *both),
-        Entry::InterfaceMethod(class, both) => (Sort::InterfaceMethod, *class, *both),
+    let (sort, class, both) = match pool.entry(i) {
+        Some(Entry::Field(class, both)) => (Sort::Field, *class, *both),
+        Some(Entry::Method(class, both)) => (Sort::Method, *class, *both),
+        Some(Entry::InterfaceMethod(class, both)) => (Sort::InterfaceMethod, *class, *both),
         _ => return None,
     };
     let (name, desc) = pool.name_and_type(both)?;
@@ -74,7 +78,10 @@ pub fn reference_at(scene: Scene<'_>, i: u16) -> Option<Reference<'_>> {
 
 /// What an instruction says of a field or a method.
 pub fn reference_of<'a>(scene: Scene<'a>, op: &Op) -> Option<Reference<'a>> {
-    reference_at(scene, index_of(op)?)
+    match index_of(op) {
+        Some(i) => reference_at(scene, i),
+        None => None,
+    }
 }
 
 // ---- classes
@@ -82,7 +89,7 @@ pub fn reference_of<'a>(scene: Scene<'a>, op: &Op) -> Option<Reference<'a>> {
 /// Whether a class's name breaks a rule of a kind.
 fn is_bad(scene: Scene<'_>, kind: LinkKind, name: &[u8]) -> bool {
     match kind {
-        LinkKind::NoClass => scene.program.class_of(name).is_none(),
+        LinkKind::NoClass => !scene.has(name),
         LinkKind::NotAccessible => scene.is_hidden(name),
         _ => false,
     }
@@ -90,11 +97,13 @@ fn is_bad(scene: Scene<'_>, kind: LinkKind, name: &[u8]) -> bool {
 
 /// The name that a piece of a descriptor, up to a semicolon, ends with; empty where there is none.
 fn name_in(piece: &[u8]) -> &[u8] {
-    let mut begin: usize = 0;
+    let mut behind = piece;
     for byte in piece {
-        begin = begin.saturating_add(1);
+        if let [_, rest @ ..] = behind {
+            behind = rest;
+        }
         if *byte == b'L' {
-            return piece.get(begin..piece.len()).unwrap_or(b"");
+            return behind;
         }
     }
     b""
@@ -113,13 +122,11 @@ fn bad_in_desc<'a>(scene: Scene<'a>, kind: LinkKind, text: &'a [u8]) -> Option<&
 
 /// The class of a name, or the one of an array's items, where it breaks a rule.
 fn bad_in_class<'a>(scene: Scene<'a>, kind: LinkKind, text: &'a [u8]) -> Option<&'a [u8]> {
-    if let [b'[', ..] = text {
-        return bad_in_desc(scene, kind, text);
+    match text {
+        [b'[', ..] => bad_in_desc(scene, kind, text),
+        _ if is_bad(scene, kind, text) => Some(text),
+        _ => None,
     }
-    if is_bad(scene, kind, text) {
-        return Some(text);
-    }
-    None
 }
 
 /// The first class that an entry of the pool names and that breaks a rule.
@@ -128,10 +135,10 @@ fn bad_at<'a>(scene: Scene<'a>, kind: LinkKind, i: u16) -> Option<&'a [u8]> {
         return bad_in_class(scene, kind, name);
     }
     let one = reference_at(scene, i)?;
-    if let Some(name) = bad_in_class(scene, kind, one.owner) {
-        return Some(name);
+    match bad_in_class(scene, kind, one.owner) {
+        None => bad_in_desc(scene, kind, one.desc),
+        found => found,
     }
-    bad_in_desc(scene, kind, one.desc)
 }
 
 fn bad_in_ops<'a>(scene: Scene<'a>, kind: LinkKind, ops: &[Placed]) -> Option<&'a [u8]> {
@@ -145,8 +152,12 @@ fn bad_in_ops<'a>(scene: Scene<'a>, kind: LinkKind, ops: &[Placed]) -> Option<&'
     None
 }
 
-fn bad_in_handlers<'a>(scene: Scene<'a>, kind: LinkKind, all: &[Handler]) -> Option<&'a [u8]> {
-    for one in all {
+/// The first class that code names and that breaks a rule, of its handlers last.
+fn bad_in_code<'a>(scene: Scene<'a>, kind: LinkKind, code: CodeRef<'_>) -> Option<&'a [u8]> {
+    if let Some(name) = bad_in_ops(scene, kind, code.ops) {
+        return Some(name);
+    }
+    for one in code.handlers {
         if let Some(name) = bad_at(scene, kind, one.class) {
             return Some(name);
         }
@@ -154,39 +165,18 @@ fn bad_in_handlers<'a>(scene: Scene<'a>, kind: LinkKind, all: &[Handler]) -> Opt
     None
 }
 
-fn bad_in_code<'a>(scene: Scene<'a>, kind: LinkKind, code: CodeRef<'_>) -> Option<&'a [u8]> {
-    if let Some(name) = bad_in_ops(scene, kind, code.ops) {
-        return Some(name);
-    }
-    bad_in_handlers(scene, kind, code.handlers)
-}
-
 /// The first class that a member names and that breaks a rule: that isn't there, or may not be named from there.
 pub fn bad_class<'a>(scene: Scene<'a>, kind: LinkKind, told: Told<'a>) -> Option<&'a [u8]> {
     if let Some(name) = bad_in_desc(scene, kind, member_desc(scene.class, told.info)) {
         return Some(name);
     }
-    bad_in_code(scene, kind, told.code?)
+    match told.code {
+        Some(code) => bad_in_code(scene, kind, code),
+        None => None,
+    }
 }
 
 // ---- members
-
-fn resolved(
-    alloc: Global,
-    scene: Scene<'_>,
-    one: Reference<'_>,
-) -> Result<Option<Member>, AllocError>
-    requires { IsLayered scene.program.now }
-{
-    match one.sort {
-        Sort::Field => scene
-            .program
-            .resolve_field(alloc, one.owner, one.name, one.desc),
-        _ => scene
-            .program
-            .resolve_method(alloc, one.owner, one.name, one.desc),
-    }
-}
 
 /// Whether an instruction may use a member.
 fn may_use(scene: Scene<'_>, op: &Op, member: Member) -> bool {
@@ -199,11 +189,11 @@ fn may_use(scene: Scene<'_>, op: &Op, member: Member) -> bool {
     scene.program.may_use(from, member)
 }
 
-/// Whether what an instruction refers to breaks a rule: it isn't there, or may not be used from there.
-fn breaks(alloc: Global, scene: Scene<'_>, kind: LinkKind, op: &Op, one: Reference<'_>) -> bool
+/// Whether the member that an instruction names by an entry of the pool breaks a rule: it isn't there, or may not be used from there.
+fn breaks(alloc: Global, scene: Scene<'_>, kind: LinkKind, op: &Op, i: u16) -> bool
     requires { IsLayered scene.program.now }
 {
-    match (resolved(alloc, scene, one), kind) {
+    match (scene.program.resolved(alloc, scene.number, i), kind) {
         (Ok(None), LinkKind::NoMember) => true,
         (Ok(Some(member)), LinkKind::NotAccessible) => !may_use(scene, op, member),
         _ => false,
@@ -220,9 +210,11 @@ pub fn bad_member<'a>(
     requires { IsLayered scene.program.now }
 {
     for placed in ops {
-        if let Some(one) = reference_of(scene, &placed.op) {
-            if breaks(alloc, scene, kind, &placed.op, one) {
-                return Some(one);
+        if let Some(i) = index_of(&placed.op) {
+            if let Some(one) = reference_at(scene, i) {
+                if breaks(alloc, scene, kind, &placed.op, i) {
+                    return Some(one);
+                }
             }
         }
     }

@@ -22,12 +22,14 @@ pub enum Piece<'a> {
     Name(&'a [u8]),
 }
 
-/// What is to be said: a line as it is put together. Where memory runs out, or what it speaks of isn't found, it is lost.
+/// What is to be said: a line as it is put together. Where memory runs out it is lost.
 #[derive(Drop)]
 pub struct Said {
     pub alloc: Global,
     line: Vec<u8>,
     lost: bool,
+    /// It says of what it is alone, and nothing of that.
+    open: bool,
 }
 
 fn hex_digit(value: u16) -> u8
@@ -47,6 +49,7 @@ impl Said {
             alloc,
             line: Vec::new(alloc),
             lost: false,
+            open: true,
         };
         said.put(b"javasec: ");
         said
@@ -66,6 +69,7 @@ impl Said {
     /// Words of the program's own.
     pub fn words(&mut self, words: &str) {
         self.put(words.as_bytes());
+        self.open = false;
     }
 
     fn number(&mut self, number: u64) {
@@ -126,17 +130,28 @@ impl Said {
         }
     }
 
-    /// Puts pieces behind the line.
-    pub fn say(&mut self, pieces: &[Piece<'_>]) {
-        for piece in pieces {
-            self.piece(*piece);
+    /// Says words with a piece at each `%` in them.
+    pub fn say(&mut self, words: &str, pieces: &[Piece<'_>]) {
+        let mut left = pieces;
+        for part in words.split('%') {
+            self.words(part);
+            if let [piece, behind @ ..] = left {
+                self.piece(*piece);
+                left = behind;
+            }
         }
+    }
+
+    /// The same of what says of what the line is. Where nothing follows it nothing is said.
+    pub fn about(&mut self, words: &str, pieces: &[Piece<'_>]) {
+        self.say(words, pieces);
+        self.open = true;
     }
 
     /// Writes the line, unless it is lost.
     pub fn send<K: Sink>(mut self, out: &mut K) {
         self.put(b"\n");
-        if !self.lost {
+        if !self.lost && !self.open {
             let _ = put_all(out, self.line.as_slice());
         }
     }

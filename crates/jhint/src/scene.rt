@@ -2,13 +2,11 @@ ghost use Rattle.std.specs.Prelude.{◌≡◌, true};
 ghost use Rattle.jprogram.specs.Layers.{IsLayered};
 
 use crate::said::{Piece, Said};
-use bitflags::Flags;
-use jclass::{Access, ClassParts, MemberInfo};
+use jclass::{ClassFile, ClassParts, MemberInfo};
 use jground::jtext::{Units, bytes_of};
 use jmeaning::juses::{CodeRef, code_at};
 use jprogram::{
-    ClassRef, MethodId, NamedProgram, member_desc, member_name, program_laws, same_package,
-    this_name,
+    ClassRef, MethodId, NamedProgram, member_desc, member_name, program_laws, this_name,
 };
 use std::alloc::Global;
 
@@ -16,17 +14,19 @@ use std::alloc::Global;
 #[derive(Clone, Copy)]
 pub struct Scene<'a> {
     pub program: &'a NamedProgram,
+    pub file: &'a ClassFile,
     pub class: &'a ClassParts,
     pub number: u32,
 }
 
 fn class_of<'a>(program: &'a NamedProgram, name: &[u8]) -> Option<Scene<'a>> {
-    let ClassRef::User(number) = program.class_of(name)? else {
+    let Some(ClassRef::User(number)) = program.class_of(name) else {
         return None;
     };
     let part = program.parts().get(number as usize)?;
     Some(Scene {
         program,
+        file: &part.class,
         class: part.class.parts(),
         number,
     })
@@ -34,8 +34,10 @@ fn class_of<'a>(program: &'a NamedProgram, name: &[u8]) -> Option<Scene<'a>> {
 
 /// The class of a name.
 pub fn scene_of<'a>(alloc: Global, program: &'a NamedProgram, name: &Units) -> Option<Scene<'a>> {
-    let bytes = bytes_of(alloc, name).ok()?;
-    class_of(program, bytes.as_slice())
+    match bytes_of(alloc, name) {
+        Ok(bytes) => class_of(program, &bytes),
+        Err(_) => None,
+    }
 }
 
 /// A member that a refusal names: its number among the methods or the fields, what the class says of it, and its code where it has any.
@@ -46,69 +48,71 @@ pub struct Told<'a> {
     pub code: Option<CodeRef<'a>>,
 }
 
-/// The number of the member with this name, and behind it this descriptor.
-fn number_among(class: &ClassParts, members: &[MemberInfo], told: &[u8]) -> Option<u32> {
+/// Whether a text is a name, and behind it a descriptor.
+pub fn is_told(told: &[u8], name: &[u8], desc: &[u8]) -> bool {
+    match told.strip_prefix(name) {
+        Some(behind) => behind == desc,
+        None => false,
+    }
+}
+
+/// The member with this name, and behind it this descriptor, and without code.
+fn among<'a>(class: &ClassParts, members: &'a [MemberInfo], told: &[u8]) -> Option<Told<'a>> {
     let mut number: u32 = 0;
-    for member in members {
-        if told.strip_prefix(member_name(class, member)) == Some(member_desc(class, member)) {
-            return Some(number);
+    for info in members {
+        if is_told(told, member_name(class, info), member_desc(class, info)) {
+            return Some(Told {
+                number,
+                info,
+                code: None,
+            });
         }
         number = number.saturating_add(1);
     }
     None
 }
 
-fn field_of<'a>(class: &'a ClassParts, told: &[u8]) -> Option<Told<'a>> {
-    let fields = class.fields.as_slice();
-    let number = number_among(class, fields, told)?;
-    Some(Told {
-        number,
-        info: fields.get(number as usize)?,
-        code: None,
-    })
-}
-
 /// The method that a refusal names, or else the field.
-pub fn told_in<'a>(scene: Scene<'a>, told: &[u8]) -> Option<Told<'a>> {
-    let methods = scene.class.methods.as_slice();
-    let Some(number) = number_among(scene.class, methods, told) else {
-        return field_of(scene.class, told);
+fn told_in<'a>(scene: Scene<'a>, told: &[u8]) -> Option<Told<'a>> {
+    let Some(found) = among(scene.class, scene.class.methods.as_slice(), told) else {
+        return among(scene.class, scene.class.fields.as_slice(), told);
     };
     let method = MethodId {
         class: scene.number,
-        method: number,
+        method: found.number,
     };
     Some(Told {
-        number,
-        info: methods.get(number as usize)?,
         code: code_at(scene.program, method),
+        ..found
     })
 }
 
 /// The same by its text.
 pub fn member_of<'a>(alloc: Global, scene: Scene<'a>, told: &Units) -> Option<Told<'a>> {
-    let bytes = bytes_of(alloc, told).ok()?;
-    told_in(scene, bytes.as_slice())
+    match bytes_of(alloc, told) {
+        Ok(bytes) => told_in(scene, &bytes),
+        Err(_) => None,
+    }
 }
 
-/// Says a class, and a member of it where there is one.
-pub fn say_place(class: &Units, member: &Option<Units>, said: &mut Said) {
-    said.say(&[Piece::Words("class "), Piece::Units(class.as_slice())]);
-    if let Some(member) = member {
-        said.say(&[Piece::Words(", "), Piece::Units(member.as_slice())]);
+/// Says of which class a sentence is, and of which member where it is of one.
+pub fn say_place<'a>(class: &'a Units, member: &'a Option<Units>, said: &mut Said) {
+    let class = Piece::Units(class.as_slice());
+    match member {
+        Some(member) => said.about("class %, %: ", &[class, Piece::Units(member.as_slice())]),
+        None => said.about("class %: ", &[class]),
     }
-    said.words(": ");
 }
 
 impl<'a> Scene<'a> {
-    /// Whether a class of a name may not be named from here.
+    /// Whether there is a class of a name.
+    pub fn has(self, name: &[u8]) -> bool {
+        self.program.class_of(name).is_some()
+    }
+
+    /// Whether there is a class of a name that may not be named from here.
     pub fn is_hidden(self, name: &[u8]) -> bool {
-        match class_of(self.program, name) {
-            Some(Scene { class, .. }) => {
-                !class.flags.contains(Access::PUBLIC) && !same_package(name, this_name(self.class))
-            }
-            None => false,
-        }
+        self.has(name) && !self.program.may_name(this_name(self.class), name)
     }
 }
 

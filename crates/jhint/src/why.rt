@@ -1,16 +1,16 @@
-ghost use Rattle.std.specs.Prelude.{◌≡◌, ◌≤◌, ◌<◌, ◌^◌, IfSome, IsTrue, length};
+ghost use Rattle.std.specs.Prelude.{◌≡◌, ◌≤◌, ◌<◌, ◌^◌, IsTrue, length};
 ghost use Rattle.jtask.specs.Tasks.{reads};
 
 use crate::checks::say_check;
 use crate::classes::say_class;
-use crate::files::{bytes_at, job_of, linked, named, parts_at};
+use crate::files::{bytes_at, linked, named, parts_at};
 use crate::limits::say_limit;
 use crate::lines::say_line;
 use crate::links::say_link;
 use crate::mains::say_main;
 use crate::policies::say_policy;
 use crate::said::{Piece, Said};
-use jjob::{Command, Form, Job, read_words};
+use jjob::{Command, Form, Job, read_job, read_words};
 use jlib::Side;
 use jprogram::{CodePart, NamedProgram};
 use jrights::jio::{Shelf, Sink};
@@ -20,23 +20,13 @@ use std::alloc::Global;
 
 // ---- the command
 
-fn command_of(alloc: Global, words: &[String]) -> Option<Command>
-    ensures { IfSome result (λ c. IsTrue (reads c)) }
-{
-    let command = read_words(alloc, words).ok()?;
-    if !reads_files(&command) {
-        return None;
-    }
-    Some(command)
-}
-
 /// The path of a command's job, empty where it has none.
 fn job_path(command: &Command) -> &str {
     match command {
-        Command::Run { job, .. } => job.as_str(),
-        Command::Check { job, .. } => job.as_str(),
-        Command::Rewrite { job, .. } => job.as_str(),
-        Command::Policy { job } => job.as_str(),
+        Command::Run { job, .. }
+        | Command::Check { job, .. }
+        | Command::Rewrite { job, .. }
+        | Command::Policy { job } => job.as_str(),
         Command::Gen { .. } => "",
     }
 }
@@ -47,8 +37,8 @@ fn side_of(command: &Command) -> Side {
         Command::Run {
             form: Form::Plain,
             ..
-        } => Side::Passing,
-        Command::Check {
+        }
+        | Command::Check {
             form: Form::Plain,
             ..
         } => Side::Passing,
@@ -100,7 +90,7 @@ fn say_of_file(job: &Job, path: &str, bytes: &[u8], refusal: &Refusal, said: &mu
         Refusal::BadPolicy { at, kind } => {
             say_policy(path, bytes, *at, *kind, job.props.as_slice(), said)
         }
-        _ => said.lose(),
+        _ => {}
     }
 }
 
@@ -118,26 +108,20 @@ fn say_of_program(program: &NamedProgram, refusal: &Refusal, said: &mut Said) {
             kind,
         } => say_limit(program, class, member, *kind, said),
         Refusal::NoMain(name) => say_main(program, name, said),
-        _ => said.lose(),
-    }
-}
-
-fn say_of_named(parts: Vec<CodePart>, side: Side, refusal: &Refusal, said: &mut Said) {
-    match named(said.alloc, parts, side) {
-        Some(program) => say_of_program(&program, refusal, said),
-        None => said.lose(),
+        _ => {}
     }
 }
 
 /// Says why the classes of a job aren't well typed, or else the same as above.
 fn say_of_parts(parts: Vec<CodePart>, side: Side, refusal: &Refusal, said: &mut Said) {
     let Refusal::BadCheck { class, member, at } = refusal else {
-        say_of_named(parts, side, refusal, said);
+        if let Some(program) = named(said.alloc, parts, side) {
+            say_of_program(&program, refusal, said);
+        }
         return;
     };
-    match linked(said.alloc, parts, side) {
-        Some(program) => say_check(&program, class, member, *at, said),
-        None => said.lose(),
+    if let Some(program) = linked(said.alloc, parts, side) {
+        say_check(&program, class, member, *at, said);
     }
 }
 
@@ -152,12 +136,12 @@ fn say_ground<S: Shelf>(side: Side, job: &Job, refusal: &Refusal, shelf: &mut S,
         say_of_parts(parts, side, refusal, said);
         return;
     };
-    match bytes_at(said.alloc, path, shelf) {
-        Some(bytes) => say_of_file(job, path, &bytes, refusal, said),
-        None => said.lose(),
+    if let Some(bytes) = bytes_at(said.alloc, path, shelf) {
+        say_of_file(job, path, &bytes, refusal, said);
     }
 }
 
+/// Says of a job of this text why the command is refused.
 fn say_job<S: Shelf>(
     command: &Command,
     text: &[u8],
@@ -174,34 +158,26 @@ fn say_job<S: Shelf>(
         say_line(job_path(command), text, *line, said);
         return;
     }
-    match job_of(said.alloc, text) {
-        Some(job) => say_ground(side_of(command), &job, refusal, shelf, said),
-        None => said.lose(),
+    if let Ok(job) = read_job(said.alloc, text) {
+        say_ground(side_of(command), &job, refusal, shelf, said);
     }
 }
 
-fn say_refusal<S: Shelf>(command: &Command, refusal: &Refusal, shelf: &mut S, said: &mut Said)
-    ensures held { S.held shelf.new ≡ S.held shelf.old }
-    ensures stored { S.write_faults shelf.new ≡ S.write_faults shelf.old }
-    ensures later { S.read_faults shelf.old ≤ S.read_faults shelf.new }
-{
-    match bytes_at(said.alloc, job_path(command), shelf) {
-        Some(text) => say_job(command, &text, refusal, shelf, said),
-        None => said.lose(),
-    }
-}
-
-/// What is said of a command's refusal, where it is refused.
-fn told_of<S: Shelf>(alloc: Global, command: &Command, shelf: &mut S) -> Option<Said>
+/// Says in one line why a command that reads files is refused, where it is.
+fn say_of_command<S: Shelf, K: Sink>(alloc: Global, command: &Command, shelf: &mut S, out: &mut K)
     requires { IsTrue (reads command.now) }
     ensures held { S.held shelf.new ≡ S.held shelf.old }
     ensures stored { S.write_faults shelf.new ≡ S.write_faults shelf.old }
     ensures later { S.read_faults shelf.old ≤ S.read_faults shelf.new }
 {
-    let refusal = refusal_of(alloc, command, shelf)?;
+    let Some(refusal) = refusal_of(alloc, command, shelf) else {
+        return;
+    };
     let mut said = Said::new(alloc);
-    say_refusal(command, &refusal, shelf, &mut said);
-    Some(said)
+    if let Some(text) = bytes_at(alloc, job_path(command), shelf) {
+        say_job(command, &text, &refusal, shelf, &mut said);
+    }
+    said.send(out);
 }
 
 /// Says in one line why the command of the words is refused, where it is: its task is done again, and the files are looked at. What is said
@@ -211,11 +187,11 @@ pub fn say_why<S: Shelf, K: Sink>(alloc: Global, words: &[String], shelf: &mut S
     ensures stored { S.write_faults shelf.new ≡ S.write_faults shelf.old }
     ensures later { S.read_faults shelf.old ≤ S.read_faults shelf.new }
 {
-    let Some(command) = command_of(alloc, words) else {
+    let Ok(command) = read_words(alloc, words) else {
         return;
     };
-    if let Some(said) = told_of(alloc, &command, shelf) {
-        said.send(out);
+    if reads_files(&command) {
+        say_of_command(alloc, &command, shelf, out);
     }
 }
 
@@ -234,7 +210,7 @@ pub fn say_file<K: Sink>(
     }
     said.words(fault);
     if !reason.is_empty() {
-        said.say(&[Piece::Words(": "), Piece::Words(reason)]);
+        said.say(": %", &[Piece::Words(reason)]);
     }
     said.send(out);
 }
