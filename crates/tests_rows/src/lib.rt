@@ -12,6 +12,6 @@ pub use answer::Answer;
 pub use asking::{Rows, ask};
 pub use section::{Line, Section};
 pub use words::{
-    Unread, between, bytes_of, debug, debug_behind, debug_pair, first, hex_of, is_spelled, number,
-    put_hex, string_of, unquoted, yes_or_no,
+    Unread, bytes_of, debug, debug_behind, first, hex_of, number, put_hex, string_of, unquoted,
+    yes_or_no,
 };

@@ -115,15 +115,6 @@ pub fn debug<T: fmt::Debug>(alloc: Global, one: &T) -> Result<String, AllocError
     format!(in alloc; "{one:?}")
 }
 
-/// The same of two values, with a space between.
-pub fn debug_pair<A: fmt::Debug, B: fmt::Debug>(
-    alloc: Global,
-    one: &A,
-    other: &B,
-) -> Result<String, AllocError> {
-    format!(in alloc; "{one:?} {other:?}")
-}
-
 /// The same of a value behind words.
 pub fn debug_behind<T: fmt::Debug>(
     alloc: Global,
@@ -131,11 +122,6 @@ pub fn debug_behind<T: fmt::Debug>(
     one: &T,
 ) -> Result<String, AllocError> {
     format!(in alloc; "{words}{one:?}")
-}
-
-/// A text between signs.
-pub fn between(alloc: Global, front: &str, text: &str, end: &str) -> Result<String, AllocError> {
-    format!(in alloc; "{front}{text}{end}")
 }
 
 /// How a yes or a no is told.
