@@ -5,7 +5,8 @@ use Rattle.std.specs.List.{cons_option, filter_map, flat_map, list_any}
 use Rattle.jground.specs.jbase.First.{first_some, or_else}
 use Rattle.jjob.specs.declared.line.Said.{Said}
 use Rattle.jjob.specs.declared.line.Said.TheVariants.{Policy, Prop, Cwd, Code, Class, Main, Schedule, Heap, Depth, Steps}
-use Rattle.jjob.specs.Jobs.{class_in, clashes, code_in, count_of, cwd_in, depth_in, has, heap_in, is_bad, main_in, name_in, picks_in, policy_in, prop_in, steps_in}
+use Rattle.jjob.specs.Jobs.{class_in, clashes, code_in, count_of, cwd_in, depth_in, has, heap_in, main_in, picks_in, policy_in, prop_in, steps_in}
+use Rattle.jjob.specs.ProofNames.{is_bad, name_in}
 use Rattle.jjob.specs.Limits.{most_classes, most_codes, most_picks}
 
 -- what is said, without the path of a class file

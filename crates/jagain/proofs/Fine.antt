@@ -7,7 +7,8 @@ use Rattle.jground.specs.jbase.First.{fault_if, first_along, or_else}
 use Rattle.jjob.specs.declared.line.Said.{Said}
 use Rattle.jjob.specs.declared.line.Said.TheVariants.{Policy, Prop, Cwd, Code, Class, Main, Schedule, Heap, Depth, Steps}
 use Rattle.jjob.specs.JobLines.{is_kept, said_of}
-use Rattle.jjob.specs.Jobs.{bad_behind, first_bad, is_bad, said_by}
+use Rattle.jjob.specs.Jobs.{bad_behind, first_bad, said_by}
+use Rattle.jjob.specs.ProofNames.{is_bad}
 use Rattle.jjob.specs.Storing.{line_with, paths_behind}
 use Rattle.jagain.specs.Again.{IsName}
 use Rattle.jagain.proofs.Blanks.{bad_blank, blank}

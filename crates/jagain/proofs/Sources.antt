@@ -8,7 +8,8 @@ use Rattle.jjob.specs.declared.line.Said.TheVariants.{Policy, Prop, Cwd, Code, C
 use Rattle.jjob.specs.JobLines.{is_kept, said_of}
 use Rattle.jjob.specs.Jobs.{clashes, classes_here, code_in, count_of, said_by, sources_of}
 use Rattle.jjob.specs.Limits.{most_classes}
-use Rattle.jjob.specs.Jobs.{class_in, is_bad}
+use Rattle.jjob.specs.Jobs.{class_in}
+use Rattle.jjob.specs.ProofNames.{is_bad}
 use Rattle.jagain.specs.Again.{in_place, with_classes}
 use Rattle.jagain.proofs.Fine.{Fine, bad_at}
 use Rattle.jagain.proofs.Saying.{said_cons, says, with_paths}

@@ -9,22 +9,24 @@ use Rattle.jclass.specs.declared.class.Attribute.{Attribute}
 use Rattle.jclass.specs.declared.class.Attribute.TheVariants.{ConstantValue, Code, Raw}
 use Rattle.jclass.specs.declared.fault.ClassFault.TheVariants.{Index}
 use Rattle.jclass.specs.Basics.{u2, run, access}
-use Rattle.jclass.specs.Attributes.{text_index, name_once, content, raw_from, raw_parts, class_attribute, constant, constant_from, constant_parts, is_constant, field_attribute}
+use Rattle.jclass.specs.Attributes.{text_index, name_once, content, class_attribute, constant, constant_from, constant_parts, is_constant, field_attribute}
+use Rattle.jclass.specs.ProofNames.{raw_parts}
 use Rattle.jclass.specs.AttributeLaws.{u2_law, run_law, index_law, content_law, name_once_law, constant_law}
+use Rattle.jground.specs.jformat.Cases.{two_of}
 
 pub access_law : IsFormat access
 access_law = via_law _ _ u2 (λ n fit. refl) (λ a fit. refl) u2_law
 
 -- ---- of a class
 
-raw_only : (b : Attribute) (a : ℕ × List ℕ) → raw_parts b ≡ Some a → b ≡ raw_from a
-raw_only (Raw name bytes) a e = let made : ℕ × List ℕ = (name, bytes) in let same : made ≡ a = cc in ap raw_from same
+raw_only : (b : Attribute) (a : ℕ × List ℕ) → raw_parts b ≡ Some a → b ≡ two_of Raw a
+raw_only (Raw name bytes) a e = let made : ℕ × List ℕ = (name, bytes) in let same : made ≡ a = cc in ap (two_of Raw) same
 raw_only (ConstantValue name value) a e = absurd cc
 raw_only (Code name stack locals ops handlers attributes) a e = absurd cc
 
 pub class_attribute_law : (pool : List Entry) → IsFormat (class_attribute pool)
 unfolding class_attribute
-class_attribute_law pool = as_case_law raw_from raw_parts (text_index pool · run) (λ a. refl) raw_only (pair_law (text_index pool) run (index_law (is_utf8 pool)) run_law)
+class_attribute_law pool = as_case_law (two_of Raw) raw_parts (text_index pool · run) (λ a. refl) raw_only (pair_law (text_index pool) run (index_law (is_utf8 pool)) run_law)
 
 -- ---- of a field
 

@@ -1,6 +1,6 @@
 -- A class file is a body: what is read is spelled so, and what is spelled so is read.
 use Rattle.std.proofs.Common.{◌≡◌, ℕ, ◌-◌, ◌≤◌, Bool, true, false, ◌⊎◌, List, [], ◌∷◌, ◌++◌, length, Option, Some, None, Ok, Err, refl, sym, ap, subst, ◌∙◌, arith, inl, inr}
-use Rattle.std.specs.Prelude.{IsTrue, is_some, option_map, slice_get}
+use Rattle.std.specs.Prelude.{IsTrue, is_some, option_map, slice_get, option_and_then}
 use Rattle.std.proofs.lemmas.List.{append-nil}
 use Rattle.jground.specs.jbase.First.{or_else}
 use Rattle.jground.specs.declared.jformat.error.Fault.{Fault}
@@ -14,9 +14,9 @@ use Rattle.jground.proofs.JformatProofs.Stateful.{counted_from_law}
 use Rattle.jground.proofs.JformatProofs.Skims.{Skims, skims_itself, skims_such, skims_pair, skims_then, skims_counted, passes_law, ahead_law}
 use Rattle.jparts.specs.declared.jpool.entry.Entry.{Entry}
 use Rattle.jparts.specs.jpool.Entries
-use Rattle.jparts.specs.jpool.Entries.{size}
+use Rattle.jparts.specs.jpool.Entries.{size, utf8_parts}
 use Rattle.jparts.specs.jpool.Pools
-use Rattle.jparts.specs.jpool.Pools.{IsPool, faulty, first_fault, is_utf8, name_fault, text_in, utf8_at}
+use Rattle.jparts.specs.jpool.Pools.{IsPool, faulty, first_fault, is_utf8, name_fault, utf8_at}
 use Rattle.jparts.specs.declared.jpool.entry.Entry.TheVariants.{Class}
 use Rattle.jparts.proofs.JpoolProofs.EntryLaws.{shape_law}
 use Rattle.jparts.proofs.JpoolProofs.PoolLaws.{none_is_good, good_is_none, at_index}
@@ -29,12 +29,13 @@ use Rattle.jclass.specs.declared.fault.ClassFault.TheVariants.{Trailing, Magic}
 use Rattle.jclass.specs.Basics.{u2, u4, run, access, index, told, told_as, pool_fault}
 use Rattle.jclass.specs.Rules.{names_class, names_super, is_code, field_descriptor, method_descriptor}
 use Rattle.jclass.specs.Shapes
-use Rattle.jclass.specs.Shapes.{HeadParts, magic, major, entries, shape, has_shape}
+use Rattle.jclass.specs.Shapes.{HeadParts, major, entries, shape, has_shape}
+use Rattle.jclass.specs.ProofNames.{magic, names_of}
 use Rattle.jclass.specs.Judging
 use Rattle.jclass.specs.Judging.{entry_fault, no_fault, judged}
 use Rattle.jclass.specs.Attributes.{text_index, content, class_attribute, field_attribute, saw_constant}
 use Rattle.jclass.specs.Codes.{code_body}
-use Rattle.jclass.specs.Members.{member_from, member_parts, field, code_from, code_parts, method_attribute, method_parts, names_at, names_of, codes_fault, method}
+use Rattle.jclass.specs.Members.{member_from, member_parts, field, code_from, code_parts, method_attribute, method_parts, names_at, codes_fault, method}
 use Rattle.jclass.specs.Class.{TailParts, tail, class_from, class_parts, strict, class_file, Spells}
 use Rattle.jclass.specs.AttributeLaws.{u2_law, u4_law, run_law, index_law, content_law}
 use Rattle.jclass.proofs.AttributeLaws.{access_law, class_attribute_law, field_attribute_law}
@@ -243,7 +244,7 @@ named_good (Some text) h = refl
 
 class_named : (pool : List Entry) (name : ℕ) → is_good (entry_fault pool (Class name)) ≡ true → IsTrue (is_utf8 pool name)
 unfolding entry_fault Pools.entry_fault utf8_at is_utf8
-class_named pool name h = named_good (text_in (slice_get pool name)) h
+class_named pool name h = named_good (option_and_then utf8_parts (slice_get pool name)) h
 
 pub head_pool : (bytes rest : List ℕ) (h : HeadParts) (left : ℕ) → IsBytes bytes → Shapes.head.read bytes ≡ Ok (h, rest) → first_fault (entry_fault h.1.1.1) left h.1.1.1 ≡ None → IsPool h.1.1.1
 unfolding Shapes.head entries

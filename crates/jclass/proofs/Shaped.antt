@@ -22,11 +22,13 @@ use Rattle.jclass.specs.declared.fault.ClassFault.TheVariants.{Truncated, Index}
 use Rattle.jclass.specs.Basics.{u2, u4, run, access}
 use Rattle.jclass.specs.Shapes
 use Rattle.jclass.specs.Rules.{is_code, field_descriptor, method_descriptor}
-use Rattle.jclass.specs.Attributes.{text_index, name_fault, name_once, content, raw_from, raw_parts, class_attribute, constant, constant_from, constant_parts, is_constant, field_attribute, saw_constant}
+use Rattle.jclass.specs.Attributes.{text_index, name_fault, name_once, content, class_attribute, constant, constant_from, constant_parts, is_constant, field_attribute, saw_constant}
+use Rattle.jclass.specs.ProofNames.{raw_parts, names_of}
 use Rattle.jclass.specs.Codes.{code_body}
-use Rattle.jclass.specs.Members.{member_from, member_parts, field, code_from, code_parts, method_attribute, method_parts, name_at, names_at, attribute_name, names_of, codes_fault, method}
+use Rattle.jclass.specs.Members.{member_from, member_parts, field, code_from, code_parts, method_attribute, method_parts, name_at, names_at, attribute_name, codes_fault, method}
 use Rattle.jclass.specs.AttributeLaws.{u2_law, u4_law, run_law}
 use Rattle.jclass.proofs.AttributeLaws.{access_law}
+use Rattle.jground.specs.jformat.Cases.{two_of}
 
 -- ---- values by a state
 
@@ -63,7 +65,7 @@ index_skim test = skims_such u2 test u2 (skims_itself u2 u2_law)
 
 class_attribute_skim : (pool : List Entry) → Skims Shapes.attribute (class_attribute pool)
 unfolding class_attribute
-class_attribute_skim pool = skims_case Shapes.attribute raw_from raw_parts (text_index pool · run) (skims_pair u2 run (text_index pool) run (index_skim (λ i. unless (is_utf8 pool i) Index)) (skims_itself run run_law))
+class_attribute_skim pool = skims_case Shapes.attribute (two_of Raw) raw_parts (text_index pool · run) (skims_pair u2 run (text_index pool) run (index_skim (λ i. unless (is_utf8 pool i) Index)) (skims_itself run run_law))
 
 field_attribute_skim : (pool : List Entry) (flags : Access) (desc : ℕ) (seen : Bool) → Skims Shapes.attribute (field_attribute pool flags desc seen)
 unfolding field_attribute

@@ -32,8 +32,9 @@ use Rattle.jclass.specs.Shapes
 use Rattle.jclass.specs.Judging
 use Rattle.jclass.specs.Judging.{is_modified, entry_fault, no_fault}
 use Rattle.jclass.specs.Attributes.{text_index, name_once, content}
-use Rattle.jclass.specs.Codes.{begins, ends, code_length, length_fault, ops, handler, handler_parts, target_fault, behind_ops, code_content, code_body, maps, attribute, saw_maps}
-use Rattle.jclass.specs.Members.{body_of, codes_fault, method, method_parts, method_attribute, names_of}
+use Rattle.jclass.specs.Codes.{begins, ends, code_length, ops, handler, handler_parts, target_fault, behind_ops, code_content, code_body, maps, attribute, saw_maps}
+use Rattle.jclass.specs.ProofNames.{length_fault, names_of}
+use Rattle.jclass.specs.Members.{body_of, codes_fault, method, method_parts, method_attribute}
 use Rattle.jclass.specs.Class.{tail, class_parts, strict, class_file}
 use Rattle.jclass.specs.Stored.{IsIn, HasCode, Leads}
 use Rattle.jclass.specs.Operands.{names_well}

@@ -12,6 +12,7 @@ use Rattle.jclass.specs.declared.fault.ClassFault.{ClassFault}
 use Rattle.jclass.specs.declared.fault.ClassFault.TheVariants.{Truncated, Trailing, Index}
 use Rattle.jclass.specs.Basics.{u2, u4, run, index, by_test}
 use Rattle.jclass.specs.Rules.{is_static, is_constant_value, suits_field}
+use Rattle.jground.specs.jformat.Cases.{two_of}
 
 -- ---- names
 
@@ -32,14 +33,8 @@ content here body = by_test here (block u4 Truncated body) run
 
 -- ---- of a class
 
-abbrev pub raw_from : ℕ × List ℕ → Attribute
-raw_from p = Raw p.0 p.1
-
-abbrev pub raw_parts : Attribute → Option (ℕ × List ℕ)
-raw_parts = elim [ Raw name bytes ↦ Some (name, bytes) | _ ↦ None ]
-
 unfoldable pub class_attribute : List Entry → Format ClassFault Attribute
-class_attribute pool = as_case raw_from raw_parts (text_index pool · run)
+class_attribute pool = as_case (two_of Raw) (elim [ Raw name bytes ↦ Some (name, bytes) | _ ↦ None ]) (text_index pool · run)
 
 -- ---- of a field
 
@@ -48,8 +43,7 @@ abbrev pub constant : List Entry → ℕ → Body ClassFault ℕ
 constant pool desc = whole Trailing (index (suits_field pool desc))
 
 abbrev pub constant_from : ℕ × (ℕ ⊎ List ℕ) → Attribute
-constant_from (name, inl value) = ConstantValue name value
-constant_from (name, inr bytes) = Raw name bytes
+constant_from p = elim p.1 [ inl value ↦ ConstantValue p.0 value | inr bytes ↦ Raw p.0 bytes ]
 
 abbrev pub constant_parts : Attribute → Option (ℕ × (ℕ ⊎ List ℕ))
 constant_parts = elim [ ConstantValue name value ↦ Some (name, inl value) | Raw name bytes ↦ Some (name, inr bytes) | _ ↦ None ]

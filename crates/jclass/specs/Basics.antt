@@ -33,19 +33,11 @@ access = via (λ n. record { 0 = n }) (λ a. a.0) u2
 abbrev pub index : (ℕ → Bool) → Format ClassFault ℕ
 index test = such (λ i. unless (test i) Index) u2
 
-abbrev pub spell_either : {A B : Type 0} → Format ClassFault A → Format ClassFault B → A ⊎ B → List ℕ
-spell_either f g (inl a) = f.spell a
-spell_either f g (inr b) = g.spell b
-
-abbrev pub fits_by : {A B : Type 0} → Bool → Format ClassFault A → Format ClassFault B → A ⊎ B → Bool
-fits_by test f g (inl a) = test && f.fits a
-fits_by test f g (inr b) = not test && g.fits b
-
 -- the one format where the test holds, else the other; a value is spelled by its own form
 abbrev pub by_test : {A B : Type 0} → Bool → Format ClassFault A → Format ClassFault B → Format ClassFault (A ⊎ B)
 by_test test f g = record {
-  spell = spell_either f g;
-  fits = fits_by test f g;
+  spell = elim [ inl a ↦ f.spell a | inr b ↦ g.spell b ];
+  fits = elim [ inl a ↦ test && f.fits a | inr b ↦ not test && g.fits b ];
   read = λ bytes. if test then (f.read bytes >>= λ x. Ok (inl x.0, x.1)) else (g.read bytes >>= λ x. Ok (inr x.0, x.1));
 }
 

@@ -30,7 +30,8 @@ use Rattle.jclass.specs.Basics.{u2, u4, index, told}
 use Rattle.jclass.specs.Rules.{names_caught, is_maps}
 use Rattle.jclass.specs.Attributes.{name_once, content}
 use Rattle.jclass.specs.Codes.{frame_kinds, plain_type, type_fault, named_type, maps, attribute_from, attribute_parts, attribute, saw_maps, code_fault, none_misnamed, ops}
-use Rattle.jclass.specs.Codes.{HandlerParts, handler_parts, target_fault, handler, length_fault, code_length, behind_ops, code_content, code_body}
+use Rattle.jclass.specs.Codes.{handler_parts, target_fault, handler, code_length, behind_ops, code_content, code_body}
+use Rattle.jclass.specs.ProofNames.{length_fault}
 use Rattle.jclass.specs.AttributeLaws.{u2_law, u4_law, index_law, content_law, name_once_law}
 
 -- ---- frames
@@ -76,7 +77,7 @@ four_law = pair_law u2 _ u2_law (pair_law u2 _ u2_law (pair_law u2 u2 u2_law u2_
 three_law : (pool : List Entry) → IsFormat (u2 · u2 · u2 · index (names_caught pool))
 three_law pool = pair_law u2 _ u2_law (pair_law u2 _ u2_law (pair_law u2 _ u2_law (index_law (names_caught pool))))
 
-looser : (pool : List Entry) (p : HandlerParts) → IsTrue ((u2 · u2 · u2 · index (names_caught pool)).fits p) → IsTrue ((u2 · u2 · u2 · u2).fits p)
+looser : (pool : List Entry) (p : ℕ × (ℕ × (ℕ × ℕ))) → IsTrue ((u2 · u2 · u2 · index (names_caught pool)).fits p) → IsTrue ((u2 · u2 · u2 · u2).fits p)
 looser pool p fit =
     let a = first_true (u2.fits p.0) ((u2 · u2 · index (names_caught pool)).fits p.1) fit in
     let bs = second_true (u2.fits p.0) ((u2 · u2 · index (names_caught pool)).fits p.1) fit in

@@ -1,5 +1,5 @@
 -- The code of a method (JVMS 4.7.3), with its handlers and its attributes, of which StackMapTable is looked into (JVMS 4.7.4).
-use Rattle.std.specs.Prelude.{ℕ, pos, ◌-◌, Bool, true, false, ◌||◌, ◌&&◌, ◌⊎◌, List, length, Option, Some, None, Result, Ok, Err, ◌==◌, nat_lt, if◌then◌else◌}
+use Rattle.std.specs.Prelude.{ℕ, pos, ◌-◌, Bool, true, false, ◌||◌, ◌&&◌, ◌⊎◌, List, length, Option, Some, None, Result, Ok, Err, ◌==◌, nat_lt, if◌then◌else◌, unwrap_or, []}
 use Rattle.std.specs.List.{list_all}
 use Rattle.std.proofs.Common.{inl, inr}
 use Rattle.jground.specs.jbase.Stops.{◌>>=◌}
@@ -53,8 +53,7 @@ unfoldable pub maps : List Entry → Body ClassFault (List RawFrame)
 maps pool = passes (frames frame_kinds plain_type).read (λ fs. fs) (λ _. frames frame_kinds (named_type pool))
 
 abbrev pub attribute_from : ℕ × (List RawFrame ⊎ List ℕ) → CodeAttribute
-attribute_from (name, inl fs) = code.Maps name fs
-attribute_from (name, inr bytes) = code.Raw name bytes
+attribute_from p = elim p.1 [ inl fs ↦ code.Maps p.0 fs | inr bytes ↦ code.Raw p.0 bytes ]
 
 abbrev pub attribute_parts : CodeAttribute → ℕ × (List RawFrame ⊎ List ℕ)
 attribute_parts = elim [ code.Maps name fs ↦ (name, inl fs) | code.Raw name bytes ↦ (name, inr bytes) ]
@@ -96,14 +95,11 @@ ends ps at = at == length (Instructions.code.spell ps) || begins ps at
 
 -- ---- handlers
 
-abbrev pub HandlerParts : Type 0
-HandlerParts = ℕ × (ℕ × (ℕ × ℕ))
-
-abbrev pub handler_parts : Handler → HandlerParts
+abbrev pub handler_parts : Handler → ℕ × (ℕ × (ℕ × ℕ))
 handler_parts h = (h.start, (h.end, (h.at, h.class)))
 
 -- the start is below the end, both are places of the code, and so is the handler
-abbrev pub target_fault : List Placed → HandlerParts → Option ClassFault
+abbrev pub target_fault : List Placed → ℕ × (ℕ × (ℕ × ℕ)) → Option ClassFault
 target_fault ps p = unless (nat_lt p.0 p.1.0 && (begins ps p.0 && (ends ps p.1.0 && begins ps p.1.1.0))) Target
 
 -- a handler: its places are looked at before the class that it catches
@@ -113,12 +109,9 @@ handler pool ps = ahead (u2 · u2 · u2 · u2).read handler_parts (target_fault 
 
 -- ---- code
 
-abbrev pub length_fault : ℕ → Option ClassFault
-length_fault n = if n == 0 || nat_lt 0xffff n then Some kinds.Code else None
-
 -- the number of bytes of a method's instructions
 abbrev pub code_length : Format ClassFault ℕ
-code_length = such length_fault u4
+code_length = such (λ n. if n == 0 || nat_lt 0xffff n then Some kinds.Code else None) u4
 
 -- behind the instructions
 abbrev pub behind_ops : List Entry → List Placed → Format ClassFault (List Handler × List CodeAttribute)
@@ -136,3 +129,12 @@ code_content pool =
 -- all of it
 abbrev pub code_body : List Entry → Body ClassFault CodeBody
 code_body pool = whole Trailing (code_content pool)
+
+-- ---- the frames of its StackMapTable
+
+abbrev pub maps_of : CodeAttribute → Option (List RawFrame)
+maps_of = elim [ code.Maps name frames ↦ Some frames | code.Raw name bytes ↦ None ]
+
+-- the frames of a code's StackMapTable, as they are written (JVMS 4.7.4)
+abbrev pub frames_in : CodeBody → List RawFrame
+frames_in b = unwrap_or (first_some maps_of b.attributes) []

@@ -10,3 +10,4 @@ pub mod Operands
 pub mod Rules
 pub mod Shapes
 pub mod Stored
+pub mod ProofNames

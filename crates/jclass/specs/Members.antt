@@ -3,7 +3,7 @@ use Rattle.std.specs.Prelude.{ℕ, Bool, false, ◌⊎◌, List, map, length, Op
 use Rattle.std.specs.List.{filter}
 use Rattle.std.proofs.Common.{inl, inr}
 use Rattle.jground.specs.jbase.Stops.{◌>>=◌}
-use Rattle.jground.specs.jformat.Format.{Answer, Format, ◌·◌, ◌▹◌, via, as_case, part_spell, part_fits, unless}
+use Rattle.jground.specs.jformat.Format.{Answer, Format, ◌·◌, ◌▹◌, via, as_case, part_fits, unless, part_spell}
 use Rattle.jground.specs.jformat.Bodies.{counted, counted_at}
 use Rattle.jground.specs.jformat.Passes.{ahead}
 use Rattle.jground.specs.jformat.States.{counted_from}
@@ -21,13 +21,10 @@ use Rattle.jclass.specs.Shapes
 use Rattle.jclass.specs.Attributes.{text_index, content, field_attribute, saw_constant}
 use Rattle.jclass.specs.Codes.{a_body, code_content, code_body}
 
-abbrev pub MemberParts : Type 0
-MemberParts = Access × (ℕ × (ℕ × List Attribute))
-
-abbrev pub member_from : MemberParts → MemberInfo
+abbrev pub member_from : Access × (ℕ × (ℕ × List Attribute)) → MemberInfo
 member_from p = record { flags = p.0; name = p.1.0; desc = p.1.1.0; attributes = p.1.1.1 }
 
-abbrev pub member_parts : MemberInfo → MemberParts
+abbrev pub member_parts : MemberInfo → Access × (ℕ × (ℕ × List Attribute))
 member_parts m = (m.flags, (m.name, (m.desc, m.attributes)))
 
 -- ---- fields
@@ -38,8 +35,7 @@ field pool = via member_from member_parts (access ▹ λ a. text_index pool · (
 -- ---- methods
 
 abbrev pub code_from : ℕ × (CodeBody ⊎ List ℕ) → Attribute
-code_from (name, inl c) = Code name c.max_stack c.max_locals c.ops c.handlers c.attributes
-code_from (name, inr bytes) = Raw name bytes
+code_from p = elim p.1 [ inl c ↦ Code p.0 c.max_stack c.max_locals c.ops c.handlers c.attributes | inr bytes ↦ Raw p.0 bytes ]
 
 abbrev pub code_parts : Attribute → Option (ℕ × (CodeBody ⊎ List ℕ))
 code_parts (Code name stack locals ops handlers attributes) = Some (name, inl (a_body stack locals ops handlers attributes))
@@ -74,16 +70,9 @@ names_at bytes = (access · u2 · u2).read bytes >>= λ x. counted_at u2.read na
 abbrev pub attribute_name : Attribute → ℕ
 attribute_name = elim [ ConstantValue name value ↦ name | Code name stack locals ops handlers attributes ↦ name | Raw name bytes ↦ name ]
 
-abbrev pub names_of : MemberInfo → Access × List ℕ
-names_of m = (m.flags, map attribute_name m.attributes)
-
--- one code, or none for a method that is abstract or native
-abbrev pub codes_wanted : Access → ℕ
-codes_wanted a = if has_no_code a then 0 else 1
-
 abbrev pub codes_fault : List Entry → Access × List ℕ → Option ClassFault
-codes_fault pool p = unless (length (filter (is_code pool) p.1) == codes_wanted p.0) kinds.Code
+codes_fault pool p = unless (length (filter (is_code pool) p.1) == (if has_no_code p.0 then 0 else 1)) kinds.Code
 
 -- a method: the number of its codes is looked at before all else of it
 unfoldable pub method : List Entry → Format ClassFault MemberInfo
-method pool = ahead names_at names_of (codes_fault pool) (method_parts pool)
+method pool = ahead names_at (λ m. (m.flags, map attribute_name m.attributes)) (codes_fault pool) (method_parts pool)

@@ -10,26 +10,18 @@ use Rattle.jparts.specs.declared.jcode.op.Placed.{Placed}
 use Rattle.jparts.specs.declared.jpool.entry.Entry.{Entry}
 use Rattle.jparts.specs.declared.jpool.entry.Entry.TheVariants.{Integer, Float, Long, Double, Class, Str, Field, Method, InterfaceMethod, MethodHandle, MethodType}
 use Rattle.jparts.specs.jpool.Pools.{is_class}
+use Rattle.std.specs.Option.{option_map_or}
 
 -- what ldc and ldc_w push
-abbrev pub is_constant : Option Entry → Bool
-is_constant (Some (Integer n)) = true
-is_constant (Some (Float n)) = true
-is_constant (Some (Class name)) = true
-is_constant (Some (Str text)) = true
-is_constant (Some (MethodHandle kind member)) = true
-is_constant (Some (MethodType descriptor)) = true
-is_constant _ = false
+abbrev pub is_constant : Entry → Bool
+is_constant = elim [ Integer n ↦ true | Float n ↦ true | Class n ↦ true | Str t ↦ true | MethodHandle k m ↦ true | MethodType d ↦ true | _ ↦ false ]
 
 -- what ldc2_w pushes
-abbrev pub is_wide_constant : Option Entry → Bool
-is_wide_constant (Some (Long n)) = true
-is_wide_constant (Some (Double n)) = true
-is_wide_constant _ = false
+abbrev pub is_wide_constant : Entry → Bool
+is_wide_constant = elim [ Long n ↦ true | Double n ↦ true | _ ↦ false ]
 
-abbrev pub is_field : Option Entry → Bool
-is_field (Some (Field class both)) = true
-is_field _ = false
+abbrev pub is_field : Entry → Bool
+is_field = elim [ Field class both ↦ true | _ ↦ false ]
 
 abbrev pub is_method : Option Entry → Bool
 is_method (Some (Method class both)) = true
@@ -45,10 +37,10 @@ is_called x one = elim x [ Virtual ↦ is_method one | _ ↦ is_method one || is
 
 -- whether an instruction names an entry of the kind that it must name
 unfoldable pub names_well : List Entry → Op → Bool
-names_well pool (ops.Ldc (ldcs.Narrow n)) = is_constant (slice_get pool n)
-names_well pool (ops.Ldc (ldcs.Wide n)) = is_constant (slice_get pool n)
-names_well pool (ops.Ldc2 n) = is_wide_constant (slice_get pool n)
-names_well pool (ops.Field op n) = is_field (slice_get pool n)
+names_well pool (ops.Ldc (ldcs.Narrow n)) = option_map_or is_constant (slice_get pool n) false
+names_well pool (ops.Ldc (ldcs.Wide n)) = option_map_or is_constant (slice_get pool n) false
+names_well pool (ops.Ldc2 n) = option_map_or is_wide_constant (slice_get pool n) false
+names_well pool (ops.Field op n) = option_map_or is_field (slice_get pool n) false
 names_well pool (ops.Call op n) = is_called op (slice_get pool n)
 names_well pool (ops.CallInterface n slots) = is_interface_method (slice_get pool n)
 names_well pool (ops.New (news.Object n)) = is_class pool n

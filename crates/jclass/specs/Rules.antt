@@ -89,9 +89,6 @@ suits type (Some (Double n)) = bytes_eq type (codes "D")
 suits type (Some (Str text)) = bytes_eq type (codes "Ljava/lang/String;")
 suits type _ = false
 
-abbrev pub suits_type : Option (List ℕ) → Option Entry → Bool
-suits_type x one = elim x [ None ↦ false | Some type ↦ suits type one ]
-
 -- whether the entry at an index suits the field whose descriptor stands at another
 unfoldable pub suits_field : List Entry → ℕ → ℕ → Bool
-suits_field pool desc i = suits_type (utf8_at pool desc) (slice_get pool i)
+suits_field pool desc i = elim (utf8_at pool desc) [ None ↦ false | Some type ↦ suits type (slice_get pool i) ]

@@ -10,9 +10,6 @@ use Rattle.jclass.specs.declared.fault.ClassFault.{ClassFault}
 use Rattle.jclass.specs.declared.fault.ClassFault.TheVariants.{Magic, Version, Trailing}
 use Rattle.jclass.specs.Basics.{u2, u4, run, told_as, pool_fault}
 
-abbrev pub magic : Format ClassFault (Unit {0})
-magic = literal u4 Magic 0xcafebabe
-
 -- the major version, of Java SE 6 to 8
 abbrev pub major : Format ClassFault ℕ
 major = such (λ n. if nat_lt n 50 || nat_lt 52 n then Some Version else None) u2
@@ -26,7 +23,7 @@ HeadParts = Unit {0} × (ℕ × (ℕ × List Entry))
 
 -- up to the end of the pool
 unfoldable pub head : Format ClassFault HeadParts
-head = magic · u2 · major · entries
+head = literal u4 Magic 0xcafebabe · u2 · major · entries
 
 -- an attribute: its name and its bytes
 abbrev pub attribute : Format ClassFault (ℕ × List ℕ)

@@ -2,7 +2,7 @@ ghost use Rattle.std.specs.Prelude.{◌≡◌, ◌&&◌, Bool, IfOk, List, ℕ, 
 ghost use Rattle.jparts.specs.jpool.Pools;
 ghost use Rattle.jparts.specs.jpool.Descriptors.{is_field_descriptor, method_slots};
 ghost use Rattle.jclass.specs.Rules;
-ghost use Rattle.jclass.specs.Rules.{descriptor_fault, is_int, is_plain_class, most_slots, suits, suits_field, suits_type, within};
+ghost use Rattle.jclass.specs.Rules.{descriptor_fault, is_int, most_slots, suits, suits_field, within};
 
 use crate::access::Access;
 use crate::fault::ClassFault;

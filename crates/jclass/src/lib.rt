@@ -15,6 +15,8 @@
 //! code in a class file is code of at most 65,535 bytes whose places rise, whose branches and handlers lead to instructions and whose
 //! frames are frames, and each text is modified UTF-8; copies are equal.
 //!
+//! `ProofNames` are names by which proofs and contracts of inner functions call what the definitions say in place.
+//!
 //! Rooms of linking, checking, the machine's definition, the machine, moving, jobs and the top may name it, and tests.
 #![tactic(auto)]
 

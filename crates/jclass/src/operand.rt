@@ -1,14 +1,15 @@
-ghost use Rattle.std.specs.Prelude.{◌≡◌, option_map};
+ghost use Rattle.std.specs.Prelude.{◌≡◌, false, option_map};
 ghost use Rattle.jground.specs.jbase.First.{first_some};
 ghost use Rattle.jclass.specs.Operands;
 ghost use Rattle.jclass.specs.Operands.{is_called, is_constant, is_field, is_interface_method, is_method, is_wide_constant, misnamed};
+ghost use Rattle.std.specs.Option.{option_map_or};
 
 use crate::known::Known;
 use jparts::jcode::{CallOp, Ldc, NewOp, Op, Placed};
 use jparts::jpool::Entry;
 
 fn is_constant(one: Option<&Entry>) -> bool
-    ensures { result ≡ is_constant (option_map (λ e. e.now) one.entry) }
+    ensures { result ≡ option_map_or is_constant (option_map (λ e. e.now) one.entry) false }
 {
     matches!(
         one,
@@ -24,13 +25,13 @@ fn is_constant(one: Option<&Entry>) -> bool
 }
 
 fn is_wide_constant(one: Option<&Entry>) -> bool
-    ensures { result ≡ is_wide_constant (option_map (λ e. e.now) one.entry) }
+    ensures { result ≡ option_map_or is_wide_constant (option_map (λ e. e.now) one.entry) false }
 {
     matches!(one, Some(Entry::Long(_) | Entry::Double(_)))
 }
 
 fn is_field(one: Option<&Entry>) -> bool
-    ensures { result ≡ is_field (option_map (λ e. e.now) one.entry) }
+    ensures { result ≡ option_map_or is_field (option_map (λ e. e.now) one.entry) false }
 {
     matches!(one, Some(Entry::Field(..)))
 }

@@ -5,7 +5,8 @@ ghost use Rattle.jground.specs.jformat.Format.{number_at};
 ghost use Rattle.jground.specs.jformat.Bodies.{counted, counted_at};
 ghost use Rattle.jclass.specs.Basics.{pool_fault, run, u2, unseen};
 ghost use Rattle.jclass.specs.Shapes;
-ghost use Rattle.jclass.specs.Shapes.{magic, major, tail};
+ghost use Rattle.jclass.specs.Shapes.{major, tail};
+ghost use Rattle.jclass.specs.ProofNames.{magic};
 ghost use Rattle.jclass.specs.declared.fault.ClassFault.TheVariants as kinds;
 
 use crate::fault::ClassFault;

@@ -5,7 +5,8 @@ use Rattle.jrights.specs.declared.jdomain.verdict.Verdict.TheVariants.{Denied}
 use Rattle.jrights.specs.jdomain.Stacks.{Stack, Bottom, Entry, Mark, Unmarked, Privileged, Given, Nothing, Within, first_denial, past_limits, walk, walk_mark, walk_given, some_implies}
 use Rattle.jperm.specs.declared.permission.Permission.{Permission}
 use Rattle.jctx.specs.declared.item.Item.{Item}
-use Rattle.jctx.specs.Contexts.{verdict, keep, given_items, limited, along, along_mark, along_given}
+use Rattle.jctx.specs.Contexts.{verdict, keep, limited, along, along_mark, along_given}
+use Rattle.jctx.specs.ProofNames.{given_items}
 use Rattle.jctx.specs.Items.{plain}
 use Rattle.jctx.proofs.Bools.{EqualIsSame}
 use Rattle.jctx.proofs.Verdicts.{verdict-keep_after, verdict-append, verdict-limited}

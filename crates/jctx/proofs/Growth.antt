@@ -9,7 +9,8 @@ use Rattle.jctx.proofs.Bools.{EqualIsSame}
 use Rattle.jctx.specs.declared.item.Item.{Item}
 use Rattle.jctx.specs.Limits.{is_within}
 use Rattle.std.proofs.Common.{Option}
-use Rattle.jctx.specs.Contexts.{keep_after, keep, enter, privileged, given_items, limited}
+use Rattle.jctx.specs.Contexts.{keep_after, keep, enter, privileged, limited}
+use Rattle.jctx.specs.ProofNames.{given_items}
 use Rattle.jctx.specs.Items.{covers, plain}
 use Rattle.jctx.proofs.Kept.{keep-keep}
 use Rattle.jctx.specs.Growing.{hidden, added, joined}

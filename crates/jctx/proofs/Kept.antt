@@ -4,7 +4,8 @@ use Rattle.std.specs.List.{list_any, All, AllByRecursion, IsDistinct}
 use Rattle.std.proofs.lemmas.Map.Steps.{length-le_from_distinct_below}
 use Rattle.jctx.specs.declared.item.Item.{Item}
 use Rattle.jctx.specs.Limits.{is_within}
-use Rattle.jctx.specs.Contexts.{keep_after, keep, along, along_given, given_items, limited}
+use Rattle.jctx.specs.Contexts.{keep_after, keep, along, along_given, limited}
+use Rattle.jctx.specs.ProofNames.{given_items}
 use Rattle.jctx.specs.Items.{covers, plain}
 use Rattle.jctx.specs.Growing.{hidden}
 use Rattle.jrights.specs.jdomain.Stacks.{Stack, Bottom, Entry, Unmarked, Privileged}

@@ -8,7 +8,8 @@ use Rattle.jperm.specs.Permissions.{equal}
 use Rattle.jctx.proofs.Bools.{EqualIsSame, and_both, and_left, and_right, or_cases, or_left, or_right}
 use Rattle.jctx.proofs.Growth.{hidden-covers, joined-append, joined-keep_after}
 use Rattle.jctx.specs.declared.item.Item.{Item}
-use Rattle.jctx.specs.Contexts.{enter, given_items, limited, privileged}
+use Rattle.jctx.specs.Contexts.{enter, limited, privileged}
+use Rattle.jctx.specs.ProofNames.{given_items}
 use Rattle.jctx.specs.Growing.{added, hidden, joined}
 use Rattle.jctx.specs.Items.{covers, plain, with_limits}
 use Rattle.jctx.specs.Limits.{add_limits, is_within}

@@ -1,6 +1,6 @@
 -- Security contexts as lists of items, in place of stacks (Wallach, Appel and Felten, 2000): what they decide, and how one is made
 -- where a method is called and where a privilege is taken.
-use Rattle.std.specs.Prelude.{ℕ, Bool, List, [], ◌∷◌, ◌++◌, Option, Some, None, map, if◌then◌else◌}
+use Rattle.std.specs.Prelude.{ℕ, Bool, List, [], ◌∷◌, ◌++◌, Option, Some, None, map, if◌then◌else◌, unwrap_or}
 use Rattle.std.specs.List.{list_any}
 use Rattle.jperm.specs.declared.permission.Permission.{Permission}
 use Rattle.jrights.specs.declared.jdomain.verdict.Verdict.{Verdict}
@@ -27,17 +27,13 @@ keep c = keep_after [] c
 abbrev pub enter : List Item → ℕ → List Item
 enter c d = keep (plain d ∷ c)
 
--- the items of a given context
-abbrev pub given_items : Option (List Item) → List Item
-given_items = elim [ None ↦ [] | Some c ↦ c ]
-
 -- what a privilege takes over of the context behind it: nothing, or each item with the limits added
 abbrev pub limited : Option (List Permission) → List Item → List Item
 limited x c = elim x [ None ↦ [] | Some limits ↦ map (with_limits limits) c ]
 
 -- the context of a privilege that a method of a domain takes in a context
 abbrev pub privileged : ℕ → Option (List Item) → Option (List Permission) → List Item → List Item
-privileged d given limits c = keep (plain d ∷ given_items given ++ limited limits c)
+privileged d given limits c = keep (plain d ∷ unwrap_or given [] ++ limited limits c)
 
 -- ---- the context of a stack
 

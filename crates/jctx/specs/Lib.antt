@@ -3,3 +3,4 @@ pub mod Growing
 pub mod Items
 pub mod Laws
 pub mod Limits
+pub mod ProofNames

@@ -13,6 +13,8 @@
 //! call within its newest domain changes nothing. A privilege that a method takes in the context that it entered is one in the context
 //! in which it was called.
 //!
+//! `ProofNames` are names by which proofs and contracts of inner functions call what the definitions say in place.
+//!
 //! Rooms of the machine's definition and the machine may name it, and tests.
 #![tactic(auto)]
 

@@ -25,8 +25,9 @@ use Rattle.jtask.specs.declared.task.Task.TheVariants as tasks
 use Rattle.jtask.specs.Stages.{Refused}
 use Rattle.jtask.specs.Tasks.{RunClasses, task}
 use Rattle.jtask.proofs.Sources.{Sources, linked_in, main_in, moved_in, sources, typed_in}
-use Rattle.jdriver.specs.Answers.{answer, ran, shown, stopped_or_shown}
+use Rattle.jdriver.specs.Answers.{answer, ran, shown}
 use Rattle.jdriver.specs.Headline.{AnswersAll, AnswersSome, RunsPassed}
+use Rattle.jdriver.specs.Making.{unless_stopped}
 
 -- runs that tell the same are answered alike
 ran_alike : {S T : Type 0} (r : Run S) (s : Run T) → r.events ≡ s.events → r.end ≡ s.end → ran r ≡ ran s
@@ -45,7 +46,7 @@ module _ (c : Command) (files : List File) (p : Program) (domains : List (List P
 
   answer_is : answer c files ≡ ran (passed (has domains) (moved p) plan plan.steps)
   unfolding answer shown
-  answer_is = ap (λ (x : Command). answer x files) is.command ∙ ap stopped_or_shown (moved_in files is.path p domains plan source is.small)
+  answer_is = ap (λ (x : Command). answer x files) is.command ∙ ap (unless_stopped shown) (moved_in files is.path p domains plan source is.small)
 
   module _ (law : MovedPasses) (classes : RunClasses c files) (s : Status) (old new : Option (List ℕ)) (answers : Answers (answer c files) s old new) where
     linked : IsLinked p

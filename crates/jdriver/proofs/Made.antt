@@ -13,12 +13,13 @@ use Rattle.jrights.specs.declared.jtally.counts.Tally.{Tally}
 use Rattle.jtask.specs.Stages.{Missing, Refused, Stopped}
 use Rattle.jtask.specs.Tasks.{reads as reads_files}
 use Rattle.jstore.specs.Made.{held}
-use Rattle.jdriver.specs.Making.{made, stopped_or_made, told_both}
+use Rattle.jdriver.specs.Making.{made, told_both, unless_stopped, made_text}
 use Rattle.jdriver.specs.Answers.{IsSized, NoFileFault, answer, makes}
 use Rattle.jdriver.specs.Headline.{AnswersAll, AnswersSome, RunsPassed}
+use Rattle.jshow.specs.Answering.{listed}
 
 -- it stores no files
-stores_none : (size : ℕ) (both : Result (Tally × Tally) Stopped) → (stopped_or_made size both).files ≡ []
+stores_none : (size : ℕ) (both : Result (Tally × Tally) Stopped) → (unless_stopped (λ both. listed (made_text size both.0 both.1)) both).files ≡ []
 stores_none size (Ok both) = refl
 stores_none size (Err (Refused refusal)) = refl
 stores_none size (Err Missing) = refl

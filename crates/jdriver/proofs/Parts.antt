@@ -1,12 +1,12 @@
 -- Parts of a program, read from class files.
 use Rattle.std.proofs.Common.{◌≡◌, ℕ, zero, suc, ◌<◌, ◌≤◌, ◌&&◌, Bool, true, false, cond, List, [], ◌∷◌, Option, Some, None, Result, Ok, Err, bytes_eq, length, map, refl, sym, ap, ◌∙◌, subst, arith, le-leb, lt-ltb}
-use Rattle.std.specs.Prelude.{IsTrue, nat_le, slice_get}
+use Rattle.std.specs.Prelude.{IsTrue, nat_le, slice_get, if◌then◌else◌}
 use Rattle.std.specs.List.{AllByRecursion}
 use Rattle.jground.specs.jbase.Each.{each}
 use Rattle.jground.specs.jbase.Stops.{◌>>=◌}
 use Rattle.jground.specs.declared.jformat.error.Fault.{Fault}
 use Rattle.jground.specs.jformat.Format.{IsBytes}
-use Rattle.jrights.specs.jio.Held.{File, file_at, most_read, readable, short_enough}
+use Rattle.jrights.specs.jio.Held.{File, file_at, most_read, readable}
 use Rattle.jclass.specs.declared.class.ClassParts.{ClassParts}
 use Rattle.jclass.specs.declared.fault.ClassFault.{ClassFault}
 use Rattle.jclass.specs.Class.{Spells, class_file}
@@ -20,6 +20,12 @@ use Rattle.jtask.specs.Tasks.{class_at, class_read, part_at}
 use Rattle.jstore.specs.Folders.{path_of}
 use Rattle.jstore.proofs.Binds.{bound}
 use Rattle.jdriver.proofs.Grounds.{replaced}
+
+-- ---- names for what definitions say in place
+
+-- The bytes, where they are few enough to be read.
+abbrev short_enough : Option (List ℕ) → Option (List ℕ)
+short_enough = elim [ None ↦ None | Some bytes ↦ if nat_le (length bytes) most_read then Some bytes else None ]
 
 -- ---- the bytes of files
 

@@ -28,8 +28,9 @@ use Rattle.jtask.specs.Stages.{Missing, Refused, Stopped, bytes_at}
 use Rattle.jtask.specs.Tasks.{grants_at, ground_in, job_read, moved_of_parts, part_at, rewrite_at, rewrite_of_ground, rewrite_of_parts, rewrite_of_text, task}
 use Rattle.jstore.specs.Folders.{files_below}
 use Rattle.jstore.proofs.Binds.{bound}
-use Rattle.jdriver.specs.Answers.{answer, shown, stopped_or_shown}
+use Rattle.jdriver.specs.Answers.{answer, shown}
 use Rattle.jdriver.proofs.Parts.{found_is}
+use Rattle.jdriver.specs.Making.{unless_stopped}
 
 -- ---- stage by stage
 
@@ -158,7 +159,7 @@ is_rewriting files path to t whole =
 
 -- ---- where it is answered that it was done
 
-ended : (r : Result Task Stopped) → (stopped_or_shown r).status ≡ Some Finished → (t : Task) × (r ≡ ok_task t)
+ended : (r : Result Task Stopped) → (unless_stopped shown r).status ≡ Some Finished → (t : Task) × (r ≡ ok_task t)
 ended (Ok t) e = (t, refl)
 ended (Err (Refused refusal)) e = absurd (let x = e in cc)
 ended (Err Missing) e = absurd (let x = e in cc)
@@ -170,4 +171,4 @@ rewrites files path to e = let t = ended (task (commands.Rewrite path to) files)
 pub stored_files : (files : List File) (path to : List ℕ) (r : Rewrites files path to)
     → (answer (commands.Rewrite path to) files).files ≡ files_below to r.text (moved (program Source r.parts))
 unfolding answer shown
-stored_files files path to r = ap (λ (x : Result Task Stopped). (stopped_or_shown x).files) r.task
+stored_files files path to r = ap (λ (x : Result Task Stopped). (unless_stopped shown x).files) r.task

@@ -42,11 +42,12 @@ use Rattle.jtask.specs.Stages.{Stopped, found, judged}
 use Rattle.jtask.specs.Tasks.{grants_at, grants_of, grants_read, ground_at, ground_in, job_read, part_at, run_at, run_in, run_of_ground, run_of_parts, runnable, task}
 use Rattle.jstore.specs.Folders.{all_below, class_below, files_below, job_below, path_of}
 use Rattle.jstore.proofs.Names.{is_name}
-use Rattle.jdriver.specs.Answers.{answer, shown, stopped_or_shown}
+use Rattle.jdriver.specs.Answers.{answer, shown}
 use Rattle.jdriver.specs.Alike.{AreRead, IsStored, RunsAlike}
 use Rattle.jdriver.proofs.Grounds.{Fine, ground_again, is_fine, replaced}
 use Rattle.jdriver.proofs.Parts.{AllHeld, ArePartsOf, ReadsBack, SpellsWhole, all_fit, are_parts, are_parts_of, domains_small, parts_again, paths_of}
 use Rattle.jdriver.proofs.Rewriting.{Rewrites, rewrites, stored_files}
+use Rattle.jdriver.specs.Making.{unless_stopped}
 
 -- ---- programs
 
@@ -249,17 +250,17 @@ module _ (again : JobAgain) (few : JobIsSmall) (spells : SpellsWhole) (back : Re
 
   -- the task of a program that is moved, in either form
   ends_alike : (o : Option MethodId)
-      → stopped_or_shown (from_named q g.main o >>= λ x. run_in Plain x.0 g.domains (plan_of g.setting x.1)) ≡ stopped_or_shown (from_named p g.main o >>= λ x. run_in Pass x.0 g.domains (plan_of g.setting x.1))
+      → unless_stopped shown (from_named q g.main o >>= λ x. run_in Plain x.0 g.domains (plan_of g.setting x.1)) ≡ unless_stopped shown (from_named p g.main o >>= λ x. run_in Pass x.0 g.domains (plan_of g.setting x.1))
   unfolding shown
   ends_alike None = refl
   ends_alike (Some main) =
-      ap (λ (x : Result Program Stopped). stopped_or_shown (x >>= λ y. ok_task (tasks.RunPass y g.domains (plan_of g.setting main)))) (sym (it_moves p r.limits))
+      ap (λ (x : Result Program Stopped). unless_stopped shown (x >>= λ y. ok_task (tasks.RunPass y g.domains (plan_of g.setting main)))) (sym (it_moves p r.limits))
 
   alike : answer (commands.Run Plain (to ++ codes "/job")) shelf ≡ answer (commands.Run Pass path) files
   unfolding answer
   alike =
       let o = main_of p (flat_map group g.main) in
-      ap stopped_or_shown (plain_task o refl) ∙ ends_alike o ∙ ap stopped_or_shown (sym (pass_task o refl))
+      ap (unless_stopped shown) (plain_task o refl) ∙ ends_alike o ∙ ap (unless_stopped shown) (sym (pass_task o refl))
 
 pub runs_alike : JobAgain → JobIsSmall → SpellsWhole → ReadsBack → PartsAreFiles → LinksStay → TypesStay → MainsStay → RunsAlike
 runs_alike again few spells back are_files links_stay types_stay mains_stay files shelf path to s = alike again few spells back are_files links_stay types_stay mains_stay files shelf path to s

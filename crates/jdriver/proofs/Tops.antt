@@ -10,10 +10,11 @@ use Rattle.jshow.specs.Answering.{Answer, Answers}
 use Rattle.jtask.specs.declared.task.Task.{Task}
 use Rattle.jtask.specs.Stages.{Stopped, Missing, Misses}
 use Rattle.jtask.specs.Tasks.{reads, task}
-use Rattle.jdriver.specs.Answers.{answer, stopped_or_shown}
+use Rattle.jdriver.specs.Answers.{answer, shown}
+use Rattle.jdriver.specs.Making.{unless_stopped}
 
 -- a command that reads files is answered by its task
-pub by_task : (c : Command) (files : List File) → reads c ≡ true → answer c files ≡ stopped_or_shown (task c files)
+pub by_task : (c : Command) (files : List File) → reads c ≡ true → answer c files ≡ unless_stopped shown (task c files)
 unfolding answer
 by_task (commands.Run form path) files b = refl
 by_task (commands.Check form path) files b = refl
@@ -21,8 +22,8 @@ by_task (commands.Rewrite path to) files b = refl
 by_task (commands.Policy path) files b = refl
 by_task (commands.Gen seed size) files b = absurd (let no : false ≡ true = b in cc)
 
-pub answer_is : (c : Command) (files : List File) (read : Result Task Stopped) → reads c ≡ true → task c files ≡ read → answer c files ≡ stopped_or_shown read
-answer_is c files read b h = by_task c files b ∙ ap stopped_or_shown h
+pub answer_is : (c : Command) (files : List File) (read : Result Task Stopped) → reads c ≡ true → task c files ≡ read → answer c files ≡ unless_stopped shown read
+answer_is c files read b h = by_task c files b ∙ ap (unless_stopped shown) h
 
 pub some_is : {A : Type 0} (a b : A) → Some a ≡ Some b → a ≡ b
 some_is a b e = cc
@@ -48,7 +49,7 @@ same_files held files others e h = some_is others files (sym h ∙ e)
 pub no_status : (c : Command) (b : reads c ≡ true) (held : Option (List File)) (files : List File) (t : Status) → held ≡ Some files → Misses held (task c) → (answer c files).status ≡ Some t → ⊥
 no_status c b held files t told misses is =
     let same : misses.0 ≡ files = same_files held files misses.0 told misses.1 in
-    let none : answer c files ≡ stopped_or_shown (Err Missing) = answer_is c files (Err Missing) b (ap (task c) (sym same) ∙ misses.2) in
+    let none : answer c files ≡ unless_stopped shown (Err Missing) = answer_is c files (Err Missing) b (ap (task c) (sym same) ∙ misses.2) in
     let bad : None ≡ Some t = sym (ap (λ (a : Answer). a.status) none) ∙ is in
     absurd cc
 

@@ -1,5 +1,5 @@
 -- What the program answers to its words, over the files that are held.
-use Rattle.std.specs.Prelude.{◌≡◌, ◌≤◌, ◌⊎◌, ℕ, Bool, false, true, List, [], ◌++◌, length, Option, Some, None, Result, Ok, Err, codes, decimal, String}
+use Rattle.std.specs.Prelude.{◌≡◌, ◌≤◌, ◌⊎◌, ℕ, Bool, false, true, List, [], ◌++◌, length, Option, Some, None, codes, decimal, String}
 use Rattle.std.specs.declared.alloc.Global.{Global}
 use Rattle.jground.specs.jbase.Causes.{Rose}
 use Rattle.jrights.specs.jio.Held.{File}
@@ -12,37 +12,29 @@ use Rattle.jjob.specs.declared.command.Command.{Command}
 use Rattle.jjob.specs.declared.command.Command.TheVariants as commands
 use Rattle.jjob.specs.Limits.{most_size}
 use Rattle.jjob.specs.Words.{command, words_of}
-use Rattle.jdriver.specs.Making.{made}
+use Rattle.jdriver.specs.Making.{made, unless_stopped}
 use Rattle.jshow.specs.declared.status.Status.{Status}
 use Rattle.jshow.specs.declared.status.Status.TheVariants as statuses
-use Rattle.jshow.specs.Answering.{Answer, listed, refused_answer}
+use Rattle.jshow.specs.Answering.{Answer, listed}
 use Rattle.jshow.specs.Counting.{checked_line, methods_of}
 use Rattle.jshow.specs.Listings.{listing}
-use Rattle.jshow.specs.Refusals.{refusal_line}
 use Rattle.jshow.specs.Statuses.{status_of}
 use Rattle.jtask.specs.declared.task.Task.{Task}
 use Rattle.jtask.specs.declared.task.Task.TheVariants as tasks
-use Rattle.jtask.specs.Stages.{Stopped, Missing, Refused, Misses}
+use Rattle.jtask.specs.Stages.{Misses}
 use Rattle.jtask.specs.Tasks.{stores, task}
 use Rattle.jstore.specs.Folders.{files_below}
 use Rattle.jstore.specs.Storing.{StoresFront, with_files}
 
-abbrev pub usage_line : List ℕ
-usage_line = codes "usage: javasec VERB ARGUMENTS\n"
-
 abbrev pub usage_answer : Answer
-usage_answer = record { text = usage_line; files = []; status = Some statuses.Usage }
+usage_answer = record { text = codes "usage: javasec VERB ARGUMENTS\n"; files = []; status = Some statuses.Usage }
 
 abbrev pub ran : {S : Type 0} → Run S → Answer
 ran r = record { text = run_text r; files = []; status = Some (status_of (ending r)) }
 
--- the line of a program that is rewritten: how many classes it has
-abbrev pub rewritten_line : ℕ → List ℕ
-rewritten_line classes = codes "rewritten " ++ (decimal classes ++ codes " classes\n")
-
--- a program that is rewritten, with the files that are stored
+-- a program that is rewritten: how many classes it has, and the files that are stored
 abbrev pub rewrote : List File → ℕ → Answer
-rewrote files classes = record { text = rewritten_line classes; files = files; status = Some statuses.Finished }
+rewrote files classes = record { text = codes "rewritten " ++ (decimal classes ++ codes " classes\n"); files = files; status = Some statuses.Finished }
 
 -- what is told when a task is done
 unfoldable pub shown : Task → Answer
@@ -53,17 +45,11 @@ shown (tasks.Policy sources domains) = listed (listing 0 sources domains)
 shown (tasks.Check program) = listed (checked_line (length program.parts) (methods_of program.parts))
 shown (tasks.Rewrite program job to) = rewrote (files_below to job program) (length program.parts)
 
--- the same, where there may be none
-abbrev pub stopped_or_shown : Result Task Stopped → Answer
-stopped_or_shown (Ok it) = shown it
-stopped_or_shown (Err (Refused refusal)) = refused_answer (refusal_line refusal)
-stopped_or_shown (Err Missing) = record { text = []; files = []; status = None }
-
 -- The text, the files that are stored and the status at a command. There is none of these where a file that is to be read is missing or too
 -- long. For `gen` the files are made, and none is read.
 unfoldable pub answer : Command → List File → Answer
 answer (commands.Gen seed size) files = made seed size
-answer c files = stopped_or_shown (task c files)
+answer c files = unless_stopped shown (task c files)
 
 -- the command makes the files of its job
 abbrev pub makes : Command → Bool

@@ -54,12 +54,12 @@ runs_text first second = tally_line (codes "inspect") first ++ tally_line (codes
 abbrev pub made_text : ℕ → Tally → Tally → List ℕ
 made_text size first second = made_line size ++ runs_text first second
 
--- a refusal alone, or the text
-abbrev pub stopped_or_made : ℕ → Result (Tally × Tally) Stopped → Answer
-stopped_or_made size (Ok both) = listed (made_text size both.0 both.1)
-stopped_or_made size (Err (Refused refusal)) = refused_answer (refusal_line refusal)
-stopped_or_made size (Err Missing) = record { text = []; files = []; status = None }
+-- a refusal alone, or what is told of what was found; nothing where a file is missing
+abbrev pub unless_stopped : {A : Type 0} → (A → Answer) → Result A Stopped → Answer
+unless_stopped tell (Ok it) = tell it
+unless_stopped tell (Err (Refused refusal)) = refused_answer (refusal_line refusal)
+unless_stopped tell (Err Missing) = record { text = []; files = []; status = None }
 
 -- the answer to a seed and a size
 unfoldable pub made : ℕ → ℕ → Answer
-made seed size = stopped_or_made size (told_both (held seed size))
+made seed size = unless_stopped (λ both. listed (made_text size both.0 both.1)) (told_both (held seed size))

@@ -1,7 +1,8 @@
 -- The kinds that a loop draws.
 use Rattle.std.proofs.Common.{◌≡◌, ℕ, zero, suc, ◌+◌, ◌*◌, ◌-◌, ◌≤◌, ◌<◌, List, [], ◌∷◌, ◌++◌, length, refl, sym, ap, ◌∙◌, arith, append_assoc, append-nil}
 use Rattle.jgen.specs.declared.draws.Kind.{Kind}
-use Rattle.jgen.specs.Draws.{drawn, kind, kind_by, kinds, kinds_from, next, state}
+use Rattle.jgen.specs.Draws.{kind, kind_by, kinds, kinds_from, next, state}
+use Rattle.jgen.specs.ProofNames.{drawn}
 
 -- one state behind another
 step : (seed i : ℕ) → next (state seed i) ≡ state seed (i + 1)

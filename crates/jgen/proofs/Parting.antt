@@ -7,10 +7,17 @@ use Rattle.jparts.specs.jpool.Entries.{shape, unused}
 use Rattle.jparts.specs.jpool.Pools.{IsPool, is_utf8}
 use Rattle.jgen.specs.declared.draws.Kind.{Kind}
 use Rattle.jgen.specs.declared.laying.Draft.{Draft}
-use Rattle.jgen.specs.Items.{Item, U1, U2, U4, have_room, most_of, width, widths, with_items}
-use Rattle.jgen.specs.Classes.{call, call_code, calls, class_items, f_method, head, init_method, main_method, main_of, name, privileged_code, run_method}
+use Rattle.jgen.specs.Items.{Item, U1, U2, U4, have_room, most_of, widths, with_items, Str}
+use Rattle.jgen.specs.ProofNames.{main_of}
+use Rattle.jgen.specs.Classes.{call, call_code, calls, class_items, f_method, head, init_method, main_method, name, privileged_code, run_method}
 use Rattle.jgen.specs.Parts.{check_part, handler_part, main_end, main_part}
 use Rattle.jgen.proofs.Rooms.{items_append, items_on, room_by, short_name, then_behind, then_items}
+
+-- ---- names for what definitions say in place
+
+-- the number of an item's bytes
+abbrev width : Item → ℕ
+width = elim [ U1 n ↦ 1 | U4 n ↦ 4 | Str text ↦ 1 | _ ↦ 2 ]
 
 -- ---- room
 

@@ -5,7 +5,8 @@ use Rattle.std.proofs.lemmas.Fmt.{length-decimal-le}
 use Rattle.std.proofs.lemmas.List.{drop_all, drop_more}
 use Rattle.jgen.specs.declared.draws.Kind.{Kind}
 use Rattle.jgen.specs.Classes.{name}
-use Rattle.jgen.specs.Files.{granted, grants, source, sources}
+use Rattle.jgen.specs.Files.{grants, source, sources}
+use Rattle.jgen.specs.ProofNames.{granted}
 
 pub more : (out mid new done next : List ℕ) → mid ≡ out ++ done → new ≡ mid ++ next → new ≡ out ++ (done ++ next)
 more out mid new done next first second = second ∙ ap (λ (l : List ℕ). l ++ next) first ∙ append_assoc out done next

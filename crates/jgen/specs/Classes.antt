@@ -103,19 +103,12 @@ init_method = method 1 (codes "<init>") (codes "()V") (plain (U1 0x2a ∷ U1 0xb
 abbrev pub run_method : List ℕ → List ℕ → List Item
 run_method own next = method 1 (codes "run") (codes "()Ljava/lang/Object;") (plain (run_code own next))
 
-abbrev pub f_named : List Item → List Item
-f_named attribute = method 9 (codes "f") (codes "(I)V") attribute
-
 abbrev pub f_method : Bool → List ℕ → List ℕ → List Item
-f_method privileged own next = f_named (if privileged then f_privileged own else f_plain next)
+f_method privileged own next = method 9 (codes "f") (codes "(I)V") (if privileged then f_privileged own else f_plain next)
 
 -- main, which calls each of so many classes
 abbrev pub main_method : ℕ → List Item
 main_method size = method 9 (codes "main") (codes "([Ljava/lang/String;)V") (plain (calls 0 size ++ U1 0xb1 ∷ []))
-
--- it stands in class 0 alone
-abbrev pub main_of : ℕ → ℕ → List Item
-main_of size i = if i == 0 then main_method size else []
 
 -- what stands behind the pool in the file of a class
 unfoldable pub class_items : ℕ → ℕ → Kind → List Item
@@ -124,16 +117,12 @@ class_items size i kind =
     ++ init_method
     ++ run_method (name i) (name kind.next)
     ++ f_method kind.privileged (name i) (name kind.next)
-    ++ main_of size i
+    ++ (if i == 0 then main_method size else [])
     ++ U2 0 ∷ []
-
--- a pool with index 0 alone, and no bytes
-abbrev pub blank : Draft
-blank = record { pool = Unused ∷ []; body = [] }
 
 -- the bytes of a class file: the magic number, version 52.0, the pool, and what stands behind it
 abbrev pub spelled : Draft → List ℕ
 spelled d = 0xca ∷ 0xfe ∷ 0xba ∷ 0xbe ∷ 0 ∷ 0 ∷ 0 ∷ 52 ∷ shape.spell d.pool ++ d.body
 
 unfoldable pub class_bytes : ℕ → ℕ → Kind → List ℕ
-class_bytes size i kind = spelled (with_items (class_items size i kind) blank)
+class_bytes size i kind = spelled (with_items (class_items size i kind) (record { pool = Unused ∷ []; body = [] }))

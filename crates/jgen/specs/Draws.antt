@@ -11,13 +11,9 @@ unfoldable pub state : ℕ → ℕ → ℕ
 state seed zero = seed % 2147483648
 state seed (suc i) = next (state seed i)
 
--- what a state gives: its upper 15 bits
-abbrev pub drawn : ℕ → ℕ
-drawn x = x / 65536
-
 -- the draws of a seed, from 1 on
 abbrev pub draw : ℕ → ℕ → ℕ
-draw seed i = drawn (state seed i)
+draw seed i = (state seed i) / 65536
 
 -- what three draws say of a class; class 0 is granted whatever it draws
 abbrev pub kind_by : ℕ → ℕ → ℕ → ℕ → ℕ → Kind

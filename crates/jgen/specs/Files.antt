@@ -32,14 +32,10 @@ job_text size = codes "policy gen.policy\n" ++ sources 0 size ++ codes "main G0\
 abbrev pub grant : ℕ → List ℕ
 grant i = codes "grant codeBase \"" ++ base i ++ codes "\" { permission java.util.PropertyPermission \"p\", \"read\"; };\n"
 
--- the line of a code source whose class is granted the permission
-abbrev pub granted : Kind → ℕ → List ℕ
-granted kind i = if kind.granted then grant i else []
-
 -- those of classes of these kinds, from one on
 unfoldable pub grants : ℕ → List Kind → List ℕ
 grants i [] = []
-grants i (kind ∷ kinds) = granted kind i ++ grants (i + 1) kinds
+grants i (kind ∷ kinds) = (if kind.granted then grant i else []) ++ grants (i + 1) kinds
 
 -- ---- all
 

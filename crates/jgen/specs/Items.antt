@@ -74,13 +74,9 @@ with_items (item ∷ items) d = with_items items (with_item item d)
 
 -- ---- lengths
 
--- the number of an item's bytes
-abbrev pub width : Item → ℕ
-width = elim [ U1 n ↦ 1 | U4 n ↦ 4 | Str text ↦ 1 | _ ↦ 2 ]
-
 unfoldable pub widths : List Item → ℕ
 widths [] = 0
-widths (item ∷ items) = width item + widths items
+widths (item ∷ items) = (elim item [ U1 n ↦ 1 | U4 n ↦ 4 | Str text ↦ 1 | _ ↦ 2 ]) + widths items
 
 -- items behind the number of their bytes
 abbrev pub block : List Item → List Item

@@ -3,3 +3,4 @@ pub mod Draws
 pub mod Files
 pub mod Items
 pub mod Parts
+pub mod ProofNames

@@ -1,6 +1,8 @@
 ghost use Rattle.std.specs.Prelude.{◌≡◌, ◌≤◌, ◌+◌, ◌*◌, ◌∷◌, [], IfOk, OnOk, length, if◌then◌else◌, ◌==◌};
 ghost use Rattle.jgen.specs.Classes;
-ghost use Rattle.jgen.specs.Classes.{calls, class_items, main_method, main_of};
+ghost use Rattle.jgen.specs.ProofNames;
+ghost use Rattle.jgen.specs.Classes.{calls, class_items, main_method};
+ghost use Rattle.jgen.specs.ProofNames.{main_of};
 ghost use Rattle.jgen.specs.Items;
 ghost use Rattle.jgen.specs.Items.{with_items};
 ghost use Rattle.jgen.specs.Parts.{main_end, main_part};
@@ -104,7 +106,7 @@ fn put_main_of(alloc: Global, size: u32, i: u32, draft: &mut Draft) -> Result<()
 // ---- classes
 
 fn blank(alloc: Global) -> Result<Draft, AllocError>
-    ensures { IfOk result (λ draft. draft ≡ Classes.blank) }
+    ensures { IfOk result (λ draft. draft ≡ ProofNames.blank) }
 {
     let mut entries = Seq::new(alloc);
     entries.push(Entry::Unused)?;

@@ -1,6 +1,7 @@
 ghost use Rattle.std.specs.Prelude.{◌≡◌, ◌≤◌, ◌<◌, ◌+◌, ◌*◌, IfOk, length};
 ghost use Rattle.jgen.specs.Draws;
-ghost use Rattle.jgen.specs.Draws.{drawn, kinds, state};
+ghost use Rattle.jgen.specs.Draws.{kinds, state};
+ghost use Rattle.jgen.specs.ProofNames.{drawn};
 
 use jground::jbase::Seq;
 use std::alloc::{AllocError, Global};

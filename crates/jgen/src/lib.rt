@@ -10,6 +10,8 @@
 //! Proved: `make_job` answers exactly the made files of seed and size, or want of memory, so that equal seeds and sizes make equal bytes.
 //! No pool gets full, and a string's index fits the one byte that it has. That each made class is a class file is shown by tests.
 //!
+//! `ProofNames` are names by which proofs and contracts of inner functions call what the definitions say in place.
+//!
 //! Rooms of jobs and the top may name it, and tests.
 #![tactic(auto)]
 

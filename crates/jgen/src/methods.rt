@@ -1,5 +1,6 @@
 ghost use Rattle.std.specs.Prelude.{◌≡◌, ◌≤◌, ◌+◌, OnOk, length};
-ghost use Rattle.jgen.specs.Classes.{call_code, f_method, f_named, f_plain, f_privileged, head, init_method, privileged_code, run_method};
+ghost use Rattle.jgen.specs.Classes.{call_code, f_method, f_plain, f_privileged, head, init_method, privileged_code, run_method};
+ghost use Rattle.jgen.specs.ProofNames.{f_named};
 ghost use Rattle.jgen.specs.Items.{with_items};
 ghost use Rattle.jgen.specs.Parts.{check_part, handler_part};
 

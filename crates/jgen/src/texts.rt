@@ -1,6 +1,7 @@
 ghost use Rattle.std.specs.Prelude.{◌≡◌, ◌≤◌, ◌++◌, IfOk, OnOk, decimal, length};
 ghost use Rattle.jgen.specs.Classes.{name};
 ghost use Rattle.jgen.specs.Files;
+ghost use Rattle.jgen.specs.ProofNames;
 ghost use Rattle.jgen.specs.Files.{base, grant, grants, path, source, sources};
 
 use crate::draws::Kind;
@@ -100,7 +101,7 @@ fn put_grant(i: u32, out: &mut Seq<u8>) -> Result<(), AllocError>
 }
 
 fn put_granted(kind: Kind, i: u32, out: &mut Seq<u8>) -> Result<(), AllocError>
-    ensures { OnOk result (out.new ≡ out.old ++ Files.granted kind i) }
+    ensures { OnOk result (out.new ≡ out.old ++ ProofNames.granted kind i) }
 {
     if !kind.granted {
         return Ok(());

@@ -4,3 +4,4 @@ pub mod jops
 pub mod jformat
 pub mod jtext
 pub mod jregion
+pub mod ProofNames

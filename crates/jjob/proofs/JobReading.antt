@@ -20,7 +20,8 @@ use Rattle.std.specs.declared.alloc.AllocError.{AllocError}
 use Rattle.jjob.specs.JobNumbers.{number_up_to}
 use Rattle.jjob.specs.JobLines.{SaysNoProp, code_said, counted, cwd_said, depth_said, frames_said, is_kept, keyed, prop_said, said_of, schedule_said}
 use Rattle.jjob.specs.Jobs.{bad_behind, clashes, count_of, first_bad, has, lines_of, said_by}
-use Rattle.jjob.specs.Jobs.{class_in, code_in, cwd_in, depth_in, heap_in, main_in, name_in, picks_in, policy_in, steps_in}
+use Rattle.jjob.specs.Jobs.{class_in, code_in, cwd_in, depth_in, heap_in, main_in, picks_in, policy_in, steps_in}
+use Rattle.jjob.specs.ProofNames.{name_in}
 use Rattle.jjob.specs.JobTold.{IsTold, is_too_much}
 use Rattle.jjob.specs.JobReading.{AreSkipped, IsSkipped, Skips, TakesLine, TellsAll, bad_otherwise, clashes_otherwise}
 use Rattle.jjob.specs.JobNames.{first_again, is_named, name_of, name_said, names_again, digest, digests_of}

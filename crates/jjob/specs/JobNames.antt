@@ -9,7 +9,7 @@ use denote.Ref.{Bor}
 use Rattle.jground.specs.jbase.First.{fault_if, first_along, or_else}
 use Rattle.jjob.specs.declared.line.Said.{Said}
 use Rattle.jjob.specs.JobLines.{is_kept, said_of}
-use Rattle.jjob.specs.Jobs.{name_in}
+use Rattle.jjob.specs.ProofNames.{name_in}
 
 -- ---- names again
 

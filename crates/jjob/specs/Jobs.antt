@@ -25,9 +25,6 @@ policy_in = elim [ Policy path ↦ Some path | _ ↦ None ]
 abbrev pub prop_in : Said → Option (List ℕ × List ℕ)
 prop_in = elim [ Prop name value ↦ Some (units_of_text name, units_of_text value) | _ ↦ None ]
 
-abbrev pub name_in : Said → Option (List ℕ)
-name_in = elim [ Prop name value ↦ Some name | _ ↦ None ]
-
 abbrev pub cwd_in : Said → Option (List ℕ)
 cwd_in = elim [ Cwd path ↦ Some (units_of_text path) | _ ↦ None ]
 
@@ -65,7 +62,7 @@ count_of field before = length (filter_map field before)
 -- a key again that stands at most once, a property's name again, a class file before any code source, and more than a job may have
 unfoldable pub clashes : List Said → Said → Bool
 clashes before (Policy path) = has policy_in before
-clashes before (Prop name value) = list_any (bytes_eq name) (filter_map name_in before)
+clashes before (Prop name value) = list_any (bytes_eq name) (filter_map (elim [ Prop name value ↦ Some name | _ ↦ None ]) before)
 clashes before (Cwd path) = has cwd_in before
 clashes before (Code source) = nat_le most_codes (count_of code_in before)
 clashes before (Class path) = count_of code_in before == 0 || nat_le most_classes (count_of class_in before)
@@ -81,13 +78,9 @@ clashes before (Steps steps) = has steps_in before
 unfoldable pub said_by : List (List ℕ) → List Said
 said_by lines = filter_map said_of (filter is_kept lines)
 
--- whether what a line says, if it says something, is bad behind what was said before
-abbrev pub is_bad : List Said → Option Said → Bool
-is_bad before = elim [ None ↦ true | Some said ↦ clashes before said ]
-
 -- whether a line is bad behind the lines before it
 abbrev pub bad_behind : List (List ℕ) → List ℕ → Bool
-bad_behind before line = is_kept line && is_bad (said_by before) (said_of line)
+bad_behind before line = is_kept line && (elim (said_of line) [ None ↦ true | Some said ↦ clashes (said_by before) said ])
 
 -- the number of the first bad line; lines are counted from 1, those that are skipped too
 unfoldable pub first_bad : List (List ℕ) → Option ℕ

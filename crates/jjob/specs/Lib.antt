@@ -9,3 +9,4 @@ pub mod Limits
 pub mod Rows
 pub mod Storing
 pub mod Words
+pub mod ProofNames

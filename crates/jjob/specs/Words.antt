@@ -84,15 +84,11 @@ with_one form verb job =
     else (if bytes_eq verb (codes "check") then option_map (λ f. Check f job) (form_or_pass form)
     else (if bytes_eq verb (codes "policy") then (if is_some form then None else Some (Policy job)) else None))
 
--- a rewriting of a job, stored below a folder that has a name
-abbrev pub rewriting : Word → Word → Option Command
-rewriting job to = if length to == 0 then None else Some (Rewrite job to)
-
 -- what has two words behind its verb
 abbrev pub with_two : Option Word → Word → Word → Word → Option Command
 with_two form verb one two =
     if is_some form then None
-    else (if bytes_eq verb (codes "rewrite") then rewriting one two
+    else (if bytes_eq verb (codes "rewrite") then (if length two == 0 then None else Some (Rewrite one two))
     else (if bytes_eq verb (codes "gen") then generated one two else None))
 
 -- a verb has one word or two behind it

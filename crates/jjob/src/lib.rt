@@ -16,6 +16,8 @@
 //! may have. `clap`'s own walk over the words is shown to be `said`, by induction over the words and the states of the walk. `stored_job`
 //! gives the lines in their order, each ended, with other paths in the lines of class files.
 //!
+//! `ProofNames` are names by which proofs and contracts of inner functions call what the definitions say in place.
+//!
 //! Rooms of jobs and the top may name it, and tests.
 #![tactic(auto)]
 

@@ -1,6 +1,7 @@
 ghost use Rattle.std.specs.Prelude.{◌≡◌, map};
 ghost use Rattle.std.specs.Option.{option_copied};
-ghost use Rattle.jjob.specs.Words.{WordsGive, by_verb, form_named, form_or_pass, generated, rewriting, with_one, with_two};
+ghost use Rattle.jjob.specs.Words.{WordsGive, by_verb, form_named, form_or_pass, generated, with_one, with_two};
+ghost use Rattle.jjob.specs.ProofNames.{rewriting};
 
 use crate::command::{Command, Form, WordsError};
 use crate::number::{number_up_to, small_up_to};

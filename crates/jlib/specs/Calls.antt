@@ -1,5 +1,5 @@
 -- The members of the library's classes, on either side.
-use Rattle.std.specs.Prelude.{◌≡◌, ℕ, Bool, true, false, ◌&&◌, List, [], ◌∷◌, Option, option_and_then, codes}
+use Rattle.std.specs.Prelude.{◌≡◌, ℕ, Bool, true, false, ◌&&◌, List, [], ◌∷◌, ◌++◌, Option, option_and_then, codes}
 use Rattle.std.specs.List.{find, list_any}
 use Rattle.std.specs.Str.{bytes_eq}
 use Rattle.jlib.specs.Classes.{above, among, class_named, is_open, name_of}
@@ -9,18 +9,14 @@ use Rattle.jlib.specs.declared.side.Sides.{Sides}
 use Rattle.jlib.specs.declared.side.Sides.TheVariants.{Both, Alone}
 use Rattle.jlib.specs.declared.classes.Thrown.{Thrown}
 use Rattle.jlib.specs.declared.classes.Thrown.TheVariants as thrown
-use Rattle.jlib.specs.declared.classes.PermissionClass.{PermissionClass}
 use Rattle.jlib.specs.declared.classes.PermissionClass.TheVariants as permission
 use Rattle.jlib.specs.declared.classes.LibClass.{LibClass}
 use Rattle.jlib.specs.declared.classes.LibClass.TheVariants as lib
 use Rattle.jlib.specs.declared.calls.ThrownInit.TheVariants as given
 use Rattle.jlib.specs.declared.calls.Piece.{Piece}
 use Rattle.jlib.specs.declared.calls.Piece.TheVariants as piece
-use Rattle.jlib.specs.declared.calls.StringCall.{StringCall}
 use Rattle.jlib.specs.declared.calls.StringCall.TheVariants as string
-use Rattle.jlib.specs.declared.calls.BuilderCall.{BuilderCall}
 use Rattle.jlib.specs.declared.calls.BuilderCall.TheVariants as builder
-use Rattle.jlib.specs.declared.calls.ThreadCall.{ThreadCall}
 use Rattle.jlib.specs.declared.calls.ThreadCall.TheVariants as thread
 use Rattle.jlib.specs.declared.calls.ControllerCall.{ControllerCall}
 use Rattle.jlib.specs.declared.calls.ControllerCall.TheVariants as controller
@@ -47,23 +43,14 @@ pub record Member : Type 0 where
 abbrev pub a_member : Sides → MemberKind → LibClass → List ℕ → List ℕ → Member
 a_member sides kind owner name desc = record { owner = owner; name = name; desc = desc; kind = kind; sides = sides }
 
-abbrev pub static_field : LibClass → List ℕ → List ℕ → Member
-static_field = a_member Both kind.StaticField
-
 abbrev pub constructor_of : Sides → LibClass → List ℕ → Member
 constructor_of sides owner = a_member sides kind.Constructor owner (codes "<init>")
 
 abbrev pub constructor : LibClass → List ℕ → Member
 constructor = constructor_of Both
 
-abbrev pub constructor_on : Side → LibClass → List ℕ → Member
-constructor_on side = constructor_of (Alone side)
-
 abbrev pub method : LibClass → List ℕ → List ℕ → Member
 method = a_member Both kind.Method
-
-abbrev pub static_method : LibClass → List ℕ → List ℕ → Member
-static_method = a_member Both kind.StaticMethod
 
 abbrev pub static_on : Side → LibClass → List ℕ → List ℕ → Member
 static_on side = a_member (Alone side) kind.StaticMethod
@@ -73,35 +60,9 @@ abstract_on side = a_member (Alone side) kind.AbstractMethod
 
 -- ---- the table: side where it is one's alone, class, name and descriptor
 
-abbrev pub print_row : Piece → Member
-print_row piece.Int = method lib.PrintStream (codes "println") (codes "(I)V")
-print_row piece.Long = method lib.PrintStream (codes "println") (codes "(J)V")
-print_row piece.Char = method lib.PrintStream (codes "println") (codes "(C)V")
-print_row piece.Bool = method lib.PrintStream (codes "println") (codes "(Z)V")
-print_row piece.Text = method lib.PrintStream (codes "println") (codes "(Ljava/lang/String;)V")
-
-abbrev pub string_row : StringCall → Member
-string_row string.Length = method lib.String (codes "length") (codes "()I")
-string_row string.CharAt = method lib.String (codes "charAt") (codes "(I)C")
-string_row string.Equals = method lib.String (codes "equals") (codes "(Ljava/lang/Object;)Z")
-string_row string.Concat = method lib.String (codes "concat") (codes "(Ljava/lang/String;)Ljava/lang/String;")
-
-abbrev pub builder_row : BuilderCall → Member
-builder_row builder.Init = constructor lib.StringBuilder (codes "()V")
-builder_row builder.InitText = constructor lib.StringBuilder (codes "(Ljava/lang/String;)V")
-builder_row (builder.Append piece.Int) = method lib.StringBuilder (codes "append") (codes "(I)Ljava/lang/StringBuilder;")
-builder_row (builder.Append piece.Long) = method lib.StringBuilder (codes "append") (codes "(J)Ljava/lang/StringBuilder;")
-builder_row (builder.Append piece.Char) = method lib.StringBuilder (codes "append") (codes "(C)Ljava/lang/StringBuilder;")
-builder_row (builder.Append piece.Bool) = method lib.StringBuilder (codes "append") (codes "(Z)Ljava/lang/StringBuilder;")
-builder_row (builder.Append piece.Text) = method lib.StringBuilder (codes "append") (codes "(Ljava/lang/String;)Ljava/lang/StringBuilder;")
-builder_row builder.ToString = method lib.StringBuilder (codes "toString") (codes "()Ljava/lang/String;")
-
-abbrev pub thread_row : ThreadCall → Member
-thread_row (thread.Init Source) = constructor_on Source lib.Thread (codes "(Ljava/lang/Runnable;)V")
-thread_row (thread.Init Passing) = constructor_on Passing lib.Thread (codes "(Ljava/lang/Runnable;Lsps/Ctx;)V")
-thread_row thread.Start = method lib.Thread (codes "start") (codes "()V")
-thread_row thread.Join = method lib.Thread (codes "join") (codes "()V")
-thread_row thread.Yield = static_method lib.Thread (codes "yield") (codes "()V")
+-- the type of such a piece in a descriptor
+abbrev pub piece_type : Piece → List ℕ
+piece_type = elim [ piece.Int ↦ codes "I" | piece.Long ↦ codes "J" | piece.Char ↦ codes "C" | piece.Bool ↦ codes "Z" | piece.Text ↦ codes "Ljava/lang/String;" ]
 
 abbrev pub controller_row : ControllerCall → Member
 controller_row controller.Check = static_on Source lib.AccessController (codes "checkPermission") (codes "(Ljava/security/Permission;)V")
@@ -138,14 +99,25 @@ row_of (call.ThrownInit one given.Message) = constructor (lib.Thrown one) (codes
 row_of (call.ThrownInit one given.Nothing) = constructor (lib.Thrown one) (codes "()V")
 row_of call.AccessControlInit = constructor lib.AccessControlException (codes "(Ljava/lang/String;)V")
 row_of call.GetMessage = method (lib.Thrown thrown.Throwable) (codes "getMessage") (codes "()Ljava/lang/String;")
-row_of (call.String one) = string_row one
-row_of (call.Builder one) = builder_row one
-row_of call.Out = static_field lib.System (codes "out") (codes "Ljava/io/PrintStream;")
+row_of (call.String string.Length) = method lib.String (codes "length") (codes "()I")
+row_of (call.String string.CharAt) = method lib.String (codes "charAt") (codes "(I)C")
+row_of (call.String string.Equals) = method lib.String (codes "equals") (codes "(Ljava/lang/Object;)Z")
+row_of (call.String string.Concat) = method lib.String (codes "concat") (codes "(Ljava/lang/String;)Ljava/lang/String;")
+row_of (call.Builder builder.Init) = constructor lib.StringBuilder (codes "()V")
+row_of (call.Builder builder.InitText) = constructor lib.StringBuilder (codes "(Ljava/lang/String;)V")
+row_of (call.Builder (builder.Append one)) =
+    method lib.StringBuilder (codes "append") (codes "(" ++ piece_type one ++ codes ")Ljava/lang/StringBuilder;")
+row_of (call.Builder builder.ToString) = method lib.StringBuilder (codes "toString") (codes "()Ljava/lang/String;")
+row_of call.Out = a_member Both kind.StaticField lib.System (codes "out") (codes "Ljava/io/PrintStream;")
 row_of call.PrintEnd = method lib.PrintStream (codes "println") (codes "()V")
-row_of (call.Print one) = print_row one
+row_of (call.Print one) = method lib.PrintStream (codes "println") (codes "(" ++ piece_type one ++ codes ")V")
 row_of (call.Run Source) = abstract_on Source lib.Runnable (codes "run") (codes "()V")
 row_of (call.Run Passing) = abstract_on Passing lib.Runnable (codes "run") (codes "(Lsps/Ctx;)V")
-row_of (call.Thread one) = thread_row one
+row_of (call.Thread (thread.Init Source)) = constructor_of (Alone Source) lib.Thread (codes "(Ljava/lang/Runnable;)V")
+row_of (call.Thread (thread.Init Passing)) = constructor_of (Alone Passing) lib.Thread (codes "(Ljava/lang/Runnable;Lsps/Ctx;)V")
+row_of (call.Thread thread.Start) = method lib.Thread (codes "start") (codes "()V")
+row_of (call.Thread thread.Join) = method lib.Thread (codes "join") (codes "()V")
+row_of (call.Thread thread.Yield) = a_member Both kind.StaticMethod lib.Thread (codes "yield") (codes "()V")
 row_of (call.RunAction Source) = abstract_on Source lib.PrivilegedAction (codes "run") (codes "()Ljava/lang/Object;")
 row_of (call.RunAction Passing) = abstract_on Passing lib.PrivilegedAction (codes "run") (codes "(Lsps/Ctx;)Ljava/lang/Object;")
 row_of (call.Controller one) = controller_row one
@@ -164,24 +136,15 @@ name_of_call m = (row_of m).name
 abbrev pub desc_of : LibCall → List ℕ
 desc_of m = (row_of m).desc
 
-abbrev pub field_kind : MemberKind → Bool
-field_kind = elim [ kind.StaticField ↦ true | _ ↦ false ]
-
 abbrev pub is_field : LibCall → Bool
-is_field m = field_kind (row_of m).kind
-
-abbrev pub static_kind : MemberKind → Bool
-static_kind = elim [ kind.StaticField ↦ true | kind.StaticMethod ↦ true | _ ↦ false ]
+is_field m = elim (row_of m).kind [ kind.StaticField ↦ true | _ ↦ false ]
 
 abbrev pub is_static : LibCall → Bool
-is_static m = static_kind (row_of m).kind
-
-abbrev pub concrete_kind : MemberKind → Bool
-concrete_kind = elim [ kind.Method ↦ true | _ ↦ false ]
+is_static m = elim (row_of m).kind [ kind.StaticField ↦ true | kind.StaticMethod ↦ true | _ ↦ false ]
 
 -- a method of an instance that isn't abstract, constructors aside
 abbrev pub is_concrete : LibCall → Bool
-is_concrete m = concrete_kind (row_of m).kind
+is_concrete m = elim (row_of m).kind [ kind.Method ↦ true | _ ↦ false ]
 
 -- a side's library has it
 abbrev pub call_stands_on : Side → LibCall → Bool
@@ -192,14 +155,6 @@ call_stands_on side m = among (row_of m).sides side
 -- besides constructors
 abbrev pub thrown_methods : Thrown → List LibCall
 thrown_methods = elim [ thrown.Throwable ↦ call.GetMessage ∷ [] | _ ↦ [] ]
-
-abbrev pub permission_members : PermissionClass → List LibCall
-permission_members permission.AllPermission = call.PermissionInit init.All ∷ []
-permission_members permission.RuntimePermission = call.PermissionInit init.Runtime ∷ call.PermissionInit init.RuntimeActions ∷ []
-permission_members permission.SecurityPermission = call.PermissionInit init.Security ∷ call.PermissionInit init.SecurityActions ∷ []
-permission_members permission.PropertyPermission = call.PermissionInit init.Property ∷ []
-permission_members permission.FilePermission = call.PermissionInit init.File ∷ []
-permission_members _ = []
 
 abbrev pub members : LibClass → List LibCall
 members lib.Object = call.ObjectInit ∷ []
@@ -220,7 +175,11 @@ members lib.AccessController =
     call.Controller controller.Check ∷ call.Controller controller.Snapshot
     ∷ call.Controller controller.Privileged ∷ call.Controller controller.PrivilegedWith ∷ call.Controller controller.PrivilegedLimited ∷ []
 members lib.AccessControlContext = call.ContextCheck ∷ []
-members (lib.Permission one) = permission_members one
+members (lib.Permission permission.AllPermission) = call.PermissionInit init.All ∷ []
+members (lib.Permission permission.RuntimePermission) = call.PermissionInit init.Runtime ∷ call.PermissionInit init.RuntimeActions ∷ []
+members (lib.Permission permission.SecurityPermission) = call.PermissionInit init.Security ∷ call.PermissionInit init.SecurityActions ∷ []
+members (lib.Permission permission.PropertyPermission) = call.PermissionInit init.Property ∷ []
+members (lib.Permission permission.FilePermission) = call.PermissionInit init.File ∷ []
 members lib.Rt =
     call.Rt rt.Enter ∷ call.Rt rt.Check ∷ call.Rt rt.Snapshot ∷ call.Rt rt.Privileged ∷ call.Rt rt.PrivilegedWith ∷ call.Rt rt.PrivilegedLimited ∷ []
 members _ = []

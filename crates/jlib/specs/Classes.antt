@@ -26,17 +26,6 @@ same_side _ _ = false
 abbrev pub among : Sides → Side → Bool
 among x side = elim x [ Both ↦ true | Alone of ↦ same_side side of ]
 
--- ---- the kinds
-
-abbrev pub interface_kind : ClassKind → Bool
-interface_kind = elim [ kind.Interface ↦ true | _ ↦ false ]
-
-abbrev pub open_kind : ClassKind → Bool
-open_kind = elim [ kind.Open ↦ true | kind.OpenAbstract ↦ true | _ ↦ false ]
-
-abbrev pub abstract_kind : ClassKind → Bool
-abstract_kind = elim [ kind.OpenAbstract ↦ true | kind.ClosedAbstract ↦ true | _ ↦ false ]
-
 -- ---- what a row of the table of classes says
 
 pub record Class : Type 0 where
@@ -58,16 +47,9 @@ open_class = plain kind.Open
 abbrev pub closed_class : List ℕ → LibClass → Class
 closed_class = plain kind.Closed
 
--- Object, which extends nothing
-abbrev pub the_top : List ℕ → Class
-the_top name = record { name = name; superclass = None; kind = kind.Open; implemented = None; sides = Both }
-
-abbrev pub implementing : LibClass → Class → Class
-implementing i c = record { name = c.name; superclass = c.superclass; kind = c.kind; implemented = Some i; sides = c.sides }
-
 -- it stands on one side alone
 abbrev pub alone : Side → Class → Class
-alone side c = record { name = c.name; superclass = c.superclass; kind = c.kind; implemented = c.implemented; sides = Alone side }
+alone side c = record c { sides = Alone side }
 
 -- an interface's class file names Object as its superclass
 abbrev pub an_interface : List ℕ → Class
@@ -110,7 +92,7 @@ permission_row permission.PropertyPermission = closed_class (codes "java/util/Pr
 permission_row permission.FilePermission = closed_class (codes "java/io/FilePermission") (lib.Permission permission.Permission)
 
 abbrev pub class_row : LibClass → Class
-class_row lib.Object = the_top (codes "java/lang/Object")
+class_row lib.Object = record { name = codes "java/lang/Object"; superclass = None; kind = kind.Open; implemented = None; sides = Both }
 class_row (lib.Thrown one) = thrown_row one
 class_row lib.AccessControlException = open_class (codes "java/security/AccessControlException") (lib.Thrown thrown.SecurityException)
 class_row lib.String = closed_class (codes "java/lang/String") lib.Object
@@ -121,7 +103,7 @@ class_row lib.Void = closed_class (codes "java/lang/Void") lib.Object
 class_row lib.Cloneable = an_interface (codes "java/lang/Cloneable")
 class_row lib.Serializable = an_interface (codes "java/io/Serializable")
 class_row lib.Runnable = an_interface (codes "java/lang/Runnable")
-class_row lib.Thread = implementing lib.Runnable (closed_class (codes "java/lang/Thread") lib.Object)
+class_row lib.Thread = record (closed_class (codes "java/lang/Thread") lib.Object) { implemented = Some lib.Runnable }
 class_row lib.PrivilegedAction = an_interface (codes "java/security/PrivilegedAction")
 class_row lib.AccessController = closed_class (codes "java/security/AccessController") lib.Object
 class_row lib.AccessControlContext = closed_class (codes "java/security/AccessControlContext") lib.Object
@@ -145,15 +127,15 @@ abbrev pub stands_on : Side → LibClass → Bool
 stands_on side c = among (class_row c).sides side
 
 abbrev pub is_interface : LibClass → Bool
-is_interface c = interface_kind (class_row c).kind
+is_interface c = elim (class_row c).kind [ kind.Interface ↦ true | _ ↦ false ]
 
 -- users may extend it
 abbrev pub is_open : LibClass → Bool
-is_open c = open_kind (class_row c).kind
+is_open c = elim (class_row c).kind [ kind.Open ↦ true | kind.OpenAbstract ↦ true | _ ↦ false ]
 
 -- an abstract class, interfaces aside
 abbrev pub is_abstract : LibClass → Bool
-is_abstract c = abstract_kind (class_row c).kind
+is_abstract c = elim (class_row c).kind [ kind.OpenAbstract ↦ true | kind.ClosedAbstract ↦ true | _ ↦ false ]
 
 -- ---- all classes
 

@@ -1,5 +1,6 @@
 ghost use Rattle.std.specs.Prelude.{◌≡◌};
 ghost use Rattle.jlib.specs.Calls;
+ghost use Rattle.jlib.specs.declared.calls.LibCall.TheVariants as calls;
 
 use crate::classes::{LibClass, PermissionClass, Thrown};
 use crate::member_row::{
@@ -122,7 +123,7 @@ pub enum LibCall {
 impl Piece {
     /// The row of println of such a piece.
     fn print_row(self) -> MemberRow
-        ensures { result ≡ Calls.print_row self }
+        ensures { result ≡ Calls.row_of (calls.Print self) }
     {
         table! { self;
             Piece::Int => method(LibClass::PrintStream, b"println", b"(I)V");
@@ -137,7 +138,7 @@ impl Piece {
 impl StringCall {
     /// Its row of the table of members.
     fn row(self) -> MemberRow
-        ensures { result ≡ Calls.string_row self }
+        ensures { result ≡ Calls.row_of (calls.String self) }
     {
         table! { self;
             StringCall::Length => method(LibClass::String, b"length", b"()I");
@@ -151,7 +152,7 @@ impl StringCall {
 impl BuilderCall {
     /// Its row of the table of members.
     fn row(self) -> MemberRow
-        ensures { result ≡ Calls.builder_row self }
+        ensures { result ≡ Calls.row_of (calls.Builder self) }
     {
         table! { self;
             BuilderCall::Init => constructor(LibClass::StringBuilder, b"()V");
@@ -169,7 +170,7 @@ impl BuilderCall {
 impl ThreadCall {
     /// Its row of the table of members.
     fn row(self) -> MemberRow
-        ensures { result ≡ Calls.thread_row self }
+        ensures { result ≡ Calls.row_of (calls.Thread self) }
     {
         table! { self;
             ThreadCall::Init(Side::Source) => constructor_on(Side::Source, LibClass::Thread, b"(Ljava/lang/Runnable;)V");

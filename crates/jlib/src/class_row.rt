@@ -1,6 +1,7 @@
-ghost use Rattle.std.specs.Prelude.{◌≡◌};
+ghost use Rattle.std.specs.Prelude.{◌≡◌, Some, None};
 ghost use Rattle.jlib.specs.Classes;
 ghost use Rattle.jlib.specs.declared.classes.ClassKind.TheVariants as kinds;
+ghost use Rattle.jlib.specs.declared.side.Sides.TheVariants as sides;
 
 use crate::classes::{ClassKind, LibClass};
 use crate::side::{Side, Sides};
@@ -70,7 +71,7 @@ pub(crate) fn interface(name: &'static [u8]) -> ClassRow
 
 /// The row of Object, which extends nothing.
 pub(crate) fn top(name: &'static [u8]) -> ClassRow
-    ensures { result ≡ Classes.the_top name.now }
+    ensures { result ≡ record { name = name.now; superclass = None; kind = kinds.Open; implemented = None; sides = sides.Both } }
 {
     ClassRow {
         name,
@@ -84,7 +85,7 @@ pub(crate) fn top(name: &'static [u8]) -> ClassRow
 impl ClassRow {
     /// The row of a class that implements an interface besides.
     pub(crate) fn implementing(self, interface: LibClass) -> ClassRow
-        ensures { result ≡ Classes.implementing interface self }
+        ensures { result ≡ record self { implemented = Some interface } }
     {
         ClassRow {
             name: self.name,

@@ -1,5 +1,7 @@
 ghost use Rattle.std.specs.Prelude.{◌≡◌};
 ghost use Rattle.jlib.specs.Calls;
+ghost use Rattle.jlib.specs.declared.calls.MemberKind.TheVariants as kinds;
+ghost use Rattle.jlib.specs.declared.side.Sides.TheVariants as sided;
 
 use crate::calls::MemberKind;
 use crate::classes::LibClass;
@@ -25,7 +27,7 @@ impl Model for MemberRow {
 }
 
 pub(crate) fn static_field(owner: LibClass, name: &'static [u8], desc: &'static [u8]) -> MemberRow
-    ensures { result ≡ Calls.static_field owner name.now desc.now }
+    ensures { result ≡ Calls.a_member sided.Both kinds.StaticField owner name.now desc.now }
 {
     MemberRow {
         owner,
@@ -56,7 +58,7 @@ pub(crate) fn constructor(owner: LibClass, desc: &'static [u8]) -> MemberRow
 
 /// A constructor that one side alone has.
 pub(crate) fn constructor_on(side: Side, owner: LibClass, desc: &'static [u8]) -> MemberRow
-    ensures { result ≡ Calls.constructor_on side owner desc.now }
+    ensures { result ≡ Calls.constructor_of (sided.Alone side) owner desc.now }
 {
     constructor_of(Sides::Alone(side), owner, desc)
 }
@@ -74,7 +76,7 @@ pub(crate) fn method(owner: LibClass, name: &'static [u8], desc: &'static [u8]) 
 }
 
 pub(crate) fn static_method(owner: LibClass, name: &'static [u8], desc: &'static [u8]) -> MemberRow
-    ensures { result ≡ Calls.static_method owner name.now desc.now }
+    ensures { result ≡ Calls.a_member sided.Both kinds.StaticMethod owner name.now desc.now }
 {
     MemberRow {
         owner,

@@ -1,6 +1,7 @@
 ghost use Rattle.std.specs.Prelude.{◌≡◌};
-ghost use Rattle.jlib.specs.Calls.{member_among, member_named, members, permission_members};
+ghost use Rattle.jlib.specs.Calls.{member_among, member_named, members};
 ghost use Rattle.jlib.specs.Classes.{name_of};
+ghost use Rattle.jlib.specs.declared.classes.LibClass.TheVariants as classes;
 
 use crate::calls::{
     BuilderCall, ControllerCall, LibCall, PermissionInit, Piece, RtCall, StringCall, ThreadCall,
@@ -117,7 +118,7 @@ fn thrown_member(side: Side, thrown: Thrown, name: &[u8], desc: &[u8]) -> Option
 
 /// The constructors of a class of permissions.
 fn permission_members(class: PermissionClass) -> &'static [LibCall]
-    ensures { result.now ≡ permission_members class }
+    ensures { result.now ≡ members (classes.Permission class) }
 {
     match class {
         PermissionClass::Permission => &[],

@@ -1,3 +1,4 @@
 pub mod jmembers
 pub mod jreferring
 pub mod jlink
+pub mod ProofNames

@@ -1,3 +1,4 @@
 pub mod juses
 pub mod jlayout
 pub mod jrule
+pub mod ProofNames

@@ -3,6 +3,8 @@
 //!
 //! Each room is a module, whose head says what it holds, what is proved of it and who may name it; its definitions lie in `specs/` under its
 //! name, and so does its part of `proofs/`.
+//!
+//! `ProofNames` are names by which proofs and contracts of inner functions call what the definitions say in place.
 #![tactic(auto)]
 
 pub mod jlayout;

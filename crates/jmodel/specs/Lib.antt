@@ -4,3 +4,4 @@ pub mod jguard
 pub mod jrun
 pub mod jrules
 pub mod jguests
+pub mod ProofNames

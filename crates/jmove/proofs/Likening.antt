@@ -21,7 +21,8 @@ use Rattle.jmove.specs.declared.method.Setting.{Setting}
 use Rattle.jmove.specs.declared.naming.Security.TheVariants.{Enter}
 use Rattle.jmove.specs.Additions.{◌>>◌, numbered, with_number, with_security, with_expansions, with_body}
 use Rattle.jmove.specs.Limits.{Alike, SameLimit, SameCanMove, Renumbered, bare_type, bare_frame, bare_kind}
-use Rattle.jmove.specs.Frames.{width, widths, items, items_of}
+use Rattle.jmove.specs.Frames.{widths, items, items_of}
+use Rattle.jmove.specs.ProofNames.{width}
 use Rattle.jmove.specs.Lines.{end_of, reach}
 use Rattle.jmove.specs.Moved.{context_local, expansion, expansions, limit_of, lines, moved_length, move_ref, prologue, push_int, too_long}
 use Rattle.jmove.proofs.Assembling.{end_reach}

@@ -10,7 +10,8 @@ use Rattle.jmove.specs.declared.method.MoveError.TheVariants.{Slots, Locals, Sta
 use Rattle.jmove.specs.Frames.{items_of}
 use Rattle.jmove.specs.Lines.{end_of, reach}
 use Rattle.jmove.specs.Limits.{Short}
-use Rattle.jmove.specs.Moved.{CanMove, context_local, expansions, limit_of, lines, moved_length, prologue, setting, too_many}
+use Rattle.jmove.specs.Moved.{CanMove, context_local, expansions, limit_of, lines, moved_length, prologue, setting}
+use Rattle.jmove.specs.ProofNames.{too_many}
 use Rattle.jmove.proofs.Assembling.{end_reach}
 use Rattle.jmove.proofs.Bounds.{bound, prologue_above, prologue_reach, end_alike}
 use Rattle.jmove.proofs.Coding.{code_laid}

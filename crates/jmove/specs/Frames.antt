@@ -8,23 +8,15 @@ use Rattle.jparts.specs.declared.jmaps.types.FullFrame.{FullFrame}
 abbrev pub moved_type : (ℕ → ℕ) → MapType → MapType
 moved_type to = elim [ Uninit old ↦ Uninit (to old) | t ↦ t ]
 
--- how many locals a type takes
-abbrev pub width : MapType → ℕ
-width = elim [ Long ↦ 2 | _ ↦ 1 ]
-
 abbrev pub widths : List MapType → ℕ
 widths [] = 0
-widths (t ∷ ts) = width t + widths ts
-
--- the locals that nothing is said of, up to this one
-abbrev pub unsaid : ℕ → List MapType → List MapType
-unsaid local types = replicate (local - widths types) Top
+widths (t ∷ ts) = (elim t [ Long ↦ 2 | _ ↦ 1 ]) + widths ts
 
 -- A frame written full: its locals, Top up to the local that holds the context, and the context; `context` is the index of its class.
 abbrev pub moved_frame : (ℕ → ℕ) → ℕ → ℕ → FullFrame → FullFrame
 moved_frame to local context f = record {
   at = to f.at;
-  locals = map (moved_type to) f.locals ++ (unsaid local f.locals ++ Object context ∷ []);
+  locals = map (moved_type to) f.locals ++ (replicate (local - widths f.locals) Top ++ Object context ∷ []);
   stack = map (moved_type to) f.stack;
 }
 

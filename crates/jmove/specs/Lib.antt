@@ -6,3 +6,4 @@ pub mod Lines
 pub mod Methods
 pub mod Moved
 pub mod Tables
+pub mod ProofNames

@@ -7,7 +7,6 @@ use Rattle.jparts.specs.declared.jcode.op.Switch.{Switch as AnySwitch}
 use Rattle.jparts.specs.declared.jcode.op.Switch.TheVariants.{Table, Lookup}
 use Rattle.jparts.specs.declared.jcode.op.TableSwitch.{TableSwitch}
 use Rattle.jparts.specs.declared.jcode.op.LookupSwitch.{LookupSwitch}
-use Rattle.jparts.specs.declared.jcode.op.Case.{Case}
 use Rattle.jparts.specs.declared.jcode.op.Placed.{Placed}
 use Rattle.jparts.specs.jcode.Instructions.{size, placed_at}
 
@@ -39,11 +38,8 @@ place_of old at (Do from op ∷ rest) = place_of old (at + size at op) rest
 abbrev pub table_with : (ℤ → ℤ) → TableSwitch → TableSwitch
 table_with f s = record { default = f s.default; low = s.low; high = s.high; branches = map f s.branches }
 
-abbrev pub case_with : (ℤ → ℤ) → Case → Case
-case_with f c = record { key = c.key; branch = f c.branch }
-
 abbrev pub lookup_with : (ℤ → ℤ) → LookupSwitch → LookupSwitch
-lookup_with f s = record { default = f s.default; cases = map (case_with f) s.cases }
+lookup_with f s = record { default = f s.default; cases = map (λ c. record { key = c.key; branch = f c.branch }) s.cases }
 
 abbrev pub switch_with : (ℤ → ℤ) → AnySwitch → AnySwitch
 switch_with f = elim [ Table s ↦ Table (table_with f s) | Lookup s ↦ Lookup (lookup_with f s) ]
@@ -58,12 +54,8 @@ with_branches f (Goto (gotos.Wide by)) = Goto (gotos.Wide (f by))
 with_branches f (Switch s) = Switch (switch_with f s)
 with_branches f op = op
 
--- how far a branch leads from its new place, where it counted from an old one; `to` says where old places lie now
-abbrev pub distance : (ℕ → ℕ) → ℕ → ℕ → ℤ → ℤ
-distance to from at by = pos (to (unsigned_abs (pos from +ℤ by))) -ℤ pos at
-
 abbrev pub led : (ℕ → ℕ) → ℕ → ℕ → Op → Op
-led to from at op = with_branches (distance to from at) op
+led to from at op = with_branches (λ by. pos (to (unsigned_abs (pos from +ℤ by))) -ℤ pos at) op
 
 -- ---- the code of lines
 

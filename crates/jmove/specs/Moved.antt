@@ -1,6 +1,6 @@
 -- The moved form of a method: it takes its caller's security context as one more parameter, enters its own domain, and hands the context
 -- that it then has to what it calls.
-use Rattle.std.specs.Prelude.{◌≡◌, ◌≤◌, ℕ, pos, ◌+◌, max, length, All, IsTrue, Bool, ◌==◌, ◌||◌, nat_lt, if◌then◌else◌}
+use Rattle.std.specs.Prelude.{◌≡◌, ◌≤◌, ℕ, pos, ◌+◌, max, length, All, IsTrue, ◌==◌, ◌||◌, nat_lt, if◌then◌else◌}
 use Rattle.std.specs.Prelude.{List, [], ◌∷◌, ◌++◌, map, Option, Some, None}
 use Rattle.jparts.specs.declared.jcode.names.Access.{Access}
 use Rattle.jparts.specs.declared.jcode.names.Access.TheVariants.{Load, Store}
@@ -82,9 +82,6 @@ setting m domain = record { local = context_local m; domain = domain }
 abbrev pub moved_length : MethodIn → List Expand → ℕ
 moved_length m ks = let s = setting m 0 in end_of 0 (lines (prologue m.slots s 0) s ks m.ops)
 
-abbrev pub too_many : MethodIn → Bool
-too_many m = m.max_locals == 65535 || nat_lt 16777216 (items_of (context_local m) m.frames)
-
 abbrev pub too_long : ℕ → Option MoveError
 too_long n = if nat_lt 32767 n then Some (TooLong n) else None
 
@@ -102,7 +99,7 @@ pub record CanMove (m : MethodIn) (ks : List Expand) : Type 0 where
 unfoldable pub limit_of : MethodIn → List Expand → Option MoveError
 limit_of m ks =
     if m.slots == 255 then Some Slots else (
-    if too_many m then Some Locals else (
+    if m.max_locals == 65535 || nat_lt 16777216 (items_of (context_local m) m.frames) then Some Locals else (
     if nat_lt 65532 m.max_stack then Some Stack else
     too_long (moved_length m ks)))
 

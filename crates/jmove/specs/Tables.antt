@@ -1,6 +1,6 @@
 -- A table of new places by old ones, which the code looks up in place of labels.
 use Rattle.std.specs.Prelude.{ℕ, ℤ, List, slice_index_or}
-use Rattle.jmove.specs.Lines.{distance}
+use Rattle.jmove.specs.ProofNames.{distance}
 
 -- new places by old ones, and the place of all others
 pub record Table : Type 0 where

@@ -1,5 +1,6 @@
 ghost use Rattle.std.specs.Prelude.{◌≡◌, ◌≤◌, IfOk, map};
-ghost use Rattle.jmove.specs.Lines.{case_with, lookup_with, switch_with, table_with, with_branches};
+ghost use Rattle.jmove.specs.Lines.{lookup_with, switch_with, table_with, with_branches};
+ghost use Rattle.jmove.specs.ProofNames.{case_with};
 ghost use Rattle.jmove.specs.Tables.{distances};
 
 use crate::places::Places;

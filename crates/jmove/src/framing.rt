@@ -1,7 +1,8 @@
 ghost use Rattle.std.specs.Prelude.{◌≡◌, ◌≤◌, ◌++◌, ◌∷◌, [], All, IfOk, OnOk, map, replicate, nat_lt};
 ghost use Rattle.jparts.specs.declared.jmaps.types.MapType.TheVariants.{Top};
 ghost use Rattle.jmove.specs.Frames;
-ghost use Rattle.jmove.specs.Frames.{moved_frame, moved_type, items_of, unsaid};
+ghost use Rattle.jmove.specs.ProofNames;
+ghost use Rattle.jmove.specs.Frames.{moved_frame, moved_type, items_of};
 ghost use Rattle.jmove.specs.Tables.{in_table};
 
 use crate::places::Places;
@@ -10,7 +11,7 @@ use jparts::jmaps::{FullFrame, MapType};
 use std::alloc::{AllocError, Global};
 
 fn width(one: MapType) -> usize
-    ensures { result ≡ Frames.width one }
+    ensures { result ≡ ProofNames.width one }
 {
     match one {
         MapType::Long => 2,

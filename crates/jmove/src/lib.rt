@@ -17,6 +17,8 @@
 //! changes these indices alone; code that breaks no limit has at most 32,767 bytes. `line_laws`: what lines say of the places behind
 //! instructions, and that code stands from place 0 to its length.
 //!
+//! `ProofNames` are names by which proofs and contracts of inner functions call what the definitions say in place.
+//!
 //! Rooms of moving may name it, and tests.
 #![tactic(auto)]
 

@@ -13,11 +13,12 @@ use Rattle.jmove.proofs.Likening.{same_can_move, same_limit}
 use Rattle.jprogram.specs.Classes.{Program}
 use Rattle.jmoveclass.specs.Beginning.{bare_beginning}
 use Rattle.jmoveclass.specs.Calls.{expands}
-use Rattle.jmoveclass.specs.Methods.{frames_in, method_in, with_code, with_first, with_moved}
+use Rattle.jmoveclass.specs.Methods.{method_in, with_code, with_first, with_moved}
 use Rattle.jmoveclass.specs.Puts.{Puts}
 use Rattle.jmoveclass.proofs.Growth.{moved_grows}
 use Rattle.jmoveclass.proofs.Likening.{first_alike}
 use Rattle.jmoveclass.proofs.Turning.{first_refused, then_puts}
+use Rattle.jclass.specs.Codes.{frames_in}
 
 pub first_only_refused : (p : Program) (c : ClassParts) (domain : ℕ) (m : MemberInfo) (name : ℕ) (b : CodeBody) (e : MoveError) (pool : List Entry) → Refused e (with_first c m (frames_in b) pool).1 → Refused e (with_code p c domain m name b pool).1
 unfolding with_code

@@ -2,8 +2,9 @@
 use Rattle.std.proofs.Common.{◌≡◌, ℕ, zero, suc, Bool, true, false, List, [], ◌∷◌, ◌++◌, Option, Some, None, refl, sym, ap, subst, ◌∙◌}
 use Rattle.std.specs.Prelude.{IsTrue, is_some, slice_get, option_and_then}
 use Rattle.jparts.specs.declared.jpool.entry.Entry.{Entry}
-use Rattle.jparts.specs.jpool.Pools.{class_name_at, is_class, is_utf8, name_in, text_in, utf8_at}
+use Rattle.jparts.specs.jpool.Pools.{class_name_at, is_class, is_utf8, utf8_at}
 use Rattle.jmove.specs.Additions.{IsFront}
+use Rattle.jparts.specs.jpool.Entries.{utf8_parts, class_parts}
 
 pub get_front : {A : Type 0} (xs ys : List A) (i : ℕ) (x : A) → slice_get xs i ≡ Some x → slice_get (xs ++ ys) i ≡ Some x
 get_front [] ys i x h = absurd cc
@@ -37,11 +38,11 @@ test_stays pool whole f test n i h = ap test (kept_test pool whole f test n i h)
 
 pub utf8_stays : (pool whole : List Entry) → IsFront pool whole → (i : ℕ) → IsTrue (is_utf8 pool i) → IsTrue (is_utf8 whole i)
 unfolding is_utf8
-utf8_stays pool whole f i h = test_stays pool whole f (λ o. is_some (text_in o)) refl i h
+utf8_stays pool whole f i h = test_stays pool whole f (λ o. is_some (option_and_then utf8_parts o)) refl i h
 
 pub same_text : (pool whole : List Entry) → IsFront pool whole → (i : ℕ) → IsTrue (is_utf8 pool i) → utf8_at whole i ≡ utf8_at pool i
 unfolding is_utf8 utf8_at
-same_text pool whole f i h = ap text_in (kept_test pool whole f (λ o. is_some (text_in o)) refl i h)
+same_text pool whole f i h = ap (option_and_then utf8_parts) (kept_test pool whole f (λ o. is_some (option_and_then utf8_parts o)) refl i h)
 
 pub text_utf8 : (pool : List Entry) (i : ℕ) (text : List ℕ) → utf8_at pool i ≡ Some text → IsTrue (is_utf8 pool i)
 unfolding is_utf8 utf8_at
@@ -54,7 +55,7 @@ text_stays pool whole f i text h = same_text pool whole f i (text_utf8 pool i te
 
 pub class_stays : (pool whole : List Entry) → IsFront pool whole → (i : ℕ) → IsTrue (is_class pool i) → IsTrue (is_class whole i)
 unfolding is_class
-class_stays pool whole f i h = test_stays pool whole f (λ o. is_some (name_in o)) refl i h
+class_stays pool whole f i h = test_stays pool whole f (λ o. is_some (option_and_then class_parts o)) refl i h
 
 named_stays : (pool whole : List Entry) → IsFront pool whole → (o : Option ℕ) (name : List ℕ) → option_and_then (utf8_at pool) o ≡ Some name → option_and_then (utf8_at whole) o ≡ Some name
 named_stays pool whole f None name h = absurd cc
@@ -67,5 +68,5 @@ is_named g (Some a) b h = refl
 pub class_name_stays : (pool whole : List Entry) → IsFront pool whole → (i : ℕ) (name : List ℕ) → class_name_at pool i ≡ Some name → class_name_at whole i ≡ Some name
 unfolding class_name_at
 class_name_stays pool whole f i name h =
-    let same = kept_test pool whole f (λ o. is_some (name_in o)) refl i (is_named (utf8_at pool) (name_in (slice_get pool i)) name h) in
-    ap (λ (o : Option Entry). option_and_then (utf8_at whole) (name_in o)) same ∙ named_stays pool whole f (name_in (slice_get pool i)) name h
+    let same = kept_test pool whole f (λ o. is_some (option_and_then class_parts o)) refl i (is_named (utf8_at pool) (option_and_then class_parts (slice_get pool i)) name h) in
+    ap (λ (o : Option Entry). option_and_then (utf8_at whole) (option_and_then class_parts o)) same ∙ named_stays pool whole f (option_and_then class_parts (slice_get pool i)) name h

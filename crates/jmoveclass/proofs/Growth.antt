@@ -20,9 +20,10 @@ use Rattle.jprogram.specs.Parts.{is_static, this_name}
 use Rattle.jmoveclass.specs.Beginning.{class_name, is_reference, item, params_of, this_item, with_beginning, with_item, with_this}
 use Rattle.jprogram.specs.Members.{is_init}
 use Rattle.jmoveclass.specs.Calls.{expands}
-use Rattle.jmoveclass.specs.Methods.{frames_in, kept_alone, method_in, moved_code, moved_member, new_desc, with_attribute, with_code, with_first, with_method, with_moved}
+use Rattle.jmoveclass.specs.Methods.{kept_alone, method_in, moved_code, moved_member, new_desc, with_attribute, with_code, with_first, with_method, with_moved}
 use Rattle.jmoveclass.specs.Puts.{with_each}
 use Rattle.jmoveclass.proofs.Turning.{each_grows}
+use Rattle.jclass.specs.Codes.{frames_in}
 
 if_grows : {A : Type 0} (b : Bool) (f g : Adding A) → Grows f → Grows g → Grows (if b then f else g)
 if_grows true f g F G = F

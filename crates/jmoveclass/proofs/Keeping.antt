@@ -16,7 +16,8 @@ use Rattle.jclass.specs.declared.class.MemberInfo.{MemberInfo}
 use Rattle.jclass.specs.declared.fault.ClassFault.{ClassFault}
 use Rattle.jclass.specs.declared.fault.ClassFault.TheVariants.{Index, Truncated}
 use Rattle.jclass.specs.Basics.{access, index, run, u2, u4}
-use Rattle.jclass.specs.Rules.{descriptor_fault, field_descriptor, is_constant_value, is_plain_class, is_static, is_text, names_caught, names_class, names_super, suits_field, suits_type}
+use Rattle.jclass.specs.Rules.{descriptor_fault, field_descriptor, is_constant_value, is_static, is_text, names_caught, names_class, names_super, suits_field, is_plain_class}
+use Rattle.jclass.specs.ProofNames.{suits_type}
 use Rattle.jclass.specs.Attributes.{class_attribute, constant, content, field_attribute, is_constant, name_fault, name_once, saw_constant, text_index}
 use Rattle.jclass.specs.Members.{field}
 use Rattle.jmove.specs.Additions.{IsFront}

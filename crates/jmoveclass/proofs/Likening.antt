@@ -1,6 +1,6 @@
 -- A method breaks the same limit whatever the indices of the classes that its beginning names.
 use Rattle.std.proofs.Common.{◌≡◌, ℕ, ◌+◌, Bool, true, false, List, [], ◌∷◌, ◌++◌, map, Option, Some, None, Result, Ok, Err, refl, ap, sym, ◌∙◌}
-use Rattle.std.specs.Prelude.{option_map, if◌then◌else◌, ◌==◌}
+use Rattle.std.specs.Prelude.{option_map, if◌then◌else◌, ◌==◌, ok_or}
 use Rattle.std.specs.Str.{byte}
 use Rattle.std.proofs.lemmas.List.{map-append}
 use Rattle.jground.specs.jbase.Stops.{◌>>=◌}
@@ -10,7 +10,7 @@ use Rattle.jparts.specs.declared.jmaps.types.FullFrame.{FullFrame}
 use Rattle.jparts.specs.declared.jmaps.types.MapType.{MapType}
 use Rattle.jparts.specs.declared.jmaps.types.MapType.TheVariants as items
 use Rattle.jparts.specs.declared.jmaps.types.RawFrame.{RawFrame}
-use Rattle.jparts.specs.jmaps.Full.{expand_from, locals_after, locals_before, or_number, place_behind, with_locals}
+use Rattle.jparts.specs.jmaps.Full.{expand_from, locals_after, locals_before, place_behind, with_locals}
 use Rattle.jparts.proofs.JmapsProofs.FullLaws.{locals_map}
 use Rattle.jclass.specs.declared.class.ClassParts.{ClassParts}
 use Rattle.jclass.specs.declared.class.CodeBody.{CodeBody}
@@ -21,8 +21,10 @@ use Rattle.jmove.specs.Limits.{Alike, bare_frame, bare_type}
 use Rattle.jprogram.specs.Parts.{is_static, this_name}
 use Rattle.jmoveclass.specs.Beginning.{bare_beginning, bare_this, class_name, is_reference, item, params_of, this_item, with_beginning, with_item, with_this}
 use Rattle.jprogram.specs.Members.{is_init}
-use Rattle.jmoveclass.specs.Methods.{frames_in, frames_of, method_in, or_none, with_first}
+use Rattle.jmoveclass.specs.Methods.{frames_of, method_in, with_first}
+use Rattle.jmoveclass.specs.ProofNames.{or_none}
 use Rattle.jmoveclass.specs.Puts.{with_each}
+use Rattle.jclass.specs.Codes.{frames_in}
 
 -- ---- items
 
@@ -109,7 +111,7 @@ frame_bare at again locals others stack e h = rw (e, h) refl
 -- the rest, behind what the next frame is
 rest_bare : (first second : List MapType) (i : ℕ) (e d : Option FullFrame) (f : RawFrame) (fs : List RawFrame) (l k : Option (List MapType)) → option_map bare_frame e ≡ option_map bare_frame d → option_map (map bare_type) l ≡ option_map (map bare_type) k
     → ((x y : FullFrame) → bare_frame x ≡ bare_frame y → SameEnd (expand_from first (i + 1) (Some x) fs) (expand_from second (i + 1) (Some y) fs))
-    → SameEnd (or_number i (with_locals e f l) >>= λ full. expand_from first (i + 1) (Some full) fs >>= λ others. Ok (full ∷ others)) (or_number i (with_locals d f k) >>= λ full. expand_from second (i + 1) (Some full) fs >>= λ others. Ok (full ∷ others))
+    → SameEnd (ok_or (with_locals e f l) i >>= λ full. expand_from first (i + 1) (Some full) fs >>= λ others. Ok (full ∷ others)) (ok_or (with_locals d f k) i >>= λ full. expand_from second (i + 1) (Some full) fs >>= λ others. Ok (full ∷ others))
 rest_bare first second i e d f fs None None same h more = tt
 rest_bare first second i e d f fs None (Some k) same h more = absurd cc
 rest_bare first second i e d f fs (Some l) None same h more = absurd cc

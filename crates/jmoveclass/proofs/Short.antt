@@ -16,8 +16,8 @@ use Rattle.jparts.specs.declared.jpool.entry.Entry.TheVariants.{Unused, Utf8}
 use Rattle.jparts.specs.jpool.Descriptors.{class_text, descriptor_of, descriptor_text, is_base, is_class_sign, is_return, is_type, is_well_formed, return_text, slots_of, type_text}
 use Rattle.jparts.specs.jpool.Names.{is_class_name}
 use Rattle.jground.proofs.JformatProofs.Steps.{first_true, second_true}
-use Rattle.jparts.specs.jpool.Entries.{entry, first_slot}
-use Rattle.jparts.specs.jpool.Pools.{IsPool, class_name_at, name_in, text_in, utf8_at}
+use Rattle.jparts.specs.jpool.Entries.{entry, first_slot, utf8_parts, class_parts}
+use Rattle.jparts.specs.jpool.Pools.{IsPool, class_name_at, utf8_at}
 use Rattle.jparts.proofs.JpoolProofs.Grown.{each_is, laid_slots}
 use Rattle.jparts.proofs.JpoolProofs.Spelled.{descriptor_take}
 use Rattle.jparts.proofs.JpoolProofs.Spelling.{fits_spelling}
@@ -33,7 +33,7 @@ text_fits : (bytes : List ℕ) → (Utf8 bytes ≡ Unused) ⊎ IsTrue (entry.fit
 text_fits bytes (inl other) = absurd cc
 text_fits bytes (inr fit) = leb-true (length bytes) 0xffff (fits_spelling (Utf8 bytes) fit)
 
-some_short : (pool : List Entry) (i : ℕ) (o : Option Entry) → IsPool pool → slice_get pool i ≡ o → length (or_empty (text_in o)) ≤ 0xffff
+some_short : (pool : List Entry) (i : ℕ) (o : Option Entry) → IsPool pool → slice_get pool i ≡ o → length (or_empty (option_and_then utf8_parts o)) ≤ 0xffff
 some_short pool i (Some (Utf8 bytes)) is at = text_fits bytes (each_is pool (first_slot (length pool)) i (Utf8 bytes) (laid_slots pool is.laid) at)
 some_short pool i o is at = omega arith
 
@@ -47,7 +47,7 @@ name_short pool (Some n) is = text_short pool n is
 
 pub class_short : (pool : List Entry) (i : ℕ) → IsPool pool → length (class_of pool i) ≤ 0xffff
 unfolding class_name_at
-class_short pool i is = name_short pool (name_in (slice_get pool i)) is
+class_short pool i is = name_short pool (option_and_then class_parts (slice_get pool i)) is
 
 -- ---- classes of a descriptor
 

@@ -12,7 +12,7 @@ use Rattle.jparts.specs.declared.jpool.descriptor.Descriptor.TheVariants as desc
 use Rattle.jparts.specs.declared.jpool.descriptor.FieldType.{FieldType}
 use Rattle.jparts.specs.declared.jpool.entry.Entry.{Entry}
 use Rattle.jparts.specs.jpool.Descriptors.{descriptor_of, is_method, is_opening, is_return, is_type, is_well_formed, method, method_of, method_slots, slots_of}
-use Rattle.jparts.specs.jpool.Pools.{class_name_at, name_in, utf8_at}
+use Rattle.jparts.specs.jpool.Pools.{class_name_at, utf8_at}
 use Rattle.jparts.proofs.JpoolProofs.PoolLaws.{at_index}
 use Rattle.jparts.proofs.JpoolProofs.Spelled.{descriptor_take}
 use Rattle.jclass.specs.declared.class.Attribute.{Attribute}
@@ -25,11 +25,12 @@ use Rattle.jclass.specs.declared.fault.ClassFault.TheVariants as kinds
 use Rattle.jclass.specs.Attributes.{content, text_index}
 use Rattle.jclass.specs.Basics.{access, index, u2}
 use Rattle.jclass.specs.Class.{class_file, class_parts, strict, tail}
-use Rattle.jclass.specs.Codes.{code_body}
+use Rattle.jclass.specs.Codes.{code_body, maps_of, frames_in}
 use Rattle.jclass.specs.Judging as judging
 use Rattle.jclass.specs.Members as members
-use Rattle.jclass.specs.Members.{attribute_name, body_of, codes_fault, codes_wanted, method_attribute, method_parts, names_of}
-use Rattle.jclass.specs.Rules.{descriptor_fault, has_no_code, is_code, is_static, method_descriptor, is_plain_class, most_slots, names_class, within}
+use Rattle.jclass.specs.Members.{attribute_name, body_of, codes_fault, method_attribute, method_parts}
+use Rattle.jclass.specs.ProofNames.{codes_wanted, names_of}
+use Rattle.jclass.specs.Rules.{descriptor_fault, has_no_code, is_code, is_static, method_descriptor, most_slots, names_class, within, is_plain_class}
 use Rattle.jclass.specs.Stored.{HasCode, IsIn}
 use Rattle.jclass.proofs.Stored.{code_fits, code_frames}
 use Rattle.jclass.specs.declared.class.CodeAttribute.{CodeAttribute}
@@ -43,10 +44,11 @@ use Rattle.jprogram.specs.Classes.{Program}
 use Rattle.jprogram.specs.Members.{part_of, referred, resolved}
 use Rattle.jprogram.specs.Parts as parts
 use Rattle.jprogram.specs.Parts.{code_of, member_desc, or_empty}
-use Rattle.jmoveclass.specs.Beginning.{params_in, slots, this_slots}
-use Rattle.jmoveclass.specs.Methods.{frames_in, maps_of, or_no_frames}
+use Rattle.jmoveclass.specs.Beginning.{params_in, slots}
+use Rattle.jmoveclass.specs.ProofNames.{this_slots, or_no_frames}
 use Rattle.jmoveclass.specs.Moving.{IsCode}
 use Rattle.jmoveclass.proofs.Keeping.{good_is}
+use Rattle.jparts.specs.jpool.Entries.{class_parts as entry_class}
 
 -- ---- the parts of a method
 
@@ -249,7 +251,7 @@ index_below : {A : Type 0} (xs : List A) (i : ℕ) → IsTrue (is_some (slice_ge
 index_below [] i h = absurd cc
 index_below (x ∷ xs) i h = omega arith
 
-named_there : (pool : List Entry) (i : ℕ) (o : Option Entry) → slice_get pool i ≡ o → IsTrue (is_plain_class (option_and_then (utf8_at pool) (name_in o))) → 0 < length pool
+named_there : (pool : List Entry) (i : ℕ) (o : Option Entry) → slice_get pool i ≡ o → IsTrue (is_plain_class (option_and_then (utf8_at pool) (option_and_then entry_class o))) → 0 < length pool
 named_there pool i None e h = absurd cc
 named_there pool i (Some x) e h = index_below pool i (ap is_some e)
 

@@ -25,13 +25,9 @@ params_in _ = []
 abbrev pub params_of : ClassParts → MemberInfo → List FieldType
 params_of c m = params_in (descriptor_of (member_desc c m))
 
--- 1 where there is `this`
-abbrev pub this_slots : MemberInfo → ℕ
-this_slots m = if is_static m.flags then 0 else 1
-
 -- the slots of its parameters, `this` included
 abbrev pub slots : ClassParts → MemberInfo → ℕ
-slots c m = slots_of (params_of c m) + this_slots m
+slots c m = slots_of (params_of c m) + (if is_static m.flags then 0 else 1)
 
 -- ---- as items of frames
 

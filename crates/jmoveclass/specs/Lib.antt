@@ -6,3 +6,4 @@ pub mod Methods
 pub mod Moved
 pub mod Moving
 pub mod Puts
+pub mod ProofNames

@@ -23,15 +23,11 @@ use Rattle.jmoveclass.specs.Moved.{moved_class}
 abbrev pub kind_of : MoveError → RewriteKind
 kind_of = elim [ errors.Slots ↦ Slots | errors.Locals ↦ Locals | errors.Stack ↦ Stack | errors.TooLong n ↦ TooLong n | _ ↦ PoolFull ]
 
--- a method without code has no slot for one more parameter
-abbrev pub slots_limit : ClassParts → MemberInfo → Option RewriteKind
-slots_limit c m = if slots c m == 255 then Some Slots else None
-
 abbrev pub code_limit : Program → ClassParts → MemberInfo → CodeBody → Option RewriteKind
 code_limit p c m b = option_map kind_of (limit_of (method_in c m b (bare_beginning c m)) (expands p c.pool b.ops))
 
 abbrev pub limit_with : Program → ClassParts → MemberInfo → Option CodeBody → Option RewriteKind
-limit_with p c m = elim [ None ↦ slots_limit c m | Some b ↦ code_limit p c m b ]
+limit_with p c m = elim [ None ↦ (if slots c m == 255 then Some Slots else None) | Some b ↦ code_limit p c m b ]
 
 -- the first limit that a method would break
 unfoldable pub method_limit : Program → ClassParts → MemberInfo → Option RewriteKind

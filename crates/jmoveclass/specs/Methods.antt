@@ -1,5 +1,6 @@
 -- Moved methods of a class: their code, their descriptors, their attributes.
-use Rattle.std.specs.Prelude.{ℕ, List, [], ◌∷◌, Option, Some, None, Result, Ok, Err, if◌then◌else◌}
+use Rattle.std.specs.Prelude.{ℕ, List, [], ◌∷◌, Option, Some, None, if◌then◌else◌}
+use Rattle.std.specs.Result.{result_unwrap_or}
 use Rattle.jground.specs.jbase.First.{first_some}
 use Rattle.jparts.specs.declared.jpool.entry.Entry.{Entry}
 use Rattle.jparts.specs.declared.jmaps.types.FullFrame.{FullFrame}
@@ -24,26 +25,14 @@ use Rattle.jmoveclass.specs.Beginning.{slots, with_beginning}
 use Rattle.jmoveclass.specs.Calls.{expands}
 use Rattle.jmoveclass.specs.Kept.{method_keeps}
 use Rattle.jmoveclass.specs.Puts.{with_each}
+use Rattle.jclass.specs.Codes.{frames_in}
 
 -- ---- the method that is moved
-
-abbrev pub maps_of : CodeAttribute → Option (List RawFrame)
-maps_of = elim [ code.Maps name frames ↦ Some frames | code.Raw name bytes ↦ None ]
-
-abbrev pub or_no_frames : Option (List RawFrame) → List RawFrame
-or_no_frames = elim [ None ↦ [] | Some frames ↦ frames ]
-
--- the frames of a code's StackMapTable, as they are written (JVMS 4.7.4)
-abbrev pub frames_in : CodeBody → List RawFrame
-frames_in b = or_no_frames (first_some maps_of b.attributes)
-
-abbrev pub or_none : Result (List FullFrame) ℕ → List FullFrame
-or_none = elim [ Ok frames ↦ frames | Err i ↦ [] ]
 
 -- The frames of a code in full, by what its locals hold where it begins. In a program that is well typed none of them takes away more
 -- locals than there are.
 unfoldable pub frames_of : List MapType → CodeBody → List FullFrame
-frames_of first b = or_none (expand_from first 0 None (frames_in b))
+frames_of first b = result_unwrap_or (expand_from first 0 None (frames_in b)) []
 
 -- a method with code, as moving sees it
 abbrev pub method_in : ClassParts → MemberInfo → CodeBody → List MapType → MethodIn

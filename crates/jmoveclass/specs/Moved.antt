@@ -12,18 +12,7 @@ use Rattle.jmoveclass.specs.Puts.{with_each}
 
 -- a class with these methods and this pool, and the attributes that are kept
 abbrev pub class_with : ClassParts → List MemberInfo × List Entry → ClassParts
-class_with c x = record {
-  minor = c.minor;
-  major = c.major;
-  pool = x.1;
-  flags = c.flags;
-  this_class = c.this_class;
-  super_class = c.super_class;
-  interfaces = c.interfaces;
-  fields = c.fields;
-  methods = x.0;
-  attributes = filter (class_keeps c.pool) c.attributes;
-}
+class_with c x = record c { pool = x.1; methods = x.0; attributes = filter (class_keeps c.pool) c.attributes }
 
 -- a class of a domain
 unfoldable pub moved_class : Program → ℕ → ClassParts → ClassParts

@@ -1,8 +1,9 @@
 ghost use Rattle.std.specs.Prelude.{◌≡◌, option_map};
 ghost use Rattle.jground.specs.jbase.First.{first_some};
 ghost use Rattle.jprogram.specs.Parts.{code_of};
-ghost use Rattle.jmoveclass.specs.Methods.{maps_of, or_no_frames};
+ghost use Rattle.jmoveclass.specs.ProofNames.{or_no_frames};
 ghost use Rattle.jmoveclass.specs.Moving.{seen_body};
+ghost use Rattle.jclass.specs.Codes.{maps_of};
 
 use jclass::{Attribute, CodeAttribute, MemberInfo};
 use jparts::jcode::{Handler, Placed};

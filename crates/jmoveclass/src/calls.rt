@@ -2,6 +2,8 @@ ghost use Rattle.std.specs.Prelude.{◌≡◌, IfOk, Some, slice_get};
 ghost use Rattle.jprogram.specs.Members.{part_of, referred};
 ghost use Rattle.jmeaning.specs.juses.Uses.{AreUses};
 ghost use Rattle.jmoveclass.specs.Calls;
+ghost use Rattle.jlib.specs.declared.calls.LibCall.TheVariants as calls;
+ghost use Rattle.jprogram.specs.declared.member.Member.TheVariants as members;
 
 use crate::moving::Moving;
 use jground::jbase::Seq;
@@ -13,7 +15,7 @@ use std::alloc::{AllocError, Global};
 
 /// What a call of AccessController becomes.
 fn asking(n: u16, call: ControllerCall) -> Expand
-    ensures { result ≡ Calls.asking n call }
+    ensures { result ≡ Calls.calling n (Some (members.LibMethod (calls.Controller call))) }
 {
     match call {
         ControllerCall::Check => Expand::Check(n),
@@ -25,7 +27,7 @@ fn asking(n: u16, call: ControllerCall) -> Expand
 }
 
 fn calling_library(n: u16, call: LibCall) -> Expand
-    ensures { result ≡ Calls.calling_library n call }
+    ensures { result ≡ Calls.calling n (Some (members.LibMethod call)) }
 {
     match call {
         LibCall::Run(_) => Expand::Call(n),

@@ -4,7 +4,7 @@ ghost use Rattle.jparts.specs.jmaps.Frames.{maps};
 ghost use Rattle.jparts.specs.jmaps.Full;
 ghost use Rattle.jparts.specs.jmaps.Full.{expand_from};
 ghost use Rattle.jmoveclass.specs.Methods;
-ghost use Rattle.jmoveclass.specs.Methods.{or_none};
+ghost use Rattle.jmoveclass.specs.ProofNames.{or_none};
 
 use jclass::CodeAttribute;
 use jground::jbase::Seq;

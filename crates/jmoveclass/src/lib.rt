@@ -12,6 +12,8 @@
 //! Proved: `moved_class` answers exactly the moved class where no limit is broken, and else the first: the methods in their order, and
 //! the pool without room last, with no method.
 //!
+//! `ProofNames` are names by which proofs and contracts of inner functions call what the definitions say in place.
+//!
 //! Rooms of moving and jobs and the top may name it.
 #![tactic(auto)]
 

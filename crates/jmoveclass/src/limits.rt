@@ -3,6 +3,7 @@ ghost use Rattle.jground.specs.jbase.First.{first_along};
 ghost use Rattle.jclass.specs.Stored.{IsIn};
 ghost use Rattle.jmoveclass.specs.Beginning;
 ghost use Rattle.jmoveclass.specs.Limits;
+ghost use Rattle.jmoveclass.specs.ProofNames;
 ghost use Rattle.jmoveclass.specs.Limits.{at_method};
 ghost use Rattle.jmoveclass.specs.Moving.{IsCode, IsMoving, seen_body};
 
@@ -56,7 +57,7 @@ fn code_limit(
 fn slots_limit(class: &ClassParts, m: &MemberInfo, params: &[FieldType]) -> Option<RewriteKind>
     requires params { params.now ≡ Beginning.params_of class.now m.now }
     requires few { Beginning.slots class.now m.now ≤ 255 }
-    ensures { result ≡ Limits.slots_limit class.now m.now }
+    ensures { result ≡ ProofNames.slots_limit class.now m.now }
 {
     if slots(class, m, params) == 255 {
         return Some(RewriteKind::Slots);

@@ -11,6 +11,7 @@ ghost use Rattle.jmoveclass.specs.Methods;
 ghost use Rattle.jmoveclass.specs.Methods.{with_attribute, with_code, with_first, with_method, with_moved};
 ghost use Rattle.jmoveclass.specs.Moving.{HasNoLimit, IsCode, IsMoving, named_body, seen_body};
 ghost use Rattle.jmoveclass.specs.Puts.{Puts, with_each};
+ghost use Rattle.jclass.specs.Codes;
 
 use crate::beginning::{params_of, put_beginning, slots};
 use crate::body::{BodyRef, frames_in};
@@ -105,7 +106,7 @@ fn put_first(
 ) -> Result<Seq<MapType>, MoveError>
     requires moving { IsMoving c.now }
     requires params { params.now ≡ Beginning.params_of c.now.class.now m.now }
-    ensures { Puts (λ x. x) (with_first c.now.class.now m.now (Methods.frames_in (seen_body b.entry))) result pool.old pool.new }
+    ensures { Puts (λ x. x) (with_first c.now.class.now m.now (Codes.frames_in (seen_body b.entry))) result pool.old pool.new }
 {
     if frames_in(b.attributes).is_empty() {
         return Ok(Seq::new(alloc));

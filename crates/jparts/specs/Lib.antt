@@ -1,3 +1,4 @@
 pub mod jpool
 pub mod jmaps
 pub mod jcode
+pub mod ProofNames

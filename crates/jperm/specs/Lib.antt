@@ -9,3 +9,4 @@ pub mod Permissions
 pub mod Pieces
 pub mod Texts
 pub mod Written
+pub mod ProofNames

@@ -9,7 +9,6 @@ use Rattle.jperm.specs.declared.making.PermError.{PermError}
 use Rattle.jperm.specs.declared.making.PermError.TheVariants.{NoName, EmptyName, BadActions, Memory}
 use Rattle.jperm.specs.declared.permission.Permission.{Permission}
 use Rattle.jperm.specs.declared.permission.Permission.TheVariants.{All, Basic, Property, File}
-use Rattle.jperm.specs.declared.permission.BasicClass.{BasicClass}
 use Rattle.jperm.specs.declared.permission.BasicClass.TheVariants.{Runtime, Security}
 use Rattle.jperm.specs.Actions.{actions_of, property_actions, file_actions}
 use Rattle.jperm.specs.Written.{path_of}
@@ -24,10 +23,6 @@ filled (Some (u ∷ us)) = Ok (u ∷ us)
 abbrev pub wanted : List Action → Option (List ℕ) → Result ℕ PermError
 wanted kind = elim [ None ↦ Err BadActions | Some text ↦ ok_or (actions_of kind text) BadActions ]
 
--- a permission that has a name and no actions
-abbrev pub made_basic : BasicClass → Option (List ℕ) → Result Permission PermError
-made_basic class name = filled name >>= λ text. Ok (Basic class text)
-
 -- a permission on a property; the name is looked at before the actions
 abbrev pub made_property : Option (List ℕ) → Option (List ℕ) → Result Permission PermError
 made_property name actions = filled name >>= λ text. wanted property_actions actions >>= λ set. Ok (Property text set)
@@ -39,8 +34,8 @@ made_file name actions directory = ok_or name NoName >>= λ text. wanted file_ac
 -- the permission that a class makes
 abbrev pub made : PermClass → Option (List ℕ) → Option (List ℕ) → List ℕ → Result Permission PermError
 made classes.All name actions directory = Ok All
-made classes.Runtime name actions directory = made_basic Runtime name
-made classes.Security name actions directory = made_basic Security name
+made classes.Runtime name actions directory = filled name >>= λ text. Ok (Basic Runtime text)
+made classes.Security name actions directory = filled name >>= λ text. Ok (Basic Security text)
 made classes.Property name actions directory = made_property name actions
 made classes.File name actions directory = made_file name actions directory
 

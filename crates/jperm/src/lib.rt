@@ -14,6 +14,8 @@
 //! and more grants take no permission away; a list with its index (`Indexed`) covers what `covers` says, without memory; `made_laws`:
 //! no permission that is made asks for no actions.
 //!
+//! `ProofNames` are names by which proofs and contracts of inner functions call what the definitions say in place.
+//!
 //! Rooms of permissions and policies, the machine's definition, the machine, jobs and the top may name it, and tests.
 #![tactic(auto)]
 

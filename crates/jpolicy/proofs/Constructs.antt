@@ -21,7 +21,9 @@ use Rattle.jpolicy.specs.declared.clauses.Clauses.{Clauses}
 use Rattle.jpolicy.specs.Expansion.{Properties}
 use Rattle.jpolicy.specs.Walks.{Ends, none_left, walk}
 use Rattle.jpolicy.specs.Productions as read
-use Rattle.jpolicy.specs.Productions.{Answer, next, behind, is_mark, is_word, is_text, is_keyword, names_principal, is_absent, given, entry_of, with_code_base, with_signers, with_principal, grant_of, with_one, no_clauses, skip_comma}
+use Rattle.jpolicy.specs.ProofNames
+use Rattle.jpolicy.specs.Productions.{Answer, next, behind, is_mark, is_text, is_keyword, names_principal, is_absent, given, entry_of, with_code_base, with_signers, with_principal, grant_of, with_one, no_clauses}
+use Rattle.jpolicy.specs.ProofNames.{is_word, skip_comma}
 use Rattle.jpolicy.specs.Grammar.{Grammar, Nothing, Marked, Keyed, Worded, Texted, ◌▹◌, Either, Only, Comma, Signers, BehindActions, BehindComma, Named, BehindName, Entry, Entries, PrincipalName, Principal, Clause, AllClauses, OneGrant, Another, Others, Keystore, Password, Item, Items, Begins, NotAllowed, Says, emptied}
 use Rattle.jpolicy.proofs.Walking.{bind_ok, walk_ends}
 use Rattle.jpolicy.proofs.Firm.{Firm, Seen, Alike, Said, plain, first, bind_err, picked, shrinks, and_false, same_next, firm_same, firm_wide, firm_if, firm_next, firm_none}
@@ -431,9 +433,9 @@ store_misses p gs front a rest (inr d) follow = deeper (is_keyword keywords.Keys
 
 item : (p : Properties) (gs : List Grant) → Law Any (read.one_item p gs) (Item p gs)
 item p gs = law_if Any (is_keyword keywords.Keystore) (seen_keyword keywords.Keystore) (λ ts. read.keystore_at p ts >>= λ k. Ok (gs, k.1)) (StoreItem p gs)
-    (λ ts. cond (next (is_keyword keywords.PasswordUrl) ts) (read.password_at p ts >>= λ k. Ok (gs, k.1)) (read.one_more_grant p gs ts)) (Either (PasswordItem p gs) (GrantItem p gs))
+    (λ ts. cond (next (is_keyword keywords.PasswordUrl) ts) (read.password_at p ts >>= λ k. Ok (gs, k.1)) (ProofNames.one_more_grant p gs ts)) (Either (PasswordItem p gs) (GrantItem p gs))
     (law_map Any (read.keystore_at p) (Keystore p) (λ u. gs) (keystore p))
-    (law_if Any (is_keyword keywords.PasswordUrl) (seen_keyword keywords.PasswordUrl) (λ ts. read.password_at p ts >>= λ k. Ok (gs, k.1)) (PasswordItem p gs) (read.one_more_grant p gs) (GrantItem p gs)
+    (law_if Any (is_keyword keywords.PasswordUrl) (seen_keyword keywords.PasswordUrl) (λ ts. read.password_at p ts >>= λ k. Ok (gs, k.1)) (PasswordItem p gs) (ProofNames.one_more_grant p gs) (GrantItem p gs)
     (law_map Any (read.password_at p) (Password p) (λ u. gs) (password p))
     (law_map Any (read.grant_at p) (OneGrant p) (with_one gs) (grant p))
     (λ front a rest d follow. deeper (is_keyword keywords.PasswordUrl) true (Password p) (λ u. Nothing gs) (begins_so (is_keyword keywords.PasswordUrl) (PasswordRest p)) front a rest d)

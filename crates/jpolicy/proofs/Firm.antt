@@ -12,7 +12,8 @@ use Rattle.jpolicy.specs.declared.fault.PolicyFault.{PolicyFault}
 use Rattle.jpolicy.specs.declared.fault.PolicyFault.TheVariants.{NotUtf8, Syntax, SelfExpansion}
 use Rattle.jpolicy.specs.Expansion.{Properties, expanded, expands_itself}
 use Rattle.jpolicy.specs.Walks.{walk}
-use Rattle.jpolicy.specs.Productions.{Answer, fault_at, not_allowed, behind, next, one, is_word, is_text, units_of, word_at, value_of, text_at}
+use Rattle.jpolicy.specs.Productions.{Answer, fault_at, not_allowed, behind, next, one, is_text, units_of, word_at, value_of, text_at}
+use Rattle.jpolicy.specs.ProofNames.{is_word}
 use Rattle.jpolicy.proofs.Walking.{bind_ok, chosen, Shrinks}
 use Rattle.jpolicy.specs.Grammar.{Grammar, Nothing, One, Worded, Texted, ◌▹◌, Either, Only, Many, Begins, NotItself, emptied}
 

@@ -11,7 +11,8 @@ use Rattle.jpolicy.specs.declared.token.Placed.{Placed}
 use Rattle.jpolicy.specs.declared.keyword.Keyword.{Keyword}
 use Rattle.jpolicy.specs.declared.keyword.Keyword.TheVariants as keywords
 use Rattle.jpolicy.specs.Expansion.{Properties}
-use Rattle.jpolicy.specs.Productions.{next, is_mark, is_word, is_text, is_keyword, names_principal, spelling}
+use Rattle.jpolicy.specs.Productions.{next, is_mark, is_text, is_keyword, names_principal, spelling}
+use Rattle.jpolicy.specs.ProofNames.{is_word}
 use Rattle.jpolicy.specs.Grammar.{Grammar, Nothing, One, Texted, ◌▹◌, Begins}
 use Rattle.jpolicy.proofs.Firm.{Seen, plain, word_blind, text_blind}
 use Rattle.jpolicy.proofs.Exact.{front_of}

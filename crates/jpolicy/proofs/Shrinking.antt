@@ -9,10 +9,11 @@ use Rattle.std.proofs.lemmas.List.{length-drop}
 use Rattle.jground.specs.jbase.Stops.{◌>>=◌}
 use Rattle.jpolicy.specs.declared.token.Token.TheVariants.{Mark}
 use Rattle.jpolicy.specs.declared.token.Placed.{Placed}
-use Rattle.jpolicy.specs.Characters.{is_gap, is_mark, is_word_character, ends_line, is_octal}
+use Rattle.jpolicy.specs.Characters.{is_mark, is_word_character, ends_line, is_octal, is_gap}
 use Rattle.jpolicy.specs.Strings.{Part, meant, escape_at, character_at, at_quote, one_more, behind_quote, string_at}
-use Rattle.jpolicy.specs.Tokens.{Lexeme, token, gap, bad, behind_comment, closed, comment_at, quoted, word_at, lexeme_at, with_lexeme, more_at}
-use Rattle.jpolicy.specs.Expansion.{Properties, value_of, closes, named_up_to, piece_at, one_piece}
+use Rattle.jpolicy.specs.Tokens.{Lexeme, token, gap, bad, behind_comment, closed, comment_at, word_at, lexeme_at, with_lexeme, more_at}
+use Rattle.jpolicy.specs.ProofNames.{quoted, closes}
+use Rattle.jpolicy.specs.Expansion.{Properties, value_of, named_up_to, piece_at, one_piece}
 use Rattle.jpolicy.specs.Walks.{Ends, none_left, walk}
 use Rattle.jpolicy.proofs.Walking.{Shrinks, bind_ok, chosen, walk_ends, walk_no_more}
 

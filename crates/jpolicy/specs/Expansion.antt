@@ -21,10 +21,6 @@ look_up (p ∷ ps) name = if bytes_eq p.0 name then Some p.1 else look_up ps nam
 abbrev pub value_of : Properties → List ℕ → Option (List ℕ)
 value_of properties name = if bytes_eq name (codes "/") then Some (codes "/") else (if length name == 0 then None else look_up properties name)
 
--- whether a unit closes a name
-abbrev pub closes : ℕ → Bool
-closes u = u == byte "}"
-
 -- a name behind `${`, which ends at the place of the first `}`; where there is none, the text stands as it is written
 abbrev pub named_up_to : Properties → List ℕ → List ℕ → Option ℕ → Part (List ℕ)
 named_up_to properties written text (Some end) = ok_or (value_of properties (take end text)) tt >>= λ value. Ok (value, drop (end + 1) text)
@@ -35,7 +31,7 @@ unfoldable pub piece_at : Properties → List ℕ → Part (List ℕ)
 piece_at properties [] = Ok ([], [])
 piece_at properties (u ∷ []) = Ok (u ∷ [], [])
 piece_at properties (u ∷ v ∷ us) =
-    if (u == byte "$") && (v == byte "{") then named_up_to properties (u ∷ v ∷ us) us (position closes us) else Ok (u ∷ [], v ∷ us)
+    if (u == byte "$") && (v == byte "{") then named_up_to properties (u ∷ v ∷ us) us (position (λ u. u == byte "}") us) else Ok (u ∷ [], v ∷ us)
 
 abbrev pub one_piece : Properties → List ℕ → List ℕ → Part (List ℕ)
 one_piece properties done text = piece_at properties text >>= λ x. Ok (done ++ x.0, x.1)

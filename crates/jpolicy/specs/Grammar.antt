@@ -14,7 +14,8 @@ use Rattle.jpolicy.specs.declared.stated.Stated.{Stated}
 use Rattle.jpolicy.specs.declared.stated.Stated.TheVariants.{Absent}
 use Rattle.jpolicy.specs.declared.clauses.Clauses.{Clauses}
 use Rattle.jpolicy.specs.Expansion.{Properties, expanded, expands_itself}
-use Rattle.jpolicy.specs.Productions.{is_mark, is_word, is_keyword, given, is_absent, entry_of, no_clauses}
+use Rattle.jpolicy.specs.Productions.{is_mark, is_keyword, given, is_absent, entry_of, no_clauses}
+use Rattle.jpolicy.specs.ProofNames.{is_word}
 use Rattle.jpolicy.specs.Productions.{with_code_base, with_signers, with_principal, grant_of, with_one}
 
 -- which tokens a construct may be, each time with what it states

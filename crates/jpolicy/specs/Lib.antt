@@ -7,3 +7,4 @@ pub mod Strings
 pub mod Tokens
 pub mod WalkLaws
 pub mod Walks
+pub mod ProofNames

@@ -40,9 +40,6 @@ behind = elim [ [] ↦ [] | t ∷ ts ↦ ts ]
 abbrev pub is_mark : ℕ → Token → Bool
 is_mark c = elim [ Mark d ↦ d == c | _ ↦ false ]
 
-abbrev pub is_word : Token → Bool
-is_word = elim [ Word units ↦ true | _ ↦ false ]
-
 abbrev pub is_text : Token → Bool
 is_text = elim [ Text units ↦ true | _ ↦ false ]
 
@@ -165,7 +162,7 @@ names_principal token = is_text token || is_mark (byte "*") token
 -- behind `principal`: optionally a word or `*`, then a string or `*`
 abbrev pub principal_at : Properties → List Placed → Answer Bool
 principal_at properties ts =
-    if next is_word ts then principal_name_at properties (behind ts) else
+    if next (elim [ Word units ↦ true | _ ↦ false ]) ts then principal_name_at properties (behind ts) else
     (if next (is_mark (byte "*")) ts && next names_principal (behind ts) then principal_name_at properties (behind ts) else principal_name_at properties ts)
 
 abbrev pub with_code_base : Clauses → Option (List ℕ) → Clauses
@@ -184,12 +181,8 @@ clause_at properties cs ts =
     (if next (is_keyword keywords.SignedBy) ts && is_absent cs.signers then (text_at properties (behind ts) >>= λ t. Ok (with_signers cs t.0, t.1)) else
     (if next (is_keyword keywords.Principal) ts then (principal_at properties (behind ts) >>= λ p. Ok (with_principal cs p.0, p.1)) else not_allowed ts))
 
--- what is behind a comma, if one stands there
-abbrev pub skip_comma : List Placed → List Placed
-skip_comma ts = if next (is_mark (byte ",")) ts then behind ts else ts
-
 abbrev pub one_clause : Properties → Clauses → List Placed → Answer Clauses
-one_clause properties cs ts = clause_at properties cs ts >>= λ c. Ok (c.0, skip_comma c.1)
+one_clause properties cs ts = clause_at properties cs ts >>= λ c. Ok (c.0, if next (is_mark (byte ",")) c.1 then behind c.1 else c.1)
 
 -- clauses up to a brace
 unfoldable pub clauses_at : Properties → List Placed → Answer Clauses
@@ -233,15 +226,12 @@ keystore_at properties ts =
 unfoldable pub password_at : Properties → List Placed → Answer (Unit {0})
 password_at properties ts = keyword_at keywords.PasswordUrl ts >>= λ k. text_at properties k.1 >>= λ t. mark_at (byte ";") t.1
 
-abbrev pub one_more_grant : Properties → List Grant → List Placed → Answer (List Grant)
-one_more_grant properties grants ts = grant_at properties ts >>= λ g. Ok (with_one grants g.0, g.1)
-
 -- an item behind others
 abbrev pub one_item : Properties → List Grant → List Placed → Answer (List Grant)
 one_item properties grants ts =
     if next (is_keyword keywords.Keystore) ts then (keystore_at properties ts >>= λ k. Ok (grants, k.1)) else
     (if next (is_keyword keywords.PasswordUrl) ts then (password_at properties ts >>= λ k. Ok (grants, k.1)) else
-    one_more_grant properties grants ts)
+    grant_at properties ts >>= λ g. Ok (with_one grants g.0, g.1))
 
 -- items to the end of the text; grants with a missing property in a clause are left out
 unfoldable pub policy_at : Properties → List Placed → Result (List Grant) (Fault PolicyFault)

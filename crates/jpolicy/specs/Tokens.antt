@@ -6,7 +6,7 @@ use Rattle.std.specs.Char.Escape.{encode_utf16}
 use Rattle.jpolicy.specs.declared.token.Token.{Token}
 use Rattle.jpolicy.specs.declared.token.Token.TheVariants.{Word, Text, Mark, Bad}
 use Rattle.jpolicy.specs.declared.token.Placed.{Placed}
-use Rattle.jpolicy.specs.Characters.{is_gap, is_mark, is_word_character, ends_line}
+use Rattle.jpolicy.specs.Characters.{is_mark, is_word_character, ends_line, is_gap}
 use Rattle.jpolicy.specs.Strings.{Part, string_at}
 use Rattle.jpolicy.specs.Walks.{none_left, walk}
 
@@ -38,10 +38,6 @@ unfoldable pub comment_at : List ℕ → Lexeme
 comment_at [] = bad
 comment_at (c ∷ cs) = if c == byte "/" then gap (drop (position_or_len ends_line cs) cs) else (if c == byte "*" then closed (behind_comment cs) else bad)
 
-abbrev pub quoted : Part (List ℕ) → Lexeme
-quoted (Ok (units, rest)) = token (Text units) rest
-quoted (Err e) = bad
-
 -- all characters of a word, in UTF-16 units
 abbrev pub word_at : List ℕ → Lexeme
 word_at text = token (Word (flat_map encode_utf16 (take_while is_word_character text))) (drop (prefix_len is_word_character text) text)
@@ -52,7 +48,7 @@ lexeme_at c cs =
     if is_gap c then gap cs else
     (if is_mark c then token (Mark c) cs else
     (if is_word_character c then word_at (c ∷ cs) else
-    (if c == byte "\"" then quoted (string_at cs) else
+    (if c == byte "\"" then (elim (string_at cs) [ Ok x ↦ token (Text x.0) x.1 | Err e ↦ bad ]) else
     (if c == byte "/" then comment_at cs else bad))))
 
 -- tokens, and the one of a lexeme behind them, with the number of characters from its first one to the end of the text
@@ -64,10 +60,6 @@ with_lexeme tokens left (None, rest) = Ok (tokens, rest)
 abbrev pub more_at : List Placed → List ℕ → Part (List Placed)
 more_at tokens = elim [ [] ↦ Ok (tokens, []) | c ∷ cs ↦ with_lexeme tokens (length (c ∷ cs)) (lexeme_at c cs) ]
 
-abbrev pub found : Part (List Placed) → List Placed
-found (Ok (tokens, rest)) = tokens
-found (Err e) = []
-
 -- all tokens of a text in order; one that is bad is the last
 unfoldable pub tokens : List ℕ → List Placed
-tokens text = found (walk none_left more_at (length text) [] text)
+tokens text = elim (walk none_left more_at (length text) [] text) [ Ok x ↦ x.0 | Err e ↦ [] ]

@@ -1,5 +1,5 @@
 ghost use Rattle.std.specs.Prelude.{◌≡◌};
-ghost use Rattle.jpolicy.specs.Characters.{ends_line, is_gap, is_mark, is_octal, is_word_character};
+ghost use Rattle.jpolicy.specs.Characters.{ends_line, is_mark, is_octal, is_word_character, is_gap};
 
 /// Whether a character separates tokens: a blank or a control.
 pub fn is_gap(c: char) -> bool

@@ -1,6 +1,7 @@
 ghost use Rattle.std.specs.Prelude.{◌≡◌, ◌<◌, IfOk, IfSome, MatchOption, None, Some, length, position};
 ghost use Rattle.jground.specs.jbase.Stops.{Gives};
-ghost use Rattle.jpolicy.specs.Expansion.{closes, expanded, expands_itself, look_up, named_up_to, one_piece, piece_at, value_of};
+ghost use Rattle.jpolicy.specs.Expansion.{expanded, expands_itself, look_up, named_up_to, one_piece, piece_at, value_of};
+ghost use Rattle.jpolicy.specs.ProofNames.{closes};
 ghost use Rattle.jpolicy.specs.Walks.{none_left};
 
 use crate::walk::{Walk, walk_of};

@@ -4,7 +4,8 @@ ghost use Rattle.std.specs.Char.Escape.{encode_utf16};
 ghost use Rattle.jground.specs.jbase.Stops.{Gives};
 ghost use Rattle.jpolicy.specs.Characters.{ends_line, is_word_character};
 ghost use Rattle.jpolicy.specs.Strings.{string_at};
-ghost use Rattle.jpolicy.specs.Tokens.{behind_comment, comment_at, lexeme_at, more_at, quoted, tokens, with_lexeme, word_at};
+ghost use Rattle.jpolicy.specs.Tokens.{behind_comment, comment_at, lexeme_at, more_at, tokens, with_lexeme, word_at};
+ghost use Rattle.jpolicy.specs.ProofNames.{quoted};
 ghost use Rattle.jpolicy.specs.Walks.{none_left};
 
 use crate::character::{ends_line, is_gap, is_mark, is_word_character};

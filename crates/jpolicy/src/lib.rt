@@ -13,6 +13,8 @@
 //! of it begin a policy, with it none begins, and it is a self-expansion exactly where another string is allowed there. `walk_laws`:
 //! none of its walks ends for want of steps.
 //!
+//! `ProofNames` are names by which proofs and contracts of inner functions call what the definitions say in place.
+//!
 //! Rooms of permissions and policies and jobs and the top may name it, and tests.
 #![tactic(auto)]
 

@@ -5,7 +5,8 @@ use Rattle.std.specs.List.{list_any, AllByRecursion}
 use Rattle.std.specs.Str.{bytes_eq}
 use denote.Ref.{Bor}
 use Rattle.jprogram.specs.Circles.{supers_of}
-use Rattle.jprogram.specs.Classes.{Class, Program, find, known, place_of, reaches, supers}
+use Rattle.jprogram.specs.Classes.{Class, Program, find, known, place_of, reaches}
+use Rattle.jprogram.specs.ProofNames.{supers}
 use Rattle.jprogram.specs.Layers.{closing, is_closed, is_closed_at, waiting_names}
 use Rattle.jprogram.proofs.Going.{closed_or, closing_length, none_at_end, wait-popped}
 use Rattle.jprogram.proofs.Marks.{none_at, replicate_length}

@@ -13,7 +13,8 @@ use Rattle.jlib.specs.Classes as library
 use Rattle.jlib.proofs.Found.{class_above, class_implements, class_only, lower}
 use Rattle.jprogram.specs.declared.part.CodePart.{CodePart}
 use Rattle.jprogram.specs.Circles.{supers_of}
-use Rattle.jprogram.specs.Classes.{Class, Lib, Program, User, find, found_at, place_of, supers}
+use Rattle.jprogram.specs.Classes.{Class, Lib, Program, User, find, found_at, place_of}
+use Rattle.jprogram.specs.ProofNames.{supers}
 use Rattle.jprogram.specs.Layers.{closing, closing_at, is_closed, is_closed_at, is_marked, waiting_names}
 use Rattle.jprogram.proofs.Going.{only_runnable, place_there, slice_get-within, some_is, wait-popped}
 

@@ -19,7 +19,7 @@ use Rattle.jlib.specs.Classes as library
 use Rattle.jprogram.specs.declared.member.Member.{Member}
 use Rattle.jprogram.specs.declared.part.CodePart.{CodePart}
 use Rattle.jprogram.specs.Parts.{interface_names, this_name}
-use Rattle.jprogram.specs.Classes.{Class, Lib, Program, User, face_names, faces, faces_of, find, found_at, known, place_of}
+use Rattle.jprogram.specs.Classes.{Class, Lib, Program, User, face_names, faces, find, found_at, known, place_of, faces_of}
 use denote.Ref.{Bor}
 use Rattle.jprogram.specs.Layers.{AreClosed, IsLayered, closing, closing_at, is_closed, is_closed_at, is_marked, waiting_names}
 use Rattle.jprogram.proofs.Search.{Along, Below, Settled, again_none, along-append, along-cons, along-faces, along-none, all-append, below-head, below-tail, faces-below, settled_begin, settled_end, settled_new, settled_skip, settled_visit}

@@ -9,10 +9,11 @@ use Rattle.jlib.specs.Classes as library
 use Rattle.jlib.proofs.Found.{class_implements}
 use Rattle.jprogram.specs.Parts as parts
 use Rattle.jprogram.specs.Parts.{class_text, super_name}
-use Rattle.jprogram.specs.Classes.{Class, Program, above_name, face_names, faces_of, find, holds, implements, is_interface, known, object, onward, over, superinterfaces, up}
+use Rattle.jprogram.specs.Classes.{Class, Program, above_name, face_names, find, holds, implements, is_interface, known, object, onward, over, superinterfaces, up, faces_of}
+use Rattle.jprogram.specs.ProofNames.{is_no_interface}
 use Rattle.jprogram.specs.Implementing.{above_has}
 use Rattle.jprogram.specs.Standing.{StandsInOrder}
-use Rattle.jprogram.specs.Supers.{is_no_interface, is_object, lists_a_class, super_barred}
+use Rattle.jprogram.specs.Supers.{is_object, lists_a_class, super_barred}
 use Rattle.jprogram.proofs.Circling.{all_weaken}
 use Rattle.jprogram.proofs.Standing.{Stands, Users, Libs, Nowhere, all_behind, all_of_map, any_none, lib_find, lower_all, not_bad, not_none, not_taken, or_none, stands, tall, tall_most}
 use Rattle.jprogram.proofs.Extending.{face_above, object_find, object_up, up_is}

@@ -1,13 +1,14 @@
 -- The marks of a pool's texts.
 use Rattle.std.proofs.Common.{◌≡◌, ℕ, Bool, false, List, Option, Some, None, refl, ap, ◌∙◌}
-use Rattle.std.specs.Prelude.{option_map, slice_get}
+use Rattle.std.specs.Prelude.{option_map, slice_get, option_and_then}
 use Rattle.std.proofs.lemmas.Option.{slice_get-map}
 use Rattle.jparts.specs.declared.jpool.entry.Entry.{Entry}
-use Rattle.jparts.specs.jpool.Pools.{text_in, utf8_at}
+use Rattle.jparts.specs.jpool.Pools.{utf8_at}
 use Rattle.jparts.specs.jpool.Descriptors.{descriptor_of}
 use Rattle.jprogram.specs.declared.naming.TextMarks.{TextMarks}
 use Rattle.jprogram.specs.Parts.{or_empty, text}
 use Rattle.jprogram.specs.Naming.{class_reserved, marks_in, text_marks, text_reserved}
+use Rattle.jparts.specs.jpool.Entries.{utf8_parts}
 
 abbrev pub class_in : Option TextMarks → Bool
 class_in None = false
@@ -17,12 +18,12 @@ abbrev pub desc_in : Option TextMarks → Bool
 desc_in None = false
 desc_in (Some m) = m.desc
 
-in_entry_class : (o : Option Entry) → class_in (option_map marks_in o) ≡ class_reserved (or_empty (text_in o))
+in_entry_class : (o : Option Entry) → class_in (option_map marks_in o) ≡ class_reserved (or_empty (option_and_then utf8_parts o))
 unfolding text_reserved descriptor_of
 in_entry_class None = refl
 in_entry_class (Some e) = refl
 
-in_entry_desc : (o : Option Entry) → desc_in (option_map marks_in o) ≡ text_reserved (or_empty (text_in o))
+in_entry_desc : (o : Option Entry) → desc_in (option_map marks_in o) ≡ text_reserved (or_empty (option_and_then utf8_parts o))
 unfolding text_reserved descriptor_of
 in_entry_desc None = refl
 in_entry_desc (Some e) = refl

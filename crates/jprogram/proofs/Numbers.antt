@@ -8,7 +8,7 @@ use Rattle.jprogram.specs.declared.part.ClassRef.{ClassRef}
 use Rattle.jprogram.specs.declared.part.ClassRef.TheVariants as refs
 use Rattle.jprogram.specs.declared.part.CodePart.{CodePart}
 use Rattle.jprogram.specs.Parts.{this_name}
-use Rattle.jprogram.specs.Classes.{Program, User, find, name_at, named, ref_of}
+use Rattle.jprogram.specs.Classes.{Program, User, find, name_at, ref_of, named}
 use Rattle.jprogram.specs.Implementing.{IsNumber}
 use Rattle.jprogram.specs.Standing.{StandsInOrder}
 use Rattle.jprogram.proofs.Going.{some_is}

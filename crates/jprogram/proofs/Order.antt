@@ -13,7 +13,8 @@ use Rattle.jlib.proofs.Found.{next_above}
 use Rattle.jprogram.specs.declared.part.CodePart.{CodePart}
 use Rattle.jprogram.specs.Parts.{class_text, interface_names, super_name, this_name}
 use Rattle.jprogram.specs.Circles.{supers_of}
-use Rattle.jprogram.specs.Classes.{Class, Lib, Program, User, find, known, reaches, supers}
+use Rattle.jprogram.specs.Classes.{Class, Lib, Program, User, find, known, reaches}
+use Rattle.jprogram.specs.ProofNames.{supers}
 use Rattle.jprogram.specs.Heights.{height_in, height_of, is_above, is_below, is_order, is_part_above, is_strict, is_user_above, super_below}
 use Rattle.jground.specs.jbase.First.{fault_if}
 use Rattle.jprogram.specs.declared.fault.LinkKind.TheVariants.{Circular}

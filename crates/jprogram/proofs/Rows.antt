@@ -24,7 +24,8 @@ use Rattle.jprogram.specs.Parts.{class_text, interface_names, super_name, this_n
 use Rattle.jprogram.specs.Bits.{Joins, has}
 use Rattle.jprogram.specs.Circles.{supers_of}
 use Rattle.jprogram.specs.Faces.{face_number}
-use Rattle.jprogram.specs.Classes.{Class, Lib, Program, User, above, above_name, face_names, faces_of, find, found_at, holds, implements, is_interface, known, name_at, place_of, ref_of, supers}
+use Rattle.jprogram.specs.Classes.{Class, Lib, Program, User, above, above_name, face_names, find, found_at, holds, implements, is_interface, known, name_at, place_of, ref_of, faces_of}
+use Rattle.jprogram.specs.ProofNames.{supers}
 use Rattle.std.specs.Prelude.{Err, IfOk, IfSome, Ok, Result}
 use denote.Ref.{Bor}
 use Rattle.jprogram.specs.declared.found.Found.{Found}

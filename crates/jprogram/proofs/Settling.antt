@@ -12,7 +12,8 @@ use Rattle.jlib.specs.Classes as library
 use Rattle.jprogram.specs.declared.part.CodePart.{CodePart}
 use Rattle.jprogram.specs.Parts.{this_name}
 use Rattle.jprogram.specs.Classes as classes
-use Rattle.jprogram.specs.Classes.{Class, Lib, Program, found_at, known, place_of, reaches, supers}
+use Rattle.jprogram.specs.Classes.{Class, Lib, Program, found_at, known, place_of, reaches, faces_of}
+use Rattle.jprogram.specs.ProofNames.{supers}
 use Rattle.jprogram.proofs.Going.{place_named, place_there}
 
 -- ---- booleans and lists
@@ -179,7 +180,7 @@ module _ (p : Program) where
     pub none_over : (c : List ℕ) (n : ℕ) → classes.find p c ≡ None → R n c ≡ false
     unfolding reaches
     none_over c zero e = refl
-    none_over c (suc n) e = ap (λ (o : Option Class). list_any (λ s. bytes_eq d s || R n s) (option_to_list (option_and_then classes.above o) ++ classes.faces_of o)) e
+    none_over c (suc n) e = ap (λ (o : Option Class). list_any (λ s. bytes_eq d s || R n s) (option_to_list (option_and_then classes.above o) ++ faces_of o)) e
 
     -- a step more brings nothing
     abbrev Stable : ℕ → Type 0

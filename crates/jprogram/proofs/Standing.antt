@@ -21,12 +21,13 @@ use Rattle.jprogram.specs.declared.fault.LinkKind.TheVariants.{BadSuper, Circula
 use Rattle.jprogram.specs.Parts as parts
 use Rattle.jprogram.specs.Parts.{class_text, interface_names, super_name, this_name}
 use Rattle.jprogram.specs.Circles.{supers_of}
-use Rattle.jprogram.specs.Classes.{Class, Lib, Program, User, above_name, face_names, find, found_at, known, place_of, reaches, supers}
+use Rattle.jprogram.specs.Classes.{Class, Lib, Program, User, above_name, face_names, find, found_at, known, place_of, reaches}
+use Rattle.jprogram.specs.ProofNames.{supers, super_missing}
 use Rattle.jprogram.specs.Heights.{lib_height}
 use Rattle.jprogram.specs.Layers.{IsLayered}
 use Rattle.jprogram.specs.Naming.{in_class, naming_fault, naming_test, reserved_test, stands_before, taken_test}
 use Rattle.jprogram.specs.Standing.{IsStraight, StandsInOrder}
-use Rattle.jprogram.specs.Supers.{circle_test, face_missing, is_missing, is_object, lists_a_class, missing_test, super_barred, super_missing, super_test, supers_fault, supers_test}
+use Rattle.jprogram.specs.Supers.{circle_test, face_missing, is_missing, is_object, lists_a_class, missing_test, super_barred, super_test, supers_fault, supers_test}
 use Rattle.jprogram.proofs.Circling.{Among, all_weaken, among_each, or_split}
 use Rattle.jprogram.proofs.Climbing.{above_faces, faces_at}
 use Rattle.jprogram.proofs.Going.{only_runnable, place_named, place_there}

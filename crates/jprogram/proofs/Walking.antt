@@ -18,9 +18,9 @@ use Rattle.jprogram.specs.declared.part.ClassRef.{ClassRef}
 use Rattle.jprogram.specs.declared.part.ClassRef.TheVariants as refs
 use Rattle.jprogram.specs.declared.part.CodePart.{CodePart}
 use Rattle.jprogram.specs.Classes as classes
-use Rattle.jprogram.specs.Classes.{Class, Lib, Program, User, above, above_name, chain, class_at, extends, find, name_at, onward, place_of, ref_of, super_at, up, user_at}
+use Rattle.jprogram.specs.Classes.{Class, Lib, Program, User, above, above_name, chain, class_at, extends, find, name_at, onward, place_of, ref_of, super_at, up, user_at, named}
 use Rattle.jprogram.specs.Implementing.{IsNumber}
-use Rattle.jprogram.specs.Members.{field_at, field_in, info_of, method_at, method_in, owner_in, owner_of}
+use Rattle.jprogram.specs.Members.{field_at, field_in, info_of, method_at, method_in, owner_of, owner_in}
 use Rattle.jprogram.specs.Parts.{this_name}
 use Rattle.jprogram.specs.Seen.{seen}
 use Rattle.jprogram.specs.Lines.{AreLines, IsLine}
@@ -90,7 +90,7 @@ found_number p n c e = number_by p n c (stands p n) e
 -- the class that declares a member which is there
 owner_by : (p : Program) (i : ℕ) (get : ClassParts → Option MemberInfo) (o : Option CodePart) (x : ClassParts × MemberInfo) → slice_get p.parts i ≡ o
     → option_and_then (λ (c : ClassParts). option_map (λ (m : MemberInfo). (c, m)) (get c)) (option_map (λ (q : CodePart). q.class) o) ≡ Some x
-    → this_name x.0 ≡ classes.named (option_map (λ (q : CodePart). User i q.class) o)
+    → this_name x.0 ≡ named (option_map (λ (q : CodePart). User i q.class) o)
 owner_by p i get None x e is = absurd cc
 owner_by p i get (Some q) x e is = owner_in_part (get q.class) is
   where

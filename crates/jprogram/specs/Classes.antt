@@ -97,12 +97,12 @@ super_at p r = option_map ref_of (option_and_then (find p) (option_and_then abov
 abbrev pub holds : (Class → Bool) → Option Class → Bool
 holds test = elim [ None ↦ false | Some c ↦ test c ]
 
-abbrev pub faces_of : Option Class → List (List ℕ)
-faces_of = elim [ None ↦ [] | Some c ↦ faces c ]
-
 -- the name of the class above the class of a name
 abbrev pub above_name : Program → List ℕ → Option (List ℕ)
 above_name p name = option_and_then above (find p name)
+
+abbrev pub faces_of : Option Class → List (List ℕ)
+faces_of = elim [ None ↦ [] | Some c ↦ faces c ]
 
 -- the names of the interfaces that the class of a name lists
 abbrev pub face_names : Program → List ℕ → List (List ℕ)
@@ -154,11 +154,7 @@ implements p c i = list_any (λ x. list_any (bytes_eq i) (superinterfaces p x)) 
 
 -- ---- circles
 
--- the names that a class stands directly below: of its superclass and of its interfaces
-abbrev pub supers : Program → List ℕ → List (List ℕ)
-supers p c = option_to_list (above_name p c) ++ face_names p c
-
 -- a name is reached from a class in n steps at most
 unfoldable pub reaches : Program → ℕ → List ℕ → List ℕ → Bool
 reaches p zero d c = false
-reaches p (suc n) d c = list_any (λ s. bytes_eq d s || reaches p n d s) (supers p c)
+reaches p (suc n) d c = list_any (λ s. bytes_eq d s || reaches p n d s) (option_to_list (above_name p c) ++ face_names p c)

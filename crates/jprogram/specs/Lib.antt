@@ -17,3 +17,4 @@ pub mod Shortly
 pub mod Slots
 pub mod Standing
 pub mod Supers
+pub mod ProofNames

@@ -156,12 +156,9 @@ owner_of p m = owner_in (info_of p m)
 
 -- ---- access (JVMS 5.4.4)
 
-abbrev pub is_public_at : Program → List ℕ → Bool
-is_public_at p class = classes.holds classes.is_public (classes.find p class)
-
 -- a class of this name may name another one
 unfoldable pub may_name : Program → List ℕ → List ℕ → Bool
-may_name p from class = is_public_at p class || parts.same_package from class
+may_name p from class = classes.holds classes.is_public (classes.find p class) || parts.same_package from class
 
 abbrev pub allows : Program → Reach → List ℕ → List ℕ → Bool
 allows p reach.Public owner from = true
@@ -244,13 +241,10 @@ main_desc = elim [ side.Source ↦ codes "([Ljava/lang/String;)V" | side.Passing
 abbrev pub is_main : Side → ClassParts → MemberInfo → Bool
 is_main side c m = parts.is_called c (codes "main") (main_desc side) m && (parts.is_public_reach (parts.reach_of m.flags) && parts.is_static m.flags && parts.has_code m)
 
-abbrev pub main_in : Side → Option Class → Option MethodId
-main_in side (Some (User i c)) = option_map (method_id i) (position (is_main side c) c.methods)
-main_in side _ = None
-
 -- `main` of the class of a name: public and static, with code
 unfoldable pub main_of : Program → List ℕ → Option MethodId
-main_of p name = main_in p.side (classes.find p name)
+main_of p name =
+    option_and_then (elim [ User i c ↦ option_map (method_id i) (position (is_main p.side c) c.methods) | Lib c ↦ None ]) (classes.find p name)
 
 -- a method is the `main` of one of the program's classes
 abbrev pub IsMain : Program → MethodId → Type 0

@@ -1,5 +1,5 @@
 -- The first phase of linking: names that may not be used, and names that stand twice.
-use Rattle.std.specs.Prelude.{ℕ, Bool, false, ◌||◌, List, map, take, Option, Some, None, is_some, nat_lt, codes}
+use Rattle.std.specs.Prelude.{ℕ, Bool, false, ◌||◌, List, map, take, Option, Some, None, is_some, nat_lt, codes, option_and_then}
 use Rattle.std.specs.List.{list_any}
 use Rattle.std.specs.Str.{bytes_eq}
 use Rattle.jground.specs.jbase.First.{fault_if, first_along, or_else}
@@ -9,10 +9,8 @@ use Rattle.jparts.specs.declared.jpool.descriptor.FieldType.{FieldType}
 use Rattle.jparts.specs.declared.jpool.entry.Entry.{Entry}
 use Rattle.jparts.specs.declared.jpool.entry.Entry.TheVariants as entries
 use Rattle.jparts.specs.jpool.Descriptors.{descriptor_of}
-use Rattle.jparts.specs.jpool.Pools.{text_in}
 use Rattle.jclass.specs.declared.class.ClassParts.{ClassParts}
 use Rattle.jclass.specs.declared.class.MemberInfo.{MemberInfo}
-use Rattle.jlib.specs.declared.side.Side.{Side}
 use Rattle.jlib.specs.declared.side.Side.TheVariants.{Source, Passing}
 use Rattle.jlib.specs.Classes as library
 use Rattle.jprogram.specs.declared.fault.LinkKind.{LinkKind}
@@ -22,6 +20,7 @@ use Rattle.jprogram.specs.declared.naming.TextMarks.{TextMarks}
 use Rattle.jprogram.specs.declared.part.CodePart.{CodePart}
 use Rattle.jprogram.specs.Parts.{member_desc, or_empty, text, this_name}
 use Rattle.jprogram.specs.Classes.{Program, place_of}
+use Rattle.jparts.specs.jpool.Entries.{utf8_parts}
 
 -- ---- faults at their places
 
@@ -37,14 +36,11 @@ is_reserved name = bytes_eq (take 4 name) (codes "sps/")
 abbrev pub type_reserved : FieldType → Bool
 type_reserved t = is_reserved t.class
 
-abbrev pub return_reserved : Option FieldType → Bool
-return_reserved = elim [ None ↦ false | Some t ↦ type_reserved t ]
-
 -- a descriptor names such a class
 abbrev pub desc_reserved : Option Descriptor → Bool
 desc_reserved None = false
 desc_reserved (Some (descriptors.Field t)) = type_reserved t
-desc_reserved (Some (descriptors.Method params ret)) = list_any type_reserved params || return_reserved ret
+desc_reserved (Some (descriptors.Method params ret)) = list_any type_reserved params || (elim ret [ None ↦ false | Some t ↦ type_reserved t ])
 
 unfoldable pub text_reserved : List ℕ → Bool
 text_reserved desc = desc_reserved (descriptor_of desc)
@@ -63,31 +59,24 @@ member_reserved c m = text_reserved (member_desc c m)
 abbrev pub names_reserved : ClassParts → Bool
 names_reserved c = list_any (entry_reserved c.pool) c.pool || (list_any (member_reserved c) c.methods || list_any (member_reserved c) c.fields)
 
--- on the source side alone
-abbrev pub reserved_on : Side → ClassParts → Bool
-reserved_on x c = elim x [ Source ↦ names_reserved c | Passing ↦ false ]
-
 unfoldable pub reserved_test : Program → ClassParts → Option LinkKind
-reserved_test p c = fault_if (reserved_on p.side c) ReservedName
+reserved_test p c = fault_if (elim p.side [ Source ↦ names_reserved c | Passing ↦ false ]) ReservedName
 
 -- what is known of a text: whether it names such a class as a class's name, and as a descriptor
 abbrev pub marks_of : List ℕ → TextMarks
 marks_of t = record { class = class_reserved t; desc = text_reserved t }
 
 abbrev pub marks_in : Entry → TextMarks
-marks_in e = marks_of (or_empty (text_in (Some e)))
+marks_in e = marks_of (or_empty (option_and_then utf8_parts (Some e)))
 
 abbrev pub text_marks : List Entry → List TextMarks
 text_marks entries = map marks_in entries
 
 -- ---- names that stand twice
 
-abbrev pub is_before : ℕ → Option ℕ → Bool
-is_before i = elim [ None ↦ false | Some first ↦ nat_lt first i ]
-
 -- the first class of this name stands before a place
 abbrev pub stands_before : List CodePart → ℕ → List ℕ → Bool
-stands_before ps i name = is_before i (place_of ps name)
+stands_before ps i name = elim (place_of ps name) [ None ↦ false | Some first ↦ nat_lt first i ]
 
 -- the name is the library's, or that of a class before it
 unfoldable pub taken_test : Program → ℕ → ClassParts → Option LinkKind

@@ -10,7 +10,7 @@ use Rattle.jprogram.specs.declared.fault.LinkFault.{LinkFault}
 use Rattle.jprogram.specs.declared.part.CodePart.{CodePart}
 use Rattle.jprogram.specs.Parts as parts
 use Rattle.jprogram.specs.Parts.{class_text, super_name, this_name}
-use Rattle.jprogram.specs.Classes.{Class, Program, find, holds, is_closed, is_interface, known, object, reaches}
+use Rattle.jprogram.specs.Classes.{Program, find, holds, is_closed, is_interface, known, object, reaches}
 use Rattle.jprogram.specs.Naming.{in_class}
 
 -- ---- what isn't there
@@ -18,30 +18,20 @@ use Rattle.jprogram.specs.Naming.{in_class}
 abbrev pub is_missing : Program → List ℕ → Bool
 is_missing p name = not (is_some (find p name))
 
-abbrev pub super_missing : Program → Option (List ℕ) → Bool
-super_missing p = elim [ None ↦ true | Some name ↦ is_missing p name ]
-
 abbrev pub face_missing : Program → ClassParts → Bool
 face_missing p c = list_any (λ i. is_missing p (class_text c.pool i)) c.interfaces
 
 -- no superclass, or it or an interface isn't found
 unfoldable pub missing_test : Program → ClassParts → Option LinkKind
-missing_test p c = fault_if (super_missing p (super_name c) || face_missing p c) NoClass
+missing_test p c = fault_if ((elim (super_name c) [ None ↦ true | Some name ↦ is_missing p name ]) || face_missing p c) NoClass
 
 -- ---- what may not stand above
 
--- a class that is final or closed, or an interface
-abbrev pub is_barred : Class → Bool
-is_barred s = is_closed s || is_interface s
-
 abbrev pub super_barred : Program → Option (List ℕ) → Bool
-super_barred p = elim [ None ↦ true | Some name ↦ holds is_barred (find p name) ]
-
-abbrev pub is_no_interface : Program → List ℕ → Bool
-is_no_interface p name = not (holds is_interface (find p name))
+super_barred p = elim [ None ↦ true | Some name ↦ holds (λ s. is_closed s || is_interface s) (find p name) ]
 
 abbrev pub lists_a_class : Program → ClassParts → Bool
-lists_a_class p c = list_any (λ i. is_no_interface p (class_text c.pool i)) c.interfaces
+lists_a_class p c = list_any (λ i. not (holds is_interface (find p (class_text c.pool i)))) c.interfaces
 
 abbrev pub is_object : Option (List ℕ) → Bool
 is_object = elim [ None ↦ false | Some name ↦ bytes_eq name object ]

@@ -1,5 +1,6 @@
 ghost use Rattle.std.specs.Prelude.{◌≡◌};
 ghost use Rattle.jprogram.specs.Members;
+ghost use Rattle.jprogram.specs.ProofNames;
 
 use crate::classes::NamedProgram;
 use crate::member::Member;
@@ -8,7 +9,7 @@ use crate::reach::Reach;
 
 impl NamedProgram {
     fn is_public(&self, class: &[u8]) -> bool
-        ensures { result ≡ Members.is_public_at self.now class.now }
+        ensures { result ≡ ProofNames.is_public_at self.now class.now }
     {
         match self.find(class) {
             Some(found) => found.is_public(),

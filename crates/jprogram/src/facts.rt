@@ -1,6 +1,7 @@
 ghost use Rattle.std.specs.Prelude.{◌≡◌, option_map};
 ghost use Rattle.jclass.specs.Rules.{has_flag};
 ghost use Rattle.jprogram.specs.Members;
+ghost use Rattle.jprogram.specs.Members.{owner_in};
 
 use crate::classes::NamedProgram;
 use crate::member::{Member, MethodId};
@@ -156,7 +157,7 @@ impl NamedProgram {
     }
 
     fn user_owner(&self, member: Member) -> &[u8]
-        ensures { result.now ≡ Members.owner_in (Members.info_of self.now member) }
+        ensures { result.now ≡ owner_in (Members.info_of self.now member) }
     {
         match self.info_of(member) {
             Some((class, _)) => this_name(class),

@@ -29,6 +29,8 @@
 //! stands above itself, extending is transitive, two classes that extend one another are one, and what an interface extends is an interface
 //! or Object. `number_laws`: a class's number names it and is found by its name. `Interfaces` answers `implements` without memory.
 //!
+//! `ProofNames` are names by which proofs and contracts of inner functions call what the definitions say in place.
+//!
 //! Rooms of linking, checking, the machine's definition, the machine, moving, jobs and the top may name it, and tests.
 #![tactic(auto)]
 

@@ -2,6 +2,7 @@ ghost use Rattle.std.specs.Prelude.{◌≡◌, ◌<◌, IfSome, length};
 ghost use Rattle.std.specs.List.{position};
 ghost use Rattle.jprogram.specs.Classes;
 ghost use Rattle.jprogram.specs.Members;
+ghost use Rattle.jprogram.specs.ProofNames;
 ghost use Rattle.jprogram.specs.Parts.{is_public_reach};
 
 use crate::classes::NamedProgram;
@@ -54,7 +55,7 @@ fn place_of_main(side: Side, class: &ClassParts, methods: &[MemberInfo]) -> Opti
 }
 
 fn main_in(side: Side, i: u32, class: &ClassFile) -> Option<MethodId>
-    ensures { result ≡ Members.main_in side (Some (Classes.User i class.now)) }
+    ensures { result ≡ ProofNames.main_in side (Some (Classes.User i class.now)) }
 {
     let parts = class.parts();
     let place = place_of_main(side, parts, parts.methods.as_slice())?;

@@ -1,6 +1,7 @@
 ghost use Rattle.std.specs.Prelude.{◌≡◌, IfOk, Some, slice_get};
 ghost use Rattle.std.specs.List.{list_any};
 ghost use Rattle.jprogram.specs.Naming;
+ghost use Rattle.jprogram.specs.ProofNames;
 ghost use Rattle.jprogram.specs.Naming.{marks_in, text_marks};
 ghost use Rattle.jprogram.specs.Parts;
 
@@ -33,7 +34,7 @@ fn params_reserved(params: &[FieldType]) -> bool
 }
 
 fn return_reserved(ret: &Option<FieldType>) -> bool
-    ensures { result ≡ Naming.return_reserved ret.now }
+    ensures { result ≡ ProofNames.return_reserved ret.now }
 {
     match ret {
         Some(one) => type_reserved(one),

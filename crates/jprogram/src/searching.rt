@@ -4,6 +4,7 @@ ghost use Rattle.jprogram.specs.Classes;
 ghost use Rattle.jprogram.specs.Layers;
 ghost use Rattle.jprogram.specs.Layers.{AreClosed, IsLayered, waiting_names};
 ghost use Rattle.jprogram.specs.Seen.{seen};
+ghost use Rattle.jprogram.specs.Classes.{faces_of};
 
 use crate::classes::NamedProgram;
 use crate::found::Found;
@@ -37,7 +38,7 @@ pub fn put_faces_of<'a>(
     waiting: &mut Vec<&'a [u8]>,
     class: Option<Found<'a>>,
 ) -> Result<(), AllocError>
-    ensures { OnOk result (waiting_names waiting.new.items ≡ Classes.faces_of (option_map seen class.entry) ++ waiting_names waiting.old.items) }
+    ensures { OnOk result (waiting_names waiting.new.items ≡ faces_of (option_map seen class.entry) ++ waiting_names waiting.old.items) }
 {
     match class {
         Some(class) => put_faces(waiting, class),

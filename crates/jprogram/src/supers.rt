@@ -2,6 +2,7 @@ ghost use Rattle.std.specs.Prelude.{◌≡◌, true, IfOk, option_map};
 ghost use Rattle.jprogram.specs.Classes;
 ghost use Rattle.jprogram.specs.Heights;
 ghost use Rattle.jprogram.specs.Supers;
+ghost use Rattle.jprogram.specs.ProofNames;
 
 use crate::classes::{NamedProgram, OBJECT};
 use crate::fault::{LinkFault, LinkKind};
@@ -28,7 +29,7 @@ impl NamedProgram {
     }
 
     fn super_missing(&self, name: Option<&[u8]>) -> bool
-        ensures { result ≡ Supers.super_missing self.now (option_map (λ t. t.now) name.entry) }
+        ensures { result ≡ ProofNames.super_missing self.now (option_map (λ t. t.now) name.entry) }
     {
         match name {
             Some(name) => self.is_missing(name),
@@ -61,7 +62,7 @@ impl NamedProgram {
     }
 
     fn is_barred(&self, name: &[u8]) -> bool
-        ensures { result ≡ Classes.holds Supers.is_barred (Classes.find self.now name.now) }
+        ensures { result ≡ Classes.holds ProofNames.is_barred (Classes.find self.now name.now) }
     {
         match self.find(name) {
             Some(found) => found.is_closed() || found.is_interface(),

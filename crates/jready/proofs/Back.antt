@@ -13,7 +13,8 @@ use Rattle.jmeaning.specs.declared.juses.meaning.How.{How}
 use Rattle.jmeaning.specs.juses.Instructions.{Used}
 use Rattle.jmeaning.specs.juses.Meanings.{AClass, AConstant, AField, AMethod, Call, CallMeaning, Cast, EntryMeaning, Field, FieldMeaning, Make, MakeArray, Meaning}
 use Rattle.jmeaning.specs.juses.Meanings.{Push}
-use Rattle.jmeaning.specs.juses.Meanings.{array_made, array_meant, cast_by, entry_meant, field_used, made, meant}
+use Rattle.jmeaning.specs.juses.Meanings.{array_meant, entry_meant, meant}
+use Rattle.jmeaning.specs.ProofNames.{made, array_made, cast_by, field_used}
 use Rattle.jmeaning.specs.juses.Typed.{array_over}
 use Rattle.jready.specs.Only.{only_array, only_call, only_cast, only_field, only_made}
 use Rattle.jready.proofs.Growing.{some_inj}

@@ -22,6 +22,7 @@ use Rattle.jmeaning.specs.juses.Types.{named}
 use Rattle.jmeaning.proofs.JusesProofs.Spans.{pairs_push}
 use Rattle.jmeaning.specs.jlayout.Kinds.{or_top}
 use Rattle.jmeaning.specs.jlayout.Layout as layout
+use Rattle.jmeaning.specs.ProofNames
 use Rattle.jmeaning.specs.jlayout.Numbered.{all_statics}
 use Rattle.jmodel.specs.jmachine.Narrowing.{default, narrowed}
 use Rattle.jmodel.specs.jmachine.Opening.{constant_of, value_of}
@@ -45,10 +46,10 @@ nothing_default types.Ctx = refl
 
 -- a cell of a field, by the type that its descriptor says
 pub cell_is : (p q : Program) (c : ClassParts) (m : MemberInfo) (desc : List ℕ) (o : Option TypeRef) (cell : CellType) → q ≡ p → desc ≡ member_desc c m
-    → or_top (option_map (named q) o) ≡ layout.held (typed q desc)
+    → or_top (option_map (named q) o) ≡ ProofNames.held_type (typed q desc)
     → ((p : Program) → cell_of (or_top (option_map (named p) o)) ≡ cell) → cell_of (layout.field_type p c m) ≡ cell
 cell_is p q c m desc o cell same is held cells =
-    ap (λ (d : List ℕ). cell_of (layout.held (typed p d))) (sym is) ∙ ap (λ (r : Program). cell_of (layout.held (typed r desc))) (sym same)
+    ap (λ (d : List ℕ). cell_of (ProofNames.held_type (typed p d))) (sym is) ∙ ap (λ (r : Program). cell_of (ProofNames.held_type (typed r desc))) (sym same)
     ∙ sym (ap cell_of held) ∙ cells q
 
 -- ---- a static

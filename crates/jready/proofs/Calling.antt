@@ -10,7 +10,8 @@ use Rattle.jprogram.specs.Classes.{Program}
 use Rattle.jmeaning.specs.declared.juses.meaning.How.{How}
 use Rattle.jmeaning.specs.declared.juses.meaning.How.TheVariants as how
 use Rattle.jmeaning.specs.juses.Instructions.{Used}
-use Rattle.jmeaning.specs.juses.Meanings.{AClass, AConstant, AField, AMethod, Call, CallMeaning, EntryMeaning, called_by, called_by_interface, entry_meant, how_of}
+use Rattle.jmeaning.specs.juses.Meanings.{AClass, AConstant, AField, AMethod, Call, CallMeaning, EntryMeaning, entry_meant, how_of}
+use Rattle.jmeaning.specs.ProofNames.{called_by, called_by_interface}
 use Rattle.jmeaning.specs.juses.Meanings.{meant}
 use Rattle.jready.specs.Known.{IsCall}
 use Rattle.jready.specs.Meant.{call_form}

@@ -25,13 +25,15 @@ use Rattle.jmeaning.specs.declared.juses.meaning.How.{How}
 use Rattle.jmeaning.specs.declared.juses.types.ArrayRef.{ArrayRef}
 use Rattle.jmeaning.specs.declared.juses.types.TypeRef.{TypeRef}
 use Rattle.jmeaning.specs.declared.juses.types.TypeRef.TheVariants as numbers
-use Rattle.jmeaning.specs.juses.Meanings.{AClass, AConstant, AField, AMethod, Call, CallMeaning, EntryMeaning, Field, FieldMeaning, MakeArray, Meaning, array_made}
+use Rattle.jmeaning.specs.juses.Meanings.{AClass, AConstant, AField, AMethod, Call, CallMeaning, EntryMeaning, Field, FieldMeaning, MakeArray, Meaning}
+use Rattle.jmeaning.specs.ProofNames.{array_made}
 use Rattle.jmeaning.specs.juses.Meanings.{array_meant, call_named, entry_meant, field_named, meant}
 use Rattle.jmeaning.specs.juses.Tables.{pool_at}
 use Rattle.jmeaning.specs.juses.Typed.{array_over, typed}
 use Rattle.jmeaning.specs.juses.Types.{class_named, named}
 use Rattle.jground.specs.declared.jops.value.Value.{Value}
 use Rattle.jmeaning.specs.jlayout.Layout as layout
+use Rattle.jmeaning.specs.ProofNames
 use Rattle.jmodel.specs.jmachine.Narrowing.{narrowed}
 use Rattle.jready.specs.declared.instr.Narrow.{Narrow}
 use Rattle.jready.specs.declared.tables.Tables.{Tables}
@@ -71,7 +73,7 @@ own_field : (p : Program) (f : FieldMeaning) (a j : ℕ) → ByField p f → f.m
 own_field p f a j by is = record { by = by; member = is; there = subst (λ (m : Member). IsField p m by.desc) is by.member }
 
 own_type : (p : Program) (f : FieldMeaning) (a j : ℕ) (h : OwnField p f a j) → f.held ≡ layout.field_type p h.there.class h.there.info
-own_type p f a j h = sym (ap layout.held (ap (typed p) h.there.described ∙ h.by.held))
+own_type p f a j h = sym (ap ProofNames.held_type (ap (typed p) h.there.described ∙ h.by.held))
 
 pub exact_field : (p : Program) (class i : ℕ) (op : FieldOp) (used : FieldUse) (a j : ℕ) (n : Narrow) (cell : CellType) (s owner : ℕ)
     → Some (field_named p used) ≡ only_field (meant p (pool_at p class) (forms.Field op i)) → user_place used.member ≡ Some (a, j)

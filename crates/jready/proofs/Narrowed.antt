@@ -16,8 +16,14 @@ use Rattle.jtypes.specs.Described.{element_of}
 use Rattle.jground.specs.declared.jops.value.Value.{Value}
 use Rattle.jground.specs.declared.jops.value.Value.TheVariants.{Int, Long, Ref, Ctx}
 use Rattle.jmeaning.specs.juses.Typed.{name}
-use Rattle.jmeaning.specs.jlayout.Layout.{element, element_by, element_in}
+use Rattle.jmeaning.specs.jlayout.Layout.{element}
+use Rattle.jmeaning.specs.ProofNames.{element_in}
 use Rattle.jmodel.specs.jmachine.Narrowing.{narrowed}
+
+-- ---- names for what definitions say in place
+
+abbrev element_by : FieldType → Option Element
+element_by t = if t.depth == 0 then element_of t.base (name t.class) else None
 
 none_keeps : {K : Type 0} (v : Value K) → narrowed None v ≡ v
 none_keeps (Int x) = refl

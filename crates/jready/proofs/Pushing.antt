@@ -4,7 +4,8 @@ use Rattle.std.specs.Prelude.{option_and_then, slice_get}
 use Rattle.jparts.specs.declared.jpool.entry.Entry.{Entry}
 use Rattle.jparts.specs.declared.jcode.form.PoolForm.TheVariants as forms
 use Rattle.jprogram.specs.Classes.{Program}
-use Rattle.jmeaning.specs.juses.Meanings.{AClass, AConstant, AField, AMethod, EntryMeaning, Int, Long, Text, entry_meant, long_constant, meant, short_constant}
+use Rattle.jmeaning.specs.juses.Meanings.{AClass, AConstant, AField, AMethod, EntryMeaning, Int, Long, Text, entry_meant, meant}
+use Rattle.jmeaning.specs.ProofNames.{long_constant, short_constant}
 use Rattle.jready.specs.Only.{only_push}
 
 short : (o : Option EntryMeaning) → only_push (option_and_then short_constant o) ≡ option_and_then short_constant o

@@ -27,7 +27,8 @@ use Rattle.jparts.specs.declared.jcode.names.FieldOp.{FieldOp}
 use Rattle.jtypes.specs.declared.vtype.Name.{Name}
 use Rattle.jmeaning.specs.declared.juses.meaning.How.{How}
 use Rattle.jmeaning.specs.juses.Meanings.{AClass, AConstant, AField, AMethod, Call, CallMeaning, EntryMeaning, Field as FieldOf, FieldMeaning, Reference, call_as}
-use Rattle.jmeaning.specs.juses.Meanings.{call_meant, called_by, called_by_interface, entry_meant, field_as, field_entry, field_meant, field_used, meant}
+use Rattle.jmeaning.specs.juses.Meanings.{call_meant, entry_meant, field_as, field_entry, field_meant, meant}
+use Rattle.jmeaning.specs.ProofNames.{called_by, called_by_interface, field_used}
 use Rattle.jmeaning.specs.juses.Meanings.{method_entry, reference}
 use Rattle.jmeaning.specs.juses.Typed.{Called, Held, Typed, Untyped, name, typed}
 use Rattle.jready.specs.Referred.{IsCalled, IsField, IsMethod, IsThere}

@@ -1,7 +1,7 @@
 ghost use Rattle.std.specs.Prelude.{◌≡◌, ◌+◌, ℕ, IfOk, List, OnOk, length};
 ghost use Rattle.jprogram.specs.Classes.{Program};
 ghost use Rattle.jmeaning.specs.declared.juses.types.TypeRef.{TypeRef as Ref};
-ghost use Rattle.jmeaning.specs.juses.Instructions;
+ghost use Rattle.jmeaning.specs.ProofNames;
 ghost use Rattle.jmeaning.specs.juses.Instructions.{instruction};
 ghost use Rattle.jmeaning.specs.juses.Numbered.{AreCode};
 ghost use Rattle.jmeaning.specs.juses.Tables.{Grows, pool_at};
@@ -30,7 +30,7 @@ fn by_array(
     form: ArrayForm,
 ) -> Result<Instr, AllocError>
     requires { IsKnown known.now }
-    ensures means { IfOk result (λ i. meant known.now.p.now tables.new class i ≡ Instructions.array known.now.p.now (pool_at known.now.p.now class) form) }
+    ensures means { IfOk result (λ i. meant known.now.p.now tables.new class i ≡ ProofNames.array known.now.p.now (pool_at known.now.p.now class) form) }
     ensures within { IfOk result (Within tables.new) }
     ensures exact { IfOk result (Exact known.now.p.now known.now.uses.now.types tables.new class) }
     ensures grown { IfOk result (λ i. Grown tables.old tables.new) }

@@ -2,3 +2,4 @@ pub mod jio
 pub mod jtrace
 pub mod jdomain
 pub mod jtally
+pub mod ProofNames

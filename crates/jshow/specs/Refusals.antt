@@ -17,11 +17,6 @@ use Rattle.jshow.specs.declared.refusal.Refusal.TheVariants.{BadJob, BadPolicy, 
 abbrev pub text_line : List ℕ → List ℕ → List ℕ
 text_line words units = words ++ (written units ++ codes "\n")
 
--- ---- the refusal of a job
-
-abbrev pub job_line : ℕ → List ℕ
-job_line line = codes "refused job " ++ (decimal line ++ codes "\n")
-
 -- ---- the refusal of a class file
 
 -- a fault's name
@@ -56,16 +51,10 @@ behind_word = elim [ None ↦ codes "\n" | Some number ↦ codes " " ++ (decimal
 abbrev pub class_text : List ℕ → ℕ → List ℕ → Option ℕ → List ℕ
 class_text path at word opcode = codes "refused class " ++ (path ++ (codes " at " ++ (decimal at ++ (codes " " ++ (word ++ behind_word opcode)))))
 
-abbrev pub class_line : List ℕ → ℕ → ClassFault → List ℕ
-class_line path at kind = class_text (written (units_of_text path)) at (class_word kind) (class_opcode kind)
-
 -- ---- the refusal of a policy
 
 unfoldable pub policy_word : PolicyFault → List ℕ
 policy_word = elim [ policies.NotUtf8 ↦ codes "not-utf8" | policies.Syntax ↦ codes "syntax" | policies.SelfExpansion ↦ codes "self-expansion" ]
-
-abbrev pub policy_line : ℕ → PolicyFault → List ℕ
-policy_line at kind = codes "refused policy " ++ (decimal at ++ (codes " " ++ (policy_word kind ++ codes "\n")))
 
 -- ---- the refusal of classes that don't link
 
@@ -90,16 +79,10 @@ member_or_dash = elim [ None ↦ codes "-" | Some units ↦ written units ]
 abbrev pub link_text : List ℕ → List ℕ → List ℕ → List ℕ
 link_text class member word = codes "refused link " ++ (class ++ (codes " " ++ (member ++ (codes " " ++ (word ++ codes "\n")))))
 
-abbrev pub link_line : List ℕ → Option (List ℕ) → LinkKind → List ℕ
-link_line class member kind = link_text (written class) (member_or_dash member) (link_word kind)
-
 -- ---- the refusal of a program that isn't well typed
 
 abbrev pub check_text : List ℕ → List ℕ → ℕ → List ℕ
 check_text class member at = codes "refused check " ++ (class ++ (codes " " ++ (member ++ (codes " at " ++ (decimal at ++ codes "\n")))))
-
-abbrev pub check_line : List ℕ → List ℕ → ℕ → List ℕ
-check_line class member at = check_text (written class) (written member) at
 
 -- ---- the refusal of a program that can't be moved
 
@@ -118,15 +101,12 @@ limit_size = elim [ limits.TooLong n ↦ Some n | _ ↦ None ]
 abbrev pub rewrite_text : List ℕ → List ℕ → List ℕ → Option ℕ → List ℕ
 rewrite_text class member word size = codes "refused rewrite " ++ (class ++ (codes " " ++ (member ++ (codes " " ++ (word ++ behind_word size)))))
 
-abbrev pub rewrite_line : List ℕ → Option (List ℕ) → RewriteKind → List ℕ
-rewrite_line class member kind = rewrite_text (written class) (member_or_dash member) (limit_word kind) (limit_size kind)
-
 -- a refusal's line
 abbrev pub refusal_line : Refusal → List ℕ
-refusal_line (BadJob line) = job_line line
-refusal_line (BadPolicy at kind) = policy_line at kind
-refusal_line (BadClass path at kind) = class_line path at kind
-refusal_line (BadLink class member kind) = link_line class member kind
-refusal_line (BadCheck class member at) = check_line class member at
-refusal_line (BadRewrite class member kind) = rewrite_line class member kind
+refusal_line (BadJob line) = codes "refused job " ++ (decimal line ++ codes "\n")
+refusal_line (BadPolicy at kind) = codes "refused policy " ++ (decimal at ++ (codes " " ++ (policy_word kind ++ codes "\n")))
+refusal_line (BadClass path at kind) = class_text (written (units_of_text path)) at (class_word kind) (class_opcode kind)
+refusal_line (BadLink class member kind) = link_text (written class) (member_or_dash member) (link_word kind)
+refusal_line (BadCheck class member at) = check_text (written class) (written member) at
+refusal_line (BadRewrite class member kind) = rewrite_text (written class) (member_or_dash member) (limit_word kind) (limit_size kind)
 refusal_line (NoMain name) = text_line (codes "refused main ") name

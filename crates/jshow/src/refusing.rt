@@ -2,8 +2,9 @@ ghost use Rattle.std.specs.Prelude.{◌≡◌, ◌<◌, ◌^◌, IfSome, length}
 ghost use Rattle.jrights.specs.jio.LineOf.{line_of, part_of, part_room, room_of};
 ghost use Rattle.jrights.specs.jio.Text.{written};
 ghost use Rattle.jshow.specs.Answering.{Shows, refused_answer};
-ghost use Rattle.jshow.specs.Refusals.{check_line, check_text, class_line, job_line, link_line, member_or_dash, policy_line, refusal_line, text_line};
-ghost use Rattle.jshow.specs.Refusals.{class_opcode, class_text, class_word, limit_size, limit_word, link_text, link_word, policy_word, rewrite_line, rewrite_text};
+ghost use Rattle.jshow.specs.declared.refusal.Refusal.TheVariants as refusals;
+ghost use Rattle.jshow.specs.Refusals.{check_text, member_or_dash, refusal_line, text_line};
+ghost use Rattle.jshow.specs.Refusals.{class_opcode, class_text, class_word, limit_size, limit_word, link_text, link_word, policy_word, rewrite_text};
 
 use crate::refusal::Refusal;
 use crate::status::Status;
@@ -71,7 +72,7 @@ fn show_name<'a, K: Sink>(words: &'a str, name: &'a Units, out: &mut K) -> Statu
 // ---- jobs
 
 fn show_job<K: Sink>(line: u32, out: &mut K) -> Status
-    ensures { Shows (refused_answer (job_line line)) result K.out K.faults out.old out.new }
+    ensures { Shows (refused_answer (refusal_line (refusals.BadJob line))) result K.out K.faults out.old out.new }
 {
     let line = u64::from(line);
     refuse(&[Part::Plain("refused job "), Part::Number(line)], out)
@@ -92,7 +93,7 @@ fn policy_word(kind: PolicyFault) -> &'static str
 }
 
 fn show_policy<K: Sink>(at: u32, kind: PolicyFault, out: &mut K) -> Status
-    ensures { Shows (refused_answer (policy_line at kind)) result K.out K.faults out.old out.new }
+    ensures { Shows (refused_answer (refusal_line (refusals.BadPolicy at kind))) result K.out K.faults out.old out.new }
 {
     let parts = [
         Part::Plain("refused policy "),
@@ -182,7 +183,7 @@ fn put_class<'a, K: Sink>(
 }
 
 fn show_class<K: Sink>(alloc: Global, path: &Text, at: u32, kind: ClassFault, out: &mut K) -> Status
-    ensures { Shows (refused_answer (class_line path.now at kind)) result K.out K.faults out.old out.new }
+    ensures { Shows (refused_answer (refusal_line (refusals.BadClass path.now at kind))) result K.out K.faults out.old out.new }
 {
     let Ok(units) = Units::from_text(alloc, path.as_str()) else {
         return Status::OutOfMemory;
@@ -234,7 +235,7 @@ fn put_link<'a, K: Sink>(class: Part<'a>, member: Part<'a>, word: &'a str, out: 
 }
 
 fn show_link<K: Sink>(class: &Units, member: &Option<Units>, kind: LinkKind, out: &mut K) -> Status
-    ensures { Shows (refused_answer (link_line class.now member.now kind)) result K.out K.faults out.old out.new }
+    ensures { Shows (refused_answer (refusal_line (refusals.BadLink class.now member.now kind))) result K.out K.faults out.old out.new }
 {
     let Some(class) = name_part(class) else {
         return Status::OutOfMemory;
@@ -266,7 +267,7 @@ fn put_check<'a, K: Sink>(class: Part<'a>, member: Part<'a>, at: u32, out: &mut 
 }
 
 fn show_check<K: Sink>(class: &Units, member: &Units, at: u32, out: &mut K) -> Status
-    ensures { Shows (refused_answer (check_line class.now member.now at)) result K.out K.faults out.old out.new }
+    ensures { Shows (refused_answer (refusal_line (refusals.BadCheck class.now member.now at))) result K.out K.faults out.old out.new }
 {
     let Some(class) = name_part(class) else {
         return Status::OutOfMemory;
@@ -350,7 +351,7 @@ fn show_rewrite<K: Sink>(
     kind: RewriteKind,
     out: &mut K,
 ) -> Status
-    ensures { Shows (refused_answer (rewrite_line class.now member.now kind)) result K.out K.faults out.old out.new }
+    ensures { Shows (refused_answer (refusal_line (refusals.BadRewrite class.now member.now kind))) result K.out K.faults out.old out.new }
 {
     let Some(class) = name_part(class) else {
         return Status::OutOfMemory;

@@ -2,6 +2,7 @@ ghost use Rattle.std.specs.Prelude.{◌≡◌, ◌<◌, ◌∷◌, ◌++◌, [],
 ghost use Rattle.std.specs.Option.{option_copied};
 ghost use Rattle.jrights.specs.jdomain.Domains.{has};
 ghost use Rattle.jctx.specs.Contexts as contexts;
+ghost use Rattle.jctx.specs.ProofNames;
 ghost use Rattle.jctx.specs.Growing.{added, hidden, joined};
 ghost use Rattle.jctx.specs.Items as items;
 ghost use Rattle.jctx.specs.Limits.{add_limits};
@@ -244,7 +245,7 @@ pub fn add_given(
     requires lists { AllNamed (length sets.now) lists.now }
     requires made { AreNamed (length sets.now) made.old.items }
     ensures added { OnOk result (items_of sets.now made.new.items
-        ≡ joined (items_of sets.now made.old.items) (contexts.given_items (option_map (λ g. items_of sets.now (get_or lists.now g [])) given))) }
+        ≡ joined (items_of sets.now made.old.items) (ProofNames.given_items (option_map (λ g. items_of sets.now (get_or lists.now g [])) given))) }
     ensures named { OnOk result (AreNamed (length sets.now) made.new.items) }
 {
     match given {

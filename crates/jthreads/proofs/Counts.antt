@@ -5,7 +5,8 @@ use Rattle.std.specs.List.{sum_by}
 use Rattle.std.proofs.lemmas.List.Sums.{sum_by-append, sum_by-set}
 use Rattle.jthreads.specs.declared.thread.Thread.{Thread}
 use Rattle.jthreads.specs.Kept.{waiting, waits}
-use Rattle.jthreads.specs.Table.{is_at, thread_at, unstarted, woken}
+use Rattle.jthreads.specs.Table.{thread_at, unstarted, woken}
+use Rattle.jthreads.specs.ProofNames.{is_at}
 
 abbrev bit : ℕ → Thread → ℕ
 bit t x = cond (waits t x) 1 0

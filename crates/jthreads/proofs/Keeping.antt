@@ -9,7 +9,8 @@ use Rattle.std.proofs.lemmas.List.Sums.{count_by-le-length, length-filter}
 use Rattle.jthreads.specs.declared.queue.Queue.{Queue}
 use Rattle.jthreads.specs.declared.thread.Thread.{Thread}
 use Rattle.jthreads.specs.Kept.{AreCounted, AreNamed, IsBetween, alone, before, behind, queue_at, waiting, waits}
-use Rattle.jthreads.specs.Table.{is_at, is_runnable, runnable_numbers, thread_at, unstarted}
+use Rattle.jthreads.specs.Table.{is_runnable, runnable_numbers, thread_at, unstarted}
+use Rattle.jthreads.specs.ProofNames.{is_at}
 use Rattle.jthreads.proofs.Counts.{count_put, some_wait}
 use Rattle.jthreads.proofs.Placing.{around, around_put, between, taken_away}
 

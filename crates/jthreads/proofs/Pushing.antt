@@ -9,7 +9,8 @@ use Rattle.std.proofs.Math.ListN.{get_or-eq_default}
 use Rattle.jthreads.specs.declared.queue.Queue.{Queue}
 use Rattle.jthreads.specs.declared.thread.Thread.{Thread}
 use Rattle.jthreads.specs.Kept.{AreCounted, AreNamed, nobody, queue_at, waiting, waits}
-use Rattle.jthreads.specs.Table.{added, is_at, is_runnable, runnable_numbers, thread_at, unstarted}
+use Rattle.jthreads.specs.Table.{added, is_runnable, runnable_numbers, thread_at, unstarted}
+use Rattle.jthreads.specs.ProofNames.{is_at}
 use Rattle.jthreads.proofs.Numbers.{filter_more}
 use Rattle.jthreads.proofs.Placing.{same_on}
 

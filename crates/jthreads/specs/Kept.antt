@@ -3,7 +3,8 @@ use Rattle.std.specs.Prelude.{◌≡◌, ◌<◌, ◌≤◌, ◌+◌, ◌-◌, �
 use Rattle.std.specs.List.{All, count_by, filter, range_with_len}
 use Rattle.jthreads.specs.declared.queue.Queue.{Queue}
 use Rattle.jthreads.specs.declared.thread.Thread.{Thread}
-use Rattle.jthreads.specs.Table.{is_at, is_runnable, runnable_numbers, thread_at}
+use Rattle.jthreads.specs.Table.{is_runnable, runnable_numbers, thread_at}
+use Rattle.jthreads.specs.ProofNames.{is_at}
 
 -- ---- who waits
 

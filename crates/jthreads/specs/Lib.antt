@@ -1,3 +1,4 @@
 pub mod Kept
 pub mod Schedule
 pub mod Table
+pub mod ProofNames

@@ -1,5 +1,5 @@
 -- The table of guest threads: a list of threads by their numbers, and the table after each call.
-use Rattle.std.specs.Prelude.{◌≡◌, ◌≢◌, ◌<◌, ℕ, Bool, true, false, not, ◌&&◌, ◌||◌, ◌==◌, if◌then◌else◌, List, [], ◌∷◌, ◌++◌, map, length, Option, Some, None, slice_index_or, slice_set}
+use Rattle.std.specs.Prelude.{◌≡◌, ◌≢◌, ◌<◌, ℕ, Bool, true, false, not, ◌&&◌, ◌||◌, ◌==◌, if◌then◌else◌, List, [], ◌∷◌, ◌++◌, map, length, Some, None, slice_index_or, slice_set}
 use Rattle.std.specs.Option.{is_none}
 use Rattle.std.specs.List.{filter, list_all, range_with_len}
 use Rattle.jthreads.specs.declared.thread.Thread.{Thread}
@@ -12,10 +12,6 @@ use Rattle.jthreads.specs.declared.table.Joined.TheVariants.{AtOnce, Waits}
 abbrev pub unstarted : Thread
 unstarted = record { started = false; ended = false; waits_for = None }
 
--- a thread that was started
-abbrev pub running : Thread
-running = record unstarted { started = true }
-
 -- it was started and has not ended
 abbrev pub is_alive : Thread → Bool
 is_alive x = x.started && not x.ended
@@ -24,12 +20,9 @@ is_alive x = x.started && not x.ended
 abbrev pub is_runnable : Thread → Bool
 is_runnable x = is_alive x && is_none x.waits_for
 
-abbrev pub is_at : ℕ → Option ℕ → Bool
-is_at t = elim [ None ↦ false | Some other ↦ other == t ]
-
 -- a thread that waits for t waits no longer
 abbrev pub woken : ℕ → Thread → Thread
-woken t x = if is_at t x.waits_for then record x { waits_for = None } else x
+woken t x = if elim x.waits_for [ None ↦ false | Some other ↦ other == t ] then record x { waits_for = None } else x
 
 -- ---- the table
 
@@ -55,7 +48,7 @@ have_ended threads = list_all (λ x. not x.started || x.ended) threads
 
 -- thread 0, started
 abbrev pub opened : List Thread
-opened = running ∷ []
+opened = (record unstarted { started = true }) ∷ []
 
 -- a thread that isn't started, behind the others
 abbrev pub added : List Thread → List Thread

@@ -9,6 +9,8 @@
 //! `thread_laws`: the runnable numbers rise and are exactly those of runnable threads, a thread that was never started isn't among
 //! them, and after the end of a thread nobody waits for it.
 //!
+//! `ProofNames` are names by which proofs and contracts of inner functions call what the definitions say in place.
+//!
 //! Rooms of the machine's definition and the machine may name it, and tests.
 #![tactic(auto)]
 

@@ -1,7 +1,8 @@
 ghost use Rattle.std.specs.Prelude.{◌≡◌, ◌↔◌, [], IfSome, IsTrue};
 ghost use Rattle.std.specs.List.{Contains};
 ghost use Rattle.std.specs.Option.{is_none};
-ghost use Rattle.jthreads.specs.Schedule.{number_at, picked};
+ghost use Rattle.jthreads.specs.Schedule.{picked};
+ghost use Rattle.jthreads.specs.ProofNames.{number_at};
 
 use std::collections::VecDeque;
 

@@ -2,7 +2,8 @@
 use Rattle.std.proofs.Common.{◌≡◌, ℕ, zero, suc, ◌<◌, Bool, false, refl, arith}
 use Rattle.jtypes.specs.declared.vtype.Element.{Element}
 use Rattle.jtypes.specs.declared.vtype.Name.{Name}
-use Rattle.jtypes.specs.Fitting.{array_fits, element_fits, is_above_array}
+use Rattle.jtypes.specs.Fitting.{array_fits, element_fits}
+use Rattle.jtypes.specs.ProofNames.{is_above_array}
 use Rattle.jtypes.specs.Tree.{Tree}
 
 pub fewer_fail : (above : Name → Bool) (t : Tree) (d : ℕ) (x : Element) (e : ℕ) (y : Element) → d < e → array_fits above t d x e y ≡ false

@@ -3,7 +3,8 @@ use Rattle.std.proofs.Common.{◌≡◌, Bool, true, false, ◌&&◌, [], ◌∷
 use mathlib.Core.Bool.{true≢false}
 use Rattle.jtypes.specs.declared.vtype.VType.{VType}
 use Rattle.jtypes.specs.declared.vtype.VType.TheVariants.{Top, Long}
-use Rattle.jtypes.specs.Frames.{FitsTops, Frame, IsReflexive, IsTransitive, KeepsFlag, TopIsNoLong, all_fit, frame_fits, implies, is_long, item_fits, stack_fits}
+use Rattle.jtypes.specs.Frames.{FitsTops, Frame, IsReflexive, IsTransitive, KeepsFlag, TopIsNoLong, all_fit, frame_fits, implies, is_long, stack_fits}
+use Rattle.jtypes.specs.ProofNames.{item_fits}
 
 both : (a b : Bool) → (a && b) ≡ true → (a ≡ true) × (b ≡ true)
 both true b h = (refl, h)

@@ -28,17 +28,13 @@ element_fits t elements.Long elements.Long = true
 element_fits t (elements.Class c) (elements.Class d) = class_fits t c d
 element_fits t x y = false
 
--- every array fits what an array of this element holds
-abbrev pub is_above_array : (Name → Bool) → Element → Bool
-is_above_array above = elim [ elements.Class c ↦ above c | _ ↦ false ]
-
 -- An array fits another where what it holds fits what the other holds. Each is given by its dimensions and its element, and so is
 -- what it holds, with one dimension less. An element alone has none: where the descent ends it is what an array holds, and no type of
 -- an array has so few.
 unfoldable pub array_fits : (Name → Bool) → Tree → ℕ → Element → ℕ → Element → Bool
 array_fits above t zero x zero y = element_fits t x y
 array_fits above t zero x (suc e) y = false
-array_fits above t (suc d) x zero y = is_above_array above y
+array_fits above t (suc d) x zero y = elim y [ elements.Class c ↦ above c | _ ↦ false ]
 array_fits above t (suc d) x (suc e) y = array_fits above t d x e y
 
 -- A value of the first type may stand where one of the second is wanted.

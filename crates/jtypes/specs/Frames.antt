@@ -45,12 +45,8 @@ all_fit f [] [] = true
 all_fit f (a ∷ xs) (b ∷ ys) = f a b && all_fit f xs ys
 all_fit f xs ys = false
 
--- on the stack a long fits a long alone, so that Top stands for one place there
-abbrev pub item_fits : (VType → VType → Bool) → VType → VType → Bool
-item_fits f a b = f a b && implies (is_long a) (is_long b)
-
 abbrev pub stack_fits : (VType → VType → Bool) → List VType → List VType → Bool
-stack_fits f = all_fit (item_fits f)
+stack_fits f = all_fit (λ a b. f a b && implies (is_long a) (is_long b))
 
 abbrev pub frame_fits : (VType → VType → Bool) → Frame → Frame → Bool
 frame_fits f a b = all_fit f a.locals b.locals && stack_fits f a.stack b.stack && implies a.flag b.flag

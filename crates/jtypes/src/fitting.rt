@@ -1,6 +1,7 @@
 ghost use Rattle.std.specs.Prelude.{◌≡◌};
 ghost use Rattle.jtypes.specs.declared.vtype.VType.TheVariants.{Object};
-ghost use Rattle.jtypes.specs.Fitting.{array_fits, class_fits, element_fits, fits, is_above_array, is_above_arrays};
+ghost use Rattle.jtypes.specs.Fitting.{array_fits, class_fits, element_fits, fits, is_above_arrays};
+ghost use Rattle.jtypes.specs.ProofNames.{is_above_array};
 
 use crate::ancestry::Ancestry;
 use crate::vtype::{ArrayType, Element, Name, VType};

@@ -10,6 +10,8 @@
 //! array, objects and arrays fit Object, and fitting is transitive through classes; `frame_laws`: the same of frames by the types';
 //! copies are equal.
 //!
+//! `ProofNames` are names by which proofs and contracts of inner functions call what the definitions say in place.
+//!
 //! Rooms of linking, checking, the machine's definition, the machine and moving may name it, and tests.
 #![tactic(auto)]
 

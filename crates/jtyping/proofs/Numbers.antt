@@ -21,6 +21,7 @@ use Rattle.jparts.specs.jcode.Forms.{branches, flow_branches, goes_on, switch_br
 use Rattle.jclass.specs.Stored.{IsIn}
 use Rattle.jprogram.specs.Classes.{Program}
 use Rattle.jmeaning.specs.juses.Instructions as instructions
+use Rattle.jmeaning.specs.ProofNames
 use Rattle.jmeaning.specs.juses.Instructions.{Instruction, Test, keyed, target, targets}
 use Rattle.jmeaning.specs.juses.Meanings.{Meaning, array_meant, meant}
 use Rattle.jtyping.proofs.Tests.{some_is}
@@ -133,7 +134,7 @@ flow_led ops at flows.Throw i k e is = absurd (nowhere i instructions.Throw k (s
 used_nowhere : (m : Option Meaning) (i : Instruction) (k : ℕ) → option_map instructions.Used m ≡ Some i → IsIn k (targets i) → ⊥
 used_nowhere m i k e is = let found = found_as m instructions.Used i e in nowhere i (instructions.Used found.0) k found.1.1 refl is
 
-array_nowhere : (p : Program) (pool : List Entry) (form : ArrayForm) (i : Instruction) (k : ℕ) → instructions.array p pool form ≡ Some i → IsIn k (targets i) → ⊥
+array_nowhere : (p : Program) (pool : List Entry) (form : ArrayForm) (i : Instruction) (k : ℕ) → ProofNames.array p pool form ≡ Some i → IsIn k (targets i) → ⊥
 array_nowhere p pool (arrays.NewRef n) i k e is = used_nowhere (array_meant p pool n) i k e is
 array_nowhere p pool (arrays.New kind) i k e is = nowhere i (instructions.Array (arrays.New kind)) k (some_is (instructions.Array (arrays.New kind)) i e) refl is
 array_nowhere p pool (arrays.Load items) i k e is = nowhere i (instructions.Array (arrays.Load items)) k (some_is (instructions.Array (arrays.Load items)) i e) refl is
@@ -182,7 +183,7 @@ goes_flow ops at flows.Throw i e = alike i instructions.Throw false (some_is ins
 goes_used : (m : Option Meaning) (i : Instruction) → option_map instructions.Used m ≡ Some i → instructions.goes_on i ≡ true
 goes_used m i e = let found = found_as m instructions.Used i e in alike i (instructions.Used found.0) true found.1.1 refl
 
-goes_array : (p : Program) (pool : List Entry) (form : ArrayForm) (i : Instruction) → instructions.array p pool form ≡ Some i → instructions.goes_on i ≡ true
+goes_array : (p : Program) (pool : List Entry) (form : ArrayForm) (i : Instruction) → ProofNames.array p pool form ≡ Some i → instructions.goes_on i ≡ true
 goes_array p pool (arrays.NewRef n) i e = goes_used (array_meant p pool n) i e
 goes_array p pool (arrays.New kind) i e = alike i (instructions.Array (arrays.New kind)) true (some_is (instructions.Array (arrays.New kind)) i e) refl
 goes_array p pool (arrays.Load items) i e = alike i (instructions.Array (arrays.Load items)) true (some_is (instructions.Array (arrays.Load items)) i e) refl

@@ -12,7 +12,8 @@ use Rattle.jmeaning.specs.jrule.Forms.{by_form}
 use Rattle.jtyping.specs.Declared.{Written, declared_at}
 use Rattle.jtyping.specs.Methods.{Method, here_of}
 use Rattle.jparts.specs.jcode.Instructions.{covers}
-use Rattle.jtyping.specs.Typing.{begun, branch_fits, branches_fit, handler_fits, handler_test, handlers_fit, lets_in, onward, step}
+use Rattle.jtyping.specs.Typing.{begun, branches_fit, handler_fits, handlers_fit, lets_in, onward, step}
+use Rattle.jtyping.specs.ProofNames.{branch_fits, handler_test}
 use Rattle.jtyping.specs.Typed.{Arrives, Follows}
 use Rattle.jtyping.proofs.Tests.{all_in, holds_where, in_all, some_is, where_holds}
 

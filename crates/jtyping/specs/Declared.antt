@@ -1,17 +1,14 @@
 -- The frames that a method declares (JVMS 4.7.4, 4.10.1.6), their types by name.
-use Rattle.std.specs.Prelude.{ℕ, ℤ, pos, ◌-◌, Bool, true, false, ◌&&◌, List, [], ◌∷◌, ◌++◌, length, map, replicate, reverse, nat_le, Option, Some, None, is_some, option_and_then}
+use Rattle.std.specs.Prelude.{ℕ, ℤ, pos, ◌-◌, Bool, true, false, ◌&&◌, List, [], ◌∷◌, ◌++◌, length, map, replicate, reverse, nat_le, Option, Some, None, is_some, option_and_then, unwrap_or}
 use Rattle.std.specs.List.{find, list_all, list_any}
 use Rattle.std.specs.Ordering.{int_eq}
-use Rattle.jground.specs.jbase.First.{first_some}
 use Rattle.jparts.specs.declared.jpool.entry.Entry.{Entry}
 use Rattle.jparts.specs.declared.jmaps.types.MapType.{MapType}
 use Rattle.jparts.specs.declared.jmaps.types.MapType.TheVariants as items
 use Rattle.jparts.specs.declared.jmaps.types.RawFrame.{RawFrame}
 use Rattle.jparts.specs.jmaps.Full.{locals_after, place_from}
-use Rattle.jclass.specs.declared.class.CodeAttribute.{CodeAttribute}
-use Rattle.jclass.specs.declared.class.CodeAttribute.TheVariants.{Maps, Raw}
 use Rattle.jclass.specs.declared.class.CodeBody.{CodeBody}
-use Rattle.jclass.specs.Codes.{begins}
+use Rattle.jclass.specs.Codes.{begins, frames_in}
 use Rattle.jtypes.specs.declared.vtype.Name.{Name}
 use Rattle.jtypes.specs.declared.vtype.VType.{VType}
 use Rattle.jtypes.specs.declared.vtype.VType.TheVariants as types
@@ -23,10 +20,6 @@ use Rattle.jtyping.specs.Methods.{Method, makes}
 
 -- ---- the items of frames
 
--- in a program that links each class is there
-abbrev pub or_top : Option VType → VType
-or_top = elim [ None ↦ types.Top | Some t ↦ t ]
-
 abbrev pub item : Program → List Entry → MapType → VType
 item p pool items.Top = types.Top
 item p pool items.Int = types.Int
@@ -34,7 +27,7 @@ item p pool items.Long = types.Long
 item p pool items.Null = types.Null
 item p pool items.UninitThis = types.UninitThis
 item p pool (items.Uninit o) = types.Uninit o
-item p pool (items.Object i) = or_top (class_at p pool i)
+item p pool (items.Object i) = unwrap_or (class_at p pool i) types.Top
 
 -- ---- frames in full
 
@@ -66,16 +59,6 @@ written_from p pool most earlier before (f ∷ fs) =
     (locals_after f.form (map (item p pool) f.locals) before)
 
 -- ---- of a method
-
-abbrev pub maps_of : CodeAttribute → Option (List RawFrame)
-maps_of = elim [ Maps name frames ↦ Some frames | Raw name bytes ↦ None ]
-
-abbrev pub or_none : Option (List RawFrame) → List RawFrame
-or_none = elim [ None ↦ [] | Some frames ↦ frames ]
-
--- the frames of its StackMapTable
-abbrev pub frames_in : CodeBody → List RawFrame
-frames_in body = or_none (first_some maps_of body.attributes)
 
 -- what is in its locals and operands where it begins
 abbrev pub first_frame : Method → Frame

@@ -2,3 +2,4 @@ pub mod Declared
 pub mod Methods
 pub mod Typed
 pub mod Typing
+pub mod ProofNames

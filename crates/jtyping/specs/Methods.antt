@@ -17,7 +17,7 @@ use Rattle.jtypes.specs.declared.vtype.VType.TheVariants.{UninitThis, Object}
 use Rattle.jprogram.specs.Parts.{is_static, member_desc, super_name, this_name}
 use Rattle.jprogram.specs.Classes.{Program}
 use Rattle.jprogram.specs.Members.{is_init}
-use Rattle.jmeaning.specs.juses.Meanings.{Meaning, Make, meant}
+use Rattle.jmeaning.specs.juses.Meanings.{Make, meant}
 use Rattle.jmeaning.specs.juses.Typed.{Typed, Called, name, there, typed}
 use Rattle.jmeaning.specs.jrule.Here.{Here}
 
@@ -38,20 +38,13 @@ pub record Method : Type 0 where
 
 -- ---- a method of a class
 
--- `this` of an `<init>` isn't initialised yet
-abbrev pub this_type : Bool → Name → VType
-this_type is_init class = if is_init then UninitThis else Object class
-
 -- a static method has no `this`
 abbrev pub receiver : Bool → Bool → Name → List VType
-receiver is_static is_init class = if is_static then [] else this_type is_init class ∷ []
+receiver is_static is_init class = if is_static then [] else (if is_init then UninitThis else Object class) ∷ []
 
 -- The parameters by a descriptor. In a program that links it is one of a method, and all that it names is there.
 abbrev pub params_of : Typed → List VType
 params_of = elim [ Called params ret ↦ reverse params | _ ↦ [] ]
-
-abbrev pub return_of : Typed → Option VType
-return_of = elim [ Called params ret ↦ ret | _ ↦ None ]
 
 -- a method of a class with its code
 abbrev pub method_of : Program → ClassParts → MemberInfo → CodeBody → Method
@@ -60,20 +53,16 @@ method_of p c m body = record {
   above = option_and_then (there p) (super_name c);
   is_init = is_init c m;
   params = receiver (is_static m.flags) (is_init c m) (name (this_name c)) ++ params_of (typed p (member_desc c m));
-  returns = return_of (typed p (member_desc c m));
+  returns = elim (typed p (member_desc c m)) [ Called params ret ↦ ret | _ ↦ None ];
   pool = c.pool;
   body = body;
 }
 
 -- ---- its `new`s
 
-abbrev pub made_by : Option Meaning → Option Name
-made_by (Some (Make c)) = Some c
-made_by m = None
-
 -- the class of what an instruction makes, if it is a `new`
 abbrev pub made : {S : Type 0} → Program → List Entry → Form S → Option Name
-made p pool (forms.Pool (New i)) = made_by (meant p pool (New i))
+made p pool (forms.Pool (New i)) = option_and_then (elim [ Make c ↦ Some c | _ ↦ None ]) (meant p pool (New i))
 made p pool f = None
 
 -- the class of what the `new` at a place makes; none where no `new` stands

@@ -20,7 +20,8 @@ use Rattle.jmeaning.specs.jrule.Uses.{throwable}
 use Rattle.jtyping.specs.Declared.{Written, declared_at, first_frame, is_good, written}
 use Rattle.jtyping.specs.Methods.{Method, here_of, method_of}
 use Rattle.jparts.specs.jcode.Instructions.{covers}
-use Rattle.jtyping.specs.Typing.{branch_fits, caught_type, frame_fits, handler_fits}
+use Rattle.jtyping.specs.Typing.{caught_type, frame_fits, handler_fits}
+use Rattle.jtyping.specs.ProofNames.{branch_fits}
 
 -- A frame where another one arrives: the declared one, which that one fits, or else that one.
 abbrev pub Arrives : Tree → Option Frame → Frame → Frame → Type 0

@@ -49,21 +49,14 @@ caught_fits t f at = elim [ None ↦ false | Some c ↦ fits t c throwable && le
 abbrev pub handler_fits : Program → Method → List Written → Frame → Handler → Bool
 handler_fits p m ws f h = caught_fits (tree p) f (declared_at ws (pos h.at)) (caught_type p m h)
 
-abbrev pub handler_test : Program → Method → List Written → ℕ → Frame → Handler → Bool
-handler_test p m ws at f h = if covers at h then handler_fits p m ws f h else true
-
 -- the frame before an instruction at a place serves the handlers that cover it
 abbrev pub handlers_fit : Program → Method → List Written → ℕ → Frame → Bool
-handlers_fit p m ws at f = list_all (handler_test p m ws at f) m.body.handlers
+handlers_fit p m ws at f = list_all (λ h. if covers at h then handler_fits p m ws f h else true) m.body.handlers
 
 -- ---- an instruction
 
--- the frame behind an instruction serves where a branch leads
-abbrev pub branch_fits : Program → List Written → ℕ → Frame → ℤ → Bool
-branch_fits p ws at g by = leads_in (tree p) g (declared_at ws (pos at +ℤ by))
-
 abbrev pub branches_fit : Program → List Written → Placed → Frame → Bool
-branches_fit p ws o g = list_all (branch_fits p ws o.at g) (branches (form o.op))
+branches_fit p ws o g = list_all (λ by. leads_in (tree p) g (declared_at ws (pos o.at +ℤ by))) (branches (form o.op))
 
 -- What arrives at the instruction behind one: its frame where it goes on, and else nothing. None where it goes on and none is behind it,
 -- or where the frame doesn't fit there.

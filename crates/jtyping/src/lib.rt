@@ -11,6 +11,8 @@
 //! fit one another. `frames_law`: these frames are no others, each instruction has one, and it is the declared one where one is
 //! declared. `leading_law` and `number_law`: the frame behind an instruction fits wherever it leads, by places and by numbers.
 //!
+//! `ProofNames` are names by which proofs and contracts of inner functions call what the definitions say in place.
+//!
 //! Rooms of checking, the machine, moving, jobs and the top may name it.
 #![tactic(auto)]
 

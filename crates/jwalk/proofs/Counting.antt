@@ -27,7 +27,8 @@ use Rattle.jmeaning.specs.jrule.Forms.{by_array, by_form, by_meaning}
 use Rattle.jmeaning.specs.jrule.Here.{Here}
 use Rattle.jmeaning.specs.jrule.Locals.{broken, load_from, local, passes, store_on, with_local}
 use Rattle.jmeaning.specs.jrule.Moves.{move}
-use Rattle.jmeaning.specs.jrule.Objects.{all_replaced, init, init_of, init_on, is_it, is_named, make, may_ready_this, replaced}
+use Rattle.jmeaning.specs.jrule.Objects.{all_replaced, init, init_on, is_it, is_named, make, may_ready_this}
+use Rattle.jmeaning.specs.ProofNames.{init_of, replaced}
 use Rattle.jmeaning.specs.jrule.Operands.{exchanged, given, pushed, taken}
 use Rattle.jmeaning.specs.jrule.Rule.{called, used}
 use Rattle.jmeaning.specs.jrule.Straight.{flow}

@@ -4,11 +4,12 @@ use Rattle.jground.specs.jbase.First.{or_else}
 use Rattle.jparts.specs.declared.jmaps.types.RawFrame.{RawFrame}
 use Rattle.jtypes.specs.declared.vtype.VType.{VType}
 use Rattle.jprogram.specs.Classes.{Program}
-use Rattle.jtyping.specs.Declared.{Written, frames_in, written, written_from}
+use Rattle.jtyping.specs.Declared.{Written, written, written_from}
 use Rattle.jtyping.specs.Methods.{Method, makes}
 use Rattle.jtyping.specs.Typing.{frames_fault, method_fault}
 use Rattle.jwalk.specs.First.{body_fault}
 use Rattle.jwalk.specs.Given.{Givens, IsDeclared, all_written}
+use Rattle.jclass.specs.Codes.{frames_in}
 
 pub good_frames : (p : Program) (m : Method) (frames : List RawFrame) (params : List VType) (r : Result Givens ℕ) (d : Givens) → frames ≡ frames_in m.body → params ≡ m.params → r ≡ Ok d
     → IsDeclared p m.body (makes p m) (written_from p m.pool m.body.max_locals None params frames) r → body_fault p m (all_written p d) ≡ method_fault p m

@@ -22,8 +22,9 @@ use Rattle.jclass.specs.Members.{body_of}
 use Rattle.jclass.specs.Stored.{HasCode, IsIn}
 use Rattle.jclass.proofs.Stored.{code_fits, code_frames, code_items}
 use Rattle.jprogram.specs.Parts.{code_of}
-use Rattle.jtyping.specs.Declared.{maps_of, or_none}
+use Rattle.jtyping.specs.ProofNames.{or_none}
 use Rattle.jwalk.specs.Checking.{AreShort, IsGood}
+use Rattle.jclass.specs.Codes.{maps_of}
 
 -- ---- what is found is there
 

@@ -13,7 +13,8 @@ use Rattle.jparts.specs.jcode.Forms.{branches, flow_goes_on, form, goes_on, seen
 use Rattle.jtypes.specs.Frames.{Frame}
 use Rattle.jprogram.specs.Classes.{Program}
 use Rattle.jtyping.specs.Declared.{Written}
-use Rattle.jtyping.specs.Typing.{branch_fits, branches_fit, leave, onward}
+use Rattle.jtyping.specs.Typing.{branches_fit, leave, onward}
+use Rattle.jtyping.specs.ProofNames.{branch_fits}
 use Rattle.jwalk.specs.Checking.{branch_test}
 
 -- ---- a test of each branch

@@ -10,7 +10,8 @@ use Rattle.std.proofs.lemmas.Option.{slice_get-get_or, slice_get-map}
 use Rattle.jtypes.specs.declared.vtype.VType.{VType}
 use Rattle.jtypes.specs.declared.vtype.VType.TheVariants as types
 use Rattle.jtypes.specs.Fitting.{fits, is_above_arrays}
-use Rattle.jtypes.specs.Frames.{Frame, all_fit, implies, item_fits, places_of, stack_fits}
+use Rattle.jtypes.specs.Frames.{Frame, all_fit, implies, places_of, stack_fits}
+use Rattle.jtypes.specs.ProofNames.{item_fits}
 use Rattle.jtypes.proofs.Along.{fits_itself}
 use Rattle.jprogram.specs.Classes.{Program, tree}
 use Rattle.jmeaning.specs.declared.juses.types.TypeRef.{TypeRef}

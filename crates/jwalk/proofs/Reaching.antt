@@ -7,11 +7,12 @@ use Rattle.jparts.specs.declared.jmaps.types.RawFrame.{RawFrame}
 use Rattle.jtypes.specs.declared.vtype.VType.{VType}
 use Rattle.jtypes.specs.Frames.{Frame}
 use Rattle.jprogram.specs.Classes.{Program}
-use Rattle.jtyping.specs.Declared.{Written, declared_at, frames_in, written, written_from}
+use Rattle.jtyping.specs.Declared.{Written, declared_at, written, written_from}
 use Rattle.jtyping.specs.Methods.{Method, makes}
 use Rattle.jtyping.specs.Typing.{begun, frames_fault, step}
 use Rattle.jwalk.specs.Before.{frame_at, frame_in, frame_with, unless}
 use Rattle.jwalk.specs.Given.{Givens, IsDeclared, all_written}
+use Rattle.jclass.specs.Codes.{frames_in}
 
 -- ---- a walk from an instruction on
 

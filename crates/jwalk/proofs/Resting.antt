@@ -27,14 +27,15 @@ use Rattle.jtypes.specs.Frames.{Frame, within}
 use Rattle.jtypes.specs.Tree.{Tree}
 use Rattle.jprogram.specs.Classes.{Program, tree}
 use Rattle.jmeaning.specs.juses.Meanings as meanings
-use Rattle.jmeaning.specs.juses.Meanings.{EntryMeaning, Meaning, array_made, array_meant, called_by, called_by_interface, cast_by, entry_meant, field_used, long_constant, meant, short_constant}
+use Rattle.jmeaning.specs.juses.Meanings.{EntryMeaning, Meaning, array_meant, entry_meant, meant}
+use Rattle.jmeaning.specs.ProofNames.{long_constant, short_constant, array_made, called_by, called_by_interface, cast_by, field_used, shuffled}
 use Rattle.jmeaning.specs.juses.Typed.{array_over}
 use Rattle.jmeaning.specs.jrule.Arrays.{array, of_numbers, row}
 use Rattle.jmeaning.specs.jrule.Effects.{Exchange, Of, Want, by_effect, gives, is_int, is_of}
 use Rattle.jmeaning.specs.jrule.Forms.{by_array, by_form, by_meaning}
 use Rattle.jmeaning.specs.jrule.Here.{Here}
 use Rattle.jmeaning.specs.jrule.Locals.{is_whole, load_from, local, passes}
-use Rattle.jmeaning.specs.jrule.Moves.{move, shuffled}
+use Rattle.jmeaning.specs.jrule.Moves.{move}
 use Rattle.jmeaning.specs.jrule.Operands.{below, exchanged, given, pushed, taken, with_room, with_stack}
 use Rattle.jmeaning.specs.jrule.Straight.{flow}
 use Rattle.jwalk.specs.Keeping.{Rests, is_quiet}

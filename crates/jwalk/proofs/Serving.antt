@@ -19,7 +19,8 @@ use Rattle.jmeaning.specs.jrule.Seen.{seen}
 use Rattle.jtyping.specs.Declared.{Written}
 use Rattle.jtyping.specs.Methods.{Method}
 use Rattle.jparts.specs.jcode.Instructions.{covers}
-use Rattle.jtyping.specs.Typing.{handler_fits, handler_test, handlers_fit}
+use Rattle.jtyping.specs.Typing.{handler_fits, handlers_fit}
+use Rattle.jtyping.specs.ProofNames.{handler_test}
 use Rattle.jwalk.specs.declared.held.Arriving.{Arriving}
 use Rattle.jwalk.specs.declared.held.Held.{Held}
 use Rattle.jwalk.specs.declared.held.Known.{Known}

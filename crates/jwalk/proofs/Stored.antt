@@ -24,7 +24,8 @@ use Rattle.jmeaning.specs.declared.jrule.frame.FrameRef.{FrameRef}
 use Rattle.jmeaning.specs.jrule.Effects.{is_of}
 use Rattle.jmeaning.specs.jrule.Forms.{by_form}
 use Rattle.jmeaning.specs.jrule.Here.{Here}
-use Rattle.jmeaning.specs.jrule.Locals.{broken, local, passes, store, store_on, with_local}
+use Rattle.jmeaning.specs.jrule.Locals.{broken, local, passes, store_on, with_local}
+use Rattle.jmeaning.specs.ProofNames.{store}
 use Rattle.jmeaning.specs.jrule.Seen.{seen}
 use Rattle.jwalk.specs.Keeping.{Rests}
 use Rattle.jwalk.proofs.Resting.{if_rests}

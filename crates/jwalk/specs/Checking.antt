@@ -8,7 +8,7 @@ use Rattle.jclass.specs.declared.class.CodeBody.{CodeBody}
 use Rattle.jprogram.specs.Classes.{Program}
 use Rattle.jmeaning.specs.declared.jrule.frame.FrameRef.{FrameRef}
 use Rattle.jmeaning.specs.declared.jrule.place.HereRef.{HereRef}
-use Rattle.jtyping.specs.Declared.{Written, frames_in}
+use Rattle.jtyping.specs.Declared.{Written}
 use Rattle.jtyping.specs.Methods.{Method}
 use Rattle.jmeaning.specs.juses.Tables.{pool_at}
 use Rattle.jmeaning.specs.juses.Uses.{AreUses}
@@ -18,6 +18,7 @@ use Rattle.jwalk.specs.Given.{all_written}
 use Rattle.jwalk.specs.Keeping.{IsKnown, held_seen}
 use Rattle.jwalk.specs.News.{AreNews, made_at}
 use Rattle.jwalk.specs.Numbered.{seen_method}
+use Rattle.jclass.specs.Codes.{frames_in}
 
 abbrev pub program_of : Checking → Program
 program_of c = c.p.now

@@ -6,7 +6,8 @@ use Rattle.jprogram.specs.Classes.{Program}
 use Rattle.jmeaning.specs.juses.Tables.{pool_at}
 use Rattle.jmeaning.specs.juses.Types.{class_named, named}
 use Rattle.jmeaning.specs.juses.Typed.{Typed}
-use Rattle.jtyping.specs.Methods.{Method, params_of, return_of}
+use Rattle.jtyping.specs.Methods.{Method, params_of}
+use Rattle.jtyping.specs.ProofNames.{return_of}
 use Rattle.jwalk.specs.declared.method.BodyRef.{BodyRef}
 use Rattle.jwalk.specs.declared.method.MethodRef.{MethodRef}
 use Rattle.jwalk.specs.declared.method.Signature.{Signature}

@@ -7,6 +7,7 @@ ghost use Rattle.jprogram.specs.Classes.{tree};
 ghost use Rattle.jtypes.specs.declared.vtype.VType.{VType};
 ghost use Rattle.jtypes.specs.Fitting.{fits};
 ghost use Rattle.jtypes.specs.Frames;
+ghost use Rattle.jtypes.specs.ProofNames;
 ghost use Rattle.jtypes.specs.Frames.{all_fit, places_of};
 ghost use Rattle.jmeaning.specs.juses.Types.{named};
 ghost use Rattle.jmeaning.specs.jrule.Operands.{with_stack};
@@ -70,7 +71,7 @@ pub(crate) fn is_long(p: &NamedProgram, kind: TypeRef) -> bool
 }
 
 fn item_fits(p: &NamedProgram, a: TypeRef, b: TypeRef) -> bool
-    ensures { result ≡ Frames.item_fits (fits (tree p.now)) (named p.now a) (named p.now b) }
+    ensures { result ≡ ProofNames.item_fits (fits (tree p.now)) (named p.now a) (named p.now b) }
 {
     if !type_fits(p, a, b) {
         return false;

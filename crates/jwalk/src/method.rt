@@ -8,6 +8,7 @@ ghost use Rattle.jmeaning.specs.juses.Typed;
 ghost use Rattle.jmeaning.specs.juses.Typed.{there, typed};
 ghost use Rattle.jmeaning.specs.juses.Types.{class_named, named};
 ghost use Rattle.jtyping.specs.Methods;
+ghost use Rattle.jtyping.specs.ProofNames;
 ghost use Rattle.jwalk.specs.Numbered.{IsSignature, seen_body, seen_method};
 
 use bitflags::Flags;
@@ -142,7 +143,7 @@ fn signature_of(alloc: Global, p: &NamedProgram, text: &[u8]) -> Result<Signatur
 
 /// The type of `this` where an instance method begins.
 fn this_type(p: &NamedProgram, class: u32, is_init: bool) -> TypeRef
-    ensures { named p.now result ≡ Methods.this_type is_init (class_named p.now (refs.User class)) }
+    ensures { named p.now result ≡ ProofNames.this_type is_init (class_named p.now (refs.User class)) }
 {
     if is_init {
         return TypeRef::UninitThis;
@@ -157,7 +158,7 @@ fn behind_this(
     is_init: bool,
     params: Seq<TypeRef>,
 ) -> Result<Seq<TypeRef>, AllocError>
-    ensures { IfOk result (λ all. map (named p.now) all ≡ Methods.this_type is_init (class_named p.now (refs.User class)) ∷ reverse (map (named p.now) params)) }
+    ensures { IfOk result (λ all. map (named p.now) all ≡ ProofNames.this_type is_init (class_named p.now (refs.User class)) ∷ reverse (map (named p.now) params)) }
 {
     let mut all = params.into_vec();
     all.push(this_type(p, class, is_init))?;

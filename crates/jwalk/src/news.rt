@@ -6,6 +6,7 @@ ghost use Rattle.jmeaning.specs.juses.Tables.{pool_at};
 ghost use Rattle.jmeaning.specs.juses.Types.{class_named};
 ghost use Rattle.jmeaning.specs.juses.Uses.{AreUses};
 ghost use Rattle.jtyping.specs.Methods;
+ghost use Rattle.jtyping.specs.ProofNames;
 ghost use Rattle.jwalk.specs.News.{AreNews, made_at};
 
 use jground::jbase::Seq;
@@ -60,7 +61,7 @@ fn use_of(p: &NamedProgram, uses: &Uses, class: u32, form: PoolForm) -> Option<U
 
 /// The class of what is made by such a use.
 fn made_of(p: &NamedProgram, uses: &Uses, class: u32, found: Option<Use>) -> Option<ClassRef>
-    ensures { option_map (class_named p.now) result ≡ Methods.made_by (option_map (meaning_of p.now (pool_at p.now class) uses.now.types) found) }
+    ensures { option_map (class_named p.now) result ≡ ProofNames.made_by (option_map (meaning_of p.now (pool_at p.now class) uses.now.types) found) }
 {
     match found {
         Some(Use::Make(made)) => Some(made),

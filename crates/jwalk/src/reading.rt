@@ -9,6 +9,7 @@ ghost use Rattle.jmeaning.specs.juses.Types.{class_named, named};
 ghost use Rattle.jmeaning.specs.juses.Uses.{AreUses};
 ghost use Rattle.jmeaning.specs.jrule.Slots.{slot_count};
 ghost use Rattle.jtyping.specs.Declared as typing;
+ghost use Rattle.jtyping.specs.ProofNames;
 ghost use Rattle.jtyping.specs.Declared.{written_from};
 ghost use Rattle.jwalk.specs.Chained.{AreMade, all_made, chain};
 ghost use Rattle.jwalk.specs.Given.{IsDeclared, given, is_good_in, written_named};
@@ -28,7 +29,7 @@ use std::alloc::{AllocError, Global};
 // ---- items
 
 fn or_top(p: &NamedProgram, t: Option<TypeRef>) -> TypeRef
-    ensures { named p.now result ≡ typing.or_top (option_map (named p.now) t) }
+    ensures { named p.now result ≡ ProofNames.or_top (option_map (named p.now) t) }
 {
     match t {
         None => TypeRef::Top,

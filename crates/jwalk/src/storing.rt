@@ -8,6 +8,7 @@ ghost use Rattle.jmeaning.specs.juses.Types.{named};
 ghost use Rattle.jmeaning.specs.jrule.Forms.{by_form};
 ghost use Rattle.jmeaning.specs.jrule.Here.{Here};
 ghost use Rattle.jmeaning.specs.jrule.Locals as rule;
+ghost use Rattle.jmeaning.specs.ProofNames;
 ghost use Rattle.jmeaning.specs.jrule.Seen.{seen};
 ghost use Rattle.jwalk.specs.Keeping.{Rests};
 
@@ -106,7 +107,7 @@ fn stays(p: &NamedProgram, locals: &Locals, n: usize, kind: TypeRef) -> bool
 
 /// Whether a store to a local leaves the locals as they are.
 fn store_rests(p: &NamedProgram, n: u16, f: &FrameRef) -> bool
-    ensures { result ≡ true → (k : Kind) → Rests (seen p.now f.now) (rule.store k n (seen p.now f.now)) }
+    ensures { result ≡ true → (k : Kind) → Rests (seen p.now f.now) (ProofNames.store k n (seen p.now f.now)) }
 {
     let Some((kind, _rest)) = f.stack.as_slice().split_last() else {
         return false;

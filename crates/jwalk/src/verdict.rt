@@ -6,13 +6,14 @@ ghost use Rattle.jclass.specs.Stored.{IsIn};
 ghost use Rattle.jprogram.specs.Members.{part_of};
 ghost use Rattle.jmeaning.specs.juses.Uses.{AreUses};
 ghost use Rattle.jmeaning.specs.jrule.Swaps;
-ghost use Rattle.jtyping.specs.Declared;
+ghost use Rattle.jtyping.specs.ProofNames;
 ghost use Rattle.jtyping.specs.Typing;
 ghost use Rattle.jwalk.specs.Checking.{IsChecking, IsCounted, IsGood, frames_of, method_of, program_of};
 ghost use Rattle.jwalk.specs.First;
 ghost use Rattle.jwalk.specs.First.{IsFirst, places_in};
 ghost use Rattle.jwalk.specs.Numbered.{seen_body, seen_method};
 ghost use Rattle.jwalk.specs.Places.{place_of};
+ghost use Rattle.jclass.specs.Codes.{maps_of};
 
 use crate::chains::is_this;
 use crate::declared::push_places;
@@ -34,7 +35,7 @@ use std::alloc::{AllocError, Global};
 /// The frames of a method's StackMapTable, none where it has none.
 #[tactic(auto, unfolding(jground::specs::jbase::First::first_some))]
 pub(crate) fn frames_in(attributes: &[CodeAttribute]) -> &[RawFrame]
-    ensures { result.now ≡ Declared.or_none (first_some Declared.maps_of attributes.now) }
+    ensures { result.now ≡ ProofNames.or_none (first_some maps_of attributes.now) }
 {
     for attribute in attributes {
         if let CodeAttribute::Maps { frames, .. } = attribute {

@@ -12,6 +12,7 @@ ghost use Rattle.jmeaning.specs.jrule.Seen.{seen};
 ghost use Rattle.jtyping.specs.Declared.{declared_at};
 ghost use Rattle.jtyping.specs.Methods;
 ghost use Rattle.jtyping.specs.Typing;
+ghost use Rattle.jtyping.specs.ProofNames;
 ghost use Rattle.jwalk.specs.Checking as checking;
 ghost use Rattle.jwalk.specs.Checking.{IsChecking, IsCounted, IsHeld, IsHere, frames_of, method_of, program_of};
 ghost use Rattle.jwalk.specs.Keeping as keeping;
@@ -122,7 +123,7 @@ impl<'a> Checking<'a> {
         requires checking { IsChecking self.now }
         requires held { IsHeld self.now f.now }
         ensures { result
-            ≡ Typing.handler_test (program_of self.now) (method_of self.now) (frames_of self.now) at (held_seen (program_of self.now) f.now) h.now }
+            ≡ ProofNames.handler_test (program_of self.now) (method_of self.now) (frames_of self.now) at (held_seen (program_of self.now) f.now) h.now }
     {
         if !covers(at, h) {
             return true;
@@ -149,7 +150,7 @@ impl<'a> Checking<'a> {
         requires held { IsHeld self.now f.now }
         ensures { result
             ≡ (Instructions.covers since h.now
-            || Typing.handler_test (program_of self.now) (method_of self.now) (frames_of self.now) at (held_seen (program_of self.now) f.now) h.now) }
+            || ProofNames.handler_test (program_of self.now) (method_of self.now) (frames_of self.now) at (held_seen (program_of self.now) f.now) h.now) }
     {
         if covers(since, h) {
             return true;
@@ -162,7 +163,7 @@ impl<'a> Checking<'a> {
         requires checking { IsChecking self.now }
         requires held { IsHeld self.now f.now }
         ensures { result ≡ list_all (λ h. Instructions.covers since h
-            || Typing.handler_test (program_of self.now) (method_of self.now) (frames_of self.now) at (held_seen (program_of self.now) f.now) h)
+            || ProofNames.handler_test (program_of self.now) (method_of self.now) (frames_of self.now) at (held_seen (program_of self.now) f.now) h)
             (method_of self.now).body.handlers }
     {
         let method = self.method;
@@ -302,7 +303,7 @@ impl<'a> Checking<'a> {
     fn branch_fits(&self, at: u32, by: Option<i32>, g: &Held) -> bool
         requires { IsHeld self.now g.now }
         ensures { result
-            ≡ checking.branch_test (Typing.branch_fits (program_of self.now) (frames_of self.now) at (held_seen (program_of self.now) g.now)) by }
+            ≡ checking.branch_test (ProofNames.branch_fits (program_of self.now) (frames_of self.now) at (held_seen (program_of self.now) g.now)) by }
     {
         match by {
             Some(by) => self.declared.leads_in(
@@ -319,9 +320,9 @@ impl<'a> Checking<'a> {
     fn branch_fits_too(&self, at: u32, other: Option<i32>, by: Option<i32>, g: &Held) -> bool
         requires held { IsHeld self.now g.now }
         requires other { checking.branch_test
-            (Typing.branch_fits (program_of self.now) (frames_of self.now) at (held_seen (program_of self.now) g.now)) other ≡ true }
+            (ProofNames.branch_fits (program_of self.now) (frames_of self.now) at (held_seen (program_of self.now) g.now)) other ≡ true }
         ensures { result
-            ≡ checking.branch_test (Typing.branch_fits (program_of self.now) (frames_of self.now) at (held_seen (program_of self.now) g.now)) by }
+            ≡ checking.branch_test (ProofNames.branch_fits (program_of self.now) (frames_of self.now) at (held_seen (program_of self.now) g.now)) by }
     {
         if is_same(other, by) {
             return true;
@@ -333,7 +334,7 @@ impl<'a> Checking<'a> {
     fn branches_fit(&self, at: u32, form: &Form<&Switch>, g: &Held) -> bool
         requires { IsHeld self.now g.now }
         ensures { result
-            ≡ list_all (Typing.branch_fits (program_of self.now) (frames_of self.now) at (held_seen (program_of self.now) g.now))
+            ≡ list_all (ProofNames.branch_fits (program_of self.now) (frames_of self.now) at (held_seen (program_of self.now) g.now))
             (branches (forms.seen form.now)) }
     {
         let mut fitting = None;

@@ -1,5 +1,5 @@
 ghost use Rattle.std.specs.Prelude.{◌≡◌, ◌∷◌, [], IfOk};
-ghost use Rattle.jthreads.specs.Table.{running};
+ghost use Rattle.jthreads.specs.ProofNames.{running};
 
 use crate::words::numbers;
 use jthreads::Threads;

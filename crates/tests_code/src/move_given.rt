@@ -1,5 +1,6 @@
 ghost use Rattle.std.specs.Prelude.{◌≡◌, ◌≤◌, All, IfSome, IsTrue};
-ghost use Rattle.jmove.specs.Frames.{width, widths};
+ghost use Rattle.jmove.specs.Frames.{widths};
+ghost use Rattle.jmove.specs.ProofNames.{width};
 ghost use Rattle.jmove.specs.Moved.{CanMove};
 
 use jground::jbase::Seq;

@@ -12,10 +12,10 @@ use Rattle.jmodel.specs.jmachine.Security.{Privilege}
 use Rattle.jmodel.specs.jrules.Inspecting as inspecting
 use Rattle.jmodel.specs.jrules.Inspecting.{Carried, given_by, stack_of}
 use Rattle.jmodel.specs.jrules.Plain as plain
-use Rattle.jmodel.specs.jrules.Plain.{given_context, told}
 use Rattle.jbesides.specs.jbeside.Alike.{ShadowedAgree, ShadowedRuns, ShadowedSteps, SourcedAgree, SourcedRuns, SourcedSteps, left_out, the_same}
 use Rattle.jbesides.specs.jbeside.Beside as beside
 use Rattle.jbesides.specs.jbeside.Beside.{Noted, context_of, mark_along, noted_along, shadowed, sourced, within_mark}
+use Rattle.std.specs.Prelude.{unwrap_or}
 
 -- ---- stacks and their contexts
 
@@ -63,7 +63,7 @@ same_context None = refl
 same_context (Some c) = refl
 
 abbrev passed : Option ℕ → Option (List Item) → Option (List Permission) → List Item → Privilege (List Item) (Unit {0})
-passed d given limits c = record { caller = tt; context = Some (privileged (told d) given limits c) }
+passed d given limits c = record { caller = tt; context = Some (privileged (unwrap_or d 0) given limits c) }
 
 pub shadowed_agree : ShadowedAgree
 unfolding plain.rules shadowed
@@ -71,14 +71,14 @@ shadowed_agree has = record {
   side = refl;
   entries = λ d. refl;
   first = refl;
-  check = λ asked ctx entries inherited. ap (λ c. verdict has asked (given_context c)) (sym (same_context ctx));
+  check = λ asked ctx entries inherited. ap (λ c. verdict has asked (unwrap_or c [])) (sym (same_context ctx));
   enter = λ c d. refl;
   check_kept = λ asked c. refl;
-  snapshot = λ ctx entries inherited. ap given_context (sym (same_context ctx));
-  inherit = λ ctx entries inherited. ap given_context (sym (same_context ctx));
+  snapshot = λ ctx entries inherited. ap (λ (c : Option (List Item)). unwrap_or c []) (sym (same_context ctx));
+  inherit = λ ctx entries inherited. ap (λ (c : Option (List Item)). unwrap_or c []) (sym (same_context ctx));
   privileged = λ d ctx given limits entries.
-      ap (λ g. passed d g limits (given_context ctx)) (sym (same_context given))
-      ∙ ap (λ c. passed d (option_map the_same given) limits (given_context c)) (sym (same_context ctx));
+      ap (λ g. passed d g limits (unwrap_or ctx [])) (sym (same_context given))
+      ∙ ap (λ c. passed d (option_map the_same given) limits (unwrap_or c [])) (sym (same_context ctx));
 }
 
 -- ---- steps and runs

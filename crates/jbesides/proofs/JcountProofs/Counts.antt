@@ -4,7 +4,7 @@ use Rattle.std.proofs.lemmas.Bool.{cases_lt}
 use Rattle.jrights.specs.declared.jtrace.event.Event.{Event}
 use Rattle.jrights.specs.declared.jtrace.event.End.{End}
 use Rattle.jmodel.specs.jmachine.Acts.{Outcome, Went, Over, NoStep}
-use Rattle.jmodel.specs.jmachine.Runs.{Run, after, next_at, run_from}
+use Rattle.jmodel.specs.jmachine.Runs.{next_at, Run, after, run_from}
 use Rattle.jmodel.proofs.JmachineProofs.Courses.{later}
 use Rattle.jbesides.specs.jcount.Counting.{Answers, Ends, EndsAll, Follows, IsSilent, IsUnstuck, Keeps, KeepsAll, Leads, LeadsOut, going}
 

@@ -8,7 +8,8 @@ use Rattle.jmeaning.specs.juses.Instructions.{Used}
 use Rattle.jmeaning.specs.juses.Meanings.{Pushed}
 use Rattle.jmeaning.specs.juses.Meanings as meanings
 use Rattle.jctx.specs.declared.item.Item.{Item}
-use Rattle.jmeaning.specs.jrule.Uses.{exchange, of_cast}
+use Rattle.jmeaning.specs.jrule.Uses.{exchange}
+use Rattle.jmeaning.specs.ProofNames.{of_cast}
 use Rattle.jmodel.specs.jmachine.Acts.{Row, Outcome}
 use Rattle.jmodel.specs.jmachine.Doing.{doing, used}
 use Rattle.jmodel.specs.jmachine.Making.{cast, checked, is_one, push, tested, text_loaded, units_of}

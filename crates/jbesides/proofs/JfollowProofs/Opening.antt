@@ -10,7 +10,7 @@ use Rattle.jctx.specs.declared.item.Item.{Item}
 use Rattle.jmodel.specs.declared.jmachine.plan.Plan.{Plan}
 use Rattle.jmodel.specs.jmachine.Fields.{out}
 use Rattle.jmodel.specs.jmachine.Frames.{begun, domain_of, frame_of, locals_of, places_of}
-use Rattle.jmodel.specs.jmachine.Opening.{arguments_number, only, opening_state, opening_store}
+use Rattle.jmodel.specs.jmachine.Opening.{arguments_number, opening_state, opening_store}
 use Rattle.jmodel.specs.jmachine.Store.{Store}
 use Rattle.jmodel.specs.jmachine.Straight.{local_at}
 use Rattle.jbesides.specs.jbeside.Beside.{shadowed, sourced, unmarked}
@@ -23,6 +23,7 @@ use Rattle.jbesides.proofs.JcountProofs.Silences.{Silently, silent_leads}
 use Rattle.jbesides.proofs.JfollowProofs.Spots.{there}
 use Rattle.jbesides.specs.jfollow.Begins.{BeginsInFour}
 use Rattle.jbesides.specs.jcount.Counting.{Leads}
+use Rattle.std.specs.Option.{option_to_list}
 
 module _ (has : ℕ → Permission → Bool) (p q : Program) (plan : Plan) (moves : Moves p q) (body : CodeBody) (is : code_at p plan.main ≡ Some body)
     (one : (moves.codes plan.main body is).slots ≡ 1) where
@@ -50,7 +51,7 @@ module _ (has : ℕ → Permission → Bool) (p q : Program) (plan : Plan) (move
 
   first_is : opening_state (sourced has) p plan.main plan.heap ≡ first
   unfolding opening_state sourced
-  first_is = ap (λ o. state (only (option_map (frame_of plan.main (unmarked (domain_of p plan.main)) values) o)) (opening_store p plan.heap)) is
+  first_is = ap (λ o. state (option_to_list (option_map (frame_of plan.main (unmarked (domain_of p plan.main)) values) o)) (opening_store p plan.heap)) is
 
   -- and of the moved one, before the prologue and behind it
   abbrev second : Point
@@ -65,8 +66,8 @@ module _ (has : ℕ → Permission → Bool) (p q : Program) (plan : Plan) (move
   second_is : opening_state (shadowed has) q plan.main plan.heap ≡ second
   unfolding opening_state shadowed
   second_is =
-      ap (λ n. state (only (begun q plan.main (unmarked (domain_of q plan.main)) (Ctx [] ∷ Ref n ∷ []))) (opening_store q plan.heap)) number_same
-      ∙ ap (λ (o : Option Frame). state (only o) (opening_store q plan.heap)) (begun_there p q moves plan.main body code [] values)
+      ap (λ n. state (option_to_list (begun q plan.main (unmarked (domain_of q plan.main)) (Ctx [] ∷ Ref n ∷ []))) (opening_store q plan.heap)) number_same
+      ∙ ap (λ (o : Option Frame). state (option_to_list o) (opening_store q plan.heap)) (begun_there p q moves plan.main body code [] values)
       ∙ ap (λ (x : Store (List Item)). state (there_frame p plan.main code.place.local [] values ∷ []) x) (moves.opens plan.heap)
 
   fills : places_of values ≡ code.slots

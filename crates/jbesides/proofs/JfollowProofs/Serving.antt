@@ -21,7 +21,7 @@ use Rattle.jground.specs.declared.jops.value.Value.TheVariants.{Int, Long, Ref, 
 use Rattle.jperm.specs.declared.permission.Permission as perms
 use Rattle.jperm.specs.declared.making.PermError.{PermError}
 use Rattle.jperm.specs.Made.{made as perm_made}
-use Rattle.jmeaning.specs.jrule.Arrays.{of_numbers}
+use Rattle.jmeaning.specs.jrule.Arrays.{of_numbers, component}
 use Rattle.jtypes.specs.declared.vtype.ArrayType.{ArrayType}
 use Rattle.jtypes.specs.declared.vtype.VType.{VType}
 use Rattle.jtypes.specs.declared.vtype.VType.TheVariants as types
@@ -31,9 +31,11 @@ use Rattle.jthreads.specs.declared.table.Joined.TheVariants.{AtOnce, Waits}
 use Rattle.jctx.specs.declared.item.Item.{Item}
 use Rattle.jmodel.specs.jmachine.Acts.{Row, Switches, free, gives, raises}
 use Rattle.jmodel.specs.jmachine.Arrays as arrays
-use Rattle.jmodel.specs.jmachine.Arrays.{Items, items_in, is_stored, load_at, made, store_at, with_item, within}
-use Rattle.jmodel.specs.jmachine.Library.{library, object_init}
-use Rattle.jmodel.specs.jmachine.Making.{text_made, tested}
+use Rattle.jmodel.specs.ProofNames
+use Rattle.jmodel.specs.jmachine.Arrays.{Items, items_in, load_at, made, store_at, with_item, within}
+use Rattle.jmodel.specs.jmachine.Library.{library}
+use Rattle.jmodel.specs.ProofNames.{object_init}
+use Rattle.jmodel.specs.jmachine.Making.{text_made, tested, is_one}
 use Rattle.jmodel.specs.jmachine.Narrowing.{place}
 use Rattle.jmodel.specs.jmachine.Operands.{type_of}
 use Rattle.jmodel.specs.jmachine.Objects.{Builder}
@@ -105,7 +107,7 @@ module _ (to : ℕ → ℕ) where
 
       store_at_itself : (n : ℕ) (v : Word) (x : Items (List Item)) (i : Option ℕ) → Itself (Some (store_at w s n v x i))
       store_at_itself n v x None = (tt, refl)
-      store_at_itself n v x (Some i) = stored_itself n i x v (is_stored w x.type (type_of w s v))
+      store_at_itself n v x (Some i) = stored_itself n i x v (is_one w (component x.type) (type_of w s v))
 
       array_itself : (form : ArrayForm) (values : List Word) → Itself (arrays.array w s form values)
       unfolding arrays.array
@@ -143,7 +145,7 @@ module _ (to : ℕ → ℕ) where
       array_itself forms.Length (Long x ∷ vs) = tt
       array_itself forms.Length (Ctx x ∷ vs) = tt
       array_itself forms.Length (Ref zero ∷ []) = (tt, refl)
-      array_itself forms.Length (Ref (suc n) ∷ []) = each (arrays.length_row s) (λ x. (tt, refl)) (items_in (object_at s (suc n)))
+      array_itself forms.Length (Ref (suc n) ∷ []) = each (ProofNames.length_row s) (λ x. (tt, refl)) (items_in (object_at s (suc n)))
       array_itself forms.Length (Ref zero ∷ v ∷ vs) = tt
       array_itself forms.Length (Ref (suc n) ∷ v ∷ vs) = tt
 
@@ -208,7 +210,7 @@ module _ (to : ℕ → ℕ) where
     string_itself strings.CharAt (Ref x ∷ vs) = tt
     string_itself strings.CharAt (Ctx x ∷ vs) = tt
     string_itself strings.CharAt (Int i ∷ []) = tt
-    string_itself strings.CharAt (Int i ∷ v ∷ []) = each (texts.char_at s i) (λ us. unit_itself (option_and_then (slice_get us) (place i))) (texts.units s v)
+    string_itself strings.CharAt (Int i ∷ v ∷ []) = each (ProofNames.char_at s i) (λ us. unit_itself (option_and_then (slice_get us) (place i))) (texts.units s v)
     string_itself strings.CharAt (Int i ∷ v ∷ u ∷ vs) = tt
     string_itself strings.Equals [] = tt
     string_itself strings.Equals (other ∷ []) = tt

@@ -29,7 +29,8 @@ use Rattle.jmeaning.specs.declared.juses.meaning.How.TheVariants as how
 use Rattle.jmeaning.specs.juses.Instructions.{Instruction, Always, Jump, Local, Return, Simple, Stack, Switch, Used}
 use Rattle.jmeaning.specs.juses.Meanings.{Call, Make, Push, Text}
 use Rattle.jmeaning.specs.juses.Typed.{name}
-use Rattle.jmeaning.specs.jrule.Uses.{of_library, string}
+use Rattle.jmeaning.specs.jrule.Uses.{of_library}
+use Rattle.jmeaning.specs.ProofNames.{string}
 use Rattle.jmodel.specs.jmachine.Objects.{library_name}
 use Rattle.jbesides.specs.jstands.Expanding.{Place, asking_params, expanded, prologue, rt_meaning}
 

@@ -2,7 +2,7 @@
 -- one runs programs as they were written, and decides by the context of what its frames carry. The other runs moved programs by the contexts
 -- that it is handed, and never looks at its frames. So they differ in the programs that they run, and in where they have contexts from; in
 -- what they keep and carry they don't.
-use Rattle.std.specs.Prelude.{ℕ, Bool, List, [], ◌∷◌, Option, Some, None}
+use Rattle.std.specs.Prelude.{ℕ, Bool, List, [], ◌∷◌, Option, Some, None, unwrap_or}
 use Rattle.jperm.specs.declared.permission.Permission.{Permission}
 use Rattle.jrights.specs.jdomain.Stacks as stacks
 use Rattle.jlib.specs.declared.side.Side.TheVariants.{Source, Passing}
@@ -10,7 +10,6 @@ use Rattle.jctx.specs.declared.item.Item.{Item}
 use Rattle.jctx.specs.Contexts.{along_given, enter, privileged, verdict}
 use Rattle.jmodel.specs.jmachine.Security.{Rules}
 use Rattle.jmodel.specs.jrules.Inspecting.{Carried}
-use Rattle.jmodel.specs.jrules.Plain.{given_context, told}
 
 -- ---- what frames carry
 
@@ -53,7 +52,7 @@ within_mark d (Privileged given limits) c = privileged d given limits c
 
 -- of a thread's frames, the newest first, over what it inherited
 abbrev pub context_of : List Noted → Option (List Item) → List Item
-context_of [] inherited = given_context inherited
+context_of [] inherited = unwrap_or inherited []
 context_of (e ∷ entries) inherited = within_mark e.domain e.mark (context_of entries inherited)
 
 -- ---- the rules
@@ -79,9 +78,9 @@ shadowed has = record {
   entry_of = unmarked;
   first = Some [];
   enter = enter;
-  check = λ asked ctx entries inherited. verdict has asked (given_context ctx);
+  check = λ asked ctx entries inherited. verdict has asked (unwrap_or ctx []);
   check_kept = λ asked c. verdict has asked c;
-  snapshot = λ ctx entries inherited. given_context ctx;
-  inherit = λ ctx entries inherited. given_context ctx;
-  privileged = λ d ctx given limits entries. record { caller = marked (Privileged given limits) entries; context = Some (privileged (told d) given limits (given_context ctx)) };
+  snapshot = λ ctx entries inherited. unwrap_or ctx [];
+  inherit = λ ctx entries inherited. unwrap_or ctx [];
+  privileged = λ d ctx given limits entries. record { caller = marked (Privileged given limits) entries; context = Some (privileged (unwrap_or d 0) given limits (unwrap_or ctx [])) };
 }

@@ -13,7 +13,8 @@ use Rattle.jtypes.specs.declared.vtype.VType.{VType}
 use Rattle.jtypes.specs.declared.vtype.VType.TheVariants as types
 use Rattle.jmeaning.specs.juses.Instructions.{Instruction, Used, instruction_at}
 use Rattle.jmeaning.specs.juses.Meanings as meanings
-use Rattle.jmeaning.specs.juses.Meanings.{AClass, AConstant, AField, AMethod, EntryMeaning, array_made, cast_by, entry_meant, field_used, made}
+use Rattle.jmeaning.specs.juses.Meanings.{AClass, AConstant, AField, AMethod, EntryMeaning, entry_meant}
+use Rattle.jmeaning.specs.ProofNames.{made, array_made, cast_by, field_used}
 use Rattle.jmeaning.specs.juses.Tables.{pool_at}
 use Rattle.jmeaning.specs.juses.Typed.{array_over}
 use Rattle.jlinking.specs.jlink.Coded.{AreFiles}

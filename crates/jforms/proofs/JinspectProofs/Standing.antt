@@ -1,17 +1,17 @@
 -- What numbers and marks stand for, by what the table tells of them.
 use Rattle.std.proofs.Common.{◌≡◌, ◌∙◌, ℕ, ◌-◌, ◌<◌, Bool, true, false, List, [], ◌∷◌, ◌++◌, map, length, reverse, Option, Some, None, option_map, refl, sym, ap, arith}
-use Rattle.std.specs.Prelude.{nat_lt, slice_get, if◌then◌else◌}
+use Rattle.std.specs.Prelude.{nat_lt, slice_get, if◌then◌else◌, unwrap_or}
 use Rattle.std.specs.List.{AllByRecursion}
 use Rattle.std.proofs.lemmas.Bool.{lt-ltb, ltb-true}
 use Rattle.std.proofs.lemmas.List.{length-reverse, map-append, reverse-append, reverse-reverse}
 use Rattle.std.proofs.lemmas.List.Elements.{All-from_recursion}
-use Rattle.jrights.specs.jdomain.Stacks.{Stack, Entry, Mark, Unmarked, Within}
+use Rattle.jrights.specs.jdomain.Stacks.{Stack, Entry, Mark, Unmarked, Within, Bottom}
 use Rattle.jkept.specs.declared.entry.KeptEntry.{KeptEntry}
 use Rattle.jkept.specs.declared.mark.InspectMark.{InspectMark}
 use Rattle.jkept.specs.Entries.{AllBelow, Below}
 use Rattle.jkept.specs.Things.{Thing, Keeps as Stays, framed, given_at, mark_at, pushed, stack_at, the_mark, the_stack, things}
 use Rattle.jkept.specs.Things as kept
-use Rattle.jmodel.specs.jrules.Inspecting.{Carried, given_by, inherited_stack, marked, on_stack, stack_of}
+use Rattle.jmodel.specs.jrules.Inspecting.{Carried, given_by, marked, on_stack, stack_of}
 use Rattle.jmodel.specs.jguard.Standing.{AreThose, IsThat, Keeps}
 use Rattle.jforms.specs.jinspect.Inspects.{entry_at, kept_at, newest_domain, privilege_at, with_domain}
 
@@ -71,7 +71,7 @@ module _ (entries : List KeptEntry) where
   pub stands_for : (n : ℕ) → n < length entries → kept_at entries n ≡ Some (stack_at (things entries) (Some n))
   stands_for n h = where_true (nat_lt n (length entries)) (stack_at (things entries) (Some n)) (lt-ltb n (length entries) h)
 
-  pub inherited_stands : (n : Option ℕ) (s : Option Stack) → IsThat (kept_at entries) n s → Below (length entries) n × (stack_at (things entries) n ≡ inherited_stack s)
+  pub inherited_stands : (n : Option ℕ) (s : Option Stack) → IsThat (kept_at entries) n s → Below (length entries) n × (stack_at (things entries) n ≡ unwrap_or s Bottom)
   inherited_stands None None e = (tt, refl)
   inherited_stands None (Some s) e = cc
   inherited_stands (Some n) None e = cc

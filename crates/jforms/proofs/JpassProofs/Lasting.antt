@@ -4,7 +4,7 @@ use Rattle.jrights.specs.declared.jtrace.event.Event.{Event}
 use Rattle.jrights.specs.declared.jtrace.event.End.{End}
 use Rattle.jmodel.specs.jmachine.Acts.{Outcome, Went, Over, NoStep}
 use Rattle.jmodel.specs.jmachine.Maps.{outcome_map, run_map}
-use Rattle.jmodel.specs.jmachine.Runs.{Run, after, next, next_at, run_from}
+use Rattle.jmodel.specs.jmachine.Runs.{next_at, Run, after, next, run_from}
 use Rattle.jbesides.specs.jcount.Counting.{HasEnded, IsSilent, Leads, LeadsOut, going}
 
 module _ {S T : Type 0} (h : S → T) (one : S → Outcome S) (other : T → Outcome T) (alike : (s : S) → outcome_map h (one s) ≡ other (h s)) where

@@ -1,6 +1,6 @@
 -- What the guard answers stands for what the plain rules answer.
 use Rattle.std.proofs.Common.{◌≡◌, ◌∙◌, ℕ, ◌<◌, Bool, List, [], length, reverse, Option, Some, None, sym, ap, subst}
-use Rattle.std.specs.Prelude.{IfOk, IfSome, OnOk, Result, Ok, Err}
+use Rattle.std.specs.Prelude.{IfOk, IfSome, OnOk, Result, Ok, Err, unwrap_or}
 use Rattle.std.specs.Borrow.{Bor}
 use Rattle.std.specs.Option.{option_copied}
 use Rattle.std.proofs.lemmas.Option.{slice_get_within}
@@ -10,7 +10,7 @@ use Rattle.jctx.specs.declared.item.Item.{Item}
 use Rattle.jctx.specs.Contexts.{enter, verdict}
 use Rattle.jctx.specs.Contexts as contexts
 use Rattle.jmodel.specs.jmachine.Asked.{Ask, Checks, ChecksKept, Snapshots, Inherits, Enters, Privileges, Answer, Decided, Kept, Entered, Allowed}
-use Rattle.jmodel.specs.jrules.Plain.{given_context, rules, told}
+use Rattle.jmodel.specs.jrules.Plain.{rules}
 use Rattle.jmodel.specs.declared.jguard.ask.Answer.{Answer as AnswerSaid}
 use Rattle.jmodel.specs.declared.jguard.ask.Ask.{Ask as AskSaid}
 use Rattle.jmodel.specs.declared.jguard.ask.Ask.TheVariants as asks
@@ -47,7 +47,7 @@ limits_in a = None
 
 abbrev domain_in : {K : Type 0} → Ask K → ℕ
 domain_in (Enters k domain) = domain
-domain_in (Privileges domain ctx given limits) = told domain
+domain_in (Privileges domain ctx given limits) = unwrap_or domain 0
 domain_in a = 0
 
 -- ---- numbers
@@ -63,7 +63,7 @@ module _ (all : List (List Item)) where
   there : (n : ℕ) (c : List Item) → context_at all n ≡ Some c → n < length all
   there n c e = slice_get_within all n c e
 
-  first_stands : context_at all 0 ≡ Some [] → (n : Option ℕ) (c : Option (List Item)) → IsThat all n c → context_at all (number_or_first n) ≡ Some (given_context c)
+  first_stands : context_at all 0 ≡ Some [] → (n : Option ℕ) (c : Option (List Item)) → IsThat all n c → context_at all (number_or_first n) ≡ Some (unwrap_or c [])
   first_stands first None None e = first
   first_stands first None (Some c) e = cc
   first_stands first (Some n) None e = cc
@@ -93,7 +93,7 @@ module _ (all : List (List Item)) where
   kept_there p n (Privileges b c g l, e) = cc
 
   check_there : context_at all 0 ≡ Some [] → (p : Permission) (n : Option ℕ) → IsAskKnown (context_at all) (Checks p n) → number_or_first n < length all
-  check_there first p n (Checks asked c, e) = there (number_or_first n) (given_context c) (first_stands first n c (ap ctx_in e))
+  check_there first p n (Checks asked c, e) = there (number_or_first n) (unwrap_or c []) (first_stands first n c (ap ctx_in e))
   check_there first p n (ChecksKept asked k, e) = cc
   check_there first p n (Enters k b, e) = cc
   check_there first p n (Snapshots c, e) = cc
@@ -103,7 +103,7 @@ module _ (all : List (List Item)) where
   module _ (domain n given : Option ℕ) (limits : Option (List Permission)) where
     privilege_there : context_at all 0 ≡ Some [] → IsAskKnown (context_at all) (Privileges domain n given limits)
         → (number_or_first n < length all) × IfSome given (λ g. g < length all)
-    privilege_there first (Privileges b c g l, e) = (there (number_or_first n) (given_context c) (first_stands first n c (ap ctx_in e)), given_there given g (ap given_in e))
+    privilege_there first (Privileges b c g l, e) = (there (number_or_first n) (unwrap_or c []) (first_stands first n c (ap ctx_in e)), given_there given g (ap given_in e))
     privilege_there first (Checks asked c, e) = cc
     privilege_there first (ChecksKept asked k, e) = cc
     privilege_there first (Enters k b, e) = cc
@@ -156,7 +156,7 @@ module _ (has : ℕ → Permission → Bool) (old new : List (List Item)) (marks
       → ((c : List Item) → context_at old (number_or_first n) ≡ Some c → v ≡ verdict has p c) → For (Checks p n) (Decided v)
   unfolding rules
   check_answers first p n v is (Checks asked c) cs s e those that =
-      ap decided (is (given_context c) (first_stands old first n c (ap ctx_in e)) ∙ ap (λ (x : Permission). verdict has x (given_context c)) (ap (asked_in p) e))
+      ap decided (is (unwrap_or c []) (first_stands old first n c (ap ctx_in e)) ∙ ap (λ (x : Permission). verdict has x (unwrap_or c [])) (ap (asked_in p) e))
   check_answers first p n v is (ChecksKept asked k) cs s e those that = cc
   check_answers first p n v is (Snapshots c) cs s e those that = cc
   check_answers first p n v is (Inherits c) cs s e those that = cc
@@ -202,13 +202,13 @@ module _ (has : ℕ → Permission → Bool) (old new : List (List Item)) (marks
   enter_answers n d made is (Privileges b c g l) cs s e those that = cc
 
   module _ (domain n given : Option ℕ) (limits : Option (List Permission)) where
-    privilege_answers : context_at old 0 ≡ Some [] → (made : ℕ) → IsPrivileged old new (told domain) given limits (number_or_first n) made
+    privilege_answers : context_at old 0 ≡ Some [] → (made : ℕ) → IsPrivileged old new (unwrap_or domain 0) given limits (number_or_first n) made
         → For (Privileges domain n given limits) (Allowed (record { caller = tt; context = Some made }))
     unfolding rules
     privilege_answers first made is (Privileges d c g l) cs s e those that =
-        ap allowed (is (given_context c) g (first_stands old first n c (ap ctx_in e)) (ap given_in e)
-        ∙ ap (λ (x : ℕ). Some (contexts.privileged x g limits (given_context c))) (ap domain_in e)
-        ∙ ap (λ (x : Option (List Permission)). Some (contexts.privileged (told d) g x (given_context c))) (ap (λ (a : Ask (Option (List Item))). limits_in a) e))
+        ap allowed (is (unwrap_or c []) g (first_stands old first n c (ap ctx_in e)) (ap given_in e)
+        ∙ ap (λ (x : ℕ). Some (contexts.privileged x g limits (unwrap_or c []))) (ap domain_in e)
+        ∙ ap (λ (x : Option (List Permission)). Some (contexts.privileged (unwrap_or d 0) g x (unwrap_or c []))) (ap (λ (a : Ask (Option (List Item))). limits_in a) e))
     privilege_answers first made is (Checks asked c) cs s e those that = cc
     privilege_answers first made is (ChecksKept asked k) cs s e those that = cc
     privilege_answers first made is (Snapshots c) cs s e those that = cc
@@ -246,13 +246,13 @@ module _ (has : ℕ → Permission → Bool) (old new : List (List Item)) (marks
     entered ask n d (Err x) is w = tt
 
     pub privileged : context_at old 0 ≡ Some [] → (ask : AskSaid) (domain n given : Option ℕ) (limits : Option (Bor (List Permission))) (d m : ℕ)
-        (result : Result (AnswerSaid (Unit {0})) X) → ask ≡ asks.Privileged domain n given limits → d ≡ told domain → m ≡ number_or_first n
+        (result : Result (AnswerSaid (Unit {0})) X) → ask ≡ asks.Privileged domain n given limits → d ≡ unwrap_or domain 0 → m ≡ number_or_first n
         → IfOk result (IsHanded old new d given (option_copied limits) m) → Given ask result
     privileged first ask domain n given limits d m (Ok a) is told_so so w =
         subst (λ (x : AnswerSaid (Unit {0})). For (said ask) (given_by x)) (sym w.1)
         (so_answered ask (asks.Privileged domain n given limits) (Allowed (record { caller = tt; context = Some w.0 })) is
         (privilege_answers domain n given (option_copied limits) first w.0
-        (subst (λ (y : ℕ). IsPrivileged old new (told domain) given (option_copied limits) y w.0) so
+        (subst (λ (y : ℕ). IsPrivileged old new (unwrap_or domain 0) given (option_copied limits) y w.0) so
         (subst (λ (x : ℕ). IsPrivileged old new x given (option_copied limits) m w.0) told_so w.2))))
     privileged first ask domain n given limits d m (Err x) is told_so so w = tt
 

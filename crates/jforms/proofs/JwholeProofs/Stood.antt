@@ -7,7 +7,7 @@ use Rattle.jrights.specs.declared.jtrace.event.End.{End}
 use Rattle.jrights.specs.declared.jtrace.event.End.TheVariants.{Bound}
 use Rattle.jrights.specs.jtrace.Lines.{text}
 use Rattle.jmodel.specs.jmachine.Acts.{Outcome}
-use Rattle.jmodel.specs.jmachine.Runs.{Run, after, ended_by, ending, next, next_at, run_from, state_behind, told_by}
+use Rattle.jmodel.specs.jmachine.Runs.{next_at, Run, after, ended_by, ending, next, run_from, state_behind, told_by}
 use Rattle.jmodel.proofs.JmachineProofs.Courses as courses
 use Rattle.jmodel.specs.declared.jrun.stepping.Stepped.{Stepped}
 use Rattle.jmodel.specs.declared.jrun.stepping.Stepped.TheVariants as done

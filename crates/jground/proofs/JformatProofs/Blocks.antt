@@ -7,7 +7,8 @@ use Rattle.std.proofs.lemmas.List.{take_at, drop_at, take-append-drop, length-ap
 use Rattle.std.proofs.lemmas.List.Concat.{flat_map-cons}
 use Rattle.jground.specs.jbase.Stops.{◌>>=◌}
 use Rattle.jground.specs.declared.jformat.error.Fault.{Fault}
-use Rattle.jground.specs.jformat.Format.{IsBytes, Answer, Format, fault, fault_at, run_at}
+use Rattle.jground.specs.jformat.Format.{IsBytes, Answer, Format, fault, run_at}
+use Rattle.jground.specs.ProofNames.{fault_at}
 use Rattle.jground.specs.jformat.Bodies.{Body, all, whole, outward, inner_at, block, sized, times_at, counted, counted_at, many, many_at}
 use Rattle.jground.proofs.JformatProofs.Steps.{IsBytes-drop, IsBytes-take, IsBytes-rest, bind_ok, bind_err, guard_ok, guard_err, guard_ended, guard_cut, ok_is, both, first_true, second_true, fault_within}
 use Rattle.jground.proofs.JformatProofs.Laws.{IsReading, IsFormat, HasBytes, bind_reading}

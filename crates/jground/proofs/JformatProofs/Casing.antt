@@ -7,10 +7,18 @@ use Rattle.jground.specs.jbase.Stops.{◌>>=◌}
 use Rattle.jground.specs.declared.jformat.error.Fault.{Fault}
 use Rattle.jground.specs.jformat.Format.{IsBytes, Answer, Format, fault, part_fits}
 use Rattle.jground.specs.jformat.Tags.{is_in, apart}
-use Rattle.jground.specs.jformat.Cases.{Cases, case, case_spell, made_of, sole, ◌∣◌, union, union_at, IsOnce}
+use Rattle.jground.specs.jformat.Cases.{Cases, case, sole, ◌∣◌, union, union_at, IsOnce}
 use Rattle.jground.proofs.JformatProofs.Steps.{IsBytes-rest, bind_ok, ok_is, first_true, second_true, fault_within}
 use Rattle.jground.proofs.JformatProofs.Laws.{Takes, IsReading, IsFormat, HasBytes, void_law, ok_reading}
 use Rattle.jground.proofs.JformatProofs.Unions.{is_in_append, not_in_first, in_one, cond_reading}
+
+-- ---- names for what definitions say in place
+
+abbrev case_spell : {K P : Type 0} → ℕ → Format K P → Option P → List ℕ
+case_spell t f x = elim x [ Some p ↦ t ∷ f.spell p | None ↦ [] ]
+
+abbrev made_of : {A P : Type 0} → (P → A) → A → Option P → A
+made_of make a x = elim x [ Some p ↦ make p | None ↦ a ]
 
 pub record IsCases {K A : Type 0} (f : Cases K A) : Type 0 where
   pub owns : (t : ℕ) (rest : List ℕ) (x : A × List ℕ) → f.read t rest ≡ Ok x → f.has x.0 ≡ true

@@ -1,7 +1,7 @@
 -- The laws of formats: what is read is spelled so, what is spelled so is read again, a fault stands within the bytes, and
 -- the rest is no longer than the bytes.
 use Rattle.std.proofs.Common.{◌≡◌, ℕ, ◌^◌, ◌<◌, ◌≤◌, Bool, true, false, cond, ltb, eqb, List, [], ◌∷◌, ◌++◌, length, take, drop, Option, Some, None, Ok, Err, refl, sym, ap, subst, ◌∙◌, append_assoc, arith, inl, inr}
-use Rattle.std.specs.Prelude.{IsTrue}
+use Rattle.std.specs.Prelude.{IsTrue, ◌==◌, if◌then◌else◌}
 use Rattle.std.specs.Prelude.{ℤ}
 use Rattle.std.specs.Str.{bytes_eq}
 use Rattle.std.specs.Ordering.{int_eq}
@@ -15,8 +15,14 @@ use Rattle.std.proofs.lemmas.Bool.Decides.{Decides-int_eq}
 use Rattle.std.proofs.lemmas.Nat.{be_bytes_2, be_bytes_4, from_be_bytes-to_be_bytes_2, from_be_bytes-to_be_bytes_4, be_bytes_8, from_be_bytes-to_be_bytes_8}
 use Rattle.jground.specs.jbase.Stops.{◌>>=◌}
 use Rattle.jground.specs.declared.jformat.error.Fault.{Fault}
-use Rattle.jground.specs.jformat.Format.{IsBytes, Answer, Format, fault_at, void, byte, byte_at, number, number_at, signed, words, words_at, ◌·◌, ◌▹◌, via, as_case, part_spell, part_fits, is_number, known, after, ended, such, passed, is_good, literal}
+use Rattle.jground.specs.jformat.Format.{IsBytes, Answer, Format, void, byte, number, number_at, signed, words, words_at, ◌·◌, ◌▹◌, via, as_case, part_fits, known, after, ended, such, passed, is_good, literal, part_spell}
+use Rattle.jground.specs.ProofNames.{byte_at, fault_at}
 use Rattle.jground.proofs.JformatProofs.Steps.{IsBytes-drop, IsBytes-take, IsBytes-rest, bind_ok, bind_err, guard_ok, guard_err, guard_ended, guard_cut, ok_is, both, first_true, second_true, fault_within, passed_ok, passed_none, passed_err}
+
+-- ---- names for what definitions say in place
+
+abbrev is_number : ℕ → ℕ → Option (Unit {0})
+is_number n k = if k == n then Some tt else None
 
 -- ---- the laws
 

@@ -5,7 +5,7 @@ use Rattle.std.specs.List.{flat_map, list_all}
 use Rattle.std.proofs.lemmas.List.Concat.{flat_map-cons}
 use Rattle.jground.specs.jbase.Stops.{◌>>=◌}
 use Rattle.jground.specs.declared.jformat.error.Fault.{Fault}
-use Rattle.jground.specs.jformat.Format.{Answer, Format, ◌·◌, ◌▹◌, via, as_case, part_spell, part_fits, such, passed, is_good}
+use Rattle.jground.specs.jformat.Format.{Answer, Format, ◌·◌, ◌▹◌, via, as_case, part_fits, such, passed, is_good, part_spell}
 use Rattle.jground.specs.jformat.Bodies.{Body, sized, block, counted, times_at}
 use Rattle.jground.specs.jformat.Passes.{passes, ahead}
 use Rattle.jground.proofs.JformatProofs.Steps.{bind_ok, bind_err, ok_is, both, first_true, second_true, passed_none, passed_err}

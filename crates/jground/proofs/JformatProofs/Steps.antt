@@ -5,7 +5,8 @@ use Rattle.std.proofs.lemmas.Bool.{cases_lt}
 use Rattle.std.proofs.lemmas.List.{get_or-drop, get_or-take, get_or_past, length-take}
 use Rattle.jground.specs.jbase.Stops.{◌>>=◌}
 use Rattle.jground.specs.declared.jformat.error.Fault.{Fault}
-use Rattle.jground.specs.jformat.Format.{IsBytes, fault_at, passed, is_good, unless_fault}
+use Rattle.jground.specs.jformat.Format.{IsBytes, passed, is_good, unless_fault}
+use Rattle.jground.specs.ProofNames.{fault_at}
 
 pub IsBytes-drop : (n : ℕ) (bytes : List ℕ) → IsBytes bytes → IsBytes (drop n bytes)
 IsBytes-drop n bytes h i = rw get_or-drop (h (n + i))

@@ -12,7 +12,7 @@ use Rattle.jground.specs.declared.jops.value.Value.{Value}
 use Rattle.jground.specs.declared.jops.value.Value.TheVariants.{Int, Long, Ref, Ctx}
 use Rattle.jground.specs.declared.jops.value.DivideByZero.{DivideByZero}
 use Rattle.jground.specs.jops.Operations.{two, one, divide, on_int, on_long, on_ints, on_longs, on_long_and_int, unless_zero, same, int, long}
-use Rattle.jground.specs.jops.Operations.{int_quotient, int_remainder, long_quotient, long_remainder}
+use Rattle.jground.specs.ProofNames.{int_quotient, int_remainder, long_quotient, long_remainder}
 use Rattle.jground.specs.jops.Kinds.{is_of, TwoByKinds, TwoGives, OneByKinds, OneGives, DivisionByKinds, DivisionGives, TestByKinds}
 
 -- ---- whether there is a value

@@ -4,7 +4,8 @@ use Rattle.std.specs.Prelude.{IsTrue}
 use Rattle.std.specs.List.{flat_map, list_all}
 use Rattle.std.proofs.lemmas.Bool.{cases_Bool, ltb-true, ltb-false, leb-true, le-leb, lt-ltb, le-ltb, eqb-true}
 use Rattle.jground.specs.declared.jformat.error.Fault.{Fault}
-use Rattle.jground.specs.jformat.Format.{IsBytes, fault, fault_at}
+use Rattle.jground.specs.jformat.Format.{IsBytes, fault}
+use Rattle.jground.specs.ProofNames.{fault_at}
 use Rattle.jground.proofs.JformatProofs.Steps.{IsBytes-rest, ok_is, first_true, second_true, both, fault_within}
 use Rattle.jground.proofs.JformatProofs.Laws.{IsFormat}
 use Rattle.jground.proofs.JformatProofs.Blocks.{IsBody, many_law}

@@ -29,15 +29,12 @@ outward behind x = elim x [ Ok a ↦ Ok a | Err d ↦ Err (record { left = d.lef
 abbrev pub inner_at : {K A : Type 0} → K → (List ℕ → Result A (Fault K)) → ℕ → List ℕ → Answer K A
 inner_at cut read n bytes = run_at cut n bytes >>= λ r. outward (length r.1) (read r.0) >>= λ a. Ok (a, r.1)
 
-abbrev pub block_at : {K A : Type 0} → (List ℕ → Answer K ℕ) → K → (List ℕ → Result A (Fault K)) → List ℕ → Answer K A
-block_at count cut read bytes = count bytes >>= λ n. inner_at cut read n.0 n.1
-
 -- a text behind the number of its bytes
 abbrev pub block : {K A : Type 0} → Format K ℕ → K → Body K A → Format K A
 block count cut f = record {
   spell = λ a. count.spell (length (f.spell a)) ++ f.spell a;
   fits = λ a. f.fits a && count.fits (length (f.spell a));
-  read = block_at count.read cut f.read;
+  read = λ bytes. count.read bytes >>= λ n. inner_at cut f.read n.0 n.1;
 }
 
 -- bytes behind their number

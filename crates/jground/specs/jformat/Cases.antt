@@ -19,22 +19,16 @@ pub record Cases (K A : Type 0) : Type 0 where
   -- the value, made again of its parts
   pub made : A → A
 
-abbrev pub case_spell : {K P : Type 0} → ℕ → Format K P → Option P → List ℕ
-case_spell t f x = elim x [ Some p ↦ t ∷ f.spell p | None ↦ [] ]
-
-abbrev pub made_of : {A P : Type 0} → (P → A) → A → Option P → A
-made_of make a x = elim x [ Some p ↦ make p | None ↦ a ]
-
 -- a form: its first byte, how its values are made of their parts, which parts a value has, and the parts' format
 abbrev pub case : {K A P : Type 0} → ℕ → (P → A) → (A → Option P) → Format K P → Cases K A
 case t make parts f = record {
   begins = t ∷ [];
   has = λ a. is_some (parts a);
-  spell = λ a. case_spell t f (parts a);
+  spell = λ a. elim (parts a) [ Some p ↦ t ∷ f.spell p | None ↦ [] ];
   fits = λ a. part_fits f (parts a);
   read = λ _ rest. f.read rest >>= λ x. Ok (make x.0, x.1);
   once = λ _. true;
-  made = λ a. made_of make a (parts a);
+  made = λ a. elim (parts a) [ Some p ↦ make p | None ↦ a ];
 }
 
 -- a form of two parts, whose constructor takes one behind the other

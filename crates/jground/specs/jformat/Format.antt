@@ -6,12 +6,8 @@ use Rattle.std.specs.Ordering.{int_eq}
 use Rattle.jground.specs.jbase.Stops.{◌>>=◌}
 use Rattle.jground.specs.declared.jformat.error.Fault.{Fault}
 
--- A fault where these bytes are left.
-abbrev pub fault_at : {K : Type 0} → K → List ℕ → Fault K
-fault_at kind bytes = record { left = length bytes; kind = kind }
-
 abbrev pub fault : {K A : Type 0} → K → List ℕ → Result A (Fault K)
-fault kind bytes = Err (fault_at kind bytes)
+fault kind bytes = Err (record { left = length bytes; kind = kind })
 
 abbrev pub IsBytes : List ℕ → Type 0
 IsBytes bytes = (i : ℕ) → get_or bytes i 0 < 256
@@ -31,12 +27,9 @@ pub record Format (K A : Type 0) : Type 0 where
 abbrev pub void : {K : Type 0} → Format K (Unit {0})
 void = record { spell = λ _. []; fits = λ _. true; read = λ bytes. Ok (tt, bytes) }
 
-abbrev pub byte_at : {K : Type 0} → K → List ℕ → Answer K ℕ
-byte_at cut x = elim x [ [] ↦ fault cut [] | b ∷ rest ↦ Ok (b, rest) ]
-
 -- a byte
 abbrev pub byte : {K : Type 0} → K → Format K ℕ
-byte cut = record { spell = λ n. n ∷ []; fits = λ n. nat_lt n 256; read = byte_at cut }
+byte cut = record { spell = λ n. n ∷ []; fits = λ n. nat_lt n 256; read = elim [ [] ↦ fault cut [] | b ∷ rest ↦ Ok (b, rest) ] }
 
 abbrev pub number_at : {K : Type 0} → Width → K → List ℕ → Answer K ℕ
 number_at w cut bytes = if nat_lt (length bytes) (byte_len w) then fault cut bytes else Ok (from_be_bytes w (take (byte_len w) bytes), drop (byte_len w) bytes)
@@ -101,12 +94,9 @@ as_case make parts f = record {
   read = λ bytes. f.read bytes >>= λ x. Ok (make x.0, x.1);
 }
 
-abbrev pub is_number : ℕ → ℕ → Option (Unit {0})
-is_number n k = if k == n then Some tt else None
-
 -- a number that is known before, of which the bytes tell nothing
 abbrev pub known : {K : Type 0} → ℕ → Format K ℕ
-known n = as_case (λ _. n) (is_number n) void
+known n = as_case (λ _. n) (λ k. if k == n then Some tt else None) void
 
 -- these very bytes in front of a value
 abbrev pub after : {K A : Type 0} → K → List ℕ → Format K A → Format K A

@@ -15,12 +15,6 @@ apart (t ∷ ts) us = not (is_in t us) && apart ts us
 
 -- ---- rows of a table
 
-abbrev pub row_spell : {K R A : Type 0} → (R → Format K A) → ℕ → A → Result R K → List ℕ
-row_spell f t a x = elim x [ Ok r ↦ t ∷ (f r).spell a | Err k ↦ [] ]
-
-abbrev pub row_fits : {K R A : Type 0} → (R → Format K A) → A → Result R K → Bool
-row_fits f a x = elim x [ Ok r ↦ (f r).fits a | Err k ↦ false ]
-
 abbrev pub row_read : {K R A : Type 0} → (R → Format K A) → ℕ → List ℕ → Result R K → Answer K (ℕ × A)
 row_read f t rest y = elim y [ Ok r ↦ (f r).read rest >>= λ x. Ok ((t, x.0), x.1) | Err k ↦ fault k (t ∷ rest) ]
 
@@ -30,7 +24,7 @@ rows_at cut row f x = elim x [ [] ↦ fault cut [] | t ∷ rest ↦ row_read f t
 -- a byte, and what the byte's row in a table says
 abbrev pub rows : {K R A : Type 0} → K → (ℕ → Result R K) → (R → Format K A) → Format K (ℕ × A)
 rows cut row f = record {
-  spell = λ p. row_spell f p.0 p.1 (row p.0);
-  fits = λ p. nat_lt p.0 256 && row_fits f p.1 (row p.0);
+  spell = λ p. elim (row p.0) [ Ok r ↦ p.0 ∷ (f r).spell p.1 | Err k ↦ [] ];
+  fits = λ p. nat_lt p.0 256 && (elim (row p.0) [ Ok r ↦ (f r).fits p.1 | Err k ↦ false ]);
   read = rows_at cut row f;
 }

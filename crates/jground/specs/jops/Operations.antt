@@ -109,21 +109,11 @@ is_zero _ = false
 abbrev pub unless_zero : {K : Type 0} → ℤ → Value K → Result (Value K) DivideByZero
 unless_zero y v = if int_eq y (pos 0) then Err (record {}) else Ok v
 
--- `int_div` rounds toward zero, and `int_rem` is what it leaves, with the sign of x
-abbrev pub int_quotient : {K : Type 0} → ℤ → ℤ → Result (Value K) DivideByZero
-int_quotient x y = unless_zero y (int (int_div x y))
-
-abbrev pub int_remainder : {K : Type 0} → ℤ → ℤ → Result (Value K) DivideByZero
-int_remainder x y = unless_zero y (Int (int_rem x y))
-
-abbrev pub long_quotient : {K : Type 0} → ℤ → ℤ → Result (Value K) DivideByZero
-long_quotient x y = unless_zero y (long (int_div x y))
-
-abbrev pub long_remainder : {K : Type 0} → ℤ → ℤ → Result (Value K) DivideByZero
-long_remainder x y = unless_zero y (Long (int_rem x y))
-
 unfoldable pub divide : {K : Type 0} → Division → Value K → Value K → Option (Result (Value K) DivideByZero)
-divide x = elim x [ Idiv ↦ on_ints int_quotient | Irem ↦ on_ints int_remainder | Ldiv ↦ on_longs long_quotient | Lrem ↦ on_longs long_remainder ]
+divide Idiv = on_ints (λ x y. unless_zero y (int (int_div x y)))
+divide Irem = on_ints (λ x y. unless_zero y (Int (int_rem x y)))
+divide Ldiv = on_longs (λ x y. unless_zero y (long (int_div x y)))
+divide Lrem = on_longs (λ x y. unless_zero y (Long (int_rem x y)))
 
 -- two ints or two references are one
 abbrev pub same : {K : Type 0} → Value K → Value K → Option Bool

@@ -3,7 +3,8 @@ ghost use Rattle.std.specs.Int.{w32};
 ghost use Rattle.jground.specs.jbase.Stops.{Gives};
 ghost use Rattle.jground.specs.declared.jformat.error.Fault.{Fault};
 ghost use Rattle.jground.specs.jformat.Format.{number_at};
-ghost use Rattle.jground.specs.jformat.Bodies.{block_at, inner_at};
+ghost use Rattle.jground.specs.jformat.Bodies.{inner_at};
+ghost use Rattle.jground.specs.ProofNames.{block_at};
 
 use crate::jbase::Stop;
 use crate::jformat::error::{Fault, ReadError};

@@ -1,7 +1,8 @@
 ghost use Rattle.std.specs.Prelude.{◌≡◌};
 ghost use Rattle.std.specs.Int.{w16};
 ghost use Rattle.jground.specs.jbase.Stops.{Gives};
-ghost use Rattle.jground.specs.jformat.Format.{fault_at, number, run_at, words_at};
+ghost use Rattle.jground.specs.jformat.Format.{number, run_at, words_at};
+ghost use Rattle.jground.specs.ProofNames.{fault_at};
 ghost use Rattle.jground.specs.jformat.Bodies.{sized};
 
 use crate::jbase::{Seq, Stop};

@@ -1,5 +1,6 @@
 ghost use Rattle.std.specs.Prelude.{◌≡◌, Some, IsSome, is_err};
 ghost use Rattle.jground.specs.jops.Operations;
+ghost use Rattle.jground.specs.ProofNames;
 ghost use Rattle.jground.specs.jops.Operations.{is_zero};
 
 use crate::jnames::Division;
@@ -9,7 +10,7 @@ use crate::jops::{ints, longs};
 
 #[inline]
 fn int_quotient(x: i32, y: i32) -> Result<Value, DivideByZero>
-    ensures { result ≡ Operations.int_quotient x y }
+    ensures { result ≡ ProofNames.int_quotient x y }
 {
     if y == 0 {
         return Err(DivideByZero);
@@ -19,7 +20,7 @@ fn int_quotient(x: i32, y: i32) -> Result<Value, DivideByZero>
 
 #[inline]
 fn int_remainder(x: i32, y: i32) -> Result<Value, DivideByZero>
-    ensures { result ≡ Operations.int_remainder x y }
+    ensures { result ≡ ProofNames.int_remainder x y }
 {
     if y == 0 {
         return Err(DivideByZero);
@@ -29,7 +30,7 @@ fn int_remainder(x: i32, y: i32) -> Result<Value, DivideByZero>
 
 #[inline]
 fn long_quotient(x: i64, y: i64) -> Result<Value, DivideByZero>
-    ensures { result ≡ Operations.long_quotient x y }
+    ensures { result ≡ ProofNames.long_quotient x y }
 {
     if y == 0 {
         return Err(DivideByZero);
@@ -39,7 +40,7 @@ fn long_quotient(x: i64, y: i64) -> Result<Value, DivideByZero>
 
 #[inline]
 fn long_remainder(x: i64, y: i64) -> Result<Value, DivideByZero>
-    ensures { result ≡ Operations.long_remainder x y }
+    ensures { result ≡ ProofNames.long_remainder x y }
 {
     if y == 0 {
         return Err(DivideByZero);

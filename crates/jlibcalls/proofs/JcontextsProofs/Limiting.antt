@@ -17,7 +17,8 @@ use Rattle.jprogram.specs.declared.part.ClassRef.TheVariants as refs
 use Rattle.jprogram.specs.Classes.{Program}
 use Rattle.jmodel.specs.jmachine.Arrays.{items_in}
 use Rattle.jmodel.specs.jmachine.Objects.{Object}
-use Rattle.jmodel.specs.jmachine.Privileges.{all_limits, limit, limits, limits_in, with_limit}
+use Rattle.jmodel.specs.jmachine.Privileges.{all_limits, limit, limits, with_limit}
+use Rattle.jmodel.specs.ProofNames.{limits_in}
 use Rattle.jmodel.specs.jmachine.Security.{permission_in}
 use Rattle.jmodel.specs.jmachine.Store.{Store, object_at}
 use Rattle.jmodel.specs.declared.jstate.shapes.Shape.{Shape}

@@ -17,7 +17,8 @@ use Rattle.jlib.specs.declared.classes.Thrown.{Thrown as ThrownClass}
 use Rattle.jprogram.specs.declared.member.Member.{Member}
 use Rattle.jmodel.specs.jmachine.Acts.{Row}
 use Rattle.jmodel.specs.jmachine.Doing.{run}
-use Rattle.jmodel.specs.jmachine.Library.{library, object_init}
+use Rattle.jmodel.specs.jmachine.Library.{library}
+use Rattle.jmodel.specs.ProofNames.{object_init}
 use Rattle.jmodel.specs.jmachine.Permissions as permissions
 use Rattle.jmodel.specs.jmachine.Security.{Rules}
 use Rattle.jmodel.specs.jmachine.Sites.{Site}

@@ -7,7 +7,7 @@ use Rattle.jlib.specs.declared.calls.Piece.{Piece}
 use Rattle.jlib.specs.declared.calls.StringCall.TheVariants as strings
 use Rattle.jlib.specs.declared.calls.ThrownInit.TheVariants as given
 use Rattle.jmodel.specs.jmachine.Acts.{Row}
-use Rattle.jmodel.specs.jmachine.Library.{object_init}
+use Rattle.jmodel.specs.ProofNames.{object_init}
 use Rattle.jmodel.specs.jmachine.Store.{Store}
 use Rattle.jmodel.specs.jmachine.Texts.{builder, print, print_end, string}
 use Rattle.jmodel.specs.jmachine.Throwables as throwables

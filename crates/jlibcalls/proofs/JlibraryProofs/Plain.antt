@@ -21,13 +21,14 @@ use Rattle.jlib.specs.declared.classes.LibClass.TheVariants as lib
 use Rattle.jlib.specs.declared.classes.Thrown.{Thrown as ThrownClass}
 use Rattle.jlib.specs.declared.classes.Thrown.TheVariants as thrown
 use Rattle.jmodel.specs.jmachine.Acts.{Act, Goes, Raises, Row}
-use Rattle.jmodel.specs.jmachine.Library.{library, object_init}
+use Rattle.jmodel.specs.jmachine.Library.{library}
+use Rattle.jmodel.specs.ProofNames.{object_init, char_at}
 use Rattle.jmodel.specs.jmachine.Making.{tested, text_made}
 use Rattle.jmodel.specs.jmachine.Narrowing.{place}
 use Rattle.jmodel.specs.jmachine.Permissions as permissions
 use Rattle.jmodel.specs.jmachine.Sites.{Site}
 use Rattle.jmodel.specs.jmachine.Store.{Store, object_at}
-use Rattle.jmodel.specs.jmachine.Texts.{appended, built, builder, char_at, equals, print, print_end, printed, string, unit_given, units}
+use Rattle.jmodel.specs.jmachine.Texts.{appended, built, builder, equals, print, print_end, printed, string, unit_given, units}
 use Rattle.jmodel.specs.jmachine.Throwables as throwables
 use Rattle.jlibcalls.specs.jlibrary.Values.{one_in, two_in}
 use Rattle.jlibcalls.proofs.JlibraryProofs.Operands.{one_is, two_is}

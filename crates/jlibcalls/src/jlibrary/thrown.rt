@@ -2,7 +2,7 @@ ghost use Rattle.std.specs.Prelude.{◌≡◌, ◌≤◌, [], ℕ, Some, length,
 ghost use Rattle.jlib.specs.declared.calls.ThrownInit.TheVariants as given;
 ghost use Rattle.jground.specs.declared.jops.value.Value.{Value as Held};
 ghost use Rattle.jmodel.specs.jmachine.Calls.{receiver};
-ghost use Rattle.jmodel.specs.jmachine.Library.{object_init as object_row};
+ghost use Rattle.jmodel.specs.ProofNames.{object_init as object_row};
 ghost use Rattle.jmodel.specs.jmachine.Throwables.{init as init_row, message as message_row};
 ghost use Rattle.jmodel.specs.jmachine.Store.{Store};
 ghost use Rattle.jmodel.specs.jstate.Celled.{StayCelled};

@@ -39,9 +39,10 @@ use Rattle.jprogram.specs.Members.{init, lib_method, looked_up, method_at, metho
 use Rattle.jprogram.proofs.Standing.{Stands, Users, Libs, Nowhere, stands}
 use Rattle.jmeaning.specs.declared.juses.meaning.How.{How}
 use Rattle.jmeaning.specs.declared.juses.meaning.How.TheVariants as how
-use Rattle.jmeaning.specs.juses.Instructions.{Used, array, by_form, instruction, instruction_at}
+use Rattle.jmeaning.specs.juses.Instructions.{Used, by_form, instruction, instruction_at}
+use Rattle.jmeaning.specs.ProofNames.{array, array_made, class_meant, made}
 use Rattle.jmeaning.specs.juses.Meanings as meanings
-use Rattle.jmeaning.specs.juses.Meanings.{AClass, AConstant, AField, AMethod, CallMeaning, EntryMeaning, Meaning, array_made, array_meant, call_as, call_meant, class_meant, entry_meant, field_entry, field_meant, how_of, made, meant, method_entry, reference, used}
+use Rattle.jmeaning.specs.juses.Meanings.{AClass, AConstant, AField, AMethod, CallMeaning, EntryMeaning, Meaning, array_meant, call_as, call_meant, entry_meant, field_entry, field_meant, how_of, meant, method_entry, reference, used}
 use Rattle.jmeaning.specs.juses.Typed.{Called, Held, Typed, Untyped, array_over, class_type, name, typed}
 use Rattle.jlinking.specs.declared.jreferring.judged.Judged.{Judged}
 use Rattle.jlinking.specs.declared.jreferring.judged.Judged.TheVariants as judged
@@ -51,8 +52,9 @@ use Rattle.jlinking.specs.declared.jreferring.judged.Sort.{Sort}
 use Rattle.jlinking.specs.declared.jreferring.judged.Sort.TheVariants as sort
 use Rattle.jlinking.specs.jreferring.Entries as judging
 use Rattle.jlinking.specs.jreferring.Entries.{entry_of, judge, judge_pool}
-use Rattle.jlinking.specs.jreferring.References.{access_test, call_left_out_test, call_member_test, call_test, call_use_test, called_by_interface_test, called_test, calls_static, counts, differs, facts_of, interface_member_test, interface_test, is_miscalled, is_misused}
-use Rattle.jlinking.specs.jreferring.Units.{form_test, member_at, member_in, or_no_member}
+use Rattle.jlinking.specs.jreferring.References.{access_test, call_left_out_test, call_test, call_use_test, called_by_interface_test, called_test, counts, differs, facts_of, interface_test, is_miscalled, is_misused}
+use Rattle.jlinking.specs.ProofNames.{call_member_test, calls_static, interface_member_test, member_in}
+use Rattle.jlinking.specs.jreferring.Units.{form_test, member_at, or_no_member}
 use Rattle.jlinking.specs.jlink.Called.{IsNamedCall, begins}
 use Rattle.jlinking.specs.jlink.Links.{Links}
 use Rattle.jlinking.proofs.JlinkProofs.Coded.{IsCoded, at_code, coded}

@@ -20,7 +20,8 @@ use Rattle.jparts.specs.declared.jcode.op.Op.{Op}
 use Rattle.jparts.specs.declared.jcode.op.Op.TheVariants as ops
 use Rattle.jparts.specs.declared.jcode.op.Placed.{Placed}
 use Rattle.jparts.specs.declared.jcode.op.Switch.{Switch as SwitchOp}
-use Rattle.jparts.specs.jcode.Forms.{branches, distance, form, ldc_index}
+use Rattle.jparts.specs.jcode.Forms.{branches, form}
+use Rattle.jparts.specs.ProofNames.{distance, ldc_index}
 use Rattle.jparts.specs.jcode.Instructions.{lands, leads}
 use Rattle.jclass.specs.declared.class.ClassParts.{ClassParts}
 use Rattle.jclass.specs.declared.class.CodeBody.{CodeBody}
@@ -31,7 +32,8 @@ use Rattle.jprogram.specs.declared.member.MethodId.{MethodId}
 use Rattle.jprogram.specs.declared.part.CodePart.{CodePart}
 use Rattle.jprogram.specs.Parts.{code_of, this_name}
 use Rattle.jprogram.specs.Classes.{Program}
-use Rattle.jmeaning.specs.juses.Instructions.{Array, Instruction, Local, Simple, Stack, Used, array, body_in, by_form, code_at, instruction, instruction_at, instruction_in, targets}
+use Rattle.jmeaning.specs.juses.Instructions.{Array, Instruction, Local, Simple, Stack, Used, body_in, by_form, code_at, instruction, instruction_at, instruction_in, targets}
+use Rattle.jmeaning.specs.ProofNames.{array}
 use Rattle.jmeaning.specs.juses.Meanings.{array_meant, meant}
 use Rattle.jlinking.specs.jreferring.Entries.{judge_pool}
 use Rattle.jlinking.specs.jreferring.Units.{form_test}

@@ -28,7 +28,8 @@ use Rattle.jprogram.specs.Classes.{Class, Lib, Program, User, find, found_at, pl
 use Rattle.jprogram.specs.Members.{field_at, field_in, init, lib_field, lib_method, method_at, method_id, method_in, resolve_field, resolve_method}
 use Rattle.jprogram.specs.Naming.{naming_fault}
 use Rattle.jprogram.specs.Supers.{supers_fault}
-use Rattle.jlinking.specs.jmembers.Declares.{again_test, at_member, class_fault, desc_left_out, field_left_out, field_left_out_test, field_test, fields_fault, members_fault, method_left_out, method_left_out_test, method_test, methods_fault, param_left_out, return_left_out, text_left_out, types_test}
+use Rattle.jlinking.specs.jmembers.Declares.{again_test, at_member, desc_left_out, field_left_out, field_left_out_test, field_test, fields_fault, members_fault, method_left_out, method_left_out_test, method_test, methods_fault, param_left_out, text_left_out, types_test}
+use Rattle.jlinking.specs.ProofNames.{class_fault, return_left_out}
 use Rattle.jprogram.specs.LeftOut.{is_context, is_floating}
 use Rattle.jlinking.specs.jreferring.Code.{code_fault}
 use Rattle.jlinking.specs.jlink.Coded.{AreFiles}

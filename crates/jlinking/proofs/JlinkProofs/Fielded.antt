@@ -49,18 +49,19 @@ use Rattle.jprogram.specs.declared.part.ClassRef.TheVariants as refs
 use Rattle.jprogram.specs.declared.part.CodePart.{CodePart}
 use Rattle.jprogram.specs.Parts as parts
 use Rattle.jprogram.specs.Parts.{is_called, this_name}
-use Rattle.jprogram.specs.Classes.{Lib, Program, User, extends, face_names, find, holds, is_interface, known, name_at, named as named_class, object, over, superinterfaces, up}
+use Rattle.jprogram.specs.Classes.{Lib, Program, User, extends, face_names, find, holds, is_interface, known, name_at, object, over, superinterfaces, up, named as named_class}
 use Rattle.jprogram.specs.Members.{field_at, field_in, init, is_static, lib_field, looked_up, part_of, resolve_field, user_is}
 use Rattle.jprogram.specs.Standing.{StandsInOrder}
 use Rattle.jprogram.proofs.Extending.{interfaces_extend, object_find}
 use Rattle.jprogram.proofs.Implementing.{faces_are}
 use Rattle.jprogram.proofs.Settling.{name_equal, or_right}
 use Rattle.jprogram.proofs.Standing.{Stands, Users, Libs, Nowhere, all_append, stands}
-use Rattle.jmeaning.specs.juses.Instructions.{Instruction, Jump, Switch, Test, Used, If, IfInt, IfRef, Always, array, body_in, by_form, cases, code_at, default, flow, instruction, instruction_at, instruction_in, jump, switch, target}
+use Rattle.jmeaning.specs.juses.Instructions.{Instruction, Jump, Switch, Test, Used, If, IfInt, IfRef, Always, body_in, by_form, cases, code_at, default, flow, instruction, instruction_at, instruction_in, jump, switch, target}
+use Rattle.jmeaning.specs.ProofNames.{array, array_made, class_meant, held, made}
 use Rattle.jmeaning.specs.juses.Meanings as meanings
-use Rattle.jmeaning.specs.juses.Meanings.{AClass, AConstant, AField, AMethod, EntryMeaning, FieldMeaning, Meaning, array_made, array_meant, class_meant, entry_meant, field_as, field_entry, field_meant, made, meant, method_entry, reference, used}
+use Rattle.jmeaning.specs.juses.Meanings.{AClass, AConstant, AField, AMethod, EntryMeaning, FieldMeaning, Meaning, array_meant, entry_meant, field_as, field_entry, field_meant, meant, method_entry, reference, used}
 use Rattle.jmeaning.specs.juses.Typed as says
-use Rattle.jmeaning.specs.juses.Typed.{Called, Held, Typed, Untyped, array_over, called, class_type, element_in, held, name, there, type_in, type_of, typed, typed_as}
+use Rattle.jmeaning.specs.juses.Typed.{Called, Held, Typed, Untyped, array_over, called, class_type, element_in, name, there, type_in, type_of, typed, typed_as}
 use Rattle.jlinking.specs.declared.jreferring.judged.MemberFacts.{MemberFacts}
 use Rattle.jlinking.specs.declared.jreferring.judged.MemberUse.{MemberUse}
 use Rattle.jlinking.specs.declared.jreferring.judged.Sort.TheVariants as sort
@@ -69,7 +70,8 @@ use Rattle.jlinking.specs.jreferring.Entries.{judge, judge_pool}
 use Rattle.jlinking.specs.jreferring.Names.{is_array, type_named}
 use Rattle.jlinking.specs.jreferring.References as tests
 use Rattle.jlinking.specs.jreferring.References.{access_test, differs, facts_of, field_member_test, is_enter, misplaces_context, puts, takes_static}
-use Rattle.jlinking.specs.jreferring.Units.{form_test, member_at, member_in, or_no_member}
+use Rattle.jlinking.specs.jreferring.Units.{form_test, member_at, or_no_member}
+use Rattle.jlinking.specs.ProofNames.{member_in}
 use Rattle.jlinking.specs.jlink.Fields.{IsNamedField, is_plain}
 use Rattle.jlinking.specs.jlink.Links.{Links}
 use Rattle.jlinking.specs.jlink.Standing.{in_order}

@@ -1,6 +1,6 @@
 -- What fits as a class file: the entries that its instructions and its classes name, and the descriptors of its members.
 use Rattle.std.proofs.Common.{◌≡◌, ℕ, ◌≤◌, ◌⊎◌, Bool, true, false, List, [], ◌∷◌, zero, suc, length, Option, Some, None, refl, sym, ap, subst, ◌∙◌, inl, inr}
-use Rattle.std.specs.Prelude.{IsTrue, is_some, option_map, slice_get}
+use Rattle.std.specs.Prelude.{IsTrue, is_some, option_map, slice_get, option_and_then}
 use Rattle.std.specs.List.{AllByRecursion, list_all}
 use Rattle.std.specs.Option.{IsSome}
 use Rattle.std.proofs.lemmas.Bool.{leb-true}
@@ -14,7 +14,7 @@ use Rattle.jparts.specs.jpool.Descriptors.{field_of, is_field_descriptor, method
 use Rattle.jparts.specs.jpool.Entries as pools
 use Rattle.jparts.specs.jpool.Pools
 use Rattle.jparts.specs.jpool.Names.{is_class_name}
-use Rattle.jparts.specs.jpool.Pools.{class_name_at, text_in, utf8_at}
+use Rattle.jparts.specs.jpool.Pools.{class_name_at, utf8_at}
 use Rattle.jparts.proofs.JpoolProofs.Grown.{each_is, laid_slots}
 use Rattle.jparts.proofs.JpoolProofs.PoolLaws.{at_index}
 use Rattle.jparts.proofs.JpoolProofs.Spelling.{fits_spelling}
@@ -29,14 +29,16 @@ use Rattle.jclass.specs.declared.class.MemberInfo.{MemberInfo}
 use Rattle.jclass.specs.declared.fault.ClassFault.{ClassFault}
 use Rattle.jclass.specs.declared.fault.ClassFault.TheVariants as kinds
 use Rattle.jclass.specs.Basics.{access, index, pool_fault, u2}
-use Rattle.jclass.specs.Rules.{descriptor_fault, field_descriptor, is_plain_class, method_descriptor, most_slots, names_class, names_super, within}
+use Rattle.jclass.specs.Rules.{descriptor_fault, field_descriptor, method_descriptor, most_slots, names_class, names_super, within, is_plain_class}
+use Rattle.jclass.specs.ProofNames.{names_of}
 use Rattle.jclass.specs.Shapes
+use Rattle.jclass.specs.ProofNames
 use Rattle.jclass.specs.Judging
 use Rattle.jclass.specs.Judging.{entry_fault, no_fault}
 use Rattle.jclass.specs.Attributes.{class_attribute, field_attribute, saw_constant, text_index}
 use Rattle.jground.specs.jformat.States.{counted_from}
 use Rattle.jclass.specs.Codes.{behind_ops, code_content, code_length, ops}
-use Rattle.jclass.specs.Members.{body_of, codes_fault, field, method, method_attribute, method_parts, names_of}
+use Rattle.jclass.specs.Members.{body_of, codes_fault, field, method, method_attribute, method_parts}
 use Rattle.jclass.specs.Operands.{names_well}
 use Rattle.jclass.specs.Class.{TailParts, class_file, class_parts, strict, tail}
 use Rattle.jclass.specs.Stored.{HasCode, IsIn}
@@ -46,6 +48,7 @@ use Rattle.jprogram.specs.Parts.{code_of, member_desc, or_empty, text, this_name
 use Rattle.jprogram.specs.declared.part.CodePart.{CodePart}
 use Rattle.jlinking.specs.jlink.Coded.{IsFile}
 use Rattle.jlinking.proofs.JlinkProofs.Having.{first_in}
+use Rattle.jparts.specs.jpool.Entries.{utf8_parts}
 
 -- ---- instructions
 
@@ -84,7 +87,7 @@ head_fits c fit =
 shape_fits : (c : ClassParts) → IsTrue (Shapes.head.fits (class_parts c).0) → IsTrue (pools.shape.fits c.pool)
 unfolding Shapes.head Shapes.entries
 shape_fits c fit =
-    let a = second_true (Shapes.magic.fits tt) ((u2 · Shapes.major · Shapes.entries).fits (c.minor, (c.major, c.pool))) fit in
+    let a = second_true (ProofNames.magic.fits tt) ((u2 · Shapes.major · Shapes.entries).fits (c.minor, (c.major, c.pool))) fit in
     let b = second_true (u2.fits c.minor) ((Shapes.major · Shapes.entries).fits (c.major, c.pool)) a in
     second_true (Shapes.major.fits c.major) (Shapes.entries.fits c.pool) b
 
@@ -104,7 +107,7 @@ short_entry : (t : List ℕ) → (entries.Utf8 t ≡ entries.Unused) ⊎ IsTrue 
 short_entry t (inl e) = absurd cc
 short_entry t (inr fit) = leb-true (length t) 65535 (fits_spelling (entries.Utf8 t) fit)
 
-short_at : (pool : List Entry) (i : ℕ) (o : Option Entry) (t : List ℕ) → IsTrue (pools.shape.fits pool) → slice_get pool i ≡ o → text_in o ≡ Some t → length t ≤ 65535
+short_at : (pool : List Entry) (i : ℕ) (o : Option Entry) (t : List ℕ) → IsTrue (pools.shape.fits pool) → slice_get pool i ≡ o → option_and_then utf8_parts o ≡ Some t → length t ≤ 65535
 short_at pool i (Some (entries.Utf8 x)) t laid at is =
     let same : x ≡ t = cc in
     subst (λ (y : List ℕ). length y ≤ 65535) same (short_entry x (each_is pool (pools.first_slot (length pool)) i (entries.Utf8 x) (laid_slots pool laid) at))

@@ -1,7 +1,7 @@
 -- What each instruction by an entry of the pool means, where the tests of linking find nothing at it.
 use Rattle.std.proofs.Common.{◌≡◌, ℕ, suc, ◌≤◌, ◌⊎◌, Bool, true, false, ◌||◌, List, length, map, Option, Some, None, refl, sym, ap, ◌∙◌, arith, inl, inr}
 use Rattle.std.specs.Prelude.{is_some, option_and_then, option_map, slice_get}
-use Rattle.std.specs.Option.{IsSome}
+use Rattle.std.specs.Option.{IsSome, option_map_or}
 use Rattle.std.proofs.lemmas.Bool.{or_parts}
 use Rattle.std.proofs.lemmas.Option.{slice_get-map}
 use Rattle.jground.specs.jbase.First.{fault_if, or_else}
@@ -9,7 +9,7 @@ use Rattle.jground.proofs.JbaseProofs.Firsts.{none_of}
 use Rattle.jparts.specs.declared.jpool.entry.Entry.{Entry}
 use Rattle.jparts.specs.declared.jpool.entry.Entry.TheVariants as entries
 use Rattle.jparts.specs.jpool.Descriptors.{descriptor_of}
-use Rattle.jparts.specs.jpool.Pools.{name_and_type_at, name_in, utf8_at}
+use Rattle.jparts.specs.jpool.Pools.{name_and_type_at, utf8_at}
 use Rattle.jparts.specs.declared.jcode.form.PoolForm.{PoolForm}
 use Rattle.jparts.specs.declared.jcode.form.PoolForm.TheVariants as pool
 use Rattle.jparts.specs.declared.jcode.names.CallOp.{CallOp}
@@ -24,7 +24,8 @@ use Rattle.jprogram.specs.Parts.{class_text, or_empty, text}
 use Rattle.jprogram.specs.Classes.{Program, find, holds}
 use Rattle.jprogram.specs.Members.{looked_up, referred, resolve_field, resolve_method}
 use Rattle.jmeaning.specs.juses.Meanings as meanings
-use Rattle.jmeaning.specs.juses.Meanings.{AField, AMethod, CallMeaning, EntryMeaning, FieldMeaning, MakeArray, Meaning, Reference, array_made, array_meant, call_meant, class_meant, entry_meant, field_entry, field_meant, meant, method_entry, used}
+use Rattle.jmeaning.specs.juses.Meanings.{AField, AMethod, CallMeaning, EntryMeaning, FieldMeaning, MakeArray, Meaning, Reference, array_meant, call_meant, entry_meant, field_entry, field_meant, meant, method_entry, used}
+use Rattle.jmeaning.specs.ProofNames.{array_made, class_meant}
 use Rattle.jmeaning.specs.juses.Typed.{array_over, class_type}
 use Rattle.jlinking.specs.declared.jreferring.judged.ClassUse.{ClassUse}
 use Rattle.jlinking.specs.declared.jreferring.judged.MemberUse.{MemberUse}
@@ -32,15 +33,17 @@ use Rattle.jlinking.specs.declared.jreferring.judged.Sort.{Sort}
 use Rattle.jlinking.specs.declared.jreferring.judged.Sort.TheVariants as sort
 use Rattle.jlinking.specs.jreferring.Names.{desc_test, is_array, type_named, type_test}
 use Rattle.jlinking.specs.jreferring.Operands.{class_use, is_no_maker, is_unmade, new_test, operand_test}
-use Rattle.jlinking.specs.jreferring.References.{call_left_out_test, call_test, called_by_interface_test, called_test, facts_of, field_member_test, field_test, interface_test, names_test}
+use Rattle.jlinking.specs.jreferring.References.{call_left_out_test, call_test, called_by_interface_test, called_test, facts_of, field_member_test, field_test, interface_test}
+use Rattle.jlinking.specs.ProofNames.{names_test, class_in, member_in}
 use Rattle.jlinking.specs.jreferring.Entries.{desc_in, judge, reference}
-use Rattle.jlinking.specs.jreferring.Units.{class_in, constant_test, long_test, member_in, or_no_member, pool_test}
+use Rattle.jlinking.specs.jreferring.Units.{constant_test, long_test, or_no_member, pool_test}
 use Rattle.jlinking.specs.jlink.Coded.{AreFiles}
 use Rattle.jlinking.specs.jlink.Links.{Links}
 use Rattle.jlinking.proofs.JlinkProofs.Declared.{field_resolved, method_resolved}
 use Rattle.jlinking.proofs.JlinkProofs.Having.{has_some, map_has}
 use Rattle.jlinking.proofs.JlinkProofs.There.{called_has, field_has, interface_has, mapped_some, third_none}
 use Rattle.jlinking.proofs.JlinkProofs.Typed.{IsArrayText, class_is, field_says, method_says, no_fault, over_array, over_object}
+use Rattle.jparts.specs.jpool.Entries.{class_parts}
 
 -- ---- constants
 
@@ -116,7 +119,7 @@ field_by p links files from es op n class (Some b) none has =
     used_field op n (field_meant p (meanings.reference es class b))
     (field_pair p links files from (meanings.reference es class b) has ((none_of (type_test p from (type_named (class_text es class))) (desc_test p from (descriptor_of (text es b.1))) none).1))
 
-field_means : (p : Program) → Links p → AreFiles p → (from : List ℕ) (es : List Entry) (op : FieldOp) (n : ℕ) (e : Option Entry) → is_field e ≡ true → or_no_member (field_test op) (member_in (option_map (judge p from es) e)) ≡ None
+field_means : (p : Program) → Links p → AreFiles p → (from : List ℕ) (es : List Entry) (op : FieldOp) (n : ℕ) (e : Option Entry) → option_map_or is_field e false ≡ true → or_no_member (field_test op) (member_in (option_map (judge p from es) e)) ≡ None
     → IsSome (option_and_then (used (pool.Field op n)) (entry_meant p es e))
 unfolding judge reference entry_meant
 field_means p links files from es op n None kind none = absurd cc
@@ -141,7 +144,7 @@ field_means p links files from es op n (Some (entries.MethodType a)) kind none =
 field_means p links files from es op n (Some (entries.InvokeDynamic a b)) kind none = absurd cc
 
 -- getfield, putfield, getstatic, putstatic
-pub field_there : (p : Program) → Links p → AreFiles p → (from : List ℕ) (es : List Entry) (op : FieldOp) (n : ℕ) → is_field (slice_get es n) ≡ true → pool_test (map (judge p from es) es) (pool.Field op n) ≡ None → IsSome (meant p es (pool.Field op n))
+pub field_there : (p : Program) → Links p → AreFiles p → (from : List ℕ) (es : List Entry) (op : FieldOp) (n : ℕ) → option_map_or is_field (slice_get es n) false ≡ true → pool_test (map (judge p from es) es) (pool.Field op n) ≡ None → IsSome (meant p es (pool.Field op n))
 unfolding meant
 field_there p links files from es op n kind none =
     field_means p links files from es op n (slice_get es n) kind (sym (ap (λ o. or_no_member (field_test op) (member_in o)) (slice_get-map (judge p from es) es n)) ∙ none)
@@ -230,7 +233,7 @@ interface_there p links files from es n count kind none =
 
 class_means : (p : Program) (from : List ℕ) (es : List Entry) (f : EntryMeaning → Option Meaning) (test : ClassUse → Option LinkKind)
     → ((i : ℕ) → IsSome (utf8_at es i) → test (class_use p from (text es i)) ≡ None → IsSome (option_and_then f (class_meant p (utf8_at es i))))
-    → (e : Option Entry) → ((i : ℕ) → e ≡ Some (entries.Class i) → IsSome (utf8_at es i)) → is_some (name_in e) ≡ true → option_and_then test (class_in (option_map (judge p from es) e)) ≡ None → IsSome (option_and_then f (entry_meant p es e))
+    → (e : Option Entry) → ((i : ℕ) → e ≡ Some (entries.Class i) → IsSome (utf8_at es i)) → is_some (option_and_then class_parts e) ≡ true → option_and_then test (class_in (option_map (judge p from es) e)) ≡ None → IsSome (option_and_then f (entry_meant p es e))
 unfolding judge entry_meant
 class_means p from es f test by None named kind none = absurd cc
 class_means p from es f test by (Some entries.Unused) named kind none = absurd cc
@@ -269,7 +272,7 @@ cast_text : (p : Program) (from : List ℕ) (op : CastOp) (n : ℕ) (o : Option 
 cast_text p from op n None has none = absurd cc
 cast_text p from op n (Some t) has none = cast_sum p op n t (class_is p from t none)
 
-pub cast_there : (p : Program) (from : List ℕ) (es : List Entry) → NamesTexts es → (op : CastOp) (n : ℕ) → is_some (name_in (slice_get es n)) ≡ true → pool_test (map (judge p from es) es) (pool.Cast op n) ≡ None → IsSome (meant p es (pool.Cast op n))
+pub cast_there : (p : Program) (from : List ℕ) (es : List Entry) → NamesTexts es → (op : CastOp) (n : ℕ) → is_some (option_and_then class_parts (slice_get es n)) ≡ true → pool_test (map (judge p from es) es) (pool.Cast op n) ≡ None → IsSome (meant p es (pool.Cast op n))
 unfolding meant
 cast_there p from es named op n kind none =
     class_means p from es (used (pool.Cast op n)) operand_test (λ i has e. cast_text p from op n (utf8_at es i) has e) (slice_get es n) (named n) kind (class_at p from es operand_test n none)
@@ -292,7 +295,7 @@ new_text p from n (Some t) has none =
     let single = (or_parts (is_array (type_named t)) (holds is_unmade (find p (type_named t).class)) made).0 in
     new_sum p n t single (class_is p from t tests.0)
 
-pub new_there : (p : Program) (from : List ℕ) (es : List Entry) → NamesTexts es → (n : ℕ) → is_some (name_in (slice_get es n)) ≡ true → pool_test (map (judge p from es) es) (pool.New n) ≡ None → IsSome (meant p es (pool.New n))
+pub new_there : (p : Program) (from : List ℕ) (es : List Entry) → NamesTexts es → (n : ℕ) → is_some (option_and_then class_parts (slice_get es n)) ≡ true → pool_test (map (judge p from es) es) (pool.New n) ≡ None → IsSome (meant p es (pool.New n))
 unfolding meant
 new_there p from es named n kind none =
     class_means p from es (used (pool.New n)) new_test (λ i has e. new_text p from n (utf8_at es i) has e) (slice_get es n) (named n) kind (class_at p from es new_test n none)
@@ -312,7 +315,7 @@ array_text : (p : Program) (from : List ℕ) (o : Option (List ℕ)) → ((t : L
 array_text p from None short has none = absurd cc
 array_text p from (Some t) short has none = array_sum p t (short t refl) (class_is p from t none)
 
-pub array_there : (p : Program) (from : List ℕ) (es : List Entry) → NamesTexts es → ((i : ℕ) (t : List ℕ) → utf8_at es i ≡ Some t → length t ≤ 65535) → (n : ℕ) → is_some (name_in (slice_get es n)) ≡ true
+pub array_there : (p : Program) (from : List ℕ) (es : List Entry) → NamesTexts es → ((i : ℕ) (t : List ℕ) → utf8_at es i ≡ Some t → length t ≤ 65535) → (n : ℕ) → is_some (option_and_then class_parts (slice_get es n)) ≡ true
     → option_and_then operand_test (class_in (slice_get (map (judge p from es) es) n)) ≡ None → IsSome (array_meant p es n)
 unfolding array_meant
 array_there p from es named short n kind none =

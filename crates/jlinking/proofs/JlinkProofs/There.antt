@@ -25,7 +25,7 @@ use Rattle.jprogram.specs.Classes.{Program}
 use Rattle.jprogram.specs.Members.{referred, resolved}
 use Rattle.jprogram.specs.Naming.{naming_fault}
 use Rattle.jprogram.specs.Supers.{supers_fault}
-use Rattle.jlinking.specs.jmembers.Declares.{members_fault}
+use Rattle.jlinking.specs.jmembers.Declares.{members_fault, at_member as in_method}
 use Rattle.jlinking.specs.declared.jreferring.judged.Judged.{Judged}
 use Rattle.jlinking.specs.declared.jreferring.judged.MemberFacts.{MemberFacts}
 use Rattle.jlinking.specs.declared.jreferring.judged.MemberUse.{MemberUse}
@@ -33,8 +33,9 @@ use Rattle.jlinking.specs.declared.jreferring.judged.Sort.{Sort}
 use Rattle.jlinking.specs.declared.jreferring.judged.Sort.TheVariants as sort
 use Rattle.jlinking.specs.jreferring.References.{call_left_out_test, called_by_interface_test, call_test, called_test, facts_of, field_member_test, field_test, interface_test}
 use Rattle.jlinking.specs.jreferring.Entries.{entry_of, judge, judge_pool, reference}
-use Rattle.jlinking.specs.jreferring.Units.{form_test, member_at, member_in, op_test, or_no_member}
-use Rattle.jlinking.specs.jreferring.Code.{body_test, class_fault, code_fault, in_method, method_test}
+use Rattle.jlinking.specs.jreferring.Units.{form_test, member_at, op_test, or_no_member}
+use Rattle.jlinking.specs.ProofNames.{member_in}
+use Rattle.jlinking.specs.jreferring.Code.{body_test, class_fault, code_fault, method_test}
 use Rattle.jlinking.specs.jlink.Links.{Links, link_fault}
 use Rattle.jlinking.specs.jlink.Referred.{IsReferred, reference_of}
 

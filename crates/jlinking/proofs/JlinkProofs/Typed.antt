@@ -27,7 +27,8 @@ use Rattle.jprogram.specs.declared.fault.LinkKind.TheVariants.{LeftOut, NoClass,
 use Rattle.jprogram.specs.Classes.{Program, find}
 use Rattle.jprogram.specs.Members.{may_name}
 use Rattle.jprogram.specs.Supers.{is_missing}
-use Rattle.jmeaning.specs.juses.Typed.{Called, Held, Typed, array_over, called, class_by, class_of, class_type, element_in, held, name, return_in, there, type_in, type_of, typed, typed_as}
+use Rattle.jmeaning.specs.juses.Typed.{Called, Held, Typed, array_over, called, class_by, class_of, class_type, element_in, name, return_in, there, type_in, type_of, typed, typed_as}
+use Rattle.jmeaning.specs.ProofNames.{held}
 use Rattle.jmeaning.specs.juses.Typed as says
 use Rattle.jlinking.specs.jreferring.Names as names
 use Rattle.jlinking.specs.jreferring.Names.{array_or, class_test, desc_test, is_array, return_test, type_named, type_test}

@@ -10,7 +10,8 @@ use Rattle.jlib.specs.Classes.{open_classes}
 use Rattle.jprogram.specs.Classes.{Class, Lib, Program, User, find}
 use Rattle.jprogram.specs.Parts.{is_interface}
 use Rattle.jclass.specs.declared.class.ClassParts.{ClassParts}
-use Rattle.jlinking.specs.jmembers.Declares.{is_fixed, is_fixed_at, is_fixed_by, names_above}
+use Rattle.jlinking.specs.jmembers.Declares.{is_fixed, is_fixed_by, names_above}
+use Rattle.jlinking.specs.ProofNames.{is_fixed_at}
 
 not_first : (b : Bool) → (b || false) ≡ false → b ≡ false
 not_first true e = absurd cc

@@ -1,6 +1,6 @@
 -- The numbers of a pool's texts.
 use Rattle.std.proofs.Common.{◌≡◌, ℕ, ◌+◌, ◌≤◌, ◌<◌, Bool, true, false, cond, List, [], ◌∷◌, ◌++◌, length, get_or, take, Option, Some, None, refl, sym, ap, subst, ◌∙◌, arith, add-one, inl, inr}
-use Rattle.std.specs.Prelude.{not, option_map, slice_get}
+use Rattle.std.specs.Prelude.{not, option_map, slice_get, option_and_then}
 use Rattle.std.specs.List.{position, position_or_len}
 use Rattle.std.specs.Option.{option_or}
 use Rattle.std.specs.Str.{bytes_eq}
@@ -19,10 +19,11 @@ use Rattle.std.proofs.Math.Seq.{take-suc}
 use Rattle.jparts.proofs.JpoolProofs.Numbered.{position_push}
 use Rattle.jparts.specs.declared.jpool.entry.Entry.{Entry}
 use Rattle.jparts.specs.declared.jpool.entry.Entry.TheVariants.{Unused}
-use Rattle.jparts.specs.jpool.Pools.{text_in, utf8_at}
+use Rattle.jparts.specs.jpool.Pools.{utf8_at}
 use Rattle.jprogram.specs.Names.{Notes}
 use Rattle.jprogram.specs.Parts.{or_empty, text}
 use Rattle.jlinking.specs.jmembers.Known.{AreFirst, entry_text, has_text, number_of, numbers_of}
+use Rattle.jparts.specs.jpool.Entries.{utf8_parts}
 
 -- ---- the first places
 
@@ -56,7 +57,7 @@ placed test entries =
           rw (le-ltb (position_or_len test entries) (length entries) le) all
     ]
 
-at_entry : (entries : List Entry) (none : ℕ) (o : Option Entry) → none ≡ number_of entries [] → number_or none (option_map (λ e. number_of entries (entry_text e)) o) ≡ number_of entries (or_empty (text_in o))
+at_entry : (entries : List Entry) (none : ℕ) (o : Option Entry) → none ≡ number_of entries [] → number_or none (option_map (λ e. number_of entries (entry_text e)) o) ≡ number_of entries (or_empty (option_and_then utf8_parts o))
 at_entry entries none None is = is
 at_entry entries none (Some e) is = refl
 
@@ -70,11 +71,11 @@ number_at entries numbers none i is empty =
 
 text_within : (entries : List Entry) (i : ℕ) → i < length entries → text entries i ≡ entry_text (get_or entries i Unused)
 unfolding utf8_at
-text_within entries i lt = ap (λ (o : Option Entry). or_empty (text_in o)) (slice_get-get_or entries i Unused lt)
+text_within entries i lt = ap (λ (o : Option Entry). or_empty (option_and_then utf8_parts o)) (slice_get-get_or entries i Unused lt)
 
 text_past : (entries : List Entry) (i : ℕ) → length entries ≤ i → text entries i ≡ []
 unfolding utf8_at
-text_past entries i le = ap (λ (o : Option Entry). or_empty (text_in o)) (slice_get_past entries i le)
+text_past entries i le = ap (λ (o : Option Entry). or_empty (option_and_then utf8_parts o)) (slice_get_past entries i le)
 
 -- the text at a number is the one that has it
 text_found : (entries : List Entry) (i : ℕ) → number_of entries (text entries i) < length entries → entry_text (get_or entries (number_of entries (text entries i)) Unused) ≡ text entries i

@@ -52,13 +52,10 @@ param_left_out t = is_floating t || (is_context t && nat_lt 0 t.depth)
 abbrev pub type_left_out : FieldType → Bool
 type_left_out t = is_floating t || is_context t
 
-abbrev pub return_left_out : Option FieldType → Bool
-return_left_out = elim [ None ↦ false | Some t ↦ type_left_out t ]
-
 abbrev pub desc_left_out : Option Descriptor → Bool
 desc_left_out None = false
 desc_left_out (Some (descriptors.Field t)) = type_left_out t
-desc_left_out (Some (descriptors.Method params ret)) = list_any param_left_out params || return_left_out ret
+desc_left_out (Some (descriptors.Method params ret)) = list_any param_left_out params || (elim ret [ None ↦ false | Some t ↦ type_left_out t ])
 
 unfoldable pub text_left_out : List ℕ → Bool
 text_left_out desc = desc_left_out (descriptor_of desc)
@@ -97,13 +94,10 @@ field_left_out_test c m = fault_if (field_left_out c m || text_left_out (member_
 abbrev pub type_missing : Program → FieldType → Bool
 type_missing p t = is_class_sign t.base && is_missing p t.class
 
-abbrev pub return_missing : Program → Option FieldType → Bool
-return_missing p = elim [ None ↦ false | Some t ↦ type_missing p t ]
-
 abbrev pub desc_missing : Program → Option Descriptor → Bool
 desc_missing p None = false
 desc_missing p (Some (descriptors.Field t)) = type_missing p t
-desc_missing p (Some (descriptors.Method params ret)) = list_any (type_missing p) params || return_missing p ret
+desc_missing p (Some (descriptors.Method params ret)) = list_any (type_missing p) params || (elim ret [ None ↦ false | Some t ↦ type_missing p t ])
 
 unfoldable pub text_missing : Program → List ℕ → Bool
 text_missing p desc = desc_missing p (descriptor_of desc)
@@ -124,14 +118,11 @@ abbrev pub is_fixed_by : List ℕ → List ℕ → Option Class → Bool
 is_fixed_by name desc (Some (Lib c)) = fixes name desc c
 is_fixed_by name desc _ = false
 
-abbrev pub is_fixed_at : Program → List ℕ → List ℕ → List ℕ → Bool
-is_fixed_at p name desc class = is_fixed_by name desc (find p class)
-
 -- for an interface any open class counts, as its methods may come to stand in a class below each of them
 abbrev pub is_fixed : Program → ClassParts → List ℕ → List ℕ → Bool
 is_fixed p c name desc =
     if parts.is_interface c.flags then list_any (fixes name desc) library.open_classes
-    else list_any (is_fixed_at p name desc) (names_above p c)
+    else list_any (λ class. is_fixed_by name desc (find p class)) (names_above p c)
 
 -- static methods too
 unfoldable pub library_test : Program → ClassParts → MemberInfo → Option LinkKind
@@ -174,8 +165,5 @@ methods_fault p i c = first_along (λ k m. at_member i k (method_test p i c (tak
 unfoldable pub fields_fault : Program → ℕ → ClassParts → Option LinkFault
 fields_fault p i c = first_along (λ k m. at_member i (length c.methods + k) (field_test p c (take k c.fields) m)) 0 c.fields
 
-abbrev pub class_fault : Program → ℕ → ClassParts → Option LinkFault
-class_fault p i c = or_else (methods_fault p i c) (fields_fault p i c)
-
 unfoldable pub members_fault : Program → Option LinkFault
-members_fault p = first_along (λ i part. class_fault p i part.class) 0 p.parts
+members_fault p = first_along (λ i part. or_else (methods_fault p i part.class) (fields_fault p i part.class)) 0 p.parts

@@ -1,21 +1,21 @@
 -- What is known of a pool's texts: a number for each, and what it says as a descriptor.
-use Rattle.std.specs.Prelude.{◌≡◌, ℕ, Bool, List, Some, map}
+use Rattle.std.specs.Prelude.{◌≡◌, ℕ, Bool, List, Some, map, option_and_then}
 use Rattle.std.specs.List.{position, position_or_len}
 use Rattle.std.specs.Str.{bytes_eq}
 use Rattle.std.specs.BTreeMap.{BTreeMap}
 use Rattle.std.specs.Global.{Vec}
 use Rattle.jparts.specs.declared.jpool.entry.Entry.{Entry}
-use Rattle.jparts.specs.jpool.Pools.{text_in}
 use Rattle.jclass.specs.declared.class.ClassParts.{ClassParts}
 use Rattle.jprogram.specs.Names.{place_at}
 use Rattle.jprogram.specs.Parts.{or_empty}
 use Rattle.jprogram.specs.Classes.{Program}
 use Rattle.jlinking.specs.declared.jmembers.descs.DescMarks.{DescMarks}
 use Rattle.jlinking.specs.jmembers.Declares.{text_left_out, text_missing}
+use Rattle.jparts.specs.jpool.Entries.{utf8_parts}
 
 -- the text of an entry, empty where it is none
 abbrev pub entry_text : Entry → List ℕ
-entry_text e = or_empty (text_in (Some e))
+entry_text e = or_empty (option_and_then utf8_parts (Some e))
 
 -- ---- numbers
 

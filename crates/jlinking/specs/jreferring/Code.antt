@@ -1,5 +1,5 @@
 -- The fourth phase of linking: what the code of methods names.
-use Rattle.std.specs.Prelude.{ℕ, List, Option, Some, None, option_and_then}
+use Rattle.std.specs.Prelude.{ℕ, List, Option, option_and_then}
 use Rattle.jground.specs.jbase.First.{first_along, first_some, or_else}
 use Rattle.jparts.specs.declared.jpool.entry.Entry.{Entry}
 use Rattle.jparts.specs.declared.jcode.op.Handler.{Handler}
@@ -16,6 +16,7 @@ use Rattle.jlinking.specs.declared.jreferring.judged.Judged.{Judged}
 use Rattle.jlinking.specs.jreferring.Beginning.{first_frame_test}
 use Rattle.jlinking.specs.jreferring.Entries.{judge_pool}
 use Rattle.jlinking.specs.jreferring.Units.{attribute_test, handler_test, op_test}
+use Rattle.jlinking.specs.jmembers.Declares.{at_member}
 
 -- instructions first, then handlers
 abbrev pub units_test : List Judged → List Placed → List Handler → Option LinkKind
@@ -35,15 +36,8 @@ method_test p from pool table m = option_and_then (body_test p from (text pool m
 
 -- ---- the phase
 
--- a fault at the place of a method
-abbrev pub in_method : ℕ → ℕ → Option LinkKind → Option LinkFault
-in_method i j = elim [ None ↦ None | Some kind ↦ Some (record { class = i; member = Some j; kind = kind }) ]
-
-abbrev pub methods_fault : Program → ℕ → List ℕ → List Entry → List Judged → List MemberInfo → Option LinkFault
-methods_fault p i from pool table ms = first_along (λ j m. in_method i j (method_test p from pool table m)) 0 ms
-
 unfoldable pub class_fault : Program → ℕ → ClassParts → Option LinkFault
-class_fault p i c = methods_fault p i (this_name c) c.pool (judge_pool p c) c.methods
+class_fault p i c = first_along (λ j m. at_member i j (method_test p (this_name c) c.pool (judge_pool p c) m)) 0 c.methods
 
 -- class by class, in each method by method
 unfoldable pub code_fault : Program → Option LinkFault

@@ -43,14 +43,7 @@ misplaces_context enter None = false
 misplaces_context enter (Some (descriptors.Field t)) = is_context t
 misplaces_context enter (Some (descriptors.Method params ret)) = list_any has_contexts params || (not enter && gives_context ret)
 
--- a member of an array is left out, and so is a misplaced context
-abbrev pub is_barred : FieldType → Bool → Option Descriptor → Bool
-is_barred owner enter desc = is_array owner || misplaces_context enter desc
-
 -- ---- a reference, seen from a class
-
-abbrev pub is_of_interface : Sort → Bool
-is_of_interface = elim [ sort.InterfaceMethod ↦ true | _ ↦ false ]
 
 -- a Methodref of an interface, or an InterfaceMethodref of a class
 abbrev pub is_crossed : Sort → Bool → Bool
@@ -88,15 +81,11 @@ desc_use p from desc = record {
 abbrev pub is_barred_by : OwnerUse → Bool → DescUse → Bool
 is_barred_by owner enter desc = owner.array || (if enter then desc.misplaced_at_enter else desc.misplaced)
 
--- its class is named first, and then what its descriptor names
-abbrev pub names_test : Program → List ℕ → FieldType → Option Descriptor → Option LinkKind
-names_test p from owner desc = or_else (type_test p from owner) (desc_test p from desc)
-
 abbrev pub member_use : Program → List ℕ → Sort → Option Member → List ℕ → List ℕ → List ℕ → MemberUse
 member_use p from kind member owner name desc = record {
-  names = names_test p from (type_named owner) (descriptor_of desc);
-  barred = is_barred (type_named owner) (is_enter owner name desc) (descriptor_of desc);
-  of_interface = is_of_interface kind;
+  names = or_else (type_test p from (type_named owner)) (desc_test p from (descriptor_of desc));
+  barred = is_array (type_named owner) || misplaces_context (is_enter owner name desc) (descriptor_of desc);
+  of_interface = elim kind [ sort.InterfaceMethod ↦ true | _ ↦ false ];
   crossed = is_crossed kind (holds is_interface (find p owner));
   upward = extends p from owner;
   init = bytes_eq name init;
@@ -130,32 +119,23 @@ field_test op u = or_else u.names (or_else (fault_if u.barred LeftOut) (field_me
 
 -- invokevirtual, invokespecial and invokestatic
 
-abbrev pub is_virtual : CallOp → Bool
-is_virtual = elim [ calls.Virtual ↦ true | _ ↦ false ]
-
-abbrev pub calls_static : CallOp → Bool
-calls_static = elim [ calls.Static ↦ true | _ ↦ false ]
-
 -- invokevirtual calls neither a constructor nor a private method; invokespecial calls a constructor, or a method of its own class or of
 -- one above; invokestatic calls no constructor
 abbrev pub is_miscalled : CallOp → MemberUse → MemberFacts → Bool
 is_miscalled x u m = elim x [ calls.Virtual ↦ u.init || m.is_private | calls.Special ↦ not (u.init || u.upward) | calls.Static ↦ u.init ]
 
 abbrev pub call_use_test : CallOp → MemberUse → MemberFacts → Option LinkKind
-call_use_test op u m = fault_if (differs (calls_static op) m.is_static || (u.crossed || is_miscalled op u m)) BadUse
+call_use_test op u m = fault_if (differs (elim op [ calls.Static ↦ true | _ ↦ false ]) m.is_static || (u.crossed || is_miscalled op u m)) BadUse
 
 abbrev pub called_test : CallOp → MemberUse → Option MemberFacts → Option LinkKind
 called_test op u = elim [ None ↦ Some NoMember | Some m ↦ or_else (access_test false m) (call_use_test op u m) ]
 
-abbrev pub call_member_test : CallOp → MemberUse → Option LinkKind
-call_member_test op u = called_test op u u.member
-
 -- invokespecial and invokestatic call no method of an interface
 abbrev pub call_left_out_test : CallOp → MemberUse → Option LinkKind
-call_left_out_test op u = fault_if (u.barred || (not (is_virtual op) && u.of_interface)) LeftOut
+call_left_out_test op u = fault_if (u.barred || (not (elim op [ calls.Virtual ↦ true | _ ↦ false ]) && u.of_interface)) LeftOut
 
 abbrev pub call_test : CallOp → MemberUse → Option LinkKind
-call_test op u = or_else u.names (or_else (call_left_out_test op u) (call_member_test op u))
+call_test op u = or_else u.names (or_else (call_left_out_test op u) (called_test op u u.member))
 
 -- invokeinterface
 
@@ -169,8 +149,5 @@ is_misused count u m = m.is_static || (u.crossed || (u.init || (m.is_private || 
 abbrev pub called_by_interface_test : ℕ → MemberUse → Option MemberFacts → Option LinkKind
 called_by_interface_test count u = elim [ None ↦ Some NoMember | Some m ↦ or_else (access_test false m) (fault_if (is_misused count u m) BadUse) ]
 
-abbrev pub interface_member_test : ℕ → MemberUse → Option LinkKind
-interface_member_test count u = called_by_interface_test count u u.member
-
 abbrev pub interface_test : ℕ → MemberUse → Option LinkKind
-interface_test count u = or_else u.names (or_else (fault_if u.barred LeftOut) (interface_member_test count u))
+interface_test count u = or_else u.names (or_else (fault_if u.barred LeftOut) (called_by_interface_test count u u.member))

@@ -8,8 +8,6 @@ use Rattle.jparts.specs.declared.jcode.form.Form.{Form}
 use Rattle.jparts.specs.declared.jcode.form.Form.TheVariants as forms
 use Rattle.jparts.specs.declared.jcode.form.PoolForm.{PoolForm}
 use Rattle.jparts.specs.declared.jcode.form.PoolForm.TheVariants as pool
-use Rattle.jparts.specs.declared.jcode.names.CallOp.{CallOp}
-use Rattle.jparts.specs.declared.jcode.names.FieldOp.{FieldOp}
 use Rattle.jparts.specs.declared.jcode.op.Handler.{Handler}
 use Rattle.jparts.specs.declared.jcode.op.Placed.{Placed}
 use Rattle.jparts.specs.jcode.Forms.{form}
@@ -29,19 +27,11 @@ use Rattle.jlinking.specs.jreferring.References.{call_test, field_test, interfac
 
 -- ---- entries by their use
 
-abbrev pub class_in : Option Judged → Option ClassUse
-class_in (Some (judged.Class u)) = Some u
-class_in _ = None
-
 abbrev pub class_at : List Judged → ℕ → Option ClassUse
-class_at table n = class_in (slice_get table n)
-
-abbrev pub member_in : Option Judged → Option MemberUse
-member_in (Some (judged.Member u)) = Some u
-member_in _ = None
+class_at table n = option_and_then (elim [ judged.Class u ↦ Some u | _ ↦ None ]) (slice_get table n)
 
 abbrev pub member_at : List Judged → ℕ → Option MemberUse
-member_at table n = member_in (slice_get table n)
+member_at table n = option_and_then (elim [ judged.Member u ↦ Some u | _ ↦ None ]) (slice_get table n)
 
 -- another entry than a reference stands for no member
 abbrev pub or_no_member : (MemberUse → Option LinkKind) → Option MemberUse → Option LinkKind
@@ -63,25 +53,13 @@ long_test _ = Some LeftOut
 abbrev pub operand_at : List Judged → ℕ → Option LinkKind
 operand_at table n = option_and_then operand_test (class_at table n)
 
-abbrev pub new_at : List Judged → ℕ → Option LinkKind
-new_at table n = option_and_then new_test (class_at table n)
-
-abbrev pub field_at : List Judged → FieldOp → ℕ → Option LinkKind
-field_at table op n = or_no_member (field_test op) (member_at table n)
-
-abbrev pub call_at : List Judged → CallOp → ℕ → Option LinkKind
-call_at table op n = or_no_member (call_test op) (member_at table n)
-
-abbrev pub interface_call_at : List Judged → ℕ → ℕ → Option LinkKind
-interface_call_at table n count = or_no_member (interface_test count) (member_at table n)
-
 abbrev pub pool_test : List Judged → PoolForm → Option LinkKind
 pool_test table (pool.Constant n) = constant_test (slice_get table n)
 pool_test table (pool.LongConstant n) = long_test (slice_get table n)
-pool_test table (pool.Field op n) = field_at table op n
-pool_test table (pool.Call op n) = call_at table op n
-pool_test table (pool.CallInterface n count) = interface_call_at table n count
-pool_test table (pool.New n) = new_at table n
+pool_test table (pool.Field op n) = or_no_member (field_test op) (member_at table n)
+pool_test table (pool.Call op n) = or_no_member (call_test op) (member_at table n)
+pool_test table (pool.CallInterface n count) = or_no_member (interface_test count) (member_at table n)
+pool_test table (pool.New n) = option_and_then new_test (class_at table n)
 pool_test table (pool.Cast op n) = operand_at table n
 
 abbrev pub form_test : {S : Type 0} → List Judged → Form S → Option LinkKind
@@ -103,11 +81,8 @@ handler_test table h = if h.class == 0 then None else operand_at table h.class
 abbrev pub item_names : List Judged → MapType → Option LinkKind
 item_names table = elim [ items.Object n ↦ option_and_then (λ u. u.names) (class_at table n) | _ ↦ None ]
 
-abbrev pub is_barred_at : Option ClassUse → Bool
-is_barred_at = elim [ None ↦ false | Some u ↦ u.barred_item ]
-
 abbrev pub is_barred : List Judged → MapType → Bool
-is_barred table = elim [ items.Object n ↦ is_barred_at (class_at table n) | _ ↦ false ]
+is_barred table = elim [ items.Object n ↦ elim (class_at table n) [ None ↦ false | Some u ↦ u.barred_item ] | _ ↦ false ]
 
 -- what the locals name comes first, then what the stack names, and then what may not stand there
 unfoldable pub frame_test : List Judged → RawFrame → Option LinkKind

@@ -3,6 +3,7 @@ ghost use Rattle.std.specs.List.{list_any};
 ghost use Rattle.jprogram.specs.Parts;
 ghost use Rattle.jprogram.specs.Supers;
 ghost use Rattle.jlinking.specs.jmembers.Declares;
+ghost use Rattle.jlinking.specs.ProofNames;
 ghost use Rattle.jlinking.specs.jmembers.Known;
 ghost use Rattle.jlinking.specs.jmembers.Known.{desc_marks, marks_in, marks_of};
 
@@ -35,7 +36,7 @@ fn type_left_out(one: &FieldType) -> bool
 }
 
 fn return_left_out(ret: &Option<FieldType>) -> bool
-    ensures { result ≡ Declares.return_left_out ret.now }
+    ensures { result ≡ ProofNames.return_left_out ret.now }
 {
     match ret {
         Some(one) => type_left_out(one),
@@ -73,7 +74,7 @@ fn params_missing(program: &NamedProgram, params: &[FieldType]) -> bool
 }
 
 fn return_missing(program: &NamedProgram, ret: &Option<FieldType>) -> bool
-    ensures { result ≡ Declares.return_missing program.now ret.now }
+    ensures { result ≡ ProofNames.return_missing program.now ret.now }
 {
     match ret {
         Some(one) => type_missing(program, one),

@@ -4,6 +4,7 @@ ghost use Rattle.jlib.specs.Calls.{fixes};
 ghost use Rattle.jlib.specs.Classes.{open_classes};
 ghost use Rattle.jprogram.specs.Classes;
 ghost use Rattle.jlinking.specs.jmembers.Declares;
+ghost use Rattle.jlinking.specs.ProofNames;
 
 use crate::jmembers::class_texts::ClassTexts;
 use bitflags::Flags;
@@ -19,7 +20,7 @@ fn is_fixed_somewhere(name: &[u8], desc: &[u8]) -> bool
 }
 
 fn is_fixed_at(program: &NamedProgram, name: &[u8], desc: &[u8], class: &[u8]) -> bool
-    ensures { result ≡ Declares.is_fixed_at program.now name.now desc.now class.now }
+    ensures { result ≡ ProofNames.is_fixed_at program.now name.now desc.now class.now }
 {
     match program.class_of(class) {
         Some(ClassRef::Lib(class)) => class.fixes(name, desc),
@@ -29,7 +30,7 @@ fn is_fixed_at(program: &NamedProgram, name: &[u8], desc: &[u8], class: &[u8]) -
 
 #[tactic(auto, using(jprogram::proofs::Chains::chain_at, jprogram::proofs::Chains::chain_end))]
 fn is_fixed_upwards(program: &NamedProgram, name: &[u8], desc: &[u8], from: &[u8]) -> bool
-    ensures { result ≡ list_any (Declares.is_fixed_at program.now name.now desc.now) (Classes.up program.now from.now) }
+    ensures { result ≡ list_any (ProofNames.is_fixed_at program.now name.now desc.now) (Classes.up program.now from.now) }
 {
     let mut at = from;
     let steps = program.most_steps();

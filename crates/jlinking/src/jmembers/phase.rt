@@ -1,6 +1,7 @@
 ghost use Rattle.std.specs.Prelude.{◌≡◌, ◌≤◌, ◌++◌, ◌∷◌, [], List, IfOk, length};
 ghost use Rattle.jclass.specs.declared.class.MemberInfo.{MemberInfo as Info};
 ghost use Rattle.jlinking.specs.jmembers.Declares;
+ghost use Rattle.jlinking.specs.ProofNames;
 ghost use Rattle.jlinking.specs.jmembers.Met.{HasMet};
 
 use crate::jmembers::class_texts::ClassTexts;
@@ -137,7 +138,7 @@ fn class_fault(
     place: u32,
     class: &ClassFile,
 ) -> Result<Option<LinkFault>, AllocError>
-    ensures { IfOk result (λ o. o ≡ Declares.class_fault program.now place class.now) }
+    ensures { IfOk result (λ o. o ≡ ProofNames.class_fault program.now place class.now) }
 {
     let texts = ClassTexts::of(alloc, program, place, class.parts())?;
     if let Some(fault) = methods_fault(alloc, &texts)? {

@@ -3,6 +3,7 @@ ghost use Rattle.jclass.specs.Class.{class_file};
 ghost use Rattle.jprogram.specs.Layers.{IsLayered};
 ghost use Rattle.jprogram.specs.Parts;
 ghost use Rattle.jlinking.specs.jreferring.Code;
+ghost use Rattle.jlinking.specs.ProofNames;
 ghost use Rattle.jlinking.specs.jreferring.Known.{AreHanded};
 
 use crate::jreferring::beginning::first_frame_test;
@@ -88,7 +89,7 @@ fn methods_fault(
 ) -> Result<Option<LinkFault>, AllocError>
     requires { length methods.now ≤ 0xffff }
     ensures { IfOk result (λ o. o
-        ≡ Code.methods_fault home.entry.program.now i home.entry.from.now home.entry.pool.now table.now methods.now) }
+        ≡ ProofNames.methods_fault home.entry.program.now i home.entry.from.now home.entry.pool.now table.now methods.now) }
 {
     let mut handed = BTreeMap::new(alloc);
     for (j, method) in methods.iter().enumerate() {

@@ -3,6 +3,7 @@ ghost use Rattle.std.specs.List.{list_any};
 ghost use Rattle.jground.specs.jbase.First.{or_else};
 ghost use Rattle.jprogram.specs.Members;
 ghost use Rattle.jlinking.specs.jreferring.References;
+ghost use Rattle.jlinking.specs.ProofNames;
 
 use crate::jreferring::judged::{DescUse, MemberFacts, MemberUse, OwnerUse, Sort};
 use crate::jreferring::names::{desc_test, descriptor_in, is_array, type_named, type_test};
@@ -72,7 +73,7 @@ fn misplaces_context(enter: bool, desc: &Option<Descriptor>) -> bool
 // ---- a reference
 
 fn is_of_interface(sort: Sort) -> bool
-    ensures { result ≡ References.is_of_interface sort }
+    ensures { result ≡ ProofNames.is_of_interface sort }
 {
     matches!(sort, Sort::InterfaceMethod)
 }

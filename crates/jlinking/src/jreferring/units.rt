@@ -2,6 +2,7 @@ ghost use Rattle.std.specs.Prelude.{◌≡◌, slice_get};
 ghost use Rattle.std.specs.List.{list_any};
 ghost use Rattle.jground.specs.jbase.First.{first_some};
 ghost use Rattle.jlinking.specs.jreferring.Units;
+ghost use Rattle.jlinking.specs.ProofNames;
 
 use crate::jreferring::judged::{ClassUse, Judged, MemberUse};
 use crate::jreferring::uses::{call_test, field_test, interface_test, new_test, operand_test};
@@ -74,7 +75,7 @@ fn operand_at(table: &[Judged], n: u16) -> Option<LinkKind>
 }
 
 fn new_at(table: &[Judged], n: u16) -> Option<LinkKind>
-    ensures { result ≡ Units.new_at table.now n }
+    ensures { result ≡ ProofNames.new_at table.now n }
 {
     match class_at(table, n) {
         Some(class) => new_test(class),
@@ -83,7 +84,7 @@ fn new_at(table: &[Judged], n: u16) -> Option<LinkKind>
 }
 
 fn field_at(table: &[Judged], op: FieldOp, n: u16) -> Option<LinkKind>
-    ensures { result ≡ Units.field_at table.now op n }
+    ensures { result ≡ ProofNames.field_at table.now op n }
 {
     match member_at(table, n) {
         Some(field) => field_test(op, field),
@@ -92,7 +93,7 @@ fn field_at(table: &[Judged], op: FieldOp, n: u16) -> Option<LinkKind>
 }
 
 fn call_at(table: &[Judged], op: CallOp, n: u16) -> Option<LinkKind>
-    ensures { result ≡ Units.call_at table.now op n }
+    ensures { result ≡ ProofNames.call_at table.now op n }
 {
     match member_at(table, n) {
         Some(method) => call_test(op, method),
@@ -101,7 +102,7 @@ fn call_at(table: &[Judged], op: CallOp, n: u16) -> Option<LinkKind>
 }
 
 fn interface_call_at(table: &[Judged], n: u16, count: u8) -> Option<LinkKind>
-    ensures { result ≡ Units.interface_call_at table.now n count }
+    ensures { result ≡ ProofNames.interface_call_at table.now n count }
 {
     match member_at(table, n) {
         Some(method) => interface_test(count, method),

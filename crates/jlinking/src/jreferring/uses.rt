@@ -1,6 +1,7 @@
 ghost use Rattle.std.specs.Prelude.{◌≡◌};
 ghost use Rattle.jlinking.specs.jreferring.Operands;
 ghost use Rattle.jlinking.specs.jreferring.References;
+ghost use Rattle.jlinking.specs.ProofNames;
 
 use crate::jreferring::judged::{ClassUse, MemberFacts, MemberUse};
 use jparts::jcode::{CallOp, FieldOp};
@@ -103,13 +104,13 @@ pub fn field_test(op: FieldOp, field: MemberUse) -> Option<LinkKind>
 // ---- methods
 
 fn is_virtual(op: CallOp) -> bool
-    ensures { result ≡ References.is_virtual op }
+    ensures { result ≡ ProofNames.is_virtual op }
 {
     matches!(op, CallOp::Virtual)
 }
 
 fn calls_static(op: CallOp) -> bool
-    ensures { result ≡ References.calls_static op }
+    ensures { result ≡ ProofNames.calls_static op }
 {
     matches!(op, CallOp::Static)
 }
@@ -140,7 +141,7 @@ fn call_use_test(op: CallOp, method: &MemberUse, member: MemberFacts) -> Option<
 }
 
 fn call_member_test(op: CallOp, method: &MemberUse) -> Option<LinkKind>
-    ensures { result ≡ References.call_member_test op method.now }
+    ensures { result ≡ ProofNames.call_member_test op method.now }
 {
     let Some(member) = method.member else {
         return Some(LinkKind::NoMember);
@@ -187,7 +188,7 @@ fn is_misused(count: u8, method: &MemberUse, member: MemberFacts) -> bool
 }
 
 fn interface_member_test(count: u8, method: &MemberUse) -> Option<LinkKind>
-    ensures { result ≡ References.interface_member_test count method.now }
+    ensures { result ≡ ProofNames.interface_member_test count method.now }
 {
     let Some(member) = method.member else {
         return Some(LinkKind::NoMember);

@@ -3,10 +3,11 @@ use Rattle.std.proofs.Common.{◌≡◌, List, Option, Some, None, refl}
 use Rattle.jtypes.specs.declared.vtype.VType.{VType}
 use Rattle.jtypes.specs.declared.vtype.VType.TheVariants as types
 use Rattle.jmeaning.specs.juses.Typed as typed
+use Rattle.jmeaning.specs.ProofNames
 use Rattle.jmeaning.specs.jlayout.Kinds.{or_top}
-use Rattle.jmeaning.specs.jlayout.Layout.{held}
+use Rattle.jmeaning.specs.ProofNames.{held_type as held}
 
-pub held_field : (o : Option VType) → or_top o ≡ held (typed.held o)
+pub held_field : (o : Option VType) → or_top o ≡ held (ProofNames.held o)
 held_field None = refl
 held_field (Some t) = refl
 

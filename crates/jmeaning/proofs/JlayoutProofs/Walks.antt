@@ -10,7 +10,7 @@ use Rattle.jtypes.specs.declared.vtype.VType.{VType}
 use Rattle.jprogram.specs.declared.part.ClassRef.TheVariants as refs
 use Rattle.jprogram.specs.declared.part.CodePart.{CodePart}
 use Rattle.jprogram.specs.Parts.{super_name, this_name}
-use Rattle.jprogram.specs.Classes.{Class, Lib, Program, User, above, above_name, find, name_at, named, onward, ref_of, up}
+use Rattle.jprogram.specs.Classes.{Class, Lib, Program, User, above, above_name, find, name_at, onward, ref_of, up, named}
 use Rattle.jprogram.specs.Standing.{StandsInOrder}
 use Rattle.jprogram.proofs.Extending.{above_lower, up_is}
 use Rattle.jprogram.proofs.Rows.{found_part, own_place}

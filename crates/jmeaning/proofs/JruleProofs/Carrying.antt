@@ -19,10 +19,12 @@ use Rattle.jmeaning.specs.jrule.Effects.{Exchange, Want, is_int, is_of}
 use Rattle.jmeaning.specs.jrule.Further.{is_unready, roomy, with_more}
 use Rattle.jmeaning.specs.jrule.Here.{Here}
 use Rattle.jmeaning.specs.jrule.Locals as locals
+use Rattle.jmeaning.specs.ProofNames
 use Rattle.jmeaning.specs.jrule.Locals.{broken, is_whole, passes, with_local, with_second}
-use Rattle.jmeaning.specs.jrule.Moves.{move, shuffled}
+use Rattle.jmeaning.specs.jrule.Moves.{move}
+use Rattle.jmeaning.specs.ProofNames.{shuffled, init_of, replaced}
 use Rattle.jmeaning.specs.jrule.Objects as objects
-use Rattle.jmeaning.specs.jrule.Objects.{all_replaced, init_of, is_it, is_named, may_ready_this, readied, replaced}
+use Rattle.jmeaning.specs.jrule.Objects.{all_replaced, is_it, is_named, may_ready_this, readied}
 use Rattle.jmeaning.specs.jrule.Operands.{below, exchanged, given, pushed, taken, with_room, with_stack}
 use Rattle.jmeaning.specs.jrule.Uses.{arguments}
 use Rattle.jmeaning.proofs.JruleProofs.Both.{and_true, both}
@@ -102,11 +104,11 @@ whole_front xs more n a e = go (is_long a) e
     go true h = passes_front locals.is_top xs more (n + 1) h
     go false h = refl
 
-pub load_carried : (more : List VType) (few most : ℕ) (k : Kind) (n : ℕ) → few ≤ most → Carries more (locals.load few k n) (locals.load most k n)
+pub load_carried : (more : List VType) (few most : ℕ) (k : Kind) (n : ℕ) → few ≤ most → Carries more (ProofNames.load few k n) (ProofNames.load most k n)
 load_carried more few most k n le f g e = at (slice_get f.locals n) refl e
   where
     on : (a : VType) → slice_get (f.locals ++ more) n ≡ Some a → (b : Bool) → (is_of k a && is_whole f.locals n a) ≡ b →
-        (if b then pushed few a f else None) ≡ Some g → locals.load most k n (with_more more f) ≡ Some (with_more more g)
+        (if b then pushed few a f else None) ≡ Some g → ProofNames.load most k n (with_more more f) ≡ Some (with_more more g)
     on a is false w h = absurd (cc)
     on a is true w h =
         let parts = both (is_of k a) (is_whole f.locals n a) w in
@@ -114,7 +116,7 @@ load_carried more few most k n le f g e = at (slice_get f.locals n) refl e
         ∙ ap (λ b. if b then pushed most a (with_more more f) else None) (and_true (is_of k a) (is_whole (f.locals ++ more) n a) parts.0 (whole_front f.locals more n a parts.1))
         ∙ room_carried more few most f g (a ∷ f.stack) le h
 
-    at : (o : Option VType) → slice_get f.locals n ≡ o → locals.load_from few k n f o ≡ Some g → locals.load most k n (with_more more f) ≡ Some (with_more more g)
+    at : (o : Option VType) → slice_get f.locals n ≡ o → locals.load_from few k n f o ≡ Some g → ProofNames.load most k n (with_more more f) ≡ Some (with_more more g)
     at None is h = absurd (cc)
     at (Some a) is h = on a (get_front f.locals more n a is) (is_of k a && is_whole f.locals n a) refl h
 
@@ -159,7 +161,7 @@ local_front xs more n a le =
     ∙ ap (with_second a n) (set_front (broken xs n) more n a (let l = broken_length xs n in omega arith))
     ∙ second_front (slice_set (broken xs n) n a) more n a (omega arith)
 
-pub store_carried : (more : List VType) (k : Kind) (n : ℕ) → Carries more (locals.store k n) (locals.store k n)
+pub store_carried : (more : List VType) (k : Kind) (n : ℕ) → Carries more (ProofNames.store k n) (ProofNames.store k n)
 store_carried more k n f g e = on f.stack e
   where
     wide : (m : ℕ) → nat_le m (length f.locals) ≡ true → nat_le m (length (f.locals ++ more)) ≡ true

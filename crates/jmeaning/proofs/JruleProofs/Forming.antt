@@ -13,6 +13,7 @@ use Rattle.jparts.specs.declared.jcode.form.ArrayForm.TheVariants as arrays
 use Rattle.jtypes.specs.Frames.{Frame}
 use Rattle.jprogram.specs.Classes.{Program, tree}
 use Rattle.jmeaning.specs.juses.Instructions as instructions
+use Rattle.jmeaning.specs.ProofNames
 use Rattle.jmeaning.specs.juses.Instructions.{Instruction, Test}
 use Rattle.jmeaning.specs.juses.Meanings.{Meaning, array_meant, meant}
 use Rattle.jmeaning.specs.jrule.Forms.{IsByForm, by_form, by_meaning}
@@ -43,12 +44,12 @@ jump_agrees : (p : Program) (here : Here) (f : Frame) (test : Test) (to : Option
 unfolding rule
 jump_agrees p here f test to i e = of_found to (instructions.Jump test) i (λ i. rule p here i f ≡ straight.jump (tree p) test f) e (λ a is. refl)
 
-switch_agrees : (p : Program) (here : Here) (ops : List Placed) (at : ℕ) (s : Switch) (f : Frame) (i : Instruction) → instructions.switch ops at s ≡ Some i → rule p here i f ≡ straight.switch (tree p) f
+switch_agrees : (p : Program) (here : Here) (ops : List Placed) (at : ℕ) (s : Switch) (f : Frame) (i : Instruction) → instructions.switch ops at s ≡ Some i → rule p here i f ≡ ProofNames.switch (tree p) f
 unfolding rule
 switch_agrees p here ops at s f i e =
     of_both (instructions.cases ops at s) (λ found. option_map (instructions.Switch found) (instructions.target ops at (instructions.default s))) i
-    (λ i. rule p here i f ≡ straight.switch (tree p) f) e
-    (λ found h. of_found (instructions.target ops at (instructions.default s)) (instructions.Switch found) i (λ i. rule p here i f ≡ straight.switch (tree p) f) h (λ a is. refl))
+    (λ i. rule p here i f ≡ ProofNames.switch (tree p) f) e
+    (λ found h. of_found (instructions.target ops at (instructions.default s)) (instructions.Switch found) i (λ i. rule p here i f ≡ ProofNames.switch (tree p) f) h (λ a is. refl))
 
 flow_agrees : (p : Program) (here : Here) (ops : List Placed) (at : ℕ) (form : Flow Switch) (i : Instruction) (f : Frame) → instructions.flow ops at form ≡ Some i → rule p here i f ≡ straight.flow (tree p) here.is_init here.returns form f
 unfolding rule
@@ -58,13 +59,13 @@ flow_agrees p here ops at (flows.IfRef test by) i f e = jump_agrees p here f (in
 flow_agrees p here ops at (flows.Goto by) i f e = jump_agrees p here f instructions.Always (instructions.target ops at by) i e
 flow_agrees p here ops at (flows.Switch s) i f e = switch_agrees p here ops at s f i e
 flow_agrees p here ops at (flows.Return kind) i f e = of_one (instructions.Return kind) i (λ i. rule p here i f ≡ straight.leave (tree p) here.is_init here.returns kind f) e refl
-flow_agrees p here ops at flows.Throw i f e = of_one instructions.Throw i (λ i. rule p here i f ≡ straight.throw (tree p) f) e refl
+flow_agrees p here ops at flows.Throw i f e = of_one instructions.Throw i (λ i. rule p here i f ≡ ProofNames.throw (tree p) f) e refl
 
 used_agrees : (p : Program) (here : Here) (f : Frame) (m : Option Meaning) (i : Instruction) → option_map instructions.Used m ≡ Some i → rule p here i f ≡ by_meaning p here m f
 unfolding rule
 used_agrees p here f m i e = of_found m instructions.Used i (λ i. rule p here i f ≡ by_meaning p here m f) e (λ a is. sym (ap (λ o. by_meaning p here o f) is))
 
-array_agrees : (p : Program) (here : Here) (pool : List Entry) (form : ArrayForm) (i : Instruction) (f : Frame) → instructions.array p pool form ≡ Some i → Agrees p here pool (forms.Array form) f i
+array_agrees : (p : Program) (here : Here) (pool : List Entry) (form : ArrayForm) (i : Instruction) (f : Frame) → ProofNames.array p pool form ≡ Some i → Agrees p here pool (forms.Array form) f i
 unfolding rule by_form
 array_agrees p here pool (arrays.NewRef n) i f e = used_agrees p here f (array_meant p pool n) i e
 array_agrees p here pool (arrays.New kind) i f e = of_one (instructions.Array (arrays.New kind)) i (Agrees p here pool (forms.Array (arrays.New kind)) f) e refl

@@ -19,7 +19,8 @@ use Rattle.jparts.specs.jcode.Forms as codes_of
 use Rattle.jparts.specs.jcode.Forms.{array_effect, compared, simple_effect}
 use Rattle.jtypes.specs.declared.vtype.VType.{VType}
 use Rattle.jtypes.specs.Fitting.{fits}
-use Rattle.jtypes.specs.Frames.{Frame, all_fit, frame_fits, implies, is_long, item_fits, stack_fits}
+use Rattle.jtypes.specs.Frames.{Frame, all_fit, frame_fits, implies, is_long, stack_fits}
+use Rattle.jtypes.specs.ProofNames.{item_fits}
 use Rattle.jtypes.specs.Tree.{Tree}
 use Rattle.jprogram.specs.Classes.{Program, tree}
 use Rattle.jmeaning.specs.declared.juses.meaning.How.TheVariants as how

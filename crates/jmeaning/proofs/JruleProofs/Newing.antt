@@ -15,7 +15,8 @@ use Rattle.jmeaning.specs.declared.jrule.unready.Unready.TheVariants as unready
 use Rattle.jmeaning.specs.jrule.Forms.{by_form, by_meaning}
 use Rattle.jmeaning.specs.jrule.Here.{Here}
 use Rattle.jmeaning.specs.jrule.News.{AsksPlaces, with_news}
-use Rattle.jmeaning.specs.jrule.Objects.{init, init_of, init_on, is_named, readied}
+use Rattle.jmeaning.specs.jrule.Objects.{init, init_on, is_named, readied}
+use Rattle.jmeaning.specs.ProofNames.{init_of}
 use Rattle.jmeaning.specs.jrule.Operands.{given, taken}
 use Rattle.jmeaning.specs.jrule.Uses.{arguments}
 

@@ -11,7 +11,8 @@ use Rattle.jtypes.specs.declared.vtype.Element.TheVariants as elements
 use Rattle.jtypes.specs.declared.vtype.ArrayType.{ArrayType}
 use Rattle.jtypes.specs.declared.vtype.VType.{VType}
 use Rattle.jtypes.specs.declared.vtype.VType.TheVariants.{Top, Int, Long, Null, UninitThis, Uninit, Object, Array, Ctx}
-use Rattle.jtypes.specs.Fitting.{array_fits, class_fits, element_fits, fits, is_above_array, is_above_arrays}
+use Rattle.jtypes.specs.Fitting.{array_fits, class_fits, element_fits, fits, is_above_arrays}
+use Rattle.jtypes.specs.ProofNames.{is_above_array}
 use Rattle.jtypes.specs.Frames.{implies, is_long}
 use Rattle.jtypes.specs.Tree.{InterfacesExtendTheirs, Tree}
 use Rattle.jmeaning.specs.jrule.Effects.{Fits, Holds, Of, OrThis, Want, held_as, holds, is_of, is_uninit_this, items_of, meets, same_items}

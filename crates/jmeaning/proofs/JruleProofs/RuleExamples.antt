@@ -14,7 +14,7 @@ use Rattle.jtypes.specs.Frames.{Frame, all_fit, slots}
 use Rattle.jtypes.specs.Tree.{Tree}
 use Rattle.jmeaning.specs.jrule.Arrays as array
 use Rattle.jmeaning.specs.jrule.Here.{Here}
-use Rattle.jmeaning.specs.jrule.Locals as locals
+use Rattle.jmeaning.specs.ProofNames
 use Rattle.jmeaning.specs.jrule.Locals.{with_local}
 use Rattle.jmeaning.specs.jrule.Moves as moves
 use Rattle.jmeaning.specs.jrule.Objects as objects
@@ -44,23 +44,23 @@ unfolding with_local
 first_half = refl
 
 -- a long doesn't fit into the last local
-last_local : locals.store kinds.Long 1 (frame (Int ∷ Int ∷ []) (Long ∷ [])) ≡ None
+last_local : ProofNames.store kinds.Long 1 (frame (Int ∷ Int ∷ []) (Long ∷ [])) ≡ None
 last_local = refl
 
-load_needs_room : locals.load 1 kinds.Long 0 (frame (Long ∷ Top ∷ []) []) ≡ None
+load_needs_room : ProofNames.load 1 kinds.Long 0 (frame (Long ∷ Top ∷ []) []) ≡ None
 unfolding slots
 load_needs_room = refl
 
-load_long : locals.load 2 kinds.Long 0 (frame (Long ∷ Top ∷ []) []) ≡ Some (frame (Long ∷ Top ∷ []) (Long ∷ []))
+load_long : ProofNames.load 2 kinds.Long 0 (frame (Long ∷ Top ∷ []) []) ≡ Some (frame (Long ∷ Top ∷ []) (Long ∷ []))
 unfolding slots
 load_long = refl
 
 -- aload moves an object before its `<init>`, and no int
-load_uninit : locals.load 2 kinds.Held 0 (frame (Uninit 4 ∷ []) []) ≡ Some (frame (Uninit 4 ∷ []) (Uninit 4 ∷ []))
+load_uninit : ProofNames.load 2 kinds.Held 0 (frame (Uninit 4 ∷ []) []) ≡ Some (frame (Uninit 4 ∷ []) (Uninit 4 ∷ []))
 unfolding slots
 load_uninit = refl
 
-load_int : locals.load 2 kinds.Held 0 (frame (Int ∷ []) []) ≡ None
+load_int : ProofNames.load 2 kinds.Held 0 (frame (Int ∷ []) []) ≡ None
 load_int = refl
 
 -- ---- moves of the stack
@@ -128,14 +128,14 @@ made_on_stack : objects.make 3 4 (frame [] (Uninit 4 ∷ [])) ≡ None
 made_on_stack = refl
 
 -- every copy is of the class
-readied : objects.init_of here object (frame (Uninit 4 ∷ Uninit 7 ∷ []) (Uninit 4 ∷ Uninit 4 ∷ [])) ≡ Some (frame (Object object ∷ Uninit 7 ∷ []) (Object object ∷ []))
+readied : ProofNames.init_of here object (frame (Uninit 4 ∷ Uninit 7 ∷ []) (Uninit 4 ∷ Uninit 4 ∷ [])) ≡ Some (frame (Object object ∷ Uninit 7 ∷ []) (Object object ∷ []))
 readied = refl
 
 -- `this` is of its own class, also behind an `<init>` of the class above
-this_readied : objects.init_of here object (begun (UninitThis ∷ []) (UninitThis ∷ [])) ≡ Some (frame (Object main ∷ []) [])
+this_readied : ProofNames.init_of here object (begun (UninitThis ∷ []) (UninitThis ∷ [])) ≡ Some (frame (Object main ∷ []) [])
 this_readied = refl
 
-other_class : objects.init_of here main (frame [] (Uninit 4 ∷ [])) ≡ None
+other_class : ProofNames.init_of here main (frame [] (Uninit 4 ∷ [])) ≡ None
 other_class = refl
 
 -- ---- returns

@@ -10,6 +10,7 @@ use Rattle.jtypes.specs.Tree.{Tree}
 use Rattle.jmeaning.specs.jrule.Effects.{is_int, is_of}
 use Rattle.jground.specs.declared.jnames.kinds.Kind.TheVariants as kinds
 use Rattle.jmeaning.specs.jrule.Locals as locals
+use Rattle.jmeaning.specs.ProofNames
 use Rattle.jmeaning.specs.jrule.Locals.{broken, is_top, is_whole, passes, with_local}
 use Rattle.jmeaning.specs.jrule.Precise.{begins_with_top, item_precise, keeps_second, locals_precise, precise}
 use Rattle.jmeaning.specs.jrule.Operands.{pushed}
@@ -266,7 +267,7 @@ module _ (t : Tree) where
 
   -- ---- the rows
 
-  pub load_kept : (most : ℕ) (k : Kind) (n : ℕ) → Keeps t (locals.load most k n)
+  pub load_kept : (most : ℕ) (k : Kind) (n : ℕ) → Keeps t (ProofNames.load most k n)
   load_kept most k n a b c sharp e = go (slice_get b.locals n) refl e
     where
       next : suc n ≡ n + 1
@@ -284,7 +285,7 @@ module _ (t : Tree) where
           on true lx false ly e h = absurd (cc)
 
       loaded : (y : VType) → At a.locals b.locals n y → (w : Bool) → (is_of k y && is_whole b.locals n y) ≡ w →
-          (if w then pushed most y b else None) ≡ Some c → Found t (locals.load most k n) a c
+          (if w then pushed most y b else None) ≡ Some c → Found t (ProofNames.load most k n) a c
       loaded y one false w h = absurd (cc)
       loaded y one true w h =
           let parts = both (is_of k y) (is_whole b.locals n y) w in
@@ -299,7 +300,7 @@ module _ (t : Tree) where
             sharp = r.sharp;
           }
 
-      go : (o : Option VType) → slice_get b.locals n ≡ o → locals.load_from most k n b o ≡ Some c → Found t (locals.load most k n) a c
+      go : (o : Option VType) → slice_get b.locals n ≡ o → locals.load_from most k n b o ≡ Some c → Found t (ProofNames.load most k n) a c
       go None is h = absurd (cc)
       go (Some y) is h = loaded y (local_at a.locals b.locals n y sharp.locals is) (is_of k y && is_whole b.locals n y) refl h
 
@@ -310,24 +311,24 @@ module _ (t : Tree) where
       go true h = grind (arith, nat_tests)
       go false h = grind (arith, nat_tests)
 
-  pub store_kept : (k : Kind) (n : ℕ) → Keeps t (locals.store k n)
+  pub store_kept : (k : Kind) (n : ℕ) → Keeps t (ProofNames.store k n)
   unfolding all_fit
   store_kept k n a b c sharp e = go a.stack b.stack refl sharp.stack e
     where
       when : (x y : VType) (xs ys : List VType) → a.stack ≡ x ∷ xs → SharpItem x y → StackSharp t xs ys → (w : Bool) → (is_of k y && nat_le (n + length (places y)) (length b.locals)) ≡ w →
-          (if w then Some (record { locals = with_local b.locals n y; stack = ys; flag = b.flag }) else None) ≡ Some c → Found t (locals.store k n) a c
+          (if w then Some (record { locals = with_local b.locals n y; stack = ys; flag = b.flag }) else None) ≡ Some c → Found t (ProofNames.store k n) a c
       when x y xs ys at i rest false w h = absurd (cc)
       when x y xs ys at i rest true w h =
           let parts = both (is_of k y) (nat_le (n + length (places y)) (length b.locals)) w in
           let fits : nat_le (n + length (places x)) (length a.locals) ≡ true =
           ap (λ m. nat_le (n + m) (length a.locals)) (same_places t x y i) ∙ ap (λ m. nat_le (n + length (places y)) m) (same_length a.locals b.locals sharp.locals) ∙ parts.1 in
-          found t (locals.store k n) a (record { locals = with_local a.locals n x; stack = xs; flag = a.flag }) (record { locals = with_local b.locals n y; stack = ys; flag = b.flag }) c
+          found t (ProofNames.store k n) a (record { locals = with_local a.locals n x; stack = xs; flag = a.flag }) (record { locals = with_local b.locals n y; stack = ys; flag = b.flag }) c
           (ap (locals.store_on k n a) at
           ∙ ap (λ w. if w then Some (record { locals = with_local a.locals n x; stack = xs; flag = a.flag }) else None)
           (and_true (is_of k x) (nat_le (n + length (places x)) (length a.locals)) (kind_kept t k x y (sharp_of t x y i) parts.0) fits))
           (record { locals = with_sharp a.locals b.locals n x y (some_place n (length b.locals) y parts.1) i sharp.locals; stack = rest; flag = sharp.flag }) h
 
-      go : (xs ys : List VType) → a.stack ≡ xs → StackSharp t xs ys → locals.store_on k n b ys ≡ Some c → Found t (locals.store k n) a c
+      go : (xs ys : List VType) → a.stack ≡ xs → StackSharp t xs ys → locals.store_on k n b ys ≡ Some c → Found t (ProofNames.store k n) a c
       go xs [] at s h = absurd (cc)
       go [] (y ∷ ys) at s h = absurd (cc)
       go (x ∷ xs) (y ∷ ys) at s h =

@@ -23,7 +23,8 @@ use Rattle.jmeaning.specs.jrule.Arrays.{component, loaded, loaded_on, operands}
 use Rattle.jmeaning.specs.jrule.Effects.{held_as, holds, is_int, same_items}
 use Rattle.jmeaning.specs.jrule.Here.{Here}
 use Rattle.jmeaning.specs.jrule.Locals.{is_top}
-use Rattle.jmeaning.specs.jrule.Objects.{all_replaced, init, init_of, init_on, is_it, is_named, make, may_ready_this, readied, replaced}
+use Rattle.jmeaning.specs.jrule.Objects.{all_replaced, init, init_on, is_it, is_named, make, may_ready_this, readied}
+use Rattle.jmeaning.specs.ProofNames.{init_of, replaced}
 use Rattle.jmeaning.specs.jrule.Operands.{below, given, pushed, taken, with_stack}
 use Rattle.jmeaning.specs.jrule.Precise.{begins_with_top, item_precise, keeps_second, precise}
 use Rattle.jmeaning.specs.jrule.Uses.{arguments}

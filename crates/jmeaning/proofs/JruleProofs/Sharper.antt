@@ -9,7 +9,8 @@ use Rattle.jtypes.specs.declared.vtype.VType.TheVariants.{Top}
 use Rattle.jtypes.specs.Frames.{Frame, all_fit, implies, is_long, places, slots, within}
 use Rattle.jtypes.specs.Tree.{Tree}
 use Rattle.jmeaning.specs.jrule.Effects.{Exchange, Want, meets}
-use Rattle.jmeaning.specs.jrule.Moves.{move, moved, shuffled}
+use Rattle.jmeaning.specs.jrule.Moves.{move}
+use Rattle.jmeaning.specs.ProofNames.{moved, shuffled}
 use Rattle.jmeaning.specs.jrule.Moves as moves
 use Rattle.jmeaning.specs.jrule.Locals.{is_top}
 use Rattle.jmeaning.specs.jrule.Operands.{below, exchanged, given, taken, with_room, with_stack}

@@ -16,7 +16,8 @@ use Rattle.jtypes.specs.Frames.{Frame}
 use Rattle.jmeaning.specs.declared.jrule.frame.FrameRef.{FrameRef}
 use Rattle.jmeaning.specs.jrule.Operands.{pushed}
 use Rattle.jmeaning.specs.jrule.Seen.{seen}
-use Rattle.jmeaning.specs.jrule.Objects.{all_replaced, is_it, make, replaced}
+use Rattle.jmeaning.specs.jrule.Objects.{all_replaced, is_it, make}
+use Rattle.jmeaning.specs.ProofNames.{replaced}
 use Rattle.jmeaning.specs.jrule.Slots.{long_count, longs_in}
 use Rattle.jmeaning.specs.jrule.Swaps.{is_for, swapped}
 

@@ -20,7 +20,8 @@ use Rattle.jmeaning.specs.declared.juses.entries.Kept.TheVariants as kept
 use Rattle.jmeaning.specs.declared.juses.uses.Uses.{Uses}
 use Rattle.jmeaning.specs.juses.Types.{class_named, named}
 use Rattle.jmeaning.specs.juses.Typed.{Typed, class_type, name, there, typed}
-use Rattle.jmeaning.specs.juses.Meanings.{AClass, AField, AMethod, array_made, array_meant, as_class, call_as, call_meant, class_at, class_meant, entry_meant, field_as, field_entry, field_meant, index_of, meant, method_entry, reference, used}
+use Rattle.jmeaning.specs.juses.Meanings.{AClass, AField, AMethod, array_meant, call_as, call_meant, class_at, entry_meant, field_as, field_entry, field_meant, index_of, meant, method_entry, reference, used}
+use Rattle.jmeaning.specs.ProofNames.{array_made, as_class, class_meant}
 use Rattle.jmeaning.specs.juses.Tables.{AreKept, ArePartsKept, Grows, KeptWithin, KeptIs, desc_named, entries_at, entries_in, kept_in, kept_named, member_of, pool_at, pool_in}
 use Rattle.jmeaning.specs.juses.Uses.{AreUses}
 use Rattle.jmeaning.proofs.JusesProofs.Naming.{find_none, no_field, no_method}

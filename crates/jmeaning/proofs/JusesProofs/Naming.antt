@@ -14,8 +14,7 @@ use Rattle.jprogram.specs.declared.part.CodePart.{CodePart}
 use Rattle.jprogram.specs.declared.part.ClassRef.{ClassRef}
 use Rattle.jprogram.specs.declared.part.ClassRef.TheVariants as refs
 use Rattle.jprogram.specs.Parts.{this_name}
-use Rattle.jprogram.specs.Classes.{Class, Lib, Program, User, above, chain, extends, faces_of, find, found_at, known, name_at, object, onward, over, place_of, ref_of, superinterfaces, tree, up}
-use Rattle.jprogram.specs.Classes as classes
+use Rattle.jprogram.specs.Classes.{Class, Lib, Program, User, above, chain, extends, find, found_at, known, name_at, object, onward, over, place_of, ref_of, superinterfaces, tree, up, named, faces_of}
 use Rattle.jprogram.specs.Members.{field_at, field_in, init, method_at, method_in, resolve_field, resolve_method}
 use Rattle.jtypes.specs.Fitting.{class_fits}
 use Rattle.jprogram.proofs.Going.{place_named}
@@ -33,7 +32,7 @@ named_there p text o = option_map (class_named p) (option_map ref_of o) ≡ (if 
 user_there : (p : Program) (text : List ℕ) (i : ℕ) (o : Option CodePart) → place_of p.parts text ≡ Some i → slice_get p.parts i ≡ o → named_there p text (option_map (λ part. User i part.class) o)
 user_there p text i None at is = refl
 user_there p text i (Some part) at is =
-    let here : name_at p (refs.User i) ≡ this_name part.class = ap (λ (o : Option CodePart). classes.named (option_map (λ part. User i part.class) o)) is in
+    let here : name_at p (refs.User i) ≡ this_name part.class = ap (λ (o : Option CodePart). named (option_map (λ part. User i part.class) o)) is in
     ap (λ (n : List ℕ). Some (name n)) (here ∙ part_named p.parts text i part at is)
 
 lib_there : (p : Program) (text : List ℕ) (o : Option LibClass) → library.class_named p.side text ≡ o → named_there p text (option_map Lib o)

@@ -8,7 +8,7 @@ use Rattle.std.specs.Map.{lookup}
 use Rattle.std.proofs.lemmas.Bool.{cases_Bool}
 use Rattle.std.proofs.lemmas.Bool.Decides.{nat_tests}
 use Rattle.jparts.specs.declared.jpool.entry.Entry.{Entry}
-use Rattle.jparts.specs.jpool.Pools.{class_name_at, name_and_type_at, name_in, utf8_at}
+use Rattle.jparts.specs.jpool.Pools.{class_name_at, name_and_type_at, utf8_at}
 use Rattle.jprogram.specs.declared.member.Member.{Member}
 use Rattle.jprogram.specs.Classes.{Program}
 use Rattle.jprogram.specs.Members.{looked_up, referred, resolve_field, resolve_method}
@@ -21,6 +21,7 @@ use Rattle.jmeaning.specs.declared.juses.types.TypeRef.{TypeRef}
 use Rattle.jmeaning.specs.juses.Known.{AllAre, HasTexts, entry_of}
 use Rattle.jmeaning.specs.juses.Meanings.{entry_meant, field_entry, method_entry, reference}
 use Rattle.jmeaning.specs.juses.Tables.{KeptIs}
+use Rattle.jparts.specs.jpool.Entries.{class_parts}
 
 same_number : (a b : ℕ) → is_eq (nat_cmp a b) ≡ true → a ≡ b
 same_number a b e = grind (arith, nat_tests)
@@ -47,7 +48,7 @@ all_more {X} right i x old new all one h j y at = elim (cases_Bool (is_eq (nat_c
 -- ---- references of the same texts
 
 -- the class at an index is called by the text that it names
-pub class_named : (pool : List Entry) (class owner : ℕ) → name_in (slice_get pool class) ≡ Some owner → class_text pool class ≡ text pool owner
+pub class_named : (pool : List Entry) (class owner : ℕ) → option_and_then class_parts (slice_get pool class) ≡ Some owner → class_text pool class ≡ text pool owner
 unfolding class_name_at
 class_named pool class owner is = ap (λ (o : Option ℕ). or_empty (option_and_then (utf8_at pool) o)) is
 

@@ -18,6 +18,7 @@ use Rattle.jprogram.specs.Classes.{Program}
 use Rattle.jprogram.specs.Members.{looked_up, referred, resolve_field, resolve_method, resolved}
 use Rattle.jmeaning.specs.juses.Typed.{Typed, Untyped, Held, Called, name, typed}
 use Rattle.jmeaning.specs.juses.Meanings as meanings
+use Rattle.jmeaning.specs.ProofNames
 use Rattle.jmeaning.specs.juses.Meanings.{AClass, AConstant, AField, AMethod, EntryMeaning, Meaning, call_as, call_meant, entry_meant, field_as, field_entry, field_meant, index_of, meant, member_meant, method_entry, reference, used}
 use Rattle.jmeaning.specs.juses.Tables.{pool_at}
 use Rattle.jmeaning.proofs.JusesProofs.Keeping.{resolved_in}
@@ -82,7 +83,7 @@ Follows (Some (meanings.Field op f)) o = o ≡ Some f.member
 Follows (Some (meanings.Call by c)) o = o ≡ Some c.member
 Follows m o = Unit {0}
 
-short_follows : (e : EntryMeaning) (o : Option Member) → Follows (meanings.short_constant e) o
+short_follows : (e : EntryMeaning) (o : Option Member) → Follows (ProofNames.short_constant e) o
 short_follows (AConstant (meanings.Int n)) o = tt
 short_follows (AConstant (meanings.Long n)) o = tt
 short_follows (AConstant (meanings.Text t)) o = tt
@@ -90,7 +91,7 @@ short_follows (AClass t) o = tt
 short_follows (AField f) o = tt
 short_follows (AMethod is_init c) o = tt
 
-long_follows : (e : EntryMeaning) (o : Option Member) → Follows (meanings.long_constant e) o
+long_follows : (e : EntryMeaning) (o : Option Member) → Follows (ProofNames.long_constant e) o
 long_follows (AConstant (meanings.Int n)) o = tt
 long_follows (AConstant (meanings.Long n)) o = tt
 long_follows (AConstant (meanings.Text t)) o = tt
@@ -98,25 +99,25 @@ long_follows (AClass t) o = tt
 long_follows (AField f) o = tt
 long_follows (AMethod is_init c) o = tt
 
-field_follows : (op : FieldOp) (e : EntryMeaning) (o : Option Member) → Agrees (Some e) o → Follows (meanings.field_used op e) o
+field_follows : (op : FieldOp) (e : EntryMeaning) (o : Option Member) → Agrees (Some e) o → Follows (ProofNames.field_used op e) o
 field_follows op (AConstant n) o h = tt
 field_follows op (AClass t) o h = tt
 field_follows op (AField f) o h = h
 field_follows op (AMethod is_init c) o h = tt
 
-call_follows : (op : CallOp) (e : EntryMeaning) (o : Option Member) → Agrees (Some e) o → Follows (meanings.called_by op e) o
+call_follows : (op : CallOp) (e : EntryMeaning) (o : Option Member) → Agrees (Some e) o → Follows (ProofNames.called_by op e) o
 call_follows op (AConstant n) o h = tt
 call_follows op (AClass t) o h = tt
 call_follows op (AField f) o h = tt
 call_follows op (AMethod is_init c) o h = h
 
-interface_follows : (e : EntryMeaning) (o : Option Member) → Agrees (Some e) o → Follows (meanings.called_by_interface e) o
+interface_follows : (e : EntryMeaning) (o : Option Member) → Agrees (Some e) o → Follows (ProofNames.called_by_interface e) o
 interface_follows (AConstant n) o h = tt
 interface_follows (AClass t) o h = tt
 interface_follows (AField f) o h = tt
 interface_follows (AMethod is_init c) o h = h
 
-class_follows : (t : VType) (o : Option Member) → Follows (meanings.made (AClass t)) o
+class_follows : (t : VType) (o : Option Member) → Follows (ProofNames.made (AClass t)) o
 class_follows types.Top o = tt
 class_follows types.Int o = tt
 class_follows types.Long o = tt
@@ -127,13 +128,13 @@ class_follows (types.Object c) o = tt
 class_follows (types.Array a) o = tt
 class_follows types.Ctx o = tt
 
-made_follows : (e : EntryMeaning) (o : Option Member) → Follows (meanings.made e) o
+made_follows : (e : EntryMeaning) (o : Option Member) → Follows (ProofNames.made e) o
 made_follows (AConstant n) o = tt
 made_follows (AClass t) o = class_follows t o
 made_follows (AField f) o = tt
 made_follows (AMethod is_init c) o = tt
 
-cast_follows : (op : CastOp) (e : EntryMeaning) (o : Option Member) → Follows (meanings.cast_by op e) o
+cast_follows : (op : CastOp) (e : EntryMeaning) (o : Option Member) → Follows (ProofNames.cast_by op e) o
 cast_follows op (AConstant n) o = tt
 cast_follows op (AClass t) o = tt
 cast_follows op (AField f) o = tt

@@ -1,9 +1,7 @@
 -- Where fields stand: those of an object in its own list, those of classes in the one list of all statics.
-use Rattle.std.specs.Prelude.{ℕ, ◌+◌, Bool, not, ◌==◌, List, [], length, map, reverse, take, drop, Option, Some, None, option_map, if◌then◌else◌}
+use Rattle.std.specs.Prelude.{ℕ, ◌+◌, Bool, not, ◌==◌, List, [], length, map, reverse, take, drop, Option, Some, None, option_map, if◌then◌else◌, option_and_then}
 use Rattle.std.specs.List.{filter, flat_map}
-use Rattle.jparts.specs.declared.jpool.descriptor.Descriptor.{Descriptor}
 use Rattle.jparts.specs.declared.jpool.descriptor.Descriptor.TheVariants as descriptors
-use Rattle.jparts.specs.declared.jpool.descriptor.FieldType.{FieldType}
 use Rattle.jparts.specs.jpool.Descriptors.{descriptor_of}
 use Rattle.jclass.specs.declared.class.ClassParts.{ClassParts}
 use Rattle.jclass.specs.declared.class.MemberInfo.{MemberInfo}
@@ -17,7 +15,7 @@ use Rattle.jprogram.specs.declared.part.CodePart.{CodePart}
 use Rattle.jprogram.specs.Parts as parts
 use Rattle.jprogram.specs.Classes.{Class, Program, User, find, up}
 use Rattle.jprogram.specs.Members.{info_of}
-use Rattle.jmeaning.specs.juses.Typed.{Typed, Held, name, typed}
+use Rattle.jmeaning.specs.juses.Typed.{Held, name, typed}
 
 abbrev pub is_static : MemberInfo → Bool
 is_static m = parts.is_static m.flags
@@ -27,11 +25,8 @@ is_instance m = not (is_static m)
 
 -- ---- the fields of an object: those of the classes above first, in each class in its order
 
-abbrev pub held : Typed → VType
-held = elim [ Held t ↦ t | _ ↦ types.Top ]
-
 abbrev pub field_type : Program → ClassParts → MemberInfo → VType
-field_type p c m = held (typed p (parts.member_desc c m))
+field_type p c m = elim (typed p (parts.member_desc c m)) [ Held t ↦ t | _ ↦ types.Top ]
 
 abbrev pub own_types : Program → Option Class → List VType
 own_types p (Some (User i c)) = map (field_type p c) (filter is_instance c.fields)
@@ -71,13 +66,7 @@ slot p = elim [ Field i j ↦ option_map (λ one. place_among p i j one.0 one.1)
 
 -- ---- what a field holds
 
-abbrev pub element_by : FieldType → Option Element
-element_by t = if t.depth == 0 then element_of t.base (name t.class) else None
-
-abbrev pub element_in : Option Descriptor → Option Element
-element_in (Some (descriptors.Field t)) = element_by t
-element_in d = None
-
 -- what a field of a descriptor holds, where it is no array
 unfoldable pub element : List ℕ → Option Element
-element desc = element_in (descriptor_of desc)
+element desc =
+    option_and_then (elim [ descriptors.Field t ↦ if t.depth == 0 then element_of t.base (name t.class) else None | _ ↦ None ]) (descriptor_of desc)

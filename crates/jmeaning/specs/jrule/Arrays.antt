@@ -1,6 +1,5 @@
 -- The rule of instructions with arrays (JVMS 4.10.1.9). Null stands for an array in each of them.
 use Rattle.std.specs.Prelude.{ℕ, ◌-◌, List, [], ◌∷◌, map, Option, None, option_and_then}
-use Rattle.jground.specs.declared.jnames.kinds.Kind.{Kind}
 use Rattle.jground.specs.declared.jnames.kinds.Kind.TheVariants as kinds
 use Rattle.jparts.specs.declared.jcode.names.ArrayType as codes_of
 use Rattle.jparts.specs.declared.jcode.names.ArrayType.TheVariants as numbers
@@ -22,12 +21,8 @@ use Rattle.jmeaning.specs.jrule.Operands.{exchanged, pushed, taken}
 
 -- ---- what is taken
 
--- an operand of a kind; the array is one with items of the instruction's
-abbrev pub wanted : items.Element → Kind → Want
-wanted e = elim [ kinds.Array ↦ Holds e | k ↦ Of k ]
-
 abbrev pub operands : items.Element → ArrayForm → List Want
-operands e f = map (wanted e) (listed (array_effect f).takes)
+operands e f = map (elim [ kinds.Array ↦ Holds e | k ↦ Of k ]) (listed (array_effect f).takes)
 
 -- ---- what is given
 

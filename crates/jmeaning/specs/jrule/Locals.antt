@@ -27,9 +27,6 @@ is_whole locals n a = if is_long a then passes is_top (slice_get locals (n + 1))
 abbrev pub load_from : ℕ → Kind → ℕ → Frame → Option VType → Option Frame
 load_from most k n f = elim [ None ↦ None | Some a ↦ if is_of k a && is_whole f.locals n a then pushed most a f else None ]
 
-abbrev pub load : ℕ → Kind → ℕ → Frame → Option Frame
-load most k n f = load_from most k n f (slice_get f.locals n)
-
 -- ---- stores
 
 -- a long that begins in front of a local loses its second place
@@ -50,15 +47,12 @@ store_on k n f (a ∷ stack) =
     if is_of k a && nat_le (n + length (places a)) (length f.locals)
     then Some (record { locals = with_local f.locals n a; stack = stack; flag = f.flag }) else None
 
-abbrev pub store : Kind → ℕ → Frame → Option Frame
-store k n f = store_on k n f f.stack
-
 -- ---- all
 
 abbrev pub increment : ℕ → Frame → Option Frame
 increment n f = if passes is_int (slice_get f.locals n) then Some f else None
 
 abbrev pub local : ℕ → LocalForm → Frame → Option Frame
-local most (Move Load kind n) = load most (forms.local kind) n
-local most (Move Store kind n) = store (forms.local kind) n
+local most (Move Load kind n) = λ f. load_from most (forms.local kind) n f (slice_get f.locals n)
+local most (Move Store kind n) = λ f. store_on (forms.local kind) n f f.stack
 local most (Increment n by) = increment n

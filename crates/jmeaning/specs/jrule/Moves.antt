@@ -2,7 +2,7 @@
 -- which it is, so that no item stands there or below.
 use Rattle.std.specs.Prelude.{ℕ, ◌++◌, List, [], ◌∷◌, drop, Option, option_map, option_and_then, if◌then◌else◌}
 use Rattle.jground.specs.declared.jnames.names.Shuffle.{Shuffle}
-use Rattle.jground.specs.jops.Shuffles.{Item, One, Two, Move, shuffle}
+use Rattle.jground.specs.jops.Shuffles.{Item, One, Two, shuffle}
 use Rattle.jtypes.specs.declared.vtype.VType.{VType}
 use Rattle.jtypes.specs.Frames.{Frame, is_long}
 use Rattle.jmeaning.specs.jrule.Locals.{is_top}
@@ -16,12 +16,5 @@ unfoldable pub items : List VType → List (Item VType)
 items [] = []
 items (a ∷ stack) = if is_top a then [] else item a ∷ items stack
 
-abbrev pub moved : List VType → Move VType → List VType
-moved stack m = m.put ++ drop m.taken stack
-
--- the operands behind a move
-abbrev pub shuffled : Shuffle → List VType → Option (List VType)
-shuffled s stack = option_map (moved stack) (shuffle s (items stack))
-
 abbrev pub move : ℕ → Shuffle → Frame → Option Frame
-move most s f = option_and_then (with_room most f) (shuffled s f.stack)
+move most s f = option_and_then (with_room most f) (option_map (λ m. m.put ++ drop m.taken f.stack) (shuffle s (items f.stack)))

@@ -17,18 +17,11 @@ use Rattle.jmeaning.specs.jrule.Uses.{arguments}
 
 -- ---- objects before their `<init>`
 
-abbrev pub is_uninit : ℕ → VType → Bool
-is_uninit o = elim [ Uninit at ↦ at == o | _ ↦ false ]
-
 abbrev pub is_it : Unready → VType → Bool
-is_it x a = elim x [ unready.This ↦ is_uninit_this a | unready.New o ↦ is_uninit o a ]
-
--- what stands for the object stands for another type
-abbrev pub replaced : Unready → VType → VType → VType
-replaced old new a = if is_it old a then new else a
+is_it x a = elim x [ unready.This ↦ is_uninit_this a | unready.New o ↦ elim a [ Uninit at ↦ at == o | _ ↦ false ] ]
 
 abbrev pub all_replaced : Unready → VType → List VType → List VType
-all_replaced old new = map (replaced old new)
+all_replaced old new = map (λ a. if is_it old a then new else a)
 
 -- ---- new
 
@@ -59,9 +52,5 @@ init_on here owner f (Uninit o ∷ stack) = if is_named owner (here.makes o) the
 init_on here owner f (UninitThis ∷ stack) = if may_ready_this here owner then Some (readied unready.This here.class false f.locals stack) else None
 init_on here owner f stack = None
 
--- an `<init>` of a class, where its arguments are gone and the object is the newest operand
-abbrev pub init_of : Here → Name → Frame → Option Frame
-init_of here owner f = init_on here owner f f.stack
-
 abbrev pub init : Tree → Here → CallMeaning → Frame → Option Frame
-init t here c f = option_and_then (given here.max_stack c.ret) (option_and_then (init_of here c.owner) (taken t (arguments c) f))
+init t here c f = option_and_then (given here.max_stack c.ret) (option_and_then (λ f. init_on here c.owner f f.stack) (taken t (arguments c) f))

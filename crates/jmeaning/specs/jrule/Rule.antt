@@ -17,7 +17,8 @@ use Rattle.jmeaning.specs.jrule.Locals.{local}
 use Rattle.jmeaning.specs.jrule.Moves.{move}
 use Rattle.jmeaning.specs.jrule.Objects.{init, make}
 use Rattle.jmeaning.specs.jrule.Operands.{exchanged}
-use Rattle.jmeaning.specs.jrule.Straight.{jump, leave, simple, switch, throw}
+use Rattle.jmeaning.specs.jrule.Straight.{jump, leave, simple}
+use Rattle.jmeaning.specs.ProofNames.{switch, throw}
 use Rattle.jmeaning.specs.jrule.Uses.{exchange}
 
 -- an `<init>` may write the fields that its class declares before another is called on `this`, whatever class the reference names

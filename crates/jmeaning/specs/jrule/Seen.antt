@@ -18,7 +18,7 @@ use Rattle.jmeaning.specs.declared.jrule.place.HereRef.{HereRef}
 use Rattle.jmeaning.specs.declared.jrule.moves.Item.{Item}
 use Rattle.jmeaning.specs.declared.jrule.moves.Item.TheVariants as by
 use Rattle.jmeaning.specs.jrule.Here.{Here}
-use Rattle.jmeaning.specs.jrule.Uses.{string}
+use Rattle.jmeaning.specs.ProofNames.{string}
 
 abbrev pub seen : Program → FrameRef → Frame
 seen p f = record { locals = map (named p) f.locals; stack = map (named p) f.stack; flag = f.flag }

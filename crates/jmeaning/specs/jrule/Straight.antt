@@ -30,9 +30,6 @@ tested = elim [ Always ↦ taken_kinds.None | If t ↦ taken_kinds.One kinds.Int
 abbrev pub jump : Tree → Test → Frame → Option Frame
 jump t test = taken t (of_kinds (tested test))
 
-abbrev pub switch : Tree → Frame → Option Frame
-switch t = taken t (Of kinds.Int ∷ [])
-
 -- ---- returns and throws
 
 -- what is returned is what the method returns
@@ -51,9 +48,6 @@ may_leave is_init x flag = elim x [ results.Nothing ↦ not (is_init && flag) | 
 abbrev pub leave : Tree → Bool → Option VType → Returned → Frame → Option Frame
 leave t is_init ret kind f = if returns kind ret && may_leave is_init kind f.flag then taken t (map Fits (option_to_list ret)) f else None
 
-abbrev pub throw : Tree → Frame → Option Frame
-throw t = taken t (Fits throwable ∷ [])
-
 -- ---- all
 
 -- of a form, wherever it leads
@@ -62,6 +56,6 @@ flow t is_init ret (flows.If test by) = jump t (If test)
 flow t is_init ret (flows.IfInt test by) = jump t (IfInt test)
 flow t is_init ret (flows.IfRef test by) = jump t (IfRef test)
 flow t is_init ret (flows.Goto by) = jump t Always
-flow t is_init ret (flows.Switch s) = switch t
+flow t is_init ret (flows.Switch s) = taken t (Of kinds.Int ∷ [])
 flow t is_init ret (flows.Return kind) = leave t is_init ret kind
-flow t is_init ret flows.Throw = throw t
+flow t is_init ret flows.Throw = taken t (Fits throwable ∷ [])

@@ -1,7 +1,6 @@
 -- What instructions take and give that mean something by the pool (JVMS 4.10.1.9), read by the typing rule and the machine alike.
 use Rattle.std.specs.Prelude.{Bool, List, [], ◌∷◌, ◌++◌, map, if◌then◌else◌}
 use Rattle.jground.specs.declared.jnames.kinds.Kind.TheVariants as kinds
-use Rattle.jparts.specs.declared.jcode.names.CastOp.{CastOp}
 use Rattle.jparts.specs.declared.jcode.names.CastOp.TheVariants as casts
 use Rattle.jparts.specs.declared.jcode.names.FieldOp.{FieldOp}
 use Rattle.jparts.specs.declared.jcode.names.FieldOp.TheVariants as fields
@@ -25,16 +24,13 @@ use Rattle.jmeaning.specs.jrule.Effects.{Exchange, Fits, Of, OrThis, Want, gives
 abbrev pub of_library : LibClass → VType
 of_library c = Object (name (library.name_of c))
 
-abbrev pub string : VType
-string = of_library lib.String
-
 abbrev pub throwable : VType
 throwable = of_library (lib.Thrown thrown.Throwable)
 
 -- ---- constants
 
 abbrev pub constant : Pushed → VType
-constant = elim [ meanings.Int n ↦ Int | meanings.Long n ↦ Long | meanings.Text s ↦ string ]
+constant = elim [ meanings.Int n ↦ Int | meanings.Long n ↦ Long | meanings.Text s ↦ of_library lib.String ]
 
 -- ---- fields
 
@@ -62,9 +58,6 @@ of_call this by c = record { takes = arguments c ++ receiver this by c.owner; gi
 
 -- ---- casts
 
-abbrev pub of_cast : CastOp → VType → Exchange
-of_cast x t = elim x [ casts.CheckCast ↦ gives (Of kinds.Ref ∷ []) t | casts.InstanceOf ↦ gives (Of kinds.Ref ∷ []) Int ]
-
 -- ---- all
 
 -- What is taken and given, by the class `this` in which the instruction stands. `own` are the fields that may be written while `this`
@@ -75,4 +68,4 @@ exchange own this (meanings.Field op f) = of_field own this op f
 exchange own this (meanings.Call by c) = of_call this by c
 exchange own this (meanings.Make c) = takes []
 exchange own this (meanings.MakeArray t) = gives (Of kinds.Int ∷ []) t
-exchange own this (meanings.Cast op t) = of_cast op t
+exchange own this (meanings.Cast op t) = elim op [ casts.CheckCast ↦ gives (Of kinds.Ref ∷ []) t | casts.InstanceOf ↦ gives (Of kinds.Ref ∷ []) Int ]

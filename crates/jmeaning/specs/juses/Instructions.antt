@@ -91,15 +91,12 @@ flow ops at (flows.Switch s) = switch ops at s
 flow ops at (flows.Return kind) = Some (Return kind)
 flow ops at flows.Throw = Some Throw
 
-abbrev pub array : Program → List Entry → ArrayForm → Option Instruction
-array p pool = elim [ arrays.NewRef i ↦ option_map Used (array_meant p pool i) | f ↦ Some (Array f) ]
-
 abbrev pub by_form : Program → List Entry → List Placed → ℕ → Form SwitchOp → Option Instruction
 by_form p pool ops at (forms.Simple f) = Some (Simple f)
 by_form p pool ops at (forms.Local f) = Some (Local f)
 by_form p pool ops at (forms.Stack f) = Some (Stack f)
 by_form p pool ops at (forms.Flow f) = flow ops at f
-by_form p pool ops at (forms.Array f) = array p pool f
+by_form p pool ops at (forms.Array f) = elim f [ arrays.NewRef i ↦ option_map Used (array_meant p pool i) | f ↦ Some (Array f) ]
 by_form p pool ops at (forms.Pool f) = option_map Used (meant p pool f)
 
 -- what an instruction among those of its method is; none where it leads to none, or where its entry stands for nothing

@@ -1,11 +1,11 @@
 -- What is noted of a pool while its entries are looked at, so that what several of them name is looked at once.
-use Rattle.std.specs.Prelude.{◌≡◌, ℕ, List, Some, slice_get}
+use Rattle.std.specs.Prelude.{◌≡◌, ℕ, List, Some, slice_get, option_and_then}
 use Rattle.std.specs.Ordering.{nat_cmp}
 use Rattle.std.specs.BTreeMap as tree
 use Rattle.std.specs.BTreeMap.{BTreeMap}
 use Rattle.jparts.specs.declared.jpool.entry.Entry.{Entry}
 use Rattle.jparts.specs.declared.jpool.entry.Entry.TheVariants as entries
-use Rattle.jparts.specs.jpool.Pools.{name_and_type_at, name_in}
+use Rattle.jparts.specs.jpool.Pools.{name_and_type_at}
 use Rattle.jprogram.specs.Classes.{Program}
 use Rattle.jmeaning.specs.declared.juses.entries.Kept.{Kept}
 use Rattle.jmeaning.specs.declared.juses.indices.Indices.{Indices}
@@ -14,6 +14,7 @@ use Rattle.jmeaning.specs.declared.juses.noted.Refers.{Refers}
 use Rattle.jmeaning.specs.declared.juses.noted.Refers.TheVariants as refers
 use Rattle.jmeaning.specs.declared.juses.types.TypeRef.{TypeRef}
 use Rattle.jmeaning.specs.juses.Tables.{KeptIs}
+use Rattle.jparts.specs.jpool.Entries.{class_parts}
 
 -- what is noted at each number is right
 abbrev pub AllAre : {X : Type 0} → (ℕ → X → Type 0) → BTreeMap ℕ X → Type 0
@@ -21,7 +22,7 @@ AllAre {X} right noted = (i : ℕ) (x : X) → tree.get nat_cmp noted i ≡ Some
 
 -- The texts of a reference, by the indices of its class and of its name and type.
 pub record HasTexts (pool : List Entry) (class both : ℕ) (at : Indices) : Type 0 where
-  pub named : name_in (slice_get pool class) ≡ Some at.owner
+  pub named : option_and_then class_parts (slice_get pool class) ≡ Some at.owner
   pub says : name_and_type_at pool both ≡ Some (at.name, at.desc)
 
 abbrev pub entry_of : Refers → ℕ → ℕ → Entry

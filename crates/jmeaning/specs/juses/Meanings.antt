@@ -98,9 +98,6 @@ pub data EntryMeaning : Type 0 where
   -- an `<init>`, or another method
   AMethod : Bool → CallMeaning → EntryMeaning
 
-abbrev pub class_meant : Program → Option (List ℕ) → Option EntryMeaning
-class_meant p text = option_map AClass (option_and_then (class_type p) text)
-
 abbrev pub field_entry : Program → Reference → Option EntryMeaning
 field_entry p r = option_map AField (field_meant p r)
 
@@ -112,7 +109,7 @@ unfoldable pub entry_meant : Program → List Entry → Option Entry → Option 
 entry_meant p pool (Some (entries.Integer n)) = Some (AConstant (Int n))
 entry_meant p pool (Some (entries.Long n)) = Some (AConstant (Long n))
 entry_meant p pool (Some (entries.Str i)) = Some (AConstant (Text (text pool i)))
-entry_meant p pool (Some (entries.Class i)) = class_meant p (utf8_at pool i)
+entry_meant p pool (Some (entries.Class i)) = option_map AClass (option_and_then (class_type p) (utf8_at pool i))
 entry_meant p pool (Some (entries.Field class both)) = option_and_then (λ b. field_entry p (reference pool class b)) (name_and_type_at pool both)
 entry_meant p pool (Some (entries.Method class both)) = option_and_then (λ b. method_entry p (reference pool class b)) (name_and_type_at pool both)
 entry_meant p pool (Some (entries.InterfaceMethod class both)) = option_and_then (λ b. method_entry p (reference pool class b)) (name_and_type_at pool both)
@@ -120,48 +117,20 @@ entry_meant p pool _ = None
 
 -- ---- what an instruction makes of it
 
--- an int or a string
-abbrev pub short_constant : EntryMeaning → Option Meaning
-short_constant (AConstant (Int n)) = Some (Push (Int n))
-short_constant (AConstant (Text t)) = Some (Push (Text t))
-short_constant _ = None
-
-abbrev pub long_constant : EntryMeaning → Option Meaning
-long_constant (AConstant (Long n)) = Some (Push (Long n))
-long_constant _ = None
-
-abbrev pub field_used : FieldOp → EntryMeaning → Option Meaning
-field_used op = elim [ AField f ↦ Some (Field op f) | _ ↦ None ]
-
 -- a special call of an `<init>` is a case of its own
 abbrev pub how_of : CallOp → Bool → How
 how_of x is_init = elim x [ calls.Virtual ↦ how.Virtual | calls.Special ↦ if is_init then how.Init else how.Special | calls.Static ↦ how.Static ]
 
-abbrev pub called_by : CallOp → EntryMeaning → Option Meaning
-called_by op = elim [ AMethod is_init c ↦ Some (Call (how_of op is_init) c) | _ ↦ None ]
-
-abbrev pub called_by_interface : EntryMeaning → Option Meaning
-called_by_interface = elim [ AMethod is_init c ↦ Some (Call how.Interface c) | _ ↦ None ]
-
--- no object is made of an array's class
-abbrev pub made : EntryMeaning → Option Meaning
-made (AClass (types.Object c)) = Some (Make c)
-made _ = None
-
-abbrev pub array_made : EntryMeaning → Option Meaning
-array_made = elim [ AClass t ↦ option_map MakeArray (array_over t) | _ ↦ None ]
-
-abbrev pub cast_by : CastOp → EntryMeaning → Option Meaning
-cast_by op = elim [ AClass t ↦ Some (Cast op t) | _ ↦ None ]
-
 abbrev pub used : PoolForm → EntryMeaning → Option Meaning
-used (forms.Constant i) e = short_constant e
-used (forms.LongConstant i) e = long_constant e
-used (forms.Field op i) e = field_used op e
-used (forms.Call op i) e = called_by op e
-used (forms.CallInterface i slots) e = called_by_interface e
-used (forms.New i) e = made e
-used (forms.Cast op i) e = cast_by op e
+used (forms.Constant i) (AConstant (Int n)) = Some (Push (Int n))
+used (forms.Constant i) (AConstant (Text t)) = Some (Push (Text t))
+used (forms.LongConstant i) (AConstant (Long n)) = Some (Push (Long n))
+used (forms.Field op i) (AField f) = Some (Field op f)
+used (forms.Call op i) (AMethod is_init c) = Some (Call (how_of op is_init) c)
+used (forms.CallInterface i slots) (AMethod is_init c) = Some (Call how.Interface c)
+used (forms.New i) (AClass (types.Object c)) = Some (Make c)
+used (forms.Cast op i) (AClass t) = Some (Cast op t)
+used f e = None
 
 abbrev pub index_of : PoolForm → ℕ
 index_of (forms.Constant i) = i
@@ -178,7 +147,7 @@ meant p pool f = option_and_then (used f) (entry_meant p pool (slice_get pool (i
 
 -- what the instruction means that makes an array of the class at an index
 unfoldable pub array_meant : Program → List Entry → ℕ → Option Meaning
-array_meant p pool i = option_and_then array_made (entry_meant p pool (slice_get pool i))
+array_meant p pool i = option_and_then (elim [ AClass t ↦ option_map MakeArray (array_over t) | _ ↦ None ]) (entry_meant p pool (slice_get pool i))
 
 -- the member of a field or of a call
 abbrev pub member_meant : Meaning → Option Member
@@ -186,12 +155,9 @@ member_meant (Field op f) = Some f.member
 member_meant (Call by c) = Some c.member
 member_meant m = None
 
-abbrev pub as_class : EntryMeaning → Option VType
-as_class = elim [ AClass t ↦ Some t | _ ↦ None ]
-
 -- the type of the class at an index
 unfoldable pub class_at : Program → List Entry → ℕ → Option VType
-class_at p pool i = option_and_then as_class (entry_meant p pool (slice_get pool i))
+class_at p pool i = option_and_then (elim [ AClass t ↦ Some t | _ ↦ None ]) (entry_meant p pool (slice_get pool i))
 
 -- ---- by number
 

@@ -1,7 +1,6 @@
 -- What is kept of a program by number: what each descriptor of a pool says, and what each entry stands for.
-use Rattle.std.specs.Prelude.{◌≡◌, ℕ, ◌+◌, ◌≤◌, List, [], ◌∷◌, ◌++◌, length, map, Option, Some, None, option_map, slice_get}
+use Rattle.std.specs.Prelude.{◌≡◌, ℕ, ◌+◌, ◌≤◌, List, [], ◌∷◌, ◌++◌, length, map, Option, Some, None, option_map, slice_get, option_and_then}
 use Rattle.jparts.specs.declared.jpool.entry.Entry.{Entry}
-use Rattle.jparts.specs.jpool.Pools.{text_in}
 use Rattle.jprogram.specs.declared.member.Member.{Member}
 use Rattle.jprogram.specs.declared.part.CodePart.{CodePart}
 use Rattle.jprogram.specs.Parts.{or_empty}
@@ -16,6 +15,7 @@ use Rattle.jmeaning.specs.declared.juses.entries.Kept.TheVariants as kept
 use Rattle.jmeaning.specs.juses.Types.{named}
 use Rattle.jmeaning.specs.juses.Typed.{Typed, Untyped, Held, Called, typed}
 use Rattle.jmeaning.specs.juses.Meanings.{EntryMeaning, AConstant, AClass, AField, AMethod, call_named, entry_meant, field_named, pushed_named, spanned}
+use Rattle.jparts.specs.jpool.Entries.{utf8_parts}
 
 -- ---- lists
 
@@ -52,7 +52,7 @@ pub record DescIs (p : Program) (types : List TypeRef) (d : DescUse) (t : Typed)
 
 -- what the text of an entry says as a descriptor; an entry that has none says nothing
 abbrev pub entry_typed : Program → Option Entry → Typed
-entry_typed p e = typed p (or_empty (text_in e))
+entry_typed p e = typed p (or_empty (option_and_then utf8_parts e))
 
 -- Of each entry, what its text says as a descriptor.
 pub record AreDescs (p : Program) (types : List TypeRef) (entries : List Entry) (uses : List DescUse) : Type 0 where

@@ -67,9 +67,6 @@ pub data Typed : Type 0 where
   -- of a method: its parameters, the newest first, as operands stand, and what it returns
   Called : List VType → Option VType → Typed
 
-abbrev pub held : Option VType → Typed
-held = elim [ None ↦ Untyped | Some t ↦ Held t ]
-
 abbrev pub called : Option (List VType) → Option (Option VType) → Typed
 called (Some params) (Some ret) = Called (reverse params) ret
 called params ret = Untyped
@@ -79,7 +76,7 @@ return_in p = elim [ None ↦ Some None | Some t ↦ option_map Some (type_in p 
 
 abbrev pub typed_as : Program → Option Descriptor → Typed
 typed_as p None = Untyped
-typed_as p (Some (descriptors.Field t)) = held (type_in p t)
+typed_as p (Some (descriptors.Field t)) = elim (type_in p t) [ None ↦ Untyped | Some t ↦ Held t ]
 typed_as p (Some (descriptors.Method params ret)) = called (each_some (type_in p) params) (return_in p ret)
 
 -- what a descriptor says in a program

@@ -2,7 +2,7 @@ ghost use Rattle.std.specs.Prelude.{◌≡◌, IfOk, option_map};
 ghost use Rattle.jmeaning.specs.juses.Typed.{typed};
 ghost use Rattle.jmeaning.specs.juses.Types.{named};
 ghost use Rattle.jmeaning.specs.jlayout.Kinds.{or_top};
-ghost use Rattle.jmeaning.specs.jlayout.Layout;
+ghost use Rattle.jmeaning.specs.ProofNames;
 
 use crate::juses::{TypeRef, type_in};
 use jparts::jpool::{DescError, Descriptor, read_descriptor};
@@ -17,7 +17,7 @@ pub fn held_type(
     p: &NamedProgram,
     desc: &[u8],
 ) -> Result<Option<TypeRef>, AllocError>
-    ensures { IfOk result (λ t. or_top (option_map (named p.now) t) ≡ Layout.held (typed p.now desc.now)) }
+    ensures { IfOk result (λ t. or_top (option_map (named p.now) t) ≡ ProofNames.held_type (typed p.now desc.now)) }
 {
     match read_descriptor(alloc, desc) {
         Ok(Descriptor::Field(t)) => Ok(type_in(p, &t)),

@@ -3,6 +3,7 @@ ghost use Rattle.jparts.specs.jcode.Forms as forms;
 ghost use Rattle.jmeaning.specs.juses.Types.{named};
 ghost use Rattle.jtypes.specs.Frames;
 ghost use Rattle.jmeaning.specs.jrule.Locals as rule;
+ghost use Rattle.jmeaning.specs.ProofNames;
 ghost use Rattle.jmeaning.specs.jrule.Seen.{seen};
 ghost use Rattle.jmeaning.specs.jrule.Slots.{size};
 
@@ -62,7 +63,7 @@ fn load(
     n: u16,
     f: FrameRef,
 ) -> Result<Option<FrameRef>, AllocError>
-    ensures { IfOk result (λ r. option_map (seen p.now) r ≡ rule.load most kind n (seen p.now f)) }
+    ensures { IfOk result (λ r. option_map (seen p.now) r ≡ ProofNames.load most kind n (seen p.now f)) }
 {
     let Some(t) = type_at(p, &f.locals, n) else {
         return Ok(None);
@@ -136,7 +137,7 @@ fn store(
     n: u16,
     mut f: FrameRef,
 ) -> Result<Option<FrameRef>, AllocError>
-    ensures { IfOk result (λ r. option_map (seen p.now) r ≡ rule.store kind n (seen p.now f)) }
+    ensures { IfOk result (λ r. option_map (seen p.now) r ≡ ProofNames.store kind n (seen p.now f)) }
 {
     let Some(t) = f.stack.pop() else {
         return Ok(None);

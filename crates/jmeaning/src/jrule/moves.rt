@@ -2,7 +2,8 @@ ghost use Rattle.std.specs.Prelude.{◌≡◌, ◌∷◌, [], IfOk, IfSome, Matc
 ghost use Rattle.jground.specs.jops.Shuffles as slots;
 ghost use Rattle.jmeaning.specs.juses.Types.{named};
 ghost use Rattle.jmeaning.specs.jrule.Moves;
-ghost use Rattle.jmeaning.specs.jrule.Moves.{items, moved, shuffled};
+ghost use Rattle.jmeaning.specs.jrule.Moves.{items};
+ghost use Rattle.jmeaning.specs.ProofNames.{moved, shuffled};
 ghost use Rattle.jmeaning.specs.jrule.Seen.{item_type, seen, seen_item};
 
 use crate::jrule::frame::{FrameRef, Stack};

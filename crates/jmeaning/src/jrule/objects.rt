@@ -2,7 +2,8 @@ ghost use Rattle.std.specs.Prelude.{◌≡◌, IfOk, map, option_map};
 ghost use Rattle.jprogram.specs.Classes.{tree};
 ghost use Rattle.jmeaning.specs.juses.Types.{class_named, named};
 ghost use Rattle.jmeaning.specs.jrule.Objects;
-ghost use Rattle.jmeaning.specs.jrule.Objects.{all_replaced, init_of, is_named, may_ready_this, readied, same_name};
+ghost use Rattle.jmeaning.specs.jrule.Objects.{all_replaced, is_named, may_ready_this, readied, same_name};
+ghost use Rattle.jmeaning.specs.ProofNames.{init_of};
 ghost use Rattle.jmeaning.specs.jrule.Seen.{seen, seen_call, seen_here};
 
 use crate::jrule::frame::FrameRef;

@@ -7,6 +7,7 @@ ghost use Rattle.jmeaning.specs.jrule.Effects.{Fits};
 ghost use Rattle.jmeaning.specs.jrule.Operands.{taken};
 ghost use Rattle.jmeaning.specs.jrule.Seen.{seen};
 ghost use Rattle.jmeaning.specs.jrule.Straight;
+ghost use Rattle.jmeaning.specs.ProofNames;
 
 use crate::jrule::frame::FrameRef;
 use crate::jrule::kinds::is_ref;
@@ -89,7 +90,7 @@ fn leave(
 }
 
 fn throw(p: &NamedProgram, f: FrameRef) -> Option<FrameRef>
-    ensures { option_map (seen p.now) result ≡ Straight.throw (tree p.now) (seen p.now f) }
+    ensures { option_map (seen p.now) result ≡ ProofNames.throw (tree p.now) (seen p.now f) }
 {
     take_fitting(
         p,

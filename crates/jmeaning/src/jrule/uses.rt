@@ -7,6 +7,7 @@ ghost use Rattle.jmeaning.specs.jrule.Operands.{exchanged, taken};
 ghost use Rattle.jmeaning.specs.jrule.Rule;
 ghost use Rattle.jmeaning.specs.jrule.Seen.{constant_named, seen, seen_call};
 ghost use Rattle.jmeaning.specs.jrule.Uses;
+ghost use Rattle.jmeaning.specs.ProofNames;
 
 use crate::jrule::frame::FrameRef;
 use crate::jrule::operands::{give, put, take_arguments, take_fitting, take_kind};
@@ -67,7 +68,7 @@ pub fn cast(
     t: TypeRef,
     f: FrameRef,
 ) -> Result<Option<FrameRef>, AllocError>
-    ensures { IfOk result (λ r. option_map (seen p.now) r ≡ exchanged (tree p.now) most (Uses.of_cast op (named p.now t)) (seen p.now f)) }
+    ensures { IfOk result (λ r. option_map (seen p.now) r ≡ exchanged (tree p.now) most (ProofNames.of_cast op (named p.now t)) (seen p.now f)) }
 {
     let Some(f) = take_kind(p, Kind::Ref, f) else {
         return Ok(None);

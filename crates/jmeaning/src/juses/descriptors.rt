@@ -1,11 +1,11 @@
-ghost use Rattle.std.specs.Prelude.{◌≡◌, ◌++◌, IfOk, Some, length, map, option_map, reverse, slice_get};
+ghost use Rattle.std.specs.Prelude.{◌≡◌, ◌++◌, IfOk, Some, length, map, option_map, reverse, slice_get, option_and_then};
 ghost use Rattle.jground.specs.jbase.Each.{each_some};
-ghost use Rattle.jparts.specs.jpool.Pools.{text_in};
 ghost use Rattle.jprogram.specs.Parts.{or_empty};
 ghost use Rattle.jmeaning.specs.juses.Tables;
 ghost use Rattle.jmeaning.specs.juses.Tables.{AreDescs, DescIs, Grows};
 ghost use Rattle.jmeaning.specs.juses.Typed;
 ghost use Rattle.jmeaning.specs.juses.Types.{named};
+ghost use Rattle.jparts.specs.jpool.Entries.{utf8_parts};
 
 use crate::juses::meaning::Span;
 use crate::juses::types::TypeRef;
@@ -125,7 +125,7 @@ fn desc_use(
 
 /// The text of an entry, empty where it has none.
 fn text_of(entry: &Entry) -> &[u8]
-    ensures { result.now ≡ or_empty (text_in (Some entry.now)) }
+    ensures { result.now ≡ or_empty (option_and_then utf8_parts (Some entry.now)) }
 {
     match entry {
         Entry::Utf8(text) => text.as_slice(),

@@ -3,6 +3,7 @@ ghost use Rattle.jprogram.specs.Classes;
 ghost use Rattle.jprogram.specs.Classes.{name_at, tree};
 ghost use Rattle.jtypes.specs.declared.vtype.VType.TheVariants.{Object};
 ghost use Rattle.jtypes.specs.Fitting;
+ghost use Rattle.jtypes.specs.ProofNames;
 ghost use Rattle.jmeaning.specs.juses.Types.{class_named, element_named, named};
 
 use crate::juses::types::{ArrayRef, ElementRef, TypeRef};
@@ -54,7 +55,7 @@ fn class_fits(p: &NamedProgram, c: ClassRef, d: ClassRef) -> bool
 }
 
 fn is_above_array(p: &NamedProgram, x: ElementRef) -> bool
-    ensures { result ≡ Fitting.is_above_array Fitting.is_above_arrays (element_named p.now x) }
+    ensures { result ≡ ProofNames.is_above_array Fitting.is_above_arrays (element_named p.now x) }
 {
     match x {
         ElementRef::Class(c) => is_above_arrays(p, c),

@@ -1,6 +1,7 @@
-ghost use Rattle.std.specs.Prelude.{◌≡◌, ◌<◌, ◌^◌, IfSome, Some, slice_get, true};
-ghost use Rattle.jparts.specs.jpool.Pools.{name_and_type_at, name_in};
+ghost use Rattle.std.specs.Prelude.{◌≡◌, ◌<◌, ◌^◌, IfSome, Some, slice_get, true, option_and_then};
+ghost use Rattle.jparts.specs.jpool.Pools.{name_and_type_at};
 ghost use Rattle.jmeaning.specs.juses.Known.{HasTexts};
+ghost use Rattle.jparts.specs.jpool.Entries.{class_parts};
 
 use jparts::jpool::{Entry, Pool};
 
@@ -14,7 +15,7 @@ pub struct Indices {
 
 /// The index of the text that the class at an index names.
 fn class_name_index(pool: &Pool, i: u16) -> Option<u16>
-    ensures { result ≡ name_in (slice_get pool.now i) }
+    ensures { result ≡ option_and_then class_parts (slice_get pool.now i) }
 {
     match pool.entry(i) {
         Some(Entry::Class(name)) => Some(*name),

@@ -2,6 +2,7 @@ ghost use Rattle.std.specs.Prelude.{◌≡◌, pos, ◌+ℤ◌, IfOk, option_and
 ghost use Rattle.jground.specs.jbase.Each.{each_some};
 ghost use Rattle.jparts.specs.jcode.Forms;
 ghost use Rattle.jmeaning.specs.juses.Instructions;
+ghost use Rattle.jmeaning.specs.ProofNames;
 ghost use Rattle.jmeaning.specs.juses.Meanings.{array_meant, meaning_of, meant};
 ghost use Rattle.jmeaning.specs.juses.Numbered.{AreCode, flow_named, instruction_named, key_at, keyed_as, keys_of, test_of};
 ghost use Rattle.jmeaning.specs.juses.Tables.{pool_at};
@@ -233,7 +234,7 @@ fn by_index(p: &NamedProgram, uses: &Uses, class: u32, i: u16) -> Option<Instruc
 
 fn by_array(p: &NamedProgram, uses: &Uses, class: u32, form: ArrayForm) -> Option<InstructionRef>
     requires { AreUses p.now uses.now }
-    ensures { option_map (instruction_named p.now (pool_at p.now class) uses.now.types) result ≡ Instructions.array p.now (pool_at p.now class) form }
+    ensures { option_map (instruction_named p.now (pool_at p.now class) uses.now.types) result ≡ ProofNames.array p.now (pool_at p.now class) form }
 {
     match form {
         ArrayForm::New(kind) => Some(InstructionRef::Array(ArrayForm::New(kind))),

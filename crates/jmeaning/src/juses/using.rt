@@ -3,6 +3,7 @@ ghost use Rattle.jparts.specs.declared.jpool.entry.Entry.{Entry};
 ghost use Rattle.jprogram.specs.Classes.{Program};
 ghost use Rattle.jmeaning.specs.declared.juses.types.TypeRef.{TypeRef};
 ghost use Rattle.jmeaning.specs.juses.Meanings;
+ghost use Rattle.jmeaning.specs.ProofNames;
 ghost use Rattle.jmeaning.specs.juses.Meanings.{meaning_of};
 ghost use Rattle.jmeaning.specs.juses.Tables.{kept_named};
 ghost use Rattle.jmeaning.specs.juses.Types.{named};
@@ -15,7 +16,7 @@ use jparts::jcode::{CallOp, CastOp, FieldOp, PoolForm};
 
 fn short_constant(kept: Kept) -> Option<Use>
     ensures { (p : Program) (pool : List Entry) (types : List TypeRef)
-        → option_map (meaning_of p pool types) result ≡ option_and_then Meanings.short_constant (kept_named p pool types kept) }
+        → option_map (meaning_of p pool types) result ≡ option_and_then ProofNames.short_constant (kept_named p pool types kept) }
 {
     match kept {
         Kept::Constant(Constant::Int(n)) => Some(Use::Push(Constant::Int(n))),
@@ -26,7 +27,7 @@ fn short_constant(kept: Kept) -> Option<Use>
 
 fn long_constant(kept: Kept) -> Option<Use>
     ensures { (p : Program) (pool : List Entry) (types : List TypeRef)
-        → option_map (meaning_of p pool types) result ≡ option_and_then Meanings.long_constant (kept_named p pool types kept) }
+        → option_map (meaning_of p pool types) result ≡ option_and_then ProofNames.long_constant (kept_named p pool types kept) }
 {
     match kept {
         Kept::Constant(Constant::Long(n)) => Some(Use::Push(Constant::Long(n))),
@@ -36,7 +37,7 @@ fn long_constant(kept: Kept) -> Option<Use>
 
 fn field_used(op: FieldOp, kept: Kept) -> Option<Use>
     ensures { (p : Program) (pool : List Entry) (types : List TypeRef)
-        → option_map (meaning_of p pool types) result ≡ option_and_then (Meanings.field_used op) (kept_named p pool types kept) }
+        → option_map (meaning_of p pool types) result ≡ option_and_then (ProofNames.field_used op) (kept_named p pool types kept) }
 {
     match kept {
         Kept::Field(field) => Some(Use::Field(op, field)),
@@ -61,7 +62,7 @@ fn how_of(op: CallOp, is_init: bool) -> How
 
 fn called_by(op: CallOp, kept: Kept) -> Option<Use>
     ensures { (p : Program) (pool : List Entry) (types : List TypeRef)
-        → option_map (meaning_of p pool types) result ≡ option_and_then (Meanings.called_by op) (kept_named p pool types kept) }
+        → option_map (meaning_of p pool types) result ≡ option_and_then (ProofNames.called_by op) (kept_named p pool types kept) }
 {
     match kept {
         Kept::Method(is_init, call) => Some(Use::Call(how_of(op, is_init), call)),
@@ -72,7 +73,7 @@ fn called_by(op: CallOp, kept: Kept) -> Option<Use>
 fn called_by_interface(kept: Kept) -> Option<Use>
     ensures { (p : Program) (pool : List Entry) (types : List TypeRef)
         → option_map (meaning_of p pool types) result
-        ≡ option_and_then Meanings.called_by_interface (kept_named p pool types kept) }
+        ≡ option_and_then ProofNames.called_by_interface (kept_named p pool types kept) }
 {
     match kept {
         Kept::Method(_, call) => Some(Use::Call(How::Interface, call)),
@@ -82,7 +83,7 @@ fn called_by_interface(kept: Kept) -> Option<Use>
 
 fn made(kept: Kept) -> Option<Use>
     ensures { (p : Program) (pool : List Entry) (types : List TypeRef)
-        → option_map (meaning_of p pool types) result ≡ option_and_then Meanings.made (kept_named p pool types kept) }
+        → option_map (meaning_of p pool types) result ≡ option_and_then ProofNames.made (kept_named p pool types kept) }
 {
     match kept {
         Kept::Class(TypeRef::Object(class)) => Some(Use::Make(class)),
@@ -93,7 +94,7 @@ fn made(kept: Kept) -> Option<Use>
 /// What an instruction that makes an array means by an entry of which this is kept.
 pub(crate) fn array_made(kept: Kept) -> Option<Use>
     ensures { (p : Program) (pool : List Entry) (types : List TypeRef)
-        → option_map (meaning_of p pool types) result ≡ option_and_then Meanings.array_made (kept_named p pool types kept) }
+        → option_map (meaning_of p pool types) result ≡ option_and_then ProofNames.array_made (kept_named p pool types kept) }
 {
     match kept {
         Kept::Class(t) => {
@@ -106,7 +107,7 @@ pub(crate) fn array_made(kept: Kept) -> Option<Use>
 
 fn cast_by(op: CastOp, kept: Kept) -> Option<Use>
     ensures { (p : Program) (pool : List Entry) (types : List TypeRef)
-        → option_map (meaning_of p pool types) result ≡ option_and_then (Meanings.cast_by op) (kept_named p pool types kept) }
+        → option_map (meaning_of p pool types) result ≡ option_and_then (ProofNames.cast_by op) (kept_named p pool types kept) }
 {
     match kept {
         Kept::Class(t) => Some(Use::Cast(op, t)),
@@ -117,7 +118,7 @@ fn cast_by(op: CastOp, kept: Kept) -> Option<Use>
 /// The type of a class of which this is kept.
 pub(crate) fn class_in(kept: Kept) -> Option<TypeRef>
     ensures { (p : Program) (pool : List Entry) (types : List TypeRef)
-        → option_map (named p) result ≡ option_and_then Meanings.as_class (kept_named p pool types kept) }
+        → option_map (named p) result ≡ option_and_then ProofNames.as_class (kept_named p pool types kept) }
 {
     match kept {
         Kept::Class(t) => Some(t),

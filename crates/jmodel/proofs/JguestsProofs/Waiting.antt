@@ -3,7 +3,8 @@ use Rattle.std.proofs.Common.{◌≡◌, ◌∙◌, ◌⊎◌, ℕ, zero, suc, B
 use Rattle.std.specs.Prelude.{Result, Ok, Err, IfOk, OnOk, ◌&&◌, not, map, if◌then◌else◌, slice_set}
 use Rattle.std.proofs.lemmas.Bool.{eqb-false}
 use Rattle.jthreads.specs.declared.thread.Thread.{Thread}
-use Rattle.jthreads.specs.Table.{added, is_alive, is_at, is_runnable, joined, lives_at, opened, table_after_end, table_after_start, thread_at, woken}
+use Rattle.jthreads.specs.Table.{added, is_alive, is_runnable, joined, lives_at, opened, table_after_end, table_after_start, thread_at, woken}
+use Rattle.jthreads.specs.ProofNames.{is_at}
 use Rattle.jmodel.specs.declared.jguests.turns.Turned.{Turned}
 use Rattle.jmodel.specs.declared.jguests.turns.Turned.TheVariants as turns
 use Rattle.jmodel.specs.jguests.Guested.{AwaitLiving, IsLive}

@@ -14,7 +14,8 @@ use Rattle.jparts.specs.declared.jcode.form.ArrayForm.TheVariants as forms
 use Rattle.jlib.specs.declared.classes.Thrown.TheVariants as thrown
 use Rattle.jlib.specs.declared.classes.LibClass.TheVariants as lib
 use Rattle.jmodel.specs.jmachine.Acts.{Row, Goes, cells_of, costs, gives, raises}
-use Rattle.jmodel.specs.jmachine.Arrays.{Items, array, is_stored, items_in, length_row, load, load_at, made, made_of, make, store, store_at, with_item, within}
+use Rattle.jmodel.specs.jmachine.Arrays.{Items, array, items_in, load, load_at, made, made_of, make, store, store_at, with_item, within}
+use Rattle.jmodel.specs.ProofNames.{length_row}
 use Rattle.jmodel.specs.jmachine.Maps.{object_map, row_map, store_map, value_map, values_map}
 use Rattle.jmodel.specs.jmachine.Narrowing.{default, held_by, narrowed, place}
 use Rattle.jmodel.specs.jmachine.Natural.{ArrayAlike, MakeArrayAlike}
@@ -24,6 +25,7 @@ use Rattle.jmodel.specs.jmachine.Store.{Store, next_number, object_at, with_made
 use Rattle.jmodel.specs.jmachine.World.{World}
 use Rattle.jmodel.proofs.JmachineProofs.Stores.{default_alike, given_alike, narrowed_alike, new_alike, object_alike, set_alike}
 use Rattle.jmodel.proofs.JmachineProofs.Takes.{type_alike}
+use Rattle.jmodel.specs.jmachine.Making.{is_one}
 
 pub map_replicate : {A B : Type 0} (h : A → B) (n : ℕ) (x : A) → map h (replicate n x) ≡ replicate n (h x)
 map_replicate h zero x = refl
@@ -108,9 +110,9 @@ module _ {K L E F : Type 0} (f : K → L) (g : E → F) where
   store_at_alike : (w : World) (s : Store K) (n : ℕ) (v : Value K) (x : Items K) (o : Option ℕ) → row_map f g (store_at w s n v x o) ≡ store_at w (store_map f s) n (value_map f v) (items_map f x) o
   store_at_alike w s n v x None = refl
   store_at_alike w s n v x (Some i) =
-      either_alike (is_stored w x.type (type_of w s v)) (gives (with_item s n x i v) []) (raises (lib.Thrown thrown.ArrayStoreException))
-      ∙ ap (λ t. either (is_stored w x.type t) (gives (store_map f (with_item s n x i v)) []) (raises (lib.Thrown thrown.ArrayStoreException))) (sym (type_alike f w s v))
-      ∙ ap (λ (t : Store L). either (is_stored w x.type (type_of w (store_map f s) (value_map f v))) (gives t []) (raises (lib.Thrown thrown.ArrayStoreException))) (item_alike f s n x i v)
+      either_alike (is_one w (component x.type) (type_of w s v)) (gives (with_item s n x i v) []) (raises (lib.Thrown thrown.ArrayStoreException))
+      ∙ ap (λ t. either (is_one w (component x.type) t) (gives (store_map f (with_item s n x i v)) []) (raises (lib.Thrown thrown.ArrayStoreException))) (sym (type_alike f w s v))
+      ∙ ap (λ (t : Store L). either (is_one w (component x.type) (type_of w (store_map f s) (value_map f v))) (gives t []) (raises (lib.Thrown thrown.ArrayStoreException))) (item_alike f s n x i v)
 
   store_alike : (w : World) (s : Store K) (n : ℕ) (i : ℤ) (v : Value K) (o : Option (Items K)) → option_map (row_map f g) (option_map (store w s n i v) o) ≡ option_map (store w (store_map f s) n i (value_map f v)) (option_map (items_map f) o)
   store_alike w s n i v None = refl

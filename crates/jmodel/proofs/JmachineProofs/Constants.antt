@@ -28,7 +28,7 @@ use Rattle.jprogram.specs.Classes.{Program}
 use Rattle.jtypes.specs.declared.vtype.VType.{VType}
 use Rattle.jtypes.specs.declared.vtype.VType.TheVariants as types
 use Rattle.jmeaning.specs.juses.Typed.{type_in, typed}
-use Rattle.jmeaning.specs.jlayout.Layout.{held}
+use Rattle.jmeaning.specs.ProofNames.{held_type as held}
 use Rattle.jmodel.specs.jmachine.Opening.{value_in}
 
 -- ---- what an attribute of a field holds

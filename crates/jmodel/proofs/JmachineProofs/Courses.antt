@@ -4,7 +4,7 @@ use Rattle.std.proofs.lemmas.List.{append-nil}
 use Rattle.jrights.specs.declared.jtrace.event.Event.{Event}
 use Rattle.jrights.specs.declared.jtrace.event.End.{End}
 use Rattle.jmodel.specs.jmachine.Acts.{Outcome}
-use Rattle.jmodel.specs.jmachine.Runs.{Run, next, next_at, run_from, told_by}
+use Rattle.jmodel.specs.jmachine.Runs.{next_at, Run, next, run_from, told_by}
 
 module _ {S : Type 0} (step : S → Outcome S) where
   pub goes_on : (r : Run S) (k : ℕ) → run_from step (suc k) r ≡ next step (run_from step k r)

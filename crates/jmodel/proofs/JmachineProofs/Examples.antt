@@ -47,7 +47,8 @@ use Rattle.jtypes.specs.declared.vtype.VType.TheVariants as types
 use Rattle.jrights.specs.declared.jtrace.event.Event.TheVariants.{Throw, Uncaught}
 use Rattle.jrights.specs.declared.jtrace.event.End.TheVariants as ends
 use Rattle.jthreads.specs.declared.thread.Thread.{Thread as Guest}
-use Rattle.jthreads.specs.Table.{opened, running, table_after_end}
+use Rattle.jthreads.specs.Table.{opened, table_after_end}
+use Rattle.jthreads.specs.ProofNames.{running}
 use Rattle.jmeaning.specs.declared.juses.meaning.How.TheVariants as how
 use Rattle.jmeaning.specs.juses.Instructions.{Instruction, instruction, instruction_at, Simple, Local, Stack, Jump, Switch, Return, Array as WithArray, Used, If}
 use Rattle.jmeaning.specs.juses.Meanings as meanings

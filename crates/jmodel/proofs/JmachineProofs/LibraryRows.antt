@@ -18,7 +18,8 @@ use Rattle.jlib.specs.declared.calls.PermissionInit.{PermissionInit}
 use Rattle.jlib.specs.declared.calls.ThrownInit.{ThrownInit}
 use Rattle.jlib.specs.declared.calls.ThrownInit.TheVariants as hows
 use Rattle.jmodel.specs.jmachine.Acts.{Row, Goes, cells_of, costs, gives}
-use Rattle.jmodel.specs.jmachine.Library.{library, object_init}
+use Rattle.jmodel.specs.jmachine.Library.{library}
+use Rattle.jmodel.specs.ProofNames.{object_init, built_in, units_in, char_at}
 use Rattle.jmodel.specs.jmachine.Making.{tested, text_made}
 use Rattle.jmodel.specs.jmachine.Maps.{object_map, row_map, store_map, value_map, values_map}
 use Rattle.jmodel.specs.jmachine.Narrowing.{place}
@@ -28,7 +29,7 @@ use Rattle.jmodel.specs.jmachine.Permissions as permissions
 use Rattle.jmodel.specs.jmachine.Permissions.{Given, bare, class_of, constructed, given, made_in, named, named_with, number_of, with_value}
 use Rattle.jmodel.specs.jmachine.Sites.{Site}
 use Rattle.jmodel.specs.jmachine.Store.{Store, object_at, object_of, with_made, with_object}
-use Rattle.jmodel.specs.jmachine.Texts.{appended, builder, built, built_in, char_at, equals, line, print, print_end, printed, string, unit_given, units, units_in, units_or_null}
+use Rattle.jmodel.specs.jmachine.Texts.{appended, builder, built, equals, line, print, print_end, printed, string, unit_given, units, units_or_null}
 use Rattle.jmodel.specs.jmachine.Throwables as throwables
 use Rattle.jmodel.specs.jmachine.Throwables.{message, message_of, told, with_message}
 use Rattle.jmodel.proofs.JmachineProofs.MakingRows.{tested_alike, text_made_alike}

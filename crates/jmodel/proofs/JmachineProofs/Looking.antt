@@ -6,7 +6,8 @@ use Rattle.jground.specs.declared.jops.value.Value.TheVariants.{Int, Long, Ref, 
 use Rattle.jmodel.specs.jmachine.Arrays.{Items, items_in}
 use Rattle.jmodel.specs.jmachine.Maps.{object_map, store_map, value_map, values_map}
 use Rattle.jmodel.specs.jmachine.Objects.{Object, Instance, Thrown, Text, Builder, Piece, Permission, Context, Thread, Bare, Array}
-use Rattle.jmodel.specs.jmachine.Privileges.{all_limits, given, limit, limits, limits_in, with_limit}
+use Rattle.jmodel.specs.jmachine.Privileges.{all_limits, given, limit, limits, with_limit}
+use Rattle.jmodel.specs.ProofNames.{limits_in}
 use Rattle.jmodel.specs.jmachine.Security.{kept_in, permission_in}
 use Rattle.jmodel.specs.jmachine.Store.{Store, object_at}
 use Rattle.jmodel.specs.jmachine.Threads.{number_in}

@@ -27,14 +27,15 @@ use Rattle.jmodel.specs.jmachine.Maps.{frame_map, frames_map, object_map, outcom
 use Rattle.jmodel.specs.jmachine.Narrowing.{default, narrowed}
 use Rattle.jmodel.specs.jmachine.Natural.{EntriesAgree, OpeningAlike, RulesAgree, RunAlike}
 use Rattle.jmodel.specs.jmachine.Objects.{Object, Array, Bare, Text}
-use Rattle.jmodel.specs.jmachine.Opening.{arguments_number, arguments_type, constant_of, constants_of, first_objects, first_value, main_frame, only, opening_charge, opening_state, opening_store, strings, value_of, values_in}
-use Rattle.jmodel.specs.jmachine.Runs.{Run, after, next, next_at, run_from}
+use Rattle.jmodel.specs.jmachine.Opening.{arguments_number, arguments_type, constant_of, constants_of, first_objects, first_value, main_frame, opening_charge, opening_state, opening_store, strings, value_of, values_in}
+use Rattle.jmodel.specs.jmachine.Runs.{next_at, Run, after, next, run_from}
 use Rattle.jmodel.specs.jmachine.Security.{Rules, handed}
 use Rattle.jmodel.specs.jmachine.Steps.{step}
 use Rattle.jmodel.specs.jmachine.Store.{Store, constant_at}
 use Rattle.jmodel.proofs.JmachineProofs.Applying.{begun_alike}
 use Rattle.jmodel.proofs.JmachineProofs.Stepping.{handed_alike, step_alike}
 use Rattle.jmodel.proofs.JmachineProofs.Stores.{default_alike, narrowed_alike}
+use Rattle.std.specs.Option.{option_to_list}
 
 -- ---- runs of any machines that step alike
 
@@ -135,7 +136,7 @@ module _ {K L E F : Type 0} (f : K → L) (g : E → F) (r : Rules K E) (q : Rul
       ∙ ap (λ (e : F). begun p m e (values_map f (handed r.side r.first ++ Ref (arguments_number p) ∷ []))) (agree (domain_of p m))
       ∙ ap (begun p m (q.entry_of (domain_of p m))) arguments_alike
 
-  only_alike : (o : Option (FrameOf K E)) → frames_map f g (only o) ≡ only (option_map (frame_map f g) o)
+  only_alike : (o : Option (FrameOf K E)) → frames_map f g (option_to_list o) ≡ option_to_list (option_map (frame_map f g) o)
   only_alike None = refl
   only_alike (Some x) = refl
 
@@ -152,8 +153,8 @@ module _ {K L E F : Type 0} (f : K → L) (g : E → F) (r : Rules K E) (q : Rul
   pub state_alike : (m : MethodId) (heap : ℕ) → state_map f g (opening_state r p m heap) ≡ opening_state q p m heap
   unfolding opening_state
   state_alike m heap =
-      ap (λ (frames : List (FrameOf L F)). began heap frames (store_map f (opening_store p heap))) (only_alike (main_frame r p m) ∙ ap only (main_alike m))
-      ∙ ap (λ (store : Store L). began heap (only (main_frame q p m)) store) (store_alike f p heap)
+      ap (λ (frames : List (FrameOf L F)). began heap frames (store_map f (opening_store p heap))) (only_alike (main_frame r p m) ∙ ap option_to_list (main_alike m))
+      ∙ ap (λ (store : Store L). began heap (option_to_list (main_frame q p m)) store) (store_alike f p heap)
 
 module _ {K L E F : Type 0} (f : K → L) (g : E → F) (r : Rules K E) (q : Rules L F) (agree : RulesAgree f g r q) (p : Program) where
   abbrev opened : Plan → State L F → Run (State L F)

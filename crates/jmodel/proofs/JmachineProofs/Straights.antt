@@ -13,7 +13,8 @@ use Rattle.jground.specs.declared.jnames.names.Compare.TheVariants as compares
 use Rattle.jground.specs.declared.jops.value.Value.{Value}
 use Rattle.jground.specs.declared.jops.value.Value.TheVariants.{Int, Long, Ref, Ctx}
 use Rattle.jground.specs.declared.jops.value.DivideByZero.{DivideByZero}
-use Rattle.jground.specs.jops.Operations.{divide, int, int_quotient, int_remainder, long, long_quotient, long_remainder, on_int, on_ints, on_long, on_long_and_int, on_longs, one, same, test, two}
+use Rattle.jground.specs.jops.Operations.{divide, int, long, on_int, on_ints, on_long, on_long_and_int, on_longs, one, same, test, two}
+use Rattle.jground.specs.ProofNames.{int_quotient, int_remainder, long_quotient, long_remainder}
 use Rattle.jparts.specs.declared.jcode.names.RefTest.{RefTest}
 use Rattle.jparts.specs.declared.jcode.names.RefTest.TheVariants as tests
 use Rattle.jparts.specs.declared.jcode.form.Simple.{Simple}
@@ -22,7 +23,8 @@ use Rattle.jmeaning.specs.juses.Instructions.{Test, Always, If, IfInt, IfRef}
 use Rattle.jmodel.specs.jmachine.Maps.{row_map, store_map, value_map, values_map}
 use Rattle.jmodel.specs.jmachine.Natural.{JumpAlike, SimpleAlike, SwitchAlike, ThrowAlike}
 use Rattle.jmodel.specs.jmachine.Store.{Store}
-use Rattle.jmodel.specs.jmachine.Straight.{branched, compared, gives_one, holds, jump, quotient, simple, switch, throw}
+use Rattle.jmodel.specs.jmachine.Straight.{branched, gives_one, holds, jump, quotient, simple, switch, throw}
+use Rattle.jmodel.specs.ProofNames.{compared}
 
 -- ---- operations
 

@@ -7,7 +7,7 @@ use Rattle.jmeaning.specs.jrule.Effects.{Want}
 use Rattle.jmodel.specs.jmachine.Maps.{object_map, store_map, taken_map, value_map, values_map}
 use Rattle.jmodel.specs.jmachine.Natural.{TakesAlike}
 use Rattle.jmodel.specs.jmachine.Objects.{Object, Instance, Thrown, Text, Builder, Piece, Permission, Context, Thread, Bare, Array}
-use Rattle.jmodel.specs.jmachine.Operands.{Taken, found_type, ready_type, serves, serves_as, taken, type_of, with_value}
+use Rattle.jmodel.specs.jmachine.Operands.{Taken, ready_type, serves, taken, type_of, with_value, serves_as, found_type}
 use Rattle.jmodel.specs.jmachine.Store.{Store, object_at}
 use Rattle.jmodel.specs.jmachine.World.{World}
 use Rattle.jmodel.proofs.JmachineProofs.Stores.{object_alike}

@@ -27,7 +27,7 @@ use Rattle.jmodel.specs.jmachine.Sites.{Site}
 use Rattle.jmodel.specs.jmachine.Store.{Store, with_made}
 use Rattle.jmodel.specs.jmachine.World.{World}
 use Rattle.jmodel.specs.jrules.Inspecting as inspecting
-use Rattle.jmodel.specs.jrules.Inspecting.{unmarked}
+use Rattle.jmodel.specs.ProofNames.{unmarked}
 use Rattle.jmodel.specs.jrules.Plain as plain
 
 -- ---- one class, whose objects are actions, and two domains besides domain 0, which has no permission

@@ -9,7 +9,7 @@ use Rattle.jrights.specs.declared.jtrace.event.End.{End}
 use Rattle.jrights.specs.declared.jtrace.event.End.TheVariants as ends
 use Rattle.jrights.specs.jtrace.Lines.{lines, line, end_line}
 use Rattle.jmodel.specs.jmachine.Acts.{Outcome}
-use Rattle.jmodel.specs.jmachine.Runs.{Run, after, ended_by, ending, next_at, run_from, run_text, told_by}
+use Rattle.jmodel.specs.jmachine.Runs.{next_at, Run, after, ended_by, ending, run_from, run_text, told_by}
 use Rattle.jmodel.proofs.JmachineProofs.Courses as courses
 
 module _ {S : Type 0} (step : S → Outcome S) (first : Run S) where

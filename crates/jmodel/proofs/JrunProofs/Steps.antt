@@ -9,7 +9,7 @@ use Rattle.jrights.specs.declared.jtrace.event.End.{End}
 use Rattle.jrights.specs.declared.jtrace.event.End.TheVariants as ends
 use Rattle.jrights.specs.jtrace.Lines.{line, lines}
 use Rattle.jmodel.specs.jmachine.Acts.{Outcome}
-use Rattle.jmodel.specs.jmachine.Runs.{Run, after, ended_by, next, next_at, run_from, run_text, state_behind, told_by}
+use Rattle.jmodel.specs.jmachine.Runs.{next_at, Run, after, ended_by, next, run_from, run_text, state_behind, told_by}
 use Rattle.jmodel.proofs.JmachineProofs.Courses as courses
 use Rattle.jmodel.specs.declared.jrun.running.Written.{Written}
 use Rattle.jmodel.specs.declared.jrun.stepping.Stepped.{Stepped}

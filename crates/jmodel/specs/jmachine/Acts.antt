@@ -97,11 +97,8 @@ two = 2
 abbrev pub cells_of : ℕ → ℕ
 cells_of n = two + n
 
-abbrev pub message_cells : Option (List ℕ) → ℕ
-message_cells = elim [ None ↦ 0 | Some units ↦ cells_of (length units) ]
-
 abbrev pub raised_cells : {K E : Type 0} → Act K E → ℕ
-raised_cells x = elim x [ Raises events class message ↦ two + message_cells message | _ ↦ 0 ]
+raised_cells x = elim x [ Raises events class message ↦ two + (elim message [ None ↦ 0 | Some units ↦ cells_of (length units) ]) | _ ↦ 0 ]
 
 -- the whole charge of a step
 abbrev pub charge_of : {K E : Type 0} → Row K E → ℕ

@@ -1,6 +1,6 @@
 -- Rows of instructions with arrays (JVMS 6.5). Of several exceptions of one access that of a null array comes first, then that of the
 -- index, then that of the stored value's class.
-use Rattle.std.specs.Prelude.{ℕ, zero, ℤ, pos, Bool, false, List, [], ◌∷◌, length, replicate, Option, Some, None, option_map, option_and_then, slice_get, slice_set, nat_lt, if◌then◌else◌}
+use Rattle.std.specs.Prelude.{ℕ, zero, ℤ, pos, List, [], ◌∷◌, length, replicate, Option, Some, None, option_map, option_and_then, slice_get, slice_set, nat_lt, if◌then◌else◌}
 use Rattle.jlib.specs.declared.classes.Thrown.TheVariants as thrown
 use Rattle.jlib.specs.declared.classes.LibClass.TheVariants as lib
 use Rattle.jtypes.specs.declared.vtype.ArrayType.{ArrayType}
@@ -16,7 +16,8 @@ use Rattle.jmodel.specs.jmachine.Store.{Store, next_number, object_at, with_made
 use Rattle.jmodel.specs.jmachine.Acts.{Row, Goes, cells_of, costs, gives, null, raises}
 use Rattle.jmodel.specs.jmachine.Narrowing.{default, held_by, narrowed, place}
 use Rattle.jmodel.specs.jmachine.Operands.{type_of}
-use Rattle.jmodel.specs.jmachine.World.{World, is_instance}
+use Rattle.jmodel.specs.jmachine.World.{World}
+use Rattle.jmodel.specs.jmachine.Making.{is_one}
 
 -- ---- making
 
@@ -50,9 +51,6 @@ within count = elim [ None ↦ None | Some i ↦ if nat_lt i count then Some i e
 abbrev pub outside : {K E : Type 0} → Row K E
 outside = raises (lib.Thrown thrown.ArrayIndexOutOfBoundsException)
 
-abbrev pub length_row : {K E : Type 0} → Store K → Items K → Row K E
-length_row s x = gives s (Int (pos (length x.items)) ∷ [])
-
 abbrev pub load_at : {K E : Type 0} → Store K → Items K → Option ℕ → Option (Row K E)
 load_at s x y = elim y [ None ↦ Some outside | Some i ↦ option_map (λ v. gives s (v ∷ [])) (slice_get x.items i) ]
 
@@ -61,17 +59,14 @@ load s i x = load_at s x (within (length x.items) (place i))
 
 -- ---- stores
 
--- a value may be stored: a number always, and an object that is one of what the array holds
-abbrev pub is_stored : World → ArrayType → Option VType → Bool
-is_stored w a = elim [ None ↦ false | Some t ↦ is_instance w t (component a) ]
-
 abbrev pub with_item : {K : Type 0} → Store K → ℕ → Items K → ℕ → Value K → Store K
 with_item s n x i v = with_object s n (Array x.type (slice_set x.items i (narrowed (held_by x.type) v)))
 
+-- a value may be stored: a number always, and an object that is one of what the array holds
 abbrev pub store_at : {K E : Type 0} → World → Store K → ℕ → Value K → Items K → Option ℕ → Row K E
 store_at w s n v x None = outside
 store_at w s n v x (Some i) =
-    if is_stored w x.type (type_of w s v) then gives (with_item s n x i v) [] else raises (lib.Thrown thrown.ArrayStoreException)
+    if is_one w (component x.type) (type_of w s v) then gives (with_item s n x i v) [] else raises (lib.Thrown thrown.ArrayStoreException)
 
 abbrev pub store : {K E : Type 0} → World → Store K → ℕ → ℤ → Value K → Items K → Row K E
 store w s n i v x = store_at w s n v x (within (length x.items) (place i))
@@ -86,5 +81,5 @@ array w s (forms.Load e) (Int i ∷ Ref n ∷ []) = option_and_then (load s i) (
 array w s (forms.Store e) (v ∷ Int i ∷ Ref zero ∷ []) = Some null
 array w s (forms.Store e) (v ∷ Int i ∷ Ref n ∷ []) = option_map (store w s n i v) (items_in (object_at s n))
 array w s forms.Length (Ref zero ∷ []) = Some null
-array w s forms.Length (Ref n ∷ []) = option_map (length_row s) (items_in (object_at s n))
+array w s forms.Length (Ref n ∷ []) = option_map (λ x. gives s (Int (pos (length x.items)) ∷ [])) (items_in (object_at s n))
 array w s form values = None

@@ -38,9 +38,6 @@ pub data Target : Type 0 where
   -- a member of the library does it at once
   Runs : LibCall → Target
 
-abbrev pub null_pointer : LibClass
-null_pointer = lib.Thrown thrown.NullPointerException
-
 abbrev pub wrong_class : LibClass
 wrong_class = lib.Thrown thrown.IncompatibleClassChangeError
 
@@ -73,9 +70,6 @@ by_interface w full c x =
     unless (or_else (fault_if (not (is_instance w (class_of w.named x) (types.Object c.owner))) wrong_class) (fault_if (is_hidden w found) no_access))
     (reached full found)
 
-abbrev pub by_class : {K : Type 0} → World → Bool → CallMeaning → Object K → Target
-by_class w full c x = reached full (w.select (id_of x) c.member kinds.Virtual)
-
 abbrev pub from_above : World → Member → Option ClassRef → Selected
 from_above w m = elim [ None ↦ selected.Missing | Some r ↦ w.select (class_id r) m kinds.Special ]
 
@@ -84,7 +78,7 @@ abbrev pub special : World → ℕ → CallMeaning → Selected
 special w this c = if bytes_eq c.owner.0 (w.named this).0 then w.itself c.member else from_above w c.member (w.above this)
 
 abbrev pub on_object : {K : Type 0} → Site → How → CallMeaning → Object K → Target
-on_object at how.Virtual c x = by_class at.world at.full c x
+on_object at how.Virtual c x = reached at.full (at.world.select (id_of x) c.member kinds.Virtual)
 on_object at how.Interface c x = by_interface at.world at.full c x
 on_object at how.Special c x = reached at.full (special at.world at.class c)
 on_object at by c x = reached at.full (at.world.itself c.member)
@@ -97,7 +91,7 @@ receiver (v ∷ w ∷ values) = receiver (w ∷ values)
 
 -- null fails before all else
 abbrev pub on_value : {K : Type 0} → Site → Store K → How → CallMeaning → Value K → Option Target
-on_value at s by c (Ref zero) = Some (Fails null_pointer)
+on_value at s by c (Ref zero) = Some (Fails (lib.Thrown thrown.NullPointerException))
 on_value at s by c v = option_map (on_object at by c) (object_of s v)
 
 -- what a call comes to, with its arguments and its object, the newest first

@@ -12,12 +12,8 @@ use Rattle.jmodel.specs.jmachine.Texts as texts
 use Rattle.jmodel.specs.jmachine.Throwables as throwables
 
 -- the constructor of Object does nothing
-abbrev pub object_init : {K E : Type 0} → Store K → List (Value K) → Option (Row K E)
-object_init s (v ∷ []) = Some (gives s [])
-object_init s values = None
-
 unfoldable pub library : {K E : Type 0} → Site → Store K → LibCall → List (Value K) → Option (Row K E)
-library at s calls.ObjectInit values = object_init s values
+library at s calls.ObjectInit (v ∷ []) = Some (gives s [])
 library at s (calls.ThrownInit class how) values = throwables.init s how values
 library at s calls.AccessControlInit values = throwables.init s given.Message values
 library at s calls.GetMessage values = throwables.message s values

@@ -42,24 +42,6 @@ pub data Object (K : Type 0) : Type 0 where
 abbrev pub library_name : LibClass → Name
 library_name c = name (library.name_of c)
 
--- the class of an object, or the type of an array, where `named` are the names of users' classes
-abbrev pub class_of : {K : Type 0} → (ℕ → Name) → Object K → VType
-class_of named (Instance class message fields) = types.Object (named class)
-class_of named (Thrown c message) = types.Object (library_name c)
-class_of named (Text units) = types.Object (library_name lib.String)
-class_of named (Builder units) = types.Object (library_name lib.StringBuilder)
-class_of named (Piece units) = types.Object (library_name lib.StringBuilder)
-class_of named (Permission c held) = types.Object (library_name (lib.Permission c))
-class_of named (Context kept) = types.Object (library_name lib.AccessControlContext)
-class_of named (Thread number) = types.Object (library_name lib.Thread)
-class_of named (Bare c) = types.Object (library_name c)
-class_of named (Array a items) = types.Array a
-
--- It may be used: a string has its units, a permission and a Thread have their values from `<init>`, and an AccessControlContext has
--- what it keeps.
-abbrev pub is_ready : {K : Type 0} → Object K → Bool
-is_ready x = elim x [ Text units ↦ is_some units | Permission c p ↦ is_some p | Context k ↦ is_some k | Thread n ↦ is_some n | _ ↦ true ]
-
 -- the class at which the methods of an object are looked for
 abbrev pub id_of : {K : Type 0} → Object K → ClassId
 id_of (Instance class message fields) = id.User class
@@ -72,3 +54,15 @@ id_of (Context kept) = id.Lib lib.AccessControlContext
 id_of (Thread number) = id.Lib lib.Thread
 id_of (Bare c) = id.Lib c
 id_of (Array a items) = id.Array
+
+abbrev pub name_by : (ℕ → Name) → ClassId → Name
+name_by named = elim [ id.User i ↦ named i | id.Lib c ↦ library_name c | id.Array ↦ library_name lib.Object ]
+
+-- the class of an object, or the type of an array, where `named` are the names of users' classes
+abbrev pub class_of : {K : Type 0} → (ℕ → Name) → Object K → VType
+class_of named x = elim x [ Array a items ↦ types.Array a | y ↦ types.Object (name_by named (id_of y)) ]
+
+-- It may be used: a string has its units, a permission and a Thread have their values from `<init>`, and an AccessControlContext has
+-- what it keeps.
+abbrev pub is_ready : {K : Type 0} → Object K → Bool
+is_ready x = elim x [ Text units ↦ is_some units | Permission c p ↦ is_some p | Context k ↦ is_some k | Thread n ↦ is_some n | _ ↦ true ]

@@ -28,6 +28,7 @@ use Rattle.jmodel.specs.jmachine.Narrowing.{default, narrowed}
 use Rattle.jmodel.specs.jmachine.Objects.{Object, Array, Bare, Text, library_name}
 use Rattle.jmodel.specs.jmachine.Security.{Rules, handed}
 use Rattle.jmodel.specs.jmachine.Store.{Store, constant_at}
+use Rattle.std.specs.Option.{option_to_list}
 
 -- ---- the values of statics
 
@@ -102,15 +103,12 @@ opening_store p heap = record {
 abbrev pub arguments_number : Program → ℕ
 arguments_number p = out + length (strings p) + 1
 
-abbrev pub only : {K E : Type 0} → Option (FrameOf K E) → List (FrameOf K E)
-only x = elim x [ None ↦ [] | Some f ↦ f ∷ [] ]
-
 -- a frame of `main`, which on the passing side is given a context
 abbrev pub main_frame : {K E : Type 0} → Rules K E → Program → MethodId → Option (FrameOf K E)
 main_frame r p m = begun p m (r.entry_of (domain_of p m)) (handed r.side r.first ++ Ref (arguments_number p) ∷ [])
 
 abbrev pub main_guest : {K E : Type 0} → Rules K E → Program → MethodId → GuestOf K E
-main_guest r p m = record { frames = only (main_frame r p m); inherited = None; runnable = 0; failed = false }
+main_guest r p m = record { frames = option_to_list (main_frame r p m); inherited = None; runnable = 0; failed = false }
 
 unfoldable pub opening_state : {K E : Type 0} → Rules K E → Program → MethodId → ℕ → State K E
 opening_state r p m heap = record { earlier = []; running = main_guest r p m; later = []; table = threads.opened; store = opening_store p heap; turns = 0 }

@@ -9,7 +9,7 @@ use Rattle.jground.specs.declared.jops.value.Value.TheVariants.{Ref, Ctx}
 use Rattle.jprogram.specs.declared.member.Member.TheVariants.{LibMethod}
 use Rattle.jmeaning.specs.juses.Meanings.{CallMeaning}
 use Rattle.jmodel.specs.jmachine.Acts.{Row, Calls, free, raises, null}
-use Rattle.jmodel.specs.jmachine.Arrays.{Items, items_in}
+use Rattle.jmodel.specs.jmachine.Arrays.{items_in}
 use Rattle.jmodel.specs.jmachine.Calls.{Target, Fails, Pushes, Runs, by_interface}
 use Rattle.jmodel.specs.jmachine.Objects.{Object, library_name}
 use Rattle.jmodel.specs.jmachine.Security.{Privilege, Rules, kept_in, permission_in}
@@ -40,13 +40,10 @@ unfoldable pub all_limits : {K : Type 0} → Store K → List (Value K) → Opti
 all_limits s [] = Some (Some [])
 all_limits s (v ∷ values) = with_limit (limit s v) (all_limits s values)
 
-abbrev pub limits_in : {K : Type 0} → Store K → Option (Items K) → Option (Option (List perms.Permission))
-limits_in s y = elim y [ None ↦ None | Some x ↦ all_limits s x.items ]
-
 -- of an array, or of null
 abbrev pub limits : {K : Type 0} → Store K → Value K → Option (Option (List perms.Permission))
 limits s (Ref zero) = Some None
-limits s (Ref n) = limits_in s (items_in (object_at s n))
+limits s (Ref n) = option_and_then (λ x. all_limits s x.items) (items_in (object_at s n))
 limits s v = None
 
 -- ---- the action

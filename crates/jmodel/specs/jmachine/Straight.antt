@@ -13,7 +13,6 @@ use Rattle.jground.specs.jops.Operations as operations
 use Rattle.jground.specs.jops.Operations.{divide, int, one, two}
 use Rattle.jground.specs.jops.Shuffles.{Move, is_long, item, shuffle}
 use Rattle.jparts.specs.declared.jcode.names.Access.TheVariants.{Load, Store as Keep}
-use Rattle.jparts.specs.declared.jcode.names.RefTest.{RefTest}
 use Rattle.jparts.specs.declared.jcode.names.RefTest.TheVariants as refs
 use Rattle.jparts.specs.declared.jcode.form.Simple.{Simple}
 use Rattle.jparts.specs.declared.jcode.form.Simple.TheVariants as simples
@@ -47,19 +46,15 @@ simple s form values = None
 
 -- ---- jumps
 
-abbrev pub compared : {K : Type 0} → RefTest → List (Value K) → Option Bool
-compared refs.Same (b ∷ a ∷ []) = operations.test compares.Eq a b
-compared refs.Other (b ∷ a ∷ []) = operations.test compares.Ne a b
-compared refs.Null (a ∷ []) = operations.test compares.Eq a (Ref 0)
-compared refs.NonNull (a ∷ []) = operations.test compares.Ne a (Ref 0)
-compared test values = None
-
 -- whether a branch is taken
 abbrev pub holds : {K : Type 0} → Test → List (Value K) → Option Bool
 holds Always [] = Some true
 holds (If test) (a ∷ []) = operations.test test a (Int (pos 0))
 holds (IfInt test) (b ∷ a ∷ []) = operations.test test a b
-holds (IfRef test) values = compared test values
+holds (IfRef refs.Same) (b ∷ a ∷ []) = operations.test compares.Eq a b
+holds (IfRef refs.Other) (b ∷ a ∷ []) = operations.test compares.Ne a b
+holds (IfRef refs.Null) (a ∷ []) = operations.test compares.Eq a (Ref 0)
+holds (IfRef refs.NonNull) (a ∷ []) = operations.test compares.Ne a (Ref 0)
 holds test values = None
 
 abbrev pub branched : {K E : Type 0} → Store K → ℕ → Bool → Row K E

@@ -1,6 +1,6 @@
 -- Rows of calls of String, StringBuilder and PrintStream (class documentation of these). Values stand newest first, the object last.
 -- A receiver that is null has raised before.
-use Rattle.std.specs.Prelude.{ℕ, zero, ◌+◌, ◌%◌, ◌^◌, ℤ, pos, Bool, true, false, List, [], ◌∷◌, ◌++◌, length, Option, Some, None, option_map, option_and_then, slice_get, codes}
+use Rattle.std.specs.Prelude.{ℕ, zero, ◌%◌, ◌^◌, pos, Bool, true, false, List, [], ◌∷◌, ◌++◌, length, Option, Some, None, option_map, option_and_then, slice_get, codes}
 use Rattle.std.specs.Fmt.{signed_decimal}
 use Rattle.std.specs.Int.{w32, cast_unsigned}
 use Rattle.std.specs.Ordering.{int_eq}
@@ -16,7 +16,7 @@ use Rattle.jlib.specs.declared.classes.LibClass.TheVariants as lib
 use Rattle.jground.specs.declared.jops.value.Value.{Value}
 use Rattle.jground.specs.declared.jops.value.Value.TheVariants.{Int, Long, Ref}
 use Rattle.jrights.specs.declared.jtrace.event.Event.TheVariants.{Out}
-use Rattle.jmodel.specs.jmachine.Objects.{Object, Text, Builder, Piece as Appended}
+use Rattle.jmodel.specs.jmachine.Objects.{Text, Builder, Piece as Appended}
 use Rattle.jmodel.specs.jmachine.Store.{Store, object_at, object_of, with_made, with_object}
 use Rattle.jmodel.specs.jmachine.Acts.{Row, Goes, cells_of, costs, free, gives, null, raises}
 use Rattle.jmodel.specs.jmachine.Making.{tested, text_made}
@@ -24,29 +24,21 @@ use Rattle.jmodel.specs.jmachine.Narrowing.{place}
 
 -- ---- texts
 
-abbrev pub units_in : {K : Type 0} → Option (Object K) → Option (List ℕ)
-units_in (Some (Text units)) = units
-units_in x = None
-
 -- the units of a string
 abbrev pub units : {K : Type 0} → Store K → Value K → Option (List ℕ)
-units s v = units_in (object_of s v)
+units s v = option_and_then (elim [ Text us ↦ us | _ ↦ None ]) (object_of s v)
 
 -- of null the word that is printed in its place
 abbrev pub units_or_null : {K : Type 0} → Store K → Value K → Option (List ℕ)
 units_or_null s (Ref zero) = Some (codes "null")
 units_or_null s v = units s v
 
--- the word of a boolean, of which is told whether its int is 0
-abbrev pub zero_text : Bool → List ℕ
-zero_text = elim [ true ↦ codes "false" | false ↦ codes "true" ]
-
 -- What a value is printed as, and appended as: of a char the lowest 16 bits of its int, and of a boolean `false` where its int is 0.
 unfoldable pub printed : {K : Type 0} → Store K → Piece → Value K → Option (List ℕ)
 printed s pieces.Int (Int x) = Some (signed_decimal x)
 printed s pieces.Long (Long x) = Some (signed_decimal x)
 printed s pieces.Char (Int x) = Some ((cast_unsigned w32 x % 2 ^ 16) ∷ [])
-printed s pieces.Bool (Int x) = Some (zero_text (int_eq x (pos 0)))
+printed s pieces.Bool (Int x) = Some (elim (int_eq x (pos 0)) [ true ↦ codes "false" | false ↦ codes "true" ])
 printed s pieces.Text v = units_or_null s v
 printed s piece v = None
 
@@ -55,16 +47,13 @@ printed s piece v = None
 abbrev pub unit_given : {K E : Type 0} → Store K → Option ℕ → Row K E
 unit_given s x = elim x [ None ↦ raises (lib.Thrown thrown.StringIndexOutOfBoundsException) | Some u ↦ gives s (Int (pos u) ∷ []) ]
 
-abbrev pub char_at : {K E : Type 0} → Store K → ℤ → List ℕ → Row K E
-char_at s i us = unit_given s (option_and_then (slice_get us) (place i))
-
 -- it is a string of the same units
 abbrev pub equals : List ℕ → Option (List ℕ) → Bool
 equals us = elim [ None ↦ false | Some vs ↦ bytes_eq us vs ]
 
 unfoldable pub string : {K E : Type 0} → Store K → StringCall → List (Value K) → Option (Row K E)
 string s strings.Length (v ∷ []) = option_map (λ us. gives s (Int (pos (length us)) ∷ [])) (units s v)
-string s strings.CharAt (Int i ∷ v ∷ []) = option_map (char_at s i) (units s v)
+string s strings.CharAt (Int i ∷ v ∷ []) = option_map (λ us. unit_given s (option_and_then (slice_get us) (place i))) (units s v)
 string s strings.Equals (other ∷ v ∷ []) = option_map (λ us. tested s (equals us (units s other))) (units s v)
 string s strings.Concat (Ref zero ∷ v ∷ []) = Some null
 string s strings.Concat (other ∷ v ∷ []) = option_and_then (λ us. option_map (λ more. text_made s (us ++ more)) (units s other)) (units s v)
@@ -72,13 +61,9 @@ string s call values = None
 
 -- ---- StringBuilder
 
-abbrev pub built_in : {K : Type 0} → Option (Object K) → Option (List ℕ)
-built_in (Some (Builder us)) = Some us
-built_in x = None
-
 -- what a builder of a number holds
 abbrev pub built : {K : Type 0} → Store K → ℕ → Option (List ℕ)
-built s n = built_in (object_at s n)
+built s n = option_and_then (elim [ Builder us ↦ Some us | _ ↦ None ]) (object_at s n)
 
 -- the builder of a number holds these units with more behind them, and what was appended takes cells of its own
 abbrev pub appended : {K E : Type 0} → Store K → ℕ → List (Value K) → List ℕ → List ℕ → Row K E

@@ -32,12 +32,9 @@ abbrev pub with_raised : {K : Type 0} → Store K → LibClass → Option (List 
 with_raised s class None = with_made s (Thrown class 0)
 with_raised s class (Some units) = with_made (with_made s (Text (Some units))) (Thrown class (next_number s))
 
-abbrev pub dotted : ℕ → ℕ
-dotted u = if u == byte "/" then byte "." else u
-
 -- the name of a class as it is told, with dots
 unfoldable pub told_name : VType → List ℕ
-told_name = elim [ types.Object c ↦ map dotted (units_of c.0) | _ ↦ [] ]
+told_name = elim [ types.Object c ↦ map (λ u. if u == byte "/" then byte "." else u) (units_of c.0) | _ ↦ [] ]
 
 -- ---- handlers
 

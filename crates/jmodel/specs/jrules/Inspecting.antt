@@ -1,5 +1,5 @@
 -- The inspecting machine's rules: what is kept is a stack, and a frame carries its entry (class documentation of AccessController).
-use Rattle.std.specs.Prelude.{ℕ, Bool, List, [], ◌∷◌, Option, Some, None}
+use Rattle.std.specs.Prelude.{ℕ, Bool, List, [], ◌∷◌, Option, Some, None, unwrap_or}
 use Rattle.jperm.specs.declared.permission.Permission.{Permission}
 use Rattle.jrights.specs.jdomain.Stacks.{Stack, Bottom, Entry, Mark, Unmarked, Privileged, Given, Nothing, Within, walk}
 use Rattle.jlib.specs.declared.side.Side.TheVariants.{Source}
@@ -10,21 +10,14 @@ pub record Carried : Type 0 where
   pub domain : ℕ
   pub mark : Mark
 
-abbrev pub unmarked : ℕ → Carried
-unmarked d = record { domain = d; mark = Unmarked }
-
--- what a thread inherited; the first one nothing
-abbrev pub inherited_stack : Option Stack → Stack
-inherited_stack = elim [ None ↦ Bottom | Some s ↦ s ]
-
 -- frames on a stack, the newest first
 abbrev pub on_stack : List Carried → Stack → Stack
 on_stack [] s = s
 on_stack (e ∷ entries) s = Entry e.domain e.mark (on_stack entries s)
 
--- the stack of a thread: its frames, the newest first, and what it inherited below them
+-- the stack of a thread: its frames, the newest first, and what it inherited below them, which is nothing for the first thread
 abbrev pub stack_of : List Carried → Option Stack → Stack
-stack_of entries below = on_stack entries (inherited_stack below)
+stack_of entries below = on_stack entries (unwrap_or below Bottom)
 
 abbrev pub given_by : Option Stack → Given
 given_by = elim [ None ↦ Nothing | Some s ↦ Within s ]
@@ -37,7 +30,7 @@ marked mark = elim [ [] ↦ record { domain = 0; mark = mark } | e ∷ entries �
 unfoldable pub rules : (ℕ → Permission → Bool) → Rules Stack Carried
 rules has = record {
   side = Source;
-  entry_of = unmarked;
+  entry_of = λ d. record { domain = d; mark = Unmarked };
   first = None;
   enter = λ s d. s;
   check = λ asked ctx entries below. walk has asked (stack_of entries below);

@@ -5,7 +5,8 @@ use Rattle.jrights.specs.jdomain.Stacks.{Stack}
 use Rattle.jctx.specs.declared.item.Item.{Item}
 use Rattle.jctx.specs.Contexts.{along}
 use Rattle.jmodel.specs.jrules.Inspecting as inspecting
-use Rattle.jmodel.specs.jrules.Inspecting.{Carried, stack_of, unmarked}
+use Rattle.jmodel.specs.jrules.Inspecting.{Carried, stack_of}
+use Rattle.jmodel.specs.ProofNames.{unmarked}
 use Rattle.jmodel.specs.jrules.Plain as plain
 
 -- the context of a thread's stack

@@ -14,12 +14,14 @@ use Rattle.jclass.specs.declared.class.MemberInfo.{MemberInfo}
 use Rattle.jlib.specs.declared.side.Side.{Side}
 use Rattle.jlib.specs.declared.side.Side.TheVariants.{Source}
 use Rattle.jlib.specs.declared.calls.LibCall.TheVariants as calls
-use Rattle.jmoveclass.specs.Beginning.{params_in, this_slots}
+use Rattle.jmoveclass.specs.Beginning.{params_in}
+use Rattle.jmoveclass.specs.ProofNames.{this_slots}
 use Rattle.jprogram.specs.declared.member.Member.TheVariants.{LibMethod}
 use Rattle.jprogram.specs.declared.member.MethodId.{MethodId}
 use Rattle.jprogram.specs.declared.part.CodePart.{CodePart}
 use Rattle.jprogram.specs.Classes.{Class, Lib, Program, User, find}
-use Rattle.jprogram.specs.Members.{is_main, main_desc, main_in, main_of, method_id}
+use Rattle.jprogram.specs.Members.{is_main, main_desc, main_of, method_id}
+use Rattle.jprogram.specs.ProofNames.{main_in}
 use Rattle.jprogram.specs.Parts as parts
 use Rattle.jprogram.specs.Parts.{has_code, is_called, member_desc, member_name}
 use Rattle.jprogram.proofs.Standing.{Libs, Nowhere, Stands, Users, stands}

@@ -17,7 +17,8 @@ use Rattle.jparts.specs.declared.jcode.op.Switch.TheVariants as switches
 use Rattle.jparts.specs.jcode.Instructions.{code}
 use Rattle.jmove.specs.declared.method.Expand.{Expand}
 use Rattle.jmove.specs.declared.method.Setting.{Setting}
-use Rattle.jmove.specs.Lines.{case_with, distance, switch_with}
+use Rattle.jmove.specs.Lines.{switch_with}
+use Rattle.jmove.specs.ProofNames.{case_with, distance}
 use Rattle.jrewriting.specs.jmoved.Numbers.{index_of, moved, new_place}
 use Rattle.jrewriting.proofs.JmovedProofs.Leading.{jumps, leads, within}
 use Rattle.jrewriting.proofs.JmovedProofs.Ranging.{there}

@@ -14,7 +14,8 @@ use Rattle.jclass.specs.declared.class.CodeBody.{CodeBody}
 use Rattle.jclass.specs.declared.class.MemberInfo.{MemberInfo}
 use Rattle.jclass.specs.declared.fault.ClassFault.TheVariants as kinds
 use Rattle.jclass.specs.Basics.{u2, u4}
-use Rattle.jclass.specs.Codes.{behind_ops, code_content, code_length, length_fault, ops}
+use Rattle.jclass.specs.Codes.{behind_ops, code_content, code_length, ops, frames_in}
+use Rattle.jclass.specs.ProofNames.{length_fault}
 use Rattle.jclass.specs.Members.{body_of}
 use Rattle.jclass.specs.Stored.{HasCode, IsIn}
 use Rattle.jparts.specs.declared.jmaps.types.MapType.{MapType}
@@ -24,7 +25,7 @@ use Rattle.jmove.specs.Additions.{numbered, with_body, ◌>>◌}
 use Rattle.jmove.specs.Lines.{Laid}
 use Rattle.jmove.specs.Moved.{moved_by}
 use Rattle.jmoveclass.specs.Calls.{expand_by, expands}
-use Rattle.jmoveclass.specs.Methods.{frames_in, frames_of, with_code, with_first}
+use Rattle.jmoveclass.specs.Methods.{frames_of, with_code, with_first}
 use Rattle.jmoveclass.specs.Moved.{moved_class, moved_part}
 use Rattle.jrewriting.proofs.JmovefileProofs.Bodying.{new_body}
 use Rattle.jprogram.specs.declared.member.MethodId.{MethodId}

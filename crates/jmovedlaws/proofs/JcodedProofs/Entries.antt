@@ -26,7 +26,8 @@ use Rattle.jprogram.specs.Classes.{Program}
 use Rattle.jprogram.specs.Members.{init, resolve_field, resolve_method}
 use Rattle.jprogram.specs.Naming.{class_reserved, text_reserved}
 use Rattle.jprogram.specs.Parts.{or_empty, text}
-use Rattle.jmeaning.specs.juses.Meanings.{AClass, AConstant, AField, AMethod, CallMeaning, EntryMeaning, Reference, Text, call_as, call_meant, class_meant, entry_meant, field_as, field_entry, field_meant, method_entry, reference}
+use Rattle.jmeaning.specs.juses.Meanings.{AClass, AConstant, AField, AMethod, CallMeaning, EntryMeaning, Reference, Text, call_as, call_meant, entry_meant, field_as, field_entry, field_meant, method_entry, reference}
+use Rattle.jmeaning.specs.ProofNames.{class_meant}
 use Rattle.jmeaning.specs.juses.Typed.{Called, Held, Typed, Untyped, name, typed}
 use Rattle.jrewriting.specs.jrewrite.Program.{moved}
 use Rattle.jrewriting.proofs.JrewriteProofs.Calls.{Known, Takes, target_on}

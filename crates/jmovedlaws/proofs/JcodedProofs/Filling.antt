@@ -13,7 +13,8 @@ use Rattle.jclass.specs.declared.class.ClassParts.{ClassParts}
 use Rattle.jclass.specs.declared.class.MemberInfo.{MemberInfo}
 use Rattle.jlib.specs.declared.side.Side.TheVariants.{Source}
 use Rattle.jlib.specs.declared.classes.LibClass.{LibClass}
-use Rattle.jmoveclass.specs.Beginning.{params_in, this_slots}
+use Rattle.jmoveclass.specs.Beginning.{params_in}
+use Rattle.jmoveclass.specs.ProofNames.{this_slots}
 use Rattle.jtypes.specs.declared.vtype.Name.{Name}
 use Rattle.jtypes.specs.declared.vtype.VType.{VType}
 use Rattle.jtypes.specs.declared.vtype.VType.TheVariants as types

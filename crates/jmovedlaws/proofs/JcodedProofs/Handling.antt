@@ -34,7 +34,8 @@ use Rattle.jtypes.specs.Tree.{Tree}
 use Rattle.jprogram.specs.declared.member.MethodId.{MethodId}
 use Rattle.jprogram.specs.Classes.{Program}
 use Rattle.jmeaning.specs.juses.Instructions.{Instruction, body_in}
-use Rattle.jmeaning.specs.juses.Meanings.{as_class, class_at}
+use Rattle.jmeaning.specs.juses.Meanings.{class_at}
+use Rattle.jmeaning.specs.ProofNames.{as_class}
 use Rattle.jmeaning.proofs.JruleProofs.Both.{and_true}
 use Rattle.jmodel.specs.jmachine.Steps as steps
 use Rattle.jmodel.specs.jmachine.Unwinding.{catches, handler_at, handler_from, handler_in, is_caught, number_at, takes}

@@ -24,7 +24,7 @@ use Rattle.jparts.specs.declared.jcode.op.Wide.TheVariants as wides
 use Rattle.jparts.specs.jcode.Forms.{form}
 use Rattle.jparts.specs.jcode.Instructions.{code, placed_at}
 use Rattle.jparts.specs.declared.jpool.entry.Entry.{Entry}
-use Rattle.jparts.specs.jpool.Pools.{is_class, name_in}
+use Rattle.jparts.specs.jpool.Pools.{is_class}
 use Rattle.jclass.specs.declared.class.ClassParts.{ClassParts}
 use Rattle.jclass.specs.Operands.{is_constant, is_field, is_wide_constant, names_well}
 use Rattle.jlib.specs.declared.calls.ControllerCall.TheVariants as controller
@@ -36,10 +36,11 @@ use Rattle.jmove.specs.declared.method.Expand.TheVariants.{Same, Call, Check, Sn
 use Rattle.jmove.specs.declared.method.Setting.{Setting}
 use Rattle.jmove.specs.declared.naming.Security.TheVariants as security
 use Rattle.jmove.specs.Additions.{numbered}
-use Rattle.jmove.specs.Lines.{distance, led, switch_with}
+use Rattle.jmove.specs.Lines.{led, switch_with}
+use Rattle.jmove.specs.ProofNames.{distance}
 use Rattle.jmove.specs.Moved as moves
 use Rattle.jmove.specs.Moved.{call_static, expansion, move_ref, push_int}
-use Rattle.jmoveclass.specs.Calls.{calling, calling_library, expand_by}
+use Rattle.jmoveclass.specs.Calls.{calling, expand_by}
 use Rattle.jrewriting.specs.jmoved.Numbers as numbers
 use Rattle.jrewriting.specs.jmoved.Numbers.{index_of, new_place}
 use Rattle.jprogram.specs.declared.member.Member.{Member}
@@ -49,7 +50,8 @@ use Rattle.jmeaning.specs.declared.juses.meaning.How.{How}
 use Rattle.jmeaning.specs.declared.juses.meaning.How.TheVariants as how
 use Rattle.jmeaning.specs.juses.Instructions.{Always, If, IfInt, IfRef, Instruction, Jump, Local, Switch, Test, Used, by_form, cases, default, instruction, jump, switch, target}
 use Rattle.jmeaning.specs.juses.Meanings as meanings
-use Rattle.jmeaning.specs.juses.Meanings.{AClass, AConstant, AField, AMethod, CallMeaning, EntryMeaning, Meaning, array_made, array_meant, called_by, called_by_interface, cast_by, entry_meant, field_used, how_of, long_constant, made, meant, short_constant, used}
+use Rattle.jmeaning.specs.juses.Meanings.{AClass, AConstant, AField, AMethod, CallMeaning, EntryMeaning, Meaning, array_meant, entry_meant, how_of, meant, used}
+use Rattle.jmeaning.specs.ProofNames.{long_constant, made, short_constant, array_made, called_by, called_by_interface, cast_by, field_used}
 use Rattle.jmeaning.specs.juses.Typed.{array_over}
 use Rattle.jtypes.specs.declared.vtype.VType.TheVariants as types
 use Rattle.jlinking.proofs.JlinkProofs.Having.{map_is, then_is}
@@ -64,6 +66,8 @@ use Rattle.jbesides.specs.jstands.Expanding.{Alone, Asking, Handed, Place, Way, 
 use Rattle.jmovedlaws.proofs.JcodedProofs.Branching.{jump_moved, switch_moved}
 use Rattle.jmovedlaws.proofs.JcodedProofs.Entries.{entry_same, member_is, method_handed, method_same}
 use Rattle.jmovedlaws.proofs.JcodedProofs.Rt.{method_rt}
+use Rattle.jparts.specs.jpool.Entries.{class_parts}
+use Rattle.std.specs.Option.{option_map_or}
 
 -- ---- what a call hands on, and what its instruction becomes
 
@@ -77,7 +81,7 @@ way_by (Privileged i) = Asking controller.Privileged
 way_by (PrivilegedWith i) = Asking controller.PrivilegedWith
 way_by (PrivilegedLimited i) = Asking controller.PrivilegedLimited
 
-library_is : (n : ℕ) (m : LibCall) → way_of (members.LibMethod m) ≡ way_by (calling_library n m)
+library_is : (n : ℕ) (m : LibCall) → way_of (members.LibMethod m) ≡ way_by (calling n (Some (members.LibMethod m)))
 library_is n (calls.Run side) = refl
 library_is n (calls.RunAction side) = refl
 library_is n (calls.Thread (thread.Init side)) = refl
@@ -110,7 +114,7 @@ way_is n members.LibField = refl
 
 -- it is a Class entry
 abbrev pub is_name : Option Entry → Bool
-is_name o = is_some (name_in o)
+is_name o = is_some (option_and_then class_parts o)
 
 -- ---- lists that correspond
 
@@ -349,13 +353,13 @@ module _ (p : Program) (c d : ClassParts) (k : Known p c d) (begin : List Op) (s
   op_row (ops.CallInterface n slots) x j e h well it o =
       called_row (ops.CallInterface n slots) (pools.CallInterface n slots) j by_face (interface_target c p d k n well) x e h it o interface_parts (λ b y i. interface_means q d.pool new to from n slots b y i) (λ l b y i. interface_means q d.pool new to from l (if nat_lt slots 255 then slots + 1 else slots) b y i)
   op_row (ops.Ldc (ldcs.Narrow n)) x j e h well it o =
-      on_same (ops.Ldc (ldcs.Narrow n)) x j it e (pool_row (ops.Ldc (ldcs.Narrow n)) (pools.Constant n) it o (stays_by is_constant (λ a b. refl) (λ a b. refl) refl (slice_get c.pool n) well) (short_alone place number) (λ at. refl))
+      on_same (ops.Ldc (ldcs.Narrow n)) x j it e (pool_row (ops.Ldc (ldcs.Narrow n)) (pools.Constant n) it o (stays_by (λ o. option_map_or is_constant o false) (λ a b. refl) (λ a b. refl) refl (slice_get c.pool n) well) (short_alone place number) (λ at. refl))
   op_row (ops.Ldc (ldcs.Wide n)) x j e h well it o =
-      on_same (ops.Ldc (ldcs.Wide n)) x j it e (pool_row (ops.Ldc (ldcs.Wide n)) (pools.Constant n) it o (stays_by is_constant (λ a b. refl) (λ a b. refl) refl (slice_get c.pool n) well) (short_alone place number) (λ at. refl))
+      on_same (ops.Ldc (ldcs.Wide n)) x j it e (pool_row (ops.Ldc (ldcs.Wide n)) (pools.Constant n) it o (stays_by (λ o. option_map_or is_constant o false) (λ a b. refl) (λ a b. refl) refl (slice_get c.pool n) well) (short_alone place number) (λ at. refl))
   op_row (ops.Ldc2 n) x j e h well it o =
-      on_same (ops.Ldc2 n) x j it e (pool_row (ops.Ldc2 n) (pools.LongConstant n) it o (stays_by is_wide_constant (λ a b. refl) (λ a b. refl) refl (slice_get c.pool n) well) (long_alone place number) (λ at. refl))
+      on_same (ops.Ldc2 n) x j it e (pool_row (ops.Ldc2 n) (pools.LongConstant n) it o (stays_by (λ o. option_map_or is_wide_constant o false) (λ a b. refl) (λ a b. refl) refl (slice_get c.pool n) well) (long_alone place number) (λ at. refl))
   op_row (ops.Field op n) x j e h well it o =
-      on_same (ops.Field op n) x j it e (pool_row (ops.Field op n) (pools.Field op n) it o (stays_by is_field (λ a b. refl) (λ a b. refl) refl (slice_get c.pool n) well) (field_alone place number op) (λ at. refl))
+      on_same (ops.Field op n) x j it e (pool_row (ops.Field op n) (pools.Field op n) it o (stays_by (λ o. option_map_or is_field o false) (λ a b. refl) (λ a b. refl) refl (slice_get c.pool n) well) (field_alone place number op) (λ at. refl))
   op_row (ops.New (news.Object n)) x j e h well it o =
       on_same (ops.New (news.Object n)) x j it e (pool_row (ops.New (news.Object n)) (pools.New n) it o (stays_by is_name (λ a b. refl) (λ a b. refl) refl (slice_get c.pool n) well) (made_alone place number) (λ at. refl))
   op_row (ops.New (news.RefArray n)) x j e h well it o =

@@ -19,13 +19,14 @@ use Rattle.jtypes.specs.Described.{element_of, in_brackets}
 use Rattle.jprogram.specs.Classes.{Program}
 use Rattle.jground.specs.declared.jops.value.Value.{Value}
 use Rattle.jground.specs.declared.jops.value.Value.TheVariants.{Int, Long, Ref, Ctx}
-use Rattle.jmeaning.specs.juses.Typed.{Called, called, element_in, held, is_context, name, return_in, there, type_in, type_of, typed, typed_as}
+use Rattle.jmeaning.specs.juses.Typed.{Called, called, element_in, is_context, name, return_in, there, type_in, type_of, typed, typed_as}
+use Rattle.jmeaning.specs.ProofNames.{held}
 use Rattle.jlinking.proofs.JlinkProofs.Having.{map_is}
 use Rattle.jmeaning.specs.jrule.Effects.{Fits}
 use Rattle.jmodel.specs.jmachine.Frames.{onto, places_of}
 use Rattle.jmodel.specs.jmachine.Objects.{Array, Bare, Builder, Context, Instance, Object, Permission, Piece, Text, Thread, Thrown, class_of, is_ready}
 use Rattle.jmodel.specs.jmachine.Operands as operands
-use Rattle.jmodel.specs.jmachine.Operands.{Taken, found_type, serves, serves_as, taken, with_value}
+use Rattle.jmodel.specs.jmachine.Operands.{Taken, serves, taken, with_value, serves_as, found_type}
 use Rattle.jmodel.specs.jmachine.Store.{Store, object_at}
 use Rattle.jmodel.specs.jmachine.Straight.{places}
 use Rattle.jmodel.specs.jmachine.World.{World, fits}

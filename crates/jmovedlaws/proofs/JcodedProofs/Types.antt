@@ -16,7 +16,8 @@ use Rattle.jtypes.specs.declared.vtype.Element.TheVariants as elements
 use Rattle.jtypes.specs.declared.vtype.VType.{VType}
 use Rattle.jtypes.specs.declared.vtype.VType.TheVariants as types
 use Rattle.jprogram.specs.Classes.{Class, Program}
-use Rattle.jprogram.specs.Naming.{class_reserved, desc_reserved, is_reserved, return_reserved, text_reserved, type_reserved}
+use Rattle.jprogram.specs.Naming.{class_reserved, desc_reserved, is_reserved, text_reserved, type_reserved}
+use Rattle.jprogram.specs.ProofNames.{return_reserved}
 use Rattle.jmeaning.specs.juses.Typed.{Called, Typed, called, class_by, class_of, class_type, name, return_in, there, type_in, type_of, typed, typed_as}
 use Rattle.jrewriting.specs.jrewrite.Program.{moved}
 use Rattle.jrewriting.proofs.JrewriteProofs.Declaring.{first_false, second_false}

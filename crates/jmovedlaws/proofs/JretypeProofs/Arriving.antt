@@ -6,7 +6,7 @@ use Rattle.std.proofs.lemmas.List.{length-append, length-map}
 use Rattle.jparts.specs.declared.jpool.entry.Entry.{Entry}
 use Rattle.jparts.specs.declared.jcode.op.Placed.{Placed}
 use Rattle.jparts.specs.jcode.Instructions.{is_place}
-use Rattle.jclass.specs.Codes.{begins}
+use Rattle.jclass.specs.Codes.{begins, frames_in}
 use Rattle.jclass.specs.Stored.{IsIn}
 use Rattle.jparts.specs.declared.jmaps.types.RawFrame.{RawFrame}
 use Rattle.jparts.specs.jmaps.Full.{locals_after, place_from}
@@ -17,7 +17,7 @@ use Rattle.jprogram.specs.Classes.{Program, tree}
 use Rattle.jmeaning.proofs.JruleProofs.Keeping.{sharp_is}
 use Rattle.jmeaning.proofs.JruleProofs.Ordered.{precise_itself}
 use Rattle.jmeaning.proofs.JruleProofs.Sharper as sharper
-use Rattle.jtyping.specs.Declared.{Written, continued, declared_at, filled, frame_of, frames_in, has_room, holds, item, written, written_from}
+use Rattle.jtyping.specs.Declared.{Written, continued, declared_at, filled, frame_of, has_room, holds, item, written, written_from}
 use Rattle.jtyping.specs.Methods.{makes}
 use Rattle.jtyping.specs.Typing.{begun}
 use Rattle.jtyping.proofs.Tests.{both_of}

@@ -17,7 +17,8 @@ use Rattle.jmeaning.specs.jrule.Here.{Here}
 use Rattle.jmeaning.specs.jrule.Objects.{init}
 use Rattle.jmeaning.specs.jrule.Operands.{exchanged}
 use Rattle.jmeaning.specs.jrule.Rule.{by_table, is_own, rule, used}
-use Rattle.jmeaning.specs.jrule.Straight.{jump, leave, simple, switch, throw}
+use Rattle.jmeaning.specs.jrule.Straight.{jump, leave, simple}
+use Rattle.jmeaning.specs.ProofNames.{switch, throw}
 use Rattle.jmeaning.specs.jrule.Uses.{exchange, of_field}
 use Rattle.jmovedlaws.specs.jretype.Programs.{AsksTree, SameOwners}
 

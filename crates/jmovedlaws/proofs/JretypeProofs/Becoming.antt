@@ -25,9 +25,9 @@ use Rattle.jclass.specs.declared.class.CodeBody.{CodeBody}
 use Rattle.jclass.specs.declared.class.MemberInfo.{MemberInfo}
 use Rattle.jclass.specs.declared.fault.ClassFault.TheVariants.{Index}
 use Rattle.jclass.specs.Basics.{index, u2}
-use Rattle.jclass.specs.Codes.{code_content, handler, handler_parts, named_type, target_fault}
+use Rattle.jclass.specs.Codes.{code_content, handler, handler_parts, named_type, target_fault, frames_in}
 use Rattle.jclass.specs.Members.{body_of}
-use Rattle.jclass.specs.Rules.{is_plain_class, names_caught, names_class}
+use Rattle.jclass.specs.Rules.{names_caught, names_class, is_plain_class}
 use Rattle.jlinking.specs.jreferring.Names as names
 use Rattle.jclass.specs.Stored.{IsIn}
 use Rattle.jclass.proofs.Stored.{code_fits, code_leads}
@@ -64,7 +64,8 @@ use Rattle.jmoveclass.specs.Beginning as begun
 use Rattle.jmoveclass.specs.Beginning.{params_in, slots}
 use Rattle.jmoveclass.specs.Calls.{expands}
 use Rattle.jmoveclass.specs.Methods as class
-use Rattle.jmoveclass.specs.Methods.{frames_of, maps_name, method_in, moved_maps, or_none, with_code, with_first}
+use Rattle.jmoveclass.specs.Methods.{frames_of, maps_name, method_in, moved_maps, with_code, with_first}
+use Rattle.jmoveclass.specs.ProofNames.{or_none}
 use Rattle.jmoveclass.specs.Moved.{moved_class, moved_part}
 use Rattle.jmoveclass.proofs.Attributing as limiting
 use Rattle.jmoveclass.proofs.Coding.{code_can, code_limit}
@@ -83,17 +84,18 @@ use Rattle.jprogram.specs.declared.part.ClassRef.{ClassRef}
 use Rattle.jprogram.specs.declared.part.CodePart.{CodePart}
 use Rattle.jprogram.specs.Classes.{Class, Program, find, ref_of}
 use Rattle.jprogram.specs.Members.{is_init, method_id}
-use Rattle.jprogram.specs.Naming.{desc_reserved, is_reserved, return_reserved, text_reserved, type_reserved}
+use Rattle.jprogram.specs.Naming.{desc_reserved, is_reserved, text_reserved, type_reserved}
+use Rattle.jprogram.specs.ProofNames.{return_reserved}
 use Rattle.jparts.specs.declared.jpool.descriptor.Descriptor.{Descriptor}
 use Rattle.jprogram.specs.Parts.{code_of, is_static, member_desc, or_empty, this_name}
 use Rattle.jprogram.proofs.Numbers.{own_number}
 use Rattle.jmeaning.specs.juses.Instructions.{instruction, instruction_at}
-use Rattle.jmeaning.specs.juses.Meanings.{as_class}
+use Rattle.jmeaning.specs.ProofNames.{as_class}
 use Rattle.jmeaning.specs.juses.Meanings as meanings
 use Rattle.jmeaning.specs.juses.Typed.{Typed, is_context, name, there, type_in, type_of}
 use Rattle.jmeaning.specs.jrule.Uses.{throwable}
-use Rattle.jtyping.specs.Declared as typing
-use Rattle.jtyping.specs.Declared.{item, or_top}
+use Rattle.jtyping.specs.Declared.{item}
+use Rattle.jtyping.specs.ProofNames.{or_top}
 use Rattle.jtyping.specs.Methods.{Method, method_of, params_of, receiver}
 use Rattle.jtyping.specs.Typed.{IsTyped}
 use Rattle.jtyping.specs.Typing.{WellTyped, caught_type, method_fault}
@@ -105,7 +107,7 @@ use Rattle.jrewriting.proofs.JrewriteProofs.Bodies.{IsCodePut}
 use Rattle.jrewriting.proofs.JrewriteProofs.Coding.{stays_by}
 use Rattle.jrewriting.proofs.JrewriteProofs.Declaring.{first_false, second_false}
 use Rattle.jrewriting.proofs.JrewriteProofs.Filed.{can_be_file}
-use Rattle.jrewriting.proofs.JrewriteProofs.Framed.{Keep, frames_same, framed, stand_of, wide_of}
+use Rattle.jrewriting.proofs.JrewriteProofs.Framed.{Keep, framed, stand_of, wide_of}
 use Rattle.jrewriting.proofs.JrewriteProofs.Membering.{all_moving, moving_of}
 use Rattle.jrewriting.proofs.JrewriteProofs.Overriding.{moved_at, moved_side, pair_at}
 use Rattle.jrewriting.proofs.JrewriteProofs.Params.{class_named, desc_free}
@@ -336,7 +338,7 @@ module _ (p : Program) (is : IsLinked p) (well : WellTyped p) (free : limits p �
     b = k.b
 
     abbrev x0 : List MapType × List Entry
-    x0 = with_first part.class m (class.frames_in k.b) k.pool
+    x0 = with_first part.class m (frames_in k.b) k.pool
 
     abbrev ks : List Expand
     ks = expands p part.class.pool k.b.ops
@@ -437,9 +439,9 @@ module _ (p : Program) (is : IsLinked p) (well : WellTyped p) (free : limits p �
         first_put (moved p) part.class m k.pool k.grown.sound of.begins (λ whole n h. this_item whole n h) few said.params new_params
         (moved_class p part.domain part.class).pool front ∙ sym params_are
 
-    begins_with : (f : RawFrame) (fs : List RawFrame) → typing.frames_in k.b ≡ f ∷ fs → map (item (moved p) (moved_class p part.domain part.class).pool) x0.0 ≡ old.params
+    begins_with : (f : RawFrame) (fs : List RawFrame) → frames_in k.b ≡ f ∷ fs → map (item (moved p) (moved_class p part.domain part.class).pool) x0.0 ≡ old.params
     unfolding First
-    begins_with f fs e = subst First (sym (frames_same k.b ∙ e)) (first_by f fs) first_few first_later
+    begins_with f fs e = subst First (sym e) (first_by f fs) first_few first_later
 
     contexts : (f : FullFrame) (fs : List FullFrame) → frames_of x0.0 k.b ≡ f ∷ fs → item (moved p) (moved_class p part.domain part.class).pool (items.Object y0.0.context) ≡ Ctx
     contexts f fs e =
@@ -451,15 +453,15 @@ module _ (p : Program) (is : IsLinked p) (well : WellTyped p) (free : limits p �
 
     -- ---- its frames
 
-    keep : (rs : List RawFrame) → typing.frames_in k.b ≡ rs → Keep k.b (frames_of x0.0 k.b)
+    keep : (rs : List RawFrame) → frames_in k.b ≡ rs → Keep k.b (frames_of x0.0 k.b)
     unfolding frames_of expand_from
-    keep [] e = subst (λ (rs : List RawFrame). Keep k.b (or_none (expand_from x0.0 0 None rs))) (sym (frames_same k.b ∙ e)) tt
+    keep [] e = subst (λ (rs : List RawFrame). Keep k.b (or_none (expand_from x0.0 0 None rs))) (sym e) tt
     keep (f ∷ fs) e =
         let under : Under x0.0 (map (item (moved p) (moved_class p part.domain part.class).pool) x0.0) = under_items (moved p) (moved_class p part.domain part.class).pool x0.0 in
         framed p old x0.0 (subst (Under x0.0) (begins_with f fs e) under) (typed_method p old typed_old)
 
     kept : Keep k.b (frames_of x0.0 k.b)
-    kept = keep (typing.frames_in k.b) refl
+    kept = keep (frames_in k.b) refl
 
     code_old : (o : Attribute) × IsIn o m.attributes × (body_of o ≡ Some k.b)
     code_old = code_in m k.b k.coded.is
@@ -482,7 +484,7 @@ module _ (p : Program) (is : IsLinked p) (well : WellTyped p) (free : limits p �
         let near = short moving y0.0.kinds can none part.domain y0.0.enter in
         let there = frames_there part.class.pool k.b.attributes (code_parts_of part.class.pool k.b fit).attributes in
         let wide = wide_of k.b (frames_of x0.0 k.b) kept in
-        let write = can_write_full part.class.pool k.b.max_locals x0.0 (class.frames_in k.b) can.locals there (frames_fit part.class k.b k.coded.has) wide in
+        let write = can_write_full part.class.pool k.b.max_locals x0.0 (frames_in k.b) can.locals there (frames_fit part.class k.b k.coded.has) wide in
         let locals = within.locals in
         let slots = within.slots in
         written (begin_of part.class m k.b part.domain x0.0 y0.0.enter) (set_of part.class m k.b part.domain x0.0) y0.0.kinds k.b.ops can.each can.is_code near
@@ -497,10 +499,8 @@ module _ (p : Program) (is : IsLinked p) (well : WellTyped p) (free : limits p �
       good = typed_old.good;
       begins = begins_with;
       named = contexts;
-      stand = subst (λ (rs : List RawFrame). AllByRecursion (λ r. StandFor p part.class.pool (item (moved p) (moved_class p part.domain part.class).pool) r.locals
-          × StandFor p part.class.pool (item (moved p) (moved_class p part.domain part.class).pool) r.stack) rs) (frames_same k.b)
-          (frames_stand (class.frames_in k.b) (raw_items part.class.pool (class.frames_in k.b)
-          (frames_there part.class.pool k.b.attributes (code_parts_of part.class.pool k.b fit).attributes)));
+      stand = frames_stand (frames_in k.b) (raw_items part.class.pool (frames_in k.b)
+          (frames_there part.class.pool k.b.attributes (code_parts_of part.class.pool k.b fit).attributes));
       behind = under_local k.b.max_locals (begun.slots part.class m + 1) k.b.max_locals (omega arith);
       wide = wide_of k.b (frames_of x0.0 k.b) kept;
       writes = writes;

@@ -40,7 +40,8 @@ use Rattle.jmeaning.proofs.JruleProofs.SharpLocals.{locals_of}
 use Rattle.jbesides.specs.jstands.Expanding.{keep, load, push, rt_meaning}
 use Rattle.jtyping.specs.Declared.{declared_at, filled, first_frame}
 use Rattle.jtyping.specs.Typed.{AreFrames, Follows}
-use Rattle.jtyping.specs.Typing.{begun, handler_fits, handler_test, handlers_fit, onward}
+use Rattle.jtyping.specs.Typing.{begun, handler_fits, handlers_fit, onward}
+use Rattle.jtyping.specs.ProofNames.{handler_test}
 use Rattle.jtyping.proofs.Chosen.{also_at}
 use Rattle.jtyping.proofs.Indexed.{frames_begin, frames_serve}
 use Rattle.jtyping.proofs.Tests.{where_holds}

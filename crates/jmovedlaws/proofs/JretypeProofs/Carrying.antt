@@ -11,7 +11,8 @@ use Rattle.jtypes.specs.declared.vtype.VType.{VType}
 use Rattle.jtypes.specs.declared.vtype.VType.TheVariants.{Top, Int, Long, Null, UninitThis, Uninit, Object, Array, Ctx}
 use Rattle.jtypes.specs.Fitting.{fits}
 use Rattle.jtypes.specs.Frames as frames
-use Rattle.jtypes.specs.Frames.{Frame, all_fit, implies, is_long, item_fits, stack_fits}
+use Rattle.jtypes.specs.Frames.{Frame, all_fit, implies, is_long, stack_fits}
+use Rattle.jtypes.specs.ProofNames.{item_fits}
 use Rattle.jtypes.specs.Tree.{Tree}
 use Rattle.jmeaning.specs.jrule.Further.{with_more}
 use Rattle.jmeaning.proofs.JruleProofs.Both.{and_true, both}

@@ -15,7 +15,8 @@ use Rattle.jclass.specs.declared.class.MemberInfo.{MemberInfo}
 use Rattle.jtypes.specs.declared.vtype.Name.{Name}
 use Rattle.jtypes.specs.declared.vtype.VType.{VType}
 use Rattle.jtypes.specs.declared.vtype.VType.TheVariants.{Ctx}
-use Rattle.jlinking.specs.jmembers.Declares.{desc_left_out, desc_missing, param_left_out, return_left_out, return_missing, text_left_out, text_missing, type_missing}
+use Rattle.jlinking.specs.jmembers.Declares.{desc_left_out, desc_missing, param_left_out, text_left_out, text_missing, type_missing}
+use Rattle.jlinking.specs.ProofNames.{return_left_out, return_missing}
 use Rattle.jmoveclass.specs.Methods.{new_desc}
 use Rattle.jmoveclass.specs.Moved.{moved_class}
 use Rattle.jrewriting.proofs.JmovefileProofs.Members.{Like}
@@ -38,7 +39,8 @@ use Rattle.jrewriting.proofs.JrewriteProofs.Security.{IsPassing}
 use Rattle.jrewriting.proofs.JrewriteProofs.Standing.{AllPlain, IsPlain, missing_name, names_stay, plain_above, plain_at}
 use Rattle.jrewriting.proofs.JrewriteProofs.Starting.{are_there, return_some}
 use Rattle.jrewriting.proofs.JrewriteProofs.Walking.{known_of}
-use Rattle.jtyping.specs.Methods.{Method, method_of, params_of, receiver, return_of}
+use Rattle.jtyping.specs.Methods.{Method, method_of, params_of, receiver}
+use Rattle.jtyping.specs.ProofNames.{return_of}
 use Rattle.jtyping.specs.Typing.{WellTyped}
 use Rattle.jmeaning.specs.juses.Typed.{Called, Typed, called, name, return_in, there, type_in, typed, typed_as}
 use Rattle.jmovedlaws.proofs.JcodedProofs.Types.{typed_handed}

@@ -7,7 +7,8 @@ use Rattle.std.proofs.lemmas.List.Concat.{flat_map-append, flat_map-cons}
 use Rattle.jparts.specs.declared.jmaps.types.FullFrame.{FullFrame}
 use Rattle.jparts.specs.declared.jmaps.types.MapType.{MapType}
 use Rattle.jparts.specs.declared.jmaps.types.MapType.TheVariants as items
-use Rattle.jmove.specs.Frames.{moved_frame, moved_type, unsaid, width, widths}
+use Rattle.jmove.specs.Frames.{moved_frame, moved_type, widths}
+use Rattle.jmove.specs.ProofNames.{unsaid, width}
 use Rattle.jparts.specs.declared.jpool.entry.Entry.{Entry}
 use Rattle.jprogram.specs.Classes.{Program}
 use Rattle.jmeaning.specs.jrule.Effects.{is_uninit_this}
@@ -15,7 +16,8 @@ use Rattle.jmeaning.proofs.JruleProofs.Swapping.{map_reversed}
 use Rattle.jtypes.specs.declared.vtype.VType.{VType}
 use Rattle.jtypes.specs.declared.vtype.VType.TheVariants.{Top, Int, Long, Null, UninitThis, Uninit, Object, Array, Ctx}
 use Rattle.jtypes.specs.Frames.{is_long, places, places_of}
-use Rattle.jtyping.specs.Declared.{filled, frame_of, item, or_top}
+use Rattle.jtyping.specs.Declared.{filled, frame_of, item}
+use Rattle.jtyping.specs.ProofNames.{or_top}
 use Rattle.jmeaning.specs.juses.Meanings.{class_at}
 use Rattle.jmovedlaws.specs.jretype.Full.{in_full}
 use Rattle.jmovedlaws.specs.jretype.Places.{renamed_type}

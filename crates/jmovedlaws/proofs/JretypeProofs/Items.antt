@@ -13,7 +13,7 @@ use Rattle.jparts.specs.declared.jpool.entry.Entry.{Entry}
 use Rattle.jparts.specs.declared.jpool.entry.Entry.TheVariants as entries
 use Rattle.jparts.specs.jpool.Descriptors.{descriptor_of, is_base, is_class_sign, is_type, type_text}
 use Rattle.jparts.specs.jpool.Names.{is_class_name}
-use Rattle.jparts.specs.jpool.Pools.{class_name_at, name_and_type_at, name_in, utf8_at}
+use Rattle.jparts.specs.jpool.Pools.{class_name_at, name_and_type_at, utf8_at}
 use Rattle.jlinking.proofs.JlinkProofs.Having.{map_is, then_is}
 use Rattle.jparts.specs.declared.jmaps.types.MapType.TheVariants as items
 use Rattle.jtypes.specs.declared.vtype.Name.{Name}
@@ -26,12 +26,15 @@ use Rattle.jtypes.specs.Frames.{is_long}
 use Rattle.jprogram.specs.Classes.{Program}
 use Rattle.jlinking.specs.jreferring.Names as names
 use Rattle.jlinking.specs.jreferring.Names.{type_named}
-use Rattle.jmeaning.specs.juses.Meanings.{AClass, AConstant, AField, AMethod, EntryMeaning, as_class, call_meant, class_at, entry_meant, field_meant, reference}
+use Rattle.jmeaning.specs.juses.Meanings.{AClass, AConstant, AField, AMethod, EntryMeaning, call_meant, class_at, entry_meant, field_meant, reference}
+use Rattle.jmeaning.specs.ProofNames.{as_class}
 use Rattle.jmeaning.specs.juses.Typed.{class_by, class_of, class_type, element_in, is_context, name, there, type_in, type_of}
 use Rattle.jrewriting.proofs.JrewriteProofs.Judging.{class_entry}
-use Rattle.jtyping.specs.Declared.{item, or_top}
+use Rattle.jtyping.specs.Declared.{item}
+use Rattle.jtyping.specs.ProofNames.{or_top}
 use Rattle.jmovedlaws.proofs.JretypeProofs.Framing.{ClassesAreShort}
 use Rattle.jmovedlaws.proofs.JretypeProofs.Settled.{map_some, map_some_by, then_some, then_some_by}
+use Rattle.jparts.specs.jpool.Entries.{class_parts}
 
 -- ---- classes are no longs
 
@@ -113,7 +116,7 @@ as_is (Some v) = refl
 pub class_at_is : (q : Program) (pool : List Entry) (i : ℕ) (text : List ℕ) → class_name_at pool i ≡ Some text → class_at q pool i ≡ class_type q text
 unfolding class_name_at class_at entry_meant
 class_at_is q pool i text h =
-    let r = then_is (utf8_at pool) (name_in (slice_get pool i)) text h in
+    let r = then_is (utf8_at pool) (option_and_then class_parts (slice_get pool i)) text h in
     ap (λ (o : Option Entry). option_and_then as_class (entry_meant q pool o)) (class_entry (slice_get pool i) r.0 r.1)
     ∙ ap (λ (o : Option (List ℕ)). option_and_then as_class (option_map AClass (option_and_then (class_type q) o))) r.2
     ∙ as_is (class_type q text)

@@ -21,7 +21,8 @@ use Rattle.jtypes.specs.Fitting.{fits}
 use Rattle.jtypes.specs.Frames as frames
 use Rattle.jtypes.specs.Frames.{Frame, all_fit}
 use Rattle.jtypes.specs.Tree.{Tree}
-use Rattle.jmove.specs.Lines.{distance, led, with_branches}
+use Rattle.jmove.specs.Lines.{led, with_branches}
+use Rattle.jmove.specs.ProofNames.{distance}
 use Rattle.jmove.specs.Moved.{moved_handler}
 use Rattle.jrewriting.proofs.JmovedProofs.Leading.{each_branch, leads}
 use Rattle.jrewriting.proofs.JmovedProofs.Ranging.{labelled}
@@ -36,7 +37,8 @@ use Rattle.jmeaning.proofs.JruleProofs.Ordered.{precise_fits}
 use Rattle.jmeaning.proofs.JruleProofs.Precise.{item_itself}
 use Rattle.jmeaning.proofs.JruleProofs.Sharper.{LocalsSharp, StackSharp}
 use Rattle.jtyping.specs.Declared.{Written, declared_at}
-use Rattle.jtyping.specs.Typing.{branch_fits, branches_fit, caught_fits, caught_type, frame_fits, handler_fits, handler_test, handlers_fit, leads_in, lets_in}
+use Rattle.jtyping.specs.Typing.{branches_fit, caught_fits, caught_type, frame_fits, handler_fits, handlers_fit, leads_in, lets_in}
+use Rattle.jtyping.specs.ProofNames.{branch_fits, handler_test}
 use Rattle.jtyping.proofs.Tests.{all_in, both_of, where_holds}
 use Rattle.jmovedlaws.specs.jretype.Places.{IsApart}
 use Rattle.jmovedlaws.proofs.JretypeProofs.Apart.{apart}

@@ -38,11 +38,14 @@ use Rattle.jrewriting.proofs.JmovedProofs.Ranging.{labelled}
 use Rattle.jrewriting.proofs.JmovedProofs.Sizing.{laid_placed}
 use Rattle.jprogram.specs.Classes.{Program}
 use Rattle.jtypes.specs.declared.vtype.Name.{Name}
-use Rattle.jtyping.specs.Methods.{made, made_by, made_in}
+use Rattle.jtyping.specs.Methods.{made, made_in}
+use Rattle.jtyping.specs.ProofNames.{made_by}
 use Rattle.jmeaning.specs.juses.Instructions as instructions
+use Rattle.jmeaning.specs.ProofNames
 use Rattle.jmeaning.specs.juses.Instructions.{Instruction, Jump, Switch, Used, instruction}
 use Rattle.jmeaning.specs.juses.Meanings as meanings
-use Rattle.jmeaning.specs.juses.Meanings.{AClass, AConstant, AField, AMethod, CallMeaning, EntryMeaning, Make, Meaning, array_made, array_meant, entry_meant, meant, used}
+use Rattle.jmeaning.specs.juses.Meanings.{AClass, AConstant, AField, AMethod, CallMeaning, EntryMeaning, Make, Meaning, array_meant, entry_meant, meant, used}
+use Rattle.jmeaning.specs.ProofNames.{array_made}
 use Rattle.jmeaning.specs.juses.Typed.{array_over}
 use Rattle.jbesides.specs.jstands.Expanding.{Alone, Asking, Handed, Place, Way, calling, expanded, way_of}
 use Rattle.jmeaning.specs.declared.juses.meaning.How.{How}
@@ -148,7 +151,7 @@ flow_none ops at (flows.Switch s) it e =
 flow_none ops at (flows.Return kind) it e = as_it it (instructions.Return kind) None e refl
 flow_none ops at flows.Throw it e = as_it it instructions.Throw None e refl
 
-array_none : (p : Program) (pool : List Entry) (f : ArrayForm) (it : Instruction) → instructions.array p pool f ≡ Some it → None ≡ made_it it
+array_none : (p : Program) (pool : List Entry) (f : ArrayForm) (it : Instruction) → ProofNames.array p pool f ≡ Some it → None ≡ made_it it
 unfolding array_meant
 array_none p pool (arrays.NewRef i) it e =
     none_made (array_meant p pool i) it e (λ m is. (let r = then_is array_made (entry_meant p pool (slice_get pool i)) m is in array_some r.0 m r.2))

@@ -1,6 +1,6 @@
 -- Frames that are written full are read as they were, and frames that can be said in full as they say it.
 use Rattle.std.proofs.Common.{◌≡◌, ℕ, ◌+◌, true, false, List, [], ◌∷◌, map, reverse, Option, Some, None, Result, Ok, Err, refl, sym, ap, subst, ◌∙◌, arith}
-use Rattle.std.specs.Prelude.{IsTrue, is_some, option_map}
+use Rattle.std.specs.Prelude.{IsTrue, is_some, option_map, ok_or}
 use Rattle.std.specs.List.{AllByRecursion}
 use Rattle.std.proofs.lemmas.Bool.{ltb-true}
 use Rattle.jground.specs.jbase.Stops.{◌>>=◌}
@@ -10,7 +10,7 @@ use Rattle.jparts.specs.declared.jpool.entry.Entry.{Entry}
 use Rattle.jparts.specs.declared.jmaps.types.FullFrame.{FullFrame}
 use Rattle.jparts.specs.declared.jmaps.types.MapType.{MapType}
 use Rattle.jparts.specs.declared.jmaps.types.RawFrame.{RawFrame}
-use Rattle.jparts.specs.jmaps.Full.{can_follow, delta_behind, expand_from, full_forms, is_behind, locals_after, locals_before, or_number, place_after, place_behind, place_from, stands, with_locals}
+use Rattle.jparts.specs.jmaps.Full.{can_follow, delta_behind, expand_from, full_forms, is_behind, locals_after, locals_before, place_after, place_behind, place_from, stands, with_locals}
 use Rattle.jparts.proofs.JmapsProofs.FullLaws.{locals_map}
 use Rattle.jtypes.specs.declared.vtype.VType.{VType}
 use Rattle.jprogram.specs.Classes.{Program}
@@ -91,7 +91,7 @@ module _ (p : Program) (pool : List Entry) (most : ℕ) where
           ∙ ap (map (in_full of most)) (ok_is (full locals ∷ ys) fs h)
 
       found : (o : Option (List MapType)) → locals_after r.form r.locals (locals_before first e) ≡ o
-          → (or_number i (with_locals e r o) >>= λ f. expand_from first (i + 1) (Some f) rs >>= λ ys. Ok (f ∷ ys)) ≡ Ok fs → Later → Says
+          → (ok_or (with_locals e r o) i >>= λ f. expand_from first (i + 1) (Some f) rs >>= λ ys. Ok (f ∷ ys)) ≡ Ok fs → Later → Says
       found None is h rest = absurd cc
       found (Some locals) is h rest = later locals is (expand_from first (i + 1) (Some (full locals)) rs) refl h rest
 
@@ -117,7 +117,7 @@ module _ (p : Program) (pool : List Entry) (most : ℕ) where
       next locals = expand_from first (i + 1) (Some (record { at = place_behind e r.delta; locals = locals; stack = r.stack })) rs
 
       abbrev now : Option (List MapType) → Result (List FullFrame) ℕ
-      now o = or_number i (with_locals e r o) >>= λ f. expand_from first (i + 1) (Some f) rs >>= λ ys. Ok (f ∷ ys)
+      now o = ok_or (with_locals e r o) i >>= λ f. expand_from first (i + 1) (Some f) rs >>= λ ys. Ok (f ∷ ys)
 
       locals_alike : (o : Option (List MapType)) → locals_after r.form r.locals (locals_before first e) ≡ o
           → locals_after r.form (each r.locals) (map of (locals_before first e)) ≡ option_map (map of) o

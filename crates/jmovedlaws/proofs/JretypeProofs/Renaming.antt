@@ -43,20 +43,22 @@ use Rattle.jmeaning.specs.juses.Meanings.{CallMeaning, FieldMeaning, Meaning, Pu
 use Rattle.jmeaning.specs.declared.jrule.unready.Unready.{Unready}
 use Rattle.jmeaning.specs.declared.jrule.unready.Unready.TheVariants as unready
 use Rattle.jmeaning.specs.jrule.Arrays as array
-use Rattle.jmeaning.specs.jrule.Arrays.{component, loaded, loaded_on, operands, wanted}
+use Rattle.jmeaning.specs.jrule.Arrays.{component, loaded, loaded_on, operands}
+use Rattle.jmeaning.specs.ProofNames.{wanted, moved, shuffled, init_of, replaced, of_cast}
 use Rattle.jmeaning.specs.jrule.Effects.{Exchange, Fits, Holds, Of, OrThis, Want, by_effect, gives, is_int, is_of, is_ref, meets, of_kinds, typed}
 use Rattle.jmeaning.specs.jrule.Forms.{by_form, by_meaning}
 use Rattle.jmeaning.specs.jrule.Here.{Here}
 use Rattle.jmeaning.specs.jrule.Locals as locals
+use Rattle.jmeaning.specs.ProofNames
 use Rattle.jmeaning.specs.jrule.Locals.{broken, is_top, is_whole, passes, with_local, with_second}
 use Rattle.jmeaning.specs.jrule.Moves as moves
-use Rattle.jmeaning.specs.jrule.Moves.{move, moved, shuffled}
+use Rattle.jmeaning.specs.jrule.Moves.{move}
 use Rattle.jmeaning.specs.jrule.Objects as objects
-use Rattle.jmeaning.specs.jrule.Objects.{all_replaced, init_of, init_on, is_it, is_named, may_ready_this, readied, replaced}
+use Rattle.jmeaning.specs.jrule.Objects.{all_replaced, init_on, is_it, is_named, may_ready_this, readied}
 use Rattle.jmeaning.specs.jrule.Operands.{below, exchanged, given, pushed, taken, with_room, with_stack}
 use Rattle.jmeaning.specs.jrule.Rule.{by_table, is_own}
 use Rattle.jmeaning.specs.jrule.Straight as straight
-use Rattle.jmeaning.specs.jrule.Uses.{arguments, constant, exchange, of_cast, of_field, receiver, throwable, written}
+use Rattle.jmeaning.specs.jrule.Uses.{arguments, constant, exchange, of_field, receiver, throwable, written}
 use Rattle.jmeaning.proofs.JruleProofs.Naturally.{naturally, of_item, of_move}
 use Rattle.jmovedlaws.specs.jretype.Places.{GoesAlong, IsApart, Renames, gone, renamed, renamed_type}
 use Rattle.jmovedlaws.proofs.JretypeProofs.Settled.{AreSettled, MaySettle, Settled, SettledCall, SettledMeaning, array_meant_settled, brackets_settled, first_settled, meant_settled, rest_settled}
@@ -330,7 +332,7 @@ module _ (to : ℕ → ℕ) where
       ap (λ (b : Bool). if b then passes is_top (slice_get (all xs) (n + 1)) else true) (long_same a)
       ∙ ap (λ (b : Bool). if is_long a then b else true) (passes_same is_top top_same xs (n + 1))
 
-  load_turned : (most : ℕ) (k : Kind) (n : ℕ) → Turns (locals.load most k n) (locals.load most k n)
+  load_turned : (most : ℕ) (k : Kind) (n : ℕ) → Turns (ProofNames.load most k n) (ProofNames.load most k n)
   load_turned most k n f = ap (locals.load_from most k n (renamed to f)) (got f.locals n) ∙ go (slice_get f.locals n)
     where
       on : (a : VType) (b : Bool) → (if b then pushed most (r a) (renamed to f) else None) ≡ option_map (renamed to) (if b then pushed most a f else None)
@@ -369,7 +371,7 @@ module _ (to : ℕ → ℕ) where
       ∙ ap (with_second (r a) n) (set_same (broken xs n) n a)
       ∙ second_same a n (slice_set (broken xs n) n a)
 
-  store_turned : (k : Kind) (n : ℕ) → Turns (locals.store k n) (locals.store k n)
+  store_turned : (k : Kind) (n : ℕ) → Turns (ProofNames.store k n) (ProofNames.store k n)
   store_turned k n f = on f.stack
     where
       put : VType → List VType → Frame

@@ -40,10 +40,12 @@ use Rattle.jmeaning.specs.jrule.Effects.{Exchange, Fits, Of, Want, by_effect, gi
 use Rattle.jmeaning.specs.jrule.Forms.{by_form, by_meaning}
 use Rattle.jmeaning.specs.jrule.Here.{Here}
 use Rattle.jmeaning.specs.jrule.Locals as locals
+use Rattle.jmeaning.specs.ProofNames
 use Rattle.jmeaning.specs.jrule.Locals.{broken, is_whole, passes, with_local, with_second}
-use Rattle.jmeaning.specs.jrule.Moves.{move, shuffled}
+use Rattle.jmeaning.specs.jrule.Moves.{move}
+use Rattle.jmeaning.specs.ProofNames.{shuffled, init_of, replaced}
 use Rattle.jmeaning.specs.jrule.Objects as objects
-use Rattle.jmeaning.specs.jrule.Objects.{all_replaced, init_of, init_on, is_it, is_named, may_ready_this, readied, replaced}
+use Rattle.jmeaning.specs.jrule.Objects.{all_replaced, init_on, is_it, is_named, may_ready_this, readied}
 use Rattle.jmeaning.specs.jrule.Operands.{below, exchanged, given, pushed, taken, with_room, with_stack}
 use Rattle.jmeaning.specs.jrule.Rule.{by_table, is_own}
 use Rattle.jmeaning.specs.jrule.Straight as straight
@@ -126,7 +128,7 @@ module _ (long most : ℕ) where
 
   -- ---- locals
 
-  load_keeps : (kind : Kind) (n : ℕ) → Keeps (locals.load most kind n)
+  load_keeps : (kind : Kind) (n : ℕ) → Keeps (ProofNames.load most kind n)
   load_keeps kind n f k e h = go (slice_get f.locals n) e
     where
       on : (a : VType) (b : Bool) → (if b then pushed most a f else None) ≡ Some k → HasRoom long most k
@@ -151,7 +153,7 @@ module _ (long most : ℕ) where
   unfolding with_local
   local_length xs n a = second_length a n (slice_set (broken xs n) n a) ∙ set_length (broken xs n) n a ∙ broken_length xs n
 
-  store_keeps : (kind : Kind) (n : ℕ) → Keeps (locals.store kind n)
+  store_keeps : (kind : Kind) (n : ℕ) → Keeps (ProofNames.store kind n)
   unfolding slots
   store_keeps kind n f k e h = on f.stack e h.stack
     where

@@ -13,7 +13,8 @@ use Rattle.jtypes.specs.declared.vtype.VType.TheVariants.{Int, Ctx}
 use Rattle.jtypes.specs.Frames.{Frame, slots}
 use Rattle.jmove.specs.declared.method.Expand.{Expand}
 use Rattle.jmove.specs.declared.method.Expand.TheVariants.{Same, Call, Check, Snapshot, Privileged, PrivilegedWith, PrivilegedLimited}
-use Rattle.jmove.specs.Lines.{Laid, distance, led, reach}
+use Rattle.jmove.specs.Lines.{Laid, led, reach}
+use Rattle.jmove.specs.ProofNames.{distance}
 use Rattle.jmove.specs.Moved.{call_static, calling, expansion, move_ref, moved_handler, push_int}
 use Rattle.jparts.specs.declared.jcode.names.Access.TheVariants.{Load}
 use Rattle.jrewriting.specs.jmoved.Numbers.{IsNth}
@@ -29,7 +30,8 @@ use Rattle.jmeaning.specs.jrule.Operands.{with_stack}
 use Rattle.jmeaning.specs.jrule.Rule.{rule}
 use Rattle.jmeaning.proofs.JruleProofs.Forming.{form_agrees}
 use Rattle.jtyping.specs.Declared.{declared_at}
-use Rattle.jtyping.specs.Typing.{begun, branch_fits, handler_fits, handlers_fit, onward, walk}
+use Rattle.jtyping.specs.Typing.{begun, handler_fits, handlers_fit, onward, walk}
+use Rattle.jtyping.specs.ProofNames.{branch_fits}
 use Rattle.jtyping.proofs.Bodies.{AllServe}
 use Rattle.jtyping.proofs.Steps.{Begins, onward_of, sent}
 use Rattle.jtyping.proofs.Tests.{in_all}

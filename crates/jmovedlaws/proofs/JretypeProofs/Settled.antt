@@ -22,8 +22,9 @@ use Rattle.jprogram.specs.declared.member.Member.{Member}
 use Rattle.jprogram.specs.Classes.{Program}
 use Rattle.jprogram.specs.Members.{resolve_field, resolve_method}
 use Rattle.jmeaning.specs.juses.Meanings as meanings
-use Rattle.jmeaning.specs.juses.Meanings.{AClass, AConstant, AField, AMethod, CallMeaning, EntryMeaning, Meaning, Reference, array_made, array_meant, as_class, call_as, call_meant, class_at, entry_meant, field_as, field_meant, meant, reference, used}
-use Rattle.jmeaning.specs.juses.Typed.{Called, Held, Typed, Untyped, array_over, called, class_by, class_of, class_type, element_in, held, is_context, name, return_in, there, type_in, type_of, typed, typed_as}
+use Rattle.jmeaning.specs.juses.Meanings.{AClass, AConstant, AField, AMethod, CallMeaning, EntryMeaning, Meaning, Reference, array_meant, call_as, call_meant, class_at, entry_meant, field_as, field_meant, meant, reference, used}
+use Rattle.jmeaning.specs.ProofNames.{array_made, as_class, held}
+use Rattle.jmeaning.specs.juses.Typed.{Called, Held, Typed, Untyped, array_over, called, class_by, class_of, class_type, element_in, is_context, name, return_in, there, type_in, type_of, typed, typed_as}
 use Rattle.jmeaning.specs.jrule.Further.{is_unready}
 use Rattle.jmeaning.proofs.JruleProofs.Swapping.{any_reversed}
 

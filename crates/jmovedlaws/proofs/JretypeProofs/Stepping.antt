@@ -44,7 +44,8 @@ use Rattle.jmeaning.specs.jrule.Forms.{by_form}
 use Rattle.jmeaning.specs.jrule.Further.{is_unready, roomy}
 use Rattle.jmeaning.specs.jrule.Here.{Here}
 use Rattle.jmeaning.specs.jrule.Locals as local
-use Rattle.jmeaning.specs.jrule.Objects.{init_of, init_on}
+use Rattle.jmeaning.specs.jrule.Objects.{init_on}
+use Rattle.jmeaning.specs.ProofNames.{init_of}
 use Rattle.jmeaning.specs.jrule.Operands.{below, exchanged, given, pushed, taken, with_stack}
 use Rattle.jmeaning.specs.jrule.Precise.{frame_precise, precise}
 use Rattle.jmeaning.specs.jrule.Rule.{is_own, rule}

@@ -15,15 +15,14 @@ use Rattle.jparts.specs.jmaps.Full.{can_write, expand_from, full_forms}
 use Rattle.jtypes.specs.declared.vtype.VType.{VType}
 use Rattle.jtypes.specs.declared.vtype.VType.TheVariants.{Top, Ctx}
 use Rattle.jmove.specs.Frames.{moved_frame, widths}
-use Rattle.jmoveclass.specs.Methods as class
-use Rattle.jmoveclass.specs.Methods.{frames_of, maps_name, moved_maps, or_no_frames, or_none}
+use Rattle.jmoveclass.specs.Methods.{frames_of, maps_name, moved_maps}
+use Rattle.jmoveclass.specs.ProofNames.{or_no_frames, or_none}
 use Rattle.jprogram.specs.Classes.{Program}
-use Rattle.jtyping.specs.Declared as typing
-use Rattle.jtyping.specs.Declared.{Written, frames_in, holds, is_good, item, written, written_from}
+use Rattle.jtyping.specs.ProofNames
+use Rattle.jtyping.specs.Declared.{Written, holds, is_good, item, written, written_from}
 use Rattle.jtyping.specs.Methods.{Method, makes}
 use Rattle.jtyping.proofs.Tests.{both_of}
-use Rattle.jclass.specs.Codes.{begins}
-use Rattle.jrewriting.proofs.JrewriteProofs.Framed.{frames_same}
+use Rattle.jclass.specs.Codes.{begins, maps_of, frames_in}
 use Rattle.jmovedlaws.specs.jretype.Full.{StandFor, in_full}
 use Rattle.jmovedlaws.proofs.JretypeProofs.Carrying.{carried_written}
 use Rattle.jmovedlaws.proofs.JretypeProofs.Framing.{frame_is}
@@ -32,14 +31,14 @@ use Rattle.jmovedlaws.proofs.JretypeProofs.Reading.{are_read_back, full_there, s
 
 -- ---- where frames are stored
 
-no_name : (xs : List CodeAttribute) → first_some maps_name xs ≡ None → or_no_frames (first_some class.maps_of xs) ≡ []
+no_name : (xs : List CodeAttribute) → first_some maps_name xs ≡ None → or_no_frames (first_some maps_of xs) ≡ []
 unfolding first_some
 no_name [] h = refl
 no_name (Maps name fs ∷ xs) h = absurd cc
 no_name (Raw name bytes ∷ xs) h = no_name xs h
 
 -- a moved code has its frames as they were written
-frames_new : (gs : List FullFrame) (o : Option ℕ) → (o ≡ None → gs ≡ []) → typing.or_none (first_some typing.maps_of (moved_maps gs o)) ≡ full_forms None gs
+frames_new : (gs : List FullFrame) (o : Option ℕ) → (o ≡ None → gs ≡ []) → ProofNames.or_none (first_some maps_of (moved_maps gs o)) ≡ full_forms None gs
 unfolding first_some full_forms
 frames_new [] o h = refl
 frames_new (g ∷ gs) (Some name) h = refl
@@ -91,7 +90,7 @@ module _ (p q : Program) (m n : Method) (pool : List Entry) (to : ℕ → ℕ) (
 
     empty_full : frames_in m.body ≡ [] → full ≡ []
     unfolding frames_of expand_from
-    empty_full e = ap (λ (rs : List RawFrame). or_none (expand_from first 0 None rs)) (frames_same m.body ∙ e)
+    empty_full e = ap (λ (rs : List RawFrame). or_none (expand_from first 0 None rs)) e
 
     -- what the old method declares
     old_is : (rs : List RawFrame) → frames_in m.body ≡ rs → written p m ≡ map (in_full (item q pool) most) full
@@ -105,16 +104,16 @@ module _ (p q : Program) (m n : Method) (pool : List Entry) (to : ℕ → ℕ) (
         let found = full_there p m.pool most (item q pool) first rs there k.stand in
         ap (λ (vs : List VType). written_from p m.pool most None vs rs) (sym same)
         ∙ says_full p m.pool (item q pool) most first rs found.0 found.1 k.stand
-        ∙ ap (map (in_full (item q pool) most)) (sym (ap (λ (zs : List RawFrame). or_none (expand_from first 0 None zs)) (frames_same m.body) ∙ ap or_none found.1))
+        ∙ ap (map (in_full (item q pool) most)) (sym (ap or_none found.1))
 
     -- ---- what the moved one declares
 
     no_frames : first_some maps_name m.body.attributes ≡ None → map (moved_frame to local context) full ≡ []
-    no_frames e = ap (map (moved_frame to local context)) (empty_full (sym (frames_same m.body) ∙ no_name m.body.attributes e))
+    no_frames e = ap (map (moved_frame to local context)) (empty_full (no_name m.body.attributes e))
 
     new_frames : frames_in n.body ≡ full_forms None (map (moved_frame to local context) full)
     new_frames =
-        ap (λ (xs : List CodeAttribute). typing.or_none (first_some typing.maps_of xs)) k.attributes
+        ap (λ (xs : List CodeAttribute). ProofNames.or_none (first_some maps_of xs)) k.attributes
         ∙ frames_new (map (moved_frame to local context) full) (first_some maps_name m.body.attributes) no_frames
 
     each_is : item q pool (items.Object context) ≡ Ctx → (fs : List FullFrame) → AllByRecursion (λ f. widths f.locals ≤ most) fs

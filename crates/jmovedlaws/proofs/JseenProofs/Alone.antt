@@ -33,7 +33,8 @@ use Rattle.jmeaning.specs.declared.juses.meaning.How.{How}
 use Rattle.jmeaning.specs.declared.juses.meaning.How.TheVariants as how
 use Rattle.jmeaning.specs.juses.Meanings.{CallMeaning}
 use Rattle.jmeaning.specs.juses.Typed.{name}
-use Rattle.jmodel.specs.jmachine.Calls.{by_class, from_above, reached, special}
+use Rattle.jmodel.specs.jmachine.Calls.{from_above, reached, special}
+use Rattle.jmodel.specs.ProofNames.{by_class}
 use Rattle.jmodel.specs.jmachine.Objects.{Object, class_of, id_of}
 use Rattle.jmodel.specs.jmachine.World.{class_id, fits, world}
 use Rattle.jrewriting.specs.jrewrite.Program.{moved}

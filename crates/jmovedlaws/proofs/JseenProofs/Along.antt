@@ -13,7 +13,8 @@ use Rattle.jprogram.specs.Classes.{Class, Lib, Program, User, above, above_name,
 use Rattle.jprogram.specs.Naming.{is_reserved}
 use Rattle.jprogram.specs.Parts.{super_name}
 use Rattle.jprogram.specs.Standing.{StandsInOrder}
-use Rattle.jprogram.specs.Supers.{is_barred, lists_a_class, super_barred}
+use Rattle.jprogram.specs.Supers.{lists_a_class, super_barred}
+use Rattle.jprogram.specs.ProofNames.{is_barred}
 use Rattle.jprogram.proofs.Extending.{up_is}
 use Rattle.jprogram.proofs.Settling.{name_is}
 use Rattle.jprogram.proofs.Standing.{Stands, Users, Libs, Nowhere, any_of_all, lib_find, not_bad, not_taken, or_none, stands}

@@ -18,7 +18,8 @@ use Rattle.jmeaning.specs.juses.Meanings.{Call, CallMeaning}
 use Rattle.jlinking.proofs.JlinkProofs.Having.{then_is}
 use Rattle.jmeaning.specs.jrule.Effects.{Fits}
 use Rattle.jmodel.specs.jmachine.Asked.{call_taken}
-use Rattle.jmodel.specs.jmachine.Calls.{Fails, Target, null_pointer, on_object, on_value, reached, receiver, target}
+use Rattle.jmodel.specs.jmachine.Calls.{Fails, Target, on_object, on_value, reached, receiver, target}
+use Rattle.jmodel.specs.ProofNames.{null_pointer}
 use Rattle.jmodel.specs.jmachine.Objects.{Object, class_of}
 use Rattle.jmodel.specs.jmachine.Operands.{Taken, serves}
 use Rattle.jmodel.specs.jmachine.Sites.{Site}

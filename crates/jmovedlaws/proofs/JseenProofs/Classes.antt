@@ -13,8 +13,9 @@ use Rattle.jlib.proofs.Found.{class_found}
 use Rattle.jtypes.specs.declared.vtype.Name.{Name}
 use Rattle.jprogram.specs.declared.part.ClassRef.TheVariants as refs
 use Rattle.jprogram.specs.declared.part.CodePart.{CodePart}
-use Rattle.jprogram.specs.Classes.{Class, Lib, Program, User, above, extends, face_names, faces_of, find, holds, implements, is_interface, known, name_at, named, object, onward, over, ref_of, super_at, superinterfaces, tree, up}
-use Rattle.jprogram.specs.Members.{main_in, main_of}
+use Rattle.jprogram.specs.Classes.{Class, Lib, Program, User, above, extends, face_names, find, holds, implements, is_interface, known, name_at, object, onward, over, ref_of, super_at, superinterfaces, tree, up, named, faces_of}
+use Rattle.jprogram.specs.ProofNames.{main_in}
+use Rattle.jprogram.specs.Members.{main_of}
 use Rattle.jprogram.specs.Naming.{is_reserved}
 use Rattle.jprogram.specs.Parts.{super_name, this_name}
 use Rattle.jprogram.specs.Standing.{StandsInOrder}

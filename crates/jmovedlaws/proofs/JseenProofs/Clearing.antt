@@ -18,7 +18,8 @@ use Rattle.jlib.specs.Classes as library
 use Rattle.jlib.specs.Classes.{class_named, is_open, stands_on}
 use Rattle.jlib.proofs.Beginning.{by_class}
 use Rattle.jlib.proofs.Found.{call_found, class_found, class_only, found_passes}
-use Rattle.jlinking.specs.jmembers.Declares.{is_fixed_at, is_fixed_by}
+use Rattle.jlinking.specs.jmembers.Declares.{is_fixed_by}
+use Rattle.jlinking.specs.ProofNames.{is_fixed_at}
 use Rattle.jprogram.specs.declared.member.Member.TheVariants.{LibMethod, Method}
 use Rattle.jprogram.specs.declared.member.MethodId.{MethodId}
 use Rattle.jprogram.specs.declared.part.CodePart.{CodePart}

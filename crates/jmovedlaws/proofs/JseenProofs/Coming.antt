@@ -11,7 +11,7 @@ use Rattle.jprogram.specs.declared.member.Selected.{Selected}
 use Rattle.jprogram.specs.declared.part.ClassRef.{ClassRef}
 use Rattle.jprogram.specs.declared.part.ClassRef.TheVariants as refs
 use Rattle.jprogram.specs.declared.part.CodePart.{CodePart}
-use Rattle.jprogram.specs.Classes.{Class, Lib, Program, User, above, above_name, extends, find, named, object, onward, ref_of, super_at, up}
+use Rattle.jprogram.specs.Classes.{Class, Lib, Program, User, above, above_name, extends, find, object, onward, ref_of, super_at, up, named}
 use Rattle.jprogram.specs.Members.{desc_of, init, name_of, name_of_id, select}
 use Rattle.jprogram.specs.Parts.{super_name, this_name}
 use Rattle.jprogram.specs.Standing.{StandsInOrder}
@@ -26,7 +26,8 @@ use Rattle.jlinking.proofs.JlinkProofs.Having.{map_is, then_is}
 use Rattle.jmeaning.specs.declared.juses.meaning.How.{How}
 use Rattle.jmeaning.specs.declared.juses.meaning.How.TheVariants as how
 use Rattle.jmeaning.specs.juses.Meanings.{CallMeaning}
-use Rattle.jmodel.specs.jmachine.Calls.{Target, by_class, by_interface, from_above, on_object, reached, special}
+use Rattle.jmodel.specs.jmachine.Calls.{Target, by_interface, from_above, on_object, reached, special}
+use Rattle.jmodel.specs.ProofNames.{by_class}
 use Rattle.jmodel.specs.jmachine.Objects.{Object, class_of, id_of}
 use Rattle.jmodel.specs.jmachine.Sites.{Site}
 use Rattle.jmodel.specs.jmachine.World.{World, class_id, fits, is_instance, world}

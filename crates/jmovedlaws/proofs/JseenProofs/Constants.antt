@@ -12,7 +12,8 @@ use Rattle.jclass.specs.declared.class.ClassParts.{ClassParts}
 use Rattle.jclass.specs.declared.class.MemberInfo.{MemberInfo}
 use Rattle.jclass.specs.Class.{class_file}
 use Rattle.jclass.specs.Members.{field}
-use Rattle.jclass.specs.Rules.{suits_field, suits_type}
+use Rattle.jclass.specs.Rules.{suits_field}
+use Rattle.jclass.specs.ProofNames.{suits_type}
 use Rattle.jclass.specs.Stored.{IsIn}
 use Rattle.jprogram.specs.Parts.{or_empty, text}
 use Rattle.jmodel.specs.jmachine.Making.{units_of}

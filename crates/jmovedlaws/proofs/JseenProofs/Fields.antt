@@ -12,7 +12,8 @@ use Rattle.jclass.specs.declared.class.ClassParts.{ClassParts}
 use Rattle.jclass.specs.declared.class.MemberInfo.{MemberInfo}
 use Rattle.jtypes.specs.declared.vtype.Element.TheVariants as elements
 use Rattle.jtypes.specs.declared.vtype.VType.{VType}
-use Rattle.jmeaning.specs.jlayout.Layout.{element, element_in, field_type, held, is_instance, is_static, layout, layout_above, own_types, place_among, slot, statics_before, statics_of, types_along}
+use Rattle.jmeaning.specs.jlayout.Layout.{element, field_type, is_instance, is_static, layout, layout_above, own_types, place_among, slot, statics_before, statics_of, types_along}
+use Rattle.jmeaning.specs.ProofNames.{element_in, held_type as held}
 use Rattle.jprogram.specs.declared.member.Member.{Member}
 use Rattle.jprogram.specs.declared.member.Member.TheVariants.{Field, LibField, LibMethod, Method}
 use Rattle.jprogram.specs.declared.member.MethodId.{MethodId}

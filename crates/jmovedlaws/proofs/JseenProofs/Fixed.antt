@@ -7,7 +7,8 @@ use Rattle.jclass.specs.declared.class.ClassParts.{ClassParts}
 use Rattle.jclass.specs.declared.class.MemberInfo.{MemberInfo}
 use Rattle.jlib.specs.Calls.{fixes}
 use Rattle.jlib.specs.Classes as library
-use Rattle.jlinking.specs.jmembers.Declares.{again_test, at_member, class_fault, fields_fault, final_test, is_fixed, is_fixed_at, library_test, members_fault, method_left_out_test, method_test, methods_fault, names_above, types_test}
+use Rattle.jlinking.specs.jmembers.Declares.{again_test, at_member, fields_fault, final_test, is_fixed, library_test, members_fault, method_left_out_test, method_test, methods_fault, names_above, types_test}
+use Rattle.jlinking.specs.ProofNames.{class_fault, is_fixed_at}
 use Rattle.jprogram.specs.declared.fault.LinkKind.TheVariants.{OverridesLibrary}
 use Rattle.jprogram.specs.declared.part.CodePart.{CodePart}
 use Rattle.jprogram.specs.Classes.{Program, onward, up}

@@ -16,7 +16,7 @@ use Rattle.jprogram.specs.declared.member.CallKind.{CallKind}
 use Rattle.jprogram.specs.declared.member.ClassId.{ClassId}
 use Rattle.jprogram.specs.declared.member.Member.{Member}
 use Rattle.jprogram.specs.declared.member.Member.TheVariants.{Field, LibField, LibMethod, Method}
-use Rattle.jprogram.specs.Classes.{Program, extends, faces_of, find, holds, implements, is_interface, object, superinterfaces, up}
+use Rattle.jprogram.specs.Classes.{Program, extends, find, holds, implements, is_interface, object, superinterfaces, up, faces_of}
 use Rattle.jprogram.specs.Members.{desc_of, init, name_of, name_of_id, select}
 use Rattle.jprogram.specs.Naming.{is_reserved}
 use Rattle.jprogram.specs.Standing.{StandsInOrder}

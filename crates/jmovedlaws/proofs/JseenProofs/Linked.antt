@@ -20,7 +20,8 @@ use Rattle.jparts.specs.declared.jcode.op.NewOp.TheVariants as news
 use Rattle.jparts.specs.declared.jcode.op.Op.{Op}
 use Rattle.jparts.specs.declared.jcode.op.Op.TheVariants as ops
 use Rattle.jparts.specs.declared.jcode.op.Placed.{Placed}
-use Rattle.jparts.specs.jcode.Forms.{distance, form, ldc_index}
+use Rattle.jparts.specs.jcode.Forms.{form}
+use Rattle.jparts.specs.ProofNames.{distance, ldc_index}
 use Rattle.jclass.specs.declared.class.ClassParts.{ClassParts}
 use Rattle.jclass.specs.declared.class.CodeBody.{CodeBody}
 use Rattle.jclass.specs.Operands.{is_called, is_interface_method, is_method, names_well}
@@ -38,16 +39,19 @@ use Rattle.jprogram.specs.Parts.{or_empty, text, this_name}
 use Rattle.jprogram.proofs.Standing.{not_none}
 use Rattle.jmeaning.specs.declared.juses.meaning.How.{How}
 use Rattle.jmeaning.specs.declared.juses.meaning.How.TheVariants as how
-use Rattle.jmeaning.specs.juses.Instructions.{Used, array, by_form, instruction, instruction_at}
+use Rattle.jmeaning.specs.juses.Instructions.{Used, by_form, instruction, instruction_at}
+use Rattle.jmeaning.specs.ProofNames.{array, array_made, made}
 use Rattle.jmeaning.specs.juses.Meanings as meanings
-use Rattle.jmeaning.specs.juses.Meanings.{AClass, AConstant, AField, AMethod, Call, CallMeaning, EntryMeaning, Meaning, array_made, array_meant, call_as, call_meant, entry_meant, how_of, index_of, made, meant, method_entry, used}
+use Rattle.jmeaning.specs.juses.Meanings.{AClass, AConstant, AField, AMethod, Call, CallMeaning, EntryMeaning, Meaning, array_meant, call_as, call_meant, entry_meant, how_of, index_of, meant, method_entry, used}
 use Rattle.jmeaning.specs.juses.Typed.{Called, Held, Typed, Untyped, array_over, name, typed}
 use Rattle.jlinking.specs.declared.jreferring.judged.MemberFacts.{MemberFacts}
 use Rattle.jlinking.specs.declared.jreferring.judged.MemberUse.{MemberUse}
 use Rattle.jlinking.specs.jreferring.Entries.{judge_pool}
-use Rattle.jlinking.specs.jreferring.References.{access_test, call_left_out_test, call_member_test, call_test, call_use_test, called_by_interface_test, called_test, counts, differs, facts_of, interface_member_test, interface_test, is_miscalled, is_misused, is_virtual}
+use Rattle.jlinking.specs.jreferring.References.{access_test, call_left_out_test, call_test, call_use_test, called_by_interface_test, called_test, counts, differs, facts_of, interface_test, is_miscalled, is_misused}
+use Rattle.jlinking.specs.ProofNames.{call_member_test, interface_member_test, is_virtual, call_at, interface_call_at}
 use Rattle.jlinking.specs.jreferring.References as references
-use Rattle.jlinking.specs.jreferring.Units.{call_at, form_test, interface_call_at, or_no_member}
+use Rattle.jlinking.specs.ProofNames
+use Rattle.jlinking.specs.jreferring.Units.{form_test, or_no_member}
 use Rattle.jlinking.specs.jlink.Called.{begins}
 use Rattle.jlinking.proofs.JlinkProofs.Coded.{IsCoded, at_code, coded}
 use Rattle.jlinking.proofs.JlinkProofs.Fielded.{flow_apart, has_body}
@@ -188,7 +192,7 @@ differ_none false false h = refl
 
 -- what the tests of a call say of its use
 record IsUsed (u : MemberUse) (m : MemberFacts) (op : CallOp) : Type 0 where
-  static : m.is_static ≡ references.calls_static op
+  static : m.is_static ≡ ProofNames.calls_static op
   crossed : u.crossed ≡ false
   called : is_miscalled op u m ≡ false
   sort : is_virtual op ≡ false → u.of_interface ≡ false
@@ -204,10 +208,10 @@ use_none op u m at none =
     let rest = none_of u.names (or_else (call_left_out_test op u) (call_member_test op u)) none in
     let both = none_of (call_left_out_test op u) (call_member_test op u) rest.1 in
     let member : called_test op u (Some m) ≡ None = sym (ap (called_test op u) at) ∙ both.1 in
-    let one = no_fault (differs (references.calls_static op) m.is_static || (u.crossed || is_miscalled op u m)) BadUse (none_of (access_test false m) (call_use_test op u m) member).1 in
-    let two = or_parts (differs (references.calls_static op) m.is_static) (u.crossed || is_miscalled op u m) one in
+    let one = no_fault (differs (ProofNames.calls_static op) m.is_static || (u.crossed || is_miscalled op u m)) BadUse (none_of (access_test false m) (call_use_test op u m) member).1 in
+    let two = or_parts (differs (ProofNames.calls_static op) m.is_static) (u.crossed || is_miscalled op u m) one in
     let three = or_parts u.crossed (is_miscalled op u m) two.1 in
-    record { static = differ_none (references.calls_static op) m.is_static two.0; crossed = three.0; called = three.1; sort = sort_none u.barred (is_virtual op) u.of_interface both.0 }
+    record { static = differ_none (ProofNames.calls_static op) m.is_static two.0; crossed = three.0; called = three.1; sort = sort_none u.barred (is_virtual op) u.of_interface both.0 }
 
 record IsFaced (u : MemberUse) (m : MemberFacts) : Type 0 where
   static : m.is_static ≡ false
@@ -335,7 +339,7 @@ module _ (p : Program) (c : ClassParts) (kept : names_reserved c ≡ false) (sou
     of_interface_is : use_of.of_interface ≡ false → t.interface ≡ false
     of_interface_is e = by t.interface e
       where
-        by : (b : Bool) → references.is_of_interface (sort_by b) ≡ false → b ≡ false
+        by : (b : Bool) → ProofNames.is_of_interface (sort_by b) ≡ false → b ≡ false
         by true h = absurd cc
         by false h = refl
 

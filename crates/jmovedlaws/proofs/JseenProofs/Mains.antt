@@ -15,7 +15,8 @@ use Rattle.jlib.specs.declared.side.Side.TheVariants.{Passing, Source}
 use Rattle.jmove.specs.Additions.{moved_descriptor}
 use Rattle.jrewriting.proofs.JmovefileProofs.Members.{Alike, Like}
 use Rattle.jprogram.specs.Classes.{Class, Lib, Program, User, find}
-use Rattle.jprogram.specs.Members.{is_main, main_desc, main_in, main_of, method_id}
+use Rattle.jprogram.specs.Members.{is_main, main_desc, main_of, method_id}
+use Rattle.jprogram.specs.ProofNames.{main_in}
 use Rattle.jprogram.specs.Naming.{is_reserved}
 use Rattle.jprogram.specs.Parts as parts
 use Rattle.jprogram.specs.Parts.{has_code, is_called}

@@ -7,7 +7,7 @@ use Rattle.jparts.specs.declared.jpool.descriptor.FieldType.{FieldType}
 use Rattle.jparts.specs.declared.jpool.entry.Entry.{Entry}
 use Rattle.jparts.specs.declared.jpool.entry.Entry.TheVariants as entries
 use Rattle.jparts.specs.jpool.Descriptors.{descriptor_of}
-use Rattle.jparts.specs.jpool.Pools.{is_class, name_in, utf8_at}
+use Rattle.jparts.specs.jpool.Pools.{is_class, utf8_at}
 use Rattle.jparts.specs.declared.jcode.form.ArrayForm.{ArrayForm}
 use Rattle.jparts.specs.declared.jcode.form.ArrayForm.TheVariants as arrays
 use Rattle.jparts.specs.declared.jcode.form.Flow.TheVariants as flows
@@ -18,7 +18,8 @@ use Rattle.jparts.specs.declared.jcode.op.NewOp.TheVariants as news
 use Rattle.jparts.specs.declared.jcode.op.Op.{Op}
 use Rattle.jparts.specs.declared.jcode.op.Op.TheVariants as ops
 use Rattle.jparts.specs.declared.jcode.op.Placed.{Placed}
-use Rattle.jparts.specs.jcode.Forms.{distance, form, ldc_index}
+use Rattle.jparts.specs.jcode.Forms.{form}
+use Rattle.jparts.specs.ProofNames.{distance, ldc_index}
 use Rattle.jclass.specs.declared.class.ClassParts.{ClassParts}
 use Rattle.jclass.specs.declared.class.CodeBody.{CodeBody}
 use Rattle.jclass.specs.Operands.{names_well}
@@ -31,9 +32,11 @@ use Rattle.jtypes.specs.declared.vtype.VType.TheVariants as types
 use Rattle.jprogram.specs.declared.member.MethodId.{MethodId}
 use Rattle.jprogram.specs.Classes.{Class, Program, find}
 use Rattle.jprogram.specs.Naming.{is_reserved}
-use Rattle.jmeaning.specs.juses.Instructions.{Used, array, by_form, instruction, instruction_at}
+use Rattle.jmeaning.specs.juses.Instructions.{Used, by_form, instruction, instruction_at}
+use Rattle.jmeaning.specs.ProofNames.{array, array_made}
 use Rattle.jmeaning.specs.juses.Meanings as meanings
-use Rattle.jmeaning.specs.juses.Meanings.{AClass, AConstant, AField, AMethod, EntryMeaning, Make, Meaning, array_made, array_meant, entry_meant, index_of, meant, used}
+use Rattle.jmeaning.specs.ProofNames
+use Rattle.jmeaning.specs.juses.Meanings.{AClass, AConstant, AField, AMethod, EntryMeaning, Make, Meaning, array_meant, entry_meant, index_of, meant, used}
 use Rattle.jmeaning.specs.juses.Typed.{array_over, class_by, class_of, class_type, element_in, is_context, there, type_in, type_of}
 use Rattle.jlinking.proofs.JlinkProofs.Coded.{IsCoded, at_code, coded}
 use Rattle.jlinking.proofs.JlinkProofs.Fielded.{flow_apart, has_body}
@@ -48,6 +51,7 @@ use Rattle.jrewriting.proofs.JrewriteProofs.Standing.{IsPlain, same}
 use Rattle.jmovedlaws.proofs.JseenProofs.Along.{found_plain}
 use Rattle.jmovedlaws.proofs.JseenProofs.Called.{fetched_at}
 use Rattle.jmovedlaws.proofs.JseenProofs.Classes.{ref_same}
+use Rattle.jparts.specs.jpool.Entries.{class_parts}
 
 -- ---- the class of an entry
 
@@ -101,11 +105,11 @@ module _ (p : Program) (is : IsPlain p) where
   unfolding class_type
   type_is text c e = class_is text c (descriptor_of text) e
 
-  class_entry : (o : Option Entry) → is_some (name_in o) ≡ true → (k : ℕ) × (o ≡ Some (entries.Class k))
+  class_entry : (o : Option Entry) → is_some (option_and_then class_parts o) ≡ true → (k : ℕ) × (o ≡ Some (entries.Class k))
   class_entry (Some (entries.Class k)) h = (k, refl)
   class_entry o h = absurd cc
 
-  entry_plain : (es : List Entry) (n : ℕ) (c : Name) → is_some (name_in (slice_get es n)) ≡ true → entry_meant p es (slice_get es n) ≡ Some (AClass (types.Object c)) → is_reserved c.0 ≡ false
+  entry_plain : (es : List Entry) (n : ℕ) (c : Name) → is_some (option_and_then class_parts (slice_get es n)) ≡ true → entry_meant p es (slice_get es n) ≡ Some (AClass (types.Object c)) → is_reserved c.0 ≡ false
   unfolding entry_meant
   entry_plain es n c well e =
       let k = class_entry (slice_get es n) well in
@@ -118,7 +122,7 @@ module _ (p : Program) (is : IsPlain p) where
 
   -- ---- the instruction
 
-  made_is : (x : EntryMeaning) (c : Name) → meanings.made x ≡ Some (Make c) → x ≡ AClass (types.Object c)
+  made_is : (x : EntryMeaning) (c : Name) → ProofNames.made x ≡ Some (Make c) → x ≡ AClass (types.Object c)
   made_is (AClass (types.Object d)) c e = let one : d ≡ c = cc in ap (λ (n : Name). AClass (types.Object n)) one
   made_is x c e = absurd cc
 

@@ -15,7 +15,8 @@ use Rattle.jprogram.specs.declared.member.Member.TheVariants.{Method}
 use Rattle.jprogram.specs.declared.member.MethodId.{MethodId}
 use Rattle.jprogram.specs.declared.part.CodePart.{CodePart}
 use Rattle.jprogram.specs.Classes.{Program}
-use Rattle.jprogram.specs.Members.{init, is_main, is_static, main_desc, main_in, main_of, method_id, name_of, owner_of}
+use Rattle.jprogram.specs.Members.{init, is_main, is_static, main_desc, main_of, method_id, name_of, owner_of}
+use Rattle.jprogram.specs.ProofNames.{main_in}
 use Rattle.jprogram.specs.Parts as parts
 use Rattle.jprogram.specs.Parts.{code_of}
 use Rattle.jprogram.proofs.Standing.{Stands, Users, Libs, Nowhere, stands}

@@ -7,7 +7,7 @@ use Rattle.jground.specs.declared.jops.value.Value.TheVariants.{Int, Long, Ref, 
 use Rattle.jmeaning.specs.jrule.Effects.{Want, Fits}
 use Rattle.jmodel.specs.jmachine.Calls.{receiver}
 use Rattle.jmodel.specs.jmachine.Objects.{Object, class_of, is_ready}
-use Rattle.jmodel.specs.jmachine.Operands.{Taken, found_type, serves, serves_as, taken, with_value}
+use Rattle.jmodel.specs.jmachine.Operands.{Taken, serves, taken, with_value, serves_as, found_type}
 use Rattle.jmodel.specs.jmachine.Store.{Store, object_at, object_of}
 use Rattle.jmodel.specs.jmachine.World.{World, fits}
 use Rattle.jlinking.proofs.JlinkProofs.Having.{map_is}

@@ -10,7 +10,7 @@ use Rattle.jlib.specs.declared.classes.LibClass.{LibClass}
 use Rattle.jlib.specs.Classes as library
 use Rattle.jlib.proofs.Found.{class_implements}
 use Rattle.jprogram.specs.declared.member.Member.{Member}
-use Rattle.jprogram.specs.Classes.{Class, Program, extends, face_names, faces_of, find, holds, is_interface, known, object, over, superinterfaces, up}
+use Rattle.jprogram.specs.Classes.{Class, Program, extends, face_names, find, holds, is_interface, known, object, over, superinterfaces, up, faces_of}
 use Rattle.jprogram.specs.Members.{init, method_at, resolve_method}
 use Rattle.jprogram.specs.Standing.{StandsInOrder}
 use Rattle.jprogram.proofs.Implementing.{faces_are}

@@ -18,7 +18,8 @@ use Rattle.jlib.specs.Calls.{desc_of, fixes, is_concrete, member_among, members,
 use Rattle.jlib.specs.Classes as library_classes
 use Rattle.jlib.proofs.Beginning.{by_class}
 use Rattle.jlib.proofs.Found.{call_only, class_above}
-use Rattle.jlinking.specs.jmembers.Declares.{is_fixed, is_fixed_at, is_fixed_by}
+use Rattle.jlinking.specs.jmembers.Declares.{is_fixed, is_fixed_by}
+use Rattle.jlinking.specs.ProofNames.{is_fixed_at}
 use Rattle.jprogram.specs.declared.member.Member.TheVariants.{Method}
 use Rattle.jprogram.specs.declared.member.MethodId.{MethodId}
 use Rattle.jprogram.specs.Classes.{Class, Lib, Program, User, above, above_name, chain, find, object, onward, up}

@@ -13,7 +13,7 @@ use Rattle.jprogram.specs.declared.member.Member.TheVariants.{Field, LibField, L
 use Rattle.jprogram.specs.declared.member.MethodId.{MethodId}
 use Rattle.jprogram.specs.declared.part.CodePart.{CodePart}
 use Rattle.jprogram.specs.Classes.{Program}
-use Rattle.jprogram.specs.Members.{desc_in, desc_of, info_of, is_abstract, is_final, is_static, name_in, name_of, owner_in, owner_of, reach_in, reach_of, user_is}
+use Rattle.jprogram.specs.Members.{desc_in, desc_of, info_of, is_abstract, is_final, is_static, name_in, name_of, owner_of, reach_in, reach_of, user_is, owner_in}
 use Rattle.jprogram.specs.Parts as parts
 use Rattle.jprogram.specs.Parts.{member_desc, this_name}
 use Rattle.jmoveclass.specs.Methods.{new_desc}

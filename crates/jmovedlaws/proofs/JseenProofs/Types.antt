@@ -12,8 +12,10 @@ use Rattle.jtypes.specs.declared.vtype.Element.TheVariants as elements
 use Rattle.jtypes.specs.declared.vtype.VType.{VType}
 use Rattle.jtypes.specs.Described.{element_of}
 use Rattle.jprogram.specs.Classes.{Program, find}
-use Rattle.jprogram.specs.Naming.{desc_reserved, is_reserved, return_reserved, text_reserved, type_reserved}
-use Rattle.jmeaning.specs.juses.Typed.{called, held, name, return_in, type_in, type_of, typed, typed_as}
+use Rattle.jprogram.specs.Naming.{desc_reserved, is_reserved, text_reserved, type_reserved}
+use Rattle.jprogram.specs.ProofNames.{return_reserved}
+use Rattle.jmeaning.specs.juses.Typed.{called, name, return_in, type_in, type_of, typed, typed_as}
+use Rattle.jmeaning.specs.ProofNames.{held}
 use Rattle.jrewriting.specs.jrewrite.Program.{moved}
 use Rattle.jrewriting.proofs.JrewriteProofs.Declaring.{first_false, second_false}
 use Rattle.jrewriting.proofs.JrewriteProofs.Standing.{IsPlain, missing_name}

@@ -1,18 +1,18 @@
 -- The plain machine's rules of contexts that are kept and have domains of some alone.
 use Rattle.std.proofs.Common.{◌≡◌, ℕ, Bool, true, false, List, [], ◌∷◌, ◌++◌, map, Option, Some, None, option_map, refl, ap}
-use Rattle.std.specs.Prelude.{◌==◌}
+use Rattle.std.specs.Prelude.{◌==◌, unwrap_or}
 use Rattle.std.specs.List.{AllByRecursion, list_any}
 use Rattle.jperm.specs.declared.permission.Permission.{Permission}
 use Rattle.jlib.specs.declared.side.Side.TheVariants.{Passing}
 use Rattle.jprogram.proofs.Settling.{clash}
 use Rattle.jctx.specs.declared.item.Item.{Item}
-use Rattle.jctx.specs.Contexts.{enter, given_items, limited, privileged, verdict}
+use Rattle.jctx.specs.Contexts.{enter, limited, privileged, verdict}
+use Rattle.jctx.specs.ProofNames.{given_items}
 use Rattle.jctx.specs.Items.{plain, with_limits}
 use Rattle.jctx.proofs.Kept.{all_kept, keep-keep}
 use Rattle.jmodel.specs.jmachine.Asked.{AgreeAt, Answer, Ask, Checks, ChecksKept, Snapshots, Inherits, Enters, Privileges, Kept, Entered, Allowed}
 use Rattle.jmodel.specs.jmachine.Security.{Rules}
 use Rattle.jmodel.specs.jrules.Plain as plainly
-use Rattle.jmodel.specs.jrules.Plain.{given_context}
 use Rattle.jmovedlaws.specs.jsmall.Fine.{Everywhere, Fine}
 use Rattle.jmovedlaws.proofs.JsmallProofs.Asks.{AskWell}
 use Rattle.jmovedlaws.proofs.JsmallProofs.Standing.{all_both}
@@ -80,7 +80,7 @@ fine_rules ds has = record {
   entry_of = λ d. tt;
   first = Some (λ es. none es);
   enter = λ x d es. entered_by es (x es) d (list_any (◌==◌ d) es) refl;
-  check = λ asked ctx entries below. verdict has asked (given_context (option_map (context_at ds) ctx));
+  check = λ asked ctx entries below. verdict has asked (unwrap_or (option_map (context_at ds) ctx) []);
   check_kept = λ asked x. verdict has asked (context_at ds x);
   snapshot = λ ctx entries below es. given_fine es ctx;
   inherit = λ ctx entries below es. given_fine es ctx;
@@ -93,7 +93,7 @@ same_entry e = e
 -- ---- they answer as the plain machine's
 
 module _ (ds : List ℕ) where
-  given_same : (ctx : Option Everywhere) → (given_fine ds ctx).context ≡ given_context (option_map (context_at ds) ctx)
+  given_same : (ctx : Option Everywhere) → (given_fine ds ctx).context ≡ unwrap_or (option_map (context_at ds) ctx) []
   given_same None = refl
   given_same (Some x) = refl
 
@@ -103,7 +103,7 @@ module _ (ds : List ℕ) where
   entered_is x d false e is = clash (list_any (◌==◌ d) ds) is e
 
   allowed_is : (d : ℕ) (given : Option Everywhere) (limits : Option (List Permission)) (ctx : Option Everywhere) (b : Bool) (e : list_any (◌==◌ d) ds ≡ b) → Is ds d
-      → (allowed_by ds d given limits (given_fine ds ctx) b e).context ≡ privileged d (option_map (context_at ds) given) limits (given_context (option_map (context_at ds) ctx))
+      → (allowed_by ds d given limits (given_fine ds ctx) b e).context ≡ privileged d (option_map (context_at ds) given) limits (unwrap_or (option_map (context_at ds) ctx) [])
   unfolding allowed_by
   allowed_is d given limits ctx true e is = ap (privileged d (option_map (context_at ds) given) limits) (given_same ctx)
   allowed_is d given limits ctx false e is = clash (list_any (◌==◌ d) ds) is e

@@ -21,7 +21,7 @@ use Rattle.jground.specs.declared.jops.value.Value.TheVariants.{Int, Long, Ref, 
 use Rattle.jperm.specs.declared.permission.Permission as perms
 use Rattle.jperm.specs.declared.making.PermError.{PermError}
 use Rattle.jperm.specs.Made.{made as perm_made}
-use Rattle.jmeaning.specs.jrule.Arrays.{of_numbers}
+use Rattle.jmeaning.specs.jrule.Arrays.{of_numbers, component}
 use Rattle.jtypes.specs.declared.vtype.ArrayType.{ArrayType}
 use Rattle.jtypes.specs.declared.vtype.VType.{VType}
 use Rattle.jtypes.specs.declared.vtype.VType.TheVariants as types
@@ -31,9 +31,11 @@ use Rattle.jthreads.specs.declared.table.Joined.TheVariants.{AtOnce, Waits}
 use Rattle.jctx.specs.declared.item.Item.{Item}
 use Rattle.jmodel.specs.jmachine.Acts.{Act, FrameOf, Goes, GuestOf, Jumps, Leaves, Calls, Makes, Raises, Row, State, Switches, Throws, free, gives, raises}
 use Rattle.jmodel.specs.jmachine.Arrays as arrays
-use Rattle.jmodel.specs.jmachine.Arrays.{Items, items_in, is_stored, load_at, made, store_at, with_item, within}
-use Rattle.jmodel.specs.jmachine.Library.{library, object_init}
-use Rattle.jmodel.specs.jmachine.Making.{text_made, tested}
+use Rattle.jmodel.specs.ProofNames
+use Rattle.jmodel.specs.jmachine.Arrays.{Items, items_in, load_at, made, store_at, with_item, within}
+use Rattle.jmodel.specs.jmachine.Library.{library}
+use Rattle.jmodel.specs.ProofNames.{object_init}
+use Rattle.jmodel.specs.jmachine.Making.{text_made, tested, is_one}
 use Rattle.jmodel.specs.jmachine.Narrowing.{place}
 use Rattle.jmodel.specs.jmachine.Operands.{type_of}
 use Rattle.jmodel.specs.jmachine.Objects.{Builder}
@@ -134,7 +136,7 @@ module _ (s : Store (List Item)) where
 
     store_at_calm : (n : ℕ) (v : Word) (x : Items (List Item)) (i : Option ℕ) → Calm (Some (store_at w s n v x i))
     store_at_calm n v x None = tt
-    store_at_calm n v x (Some i) = stored_calm n i x v (is_stored w x.type (type_of w s v))
+    store_at_calm n v x (Some i) = stored_calm n i x v (is_one w (component x.type) (type_of w s v))
 
     pub array_calm : (form : ArrayForm) (values : List Word) → Calm (arrays.array w s form values)
     unfolding arrays.array
@@ -172,7 +174,7 @@ module _ (s : Store (List Item)) where
     array_calm forms.Length (Long x ∷ vs) = tt
     array_calm forms.Length (Ctx x ∷ vs) = tt
     array_calm forms.Length (Ref zero ∷ []) = tt
-    array_calm forms.Length (Ref (suc n) ∷ []) = each_calm (arrays.length_row s) (λ x. tt) (items_in (object_at s (suc n)))
+    array_calm forms.Length (Ref (suc n) ∷ []) = each_calm (ProofNames.length_row s) (λ x. tt) (items_in (object_at s (suc n)))
     array_calm forms.Length (Ref zero ∷ v ∷ vs) = tt
     array_calm forms.Length (Ref (suc n) ∷ v ∷ vs) = tt
 
@@ -237,7 +239,7 @@ module _ (s : Store (List Item)) where
   string_calm strings.CharAt (Ref x ∷ vs) = tt
   string_calm strings.CharAt (Ctx x ∷ vs) = tt
   string_calm strings.CharAt (Int i ∷ []) = tt
-  string_calm strings.CharAt (Int i ∷ v ∷ []) = each_calm (texts.char_at s i) (λ us. unit_calm (option_and_then (slice_get us) (place i))) (texts.units s v)
+  string_calm strings.CharAt (Int i ∷ v ∷ []) = each_calm (ProofNames.char_at s i) (λ us. unit_calm (option_and_then (slice_get us) (place i))) (texts.units s v)
   string_calm strings.CharAt (Int i ∷ v ∷ u ∷ vs) = tt
   string_calm strings.Equals [] = tt
   string_calm strings.Equals (other ∷ []) = tt

@@ -25,9 +25,10 @@ use Rattle.jprogram.specs.declared.member.Member.{Member}
 use Rattle.jprogram.specs.declared.member.Member.TheVariants.{LibMethod}
 use Rattle.jprogram.specs.Classes.{Program, superinterfaces, up}
 use Rattle.jprogram.specs.Members.{init, method_at, resolve_method}
-use Rattle.jmeaning.specs.juses.Instructions.{Always, If, IfInt, IfRef, Instruction, Jump, Switch, Used, array, by_form, cases, default, flow, instruction, target}
+use Rattle.jmeaning.specs.juses.Instructions.{Always, If, IfInt, IfRef, Instruction, Jump, Switch, Used, by_form, cases, default, flow, instruction, target}
+use Rattle.jmeaning.specs.ProofNames.{array, array_made}
 use Rattle.jmeaning.specs.juses.Meanings as meanings
-use Rattle.jmeaning.specs.juses.Meanings.{AClass, AConstant, AField, AMethod, CallMeaning, EntryMeaning, Meaning, Reference, array_made, array_meant, call_as, call_meant, entry_meant, field_meant, meant, reference, used}
+use Rattle.jmeaning.specs.juses.Meanings.{AClass, AConstant, AField, AMethod, CallMeaning, EntryMeaning, Meaning, Reference, array_meant, call_as, call_meant, entry_meant, field_meant, meant, reference, used}
 use Rattle.jmeaning.specs.juses.Typed.{Called, Held, Typed, Untyped, array_over, class_type, name, typed}
 use Rattle.jmovedlaws.proofs.JseenProofs.Clearing.{lib_found}
 

@@ -24,7 +24,7 @@ use Rattle.jmodel.specs.jmachine.Machine.{opening, run}
 use Rattle.jmodel.specs.jmachine.Maps.{frames_map, outcome_map, state_map, values_map}
 use Rattle.jmodel.specs.jmachine.Natural.{EntriesAgree, OpeningAlike, StepAlikeAt}
 use Rattle.jmodel.specs.jmachine.Opening.{opening_state}
-use Rattle.jmodel.specs.jmachine.Runs.{Run, next_at, run_from, state_behind}
+use Rattle.jmodel.specs.jmachine.Runs.{next_at, Run, run_from, state_behind}
 use Rattle.jmodel.specs.jmachine.Steps.{step}
 use Rattle.jmodel.specs.jrules.Plain as plain
 use Rattle.jrewriting.specs.jrewrite.Program.{moved}

@@ -22,7 +22,7 @@ use Rattle.jmodel.specs.jmachine.Calls.{Fails, Pushes, Runs, Target, by_interfac
 use Rattle.jmodel.specs.jmachine.Doing.{Doing, doing}
 use Rattle.jmodel.specs.jmachine.Frames.{all_marked, begun, domain_of, frame_of, onward, standing}
 use Rattle.jmodel.specs.jmachine.Objects.{Object, class_of}
-use Rattle.jmodel.specs.jmachine.Opening.{only, opening_state}
+use Rattle.jmodel.specs.jmachine.Opening.{opening_state}
 use Rattle.jmodel.specs.jmachine.Operands.{taken}
 use Rattle.jmodel.specs.jmachine.Security.{Rules}
 use Rattle.jmodel.specs.jmachine.Sites.{Site}
@@ -38,6 +38,7 @@ use Rattle.jmovedlaws.proofs.JsmallProofs.Guarded.{Guards}
 use Rattle.jmovedlaws.proofs.JsmallProofs.Library.{Frame, Guest, PlainAct, PlainRow, Point, Word}
 use Rattle.jmovedlaws.proofs.JsmallProofs.Rows.{Does, LeadsWell, instruction_does}
 use Rattle.jmovedlaws.proofs.JsmallProofs.Telling.{told_at}
+use Rattle.std.specs.Option.{option_to_list}
 
 -- ---- lists
 
@@ -298,7 +299,7 @@ module _ (q : Program) (guards : Guards q) where
 
   -- ---- the state in which a run begins
 
-  first_guarded : (m : MethodId) (entry : Unit {0}) (arguments : List Word) (o : Option CodeBody) → AreGuarded (only (option_map (frame_of m entry arguments) o))
+  first_guarded : (m : MethodId) (entry : Unit {0}) (arguments : List Word) (o : Option CodeBody) → AreGuarded (option_to_list (option_map (frame_of m entry arguments) o))
   first_guarded m entry arguments None = tt
   first_guarded m entry arguments (Some body) = (not_pushed (frame_of m entry arguments body) (guards.first m), tt)
 

@@ -1,6 +1,6 @@
 -- An instruction is a format, and code is one of all bytes.
 use Rattle.std.proofs.Common.{◌≡◌, ℕ, ◌-◌, ◌≤◌, ℤ, true, false, eqb, List, [], ◌∷◌, ◌++◌, length, Option, Some, None, Result, Ok, Err, refl, sym, ap, subst, ◌∙◌, arith, inl, inr}
-use Rattle.std.specs.Prelude.{IsTrue}
+use Rattle.std.specs.Prelude.{IsTrue, ◌==◌, if◌then◌else◌}
 use Rattle.std.specs.List.{list_all}
 use Rattle.std.proofs.lemmas.Bool.{cases_Bool, eqb-true}
 use Rattle.jground.specs.jbase.First.{first_some}
@@ -34,10 +34,16 @@ use Rattle.jparts.specs.declared.jcode.head.BranchHead.TheVariants as branch
 use Rattle.jparts.specs.declared.jcode.head.OtherHead.{OtherHead}
 use Rattle.jparts.specs.declared.jcode.head.OtherHead.TheVariants as other
 use Rattle.jparts.specs.jcode.Opcodes.{head_number, head_at}
-use Rattle.jparts.specs.jcode.Operands.{OtherOperand, Operand, operands}
-use Rattle.jparts.specs.jcode.Instructions.{op_from, Parts, parts, behind, behind_fits, read_behind, at_front, behind_head, instruction_at, instruction, placed_at, op_at, placed, place_behind, instructions, leads, lost, first_lost, lost_fault, code}
+use Rattle.jparts.specs.jcode.Operands.{Operand, operands}
+use Rattle.jparts.specs.jcode.Instructions.{op_from, Parts, parts, behind, behind_fits, read_behind, at_front, behind_head, instruction_at, instruction, placed_at, placed, place_behind, instructions, leads, first_lost, lost_fault, code}
+use Rattle.jparts.specs.ProofNames.{lost}
 use Rattle.jparts.proofs.JcodeProofs.OpcodeLaws.{number_of_head, head_of_number}
 use Rattle.jparts.proofs.JcodeProofs.OperandLaws.{operands_law}
+
+-- ---- names for what definitions say in place
+
+abbrev op_at : ℕ → Placed → Option Op
+op_at at p = if p.at == at then Some p.op else None
 
 -- ---- an opcode with its operands, and an instruction
 
@@ -76,7 +82,7 @@ branch_back (branch.IfInt test) by = refl
 branch_back (branch.IfRef test) by = refl
 branch_back branch.Goto by = refl
 
-other_back : (h : OtherHead) (x : OtherOperand h) → Returns (heads.Other h) x
+other_back : (h : OtherHead) (x : Operand (heads.Other h)) → Returns (heads.Other h) x
 other_back other.Bipush x = refl
 other_back other.Sipush x = refl
 other_back other.Iinc x = refl

@@ -37,7 +37,7 @@ use Rattle.jparts.specs.declared.jcode.head.BranchHead.{BranchHead}
 use Rattle.jparts.specs.declared.jcode.head.BranchHead.TheVariants as branch
 use Rattle.jparts.specs.declared.jcode.head.OtherHead.{OtherHead}
 use Rattle.jparts.specs.declared.jcode.head.OtherHead.TheVariants as other
-use Rattle.jparts.specs.jcode.Opcodes.{head_number, plain_number, byte_number, index_number, branch_number, other_number, all_heads, or_fault, head_at}
+use Rattle.jparts.specs.jcode.Opcodes.{head_number, all_heads, or_fault, head_at}
 
 -- ---- what is found has the number
 
@@ -87,16 +87,16 @@ each_compare P a b c d e f Ge = d
 each_compare P a b c d e f Gt = e
 each_compare P a b c d e f Le = f
 
-local_named : (kind : LocalKind) (access : _) (s : Slot) → head_at (plain_number (plain.Local kind access s)) ≡ Ok (heads.Plain (plain.Local kind access s))
+local_named : (kind : LocalKind) (access : _) (s : Slot) → head_at (head_number (heads.Plain (plain.Local kind access s))) ≡ Ok (heads.Plain (plain.Local kind access s))
 unfolding head_at
-local_named kinds.Int Load s = each_slot (λ s. head_at (plain_number (plain.Local kinds.Int Load s)) ≡ Ok (heads.Plain (plain.Local kinds.Int Load s))) refl refl refl refl s
-local_named kinds.Long Load s = each_slot (λ s. head_at (plain_number (plain.Local kinds.Long Load s)) ≡ Ok (heads.Plain (plain.Local kinds.Long Load s))) refl refl refl refl s
-local_named kinds.Ref Load s = each_slot (λ s. head_at (plain_number (plain.Local kinds.Ref Load s)) ≡ Ok (heads.Plain (plain.Local kinds.Ref Load s))) refl refl refl refl s
-local_named kinds.Int Store s = each_slot (λ s. head_at (plain_number (plain.Local kinds.Int Store s)) ≡ Ok (heads.Plain (plain.Local kinds.Int Store s))) refl refl refl refl s
-local_named kinds.Long Store s = each_slot (λ s. head_at (plain_number (plain.Local kinds.Long Store s)) ≡ Ok (heads.Plain (plain.Local kinds.Long Store s))) refl refl refl refl s
-local_named kinds.Ref Store s = each_slot (λ s. head_at (plain_number (plain.Local kinds.Ref Store s)) ≡ Ok (heads.Plain (plain.Local kinds.Ref Store s))) refl refl refl refl s
+local_named kinds.Int Load s = each_slot (λ s. head_at (head_number (heads.Plain (plain.Local kinds.Int Load s))) ≡ Ok (heads.Plain (plain.Local kinds.Int Load s))) refl refl refl refl s
+local_named kinds.Long Load s = each_slot (λ s. head_at (head_number (heads.Plain (plain.Local kinds.Long Load s))) ≡ Ok (heads.Plain (plain.Local kinds.Long Load s))) refl refl refl refl s
+local_named kinds.Ref Load s = each_slot (λ s. head_at (head_number (heads.Plain (plain.Local kinds.Ref Load s))) ≡ Ok (heads.Plain (plain.Local kinds.Ref Load s))) refl refl refl refl s
+local_named kinds.Int Store s = each_slot (λ s. head_at (head_number (heads.Plain (plain.Local kinds.Int Store s))) ≡ Ok (heads.Plain (plain.Local kinds.Int Store s))) refl refl refl refl s
+local_named kinds.Long Store s = each_slot (λ s. head_at (head_number (heads.Plain (plain.Local kinds.Long Store s))) ≡ Ok (heads.Plain (plain.Local kinds.Long Store s))) refl refl refl refl s
+local_named kinds.Ref Store s = each_slot (λ s. head_at (head_number (heads.Plain (plain.Local kinds.Ref Store s))) ≡ Ok (heads.Plain (plain.Local kinds.Ref Store s))) refl refl refl refl s
 
-plain_named : (p : Plain) → head_at (plain_number p) ≡ Ok (heads.Plain p)
+plain_named : (p : Plain) → head_at (head_number (heads.Plain p)) ≡ Ok (heads.Plain p)
 unfolding head_at
 plain_named plain.Nop = refl
 plain_named plain.AconstNull = refl
@@ -110,8 +110,8 @@ plain_named (plain.IntConst ints.Five) = refl
 plain_named (plain.LongConst longs.Zero) = refl
 plain_named (plain.LongConst longs.One) = refl
 plain_named (plain.Local kind access slot) = local_named kind access slot
-plain_named (plain.ArrayLoad e) = each_element (λ e. head_at (plain_number (plain.ArrayLoad e)) ≡ Ok (heads.Plain (plain.ArrayLoad e))) refl refl refl refl refl refl e
-plain_named (plain.ArrayStore e) = each_element (λ e. head_at (plain_number (plain.ArrayStore e)) ≡ Ok (heads.Plain (plain.ArrayStore e))) refl refl refl refl refl refl e
+plain_named (plain.ArrayLoad e) = each_element (λ e. head_at (head_number (heads.Plain (plain.ArrayLoad e))) ≡ Ok (heads.Plain (plain.ArrayLoad e))) refl refl refl refl refl refl e
+plain_named (plain.ArrayStore e) = each_element (λ e. head_at (head_number (heads.Plain (plain.ArrayStore e))) ≡ Ok (heads.Plain (plain.ArrayStore e))) refl refl refl refl refl refl e
 plain_named (plain.Stack Pop) = refl
 plain_named (plain.Stack Pop2) = refl
 plain_named (plain.Stack Dup) = refl
@@ -158,7 +158,7 @@ plain_named (plain.Return results.Nothing) = refl
 plain_named (plain.Object ArrayLength) = refl
 plain_named (plain.Object Throw) = refl
 
-byte_named : (h : ByteHead) → head_at (byte_number h) ≡ Ok (heads.Byte h)
+byte_named : (h : ByteHead) → head_at (head_number (heads.Byte h)) ≡ Ok (heads.Byte h)
 unfolding head_at
 byte_named byte.Ldc = refl
 byte_named (byte.Local kinds.Int Load) = refl
@@ -168,7 +168,7 @@ byte_named (byte.Local kinds.Int Store) = refl
 byte_named (byte.Local kinds.Long Store) = refl
 byte_named (byte.Local kinds.Ref Store) = refl
 
-index_named : (h : IndexHead) → head_at (index_number h) ≡ Ok (heads.Index h)
+index_named : (h : IndexHead) → head_at (head_number (heads.Index h)) ≡ Ok (heads.Index h)
 unfolding head_at
 index_named index.LdcWide = refl
 index_named index.Ldc2 = refl
@@ -184,17 +184,17 @@ index_named index.NewRefArray = refl
 index_named (index.Cast CheckCast) = refl
 index_named (index.Cast InstanceOf) = refl
 
-branch_named : (h : BranchHead) → head_at (branch_number h) ≡ Ok (heads.Branch h)
+branch_named : (h : BranchHead) → head_at (head_number (heads.Branch h)) ≡ Ok (heads.Branch h)
 unfolding head_at
-branch_named (branch.If t) = each_compare (λ t. head_at (branch_number (branch.If t)) ≡ Ok (heads.Branch (branch.If t))) refl refl refl refl refl refl t
-branch_named (branch.IfInt t) = each_compare (λ t. head_at (branch_number (branch.IfInt t)) ≡ Ok (heads.Branch (branch.IfInt t))) refl refl refl refl refl refl t
+branch_named (branch.If t) = each_compare (λ t. head_at (head_number (heads.Branch (branch.If t))) ≡ Ok (heads.Branch (branch.If t))) refl refl refl refl refl refl t
+branch_named (branch.IfInt t) = each_compare (λ t. head_at (head_number (heads.Branch (branch.IfInt t))) ≡ Ok (heads.Branch (branch.IfInt t))) refl refl refl refl refl refl t
 branch_named (branch.IfRef Same) = refl
 branch_named (branch.IfRef Other) = refl
 branch_named (branch.IfRef Null) = refl
 branch_named (branch.IfRef NonNull) = refl
 branch_named branch.Goto = refl
 
-other_named : (h : OtherHead) → head_at (other_number h) ≡ Ok (heads.Other h)
+other_named : (h : OtherHead) → head_at (head_number (heads.Other h)) ≡ Ok (heads.Other h)
 unfolding head_at
 other_named other.Bipush = refl
 other_named other.Sipush = refl

@@ -23,7 +23,8 @@ use Rattle.jparts.specs.declared.jcode.head.Head.{Head}
 use Rattle.jparts.specs.declared.jcode.head.Head.TheVariants as heads
 use Rattle.jparts.specs.declared.jcode.head.OtherHead.{OtherHead}
 use Rattle.jparts.specs.declared.jcode.head.OtherHead.TheVariants as other
-use Rattle.jparts.specs.jcode.Operands.{u1, u2, u4, i1, i2, i4, nil, nils, padding, bounds, bounded, span, table_switch, case_count, falls, case_behind, key_of, lookup_switch, interface_call, array_number, array_case, array_cases, array_type, local_number, local_of, increment_of, wide_local, wide_cases, not_wide, wide, other_operands, operands}
+use Rattle.jparts.specs.jcode.Operands.{u1, u2, u4, i1, i2, i4, nil, nils, padding, bounded, table_switch, case_count, falls, case_behind, key_of, lookup_switch, interface_call, array_number, array_case, array_cases, array_type, local_number, local_of, increment_of, wide_local, wide_cases, not_wide, wide, operands}
+use Rattle.jparts.specs.ProofNames.{bounds, span}
 
 -- ---- numbers
 
@@ -136,7 +137,7 @@ wide_law = union_law Truncated not_wide wide_cases wide_once
 
 -- ---- by the opcode
 
-other_law : (at : ℕ) (h : OtherHead) → IsFormat (other_operands at h)
+other_law : (at : ℕ) (h : OtherHead) → IsFormat (operands at (heads.Other h))
 other_law at other.Bipush = i1_law
 other_law at other.Sipush = i2_law
 other_law at other.Iinc = pair_law u1 i1 u1_law i1_law

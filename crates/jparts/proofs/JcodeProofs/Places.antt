@@ -26,7 +26,8 @@ use Rattle.jparts.specs.declared.jcode.op.Op.{Op}
 use Rattle.jparts.specs.declared.jcode.op.Op.TheVariants as ops
 use Rattle.jparts.specs.declared.jcode.op.Case.{Case}
 use Rattle.jparts.specs.declared.jcode.op.Placed.{Placed}
-use Rattle.jparts.specs.jcode.Instructions.{instruction, size, placed, placed_at, place_behind, instructions, place_of, is_place, leads, lost, first_lost, lost_fault, code, Rises}
+use Rattle.jparts.specs.jcode.Instructions.{instruction, size, placed, placed_at, place_behind, instructions, place_of, is_place, leads, first_lost, lost_fault, code, Rises}
+use Rattle.jparts.specs.ProofNames.{lost}
 use Rattle.jparts.proofs.JcodeProofs.Stopping.{fails_on}
 use Rattle.jparts.proofs.JcodeProofs.CodeLaws.{instruction_law, fits_at, instructions_law, code_law}
 

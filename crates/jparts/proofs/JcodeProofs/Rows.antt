@@ -38,7 +38,7 @@ use Rattle.jparts.specs.declared.jcode.head.IndexHead.{IndexHead}
 use Rattle.jparts.specs.declared.jcode.head.BranchHead.{BranchHead}
 use Rattle.jparts.specs.declared.jcode.head.OtherHead.TheVariants as other
 use Rattle.jparts.specs.jcode.Operands.{u1, u2, i1, i2, i4, table_switch, lookup_switch, interface_call, array_type, wide}
-use Rattle.jparts.specs.jcode.Instructions.{plain_op, byte_op, index_op, branch_op, other_op, behind, behind_fits, read_behind}
+use Rattle.jparts.specs.jcode.Instructions.{behind, behind_fits, read_behind, op_from}
 
 -- ---- writing
 
@@ -212,57 +212,57 @@ pub ruleset switch_rows = (table_row, table_fits_row, lookup_row, lookup_fits_ro
 
 -- ---- reading
 
-pub read_bipush : (at : ℕ) (bytes : List ℕ) → read_behind at (heads.Other other.Bipush) bytes ≡ (i1.read bytes >>= λ x. Ok (other_op other.Bipush x.0, x.1))
+pub read_bipush : (at : ℕ) (bytes : List ℕ) → read_behind at (heads.Other other.Bipush) bytes ≡ (i1.read bytes >>= λ x. Ok (op_from (heads.Other other.Bipush) x.0, x.1))
 unfolding read_behind
 read_bipush at bytes = refl
 
-pub read_sipush : (at : ℕ) (bytes : List ℕ) → read_behind at (heads.Other other.Sipush) bytes ≡ (i2.read bytes >>= λ x. Ok (other_op other.Sipush x.0, x.1))
+pub read_sipush : (at : ℕ) (bytes : List ℕ) → read_behind at (heads.Other other.Sipush) bytes ≡ (i2.read bytes >>= λ x. Ok (op_from (heads.Other other.Sipush) x.0, x.1))
 unfolding read_behind
 read_sipush at bytes = refl
 
-pub read_iinc : (at : ℕ) (bytes : List ℕ) → read_behind at (heads.Other other.Iinc) bytes ≡ ((u1 · i1).read bytes >>= λ x. Ok (other_op other.Iinc x.0, x.1))
+pub read_iinc : (at : ℕ) (bytes : List ℕ) → read_behind at (heads.Other other.Iinc) bytes ≡ ((u1 · i1).read bytes >>= λ x. Ok (op_from (heads.Other other.Iinc) x.0, x.1))
 unfolding read_behind
 read_iinc at bytes = refl
 
-pub read_table_switch : (at : ℕ) (bytes : List ℕ) → read_behind at (heads.Other other.TableSwitch) bytes ≡ ((table_switch at).read bytes >>= λ x. Ok (other_op other.TableSwitch x.0, x.1))
+pub read_table_switch : (at : ℕ) (bytes : List ℕ) → read_behind at (heads.Other other.TableSwitch) bytes ≡ ((table_switch at).read bytes >>= λ x. Ok (op_from (heads.Other other.TableSwitch) x.0, x.1))
 unfolding read_behind
 read_table_switch at bytes = refl
 
-pub read_lookup_switch : (at : ℕ) (bytes : List ℕ) → read_behind at (heads.Other other.LookupSwitch) bytes ≡ ((lookup_switch at).read bytes >>= λ x. Ok (other_op other.LookupSwitch x.0, x.1))
+pub read_lookup_switch : (at : ℕ) (bytes : List ℕ) → read_behind at (heads.Other other.LookupSwitch) bytes ≡ ((lookup_switch at).read bytes >>= λ x. Ok (op_from (heads.Other other.LookupSwitch) x.0, x.1))
 unfolding read_behind
 read_lookup_switch at bytes = refl
 
-pub read_call_interface : (at : ℕ) (bytes : List ℕ) → read_behind at (heads.Other other.CallInterface) bytes ≡ (interface_call.read bytes >>= λ x. Ok (other_op other.CallInterface x.0, x.1))
+pub read_call_interface : (at : ℕ) (bytes : List ℕ) → read_behind at (heads.Other other.CallInterface) bytes ≡ (interface_call.read bytes >>= λ x. Ok (op_from (heads.Other other.CallInterface) x.0, x.1))
 unfolding read_behind
 read_call_interface at bytes = refl
 
-pub read_new_array : (at : ℕ) (bytes : List ℕ) → read_behind at (heads.Other other.NewArray) bytes ≡ (array_type.read bytes >>= λ x. Ok (other_op other.NewArray x.0, x.1))
+pub read_new_array : (at : ℕ) (bytes : List ℕ) → read_behind at (heads.Other other.NewArray) bytes ≡ (array_type.read bytes >>= λ x. Ok (op_from (heads.Other other.NewArray) x.0, x.1))
 unfolding read_behind
 read_new_array at bytes = refl
 
-pub read_wide : (at : ℕ) (bytes : List ℕ) → read_behind at (heads.Other other.Wide) bytes ≡ (wide.read bytes >>= λ x. Ok (other_op other.Wide x.0, x.1))
+pub read_wide : (at : ℕ) (bytes : List ℕ) → read_behind at (heads.Other other.Wide) bytes ≡ (wide.read bytes >>= λ x. Ok (op_from (heads.Other other.Wide) x.0, x.1))
 unfolding read_behind
 read_wide at bytes = refl
 
-pub read_goto_wide : (at : ℕ) (bytes : List ℕ) → read_behind at (heads.Other other.GotoWide) bytes ≡ (i4.read bytes >>= λ x. Ok (other_op other.GotoWide x.0, x.1))
+pub read_goto_wide : (at : ℕ) (bytes : List ℕ) → read_behind at (heads.Other other.GotoWide) bytes ≡ (i4.read bytes >>= λ x. Ok (op_from (heads.Other other.GotoWide) x.0, x.1))
 unfolding read_behind
 read_goto_wide at bytes = refl
 
 pub ruleset read_others = (read_bipush, read_sipush, read_iinc, read_table_switch, read_lookup_switch, read_call_interface, read_new_array, read_wide, read_goto_wide)
 
-pub read_plain : (at : ℕ) (h : Plain) (bytes : List ℕ) → read_behind at (heads.Plain h) bytes ≡ Ok (plain_op h, bytes)
+pub read_plain : (at : ℕ) (h : Plain) (bytes : List ℕ) → read_behind at (heads.Plain h) bytes ≡ Ok (op_from (heads.Plain h) tt, bytes)
 unfolding read_behind
 read_plain at h bytes = refl
 
-pub read_byte : (at : ℕ) (h : ByteHead) (bytes : List ℕ) → read_behind at (heads.Byte h) bytes ≡ (u1.read bytes >>= λ x. Ok (byte_op h x.0, x.1))
+pub read_byte : (at : ℕ) (h : ByteHead) (bytes : List ℕ) → read_behind at (heads.Byte h) bytes ≡ (u1.read bytes >>= λ x. Ok (op_from (heads.Byte h) x.0, x.1))
 unfolding read_behind
 read_byte at h bytes = refl
 
-pub read_index : (at : ℕ) (h : IndexHead) (bytes : List ℕ) → read_behind at (heads.Index h) bytes ≡ (u2.read bytes >>= λ x. Ok (index_op h x.0, x.1))
+pub read_index : (at : ℕ) (h : IndexHead) (bytes : List ℕ) → read_behind at (heads.Index h) bytes ≡ (u2.read bytes >>= λ x. Ok (op_from (heads.Index h) x.0, x.1))
 unfolding read_behind
 read_index at h bytes = refl
 
-pub read_branch : (at : ℕ) (h : BranchHead) (bytes : List ℕ) → read_behind at (heads.Branch h) bytes ≡ (i2.read bytes >>= λ x. Ok (branch_op h x.0, x.1))
+pub read_branch : (at : ℕ) (h : BranchHead) (bytes : List ℕ) → read_behind at (heads.Branch h) bytes ≡ (i2.read bytes >>= λ x. Ok (op_from (heads.Branch h) x.0, x.1))
 unfolding read_behind
 read_branch at h bytes = refl
 

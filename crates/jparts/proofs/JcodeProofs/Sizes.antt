@@ -10,7 +10,8 @@ use Rattle.jparts.specs.declared.jcode.fault.CodeFault.{CodeFault}
 use Rattle.jparts.specs.declared.jcode.op.Case.{Case}
 use Rattle.jparts.specs.declared.jcode.op.TableSwitch.{TableSwitch}
 use Rattle.jparts.specs.declared.jcode.op.LookupSwitch.{LookupSwitch}
-use Rattle.jparts.specs.jcode.Operands.{i4, u4, span, nils, padding, bounded, case_behind, key_of, table_switch, lookup_switch}
+use Rattle.jparts.specs.jcode.Operands.{i4, u4, nils, padding, bounded, case_behind, key_of, table_switch, lookup_switch}
+use Rattle.jparts.specs.ProofNames.{span}
 
 nils_length : (n : ℕ) → length ((nils n).spell tt) ≡ n
 unfolding nils

@@ -1,6 +1,6 @@
 -- Expanding frames as a loop does, and writing full forms that expand to the frames.
 use Rattle.std.proofs.Common.{◌≡◌, ℕ, zero, suc, ◌+◌, ◌-◌, ◌*◌, ◌<◌, ◌≤◌, ◌^◌, Bool, ◌&&◌, cond, leb, ltb, true, false, List, [], ◌∷◌, ◌++◌, length, get_or, take, drop, map, Option, Some, None, Result, Ok, Err, refl, sym, ap, subst, ◌∙◌, append_assoc, add-one, arith}
-use Rattle.std.specs.Prelude.{IsTrue, IfSome}
+use Rattle.std.specs.Prelude.{IsTrue, IfSome, ok_or}
 use Rattle.std.specs.List.{flat_map, list_all, slice_get}
 use Rattle.std.specs.Option.{option_map}
 use Rattle.std.proofs.Math.Seq.{drop-cons}
@@ -12,7 +12,7 @@ use Rattle.std.specs.Int.{w16, to_be_bytes}
 use Rattle.jground.specs.jbase.Stops.{◌>>=◌}
 use Rattle.jground.proofs.JbaseProofs.Loops.{behind}
 use Rattle.jground.specs.jformat.Bodies.{counted}
-use Rattle.jground.specs.jformat.Tags.{row_fits}
+use Rattle.jground.specs.ProofNames.{row_fits}
 use Rattle.jground.specs.jformat.States.{spell_from, fits_from}
 use Rattle.jground.proofs.JformatProofs.Steps.{bind_ok, ok_is, first_true, second_true, both}
 use Rattle.jparts.specs.declared.jmaps.types.MapType.{MapType}
@@ -22,9 +22,10 @@ use Rattle.jparts.specs.declared.jmaps.types.Number.{Number}
 use Rattle.jparts.specs.declared.jmaps.types.Number.TheVariants.{Given, Written}
 use Rattle.jparts.specs.declared.jmaps.types.Row.{Row}
 use Rattle.jparts.specs.declared.jmaps.fault.MapFault.TheVariants as kinds
-use Rattle.jparts.specs.jmaps.Frames.{row, part, body, or_kind, frame, frames, maps, own_frame, own_type}
+use Rattle.jparts.specs.jmaps.Frames.{row, part, body, frame, frames, maps, own_frame, own_type}
+use Rattle.jparts.specs.ProofNames.{or_kind}
 use Rattle.jparts.proofs.JmapsProofs.MapLaws.{maps_law}
-use Rattle.jparts.specs.jmaps.Full.{place_behind, locals_before, chopped, locals_of, locals_after, or_number, expand_from, delta_behind, is_behind, full_form, full_forms, stands, can_follow, place_after, all_stand, can_write, items_fit, with_locals}
+use Rattle.jparts.specs.jmaps.Full.{place_behind, locals_before, chopped, locals_after, expand_from, delta_behind, is_behind, full_form, full_forms, stands, can_follow, place_after, all_stand, can_write, items_fit, with_locals}
 
 -- a test that each item passes
 pub all_are : (xs : List MapType) → IsTrue (list_all (λ x. true) xs)
@@ -60,7 +61,7 @@ regroup done y (Ok ys) = ap (λ (zs : List FullFrame). Ok zs) (simp append_assoc
 regroup done y (Err i) = refl
 
 pub expand_more : (first : List MapType) (i : ℕ) (earlier : Option FullFrame) (done : List FullFrame) (xs : List RawFrame) (x : RawFrame) (full : FullFrame) (total : Result (List FullFrame) ℕ) → i < length xs → x ≡ get_or xs i x
-    → Some full.locals ≡ locals_of (locals_before first earlier) x → full.at ≡ place_behind earlier x.delta → full.stack ≡ x.stack
+    → Some full.locals ≡ locals_after x.form x.locals (locals_before first earlier) → full.at ≡ place_behind earlier x.delta → full.stack ≡ x.stack
     → behind done (expand_from first i earlier (drop i xs)) ≡ total → behind (done ++ full ∷ []) (expand_from first (i + 1) (newest (done ++ full ∷ [])) (drop (i + 1) xs)) ≡ total
 unfolding expand_from
 expand_more first i earlier done xs x full total lt is locals at stack so_far =
@@ -72,7 +73,7 @@ expand_more first i earlier done xs x full total lt is locals at stack so_far =
     one ∙ ap (λ (f : FullFrame). behind (done ++ f ∷ []) (expand_from first (i + 1) (Some f) (drop (suc i) xs))) same in
     rw (newest_is done full) (ap (λ k. behind (done ++ full ∷ []) (expand_from first (i + 1) (Some full) (drop k xs))) (add-one i) ∙ sym two ∙ so_far)
 
-pub expand_stops : (first : List MapType) (i : ℕ) (earlier : Option FullFrame) (done : List FullFrame) (xs : List RawFrame) (x : RawFrame) (total : Result (List FullFrame) ℕ) → i < length xs → x ≡ get_or xs i x → None ≡ locals_of (locals_before first earlier) x
+pub expand_stops : (first : List MapType) (i : ℕ) (earlier : Option FullFrame) (done : List FullFrame) (xs : List RawFrame) (x : RawFrame) (total : Result (List FullFrame) ℕ) → i < length xs → x ≡ get_or xs i x → None ≡ locals_after x.form x.locals (locals_before first earlier)
     → behind done (expand_from first i earlier (drop i xs)) ≡ total → total ≡ Err i
 unfolding expand_from
 expand_stops first i earlier done xs x total lt is h so_far =
@@ -183,7 +184,7 @@ fit_cond : (b : Bool) {x y : Option (List MapType)} → FitWhere x → FitWhere 
 fit_cond true p q = p
 fit_cond false p q = q
 
-locals_fit : (before : List MapType) (x : RawFrame) → IsTrue (list_all own_type.fits before) → IsTrue (list_all own_type.fits x.locals) → FitWhere (locals_of before x)
+locals_fit : (before : List MapType) (x : RawFrame) → IsTrue (list_all own_type.fits before) → IsTrue (list_all own_type.fits x.locals) → FitWhere (locals_after x.form x.locals before)
 unfolding locals_after
 locals_fit before x b l =
     let n = 251 - x.form in
@@ -206,13 +207,13 @@ record IsNext (first : List MapType) (i : ℕ) (earlier : Option FullFrame) (x :
   one : FullFrame
   others : List FullFrame
   at : one.at ≡ place_behind earlier x.delta
-  locals : locals_of (locals_before first earlier) x ≡ Some one.locals
+  locals : locals_after x.form x.locals (locals_before first earlier) ≡ Some one.locals
   stack : one.stack ≡ x.stack
   rest : expand_from first (i + 1) (Some one) xs ≡ Ok others
   all : one ∷ others ≡ full
 
-next_of : (first : List MapType) (i : ℕ) (earlier : Option FullFrame) (x : RawFrame) (xs : List RawFrame) (full : List FullFrame) (o : Option (List MapType)) → locals_of (locals_before first earlier) x ≡ o
-    → (or_number i (with_locals earlier x o) >>= λ one. expand_from first (i + 1) (Some one) xs >>= λ others. Ok (one ∷ others)) ≡ Ok full → IsNext first i earlier x xs full
+next_of : (first : List MapType) (i : ℕ) (earlier : Option FullFrame) (x : RawFrame) (xs : List RawFrame) (full : List FullFrame) (o : Option (List MapType)) → locals_after x.form x.locals (locals_before first earlier) ≡ o
+    → (ok_or (with_locals earlier x o) i >>= λ one. expand_from first (i + 1) (Some one) xs >>= λ others. Ok (one ∷ others)) ≡ Ok full → IsNext first i earlier x xs full
 next_of first i earlier x xs full None same e = absurd cc
 next_of first i earlier x xs full (Some locals) same e =
     let one : FullFrame = record { at = place_behind earlier x.delta; locals = locals; stack = x.stack } in
@@ -221,7 +222,7 @@ next_of first i earlier x xs full (Some locals) same e =
 
 expanded_next : (first : List MapType) (i : ℕ) (earlier : Option FullFrame) (x : RawFrame) (xs : List RawFrame) (full : List FullFrame) → expand_from first i earlier (x ∷ xs) ≡ Ok full → IsNext first i earlier x xs full
 unfolding expand_from
-expanded_next first i earlier x xs full e = next_of first i earlier x xs full (locals_of (locals_before first earlier) x) refl e
+expanded_next first i earlier x xs full e = next_of first i earlier x xs full (locals_after x.form x.locals (locals_before first earlier)) refl e
 
 expanded_stand : (first : List MapType) (i : ℕ) (earlier : Option FullFrame) (fs : List RawFrame) (full : List FullFrame) → IsTrue (list_all own_frame.fits fs) → expand_from first i earlier fs ≡ Ok full → IsTrue (fits_from stands place_after (place_of earlier) full)
 unfolding expand_from fits_from

@@ -9,7 +9,8 @@ use Rattle.jground.specs.declared.jformat.error.Fault.{Fault}
 use Rattle.jground.specs.jformat.Format.{IsBytes, Format, number, ◌·◌}
 use Rattle.jground.specs.jformat.Bodies.{counted}
 use Rattle.jground.specs.jformat.Cases.{IsOnce}
-use Rattle.jground.specs.jformat.Tags.{rows, row_spell, row_fits}
+use Rattle.jground.specs.jformat.Tags.{rows}
+use Rattle.jground.specs.ProofNames.{row_spell, row_fits}
 use Rattle.jground.proofs.JformatProofs.Steps.{ok_is, both, first_true, second_true}
 use Rattle.jground.proofs.JformatProofs.Laws.{Takes, IsFormat, wide16, number_law, pair_law, via_law}
 use Rattle.jground.proofs.JformatProofs.Blocks.{IsBody, whole_law, counted_law}
@@ -22,7 +23,16 @@ use Rattle.jparts.specs.declared.jmaps.types.RawFrame.{RawFrame}
 use Rattle.jparts.specs.declared.jmaps.types.Number.{Number}
 use Rattle.jparts.specs.declared.jmaps.types.Number.TheVariants.{Given, Written}
 use Rattle.jparts.specs.declared.jmaps.types.Row.{Row}
-use Rattle.jparts.specs.jmaps.Frames.{alone, tag, class_of, new_of, type_cases, no_type, map_type, row, given, part, body, or_kind, frame, frames, map_kinds, maps}
+use Rattle.jparts.specs.jmaps.Frames.{alone, tag, type_cases, no_type, map_type, row, given, part, body, frame, frames, map_kinds, maps}
+use Rattle.jparts.specs.ProofNames.{or_kind}
+
+-- ---- names for what definitions say in place
+
+abbrev class_of : MapType → Option ℕ
+class_of = elim [ Object n ↦ Some n | _ ↦ None ]
+
+abbrev new_of : MapType → Option ℕ
+new_of = elim [ Uninit n ↦ Some n | _ ↦ None ]
 
 type_once : {K : Type 0} (cut : K) (a : MapType) → IsOnce (type_cases cut) a
 type_once cut Top = (refl, refl)

@@ -1,6 +1,6 @@
 -- An entry, what stands at an index, and the shape of a pool are formats.
 use Rattle.std.proofs.Common.{◌≡◌, ℕ, ◌≤◌, Bool, true, false, not, cond, eqb, List, ◌++◌, length, Some, Ok, Err, refl, sym, ap, ◌∙◌, arith, inl, inr}
-use Rattle.std.specs.Prelude.{IsTrue}
+use Rattle.std.specs.Prelude.{IsTrue, None, ℤ, Option}
 use Rattle.std.proofs.lemmas.Bool.{cases_Bool, eqb-true}
 use Rattle.std.specs.Int.{w16, w32, w64}
 use Rattle.jground.specs.declared.jformat.error.Fault.{Fault}
@@ -12,11 +12,49 @@ use Rattle.jground.proofs.JformatProofs.Blocks.{sized_law}
 use Rattle.jground.proofs.JformatProofs.Casing.{IsCases, case_law, either_law, union_law, union_some}
 use Rattle.jground.proofs.JformatProofs.Stateful.{counted_from_law}
 use Rattle.jparts.specs.declared.jpool.entry.Entry.{Entry}
-use Rattle.jparts.specs.declared.jpool.entry.Entry.TheVariants.{Unused}
+use Rattle.jparts.specs.declared.jpool.entry.Entry.TheVariants.{Unused, Integer, Float, Long, Double, Str, Field, Method, InterfaceMethod, MethodHandle, MethodType, InvokeDynamic}
 use Rattle.jparts.specs.declared.jpool.fault.PoolFault.{PoolFault}
 use Rattle.jparts.specs.declared.jpool.fault.PoolFault.TheVariants.{Truncated, BadTag}
 use Rattle.jparts.specs.declared.jpool.slots.Slot.{Slot}
-use Rattle.jparts.specs.jpool.Entries.{u1, u2, u4, u8, i4, i8, two, cases, utf8_parts, integer_parts, float_parts, long_parts, double_parts, class_parts, str_parts, field_parts, method_parts, interface_method_parts, name_and_type_parts, handle_parts, method_type_parts, dynamic_parts, entry, is_wide, begins_wide, narrow_at, narrow, unused_parts, unused, slot, next_slot, first_slot, slots, by_count, shape}
+use Rattle.jparts.specs.jpool.Entries.{u1, u2, u4, u8, i4, i8, two, cases, utf8_parts, class_parts, name_and_type_parts, entry, is_wide, begins_wide, narrow_at, narrow, unused, slot, next_slot, first_slot, slots, by_count, shape}
+
+-- ---- names for what definitions say in place
+
+abbrev integer_parts : Entry → Option ℤ
+integer_parts = elim [ Integer n ↦ Some n | _ ↦ None ]
+
+abbrev float_parts : Entry → Option ℕ
+float_parts = elim [ Float bits ↦ Some bits | _ ↦ None ]
+
+abbrev long_parts : Entry → Option ℤ
+long_parts = elim [ Long n ↦ Some n | _ ↦ None ]
+
+abbrev double_parts : Entry → Option ℕ
+double_parts = elim [ Double bits ↦ Some bits | _ ↦ None ]
+
+abbrev str_parts : Entry → Option ℕ
+str_parts = elim [ Str text ↦ Some text | _ ↦ None ]
+
+abbrev field_parts : Entry → Option (ℕ × ℕ)
+field_parts = elim [ Field class both ↦ Some (class, both) | _ ↦ None ]
+
+abbrev method_parts : Entry → Option (ℕ × ℕ)
+method_parts = elim [ Method class both ↦ Some (class, both) | _ ↦ None ]
+
+abbrev interface_method_parts : Entry → Option (ℕ × ℕ)
+interface_method_parts = elim [ InterfaceMethod class both ↦ Some (class, both) | _ ↦ None ]
+
+abbrev handle_parts : Entry → Option (ℕ × ℕ)
+handle_parts = elim [ MethodHandle kind member ↦ Some (kind, member) | _ ↦ None ]
+
+abbrev method_type_parts : Entry → Option ℕ
+method_type_parts = elim [ MethodType descriptor ↦ Some descriptor | _ ↦ None ]
+
+abbrev dynamic_parts : Entry → Option (ℕ × ℕ)
+dynamic_parts = elim [ InvokeDynamic bootstrap both ↦ Some (bootstrap, both) | _ ↦ None ]
+
+abbrev unused_parts : Entry → Option (Unit {0})
+unused_parts = elim [ Unused ↦ Some tt | _ ↦ None ]
 
 u2_law : IsFormat u2
 u2_law = number_law w16 Truncated wide16

@@ -2,7 +2,8 @@
 use Rattle.std.proofs.Common.{ℕ, arith, Fits, w8, w16, w32, w64}
 use Rattle.std.specs.Prelude.{IsTrue}
 use Rattle.jground.proofs.JformatProofs.Steps.{both}
-use Rattle.jparts.specs.jpool.Entries.{u1, u2, u4, u8, two, handle}
+use Rattle.jparts.specs.jpool.Entries.{u1, u2, u4, u8, two}
+use Rattle.jparts.specs.ProofNames.{handle}
 
 pub one_fits : (n : ℕ) → Fits w16 n → IsTrue (u2.fits n)
 one_fits n h = grind (arith, h)

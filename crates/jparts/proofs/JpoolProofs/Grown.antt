@@ -1,6 +1,6 @@
 -- A pool with one more entry behind the others is a pool.
 use Rattle.std.proofs.Common.{◌≡◌, ℕ, zero, suc, ◌+◌, ◌-◌, ◌≤◌, ◌<◌, Bool, true, false, not, cond, eqb, List, [], ◌∷◌, ◌++◌, length, Option, Some, None, refl, sym, ap, subst, ◌∙◌, arith, inl, inr}
-use Rattle.std.specs.Prelude.{IsTrue, is_some, slice_get, ◌⊎◌}
+use Rattle.std.specs.Prelude.{IsTrue, is_some, slice_get, ◌⊎◌, option_and_then}
 use Rattle.std.proofs.lemmas.Bool.{cases_Bool, ltb-true, lt-ltb}
 use Rattle.std.proofs.lemmas.List.{length-append}
 use Rattle.jground.specs.jformat.States.{fits_from}
@@ -10,8 +10,8 @@ use Rattle.jparts.specs.declared.jpool.fault.PoolFault.{PoolFault}
 use Rattle.jparts.specs.declared.jpool.entry.Entry.{Entry}
 use Rattle.jparts.specs.declared.jpool.entry.Entry.TheVariants.{Unused, Class}
 use Rattle.jparts.specs.declared.jpool.slots.Slot.{Slot}
-use Rattle.jparts.specs.jpool.Entries.{entry, is_wide, narrow, unused, slot, next_slot, first_slot, shape}
-use Rattle.jparts.specs.jpool.Pools.{text_in, is_utf8, IsPool}
+use Rattle.jparts.specs.jpool.Entries.{entry, is_wide, narrow, unused, slot, next_slot, first_slot, shape, utf8_parts}
+use Rattle.jparts.specs.jpool.Pools.{is_utf8, IsPool}
 use Rattle.jparts.specs.jpool.Adding.{laid, names_text}
 use Rattle.jparts.proofs.JpoolProofs.EntryLaws.{not_wide, unused_law}
 
@@ -148,7 +148,7 @@ get_either [] ys i x at = inr (i, at)
 get_either (y ∷ xs) ys zero x at = inl at
 get_either (y ∷ xs) ys (suc i) x at = get_either xs ys i x at
 
-text_still : (es tail : List Entry) (i : ℕ) (o : Option Entry) → slice_get es i ≡ o → IsTrue (is_some (text_in o)) → IsTrue (is_some (text_in (slice_get (es ++ tail) i)))
+text_still : (es tail : List Entry) (i : ℕ) (o : Option Entry) → slice_get es i ≡ o → IsTrue (is_some (option_and_then utf8_parts o)) → IsTrue (is_some (option_and_then utf8_parts (slice_get (es ++ tail) i)))
 text_still es tail i None is h = absurd cc
 text_still es tail i (Some x) is h = rw (get_front es tail i x is) h
 

@@ -1,6 +1,6 @@
 -- A pool is a format: its shape, and then what its entries name.
 use Rattle.std.proofs.Common.{◌≡◌, ℕ, zero, suc, ◌+◌, ◌-◌, ◌≤◌, ◌<◌, Bool, true, false, List, [], ◌∷◌, ◌++◌, length, get_or, drop, Option, Some, None, Ok, Err, refl, sym, ap, subst, ◌∙◌, add-one, arith, inl, inr}
-use Rattle.std.specs.Prelude.{IsTrue, IsSome, is_some, option_map, slice_get}
+use Rattle.std.specs.Prelude.{IsTrue, IsSome, is_some, option_map, slice_get, option_and_then}
 use Rattle.std.specs.Int.{w16}
 use Rattle.std.specs.List.{list_all}
 use Rattle.std.proofs.Math.Seq.{drop-cons}
@@ -20,8 +20,8 @@ use Rattle.jparts.specs.declared.jpool.entry.Entry.{Entry}
 use Rattle.jparts.specs.declared.jpool.entry.Entry.TheVariants.{Class}
 use Rattle.jparts.specs.declared.jpool.fault.PoolFault.{PoolFault}
 use Rattle.jparts.specs.declared.jpool.fault.PoolFault.TheVariants.{Truncated}
-use Rattle.jparts.specs.jpool.Entries.{slot, next_slot, first_slot, shape, size}
-use Rattle.jparts.specs.jpool.Pools.{text_in, name_in, is_class, utf8_at, is_utf8, name_fault, entry_fault, faulty, first_fault, no_fault, pool, IsPool, Spells}
+use Rattle.jparts.specs.jpool.Entries.{slot, next_slot, first_slot, shape, size, utf8_parts, class_parts}
+use Rattle.jparts.specs.jpool.Pools.{is_class, utf8_at, is_utf8, name_fault, entry_fault, faulty, first_fault, no_fault, pool, IsPool, Spells}
 use Rattle.jparts.proofs.JpoolProofs.EntryLaws.{shape_law}
 
 pub shape_stops : (bytes rest : List ℕ) (count n : ℕ) (stop : Stop (Fault PoolFault)) → number_at w16 Truncated bytes ≡ Ok (count, rest) → Fails stop (times_from (λ s. (slot s).read) next_slot (first_slot count) n rest) → n ≡ count → Fails stop (shape.read bytes)
@@ -146,7 +146,7 @@ named_good (Some text) h = refl
 
 class_named : (es : List Entry) (name : ℕ) → is_good (entry_fault es (Class name)) ≡ true → IsTrue (is_utf8 es name)
 unfolding entry_fault utf8_at is_utf8
-class_named es name h = named_good (text_in (slice_get es name)) h
+class_named es name h = named_good (option_and_then utf8_parts (slice_get es name)) h
 
 no_fault_named : (es : List Entry) → no_fault es ≡ true → (i name : ℕ) → slice_get es i ≡ Some (Class name) → IsTrue (is_utf8 es name)
 unfolding no_fault
@@ -161,15 +161,15 @@ read_is_pool bytes es rest left fits e h = record {
 
 -- ---- look-ups
 
-name_of_class : (o : Option Entry) (name : ℕ) → Some name ≡ name_in o → o ≡ Some (Class name)
+name_of_class : (o : Option Entry) (name : ℕ) → Some name ≡ option_and_then class_parts o → o ≡ Some (Class name)
 name_of_class None name h = absurd cc
 name_of_class (Some (Class n)) name h = let same : n ≡ name = cc in ap (λ (m : ℕ). Some (Class m)) same
 name_of_class (Some _) name h = absurd cc
 
-pub no_class : (es : List Entry) (i : ℕ) → None ≡ name_in (slice_get es i) → IsTrue (is_class es i) → ⊥
+pub no_class : (es : List Entry) (i : ℕ) → None ≡ option_and_then class_parts (slice_get es i) → IsTrue (is_class es i) → ⊥
 unfolding is_class
 no_class es i h k =
-    let none : name_in (slice_get es i) ≡ None = sym h in
+    let none : option_and_then class_parts (slice_get es i) ≡ None = sym h in
     let no : false ≡ true = rw none at k in absurd cc
 
 some_from : {A B : Type 0} (f : A → B) (r : Option A) (o : Option B) → option_map f r ≡ o → IsTrue (is_some o) → IsSome r
@@ -177,7 +177,7 @@ some_from f (Some x) o h k = refl
 some_from f None None h k = absurd cc
 some_from f None (Some y) h k = absurd cc
 
-pub class_has_name : {A : Type 0} (es : List Entry) (i name : ℕ) (f : A → List ℕ) (r : Option A) → IsPool es → Some name ≡ name_in (slice_get es i) → option_map f r ≡ utf8_at es name → IsSome r
+pub class_has_name : {A : Type 0} (es : List Entry) (i name : ℕ) (f : A → List ℕ) (r : Option A) → IsPool es → Some name ≡ option_and_then class_parts (slice_get es i) → option_map f r ≡ utf8_at es name → IsSome r
 unfolding utf8_at is_utf8
 class_has_name es i name f r P h k = some_from f r (utf8_at es name) k (P.named i name (name_of_class (slice_get es i) name h))
 

@@ -1,6 +1,6 @@
 -- What a descriptor's text is, and that it is read again.
 use Rattle.std.proofs.Common.{◌≡◌, ℕ, zero, suc, ◌+◌, ◌≤◌, ◌<◌, ◌^◌, Bool, true, false, ◌&&◌, not, cond, ltb, leb, eqb, List, [], ◌∷◌, ◌++◌, length, get_or, take, drop, replicate, Option, Some, None, Result, Ok, Err, refl, sym, ap, subst, ◌∙◌, append_assoc, add-one, arith, inl, inr}
-use Rattle.std.specs.Prelude.{IsTrue, IfOk, option_map, option_and_then}
+use Rattle.std.specs.Prelude.{IsTrue, IfOk, option_map, option_and_then, ◌==◌}
 use Rattle.std.specs.List.{list_all, flat_map, prefix_len, position, position_or_len}
 use Rattle.std.proofs.lemmas.Bool.{cases_Bool, eqb-true, lt-ltb}
 use Rattle.std.proofs.lemmas.List.{take_at, drop_at, take-append-drop, length-append, length-replicate, append-nil, nil_from_length}
@@ -12,8 +12,18 @@ use Rattle.jparts.specs.declared.jpool.descriptor.Descriptor.{Descriptor}
 use Rattle.jparts.specs.declared.jpool.descriptor.Descriptor.TheVariants as descriptors
 use Rattle.jparts.specs.declared.jpool.descriptor.DescError.{DescError}
 use Rattle.jparts.specs.jpool.Names.{is_slash, is_name_byte, is_class_name}
-use Rattle.jparts.specs.jpool.Descriptors.{Reads, is_bracket, is_semicolon, is_class_sign, is_opening, is_closing, is_void, is_base, closing_at, closed_or, method, field, class_text, type_text, is_type, named, class_at, base_at, typed, type_at, params_at, return_at, ended, field_of, method_of, descriptor_of, slots_of, few_slots, returned, return_text, is_return, method_text, is_method, descriptor_text, is_well_formed}
+use Rattle.jparts.specs.jpool.Descriptors.{Reads, is_bracket, is_semicolon, is_class_sign, is_opening, is_base, closing_at, closed_or, method, field, class_text, type_text, is_type, named, class_at, base_at, typed, type_at, params_at, return_at, ended, field_of, method_of, descriptor_of, slots_of, few_slots, returned, return_text, is_return, method_text, is_method, descriptor_text, is_well_formed}
 use Rattle.jparts.proofs.JpoolProofs.Parts.{goes_on, slash_goes_on, byte_goes_on, bad_goes_on, name_begins}
+use Rattle.std.specs.Str.{byte}
+
+-- ---- names for what definitions say in place
+
+-- 'V'
+abbrev is_void : ℕ → Bool
+is_void b = b == byte "V"
+
+abbrev is_closing : ℕ → Bool
+is_closing b = b == byte ")"
 
 -- ---- steps
 

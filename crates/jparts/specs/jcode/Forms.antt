@@ -1,5 +1,5 @@
 -- What instructions do, whichever of their spellings they have, and the kinds of their operands (JVMS 6.5).
-use Rattle.std.specs.Prelude.{ℕ, ℤ, pos, ◌-ℤ◌, Bool, true, false, map, List, [], ◌∷◌, Option, Some, None}
+use Rattle.std.specs.Prelude.{ℤ, pos, ◌-ℤ◌, Bool, true, false, map, List, [], ◌∷◌, Option, Some, None}
 use Rattle.std.specs.Borrow.{Bor}
 use Rattle.jparts.specs.declared.jcode.names.LocalKind.{LocalKind}
 use Rattle.jparts.specs.declared.jcode.names.LocalKind.TheVariants as locals
@@ -10,23 +10,19 @@ use Rattle.jparts.specs.declared.jcode.names.RefTest.{RefTest}
 use Rattle.jparts.specs.declared.jcode.names.RefTest.TheVariants.{Null, NonNull}
 use Rattle.jparts.specs.declared.jcode.names.Returned.{Returned}
 use Rattle.jparts.specs.declared.jcode.names.Returned.TheVariants as results
-use Rattle.jparts.specs.declared.jcode.names.ObjectOp.{ObjectOp}
 use Rattle.jparts.specs.declared.jcode.names.ObjectOp.TheVariants.{ArrayLength, Throw}
 use Rattle.jparts.specs.declared.jcode.op.Op.{Op}
 use Rattle.jparts.specs.declared.jcode.op.Op.TheVariants as ops
 use Rattle.jparts.specs.declared.jcode.op.IntConst.{IntConst}
 use Rattle.jparts.specs.declared.jcode.op.IntConst.TheVariants as consts
-use Rattle.jparts.specs.declared.jcode.op.Ldc.{Ldc}
 use Rattle.jparts.specs.declared.jcode.op.Ldc.TheVariants as ldcs
 use Rattle.jparts.specs.declared.jcode.op.LocalOp.{LocalOp}
 use Rattle.jparts.specs.declared.jcode.op.LocalOp.TheVariants as moves
-use Rattle.jparts.specs.declared.jcode.op.Goto.{Goto}
 use Rattle.jparts.specs.declared.jcode.op.Goto.TheVariants as gotos
 use Rattle.jparts.specs.declared.jcode.op.NewOp.{NewOp}
 use Rattle.jparts.specs.declared.jcode.op.NewOp.TheVariants as news
 use Rattle.jparts.specs.declared.jcode.op.Switch.{Switch}
 use Rattle.jparts.specs.declared.jcode.op.Switch.TheVariants as switches
-use Rattle.jparts.specs.declared.jcode.op.Wide.{Wide}
 use Rattle.jparts.specs.declared.jcode.op.Wide.TheVariants as wides
 use Rattle.jparts.specs.declared.jcode.form.Form.{Form}
 use Rattle.jparts.specs.declared.jcode.form.Form.TheVariants as forms
@@ -39,7 +35,7 @@ use Rattle.jparts.specs.declared.jcode.form.Flow.TheVariants as flows
 use Rattle.jparts.specs.declared.jcode.form.ArrayForm.{ArrayForm}
 use Rattle.jparts.specs.declared.jcode.form.ArrayForm.TheVariants as arrays
 use Rattle.jparts.specs.declared.jcode.form.PoolForm.TheVariants as pool
-use Rattle.jparts.specs.jcode.Opcodes.{int_step, long_step, slot_step}
+use Rattle.jparts.specs.jcode.Opcodes.{int_step, slot_step, long_step}
 use Rattle.jground.specs.jnames.Effects.{gives, takes, two_effect, division_effect, one_effect}
 use Rattle.jground.specs.declared.jnames.kinds.Kind.{Kind}
 use Rattle.jground.specs.declared.jnames.kinds.Kind.TheVariants as kinds
@@ -53,27 +49,15 @@ use Rattle.jground.specs.declared.jnames.kinds.Effect.{Effect}
 abbrev pub const_value : IntConst → ℤ
 const_value = elim [ consts.Small n ↦ pos (int_step n) -ℤ pos 1 | consts.Byte n ↦ n | consts.Short n ↦ n ]
 
-abbrev pub ldc_index : Ldc → ℕ
-ldc_index = elim [ ldcs.Narrow n ↦ n | ldcs.Wide n ↦ n ]
-
-abbrev pub distance : Goto → ℤ
-distance = elim [ gotos.Narrow by ↦ by | gotos.Wide by ↦ by ]
-
 -- ---- forms
 
 abbrev pub local_form : LocalKind → LocalOp → LocalForm
 local_form kind = elim [ moves.At access n ↦ Move access kind n | moves.Slot access slot ↦ Move access kind (slot_step slot) ]
 
-abbrev pub wide_form : Wide → LocalForm
-wide_form = elim [ wides.Local kind access n ↦ Move access kind n | wides.Iinc n by ↦ Increment n by ]
-
 abbrev pub new_form : NewOp → Form Switch
 new_form (news.Object n) = forms.Pool (pool.New n)
 new_form (news.Array element) = forms.Array (arrays.New element)
 new_form (news.RefArray n) = forms.Array (arrays.NewRef n)
-
-abbrev pub object_form : ObjectOp → Form Switch
-object_form = elim [ ArrayLength ↦ forms.Array arrays.Length | Throw ↦ forms.Flow flows.Throw ]
 
 -- The form of an instruction. Its spellings are one form: iload_1, iload 1 and wide iload 1; iconst_3, bipush 3 and sipush 3; goto
 -- and goto_w; ldc and ldc_w.
@@ -82,7 +66,7 @@ form ops.Nop = forms.Simple simple.Nothing
 form ops.AconstNull = forms.Simple simple.Null
 form (ops.IntConst n) = forms.Simple (simple.Int (const_value n))
 form (ops.LongConst n) = forms.Simple (simple.Long (pos (long_step n)))
-form (ops.Ldc op) = forms.Pool (pool.Constant (ldc_index op))
+form (ops.Ldc op) = forms.Pool (pool.Constant (elim op [ ldcs.Narrow n ↦ n | ldcs.Wide n ↦ n ]))
 form (ops.Ldc2 n) = forms.Pool (pool.LongConstant n)
 form (ops.IntLocal op) = forms.Local (local_form locals.Int op)
 form (ops.LongLocal op) = forms.Local (local_form locals.Long op)
@@ -97,16 +81,16 @@ form (ops.Iinc n by) = forms.Local (Increment n by)
 form (ops.If test by) = forms.Flow (flows.If test by)
 form (ops.IfInt test by) = forms.Flow (flows.IfInt test by)
 form (ops.IfRef test by) = forms.Flow (flows.IfRef test by)
-form (ops.Goto op) = forms.Flow (flows.Goto (distance op))
+form (ops.Goto op) = forms.Flow (flows.Goto (elim op [ gotos.Narrow by ↦ by | gotos.Wide by ↦ by ]))
 form (ops.Switch switch) = forms.Flow (flows.Switch switch)
 form (ops.Return kind) = forms.Flow (flows.Return kind)
 form (ops.Field op n) = forms.Pool (pool.Field op n)
 form (ops.Call op n) = forms.Pool (pool.Call op n)
 form (ops.CallInterface n slots) = forms.Pool (pool.CallInterface n slots)
 form (ops.New op) = new_form op
-form (ops.Object op) = object_form op
+form (ops.Object op) = elim op [ ArrayLength ↦ forms.Array arrays.Length | Throw ↦ forms.Flow flows.Throw ]
 form (ops.Cast op n) = forms.Pool (pool.Cast op n)
-form (ops.Wide op) = forms.Local (wide_form op)
+form (ops.Wide op) = forms.Local (elim op [ wides.Local kind access n ↦ Move access kind n | wides.Iinc n by ↦ Increment n by ])
 
 abbrev pub seen_flow : Flow (Bor Switch) → Flow Switch
 seen_flow (flows.If test by) = flows.If test by

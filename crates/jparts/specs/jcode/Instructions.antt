@@ -21,7 +21,6 @@ use Rattle.jparts.specs.declared.jcode.op.LocalOp.{LocalOp}
 use Rattle.jparts.specs.declared.jcode.op.LocalOp.TheVariants as locals
 use Rattle.jparts.specs.declared.jcode.op.Goto.TheVariants as gotos
 use Rattle.jparts.specs.declared.jcode.op.NewOp.TheVariants as news
-use Rattle.jparts.specs.declared.jcode.op.Switch.{Switch}
 use Rattle.jparts.specs.declared.jcode.op.Switch.TheVariants as switches
 use Rattle.jparts.specs.declared.jcode.op.Placed.{Placed}
 use Rattle.jparts.specs.declared.jcode.op.Handler.{Handler}
@@ -29,73 +28,55 @@ use Rattle.jparts.specs.declared.jcode.head.Head.{Head}
 use Rattle.jparts.specs.declared.jcode.head.Head.TheVariants as heads
 use Rattle.jparts.specs.declared.jcode.head.Plain.{Plain}
 use Rattle.jparts.specs.declared.jcode.head.Plain.TheVariants as plain
-use Rattle.jparts.specs.declared.jcode.head.ByteHead.{ByteHead}
 use Rattle.jparts.specs.declared.jcode.head.ByteHead.TheVariants as byte
-use Rattle.jparts.specs.declared.jcode.head.IndexHead.{IndexHead}
 use Rattle.jparts.specs.declared.jcode.head.IndexHead.TheVariants as index
-use Rattle.jparts.specs.declared.jcode.head.BranchHead.{BranchHead}
 use Rattle.jparts.specs.declared.jcode.head.BranchHead.TheVariants as branch
-use Rattle.jparts.specs.declared.jcode.head.OtherHead.{OtherHead}
 use Rattle.jparts.specs.declared.jcode.head.OtherHead.TheVariants as other
 use Rattle.jparts.specs.jcode.Forms.{form, branches}
 use Rattle.jparts.specs.jcode.Opcodes.{head_number, head_at}
-use Rattle.jparts.specs.jcode.Operands.{OtherOperand, Operand, operands}
+use Rattle.jparts.specs.jcode.Operands.{Operand, operands}
 
 -- ---- an instruction as an opcode and its operands
 
 abbrev pub local_op : LocalKind → LocalOp → Op
 local_op = elim [ kinds.Int ↦ ops.IntLocal | kinds.Long ↦ ops.LongLocal | kinds.Ref ↦ ops.RefLocal ]
 
-abbrev pub plain_op : Plain → Op
-plain_op plain.Nop = ops.Nop
-plain_op plain.AconstNull = ops.AconstNull
-plain_op (plain.IntConst n) = ops.IntConst (consts.Small n)
-plain_op (plain.LongConst n) = ops.LongConst n
-plain_op (plain.Local kind access slot) = local_op kind (locals.Slot access slot)
-plain_op (plain.ArrayLoad element) = ops.ArrayLoad element
-plain_op (plain.ArrayStore element) = ops.ArrayStore element
-plain_op (plain.Stack op) = ops.Stack op
-plain_op (plain.Two op) = ops.Two op
-plain_op (plain.Divide op) = ops.Divide op
-plain_op (plain.One op) = ops.One op
-plain_op (plain.Return kind) = ops.Return kind
-plain_op (plain.Object op) = ops.Object op
-
-abbrev pub byte_op : ByteHead → ℕ → Op
-byte_op x n = elim x [ byte.Ldc ↦ ops.Ldc (ldcs.Narrow n) | byte.Local kind access ↦ local_op kind (locals.At access n) ]
-
-abbrev pub index_op : IndexHead → ℕ → Op
-index_op index.LdcWide n = ops.Ldc (ldcs.Wide n)
-index_op index.Ldc2 n = ops.Ldc2 n
-index_op (index.Field op) n = ops.Field op n
-index_op (index.Call op) n = ops.Call op n
-index_op index.New n = ops.New (news.Object n)
-index_op index.NewRefArray n = ops.New (news.RefArray n)
-index_op (index.Cast op) n = ops.Cast op n
-
-abbrev pub branch_op : BranchHead → ℤ → Op
-branch_op (branch.If test) by = ops.If test by
-branch_op (branch.IfInt test) by = ops.IfInt test by
-branch_op (branch.IfRef test) by = ops.IfRef test by
-branch_op branch.Goto by = ops.Goto (gotos.Narrow by)
-
-abbrev pub other_op : (h : OtherHead) → OtherOperand h → Op
-other_op other.Bipush n = ops.IntConst (consts.Byte n)
-other_op other.Sipush n = ops.IntConst (consts.Short n)
-other_op other.Iinc p = ops.Iinc p.0 p.1
-other_op other.TableSwitch s = ops.Switch (switches.Table s)
-other_op other.LookupSwitch s = ops.Switch (switches.Lookup s)
-other_op other.CallInterface p = ops.CallInterface p.0 p.1
-other_op other.NewArray element = ops.New (news.Array element)
-other_op other.Wide w = ops.Wide w
-other_op other.GotoWide by = ops.Goto (gotos.Wide by)
-
 abbrev pub op_from : (h : Head) → Operand h → Op
-op_from (heads.Plain h) x = plain_op h
-op_from (heads.Byte h) x = byte_op h x
-op_from (heads.Index h) x = index_op h x
-op_from (heads.Branch h) x = branch_op h x
-op_from (heads.Other h) x = other_op h x
+op_from (heads.Plain plain.Nop) x = ops.Nop
+op_from (heads.Plain plain.AconstNull) x = ops.AconstNull
+op_from (heads.Plain (plain.IntConst n)) x = ops.IntConst (consts.Small n)
+op_from (heads.Plain (plain.LongConst n)) x = ops.LongConst n
+op_from (heads.Plain (plain.Local kind access slot)) x = local_op kind (locals.Slot access slot)
+op_from (heads.Plain (plain.ArrayLoad element)) x = ops.ArrayLoad element
+op_from (heads.Plain (plain.ArrayStore element)) x = ops.ArrayStore element
+op_from (heads.Plain (plain.Stack op)) x = ops.Stack op
+op_from (heads.Plain (plain.Two op)) x = ops.Two op
+op_from (heads.Plain (plain.Divide op)) x = ops.Divide op
+op_from (heads.Plain (plain.One op)) x = ops.One op
+op_from (heads.Plain (plain.Return kind)) x = ops.Return kind
+op_from (heads.Plain (plain.Object op)) x = ops.Object op
+op_from (heads.Byte byte.Ldc) n = ops.Ldc (ldcs.Narrow n)
+op_from (heads.Byte (byte.Local kind access)) n = local_op kind (locals.At access n)
+op_from (heads.Index index.LdcWide) n = ops.Ldc (ldcs.Wide n)
+op_from (heads.Index index.Ldc2) n = ops.Ldc2 n
+op_from (heads.Index (index.Field op)) n = ops.Field op n
+op_from (heads.Index (index.Call op)) n = ops.Call op n
+op_from (heads.Index index.New) n = ops.New (news.Object n)
+op_from (heads.Index index.NewRefArray) n = ops.New (news.RefArray n)
+op_from (heads.Index (index.Cast op)) n = ops.Cast op n
+op_from (heads.Branch (branch.If test)) by = ops.If test by
+op_from (heads.Branch (branch.IfInt test)) by = ops.IfInt test by
+op_from (heads.Branch (branch.IfRef test)) by = ops.IfRef test by
+op_from (heads.Branch branch.Goto) by = ops.Goto (gotos.Narrow by)
+op_from (heads.Other other.Bipush) n = ops.IntConst (consts.Byte n)
+op_from (heads.Other other.Sipush) n = ops.IntConst (consts.Short n)
+op_from (heads.Other other.Iinc) p = ops.Iinc p.0 p.1
+op_from (heads.Other other.TableSwitch) s = ops.Switch (switches.Table s)
+op_from (heads.Other other.LookupSwitch) s = ops.Switch (switches.Lookup s)
+op_from (heads.Other other.CallInterface) p = ops.CallInterface p.0 p.1
+op_from (heads.Other other.NewArray) element = ops.New (news.Array element)
+op_from (heads.Other other.Wide) w = ops.Wide w
+op_from (heads.Other other.GotoWide) by = ops.Goto (gotos.Wide by)
 
 -- an opcode and its operands
 abbrev pub Parts : Type 0
@@ -146,9 +127,6 @@ parts (ops.Object op) = bare (plain.Object op)
 parts (ops.Cast op n) = (heads.Index (index.Cast op), n)
 parts (ops.Wide w) = (heads.Other other.Wide, w)
 
-abbrev pub op_head : Op → Head
-op_head op = (parts op).0
-
 -- what stands behind the opcode of an instruction at a place
 unfoldable pub behind : ℕ → Op → List ℕ
 behind at op = (operands at (parts op).0).spell (parts op).1
@@ -175,7 +153,7 @@ instruction_at at = elim [ [] ↦ fault Truncated [] | t ∷ rest ↦ at_front (
 
 -- the opcode's byte, and behind it the operands
 unfoldable pub instruction : ℕ → Format CodeFault Op
-instruction at = record { spell = λ op. head_number (op_head op) ∷ behind at op; fits = behind_fits at; read = instruction_at at }
+instruction at = record { spell = λ op. head_number ((parts op).0) ∷ behind at op; fits = behind_fits at; read = instruction_at at }
 
 -- the number of bytes of an instruction at a place
 unfoldable pub size : ℕ → Op → ℕ
@@ -186,12 +164,9 @@ size at op = length ((instruction at).spell op)
 abbrev pub placed_at : ℕ → Op → Placed
 placed_at at op = record { at = at; op = op }
 
-abbrev pub op_at : ℕ → Placed → Option Op
-op_at at p = if p.at == at then Some p.op else None
-
 -- an instruction with its place
 abbrev pub placed : ℕ → Format CodeFault Placed
-placed at = as_case (placed_at at) (op_at at) (instruction at)
+placed at = as_case (placed_at at) (λ p. if p.at == at then Some p.op else None) (instruction at)
 
 abbrev pub place_behind : ℕ → Placed → ℕ
 place_behind at p = at + size at p.op
@@ -218,12 +193,9 @@ lands ps at by = is_place ps (pos at +ℤ by)
 abbrev pub leads : List Placed → Placed → Bool
 leads ps p = list_all (lands ps p.at) (branches (form p.op))
 
-abbrev pub lost : List Placed → Placed → Option ℕ
-lost ps p = if leads ps p then None else Some p.at
-
 -- the first instruction with a branch that leads to none
 unfoldable pub first_lost : List Placed → Option ℕ
-first_lost ps = first_some (lost ps) ps
+first_lost ps = first_some (λ p. if leads ps p then None else Some p.at) ps
 
 abbrev pub lost_fault : List ℕ → Option ℕ → Option (Fault CodeFault)
 lost_fault bytes at = option_map (λ at. from_end bytes (record { at = at; kind = BadTarget })) at

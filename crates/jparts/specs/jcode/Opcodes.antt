@@ -27,13 +27,9 @@ use Rattle.jparts.specs.declared.jcode.names.RefTest.{RefTest}
 use Rattle.jparts.specs.declared.jcode.names.RefTest.TheVariants.{Same, Other, Null, NonNull}
 use Rattle.jparts.specs.declared.jcode.names.Returned.{Returned}
 use Rattle.jparts.specs.declared.jcode.names.Returned.TheVariants as results
-use Rattle.jparts.specs.declared.jcode.names.FieldOp.{FieldOp}
 use Rattle.jparts.specs.declared.jcode.names.FieldOp.TheVariants.{GetStatic, PutStatic, GetField, PutField}
-use Rattle.jparts.specs.declared.jcode.names.CallOp.{CallOp}
 use Rattle.jparts.specs.declared.jcode.names.CallOp.TheVariants.{Virtual, Special, Static}
-use Rattle.jparts.specs.declared.jcode.names.ObjectOp.{ObjectOp}
 use Rattle.jparts.specs.declared.jcode.names.ObjectOp.TheVariants.{ArrayLength, Throw}
-use Rattle.jparts.specs.declared.jcode.names.CastOp.{CastOp}
 use Rattle.jparts.specs.declared.jcode.names.CastOp.TheVariants.{CheckCast, InstanceOf}
 use Rattle.jparts.specs.declared.jcode.fault.CodeFault.{CodeFault}
 use Rattle.jparts.specs.declared.jcode.fault.CodeFault.TheVariants.{LeftOut, UnknownOpcode}
@@ -69,12 +65,6 @@ shuffle_step = elim [ Pop ↦ 0 | Pop2 ↦ 1 | Dup ↦ 2 | DupX1 ↦ 3 | DupX2 �
 
 abbrev pub compare_step : Compare → ℕ
 compare_step = elim [ Eq ↦ 0 | Ne ↦ 1 | Lt ↦ 2 | Ge ↦ 3 | Gt ↦ 4 | Le ↦ 5 ]
-
-abbrev pub field_step : FieldOp → ℕ
-field_step = elim [ GetStatic ↦ 0 | PutStatic ↦ 1 | GetField ↦ 2 | PutField ↦ 3 ]
-
-abbrev pub call_step : CallOp → ℕ
-call_step = elim [ Virtual ↦ 0 | Special ↦ 1 | Static ↦ 2 ]
 
 -- ---- the number of each opcode
 
@@ -116,71 +106,50 @@ one_number = elim [ ones.Ineg ↦ 0x74 | ones.Lneg ↦ 0x75 | ones.I2l ↦ 0x85 
 abbrev pub return_number : Returned → ℕ
 return_number = elim [ results.Int ↦ 0xac | results.Long ↦ 0xad | results.Ref ↦ 0xb0 | results.Nothing ↦ 0xb1 ]
 
-abbrev pub object_number : ObjectOp → ℕ
-object_number = elim [ ArrayLength ↦ 0xbe | Throw ↦ 0xbf ]
-
-abbrev pub plain_number : Plain → ℕ
-plain_number plain.Nop = 0x00
-plain_number plain.AconstNull = 0x01
-plain_number (plain.IntConst n) = 0x02 + int_step n
-plain_number (plain.LongConst n) = 0x09 + long_step n
-plain_number (plain.Local kind access slot) = slot_base kind access + slot_step slot
-plain_number (plain.ArrayLoad element) = 0x2e + element_step element
-plain_number (plain.ArrayStore element) = 0x4f + element_step element
-plain_number (plain.Stack op) = 0x57 + shuffle_step op
-plain_number (plain.Two op) = two_number op
-plain_number (plain.Divide op) = division_number op
-plain_number (plain.One op) = one_number op
-plain_number (plain.Return kind) = return_number kind
-plain_number (plain.Object op) = object_number op
-
-abbrev pub byte_number : ByteHead → ℕ
-byte_number byte.Ldc = 0x12
-byte_number (byte.Local kinds.Int Load) = 0x15
-byte_number (byte.Local kinds.Long Load) = 0x16
-byte_number (byte.Local kinds.Ref Load) = 0x19
-byte_number (byte.Local kinds.Int Store) = 0x36
-byte_number (byte.Local kinds.Long Store) = 0x37
-byte_number (byte.Local kinds.Ref Store) = 0x3a
-
-abbrev pub cast_number : CastOp → ℕ
-cast_number = elim [ CheckCast ↦ 0xc0 | InstanceOf ↦ 0xc1 ]
-
-abbrev pub index_number : IndexHead → ℕ
-index_number index.LdcWide = 0x13
-index_number index.Ldc2 = 0x14
-index_number (index.Field op) = 0xb2 + field_step op
-index_number (index.Call op) = 0xb6 + call_step op
-index_number index.New = 0xbb
-index_number index.NewRefArray = 0xbd
-index_number (index.Cast op) = cast_number op
-
 abbrev pub ref_test_number : RefTest → ℕ
 ref_test_number = elim [ Same ↦ 0xa5 | Other ↦ 0xa6 | Null ↦ 0xc6 | NonNull ↦ 0xc7 ]
 
-abbrev pub branch_number : BranchHead → ℕ
-branch_number (branch.If test) = 0x99 + compare_step test
-branch_number (branch.IfInt test) = 0x9f + compare_step test
-branch_number (branch.IfRef test) = ref_test_number test
-branch_number branch.Goto = 0xa7
-
-abbrev pub other_number : OtherHead → ℕ
-other_number other.Bipush = 0x10
-other_number other.Sipush = 0x11
-other_number other.Iinc = 0x84
-other_number other.TableSwitch = 0xaa
-other_number other.LookupSwitch = 0xab
-other_number other.CallInterface = 0xb9
-other_number other.NewArray = 0xbc
-other_number other.Wide = 0xc4
-other_number other.GotoWide = 0xc8
-
 abbrev pub head_number : Head → ℕ
-head_number (heads.Plain h) = plain_number h
-head_number (heads.Byte h) = byte_number h
-head_number (heads.Index h) = index_number h
-head_number (heads.Branch h) = branch_number h
-head_number (heads.Other h) = other_number h
+head_number (heads.Plain plain.Nop) = 0x00
+head_number (heads.Plain plain.AconstNull) = 0x01
+head_number (heads.Plain (plain.IntConst n)) = 0x02 + int_step n
+head_number (heads.Plain (plain.LongConst n)) = 0x09 + long_step n
+head_number (heads.Plain (plain.Local kind access slot)) = slot_base kind access + slot_step slot
+head_number (heads.Plain (plain.ArrayLoad element)) = 0x2e + element_step element
+head_number (heads.Plain (plain.ArrayStore element)) = 0x4f + element_step element
+head_number (heads.Plain (plain.Stack op)) = 0x57 + shuffle_step op
+head_number (heads.Plain (plain.Two op)) = two_number op
+head_number (heads.Plain (plain.Divide op)) = division_number op
+head_number (heads.Plain (plain.One op)) = one_number op
+head_number (heads.Plain (plain.Return kind)) = return_number kind
+head_number (heads.Plain (plain.Object op)) = elim op [ ArrayLength ↦ 0xbe | Throw ↦ 0xbf ]
+head_number (heads.Byte byte.Ldc) = 0x12
+head_number (heads.Byte (byte.Local kinds.Int Load)) = 0x15
+head_number (heads.Byte (byte.Local kinds.Long Load)) = 0x16
+head_number (heads.Byte (byte.Local kinds.Ref Load)) = 0x19
+head_number (heads.Byte (byte.Local kinds.Int Store)) = 0x36
+head_number (heads.Byte (byte.Local kinds.Long Store)) = 0x37
+head_number (heads.Byte (byte.Local kinds.Ref Store)) = 0x3a
+head_number (heads.Index index.LdcWide) = 0x13
+head_number (heads.Index index.Ldc2) = 0x14
+head_number (heads.Index (index.Field op)) = 0xb2 + (elim op [ GetStatic ↦ 0 | PutStatic ↦ 1 | GetField ↦ 2 | PutField ↦ 3 ])
+head_number (heads.Index (index.Call op)) = 0xb6 + (elim op [ Virtual ↦ 0 | Special ↦ 1 | Static ↦ 2 ])
+head_number (heads.Index index.New) = 0xbb
+head_number (heads.Index index.NewRefArray) = 0xbd
+head_number (heads.Index (index.Cast op)) = elim op [ CheckCast ↦ 0xc0 | InstanceOf ↦ 0xc1 ]
+head_number (heads.Branch (branch.If test)) = 0x99 + compare_step test
+head_number (heads.Branch (branch.IfInt test)) = 0x9f + compare_step test
+head_number (heads.Branch (branch.IfRef test)) = ref_test_number test
+head_number (heads.Branch branch.Goto) = 0xa7
+head_number (heads.Other other.Bipush) = 0x10
+head_number (heads.Other other.Sipush) = 0x11
+head_number (heads.Other other.Iinc) = 0x84
+head_number (heads.Other other.TableSwitch) = 0xaa
+head_number (heads.Other other.LookupSwitch) = 0xab
+head_number (heads.Other other.CallInterface) = 0xb9
+head_number (heads.Other other.NewArray) = 0xbc
+head_number (heads.Other other.Wide) = 0xc4
+head_number (heads.Other other.GotoWide) = 0xc8
 
 -- ---- the opcode of a number
 

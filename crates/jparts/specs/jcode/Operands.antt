@@ -23,9 +23,8 @@ use Rattle.jparts.specs.declared.jcode.op.Wide.TheVariants as wides
 use Rattle.jparts.specs.declared.jcode.head.Head.{Head}
 use Rattle.jparts.specs.declared.jcode.head.Head.TheVariants as heads
 use Rattle.jparts.specs.declared.jcode.head.ByteHead.TheVariants as byte
-use Rattle.jparts.specs.declared.jcode.head.OtherHead.{OtherHead}
 use Rattle.jparts.specs.declared.jcode.head.OtherHead.TheVariants as other
-use Rattle.jparts.specs.jcode.Opcodes.{byte_number}
+use Rattle.jparts.specs.jcode.Opcodes.{head_number}
 
 -- ---- numbers
 
@@ -62,17 +61,9 @@ nils (suc n) = via (λ _. tt) (λ _. (tt, tt)) (nil · nils n)
 abbrev pub padding : ℕ → Format CodeFault (Unit {0})
 padding at = nils (3 - at % 4)
 
--- the least and the greatest int of a table
-abbrev pub bounds : Format CodeFault (ℤ × ℤ)
-bounds = such (λ b. fault_if (int_lt b.1 b.0) BadOperand) (i4 · i4)
-
--- how many ints there are from the least to the greatest
-abbrev pub span : ℤ → ℤ → ℕ
-span low high = unsigned_abs (high -ℤ low) + 1
-
 -- the bounds, and a branch for each int from the least to the greatest
 unfoldable pub bounded : Format CodeFault ((ℤ × ℤ) × List ℤ)
-bounded = bounds ▹ λ b. counted (known (span b.0 b.1)) i4
+bounded = such (λ b. fault_if (int_lt b.1 b.0) BadOperand) (i4 · i4) ▹ λ b. counted (known (unsigned_abs (b.1 -ℤ b.0) + 1)) i4
 
 unfoldable pub table_switch : ℕ → Format CodeFault TableSwitch
 table_switch at =
@@ -118,7 +109,7 @@ array_type = union Truncated (λ _. BadOperand) array_cases
 
 -- the opcode that is widened
 abbrev pub local_number : LocalKind → Access → ℕ
-local_number kind access = byte_number (byte.Local kind access)
+local_number kind access = head_number (heads.Byte (byte.Local kind access))
 
 abbrev pub local_of : LocalKind → Access → Wide → Option ℕ
 local_of kind access = elim [ wides.Local k way n ↦ if local_number k way == local_number kind access then Some n else None | wides.Iinc n by ↦ None ]
@@ -143,35 +134,21 @@ wide = union Truncated not_wide wide_cases
 
 -- ---- by the opcode
 
-abbrev pub OtherOperand : OtherHead → Type 0
-OtherOperand other.Bipush = ℤ
-OtherOperand other.Sipush = ℤ
-OtherOperand other.Iinc = ℕ × ℤ
-OtherOperand other.TableSwitch = TableSwitch
-OtherOperand other.LookupSwitch = LookupSwitch
-OtherOperand other.CallInterface = ℕ × ℕ
-OtherOperand other.NewArray = ArrayType
-OtherOperand other.Wide = Wide
-OtherOperand other.GotoWide = ℤ
-
 -- the operands of an opcode
 abbrev pub Operand : Head → Type 0
 Operand (heads.Plain h) = Unit {0}
 Operand (heads.Byte h) = ℕ
 Operand (heads.Index h) = ℕ
 Operand (heads.Branch h) = ℤ
-Operand (heads.Other h) = OtherOperand h
-
-abbrev pub other_operands : ℕ → (h : OtherHead) → Format CodeFault (OtherOperand h)
-other_operands at other.Bipush = i1
-other_operands at other.Sipush = i2
-other_operands at other.Iinc = u1 · i1
-other_operands at other.TableSwitch = table_switch at
-other_operands at other.LookupSwitch = lookup_switch at
-other_operands at other.CallInterface = interface_call
-other_operands at other.NewArray = array_type
-other_operands at other.Wide = wide
-other_operands at other.GotoWide = i4
+Operand (heads.Other other.Bipush) = ℤ
+Operand (heads.Other other.Sipush) = ℤ
+Operand (heads.Other other.Iinc) = ℕ × ℤ
+Operand (heads.Other other.TableSwitch) = TableSwitch
+Operand (heads.Other other.LookupSwitch) = LookupSwitch
+Operand (heads.Other other.CallInterface) = ℕ × ℕ
+Operand (heads.Other other.NewArray) = ArrayType
+Operand (heads.Other other.Wide) = Wide
+Operand (heads.Other other.GotoWide) = ℤ
 
 -- how they are written behind an opcode at a place
 abbrev pub operands : ℕ → (h : Head) → Format CodeFault (Operand h)
@@ -179,4 +156,12 @@ operands at (heads.Plain h) = void
 operands at (heads.Byte h) = u1
 operands at (heads.Index h) = u2
 operands at (heads.Branch h) = i2
-operands at (heads.Other h) = other_operands at h
+operands at (heads.Other other.Bipush) = i1
+operands at (heads.Other other.Sipush) = i2
+operands at (heads.Other other.Iinc) = u1 · i1
+operands at (heads.Other other.TableSwitch) = table_switch at
+operands at (heads.Other other.LookupSwitch) = lookup_switch at
+operands at (heads.Other other.CallInterface) = interface_call
+operands at (heads.Other other.NewArray) = array_type
+operands at (heads.Other other.Wide) = wide
+operands at (heads.Other other.GotoWide) = i4

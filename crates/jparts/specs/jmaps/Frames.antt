@@ -1,5 +1,5 @@
 -- Stack maps as they are written: the content of a StackMapTable (JVMS 4.7.4).
-use Rattle.std.specs.Prelude.{ℕ, ◌-◌, ◌==◌, nat_lt, true, if◌then◌else◌, List, [], Option, Some, None, Result, Ok, Err}
+use Rattle.std.specs.Prelude.{ℕ, ◌-◌, ◌==◌, nat_lt, true, if◌then◌else◌, List, [], Option, Some, None, Ok, ok_or}
 use Rattle.std.specs.Int.{w16}
 use Rattle.jground.specs.jformat.Format.{Answer, Format, number, ◌·◌, via}
 use Rattle.jground.specs.jformat.Bodies.{Body, counted, whole}
@@ -25,15 +25,9 @@ tag = elim [ Top ↦ 0 | Int ↦ 1 | Long ↦ 4 | Null ↦ 5 | UninitThis ↦ 6 
 abbrev pub alone : {K : Type 0} → MapType → Cases K MapType
 alone one = sole (tag one) one (λ other. tag other == tag one)
 
-abbrev pub class_of : MapType → Option ℕ
-class_of = elim [ Object n ↦ Some n | _ ↦ None ]
-
-abbrev pub new_of : MapType → Option ℕ
-new_of = elim [ Uninit n ↦ Some n | _ ↦ None ]
-
 abbrev pub type_cases : {K : Type 0} → K → Cases K MapType
 type_cases cut = alone Top ∣ alone Int ∣ alone Long ∣ alone Null ∣ alone UninitThis
-    ∣ case 7 Object class_of (number w16 cut) ∣ case 8 Uninit new_of (number w16 cut)
+    ∣ case 7 Object (elim [ Object n ↦ Some n | _ ↦ None ]) (number w16 cut) ∣ case 8 Uninit (elim [ Uninit n ↦ Some n | _ ↦ None ]) (number w16 cut)
 
 abbrev pub no_type : {K : Type 0} → Kinds K → ℕ → K
 no_type kinds t = if t == 2 then kinds.left_out else (if t == 3 then kinds.left_out else kinds.bad_tag)
@@ -65,13 +59,10 @@ part cut x = elim x [ Given n ↦ given n | Written ↦ number w16 cut ]
 abbrev pub body : {K : Type 0} → K → Format K MapType → Row → Format K (ℕ × (List MapType × List MapType))
 body cut item r = part cut r.delta · counted (part cut r.locals) item · counted (part cut r.stack) item
 
-abbrev pub or_kind : {K : Type 0} → K → Option Row → Result Row K
-or_kind kind x = elim x [ Some r ↦ Ok r | None ↦ Err kind ]
-
 -- a frame, whose items have this format
 unfoldable pub frame : {K : Type 0} → Kinds K → Format K MapType → Format K RawFrame
 frame kinds item = via (λ p. record { form = p.0; delta = p.1.0; locals = p.1.1.0; stack = p.1.1.1 }) (λ f. (f.form, (f.delta, (f.locals, f.stack))))
-    (rows kinds.truncated (λ t. or_kind kinds.reserved (row t)) (body kinds.truncated item))
+    (rows kinds.truncated (λ t. ok_or (row t) kinds.reserved) (body kinds.truncated item))
 
 -- the frames, behind their number, and nothing behind them
 unfoldable pub frames : {K : Type 0} → Kinds K → Format K MapType → Body K (List RawFrame)

@@ -1,5 +1,5 @@
 -- Frames in full: where each stands and all that it says, by the frames before it (JVMS 4.7.4).
-use Rattle.std.specs.Prelude.{◌≡◌, ℕ, ◌+◌, ◌-◌, nat_le, nat_lt, true, ◌&&◌, Bool, if◌then◌else◌, List, [], ◌∷◌, ◌++◌, length, take, map, Option, Some, None, Result, Ok, Err}
+use Rattle.std.specs.Prelude.{◌≡◌, ℕ, ◌+◌, ◌-◌, nat_le, nat_lt, true, ◌&&◌, Bool, if◌then◌else◌, List, [], ◌∷◌, ◌++◌, length, take, map, Option, Some, None, Result, Ok, Err, ok_or}
 use Rattle.std.specs.Global.{Vec}
 use Rattle.std.specs.List.{list_all}
 use Rattle.std.specs.Option.{option_map}
@@ -45,24 +45,17 @@ place_behind earlier delta = place_from (option_map (λ f. f.at) earlier) delta
 abbrev pub locals_before : List MapType → Option FullFrame → List MapType
 locals_before first = elim [ None ↦ first | Some earlier ↦ earlier.locals ]
 
-abbrev pub locals_of : List MapType → RawFrame → Option (List MapType)
-locals_of before f = locals_after f.form f.locals before
-
 abbrev pub with_locals : Option FullFrame → RawFrame → Option (List MapType) → Option FullFrame
 with_locals earlier f = elim [ None ↦ None | Some locals ↦ Some (record { at = place_behind earlier f.delta; locals = locals; stack = f.stack }) ]
 
 -- the frame in full, unless it takes away more locals than there are
 abbrev pub in_full : List MapType → Option FullFrame → RawFrame → Option FullFrame
-in_full first earlier f = with_locals earlier f (locals_of (locals_before first earlier) f)
-
--- or the number of the frame
-abbrev pub or_number : ℕ → Option FullFrame → Result FullFrame ℕ
-or_number i = elim [ None ↦ Err i | Some full ↦ Ok full ]
+in_full first earlier f = with_locals earlier f (locals_after f.form f.locals (locals_before first earlier))
 
 -- The frames in full, or the number of the first that takes away more locals than there are; `i` is the first one's number.
 unfoldable pub expand_from : List MapType → ℕ → Option FullFrame → List RawFrame → Result (List FullFrame) ℕ
 expand_from first i earlier [] = Ok []
-expand_from first i earlier (f ∷ fs) = or_number i (in_full first earlier f) >>= λ full. expand_from first (i + 1) (Some full) fs >>= λ others. Ok (full ∷ others)
+expand_from first i earlier (f ∷ fs) = ok_or (in_full first earlier f) i >>= λ full. expand_from first (i + 1) (Some full) fs >>= λ others. Ok (full ∷ others)
 
 abbrev pub GivesFull : Result (Vec FullFrame) ExpandError → Result (List FullFrame) ℕ → Type 0
 GivesFull (Ok v) value = value ≡ Ok v.items

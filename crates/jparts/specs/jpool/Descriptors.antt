@@ -24,13 +24,6 @@ is_class_sign b = b == byte "L"
 abbrev pub is_opening : ℕ → Bool
 is_opening b = b == byte "("
 
-abbrev pub is_closing : ℕ → Bool
-is_closing b = b == byte ")"
-
--- 'V'
-abbrev pub is_void : ℕ → Bool
-is_void b = b == byte "V"
-
 -- 'J' and 'D', the types of two slots
 abbrev pub is_wide : ℕ → Bool
 is_wide b = b == byte "J" || b == byte "D"
@@ -50,11 +43,8 @@ type_text t = replicate t.depth (byte "[") ++ t.base ∷ class_text t.base t.cla
 abbrev pub is_type : FieldType → Bool
 is_type t = nat_lt t.depth (2 ^ 32) && (if is_class_sign t.base then is_class_name t.class else is_base t.base && length t.class == 0)
 
-abbrev pub slots_of_type : ℕ → ℕ → ℕ
-slots_of_type depth base = if depth == 0 && is_wide base then 2 else 1
-
 abbrev pub slots : FieldType → ℕ
-slots t = slots_of_type t.depth t.base
+slots t = if t.depth == 0 && is_wide t.base then 2 else 1
 
 unfoldable pub slots_of : List FieldType → ℕ
 slots_of [] = 0
@@ -109,7 +99,7 @@ type_at text = option_and_then (typed (prefix_len is_bracket text)) (base_at (dr
 
 -- what is behind a closing parenthesis
 unfoldable pub closing_at : List ℕ → Option (List ℕ)
-closing_at = elim [ [] ↦ None | b ∷ rest ↦ if is_closing b then Some rest else None ]
+closing_at = elim [ [] ↦ None | b ∷ rest ↦ if b == byte ")" then Some rest else None ]
 
 abbrev pub closed_or : Option (List ℕ) → Option (List FieldType × List ℕ) → Option (List FieldType × List ℕ)
 closed_or x more = elim x [ Some rest ↦ Some ([], rest) | None ↦ more ]
@@ -124,7 +114,7 @@ abbrev pub slots_at : ℕ → List ℕ → Option (ℕ × List ℕ)
 slots_at n text = option_map (λ x. (slots_of x.0, x.1)) (params_at n text)
 
 unfoldable pub return_at : List ℕ → Option (Option FieldType × List ℕ)
-return_at = elim [ [] ↦ None | b ∷ rest ↦ if is_void b then Some (None, rest) else option_map (λ x. (Some x.0, x.1)) (type_at (b ∷ rest)) ]
+return_at = elim [ [] ↦ None | b ∷ rest ↦ if b == byte "V" then Some (None, rest) else option_map (λ x. (Some x.0, x.1)) (type_at (b ∷ rest)) ]
 
 -- a value and nothing behind it
 abbrev pub ended : {A : Type 0} → A × List ℕ → Option A
@@ -155,11 +145,8 @@ descriptor_of = elim [ [] ↦ None | b ∷ bs ↦ if is_opening b then option_ma
 unfoldable pub is_field_descriptor : List ℕ → Bool
 is_field_descriptor text = is_some (field_of text)
 
-abbrev pub is_array : Option FieldType → Bool
-is_array = elim [ None ↦ false | Some t ↦ nat_lt 0 t.depth ]
-
 unfoldable pub is_array_descriptor : List ℕ → Bool
-is_array_descriptor text = is_array (field_of text)
+is_array_descriptor text = elim (field_of text) [ None ↦ false | Some t ↦ nat_lt 0 t.depth ]
 
 unfoldable pub is_method_descriptor : List ℕ → Bool
 is_method_descriptor text = is_some (method_of text)

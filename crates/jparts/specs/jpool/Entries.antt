@@ -37,52 +37,16 @@ text = sized u2 Truncated
 abbrev pub two : Format PoolFault (ℕ × ℕ)
 two = u2 · u2
 
-abbrev pub handle : Format PoolFault (ℕ × ℕ)
-handle = u1 · u2
-
 -- ---- the parts of an entry of each form
 
 abbrev pub utf8_parts : Entry → Option (List ℕ)
 utf8_parts = elim [ Utf8 text ↦ Some text | _ ↦ None ]
 
-abbrev pub integer_parts : Entry → Option ℤ
-integer_parts = elim [ Integer n ↦ Some n | _ ↦ None ]
-
-abbrev pub float_parts : Entry → Option ℕ
-float_parts = elim [ Float bits ↦ Some bits | _ ↦ None ]
-
-abbrev pub long_parts : Entry → Option ℤ
-long_parts = elim [ Long n ↦ Some n | _ ↦ None ]
-
-abbrev pub double_parts : Entry → Option ℕ
-double_parts = elim [ Double bits ↦ Some bits | _ ↦ None ]
-
 abbrev pub class_parts : Entry → Option ℕ
 class_parts = elim [ Class name ↦ Some name | _ ↦ None ]
 
-abbrev pub str_parts : Entry → Option ℕ
-str_parts = elim [ Str text ↦ Some text | _ ↦ None ]
-
-abbrev pub field_parts : Entry → Option (ℕ × ℕ)
-field_parts = elim [ Field class both ↦ Some (class, both) | _ ↦ None ]
-
-abbrev pub method_parts : Entry → Option (ℕ × ℕ)
-method_parts = elim [ Method class both ↦ Some (class, both) | _ ↦ None ]
-
-abbrev pub interface_method_parts : Entry → Option (ℕ × ℕ)
-interface_method_parts = elim [ InterfaceMethod class both ↦ Some (class, both) | _ ↦ None ]
-
 abbrev pub name_and_type_parts : Entry → Option (ℕ × ℕ)
 name_and_type_parts = elim [ NameAndType name descriptor ↦ Some (name, descriptor) | _ ↦ None ]
-
-abbrev pub handle_parts : Entry → Option (ℕ × ℕ)
-handle_parts = elim [ MethodHandle kind member ↦ Some (kind, member) | _ ↦ None ]
-
-abbrev pub method_type_parts : Entry → Option ℕ
-method_type_parts = elim [ MethodType descriptor ↦ Some descriptor | _ ↦ None ]
-
-abbrev pub dynamic_parts : Entry → Option (ℕ × ℕ)
-dynamic_parts = elim [ InvokeDynamic bootstrap both ↦ Some (bootstrap, both) | _ ↦ None ]
 
 -- ---- an entry
 
@@ -90,19 +54,19 @@ dynamic_parts = elim [ InvokeDynamic bootstrap both ↦ Some (bootstrap, both) |
 abbrev pub cases : Cases PoolFault Entry
 cases =
     case 1 Utf8 utf8_parts text
-    ∣ case 3 Integer integer_parts i4
-    ∣ case 4 Float float_parts u4
-    ∣ case 5 Long long_parts i8
-    ∣ case 6 Double double_parts u8
+    ∣ case 3 Integer (elim [ Integer n ↦ Some n | _ ↦ None ]) i4
+    ∣ case 4 Float (elim [ Float bits ↦ Some bits | _ ↦ None ]) u4
+    ∣ case 5 Long (elim [ Long n ↦ Some n | _ ↦ None ]) i8
+    ∣ case 6 Double (elim [ Double bits ↦ Some bits | _ ↦ None ]) u8
     ∣ case 7 Class class_parts u2
-    ∣ case 8 Str str_parts u2
-    ∣ case 9 (two_of Field) field_parts two
-    ∣ case 10 (two_of Method) method_parts two
-    ∣ case 11 (two_of InterfaceMethod) interface_method_parts two
+    ∣ case 8 Str (elim [ Str text ↦ Some text | _ ↦ None ]) u2
+    ∣ case 9 (two_of Field) (elim [ Field class both ↦ Some (class, both) | _ ↦ None ]) two
+    ∣ case 10 (two_of Method) (elim [ Method class both ↦ Some (class, both) | _ ↦ None ]) two
+    ∣ case 11 (two_of InterfaceMethod) (elim [ InterfaceMethod class both ↦ Some (class, both) | _ ↦ None ]) two
     ∣ case 12 (two_of NameAndType) name_and_type_parts two
-    ∣ case 15 (two_of MethodHandle) handle_parts handle
-    ∣ case 16 MethodType method_type_parts u2
-    ∣ case 18 (two_of InvokeDynamic) dynamic_parts two
+    ∣ case 15 (two_of MethodHandle) (elim [ MethodHandle kind member ↦ Some (kind, member) | _ ↦ None ]) (u1 · u2)
+    ∣ case 16 MethodType (elim [ MethodType descriptor ↦ Some descriptor | _ ↦ None ]) u2
+    ∣ case 18 (two_of InvokeDynamic) (elim [ InvokeDynamic bootstrap both ↦ Some (bootstrap, both) | _ ↦ None ]) two
 
 -- an entry that has a spelling of its own
 unfoldable pub entry : Format PoolFault Entry
@@ -142,12 +106,9 @@ narrow_at bytes = if begins_wide bytes then fault BadTag bytes else entry.read b
 unfoldable pub narrow : Format PoolFault Entry
 narrow = record { spell = entry.spell; fits = λ e. entry.fits e && not (is_wide e); read = narrow_at }
 
-abbrev pub unused_parts : Entry → Option (Unit {0})
-unused_parts = elim [ Unused ↦ Some tt | _ ↦ None ]
-
 -- no bytes at all
 unfoldable pub unused : Format PoolFault Entry
-unused = as_case (λ _. Unused) unused_parts void
+unused = as_case (λ _. Unused) (elim [ Unused ↦ Some tt | _ ↦ None ]) void
 
 -- what stands at an index: nothing at index 0 and behind an entry of two indices, and no such entry at the last index
 abbrev pub slot : Slot → Format PoolFault Entry

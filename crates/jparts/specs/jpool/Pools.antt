@@ -7,47 +7,35 @@ use Rattle.jground.specs.jbase.First.{or_else}
 use Rattle.jground.specs.declared.jformat.error.Fault.{Fault}
 use Rattle.jground.specs.jformat.Format.{Format, is_good, unless, unless_fault}
 use Rattle.jparts.specs.declared.jpool.entry.Entry.{Entry}
-use Rattle.jparts.specs.declared.jpool.entry.Entry.TheVariants.{Utf8, Class, Str, Field, Method, InterfaceMethod, NameAndType}
+use Rattle.jparts.specs.declared.jpool.entry.Entry.TheVariants.{Class, Str, Field, Method, InterfaceMethod, NameAndType}
 use Rattle.jparts.specs.declared.jpool.fault.PoolFault.{PoolFault}
 use Rattle.jparts.specs.declared.jpool.fault.PoolFault.TheVariants.{BadIndex, BadName, BadDescriptor}
 use Rattle.jparts.specs.jpool.Names.{is_class_name}
 use Rattle.jparts.specs.jpool.Descriptors.{is_array_descriptor, is_field_descriptor, is_method_descriptor}
-use Rattle.jparts.specs.jpool.Entries.{shape, size}
+use Rattle.jparts.specs.jpool.Entries.{shape, size, utf8_parts, class_parts, name_and_type_parts}
 
 -- ---- look-ups
 
-abbrev pub text_in : Option Entry → Option (List ℕ)
-text_in (Some (Utf8 text)) = Some text
-text_in _ = None
-
 -- the text at an index
 unfoldable pub utf8_at : List Entry → ℕ → Option (List ℕ)
-utf8_at entries i = text_in (slice_get entries i)
-
-abbrev pub name_in : Option Entry → Option ℕ
-name_in (Some (Class name)) = Some name
-name_in _ = None
+utf8_at entries i = option_and_then utf8_parts (slice_get entries i)
 
 -- the text that the class at an index names
 unfoldable pub class_name_at : List Entry → ℕ → Option (List ℕ)
-class_name_at entries i = option_and_then (utf8_at entries) (name_in (slice_get entries i))
-
-abbrev pub both_in : Option Entry → Option (ℕ × ℕ)
-both_in (Some (NameAndType name descriptor)) = Some (name, descriptor)
-both_in _ = None
+class_name_at entries i = option_and_then (utf8_at entries) (option_and_then class_parts (slice_get entries i))
 
 -- the indices of the name and of the descriptor at an index
 unfoldable pub name_and_type_at : List Entry → ℕ → Option (ℕ × ℕ)
-name_and_type_at entries i = both_in (slice_get entries i)
+name_and_type_at entries i = option_and_then name_and_type_parts (slice_get entries i)
 
 unfoldable pub is_utf8 : List Entry → ℕ → Bool
-is_utf8 entries i = is_some (text_in (slice_get entries i))
+is_utf8 entries i = is_some (option_and_then utf8_parts (slice_get entries i))
 
 unfoldable pub is_class : List Entry → ℕ → Bool
-is_class entries i = is_some (name_in (slice_get entries i))
+is_class entries i = is_some (option_and_then class_parts (slice_get entries i))
 
 unfoldable pub is_name_and_type : List Entry → ℕ → Bool
-is_name_and_type entries i = is_some (both_in (slice_get entries i))
+is_name_and_type entries i = is_some (option_and_then name_and_type_parts (slice_get entries i))
 
 -- ---- what an entry may name
 

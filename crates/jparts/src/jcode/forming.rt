@@ -1,7 +1,8 @@
 ghost use Rattle.std.specs.Prelude.{◌≡◌, pos, ◌-ℤ◌};
 ghost use Rattle.jparts.specs.jcode.Forms;
-ghost use Rattle.jparts.specs.jcode.Forms.{const_value, distance, ldc_index, local_form, new_form, object_form, seen, wide_form};
-ghost use Rattle.jparts.specs.jcode.Opcodes.{int_step, long_step, slot_step};
+ghost use Rattle.jparts.specs.jcode.Forms.{const_value, local_form, new_form, seen};
+ghost use Rattle.jparts.specs.ProofNames.{distance, ldc_index, object_form, wide_form};
+ghost use Rattle.jparts.specs.jcode.Opcodes.{int_step, slot_step, long_step};
 
 use crate::jcode::form::{ArrayForm, Flow, Form, LocalForm, PoolForm, Simple};
 use crate::jcode::names::{LocalKind, ObjectOp, Slot, SmallInt, SmallLong};

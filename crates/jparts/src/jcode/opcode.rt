@@ -1,9 +1,11 @@
 ghost use Rattle.std.specs.Prelude.{◌≡◌, ◌≤◌};
 ghost use Rattle.jparts.specs.jcode.Opcodes;
-ghost use Rattle.jparts.specs.jcode.Opcodes.{branch_number, byte_number, cast_number, division_number, head_number, index_number};
-ghost use Rattle.jparts.specs.jcode.Opcodes.{object_number, one_number, other_number, plain_number, ref_test_number, return_number, slot_base, two_number};
+ghost use Rattle.jparts.specs.ProofNames;
+ghost use Rattle.jparts.specs.jcode.Opcodes.{division_number, head_number, one_number, ref_test_number, return_number, slot_base, two_number};
+ghost use Rattle.jparts.specs.ProofNames.{cast_number, object_number, op_head};
 ghost use Rattle.jparts.specs.declared.jcode.op.Op.TheVariants as ops;
-ghost use Rattle.jparts.specs.jcode.Instructions.{local_parts, op_head};
+ghost use Rattle.jparts.specs.jcode.Instructions.{local_parts};
+ghost use Rattle.jparts.specs.declared.jcode.head.Head.TheVariants as heads;
 
 use crate::jcode::head::{BranchHead, ByteHead, Head, IndexHead, OtherHead, Plain};
 use crate::jcode::names::{
@@ -96,7 +98,7 @@ fn compare_step(test: Compare) -> u8
 }
 
 fn field_step(op: FieldOp) -> u8
-    ensures step { result ≡ Opcodes.field_step op }
+    ensures step { result ≡ ProofNames.field_step op }
     ensures low { result ≤ 3 }
 {
     match op {
@@ -108,7 +110,7 @@ fn field_step(op: FieldOp) -> u8
 }
 
 fn call_step(op: CallOp) -> u8
-    ensures step { result ≡ Opcodes.call_step op }
+    ensures step { result ≡ ProofNames.call_step op }
     ensures low { result ≤ 2 }
 {
     match op {
@@ -204,7 +206,7 @@ fn object_number(op: ObjectOp) -> u8
 }
 
 fn plain_number(head: Plain) -> u8
-    ensures { result ≡ plain_number head }
+    ensures { result ≡ head_number (heads.Plain head) }
 {
     match head {
         Plain::Nop => 0x00,
@@ -224,7 +226,7 @@ fn plain_number(head: Plain) -> u8
 }
 
 fn byte_number(head: ByteHead) -> u8
-    ensures { result ≡ byte_number head }
+    ensures { result ≡ head_number (heads.Byte head) }
 {
     match head {
         ByteHead::Ldc => 0x12,
@@ -247,7 +249,7 @@ fn cast_number(op: CastOp) -> u8
 }
 
 fn index_number(head: IndexHead) -> u8
-    ensures { result ≡ index_number head }
+    ensures { result ≡ head_number (heads.Index head) }
 {
     match head {
         IndexHead::LdcWide => 0x13,
@@ -272,7 +274,7 @@ fn ref_test_number(test: RefTest) -> u8
 }
 
 fn branch_number(head: BranchHead) -> u8
-    ensures { result ≡ branch_number head }
+    ensures { result ≡ head_number (heads.Branch head) }
 {
     match head {
         BranchHead::If(test) => 0x99 + compare_step(test),
@@ -283,7 +285,7 @@ fn branch_number(head: BranchHead) -> u8
 }
 
 fn other_number(head: OtherHead) -> u8
-    ensures { result ≡ other_number head }
+    ensures { result ≡ head_number (heads.Other head) }
 {
     match head {
         OtherHead::Bipush => 0x10,

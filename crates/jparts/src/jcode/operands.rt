@@ -1,7 +1,8 @@
 ghost use Rattle.std.specs.Prelude.{◌≡◌, None};
 ghost use Rattle.jground.specs.jbase.Stops.{Gives};
-ghost use Rattle.jparts.specs.jcode.Operands.{array_type, bounded, bounds, case_behind, case_count, falls, i4, interface_call};
-ghost use Rattle.jparts.specs.jcode.Operands.{key_of, lookup_switch, nil, nils, padding, span, table_switch, wide};
+ghost use Rattle.jparts.specs.jcode.Operands.{array_type, bounded, case_behind, case_count, falls, i4, interface_call};
+ghost use Rattle.jparts.specs.ProofNames.{bounds, span};
+ghost use Rattle.jparts.specs.jcode.Operands.{key_of, lookup_switch, nil, nils, padding, table_switch, wide};
 
 use crate::jcode::fault::CodeFault;
 use crate::jcode::fault::CodeFault::{BadOperand, Truncated};

@@ -1,7 +1,7 @@
 ghost use Rattle.std.specs.Prelude.{◌≡◌};
 ghost use Rattle.jground.specs.jbase.Stops.{Gives};
 ghost use Rattle.jparts.specs.declared.jcode.head.Head.TheVariants as heads;
-ghost use Rattle.jparts.specs.jcode.Instructions.{byte_op, index_op, instruction, local_op, plain_op, read_behind};
+ghost use Rattle.jparts.specs.jcode.Instructions.{instruction, local_op, read_behind, op_from};
 
 use crate::jcode::fault::CodeFault;
 use crate::jcode::fault::CodeFault::Truncated;
@@ -28,7 +28,7 @@ fn local_op(kind: LocalKind, op: LocalOp) -> Op
 }
 
 fn plain_op(head: Plain) -> Op
-    ensures { result ≡ plain_op head }
+    ensures { result ≡ op_from (heads.Plain head) tt }
 {
     match head {
         Plain::Nop => Op::Nop,
@@ -48,7 +48,7 @@ fn plain_op(head: Plain) -> Op
 }
 
 fn byte_op(head: ByteHead, n: u8) -> Op
-    ensures { result ≡ byte_op head n }
+    ensures { result ≡ op_from (heads.Byte head) n }
 {
     match head {
         ByteHead::Ldc => Op::Ldc(Ldc::Narrow(n)),
@@ -57,7 +57,7 @@ fn byte_op(head: ByteHead, n: u8) -> Op
 }
 
 fn index_op(head: IndexHead, n: u16) -> Op
-    ensures { result ≡ index_op head n }
+    ensures { result ≡ op_from (heads.Index head) n }
 {
     match head {
         IndexHead::LdcWide => Op::Ldc(Ldc::Wide(n)),

@@ -2,7 +2,7 @@ ghost use Rattle.std.specs.Prelude.{◌≡◌, ◌+◌, ◌<◌, ◌≤◌, ◌^
 ghost use Rattle.std.specs.List.{list_all};
 ghost use Rattle.std.specs.Option.{option_copied};
 ghost use Rattle.jparts.specs.jmaps.Frames.{maps, own_type};
-ghost use Rattle.jparts.specs.jmaps.Full.{GivesFull, all_stand, expand_from, items_fit, locals_before, locals_of, place_behind};
+ghost use Rattle.jparts.specs.jmaps.Full.{GivesFull, all_stand, expand_from, items_fit, locals_before, place_behind, locals_after};
 
 use crate::jmaps::fault::ExpandError;
 use crate::jmaps::locals::follow;
@@ -25,7 +25,7 @@ fn locals_of(
     before: &[MapType],
     frame: &RawFrame,
 ) -> Result<Option<Seq<MapType>>, AllocError>
-    ensures { IfOk result (λ r. r ≡ locals_of before.now frame.now) }
+    ensures { IfOk result (λ r. r ≡ locals_after frame.now.form frame.now.locals before.now) }
 {
     let mut locals = Vec::from_slice(alloc, before)?;
     if follow(&mut locals, frame, alloc)? {

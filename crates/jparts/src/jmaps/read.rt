@@ -2,7 +2,7 @@ ghost use Rattle.std.specs.Prelude.{◌≡◌, ◌<◌, ◌^◌, IfOk, IsTrue, L
 ghost use Rattle.jparts.specs.declared.jmaps.types.RawFrame.{RawFrame};
 ghost use Rattle.jground.specs.jbase.Stops.{Gives};
 ghost use Rattle.jground.specs.jformat.Places.{GivesAt};
-ghost use Rattle.jparts.specs.jmaps.Frames.{frame, frames, map_kinds, map_type, maps, or_kind, part, read_alone};
+ghost use Rattle.jparts.specs.jmaps.Frames.{frame, frames, map_kinds, map_type, maps, part, read_alone};
 
 use crate::jmaps::fault::{Kinds, MapError, MapFault};
 use crate::jmaps::rows::row_of;

@@ -1,7 +1,8 @@
 ghost use Rattle.std.specs.Prelude.{◌≡◌, ◌≤◌, ◌∷◌, ◌++◌, IsTrue, OnOk, length};
 ghost use Rattle.jground.specs.jbase.Stops.{Gives};
 ghost use Rattle.jparts.specs.jpool.Adding.{has_spelling};
-ghost use Rattle.jparts.specs.jpool.Entries.{by_one, by_two, entry, handle, i8, is_above, text as text_format, two, u2, u4, u8 as u8_format};
+ghost use Rattle.jparts.specs.jpool.Entries.{by_one, by_two, entry, i8, is_above, text as text_format, two, u2, u4, u8 as u8_format};
+ghost use Rattle.jparts.specs.ProofNames.{handle};
 
 use crate::jpool::entry::Entry;
 use crate::jpool::fault::PoolFault;

@@ -1,8 +1,9 @@
-ghost use Rattle.std.specs.Prelude.{◌≡◌, ◌++◌, ◌+◌, ℕ, List, IfOk, IsSome, IsTrue, Ok, OnErr, OnOk, drop, length, option_map, slice_get};
+ghost use Rattle.std.specs.Prelude.{◌≡◌, ◌++◌, ◌+◌, ℕ, List, IfOk, IsSome, IsTrue, Ok, OnErr, OnOk, drop, length, option_and_then, option_map, slice_get};
 ghost use Rattle.jparts.specs.declared.jpool.entry.Entry.{Entry};
 ghost use Rattle.jparts.specs.jpool.Adding.{laid};
 ghost use Rattle.jparts.specs.jpool.Pools;
-ghost use Rattle.jparts.specs.jpool.Pools.{IsPool, class_name_at, is_class, is_name_and_type, is_utf8, name_and_type_at, name_in, utf8_at};
+ghost use Rattle.jparts.specs.jpool.Pools.{IsPool, class_name_at, is_class, is_name_and_type, is_utf8, name_and_type_at, utf8_at};
+ghost use Rattle.jparts.specs.jpool.Entries.{class_parts};
 
 use crate::jpool::entry::Entry;
 use crate::jpool::slots::is_wide;
@@ -42,7 +43,7 @@ pub fn text_of(entries: &[Entry], i: u16) -> Option<&[u8]>
 
 /// The index that the class at an index names.
 pub fn name_of(entries: &[Entry], i: u16) -> Option<u16>
-    ensures { result ≡ name_in (slice_get entries.now i) }
+    ensures { result ≡ option_and_then class_parts (slice_get entries.now i) }
 {
     match entries.get(usize::from(i)) {
         Some(Entry::Class(name)) => Some(*name),

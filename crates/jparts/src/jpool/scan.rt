@@ -1,7 +1,8 @@
 ghost use Rattle.std.specs.Prelude.{◌≡◌, ◌<◌, ◌≤◌, ◌*◌, ◌+◌, ◌↔◌, ℕ, IsTrue, List, IfSome, option_map, length};
 ghost use Rattle.std.specs.List.{position, prefix_len};
 ghost use Rattle.jparts.specs.jpool.Descriptors;
-ghost use Rattle.jparts.specs.jpool.Descriptors.{class_at, base_at, type_at, return_at, closing_at, slots_at, slots_of_type, is_bracket, is_semicolon};
+ghost use Rattle.jparts.specs.jpool.Descriptors.{class_at, base_at, type_at, return_at, closing_at, slots_at, is_bracket, is_semicolon};
+ghost use Rattle.jparts.specs.ProofNames.{slots_of_type};
 ghost use Rattle.jparts.specs.jpool.Pieces.{piece};
 
 use crate::jpool::names::is_class_name;

@@ -1,6 +1,7 @@
-ghost use Rattle.std.specs.Prelude.{◌≡◌, IfOk, Some, option_map};
+ghost use Rattle.std.specs.Prelude.{◌≡◌, IfOk, Some, option_and_then, option_map};
 ghost use Rattle.jparts.specs.jpool.Pools;
-ghost use Rattle.jparts.specs.jpool.Pools.{class_name_at, descriptor_fault, name_fault, name_in, text_in, utf8_at};
+ghost use Rattle.jparts.specs.jpool.Pools.{class_name_at, descriptor_fault, name_fault, utf8_at};
+ghost use Rattle.jparts.specs.jpool.Entries.{utf8_parts};
 ghost use Rattle.jparts.specs.jpool.Uses.{use_in, use_of, uses_of};
 
 use crate::jpool::entry::Entry;
@@ -39,7 +40,7 @@ fn use_of(text: &[u8]) -> TextUse
 }
 
 fn use_in_entry(one: &Entry) -> Option<TextUse>
-    ensures { result ≡ option_map use_of (text_in (Some one.now)) }
+    ensures { result ≡ option_map use_of (option_and_then utf8_parts (Some one.now)) }
 {
     match one {
         Entry::Utf8(text) => Some(use_of(text.as_slice())),

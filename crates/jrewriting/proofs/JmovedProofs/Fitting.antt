@@ -32,7 +32,8 @@ use Rattle.jparts.specs.declared.jcode.fault.CodeFault.TheVariants.{BadOperand}
 use Rattle.jparts.specs.jcode.Forms.{form, branches}
 use Rattle.jparts.specs.jcode.Operands.{nil, u1, u2, i2, i4, nils, padding, bounded, case_behind, case_count, key_of, table_switch, lookup_switch, wide, interface_call}
 use Rattle.jparts.specs.jcode.Instructions.{behind_fits, lands}
-use Rattle.jmove.specs.Lines.{with_branches, table_with, lookup_with, case_with}
+use Rattle.jmove.specs.Lines.{with_branches, table_with, lookup_with}
+use Rattle.jmove.specs.ProofNames.{case_with}
 use Rattle.jmove.specs.Moved.{move_ref, push_int, call_static, calling}
 
 -- ---- numbers

@@ -15,7 +15,8 @@ use Rattle.jparts.specs.declared.jmaps.types.MapType.TheVariants as types
 use Rattle.jparts.specs.declared.jmaps.types.FullFrame.{FullFrame}
 use Rattle.jparts.specs.jmaps.Frames.{map_type, own_type}
 use Rattle.jparts.specs.jmaps.Full.{can_follow, items_fit, place_after, stands}
-use Rattle.jmove.specs.Frames.{moved_frame, moved_type, unsaid, width, widths}
+use Rattle.jmove.specs.Frames.{moved_frame, moved_type, widths}
+use Rattle.jmove.specs.ProofNames.{unsaid, width}
 use Rattle.jmove.specs.Lines.{end_of}
 use Rattle.jmove.specs.Moved.{lines}
 use Rattle.jmove.proofs.Placing.{place_within}

@@ -18,7 +18,8 @@ use Rattle.jparts.specs.jcode.Instructions.{size}
 use Rattle.jmove.specs.declared.method.Expand.{Expand}
 use Rattle.jmove.specs.declared.method.Expand.TheVariants.{Same, Call, Check, Snapshot, Privileged, PrivilegedWith, PrivilegedLimited}
 use Rattle.jmove.specs.declared.method.Setting.{Setting}
-use Rattle.jmove.specs.Lines.{reach, end_of, place_of, case_with, distance, Laid}
+use Rattle.jmove.specs.Lines.{reach, end_of, place_of, Laid}
+use Rattle.jmove.specs.ProofNames.{case_with, distance}
 use Rattle.jmove.specs.Moved.{expansion, expansions, lines}
 use Rattle.jmove.proofs.Assembling.{place_skip, end_reach}
 use Rattle.jmove.proofs.Bounds.{laid_above}

@@ -9,7 +9,8 @@ use Rattle.jparts.specs.declared.jcode.op.LookupSwitch.{LookupSwitch}
 use Rattle.jparts.specs.jcode.Operands.{table_switch, lookup_switch}
 use Rattle.jparts.specs.jcode.Instructions.{size, instruction, behind}
 use Rattle.jparts.proofs.JcodeProofs.Sizes.{table_length, lookup_length}
-use Rattle.jmove.specs.Lines.{Line, Label, Do, end_of, table_with, lookup_with, case_with, distance, placed, Laid}
+use Rattle.jmove.specs.Lines.{Line, Label, Do, end_of, table_with, lookup_with, placed, Laid}
+use Rattle.jmove.specs.ProofNames.{case_with, distance}
 use Rattle.jrewriting.specs.jmoved.Sizes.{SameSize}
 
 table_same : (f : ℤ → ℤ) (at : ℕ) (s : TableSwitch) → length ((table_switch at).spell (table_with f s)) ≡ length ((table_switch at).spell s)

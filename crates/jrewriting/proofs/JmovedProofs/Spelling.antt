@@ -23,7 +23,8 @@ use Rattle.jparts.proofs.JcodeProofs.CodeLaws.{fits_at}
 use Rattle.jmove.specs.declared.method.Expand.{Expand}
 use Rattle.jmove.specs.declared.method.Expand.TheVariants.{Same, Call, Check, Snapshot, Privileged, PrivilegedWith, PrivilegedLimited}
 use Rattle.jmove.specs.declared.method.Setting.{Setting}
-use Rattle.jmove.specs.Lines.{Line, Label, Do, end_of, with_branches, distance, led, placed}
+use Rattle.jmove.specs.Lines.{Line, Label, Do, end_of, with_branches, led, placed}
+use Rattle.jmove.specs.ProofNames.{distance}
 use Rattle.jmove.specs.Moved.{move_ref, push_int, call_static, calling, prologue, expansion, expansions, lines}
 use Rattle.jmove.proofs.Assembling.{end_above}
 use Rattle.jmove.proofs.Sizes.{led_move}

@@ -12,7 +12,7 @@ use Rattle.jparts.specs.declared.jpool.descriptor.Descriptor.TheVariants as desc
 use Rattle.jparts.specs.declared.jpool.descriptor.FieldType.{FieldType}
 use Rattle.jparts.specs.declared.jpool.entry.Entry.{Entry}
 use Rattle.jparts.specs.jpool.Descriptors.{descriptor_of}
-use Rattle.jparts.specs.jpool.Pools.{class_name_at, is_class, name_in, utf8_at}
+use Rattle.jparts.specs.jpool.Pools.{class_name_at, is_class, utf8_at}
 use Rattle.jparts.specs.declared.jmaps.types.MapType.{MapType}
 use Rattle.jparts.specs.declared.jmaps.types.MapType.TheVariants as items
 use Rattle.jparts.specs.declared.jmaps.types.RawFrame.{RawFrame}
@@ -23,7 +23,7 @@ use Rattle.jclass.specs.declared.fault.ClassFault.TheVariants.{Index}
 use Rattle.jclass.specs.Basics.{access, index, u2}
 use Rattle.jclass.specs.Class.{class_file, tail}
 use Rattle.jclass.specs.Codes.{named_type}
-use Rattle.jclass.specs.Rules.{is_plain_class, names_class}
+use Rattle.jclass.specs.Rules.{names_class, is_plain_class}
 use Rattle.jclass.specs.Stored.{IsIn}
 use Rattle.jmove.specs.Additions.{IsFront, giving, with_class, ◌>>◌}
 use Rattle.jprogram.specs.Parts.{is_static, member_desc, or_empty, this_name}
@@ -41,6 +41,7 @@ use Rattle.jrewriting.proofs.JmovefileProofs.Calling.{put_named}
 use Rattle.jrewriting.proofs.JmovefileProofs.Cutting.{all_join}
 use Rattle.jrewriting.proofs.JmovefileProofs.Sound.{IsSound, IsText, front_length}
 use Rattle.jrewriting.proofs.JmovefileProofs.Texts.{IsTypeText, class_text, is_named, named_class, pool_text, text_entry, types_are}
+use Rattle.jparts.specs.jpool.Entries.{class_parts}
 
 -- ---- items whose classes are there
 
@@ -131,7 +132,7 @@ text_by pool (Some n) name s h = pool_text pool n name s (text_entry pool n name
 
 pub class_name_text : (pool : List Entry) (c : ℕ) (name : List ℕ) → IsSound pool → class_name_at pool c ≡ Some name → IsText name
 unfolding class_name_at
-class_name_text pool c name s h = text_by pool (name_in (slice_get pool c)) name s h
+class_name_text pool c name s h = text_by pool (option_and_then class_parts (slice_get pool c)) name s h
 
 plain_text : (pool : List Entry) (c : ℕ) (o : Option (List ℕ)) → IsSound pool → class_name_at pool c ≡ o → IsTrue (is_plain_class o) → IsText (or_empty o) × IsTrue (is_named (or_empty o))
 plain_text pool c None s e h = absurd cc

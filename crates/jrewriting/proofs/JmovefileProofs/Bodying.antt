@@ -28,7 +28,8 @@ use Rattle.jclass.specs.declared.class.MemberInfo.{MemberInfo}
 use Rattle.jclass.specs.declared.fault.ClassFault.TheVariants as kinds
 use Rattle.jclass.specs.Attributes.{name_once}
 use Rattle.jclass.specs.Basics.{u2, u4}
-use Rattle.jclass.specs.Codes.{attribute, behind_ops, code_content, code_length, handler, length_fault, maps, ops, saw_maps}
+use Rattle.jclass.specs.Codes.{attribute, behind_ops, code_content, code_length, handler, maps, ops, saw_maps, frames_in}
+use Rattle.jclass.specs.ProofNames.{length_fault}
 use Rattle.jclass.specs.Operands.{names_well}
 use Rattle.jclass.specs.Rules.{is_maps, is_text}
 use Rattle.jclass.specs.Stored.{HasCode}
@@ -42,7 +43,8 @@ use Rattle.jmove.specs.Additions.{IsFront, with_body}
 use Rattle.jmove.specs.Frames.{items_of, widths}
 use Rattle.jmove.specs.Limits.{bare_frame}
 use Rattle.jmove.specs.Lines.{Do, end_of}
-use Rattle.jmove.specs.Moved.{CanMove, call_static, context_local, expansions, limit_of, lines, move_ref, moved_handler, prologue, push_int, setting, too_many}
+use Rattle.jmove.specs.Moved.{CanMove, call_static, context_local, expansions, limit_of, lines, move_ref, moved_handler, prologue, push_int, setting}
+use Rattle.jmove.specs.ProofNames.{too_many}
 use Rattle.jmove.proofs.Assembling.{end_above}
 use Rattle.jmove.proofs.Growing.{body_grows, front_on}
 use Rattle.jmove.proofs.Limiting.{no_limit, short}
@@ -56,7 +58,7 @@ use Rattle.jprogram.specs.Classes.{Program}
 use Rattle.jprogram.specs.Members.{referred}
 use Rattle.jmoveclass.specs.Beginning.{bare_beginning, slots}
 use Rattle.jmoveclass.specs.Calls.{expands}
-use Rattle.jmoveclass.specs.Methods.{frames_in, frames_of, maps_name, method_in, moved_maps, with_first}
+use Rattle.jmoveclass.specs.Methods.{frames_of, maps_name, method_in, moved_maps, with_first}
 use Rattle.jmoveclass.proofs.Coding.{code_can, code_limit}
 use Rattle.jmoveclass.proofs.Fronts.{class_stays, same_text, utf8_stays}
 use Rattle.jmoveclass.proofs.Keeping.{once_text}

@@ -13,7 +13,7 @@ use Rattle.jparts.specs.declared.jpool.entry.Entry.TheVariants.{Unused, Utf8, In
 use Rattle.jparts.specs.declared.jpool.fault.PoolFault.TheVariants.{BadIndex}
 use Rattle.jparts.specs.jpool.Descriptors.{descriptor_of, is_field_descriptor, is_method_descriptor}
 use Rattle.jparts.specs.jpool.Pools as pools
-use Rattle.jparts.specs.jpool.Pools.{both_in, class_name_at, descriptor_fault, is_class, is_name_and_type, is_utf8, member_fault, name_and_type_at, name_in, text_in, utf8_at}
+use Rattle.jparts.specs.jpool.Pools.{class_name_at, descriptor_fault, is_class, is_name_and_type, is_utf8, member_fault, name_and_type_at, utf8_at}
 use Rattle.jparts.proofs.JpoolProofs.PoolLaws.{at_index}
 use Rattle.jclass.specs.Basics.{pool_fault}
 use Rattle.jclass.specs.Judging.{entry_fault, no_fault, text_fault}
@@ -33,6 +33,7 @@ use Rattle.jrewriting.proofs.JmovefileProofs.Naming.{context_name, context_text}
 use Rattle.jrewriting.proofs.JmovefileProofs.Referring.{put_reference, put_security, reference}
 use Rattle.jrewriting.proofs.JmovefileProofs.Sound.{IsSound, IsText, desc_text, entry_front, front_length, good_if, index_small, map_good, or_good, put_both, put_class, put_text}
 use Rattle.jrewriting.proofs.JmovefileProofs.Texts.{is_named, longer, longer_is_method, longer_text, pool_text, text_entry}
+use Rattle.jparts.specs.jpool.Entries.{utf8_parts, class_parts, name_and_type_parts}
 
 -- ---- entries by what they hold
 
@@ -71,7 +72,7 @@ pub kind_of_reference : (b : Bool) (c d : ℕ) → kind_in (Some (reference b c 
 kind_of_reference true c d = refl
 kind_of_reference false c d = refl
 
-class_entry : (o : Option Entry) (n : ℕ) → name_in o ≡ Some n → o ≡ Some (Class n)
+class_entry : (o : Option Entry) (n : ℕ) → option_and_then class_parts o ≡ Some n → o ≡ Some (Class n)
 class_entry (Some (Class m)) n h = let same : m ≡ n = cc in ap (λ (k : ℕ). Some (Class k)) same
 class_entry None n h = absurd cc
 class_entry (Some Unused) n h = absurd cc
@@ -89,7 +90,7 @@ class_entry (Some (MethodHandle k m)) n h = absurd cc
 class_entry (Some (MethodType d)) n h = absurd cc
 class_entry (Some (InvokeDynamic k d)) n h = absurd cc
 
-two_entry : (o : Option Entry) (x : ℕ × ℕ) → both_in o ≡ Some x → o ≡ Some (NameAndType x.0 x.1)
+two_entry : (o : Option Entry) (x : ℕ × ℕ) → option_and_then name_and_type_parts o ≡ Some x → o ≡ Some (NameAndType x.0 x.1)
 two_entry (Some (NameAndType m d)) x h =
     let first : m ≡ x.0 = cc in
     let second : d ≡ x.1 = cc in
@@ -142,14 +143,14 @@ two_good pool n d h = good_if (is_utf8 pool n) (descriptor_fault (utf8_at pool d
 pub named_in : (pool : List Entry) (c : ℕ) → IsSound pool → IsTrue (is_class pool c) → (name : List ℕ) × (class_name_at pool c ≡ Some name)
 unfolding is_class class_name_at utf8_at is_utf8
 named_in pool c s h =
-    let n = some_is (name_in (slice_get pool c)) h in
+    let n = some_is (option_and_then class_parts (slice_get pool c)) h in
     let at = class_entry (slice_get pool c) n.0 n.1 in
-    let t = some_is (text_in (slice_get pool n.0)) (s.is_pool.named c n.0 at) in
-    (t.0, ap (option_and_then (λ i. text_in (slice_get pool i))) n.1 ∙ t.1)
+    let t = some_is (option_and_then utf8_parts (slice_get pool n.0)) (s.is_pool.named c n.0 at) in
+    (t.0, ap (option_and_then (λ i. option_and_then utf8_parts (slice_get pool i))) n.1 ∙ t.1)
 
 text_in_pool : (pool : List Entry) (i : ℕ) → IsTrue (is_utf8 pool i) → (text : List ℕ) × (utf8_at pool i ≡ Some text)
 unfolding is_utf8 utf8_at
-text_in_pool pool i h = some_is (text_in (slice_get pool i)) h
+text_in_pool pool i h = some_is (option_and_then utf8_parts (slice_get pool i)) h
 
 -- what the reference at an index of a sound pool names
 record IsGood (pool : List Entry) (b : Bool) (r : Reference) : Type 0 where
@@ -188,13 +189,13 @@ good_reference pool i b r s k h =
     made_by pool b e.class (name_and_type_at pool e.two) r is (first_true (is_class pool e.class) (is_name_and_type pool e.two) member) (λ x at. texts_of pool e.two x s at)
 
 -- the reference stays where the pool grows
-both_there : (o : Option Entry) → IsTrue (is_some (both_in o)) → IsTrue (is_some o)
+both_there : (o : Option Entry) → IsTrue (is_some (option_and_then name_and_type_parts o)) → IsTrue (is_some o)
 both_there None h = absurd cc
 both_there (Some e) h = refl
 
 two_same : (base pool : List Entry) → IsFront base pool → (d : ℕ) → IsTrue (is_name_and_type base d) → name_and_type_at pool d ≡ name_and_type_at base d
 unfolding name_and_type_at is_name_and_type
-two_same base pool f d h = ap both_in (same_at base pool f d (both_there (slice_get base d) h))
+two_same base pool f d h = ap (option_and_then name_and_type_parts) (same_at base pool f d (both_there (slice_get base d) h))
 
 same_reference : (base pool : List Entry) → IsFront base pool → IsSound base → (i : ℕ) (b : Bool) → kind_in (slice_get base i) ≡ Some b → reference_at pool i ≡ reference_at base i
 unfolding reference_at
@@ -397,7 +398,7 @@ some_before g (Some a) b h = refl
 class_there : (pool : List Entry) (c : ℕ) (name : List ℕ) → IsSound pool → class_name_at pool c ≡ Some name → (c ≤ 0xffff) × IsTrue (is_class pool c)
 unfolding class_name_at is_class
 class_there pool c name s h =
-    let n = some_is (name_in (slice_get pool c)) (some_before (utf8_at pool) (name_in (slice_get pool c)) name h) in
+    let n = some_is (option_and_then class_parts (slice_get pool c)) (some_before (utf8_at pool) (option_and_then class_parts (slice_get pool c)) name h) in
     let less : c < 65536 = index_small pool c (Class n.0) s (class_entry (slice_get pool c) n.0 n.1) in
     (omega arith, ap is_some n.1)
 

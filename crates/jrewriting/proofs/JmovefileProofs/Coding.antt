@@ -24,7 +24,8 @@ use Rattle.jmove.specs.declared.method.Expand.{Expand}
 use Rattle.jmove.specs.declared.method.Expand.TheVariants.{Same, Call, Check, Snapshot, Privileged, PrivilegedWith, PrivilegedLimited}
 use Rattle.jmove.specs.declared.method.Setting.{Setting}
 use Rattle.jmove.specs.Additions.{IsFront, numbered}
-use Rattle.jmove.specs.Lines.{Line, Label, Do, distance, led, placed, with_branches}
+use Rattle.jmove.specs.Lines.{Line, Label, Do, led, placed, with_branches}
+use Rattle.jmove.specs.ProofNames.{distance}
 use Rattle.jmove.specs.Moved.{call_static, calling, expansion, expansions, lines, move_ref, prologue, push_int}
 use Rattle.jprogram.specs.declared.member.Member.{Member}
 use Rattle.jmoveclass.specs.Calls.{expand_by}
@@ -33,6 +34,7 @@ use Rattle.jrewriting.specs.jmoved.Spelling.{named}
 use Rattle.jrewriting.proofs.JmovefileProofs.Calling.{AreNumbered, IsKept, IsNumber, IsRt, kind_in, reference_of}
 use Rattle.jrewriting.proofs.JmovefileProofs.Pooling.{CallsOnly, calling_only}
 use Rattle.jrewriting.proofs.JmovefileProofs.Referring.{reference}
+use Rattle.std.specs.Option.{option_map_or}
 
 -- ---- one instruction
 
@@ -78,10 +80,10 @@ called_none callops.Static = refl
 -- where a pool grows, instructions name what they named
 pub well_on : (base whole : List Entry) → IsFront base whole → (op : Op) → IsTrue (names_well base op) → IsTrue (names_well whole op)
 unfolding names_well
-well_on base whole f (ops.Ldc (ldcs.Narrow n)) h = test_stays base whole f is_constant refl n h
-well_on base whole f (ops.Ldc (ldcs.Wide n)) h = test_stays base whole f is_constant refl n h
-well_on base whole f (ops.Ldc2 n) h = test_stays base whole f is_wide_constant refl n h
-well_on base whole f (ops.Field op n) h = test_stays base whole f is_field refl n h
+well_on base whole f (ops.Ldc (ldcs.Narrow n)) h = test_stays base whole f (λ o. option_map_or is_constant o false) refl n h
+well_on base whole f (ops.Ldc (ldcs.Wide n)) h = test_stays base whole f (λ o. option_map_or is_constant o false) refl n h
+well_on base whole f (ops.Ldc2 n) h = test_stays base whole f (λ o. option_map_or is_wide_constant o false) refl n h
+well_on base whole f (ops.Field op n) h = test_stays base whole f (λ o. option_map_or is_field o false) refl n h
 well_on base whole f (ops.Call op n) h = test_stays base whole f (is_called op) (called_none op) n h
 well_on base whole f (ops.CallInterface n slots) h = test_stays base whole f is_interface_method refl n h
 well_on base whole f (ops.New (news.Object n)) h = class_stays base whole f n h

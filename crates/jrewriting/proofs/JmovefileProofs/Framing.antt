@@ -1,10 +1,10 @@
 -- Frames whose classes are there: those that a class file has, those in full, and those that are written again.
 use Rattle.std.proofs.Common.{ℕ, zero, suc, ◌+◌, ◌-◌, Bool, true, false, cond, ◌&&◌, List, [], ◌∷◌, length, Option, Some, None, Result, Ok, Err, refl}
-use Rattle.std.specs.Prelude.{IsTrue, nat_le, nat_lt, take}
+use Rattle.std.specs.Prelude.{IsTrue, nat_le, nat_lt, take, ok_or}
 use Rattle.std.specs.List.{AllByRecursion, list_all}
 use Rattle.jground.specs.jbase.Stops.{◌>>=◌}
 use Rattle.jground.specs.jformat.Bodies.{counted}
-use Rattle.jground.specs.jformat.Tags.{row_fits}
+use Rattle.jground.specs.ProofNames.{row_fits}
 use Rattle.jground.proofs.JformatProofs.Steps.{both, first_true, second_true}
 use Rattle.jparts.specs.declared.jpool.entry.Entry.{Entry}
 use Rattle.jparts.specs.declared.jmaps.types.FullFrame.{FullFrame}
@@ -12,12 +12,14 @@ use Rattle.jparts.specs.declared.jmaps.types.MapType.{MapType}
 use Rattle.jparts.specs.declared.jmaps.types.RawFrame.{RawFrame}
 use Rattle.jparts.specs.declared.jmaps.types.Row.{Row}
 use Rattle.jparts.specs.jmaps.Frames as own
-use Rattle.jparts.specs.jmaps.Frames.{body, frame, frames, or_kind, own_frame, own_type, part, row}
-use Rattle.jparts.specs.jmaps.Full.{can_write, delta_behind, expand_from, full_form, full_forms, items_fit, locals_after, locals_before, or_number, place_behind, with_locals}
+use Rattle.jparts.specs.jmaps.Frames.{body, frame, frames, own_frame, own_type, part, row}
+use Rattle.jparts.specs.ProofNames.{or_kind}
+use Rattle.jparts.specs.jmaps.Full.{can_write, delta_behind, expand_from, full_form, full_forms, items_fit, locals_after, locals_before, place_behind, with_locals}
 use Rattle.jparts.proofs.JmapsProofs.FullLaws.{written_fits}
 use Rattle.jclass.specs.declared.class.CodeBody.{CodeBody}
-use Rattle.jclass.specs.Codes.{frame_kinds, maps, named_type}
-use Rattle.jmoveclass.specs.Methods.{frames_in, frames_of, or_none}
+use Rattle.jclass.specs.Codes.{frame_kinds, maps, named_type, frames_in}
+use Rattle.jmoveclass.specs.Methods.{frames_of}
+use Rattle.jmoveclass.specs.ProofNames.{or_none}
 use Rattle.jrewriting.proofs.JmovefileProofs.Beginning.{AreItems}
 use Rattle.jrewriting.proofs.JmovefileProofs.Cutting.{all_join}
 
@@ -94,7 +96,7 @@ more_items pool f (Err i) h k g = tt
 
 one_frame : (pool : List Entry) (first : List MapType) (i : ℕ) (e : Option FullFrame) (f : RawFrame) (fs : List RawFrame) (ts : Option (List MapType)) → SomeItems pool ts → AreItems pool f.stack
     → ((locals : List MapType) → AreItems pool locals → OfResult pool (expand_from first (i + 1) (Some (record { at = place_behind e f.delta; locals = locals; stack = f.stack })) fs))
-    → OfResult pool (or_number i (with_locals e f ts) >>= λ full. expand_from first (i + 1) (Some full) fs >>= λ others. Ok (full ∷ others))
+    → OfResult pool (ok_or (with_locals e f ts) i >>= λ full. expand_from first (i + 1) (Some full) fs >>= λ others. Ok (full ∷ others))
 one_frame pool first i e f fs None h k more = tt
 one_frame pool first i e f fs (Some locals) h k more =
     let full : FullFrame = record { at = place_behind e f.delta; locals = locals; stack = f.stack } in

@@ -1,6 +1,6 @@
 -- The frames of moved code, as they are written in a class file.
 use Rattle.std.proofs.Common.{◌≡◌, ℕ, zero, suc, ◌+◌, ◌-◌, ◌≤◌, ◌<◌, Bool, true, false, cond, ◌&&◌, List, [], ◌∷◌, ◌++◌, length, map, replicate, Option, Some, None, Result, Ok, Err, refl, ap, arith}
-use Rattle.std.specs.Prelude.{All, IsTrue, nat_lt, ◌==◌}
+use Rattle.std.specs.Prelude.{All, IsTrue, nat_lt, ◌==◌, ok_or}
 use Rattle.std.specs.List.{AllByRecursion, list_all}
 use Rattle.std.proofs.lemmas.Bool.{eqb-true, lt-ltb, ltb-true}
 use Rattle.jground.specs.jbase.First.{first_some}
@@ -8,7 +8,7 @@ use Rattle.jground.specs.jbase.Stops.{◌>>=◌}
 use Rattle.jground.specs.jformat.Bodies.{block, counted}
 use Rattle.jground.specs.jformat.Format.{is_good}
 use Rattle.jground.specs.jformat.States.{fits_from}
-use Rattle.jground.specs.jformat.Tags.{row_fits}
+use Rattle.jground.specs.ProofNames.{row_fits}
 use Rattle.jground.proofs.JformatProofs.Steps.{both, first_true, second_true}
 use Rattle.jparts.specs.declared.jpool.entry.Entry.{Entry}
 use Rattle.jparts.specs.jpool.Pools.{is_class}
@@ -20,27 +20,29 @@ use Rattle.jparts.specs.declared.jmaps.types.MapType.TheVariants as items
 use Rattle.jparts.specs.declared.jmaps.types.RawFrame.{RawFrame}
 use Rattle.jparts.specs.declared.jmaps.types.Row.{Row}
 use Rattle.jparts.specs.jmaps.Frames as own
-use Rattle.jparts.specs.jmaps.Frames.{body, frame, frames, map_type, or_kind, own_type, part, row}
-use Rattle.jparts.specs.jmaps.Full.{can_follow, can_write, expand_from, full_forms, items_fit, locals_after, locals_before, or_number, place_after, place_behind, stands, with_locals}
+use Rattle.jparts.specs.jmaps.Frames.{body, frame, frames, map_type, own_type, part, row}
+use Rattle.jparts.specs.ProofNames.{or_kind}
+use Rattle.jparts.specs.jmaps.Full.{can_follow, can_write, expand_from, full_forms, items_fit, locals_after, locals_before, place_after, place_behind, stands, with_locals}
 use Rattle.jparts.proofs.JmapsProofs.FullLaws.{expands_in_order, few_frames}
 use Rattle.jclass.specs.declared.class.CodeAttribute.{CodeAttribute}
 use Rattle.jclass.specs.declared.class.CodeAttribute.TheVariants as code
 use Rattle.jclass.specs.declared.fault.ClassFault.TheVariants as kinds
 use Rattle.jclass.specs.Attributes.{name_once}
 use Rattle.jclass.specs.Basics.{u4}
-use Rattle.jclass.specs.Codes.{attribute, frame_kinds, maps, named_type, plain_type, saw_maps, type_fault}
+use Rattle.jclass.specs.Codes.{attribute, frame_kinds, maps, named_type, plain_type, saw_maps, type_fault, maps_of}
 use Rattle.jclass.specs.Rules.{is_maps}
 use Rattle.jmove.specs.declared.method.Expand.{Expand}
 use Rattle.jmove.specs.declared.method.Setting.{Setting}
 use Rattle.jmove.specs.Additions.{IsFront}
-use Rattle.jmove.specs.Frames.{moved_frame, moved_type, unsaid, width, widths}
+use Rattle.jmove.specs.Frames.{moved_frame, moved_type, widths}
+use Rattle.jmove.specs.ProofNames.{unsaid, width}
 use Rattle.jmove.specs.Lines.{end_of}
 use Rattle.jmove.specs.Moved.{lines}
 use Rattle.jmove.proofs.Placing.{place_within}
 use Rattle.jrewriting.specs.jmoved.Frames.{StandAt, new_frame}
 use Rattle.jrewriting.specs.jmoved.Numbers.{new_place}
 use Rattle.jrewriting.proofs.JmovedProofs.Framing as moving
-use Rattle.jmoveclass.specs.Methods.{maps_of, or_no_frames, or_none}
+use Rattle.jmoveclass.specs.ProofNames.{or_no_frames, or_none}
 use Rattle.jmoveclass.proofs.Keeping.{all_on}
 use Rattle.jrewriting.proofs.JmovefileProofs.Beginning.{AreItems, items_on, object_is}
 use Rattle.jrewriting.proofs.JmovefileProofs.Calling.{IsContext}
@@ -137,7 +139,7 @@ more_ended n f (Err i) h k = tt
 
 one_ended : (first : List MapType) (i : ℕ) (e : Option FullFrame) (f : RawFrame) (fs : List RawFrame) (ts : Option (List MapType)) → length f.stack < 65536
     → ((locals : List MapType) → Ended (length fs) (expand_from first (i + 1) (Some (record { at = place_behind e f.delta; locals = locals; stack = f.stack })) fs))
-    → Ended (suc (length fs)) (or_number i (with_locals e f ts) >>= λ full. expand_from first (i + 1) (Some full) fs >>= λ others. Ok (full ∷ others))
+    → Ended (suc (length fs)) (ok_or (with_locals e f ts) i >>= λ full. expand_from first (i + 1) (Some full) fs >>= λ others. Ok (full ∷ others))
 one_ended first i e f fs None h more = tt
 one_ended first i e f fs (Some locals) h more =
     let full : FullFrame = record { at = place_behind e f.delta; locals = locals; stack = f.stack } in

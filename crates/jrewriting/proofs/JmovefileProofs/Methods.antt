@@ -25,7 +25,8 @@ use Rattle.jclass.specs.Basics.{access, run, u2, u4}
 use Rattle.jclass.specs.Class.{class_file}
 use Rattle.jclass.specs.Codes.{code_content}
 use Rattle.jclass.specs.Members as members
-use Rattle.jclass.specs.Members.{attribute_name, body_of, codes_fault, codes_wanted, method_attribute, method_parts, names_of}
+use Rattle.jclass.specs.Members.{attribute_name, body_of, codes_fault, method_attribute, method_parts}
+use Rattle.jclass.specs.ProofNames.{codes_wanted, names_of}
 use Rattle.jclass.specs.Rules.{descriptor_fault, is_code, is_static, is_text, method_descriptor, most_slots, within}
 use Rattle.jclass.specs.Stored.{IsIn}
 use Rattle.jmove.specs.declared.method.MoveError.{MoveError}
@@ -37,7 +38,8 @@ use Rattle.jprogram.specs.Classes.{Program}
 use Rattle.jprogram.specs.Parts as parts
 use Rattle.jprogram.specs.Parts.{code_of, member_desc, or_empty}
 use Rattle.jmoveclass.specs.declared.limit.RewriteKind.{RewriteKind}
-use Rattle.jmoveclass.specs.Beginning.{params_in, params_of, slots, this_slots}
+use Rattle.jmoveclass.specs.Beginning.{params_in, params_of, slots}
+use Rattle.jmoveclass.specs.ProofNames.{this_slots}
 use Rattle.jmoveclass.specs.Calls.{expands}
 use Rattle.jmoveclass.specs.Kept.{method_keeps}
 use Rattle.jmoveclass.specs.Limits.{HasNone, at_method, class_limit, kind_of, limit_with, method_limit, pool_limit}

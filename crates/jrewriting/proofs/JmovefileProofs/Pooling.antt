@@ -29,13 +29,14 @@ use Rattle.jclass.specs.declared.class.MemberInfo.{MemberInfo}
 use Rattle.jclass.specs.declared.fault.ClassFault.TheVariants as kinds
 use Rattle.jclass.specs.Basics.{u2}
 use Rattle.jclass.specs.Class.{class_file, class_parts, strict, tail}
-use Rattle.jclass.specs.Codes.{code_content, code_length}
+use Rattle.jclass.specs.Codes.{code_content, code_length, frames_in}
 use Rattle.jclass.specs.Codes as codes
 use Rattle.jclass.specs.Judging as judging
 use Rattle.jclass.specs.Judging.{entry_fault, no_fault, text_fault}
 use Rattle.jclass.specs.Members.{body_of}
 use Rattle.jclass.specs.Operands.{is_called, is_interface_method, is_method, names_well}
 use Rattle.jclass.specs.Shapes as shapes
+use Rattle.jclass.specs.ProofNames
 use Rattle.jclass.specs.Stored.{HasCode, IsIn}
 use Rattle.jclass.proofs.Stored.{code_fits}
 use Rattle.jlib.specs.declared.calls.ControllerCall.{ControllerCall}
@@ -54,9 +55,9 @@ use Rattle.jprogram.specs.Members.{referred}
 use Rattle.jprogram.specs.Parts.{member_desc, or_empty}
 use Rattle.jmoveclass.specs.declared.limit.Limit.{Limit}
 use Rattle.jmoveclass.specs.declared.limit.RewriteKind.TheVariants.{PoolFull}
-use Rattle.jmoveclass.specs.Calls.{asking, calling, calling_library, expand_by, expands}
+use Rattle.jmoveclass.specs.Calls.{calling, expand_by, expands}
 use Rattle.jmoveclass.specs.Limits.{at_method, class_limit, method_limit, pool_limit}
-use Rattle.jmoveclass.specs.Methods.{frames_in, frames_of, method_in, new_desc, with_attribute, with_code, with_first, with_method}
+use Rattle.jmoveclass.specs.Methods.{frames_of, method_in, new_desc, with_attribute, with_code, with_first, with_method}
 use Rattle.jmoveclass.specs.Moved.{moved_class}
 use Rattle.jmoveclass.specs.Puts.{with_each}
 use Rattle.jmoveclass.proofs.Growth.{attribute_grows, first_grows, method_grows}
@@ -82,7 +83,7 @@ head_parts c h = (first_true (shapes.head.fits (class_parts c).0) (no_fault c.po
 shape_of : (c : ClassParts) → IsTrue (shapes.head.fits (class_parts c).0) → IsTrue (shape.fits c.pool)
 unfolding shapes.head shapes.entries
 shape_of c h =
-    let a = second_true (shapes.magic.fits tt) _ h in
+    let a = second_true (ProofNames.magic.fits tt) _ h in
     let b = second_true (u2.fits c.minor) _ a in
     second_true (shapes.major.fits c.major) (shape.fits c.pool) b
 
@@ -116,14 +117,14 @@ abbrev pub CallsOnly : ℕ → Expand → Type 0
 CallsOnly n (Call i) = i ≡ n
 CallsOnly n k = Unit {0}
 
-asking_only : (n : ℕ) (one : ControllerCall) → CallsOnly n (asking n one)
+asking_only : (n : ℕ) (one : ControllerCall) → CallsOnly n (calling n (Some (members.LibMethod (calls.Controller one))))
 asking_only n controller.Check = tt
 asking_only n controller.Snapshot = tt
 asking_only n controller.Privileged = tt
 asking_only n controller.PrivilegedWith = tt
 asking_only n controller.PrivilegedLimited = tt
 
-library_only : (n : ℕ) (one : LibCall) → CallsOnly n (calling_library n one)
+library_only : (n : ℕ) (one : LibCall) → CallsOnly n (calling n (Some (members.LibMethod one)))
 library_only n (calls.Run side) = refl
 library_only n (calls.RunAction side) = refl
 library_only n (calls.Thread (thread.Init side)) = refl
@@ -373,9 +374,9 @@ moved_sound p domain c k =
 head_with : (c : ClassParts) (pool : List Entry) → IsTrue (shapes.head.fits (class_parts c).0) → IsTrue (shape.fits pool) → IsTrue (shapes.head.fits (tt, (c.minor, (c.major, pool))))
 unfolding shapes.head shapes.entries
 head_with c pool h good =
-    let a = second_true (shapes.magic.fits tt) _ h in
+    let a = second_true (ProofNames.magic.fits tt) _ h in
     let b = second_true (u2.fits c.minor) _ a in
-    both _ _ (first_true (shapes.magic.fits tt) _ h) (both _ _ (first_true (u2.fits c.minor) _ a) (both _ _ (first_true (shapes.major.fits c.major) (shape.fits c.pool) b) good))
+    both _ _ (first_true (ProofNames.magic.fits tt) _ h) (both _ _ (first_true (u2.fits c.minor) _ a) (both _ _ (first_true (shapes.major.fits c.major) (shape.fits c.pool) b) good))
 
 pub head_stays : (p : Program) (domain : ℕ) (c : ClassParts) → CanBeFile p domain c → IsTrue (judging.head.fits (class_parts (moved_class p domain c)).0)
 unfolding judging.head moved_class

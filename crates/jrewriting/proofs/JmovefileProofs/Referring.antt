@@ -1,6 +1,6 @@
 -- References that are put into a pool: of `sps/Rt`, and those of changed calls.
 use Rattle.std.proofs.Common.{◌≡◌, ℕ, ◌<◌, ◌≤◌, Bool, true, false, ◌&&◌, List, [], ◌∷◌, length, Option, Some, None, refl, arith}
-use Rattle.std.specs.Prelude.{IsTrue, is_some, slice_get, codes, if◌then◌else◌}
+use Rattle.std.specs.Prelude.{IsTrue, is_some, slice_get, codes, if◌then◌else◌, option_and_then}
 use Rattle.std.proofs.lemmas.Bool.{lt-ltb}
 use Rattle.jground.specs.jformat.Format.{is_good}
 use Rattle.jground.proofs.JformatProofs.Steps.{both}
@@ -8,9 +8,9 @@ use Rattle.jparts.specs.declared.jpool.entry.Entry.{Entry}
 use Rattle.jparts.specs.declared.jpool.entry.Entry.TheVariants.{Utf8, Method, InterfaceMethod, NameAndType}
 use Rattle.jparts.specs.declared.jpool.fault.PoolFault.TheVariants.{BadIndex}
 use Rattle.jparts.specs.jpool.Adding.{laid, names_text}
-use Rattle.jparts.specs.jpool.Entries.{entry}
+use Rattle.jparts.specs.jpool.Entries.{entry, class_parts}
 use Rattle.jparts.specs.jpool.Pools as pools
-use Rattle.jparts.specs.jpool.Pools.{class_name_at, is_class, is_name_and_type, member_fault, name_in, utf8_at}
+use Rattle.jparts.specs.jpool.Pools.{class_name_at, is_class, is_name_and_type, member_fault, utf8_at}
 use Rattle.jclass.specs.Judging.{entry_fault}
 use Rattle.jmove.specs.declared.naming.Security.{Security}
 use Rattle.jmove.specs.Additions.{IsFront, security_name, security_type, with_class, with_entry, with_member, with_security, ◌>>◌}
@@ -43,7 +43,7 @@ reference_fits false a b h k = both _ _ (lt-ltb a 65536 h) (lt-ltb b 65536 k)
 
 class_there : (pool : List Entry) (c : ℕ) (class : List ℕ) → class_name_at pool c ≡ Some class → IsTrue (is_class pool c)
 unfolding class_name_at is_class
-class_there pool c class h = is_named (utf8_at pool) (name_in (slice_get pool c)) class h
+class_there pool c class h = is_named (utf8_at pool) (option_and_then class_parts (slice_get pool c)) class h
 
 both_there : (pool : List Entry) (b n d : ℕ) → slice_get pool b ≡ Some (NameAndType n d) → IsTrue (is_name_and_type pool b)
 unfolding is_name_and_type
@@ -62,7 +62,7 @@ reference_names : (interface : Bool) (pool : List Entry) (c b : ℕ) → IsTrue 
 reference_names true pool c b = refl
 reference_names false pool c b = refl
 
-class_small : (pool : List Entry) (c : ℕ) (o : Option Entry) → IsSound pool → slice_get pool c ≡ o → IsTrue (is_some (name_in o)) → c < 65536
+class_small : (pool : List Entry) (c : ℕ) (o : Option Entry) → IsSound pool → slice_get pool c ≡ o → IsTrue (is_some (option_and_then class_parts o)) → c < 65536
 class_small pool c None s e h = absurd cc
 class_small pool c (Some x) s e h = index_small pool c x s e
 

@@ -1,6 +1,6 @@
 -- Pools that meet the demands of a class file (JVMS 4.4), and what keeps them so: texts, classes, names and types, references.
 use Rattle.std.proofs.Common.{◌≡◌, ℕ, zero, suc, ◌+◌, ◌<◌, ◌≤◌, Bool, true, false, ◌&&◌, List, [], ◌∷◌, ◌++◌, length, Option, Some, None, refl, sym, ap, subst, ◌∙◌, arith}
-use Rattle.std.specs.Prelude.{IsTrue, is_some, slice_get, option_map, nat_lt, ◌||◌, if◌then◌else◌}
+use Rattle.std.specs.Prelude.{IsTrue, is_some, slice_get, option_map, nat_lt, ◌||◌, if◌then◌else◌, option_and_then}
 use Rattle.std.specs.List.{list_all, position}
 use Rattle.std.proofs.lemmas.Bool.{lt-ltb}
 use Rattle.std.proofs.lemmas.List.{length-append}
@@ -13,10 +13,10 @@ use Rattle.jparts.specs.declared.jpool.fault.PoolFault.{PoolFault}
 use Rattle.jparts.specs.declared.jpool.fault.PoolFault.TheVariants.{BadIndex, BadName, BadDescriptor}
 use Rattle.jparts.specs.jpool.Adding.{laid, names_text, same}
 use Rattle.jparts.specs.jpool.Descriptors.{is_array_descriptor, is_field_descriptor, is_method_descriptor}
-use Rattle.jparts.specs.jpool.Entries.{entry}
+use Rattle.jparts.specs.jpool.Entries.{entry, name_and_type_parts}
 use Rattle.jparts.specs.jpool.Names.{is_class_name}
 use Rattle.jparts.specs.jpool.Pools as pools
-use Rattle.jparts.specs.jpool.Pools.{IsPool, class_name_at, descriptor_fault, is_class, is_name_and_type, is_utf8, member_fault, name_fault, both_in, utf8_at}
+use Rattle.jparts.specs.jpool.Pools.{IsPool, class_name_at, descriptor_fault, is_class, is_name_and_type, is_utf8, member_fault, name_fault, utf8_at}
 use Rattle.jparts.proofs.JpoolProofs.Grown.{laid_count, pool_with}
 use Rattle.jparts.proofs.JpoolProofs.Numbered.{least_is, least_with}
 use Rattle.jclass.specs.declared.fault.ClassFault.TheVariants.{Text}
@@ -62,7 +62,7 @@ some_utf8 pool i (Some text) e h = text_utf8 pool i text e
 
 both_stay : (pool whole : List Entry) → IsFront pool whole → (i : ℕ) → IsTrue (is_name_and_type pool i) → IsTrue (is_name_and_type whole i)
 unfolding is_name_and_type
-both_stay pool whole f i h = ap (λ o. is_some (both_in o)) (kept_test pool whole f (λ o. is_some (both_in o)) refl i h) ∙ h
+both_stay pool whole f i h = ap (λ o. is_some (option_and_then name_and_type_parts o)) (kept_test pool whole f (λ o. is_some (option_and_then name_and_type_parts o)) refl i h) ∙ h
 
 member_on : (pool whole : List Entry) → IsFront pool whole → (class both : ℕ) → IsTrue (is_good (member_fault pool class both)) → IsTrue (is_good (member_fault whole class both))
 member_on pool whole f class b h =

@@ -1,6 +1,6 @@
 -- The texts that moved classes put into a pool: descriptors with one more parameter, and the names of the classes of parameters.
 use Rattle.std.proofs.Common.{◌≡◌, ℕ, zero, suc, ◌+◌, ◌≤◌, ◌<◌, Bool, true, false, List, [], ◌∷◌, ◌++◌, length, Option, Some, None, refl, ap, sym, ◌∙◌, subst, arith, inl, inr}
-use Rattle.std.specs.Prelude.{IsTrue, slice_get, option_map, replicate, nat_lt, nat_le, ◌&&◌, ◌||◌, ◌==◌, ◌^◌, ◌⊎◌, if◌then◌else◌}
+use Rattle.std.specs.Prelude.{IsTrue, slice_get, option_map, replicate, nat_lt, nat_le, ◌&&◌, ◌||◌, ◌==◌, ◌^◌, ◌⊎◌, if◌then◌else◌, option_and_then}
 use Rattle.std.specs.List.{AllByRecursion, flat_map, list_all}
 use Rattle.std.specs.Str.{byte}
 use Rattle.std.proofs.lemmas.Bool.{eqb-true, le-leb, ltb-false, ltb-true}
@@ -12,10 +12,10 @@ use Rattle.jparts.specs.declared.jpool.descriptor.Descriptor.TheVariants as desc
 use Rattle.jparts.specs.declared.jpool.descriptor.FieldType.{FieldType}
 use Rattle.jparts.specs.declared.jpool.entry.Entry.{Entry}
 use Rattle.jparts.specs.declared.jpool.entry.Entry.TheVariants.{Unused, Utf8, Integer, Float, Long, Double, Class, Str, Field, Method, InterfaceMethod, NameAndType, MethodHandle, MethodType, InvokeDynamic}
-use Rattle.jparts.specs.jpool.Descriptors.{descriptor_of, descriptor_text, is_array, is_array_descriptor, is_base, is_class_sign, is_method, is_method_descriptor, is_return, is_type, is_well_formed, method, method_of, method_slots, return_text, slots_of, type_text}
-use Rattle.jparts.specs.jpool.Entries.{entry, first_slot}
+use Rattle.jparts.specs.jpool.Descriptors.{descriptor_of, descriptor_text, is_array_descriptor, is_base, is_class_sign, is_method, is_method_descriptor, is_return, is_type, is_well_formed, method, method_of, method_slots, return_text, slots_of, type_text}
+use Rattle.jparts.specs.jpool.Entries.{entry, first_slot, utf8_parts}
 use Rattle.jparts.specs.jpool.Names.{is_class_name}
-use Rattle.jparts.specs.jpool.Pools.{text_in, utf8_at}
+use Rattle.jparts.specs.jpool.Pools.{utf8_at}
 use Rattle.jparts.proofs.JpoolProofs.Grown.{each_is, laid_slots}
 use Rattle.jparts.proofs.JpoolProofs.PoolLaws.{at_index}
 use Rattle.jparts.proofs.JpoolProofs.Spelled.{descriptor_again, descriptor_take, field_again}
@@ -30,9 +30,14 @@ use Rattle.jmoveclass.proofs.Keeping.{good_is}
 use Rattle.jrewriting.proofs.JmovefileProofs.Cutting.{all_first, all_join, all_second, are_bytes, cut, join, without_first}
 use Rattle.jrewriting.proofs.JmovefileProofs.Sound.{IsSound, IsText, or_good}
 
+-- ---- names for what definitions say in place
+
+abbrev is_array : Option FieldType → Bool
+is_array = elim [ None ↦ false | Some t ↦ nat_lt 0 t.depth ]
+
 -- ---- a text that stands in a pool
 
-entry_is : (o : Option Entry) (text : List ℕ) → text_in o ≡ Some text → o ≡ Some (Utf8 text)
+entry_is : (o : Option Entry) (text : List ℕ) → option_and_then utf8_parts o ≡ Some text → o ≡ Some (Utf8 text)
 entry_is None text h = absurd cc
 entry_is (Some (Utf8 t)) text h = let same : t ≡ text = cc in ap (λ (x : List ℕ). Some (Utf8 x)) same
 entry_is (Some Unused) text h = absurd cc

@@ -8,7 +8,7 @@ use Rattle.jground.specs.jformat.Format.{is_good, unless, ◌·◌}
 use Rattle.jground.proofs.JformatProofs.Steps.{first_true, second_true}
 use Rattle.jparts.specs.declared.jpool.entry.Entry.{Entry}
 use Rattle.jparts.specs.declared.jpool.entry.Entry.TheVariants.{Class}
-use Rattle.jparts.specs.jpool.Pools.{class_name_at, is_class, name_in, utf8_at}
+use Rattle.jparts.specs.jpool.Pools.{class_name_at, is_class, utf8_at}
 use Rattle.jparts.specs.declared.jcode.op.Handler.{Handler}
 use Rattle.jparts.specs.declared.jcode.op.Placed.{Placed}
 use Rattle.jclass.specs.declared.class.Attribute.{Attribute}
@@ -20,7 +20,7 @@ use Rattle.jclass.specs.declared.class.CodeBody.{CodeBody}
 use Rattle.jclass.specs.declared.class.MemberInfo.{MemberInfo}
 use Rattle.jclass.specs.declared.fault.ClassFault.TheVariants.{Index}
 use Rattle.jclass.specs.Basics.{index, u2}
-use Rattle.jclass.specs.Codes.{handler, handler_parts, named_type, target_fault}
+use Rattle.jclass.specs.Codes.{handler, handler_parts, named_type, target_fault, maps_of, frames_in}
 use Rattle.jclass.specs.Rules.{names_caught}
 use Rattle.jclass.specs.Stored.{HasCode}
 use Rattle.jclass.proofs.Stored.{code_fits}
@@ -42,7 +42,8 @@ use Rattle.jprogram.specs.Classes.{Program}
 use Rattle.jprogram.specs.Parts.{member_desc, or_empty, this_name}
 use Rattle.jmoveclass.specs.Beginning.{slots}
 use Rattle.jmoveclass.specs.Calls.{expands}
-use Rattle.jmoveclass.specs.Methods.{frames_in, frames_of, maps_name, maps_of, method_in, moved_maps, new_desc, or_no_frames, or_none, with_code, with_first}
+use Rattle.jmoveclass.specs.Methods.{frames_of, maps_name, method_in, moved_maps, new_desc, with_code, with_first}
+use Rattle.jmoveclass.specs.ProofNames.{or_no_frames, or_none}
 use Rattle.jmoveclass.proofs.Keeping.{good_is}
 use Rattle.jrewriting.proofs.JmovefileProofs.Bodying.{code_parts_of}
 use Rattle.jrewriting.proofs.JmovefileProofs.Calling.{named_in}
@@ -56,7 +57,8 @@ use Rattle.jlinking.specs.jreferring.Beginning.{first_frame_test}
 use Rattle.jlinking.specs.jreferring.Code.{body_test, frames_test, units_test}
 use Rattle.jlinking.specs.jreferring.Entries.{judge, judge_pool}
 use Rattle.jlinking.specs.jreferring.Operands.{class_use, operand_test}
-use Rattle.jlinking.specs.jreferring.Units.{attribute_test, class_at, class_in, frame_test, handler_test, is_barred, is_barred_at, item_names, op_test}
+use Rattle.jlinking.specs.jreferring.Units.{attribute_test, class_at, frame_test, handler_test, is_barred, item_names, op_test}
+use Rattle.jlinking.specs.ProofNames.{class_in}
 use Rattle.jrewriting.specs.jrewrite.Program.{moved}
 use Rattle.jrewriting.proofs.JrewriteProofs.Calls.{Known}
 use Rattle.jrewriting.proofs.JrewriteProofs.Coding.{class_stays, moved_good}
@@ -69,13 +71,19 @@ use Rattle.jrewriting.proofs.JrewriteProofs.Params.{Fits, context_fits}
 use Rattle.jrewriting.proofs.JrewriteProofs.Plainly.{is_plain}
 use Rattle.jrewriting.proofs.JrewriteProofs.Putting.{AreNumbered, IsBody, IsContext, IsSecurity, context_on, numbers_on, security_on}
 use Rattle.jrewriting.proofs.JrewriteProofs.Upward.{class_use_same}
+use Rattle.jparts.specs.jpool.Entries.{class_parts}
+
+-- ---- names for what definitions say in place
+
+abbrev is_barred_at : Option ClassUse → Bool
+is_barred_at = elim [ None ↦ false | Some u ↦ u.barred_item ]
 
 -- ---- what a Class entry stands for
 
 class_at_is : (q : Program) (from : List ℕ) (pool : List Entry) (n : ℕ) (name : List ℕ) → class_name_at pool n ≡ Some name → class_at (map (judge q from pool) pool) n ≡ Some (class_use q from name)
 unfolding class_name_at judge
 class_at_is q from pool n name h =
-    let r = then_is (utf8_at pool) (name_in (slice_get pool n)) name h in
+    let r = then_is (utf8_at pool) (option_and_then class_parts (slice_get pool n)) name h in
     ap class_in (judged_at q from pool n (Class r.0) (class_entry (slice_get pool n) r.0 r.1)) ∙ ap (λ (o : Option (List ℕ)). Some (class_use q from (or_empty o))) r.2
 
 -- ---- items

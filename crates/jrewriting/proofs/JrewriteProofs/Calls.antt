@@ -20,8 +20,9 @@ use Rattle.jprogram.specs.Parts.{this_name}
 use Rattle.jlinking.specs.declared.jreferring.judged.MemberFacts.{MemberFacts}
 use Rattle.jlinking.specs.declared.jreferring.judged.MemberUse.{MemberUse}
 use Rattle.jlinking.specs.jreferring.Entries.{judge_pool}
-use Rattle.jlinking.specs.jreferring.References.{call_left_out_test, call_test, called_by_interface_test, called_test, facts_of, interface_test, is_virtual}
-use Rattle.jlinking.specs.jreferring.Units.{call_at, interface_call_at, member_at, or_no_member}
+use Rattle.jlinking.specs.jreferring.References.{call_left_out_test, call_test, called_by_interface_test, called_test, facts_of, interface_test}
+use Rattle.jlinking.specs.ProofNames.{is_virtual, call_at, interface_call_at}
+use Rattle.jlinking.specs.jreferring.Units.{member_at, or_no_member}
 use Rattle.jmoveclass.specs.Calls.{calling}
 use Rattle.jrewriting.specs.jrewrite.Linking.{IsLinked}
 use Rattle.jrewriting.specs.jrewrite.Program.{moved}

@@ -7,7 +7,7 @@ use Rattle.jground.proofs.JbaseProofs.Firsts.{none_of}
 use Rattle.jground.proofs.JformatProofs.Steps.{first_true, second_true}
 use Rattle.jparts.specs.declared.jpool.entry.Entry.{Entry}
 use Rattle.jparts.specs.declared.jpool.entry.Entry.TheVariants.{Unused, Utf8, Integer, Float, Long, Double, Class, Str, Field, Method, InterfaceMethod, NameAndType, MethodHandle, MethodType, InvokeDynamic}
-use Rattle.jparts.specs.jpool.Pools.{is_class, name_in}
+use Rattle.jparts.specs.jpool.Pools.{is_class}
 use Rattle.jclass.specs.declared.class.ClassParts.{ClassParts}
 use Rattle.jclass.specs.Operands.{is_called, is_constant, is_field, is_interface_method, is_method, is_wide_constant, names_well}
 use Rattle.jparts.specs.declared.jcode.names.Access.{Access}
@@ -33,7 +33,8 @@ use Rattle.jmove.specs.declared.method.Setting.{Setting}
 use Rattle.jmove.specs.declared.naming.Security.{Security}
 use Rattle.jmove.specs.declared.naming.Security.TheVariants as security
 use Rattle.jmove.specs.Additions.{numbered, security_name}
-use Rattle.jmove.specs.Lines.{Line, Label, Do, distance, led, placed, with_branches}
+use Rattle.jmove.specs.Lines.{Line, Label, Do, led, placed, with_branches}
+use Rattle.jmove.specs.ProofNames.{distance}
 use Rattle.jmove.specs.Moved as moves
 use Rattle.jmove.specs.Moved.{call_static, expansion, expansions, lines, move_ref, prologue, push_int}
 use Rattle.jprogram.specs.declared.member.Member.{Member}
@@ -48,7 +49,8 @@ use Rattle.jlinking.specs.jreferring.Entries.{judge_pool}
 use Rattle.jlinking.specs.jreferring.Looking.{named_use}
 use Rattle.jlinking.specs.jreferring.Operands.{new_test, operand_test}
 use Rattle.jlinking.specs.jreferring.References.{call_test, field_test, interface_test}
-use Rattle.jlinking.specs.jreferring.Units.{call_at, class_in, constant_test, form_test, interface_call_at, long_test, member_in, op_test, or_no_member}
+use Rattle.jlinking.specs.jreferring.Units.{constant_test, form_test, long_test, op_test, or_no_member}
+use Rattle.jlinking.specs.ProofNames.{class_in, member_in, call_at, interface_call_at}
 use Rattle.jrewriting.specs.jrewrite.Program.{moved}
 use Rattle.jrewriting.proofs.JrewriteProofs.Calls.{Known, Takes, call_good, interface_good, kept_member}
 use Rattle.jrewriting.proofs.JrewriteProofs.Judging.{stays, table_same}
@@ -56,6 +58,8 @@ use Rattle.jrewriting.proofs.JrewriteProofs.Membering.{none_or}
 use Rattle.jrewriting.proofs.JrewriteProofs.Putting.{AreNumbered, IsNumber, IsSecurity}
 use Rattle.jrewriting.proofs.JrewriteProofs.Security.{security_call}
 use Rattle.jrewriting.proofs.JrewriteProofs.Targets.{Target, call_use, target_of, target_use}
+use Rattle.jparts.specs.jpool.Entries.{class_parts}
+use Rattle.std.specs.Option.{option_map_or}
 
 -- ---- lines
 
@@ -169,7 +173,7 @@ same_table p c d k n s = table_same p k.linked c d k.pair n s.e s.at s.kept
 -- at a Class entry
 pub class_stays : (p : Program) (c d : ClassParts) → Known p c d → (n : ℕ) → IsTrue (is_class c.pool n) → slice_get (judge_pool (moved p) d) n ≡ slice_get (judge_pool p c) n
 unfolding is_class
-class_stays p c d k n h = same_table p c d k n (stays_by (λ o. is_some (name_in o)) (λ a b. refl) (λ a b. refl) refl (slice_get c.pool n) h)
+class_stays p c d k n h = same_table p c d k n (stays_by (λ o. is_some (option_and_then class_parts o)) (λ a b. refl) (λ a b. refl) refl (slice_get c.pool n) h)
 
 record IsKind (e : Option Entry) : Type 0 where
   pub kind : Bool
@@ -222,10 +226,10 @@ stands_for p c n = referred p c.pool (slice_get c.pool n)
 
 same_good : (p : Program) (c d : ClassParts) → Known p c d → (op : Op) → expand_by (stands_for p c) op ≡ Same → IsTrue (names_well c.pool op) → IsGood (judge_pool p c) op → IsGood (judge_pool (moved p) d) op
 unfolding form names_well
-same_good p c d k (ops.Ldc (ldcs.Narrow n)) e h g = ap constant_test (same_table p c d k n (stays_by is_constant (λ a b. refl) (λ a b. refl) refl (slice_get c.pool n) h)) ∙ g
-same_good p c d k (ops.Ldc (ldcs.Wide n)) e h g = ap constant_test (same_table p c d k n (stays_by is_constant (λ a b. refl) (λ a b. refl) refl (slice_get c.pool n) h)) ∙ g
-same_good p c d k (ops.Ldc2 n) e h g = ap long_test (same_table p c d k n (stays_by is_wide_constant (λ a b. refl) (λ a b. refl) refl (slice_get c.pool n) h)) ∙ g
-same_good p c d k (ops.Field op n) e h g = ap (λ (j : Option Judged). or_no_member (field_test op) (member_in j)) (same_table p c d k n (stays_by is_field (λ a b. refl) (λ a b. refl) refl (slice_get c.pool n) h)) ∙ g
+same_good p c d k (ops.Ldc (ldcs.Narrow n)) e h g = ap constant_test (same_table p c d k n (stays_by (λ o. option_map_or is_constant o false) (λ a b. refl) (λ a b. refl) refl (slice_get c.pool n) h)) ∙ g
+same_good p c d k (ops.Ldc (ldcs.Wide n)) e h g = ap constant_test (same_table p c d k n (stays_by (λ o. option_map_or is_constant o false) (λ a b. refl) (λ a b. refl) refl (slice_get c.pool n) h)) ∙ g
+same_good p c d k (ops.Ldc2 n) e h g = ap long_test (same_table p c d k n (stays_by (λ o. option_map_or is_wide_constant o false) (λ a b. refl) (λ a b. refl) refl (slice_get c.pool n) h)) ∙ g
+same_good p c d k (ops.Field op n) e h g = ap (λ (j : Option Judged). or_no_member (field_test op) (member_in j)) (same_table p c d k n (stays_by (λ o. option_map_or is_field o false) (λ a b. refl) (λ a b. refl) refl (slice_get c.pool n) h)) ∙ g
 same_good p c d k (ops.Call op n) e h g = ap (or_no_member (call_test op)) (kept_member p c d k n (called_target c p d k op n h) e) ∙ g
 same_good p c d k (ops.CallInterface n slots) e h g = ap (or_no_member (interface_test slots)) (kept_member p c d k n (interface_target c p d k n h) e) ∙ g
 same_good p c d k (ops.New (news.Object n)) e h g = ap (λ (j : Option Judged). option_and_then new_test (class_in j)) (class_stays p c d k n h) ∙ g

@@ -34,11 +34,13 @@ use Rattle.jlib.specs.declared.calls.LibCall.TheVariants as call
 use Rattle.jlib.specs.Calls as library
 use Rattle.jlib.specs.Calls.{desc_of, fixes, is_concrete, members, name_of_call}
 use Rattle.jlib.specs.Classes.{is_open, open_classes}
-use Rattle.jlinking.specs.jmembers.Declares.{is_fixed, is_fixed_at, is_fixed_by, names_above, desc_left_out, desc_missing, is_again, is_native, is_synchronized, is_too_long, method_left_out, param_left_out, return_left_out, return_missing, text_left_out, text_missing, type_missing}
+use Rattle.jlinking.specs.jmembers.Declares.{is_fixed, is_fixed_by, names_above, desc_left_out, desc_missing, is_again, is_native, is_synchronized, is_too_long, method_left_out, param_left_out, text_left_out, text_missing, type_missing}
+use Rattle.jlinking.specs.ProofNames.{is_fixed_at, return_left_out, return_missing}
 use Rattle.jprogram.specs.LeftOut.{is_context}
 use Rattle.jmove.specs.Additions.{IsFront, context_type, moved_descriptor}
 use Rattle.jprogram.specs.Classes.{Class, Lib, Program, User, find}
-use Rattle.jprogram.specs.Naming.{desc_reserved, return_reserved, text_reserved, type_reserved}
+use Rattle.jprogram.specs.Naming.{desc_reserved, text_reserved, type_reserved}
+use Rattle.jprogram.specs.ProofNames.{return_reserved}
 use Rattle.jprogram.specs.Parts.{has_code, is_called, is_interface, member_desc, member_name, or_empty, text}
 use Rattle.jprogram.specs.Supers.{is_missing}
 use Rattle.jmoveclass.specs.Methods.{new_desc}

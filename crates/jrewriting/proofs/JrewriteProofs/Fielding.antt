@@ -20,7 +20,7 @@ use Rattle.jprogram.specs.declared.member.Member.{Member}
 use Rattle.jprogram.specs.declared.member.Member.TheVariants.{Field, LibField}
 use Rattle.jprogram.specs.declared.part.CodePart.{CodePart}
 use Rattle.jprogram.specs.Classes.{Class, Lib, Program, User, find}
-use Rattle.jprogram.specs.Members.{field_at, field_in, info_of, is_final, is_static, lib_field, owner_in, owner_of, reach_in, reach_of, user_is}
+use Rattle.jprogram.specs.Members.{field_at, field_in, info_of, is_final, is_static, lib_field, owner_of, reach_in, reach_of, user_is, owner_in}
 use Rattle.jprogram.specs.Naming.{is_reserved}
 use Rattle.jprogram.specs.Parts as parts
 use Rattle.jprogram.specs.Parts.{is_called, member_desc, member_name, this_name}

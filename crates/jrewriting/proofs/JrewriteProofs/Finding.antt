@@ -12,7 +12,7 @@ use Rattle.jclass.specs.declared.class.ClassParts.{ClassParts}
 use Rattle.jclass.specs.declared.fault.ClassFault.TheVariants.{Index}
 use Rattle.jclass.specs.Basics.{access, index, u2}
 use Rattle.jclass.specs.Class.{class_file, tail}
-use Rattle.jclass.specs.Rules.{is_plain_class, names_class, names_super}
+use Rattle.jclass.specs.Rules.{names_class, names_super, is_plain_class}
 use Rattle.jlib.specs.declared.classes.LibClass.{LibClass}
 use Rattle.jlib.specs.Classes as library
 use Rattle.jlib.specs.declared.side.Side.TheVariants.{Source, Passing}

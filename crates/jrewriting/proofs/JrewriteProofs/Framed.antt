@@ -1,6 +1,6 @@
 -- The frames of a method that is well typed can be said in full, and keep to its locals.
-use Rattle.std.proofs.Common.{◌≡◌, ℕ, ◌+◌, ◌-◌, ◌≤◌, Bool, true, false, not, List, [], ◌∷◌, length, map, reverse, Option, Some, None, Result, Ok, Err, refl, ap, sym, ◌∙◌, subst, arith}
-use Rattle.std.specs.Prelude.{IsTrue, nat_le, option_map, replicate}
+use Rattle.std.proofs.Common.{◌≡◌, ℕ, ◌+◌, ◌-◌, ◌≤◌, Bool, true, false, not, List, [], ◌∷◌, length, map, reverse, Option, Some, None, Result, Ok, Err, refl, ap, sym, subst, arith}
+use Rattle.std.specs.Prelude.{IsTrue, nat_le, option_map, replicate, ok_or}
 use Rattle.std.specs.List.{AllByRecursion, list_all}
 use Rattle.std.proofs.lemmas.Bool.{leb-true}
 use Rattle.std.proofs.lemmas.List.{length-append}
@@ -8,13 +8,11 @@ use Rattle.jground.specs.jbase.First.{fault_if, first_some, or_else}
 use Rattle.jground.specs.jbase.Stops.{◌>>=◌}
 use Rattle.jground.proofs.JbaseProofs.Firsts.{none_of}
 use Rattle.jground.proofs.JformatProofs.Steps.{both, first_true, second_true}
-use Rattle.jclass.specs.Codes.{begins}
+use Rattle.jclass.specs.Codes.{begins, frames_in}
 use Rattle.jparts.specs.declared.jmaps.types.FullFrame.{FullFrame}
 use Rattle.jparts.specs.declared.jmaps.types.MapType.{MapType}
 use Rattle.jparts.specs.declared.jmaps.types.RawFrame.{RawFrame}
-use Rattle.jparts.specs.jmaps.Full.{expand_from, locals_after, locals_before, or_number, place_behind, place_from, with_locals}
-use Rattle.jclass.specs.declared.class.CodeAttribute.{CodeAttribute}
-use Rattle.jclass.specs.declared.class.CodeAttribute.TheVariants.{Maps, Raw}
+use Rattle.jparts.specs.jmaps.Full.{expand_from, locals_after, locals_before, place_behind, place_from, with_locals}
 use Rattle.jclass.specs.declared.class.CodeBody.{CodeBody}
 use Rattle.jtypes.specs.declared.vtype.VType.{VType}
 use Rattle.jtypes.specs.declared.vtype.VType.TheVariants as types
@@ -22,12 +20,11 @@ use Rattle.jtypes.specs.Frames.{places_of, within}
 use Rattle.jmove.specs.Frames.{widths}
 use Rattle.jrewriting.specs.jmoved.Frames.{StandAt}
 use Rattle.jprogram.specs.Classes.{Program}
-use Rattle.jtyping.specs.Declared as typing
-use Rattle.jtyping.specs.Declared.{Written, continued, filled, frame_of, frames_in, has_room, holds, is_good, item, written, written_from}
+use Rattle.jtyping.specs.Declared.{Written, continued, filled, frame_of, has_room, holds, is_good, item, written, written_from}
 use Rattle.jtyping.specs.Methods.{Method, makes}
 use Rattle.jtyping.specs.Typing.{frames_fault, method_fault}
-use Rattle.jmoveclass.specs.Methods as class
-use Rattle.jmoveclass.specs.Methods.{frames_of, or_none}
+use Rattle.jmoveclass.specs.Methods.{frames_of}
+use Rattle.jmoveclass.specs.ProofNames.{or_none}
 use Rattle.jrewriting.proofs.JrewriteProofs.Widths.{Under, UnderSome, under_after, under_items, under_widths}
 
 -- each of these frames is good
@@ -69,7 +66,7 @@ keeps_more body f (Err i) h b k = absurd k
 one_more : (p : Program) (m : Method) (first : List MapType) (i : ℕ) (e : Option FullFrame) (f : RawFrame) (fs : List RawFrame) (at : ℕ) (stack : List VType) (others : List VType → List Written) (ts : Option (List MapType)) (vs : Option (List VType))
     → place_behind e f.delta ≡ at → UnderSome ts vs → AllGood p m (continued m.body.max_locals at stack others vs)
     → ((locals : List MapType) (values : List VType) → Under locals values → AllGood p m (others values) → Keeps m.body (expand_from first (i + 1) (Some (record { at = place_behind e f.delta; locals = locals; stack = f.stack })) fs))
-    → Keeps m.body (or_number i (with_locals e f ts) >>= λ full. expand_from first (i + 1) (Some full) fs >>= λ rest. Ok (full ∷ rest))
+    → Keeps m.body (ok_or (with_locals e f ts) i >>= λ full. expand_from first (i + 1) (Some full) fs >>= λ rest. Ok (full ∷ rest))
 one_more p m first i e f fs at stack others None None same u good more =
     let no : false ≡ true = second_true (begins m.body.ops at) false good.0 in absurd cc
 one_more p m first i e f fs at stack others None (Some values) same u good more = absurd u
@@ -108,27 +105,10 @@ stand_of body (f ∷ fs) h = both (begins body.ops f.at) (list_all (λ x. begins
 
 -- ---- the frames that are written
 
-maps_same : (a : CodeAttribute) → class.maps_of a ≡ typing.maps_of a
-maps_same (Maps name frames) = refl
-maps_same (Raw name bytes) = refl
-
-some_same : (xs : List CodeAttribute) → first_some class.maps_of xs ≡ first_some typing.maps_of xs
-unfolding first_some
-some_same [] = refl
-some_same (x ∷ xs) = ap (λ (o : Option (List RawFrame)). or_else o (first_some class.maps_of xs)) (maps_same x) ∙ ap (or_else (typing.maps_of x)) (some_same xs)
-
-none_same : (o : Option (List RawFrame)) → class.or_no_frames o ≡ typing.or_none o
-none_same None = refl
-none_same (Some frames) = refl
-
-pub frames_same : (b : CodeBody) → class.frames_in b ≡ frames_in b
-frames_same b = ap class.or_no_frames (some_same b.attributes) ∙ none_same (first_some typing.maps_of b.attributes)
-
 -- where the method begins with what typing has
 pub framed : (p : Program) (m : Method) (first : List MapType) → Under first m.params → method_fault p m ≡ None → Keep m.body (frames_of first m.body)
 unfolding method_fault written frames_of
 framed p m first u h =
     let ws = written_from p m.pool m.body.max_locals None m.params (frames_in m.body) in
     let none = none_of (frames_fault p m ws) _ h in
-    subst (λ (fs : List RawFrame). Keep m.body (or_none (expand_from first 0 None fs))) (sym (frames_same m.body))
-    (all_keep m.body (expand_from first 0 None (frames_in m.body)) (framed_from p m first 0 None None m.params (frames_in m.body) refl u (all_good p m ws none.0)))
+    all_keep m.body (expand_from first 0 None (frames_in m.body)) (framed_from p m first 0 None None m.params (frames_in m.body) refl u (all_good p m ws none.0))

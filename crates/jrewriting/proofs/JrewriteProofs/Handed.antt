@@ -22,19 +22,22 @@ use Rattle.jprogram.specs.declared.fault.LinkKind.{LinkKind}
 use Rattle.jprogram.specs.declared.fault.LinkKind.TheVariants.{NoClass, NotAccessible}
 use Rattle.jprogram.specs.Classes.{Program}
 use Rattle.jprogram.specs.Members.{may_name}
-use Rattle.jprogram.specs.Naming.{desc_reserved, return_reserved, text_reserved, type_reserved}
+use Rattle.jprogram.specs.Naming.{desc_reserved, text_reserved, type_reserved}
+use Rattle.jprogram.specs.ProofNames.{return_reserved}
 use Rattle.jprogram.specs.Parts.{member_desc, this_name}
 use Rattle.jprogram.specs.Supers.{is_missing}
 use Rattle.jlinking.specs.jreferring.Beginning.{first_frame_test, has_frames}
 use Rattle.jlinking.specs.jreferring.Names.{class_test, params_test, type_test}
 use Rattle.jmoveclass.specs.Beginning.{params_in, params_of}
-use Rattle.jmoveclass.specs.Methods.{frames_in, maps_of, moved_maps, new_desc, or_no_frames}
+use Rattle.jmoveclass.specs.Methods.{moved_maps, new_desc}
+use Rattle.jmoveclass.specs.ProofNames.{or_no_frames}
 use Rattle.jrewriting.specs.jrewrite.Program.{moved}
 use Rattle.jrewriting.proofs.JrewriteProofs.Declaring.{Facts, first_false}
 use Rattle.jrewriting.proofs.JrewriteProofs.Membering.{none_or}
 use Rattle.jrewriting.proofs.JrewriteProofs.Security.{IsPassing, type_lib, type_open}
 use Rattle.jrewriting.proofs.JrewriteProofs.Standing.{IsPlain}
 use Rattle.jrewriting.proofs.JrewriteProofs.Upward.{types_test_same}
+use Rattle.jclass.specs.Codes.{maps_of, frames_in}
 
 -- ---- frames that are written
 

@@ -1,6 +1,6 @@
 -- The classes that moved frames name: those of `this` and of the parameters, those that the frames named, and the class of contexts.
 use Rattle.std.proofs.Common.{◌≡◌, ℕ, zero, suc, ◌+◌, ◌-◌, ◌≤◌, Bool, true, false, cond, List, [], ◌∷◌, ◌++◌, length, map, replicate, take, Option, Some, None, Result, Ok, Err, refl, sym, subst, arith}
-use Rattle.std.specs.Prelude.{IsTrue, nat_le, nat_lt, ◌==◌, if◌then◌else◌}
+use Rattle.std.specs.Prelude.{IsTrue, nat_le, nat_lt, ◌==◌, if◌then◌else◌, ok_or}
 use Rattle.std.specs.List.{AllByRecursion}
 use Rattle.std.specs.Str.{byte}
 use Rattle.jground.specs.jbase.Stops.{◌>>=◌}
@@ -14,13 +14,15 @@ use Rattle.jparts.specs.declared.jmaps.types.FullFrame.{FullFrame}
 use Rattle.jparts.specs.declared.jmaps.types.MapType.{MapType}
 use Rattle.jparts.specs.declared.jmaps.types.MapType.TheVariants as items
 use Rattle.jparts.specs.declared.jmaps.types.RawFrame.{RawFrame}
-use Rattle.jparts.specs.jmaps.Full.{expand_from, full_forms, locals_after, locals_before, or_number, place_behind, with_locals}
+use Rattle.jparts.specs.jmaps.Full.{expand_from, full_forms, locals_after, locals_before, place_behind, with_locals}
 use Rattle.jmove.specs.Additions.{IsFront, giving, with_class, ◌>>◌}
-use Rattle.jmove.specs.Frames.{moved_frame, moved_type, unsaid, widths}
+use Rattle.jmove.specs.Frames.{moved_frame, moved_type, widths}
+use Rattle.jmove.specs.ProofNames.{unsaid}
 use Rattle.jprogram.specs.Parts.{is_static, this_name}
 use Rattle.jmoveclass.specs.Beginning.{class_name, is_reference, item, params_of, this_item, with_beginning, with_item, with_this}
 use Rattle.jprogram.specs.Members.{is_init}
-use Rattle.jmoveclass.specs.Methods.{frames_in, frames_of, or_none, with_first}
+use Rattle.jmoveclass.specs.Methods.{frames_of, with_first}
+use Rattle.jmoveclass.specs.ProofNames.{or_none}
 use Rattle.jmoveclass.specs.Puts.{with_each}
 use Rattle.jmoveclass.proofs.Fronts.{class_name_stays}
 use Rattle.jmoveclass.proofs.Growth.{item_grows}
@@ -28,6 +30,7 @@ use Rattle.jmoveclass.proofs.Turning.{each_grows}
 use Rattle.jrewriting.proofs.JmovefileProofs.Beginning.{Begins}
 use Rattle.jrewriting.proofs.JmovefileProofs.Sound.{IsSound, IsText, front_length, put_class}
 use Rattle.jrewriting.proofs.JmovefileProofs.Texts.{IsTypeText, class_text, is_named}
+use Rattle.jclass.specs.Codes.{frames_in}
 
 -- ---- items whose classes are such
 
@@ -190,7 +193,7 @@ more_names Q pool f (Err i) h k g = tt
 
 one_frame : (Q : List ℕ → Type 0) (pool : List Entry) (first : List MapType) (i : ℕ) (e : Option FullFrame) (f : RawFrame) (fs : List RawFrame) (ts : Option (List MapType)) → SomeName Q pool ts → AllName Q pool f.stack
     → ((locals : List MapType) → AllName Q pool locals → OfResult Q pool (expand_from first (i + 1) (Some (record { at = place_behind e f.delta; locals = locals; stack = f.stack })) fs))
-    → OfResult Q pool (or_number i (with_locals e f ts) >>= λ full. expand_from first (i + 1) (Some full) fs >>= λ others. Ok (full ∷ others))
+    → OfResult Q pool (ok_or (with_locals e f ts) i >>= λ full. expand_from first (i + 1) (Some full) fs >>= λ others. Ok (full ∷ others))
 one_frame Q pool first i e f fs None h k more = tt
 one_frame Q pool first i e f fs (Some locals) h k more =
     let full : FullFrame = record { at = place_behind e f.delta; locals = locals; stack = f.stack } in

@@ -1,6 +1,6 @@
 -- What entries of a pool stand for: in a moved class as in the class, but for references to methods.
 use Rattle.std.proofs.Common.{◌≡◌, ℕ, Bool, true, false, ◌&&◌, List, map, Option, Some, None, refl, ap, sym, ◌∙◌}
-use Rattle.std.specs.Prelude.{IsTrue, is_some, option_map, slice_get}
+use Rattle.std.specs.Prelude.{IsTrue, is_some, option_map, slice_get, option_and_then}
 use Rattle.std.specs.List.{list_any}
 use Rattle.std.specs.Str.{bytes_eq}
 use Rattle.std.proofs.lemmas.Option.{slice_get-map}
@@ -11,7 +11,7 @@ use Rattle.jparts.specs.declared.jpool.entry.Entry.TheVariants.{Unused, Utf8, In
 use Rattle.jparts.specs.declared.jpool.fault.PoolFault.TheVariants.{BadIndex}
 use Rattle.jparts.specs.jpool.Descriptors.{descriptor_of, method_slots}
 use Rattle.jparts.specs.jpool.Pools as pools
-use Rattle.jparts.specs.jpool.Pools.{both_in, class_name_at, descriptor_fault, is_class, is_name_and_type, is_utf8, member_fault, name_and_type_at, name_in, utf8_at}
+use Rattle.jparts.specs.jpool.Pools.{class_name_at, descriptor_fault, is_class, is_name_and_type, is_utf8, member_fault, name_and_type_at, utf8_at}
 use Rattle.jparts.proofs.JpoolProofs.PoolLaws.{at_index}
 use Rattle.jclass.specs.declared.class.ClassParts.{ClassParts}
 use Rattle.jclass.specs.Judging.{entry_fault, no_fault, text_fault}
@@ -33,7 +33,8 @@ use Rattle.jlinking.specs.jreferring.Entries.{judge, judge_pool, reference}
 use Rattle.jlinking.specs.jreferring.Looking.{named_use}
 use Rattle.jlinking.specs.jreferring.Names.{type_named}
 use Rattle.jlinking.specs.jreferring.Operands.{class_use}
-use Rattle.jlinking.specs.jreferring.References.{facts_of, is_barred, is_crossed, is_enter, is_of_interface, member_use, names_test}
+use Rattle.jlinking.specs.jreferring.References.{facts_of, is_crossed, is_enter, member_use}
+use Rattle.jlinking.specs.ProofNames.{is_barred, is_of_interface, names_test}
 use Rattle.jlinking.proofs.JreferringProofs.Referring.{reference_named}
 use Rattle.jlinking.proofs.JlinkProofs.Having.{then_is}
 use Rattle.jmoveclass.proofs.Fronts.{class_name_stays, kept_test, same_text, text_stays}
@@ -49,10 +50,11 @@ use Rattle.jrewriting.proofs.JrewriteProofs.Plainly.{is_plain}
 use Rattle.jrewriting.proofs.JrewriteProofs.Resolving.{Finds, facts_same, field_finds}
 use Rattle.jrewriting.proofs.JrewriteProofs.Standing.{IsPlain, any_false}
 use Rattle.jrewriting.proofs.JrewriteProofs.Upward.{class_use_same, desc_test_same, extends_same, interface_name, named_plain, type_test_same}
+use Rattle.jparts.specs.jpool.Entries.{utf8_parts, class_parts, name_and_type_parts}
 
 -- ---- entries of a sound pool
 
-pub class_entry : (o : Option Entry) (n : ℕ) → name_in o ≡ Some n → o ≡ Some (Class n)
+pub class_entry : (o : Option Entry) (n : ℕ) → option_and_then class_parts o ≡ Some n → o ≡ Some (Class n)
 class_entry (Some (Class m)) n h = let same : m ≡ n = cc in ap (λ (k : ℕ). Some (Class k)) same
 class_entry None n h = absurd cc
 class_entry (Some Unused) n h = absurd cc
@@ -70,7 +72,7 @@ class_entry (Some (MethodHandle k m)) n h = absurd cc
 class_entry (Some (MethodType d)) n h = absurd cc
 class_entry (Some (InvokeDynamic k d)) n h = absurd cc
 
-two_entry : (o : Option Entry) (x : ℕ × ℕ) → both_in o ≡ Some x → o ≡ Some (NameAndType x.0 x.1)
+two_entry : (o : Option Entry) (x : ℕ × ℕ) → option_and_then name_and_type_parts o ≡ Some x → o ≡ Some (NameAndType x.0 x.1)
 two_entry (Some (NameAndType m d)) x h =
     let first : m ≡ x.0 = cc in
     let second : d ≡ x.1 = cc in
@@ -104,11 +106,11 @@ two_good pool n d h = good_if (is_utf8 pool n) (descriptor_fault (utf8_at pool d
 
 text_in_pool : (pool : List Entry) (i : ℕ) → IsTrue (is_utf8 pool i) → (t : List ℕ) × (utf8_at pool i ≡ Some t)
 unfolding is_utf8 utf8_at
-text_in_pool pool i h = some_is (pools.text_in (slice_get pool i)) h
+text_in_pool pool i h = some_is (option_and_then utf8_parts (slice_get pool i)) h
 
 both_there : (pool : List Entry) (i : ℕ) → IsTrue (is_name_and_type pool i) → (x : ℕ × ℕ) × (name_and_type_at pool i ≡ Some x)
 unfolding is_name_and_type name_and_type_at
-both_there pool i h = some_is (both_in (slice_get pool i)) h
+both_there pool i h = some_is (option_and_then name_and_type_parts (slice_get pool i)) h
 
 both_entry : (pool : List Entry) (i : ℕ) (x : ℕ × ℕ) → name_and_type_at pool i ≡ Some x → slice_get pool i ≡ Some (NameAndType x.0 x.1)
 unfolding name_and_type_at
@@ -140,7 +142,7 @@ says_of pool class two s h =
 
 pub both_stays : (pool whole : List Entry) → IsFront pool whole → (i : ℕ) (x : ℕ × ℕ) → name_and_type_at pool i ≡ Some x → name_and_type_at whole i ≡ Some x
 unfolding name_and_type_at
-both_stays pool whole f i x h = ap both_in (kept_test pool whole f (λ o. is_some (both_in o)) refl i (ap is_some h)) ∙ h
+both_stays pool whole f i x h = ap (option_and_then name_and_type_parts) (kept_test pool whole f (λ o. is_some (option_and_then name_and_type_parts o)) refl i (ap is_some h)) ∙ h
 
 abbrev pub says_on : (pool whole : List Entry) → IsFront pool whole → (class two : ℕ) (s : Says pool class two) → Says whole class two
 says_on pool whole f class two s = record {
@@ -170,7 +172,7 @@ entry_kept c i e h at = any_false (entry_reserved c.pool) c.pool i e (first_fals
 pub class_kept : (c : ClassParts) (i : ℕ) (name : List ℕ) → names_reserved c ≡ false → class_name_at c.pool i ≡ Some name → class_reserved name ≡ false
 unfolding class_name_at
 class_kept c i name h e =
-    let r = then_is (utf8_at c.pool) (name_in (slice_get c.pool i)) name e in
+    let r = then_is (utf8_at c.pool) (option_and_then class_parts (slice_get c.pool i)) name e in
     ap (λ (o : Option (List ℕ)). class_reserved (or_empty o)) (sym r.2) ∙ entry_kept c i (Class r.0) h (class_entry (slice_get c.pool i) r.0 r.1)
 
 pub desc_kept : (c : ClassParts) (class two : ℕ) → names_reserved c ≡ false → (s : Says c.pool class two) → text_reserved s.desc ≡ false

@@ -22,7 +22,8 @@ use Rattle.jprogram.specs.declared.member.Member.{Member}
 use Rattle.jprogram.specs.declared.member.Member.TheVariants.{Field, LibField, LibMethod, Method}
 use Rattle.jprogram.specs.Classes.{Class, Lib, Program, User, find}
 use Rattle.jprogram.specs.Members.{lib_method, method_at, method_id, method_in}
-use Rattle.jprogram.specs.Naming.{desc_reserved, is_reserved, return_reserved, text_reserved, type_reserved}
+use Rattle.jprogram.specs.Naming.{desc_reserved, is_reserved, text_reserved, type_reserved}
+use Rattle.jprogram.specs.ProofNames.{return_reserved}
 use Rattle.jprogram.specs.Parts.{is_called, member_desc, member_name}
 use Rattle.jmoveclass.specs.Methods.{new_desc}
 use Rattle.jrewriting.proofs.JmovefileProofs.Members.{Alike, Like}

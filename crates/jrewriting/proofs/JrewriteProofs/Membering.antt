@@ -22,13 +22,15 @@ use Rattle.jclass.specs.Attributes.{text_index}
 use Rattle.jclass.specs.Basics.{access, index, u2}
 use Rattle.jclass.specs.Class.{class_file, tail}
 use Rattle.jclass.specs.Members as formats
-use Rattle.jclass.specs.Members.{codes_fault, method_attribute, method_parts, names_of}
+use Rattle.jclass.specs.Members.{codes_fault, method_attribute, method_parts}
+use Rattle.jclass.specs.ProofNames.{names_of}
 use Rattle.jclass.specs.Rules.{descriptor_fault, field_descriptor, method_descriptor, names_class, names_super}
 use Rattle.jclass.specs.Stored.{IsIn}
 use Rattle.jlib.specs.declared.classes.LibClass.TheVariants as lib
 use Rattle.jlib.specs.declared.side.Side.TheVariants.{Passing, Source}
 use Rattle.jlib.proofs.Found.{class_only}
-use Rattle.jlinking.specs.jmembers.Declares.{again_test, at_member, class_fault, desc_missing, field_left_out, field_left_out_test, field_test, fields_fault, final_test, is_again, is_fixed, library_test, members_fault, method_left_out, method_left_out_test, method_test, methods_above, methods_fault, overrides_final, return_missing, text_left_out, text_missing, type_missing, types_test}
+use Rattle.jlinking.specs.jmembers.Declares.{again_test, at_member, desc_missing, field_left_out, field_left_out_test, field_test, fields_fault, final_test, is_again, is_fixed, library_test, members_fault, method_left_out, method_left_out_test, method_test, methods_above, methods_fault, overrides_final, text_left_out, text_missing, type_missing, types_test}
+use Rattle.jlinking.specs.ProofNames.{class_fault, return_missing}
 use Rattle.jmove.specs.Additions.{IsFront, context_type}
 use Rattle.jprogram.specs.declared.fault.LinkKind.{LinkKind}
 use Rattle.jprogram.specs.declared.fault.LinkKind.TheVariants.{FinalMethod, LeftOut, NoClass, OverridesLibrary, Twice}
@@ -36,11 +38,13 @@ use Rattle.jprogram.specs.declared.member.Member.TheVariants.{Method}
 use Rattle.jprogram.specs.declared.part.CodePart.{CodePart}
 use Rattle.jprogram.specs.Classes.{Lib, Program, User, find, found_at, place_of}
 use Rattle.jprogram.specs.Members.{init, method_id}
-use Rattle.jprogram.specs.Naming.{desc_reserved, entry_reserved, member_reserved, names_reserved, return_reserved, text_reserved, type_reserved}
+use Rattle.jprogram.specs.Naming.{desc_reserved, entry_reserved, member_reserved, names_reserved, text_reserved, type_reserved}
+use Rattle.jprogram.specs.ProofNames.{return_reserved}
 use Rattle.jprogram.specs.Parts.{is_called, is_interface, is_static, member_desc, member_name, or_empty, super_name, this_name}
 use Rattle.jprogram.specs.Supers.{is_missing}
 use Rattle.jtyping.specs.Typing.{WellTyped}
-use Rattle.jmoveclass.specs.Beginning.{params_in, params_of, slots, this_slots}
+use Rattle.jmoveclass.specs.Beginning.{params_in, params_of, slots}
+use Rattle.jmoveclass.specs.ProofNames.{this_slots}
 use Rattle.jmoveclass.specs.Methods.{new_desc}
 use Rattle.jmoveclass.specs.Moved.{moved_class}
 use Rattle.jmoveclass.proofs.Fronts.{text_utf8}

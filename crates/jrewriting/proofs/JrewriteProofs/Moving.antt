@@ -19,7 +19,9 @@ use Rattle.jclass.specs.Stored.{HasCode, IsIn}
 use Rattle.jclass.proofs.Stored.{code_fits, code_items}
 use Rattle.jlib.specs.declared.side.Side.TheVariants.{Source}
 use Rattle.jlinking.specs.jmembers.Declares as members
-use Rattle.jlinking.specs.jmembers.Declares.{at_member, desc_left_out, desc_missing, is_native, is_synchronized, is_too_long, method_left_out, method_left_out_test, method_test, methods_fault, fields_fault, param_left_out, return_left_out, return_missing, text_left_out, text_missing, type_missing, types_test}
+use Rattle.jlinking.specs.ProofNames
+use Rattle.jlinking.specs.jmembers.Declares.{at_member, desc_left_out, desc_missing, is_native, is_synchronized, is_too_long, method_left_out, method_left_out_test, method_test, methods_fault, fields_fault, param_left_out, text_left_out, text_missing, type_missing, types_test}
+use Rattle.jlinking.specs.ProofNames.{return_left_out, return_missing}
 use Rattle.jmove.specs.Frames.{widths}
 use Rattle.jprogram.specs.declared.fault.LinkKind.{LinkKind}
 use Rattle.jprogram.specs.declared.fault.LinkKind.TheVariants.{LeftOut, NoClass}
@@ -85,7 +87,7 @@ members_none p h =
 pub tested_at : (p : Program) (i k : ℕ) (part : CodePart) (m : MemberInfo) → Links p → slice_get p.parts i ≡ Some part → slice_get part.class.methods k ≡ Some m → Tested p part.class m
 unfolding members.members_fault methods_fault
 tested_at p i k part m links at there =
-    let class = none_fails (λ j x. members.class_fault p j x.class) p.parts i part (members_none p links.rules) at in
+    let class = none_fails (λ j x. ProofNames.class_fault p j x.class) p.parts i part (members_none p links.rules) at in
     let methods = none_of (methods_fault p i part.class) (fields_fault p i part.class) class in
     let test = none_fails (λ j x. at_member i j (method_test p i part.class (take j part.class.methods) j x)) part.class.methods k m methods.0 there in
     tested p i k part.class (take k part.class.methods) m (at_none i k (method_test p i part.class (take k part.class.methods) k m) test)

@@ -34,7 +34,7 @@ use Rattle.jmove.specs.Additions.{context_type}
 use Rattle.jprogram.specs.declared.member.Member.{Member}
 use Rattle.jprogram.specs.declared.member.Member.TheVariants.{LibMethod, Method}
 use Rattle.jprogram.specs.Classes.{Class, Lib, Program, User, above_name, chain, find, found_at, known, onward, place_of}
-use Rattle.jprogram.specs.Members.{info_of, is_final, is_static, lib_method, method_at, method_id, method_in, methods_along, overrides, overrides_at_once, owner_in, owner_of, reach_in, reach_of, user_is}
+use Rattle.jprogram.specs.Members.{info_of, is_final, is_static, lib_method, method_at, method_id, method_in, methods_along, overrides, overrides_at_once, owner_of, reach_in, reach_of, user_is, owner_in}
 use Rattle.jprogram.specs.Naming.{is_reserved}
 use Rattle.jprogram.specs.Parts as parts
 use Rattle.jprogram.specs.Parts.{is_called, member_desc, member_name, super_name, this_name}

@@ -17,15 +17,17 @@ use Rattle.jparts.specs.jpool.Pools.{class_name_at}
 use Rattle.jparts.proofs.JpoolProofs.Spelled.{descriptor_again, descriptor_take}
 use Rattle.jclass.specs.declared.class.ClassParts.{ClassParts}
 use Rattle.jclass.specs.declared.class.MemberInfo.{MemberInfo}
-use Rattle.jclass.specs.Rules.{is_plain_class, names_class}
+use Rattle.jclass.specs.Rules.{names_class, is_plain_class}
 use Rattle.jclass.specs.Stored.{IsIn}
-use Rattle.jlinking.specs.jmembers.Declares.{desc_left_out, desc_missing, param_left_out, return_left_out, return_missing, text_left_out, text_missing, type_missing}
+use Rattle.jlinking.specs.jmembers.Declares.{desc_left_out, desc_missing, param_left_out, text_left_out, text_missing, type_missing}
+use Rattle.jlinking.specs.ProofNames.{return_left_out, return_missing}
 use Rattle.jprogram.specs.declared.fault.LinkKind.{LinkKind}
 use Rattle.jprogram.specs.declared.fault.LinkKind.TheVariants.{NoClass, NotAccessible}
 use Rattle.jprogram.specs.declared.part.CodePart.{CodePart}
 use Rattle.jprogram.specs.Classes.{Program, User, find, found_at, place_of}
-use Rattle.jprogram.specs.Members.{is_public_at, may_name}
-use Rattle.jprogram.specs.Naming.{desc_reserved, member_reserved, return_reserved, text_reserved, type_reserved}
+use Rattle.jprogram.specs.Members.{may_name}
+use Rattle.jprogram.specs.ProofNames.{is_public_at, return_reserved}
+use Rattle.jprogram.specs.Naming.{desc_reserved, member_reserved, text_reserved, type_reserved}
 use Rattle.jprogram.specs.Parts.{member_desc, or_empty, package_of, same_package, this_name}
 use Rattle.jprogram.specs.Supers.{is_missing}
 use Rattle.jlinking.specs.jreferring.Names.{array_or, class_test, class_type, is_array, type_named, type_test}

@@ -5,7 +5,7 @@ use Rattle.std.proofs.lemmas.Bool.{le-leb}
 use Rattle.jparts.specs.declared.jpool.entry.Entry.{Entry}
 use Rattle.jparts.specs.declared.jpool.entry.Entry.TheVariants.{Utf8, NameAndType}
 use Rattle.jparts.specs.jpool.Descriptors.{is_field_descriptor, is_method_descriptor}
-use Rattle.jparts.specs.jpool.Pools.{both_in, class_name_at, name_and_type_at}
+use Rattle.jparts.specs.jpool.Pools.{class_name_at, name_and_type_at}
 use Rattle.jclass.specs.declared.class.ClassParts.{ClassParts}
 use Rattle.jparts.specs.declared.jmaps.types.FullFrame.{FullFrame}
 use Rattle.jmove.specs.declared.method.Expand.{Expand}
@@ -25,6 +25,7 @@ use Rattle.jrewriting.proofs.JmovefileProofs.Texts.{longer_is_method, longer_tex
 use Rattle.jprogram.specs.Classes.{Program}
 use Rattle.jrewriting.proofs.JrewriteProofs.Calls.{Takes, target_on}
 use Rattle.jrewriting.proofs.JrewriteProofs.Targets.{Change, Target, changed_desc}
+use Rattle.jparts.specs.jpool.Entries.{name_and_type_parts}
 
 -- ---- a reference that was put
 
@@ -37,7 +38,7 @@ pub record IsPut (b : Bool) (o n d : List ℕ) (pool : List Entry) (j : ℕ) : T
 
 both_at : (pool : List Entry) (i n d : ℕ) → slice_get pool i ≡ Some (NameAndType n d) → name_and_type_at pool i ≡ Some (n, d)
 unfolding name_and_type_at
-both_at pool i n d at = ap both_in at
+both_at pool i n d at = ap (option_and_then name_and_type_parts) at
 
 put_is : (b : Bool) (o n d : List ℕ) (x : ℕ × List Entry) → IsReferencePut b o n d x → IsPut b o n d x.1 x.0
 put_is b o n d x k = record {

@@ -17,9 +17,9 @@ use Rattle.jprogram.specs.Classes.{Program}
 use Rattle.jprogram.specs.Parts.{code_of, text, this_name}
 use Rattle.jprogram.specs.Naming.{naming_fault}
 use Rattle.jprogram.specs.Supers.{supers_fault}
-use Rattle.jlinking.specs.jmembers.Declares.{members_fault}
+use Rattle.jlinking.specs.jmembers.Declares.{members_fault, at_member as in_method}
 use Rattle.jlinking.specs.declared.jreferring.judged.Judged.{Judged}
-use Rattle.jlinking.specs.jreferring.Code.{body_test, class_fault, code_fault, in_method, method_test}
+use Rattle.jlinking.specs.jreferring.Code.{body_test, class_fault, code_fault, method_test}
 use Rattle.jlinking.specs.jreferring.Entries.{judge_pool}
 use Rattle.jlinking.specs.jlink.Links.{AreParts, Links, domains_rise, link_fault}
 use Rattle.jtyping.specs.Typing.{WellTyped}

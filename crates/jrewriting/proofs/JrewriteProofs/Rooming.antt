@@ -36,8 +36,9 @@ use Rattle.jprogram.specs.Parts.{class_text, or_empty, text}
 use Rattle.jlinking.proofs.JlinkProofs.Having.{first_in}
 use Rattle.jlinking.proofs.JlinkProofs.Selecting.{method_called}
 use Rattle.jmoveclass.specs.declared.limit.Limit.{Limit}
-use Rattle.jmoveclass.specs.Beginning.{params_in, params_of, slots, this_slots}
-use Rattle.jmoveclass.specs.Calls.{calling, calling_library}
+use Rattle.jmoveclass.specs.Beginning.{params_in, params_of, slots}
+use Rattle.jmoveclass.specs.ProofNames.{this_slots}
+use Rattle.jmoveclass.specs.Calls.{calling}
 use Rattle.jmoveclass.specs.Limits.{class_limit}
 use Rattle.jrewriting.specs.jmovefile.Files.{HaveRoom}
 use Rattle.jrewriting.proofs.JmovefileProofs.Methods.{few_slots, has_none}
@@ -120,7 +121,7 @@ is_few _ = true
 few_is : (o : Option Descriptor) (ps : List FieldType) (ret : Option FieldType) → o ≡ Some (descriptors.Method ps ret) → IsTrue (is_few o) → slots_of ps ≤ 254
 few_is o ps ret e h = leb-true (slots_of ps) 254 (subst (λ (x : Option Descriptor). IsTrue (is_few x)) e h)
 
-library_few : (n : ℕ) (m : LibCall) → calling_library n m ≡ kinds.Call n → IsTrue (is_few (descriptor_of (library.desc_of m)))
+library_few : (n : ℕ) (m : LibCall) → calling n (Some (members.LibMethod m)) ≡ kinds.Call n → IsTrue (is_few (descriptor_of (library.desc_of m)))
 unfolding descriptor_of method_of field_of params_at closing_at type_at base_at class_at return_at slots_of is_class_name
 library_few n (calls.Run Source) h = refl
 library_few n (calls.Run Passing) h = refl

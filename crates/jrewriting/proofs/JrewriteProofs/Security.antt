@@ -42,7 +42,8 @@ use Rattle.jlinking.specs.declared.jreferring.judged.MemberUse.{MemberUse}
 use Rattle.jlinking.specs.declared.jreferring.judged.Sort.TheVariants as sort
 use Rattle.jlinking.specs.jreferring.Looking.{named_use}
 use Rattle.jlinking.specs.jreferring.Names.{class_test, desc_test, return_test, type_named, type_test}
-use Rattle.jlinking.specs.jreferring.References.{access_test, call_left_out_test, call_test, call_use_test, called_test, facts_of, is_barred, is_enter, member_use}
+use Rattle.jlinking.specs.jreferring.References.{access_test, call_left_out_test, call_test, call_use_test, called_test, facts_of, is_enter, member_use}
+use Rattle.jlinking.specs.ProofNames.{is_barred}
 use Rattle.jprogram.proofs.Standing.{in_none}
 use Rattle.jrewriting.proofs.JrewriteProofs.Declaring.{differ, first_false, no_again, no_fault, or_join}
 use Rattle.jrewriting.proofs.JrewriteProofs.Membering.{none_or}

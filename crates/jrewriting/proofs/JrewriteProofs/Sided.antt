@@ -6,6 +6,7 @@ use Rattle.jlib.specs.declared.side.Side.{Side}
 use Rattle.jlib.specs.declared.side.Side.TheVariants.{Passing, Source}
 use Rattle.jlib.specs.declared.calls.LibCall.{LibCall}
 use Rattle.jlib.specs.declared.calls.LibCall.TheVariants as call
+use Rattle.jprogram.specs.declared.member.Member.TheVariants as members
 use Rattle.jlib.specs.declared.calls.ThrownInit.TheVariants as given
 use Rattle.jlib.specs.declared.calls.Piece.TheVariants as piece
 use Rattle.jlib.specs.declared.calls.StringCall.TheVariants as string
@@ -18,7 +19,8 @@ use Rattle.jlib.specs.Calls.{call_stands_on, desc_of, is_field, owner}
 use Rattle.jlib.specs.Classes.{name_of}
 use Rattle.jmove.specs.declared.method.Expand.TheVariants.{Same}
 use Rattle.jprogram.specs.Naming.{is_reserved, text_reserved}
-use Rattle.jmoveclass.specs.Calls.{calling_library}
+use Rattle.jmoveclass.specs.Calls.{calling}
+use Rattle.std.specs.Prelude.{Some}
 
 -- a field stands on both sides
 pub field_both : (m : LibCall) → is_field m ≡ true → (side : Side) → call_stands_on side m ≡ true
@@ -76,7 +78,7 @@ field_both (call.Rt rt.PrivilegedWith) h side = absurd cc
 field_both (call.Rt rt.PrivilegedLimited) h side = absurd cc
 
 -- what is called as before stands on the passing side
-pub same_stands : (n : ℕ) (m : LibCall) → calling_library n m ≡ Same → call_stands_on Passing m ≡ true
+pub same_stands : (n : ℕ) (m : LibCall) → calling n (Some (members.LibMethod m)) ≡ Same → call_stands_on Passing m ≡ true
 same_stands n call.ObjectInit h = refl
 same_stands n (call.ThrownInit one given.Message) h = refl
 same_stands n (call.ThrownInit one given.Nothing) h = refl

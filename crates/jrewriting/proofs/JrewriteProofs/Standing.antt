@@ -1,6 +1,6 @@
 -- The first two phases of linking find nothing in the moved program: names, and what classes extend and list.
 use Rattle.std.proofs.Common.{◌≡◌, ℕ, zero, suc, ◌+◌, Bool, true, false, not, List, [], ◌∷◌, ◌++◌, length, map, Option, Some, None, refl, ap, sym, ◌∙◌, subst}
-use Rattle.std.specs.Prelude.{IsTrue, is_some, option_map, option_and_then, slice_get, ◌||◌, ◌==◌, if◌then◌else◌}
+use Rattle.std.specs.Prelude.{IsTrue, is_some, option_map, option_and_then, slice_get, ◌||◌, ◌==◌, if◌then◌else◌, nat_lt}
 use Rattle.std.specs.List.{list_all, list_any}
 use Rattle.std.specs.Option.{option_to_list}
 use Rattle.std.specs.Str.{bytes_eq}
@@ -10,11 +10,11 @@ use Rattle.jground.proofs.JbaseProofs.Firsts.{all_pass, none_fails, none_of}
 use Rattle.jground.proofs.JformatProofs.Steps.{first_true, second_true}
 use Rattle.jparts.specs.declared.jpool.entry.Entry.{Entry}
 use Rattle.jparts.specs.declared.jpool.entry.Entry.TheVariants.{Unused, Utf8, Integer, Float, Long, Double, Class, Str, Field, Method, InterfaceMethod, NameAndType, MethodHandle, MethodType, InvokeDynamic}
-use Rattle.jparts.specs.jpool.Pools.{class_name_at, name_in, utf8_at}
+use Rattle.jparts.specs.jpool.Pools.{class_name_at, utf8_at}
 use Rattle.jclass.specs.declared.class.ClassParts.{ClassParts}
 use Rattle.jclass.specs.declared.fault.ClassFault.TheVariants.{Index}
 use Rattle.jclass.specs.Basics.{index, u2}
-use Rattle.jclass.specs.Rules.{is_plain_class, names_class, names_super}
+use Rattle.jclass.specs.Rules.{names_class, names_super, is_plain_class}
 use Rattle.jlib.specs.declared.side.Side.TheVariants.{Source, Passing}
 use Rattle.jlib.specs.declared.classes.LibClass.{LibClass}
 use Rattle.jlib.specs.Classes as library
@@ -23,17 +23,24 @@ use Rattle.jprogram.specs.declared.fault.LinkKind.{LinkKind}
 use Rattle.jprogram.specs.declared.fault.LinkKind.TheVariants.{ReservedName, Twice}
 use Rattle.jprogram.specs.declared.part.CodePart.{CodePart}
 use Rattle.jprogram.specs.Classes as classes
-use Rattle.jprogram.specs.Classes.{Lib, Program, User, above, above_name, face_names, faces, faces_of, find, holds, is_interface, known, reaches, supers}
-use Rattle.jprogram.specs.Naming.{entry_reserved, in_class, is_before, is_reserved, member_reserved, names_reserved, naming_fault, naming_test, reserved_on, reserved_test, stands_before, taken_test, text_reserved}
+use Rattle.jprogram.specs.Classes.{Lib, Program, User, above, above_name, face_names, faces, find, holds, is_interface, known, reaches, faces_of}
+use Rattle.jprogram.specs.ProofNames.{supers, reserved_on, is_barred, is_no_interface, super_missing}
+use Rattle.jprogram.specs.Naming.{entry_reserved, in_class, is_reserved, member_reserved, names_reserved, naming_fault, naming_test, reserved_test, stands_before, taken_test, text_reserved}
 use Rattle.jprogram.specs.Parts as parts
 use Rattle.jprogram.specs.Parts.{class_text, interface_names, or_empty, super_name, text, this_name}
-use Rattle.jprogram.specs.Supers.{circle_test, face_missing, is_barred, is_missing, is_no_interface, is_object, lists_a_class, missing_test, super_barred, super_missing, super_test, supers_fault, supers_test}
+use Rattle.jprogram.specs.Supers.{circle_test, face_missing, is_missing, is_object, lists_a_class, missing_test, super_barred, super_test, supers_fault, supers_test}
 use Rattle.jmoveclass.specs.Moved.{moved_class, moved_part}
 use Rattle.jmoveclass.proofs.Keeping.{good_is}
 use Rattle.jrewriting.specs.jrewrite.Program.{moved}
 use Rattle.jrewriting.proofs.JrewriteProofs.Finding.{AllNamed, IsMovedClass, Named, SameFound, above_same, faces_same, found_same, named_at, part_moved, place_same, this_same}
 use Rattle.jrewriting.proofs.JrewriteProofs.Sides.{same_named, source_plain}
 use Rattle.jrewriting.proofs.JrewriteProofs.Starting.{or_false}
+use Rattle.jparts.specs.jpool.Entries.{class_parts}
+
+-- ---- names for what definitions say in place
+
+abbrev is_before : ℕ → Option ℕ → Bool
+is_before i = elim [ None ↦ false | Some first ↦ nat_lt first i ]
 
 -- ---- what no test finds
 
@@ -63,7 +70,7 @@ false_or false b h k = k
 
 -- ---- names that are kept for the passing side
 
-plain_in : (pool : List Entry) (i : ℕ) (name : List ℕ) (o : Option Entry) → slice_get pool i ≡ o → list_any (entry_reserved pool) pool ≡ false → option_and_then (utf8_at pool) (name_in o) ≡ Some name → is_reserved name ≡ false
+plain_in : (pool : List Entry) (i : ℕ) (name : List ℕ) (o : Option Entry) → slice_get pool i ≡ o → list_any (entry_reserved pool) pool ≡ false → option_and_then (utf8_at pool) (option_and_then class_parts o) ≡ Some name → is_reserved name ≡ false
 plain_in pool i name (Some (Class n)) at h e =
     let kept = any_false (entry_reserved pool) pool i (Class n) h at in
     ap (λ (o : Option (List ℕ)). is_reserved (or_empty o)) (sym e) ∙ (or_false (is_reserved (text pool n)) (text_reserved (text pool n)) kept).0

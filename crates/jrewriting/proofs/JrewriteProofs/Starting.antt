@@ -21,15 +21,17 @@ use Rattle.jtypes.specs.declared.vtype.Name.{Name}
 use Rattle.jtypes.specs.declared.vtype.VType.{VType}
 use Rattle.jtypes.specs.declared.vtype.VType.TheVariants as types
 use Rattle.jtypes.specs.Frames.{places}
-use Rattle.jmove.specs.Frames.{width}
-use Rattle.jlinking.specs.jmembers.Declares.{param_left_out, return_left_out, return_missing, type_missing}
+use Rattle.jmove.specs.ProofNames.{width}
+use Rattle.jlinking.specs.jmembers.Declares.{param_left_out, type_missing}
+use Rattle.jlinking.specs.ProofNames.{return_left_out, return_missing}
 use Rattle.jprogram.specs.LeftOut.{is_floating}
 use Rattle.jprogram.specs.Classes.{Program, find}
 use Rattle.jprogram.specs.Parts.{is_static, member_desc, this_name}
 use Rattle.jprogram.specs.Supers.{is_missing}
 use Rattle.jmeaning.specs.juses.Typed.{called, element_in, name, return_in, there, type_in, type_of, typed}
 use Rattle.jtyping.specs.Methods as typing
-use Rattle.jtyping.specs.Methods.{method_of, receiver, this_type}
+use Rattle.jtyping.specs.Methods.{method_of, receiver}
+use Rattle.jtyping.specs.ProofNames.{this_type}
 use Rattle.jmoveclass.specs.Beginning.{bare_beginning, bare_this, is_reference, item, this_item}
 use Rattle.jprogram.specs.Members.{is_init}
 use Rattle.jrewriting.proofs.JrewriteProofs.Widths.{Under, some_place, under_append}

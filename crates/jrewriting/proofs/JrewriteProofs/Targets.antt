@@ -33,7 +33,8 @@ use Rattle.jprogram.specs.declared.member.MethodId.{MethodId}
 use Rattle.jprogram.specs.declared.part.CodePart.{CodePart}
 use Rattle.jprogram.specs.Classes.{Program}
 use Rattle.jprogram.specs.Members.{desc_in, desc_of, is_static, looked_up, referred, resolve_method, user_is}
-use Rattle.jprogram.specs.Naming.{class_reserved, desc_reserved, is_reserved, names_reserved, return_reserved, text_reserved, type_reserved}
+use Rattle.jprogram.specs.Naming.{class_reserved, desc_reserved, is_reserved, names_reserved, text_reserved, type_reserved}
+use Rattle.jprogram.specs.ProofNames.{return_reserved}
 use Rattle.jprogram.specs.Parts as parts
 use Rattle.jprogram.specs.Parts.{member_desc, or_empty, text}
 use Rattle.jlinking.specs.declared.jreferring.judged.Judged.TheVariants as judged
@@ -46,11 +47,13 @@ use Rattle.jlinking.specs.jreferring.Looking.{named_use}
 use Rattle.jlinking.specs.jreferring.Names.{desc_test, is_array, return_test, type_named, type_test}
 use Rattle.jprogram.specs.LeftOut.{is_context}
 use Rattle.jlinking.specs.jreferring.References.{facts_of, gives_context, has_contexts, is_crossed, is_enter, member_use, misplaces_context}
-use Rattle.jlinking.specs.jreferring.Units.{member_at, member_in}
+use Rattle.jlinking.specs.jreferring.Units.{member_at}
+use Rattle.jlinking.specs.ProofNames.{member_in}
 use Rattle.jlinking.specs.jlink.Sound.{is_sound_method}
 use Rattle.jlinking.proofs.JlinkProofs.Declared.{method_resolved}
-use Rattle.jmoveclass.specs.Beginning.{params_in, params_of, slots, this_slots}
-use Rattle.jmoveclass.specs.Calls.{calling, calling_library}
+use Rattle.jmoveclass.specs.Beginning.{params_in, params_of, slots}
+use Rattle.jmoveclass.specs.ProofNames.{this_slots}
+use Rattle.jmoveclass.specs.Calls.{calling}
 use Rattle.jmoveclass.specs.Methods.{new_desc}
 use Rattle.jmoveclass.proofs.Short.{moved_short}
 use Rattle.jrewriting.proofs.JmovefileProofs.Calling.{kind_in, reference_of}
@@ -222,7 +225,7 @@ small calls.ContextCheck h = absurd cc
 small (calls.PermissionInit one) h = absurd cc
 small (calls.Rt one) h = absurd cc
 
-run_is : (n : ℕ) (m : LibCall) → calling_library n m ≡ kinds.Call n → is_run m ≡ true
+run_is : (n : ℕ) (m : LibCall) → calling n (Some (members.LibMethod m)) ≡ kinds.Call n → is_run m ≡ true
 run_is n (calls.Run side) h = refl
 run_is n (calls.RunAction side) h = refl
 run_is n (calls.Thread (thread.Init side)) h = refl

@@ -9,7 +9,8 @@ use Rattle.jparts.specs.declared.jcode.names.CallOp.TheVariants as callops
 use Rattle.jprogram.specs.declared.fault.LinkKind.TheVariants.{BadUse, LeftOut}
 use Rattle.jlinking.specs.declared.jreferring.judged.MemberFacts.{MemberFacts}
 use Rattle.jlinking.specs.declared.jreferring.judged.MemberUse.{MemberUse}
-use Rattle.jlinking.specs.jreferring.References.{access_test, call_left_out_test, call_test, called_by_interface_test, called_test, calls_static, counts, differs, interface_test, is_misused, is_miscalled, is_virtual}
+use Rattle.jlinking.specs.jreferring.References.{access_test, call_left_out_test, call_test, called_by_interface_test, called_test, counts, differs, interface_test, is_misused, is_miscalled}
+use Rattle.jlinking.specs.ProofNames.{calls_static, is_virtual}
 use Rattle.jrewriting.proofs.JrewriteProofs.Declaring.{first_false, no_again, no_fault, or_join, second_false}
 use Rattle.jrewriting.proofs.JrewriteProofs.Membering.{none_or}
 

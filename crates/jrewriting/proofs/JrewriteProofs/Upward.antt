@@ -13,8 +13,9 @@ use Rattle.jlib.specs.declared.classes.LibClass.{LibClass}
 use Rattle.jprogram.specs.declared.fault.LinkKind.{LinkKind}
 use Rattle.jprogram.specs.Classes.{Class, Lib, Program, User, above_name, chain, extends, face_names, find, holds, is_public, known, over, superinterfaces, up}
 use Rattle.jprogram.specs.Classes as classes
-use Rattle.jprogram.specs.Members.{is_public_at, may_name}
-use Rattle.jprogram.specs.Naming.{class_reserved, desc_reserved, is_reserved, return_reserved, text_reserved, type_reserved}
+use Rattle.jprogram.specs.Members.{may_name}
+use Rattle.jprogram.specs.ProofNames.{is_public_at, return_reserved}
+use Rattle.jprogram.specs.Naming.{class_reserved, desc_reserved, is_reserved, text_reserved, type_reserved}
 use Rattle.jprogram.specs.Parts as parts
 use Rattle.jlinking.specs.jreferring.Names.{array_or, class_test, class_type, desc_test, is_array, return_test, type_named, type_test}
 use Rattle.jlinking.specs.jreferring.Operands.{class_use, is_no_maker, is_unmade}

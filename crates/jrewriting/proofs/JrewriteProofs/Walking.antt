@@ -1,13 +1,13 @@
 -- What is put for the methods of a class: for each code what its items, its instructions and its frames name.
 use Rattle.std.proofs.Common.{◌≡◌, ℕ, suc, ◌≤◌, Bool, true, false, List, [], ◌∷◌, ◌++◌, length, Some, None, refl, ap, sym, ◌∙◌, subst, arith}
-use Rattle.std.specs.Prelude.{IsTrue, slice_get, if◌then◌else◌}
+use Rattle.std.specs.Prelude.{IsTrue, slice_get, if◌then◌else◌, option_and_then}
 use Rattle.std.specs.List.{AllByRecursion, list_all}
 use Rattle.jground.specs.jbase.First.{first_some}
 use Rattle.jground.proofs.JbaseProofs.Firsts.{none_of}
 use Rattle.jground.proofs.JformatProofs.Steps.{first_true, second_true}
 use Rattle.jparts.specs.declared.jpool.entry.Entry.{Entry}
 use Rattle.jparts.specs.declared.jpool.entry.Entry.TheVariants.{Utf8}
-use Rattle.jparts.specs.jpool.Pools.{text_in, utf8_at}
+use Rattle.jparts.specs.jpool.Pools.{utf8_at}
 use Rattle.jparts.specs.declared.jcode.op.Op.{Op}
 use Rattle.jparts.specs.declared.jcode.op.Op.TheVariants as ops
 use Rattle.jparts.specs.declared.jcode.op.Placed.{Placed}
@@ -29,14 +29,14 @@ use Rattle.jprogram.specs.declared.part.CodePart.{CodePart}
 use Rattle.jprogram.specs.Classes.{Program}
 use Rattle.jprogram.specs.Parts.{code_of, member_desc, or_empty, text, this_name}
 use Rattle.jlinking.specs.jreferring.Beginning.{first_frame_test}
-use Rattle.jlinking.specs.jreferring.Code.{body_test, frames_test, in_method, units_test}
+use Rattle.jlinking.specs.jreferring.Code.{body_test, frames_test, units_test}
 use Rattle.jlinking.specs.jreferring.Entries.{judge_pool}
 use Rattle.jlinking.specs.jreferring.Units.{attribute_test}
 use Rattle.jlinking.proofs.JlinkProofs.There.{class_none, code_good, code_none}
 use Rattle.jtyping.specs.Typing.{WellTyped}
 use Rattle.jmoveclass.specs.Calls.{calling, expand_by, expands}
 use Rattle.jmoveclass.specs.Kept.{method_keeps}
-use Rattle.jmoveclass.specs.Methods.{frames_in, method_in, new_desc, with_attribute, with_code, with_first, with_method}
+use Rattle.jmoveclass.specs.Methods.{method_in, new_desc, with_attribute, with_code, with_first, with_method}
 use Rattle.jmoveclass.specs.Moved.{moved_class}
 use Rattle.jmoveclass.specs.Puts.{with_each}
 use Rattle.jmoveclass.proofs.Fronts.{text_stays}
@@ -66,6 +66,9 @@ use Rattle.jrewriting.proofs.JrewriteProofs.Rooming.{all_few}
 use Rattle.jrewriting.proofs.JrewriteProofs.Security.{IsPassing}
 use Rattle.jrewriting.proofs.JrewriteProofs.Standing.{names_stay, plain_at, text_plain}
 use Rattle.jrewriting.proofs.JrewriteProofs.Targets.{Target, change_of}
+use Rattle.jparts.specs.jpool.Entries.{utf8_parts}
+use Rattle.jlinking.specs.jmembers.Declares.{at_member as in_method}
+use Rattle.jclass.specs.Codes.{frames_in}
 
 -- ---- what is known of a class
 
@@ -240,7 +243,7 @@ MethodsPut p c d domain _ _ = ⊥
 
 text_put : (pool whole : List Entry) → IsFront pool whole → (i : ℕ) (t : List ℕ) → slice_get pool i ≡ Some (Utf8 t) → text whole i ≡ t
 unfolding utf8_at
-text_put pool whole f i t at = ap or_empty (text_stays pool whole f i t (ap text_in at))
+text_put pool whole f i t at = ap or_empty (text_stays pool whole f i t (ap (option_and_then utf8_parts) at))
 
 methods_put : (p : Program) (c d : ClassParts) → Known p c d → (domain : ℕ) → CanBeFile p domain c → ((m : MemberInfo) → IsIn m c.methods → OfMethod p c m) → (ms : List MemberInfo) → ((i : ℕ) (m : MemberInfo) → slice_get ms i ≡ Some m → IsIn m c.methods)
     → (pool : List Entry) → Grown c.pool pool → length (with_each (with_method p c domain) ms pool).1 ≤ 65535 → IsFront (with_each (with_method p c domain) ms pool).1 d.pool

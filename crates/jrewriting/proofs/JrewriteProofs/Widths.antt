@@ -7,7 +7,8 @@ use Rattle.jparts.specs.declared.jmaps.types.MapType.TheVariants as items
 use Rattle.jparts.specs.jmaps.Full.{chopped, locals_after}
 use Rattle.jtypes.specs.declared.vtype.VType.{VType}
 use Rattle.jtypes.specs.Frames.{is_long, places, places_of}
-use Rattle.jmove.specs.Frames.{width, widths}
+use Rattle.jmove.specs.Frames.{widths}
+use Rattle.jmove.specs.ProofNames.{width}
 use Rattle.jparts.specs.declared.jpool.entry.Entry.{Entry}
 use Rattle.jprogram.specs.Classes.{Program}
 use Rattle.jtyping.specs.Declared.{item}

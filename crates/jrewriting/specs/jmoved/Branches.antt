@@ -6,7 +6,8 @@ use Rattle.jparts.specs.jcode.Forms.{form, branches}
 use Rattle.jparts.specs.jcode.Instructions as jcode
 use Rattle.jmove.specs.declared.method.Expand.{Expand}
 use Rattle.jmove.specs.declared.method.Setting.{Setting}
-use Rattle.jmove.specs.Lines.{end_of, distance, with_branches}
+use Rattle.jmove.specs.Lines.{end_of, with_branches}
+use Rattle.jmove.specs.ProofNames.{distance}
 use Rattle.jmove.specs.Moved.{lines}
 use Rattle.jrewriting.specs.jmoved.Numbers.{IsNth, index_of, moved, new_place}
 

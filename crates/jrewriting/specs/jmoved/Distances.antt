@@ -5,7 +5,8 @@ use Rattle.jparts.specs.declared.jcode.op.Op.{Op}
 use Rattle.jparts.specs.declared.jcode.op.Placed.{Placed}
 use Rattle.jmove.specs.declared.method.Expand.{Expand}
 use Rattle.jmove.specs.declared.method.Setting.{Setting}
-use Rattle.jmove.specs.Lines.{end_of, distance}
+use Rattle.jmove.specs.Lines.{end_of}
+use Rattle.jmove.specs.ProofNames.{distance}
 use Rattle.jmove.specs.Moved.{lines}
 use Rattle.jrewriting.specs.jmoved.Numbers.{new_place}
 

@@ -6,8 +6,8 @@ use Rattle.jparts.specs.declared.jmaps.types.FullFrame.{FullFrame}
 use Rattle.jparts.specs.declared.jmaps.types.MapType.{MapType}
 use Rattle.jparts.specs.jmaps.Full.{can_write, full_forms, items_fit}
 use Rattle.jclass.specs.declared.class.CodeBody.{CodeBody}
-use Rattle.jclass.specs.Codes.{maps, named_type}
-use Rattle.jmoveclass.specs.Methods.{frames_in, frames_of}
+use Rattle.jclass.specs.Codes.{maps, named_type, frames_in}
+use Rattle.jmoveclass.specs.Methods.{frames_of}
 
 -- the classes that the items of frames name stand in a pool
 abbrev pub AreThere : List Entry → List FullFrame → Type 0

@@ -1,6 +1,6 @@
 -- The lines of the text of a run, counted: as many of each kind as its events.
 use Rattle.std.proofs.Common.{◌≡◌, ◌==◌, ℕ, ◌+◌, Bool, true, cond, List, [], ◌∷◌, ◌++◌, codes, decimal, refl, sym, ap, ◌∙◌, append_assoc, arith}
-use Rattle.std.specs.List.{count_by, flat_map, starts_with}
+use Rattle.std.specs.List.{count_by, flat_map, starts_with, slice_split}
 use Rattle.std.proofs.lemmas.List.Concat.{flat_map-cons}
 use Rattle.std.proofs.lemmas.List.Sums.{sum_by-cons}
 use Rattle.jrights.specs.jio.Text.{written}
@@ -11,9 +11,15 @@ use Rattle.jrights.specs.declared.jtrace.event.End.{End}
 use Rattle.jrights.specs.declared.jtrace.event.End.TheVariants as ends
 use Rattle.jrights.specs.jtrace.Lines.{end_line, line, lines, text, told}
 use Rattle.jrights.specs.declared.jtally.counts.Counts.{Counts}
-use Rattle.jrights.specs.jtally.Counting.{counts_in, lines_in, lines_with}
+use Rattle.jrights.specs.jtally.Counting.{counts_in, lines_with}
 use Rattle.jrights.specs.jtally.Events.{counted, none, with_event}
 use Rattle.jrights.proofs.JtallyProofs.Clean.{clean, clean_both, clean_decimal, clean_written, first_line}
+
+-- ---- names for what definitions say in place
+
+-- the lines of a text, parted by line feeds
+abbrev lines_in : List ℕ → List (List ℕ)
+lines_in bytes = slice_split (λ b. b == 10) bytes
 
 -- ---- the line of an event
 

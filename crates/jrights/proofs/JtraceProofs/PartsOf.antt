@@ -6,7 +6,8 @@ use Rattle.std.proofs.lemmas.List.{append-nil, take_more_set, take_all}
 use Rattle.jrights.specs.jio.Text.{written, written_unit}
 use Rattle.jrights.specs.jio.LineOf.{part_of, part_room, line_of, room_of}
 use Rattle.jrights.specs.declared.jio.parts.Part.{Part}
-use Rattle.jrights.specs.jtrace.Lines.{told, checked, behind_denial, line_feed, texts, room}
+use Rattle.jrights.specs.jtrace.Lines.{told, checked, texts, room}
+use Rattle.jrights.specs.ProofNames.{behind_denial, line_feed}
 
 written_both : (a b : List ℕ) → written (a ++ b) ≡ written a ++ written b
 unfolding written

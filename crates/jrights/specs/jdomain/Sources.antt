@@ -17,31 +17,19 @@ use Rattle.jrights.specs.declared.jdomain.fault.SourceError.TheVariants.{NotUrl,
 
 -- ---- texts that are URLs
 
--- the most bytes of a URL
-abbrev pub most_url : ℕ
-most_url = 65536
-
 -- the URL that a text of UTF-8 is, if it is one and isn't too long
 unfoldable pub url_of : List ℕ → Option Parts
-url_of text = if nat_le (length text) most_url then result_ok (parse_url None text) else None
-
--- the text of UTF-8 that units of UTF-16 are, if each surrogate has its partner
-abbrev pub text_of : List ℕ → Option (List ℕ)
-text_of units = if has_unpaired_surrogate units then None else Some (encode_utf8_all (utf16_lossy_chars units))
+url_of text = if nat_le (length text) 65536 then result_ok (parse_url None text) else None
 
 -- the URL that units of UTF-16 are, if they are one
 unfoldable pub url_of_units : List ℕ → Option Parts
-url_of_units units = option_and_then url_of (text_of units)
+url_of_units units = option_and_then url_of (if has_unpaired_surrogate units then None else Some (encode_utf8_all (utf16_lossy_chars units)))
 
 -- ---- code sources
 
--- whether a path is that of a directory
-abbrev pub ends_in_slash : List ℕ → Bool
-ends_in_slash path = ends_with nat_eq path (codes "/")
-
 -- the code source that a text is, or why it is none
 unfoldable pub source_of : List ℕ → Result Parts SourceError
-source_of text = ok_or (url_of text) NotUrl >>= λ url. if ends_in_slash url.path then Ok url else Err NotDirectory
+source_of text = ok_or (url_of text) NotUrl >>= λ url. if ends_with nat_eq url.path (codes "/") then Ok url else Err NotDirectory
 
 -- the call answers what the definition gives, unless memory runs out
 abbrev pub SourceGives : Result Parts SourceError → Result Parts SourceError → Type 0

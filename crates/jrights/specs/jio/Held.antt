@@ -21,13 +21,9 @@ PathsDiffer (file ∷ files) = (file_at files file.path ≡ None) × PathsDiffer
 abbrev pub most_read : ℕ
 most_read = 67108864
 
--- The bytes, where they are few enough to be read.
-abbrev pub short_enough : Option (List ℕ) → Option (List ℕ)
-short_enough = elim [ None ↦ None | Some bytes ↦ if nat_le (length bytes) most_read then Some bytes else None ]
-
 -- What a read of the path gives.
 abbrev pub readable : List File → List ℕ → Option (List ℕ)
-readable files path = short_enough (file_at files path)
+readable files path = elim (file_at files path) [ None ↦ None | Some bytes ↦ if nat_le (length bytes) most_read then Some bytes else None ]
 
 -- What is told gives these bytes at the path.
 abbrev pub Told : Option (List File) → List ℕ → List ℕ → Type 0

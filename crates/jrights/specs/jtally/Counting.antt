@@ -7,13 +7,9 @@ use Rattle.jrights.specs.jtrace.Lines.{end_line, text}
 use Rattle.jrights.specs.declared.jtally.counts.Counts.{Counts}
 use Rattle.jrights.specs.declared.jtally.counts.Tally.{Tally}
 
--- the lines of a text, parted by line feeds
-abbrev pub lines_in : List ℕ → List (List ℕ)
-lines_in bytes = slice_split (λ b. b == 10) bytes
-
 -- how many lines of a text begin with a word
 abbrev pub lines_with : List ℕ → List ℕ → ℕ
-lines_with word bytes = count_by (λ line. starts_with ◌==◌ line word) (lines_in bytes)
+lines_with word bytes = count_by (λ line. starts_with ◌==◌ line word) (slice_split (λ b. b == 10) bytes)
 
 -- how many lines of a text tell of a grant, of a denial, of an exception that was raised, and of a text that was printed
 unfoldable pub counts_in : List ℕ → Counts

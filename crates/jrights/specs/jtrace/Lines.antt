@@ -10,9 +10,6 @@ use Rattle.jrights.specs.declared.jtrace.event.Event.TheVariants as events
 use Rattle.jrights.specs.declared.jtrace.event.End.{End}
 use Rattle.jrights.specs.declared.jtrace.event.End.TheVariants as ends
 
-abbrev pub line_feed : List ℕ
-line_feed = 10 ∷ []
-
 -- a word, the thread's number, a text as texts are written in lines, and what stands behind it
 abbrev pub told : List ℕ → ℕ → List ℕ → List ℕ → List ℕ
 told word thread text behind = word ++ (decimal thread ++ (codes " " ++ (written text ++ behind)))
@@ -21,17 +18,13 @@ told word thread text behind = word ++ (decimal thread ++ (codes " " ++ (written
 abbrev pub checked : List ℕ → ℕ → List ℕ → List ℕ
 checked word thread text = word ++ (decimal thread ++ (codes " " ++ written text))
 
--- what stands behind a denied permission
-abbrev pub behind_denial : ℕ → List ℕ
-behind_denial domain = codes " domain " ++ (decimal domain ++ line_feed)
-
 -- the line of an event
 unfoldable pub line : Event → List ℕ
-line (events.Out thread text) = told (codes "out ") thread text line_feed
-line (events.Grant thread asked) = told (codes "grant ") thread (text_of asked) line_feed
-line (events.Deny thread asked domain) = told (codes "deny ") thread (text_of asked) (behind_denial domain)
-line (events.Throw thread class) = told (codes "throw ") thread class line_feed
-line (events.Uncaught thread class) = told (codes "uncaught ") thread class line_feed
+line (events.Out thread text) = told (codes "out ") thread text (codes "\n")
+line (events.Grant thread asked) = told (codes "grant ") thread (text_of asked) (codes "\n")
+line (events.Deny thread asked domain) = told (codes "deny ") thread (text_of asked) (codes " domain " ++ (decimal domain ++ codes "\n"))
+line (events.Throw thread class) = told (codes "throw ") thread class (codes "\n")
+line (events.Uncaught thread class) = told (codes "uncaught ") thread class (codes "\n")
 
 -- the most units of an event that is written
 abbrev pub most_units : ℕ

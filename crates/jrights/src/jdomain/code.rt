@@ -1,5 +1,6 @@
 ghost use Rattle.std.specs.Prelude.{◌≡◌, ◌++◌, IfOk, bytes_eq, codes};
-ghost use Rattle.jrights.specs.jdomain.Sources.{code_of, ends_in_slash, paths_match, ports_agree, stands_for, url_of, url_of_units, written_host};
+ghost use Rattle.jrights.specs.jdomain.Sources.{code_of, paths_match, ports_agree, stands_for, url_of, url_of_units, written_host};
+ghost use Rattle.jrights.specs.ProofNames.{ends_in_slash};
 
 use jground::jtext::Units;
 use jpolicy::Grant;

@@ -1,6 +1,7 @@
 ghost use Rattle.std.specs.Prelude.{◌≡◌, IfOk, IsAscii, IsTrue};
 ghost use Rattle.url.specs.Parts.{serialize};
-ghost use Rattle.jrights.specs.jdomain.Sources.{SourceGives, ends_in_slash, is_in, matches, source_of};
+ghost use Rattle.jrights.specs.jdomain.Sources.{SourceGives, is_in, matches, source_of};
+ghost use Rattle.jrights.specs.ProofNames.{ends_in_slash};
 
 use crate::jdomain::code::{Code, ends_in_slash, stands_for, url_of};
 use crate::jdomain::fault::SourceError;
@@ -23,7 +24,7 @@ impl Model for CodeSource {
 
     ghost coded = { parts_code };
 
-    ghost use Rattle.jrights.specs.jdomain.Sources.{ends_in_slash};
+    ghost use Rattle.jrights.specs.ProofNames.{ends_in_slash};
 
     ghost view = { λ s. s.url };
 

@@ -1,7 +1,8 @@
 ghost use Rattle.std.specs.Prelude.{◌≡◌, ◌≤◌, ◌<◌, ◌∷◌, ◌++◌, [], IfErr, OnOk, length};
 ghost use Rattle.jground.specs.jbase.Causes.{HasCause, appended};
 ghost use Rattle.jrights.specs.jio.Puts.{IsCutAt};
-ghost use Rattle.jrights.specs.jtrace.Lines.{end_line, line_feed};
+ghost use Rattle.jrights.specs.jtrace.Lines.{end_line};
+ghost use Rattle.jrights.specs.ProofNames.{line_feed};
 ghost use Rattle.jrights.specs.jtally.Counting.{tally_line};
 
 use crate::jio::{Part, PutFault, Sink, write_line};

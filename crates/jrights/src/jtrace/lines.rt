@@ -2,7 +2,8 @@ ghost use Rattle.std.specs.Prelude.{◌≡◌, ◌+◌, ◌*◌, ◌<◌, ◌≤
 ghost use Rattle.jground.specs.jbase.Causes.{HasCause, appended};
 ghost use Rattle.jrights.specs.jio.Puts.{IsCutAt};
 ghost use Rattle.jperm.specs.Texts.{text_of};
-ghost use Rattle.jrights.specs.jtrace.Lines.{line, end_line, line_feed, told, checked, behind_denial, most_units, units_of, texts, room};
+ghost use Rattle.jrights.specs.jtrace.Lines.{line, end_line, told, checked, most_units, units_of, texts, room};
+ghost use Rattle.jrights.specs.ProofNames.{line_feed, behind_denial};
 
 use crate::jio::{Part, PutFault, Sink, put_all, write_line};
 use crate::jtrace::event::{End, Event};

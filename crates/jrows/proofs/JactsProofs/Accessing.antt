@@ -35,7 +35,7 @@ use Rattle.jmodel.specs.jmachine.Doing.{doing}
 use Rattle.jmodel.specs.jmachine.Frames.{standing}
 use Rattle.jmodel.specs.jmachine.Narrowing.{place}
 use Rattle.jmodel.specs.jmachine.Objects.{Array}
-use Rattle.jmodel.specs.jmachine.Operands.{Taken, serves, serves_as, taken}
+use Rattle.jmodel.specs.jmachine.Operands.{Taken, serves, taken, serves_as}
 use Rattle.jmodel.specs.jmachine.Store.{Store, object_at}
 use Rattle.jmodel.specs.jmachine.World.{World}
 use Rattle.jmodel.specs.declared.jstate.shapes.Shapes.{Shapes}

@@ -28,7 +28,7 @@ use Rattle.jmodel.specs.jmachine.Arrays as rows
 use Rattle.jmodel.specs.jmachine.Doing.{doing}
 use Rattle.jmodel.specs.jmachine.Frames.{standing}
 use Rattle.jmodel.specs.jmachine.Objects.{Object, Array, class_of, is_ready}
-use Rattle.jmodel.specs.jmachine.Operands.{found_type, serves, serves_as, taken}
+use Rattle.jmodel.specs.jmachine.Operands.{serves, taken, serves_as, found_type}
 use Rattle.jmodel.specs.jmachine.Store.{Store, object_at}
 use Rattle.jmodel.specs.jmachine.World.{World}
 use Rattle.jmodel.specs.declared.jstate.shapes.Shape.{Shape}

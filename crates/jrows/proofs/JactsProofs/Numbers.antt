@@ -13,7 +13,7 @@ use Rattle.jtypes.specs.declared.vtype.VType.{VType}
 use Rattle.jmeaning.specs.jrule.Effects.{Of, of_kinds}
 use Rattle.jmeaning.specs.jrule.Effects as types
 use Rattle.jmodel.specs.jmachine.Objects.{Object, Instance, Thrown, Text, Builder, Piece, Permission, Context, Thread, Bare, Array, class_of, is_ready}
-use Rattle.jmodel.specs.jmachine.Operands.{Taken, found_type, serves, serves_as, taken, with_value}
+use Rattle.jmodel.specs.jmachine.Operands.{Taken, serves, taken, with_value, serves_as, found_type}
 use Rattle.jmodel.specs.jmachine.Store.{Store, object_at}
 use Rattle.jmodel.specs.jmachine.World.{World}
 

@@ -22,7 +22,7 @@ use Rattle.jground.specs.declared.jops.value.Value.{Value}
 use Rattle.jground.specs.declared.jops.value.Value.TheVariants.{Int, Long, Ref, Ctx}
 use Rattle.jground.specs.jops.Kinds.{is_of}
 use Rattle.jprogram.specs.Classes.{Program}
-use Rattle.jmeaning.specs.jrule.Arrays.{operands}
+use Rattle.jmeaning.specs.jrule.Arrays.{operands, component}
 use Rattle.jmeaning.specs.jrule.Effects.{Of, Holds, Want, items_of, same_items}
 use Rattle.jmeaning.specs.jrule.Effects as rules
 use Rattle.jtypes.specs.declared.vtype.Element as elements_of
@@ -62,6 +62,7 @@ use Rattle.jrows.proofs.JactsProofs.Arraying.{IsHere, front_null, is_here}
 use Rattle.jrows.proofs.JactsProofs.Costs.{goes_free}
 use Rattle.jrows.proofs.JactsProofs.Jumping.{no_int}
 use Rattle.jrows.proofs.JactsProofs.Numbers.{IsNumber, none_of, serves_by}
+use Rattle.jmodel.specs.jmachine.Making.{is_one}
 
 -- ---- numbers in arrays
 
@@ -142,7 +143,7 @@ fits_itself w items.Char = refl
 fits_itself w items.Short = refl
 
 may_be_stored : (w : World) (s : Store ℕ) (e : Element) → IsNumbers e → (v : Value ℕ) → is_of (element e) v ≡ true → (t : ArrayType) → same_items e (items_of t) ≡ true
-    → rows.is_stored w t (type_of w s v) ≡ true
+    → is_one w (component t) (type_of w s v) ≡ true
 may_be_stored w s e n v of t same =
     rw (value_type w s e n v of, component_is e n t.depth t.element (same_is e (items_of t) same)) (fits_itself w e)
 

@@ -22,7 +22,8 @@ use Rattle.jmeaning.specs.juses.Meanings.{Call, CallMeaning}
 use Rattle.jmodel.specs.declared.jmachine.plan.Plan.{Plan}
 use Rattle.jmodel.specs.jmachine.Acts.{NoStep, Outcome, State}
 use Rattle.jmodel.specs.jmachine.Asked.{Ask, asked_by, called_asks, used_asks}
-use Rattle.jmodel.specs.jmachine.Calls.{Target, Fails, is_hidden, no_access, null_pointer, on_object, on_value, reached, receiver, target, unless, wrong_class}
+use Rattle.jmodel.specs.jmachine.Calls.{Target, Fails, is_hidden, no_access, on_object, on_value, reached, receiver, target, unless, wrong_class}
+use Rattle.jmodel.specs.ProofNames.{null_pointer}
 use Rattle.jmodel.specs.jmachine.Doing.{call, doing, used}
 use Rattle.jmodel.specs.jmachine.Objects.{Object, id_of}
 use Rattle.jmodel.specs.jmachine.Operands.{Taken}

@@ -9,7 +9,8 @@ use Rattle.jprogram.specs.Classes.{Program}
 use Rattle.jmeaning.specs.declared.juses.meaning.How.TheVariants as how
 use Rattle.jmodel.specs.declared.jmachine.plan.Plan.{Plan}
 use Rattle.jmodel.specs.jmachine.Acts.{State}
-use Rattle.jmodel.specs.jmachine.Calls.{Fails, no_access, null_pointer, reached, receiver, wrong_class}
+use Rattle.jmodel.specs.jmachine.Calls.{Fails, no_access, reached, receiver, wrong_class}
+use Rattle.jmodel.specs.ProofNames.{null_pointer}
 use Rattle.jmodel.specs.jmachine.Security.{Rules}
 use Rattle.jmodel.specs.jmachine.Steps.{site}
 use Rattle.jmodel.specs.jmachine.World.{world}

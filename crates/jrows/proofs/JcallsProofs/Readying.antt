@@ -18,7 +18,7 @@ use Rattle.jtypes.specs.declared.vtype.Name.{Name}
 use Rattle.jmeaning.specs.jrule.Effects.{Of}
 use Rattle.jmeaning.specs.jrule.Effects as types
 use Rattle.jmodel.specs.jmachine.Objects.{Object, Instance, Thrown, Text, Builder, Piece, Permission, Context, Thread, Bare, Array, class_of, is_ready}
-use Rattle.jmodel.specs.jmachine.Operands.{found_type, ready_type, serves, serves_as}
+use Rattle.jmodel.specs.jmachine.Operands.{ready_type, serves, serves_as, found_type}
 use Rattle.jmodel.specs.jmachine.World.{World}
 use Rattle.jmodel.specs.declared.jstate.shapes.Shape.{Shape}
 use Rattle.jmodel.specs.declared.jstate.shapes.Shapes.{Shapes}

@@ -16,7 +16,7 @@ use Rattle.jmodel.specs.jmachine.Operands.{serves, taken}
 use Rattle.jmodel.specs.jmachine.Security.{Rules}
 use Rattle.jmodel.specs.jmachine.Sites.{Site}
 use Rattle.jmodel.specs.jmachine.Store.{Store}
-use Rattle.jmodel.specs.jmachine.Straight as straight
+use Rattle.jmodel.specs.ProofNames
 use Rattle.jmodel.specs.jmachine.Straight.{jump}
 use Rattle.jmodel.specs.jmachine.World.{World}
 use Rattle.jrows.specs.jacts.Ways.{ActsWhere, Comes, GoesFree, branched, leaves}
@@ -58,7 +58,7 @@ two_wanted : (same : Bool) → of_kinds (forms.compared (same_test same)) ≡ Of
 two_wanted true = refl
 two_wanted false = refl
 
-no_second : (same : Bool) (b : ℕ) (u : Value ℕ) → ref_in (Some u) ≡ None → straight.compared (same_test same) (Ref b ∷ u ∷ []) ≡ None
+no_second : (same : Bool) (b : ℕ) (u : Value ℕ) → ref_in (Some u) ≡ None → ProofNames.compared (same_test same) (Ref b ∷ u ∷ []) ≡ None
 no_second true b (Int x) none = refl
 no_second true b (Long x) none = refl
 no_second true b (Ref n) none = cc
@@ -77,11 +77,11 @@ module _ {E : Type 0} (f : FrameOf ℕ E) (s : Store ℕ) (to : ℕ) where
     not_taken none = rw none refl
 
     module _ (values rest : List (Value ℕ)) (took : taken at.world s (of_kinds (forms.compared test)) f.operands ≡ Some (record { values = values; below = rest })) where
-      not_tested : straight.compared test values ≡ None → Comes f s (doing r at own s entries inherited (Jump (IfRef test) to) f) (leaves ways.Stuck [] g s)
+      not_tested : ProofNames.compared test values ≡ None → Comes f s (doing r at own s entries inherited (Jump (IfRef test) to) f) (leaves ways.Stuck [] g s)
       unfolding doing jump
       not_tested none = rw (took, none) refl
 
-      tested : GoesFree E → (b : Bool) → straight.compared test values ≡ Some b → Comes f s (doing r at own s entries inherited (Jump (IfRef test) to) f) (leaves ways.Went [] (branched b to f rest) s)
+      tested : GoesFree E → (b : Bool) → ProofNames.compared test values ≡ Some b → Comes f s (doing r at own s entries inherited (Jump (IfRef test) to) f) (leaves ways.Went [] (branched b to f rest) s)
       unfolding doing jump
       tested free true is = rw (took, is) (refl, refl)
       tested free false is = rw (took, is) (free f s s [] (standing f (f.place + 1) rest))
@@ -106,7 +106,7 @@ module _ {E : Type 0} (f : FrameOf ℕ E) (s : Store ℕ) (to : ℕ) where
         no_other at.world s front.value (serves_one at.world s (Of kinds.Ref) front.value (drop 1 f.operands) (ap (λ xs. is_some (taken at.world s (Of kinds.Ref ∷ []) xs)) (sym all) ∙ serve))
         (ap ref_in front.newest ∙ none)
 
-    pub null_done : GoesFree E → (b : Bool) (n : ℕ) → Some n ≡ ref_in (slice_get f.operands 0) → Some b ≡ straight.compared {K = ℕ} (null_test null) (Ref n ∷ [])
+    pub null_done : GoesFree E → (b : Bool) (n : ℕ) → Some n ≡ ref_in (slice_get f.operands 0) → Some b ≡ ProofNames.compared {K = ℕ} (null_test null) (Ref n ∷ [])
         → ActsWhere OfOne (Jump (IfRef (null_test null)) to) f s (leaves ways.Went [] (branched b to f (drop 1 f.operands)) s)
     null_done free b n newest is r at own entries inherited told =
         let took = ap (λ (wants : List Want). taken at.world s wants f.operands) (one_wanted null)
@@ -146,6 +146,6 @@ module _ {E : Type 0} (f : FrameOf ℕ E) (s : Store ℕ) (to : ℕ) where
         (no_second same y two.object (ap ref_in (sym object) ∙ none))
 
     pub same_done : GoesFree E → (b : Bool) (x y : ℕ) → Some y ≡ ref_in (slice_get f.operands 0) → Some x ≡ ref_in (slice_get f.operands 1)
-        → Some b ≡ straight.compared {K = ℕ} (same_test same) (Ref y ∷ Ref x ∷ []) → ActsWhere OfTwo (Jump (IfRef (same_test same)) to) f s (leaves ways.Went [] (branched b to f (drop 2 f.operands)) s)
+        → Some b ≡ ProofNames.compared {K = ℕ} (same_test same) (Ref y ∷ Ref x ∷ []) → ActsWhere OfTwo (Jump (IfRef (same_test same)) to) f s (leaves ways.Went [] (branched b to f (drop 2 f.operands)) s)
     same_done free b x y newer older is r at own entries inherited told =
         tested (same_test same) f r at own entries inherited (Ref y ∷ Ref x ∷ []) (drop 2 f.operands) (both_taken at y (Ref x) told newer (ref_there (slice_get f.operands 1) x older)) free b (sym is)

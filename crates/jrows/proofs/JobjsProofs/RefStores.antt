@@ -53,6 +53,8 @@ use Rattle.jrows.proofs.JactsProofs.Accessing.{array_items}
 use Rattle.jrows.specs.declared.jobjs.storing.Held.TheVariants as helds
 use Rattle.jrows.specs.jobjs.Stored.{HasStored, MayStore, ServeStore, held_found, held_seen}
 use Rattle.jrows.proofs.JobjsProofs.Served.{not_served}
+use Rattle.jmodel.specs.jmachine.Making.{is_one}
+use Rattle.jmeaning.specs.jrule.Arrays.{component}
 
 -- ---- three operands that serve
 
@@ -361,7 +363,7 @@ module _ (p : Program) (shapes : Shapes) (things : Things) (constants : List (Li
           rw (three_taken at.world three i o index (array_is at.world three), store_is at.world three three.value None none) (refl, refl, refl, refl, refl, refl)
 
       answered : (w : World) (three : Three w) (may : Bool) (k : ℕ) → rows.within (length (cells_at h o)) (place i) ≡ Some k → MayStore w p shapes known h f.operands may
-          → rows.is_stored w (array_named p (array_at shapes a)) (type_of w known three.value) ≡ may
+          → is_one w (component (array_named p (array_at shapes a))) (type_of w known three.value) ≡ may
       answered w three may k inside told = told o a k i three.value (ap (λ xs. slice_get xs 0) three.front) index is inside
 
       -- the array doesn't hold it

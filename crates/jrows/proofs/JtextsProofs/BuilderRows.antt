@@ -18,6 +18,7 @@ use Rattle.jmodel.specs.jmachine.Making as making
 use Rattle.jmodel.specs.jmachine.Objects.{Builder}
 use Rattle.jmodel.specs.jmachine.Store.{Store, with_object}
 use Rattle.jmodel.specs.jmachine.Texts as definition
+use Rattle.jmodel.specs.ProofNames
 use Rattle.jmodel.specs.jmachine.Texts.{appended, builder, printed, units}
 use Rattle.jmodel.specs.declared.jstate.shapes.Shape.{Shape}
 use Rattle.jmodel.specs.declared.jstate.shapes.Shapes.{Shapes}
@@ -58,12 +59,12 @@ built_found objects None = None
 built_found objects (Some x) = built_as objects x.kind x.cells
 
 module _ (p : Program) (shapes : Shapes) (things : Things) (objects : List heaps.Object) where
-  user_no_builder : (i : ℕ) (o : Option Shape) (cells : List ℕ) → definition.built_in (Some (user_by i o cells)) ≡ None
+  user_no_builder : (i : ℕ) (o : Option Shape) (cells : List ℕ) → ProofNames.built_in (Some (user_by i o cells)) ≡ None
   user_no_builder i None cells = refl
   user_no_builder i (Some shape) cells = refl
 
   class_built : (c : ClassRef) (cells : List ℕ)
-      → definition.built_in (Some (class_by shapes objects things c cells)) ≡ (if is_builder c then Some (built objects (named_by (first cells))) else None)
+      → ProofNames.built_in (Some (class_by shapes objects things c cells)) ≡ (if is_builder c then Some (built objects (named_by (first cells))) else None)
   class_built (refs.User i) cells = user_no_builder i (slice_get shapes.users i) cells
   class_built (refs.Lib (lib.Thrown c)) cells = refl
   class_built (refs.Lib lib.AccessControlException) cells = refl
@@ -84,14 +85,14 @@ module _ (p : Program) (shapes : Shapes) (things : Things) (objects : List heaps
   class_built (refs.Lib lib.Rt) cells = refl
   class_built (refs.Lib lib.Ctx) cells = refl
 
-  kind_built : (kind : Kind) (cells : List ℕ) → definition.built_in (Some (kind_by p shapes objects things kind cells)) ≡ built_as objects kind cells
+  kind_built : (kind : Kind) (cells : List ℕ) → ProofNames.built_in (Some (kind_by p shapes objects things kind cells)) ≡ built_as objects kind cells
   kind_built (kinds.Object n) cells =
       class_built (class_numbered n) cells ∙ ap (λ b. if b then Some (built objects (named_by (first cells))) else None) (only_builder n)
   kind_built (kinds.Array a) cells = refl
   kind_built kinds.Text cells = refl
   kind_built kinds.Piece cells = refl
 
-  object_built : (x : Option heaps.Object) → definition.built_in (option_map (object_by p shapes objects things) x) ≡ built_found objects x
+  object_built : (x : Option heaps.Object) → ProofNames.built_in (option_map (object_by p shapes objects things) x) ≡ built_found objects x
   object_built None = refl
   object_built (Some x) = kind_built x.kind x.cells
 
@@ -151,7 +152,7 @@ module _ (each : SeesEach) (h : Heaped) (p : Program) (shapes : Shapes) (things 
   known = store_by p shapes things constants h
 
   sees_built : (o : ℕ) → definition.built known o ≡ built_found h.objects (heaps.object_at h o)
-  sees_built o = ap definition.built_in (each p shapes things constants h o) ∙ object_built p shapes things h.objects (heaps.object_at h o)
+  sees_built o = ap ProofNames.built_in (each p shapes things constants h o) ∙ object_built p shapes things h.objects (heaps.object_at h o)
 
   pub some_built : (b : ℕ) → Some b ≡ builder_number h (Ref b) → definition.built known b ≡ Some (built h.objects (last_piece h b))
   some_built b e = let it = is_builder_at h (Ref b) b e in sees_built b ∙ rw (it.at, it.kind) refl

@@ -12,6 +12,7 @@ use Rattle.jprogram.specs.declared.part.ClassRef.{ClassRef}
 use Rattle.jprogram.specs.declared.part.ClassRef.TheVariants as refs
 use Rattle.jprogram.specs.Classes.{Program}
 use Rattle.jmodel.specs.jmachine.Texts as definition
+use Rattle.jmodel.specs.ProofNames
 use Rattle.jmodel.specs.declared.jstate.shapes.Shape.{Shape}
 use Rattle.jmodel.specs.declared.jstate.shapes.Shapes.{Shapes}
 use Rattle.jmodel.specs.jstate.Numbers.{class_numbered}
@@ -20,12 +21,12 @@ use Rattle.jmodel.specs.jstate.SeenLaws.{SeesEach}
 use Rattle.jrows.specs.jtexts.HeapTexts.{text_found, text_in, text_number, units_as, units_found}
 
 module _ (p : Program) (shapes : Shapes) (things : Things) (objects : List heaps.Object) where
-  user_no_text : (i : ℕ) (o : Option Shape) (cells : List ℕ) → definition.units_in (Some (user_by i o cells)) ≡ None
+  user_no_text : (i : ℕ) (o : Option Shape) (cells : List ℕ) → ProofNames.units_in (Some (user_by i o cells)) ≡ None
   user_no_text i None cells = refl
   user_no_text i (Some shape) cells = refl
 
   -- an object of a class has no units
-  class_no_text : (c : ClassRef) (cells : List ℕ) → definition.units_in (Some (class_by shapes objects things c cells)) ≡ None
+  class_no_text : (c : ClassRef) (cells : List ℕ) → ProofNames.units_in (Some (class_by shapes objects things c cells)) ≡ None
   class_no_text (refs.User i) cells = user_no_text i (slice_get shapes.users i) cells
   class_no_text (refs.Lib (lib.Thrown c)) cells = refl
   class_no_text (refs.Lib lib.AccessControlException) cells = refl
@@ -46,13 +47,13 @@ module _ (p : Program) (shapes : Shapes) (things : Things) (objects : List heaps
   class_no_text (refs.Lib lib.Rt) cells = refl
   class_no_text (refs.Lib lib.Ctx) cells = refl
 
-  kind_units : (kind : Kind) (cells : List ℕ) → definition.units_in (Some (kind_by p shapes objects things kind cells)) ≡ units_as kind cells
+  kind_units : (kind : Kind) (cells : List ℕ) → ProofNames.units_in (Some (kind_by p shapes objects things kind cells)) ≡ units_as kind cells
   kind_units (kinds.Object n) cells = class_no_text (class_numbered n) cells
   kind_units (kinds.Array a) cells = refl
   kind_units kinds.Text cells = refl
   kind_units kinds.Piece cells = refl
 
-  object_units : (x : Option heaps.Object) → definition.units_in (option_map (object_by p shapes objects things) x) ≡ units_found x
+  object_units : (x : Option heaps.Object) → ProofNames.units_in (option_map (object_by p shapes objects things) x) ≡ units_found x
   object_units None = refl
   object_units (Some x) = kind_units x.kind x.cells
 
@@ -63,7 +64,7 @@ sees_units each p shapes things constants h (Int x) = refl
 sees_units each p shapes things constants h (Long x) = refl
 sees_units each p shapes things constants h (Ctx k) = refl
 sees_units each p shapes things constants h (Ref o) =
-    ap definition.units_in (each p shapes things constants h o) ∙ object_units p shapes things h.objects (heaps.object_at h o)
+    ap ProofNames.units_in (each p shapes things constants h o) ∙ object_units p shapes things h.objects (heaps.object_at h o)
 
 -- ---- the number of a text
 

@@ -11,7 +11,7 @@ use Rattle.jlib.specs.declared.classes.LibClass.TheVariants as lib
 use Rattle.jprogram.specs.declared.part.ClassRef.{ClassRef}
 use Rattle.jprogram.specs.declared.part.ClassRef.TheVariants as refs
 use Rattle.jprogram.specs.Classes.{Program}
-use Rattle.jmodel.specs.jmachine.Library.{object_init}
+use Rattle.jmodel.specs.ProofNames.{object_init}
 use Rattle.jmodel.specs.jmachine.Store.{Store, object_at}
 use Rattle.jmodel.specs.jmachine.Throwables.{message, message_of}
 use Rattle.jmodel.specs.declared.jstate.shapes.Shape.{Shape}

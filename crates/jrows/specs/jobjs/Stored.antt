@@ -10,9 +10,9 @@ use Rattle.jlib.specs.declared.classes.Thrown.TheVariants as thrown
 use Rattle.jground.specs.declared.jops.value.Value.{Value}
 use Rattle.jground.specs.declared.jops.value.Value.TheVariants.{Ref}
 use Rattle.jprogram.specs.Classes.{Program}
-use Rattle.jmeaning.specs.jrule.Arrays.{operands}
+use Rattle.jmeaning.specs.jrule.Arrays.{operands, component}
 use Rattle.jmeaning.specs.juses.Types.{array_named}
-use Rattle.jmodel.specs.jmachine.Arrays.{is_stored, within}
+use Rattle.jmodel.specs.jmachine.Arrays.{within}
 use Rattle.jmodel.specs.jmachine.Narrowing.{place}
 use Rattle.jmodel.specs.jmachine.Operands.{taken, type_of}
 use Rattle.jmodel.specs.jmachine.Sites.{Site}
@@ -27,6 +27,7 @@ use Rattle.jrows.specs.declared.jacts.way.Way.{Way}
 use Rattle.jrows.specs.declared.jacts.way.Way.TheVariants as ways
 use Rattle.jrows.specs.declared.jobjs.storing.Held.{Held}
 use Rattle.jrows.specs.declared.jobjs.storing.Held.TheVariants as helds
+use Rattle.jmodel.specs.jmachine.Making.{is_one}
 
 -- what an operand is that is wanted to be an array
 abbrev pub held_found : ℕ → Option Kind → Held
@@ -46,7 +47,7 @@ ServeStore at s values serve = is_some (taken at.world s (operands items.Ref (fo
 abbrev pub MayStore : World → Program → Shapes → Store ℕ → Heaped → List (Value ℕ) → Bool → Type 0
 MayStore w p shapes s h values answer =
     (o a k : ℕ) (i : ℤ) (v : Value ℕ) → slice_get values 0 ≡ Some v → Some i ≡ int_in (slice_get values 1) → helds.Array o a ≡ held_seen h (slice_get values 2)
-    → within (length (cells_at h o)) (place i) ≡ Some k → is_stored w (array_named p (array_at shapes a)) (type_of w s v) ≡ answer
+    → within (length (cells_at h o)) (place i) ≡ Some k → is_one w (component (array_named p (array_at shapes a))) (type_of w s v) ≡ answer
 
 -- What a store at a place that is there left, where it may be written or not,
 abbrev pub HasKept : {E : Type 0} → Bool → ℕ → Value ℕ → Framed E → Heaped → Way → Framed E → Heaped → ℕ → Type 0

@@ -8,7 +8,7 @@ use Rattle.jground.specs.declared.jops.value.Value.TheVariants.{Int, Long, Ref}
 use Rattle.jheap.specs.Heaps.{Heaped}
 use Rattle.jlib.specs.declared.calls.Piece.{Piece}
 use Rattle.jlib.specs.declared.calls.Piece.TheVariants as pieces
-use Rattle.jmodel.specs.jmachine.Texts.{zero_text}
+use Rattle.jmodel.specs.ProofNames.{zero_text}
 use Rattle.jrows.specs.jtexts.HeapTexts.{text_in}
 
 abbrev pub int_in : Value ℕ → Option ℤ

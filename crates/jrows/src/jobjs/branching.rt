@@ -1,7 +1,7 @@
 ghost use Rattle.std.specs.Prelude.{◌≡◌, ◌<◌, ◌+◌, ◌^◌, ◌∷◌, [], ℕ, Some, Bool, slice_get};
 ghost use Rattle.jmodel.specs.jmachine.Sites.{Site};
 ghost use Rattle.jmodel.specs.jmachine.Store.{Store};
-ghost use Rattle.jmodel.specs.jmachine.Straight as straight;
+ghost use Rattle.jmodel.specs.ProofNames;
 ghost use Rattle.jground.specs.declared.jops.value.Value.TheVariants as values;
 ghost use Rattle.jprogram.specs.declared.member.Member.{Member};
 ghost use Rattle.jmeaning.specs.juses.Instructions as instructions;
@@ -32,7 +32,7 @@ fn ref_at<M: Copy>(frames: &Frames<M>, i: usize) -> Option<u32>
 /// Whether a reference is null, where that is asked, else whether it isn't.
 #[inline]
 fn is_null(null: bool, n: u32) -> bool
-    ensures { Some result ≡ straight.compared {K = ℕ} (null_test null) (values.Ref n ∷ []) }
+    ensures { Some result ≡ ProofNames.compared {K = ℕ} (null_test null) (values.Ref n ∷ []) }
 {
     if null {
         return n == 0;
@@ -43,7 +43,7 @@ fn is_null(null: bool, n: u32) -> bool
 /// Whether two references are the same, where that is asked, else whether they aren't.
 #[inline]
 fn are_same(same: bool, a: u32, b: u32) -> bool
-    ensures { Some result ≡ straight.compared {K = ℕ} (same_test same) (values.Ref b ∷ values.Ref a ∷ []) }
+    ensures { Some result ≡ ProofNames.compared {K = ℕ} (same_test same) (values.Ref b ∷ values.Ref a ∷ []) }
 {
     if same {
         return a == b;

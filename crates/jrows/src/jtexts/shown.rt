@@ -2,7 +2,7 @@ ghost use Rattle.std.specs.Prelude.{◌≡◌, ◌∷◌, ◌%◌, ◌^◌, [], 
 ghost use Rattle.std.specs.Fmt.{signed_decimal};
 ghost use Rattle.std.specs.Int.{w32, cast_unsigned};
 ghost use Rattle.std.specs.Ordering.{int_eq};
-ghost use Rattle.jmodel.specs.jmachine.Texts.{zero_text};
+ghost use Rattle.jmodel.specs.ProofNames.{zero_text};
 ghost use Rattle.jrows.specs.jtexts.Shown.{int_in, long_in, shown as shown_as, shown_int as int_shown, text_or_null};
 
 use crate::jtexts::texts::{is_null, read_onto, text_of};

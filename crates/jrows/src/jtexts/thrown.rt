@@ -1,7 +1,7 @@
 ghost use Rattle.std.specs.Prelude.{◌≡◌, ◌<◌, ◌∷◌, [], ℕ, List, drop, is_some, slice_get, true};
 ghost use Rattle.jheap.specs.Heaps.{HasCell, cells_at, object_at, with_cell};
 ghost use Rattle.jprogram.specs.Classes.{Program};
-ghost use Rattle.jmodel.specs.jmachine.Library.{object_init as init_row};
+ghost use Rattle.jmodel.specs.ProofNames.{object_init as init_row};
 ghost use Rattle.jmodel.specs.jmachine.Store.{Store};
 ghost use Rattle.jlib.specs.declared.calls.ThrownInit.TheVariants as given;
 ghost use Rattle.jmodel.specs.jmachine.Throwables.{init as thrown_init, message as message_row, told as told_row};

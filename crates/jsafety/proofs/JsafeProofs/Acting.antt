@@ -12,7 +12,8 @@ use Rattle.jrights.specs.declared.jtrace.event.End.TheVariants.{HeapFull}
 use Rattle.jtypes.specs.declared.vtype.VType.{VType}
 use Rattle.jprogram.specs.declared.member.MethodId.{MethodId}
 use Rattle.jprogram.specs.Classes.{Program}
-use Rattle.jmeaning.specs.jrule.Uses.{string, throwable}
+use Rattle.jmeaning.specs.jrule.Uses.{throwable}
+use Rattle.jmeaning.specs.ProofNames.{string}
 use Rattle.jmodel.specs.declared.jmachine.plan.Plan.{Plan}
 use Rattle.jmodel.specs.jmachine.Acts.{Act, Calls, FrameOf, Goes, Jumps, Leaves, Makes, Over, Raises, Row, State, Switches, Throws, charge_of}
 use Rattle.jmodel.specs.jmachine.Frames.{all_marked, begun, domain_of, frame_of, marked, onward, standing}

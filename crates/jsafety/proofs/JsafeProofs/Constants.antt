@@ -16,7 +16,8 @@ use Rattle.jclass.specs.declared.class.ClassParts.{ClassParts}
 use Rattle.jclass.specs.declared.class.MemberInfo.{MemberInfo}
 use Rattle.jclass.specs.Class.{class_file}
 use Rattle.jclass.specs.Members.{field}
-use Rattle.jclass.specs.Rules.{suits, suits_field, suits_type}
+use Rattle.jclass.specs.Rules.{suits, suits_field}
+use Rattle.jclass.specs.ProofNames.{suits_type}
 use Rattle.jlib.specs.declared.classes.LibClass.TheVariants as lib
 use Rattle.jtypes.specs.declared.vtype.Element.{Element}
 use Rattle.jtypes.specs.declared.vtype.Element.TheVariants as elements
@@ -29,9 +30,10 @@ use Rattle.jprogram.specs.Standing.{StandsInOrder}
 use Rattle.jprogram.proofs.Standing.{lib_find, not_taken}
 use Rattle.jlinking.specs.jlink.Fields.{is_plain}
 use Rattle.jmeaning.specs.juses.Typed as typing
+use Rattle.jmeaning.specs.ProofNames
 use Rattle.jmeaning.specs.juses.Typed.{type_in, typed}
-use Rattle.jmeaning.specs.jlayout.Layout.{element, field_type, held, is_static, statics_of}
-use Rattle.jmeaning.specs.jrule.Uses.{string}
+use Rattle.jmeaning.specs.jlayout.Layout.{element, field_type, is_static, statics_of}
+use Rattle.jmeaning.specs.ProofNames.{held_type as held, string}
 use Rattle.jmodel.specs.jmachine.Making.{units_of}
 use Rattle.jmodel.specs.jmachine.Narrowing.{default, narrowed}
 use Rattle.jmodel.specs.jmachine.Objects.{Text}
@@ -48,7 +50,7 @@ use Rattle.jsafety.proofs.JyieldProofs.Rows.{a_null, an_int}
 string_held : (p : Program) → StandsInOrder p → held_by p (codes "Ljava/lang/String;") ≡ string
 unfolding typed type_in descriptor_of method_of field_of params_at closing_at type_at base_at class_at return_at slots_of is_class_name
 string_held p good =
-    ap (λ (o : Option Class). held (typing.held (option_map (typing.type_of 0) (option_map elements.Class (cond (is_some o) (Some (typing.name (codes "java/lang/String"))) None))))) (lib_find p (not_taken p good) lib.String refl)
+    ap (λ (o : Option Class). held (ProofNames.held (option_map (typing.type_of 0) (option_map elements.Class (cond (is_some o) (Some (typing.name (codes "java/lang/String"))) None))))) (lib_find p (not_taken p good) lib.String refl)
 
 -- ---- what a field holds at first
 

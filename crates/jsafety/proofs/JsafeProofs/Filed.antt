@@ -25,9 +25,10 @@ use Rattle.jclass.specs.declared.fault.ClassFault.TheVariants as kinds
 use Rattle.jclass.specs.Attributes.{content, text_index}
 use Rattle.jclass.specs.Basics.{access, u2}
 use Rattle.jclass.specs.Class.{class_file, class_parts, strict, tail}
-use Rattle.jclass.specs.Codes.{behind_ops, code_body, code_content, code_length, length_fault, ops}
+use Rattle.jclass.specs.Codes.{behind_ops, code_body, code_content, code_length, ops}
+use Rattle.jclass.specs.ProofNames.{length_fault, codes_wanted, names_of}
 use Rattle.jclass.specs.Judging as judging
-use Rattle.jclass.specs.Members.{attribute_name, body_of, codes_fault, codes_wanted, method, method_attribute, method_parts, names_of}
+use Rattle.jclass.specs.Members.{attribute_name, body_of, codes_fault, method, method_attribute, method_parts}
 use Rattle.jclass.specs.Rules.{has_no_code, is_code, method_descriptor}
 use Rattle.jclass.specs.Stored.{HasCode, IsIn}
 use Rattle.jclass.proofs.ClassLaws.{tail_methods}

@@ -29,7 +29,8 @@ use Rattle.jprogram.specs.Parts as parts
 use Rattle.jprogram.specs.Parts.{code_of, has_code, member_desc, member_name}
 use Rattle.jmeaning.specs.juses.Instructions.{body_in, code_at, instruction}
 use Rattle.jmeaning.specs.juses.Typed.{Called, Held, Typed, Untyped, name, typed}
-use Rattle.jlinking.specs.jmembers.Declares.{again_test, at_member, class_fault, fields_fault, final_test, is_native, is_synchronized, is_too_long, library_test, members_fault, method_left_out, method_left_out_test, method_test, methods_fault, text_left_out, types_test}
+use Rattle.jlinking.specs.jmembers.Declares.{again_test, at_member, fields_fault, final_test, is_native, is_synchronized, is_too_long, library_test, members_fault, method_left_out, method_left_out_test, method_test, methods_fault, text_left_out, types_test}
+use Rattle.jlinking.specs.ProofNames.{class_fault}
 use Rattle.jlinking.specs.jreferring.Code.{code_fault}
 use Rattle.jlinking.specs.jlink.Coded.{AreFiles}
 use Rattle.jlinking.specs.jlink.Links.{Links, link_fault}

@@ -14,7 +14,7 @@ use Rattle.jprogram.specs.declared.part.CodePart.{CodePart}
 use Rattle.jprogram.specs.Classes.{Program}
 use Rattle.jmodel.specs.jmachine.Fields.{out}
 use Rattle.jmodel.specs.jmachine.Objects.{Object, Array, Bare, Text}
-use Rattle.jmodel.specs.jmachine.Opening.{arguments_number, arguments_type, constants_of, only, opening_state, opening_store, strings}
+use Rattle.jmodel.specs.jmachine.Opening.{arguments_number, arguments_type, constants_of, opening_state, opening_store, strings}
 use Rattle.jmodel.specs.jmachine.Store.{Store, constant_at, object_at}
 use Rattle.jmodel.specs.jmachine.World.{fits, world}
 use Rattle.jsafety.specs.jtyped.Stores.{IsObject, IsStored}
@@ -31,7 +31,8 @@ use Rattle.jlib.specs.Classes as library
 use Rattle.jlib.specs.Classes.{same_side}
 use Rattle.jtypes.specs.Fitting.{array_fits}
 use Rattle.jprogram.specs.declared.member.MethodId.{MethodId}
-use Rattle.jprogram.specs.Members.{is_init, is_main, main_desc, main_in, main_of, method_id}
+use Rattle.jprogram.specs.Members.{is_init, is_main, main_desc, main_of, method_id}
+use Rattle.jprogram.specs.ProofNames.{main_in}
 use Rattle.jprogram.specs.Parts as parts
 use Rattle.jprogram.specs.Parts.{member_desc, member_name, this_name}
 use Rattle.jprogram.specs.Standing.{StandsInOrder}
@@ -39,7 +40,8 @@ use Rattle.jprogram.proofs.Standing.{Stands, Users, Libs, Nowhere, stands}
 use Rattle.jmeaning.specs.juses.Instructions.{body_in}
 use Rattle.jmeaning.specs.juses.Typed.{Called, name, typed}
 use Rattle.jtyping.specs.Methods as typing
-use Rattle.jtyping.specs.Methods.{params_of, return_of}
+use Rattle.jtyping.specs.Methods.{params_of}
+use Rattle.jtyping.specs.ProofNames.{return_of}
 use Rattle.jmodel.specs.jmachine.Frames.{domain_of}
 use Rattle.jmodel.specs.jmachine.Security.{handed}
 use Rattle.jsafety.specs.jtyped.Calling.{Coded, IsGiven, method, within}
@@ -56,6 +58,7 @@ use Rattle.jsafety.proofs.JsafeProofs.Founded.{IsFounded, founded}
 use Rattle.jsafety.specs.jsafe.States.{MainHasCode, OpensTyped}
 use Rattle.jsafety.proofs.JsafeProofs.Begun.{begun_is, frame_stands}
 use Rattle.jsafety.proofs.JsafeProofs.Constants.{AreMade, parts_are}
+use Rattle.std.specs.Option.{option_to_list}
 
 some_is : {A : Type 0} (a b : A) → Some a ≡ Some b → a ≡ b
 some_is a b e = cc
@@ -257,7 +260,7 @@ opens_typed K E r p text m heap sound_program on_side sided found =
     let given = main_may p sound s m x vs (arguments_number p) are (array_is p K heap sound.stands) in
     let entry = r.entry_of (domain_of p m) in
     let arguments = vs ++ Ref (arguments_number p) ∷ [] in
-    let frames = sym (ap only (begun_is p m x.coded entry arguments)) in
+    let frames = sym (ap option_to_list (begun_is p m x.coded entry arguments)) in
     record {
       stored = opening_stored p K heap sound;
       threads = ((subst (AreStacked p s) frames (frame_stands p sound s m None entry arguments given, tt), inl refl), tt);

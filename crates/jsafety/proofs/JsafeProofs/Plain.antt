@@ -27,10 +27,11 @@ use Rattle.jprogram.specs.Parts.{member_desc}
 use Rattle.jprogram.specs.Supers.{is_missing}
 use Rattle.jmeaning.specs.juses.Typed.{element_in, name, there, type_in, type_of, typed, typed_as}
 use Rattle.jmeaning.specs.juses.Typed as says
+use Rattle.jmeaning.specs.ProofNames
 use Rattle.jmeaning.specs.jlayout.Layout.{field_type, is_static, statics_of}
-use Rattle.jmeaning.specs.jlayout.Layout as laid
 use Rattle.jmeaning.specs.jlayout.Numbered.{all_statics}
-use Rattle.jlinking.specs.jmembers.Declares.{again_test, at_member, class_fault, desc_left_out, desc_missing, field_left_out, field_left_out_test, field_test, fields_fault, methods_fault, text_left_out, text_missing, type_missing, types_test}
+use Rattle.jlinking.specs.jmembers.Declares.{again_test, at_member, desc_left_out, desc_missing, field_left_out, field_left_out_test, field_test, fields_fault, methods_fault, text_left_out, text_missing, type_missing, types_test}
+use Rattle.jlinking.specs.ProofNames.{class_fault}
 use Rattle.jprogram.specs.LeftOut.{context, is_context, is_floating}
 use Rattle.jlinking.specs.jlink.Coded.{AreFiles}
 use Rattle.jlinking.specs.jlink.Fields.{is_plain}
@@ -123,9 +124,9 @@ type_plain depth x clear = by (depth == 0) (says.is_context x) clear
     by true false e = alone_plain depth x
     by false c e = alone_plain depth x
 
-said_plain : (p : Program) (t : FieldType) → IsClear (element_in p t) → is_plain (laid.held (typed_as p (Some (field t)))) ≡ true
+said_plain : (p : Program) (t : FieldType) → IsClear (element_in p t) → is_plain (ProofNames.held_type (typed_as p (Some (field t)))) ≡ true
 unfolding IsClear type_in
-said_plain p t x = ap (λ (o : Option Element). is_plain (laid.held (says.held (option_map (type_of t.depth) o)))) x.1 ∙ type_plain t.depth x.0 x.2
+said_plain p t x = ap (λ (o : Option Element). is_plain (ProofNames.held_type (ProofNames.held (option_map (type_of t.depth) o)))) x.1 ∙ type_plain t.depth x.0 x.2
 
 -- ---- fields
 
@@ -147,14 +148,14 @@ tested p i c k m none at =
     at_none i (length c.methods + k) (field_test p c (take k c.fields) m)
     (none_fails (λ (k : ℕ) (m : MemberInfo). at_member i (length c.methods + k) (field_test p c (take k c.fields) m)) c.fields k m (none_of (methods_fault p i c) (fields_fault p i c) none).1 at)
 
-desc_plain : (p : Program) (desc : List ℕ) → IsSome (field_of desc) → text_left_out desc ≡ false → text_missing p desc ≡ false → is_plain (laid.held (typed p desc)) ≡ true
+desc_plain : (p : Program) (desc : List ℕ) → IsSome (field_of desc) → text_left_out desc ≡ false → text_missing p desc ≡ false → is_plain (ProofNames.held_type (typed p desc)) ≡ true
 unfolding typed text_left_out text_missing
 desc_plain p desc is left there =
     let d = of_field desc is in
     let out : is_floating d.0 || is_context d.0 ≡ false = sym (ap desc_left_out d.2) ∙ left in
     let both = or_parts (is_floating d.0) (is_context d.0) out in
     let found : type_missing p d.0 ≡ false = sym (ap (desc_missing p) d.2) ∙ there in
-    ap (λ (o : Option Descriptor). is_plain (laid.held (typed_as p o))) d.2 ∙ said_plain p d.0 (element_clear p d.0 d.1 both.0 both.1 found)
+    ap (λ (o : Option Descriptor). is_plain (ProofNames.held_type (typed_as p o))) d.2 ∙ said_plain p d.0 (element_clear p d.0 d.1 both.0 both.1 found)
 
 module _ (p : Program) (links : Links p) (files : AreFiles p) where
   field_plain : (i : ℕ) (part : CodePart) → slice_get p.parts i ≡ Some part → (k : ℕ) (m : MemberInfo) → slice_get part.class.fields k ≡ Some m

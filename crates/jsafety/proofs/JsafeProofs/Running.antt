@@ -5,7 +5,7 @@ use Rattle.jprogram.specs.Classes.{Program}
 use Rattle.jmodel.specs.declared.jmachine.plan.Plan.{Plan}
 use Rattle.jmodel.specs.jmachine.Acts.{NoStep, Outcome, Over, State, Went}
 use Rattle.jmodel.specs.jmachine.Machine.{opening, run}
-use Rattle.jmodel.specs.jmachine.Runs.{Run, after, next_at, run_from}
+use Rattle.jmodel.specs.jmachine.Runs.{next_at, Run, after, run_from}
 use Rattle.jmodel.specs.jmachine.Security.{Rules}
 use Rattle.jmodel.specs.jmachine.Steps.{step}
 use Rattle.jsafety.specs.jyield.Laws.{AreSided}

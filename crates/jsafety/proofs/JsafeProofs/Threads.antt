@@ -6,7 +6,8 @@ use Rattle.std.proofs.lemmas.List.{length-append, length-map}
 use Rattle.jlib.specs.declared.side.Side.{Side}
 use Rattle.jground.specs.declared.jops.value.Value.TheVariants.{Ref}
 use Rattle.jthreads.specs.declared.thread.Thread.{Thread}
-use Rattle.jthreads.specs.Schedule.{number_at, picked}
+use Rattle.jthreads.specs.Schedule.{picked}
+use Rattle.jthreads.specs.ProofNames.{number_at}
 use Rattle.jthreads.specs.Table.{runnable_numbers, thread_at, is_runnable, woken}
 use Rattle.jthreads.proofs.Numbers.{within}
 use Rattle.jrights.specs.declared.jtrace.event.Event.{Event}

@@ -39,9 +39,10 @@ use Rattle.jlinking.specs.declared.jreferring.judged.Sort.{Sort}
 use Rattle.jlinking.specs.declared.jreferring.judged.Sort.TheVariants as sort
 use Rattle.jlinking.specs.jreferring.Entries as judging
 use Rattle.jlinking.specs.jreferring.Entries.{entry_of, judge, judge_pool}
-use Rattle.jlinking.specs.jreferring.References.{access_test, call_left_out_test, call_test, call_use_test, called_by_interface_test, called_test, calls_static, counts, differs}
+use Rattle.jlinking.specs.jreferring.References.{access_test, call_left_out_test, call_test, call_use_test, called_by_interface_test, called_test, counts, differs}
+use Rattle.jlinking.specs.ProofNames.{calls_static, call_at, interface_call_at, member_in}
 use Rattle.jlinking.specs.jreferring.References.{facts_of, interface_test, is_miscalled, is_misused}
-use Rattle.jlinking.specs.jreferring.Units.{call_at, interface_call_at, member_at, member_in, or_no_member}
+use Rattle.jlinking.specs.jreferring.Units.{member_at, or_no_member}
 use Rattle.jlinking.specs.jlink.Called.{begins}
 use Rattle.jlinking.specs.jlink.Coded.{AreFiles}
 use Rattle.jlinking.specs.jlink.Links.{Links}

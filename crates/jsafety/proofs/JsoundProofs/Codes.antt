@@ -31,9 +31,10 @@ use Rattle.jclass.specs.declared.fault.ClassFault.TheVariants as kinds
 use Rattle.jclass.specs.Attributes.{content, text_index}
 use Rattle.jclass.specs.Basics.{access, u2, u4}
 use Rattle.jclass.specs.Class.{class_file, class_parts, strict, tail}
-use Rattle.jclass.specs.Codes.{behind_ops, code_body, code_content, code_length, length_fault, ops}
+use Rattle.jclass.specs.Codes.{behind_ops, code_body, code_content, code_length, ops}
+use Rattle.jclass.specs.ProofNames.{length_fault, codes_wanted, names_of}
 use Rattle.jclass.specs.Judging as judging
-use Rattle.jclass.specs.Members.{attribute_name, body_of, codes_fault, codes_wanted, method, method_attribute, method_parts, names_of}
+use Rattle.jclass.specs.Members.{attribute_name, body_of, codes_fault, method, method_attribute, method_parts}
 use Rattle.jclass.specs.Rules.{has_no_code, is_code, method_descriptor}
 use Rattle.jclass.specs.Stored.{IsIn}
 use Rattle.jclass.proofs.ClassLaws.{tail_methods}
@@ -46,7 +47,8 @@ use Rattle.jprogram.specs.Naming.{naming_fault}
 use Rattle.jprogram.specs.Parts as parts
 use Rattle.jprogram.specs.Parts.{code_of, has_code, member_desc, member_name}
 use Rattle.jprogram.specs.Supers.{supers_fault}
-use Rattle.jlinking.specs.jmembers.Declares.{again_test, at_member, class_fault, field_left_out, field_left_out_test, field_test, fields_fault, is_native, is_synchronized}
+use Rattle.jlinking.specs.jmembers.Declares.{again_test, at_member, field_left_out, field_left_out_test, field_test, fields_fault, is_native, is_synchronized}
+use Rattle.jlinking.specs.ProofNames.{class_fault}
 use Rattle.jlinking.specs.jmembers.Declares.{is_too_long, members_fault, method_left_out, method_left_out_test, method_test, methods_fault, text_left_out, text_missing}
 use Rattle.jlinking.specs.jmembers.Declares.{types_test}
 use Rattle.jlinking.specs.jreferring.Code.{code_fault}

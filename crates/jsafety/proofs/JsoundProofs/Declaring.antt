@@ -16,7 +16,7 @@ use Rattle.jprogram.specs.declared.member.Member.TheVariants.{LibMethod, Method}
 use Rattle.jprogram.specs.declared.part.ClassRef.TheVariants as refs
 use Rattle.jprogram.specs.declared.part.CodePart.{CodePart}
 use Rattle.jprogram.specs.Parts.{is_called, this_name}
-use Rattle.jprogram.specs.Classes.{Lib, Program, User, extends, face_names, find, holds, is_interface, known, name_at, named, object, over, superinterfaces, up}
+use Rattle.jprogram.specs.Classes.{Lib, Program, User, extends, face_names, find, holds, is_interface, known, name_at, object, over, superinterfaces, up, named}
 use Rattle.jprogram.specs.Members.{info_of, init, lib_method, method_at, method_id, method_in, resolve_method}
 use Rattle.jprogram.specs.Standing.{StandsInOrder}
 use Rattle.jprogram.proofs.Implementing.{faces_are}

@@ -9,7 +9,8 @@ use Rattle.jtypes.specs.declared.vtype.VType.{VType}
 use Rattle.jprogram.specs.declared.member.Member.{Member}
 use Rattle.jprogram.specs.Classes.{Program}
 use Rattle.jprogram.specs.Members.{init, looked_up, referred, resolve_field, resolve_method}
-use Rattle.jmeaning.specs.juses.Meanings.{AClass, AField, AMethod, CallMeaning, EntryMeaning, FieldMeaning, Reference, call_as, call_meant, class_meant, entry_meant, field_as}
+use Rattle.jmeaning.specs.juses.Meanings.{AClass, AField, AMethod, CallMeaning, EntryMeaning, FieldMeaning, Reference, call_as, call_meant, entry_meant, field_as}
+use Rattle.jmeaning.specs.ProofNames.{class_meant}
 use Rattle.jmeaning.specs.juses.Meanings.{field_entry, field_meant, method_entry, reference}
 use Rattle.jmeaning.specs.juses.Typed.{Called, Held, Typed, Untyped, class_type, name, typed}
 use Rattle.jlinking.specs.declared.jreferring.judged.Sort.{Sort}

@@ -45,16 +45,18 @@ use Rattle.jprogram.specs.Parts.{is_called, member_desc, member_name, this_name}
 use Rattle.jprogram.specs.Classes.{Program, find, superinterfaces, up}
 use Rattle.jprogram.specs.Members.{field_at, field_in, is_final, lib_field, looked_up, owner_of, resolve_field}
 use Rattle.jprogram.proofs.Standing.{Stands, Users, Libs, Nowhere, stands}
-use Rattle.jmeaning.specs.jlayout.Layout as layout
+use Rattle.jmeaning.specs.ProofNames as jmeaning_names
 use Rattle.jmeaning.specs.juses.Meanings.{FieldMeaning, Reference, reference}
-use Rattle.jmeaning.specs.juses.Typed.{Held, called, element_in, held, name, there, type_in, type_of, typed, typed_as}
+use Rattle.jmeaning.specs.juses.Typed.{Held, called, element_in, name, there, type_in, type_of, typed, typed_as}
+use Rattle.jmeaning.specs.ProofNames.{held}
 use Rattle.jlinking.specs.declared.jreferring.judged.MemberUse.{MemberUse}
 use Rattle.jlinking.specs.declared.jreferring.judged.Sort.TheVariants as sort
 use Rattle.jlinking.specs.jreferring.Entries as judging
 use Rattle.jlinking.specs.jreferring.Entries.{judge, judge_pool}
 use Rattle.jlinking.specs.jreferring.References.{access_test, differs, facts_of, field_member_test, field_test, puts, takes_static}
-use Rattle.jlinking.specs.jreferring.Units as units
-use Rattle.jlinking.specs.jreferring.Units.{member_at, member_in, or_no_member}
+use Rattle.jlinking.specs.ProofNames as jlinking_names
+use Rattle.jlinking.specs.jreferring.Units.{member_at, or_no_member}
+use Rattle.jlinking.specs.ProofNames.{member_in}
 use Rattle.jmeaning.specs.jrule.Uses.{of_library}
 use Rattle.jlinking.specs.jlink.Fields.{IsNamedField}
 use Rattle.jlinking.specs.jlink.Links.{Links}
@@ -196,7 +198,7 @@ module _ (p : Program) (called_name desc : List ℕ) (t : VType) (says : typed p
           let f = first_called part.class called_name desc part.class.fields r.0 r.1 in
           let both = and_parts (bytes_eq (member_name part.class f.0) called_name) (bytes_eq (member_desc part.class f.0) desc) f.2 in
           let own_desc : member_desc part.class f.0 ≡ desc = (bytes_eq-Decides (member_desc part.class f.0) desc).0 both.1 in
-          subst (λ (y : Member). HoldsAs p y t) r.2 (part, f.0, record { stands = at; declared = f.1 }, sym (ap layout.held (ap (typed p) own_desc ∙ says)))
+          subst (λ (y : Member). HoldsAs p y t) r.2 (part, f.0, record { stands = at; declared = f.1 }, sym (ap jmeaning_names.held_type (ap (typed p) own_desc ∙ says)))
       by (Libs l named is) =
           let here : option_and_then lib_field (library_calls.member_named p.side (library.name_of l) called_name desc) ≡ Some m =
           sym (ap (option_and_then (λ c. field_in p.side c called_name desc)) is) ∙ e in
@@ -251,7 +253,7 @@ module _ (p : Program) (links : Links p) (i : ℕ) (part : CodePart) (stand : sl
       ap (λ (o : Option (ℕ × ℕ)). option_map (facts_of p from) (option_and_then (looked_up c.pool r.class (resolve_field p)) o)) r.at
       ∙ ap (option_map (facts_of p from)) r.says.found
 
-  fixed_is : units.field_at (judge_pool p c) op n ≡ None → (puts op && (is_final p f.member && not (bytes_eq (owner_of p f.member) from))) ≡ false
+  fixed_is : jlinking_names.field_at (judge_pool p c) op n ≡ None → (puts op && (is_final p f.member && not (bytes_eq (owner_of p f.member) from))) ≡ false
   fixed_is none =
       let m = facts_of p from f.member in
       let test : field_test op use_of ≡ None = sym (ap (or_no_member (field_test op)) use_at) ∙ none in
@@ -260,7 +262,7 @@ module _ (p : Program) (links : Links p) (i : ℕ) (part : CodePart) (stand : sl
       let access = (none_of (access_test (puts op) m) (fault_if (differs (takes_static op) m.is_static) BadUse) one).0 in
       unfixed m.allowed (puts op && m.fixed) (no_fault (not m.allowed || (puts op && m.fixed)) NotAccessible access)
 
-  no_put : units.field_at (judge_pool p c) op n ≡ None → op ≡ fields.PutStatic → f.member ≡ LibField → ⊥
+  no_put : jlinking_names.field_at (judge_pool p c) op n ≡ None → op ≡ fields.PutStatic → f.member ≡ LibField → ⊥
   unfolding is_final owner_of
   no_put none is member =
       let one : (puts fields.PutStatic && (is_final p LibField && not (bytes_eq (owner_of p LibField) from))) ≡ false =
@@ -269,7 +271,7 @@ module _ (p : Program) (links : Links p) (i : ℕ) (part : CodePart) (stand : sl
       let own : bytes_eq (owner_of p LibField) from ≡ true = put_only (bytes_eq (owner_of p LibField) from) one in
       lib_apart p (in_order p links) i part (library_calls.owner call.Out) stand (sym ((bytes_eq-Decides (owner_of p LibField) from).0 own))
 
-  pub field_is : IsNamedField p op f → units.field_at (judge_pool p c) op n ≡ None → IsField p op f
+  pub field_is : IsNamedField p op f → jlinking_names.field_at (judge_pool p c) op n ≡ None → IsField p op f
   field_is named none = record {
     named = named;
     held = resolved_holds p ref.name ref.desc f.held r.says.says ref.owner f.member r.says.found;

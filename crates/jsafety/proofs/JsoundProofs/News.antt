@@ -27,21 +27,24 @@ use Rattle.jprogram.specs.declared.part.ClassRef.TheVariants as refs
 use Rattle.jprogram.specs.declared.part.CodePart.{CodePart}
 use Rattle.jprogram.specs.Parts.{member_desc, or_empty, package_of, same_package, this_name}
 use Rattle.jprogram.specs.Classes.{Class, Lib, Program, User, find, name_at, ref_of, up}
-use Rattle.jprogram.specs.Members.{is_public_at, may_name}
+use Rattle.jprogram.specs.Members.{may_name}
+use Rattle.jprogram.specs.ProofNames.{is_public_at}
 use Rattle.jprogram.specs.Supers.{is_missing}
 use Rattle.jprogram.proofs.Settling.{name_equal}
 use Rattle.jprogram.proofs.Standing.{Stands, Users, Libs, Nowhere, all_append, all_of_map, stands}
 use Rattle.jlinking.specs.jmembers.Declares.{desc_left_out, desc_missing, text_left_out, text_missing, type_missing}
 use Rattle.jprogram.specs.LeftOut.{is_context, is_floating}
 use Rattle.jmeaning.specs.jlayout.Layout.{field_type, is_instance, layout, own_types}
-use Rattle.jmeaning.specs.jlayout.Layout as layouts
-use Rattle.jmeaning.specs.juses.Typed.{Held, Typed, array_over, class_by, class_of, class_type, element_in, held, name, there, type_in, type_of, typed, typed_as}
+use Rattle.jmeaning.specs.ProofNames
+use Rattle.jmeaning.specs.juses.Typed.{Held, Typed, array_over, class_by, class_of, class_type, element_in, name, there, type_in, type_of, typed, typed_as}
+use Rattle.jmeaning.specs.ProofNames.{held}
 use Rattle.jmeaning.specs.juses.Typed as says
 use Rattle.jlinking.specs.jreferring.Entries.{judge, judge_pool}
 use Rattle.jlinking.specs.jreferring.Names.{class_test, type_test}
 use Rattle.jlinking.specs.jreferring.Operands.{class_use, operand_test}
 use Rattle.jlinking.specs.jreferring.Units as units
-use Rattle.jlinking.specs.jreferring.Units.{class_in, operand_at}
+use Rattle.jlinking.specs.jreferring.Units.{operand_at}
+use Rattle.jlinking.specs.ProofNames.{class_in}
 use Rattle.jmeaning.specs.jrule.Effects.{is_ref}
 use Rattle.jlinking.specs.jlink.Coded.{AreFiles}
 use Rattle.jlinking.specs.jlink.Fields.{is_plain}
@@ -114,7 +117,7 @@ module _ (p : Program) (links : Links p) (files : AreFiles p) where
       let good = (descriptor_take (member_desc part.class m) (descriptors.Field d.0) d.1).0 in
       let y = has_some (type_in p d.0) (type_there p d.0.class d.0 good both.0 (own_test p d.0 missing)) in
       let is : typed_as p (descriptor_of (member_desc part.class m)) ≡ Held y.0 = ap (typed_as p) d.1 ∙ ap held y.1 in
-      ap (λ (t : Typed). is_plain (layouts.held t)) is ∙ named_plain p d.0 y.0 both.1 y.1
+      ap (λ (t : Typed). is_plain (ProofNames.held_type t)) is ∙ named_plain p d.0 y.0 both.1 y.1
 
   own_plain : (x : List ℕ) → AllByRecursion IsPlain (own_types p (find p x))
   own_plain x = by (stands p x)

@@ -28,17 +28,19 @@ use Rattle.jprogram.proofs.Extending.{up_is}
 use Rattle.jprogram.proofs.Rows.{found_part, own_place}
 use Rattle.jprogram.proofs.Settling.{name_equal, or_right}
 use Rattle.jmeaning.specs.declared.juses.meaning.How.TheVariants as how
-use Rattle.jmeaning.specs.juses.Instructions.{Array, Instruction, Jump, Local, Return, Simple, Stack, Switch, Throw, Used, Test, If, IfInt, IfRef, Always, array, by_form, cases}
+use Rattle.jmeaning.specs.juses.Instructions.{Array, Instruction, Jump, Local, Return, Simple, Stack, Switch, Throw, Used, Test, If, IfInt, IfRef, Always, by_form, cases}
+use Rattle.jmeaning.specs.ProofNames.{array, array_made, made}
 use Rattle.jmeaning.specs.juses.Instructions.{default, flow, instruction, instruction_at, jump, target}
 use Rattle.jmeaning.specs.juses.Meanings as meanings
-use Rattle.jmeaning.specs.juses.Meanings.{AClass, AConstant, AField, AMethod, EntryMeaning, Meaning, array_made, array_meant, entry_meant, index_of, made, meant, used}
+use Rattle.jmeaning.specs.juses.Meanings.{AClass, AConstant, AField, AMethod, EntryMeaning, Meaning, array_meant, entry_meant, index_of, meant, used}
 use Rattle.jmeaning.specs.juses.Typed.{array_over, name, there}
 use Rattle.jlinking.specs.declared.jreferring.judged.Judged.{Judged}
 use Rattle.jlinking.specs.jreferring.Entries.{judge_pool}
 use Rattle.jlinking.specs.jreferring.Units.{form_test, pool_test}
 use Rattle.jmeaning.specs.jrule.Here.{Here}
 use Rattle.jtyping.specs.Methods as methods
-use Rattle.jtyping.specs.Methods.{here_of, made_by, made_in}
+use Rattle.jtyping.specs.Methods.{here_of, made_in}
+use Rattle.jtyping.specs.ProofNames.{made_by}
 use Rattle.jlinking.specs.jlink.Coded.{AreFiles}
 use Rattle.jlinking.specs.jlink.Links.{Links}
 use Rattle.jlinking.specs.jlink.Standing.{in_order}

@@ -7,7 +7,7 @@ use Rattle.jprogram.specs.declared.part.ClassRef.{ClassRef}
 use Rattle.jprogram.specs.declared.part.ClassRef.TheVariants as refs
 use Rattle.jprogram.specs.declared.part.CodePart.{CodePart}
 use Rattle.jprogram.specs.Parts.{super_name, this_name}
-use Rattle.jprogram.specs.Classes.{Program, User, above, above_name, extends, find, name_at, named, object, onward, ref_of, super_at, up}
+use Rattle.jprogram.specs.Classes.{Program, User, above, above_name, extends, find, name_at, object, onward, ref_of, super_at, up, named}
 use Rattle.jprogram.specs.Standing.{StandsInOrder}
 use Rattle.jprogram.proofs.Extending.{up_is}
 use Rattle.jprogram.proofs.Numbers.{number_name}

@@ -18,12 +18,13 @@ use Rattle.jtypes.specs.Tree.{Tree}
 use Rattle.jprogram.specs.declared.member.Member.{Member}
 use Rattle.jmeaning.specs.juses.Instructions as instructions
 use Rattle.jmeaning.specs.jrule.Arrays as rules
-use Rattle.jmeaning.specs.jrule.Arrays.{component, loaded, loaded_on, operands, wanted}
+use Rattle.jmeaning.specs.jrule.Arrays.{component, loaded, loaded_on, operands}
+use Rattle.jmeaning.specs.ProofNames.{wanted}
 use Rattle.jmeaning.specs.jrule.Effects.{Holds, Of, Want, holds, is_int, items_of, same_items}
 use Rattle.jmeaning.specs.jrule.Here.{Here}
 use Rattle.jmeaning.specs.jrule.Operands.{below, pushed, taken as types_taken, with_stack}
 use Rattle.jmodel.specs.jmachine.Acts.{FrameOf, Row, gives, null, raises}
-use Rattle.jmodel.specs.jmachine.Arrays.{array, is_stored, items_in, load, load_at, outside, store, store_at, with_item, within}
+use Rattle.jmodel.specs.jmachine.Arrays.{array, items_in, load, load_at, outside, store, store_at, with_item, within}
 use Rattle.jmodel.specs.jmachine.Doing.{by_taken}
 use Rattle.jmodel.specs.jmachine.Frames.{with_operands}
 use Rattle.jmodel.specs.jmachine.Narrowing.{held_by, narrowed, place}
@@ -51,6 +52,7 @@ use Rattle.jsafety.proofs.JtypedProofs.Simples.{HasRow}
 use Rattle.jsafety.proofs.JtypedProofs.Storing.{each_kept}
 use Rattle.jsafety.proofs.JtypedProofs.Growing.{serves_kept}
 use Rattle.jsafety.proofs.JtypedProofs.Taking.{IsServed, plain_served}
+use Rattle.jmodel.specs.jmachine.Making.{is_one}
 
 -- two operands are taken
 taken_two : {K : Type 0} (w : World) (s : Store K) (first second : Want) (v u : Value K) (under : List (Value K)) → Serves w s first v → Serves w s second u
@@ -161,11 +163,11 @@ item_plain item.Short = tt
 
 module _ {K : Type 0} (w : World) (s : Store K) (statics : List VType) (stored : IsStored w s statics) where
   -- what may be stored is of what the array holds
-  stored_is : FacesOf w → (a : ArrayType) (want : Want) (v : Value K) → Serves w s want v → is_stored w a (type_of w s v) ≡ true → IsA w s (component a) v
+  stored_is : FacesOf w → (a : ArrayType) (want : Want) (v : Value K) → Serves w s want v → is_one w (component a) (type_of w s v) ≡ true → IsA w s (component a) v
   stored_is faces a want v x h = record {
     type = x.type;
     is = x.is;
-    met = instance_is w faces x.type (component a) (sym (ap (is_stored w a) (known_type w s v x.type x.is)) ∙ h);
+    met = instance_is w faces x.type (component a) (sym (ap (is_one w (component a)) (known_type w s v x.type x.is)) ∙ h);
   }
 
   module _ (a : ArrayType) (held : List (Value K)) (n : ℕ) (v : Value K) (at : object_at s (suc n) ≡ Some (Array a held)) where
@@ -202,14 +204,14 @@ module _ {K : Type 0} (E : Type 0) (w : World) (s : Store K) (faces : FacesOf w)
     put_row : (i : ℕ) → IsA w s (component a) v → IsKept (Some (gives (put i) []))
     put_row i x = record { row = gives (put i) []; is = refl; act = (refl, grows w s statics stored a held n v at i, typed w s statics stored a held n v at i x, tt) }
 
-    stored_row : (i : ℕ) (want : Want) → Serves w s want v → (b : Bool) → is_stored w a (type_of w s v) ≡ b
+    stored_row : (i : ℕ) (want : Want) → Serves w s want v → (b : Bool) → is_one w (component a) (type_of w s v) ≡ b
         → IsKept (Some (if b then gives (put i) [] else refused))
     stored_row i want x true is = put_row i (stored_is w s statics stored faces a want v x is)
     stored_row i want x false is = record { row = refused; is = refl; act = tt }
 
     place_row : (want : Want) → Serves w s want v → (o : Option ℕ) → IsKept (Some (store_at w s (suc n) v (record { type = a; items = held }) o))
     place_row want x None = record { row = outside; is = refl; act = tt }
-    place_row want x (Some i) = stored_row i want x (is_stored w a (type_of w s v)) refl
+    place_row want x (Some i) = stored_row i want x (is_one w (component a) (type_of w s v)) refl
 
   ref_kept : (want : Want) (v : Value K) → Serves w s want v → (k : ℤ) (n : ℕ) → Serves w s (Holds e) (Ref n) → IsKept (array w s (forms.Store e) (v ∷ Int k ∷ Ref n ∷ []))
   unfolding array

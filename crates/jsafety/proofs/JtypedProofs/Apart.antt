@@ -8,7 +8,7 @@ use Rattle.jground.proofs.JbaseProofs.Firsts.{none_fails, none_of}
 use Rattle.jclass.specs.declared.class.ClassParts.{ClassParts}
 use Rattle.jparts.specs.declared.jpool.entry.Entry.{Entry}
 use Rattle.jparts.specs.declared.jpool.entry.Entry.TheVariants.{Unused, Utf8, Integer, Float, Long, Double, Class, Str, Field, Method, InterfaceMethod, NameAndType, MethodHandle, MethodType, InvokeDynamic}
-use Rattle.jparts.specs.jpool.Pools.{class_name_at, name_in, utf8_at}
+use Rattle.jparts.specs.jpool.Pools.{class_name_at, utf8_at}
 use Rattle.jlib.specs.declared.classes.LibClass.{LibClass}
 use Rattle.jlib.specs.declared.classes.LibClass.TheVariants as lib
 use Rattle.jlib.specs.declared.classes.PermissionClass.{PermissionClass}
@@ -23,13 +23,15 @@ use Rattle.jprogram.specs.declared.fault.LinkKind.TheVariants.{ReservedName}
 use Rattle.jprogram.specs.declared.part.CodePart.{CodePart}
 use Rattle.jprogram.specs.declared.part.ClassRef.TheVariants as refs
 use Rattle.jprogram.specs.Classes.{Program, above, above_name, chain, extends, face_names, find, known, object, onward, ref_of, up}
-use Rattle.jprogram.specs.Naming.{entry_reserved, in_class, is_reserved, member_reserved, names_reserved, naming_fault, naming_test, reserved_on, reserved_test, taken_test, text_reserved}
+use Rattle.jprogram.specs.Naming.{entry_reserved, in_class, is_reserved, member_reserved, names_reserved, naming_fault, naming_test, reserved_test, taken_test, text_reserved}
+use Rattle.jprogram.specs.ProofNames.{reserved_on}
 use Rattle.jprogram.specs.Parts.{or_empty, text, this_name}
 use Rattle.jprogram.specs.Standing.{StandsInOrder}
 use Rattle.jprogram.proofs.Circling.{or_split}
 use Rattle.jprogram.proofs.Extending.{object_find}
 use Rattle.jprogram.proofs.Settling.{clash, name_is}
 use Rattle.jprogram.proofs.Standing.{LibStep, Libs, Nowhere, Stands, Users, fault_none, in_none, lib_steps, not_taken, or_none, stands}
+use Rattle.jparts.specs.jpool.Entries.{class_parts}
 
 -- ---- the library's classes, by their sides
 
@@ -106,7 +108,7 @@ any_false f (y ∷ ys) zero x h at = let same : y ≡ x = cc in subst (λ z. f z
 any_false f (y ∷ ys) (suc i) x h at = any_false f ys i x (or_none (f y) (list_any f ys) h).1 at
 
 plain_in : (pool : List Entry) (i : ℕ) (o : Option Entry) → slice_get pool i ≡ o → list_any (entry_reserved pool) pool ≡ false
-    → is_reserved (or_empty (option_and_then (utf8_at pool) (name_in o))) ≡ false
+    → is_reserved (or_empty (option_and_then (utf8_at pool) (option_and_then class_parts o))) ≡ false
 plain_in pool i (Some (Class n)) at h =
     let kept = any_false (entry_reserved pool) pool i (Class n) h at in
     (or_none (is_reserved (text pool n)) (text_reserved (text pool n)) kept).0

@@ -47,8 +47,10 @@ use Rattle.jmeaning.specs.juses.Typed.{Called, name, typed}
 use Rattle.jmeaning.specs.jrule.Effects.{Fits, Want}
 use Rattle.jmeaning.specs.jrule.Here.{Here}
 use Rattle.jmeaning.specs.jrule.Uses.{arguments, of_library}
-use Rattle.jtyping.specs.Methods.{params_of, receiver as this_of, return_of}
-use Rattle.jmodel.specs.jmachine.Calls.{Target, Fails, by_class, by_interface, from_above, is_hidden, no_access, null_pointer, on_object, on_value, reached, receiver, special, target, unless, wrong_class}
+use Rattle.jtyping.specs.Methods.{params_of, receiver as this_of}
+use Rattle.jtyping.specs.ProofNames.{return_of}
+use Rattle.jmodel.specs.jmachine.Calls.{Target, Fails, by_interface, from_above, is_hidden, no_access, on_object, on_value, reached, receiver, special, target, unless, wrong_class}
+use Rattle.jmodel.specs.ProofNames.{by_class, null_pointer}
 use Rattle.jmodel.specs.jmachine.Objects.{Object, Instance, Thrown, Text, Builder, Piece, Permission, Context, Thread, Bare, Array, class_of, id_of}
 use Rattle.jmodel.specs.jmachine.Sites.{Site}
 use Rattle.jmodel.specs.jmachine.Store.{Store, object_at}

@@ -27,14 +27,17 @@ use Rattle.jtypes.specs.Frames.{Frame, is_long, places, places_of}
 use Rattle.jprogram.specs.Classes.{Program}
 use Rattle.jprogram.specs.Members.{init}
 use Rattle.jlinking.proofs.JlinkProofs.Having.{each_is, map_is, then_is}
-use Rattle.jmeaning.specs.juses.Meanings.{AClass, AConstant, AField, AMethod, EntryMeaning, as_class, call_meant, class_at, entry_meant, field_entry, field_meant, method_entry, reference}
-use Rattle.jmeaning.specs.juses.Typed.{Typed, Called, Held, Untyped, class_by, class_of, class_type, called, element_in, held, is_context, return_in, there, type_in, type_of, typed, typed_as}
-use Rattle.jtyping.specs.Declared.{Written, continued, frame_of, frames_in, item, or_top, written, written_from}
+use Rattle.jmeaning.specs.juses.Meanings.{AClass, AConstant, AField, AMethod, EntryMeaning, call_meant, class_at, entry_meant, field_entry, field_meant, method_entry, reference}
+use Rattle.jmeaning.specs.ProofNames.{as_class, held}
+use Rattle.jmeaning.specs.juses.Typed.{Typed, Called, Held, Untyped, class_by, class_of, class_type, called, element_in, is_context, return_in, there, type_in, type_of, typed, typed_as}
+use Rattle.jtyping.specs.Declared.{Written, continued, frame_of, item, written, written_from}
+use Rattle.jtyping.specs.ProofNames.{or_top}
 use Rattle.jtyping.specs.Methods.{Method}
 use Rattle.jsafety.specs.jtyped.Fitting.{IsValueType}
 use Rattle.jsafety.specs.jtyped.Frames.{AllHaveDimensions}
 use Rattle.jsafety.specs.jtyped.Going.{DeclareDimensions}
 use Rattle.jsafety.specs.jtyped.Values.{HasDimensions}
+use Rattle.jclass.specs.Codes.{frames_in}
 
 -- a type that a program may name
 abbrev pub IsNamed : VType → Type 0

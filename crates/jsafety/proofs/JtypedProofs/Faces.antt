@@ -7,7 +7,8 @@ use Rattle.jtypes.specs.declared.vtype.Element.TheVariants as elements
 use Rattle.jtypes.specs.declared.vtype.Name.{Name}
 use Rattle.jtypes.specs.declared.vtype.VType.{VType}
 use Rattle.jtypes.specs.declared.vtype.VType.TheVariants as types
-use Rattle.jtypes.specs.Fitting.{array_fits, class_fits, element_fits, is_above_array, is_above_arrays}
+use Rattle.jtypes.specs.Fitting.{array_fits, class_fits, element_fits, is_above_arrays}
+use Rattle.jtypes.specs.ProofNames.{is_above_array}
 use Rattle.jprogram.specs.Classes.{Program, face_names, find, holds, implements, is_interface, known, over, superinterfaces, up}
 use Rattle.jprogram.specs.Standing.{StandsInOrder}
 use Rattle.jprogram.proofs.Implementing.{faces_are}

@@ -16,8 +16,8 @@ use Rattle.jtypes.specs.Fitting.{is_above_arrays}
 use Rattle.jprogram.specs.declared.member.Member.TheVariants.{Field}
 use Rattle.jprogram.specs.declared.part.ClassRef.TheVariants as refs
 use Rattle.jprogram.specs.declared.part.CodePart.{CodePart}
-use Rattle.jprogram.specs.Classes.{Program, User, extends, find, holds, is_interface, name_at, named, ref_of, tree}
-use Rattle.jprogram.specs.Members.{info_of, is_static, owner_in, owner_of, user_is}
+use Rattle.jprogram.specs.Classes.{Program, User, extends, find, holds, is_interface, name_at, ref_of, tree, named}
+use Rattle.jprogram.specs.Members.{info_of, is_static, owner_of, user_is, owner_in}
 use Rattle.jprogram.specs.Parts as parts
 use Rattle.jprogram.specs.Parts.{this_name}
 use Rattle.jprogram.specs.Standing.{StandsInOrder}

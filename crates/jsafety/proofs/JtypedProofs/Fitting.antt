@@ -8,7 +8,8 @@ use Rattle.jtypes.specs.declared.vtype.Element.TheVariants as elements
 use Rattle.jtypes.specs.declared.vtype.Name.{Name}
 use Rattle.jtypes.specs.declared.vtype.VType.{VType}
 use Rattle.jtypes.specs.declared.vtype.VType.TheVariants as types
-use Rattle.jtypes.specs.Fitting.{array_fits, class_fits, element_fits, fits, fits_where, is_above_array, is_above_arrays}
+use Rattle.jtypes.specs.Fitting.{array_fits, class_fits, element_fits, fits, fits_where, is_above_arrays}
+use Rattle.jtypes.specs.ProofNames.{is_above_array}
 use Rattle.jtypes.specs.Tree.{InterfacesExtendTheirs, Tree}
 use Rattle.jsafety.specs.jtyped.Fitting.{IsValueType}
 

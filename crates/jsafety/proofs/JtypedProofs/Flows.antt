@@ -27,7 +27,8 @@ use Rattle.jmeaning.specs.jrule.Straight.{returns, tested}
 use Rattle.jmeaning.specs.jrule.Uses.{throwable}
 use Rattle.jmodel.specs.jmachine.Acts.{Jumps, Row, Throws, free, raises}
 use Rattle.jmodel.specs.jmachine.Store.{Store}
-use Rattle.jmodel.specs.jmachine.Straight.{branched, case_of, compared, holds, jump, leave, switch, throw}
+use Rattle.jmodel.specs.jmachine.Straight.{branched, case_of, holds, jump, leave, switch, throw}
+use Rattle.jmodel.specs.ProofNames.{compared}
 use Rattle.jmodel.specs.jmachine.World.{World}
 use Rattle.jlib.specs.declared.classes.LibClass.TheVariants as lib
 use Rattle.jlib.specs.declared.classes.Thrown.TheVariants as thrown

@@ -42,11 +42,13 @@ use Rattle.jmeaning.specs.declared.jrule.unready.Unready.TheVariants as unready
 use Rattle.jmeaning.specs.jrule.Effects.{Fits}
 use Rattle.jmeaning.specs.jrule.Here.{Here}
 use Rattle.jmeaning.specs.jrule.Objects as rules
-use Rattle.jmeaning.specs.jrule.Objects.{all_replaced, init_of, init_on, is_it, is_named, may_ready_this, replaced, same_name}
+use Rattle.jmeaning.specs.jrule.Objects.{all_replaced, init_on, is_it, is_named, may_ready_this, same_name}
+use Rattle.jmeaning.specs.ProofNames.{init_of, replaced}
 use Rattle.jmeaning.specs.jrule.Operands.{below, given, taken as types_taken, with_stack}
 use Rattle.jmeaning.specs.jrule.Rule.{rule}
 use Rattle.jmeaning.specs.jrule.Uses.{arguments}
-use Rattle.jtyping.specs.Methods.{params_of, receiver as this_of, return_of}
+use Rattle.jtyping.specs.Methods.{params_of, receiver as this_of}
+use Rattle.jtyping.specs.ProofNames.{return_of}
 use Rattle.jmodel.specs.jmachine.Acts.{FrameOf}
 use Rattle.jmodel.specs.jmachine.Calls.{Pushes, begun_on, init_taken, is_begun, may_begin, on_object, on_value, reached, receiver, target}
 use Rattle.jmodel.specs.jmachine.Doing.{by_taken, call, called, doing, used}

@@ -13,7 +13,8 @@ use Rattle.jtypes.specs.declared.vtype.Element.TheVariants as elements
 use Rattle.jtypes.specs.declared.vtype.VType.{VType}
 use Rattle.jtypes.specs.declared.vtype.VType.TheVariants as types
 use Rattle.jtypes.specs.Described.{alone, in_brackets}
-use Rattle.jtypes.specs.Fitting.{array_fits, element_fits, is_above_array}
+use Rattle.jtypes.specs.Fitting.{array_fits, element_fits}
+use Rattle.jtypes.specs.ProofNames.{is_above_array}
 use Rattle.jtypes.specs.Tree.{Tree}
 use Rattle.jmeaning.specs.jrule.Arrays.{component, loaded}
 use Rattle.jmeaning.specs.jrule.Effects.{Holds, Of, held_as, holds, is_array, is_ref, items_of, same_items}

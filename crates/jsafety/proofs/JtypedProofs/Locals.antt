@@ -23,6 +23,7 @@ use Rattle.jmeaning.specs.juses.Instructions.{Instruction, goes_on}
 use Rattle.jmeaning.specs.jrule.Effects.{is_int, is_of}
 use Rattle.jmeaning.specs.jrule.Here.{Here}
 use Rattle.jmeaning.specs.jrule.Locals as rule_locals
+use Rattle.jmeaning.specs.ProofNames
 use Rattle.jmeaning.specs.jrule.Locals.{is_top, is_whole, passes}
 use Rattle.jmeaning.specs.jrule.Operands.{pushed, with_stack}
 use Rattle.jmodel.specs.jmachine.Acts.{FrameOf, gives}
@@ -182,7 +183,7 @@ module _ {K : Type 0} (w : World) (s : Store K) (here : Here) (news : News) wher
       record { held = holding h.locals (v ∷ h.operands); is = load_found kind h n v at (of_local kind a v x e); locals = fit; operands = (x, fits) }
 
   load_does : (most : ℕ) (kind : LocalKind) (n : ℕ) (shape behind : Frame) (h : Held K) → All shape.locals h.locals → AllHave w s here news shape.stack h.operands
-      → rule_locals.load most (forms.local kind) n shape ≡ Some behind → Kept behind (local (Moves Load kind n) h)
+      → ProofNames.load most (forms.local kind) n shape ≡ Some behind → Kept behind (local (Moves Load kind n) h)
   unfolding local
   load_does most kind n shape behind h fit fits e = go (slice_get shape.locals n) refl e
     where

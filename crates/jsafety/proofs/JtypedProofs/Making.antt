@@ -24,9 +24,10 @@ use Rattle.jmeaning.specs.juses.Meanings.{Pushed}
 use Rattle.jmeaning.specs.jrule.Arrays.{component, of_numbers, row}
 use Rattle.jmeaning.specs.jrule.Effects.{Of, is_array, is_ref}
 use Rattle.jmeaning.specs.jrule.Here.{Here}
-use Rattle.jmeaning.specs.jrule.Uses.{constant, of_cast, string}
+use Rattle.jmeaning.specs.jrule.Uses.{constant}
+use Rattle.jmeaning.specs.ProofNames.{of_cast, string}
 use Rattle.jmodel.specs.jmachine.Acts.{Row, gives, null}
-use Rattle.jmodel.specs.jmachine.Arrays as machine
+use Rattle.jmodel.specs.ProofNames
 use Rattle.jmodel.specs.jmachine.Arrays.{array, items_in, made, made_of, make}
 use Rattle.jmodel.specs.jmachine.Making.{cast, checked, is_one, push, tested, text_loaded, text_made, units_of}
 use Rattle.jmodel.specs.jmachine.Narrowing.{default, place}
@@ -175,7 +176,7 @@ module _ {K E : Type 0} (w : World) (s : Store K) (statics : List VType) (stored
   length_of zero h = record { row = null; is = refl; act = tt }
   length_of (suc n) h =
       let x = array_value w s n h in
-      subst (λ o. Gives (Some types.Int) (option_map (machine.length_row s) (items_in o))) (sym x.2) (int_given (pos (length x.1)))
+      subst (λ o. Gives (Some types.Int) (option_map (ProofNames.length_row s) (items_in o))) (sym x.2) (int_given (pos (length x.1)))
 
   pub length_row : (given : List (Value K)) → AllServe w s (Of kinds.Array ∷ []) given → Gives (Some types.Int) (array w s forms.Length given)
   length_row (v ∷ []) h =

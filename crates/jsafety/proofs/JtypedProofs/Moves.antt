@@ -10,7 +10,8 @@ use Rattle.jtypes.specs.declared.vtype.VType.{VType}
 use Rattle.jtypes.specs.Frames.{Frame, is_long}
 use Rattle.jmeaning.specs.jrule.Here.{Here}
 use Rattle.jmeaning.specs.jrule.Locals.{is_top}
-use Rattle.jmeaning.specs.jrule.Moves.{items, moved, move}
+use Rattle.jmeaning.specs.jrule.Moves.{items, move}
+use Rattle.jmeaning.specs.ProofNames.{moved}
 use Rattle.jmeaning.specs.jrule.Operands.{with_room, with_stack}
 use Rattle.jmodel.specs.jmachine.Store.{Store}
 use Rattle.jmodel.specs.jmachine.Straight as machine

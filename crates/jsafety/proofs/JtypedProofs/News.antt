@@ -23,7 +23,8 @@ use Rattle.jmeaning.specs.juses.Typed.{name}
 use Rattle.jmeaning.specs.declared.jrule.unready.Unready.TheVariants as unready
 use Rattle.jmeaning.specs.jrule.Here.{Here}
 use Rattle.jmeaning.specs.jrule.Objects as typed
-use Rattle.jmeaning.specs.jrule.Objects.{all_replaced, is_it, is_uninit, replaced}
+use Rattle.jmeaning.specs.jrule.Objects.{all_replaced, is_it}
+use Rattle.jmeaning.specs.ProofNames.{replaced}
 use Rattle.jmeaning.specs.jrule.Operands.{pushed}
 use Rattle.jmodel.specs.jmachine.Acts.{FrameOf}
 use Rattle.jmodel.specs.jmachine.Doing.{by_taken}
@@ -44,6 +45,12 @@ use Rattle.jsafety.specs.jtyped.Values.{AreOf, IsA, is_piece}
 use Rattle.jsafety.proofs.JtypedProofs.Exchanging.{roomy}
 use Rattle.jsafety.proofs.JtypedProofs.Growing.{grows_made}
 use Rattle.jsafety.proofs.JtypedProofs.Storing.{stored_made}
+use Rattle.jtypes.specs.declared.vtype.VType.TheVariants.{Uninit}
+
+-- ---- names for what definitions say in place
+
+abbrev is_uninit : ℕ → VType → Bool
+is_uninit o = elim [ Uninit at ↦ at == o | _ ↦ false ]
 
 get_end : {A : Type 0} (xs : List A) (x : A) → slice_get (xs ++ x ∷ []) (length xs) ≡ Some x
 get_end [] x = refl

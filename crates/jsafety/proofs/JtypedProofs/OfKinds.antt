@@ -16,7 +16,7 @@ use Rattle.jmeaning.specs.jrule.Here.{Here}
 use Rattle.jmeaning.specs.jrule.Locals.{is_top}
 use Rattle.jtypes.specs.Frames.{is_long}
 use Rattle.jmodel.specs.jmachine.Objects.{Object, Instance, Thrown, Text, Builder, Piece, Permission, Context, Thread, Bare, Array, class_of}
-use Rattle.jmodel.specs.jmachine.Operands.{found_type, serves, serves_as, type_of}
+use Rattle.jmodel.specs.jmachine.Operands.{serves, type_of, serves_as, found_type}
 use Rattle.jmodel.specs.jmachine.Store.{Store, object_at}
 use Rattle.jmodel.specs.jmachine.World.{World, fits}
 use Rattle.jsafety.specs.jtyped.Values.{Serves, is_whole, known, whole_type}

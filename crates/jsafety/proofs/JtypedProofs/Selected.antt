@@ -22,7 +22,7 @@ use Rattle.jprogram.specs.declared.member.Selected.{Selected}
 use Rattle.jprogram.specs.declared.member.Selected.TheVariants as selected
 use Rattle.jprogram.specs.declared.part.ClassRef.TheVariants as refs
 use Rattle.jprogram.specs.declared.part.CodePart.{CodePart}
-use Rattle.jprogram.specs.Classes.{Program, User, extends, name_at, named, object, up}
+use Rattle.jprogram.specs.Classes.{Program, User, extends, name_at, object, up, named}
 use Rattle.jprogram.specs.Members.{as_selected, desc_in, desc_of, first_by, first_taking, info_of, is_abstract, is_static, lib_method, method_at, method_id, method_in, methods_along, name_in, name_of, name_of_id, select, takes_call, user_is}
 use Rattle.jprogram.specs.Parts as parts
 use Rattle.jprogram.specs.Parts.{is_called, member_desc, member_name, this_name}

@@ -29,7 +29,8 @@ use Rattle.jmeaning.specs.juses.Typed.{Called, Held, Typed, Untyped, name, typed
 use Rattle.jmeaning.specs.jrule.Operands.{with_stack}
 use Rattle.jmeaning.specs.jrule.Uses.{throwable}
 use Rattle.jtyping.specs.Declared.{declared_at, written}
-use Rattle.jtyping.specs.Methods.{params_of, receiver, return_of}
+use Rattle.jtyping.specs.Methods.{params_of, receiver}
+use Rattle.jtyping.specs.ProofNames.{return_of}
 use Rattle.jtyping.specs.Typing.{caught_fits, caught_type, leads_in}
 use Rattle.jtyping.proofs.Chosen.{also_at}
 use Rattle.jmodel.specs.jmachine.Acts.{FrameOf}

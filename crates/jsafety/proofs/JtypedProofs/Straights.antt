@@ -23,7 +23,8 @@ use Rattle.jmeaning.specs.jrule.Here.{Here}
 use Rattle.jmeaning.specs.jrule.Operands.{exchanged}
 use Rattle.jmeaning.specs.jrule.Rule.{is_own, rule}
 use Rattle.jmeaning.specs.jrule.Straight.{tested}
-use Rattle.jmeaning.specs.jrule.Uses.{constant, exchange, of_cast, of_field, throwable}
+use Rattle.jmeaning.specs.jrule.Uses.{constant, exchange, of_field, throwable}
+use Rattle.jmeaning.specs.ProofNames.{of_cast}
 use Rattle.jmodel.specs.jmachine.Acts.{FrameOf}
 use Rattle.jmodel.specs.jmachine.Doing.{by, doing, used}
 use Rattle.jmodel.specs.jmachine.Arrays as array_rows

@@ -5,7 +5,8 @@ use Rattle.jground.specs.declared.jops.value.Value.{Value}
 use Rattle.jtypes.specs.declared.vtype.VType.{VType}
 use Rattle.jtypes.specs.declared.vtype.VType.TheVariants as types
 use Rattle.jtypes.specs.Fitting as checked
-use Rattle.jtypes.specs.Frames.{all_fit, implies, is_long, item_fits, stack_fits}
+use Rattle.jtypes.specs.Frames.{all_fit, implies, is_long, stack_fits}
+use Rattle.jtypes.specs.ProofNames.{item_fits}
 use Rattle.jtypes.specs.Tree.{Tree}
 use Rattle.jmeaning.specs.jrule.Here.{Here}
 use Rattle.jmodel.specs.jmachine.Store.{Store}

@@ -16,7 +16,8 @@ use Rattle.jprogram.specs.declared.part.CodePart.{CodePart}
 use Rattle.jprogram.specs.Parts.{super_name}
 use Rattle.jprogram.specs.Classes.{Class, Lib, Program, User, above, above_name, chain, extends, find, holds, known, object, onward, up}
 use Rattle.jprogram.specs.Standing.{StandsInOrder}
-use Rattle.jprogram.specs.Supers.{is_barred, super_barred}
+use Rattle.jprogram.specs.Supers.{super_barred}
+use Rattle.jprogram.specs.ProofNames.{is_barred}
 use Rattle.jprogram.proofs.Circling.{or_split}
 use Rattle.jprogram.proofs.Settling.{clash, name_is}
 use Rattle.jprogram.proofs.Standing.{Stands, Users, Libs, Nowhere, lib_find, not_bad, not_taken, or_none, stands}

@@ -11,7 +11,7 @@ use Rattle.jtypes.specs.Fitting as checked
 use Rattle.jtypes.specs.Fitting.{class_fits, is_above_arrays}
 use Rattle.jprogram.specs.declared.part.ClassRef.TheVariants as refs
 use Rattle.jprogram.specs.declared.part.CodePart.{CodePart}
-use Rattle.jprogram.specs.Classes.{Lib, Program, User, extends, find, holds, is_interface, name_at, named, ref_of, tree}
+use Rattle.jprogram.specs.Classes.{Lib, Program, User, extends, find, holds, is_interface, name_at, ref_of, tree, named}
 use Rattle.jprogram.specs.Standing.{StandsInOrder}
 use Rattle.jprogram.proofs.Extending.{extends_itself}
 use Rattle.jprogram.proofs.Numbers.{own_number}

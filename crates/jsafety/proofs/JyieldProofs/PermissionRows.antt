@@ -18,7 +18,7 @@ use Rattle.jtypes.specs.declared.vtype.VType.{VType}
 use Rattle.jprogram.specs.declared.member.Member.{Member}
 use Rattle.jmeaning.specs.declared.juses.meaning.How.{How}
 use Rattle.jmeaning.specs.declared.juses.meaning.How.TheVariants as how
-use Rattle.jmeaning.specs.jrule.Uses.{string as text_type}
+use Rattle.jmeaning.specs.ProofNames.{string as text_type}
 use Rattle.jmodel.specs.jmachine.Acts.{Row, gives}
 use Rattle.jmodel.specs.jmachine.Calls.{receiver}
 use Rattle.jmodel.specs.jmachine.Doing.{run}
@@ -29,7 +29,7 @@ use Rattle.jmodel.specs.jmachine.Permissions.{class_of, constructed, fault_class
 use Rattle.jmodel.specs.jmachine.Security.{Rules}
 use Rattle.jmodel.specs.jmachine.Sites.{Site}
 use Rattle.jmodel.specs.jmachine.Store.{Store, object_at, with_object}
-use Rattle.jmodel.specs.jmachine.Texts.{units_in}
+use Rattle.jmodel.specs.ProofNames.{units_in}
 use Rattle.jsafety.specs.jtyped.Values.{CanBeThrown, IsA}
 use Rattle.jsafety.specs.jyield.Given.{AreGiven, AreOn, IsReceiver, way_of}
 use Rattle.jsafety.specs.jyield.Laws.{CallYields}

@@ -33,7 +33,8 @@ use Rattle.jmodel.specs.jmachine.Asking.{controller_row, domain_of, rt_row}
 use Rattle.jmodel.specs.jmachine.Calls.{Target, Fails, Pushes, Runs, by_interface}
 use Rattle.jmodel.specs.jmachine.Doing.{run}
 use Rattle.jmodel.specs.jmachine.Objects.{Object, Array, class_of, library_name}
-use Rattle.jmodel.specs.jmachine.Privileges.{acting, acting_on, action, all_limits, given, limit, limited, limited_by, limits, limits_in, privilege, run_action, with_limit, within}
+use Rattle.jmodel.specs.jmachine.Privileges.{acting, acting_on, action, all_limits, given, limit, limited, limited_by, limits, privilege, run_action, with_limit, within}
+use Rattle.jmodel.specs.ProofNames.{limits_in}
 use Rattle.jmodel.specs.jmachine.Security.{Privilege, Rules, kept_in, permission_in}
 use Rattle.jmodel.specs.jmachine.Sites.{Site}
 use Rattle.jmodel.specs.jmachine.Store.{Store, object_at}

@@ -22,7 +22,8 @@ use Rattle.jprogram.specs.Standing.{StandsInOrder}
 use Rattle.jmeaning.specs.declared.juses.meaning.How.{How}
 use Rattle.jmeaning.specs.declared.juses.meaning.How.TheVariants as how
 use Rattle.jmeaning.specs.juses.Typed.{Called, typed}
-use Rattle.jmeaning.specs.jrule.Uses.{of_library, string}
+use Rattle.jmeaning.specs.jrule.Uses.{of_library}
+use Rattle.jmeaning.specs.ProofNames.{string}
 use Rattle.jmodel.specs.jmachine.Acts.{Row, Goes, free, null, raises}
 use Rattle.jmodel.specs.jmachine.Doing.{run}
 use Rattle.jmodel.specs.jmachine.Making.{text_made}

@@ -22,8 +22,9 @@ use Rattle.jtypes.specs.declared.vtype.VType.TheVariants as types
 use Rattle.jprogram.specs.Classes.{Class, Program}
 use Rattle.jprogram.specs.Standing.{StandsInOrder}
 use Rattle.jprogram.proofs.Standing.{lib_find, not_taken}
-use Rattle.jmeaning.specs.juses.Typed.{Called, Held, Untyped, called, held, name, return_in, type_in, type_of, typed, typed_as}
-use Rattle.jmeaning.specs.jrule.Uses.{of_library, string}
+use Rattle.jmeaning.specs.juses.Typed.{Called, Held, Untyped, called, name, return_in, type_in, type_of, typed, typed_as}
+use Rattle.jmeaning.specs.ProofNames.{held, string}
+use Rattle.jmeaning.specs.jrule.Uses.{of_library}
 use Rattle.jsafety.proofs.JyieldProofs.Reserved.{not_found}
 
 -- ---- types

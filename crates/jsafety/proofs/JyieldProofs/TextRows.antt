@@ -19,7 +19,8 @@ use Rattle.jtypes.specs.declared.vtype.VType.TheVariants as types
 use Rattle.jprogram.specs.declared.member.Member.{Member}
 use Rattle.jmeaning.specs.declared.juses.meaning.How.{How}
 use Rattle.jmeaning.specs.declared.juses.meaning.How.TheVariants as how
-use Rattle.jmeaning.specs.jrule.Uses.{of_library, string as text_type}
+use Rattle.jmeaning.specs.jrule.Uses.{of_library}
+use Rattle.jmeaning.specs.ProofNames.{string as text_type}
 use Rattle.jmodel.specs.jmachine.Acts.{Row, gives}
 use Rattle.jmodel.specs.jmachine.Calls.{receiver}
 use Rattle.jmodel.specs.jmachine.Doing.{run}
@@ -30,7 +31,8 @@ use Rattle.jmodel.specs.jmachine.Objects.{Object, Text, Builder, Piece}
 use Rattle.jmodel.specs.jmachine.Security.{Rules}
 use Rattle.jmodel.specs.jmachine.Sites.{Site}
 use Rattle.jmodel.specs.jmachine.Store.{Store, object_at, with_made, with_object}
-use Rattle.jmodel.specs.jmachine.Texts.{appended, builder, built_in, char_at, equals, line, print, print_end, printed, string, unit_given, units, units_in}
+use Rattle.jmodel.specs.jmachine.Texts.{appended, builder, equals, line, print, print_end, printed, string, unit_given, units}
+use Rattle.jmodel.specs.ProofNames.{built_in, units_in, char_at}
 use Rattle.jsafety.specs.jtyped.Growing.{Grows}
 use Rattle.jsafety.specs.jtyped.Values.{IsA}
 use Rattle.jsafety.proofs.JtypedProofs.Growing.{grows_made, serves_kept}

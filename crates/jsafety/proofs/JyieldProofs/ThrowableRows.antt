@@ -17,7 +17,8 @@ use Rattle.jtypes.specs.declared.vtype.VType.TheVariants as types
 use Rattle.jprogram.specs.declared.member.Member.{Member}
 use Rattle.jmeaning.specs.declared.juses.meaning.How.{How}
 use Rattle.jmeaning.specs.declared.juses.meaning.How.TheVariants as how
-use Rattle.jmeaning.specs.jrule.Uses.{of_library, string as text_type}
+use Rattle.jmeaning.specs.jrule.Uses.{of_library}
+use Rattle.jmeaning.specs.ProofNames.{string as text_type}
 use Rattle.jmodel.specs.jmachine.Acts.{Row, gives}
 use Rattle.jmodel.specs.jmachine.Calls.{receiver}
 use Rattle.jmodel.specs.jmachine.Doing.{run}

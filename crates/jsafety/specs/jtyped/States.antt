@@ -13,7 +13,7 @@ use Rattle.jprogram.specs.Standing.{StandsInOrder}
 use Rattle.jmeaning.specs.juses.Typed.{typed}
 use Rattle.jmeaning.specs.jrule.Uses.{throwable}
 use Rattle.jtyping.specs.Declared.{written}
-use Rattle.jtyping.specs.Methods.{return_of}
+use Rattle.jtyping.specs.ProofNames.{return_of}
 use Rattle.jtyping.specs.Typed.{Continues, IsTyped}
 use Rattle.jmodel.specs.jmachine.Acts.{FrameOf}
 use Rattle.jmodel.specs.jmachine.Objects.{Object, class_of}

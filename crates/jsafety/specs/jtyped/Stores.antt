@@ -7,7 +7,7 @@ use Rattle.jground.specs.declared.jops.value.Value.TheVariants.{Ref}
 use Rattle.jtypes.specs.declared.vtype.VType.{VType}
 use Rattle.jtypes.specs.declared.vtype.VType.TheVariants as types
 use Rattle.jmeaning.specs.jrule.Arrays.{component}
-use Rattle.jmeaning.specs.jrule.Uses.{string}
+use Rattle.jmeaning.specs.ProofNames.{string}
 use Rattle.jmodel.specs.jmachine.Fields.{out}
 use Rattle.jmodel.specs.jmachine.Objects.{Object, Instance, Thrown, Text, Bare, Array}
 use Rattle.jmodel.specs.jmachine.Store.{Store, object_at, with_made}

@@ -2,7 +2,8 @@
 use Rattle.std.proofs.Common.{◌≡◌, ◌∙◌, ℕ, ◌<◌, Bool, true, false, ◌||◌, refl, sym, ap}
 use Rattle.jtypes.specs.declared.vtype.Element.{Element}
 use Rattle.jtypes.specs.declared.vtype.Name.{Name}
-use Rattle.jtypes.specs.Fitting.{array_fits, class_fits, element_fits, is_above_array}
+use Rattle.jtypes.specs.Fitting.{array_fits, class_fits, element_fits}
+use Rattle.jtypes.specs.ProofNames.{is_above_array}
 use Rattle.jtypes.specs.Tree.{Tree}
 use Rattle.jtypes.proofs.Dimensions.{as_many_fit, fewer_fail, more_fit}
 use Rattle.jprogram.specs.declared.part.ClassRef.{ClassRef}

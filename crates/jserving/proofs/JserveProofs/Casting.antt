@@ -11,7 +11,6 @@ use Rattle.jlib.specs.declared.classes.Thrown.TheVariants as thrown
 use Rattle.jground.specs.declared.jnames.kinds.Kind.TheVariants as wanted
 use Rattle.jground.specs.declared.jops.value.Value.{Value}
 use Rattle.jground.specs.declared.jops.value.Value.TheVariants.{Ref}
-use Rattle.jtypes.specs.declared.vtype.ArrayType.{ArrayType}
 use Rattle.jtypes.specs.declared.vtype.VType.{VType}
 use Rattle.jtypes.specs.declared.vtype.VType.TheVariants.{Array as ArrayVType}
 use Rattle.jtypes.specs.Described.{alone, in_brackets}
@@ -26,9 +25,8 @@ use Rattle.jmeaning.specs.juses.Types.{array_named, element_named, named}
 use Rattle.jmeaning.specs.jrule.Arrays.{component}
 use Rattle.jmeaning.specs.jrule.Effects.{Fits, Of, Want, is_ref, of_kinds}
 use Rattle.jmeaning.specs.jrule.Uses.{exchange}
-use Rattle.jmodel.specs.jmachine.Arrays as rows
 use Rattle.jmodel.specs.jmachine.Making.{is_one}
-use Rattle.jmodel.specs.jmachine.Operands.{serves_as, taken, type_of}
+use Rattle.jmodel.specs.jmachine.Operands.{taken, type_of, serves_as}
 use Rattle.jmodel.specs.jmachine.Sites.{Site}
 use Rattle.jmodel.specs.jmachine.Store.{Store}
 use Rattle.jmodel.specs.jmachine.World.{World, world}
@@ -119,16 +117,11 @@ module _ (law : SeesEach) (p : Program) (x : Objects) (s : Store ℕ) (store : I
   none_found [] t b few n e = cc
   none_found (v ∷ rest) t b few n e = absurd (omega arith)
 
-  stored_as : (a : ArrayType) (t : Option VType) → rows.is_stored (world p) a t ≡ is_one (world p) (component a) t
-  stored_as a None = refl
-  stored_as a (Some t) = refl
-
   pub stored_served : (v : Value ℕ) (array : ArrayRef) (t : TypeRef) (b : Bool) → named p t ≡ component (array_named p array)
-      → b ≡ is_one (world p) (named p t) (option_map (named p) (type_in x v)) → b ≡ rows.is_stored (world p) (array_named p array) (type_of (world p) s v)
+      → b ≡ is_one (world p) (named p t) (option_map (named p) (type_in x v)) → b ≡ is_one (world p) (component (array_named p array)) (type_of (world p) s v)
   stored_served v array t b holds h =
       h ∙ ap (λ (c : VType). is_one (world p) c (option_map (named p) (type_in x v))) holds
-      ∙ sym (ap (rows.is_stored (world p) (array_named p array)) (type_is law p x s v store) ∙ stored_as (array_named p array)
-      (option_map (named p) (type_in x v)))
+      ∙ sym (ap (is_one (world p) (component (array_named p array))) (type_is law p x s v store))
 
 -- ---- what arrays hold
 

@@ -17,7 +17,7 @@ use Rattle.jmeaning.specs.juses.Meanings.{FieldMeaning}
 use Rattle.jmeaning.specs.juses.Types.{class_named, named}
 use Rattle.jmeaning.specs.jrule.Effects.{Fits, Want}
 use Rattle.jmeaning.specs.jrule.Uses.{exchange, written}
-use Rattle.jmodel.specs.jmachine.Operands.{serves_as, taken}
+use Rattle.jmodel.specs.jmachine.Operands.{taken, serves_as}
 use Rattle.jmodel.specs.jmachine.Sites.{Site}
 use Rattle.jmodel.specs.jmachine.Store.{Store}
 use Rattle.jmodel.specs.jmachine.World.{World, world}

@@ -14,8 +14,7 @@ use Rattle.jmeaning.specs.declared.juses.types.ArrayRef.{ArrayRef}
 use Rattle.jmeaning.specs.declared.juses.types.TypeRef.{TypeRef}
 use Rattle.jmeaning.specs.juses.Types.{array_named, named}
 use Rattle.jmeaning.specs.jrule.Effects.{Holds, Of, held_as, holds, items_of, same_items}
-use Rattle.jmodel.specs.jmachine.Arrays as rows
-use Rattle.jmodel.specs.jmachine.Operands.{serves_as, taken, type_of}
+use Rattle.jmodel.specs.jmachine.Operands.{taken, type_of, serves_as}
 use Rattle.jmodel.specs.jmachine.Sites.{Site}
 use Rattle.jmodel.specs.jmachine.Store.{Store}
 use Rattle.jmodel.specs.jmachine.World.{World, world}
@@ -29,6 +28,8 @@ use Rattle.jserving.specs.jserve.Served.{one_serves, serves_in}
 use Rattle.jserving.specs.jserve.Storing.{number_found, number_held}
 use Rattle.jserving.specs.jserve.Valued.{IsStore, kind_type, object_type, type_in}
 use Rattle.jserving.proofs.JserveProofs.Wanting.{serves_seen, triple}
+use Rattle.jmodel.specs.jmachine.Making.{is_one}
+use Rattle.jmeaning.specs.jrule.Arrays.{component}
 
 -- ---- ints
 
@@ -100,7 +101,7 @@ module _ (w : World) (p : Program) (shapes : Shapes) (s : Store ℕ) (h : Heaped
       absurd cc
 
   pub may_some : (n : ℕ) (value : Value ℕ) (b : Bool) → Some n ≡ number_held (held_seen h (slice_get values 2)) → Some value ≡ slice_get values 0
-      → b ≡ rows.is_stored w (array_named p (array_at shapes n)) (type_of w s value) → MayStore w p shapes s h values b
+      → b ≡ is_one w (component (array_named p (array_at shapes n))) (type_of w s value) → MayStore w p shapes s h values b
   may_some n value b e there is o a k i v newest index held inside =
       let numbers : Some a ≡ Some n = ap number_held held ∙ sym e in
       let values_are : Some v ≡ Some value = sym newest ∙ sym there in

@@ -17,7 +17,7 @@ use Rattle.jmeaning.specs.declared.juses.types.TypeRef.TheVariants as types
 use Rattle.jmeaning.specs.juses.Types.{named}
 use Rattle.jmodel.specs.jmachine.Objects as machine
 use Rattle.jmodel.specs.jmachine.Objects.{class_of}
-use Rattle.jmodel.specs.jmachine.Operands.{found_type, ready_type, type_of}
+use Rattle.jmodel.specs.jmachine.Operands.{ready_type, type_of, found_type}
 use Rattle.jmodel.specs.jmachine.Store.{Store}
 use Rattle.jmodel.specs.jmachine.World.{world}
 use Rattle.jmodel.specs.declared.jstate.shapes.Shape.{Shape}

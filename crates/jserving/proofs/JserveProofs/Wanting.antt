@@ -8,7 +8,7 @@ use Rattle.jprogram.specs.Classes.{Program}
 use Rattle.jmeaning.specs.declared.juses.types.TypeRef.{TypeRef}
 use Rattle.jmeaning.specs.juses.Types.{named}
 use Rattle.jmeaning.specs.jrule.Effects.{Fits, Want}
-use Rattle.jmodel.specs.jmachine.Operands.{Taken, serves, serves_as, taken, with_value}
+use Rattle.jmodel.specs.jmachine.Operands.{Taken, serves, taken, with_value, serves_as}
 use Rattle.jmodel.specs.jmachine.Store.{Store}
 use Rattle.jmodel.specs.jmachine.World.{World, world}
 use Rattle.jmodel.specs.jstate.SeenLaws.{SeesEach}

@@ -10,7 +10,7 @@ use Rattle.jclass.specs.declared.class.MemberInfo.{MemberInfo}
 use Rattle.jheap.specs.declared.cell.CellType.{CellType}
 use Rattle.jprogram.specs.declared.part.CodePart.{CodePart}
 use Rattle.jprogram.specs.Parts.{member_desc, super_name, this_name}
-use Rattle.jprogram.specs.Classes.{Class, Program, User, above, find, named as class_name, ref_of}
+use Rattle.jprogram.specs.Classes.{Class, Program, User, above, find, ref_of, named as class_name}
 use Rattle.jprogram.specs.Standing.{StandsInOrder}
 use Rattle.jprogram.proofs.Rows.{found_part, own_place}
 use Rattle.jprogram.proofs.Standing.{Libs, Nowhere, Stands, Users, stands}
@@ -21,7 +21,8 @@ use Rattle.jmeaning.specs.juses.Typed.{typed}
 use Rattle.jmeaning.specs.juses.Types.{named}
 use Rattle.jmeaning.specs.jlayout.Counted.{above_at, user_in}
 use Rattle.jmeaning.specs.jlayout.Kinds.{or_top}
-use Rattle.jmeaning.specs.jlayout.Layout.{field_type, held, is_instance, is_static, layout, own_types}
+use Rattle.jmeaning.specs.jlayout.Layout.{field_type, is_instance, is_static, layout, own_types}
+use Rattle.jmeaning.specs.ProofNames.{held_type as held}
 use Rattle.jmeaning.proofs.JlayoutProofs.Lists.{get_none, push_length}
 use Rattle.jmeaning.proofs.JlayoutProofs.Walks.{above_in, from_above, layout_is, lib_layout, none_layout, reverse_push}
 use Rattle.jmodel.specs.jmachine.World.{world}

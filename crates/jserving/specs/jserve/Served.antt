@@ -5,7 +5,7 @@ use Rattle.jprogram.specs.Classes.{Program}
 use Rattle.jmeaning.specs.jrule.Effects.{Fits, Want}
 use Rattle.jmeaning.specs.jrule.Uses.{throwable}
 use Rattle.jmeaning.specs.juses.Types.{named}
-use Rattle.jmodel.specs.jmachine.Operands.{Taken, serves_as, taken}
+use Rattle.jmodel.specs.jmachine.Operands.{Taken, taken, serves_as}
 use Rattle.jmodel.specs.jmachine.Sites.{Site}
 use Rattle.jmodel.specs.jmachine.Store.{Store}
 use Rattle.jmodel.specs.jmachine.World.{world}

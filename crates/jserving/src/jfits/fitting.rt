@@ -1,6 +1,7 @@
 ghost use Rattle.std.specs.Prelude.{◌≡◌, true};
 ghost use Rattle.jtypes.specs.declared.vtype.VType.TheVariants as types;
 ghost use Rattle.jtypes.specs.Fitting;
+ghost use Rattle.jtypes.specs.ProofNames;
 ghost use Rattle.jprogram.specs.Classes.{tree};
 ghost use Rattle.jprogram.specs.Implementing.{IsNumber};
 ghost use Rattle.jmeaning.specs.juses.Types.{class_named, element_named, named};
@@ -162,7 +163,7 @@ fn class_fits_soon(a: &Ancestors<'_>, asked: Asked, c: ClassRef, d: ClassRef) ->
 // ---- arrays
 
 fn is_above_array(a: &Ancestors<'_>, asked: Asked, x: ElementRef) -> bool
-    ensures { result ≡ Fitting.is_above_array (above_by a.now asked) (element_named a.now x) }
+    ensures { result ≡ ProofNames.is_above_array (above_by a.now asked) (element_named a.now x) }
 {
     match x {
         ElementRef::Class(c) => is_above(a, asked, c),

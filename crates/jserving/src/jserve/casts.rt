@@ -1,7 +1,6 @@
 ghost use Rattle.std.specs.Prelude.{◌≡◌, ◌&&◌, ℕ, Bool, is_some, option_map, slice_get};
 ghost use Rattle.jparts.specs.declared.jcode.names.CastOp.{CastOp};
 ghost use Rattle.jparts.specs.jcode.Forms.{compared};
-ghost use Rattle.jmodel.specs.jmachine.Arrays as rows;
 ghost use Rattle.jmodel.specs.jmachine.Making;
 ghost use Rattle.jmodel.specs.jmachine.Operands.{taken, type_of};
 ghost use Rattle.jmodel.specs.jmachine.Sites.{Site};
@@ -20,6 +19,8 @@ ghost use Rattle.jmeaning.specs.juses.Types.{array_named, element_named, named};
 ghost use Rattle.jtypes.specs.Described;
 ghost use Rattle.jserving.specs.jserve.Served.{ServeThrown, one_serves, serves_in};
 ghost use Rattle.jserving.specs.jserve.Valued.{IsStore, type_in};
+ghost use Rattle.jmodel.specs.jmachine.Making.{is_one};
+ghost use Rattle.jmeaning.specs.jrule.Arrays.{component};
 
 use crate::jfits::{Ancestors, is_instance};
 use crate::jserve::serving::serves_at;
@@ -177,7 +178,7 @@ fn component(array: ArrayRef) -> TypeRef
 /// Whether a value may be stored into an array of a type (JVMS 6.5: aastore).
 #[inline]
 pub fn is_stored(a: &Ancestors<'_>, x: &Objects<'_>, value: Value, array: ArrayRef) -> bool
-    ensures { (s : Store ℕ) → IsStore a.now x.now s → result ≡ rows.is_stored (world a.now) (array_named a.now array) (type_of (world a.now) s value) }
+    ensures { (s : Store ℕ) → IsStore a.now x.now s → result ≡ is_one (world a.now) (component (array_named a.now array)) (type_of (world a.now) s value) }
 {
     heap_laws();
     value_is(a, x, value, component(array))

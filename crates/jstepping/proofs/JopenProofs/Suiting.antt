@@ -18,7 +18,8 @@ use Rattle.jparts.specs.jpool.Pools.{utf8_at}
 use Rattle.jclass.specs.declared.class.ClassParts.{ClassParts}
 use Rattle.jclass.specs.declared.class.MemberInfo.{MemberInfo}
 use Rattle.jclass.specs.Members.{field}
-use Rattle.jclass.specs.Rules.{suits, suits_field, suits_type}
+use Rattle.jclass.specs.Rules.{suits, suits_field}
+use Rattle.jclass.specs.ProofNames.{suits_type}
 use Rattle.jprogram.specs.declared.part.CodePart.{CodePart}
 use Rattle.jprogram.specs.Classes.{Program, find}
 use Rattle.jprogram.specs.Parts.{member_desc, or_empty, text}
@@ -26,8 +27,10 @@ use Rattle.jtypes.specs.declared.vtype.Element.TheVariants as elements
 use Rattle.jtypes.specs.declared.vtype.VType.{VType}
 use Rattle.jtypes.specs.declared.vtype.VType.TheVariants as types
 use Rattle.jmeaning.specs.juses.Typed as typing
+use Rattle.jmeaning.specs.ProofNames
 use Rattle.jmeaning.specs.juses.Typed.{type_in, typed}
-use Rattle.jmeaning.specs.jlayout.Layout.{element, field_type, held, is_static}
+use Rattle.jmeaning.specs.jlayout.Layout.{element, field_type, is_static}
+use Rattle.jmeaning.specs.ProofNames.{held_type as held}
 use Rattle.jmeaning.specs.jlayout.Numbered.{all_statics}
 use Rattle.jmodel.specs.jmachine.Making.{units_of}
 use Rattle.jmodel.specs.jmachine.Narrowing.{default}
@@ -40,7 +43,7 @@ use Rattle.jserving.specs.jshapes.Fielded.{field_cell}
 use Rattle.jlinking.specs.jlink.Coded.{IsFile}
 
 abbrev string_there : Bool → VType
-string_there b = held (typing.held (option_map (typing.type_of 0) (option_map elements.Class (cond b (Some (typing.name (codes "java/lang/String"))) None))))
+string_there b = held (ProofNames.held (option_map (typing.type_of 0) (option_map elements.Class (cond b (Some (typing.name (codes "java/lang/String"))) None))))
 
 string_by : (b : Bool) → cell_of (string_there b) ≡ cells.Ref
 string_by true = refl

@@ -17,7 +17,7 @@ use Rattle.jprogram.specs.declared.member.MethodId.{MethodId}
 use Rattle.jprogram.specs.declared.part.ClassRef.TheVariants as refs
 use Rattle.jprogram.specs.declared.part.CodePart.{CodePart}
 use Rattle.jprogram.specs.Classes.{Program, extends, holds, is_interface, find, name_at}
-use Rattle.jprogram.specs.Members.{desc_of, info_of, is_static, owner_in, owner_of}
+use Rattle.jprogram.specs.Members.{desc_of, info_of, is_static, owner_of, owner_in}
 use Rattle.jprogram.proofs.Extending.{extends_chain}
 use Rattle.jprogram.proofs.Settling.{name_is}
 use Rattle.jlinking.specs.jreferring.References.{takes_static}

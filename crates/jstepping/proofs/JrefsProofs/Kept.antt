@@ -6,7 +6,7 @@ use Rattle.jground.proofs.JbaseProofs.Firsts.{none_fails, none_of}
 use Rattle.jclass.specs.declared.class.ClassParts.{ClassParts}
 use Rattle.jparts.specs.declared.jpool.entry.Entry.{Entry}
 use Rattle.jparts.specs.declared.jpool.entry.Entry.TheVariants.{Unused, Utf8, Integer, Float, Long, Double, Class, Str, Field, Method, InterfaceMethod, NameAndType, MethodHandle, MethodType, InvokeDynamic}
-use Rattle.jparts.specs.jpool.Pools.{class_name_at, name_in, utf8_at}
+use Rattle.jparts.specs.jpool.Pools.{class_name_at, utf8_at}
 use Rattle.jlib.specs.declared.classes.LibClass.{LibClass}
 use Rattle.jlib.specs.declared.classes.LibClass.TheVariants as lib
 use Rattle.jlib.specs.declared.classes.PermissionClass.{PermissionClass}
@@ -20,11 +20,13 @@ use Rattle.jlib.proofs.Found.{class_only}
 use Rattle.jprogram.specs.declared.fault.LinkKind.TheVariants.{ReservedName}
 use Rattle.jprogram.specs.declared.part.CodePart.{CodePart}
 use Rattle.jprogram.specs.Classes.{Program}
-use Rattle.jprogram.specs.Naming.{entry_reserved, in_class, is_reserved, member_reserved, names_reserved, naming_fault, naming_test, reserved_on, reserved_test, taken_test, text_reserved}
+use Rattle.jprogram.specs.Naming.{entry_reserved, in_class, is_reserved, member_reserved, names_reserved, naming_fault, naming_test, reserved_test, taken_test, text_reserved}
+use Rattle.jprogram.specs.ProofNames.{reserved_on}
 use Rattle.jprogram.specs.Parts.{or_empty, text, this_name}
 use Rattle.jprogram.specs.Standing.{StandsInOrder}
 use Rattle.jprogram.proofs.Settling.{clash}
 use Rattle.jprogram.proofs.Standing.{fault_none, in_none, not_taken, or_none}
+use Rattle.jparts.specs.jpool.Entries.{class_parts}
 
 -- ---- the library's classes, by their sides
 
@@ -109,7 +111,7 @@ any_false f (y ∷ ys) zero x h at = let same : y ≡ x = cc in subst (λ z. f z
 any_false f (y ∷ ys) (suc i) x h at = any_false f ys i x (or_none (f y) (list_any f ys) h).1 at
 
 plain_in : (pool : List Entry) (i : ℕ) (o : Option Entry) → slice_get pool i ≡ o → list_any (entry_reserved pool) pool ≡ false
-    → is_reserved (or_empty (option_and_then (utf8_at pool) (name_in o))) ≡ false
+    → is_reserved (or_empty (option_and_then (utf8_at pool) (option_and_then class_parts o))) ≡ false
 plain_in pool i (Some (Class n)) at h =
     let kept = any_false (entry_reserved pool) pool i (Class n) h at in
     (or_none (is_reserved (text pool n)) (text_reserved (text pool n)) kept).0

@@ -21,7 +21,7 @@ use Rattle.jmeaning.specs.juses.Types.{class_named}
 use Rattle.jlinking.specs.jlink.Fields.{is_plain}
 use Rattle.jmodel.specs.jmachine.Objects as objects
 use Rattle.jmodel.specs.jmachine.Objects.{Object, class_of}
-use Rattle.jmodel.specs.jmachine.Operands.{found_type, meets, reference_type, serves, serves_as, taken, type_of, with_value}
+use Rattle.jmodel.specs.jmachine.Operands.{meets, reference_type, serves, taken, type_of, with_value, serves_as, found_type}
 use Rattle.jmodel.specs.jmachine.Sites.{Site}
 use Rattle.jmodel.specs.jmachine.Store.{Store, object_at}
 use Rattle.jmodel.specs.jmachine.World.{World, fits, world}

@@ -28,7 +28,8 @@ use Rattle.jtypes.specs.declared.vtype.VType.TheVariants as types
 use Rattle.jtypes.specs.Described.{in_brackets}
 use Rattle.jmeaning.specs.declared.juses.types.ArrayRef.{ArrayRef}
 use Rattle.jmeaning.specs.juses.Meanings as meanings
-use Rattle.jmeaning.specs.juses.Meanings.{AClass, AConstant, AField, AMethod, Cast, EntryMeaning, Make, Meaning, cast_by, entry_meant, field_entry, made, meant, method_entry, reference, used}
+use Rattle.jmeaning.specs.juses.Meanings.{AClass, AConstant, AField, AMethod, Cast, EntryMeaning, Make, Meaning, entry_meant, field_entry, meant, method_entry, reference, used}
+use Rattle.jmeaning.specs.ProofNames.{made, cast_by}
 use Rattle.jmeaning.specs.juses.Typed.{class_by, class_of, class_type, element_in, is_context, name, there, type_in, type_of}
 use Rattle.jmeaning.specs.juses.Types.{array_named, class_named}
 use Rattle.jlinking.proofs.JlinkProofs.Having.{map_is, then_is}

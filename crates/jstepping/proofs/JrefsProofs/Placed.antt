@@ -11,7 +11,7 @@ use Rattle.jprogram.specs.declared.part.ClassRef.TheVariants as refs
 use Rattle.jprogram.specs.declared.part.CodePart.{CodePart}
 use Rattle.jprogram.specs.Parts as parts
 use Rattle.jprogram.specs.Parts.{this_name}
-use Rattle.jprogram.specs.Classes.{Program, User, extends, find, name_at, named, ref_of}
+use Rattle.jprogram.specs.Classes.{Program, User, extends, find, name_at, ref_of, named}
 use Rattle.jprogram.specs.Members.{info_of, is_static, part_of, user_is}
 use Rattle.jprogram.specs.Standing.{StandsInOrder}
 use Rattle.jprogram.proofs.Numbers.{own_number}

@@ -31,7 +31,7 @@ use Rattle.jmodel.specs.jmachine.Asked.{Ask, asked_by, asked_on, asks}
 use Rattle.jmodel.specs.jmachine.Doing.{Doing, doing}
 use Rattle.jmodel.specs.jmachine.Frames.{with_operands}
 use Rattle.jmodel.specs.jmachine.Objects.{Object}
-use Rattle.jmodel.specs.jmachine.Operands.{Taken, found_type, serves, serves_as, taken, with_value}
+use Rattle.jmodel.specs.jmachine.Operands.{Taken, serves, taken, with_value, serves_as, found_type}
 use Rattle.jmodel.specs.jmachine.Security.{Rules}
 use Rattle.jmodel.specs.jmachine.Steps.{entries, executed, fetched, is_followed, own_fields, site, thrown_at, unless_last, went}
 use Rattle.jmodel.specs.jmachine.Store.{Store}

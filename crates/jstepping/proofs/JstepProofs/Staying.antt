@@ -22,10 +22,11 @@ use Rattle.jtypes.specs.declared.vtype.VType.TheVariants as types
 use Rattle.jmeaning.specs.juses.Instructions.{Instruction, Simple, Local, Stack, Jump, Switch, Return, Throw, Array, Used, Test}
 use Rattle.jmeaning.specs.juses.Meanings as meanings
 use Rattle.jmodel.specs.jmachine.Acts.{Act, FrameOf, Goes, Jumps, Leaves, Calls, Raises, Throws, Switches, Makes, Row, gives, raises}
-use Rattle.jmodel.specs.jmachine.Arrays.{Items, array, is_stored, items_in, length_row, load, load_at, made, make, store, store_at, with_item, within}
+use Rattle.jmodel.specs.jmachine.Arrays.{Items, array, items_in, load, load_at, made, make, store, store_at, with_item, within}
+use Rattle.jmodel.specs.ProofNames.{length_row}
 use Rattle.jmodel.specs.jmachine.Doing.{Doing, array_wants, doing, used}
 use Rattle.jmodel.specs.jmachine.Frames.{onward, with_held, with_operands}
-use Rattle.jmodel.specs.jmachine.Making.{push, text_loaded, units_of}
+use Rattle.jmodel.specs.jmachine.Making.{push, text_loaded, units_of, is_one}
 use Rattle.jmodel.specs.jmachine.Narrowing.{place}
 use Rattle.jmodel.specs.jmachine.Operands.{Taken, taken, type_of}
 use Rattle.jmodel.specs.jmachine.Security.{Rules}
@@ -37,6 +38,7 @@ use Rattle.jrows.specs.declared.jacts.way.Way.TheVariants as ways
 use Rattle.jrows.specs.jacts.Ways.{Acted, Comes, Left, leaves}
 use Rattle.jrows.specs.jcalls.Calling.{IsThrown}
 use Rattle.jstepping.specs.jstep.Rows.{IsRaising, Stays}
+use Rattle.jmeaning.specs.jrule.Arrays.{component}
 
 -- ---- rows
 
@@ -159,7 +161,7 @@ module _ (E : Type 0) where
   stored_only w s n v x None = (_, refl)
   stored_only w s n v x (Some i) =
       let row : Row ℕ E = raises (lib.Thrown thrown.ArrayStoreException) in
-      either_only (is_stored w x.type (type_of w s v)) (gives (with_item s n x i v) []) row tt (thrown.ArrayStoreException, refl)
+      either_only (is_one w (component x.type) (type_of w s v)) (gives (with_item s n x i v) []) row tt (thrown.ArrayStoreException, refl)
 
   store_only : (w : World) (s : Store ℕ) (n : ℕ) (i : ℤ) (v : Value ℕ) (x : Option (Items ℕ)) → OnlyRow {E = E} (option_map (store w s n i v) x)
   store_only w s n i v None = tt

@@ -3,7 +3,7 @@ ghost use Rattle.jprogram.specs.Classes.{name_at};
 ghost use Rattle.jtypes.specs.declared.vtype.VType.TheVariants as types;
 ghost use Rattle.jmeaning.specs.juses.Types.{class_named};
 ghost use Rattle.jmodel.specs.jmachine.Making;
-ghost use Rattle.jmodel.specs.jmachine.Unwinding;
+ghost use Rattle.jmodel.specs.ProofNames;
 ghost use Rattle.jmodel.specs.jmachine.Unwinding.{told_name};
 
 use jground::jbase::Stop;
@@ -14,7 +14,7 @@ use std::alloc::{AllocError, Global};
 
 /// A dot for a slash.
 fn dotted(unit: u16) -> u16
-    ensures { result ≡ Unwinding.dotted unit }
+    ensures { result ≡ ProofNames.dotted unit }
 {
     if unit == u16::from(b'/') {
         return u16::from(b'.');
@@ -36,7 +36,7 @@ fn units_held(alloc: Global, bytes: &[u8]) -> Result<Units, AllocError>
 
 /// Puts a dot in the place of each slash of a text.
 fn with_dots(units: Units) -> Units
-    ensures { result ≡ map Unwinding.dotted units }
+    ensures { result ≡ map ProofNames.dotted units }
 {
     let mut told = units.into_vec();
     for unit in told.iter_mut() {

@@ -1,6 +1,7 @@
 use Rattle.std.proofs.Common.{◌≤◌, ◌∷◌, ◌++◌, subst}
 use Rattle.std.proofs.lemmas.List.{length-map}
-use Rattle.jctx.specs.Contexts.{given_items, limited}
+use Rattle.jctx.specs.Contexts.{limited}
+use Rattle.jctx.specs.ProofNames.{given_items}
 use Rattle.jctx.specs.Items.{plain}
 use Rattle.jctx.proofs.Along.{verdict-along}
 use Rattle.jctx.proofs.Kept.{keep-keep, distinct_domains-keep, length-keep, along_kept}

@@ -1,6 +1,6 @@
 use Rattle.std.proofs.Common.{◌≡◌, ◌&&◌, ◌≤◌, ◌<◌, length, suc, ◌+◌, sym, ap, ◌∙◌, arith}
 use Rattle.jtypes.specs.Fitting.{fits}
-use Rattle.jtypes.specs.Frames.{item_fits}
+use Rattle.jtypes.specs.ProofNames.{item_fits}
 use Rattle.jprogram.specs.Classes.{tree}
 use Rattle.jwalk.proofs.Matching.{rest_done, rest_fits, rest_more, stacks_differ}
 use Rattle.jwalk.proofs.declared.stack_fits.Goals as goal

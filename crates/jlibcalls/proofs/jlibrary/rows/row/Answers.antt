@@ -1,7 +1,7 @@
 use Rattle.std.specs.Prelude.{[], take}
 use Rattle.jlib.specs.declared.calls.LibCall.TheVariants as calls
 use Rattle.jlib.specs.declared.calls.ThrownInit.TheVariants as given
-use Rattle.jmodel.specs.jmachine.Library.{object_init}
+use Rattle.jmodel.specs.ProofNames.{object_init}
 use Rattle.jmodel.specs.jmachine.Texts.{builder, print, print_end, string}
 use Rattle.jmodel.specs.jmachine.Throwables.{init, message}
 use Rattle.jmodel.specs.jstate.Seen.{store_by}

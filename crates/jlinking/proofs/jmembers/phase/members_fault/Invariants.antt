@@ -1,6 +1,6 @@
 use Rattle.std.proofs.Common.{◌≡◌, drop}
 use Rattle.jground.specs.jbase.First.{first_along}
-use Rattle.jlinking.specs.jmembers.Declares.{class_fault}
+use Rattle.jlinking.specs.ProofNames.{class_fault}
 use Rattle.jlinking.proofs.jmembers.phase.members_fault.Given as goal
 
 abbrev pub invariant-loop-i : goal.invariant-loop-i

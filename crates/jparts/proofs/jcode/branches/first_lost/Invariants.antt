@@ -1,6 +1,6 @@
 use Rattle.std.proofs.Common.{◌≡◌, drop}
 use Rattle.jground.specs.jbase.First.{first_some}
-use Rattle.jparts.specs.jcode.Instructions.{lost}
+use Rattle.jparts.specs.ProofNames.{lost}
 use Rattle.jparts.proofs.jcode.branches.first_lost.Given as goal
 
 abbrev pub invariant-loop-one : goal.invariant-loop-one

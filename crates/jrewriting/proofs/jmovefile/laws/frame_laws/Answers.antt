@@ -1,6 +1,6 @@
 use Rattle.jrewriting.proofs.JmovefileProofs.Framing.{full_items, named_fits, raw_items}
-use Rattle.jmoveclass.specs.Methods.{frames_in}
 use Rattle.jrewriting.proofs.jmovefile.laws.frame_laws.Goals as goal
+use Rattle.jclass.specs.Codes.{frames_in}
 
 pub returns-clause-full : goal.returns-clause-full
 returns-clause-full g pool first b h k = full_items pool first b h (raw_items pool (frames_in b) k)

@@ -2,7 +2,7 @@ use Rattle.std.proofs.Common.{◌<◌, drop, sym, ap, subst, ◌∙◌, add-one}
 use Rattle.std.specs.List.{list_all}
 use Rattle.jparts.specs.jcode.Forms.{branches, seen as seen_form}
 use Rattle.jmeaning.specs.jrule.Seen.{seen}
-use Rattle.jtyping.specs.Typing.{branch_fits}
+use Rattle.jtyping.specs.ProofNames.{branch_fits}
 use Rattle.jwalk.specs.Checking.{branch_test, frames_of, program_of}
 use Rattle.jwalk.proofs.Leading.{fails_at, passes_at}
 use Rattle.jwalk.proofs.walk.Checking.branches_fit.Goals as goal

@@ -2,12 +2,12 @@ use Rattle.std.proofs.Common.{◌≡◌, drop, true}
 use Rattle.std.specs.List.{list_all}
 use Rattle.jparts.specs.jcode.Forms.{branches, seen as seen_form}
 use Rattle.jmeaning.specs.jrule.Seen.{seen}
-use Rattle.jtyping.specs.Typing as typing
+use Rattle.jtyping.specs.ProofNames
 use Rattle.jwalk.specs.Checking.{branch_test, frames_of, program_of}
 use Rattle.jwalk.proofs.walk.Checking.branches_fit.Given as goal
 
 abbrev pub invariant-loop-i : goal.invariant-loop-i
 invariant-loop-i l = record {
-  rest : list_all (typing.branch_fits (program_of l.self) (frames_of l.self) l.at (seen (program_of l.self) l.g.frame)) (drop l.i (branches (seen_form l.form))) ≡ list_all (typing.branch_fits (program_of l.self) (frames_of l.self) l.at (seen (program_of l.self) l.g.frame)) (branches (seen_form l.form));
-  fitting : branch_test (typing.branch_fits (program_of l.self) (frames_of l.self) l.at (seen (program_of l.self) l.g.frame)) l.fitting ≡ true;
+  rest : list_all (ProofNames.branch_fits (program_of l.self) (frames_of l.self) l.at (seen (program_of l.self) l.g.frame)) (drop l.i (branches (seen_form l.form))) ≡ list_all (ProofNames.branch_fits (program_of l.self) (frames_of l.self) l.at (seen (program_of l.self) l.g.frame)) (branches (seen_form l.form));
+  fitting : branch_test (ProofNames.branch_fits (program_of l.self) (frames_of l.self) l.at (seen (program_of l.self) l.g.frame)) l.fitting ≡ true;
 }

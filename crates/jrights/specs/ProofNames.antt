@@ -1,0 +1,19 @@
+-- Names by which proofs and the contracts of inner functions call what the definitions say in place. What `javasec` and `dispatch` promise
+-- reaches none of them.
+use Rattle.std.specs.Prelude.{List, ℕ, Bool, nat_eq, codes, ◌∷◌, [], ◌++◌, decimal}
+use Rattle.std.specs.List.{ends_with}
+
+-- ---- of jdomain.Sources
+
+-- whether a path is that of a directory
+abbrev pub ends_in_slash : List ℕ → Bool
+ends_in_slash path = ends_with nat_eq path (codes "/")
+
+-- ---- of jtrace.Lines
+
+abbrev pub line_feed : List ℕ
+line_feed = 10 ∷ []
+
+-- what stands behind a denied permission
+abbrev pub behind_denial : ℕ → List ℕ
+behind_denial domain = codes " domain " ++ (decimal domain ++ line_feed)
