@@ -1,50 +1,76 @@
-ghost use Rattle.std.specs.Prelude.{◌≡◌, ◌<◌, ◌%◌, ℕ, ◌∷◌, ◌++◌, [], IfOk, OnErr, OnOk, Some, length, slice_get};
-ghost use Rattle.jtable.specs.Chains.{IsLast, Stands};
+ghost use Rattle.std.specs.Prelude.{◌≡◌, ◌<◌, ◌∷◌, ◌++◌, ◌+◌, ◌-◌, [], IfOk, OnErr, OnOk, Some, bit_and, length, get_or, slice_get, slice_set};
+ghost use Rattle.jtable.specs.Chains.{AreLinked, IsLast, IsOn};
 
 use std::alloc::{AllocError, Global};
 use std::marker::Model;
 
+/// How many chains there are before the first entry.
 const CHAINS: usize = 65536;
 
-/// Entries by their digests, in 65,536 chains: each entry names the one before it whose digest has the same remainder. Contracts see the
-/// list of digests.
+/// Entries by their digests, in chains: each entry names the one before it of its chain. There are as many chains as entries, or more, so
+/// that a chain stays short. Contracts see the list of digests.
 #[derive(Drop)]
 pub struct Index {
+    /// The number behind the last entry of each chain, 0 where it has none.
     heads: Vec<usize>,
     digests: Vec<u64>,
+    /// For each entry the number behind the last one before it of its chain, 0 where there is none.
     earlier: Vec<usize>,
 }
 
 impl Model for Index {
     ghost use Rattle.std.specs.Prelude.{ℕ, List};
-    ghost use Rattle.jtable.specs.Chains.{AreChained, AreHeads};
+    ghost use Rattle.jtable.specs.Chains.{AreLinked};
 
     ghost Value = { List ℕ };
 
     ghost view = { λ x. x.digests.items };
 
-    ghost invariant = { λ x. AreHeads x.digests.items x.heads.items × AreChained x.digests.items x.earlier.items };
+    ghost invariant = { λ x. AreLinked x.digests.items x.heads.items x.earlier.items };
 }
 
-/// Puts a digest and what stands before it behind the others. After an error all is as before.
-fn push_both(
-    digests: &mut Vec<u64>,
-    earlier: &mut Vec<usize>,
-    digest: u64,
-    before: usize,
-) -> Result<(), AllocError>
-    ensures digests { OnOk result (digests.new.items ≡ digests.old.items ++ digest ∷ []) }
-    ensures earlier { OnOk result (earlier.new.items ≡ earlier.old.items ++ before ∷ []) }
-    ensures same_digests { OnErr result (digests.new.items ≡ digests.old.items) }
+/// Puts an entry of a digest behind the others of its chain. After an error all is as before.
+fn link(heads: &mut Vec<usize>, earlier: &mut Vec<usize>, digest: u64) -> Result<(), AllocError>
+    requires { 0 < length heads.old.items }
+    ensures heads { OnOk result (heads.new.items ≡ slice_set heads.old.items (bit_and digest (length heads.old.items - 1)) (length earlier.old.items + 1)) }
+    ensures earlier { OnOk result (earlier.new.items ≡ earlier.old.items ++ get_or heads.old.items (bit_and digest (length heads.old.items - 1)) 0 ∷ []) }
+    ensures same_heads { OnErr result (heads.new.items ≡ heads.old.items) }
     ensures same_earlier { OnErr result (earlier.new.items ≡ earlier.old.items) }
 {
-    let count = earlier.len();
-    earlier.push(before)?;
-    if digests.push(digest).is_err() {
-        earlier.truncate(count);
-        return Err(AllocError);
-    }
+    let p = digest as usize & (heads.len() - 1);
+    earlier.push(heads[p])?;
+    heads[p] = earlier.len();
     Ok(())
+}
+
+/// Puts all entries onto chains anew, of which there are so many as there are heads.
+fn relink(heads: &mut Vec<usize>, digests: &[u64], earlier: &mut Vec<usize>)
+    requires some { 0 < length heads.old.items }
+    requires long { length earlier.old.items ≡ length digests.now }
+    ensures { AreLinked digests.now heads.new.items earlier.new.items }
+{
+    heads.fill(0);
+    for i in 0..digests.len() {
+        let p = digests[i] as usize & (heads.len() - 1);
+        earlier[i] = heads[p];
+        heads[p] = i + 1;
+    }
+}
+
+/// From the number behind an entry along its chain: the number behind the first one found that has a digest, 0 where none has.
+fn along(digests: &[u64], earlier: &[usize], start: usize, digest: u64) -> usize
+    requires { IsOn digests.now earlier.now digest start }
+    ensures { IsLast digests.now digest start result }
+{
+    let mut at = start;
+    while at != 0 {
+        let i = at - 1;
+        if digests[i] == digest {
+            return at;
+        }
+        at = earlier[i];
+    }
+    at
 }
 
 impl Index {
@@ -61,30 +87,33 @@ impl Index {
         })
     }
 
-    /// The digest of an entry. It is there.
-    #[inline]
-    pub fn digest(&self, i: usize) -> u64
-        requires { i < length self.now }
-        ensures { slice_get self.now i ≡ Some result }
-    {
-        self.digests[i]
-    }
-
-    /// The number behind the last entry whose digest has the remainder of this one, 0 where there is none.
-    #[inline]
+    /// The number behind the last entry of a digest, 0 where there is none.
     pub fn last(&self, digest: u64) -> usize
-        ensures { IsLast self.now (digest % 65536) (length self.now) result }
+        ensures { IsLast self.now digest (length self.now) result }
     {
-        self.heads[(digest % CHAINS as u64) as usize]
+        let p = digest as usize & (self.heads.len() - 1);
+        along(&self.digests, &self.earlier, self.heads[p], digest)
     }
 
-    /// The number behind the last entry before this one with its remainder, 0 where there is none. The entry is there.
-    #[inline]
-    pub fn before(&self, i: usize) -> usize
-        requires { i < length self.now }
-        ensures { (p : ℕ) → Stands self.now p i → IsLast self.now p i result }
+    /// The number behind the last entry before this one that has its digest, 0 where there is none. The entry is there.
+    pub fn before(&self, i: usize, digest: u64) -> usize
+        requires { slice_get self.now i ≡ Some digest }
+        ensures { IsLast self.now digest i result }
     {
-        self.earlier[i]
+        along(&self.digests, &self.earlier, self.earlier[i], digest)
+    }
+
+    /// Has twice as many chains, where there are as many entries as chains.
+    fn spread(&mut self) -> Result<(), AllocError>
+        ensures { self.new ≡ self.old }
+    {
+        let chains = self.heads.len();
+        if self.digests.len() < chains {
+            return Ok(());
+        }
+        self.heads.resize(chains.saturating_mul(2), 0)?;
+        relink(&mut self.heads, &self.digests, &mut self.earlier);
+        Ok(())
     }
 
     /// Puts an entry behind the others. After an error all is as before.
@@ -92,9 +121,15 @@ impl Index {
         ensures ok { OnOk result (self.new ≡ self.old ++ digest ∷ []) }
         ensures err { OnErr result (self.new ≡ self.old) }
     {
-        let p = (digest % CHAINS as u64) as usize;
-        push_both(&mut self.digests, &mut self.earlier, digest, self.heads[p])?;
-        self.heads[p] = self.digests.len();
-        Ok(())
+        self.spread()?;
+        let count = self.digests.len();
+        self.digests.push(digest)?;
+        match link(&mut self.heads, &mut self.earlier, digest) {
+            Ok(()) => Ok(()),
+            Err(err) => {
+                self.digests.truncate(count);
+                Err(err)
+            }
+        }
     }
 }

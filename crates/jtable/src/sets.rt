@@ -55,27 +55,6 @@ fn put_behind(
     Ok(())
 }
 
-/// Whether a list of limits is that of a number. It is looked at only where the digests are equal.
-fn is_at(
-    sets: &Vec<Seq<Permission>>,
-    index: &Index,
-    i: usize,
-    limits: &Seq<Permission>,
-    digest: u64,
-) -> bool
-    requires there { i < length sets.now.items }
-    requires index { index.now ≡ map Digests.digest_limits sets.now.items }
-    requires digest { digest ≡ Digests.digest_limits limits.now }
-    ensures { result ≡ same_limits (limits_at sets.now.items i) limits.now }
-{
-    permission_laws();
-    let held = index.digest(i);
-    if held != digest {
-        return false;
-    }
-    are_same(&sets[i], limits)
-}
-
 /// A number that fits half a cell; that of more than 4,294,967,296 lists of limits doesn't.
 fn narrowed(n: u64) -> Result<u32, AllocError>
     ensures { IfOk result (λ m. m ≡ n) }
@@ -143,10 +122,10 @@ impl Sets {
         let mut at = self.index.last(digest);
         while at != 0 {
             let i = at - 1;
-            if is_at(&self.sets, &self.index, i, limits, digest) {
+            if are_same(&self.sets[i], limits) {
                 return Some(i as u64);
             }
-            at = self.index.before(i);
+            at = self.index.before(i, digest);
         }
         None
     }

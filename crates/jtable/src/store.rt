@@ -63,20 +63,6 @@ fn put_behind(
     Ok(())
 }
 
-/// Whether a list is that of a number. It is looked at only where the digests are equal.
-fn is_at(lists: &Lists, index: &Index, i: usize, pairs: &[Pair], digest: u64) -> bool
-    requires there { i < length lists.now }
-    requires index { index.now ≡ map Digests.digest_pairs lists.now }
-    requires digest { digest ≡ Digests.digest_pairs pairs.now }
-    ensures { result ≡ alike same_pair (get_or lists.now i []) pairs.now }
-{
-    let held = index.digest(i);
-    if held != digest {
-        return false;
-    }
-    holds_at(lists, i, pairs)
-}
-
 impl Store {
     /// The empty context alone.
     pub fn open(alloc: Global) -> Result<Store, AllocError>
@@ -167,10 +153,10 @@ impl Store {
         let mut at = self.index.last(digest);
         while at != 0 {
             let i = at - 1;
-            if is_at(&self.lists, &self.index, i, pairs, digest) {
+            if holds_at(&self.lists, i, pairs) {
                 return Some(i as u64);
             }
-            at = self.index.before(i);
+            at = self.index.before(i, digest);
         }
         None
     }

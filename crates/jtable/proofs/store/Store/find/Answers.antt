@@ -1,48 +1,39 @@
 use Rattle.std.proofs.Common.{◌∙◌, ◌-◌, ◌<◌, ◌≤◌, List, [], Some, length, sym, ap, arith}
 use Rattle.std.specs.Prelude.{slice_get, get_or}
-use Rattle.std.proofs.lemmas.List.{length-map}
 use Rattle.std.proofs.lemmas.Option.{slice_get-get_or}
 use Rattle.jtable.specs.declared.pairs.Pair.{Pair}
 use Rattle.jtable.specs.Stores.{Stored}
 use Rattle.jtable.specs.Digests.{digest_pairs}
-use Rattle.jtable.proofs.Finding.{begins, goes_on, smaller, one_before}
+use Rattle.jtable.proofs.Finding.{begins, goes_on, has_digest, one_before}
 use Rattle.jtable.proofs.Sameness.{pairs_same, pairs_differ}
 use Rattle.jtable.proofs.store.Store.find.Goals as goal
 
 pub loop-at-init : goal.loop-at-init
 loop-at-init c = begins digest_pairs c.self.inside.lists c.self.inside.index c.args.pairs.now c.args.digest c.last-at.result c.self.invariant.1 c.requires c.last-at.ensures
 
-pub is_at-requires-clause-there : goal.is_at-requires-clause-there
-is_at-requires-clause-there c = omega (arith, c.loop-at-test.true, c.loop-at.invariant.within)
-
-pub returns-then-is_at-clause-found : goal.returns-then-is_at-clause-found
-returns-then-is_at-clause-found c =
+pub returns-then-holds_at-clause-found : goal.returns-then-holds_at-clause-found
+returns-then-holds_at-clause-found c =
     let lists : List (List Pair) = c.self.inside.lists in
     let i = c.loop-at.at - 1 in
     let below : i < length lists = omega (arith, c.loop-at-test.true, c.loop-at.invariant.within) in
-    let same = pairs_same (get_or lists i []) c.args.pairs.now (sym c.is_at.ensures ∙ c.if-is_at.true) in
+    let same = pairs_same (get_or lists i []) c.args.pairs.now (sym c.holds_at.ensures ∙ c.if-holds_at.true) in
     ap (λ (s : Stored). slice_get s.lists i) (sym c.self.view_is) ∙ slice_get-get_or lists i [] below ∙ ap (λ (x : List Pair). Some x) same
-
-pub is_at-requires-clause-index : goal.is_at-requires-clause-index
-is_at-requires-clause-index c = c.self.invariant.1
 
 pub before-at-requires : goal.before-at-requires
 before-at-requires c =
-    let lists : List (List Pair) = c.self.inside.lists in
-    omega (arith, c.loop-at-test.true, c.loop-at.invariant.within, ap length c.self.invariant.1, length-map lists digest_pairs)
+    has_digest digest_pairs c.self.inside.lists c.self.inside.index c.args.pairs.now c.args.digest c.loop-at.at (c.loop-at.at - 1) c.self.invariant.1 c.requires c.loop-at.invariant
+    (one_before c.loop-at.at c.loop-at-test.true)
 
 pub loop-at-smaller : goal.loop-at-smaller
-loop-at-smaller c =
-    smaller digest_pairs c.self.inside.lists c.self.inside.index c.args.pairs.now c.loop-at.at (c.loop-at.at - 1) c.before-at.result c.self.invariant.1 c.loop-at.invariant
-    (one_before c.loop-at.at c.loop-at-test.true) c.before-at.ensures
+loop-at-smaller c = omega (arith, c.before-at.ensures.within, c.loop-at-test.true)
 
 pub loop-at-preserved : goal.loop-at-preserved
 loop-at-preserved c =
     let lists : List (List Pair) = c.self.inside.lists in
     let i = c.loop-at.at - 1 in
     let below : i < length lists = omega (arith, c.loop-at-test.true, c.loop-at.invariant.within) in
-    let other = pairs_differ (get_or lists i []) c.args.pairs.now (sym c.is_at.ensures ∙ c.if-is_at.false) in
-    goes_on digest_pairs lists c.self.inside.index c.args.pairs.now (get_or lists i []) c.loop-at.at i c.before-at.result c.self.invariant.1 c.loop-at.invariant
+    let other = pairs_differ (get_or lists i []) c.args.pairs.now (sym c.holds_at.ensures ∙ c.if-holds_at.false) in
+    goes_on digest_pairs lists c.self.inside.index c.args.pairs.now (get_or lists i []) c.args.digest c.loop-at.at i c.before-at.result c.self.invariant.1 c.requires c.loop-at.invariant
     (one_before c.loop-at.at c.loop-at-test.true) (slice_get-get_or lists i [] below) other c.before-at.ensures
 
 pub returns-clause-only : goal.returns-clause-only
