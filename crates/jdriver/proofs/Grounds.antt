@@ -8,10 +8,10 @@ use Rattle.jjob.specs.declared.job.Job.{Job}
 use Rattle.jjob.specs.declared.job.JobSource.{JobSource}
 use Rattle.jjob.specs.Jobs.{job}
 use Rattle.jagain.specs.Again.{JobIsSmall, in_place, with_classes}
-use Rattle.jtask.specs.declared.ground.ClassPath.{ClassPath}
-use Rattle.jtask.specs.declared.ground.Ground.{Ground}
-use Rattle.jtask.specs.Grounds.{ArePaths, ground_of, paths_from, paths_with, urls_of}
-use Rattle.jtask.proofs.Paths.{are_paths}
+use Rattle.jstages.specs.declared.ground.ClassPath.{ClassPath}
+use Rattle.jstages.specs.declared.ground.Ground.{Ground}
+use Rattle.jstages.specs.Grounds.{ArePaths, ground_of, paths_from, paths_with, urls_of}
+use Rattle.jstages.proofs.Paths.{are_paths}
 
 -- class files, each at the next of these paths
 abbrev pub replaced : List (List ℕ) → List ClassPath → List ClassPath

@@ -22,7 +22,7 @@ use Rattle.jshow.specs.declared.status.Status.TheVariants as statuses
 use Rattle.jshow.specs.Answering.{Answer, Answers}
 use Rattle.jshow.specs.Statuses.{status_of}
 use Rattle.jtask.specs.declared.task.Task.TheVariants as tasks
-use Rattle.jtask.specs.Stages.{Refused}
+use Rattle.jstages.specs.Stages.{Refused}
 use Rattle.jtask.specs.Tasks.{RunClasses, task}
 use Rattle.jtask.proofs.Sources.{Sources, linked_in, main_in, moved_in, sources, typed_in}
 use Rattle.jdriver.specs.Answers.{answer, ran, shown}

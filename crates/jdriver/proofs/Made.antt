@@ -10,7 +10,7 @@ use Rattle.jmodel.specs.declared.jmachine.plan.Plan.{Plan}
 use Rattle.jshow.specs.declared.status.Status.{Status}
 use Rattle.jshow.specs.declared.status.Status.TheVariants as statuses
 use Rattle.jrights.specs.declared.jtally.counts.Tally.{Tally}
-use Rattle.jtask.specs.Stages.{Missing, Refused, Stopped}
+use Rattle.jstages.specs.Stages.{Missing, Refused, Stopped}
 use Rattle.jtask.specs.Tasks.{reads as reads_files}
 use Rattle.jstore.specs.Made.{held}
 use Rattle.jdriver.specs.Making.{made, told_both, unless_stopped, made_text}

@@ -13,10 +13,10 @@ use Rattle.jclass.specs.Class.{Spells, class_file}
 use Rattle.jlinking.specs.jlink.Links.{AreParts, domains_rise}
 use Rattle.jprogram.specs.declared.part.CodePart.{CodePart}
 use Rattle.jrewriting.specs.jrewrite.Files.{out_file}
-use Rattle.jtask.specs.declared.ground.ClassPath.{ClassPath}
-use Rattle.jtask.specs.Grounds.{Rise, domains_of}
-use Rattle.jtask.specs.Stages.{Stopped, bytes_at, found}
-use Rattle.jtask.specs.Tasks.{class_at, class_read, part_at}
+use Rattle.jstages.specs.declared.ground.ClassPath.{ClassPath}
+use Rattle.jstages.specs.Grounds.{Rise, domains_of}
+use Rattle.jstages.specs.Stages.{Stopped, bytes_at, found}
+use Rattle.jstages.specs.Reading.{class_at, class_read, part_at}
 use Rattle.jstore.specs.Folders.{path_of}
 use Rattle.jstore.proofs.Binds.{bound}
 use Rattle.jdriver.proofs.Grounds.{replaced}

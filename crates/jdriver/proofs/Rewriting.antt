@@ -17,15 +17,16 @@ use Rattle.jjob.specs.declared.command.Command.TheVariants as commands
 use Rattle.jjob.specs.declared.job.Job.{Job}
 use Rattle.jjob.specs.Jobs.{job}
 use Rattle.jshow.specs.declared.status.Status.TheVariants.{Finished}
-use Rattle.jtask.specs.declared.ground.Ground.{Ground}
+use Rattle.jstages.specs.declared.ground.Ground.{Ground}
 use Rattle.jtask.specs.declared.task.Task.{Task}
 use Rattle.jtask.specs.declared.task.Task.TheVariants as tasks
-use Rattle.jtask.specs.Checking.{checked, unless_untyped}
-use Rattle.jtask.specs.Grounds.{ground_of}
-use Rattle.jtask.specs.Linking.{linked, unless_broken}
-use Rattle.jtask.specs.Rewriting.{rewritten, unless_limited}
-use Rattle.jtask.specs.Stages.{Missing, Refused, Stopped, bytes_at}
-use Rattle.jtask.specs.Tasks.{grants_at, ground_in, job_read, moved_of_parts, part_at, rewrite_at, rewrite_of_ground, rewrite_of_parts, rewrite_of_text, task}
+use Rattle.jstages.specs.Checking.{checked, unless_untyped}
+use Rattle.jstages.specs.Grounds.{ground_of}
+use Rattle.jstages.specs.Linking.{linked, unless_broken}
+use Rattle.jstages.specs.Rewriting.{rewritten, unless_limited}
+use Rattle.jstages.specs.Stages.{Missing, Refused, Stopped, bytes_at}
+use Rattle.jstages.specs.Reading.{grants_at, ground_in, job_read, part_at}
+use Rattle.jtask.specs.Tasks.{moved_of_parts, rewrite_at, rewrite_of_ground, rewrite_of_parts, rewrite_of_text, task}
 use Rattle.jstore.specs.Folders.{files_below}
 use Rattle.jstore.proofs.Binds.{bound}
 use Rattle.jdriver.specs.Answers.{answer, shown}

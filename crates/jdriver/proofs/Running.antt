@@ -31,15 +31,16 @@ use Rattle.jjob.specs.Jobs.{job}
 use Rattle.jjob.specs.Storing.{stored_job}
 use Rattle.jagain.specs.Again.{IsName, JobAgain, JobIsSmall, with_classes}
 use Rattle.jshow.specs.declared.refusal.Refusal.TheVariants.{NoMain}
-use Rattle.jtask.specs.declared.ground.Ground.{Ground}
+use Rattle.jstages.specs.declared.ground.Ground.{Ground}
 use Rattle.jtask.specs.declared.task.Task.{Task}
 use Rattle.jtask.specs.declared.task.Task.TheVariants as tasks
-use Rattle.jtask.specs.Checking.{checked, unless_untyped}
-use Rattle.jtask.specs.Grounds.{ground_of, plan_of}
-use Rattle.jtask.specs.Linking.{linked, unless_broken}
-use Rattle.jtask.specs.Rewriting.{rewritten, unless_limited}
-use Rattle.jtask.specs.Stages.{Stopped, found, judged}
-use Rattle.jtask.specs.Tasks.{grants_at, grants_of, grants_read, ground_at, ground_in, job_read, part_at, run_at, run_in, run_of_ground, run_of_parts, runnable, task}
+use Rattle.jstages.specs.Checking.{checked, unless_untyped}
+use Rattle.jstages.specs.Grounds.{ground_of, plan_of}
+use Rattle.jstages.specs.Linking.{linked, unless_broken}
+use Rattle.jstages.specs.Rewriting.{rewritten, unless_limited}
+use Rattle.jstages.specs.Stages.{Stopped, found, judged}
+use Rattle.jstages.specs.Reading.{grants_at, grants_of, grants_read, ground_at, ground_in, job_read, part_at}
+use Rattle.jtask.specs.Tasks.{run_at, run_in, run_of_ground, run_of_parts, runnable, task}
 use Rattle.jstore.specs.Folders.{all_below, class_below, files_below, job_below, path_of}
 use Rattle.jstore.proofs.Names.{is_name}
 use Rattle.jdriver.specs.Answers.{answer, shown}

@@ -8,7 +8,7 @@ use Rattle.jshow.specs.declared.status.Status.{Status}
 use Rattle.jshow.specs.declared.status.Status.TheVariants as statuses
 use Rattle.jshow.specs.Answering.{Answer, Answers}
 use Rattle.jtask.specs.declared.task.Task.{Task}
-use Rattle.jtask.specs.Stages.{Stopped, Missing, Misses}
+use Rattle.jstages.specs.Stages.{Stopped, Missing, Misses}
 use Rattle.jtask.specs.Tasks.{reads, task}
 use Rattle.jdriver.specs.Answers.{answer, shown}
 use Rattle.jdriver.specs.Making.{unless_stopped}

@@ -43,15 +43,16 @@ use Rattle.jjob.specs.Jobs.{job}
 use Rattle.jagain.specs.Again.{JobIsSmall}
 use Rattle.jforms.specs.jpass.Passing.{inspected, passed}
 use Rattle.jshow.specs.declared.refusal.Refusal.TheVariants.{NoMain}
-use Rattle.jtask.specs.declared.ground.Ground.{Ground}
+use Rattle.jstages.specs.declared.ground.Ground.{Ground}
 use Rattle.jtask.specs.declared.task.Task.{Task}
 use Rattle.jtask.specs.declared.task.Task.TheVariants as tasks
-use Rattle.jtask.specs.Checking.{checked}
-use Rattle.jtask.specs.Grounds.{ground_of, plan_of}
-use Rattle.jtask.specs.Linking.{linked}
-use Rattle.jtask.specs.Rewriting.{rewritten}
-use Rattle.jtask.specs.Stages.{Stopped, bytes_at, judged}
-use Rattle.jtask.specs.Tasks.{grants_at, ground_at, ground_in, job_read, part_at, run_at, run_in, run_of_ground, run_of_parts, runnable, side_of, task}
+use Rattle.jstages.specs.Checking.{checked}
+use Rattle.jstages.specs.Grounds.{ground_of, plan_of}
+use Rattle.jstages.specs.Linking.{linked}
+use Rattle.jstages.specs.Rewriting.{rewritten}
+use Rattle.jstages.specs.Stages.{Stopped, bytes_at, judged}
+use Rattle.jstages.specs.Reading.{grants_at, ground_at, ground_in, job_read, part_at}
+use Rattle.jtask.specs.Tasks.{run_at, run_in, run_of_ground, run_of_parts, runnable, side_of, task}
 use Rattle.jtask.proofs.Mains.{found_is}
 use Rattle.jstore.proofs.Binds.{bound}
 use Rattle.jdriver.specs.Unstuck.{AllGoOn, BothGoOn, ContextsGoOn, FramesGoOn, GoesOn, HoldBytes}

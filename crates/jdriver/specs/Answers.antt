@@ -21,7 +21,7 @@ use Rattle.jshow.specs.Listings.{listing}
 use Rattle.jshow.specs.Statuses.{status_of}
 use Rattle.jtask.specs.declared.task.Task.{Task}
 use Rattle.jtask.specs.declared.task.Task.TheVariants as tasks
-use Rattle.jtask.specs.Stages.{Misses}
+use Rattle.jstages.specs.Stages.{Misses}
 use Rattle.jtask.specs.Tasks.{stores, task}
 use Rattle.jstore.specs.Folders.{files_below}
 use Rattle.jstore.specs.Storing.{StoresFront, with_files}

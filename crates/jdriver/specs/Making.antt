@@ -16,7 +16,7 @@ use Rattle.jrights.specs.declared.jtally.counts.Tally.{Tally}
 use Rattle.jrights.specs.jtally.Counting.{tally, tally_line}
 use Rattle.jtask.specs.declared.task.Task.{Task}
 use Rattle.jtask.specs.declared.task.Task.TheVariants as tasks
-use Rattle.jtask.specs.Stages.{Missing, Refused, Stopped, found}
+use Rattle.jstages.specs.Stages.{Missing, Refused, Stopped, found}
 use Rattle.jtask.specs.Tasks.{task}
 use Rattle.jstore.specs.Made.{held}
 

@@ -1,6 +1,6 @@
 ghost use Rattle.std.specs.Prelude.{◌≡◌, ◌≤◌, IfOk, Some, codes};
 ghost use Rattle.jjob.specs.declared.command.Command.TheVariants.{Run};
-ghost use Rattle.jtask.specs.Stages.{Follows};
+ghost use Rattle.jstages.specs.Stages.{Follows};
 ghost use Rattle.jtask.specs.Tasks.{IsWhole, task};
 ghost use Rattle.jstore.specs.Made.{held};
 ghost use Rattle.jdriver.specs.Making.{told, told_both, told_in};
@@ -10,8 +10,9 @@ use jforms::jpass::count_plain;
 use jjob::{Command, Form, Text};
 use jrights::jio::MemoryShelf;
 use jrights::jtally::Tally;
+use jstages::Halt;
 use jstore::made_shelf;
-use jtask::{Halt, Task, task_of};
+use jtask::{Task, task_of};
 use std::alloc::{AllocError, Global};
 
 /// What is told of a task that is a run. Any other task, which none is that comes here, is want of memory.

@@ -8,7 +8,7 @@ use jrights::jio::{Part, Sink, write_line};
 use jrights::jtally::{Tally, put_tally};
 use jrights::jtrace::RunFault;
 use jshow::{Status, show_refusal};
-use jtask::Halt;
+use jstages::Halt;
 use std::alloc::Global;
 
 /// Writes the line of a job that is made.

@@ -6,7 +6,7 @@ ghost use Rattle.jjob.specs.declared.command.Command.TheVariants.{Gen};
 ghost use Rattle.jjob.specs.Words.{command as command_of, words_of};
 ghost use Rattle.jshow.specs.declared.status.Status.TheVariants.{ReadFault, StoreFault, Usage, WriteFault};
 ghost use Rattle.jshow.specs.Answering.{Answers};
-ghost use Rattle.jtask.specs.Stages.{Misses};
+ghost use Rattle.jstages.specs.Stages.{Misses};
 ghost use Rattle.jtask.specs.Tasks.{reads, stores, task};
 ghost use Rattle.jdriver.specs.Answers.{Calm, Complete, IsSized, MissesAny, NoFileFault, Stores, UsageExactly, answer, answered, any_makes, any_stores, makes};
 ghost use Rattle.jdriver.specs.Headline.{AnswersAll, AnswersSome};
@@ -17,7 +17,8 @@ use jforms::jpass::moved_laws;
 use jjob::{Command, WordsError, read_words};
 use jrights::jio::{Shelf, Sink};
 use jshow::{Status, show_refusal};
-use jtask::{Halt, task_of};
+use jstages::Halt;
+use jtask::task_of;
 use std::alloc::Global;
 
 /// Does what a command asks for that reads files, as `dispatch` does.

@@ -5,7 +5,7 @@ use Rattle.std.proofs.lemmas.Str.{IsUtf8-append, IsUtf8-from_ascii}
 use Rattle.jrights.specs.jio.Text.{written}
 use Rattle.jagain.specs.Again.{IsName}
 use Rattle.jstore.specs.Folders.{class_path, place_of}
-use Rattle.jtask.specs.Linking.{units_in}
+use Rattle.jstages.specs.Linking.{units_in}
 use Rattle.jstore.proofs.Units.{AllPrint, Prints, Small, decimal_prints, is_ascii, no_feeds, print_both, units_small, written_prints}
 
 prints : (b : ℕ) → 32 < b → b < 126 → Prints b

@@ -10,7 +10,7 @@ use Rattle.jground.specs.declared.jformat.error.Fault.{Fault}
 use Rattle.jground.specs.jformat.Bodies.{many_at}
 use Rattle.jground.specs.jformat.Format.{fault}
 use Rattle.jrights.specs.jio.Text.{written, written_unit}
-use Rattle.jtask.specs.Linking.{units_in}
+use Rattle.jstages.specs.Linking.{units_in}
 use Rattle.jground.specs.jtext.Modified.{goes_on, text, three, three_at, two, two_at, unit_at}
 use Rattle.jground.specs.jbase.Stops.{◌>>=◌}
 use Rattle.jstore.proofs.Binds.{bound}

@@ -6,7 +6,7 @@ use Rattle.jjob.specs.Storing.{stored_job}
 use Rattle.jprogram.specs.Classes.{Program}
 use Rattle.jrewriting.specs.declared.jrewrite.rewritten.OutFile.{OutFile}
 use Rattle.jrewriting.specs.jrewrite.Files.{files_of}
-use Rattle.jtask.specs.Linking.{units_in}
+use Rattle.jstages.specs.Linking.{units_in}
 
 -- where a class is stored in a folder: in that of its domain, by its name, which is written as texts are
 abbrev pub place_of : ℕ → List ℕ → List ℕ

@@ -10,7 +10,7 @@ use jground::jbase::Seq;
 use jjob::{Text, stored_job};
 use jmoving::{OutFile, RewrittenProgram};
 use jrights::jio::{Shelf, ShelfError};
-use jtask::{text_in, units_in};
+use jstages::{text_in, units_in};
 use std::alloc::{AllocError, Global};
 
 /// A file that is to be stored.

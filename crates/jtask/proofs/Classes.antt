@@ -4,9 +4,10 @@ use Rattle.std.specs.Prelude.{OnOk, ℕ, Result}
 use Rattle.jground.specs.jbase.Each.{each}
 use Rattle.jrights.specs.jio.Held.{File}
 use Rattle.jprogram.specs.declared.part.CodePart.{CodePart}
-use Rattle.jtask.specs.declared.ground.Ground.{Ground}
-use Rattle.jtask.specs.Linking.{AreClasses}
-use Rattle.jtask.specs.Tasks.{GroundClasses, JobClasses, ground_at, part_at}
+use Rattle.jstages.specs.declared.ground.Ground.{Ground}
+use Rattle.jstages.specs.Linking.{AreClasses}
+use Rattle.jstages.specs.Reading.{ground_at, part_at}
+use Rattle.jtask.specs.Tasks.{GroundClasses, JobClasses}
 
 pub ok_then : {A F : Type 0} {P Q : Type 0} (result : Result A F) → (P → Q) → OnOk result P → OnOk result Q
 ok_then (Ok x) f p = f p

@@ -1,10 +1,5 @@
 pub mod Classes
-pub mod Halting
 pub mod Mains
-pub mod Members
 pub mod Parts
-pub mod Paths
-pub mod PartsRead
 pub mod Sides
 pub mod Sources
-pub mod Wholes

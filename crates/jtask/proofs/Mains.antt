@@ -6,8 +6,8 @@ use Rattle.jprogram.specs.Classes.{Program}
 use Rattle.jprogram.specs.Members.{IsMain, main_of}
 use Rattle.jtyping.specs.Typing.{Place, type_fault}
 use Rattle.jshow.specs.declared.refusal.Refusal.{Refusal}
-use Rattle.jtask.specs.Checking.{checked, unless_untyped}
-use Rattle.jtask.specs.Stages.{judged}
+use Rattle.jstages.specs.Checking.{checked, unless_untyped}
+use Rattle.jstages.specs.Stages.{judged}
 
 pub found_is : (r : Refusal) (o : Option MethodId) (m : MethodId) → judged r o ≡ Ok m → o ≡ Some m
 found_is r None m e = absurd (let x = e in cc)

@@ -9,13 +9,13 @@ use Rattle.jprogram.specs.declared.part.CodePart.{CodePart}
 use Rattle.jprogram.specs.Classes.{Program, program}
 use Rattle.jprogram.specs.Members.{main_of}
 use Rattle.jshow.specs.declared.refusal.Refusal.TheVariants.{NoMain}
-use Rattle.jtask.specs.declared.halt.Halt.{Halt}
-use Rattle.jtask.specs.declared.halt.Halt.TheVariants as halts
+use Rattle.jstages.specs.declared.halt.Halt.{Halt}
+use Rattle.jstages.specs.declared.halt.Halt.TheVariants as halts
 use Rattle.jtask.specs.declared.task.Task.TheVariants as tasks
-use Rattle.jtask.specs.Checking.{checked}
-use Rattle.jtask.specs.Linking.{linked}
-use Rattle.jtask.specs.Rewriting.{rewritten}
-use Rattle.jtask.specs.Stages.{Halts, judged}
+use Rattle.jstages.specs.Checking.{checked}
+use Rattle.jstages.specs.Linking.{linked}
+use Rattle.jstages.specs.Rewriting.{rewritten}
+use Rattle.jstages.specs.Stages.{Halts, judged}
 use Rattle.jtask.specs.Tasks.{check_of_parts, moved_of_parts, runnable}
 
 -- ---- a run

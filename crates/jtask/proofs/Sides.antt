@@ -6,8 +6,8 @@ use Rattle.jprogram.specs.declared.fault.LinkFault.{LinkFault}
 use Rattle.jprogram.specs.declared.part.CodePart.{CodePart}
 use Rattle.jprogram.specs.Classes.{Program, program}
 use Rattle.jlinking.specs.jlink.Links.{link_fault}
-use Rattle.jtask.specs.Checking.{checked}
-use Rattle.jtask.specs.Linking.{linked, unless_broken}
+use Rattle.jstages.specs.Checking.{checked}
+use Rattle.jstages.specs.Linking.{linked, unless_broken}
 use Rattle.jtask.proofs.Mains.{checked_is}
 
 broken_is : (p q : Program) (o : Option LinkFault) → unless_broken p o ≡ Ok q → p ≡ q

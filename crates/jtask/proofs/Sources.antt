@@ -22,15 +22,16 @@ use Rattle.jrewriting.specs.jrewrite.Linking.{IsLinked}
 use Rattle.jrewriting.specs.jrewrite.Program.{limits, moved}
 use Rattle.jmodel.specs.declared.jmachine.plan.Plan.{Plan}
 use Rattle.jshow.specs.declared.refusal.Refusal.TheVariants.{NoMain}
-use Rattle.jtask.specs.declared.ground.Ground.{Ground}
+use Rattle.jstages.specs.declared.ground.Ground.{Ground}
 use Rattle.jtask.specs.declared.task.Task.{Task}
 use Rattle.jtask.specs.declared.task.Task.TheVariants as tasks
-use Rattle.jtask.specs.Checking.{checked, unless_untyped}
-use Rattle.jtask.specs.Grounds.{plan_of}
-use Rattle.jtask.specs.Linking.{linked, unless_broken}
-use Rattle.jtask.specs.Rewriting.{rewritten, unless_limited}
-use Rattle.jtask.specs.Stages.{Stopped, judged}
-use Rattle.jtask.specs.Tasks.{JobClasses, ground_at, part_at, run_at, run_in, run_of_ground, run_of_parts, runnable, task}
+use Rattle.jstages.specs.Checking.{checked, unless_untyped}
+use Rattle.jstages.specs.Grounds.{plan_of}
+use Rattle.jstages.specs.Linking.{linked, unless_broken}
+use Rattle.jstages.specs.Rewriting.{rewritten, unless_limited}
+use Rattle.jstages.specs.Stages.{Stopped, judged}
+use Rattle.jstages.specs.Reading.{ground_at, part_at}
+use Rattle.jtask.specs.Tasks.{JobClasses, run_at, run_in, run_of_ground, run_of_parts, runnable, task}
 use Rattle.jtask.proofs.Mains.{checked_is, found_is}
 
 bound : {A B F : Type 0} (x : Result A F) (f : A → Result B F) (y : B) → (x >>= f) ≡ Ok y → (a : A) × (x ≡ Ok a) × (f a ≡ Ok y)

@@ -1,27 +1,16 @@
 -- What is to be done at a command with the files that are held: they are read in the order job, policy, class files, and each is
 -- judged before the next is read; then the classes link, then `main` is looked for where they are to be run, then they are checked, and
 -- then the limits of moving are looked at where they are to be moved: to be stored, or to be run in the form `pass`.
-use Rattle.std.specs.Prelude.{◌≡◌, ℕ, ◌-◌, Bool, true, false, List, [], length, Option, Some, None, Result, Ok, Err}
+use Rattle.std.specs.Prelude.{◌≡◌, ℕ, Bool, true, false, List, length, Result, Ok, Err}
 use Rattle.std.specs.List.{flat_map}
-use Rattle.std.specs.Result.{result_map_both}
 use Rattle.jground.specs.jbase.Each.{each}
 use Rattle.jground.specs.jbase.Stops.{◌>>=◌}
 use Rattle.jrights.specs.jio.Held.{File}
 use Rattle.jground.specs.jtext.Modified.{group}
-use Rattle.jground.specs.declared.jformat.error.At.{At}
-use Rattle.jground.specs.declared.jformat.error.Fault.{Fault}
-use Rattle.jclass.specs.declared.class.ClassParts.{ClassParts}
-use Rattle.jclass.specs.declared.fault.ClassFault.{ClassFault}
-use Rattle.jclass.specs.Class.{class_file}
-use Rattle.jpolicy.specs.declared.fault.PolicyFault.{PolicyFault}
-use Rattle.jpolicy.specs.declared.grant.Grant.{Grant}
-use Rattle.jpolicy.specs.Policies.{policy}
 use Rattle.jjob.specs.declared.command.Command.{Command}
 use Rattle.jjob.specs.declared.command.Command.TheVariants as commands
 use Rattle.jjob.specs.declared.command.Form.{Form}
 use Rattle.jjob.specs.declared.command.Form.TheVariants.{Inspect, Pass, Plain}
-use Rattle.jjob.specs.declared.job.Job.{Job}
-use Rattle.jjob.specs.Jobs.{job}
 use Rattle.jlib.specs.declared.side.Side.{Side}
 use Rattle.jlib.specs.declared.side.Side.TheVariants.{Source, Passing}
 use Rattle.jprogram.specs.declared.part.CodePart.{CodePart}
@@ -30,55 +19,18 @@ use Rattle.jprogram.specs.Classes.{Program, program}
 use Rattle.jprogram.specs.Members.{IsMain, main_of}
 use Rattle.jmodel.specs.declared.jmachine.plan.Plan.{Plan}
 use Rattle.jperm.specs.declared.permission.Permission.{Permission}
-use Rattle.jshow.specs.declared.refusal.Refusal.TheVariants.{BadJob, BadPolicy, BadClass, NoMain}
-use Rattle.jtask.specs.declared.ground.ClassPath.{ClassPath}
-use Rattle.jtask.specs.declared.ground.Ground.{Ground}
+use Rattle.jshow.specs.declared.refusal.Refusal.TheVariants.{NoMain}
+use Rattle.jstages.specs.declared.ground.Ground.{Ground}
 use Rattle.jtask.specs.declared.task.Task.{Task}
 use Rattle.jtask.specs.declared.task.Task.TheVariants as tasks
-use Rattle.jtask.specs.Checking.{checked}
-use Rattle.jtask.specs.Grounds.{ground_of, plan_of}
-use Rattle.jtask.specs.Linking.{AreClasses, linked}
-use Rattle.jtask.specs.Rewriting.{rewritten}
-use Rattle.jtask.specs.Stages.{Stopped, Missing, Refused, judged, bytes_at}
+use Rattle.jstages.specs.Checking.{checked}
+use Rattle.jstages.specs.Grounds.{plan_of}
+use Rattle.jstages.specs.Linking.{AreClasses, linked}
+use Rattle.jstages.specs.Rewriting.{rewritten}
+use Rattle.jstages.specs.Stages.{Stopped, Missing, judged, bytes_at}
+use Rattle.jstages.specs.Reading.{ground_at, ground_in, part_at}
 
--- ---- the job and its policy
-
--- the job that is read, or its refusal at the first bad line
-abbrev pub job_read : Result Job ℕ → Result Job Stopped
-job_read r = result_map_both (λ it. it) (λ line. Refused (BadJob line)) r
-
--- the grants that are read, or their refusal at the first fault
-abbrev pub grants_read : Result (List Grant) (At PolicyFault) → Result (List Grant) Stopped
-grants_read r = result_map_both (λ grants. grants) (λ fault. Refused (BadPolicy fault.at fault.kind)) r
-
--- the grants of a job's policy, expanded by the job's properties; a job without a policy has none
-abbrev pub grants_of : List File → List (List ℕ × List ℕ) → Option (List ℕ) → Result (List Grant) Stopped
-grants_of files props = elim [ None ↦ Ok [] | Some path ↦ bytes_at files path >>= λ bytes. grants_read (policy props bytes) ]
-
-unfoldable pub grants_at : List File → Job → Result (List Grant) Stopped
-grants_at files it = grants_of files it.props it.policy
-
--- what the job of a text and its policy say
-unfoldable pub ground_in : List File → List ℕ → Result Ground Stopped
-ground_in files text = job_read (job text) >>= λ it. grants_at files it >>= λ grants. Ok (ground_of it grants)
-
--- what the job at a path and its policy say
-unfoldable pub ground_at : List File → List ℕ → Result Ground Stopped
-ground_at files path = bytes_at files path >>= λ text. ground_in files text
-
--- ---- class files
-
--- the class file that is read, or its refusal at the first fault
-abbrev pub class_read : List ℕ → List ℕ → Result ClassParts (Fault ClassFault) → Result ClassParts Stopped
-class_read path bytes r = result_map_both (λ class. class) (λ fault. Refused (BadClass path (length bytes - fault.left) fault.kind)) r
-
--- the class file at a path
-unfoldable pub class_at : List File → List ℕ → Result ClassParts Stopped
-class_at files path = bytes_at files path >>= λ bytes. class_read path bytes (class_file.read bytes)
-
--- the class file at a path, with the number of its code source
-unfoldable pub part_at : List File → ClassPath → Result CodePart Stopped
-part_at files one = class_at files one.path >>= λ class. Ok (record { domain = one.domain; class = class })
+-- ---- the side
 
 -- the library against which a form is linked and checked: the passing side's for classes that are moved already, and else the source side's
 abbrev pub side_of : Form → Side

@@ -1,4 +1,4 @@
-ghost use Rattle.std.specs.Prelude.{◌≡◌, ◌≤◌, ◌<◌, ◌^◌, ℕ, Err, IfOk, IsTrue, List, None, OnOk, Some, false, length, true};
+ghost use Rattle.std.specs.Prelude.{◌≡◌, ◌≤◌, ◌<◌, ◌^◌, ℕ, Err, IfOk, IfSome, IsTrue, List, None, OnOk, Some, false, length, true};
 ghost use Rattle.std.specs.List.{flat_map};
 ghost use Rattle.jrights.specs.jio.Held.{File};
 ghost use Rattle.jground.specs.jtext.Modified.{group};
@@ -6,22 +6,16 @@ ghost use Rattle.jjob.specs.declared.command.Form.TheVariants.{Pass};
 ghost use Rattle.jlib.specs.declared.side.Side.TheVariants.{Passing, Source};
 ghost use Rattle.jlinking.specs.jlink.Links.{AreParts};
 ghost use Rattle.jprogram.specs.Members.{IsMain, main_of};
-ghost use Rattle.jtask.specs.declared.halt.Halt.TheVariants.{Read};
+ghost use Rattle.jstages.specs.declared.halt.Halt.TheVariants.{Read};
 ghost use Rattle.jtask.specs.declared.task.Task.TheVariants.{RunPlain};
-ghost use Rattle.jtask.specs.Rewriting;
-ghost use Rattle.jtask.specs.Stages.{Excused, Follows, judged};
-ghost use Rattle.jtask.specs.Grounds.{ArePaths};
-ghost use Rattle.jtask.specs.Linking.{AreClasses};
+ghost use Rattle.jstages.specs.Rewriting;
+ghost use Rattle.jstages.specs.Stages.{Excused, Follows, Refused, judged};
+ghost use Rattle.jstages.specs.Grounds.{ArePaths};
+ghost use Rattle.jstages.specs.Linking.{AreClasses};
 ghost use Rattle.jtask.specs.Tasks.{GroundClasses, IsWhole, JobClasses, RunClasses, check_at, check_of_ground, check_of_parts, is_stored, reads};
 ghost use Rattle.jtask.specs.Tasks.{policy_at, run_at, run_in, run_of_ground, run_of_parts, runnable};
 ghost use Rattle.jtask.specs.Tasks.{moved_of_parts, rewrite_at, rewrite_of_ground, rewrite_of_parts, rewrite_of_text, side_of, stores, task};
 
-use crate::checking::checked;
-use crate::ground::Ground;
-use crate::halt::Halt;
-use crate::linking::{are_classes, linked};
-use crate::reading::{ground_at, ground_in, parts_at, read_at, text_in};
-use crate::rewriting::rewritten;
 use crate::task::Task;
 use jcheck::CheckedProgram;
 use jground::jbase::Seq;
@@ -35,6 +29,10 @@ use jprogram::{CodePart, MethodId};
 use jrights::jdomain::Domains;
 use jrights::jio::Shelf;
 use jshow::Refusal;
+use jstages::{
+    Ground, Halt, are_classes, checked, ground_at, ground_in, linked, parts_at, read_at, rewritten,
+    text_in,
+};
 use std::alloc::Global;
 
 /// Whether a command reads files. The others make theirs.
@@ -451,5 +449,23 @@ pub fn task_of<S: Shelf>(alloc: Global, command: &Command, shelf: &mut S) -> Res
         Command::Rewrite { job, to } => rewrite_at(alloc, job.as_str(), to, shelf),
         Command::Policy { job } => policy_at(alloc, job.as_str(), shelf),
         _ => unreachable!(),
+    }
+}
+
+/// The refusal of a command that reads files, where it is refused.
+pub fn refusal_of<S: Shelf>(alloc: Global, command: &Command, shelf: &mut S) -> Option<Refusal>
+    requires { IsTrue (reads command.now) }
+    ensures value { (files : List File) → S.held shelf.old ≡ Some files → IfSome result (λ r. task command.now files ≡ Err (Refused r)) }
+    ensures held { S.held shelf.new ≡ S.held shelf.old }
+    ensures stored { S.write_faults shelf.new ≡ S.write_faults shelf.old }
+    ensures later { S.read_faults shelf.old ≤ S.read_faults shelf.new }
+{
+    match task_of(alloc, command, shelf) {
+        Ok(task) => {
+            drop(task);
+            None
+        }
+        Err(Halt::Refused(refusal)) => Some(refusal),
+        Err(_) => None,
     }
 }

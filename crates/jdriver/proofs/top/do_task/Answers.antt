@@ -2,8 +2,8 @@ use Rattle.std.proofs.Common.{◌∙◌, sym, ap, subst, Ok, Err, arith, List, O
 use Rattle.jrights.specs.jio.Held.{File}
 use Rattle.jshow.specs.declared.status.Status.TheVariants.{OutOfMemory, ReadFault}
 use Rattle.jshow.specs.Answering.{Answer, Answers}
-use Rattle.jtask.specs.declared.halt.Halt.{Halt}
-use Rattle.jtask.specs.Stages.{Refused}
+use Rattle.jstages.specs.declared.halt.Halt.{Halt}
+use Rattle.jstages.specs.Stages.{Refused}
 use Rattle.jstore.proofs.StoredFiles.{front_same}
 use Rattle.jdriver.specs.Answers.{Stores, answer, shown}
 use Rattle.jdriver.proofs.Headlines.{answers_all, answers_some, any_all, any_some, refused_all, refused_some, unread, unwritten}

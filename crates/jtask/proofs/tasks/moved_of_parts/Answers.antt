@@ -3,7 +3,7 @@ use Rattle.std.proofs.Common.{subst, sym}
 use Rattle.std.proofs.lemmas.Result.{err_from_is_err_and}
 use Rattle.jlib.specs.declared.side.Side.TheVariants.{Source}
 use Rattle.jprogram.specs.Classes.{Program}
-use Rattle.jtask.specs.Stages.{Follows, Stopped}
+use Rattle.jstages.specs.Stages.{Follows, Stopped}
 use Rattle.jtask.proofs.Parts.{move_unlinked, move_untyped, moves}
 use Rattle.jtask.proofs.Sides.{on_side}
 use Rattle.jtask.proofs.tasks.moved_of_parts.Goals as goal

@@ -1,7 +1,7 @@
 use Rattle.std.proofs.Common.{◌∙◌, List, ap, sym}
 use Rattle.jground.specs.jbase.Each.{each}
-use Rattle.jtask.specs.declared.ground.ClassPath.{ClassPath}
-use Rattle.jtask.specs.Tasks.{part_at}
+use Rattle.jstages.specs.declared.ground.ClassPath.{ClassPath}
+use Rattle.jstages.specs.Reading.{part_at}
 use Rattle.jtask.proofs.Classes.{of_ground, ok_then}
 use Rattle.jtask.proofs.tasks.run_of_ground.Goals as goal
 

@@ -4,7 +4,7 @@ use Rattle.std.proofs.lemmas.Result.{err_from_is_err_and}
 use Rattle.jground.specs.jtext.Modified.{group}
 use Rattle.jprogram.specs.Classes.{Program, program}
 use Rattle.jshow.specs.declared.refusal.Refusal.TheVariants.{NoMain}
-use Rattle.jtask.specs.Linking.{AreClasses}
+use Rattle.jstages.specs.Linking.{AreClasses}
 use Rattle.jtask.proofs.Mains.{run_main}
 use Rattle.jtask.proofs.Parts.{run_unlinked, run_unnamed, run_untyped, runs}
 use Rattle.jtask.proofs.Sides.{linked_is, on_side}

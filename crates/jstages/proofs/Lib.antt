@@ -1,0 +1,5 @@
+pub mod Halting
+pub mod Members
+pub mod Paths
+pub mod PartsRead
+pub mod Wholes
