@@ -1,12 +1,36 @@
-use crate::references::{Sort, reference_at};
+use crate::references::{Sort, named_at};
 use crate::scene::{Scene, Told};
 use bitflags::Flags;
 use jclass::{Access, MemberInfo};
-use jparts::jcode::{ArrayForm, CallOp, Form, Op, Placed, PoolForm, form_of};
-use jparts::jpool::Entry;
-use jprogram::{has_code, member_desc, member_name};
+use jparts::jcode::{ArrayForm, CallOp, Form, Op, PoolForm, form_of};
+use jparts::jpool::{Entry, Pool};
+use jprogram::{class_text, has_code, member_desc, member_name};
 
-const FLOATS: &str = "float and double are left out: whole numbers of a smaller unit";
+/// What is left out of the machine.
+#[derive(Clone, Copy)]
+enum LeftOut {
+    Floats,
+    Native,
+    Synchronized,
+    InterfaceCode,
+    Initialiser,
+    ClassConstant,
+    ArrayMember,
+    InterfaceCall,
+    /// None of these.
+    Other,
+}
+
+/// What is left out, and what to write in its place, a line for each `LeftOut`.
+const ADVICE: &str = "float and double are left out: whole numbers of a smaller unit\n\
+native methods are left out\n\
+synchronized is left out: turns change at start, yield and join alone\n\
+methods with code are left out of interfaces: an abstract class\n\
+a static initialiser is left out: set the fields at the beginning of main\n\
+`X.class` is left out\n\
+members of arrays, as `array.clone()`, are left out: a loop\n\
+static methods of interfaces, and those with code, are left out: a class\n\
+it uses what is left out, as float, double, `sps/Ctx` or a member of an array";
 
 /// Whether a descriptor has a float or a double, in an array too.
 fn has_floats(desc: &[u8]) -> bool {
@@ -22,90 +46,65 @@ fn has_floats(desc: &[u8]) -> bool {
     false
 }
 
-/// What of a method's own is left out, by its flags.
-fn of_method(scene: Scene<'_>, member: &MemberInfo) -> Option<&'static str> {
-    if member.flags.contains(Access::NATIVE) {
-        return Some("native methods are left out");
-    }
-    if member.flags.contains(Access::SYNCHRONIZED) {
-        return Some("synchronized is left out: turns change at start, yield and join alone");
-    }
-    if scene.class.flags.contains(Access::INTERFACE) && has_code(member) {
-        return Some("methods with code are left out of interfaces: an abstract class");
-    }
-    None
-}
-
-/// What of a member's own is left out.
-fn declared(scene: Scene<'_>, member: &MemberInfo) -> Option<&'static str> {
+/// What of a member's own is left out, of a method by its flags.
+fn declared(scene: Scene<'_>, member: &MemberInfo) -> LeftOut {
+    let desc = member_desc(scene.class, member);
     if member_name(scene.class, member) == b"<clinit>".as_slice() {
-        return Some("a static initialiser is left out: set the fields at the beginning of main");
-    }
-    match member_desc(scene.class, member) {
-        desc if has_floats(desc) => Some(FLOATS),
-        [b'(', ..] => of_method(scene, member),
-        _ => None,
-    }
-}
-
-/// What of a constant is left out.
-fn constant(scene: Scene<'_>, i: u16) -> Option<&'static str> {
-    match scene.class.pool.entry(i) {
-        Some(Entry::Class(_)) => Some("`X.class` is left out"),
-        Some(Entry::Float(_) | Entry::Double(_)) => Some(FLOATS),
-        _ => None,
+        LeftOut::Initialiser
+    } else if has_floats(desc) {
+        LeftOut::Floats
+    } else if !desc.starts_with(b"(") {
+        LeftOut::Other
+    } else if member.flags.contains(Access::NATIVE) {
+        LeftOut::Native
+    } else if member.flags.contains(Access::SYNCHRONIZED) {
+        LeftOut::Synchronized
+    } else if scene.class.flags.contains(Access::INTERFACE) && has_code(member) {
+        LeftOut::InterfaceCode
+    } else {
+        LeftOut::Other
     }
 }
 
 /// What of a call is left out.
-fn called(scene: Scene<'_>, how: CallOp, i: u16) -> Option<&'static str> {
-    let one = reference_at(scene, i)?;
-    match (one.owner, one.sort, how) {
-        ([b'[', ..], _, _) => Some("members of arrays, as `array.clone()`, are left out: a loop"),
-        (_, Sort::InterfaceMethod, CallOp::Special | CallOp::Static) => Some(
-            "static methods of interfaces, and those with code, are left out: a class",
-        ),
-        _ => None,
+fn called(pool: &Pool, how: CallOp, i: u16) -> LeftOut {
+    let one = named_at(pool, i);
+    if class_text(pool, one.class).starts_with(b"[") {
+        return LeftOut::ArrayMember;
     }
-}
-
-/// What of a class that an instruction names is left out.
-fn classed(scene: Scene<'_>, i: u16) -> Option<&'static str> {
-    match scene.class.pool.class_name(i) {
-        Some(name @ [b'[', ..]) if has_floats(name) => Some(FLOATS),
-        _ => None,
+    match (one.sort, how) {
+        (Sort::InterfaceMethod, CallOp::Special | CallOp::Static) => LeftOut::InterfaceCall,
+        _ => LeftOut::Other,
     }
 }
 
 /// What of an instruction is left out.
-fn written(scene: Scene<'_>, op: &Op) -> Option<&'static str> {
+fn written(pool: &Pool, op: &Op) -> LeftOut {
     match form_of(op) {
-        Form::Pool(PoolForm::Constant(i) | PoolForm::LongConstant(i)) => constant(scene, i),
-        Form::Pool(PoolForm::Call(how, i)) => called(scene, how, i),
-        Form::Pool(PoolForm::Cast(_, i)) | Form::Array(ArrayForm::NewRef(i)) => classed(scene, i),
-        _ => None,
-    }
-}
-
-const ELSE: &str = "it uses what is left out, as float, double, `sps/Ctx` or a member of an array";
-
-/// What of code is left out.
-fn in_code(scene: Scene<'_>, ops: &[Placed]) -> &'static str {
-    for placed in ops {
-        if let Some(words) = written(scene, &placed.op) {
-            return words;
+        Form::Pool(PoolForm::Constant(i) | PoolForm::LongConstant(i)) => match pool.entry(i) {
+            Some(Entry::Class(_)) => LeftOut::ClassConstant,
+            Some(Entry::Float(_) | Entry::Double(_)) => LeftOut::Floats,
+            _ => LeftOut::Other,
+        },
+        Form::Pool(PoolForm::Call(how, i)) => called(pool, how, i),
+        Form::Pool(PoolForm::Cast(_, i)) | Form::Array(ArrayForm::NewRef(i)) => {
+            let name = class_text(pool, i);
+            if name.starts_with(b"[") && has_floats(name) {
+                return LeftOut::Floats;
+            }
+            LeftOut::Other
         }
+        _ => LeftOut::Other,
     }
-    ELSE
 }
 
 /// What is left out of a member, in words.
 pub fn left_out(scene: Scene<'_>, told: Told<'_>) -> &'static str {
-    if let Some(words) = declared(scene, told.info) {
-        return words;
+    let mut found = declared(scene, told.info);
+    for placed in told.code.ops {
+        if let LeftOut::Other = found {
+            found = written(&scene.class.pool, &placed.op);
+        }
     }
-    match told.code {
-        Some(code) => in_code(scene, code.ops),
-        None => ELSE,
-    }
+    ADVICE.split('\n').nth(found as usize).unwrap_or("")
 }

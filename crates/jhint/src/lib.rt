@@ -13,7 +13,6 @@
 
 mod checks;
 mod classes;
-mod files;
 mod leftouts;
 mod limits;
 mod lines;

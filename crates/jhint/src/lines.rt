@@ -1,4 +1,4 @@
-use crate::said::{Piece, Said};
+use crate::said::Said;
 
 /// What a line of each key is to be. What says `once` last stands once at most.
 const RULES: &str = "policy takes a path, at most once\n\
@@ -55,33 +55,30 @@ fn first_with(text: &str, sought: &str) -> u32 {
     number
 }
 
-/// Says of a line of a job's text which rule it breaks.
-fn say_rule(text: &str, number: u32, line: &str, said: &mut Said) {
+/// Says of a line of a job's text which rule it breaks, or that it is missing.
+fn say_of_text(text: &str, number: u32, said: &mut Said) {
+    let at = (number as usize).saturating_sub(1);
+    let line = text.split('\n').nth(at).unwrap_or("");
+    if line.is_empty() {
+        said.words(": a line `main NAME` is missing, as `main app/Main`");
+        return;
+    }
+    said.words(", \"");
+    said.text(line);
+    said.words("\": ");
     let sought = said_by(line);
     let first = first_with(text, sought);
     if sought.is_empty() || first == number {
         said.words(rule_of(line));
         return;
     }
-    said.say("line % says it already", &[Piece::Number(first as u64)]);
-}
-
-fn say_of_text(text: &str, number: u32, said: &mut Said) {
-    match text.split('\n').nth((number as usize).saturating_sub(1)) {
-        Some(line) if !line.is_empty() => {
-            said.say(", \"%\": ", &[Piece::Text(line)]);
-            say_rule(text, number, line, said);
-        }
-        _ => said.words(": a line `main NAME` is missing, as `main app/Main`"),
-    }
+    said.number("line ", first as u64, " says it already");
 }
 
 /// Says of a job's text which rule its line of a number breaks, counted from 1.
 pub fn say_line(path: &str, text: &[u8], number: u32, said: &mut Said) {
-    said.say(
-        "%, line %",
-        &[Piece::Text(path), Piece::Number(number as u64)],
-    );
+    said.text(path);
+    said.number(", line ", number as u64, "");
     match str::from_utf8(text) {
         Ok(text) => say_of_text(text, number, said),
         Err(_) => said.words(": the bytes there are no UTF-8"),

@@ -1,24 +1,10 @@
-use crate::said::{Piece, Said};
+use crate::said::Said;
 use crate::scene::scene_of;
 use bitflags::Flags;
 use jclass::{Access, ClassParts, MemberInfo};
 use jground::jtext::Units;
 use jlib::Side;
 use jprogram::{NamedProgram, Reach, has_code, member_desc, member_name, reach_of};
-
-/// Of the method with which a run begins the descriptor, and that a class has none.
-fn wanted(side: Side) -> (&'static [u8], &'static str) {
-    match side {
-        Side::Source => (
-            b"([Ljava/lang/String;)V",
-            ": the class has no `public static void main(String[])`",
-        ),
-        Side::Passing => (
-            b"([Ljava/lang/String;Lsps/Ctx;)V",
-            ": the class has no `public static void main(String[], sps.Ctx)`",
-        ),
-    }
-}
 
 /// Why a method of this name, with a descriptor or another, isn't the one with which a run begins.
 fn reason(method: &MemberInfo, is_wanted: bool) -> &'static str {
@@ -43,19 +29,29 @@ fn say_mains(class: &ClassParts, desc: &[u8], said: &mut Said) {
         if member_name(class, method) == b"main".as_slice() {
             let found = member_desc(class, method);
             let why = reason(method, found == desc);
-            said.say("; main%%", &[Piece::Name(found), Piece::Words(why)]);
+            said.name("; main", found, why);
         }
     }
 }
 
 /// Says of a class in which a run is to begin why it can't.
 pub fn say_main(program: &NamedProgram, name: &Units, said: &mut Said) {
-    said.say("main %", &[Piece::Units(name.as_slice())]);
+    said.words("main ");
+    said.units(name.as_slice());
     let Some(scene) = scene_of(said.alloc, program, name) else {
         said.words(": the job has no class of this name, which is written with slashes");
         return;
     };
-    let (desc, missing) = wanted(program.side());
+    let (desc, missing) = match program.side() {
+        Side::Source => (
+            b"([Ljava/lang/String;)V".as_slice(),
+            ": the class has no `public static void main(String[])`",
+        ),
+        Side::Passing => (
+            b"([Ljava/lang/String;Lsps/Ctx;)V".as_slice(),
+            ": the class has no `public static void main(String[], sps.Ctx)`",
+        ),
+    };
     said.words(missing);
     say_mains(scene.class, desc, said);
 }

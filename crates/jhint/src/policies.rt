@@ -1,4 +1,4 @@
-use crate::said::{Piece, Said};
+use crate::said::Said;
 use jground::jbase::Stop;
 use jground::jtext::Units;
 use jpolicy::{PolicyFault, read_policy};
@@ -17,8 +17,8 @@ const MARKS: &str = "; } { , * \"text\"";
 
 // ---- the place
 
-/// The line and the column behind the front of a text, counted from 1.
-fn place_behind(front: &[u8]) -> (u64, u64) {
+/// Says the file, and the line and the column behind the front of its text, counted from 1.
+fn say_place(path: &str, front: &[u8], said: &mut Said) {
     let mut line: u64 = 1;
     let mut column: u64 = 1;
     for byte in front {
@@ -29,107 +29,65 @@ fn place_behind(front: &[u8]) -> (u64, u64) {
             column = column.saturating_add(1);
         }
     }
-    (line, column)
+    said.text(path);
+    said.number(", line ", line, "");
+    said.number(", column ", column, ": ");
 }
 
-/// Says the file, and the line and the column behind the front of its text.
-fn say_place(path: &str, front: &[u8], said: &mut Said) {
-    let (line, column) = place_behind(front);
-    let pieces = [
-        Piece::Text(path),
-        Piece::Number(line),
-        Piece::Number(column),
-    ];
-    said.say("%, line %, column %: ", &pieces);
-}
-
-fn is_word(byte: u8) -> bool {
-    byte.is_ascii_alphanumeric() || 0x80 <= byte || byte == b'.' || byte == b'_' || byte == b'$'
-}
-
-/// How many bytes at the front of a text are a string, as far as its line goes.
-fn string_size(text: &[u8]) -> usize {
-    let mut size: usize = 0;
-    for byte in text {
-        if *byte == b'\n' || *byte == b'\r' {
-            return size;
-        }
-        size = size.saturating_add(1);
-        if *byte == b'"' && 1 < size {
-            return size;
-        }
-    }
-    size
-}
-
-fn word_size(text: &[u8]) -> usize {
-    let mut size: usize = 0;
-    for byte in text {
-        if !is_word(*byte) {
-            return size;
-        }
-        size = size.saturating_add(1);
-    }
-    size
-}
-
-/// The size of the token at the front of a text, 0 at its end.
+/// The size of the token at the front of a text, 0 at its end: a string goes as far as its line does, and another token is a word or one
+/// byte.
 fn token_size(text: &[u8]) -> usize {
-    match text {
-        [] => 0,
-        [b'"', ..] => string_size(text),
-        [b'/', b'*', ..] => 2,
-        _ => word_size(text).max(1),
+    if text.starts_with(b"/*") {
+        return 2;
     }
+    let is_string = text.starts_with(b"\"");
+    let mut size: usize = 0;
+    for byte in text {
+        let goes_on = if is_string {
+            size == 0 || !b"\"\n\r".contains(byte)
+        } else {
+            byte.is_ascii_alphanumeric() || 0x80 <= *byte || b"._$".contains(byte)
+        };
+        if !goes_on {
+            let closes = is_string && *byte == b'"';
+            return if closes {
+                size.saturating_add(1)
+            } else {
+                size.max(1)
+            };
+        }
+        size = size.saturating_add(1);
+    }
+    size
 }
 
 // ---- what may stand there
 
-fn put(text: &mut Vec<u8>, bytes: &[u8], said: &mut Said) {
-    if text.extend_from_slice(bytes).is_err() {
-        said.lose();
-    }
-}
-
-/// The front of a policy with a token behind it.
-fn joined(front: &[u8], token: &str, said: &mut Said) -> Vec<u8> {
-    let mut text = Vec::new(said.alloc);
-    put(&mut text, front, said);
-    put(&mut text, b" ", said);
-    put(&mut text, token.as_bytes(), said);
-    text
-}
-
-/// Whether a policy's first fault, if it has any, isn't at a byte.
-fn is_good(text: &[u8], at: usize, props: &[(Units, Units)], said: &mut Said) -> bool {
-    if 0x7fff_ffff < text.len() {
-        said.lose();
+/// Whether a token may stand behind a policy's front, which ends with a space: then its first fault, if it has any, isn't at that token.
+fn may_stand(front: &mut Vec<u8>, token: &str, props: &[(Units, Units)], said: &mut Said) -> bool {
+    let at = front.len();
+    if front.extend_from_slice(token.as_bytes()).is_err() || 0x7fff_ffff < front.len() {
+        said.lost = true;
         return false;
     }
-    match read_policy(said.alloc, text, props) {
-        Ok(policy) => {
-            drop(policy);
-            true
-        }
+    let is_good = match read_policy(said.alloc, front, props) {
+        Ok(_) => true,
         Err(Stop::Fault(fault)) => fault.at as usize != at,
         Err(Stop::Memory) => {
-            said.lose();
+            said.lost = true;
             false
         }
-    }
+    };
+    front.truncate(at);
+    is_good
 }
 
-/// Whether a token may stand behind the front of a policy: then its first fault isn't at that token.
-fn may_stand(front: &[u8], token: &str, props: &[(Units, Units)], said: &mut Said) -> bool {
-    let text = joined(front, token, said);
-    is_good(&text, front.len().saturating_add(1), props, said)
-}
-
-/// Says which of some tokens may stand behind the front of a policy.
-fn say_those(front: &[u8], tokens: &str, props: &[(Units, Units)], said: &mut Said) {
+/// Says which of some tokens may stand behind a policy's front.
+fn say_those(front: &mut Vec<u8>, tokens: &str, props: &[(Units, Units)], said: &mut Said) {
     for token in tokens.split(' ') {
         if may_stand(front, token, props, said) {
-            said.say(" %", &[Piece::Words(token)]);
+            said.words(" ");
+            said.words(token);
         }
     }
 }
@@ -137,42 +95,37 @@ fn say_those(front: &[u8], tokens: &str, props: &[(Units, Units)], said: &mut Sa
 /// Says what may stand behind the front of a policy.
 fn say_allowed(front: &[u8], props: &[(Units, Units)], said: &mut Said) {
     said.words("; what may stand there:");
-    say_those(front, MARKS, props, said);
-    if may_stand(front, ANY, props, said) {
+    let mut tried = Vec::new(said.alloc);
+    if tried.extend_from_slice(front).is_err() || tried.push(b' ').is_err() {
+        said.lost = true;
+    }
+    say_those(&mut tried, MARKS, props, said);
+    if may_stand(&mut tried, ANY, props, said) {
         said.words(" a word");
     } else {
-        say_those(front, WORDS, props, said);
+        say_those(&mut tried, WORDS, props, said);
     }
 }
 
-/// What is wrong with a token.
-fn wrong_of(token: &[u8]) -> &'static str {
-    match token {
-        [b'"', .., b'"'] => "` isn't allowed there",
-        [b'"', ..] => "` is a string that its line doesn't end",
-        [b'/', b'*'] => "` begins a comment that isn't closed",
-        _ => "` isn't allowed there",
-    }
-}
-
-fn say_token(token: &[u8], said: &mut Said) {
+/// Says what is wrong with the token at the front of a text.
+fn say_token(text: &[u8], said: &mut Said) {
+    let token = text.get(..token_size(text)).unwrap_or(text);
     if token.is_empty() {
         said.words("the text ends there");
         return;
     }
-    let shown = str::from_utf8(token).unwrap_or("..");
-    said.say("`%%", &[Piece::Text(shown), Piece::Words(wrong_of(token))]);
-}
-
-/// Says which token stands behind the front of a policy, and what may stand there.
-fn say_syntax(front: &[u8], rest: &[u8], props: &[(Units, Units)], said: &mut Said) {
-    say_token(rest.get(..token_size(rest)).unwrap_or(rest), said);
-    if front.len() <= MOST_TRIED {
-        say_allowed(front, props, said);
+    said.words("`");
+    said.text(str::from_utf8(token).unwrap_or(".."));
+    if token.starts_with(b"/*") {
+        said.words("` begins a comment that isn't closed");
+    } else if token.starts_with(b"\"") && (token.len() == 1 || !token.ends_with(b"\"")) {
+        said.words("` is a string that its line doesn't end");
+    } else {
+        said.words("` isn't allowed there");
     }
 }
 
-/// Says of a policy's text what is wrong at its byte of a number.
+/// Says of a policy's text what is wrong at its byte of a number, and what may stand there.
 pub fn say_policy(
     path: &str,
     text: &[u8],
@@ -185,10 +138,16 @@ pub fn say_policy(
         return;
     };
     say_place(path, front, said);
-    let words = match kind {
-        PolicyFault::NotUtf8 => "the bytes there are no UTF-8",
-        PolicyFault::SelfExpansion => "`${{..}}` isn't read here: write what it stands for",
-        PolicyFault::Syntax => return say_syntax(front, rest, props, said),
-    };
-    said.words(words);
+    match kind {
+        PolicyFault::NotUtf8 => said.words("the bytes there are no UTF-8"),
+        PolicyFault::SelfExpansion => {
+            said.words("`${{..}}` isn't read here: write what it stands for");
+        }
+        PolicyFault::Syntax => {
+            say_token(rest, said);
+            if front.len() <= MOST_TRIED {
+                say_allowed(front, props, said);
+            }
+        }
+    }
 }

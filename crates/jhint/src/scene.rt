@@ -1,13 +1,11 @@
 ghost use Rattle.std.specs.Prelude.{◌≡◌, true};
 ghost use Rattle.jprogram.specs.Layers.{IsLayered};
 
-use crate::said::{Piece, Said};
+use crate::said::Said;
 use jclass::{ClassFile, ClassParts, MemberInfo};
 use jground::jtext::{Units, bytes_of};
 use jmeaning::juses::{CodeRef, code_at};
-use jprogram::{
-    ClassRef, MethodId, NamedProgram, member_desc, member_name, program_laws, this_name,
-};
+use jprogram::{ClassRef, MethodId, NamedProgram, member_desc, member_name, program_laws};
 use std::alloc::Global;
 
 /// A class of a program, which a refusal names, and its number among the parts.
@@ -19,11 +17,17 @@ pub struct Scene<'a> {
     pub number: u32,
 }
 
-fn class_of<'a>(program: &'a NamedProgram, name: &[u8]) -> Option<Scene<'a>> {
-    let Some(ClassRef::User(number)) = program.class_of(name) else {
+/// The class of a name.
+pub fn scene_of<'a>(alloc: Global, program: &'a NamedProgram, name: &Units) -> Option<Scene<'a>> {
+    let Ok(bytes) = bytes_of(alloc, name) else {
         return None;
     };
-    let part = program.parts().get(number as usize)?;
+    let Some(ClassRef::User(number)) = program.class_of(&bytes) else {
+        return None;
+    };
+    let Some(part) = program.parts().get(number as usize) else {
+        return None;
+    };
     Some(Scene {
         program,
         file: &part.class,
@@ -32,40 +36,29 @@ fn class_of<'a>(program: &'a NamedProgram, name: &[u8]) -> Option<Scene<'a>> {
     })
 }
 
-/// The class of a name.
-pub fn scene_of<'a>(alloc: Global, program: &'a NamedProgram, name: &Units) -> Option<Scene<'a>> {
-    match bytes_of(alloc, name) {
-        Ok(bytes) => class_of(program, &bytes),
-        Err(_) => None,
-    }
-}
-
-/// A member that a refusal names: its number among the methods or the fields, what the class says of it, and its code where it has any.
+/// A member that a refusal names: its number among the methods or the fields, what the class says of it, and its code, which is empty where
+/// it has none.
 #[derive(Clone, Copy)]
 pub struct Told<'a> {
     pub number: u32,
     pub info: &'a MemberInfo,
-    pub code: Option<CodeRef<'a>>,
-}
-
-/// Whether a text is a name, and behind it a descriptor.
-pub fn is_told(told: &[u8], name: &[u8], desc: &[u8]) -> bool {
-    match told.strip_prefix(name) {
-        Some(behind) => behind == desc,
-        None => false,
-    }
+    pub code: CodeRef<'a>,
 }
 
 /// The member with this name, and behind it this descriptor, and without code.
 fn among<'a>(class: &ClassParts, members: &'a [MemberInfo], told: &[u8]) -> Option<Told<'a>> {
+    let code = CodeRef {
+        max_stack: 0,
+        max_locals: 0,
+        ops: &[],
+        handlers: &[],
+        attributes: &[],
+    };
     let mut number: u32 = 0;
     for info in members {
-        if is_told(told, member_name(class, info), member_desc(class, info)) {
-            return Some(Told {
-                number,
-                info,
-                code: None,
-            });
+        let desc = told.strip_prefix(member_name(class, info));
+        if desc == Some(member_desc(class, info)) {
+            return Some(Told { number, info, code });
         }
         number = number.saturating_add(1);
     }
@@ -73,46 +66,42 @@ fn among<'a>(class: &ClassParts, members: &'a [MemberInfo], told: &[u8]) -> Opti
 }
 
 /// The method that a refusal names, or else the field.
-fn told_in<'a>(scene: Scene<'a>, told: &[u8]) -> Option<Told<'a>> {
-    let Some(found) = among(scene.class, scene.class.methods.as_slice(), told) else {
-        return among(scene.class, scene.class.fields.as_slice(), told);
+pub fn member_of<'a>(alloc: Global, scene: Scene<'a>, told: &Units) -> Option<Told<'a>> {
+    let Ok(told) = bytes_of(alloc, told) else {
+        return None;
+    };
+    let Some(mut found) = among(scene.class, scene.class.methods.as_slice(), &told) else {
+        return among(scene.class, scene.class.fields.as_slice(), &told);
     };
     let method = MethodId {
         class: scene.number,
         method: found.number,
     };
-    Some(Told {
-        code: code_at(scene.program, method),
-        ..found
-    })
+    if let Some(code) = code_at(scene.program, method) {
+        found.code = code;
+    }
+    Some(found)
 }
 
-/// The same by its text.
-pub fn member_of<'a>(alloc: Global, scene: Scene<'a>, told: &Units) -> Option<Told<'a>> {
-    match bytes_of(alloc, told) {
-        Ok(bytes) => told_in(scene, &bytes),
-        Err(_) => None,
+/// Says of which class a sentence is, of which member and of which of its bytes, where it is of one.
+pub fn say_place(class: &Units, member: Option<&Units>, at: Option<u32>, said: &mut Said) {
+    said.words("class ");
+    said.units(class.as_slice());
+    if let Some(member) = member {
+        said.words(", ");
+        said.units(member.as_slice());
     }
-}
-
-/// Says of which class a sentence is, and of which member where it is of one.
-pub fn say_place<'a>(class: &'a Units, member: &'a Option<Units>, said: &mut Said) {
-    let class = Piece::Units(class.as_slice());
-    match member {
-        Some(member) => said.about("class %, %: ", &[class, Piece::Units(member.as_slice())]),
-        None => said.about("class %: ", &[class]),
+    match at {
+        Some(at) => said.number(" at ", at as u64, ": "),
+        None => said.words(": "),
     }
+    said.open = true;
 }
 
 impl<'a> Scene<'a> {
     /// Whether there is a class of a name.
     pub fn has(self, name: &[u8]) -> bool {
         self.program.class_of(name).is_some()
-    }
-
-    /// Whether there is a class of a name that may not be named from here.
-    pub fn is_hidden(self, name: &[u8]) -> bool {
-        self.has(name) && !self.program.may_name(this_name(self.class), name)
     }
 }
 
