@@ -13,31 +13,37 @@ mod rows;
 
 use asking::is_right;
 use jmain::run;
-use jrights::jio::RealShelf;
+use jrights::jio::{RealShelf, Shelf};
 use rows::row_of;
 use std::io;
 use std::process::ExitCode;
 
-fn main(rt: HostRuntime) -> io::Result<ExitCode> {
-    let alloc = rt.alloc();
-    let mut shelf = RealShelf::new(&rt);
-    let (mut asked, mut right) = (0u32, 0u32);
-    for line in rt.lines(alloc) {
-        let line = line?;
-        if line.is_empty() || line.starts_with('#') {
-            continue;
-        }
-        let Some(row) = row_of(line.as_str()) else {
-            println!(rt; "no row: {}", line.as_str())?;
-            continue;
-        };
-        let is_right = is_right(alloc, &row, &mut shelf)?;
-        if !is_right {
-            println!(rt; "not as it says: {}", line.as_str())?;
-        }
-        asked = asked.saturating_add(1);
-        right = right.saturating_add(u32::from(is_right));
+/// Whether a line is a row that is answered as it says. One that isn't is told.
+fn is_answered<S: Shelf>(rt: &HostRuntime, line: &str, shelf: &mut S) -> io::Result<bool> {
+    let is_right = match row_of(line) {
+        Some(row) => is_right(rt.alloc(), &row, shelf),
+        None => false,
+    };
+    if !is_right {
+        println!(rt; "not as it says: {line}")?;
     }
-    println!(rt; "{right} of {asked} as they say")?;
+    Ok(is_right)
+}
+
+/// Asks the rows of the input, and tells how many there are, and how many are answered as they say.
+fn ask<S: Shelf>(rt: &HostRuntime, shelf: &mut S) -> io::Result<()> {
+    let (mut asked, mut right) = (0u32, 0u32);
+    for line in rt.lines(rt.alloc()) {
+        let line = line?;
+        if !line.is_empty() && !line.starts_with('#') {
+            asked = asked.saturating_add(1);
+            right = right.saturating_add(u32::from(is_answered(rt, line.as_str(), shelf)?));
+        }
+    }
+    println!(rt; "{right} of {asked} as they say")
+}
+
+fn main(rt: HostRuntime) -> io::Result<ExitCode> {
+    ask(&rt, &mut RealShelf::new(&rt))?;
     Ok(run(&rt))
 }

@@ -71,22 +71,25 @@ fn asked_of(word: &str, digits: &str) -> Option<Asked> {
     Some(Asked::Memory(faults))
 }
 
+/// How a command is asked, by what stands behind its files.
+fn asked_by(how: &str) -> Option<Asked> {
+    match how {
+        "fronts" => Some(Asked::Fronts),
+        "moved" => Some(Asked::Moved),
+        "rewritten" => Some(Asked::Rewritten),
+        _ => match how.split_once(' ') {
+            Some((word, digits)) => asked_of(word, digits),
+            None => None,
+        },
+    }
+}
+
 /// The files of a row, and how it is asked.
 fn given_of(given: &str) -> Option<(&str, Asked)> {
-    let Some((files, how)) = given.split_once(" | ") else {
-        return Some((given, Asked::Memory(Faults::NONE)));
-    };
-    if how == "fronts" {
-        return Some((files, Asked::Fronts));
+    match given.split_once(" | ") {
+        Some((files, how)) => Some((files, asked_by(how)?)),
+        None => Some((given, Asked::Memory(Faults::NONE))),
     }
-    if how == "moved" {
-        return Some((files, Asked::Moved));
-    }
-    if how == "rewritten" {
-        return Some((files, Asked::Rewritten));
-    }
-    let (word, digits) = how.split_once(' ')?;
-    Some((files, asked_of(word, digits)?))
 }
 
 /// What is given of a row, and what it is to store.
