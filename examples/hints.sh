@@ -140,6 +140,11 @@ of_body "classes/Main.class, $at 3: an instruction that is left out, monitorente
 of_body "classes/Main.class, $at 2: an instruction that is left out, multianewarray: an array of arrays at once: \`new int[2][]\` and a loop" 'int[][] a = new int[2][3];'
 main='class Main, main([Ljava/lang/String;)V:'
 of_body "$main it names java/util/ArrayList, which neither the job nor the library has" 'Object o = new java.util.ArrayList<String>();'
+rm -rf classes
+compiled 8 Main.java 'class Gone {} public class Main { public static void main(String[] args) { Object o = Gone.class; } }'
+rm classes/Gone.class
+sed -i /Gone/d job
+check "$main it names Gone, which neither the job nor the library has" check job
 of_body "$main it uses java/lang/String.substring(I)Ljava/lang/String;, which neither that class nor one above it has" 'String s = "abc".substring(1);'
 of_body "$main it uses java/lang/System.err Ljava/io/PrintStream;, which neither that class nor one above it has" 'Object o = System.err;'
 of_body "$main \`X.class\` is left out" 'Object o = Main.class;'

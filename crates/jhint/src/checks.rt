@@ -1,14 +1,12 @@
 use crate::opcodes::name_of;
-use crate::outline::Outline;
 use crate::references::{Sort, index_of, named_at, say_named};
 use crate::said::Said;
 use crate::scene::{Scene, Told, member_of, say_place, scene_of};
 use crate::stacks::say_found;
-use jclass::write_class;
 use jground::jnames::{Kind, Kinds};
 use jground::jtext::Units;
 use jlinking::jlink::LinkedProgram;
-use jparts::jcode::{Op, Placed, effect_of, form_of};
+use jparts::jcode::{Op, Placed, effect_of, form_of, opcode_of};
 use jprogram::MethodId;
 use jwalk::frame_before;
 
@@ -26,18 +24,18 @@ fn word_of(kind: Kind) -> &'static str {
 /// Says kinds, the one that lies lowest first.
 fn say_kinds(kinds: Kinds, said: &mut Said) {
     let (first, second) = match kinds {
-        Kinds::None => return said.words("nothing"),
-        Kinds::One(a) => return said.words(word_of(a)),
+        Kinds::None => return said.words(b"nothing"),
+        Kinds::One(a) => return said.told(word_of(a)),
         Kinds::Two(a, b) => (b, a),
         Kinds::Three(a, b, c) => {
-            said.words(word_of(c));
-            said.words(", ");
+            said.told(word_of(c));
+            said.words(b", ");
             (b, a)
         }
     };
-    said.words(word_of(first));
-    said.words(" and ");
-    said.words(word_of(second));
+    said.told(word_of(first));
+    said.words(b" and ");
+    said.told(word_of(second));
 }
 
 /// Says what an instruction names, or else takes.
@@ -45,9 +43,10 @@ fn say_wanted(scene: Scene<'_>, op: &Op, said: &mut Said) {
     let pool = &scene.class.pool;
     let one = named_at(pool, index_of(op));
     if !matches!(one.sort, Sort::Class) {
-        say_named(" of ", pool, one, "", said);
+        said.words(b" of ");
+        say_named(pool, one, said);
     } else if let Some(effect) = effect_of(&form_of(op)) {
-        said.words(", which takes ");
+        said.words(b", which takes ");
         say_kinds(effect.takes, said);
     }
 }
@@ -56,22 +55,11 @@ fn say_wanted(scene: Scene<'_>, op: &Op, said: &mut Said) {
 fn say_before(program: &LinkedProgram, m: MethodId, one: &Placed, said: &mut Said) {
     if let Ok(Some(frame)) = frame_before(said.alloc, program, m, one.at) {
         say_found(program.named(), &one.op, &frame, said);
-        said.words("; that");
+        said.words(b"; that");
     } else {
-        said.words("; what is there then");
+        said.words(b"; what is there then");
     }
-    said.words(", or the frame declared there or behind it, doesn't fit: compile anew");
-}
-
-/// Says the name of the instruction at a byte of a method of a class, which is written for it.
-fn say_name(scene: Scene<'_>, method: u32, at: u32, said: &mut Said) {
-    match write_class(said.alloc, scene.file) {
-        Ok(file) => {
-            let outline = Outline::of(&file, said);
-            said.words(name_of(outline.opcode_at(method, at)));
-        }
-        Err(_) => said.lost = true,
-    }
+    said.words(b", or the frame declared there or behind it, doesn't fit: compile anew");
 }
 
 /// Says which instruction of a method it is that isn't well typed, what it takes and what it finds.
@@ -82,12 +70,12 @@ fn say_method(program: &LinkedProgram, scene: Scene<'_>, told: Told<'_>, at: u32
     };
     for one in told.code.ops {
         if one.at == at {
-            say_name(scene, told.number, at, said);
+            said.told(name_of(usize::from(opcode_of(&one.op))));
             say_wanted(scene, &one.op, said);
             return say_before(program, m, one, said);
         }
     }
-    said.words("a frame where no instruction begins");
+    said.words(b"a frame where no instruction begins");
 }
 
 /// Says which instruction stands where a method isn't well typed, what it takes and what it finds.

@@ -1,5 +1,5 @@
 use crate::opcodes::{mend_of, name_of};
-use crate::outline::{Outline, Spot, byte, number_at};
+use crate::outline::{Outline, Spot, number_at};
 use crate::said::Said;
 use jclass::ClassFault;
 
@@ -50,46 +50,46 @@ fn meaning_of(kind: ClassFault) -> &'static str {
 
 /// Says the part in which a byte stands.
 fn say_part(outline: &Outline<'_>, at: usize, said: &mut Said) {
-    let part = outline.part_at(at);
-    said.words(match part.spot {
-        Spot::Head => ", in its head",
-        Spot::Entry => return said.number(", in pool entry ", part.number as u64, ""),
-        Spot::Class => ", behind the pool",
-        Spot::Field => ", in field ",
-        Spot::Method | Spot::Code => ", in method ",
-        Spot::Behind => ", in what stands behind the methods",
-    });
-    if let Spot::Field | Spot::Method | Spot::Code = part.spot {
-        said.name("", outline.text(part.name), "");
-        said.name("", outline.text(part.desc), "");
+    match outline.spot {
+        Spot::Head => said.words(b", in its head"),
+        Spot::Entry(index) => said.number(b", in pool entry ", index as u64, b""),
+        Spot::Class => said.words(b", behind the pool"),
+        Spot::Field => said.words(b", in field "),
+        Spot::Method | Spot::Code => said.words(b", in method "),
+        Spot::Behind => said.words(b", in what stands behind the methods"),
     }
-    if let Spot::Code = part.spot {
-        said.number(", its code at ", at.saturating_sub(part.from) as u64, "");
+    if let Spot::Field | Spot::Method | Spot::Code = outline.spot {
+        said.name(outline.text(outline.name));
+        said.name(outline.text(outline.desc));
+    }
+    if let Spot::Code = outline.spot {
+        let place = at.saturating_sub(outline.from) as u64;
+        said.number(b", its code at ", place, b"");
     }
 }
 
 /// Says which version a class file has, and which are read.
 fn say_version(file: &[u8], said: &mut Said) {
     let version = number_at(file, 6, 2) as u64;
-    said.number(" has version ", version, "");
+    said.number(b" has version ", version, b"");
     if 49 <= version {
-        said.number(", which is Java ", version - 44, "");
+        said.number(b", which is Java ", version - 44, b"");
     }
-    said.words("; 50 to 52 are read, Java 6 to 8: `javac --release 8`");
+    said.words(b"; 50 to 52 are read, Java 6 to 8: `javac --release 8`");
 }
 
 /// Says of which instruction a fault is.
 fn say_instruction(file: &[u8], at: usize, kind: ClassFault, said: &mut Said) {
     let opcode = match kind {
-        ClassFault::Opcode(opcode) | ClassFault::LeftOut(opcode) => opcode,
-        ClassFault::Operand | ClassFault::Target => byte(file, at),
+        ClassFault::Opcode(opcode) | ClassFault::LeftOut(opcode) => usize::from(opcode),
+        ClassFault::Operand | ClassFault::Target => number_at(file, at, 1),
         _ => return,
     };
-    said.words(", ");
-    said.words(name_of(opcode));
+    said.words(b", ");
+    said.told(name_of(opcode));
     if let ClassFault::LeftOut(_) = kind {
-        said.words(": ");
-        said.words(mend_of(opcode));
+        said.words(b": ");
+        said.told(mend_of(opcode));
     }
 }
 
@@ -100,8 +100,9 @@ pub fn say_class(path: &str, file: &[u8], at: u32, kind: ClassFault, said: &mut 
         say_version(file, said);
         return;
     }
-    say_part(&Outline::of(file, said), at as usize, said);
-    said.words(": ");
-    said.words(meaning_of(kind));
+    let outline = Outline::of(file, at as usize, said);
+    say_part(&outline, at as usize, said);
+    said.words(b": ");
+    said.told(meaning_of(kind));
     say_instruction(file, at as usize, kind, said);
 }

@@ -1,8 +1,8 @@
-use crate::references::{Sort, named_at};
+use crate::references::{Sort, index_of, named_at};
 use crate::scene::{Scene, Told};
 use bitflags::Flags;
 use jclass::{Access, MemberInfo};
-use jparts::jcode::{ArrayForm, CallOp, Form, Op, PoolForm, form_of};
+use jparts::jcode::Op;
 use jparts::jpool::{Entry, Pool};
 use jprogram::{class_text, has_code, member_desc, member_name};
 
@@ -66,34 +66,23 @@ fn declared(scene: Scene<'_>, member: &MemberInfo) -> LeftOut {
     }
 }
 
-/// What of a call is left out.
-fn called(pool: &Pool, how: CallOp, i: u16) -> LeftOut {
-    let one = named_at(pool, i);
-    if class_text(pool, one.class).starts_with(b"[") {
-        return LeftOut::ArrayMember;
-    }
-    match (one.sort, how) {
-        (Sort::InterfaceMethod, CallOp::Special | CallOp::Static) => LeftOut::InterfaceCall,
-        _ => LeftOut::Other,
-    }
-}
-
 /// What of an instruction is left out.
 fn written(pool: &Pool, op: &Op) -> LeftOut {
-    match form_of(op) {
-        Form::Pool(PoolForm::Constant(i) | PoolForm::LongConstant(i)) => match pool.entry(i) {
+    let i = index_of(op);
+    if let Op::Ldc(_) | Op::Ldc2(_) = op {
+        return match pool.entry(i) {
             Some(Entry::Class(_)) => LeftOut::ClassConstant,
             Some(Entry::Float(_) | Entry::Double(_)) => LeftOut::Floats,
             _ => LeftOut::Other,
-        },
-        Form::Pool(PoolForm::Call(how, i)) => called(pool, how, i),
-        Form::Pool(PoolForm::Cast(_, i)) | Form::Array(ArrayForm::NewRef(i)) => {
-            let name = class_text(pool, i);
-            if name.starts_with(b"[") && has_floats(name) {
-                return LeftOut::Floats;
-            }
-            LeftOut::Other
-        }
+        };
+    }
+    let one = named_at(pool, i);
+    let name = class_text(pool, one.class);
+    match one.sort {
+        Sort::Class if name.starts_with(b"[") && has_floats(name) => LeftOut::Floats,
+        Sort::Class => LeftOut::Other,
+        _ if name.starts_with(b"[") => LeftOut::ArrayMember,
+        Sort::InterfaceMethod if matches!(op, Op::Call(_, _)) => LeftOut::InterfaceCall,
         _ => LeftOut::Other,
     }
 }

@@ -10,43 +10,39 @@ const MOST_CODE: u32 = 32_767;
 /// The most places of the stack that a method may have before it is moved.
 const MOST_STACK: u32 = 65_532;
 
-/// Says how many too many there are.
-fn say_over(count: u32, most: u32, end: &str, said: &mut Said) {
-    said.number("", count.saturating_sub(most) as u64, end);
-}
-
 /// Says which limit of moving the class of a scene breaks, by a method of so many places of the stack and so many locals.
 fn say_kind(scene: Scene<'_>, kind: RewriteKind, (stack, locals): (u16, u16), said: &mut Said) {
-    let words = match kind {
+    match kind {
         RewriteKind::PoolFull => {
             let entries = scene.class.pool.entries().len().saturating_sub(1) as u64;
-            let front = "it would have more than 65,534 constants, and has ";
-            return said.number(front, entries, " so far: split the class");
-        }
-        RewriteKind::TooLong(size) => {
-            said.number("its code would have ", size as u64, " bytes, ");
-            return say_over(size, MOST_CODE, " too many: split the method", said);
-        }
-        RewriteKind::Stack => {
-            said.number("its operands take ", stack as u64, " places, ");
-            return say_over(
-                stack as u32,
-                MOST_STACK,
-                " too many: smaller expressions",
-                said,
+            said.number(
+                b"it would have more than 65,534 constants, and has ",
+                entries,
+                b" so far: split the class",
             );
         }
+        RewriteKind::TooLong(size) => {
+            let over = size.saturating_sub(MOST_CODE) as u64;
+            said.number(b"its code would have ", size as u64, b" bytes, ");
+            said.number(b"", over, b" too many: split the method");
+        }
+        RewriteKind::Stack => {
+            let over = (stack as u32).saturating_sub(MOST_STACK) as u64;
+            said.number(b"its operands take ", stack as u64, b" places, ");
+            said.number(b"", over, b" too many: smaller expressions");
+        }
         RewriteKind::Slots => {
-            "its parameters fill 255 slots, which is one too many: fewer parameters"
+            said.words(b"its parameters fill 255 slots, which is one too many: fewer parameters");
         }
         RewriteKind::Locals if locals == 65_535 => {
-            "it has 65,535 locals, and there is room for no more: a smaller method"
+            said.words(b"it has 65,535 locals, and there is room for no more: a smaller method");
         }
         RewriteKind::Locals => {
-            "its frames would have more than 16,777,216 locals and operands: a smaller method"
+            said.words(
+                b"its frames would have more than 16,777,216 locals and operands: a smaller method",
+            );
         }
-    };
-    said.words(words);
+    }
 }
 
 /// Says which limit of moving a class breaks, and by how much.

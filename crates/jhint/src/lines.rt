@@ -60,27 +60,27 @@ fn say_of_text(text: &str, number: u32, said: &mut Said) {
     let at = (number as usize).saturating_sub(1);
     let line = text.split('\n').nth(at).unwrap_or("");
     if line.is_empty() {
-        said.words(": a line `main NAME` is missing, as `main app/Main`");
+        said.words(b": a line `main NAME` is missing, as `main app/Main`");
         return;
     }
-    said.words(", \"");
+    said.words(b", \"");
     said.text(line);
-    said.words("\": ");
+    said.words(b"\": ");
     let sought = said_by(line);
     let first = first_with(text, sought);
     if sought.is_empty() || first == number {
-        said.words(rule_of(line));
+        said.told(rule_of(line));
         return;
     }
-    said.number("line ", first as u64, " says it already");
+    said.number(b"line ", first as u64, b" says it already");
 }
 
 /// Says of a job's text which rule its line of a number breaks, counted from 1.
 pub fn say_line(path: &str, text: &[u8], number: u32, said: &mut Said) {
     said.text(path);
-    said.number(", line ", number as u64, "");
+    said.number(b", line ", number as u64, b"");
     match str::from_utf8(text) {
         Ok(text) => say_of_text(text, number, said),
-        Err(_) => said.words(": the bytes there are no UTF-8"),
+        Err(_) => said.words(b": the bytes there are no UTF-8"),
     }
 }

@@ -25,14 +25,14 @@ fn other(side: Side) -> (Side, &'static str) {
     }
 }
 
-/// Says behind words a class that neither the job nor its side's library has.
-fn say_missing(front: &str, side: Side, name: &[u8], said: &mut Said) {
+/// Says a class that neither the job nor its side's library has.
+fn say_missing(side: Side, name: &[u8], said: &mut Said) {
     let (beyond, advice) = other(side);
-    let reason = match class(beyond, name) {
-        Some(_) => advice,
-        None => ", which neither the job nor the library has",
-    };
-    said.name(front, name, reason);
+    said.name(name);
+    match class(beyond, name) {
+        Some(_) => said.told(advice),
+        None => said.words(b", which neither the job nor the library has"),
+    }
 }
 
 // ---- a class by itself
@@ -55,7 +55,7 @@ fn bad_face<'a>(scene: Scene<'a>, kind: LinkKind) -> Option<&'a [u8]> {
 /// Says the first class that isn't there among those that a class extends or lists.
 fn say_above(scene: Scene<'_>, said: &mut Said) {
     let Some(above) = super_name(scene.class) else {
-        said.words("it extends no class");
+        said.words(b"it extends no class");
         return;
     };
     let missing = if scene.has(above) {
@@ -64,35 +64,37 @@ fn say_above(scene: Scene<'_>, said: &mut Said) {
         Some(above)
     };
     if let Some(name) = missing {
-        say_missing("it extends or lists ", scene.program.side(), name, said);
+        said.words(b"it extends or lists ");
+        say_missing(scene.program.side(), name, said);
     }
 }
 
 /// Says the first interface that a class lists and that is none, or else the class that it may not extend.
 fn say_barred(scene: Scene<'_>, said: &mut Said) {
     if let Some(name) = bad_face(scene, LinkKind::BadSuper) {
-        said.name("it lists ", name, " as an interface, which it isn't");
-        return;
+        said.words(b"it lists ");
+        said.name(name);
+        return said.words(b" as an interface, which it isn't");
     }
-    let above = super_name(scene.class).unwrap_or(b"nothing");
-    let reason = ", which is final, an interface, or no class that users may extend";
-    said.name("it extends ", above, reason);
+    said.words(b"it extends ");
+    said.name(super_name(scene.class).unwrap_or(b"nothing"));
+    said.words(b", which is final, an interface, or no class that users may extend");
 }
 
 /// Says which rule a class breaks by itself.
 fn say_of_class(scene: Scene<'_>, kind: LinkKind, said: &mut Said) {
-    let words = match kind {
-        LinkKind::NoClass => return say_above(scene, said),
-        LinkKind::BadSuper => return say_barred(scene, said),
+    match kind {
+        LinkKind::NoClass => say_above(scene, said),
+        LinkKind::BadSuper => say_barred(scene, said),
         LinkKind::Twice if class(scene.program.side(), this_name(scene.class)).is_some() => {
-            "the library has a class of this name"
+            said.words(b"the library has a class of this name");
         }
-        LinkKind::Twice => "an earlier line of the job names a class of this name",
-        LinkKind::Circular => "it stands above itself: class files of two builds",
-        _ =>
-            "names that begin with sps/ are those of moved programs: another package, or `check --form=plain`",
-    };
-    said.words(words);
+        LinkKind::Twice => said.words(b"an earlier line of the job names a class of this name"),
+        LinkKind::Circular => said.words(b"it stands above itself: class files of two builds"),
+        _ => said.words(
+            b"names that begin with sps/ are those of moved programs: another package, or `check --form=plain`",
+        ),
+    }
 }
 
 // ---- a class by a member
@@ -100,23 +102,24 @@ fn say_of_class(scene: Scene<'_>, kind: LinkKind, said: &mut Said) {
 /// Says the field or method that code names and that isn't there, or may not be used.
 fn say_bad(scene: Scene<'_>, kind: LinkKind, one: Named, said: &mut Said) {
     let pool = &scene.class.pool;
+    said.words(b"it uses ");
+    say_named(pool, one, said);
+    if let LinkKind::NotAccessible = kind {
+        return said.words(
+            b", which may not be used so from there: private, of another package, or final",
+        );
+    }
     let (beyond, advice) = other(scene.program.side());
     let owner = class_text(pool, one.class);
-    let reason = match kind {
-        LinkKind::NotAccessible => {
-            ", which may not be used so from there: private, of another package, or final"
-        }
-        _
-            if member(
-                beyond,
-                owner,
-                text_at(pool, one.name),
-                text_at(pool, one.desc),
-            )
-            .is_some() => { advice }
-        _ => ", which neither that class nor one above it has",
-    };
-    say_named("it uses ", pool, one, reason, said);
+    match member(
+        beyond,
+        owner,
+        text_at(pool, one.name),
+        text_at(pool, one.desc),
+    ) {
+        Some(_) => said.told(advice),
+        None => said.words(b", which neither that class nor one above it has"),
+    }
 }
 
 /// Says which field or method it is that code names, where members can be resolved.
@@ -132,18 +135,19 @@ fn say_used(scene: Scene<'_>, kind: LinkKind, ops: &[Placed], said: &mut Said) {
 fn say_names(scene: Scene<'_>, kind: LinkKind, told: Told<'_>, said: &mut Said) {
     let name = bad_class(scene, kind, told);
     if name.is_empty() {
-        say_used(scene, kind, told.code.ops, said);
-    } else if let LinkKind::NoClass = kind {
-        say_missing("it names ", scene.program.side(), name, said);
-    } else {
-        let reason = ", which isn't public and stands in another package";
-        said.name("it names ", name, reason);
+        return say_used(scene, kind, told.code.ops, said);
     }
+    said.words(b"it names ");
+    if let LinkKind::NoClass = kind {
+        return say_missing(scene.program.side(), name, said);
+    }
+    said.name(name);
+    said.words(b", which isn't public and stands in another package");
 }
 
 /// Says which rule a class breaks by a member.
 fn say_of_member(scene: Scene<'_>, kind: LinkKind, told: Told<'_>, said: &mut Said) {
-    let words = match kind {
+    said.told(match kind {
         LinkKind::NoClass | LinkKind::NoMember | LinkKind::NotAccessible => {
             return say_names(scene, kind, told, said);
         }
@@ -154,8 +158,7 @@ fn say_of_member(scene: Scene<'_>, kind: LinkKind, told: Told<'_>, said: &mut Sa
         }
         LinkKind::FinalMethod => "it overrides a final method of a class above",
         _ => "it uses a class or a member otherwise than it is declared: class files of two builds",
-    };
-    said.words(words);
+    });
 }
 
 /// Says which rule of linking a class breaks, by a member or by itself.

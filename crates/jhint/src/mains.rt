@@ -28,30 +28,30 @@ fn say_mains(class: &ClassParts, desc: &[u8], said: &mut Said) {
     for method in class.methods.as_slice() {
         if member_name(class, method) == b"main".as_slice() {
             let found = member_desc(class, method);
-            let why = reason(method, found == desc);
-            said.name("; main", found, why);
+            said.words(b"; main");
+            said.name(found);
+            said.told(reason(method, found == desc));
         }
     }
 }
 
 /// Says of a class in which a run is to begin why it can't.
 pub fn say_main(program: &NamedProgram, name: &Units, said: &mut Said) {
-    said.words("main ");
+    said.words(b"main ");
     said.units(name.as_slice());
     let Some(scene) = scene_of(said.alloc, program, name) else {
-        said.words(": the job has no class of this name, which is written with slashes");
+        said.words(b": the job has no class of this name, which is written with slashes");
         return;
     };
-    let (desc, missing) = match program.side() {
-        Side::Source => (
-            b"([Ljava/lang/String;)V".as_slice(),
-            ": the class has no `public static void main(String[])`",
-        ),
-        Side::Passing => (
-            b"([Ljava/lang/String;Lsps/Ctx;)V".as_slice(),
-            ": the class has no `public static void main(String[], sps.Ctx)`",
-        ),
+    let desc = match program.side() {
+        Side::Source => {
+            said.words(b": the class has no `public static void main(String[])`");
+            b"([Ljava/lang/String;)V".as_slice()
+        }
+        Side::Passing => {
+            said.words(b": the class has no `public static void main(String[], sps.Ctx)`");
+            b"([Ljava/lang/String;Lsps/Ctx;)V".as_slice()
+        }
     };
-    said.words(missing);
     say_mains(scene.class, desc, said);
 }

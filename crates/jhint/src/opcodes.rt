@@ -14,15 +14,12 @@ invokedynamic new newarray anewarray arraylength athrow checkcast instanceof mon
 ifnonnull goto_w jsr_w";
 
 /// The name of an opcode.
-pub fn name_of(opcode: u8) -> &'static str {
-    NAMES
-        .split(' ')
-        .nth(usize::from(opcode))
-        .unwrap_or("no instruction")
+pub fn name_of(opcode: usize) -> &'static str {
+    NAMES.split(' ').nth(opcode).unwrap_or("no instruction")
 }
 
 /// What makes an instruction that is left out, and what to write in its place.
-pub fn mend_of(opcode: u8) -> &'static str {
+pub fn mend_of(opcode: usize) -> &'static str {
     match opcode {
         168 | 169 | 201 => "compiled by an old javac: compile anew",
         186 =>

@@ -7,8 +7,8 @@ const CODE: usize = 0x01_0004_436f_6465;
 #[derive(Clone, Copy)]
 pub enum Spot {
     Head,
-    /// An entry of the pool.
-    Entry,
+    /// The entry of the pool at an index.
+    Entry(usize),
     /// What the class says of itself, behind the pool.
     Class,
     Field,
@@ -19,39 +19,24 @@ pub enum Spot {
     Behind,
 }
 
-/// A part, and the byte at which it begins.
-#[derive(Clone, Copy)]
-pub struct Part {
-    pub spot: Spot,
-    pub from: usize,
-    /// The index of an entry of the pool, or the number of a field among the fields, or of a method among the methods.
-    pub number: usize,
-    /// The indices of a field's or a method's name, and of its descriptor.
-    pub name: usize,
-    pub desc: usize,
-}
-
-/// The parts of a class file, in their order (JVMS 4.1), as far as it is laid out so. An entry of the pool stands at its index.
+/// A class file (JVMS 4.1), gone through as far as it is laid out so, and its part in which a byte stands.
 #[derive(Drop)]
 pub struct Outline<'a> {
     file: &'a [u8],
-    parts: Vec<Part>,
-    /// No memory was left for a part.
-    is_lost: bool,
+    /// Where each entry of the pool begins, at its index.
+    entries: Vec<usize>,
     /// Where what isn't gone through yet begins.
-    at: usize,
-    /// The numbers of the part that is marked next, as in `Part`.
-    number: usize,
-    name: usize,
-    desc: usize,
-}
-
-/// The byte at a place, 255 where none is there.
-pub fn byte(file: &[u8], at: usize) -> u8 {
-    match file.get(at) {
-        Some(byte) => *byte,
-        None => 255,
-    }
+    next: usize,
+    /// The byte that is sought.
+    sought: usize,
+    /// The part in which it stands, and where that begins.
+    pub spot: Spot,
+    pub from: usize,
+    /// The indices of the name and the descriptor of the last field or method that begins no later than it.
+    pub name: usize,
+    pub desc: usize,
+    /// No memory was left for an entry.
+    is_lost: bool,
 }
 
 /// The number of so many bytes at a place, 0 where they aren't all there.
@@ -66,33 +51,31 @@ pub fn number_at(file: &[u8], at: usize, size: usize) -> usize {
 impl<'a> Outline<'a> {
     /// The number of so many bytes that stands so far ahead.
     fn ahead(&self, ahead: usize, size: usize) -> usize {
-        number_at(self.file, self.at.saturating_add(ahead), size)
+        number_at(self.file, self.next.saturating_add(ahead), size)
     }
 
-    /// Puts a part that begins so far ahead behind the others.
-    fn mark(&mut self, spot: Spot, ahead: usize) {
-        let part = Part {
-            spot,
-            from: self.at.saturating_add(ahead),
-            number: self.number,
-            name: self.name,
-            desc: self.desc,
-        };
-        if self.parts.push(part).is_err() {
-            self.is_lost = true;
+    /// Marks a part that begins so far ahead: it has the byte that is sought, unless a later one begins no later than that byte.
+    fn mark(&mut self, spot: Spot, ahead: usize) -> bool {
+        let from = self.next.saturating_add(ahead);
+        if self.sought < from {
+            return false;
         }
+        self.spot = spot;
+        self.from = from;
+        true
     }
 
-    /// Marks the entries of the pool, of which a long or a double takes two indices (JVMS 4.4). An entry with a tag that there isn't goes
-    /// on to the end.
+    /// Marks the entries of the pool, of which a long or a double takes two indices (JVMS 4.4), and none stands at index 0. An entry with a
+    /// tag that there isn't goes on to the end.
     fn mark_pool(&mut self, count: usize) {
-        let mut is_second = false;
-        for index in 1..count {
-            self.number = index;
-            self.mark(Spot::Entry, 0);
-            let tag = byte(self.file, self.at);
+        let mut is_none = true;
+        for index in 0..count {
+            self.mark(Spot::Entry(index), 0);
+            let from = if is_none { usize::MAX } else { self.next };
+            self.is_lost |= self.entries.push(from).is_err();
+            let tag = self.ahead(0, 1);
             let size = match tag {
-                _ if is_second => 0,
+                _ if is_none => 0,
                 1 => self.ahead(1, 2).saturating_add(3),
                 5 | 6 => 9,
                 3 | 4 | 9 | 10 | 11 | 12 | 18 => 5,
@@ -100,15 +83,15 @@ impl<'a> Outline<'a> {
                 15 => 4,
                 _ => usize::MAX,
             };
-            is_second = !is_second && (tag == 5 || tag == 6);
-            self.at = self.at.saturating_add(size);
+            is_none = !is_none && (tag == 5 || tag == 6);
+            self.next = self.next.saturating_add(size);
         }
     }
 
     /// Where the entry at an index of the pool begins.
     fn entry(&self, index: usize) -> usize {
-        match self.parts.get(index) {
-            Some(part) => part.from,
+        match self.entries.get(index) {
+            Some(from) => *from,
             None => usize::MAX,
         }
     }
@@ -116,14 +99,12 @@ impl<'a> Outline<'a> {
     /// The text at an index of the pool, empty where none is there.
     pub fn text(&self, index: usize) -> &'a [u8] {
         let from = self.entry(index);
-        if byte(self.file, from) != 1 {
+        if number_at(self.file, from, 1) != 1 {
             return b"";
         }
-        let size = number_at(self.file, from.saturating_add(1), 2);
         let start = from.saturating_add(3);
-        self.file
-            .get(start..start.saturating_add(size))
-            .unwrap_or(b"")
+        let end = start.saturating_add(number_at(self.file, from.saturating_add(1), 2));
+        self.file.get(start..end).unwrap_or(b"")
     }
 
     /// Passes an attribute of a member, and marks the code in it, where it is a Code (JVMS 4.7.3).
@@ -133,16 +114,17 @@ impl<'a> Outline<'a> {
             self.mark(Spot::Code, 14);
             self.mark(member, self.ahead(10, 4).saturating_add(14));
         }
-        self.at = self.at.saturating_add(self.ahead(2, 4).saturating_add(6));
+        self.next = self.next.saturating_add(self.ahead(2, 4).saturating_add(6));
     }
 
     /// Marks a member, with its flags, its name, its descriptor and its attributes.
     fn mark_member(&mut self, member: Spot) {
-        self.name = self.ahead(2, 2);
-        self.desc = self.ahead(4, 2);
+        if self.mark(member, 0) {
+            self.name = self.ahead(2, 2);
+            self.desc = self.ahead(4, 2);
+        }
         let count = self.ahead(6, 2);
-        self.mark(member, 0);
-        self.at = self.at.saturating_add(8);
+        self.next = self.next.saturating_add(8);
         for _ in 0..count {
             self.mark_attribute(member);
         }
@@ -150,63 +132,35 @@ impl<'a> Outline<'a> {
 
     fn mark_members(&mut self, member: Spot) {
         let count = self.ahead(0, 2);
-        self.at = self.at.saturating_add(2);
-        for number in 0..count {
-            self.number = number;
+        self.next = self.next.saturating_add(2);
+        for _ in 0..count {
             self.mark_member(member);
         }
     }
 
-    /// The outline of a file: its parts are marked behind one another. Where memory runs out nothing is said.
-    pub fn of(file: &'a [u8], said: &mut Said) -> Outline<'a> {
+    /// A file's outline, with the part in which a byte stands. Where memory runs out nothing is said.
+    pub fn of(file: &'a [u8], sought: usize, said: &mut Said) -> Outline<'a> {
         let mut outline = Outline {
             file,
-            parts: Vec::new(said.alloc),
-            is_lost: false,
-            at: 0,
-            number: 0,
+            entries: Vec::new(said.alloc),
+            next: 10,
+            sought,
+            spot: Spot::Head,
+            from: 0,
             name: 0,
             desc: 0,
+            is_lost: false,
         };
-        outline.mark(Spot::Head, 0);
-        outline.at = 10;
         outline.mark_pool(number_at(file, 8, 2));
         outline.mark(Spot::Class, 0);
         let faces = outline.ahead(6, 2).saturating_mul(2);
-        outline.at = outline.at.saturating_add(faces).saturating_add(8);
+        outline.next = outline.next.saturating_add(faces).saturating_add(8);
         outline.mark_members(Spot::Field);
         outline.mark_members(Spot::Method);
         outline.mark(Spot::Behind, 0);
-        said.lost = said.lost || outline.is_lost;
+        if outline.is_lost {
+            said.lose();
+        }
         outline
-    }
-
-    /// The part in which a byte stands.
-    pub fn part_at(&self, at: usize) -> Part {
-        let mut found = Part {
-            spot: Spot::Head,
-            from: 0,
-            number: 0,
-            name: 0,
-            desc: 0,
-        };
-        for part in self.parts.as_slice() {
-            if part.from <= at {
-                found = *part;
-            }
-        }
-        found
-    }
-
-    /// The opcode at a byte of the code of the method of a number, 255 where none is there.
-    pub fn opcode_at(&self, method: u32, at: u32) -> u8 {
-        for part in self.parts.as_slice() {
-            if let Spot::Code = part.spot
-                && part.number == method as usize
-            {
-                return byte(self.file, part.from.saturating_add(at as usize));
-            }
-        }
-        255
     }
 }

@@ -1,19 +1,16 @@
 use crate::said::Said;
-use jground::jbase::Stop;
-use jground::jtext::Units;
-use jpolicy::{PolicyFault, read_policy};
+use jpolicy::PolicyFault;
+use jstages::policy_fault;
 
 /// The longest front of a policy of which is tried what could stand behind it.
 const MOST_TRIED: usize = 1_000_000;
 
-/// A word that is none of a policy's own.
-const ANY: &str = "any_word";
+/// What is tried, in this order: marks, a string, any word, and a policy's own words.
+const TOKENS: &str =
+    ";|}|{|,|*|\"text\"|a word|grant|permission|codeBase|signedBy|principal|keystore|keystorePasswordURL";
 
-/// A policy's own words.
-const WORDS: &str = "grant permission codeBase signedBy principal keystore keystorePasswordURL";
-
-/// What else may stand in a policy.
-const MARKS: &str = "; } { , * \"text\"";
+/// What stands for any word. Where it may stand, so may each of a policy's own.
+const ANY: &str = "a word";
 
 // ---- the place
 
@@ -30,8 +27,8 @@ fn say_place(path: &str, front: &[u8], said: &mut Said) {
         }
     }
     said.text(path);
-    said.number(", line ", line, "");
-    said.number(", column ", column, ": ");
+    said.number(b", line ", line, b"");
+    said.number(b", column ", column, b": ");
 }
 
 /// The size of the token at the front of a text, 0 at its end: a string goes as far as its line does, and another token is a word or one
@@ -64,89 +61,80 @@ fn token_size(text: &[u8]) -> usize {
 // ---- what may stand there
 
 /// Whether a token may stand behind a policy's front, which ends with a space: then its first fault, if it has any, isn't at that token.
-fn may_stand(front: &mut Vec<u8>, token: &str, props: &[(Units, Units)], said: &mut Said) -> bool {
+fn may_stand(front: &mut Vec<u8>, token: &str, said: &mut Said) -> bool {
     let at = front.len();
     if front.extend_from_slice(token.as_bytes()).is_err() || 0x7fff_ffff < front.len() {
-        said.lost = true;
+        said.lose();
         return false;
     }
-    let is_good = match read_policy(said.alloc, front, props) {
-        Ok(_) => true,
-        Err(Stop::Fault(fault)) => fault.at as usize != at,
-        Err(Stop::Memory) => {
-            said.lost = true;
+    let fault = policy_fault(said.alloc, front);
+    front.truncate(at);
+    match fault {
+        Ok(Some(place)) => place as usize != at,
+        Ok(None) => true,
+        Err(_) => {
+            said.lose();
             false
         }
-    };
-    front.truncate(at);
-    is_good
+    }
 }
 
-/// Says which of some tokens may stand behind a policy's front.
-fn say_those(front: &mut Vec<u8>, tokens: &str, props: &[(Units, Units)], said: &mut Said) {
-    for token in tokens.split(' ') {
-        if may_stand(front, token, props, said) {
-            said.words(" ");
-            said.words(token);
+/// Says what may stand behind a policy's front, which ends with a space.
+fn say_those(front: &mut Vec<u8>, said: &mut Said) {
+    for token in TOKENS.split('|') {
+        if may_stand(front, token, said) {
+            said.words(b" ");
+            said.told(token);
+            if token == ANY {
+                return;
+            }
         }
     }
 }
 
 /// Says what may stand behind the front of a policy.
-fn say_allowed(front: &[u8], props: &[(Units, Units)], said: &mut Said) {
-    said.words("; what may stand there:");
+fn say_allowed(front: &[u8], said: &mut Said) {
+    said.words(b"; what may stand there:");
     let mut tried = Vec::new(said.alloc);
     if tried.extend_from_slice(front).is_err() || tried.push(b' ').is_err() {
-        said.lost = true;
+        said.lose();
     }
-    say_those(&mut tried, MARKS, props, said);
-    if may_stand(&mut tried, ANY, props, said) {
-        said.words(" a word");
-    } else {
-        say_those(&mut tried, WORDS, props, said);
-    }
+    say_those(&mut tried, said);
 }
 
 /// Says what is wrong with the token at the front of a text.
 fn say_token(text: &[u8], said: &mut Said) {
     let token = text.get(..token_size(text)).unwrap_or(text);
     if token.is_empty() {
-        said.words("the text ends there");
+        said.words(b"the text ends there");
         return;
     }
-    said.words("`");
+    said.words(b"`");
     said.text(str::from_utf8(token).unwrap_or(".."));
     if token.starts_with(b"/*") {
-        said.words("` begins a comment that isn't closed");
+        said.words(b"` begins a comment that isn't closed");
     } else if token.starts_with(b"\"") && (token.len() == 1 || !token.ends_with(b"\"")) {
-        said.words("` is a string that its line doesn't end");
+        said.words(b"` is a string that its line doesn't end");
     } else {
-        said.words("` isn't allowed there");
+        said.words(b"` isn't allowed there");
     }
 }
 
 /// Says of a policy's text what is wrong at its byte of a number, and what may stand there.
-pub fn say_policy(
-    path: &str,
-    text: &[u8],
-    at: u32,
-    kind: PolicyFault,
-    props: &[(Units, Units)],
-    said: &mut Said,
-) {
+pub fn say_policy(path: &str, text: &[u8], at: u32, kind: PolicyFault, said: &mut Said) {
     let Some((front, rest)) = text.split_at_checked(at as usize) else {
         return;
     };
     say_place(path, front, said);
     match kind {
-        PolicyFault::NotUtf8 => said.words("the bytes there are no UTF-8"),
+        PolicyFault::NotUtf8 => said.words(b"the bytes there are no UTF-8"),
         PolicyFault::SelfExpansion => {
-            said.words("`${{..}}` isn't read here: write what it stands for");
+            said.words(b"`${{..}}` isn't read here: write what it stands for");
         }
         PolicyFault::Syntax => {
             say_token(rest, said);
             if front.len() <= MOST_TRIED {
-                say_allowed(front, props, said);
+                say_allowed(front, said);
             }
         }
     }

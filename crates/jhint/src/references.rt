@@ -2,7 +2,7 @@ ghost use Rattle.jprogram.specs.Layers.{IsLayered};
 
 use crate::said::Said;
 use crate::scene::{Scene, Told};
-use jparts::jcode::{FieldOp, Handler, NewOp, Op, Placed};
+use jparts::jcode::{FieldOp, Ldc, NewOp, Op, Placed};
 use jparts::jpool::{Entry, Pool};
 use jprogram::{LinkKind, class_text, member_desc, text_at, this_name};
 use std::alloc::Global;
@@ -26,23 +26,26 @@ pub struct Named {
     pub desc: u16,
 }
 
-/// Says a member between words: its class, and its name and descriptor.
-pub fn say_named(front: &str, pool: &Pool, one: Named, end: &str, said: &mut Said) {
-    let mark = match one.sort {
-        Sort::Field => " ",
-        _ => "",
-    };
-    said.name(front, class_text(pool, one.class), ".");
-    said.name("", text_at(pool, one.name), mark);
-    said.name("", text_at(pool, one.desc), end);
+/// Says a member: its class, its name and its descriptor.
+pub fn say_named(pool: &Pool, one: Named, said: &mut Said) {
+    said.name(class_text(pool, one.class));
+    said.words(b".");
+    said.name(text_at(pool, one.name));
+    if let Sort::Field = one.sort {
+        said.words(b" ");
+    }
+    said.name(text_at(pool, one.desc));
 }
 
 // ---- what code names
 
-/// The entry of the pool that an instruction names, where it is a class or a member, else 0.
+/// The entry of the pool that an instruction names, else 0.
 pub fn index_of(op: &Op) -> u16 {
     match op {
-        Op::Field(_, i)
+        Op::Ldc(Ldc::Narrow(i)) => u16::from(*i),
+        Op::Ldc(Ldc::Wide(i))
+        | Op::Ldc2(i)
+        | Op::Field(_, i)
         | Op::Call(_, i)
         | Op::CallInterface(i, _)
         | Op::New(NewOp::Object(i) | NewOp::RefArray(i))
@@ -70,83 +73,78 @@ pub fn named_at(pool: &Pool, i: u16) -> Named {
 
 // ---- classes
 
-/// Whether a class's name breaks a rule of a kind.
-fn is_bad(scene: Scene<'_>, kind: LinkKind, name: &[u8]) -> bool {
-    match kind {
-        LinkKind::NoClass => !name.is_empty() && !scene.has(name),
-        LinkKind::NotAccessible => {
-            scene.has(name) && !scene.program.may_name(this_name(scene.class), name)
-        }
-        _ => false,
-    }
+/// The search among the classes that a member names for the first that breaks a rule: that isn't there, or may not be named from there.
+#[derive(Drop)]
+struct Search<'a> {
+    scene: Scene<'a>,
+    kind: LinkKind,
+    /// The class, empty where none was met yet.
+    found: &'a [u8],
 }
 
-/// The first class of a descriptor that breaks a rule, empty where none does.
-fn bad_in_desc<'a>(scene: Scene<'a>, kind: LinkKind, text: &'a [u8]) -> &'a [u8] {
-    let outside = text.len();
-    let mut start = outside;
-    for (at, byte) in text.iter().enumerate() {
-        if *byte == b'L' && start == outside {
-            start = at.saturating_add(1);
-        }
-        if *byte == b';' {
-            let name = text.get(start..at).unwrap_or(b"");
-            if is_bad(scene, kind, name) {
-                return name;
+impl<'a> Search<'a> {
+    /// Meets a class.
+    fn meet(&mut self, name: &'a [u8]) {
+        let program = self.scene.program;
+        let is_there = program.class_of(name).is_some();
+        let is_bad = match self.kind {
+            LinkKind::NoClass => !is_there,
+            LinkKind::NotAccessible => {
+                is_there && !program.may_name(this_name(self.scene.class), name)
             }
-            start = outside;
+            _ => false,
+        };
+        if is_bad && self.found.is_empty() {
+            self.found = name;
         }
     }
-    b""
-}
 
-/// The first class that an entry of the pool names and that breaks a rule, empty where none does: itself or the one of an array's items, and
-/// for a member its class or one of its descriptor.
-fn bad_at<'a>(scene: Scene<'a>, kind: LinkKind, i: u16) -> &'a [u8] {
-    let pool = &scene.class.pool;
-    let one = named_at(pool, i);
-    let name = class_text(pool, one.class);
-    if !name.starts_with(b"[") && is_bad(scene, kind, name) {
-        return name;
-    }
-    let found = bad_in_desc(scene, kind, name);
-    if !found.is_empty() {
-        return found;
-    }
-    bad_in_desc(scene, kind, text_at(pool, one.desc))
-}
-
-fn bad_in_ops<'a>(scene: Scene<'a>, kind: LinkKind, ops: &[Placed]) -> &'a [u8] {
-    for one in ops {
-        let found = bad_at(scene, kind, index_of(&one.op));
-        if !found.is_empty() {
-            return found;
+    /// Meets the classes of a descriptor.
+    fn meet_desc(&mut self, text: &'a [u8]) {
+        let mut start: usize = 0;
+        let mut in_name = false;
+        for (at, byte) in text.iter().enumerate() {
+            if *byte == b'L' && !in_name {
+                start = at.saturating_add(1);
+                in_name = true;
+            }
+            if *byte == b';' {
+                self.meet(text.get(start..at).unwrap_or(b""));
+                in_name = false;
+            }
         }
     }
-    b""
-}
 
-fn bad_in_handlers<'a>(scene: Scene<'a>, kind: LinkKind, handlers: &[Handler]) -> &'a [u8] {
-    for one in handlers {
-        let found = bad_at(scene, kind, one.class);
-        if !found.is_empty() {
-            return found;
+    /// Meets the classes that an entry of the pool names: itself or the one of an array's items, and for a member its class and those of its
+    /// descriptor.
+    fn meet_entry(&mut self, i: u16) {
+        let pool = &self.scene.class.pool;
+        let one = named_at(pool, i);
+        let name = class_text(pool, one.class);
+        if name.starts_with(b"[") {
+            self.meet_desc(name);
+        } else {
+            self.meet(name);
         }
+        self.meet_desc(text_at(pool, one.desc));
     }
-    b""
 }
 
-/// The first class that a member names and that breaks a rule: that isn't there, or may not be named from there. Empty where there is none.
+/// The first class that a member names and that breaks a rule. Empty where there is none.
 pub fn bad_class<'a>(scene: Scene<'a>, kind: LinkKind, told: Told<'a>) -> &'a [u8] {
-    let in_desc = bad_in_desc(scene, kind, member_desc(scene.class, told.info));
-    if !in_desc.is_empty() {
-        return in_desc;
+    let mut search = Search {
+        scene,
+        kind,
+        found: b"",
+    };
+    search.meet_desc(member_desc(scene.class, told.info));
+    for one in told.code.ops {
+        search.meet_entry(index_of(&one.op));
     }
-    let in_ops = bad_in_ops(scene, kind, told.code.ops);
-    if !in_ops.is_empty() {
-        return in_ops;
+    for one in told.code.handlers {
+        search.meet_entry(one.class);
     }
-    bad_in_handlers(scene, kind, told.code.handlers)
+    search.found
 }
 
 // ---- members

@@ -1,8 +1,8 @@
-ghost use Rattle.std.specs.Prelude.{◌<◌};
+ghost use Rattle.std.specs.Prelude.{Some};
 
 use jground::jbase::Stop;
 use jground::jtext::{Units, units_of};
-use jrights::jio::{Sink, put_all};
+use jrights::jio::{Sink, SinkError, put_all, write_line_text};
 use std::alloc::Global;
 
 /// The most units of a text that are told.
@@ -13,19 +13,24 @@ const MOST_UNITS: usize = 200;
 pub struct Said {
     pub alloc: Global,
     line: Vec<u8>,
-    /// No memory was left: nothing is to be said.
-    pub lost: bool,
+    /// How often no memory was left. Then nothing is to be said.
+    faults: u64,
     /// It says of what it is alone, and nothing of that. Then nothing is to be said either.
     pub open: bool,
 }
 
-fn hex_digit(value: u16) -> u8
-    requires { value < 16 }
-{
-    if value < 10 {
-        b'0' + value as u8
-    } else {
-        b'a' + (value as u8 - 10)
+impl Sink for Said {
+    ghost out = { λ s. Some s.line.items };
+
+    ghost faults = { λ s. s.faults };
+
+    /// Puts the piece behind the line's bytes. It fails where no memory is left.
+    fn put(&mut self, piece: &[u8]) -> Result<usize, SinkError> {
+        if self.line.extend_from_slice(piece).is_err() {
+            self.faults = self.faults.saturating_add(1);
+            return Err(SinkError::Failed);
+        }
+        Ok(piece.len())
     }
 }
 
@@ -35,49 +40,36 @@ impl Said {
         let mut said = Said {
             alloc,
             line: Vec::new(alloc),
-            lost: false,
+            faults: 0,
             open: true,
         };
-        said.put(b"javasec: ");
+        let _ = put_all(&mut said, b"javasec: ");
         said
     }
 
-    fn put(&mut self, bytes: &[u8]) {
-        if self.line.extend_from_slice(bytes).is_err() {
-            self.lost = true;
-        }
+    /// Counts that no memory was left.
+    pub fn lose(&mut self) {
+        self.faults = self.faults.saturating_add(1);
     }
 
     /// Words of the program's own.
-    pub fn words(&mut self, words: &str) {
-        self.put(words.as_bytes());
+    pub fn words<const N: usize>(&mut self, words: &[u8; N]) {
+        let _ = put_all(self, words);
         self.open = false;
     }
 
-    fn unit(&mut self, unit: u16) {
-        if unit == 0x5c {
-            self.put(b"\\\\");
-            return;
-        }
-        if 0x20 <= unit && unit <= 0x7e {
-            self.put(&[unit as u8]);
-            return;
-        }
-        let first = hex_digit(unit / 4096);
-        let second = hex_digit(unit / 256 % 16);
-        let third = hex_digit(unit / 16 % 16);
-        let fourth = hex_digit(unit % 16);
-        self.put(&[b'\\', b'u', first, second, third, fourth]);
+    /// Words that were looked for in a table of them, or handed on.
+    pub fn told(&mut self, words: &str) {
+        let _ = put_all(self, words.as_bytes());
+        self.open = false;
     }
 
     /// A text of a file or of the command, as texts are written in lines; of a long one the front.
     pub fn units(&mut self, units: &[u16]) {
-        let told = units.get(..MOST_UNITS).unwrap_or(units);
-        for unit in told {
-            self.unit(*unit);
-        }
-        if told.len() < units.len() {
-            self.put(b"..");
+        let (front, rest) = units.split_at(units.len().min(MOST_UNITS));
+        let _ = write_line_text(self, front);
+        if !rest.is_empty() {
+            let _ = put_all(self, b"..");
         }
     }
 
@@ -85,33 +77,37 @@ impl Said {
     pub fn text(&mut self, text: &str) {
         match Units::from_text(self.alloc, text) {
             Ok(units) => self.units(units.as_slice()),
-            Err(_) => self.lost = true,
+            Err(_) => self.lose(),
         }
     }
 
-    /// The same of a text of a class file, between words; bytes that are no modified UTF-8 aren't told.
-    pub fn name(&mut self, front: &str, bytes: &[u8], end: &str) {
-        self.words(front);
+    /// The same of a text of a class file; bytes that are no modified UTF-8 aren't told.
+    pub fn name(&mut self, bytes: &[u8]) {
+        self.open = false;
         match units_of(self.alloc, bytes) {
             Ok(units) => self.units(units.as_slice()),
             Err(Stop::Fault(_)) => {}
-            Err(Stop::Memory) => self.lost = true,
+            Err(Stop::Memory) => self.lose(),
         }
-        self.words(end);
     }
 
     /// A number between words.
-    pub fn number(&mut self, front: &str, number: u64, end: &str) {
+    pub fn number<const A: usize, const B: usize>(
+        &mut self,
+        front: &[u8; A],
+        number: u64,
+        end: &[u8; B],
+    ) {
         let mut digits = itoa::Buffer::new();
         self.words(front);
-        self.put(digits.format(number).as_bytes());
+        let _ = put_all(self, digits.format(number).as_bytes());
         self.words(end);
     }
 
     /// Writes the line, unless it is lost.
     pub fn send<K: Sink>(&mut self, out: &mut K) {
-        self.put(b"\n");
-        if !self.lost && !self.open {
+        let _ = put_all(self, b"\n");
+        if self.faults == 0 && !self.open {
             let _ = put_all(out, self.line.as_slice());
         }
     }

@@ -2,7 +2,7 @@ ghost use Rattle.std.specs.Prelude.{◌≡◌, true};
 ghost use Rattle.jprogram.specs.Layers.{IsLayered};
 
 use crate::said::Said;
-use jclass::{ClassFile, ClassParts, MemberInfo};
+use jclass::{ClassParts, MemberInfo};
 use jground::jtext::{Units, bytes_of};
 use jmeaning::juses::{CodeRef, code_at};
 use jprogram::{ClassRef, MethodId, NamedProgram, member_desc, member_name, program_laws};
@@ -12,7 +12,6 @@ use std::alloc::Global;
 #[derive(Clone, Copy)]
 pub struct Scene<'a> {
     pub program: &'a NamedProgram,
-    pub file: &'a ClassFile,
     pub class: &'a ClassParts,
     pub number: u32,
 }
@@ -30,7 +29,6 @@ pub fn scene_of<'a>(alloc: Global, program: &'a NamedProgram, name: &Units) -> O
     };
     Some(Scene {
         program,
-        file: &part.class,
         class: part.class.parts(),
         number,
     })
@@ -85,15 +83,15 @@ pub fn member_of<'a>(alloc: Global, scene: Scene<'a>, told: &Units) -> Option<To
 
 /// Says of which class a sentence is, of which member and of which of its bytes, where it is of one.
 pub fn say_place(class: &Units, member: Option<&Units>, at: Option<u32>, said: &mut Said) {
-    said.words("class ");
+    said.words(b"class ");
     said.units(class.as_slice());
     if let Some(member) = member {
-        said.words(", ");
+        said.words(b", ");
         said.units(member.as_slice());
     }
     match at {
-        Some(at) => said.number(" at ", at as u64, ": "),
-        None => said.words(": "),
+        Some(at) => said.number(b" at ", at as u64, b": "),
+        None => said.words(b": "),
     }
     said.open = true;
 }

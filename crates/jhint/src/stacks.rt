@@ -37,21 +37,21 @@ fn say_type(program: &NamedProgram, kind: TypeRef, said: &mut Said) {
     let (element, depth) = match kind {
         TypeRef::Object(class) => (ElementRef::Class(class), 0),
         TypeRef::Array(array) => (array.element, array.depth),
-        _ => return said.words(word_of(kind)),
+        _ => return said.told(word_of(kind)),
     };
     match element {
-        ElementRef::Class(class) => said.name("", program.name_of(class), ""),
-        _ => said.words(item_of(element)),
+        ElementRef::Class(class) => said.name(program.name_of(class)),
+        _ => said.told(item_of(element)),
     }
     for _ in 0..depth {
-        said.words("[]");
+        said.words(b"[]");
     }
 }
 
 /// Says the operands, the newest one last.
 fn say_operands(program: &NamedProgram, kinds: &[TypeRef], said: &mut Said) {
     if kinds.is_empty() {
-        said.words("; the stack is empty");
+        said.words(b"; the stack is empty");
         return;
     }
     let left = kinds.len().saturating_sub(MOST_OPERANDS);
@@ -60,7 +60,7 @@ fn say_operands(program: &NamedProgram, kinds: &[TypeRef], said: &mut Said) {
         mark = "; on the stack: .., ";
     }
     for kind in kinds.get(left..).unwrap_or(kinds) {
-        said.words(mark);
+        said.told(mark);
         say_type(program, *kind, said);
         mark = ", ";
     }
@@ -72,7 +72,7 @@ pub fn say_found(program: &NamedProgram, op: &Op, frame: &FrameRef, said: &mut S
         Form::Local(LocalForm::Move(Access::Load, _, n) | LocalForm::Increment(n, _)) => n,
         _ => return say_operands(program, frame.stack.as_slice(), said),
     };
-    said.number("; local ", n as u64, " is ");
+    said.number(b"; local ", n as u64, b" is ");
     let kind = frame.locals.get(n as usize).unwrap_or(TypeRef::Top);
     say_type(program, kind, said);
 }

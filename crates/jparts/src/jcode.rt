@@ -11,8 +11,8 @@
 //! Proved: `decode` gives exactly the instructions that bytes spell, or the first fault with its place, `BadTarget` at the first branch
 //! that leads to no instruction included; `encode` writes what is read back as the same instructions; `size_at` is the size of an
 //! instruction at a place; `code_laws`: one reading, one spelling, bytes spell code exactly where reading finds no fault, places rise;
-//! `place_of` finds the number of the instruction at a place; `form_of`, `effect_of`, `branch_count`, `branch_at`, `goes_on` are their
-//! definitions; copies are equal.
+//! `place_of` finds the number of the instruction at a place; `opcode_of`, `form_of`, `effect_of`, `branch_count`, `branch_at`, `goes_on`
+//! are their definitions; copies are equal.
 //!
 //! Rooms of class files, linking, checking, the machine's definition, the machine and moving may name it, and tests.
 
@@ -52,5 +52,6 @@ pub use op::{
     Case, Goto, Handler, IntConst, Ldc, LocalOp, LookupSwitch, NewOp, Op, Placed, Switch,
     TableSwitch, Wide,
 };
+pub use opcode::opcode_of;
 pub use pointer::Boxed;
 pub use sizing::size_at;

@@ -1,5 +1,5 @@
 -- What is read of the files that are held: the job, its policy and its class files, each judged before the next is read.
-use Rattle.std.specs.Prelude.{ℕ, ◌-◌, List, [], length, Option, Some, None, Result, Ok}
+use Rattle.std.specs.Prelude.{ℕ, ◌-◌, List, [], length, Option, Some, None, Result, Ok, Err}
 use Rattle.std.specs.Result.{result_map_both}
 use Rattle.jground.specs.jbase.Stops.{◌>>=◌}
 use Rattle.jrights.specs.jio.Held.{File}
@@ -29,6 +29,10 @@ job_read r = result_map_both (λ it. it) (λ line. Refused (BadJob line)) r
 -- the grants that are read, or their refusal at the first fault
 abbrev pub grants_read : Result (List Grant) (At PolicyFault) → Result (List Grant) Stopped
 grants_read r = result_map_both (λ grants. grants) (λ fault. Refused (BadPolicy fault.at fault.kind)) r
+
+-- the byte at which the grants that are read have their first fault
+abbrev pub place_of_fault : Result (List Grant) (At PolicyFault) → Option ℕ
+place_of_fault = elim [ Ok grants ↦ None | Err fault ↦ Some fault.at ]
 
 -- the grants of a job's policy, expanded by the job's properties; a job without a policy has none
 abbrev pub grants_of : List File → List (List ℕ × List ℕ) → Option (List ℕ) → Result (List Grant) Stopped

@@ -10,24 +10,28 @@
 //!
 //! Proved: `ground_at` and `parts_at` answer what the files that the shelf holds say, or the refusal, and leave them as they are; a fault of
 //! reading is told only where the shelf counted one, or where a file is missing or too long; what was read are parts that may be linked, each
-//! of them a class file. `linked`, `checked` and `rewritten` answer the program or its refusal. `named_in` and `linked_in`, for who looks at a
-//! job once more, are proved to leave the shelf as it is, and no more.
+//! of them a class file. `linked`, `checked` and `rewritten` answer the program or its refusal. For who looks at a job once more:
+//! `policy_fault` answers the place of a policy's first fault, and `look_again`, which reads what a refusal is of, is proved to leave the shelf
+//! as it is, and no more.
 //!
 //! Rooms of jobs and the top may name it.
 #![tactic(auto)]
 
+mod again;
 mod checking;
 mod ground;
 mod halt;
 mod linking;
+mod policies;
 mod programs;
 mod reading;
 mod rewriting;
 
+pub use again::{Seen, done_with, look_again};
 pub use checking::checked;
 pub use ground::{ClassPath, Ground, Setting};
 pub use halt::Halt;
 pub use linking::{are_classes, linked, units_in};
-pub use programs::{done_with, done_with_linked, linked_in, named_in};
+pub use policies::policy_fault;
 pub use reading::{ground_at, ground_in, parts_at, read_at, text_in};
 pub use rewriting::rewritten;

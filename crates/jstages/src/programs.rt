@@ -26,7 +26,7 @@ fn parts_in<S: Shelf>(alloc: Global, text: &[u8], shelf: &mut S) -> Result<Seq<C
 }
 
 /// The program of the classes of a job of this text by their names, whether they link or not. None where a file can't be read.
-pub fn named_in<S: Shelf>(
+pub(crate) fn named_in<S: Shelf>(
     alloc: Global,
     text: &[u8],
     side: Side,
@@ -44,7 +44,7 @@ pub fn named_in<S: Shelf>(
 }
 
 /// The program of the classes of a job of this text, where they link. None where a file can't be read.
-pub fn linked_in<S: Shelf>(
+pub(crate) fn linked_in<S: Shelf>(
     alloc: Global,
     text: &[u8],
     side: Side,
@@ -59,14 +59,4 @@ pub fn linked_in<S: Shelf>(
         Ok(parts) => linked(alloc, parts, side).ok(),
         Err(_) => None,
     }
-}
-
-/// Is done with a program. Who had one of a job lets go of it here, so that what it holds is gone through in this crate alone.
-pub fn done_with(program: NamedProgram) {
-    drop(program);
-}
-
-/// The same of one that links.
-pub fn done_with_linked(program: LinkedProgram) {
-    drop(program);
 }

@@ -6,14 +6,16 @@
 //!
 //! Proved: `task_of` answers the task of a command that reads files, or its refusal, over the files that the shelf holds, and leaves them
 //! as they are; a fault of reading is told only where the shelf counted one, or where a file is missing or too long; what was read for
-//! a run are parts that may be linked, each of them a class file. `reads_files` says which commands do, and
-//! `refusal_of` is the refusal alone.
+//! a run are parts that may be linked, each of them a class file. `refused`, for who looks once more at a command that is refused, is proved to
+//! leave the shelf as it is, and no more.
 //!
 //! Rooms of jobs and the top may name it.
 #![tactic(auto)]
 
+mod again;
 mod task;
 mod tasks;
 
+pub use again::refused;
 pub use task::Task;
-pub use tasks::{reads_files, refusal_of, task_of};
+pub use tasks::task_of;

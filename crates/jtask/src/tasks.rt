@@ -35,21 +35,8 @@ use jstages::{
 };
 use std::alloc::Global;
 
-/// Whether a command reads files. The others make theirs.
-pub fn reads_files(command: &Command) -> bool
-    ensures { result ≡ reads command.now }
-{
-    match command {
-        Command::Run { .. }
-        | Command::Check { .. }
-        | Command::Rewrite { .. }
-        | Command::Policy { .. } => true,
-        Command::Gen { .. } => false,
-    }
-}
-
 /// The side against whose library a form is linked and checked.
-fn side_of(form: Form) -> Side
+pub fn side_of(form: Form) -> Side
     ensures { result ≡ side_of form }
 {
     match form {
@@ -452,14 +439,29 @@ pub fn task_of<S: Shelf>(alloc: Global, command: &Command, shelf: &mut S) -> Res
     }
 }
 
-/// The refusal of a command that reads files, where it is refused.
+/// Whether a command reads files. The others make theirs.
+fn reads_files(command: &Command) -> bool
+    ensures { result ≡ reads command.now }
+{
+    match command {
+        Command::Run { .. }
+        | Command::Check { .. }
+        | Command::Rewrite { .. }
+        | Command::Policy { .. } => true,
+        Command::Gen { .. } => false,
+    }
+}
+
+/// The refusal of a command, where it reads files and is refused.
 pub fn refusal_of<S: Shelf>(alloc: Global, command: &Command, shelf: &mut S) -> Option<Refusal>
-    requires { IsTrue (reads command.now) }
     ensures value { (files : List File) → S.held shelf.old ≡ Some files → IfSome result (λ r. task command.now files ≡ Err (Refused r)) }
     ensures held { S.held shelf.new ≡ S.held shelf.old }
     ensures stored { S.write_faults shelf.new ≡ S.write_faults shelf.old }
     ensures later { S.read_faults shelf.old ≤ S.read_faults shelf.new }
 {
+    if !reads_files(command) {
+        return None;
+    }
     match task_of(alloc, command, shelf) {
         Ok(task) => {
             drop(task);

@@ -4,7 +4,7 @@ ghost use Rattle.jparts.specs.ProofNames;
 ghost use Rattle.jparts.specs.jcode.Opcodes.{division_number, head_number, one_number, ref_test_number, return_number, slot_base, two_number};
 ghost use Rattle.jparts.specs.ProofNames.{cast_number, object_number, op_head};
 ghost use Rattle.jparts.specs.declared.jcode.op.Op.TheVariants as ops;
-ghost use Rattle.jparts.specs.jcode.Instructions.{local_parts};
+ghost use Rattle.jparts.specs.jcode.Instructions.{local_parts, parts};
 ghost use Rattle.jparts.specs.declared.jcode.head.Head.TheVariants as heads;
 
 use crate::jcode::head::{BranchHead, ByteHead, Head, IndexHead, OtherHead, Plain};
@@ -301,7 +301,7 @@ fn other_number(head: OtherHead) -> u8
 }
 
 /// The number of an opcode.
-pub fn head_number(head: Head) -> u8
+fn head_number(head: Head) -> u8
     ensures { result ≡ head_number head }
 {
     match head {
@@ -332,7 +332,7 @@ fn switch_head(switch: &Switch) -> Head
 }
 
 /// The opcode of an instruction.
-pub fn op_head(op: &Op) -> Head
+fn op_head(op: &Op) -> Head
     ensures { result ≡ op_head op.now }
 {
     match op {
@@ -372,4 +372,11 @@ pub fn op_head(op: &Op) -> Head
         Op::Cast(op, _) => Head::Index(IndexHead::Cast(*op)),
         Op::Wide(_) => Head::Other(OtherHead::Wide),
     }
+}
+
+/// The number of an instruction's opcode, which is its first byte (JVMS 6.5).
+pub fn opcode_of(op: &Op) -> u8
+    ensures { result ≡ head_number (parts op.now).0 }
+{
+    head_number(op_head(op))
 }

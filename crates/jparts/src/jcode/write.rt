@@ -8,7 +8,7 @@ use crate::jcode::names::{Access, ArrayType, LocalKind};
 use crate::jcode::op::{
     Case, Goto, IntConst, Ldc, LocalOp, LookupSwitch, NewOp, Op, Switch, TableSwitch, Wide,
 };
-use crate::jcode::opcode::{head_number, op_head};
+use crate::jcode::opcode::opcode_of;
 use jground::jbase::Seq;
 use jground::jformat::{
     StateWriter, Writer, put_by, put_each, put_i8, put_i16, put_i32, put_u8, put_u16, put_u32,
@@ -237,6 +237,6 @@ pub fn put_op(alloc: Global, at: u32, op: &Op, out: &mut Seq<u8>) -> Result<(), 
     requires { IsTrue ((instruction at).fits op.now) }
     ensures { OnOk result (out.new ≡ out.old ++ (instruction at).spell op.now) }
 {
-    put_u8(head_number(op_head(op)), out)?;
+    put_u8(opcode_of(op), out)?;
     put_operands(alloc, at, op, out)
 }
