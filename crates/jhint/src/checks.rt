@@ -1,10 +1,10 @@
 use crate::opcodes::name_of;
-use crate::references::{Sort, index_of, named_at, say_named};
+use crate::references::{index_of, named_at, say_named};
 use crate::said::Said;
-use crate::scene::{Scene, Told, member_of, say_place, scene_of};
+use crate::scene::{Scene, member_at, say_place, scene_at};
 use crate::stacks::say_found;
+use jcheck::TypeFault;
 use jground::jnames::{Kind, Kinds};
-use jground::jtext::Units;
 use jlinking::jlink::LinkedProgram;
 use jparts::jcode::{Op, Placed, effect_of, form_of, opcode_of};
 use jprogram::MethodId;
@@ -42,7 +42,7 @@ fn say_kinds(kinds: Kinds, said: &mut Said) {
 fn say_wanted(scene: Scene<'_>, op: &Op, said: &mut Said) {
     let pool = &scene.class.pool;
     let one = named_at(pool, index_of(op));
-    if !matches!(one.sort, Sort::Class) {
+    if one.name != 0 {
         said.words(b" of ");
         say_named(pool, one, said);
     } else if let Some(effect) = effect_of(&form_of(op)) {
@@ -62,29 +62,24 @@ fn say_before(program: &LinkedProgram, m: MethodId, one: &Placed, said: &mut Sai
     said.words(b", or the frame declared there or behind it, doesn't fit: compile anew");
 }
 
-/// Says which instruction of a method it is that isn't well typed, what it takes and what it finds.
-fn say_method(program: &LinkedProgram, scene: Scene<'_>, told: Told<'_>, at: u32, said: &mut Said) {
-    let m = MethodId {
-        class: scene.number,
-        method: told.number,
+/// Says which instruction stands where a method isn't well typed, what it takes and what it finds.
+pub fn say_check(program: &LinkedProgram, fault: TypeFault, said: &mut Said) {
+    let TypeFault::At { class, method, at } = fault else {
+        return;
     };
+    let Some(scene) = scene_at(program.named(), class) else {
+        return;
+    };
+    let Some(told) = member_at(scene, Some(method)) else {
+        return;
+    };
+    say_place(scene, Some(told), Some(at), said);
     for one in told.code.ops {
         if one.at == at {
             said.told(name_of(usize::from(opcode_of(&one.op))));
             say_wanted(scene, &one.op, said);
-            return say_before(program, m, one, said);
+            return say_before(program, MethodId { class, method }, one, said);
         }
     }
     said.words(b"a frame where no instruction begins");
-}
-
-/// Says which instruction stands where a method isn't well typed, what it takes and what it finds.
-pub fn say_check(program: &LinkedProgram, class: &Units, told: &Units, at: u32, said: &mut Said) {
-    say_place(class, Some(told), Some(at), said);
-    let Some(scene) = scene_of(said.alloc, program.named(), class) else {
-        return;
-    };
-    if let Some(told) = member_of(said.alloc, scene, told) {
-        say_method(program, scene, told, at, said);
-    }
 }

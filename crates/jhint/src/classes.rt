@@ -49,7 +49,7 @@ fn meaning_of(kind: ClassFault) -> &'static str {
 }
 
 /// Says the part in which a byte stands.
-fn say_part(outline: &Outline<'_>, at: usize, said: &mut Said) {
+fn say_part(outline: Outline<'_>, at: usize, said: &mut Said) {
     match outline.spot {
         Spot::Head => said.words(b", in its head"),
         Spot::Entry(index) => said.number(b", in pool entry ", index as u64, b""),
@@ -100,8 +100,8 @@ pub fn say_class(path: &str, file: &[u8], at: u32, kind: ClassFault, said: &mut 
         say_version(file, said);
         return;
     }
-    let outline = Outline::of(file, at as usize, said);
-    say_part(&outline, at as usize, said);
+    let outline = Outline::of(file, at as usize);
+    say_part(outline, at as usize, said);
     said.words(b": ");
     said.told(meaning_of(kind));
     say_instruction(file, at as usize, kind, said);

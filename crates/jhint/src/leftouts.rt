@@ -1,4 +1,4 @@
-use crate::references::{Sort, index_of, named_at};
+use crate::references::{index_of, named_at};
 use crate::scene::{Scene, Told};
 use bitflags::Flags;
 use jclass::{Access, MemberInfo};
@@ -69,20 +69,17 @@ fn declared(scene: Scene<'_>, member: &MemberInfo) -> LeftOut {
 /// What of an instruction is left out.
 fn written(pool: &Pool, op: &Op) -> LeftOut {
     let i = index_of(op);
-    if let Op::Ldc(_) | Op::Ldc2(_) = op {
-        return match pool.entry(i) {
-            Some(Entry::Class(_)) => LeftOut::ClassConstant,
-            Some(Entry::Float(_) | Entry::Double(_)) => LeftOut::Floats,
-            _ => LeftOut::Other,
-        };
-    }
     let one = named_at(pool, i);
     let name = class_text(pool, one.class);
-    match one.sort {
-        Sort::Class if name.starts_with(b"[") && has_floats(name) => LeftOut::Floats,
-        Sort::Class => LeftOut::Other,
-        _ if name.starts_with(b"[") => LeftOut::ArrayMember,
-        Sort::InterfaceMethod if matches!(op, Op::Call(_, _)) => LeftOut::InterfaceCall,
+    match pool.entry(i) {
+        Some(Entry::Class(_)) if matches!(op, Op::Ldc(_)) => LeftOut::ClassConstant,
+        Some(Entry::Float(_) | Entry::Double(_)) => LeftOut::Floats,
+        Some(Entry::InterfaceMethod(_, _)) if matches!(op, Op::Call(_, _)) => {
+            LeftOut::InterfaceCall
+        }
+        _ if !name.starts_with(b"[") => LeftOut::Other,
+        _ if one.name != 0 => LeftOut::ArrayMember,
+        _ if has_floats(name) => LeftOut::Floats,
         _ => LeftOut::Other,
     }
 }

@@ -1,7 +1,6 @@
 use crate::said::Said;
-use crate::scene::{Scene, member_of, say_place, scene_of};
-use jground::jtext::Units;
-use jmoveclass::RewriteKind;
+use crate::scene::{Scene, member_at, say_place, scene_at};
+use jmoving::{RewriteError, RewriteKind};
 use jprogram::NamedProgram;
 
 /// The most bytes of a moved method's code.
@@ -45,23 +44,24 @@ fn say_kind(scene: Scene<'_>, kind: RewriteKind, (stack, locals): (u16, u16), sa
     }
 }
 
-/// Says which limit of moving a class breaks, and by how much.
-pub fn say_limit(
-    program: &NamedProgram,
-    name: &Units,
-    member: &Option<Units>,
-    kind: RewriteKind,
-    said: &mut Said,
-) {
-    say_place(name, member.as_ref(), None, said);
-    let Some(scene) = scene_of(said.alloc, program, name) else {
+/// Says which limit of moving a program breaks, by a method of a class or by a class itself, and by how much.
+pub fn say_limit(program: &NamedProgram, error: RewriteError, said: &mut Said) {
+    let RewriteError::At {
+        class,
+        method,
+        kind,
+    } = error
+    else {
         return;
     };
-    let mut maxima = (0, 0);
-    if let Some(member) = member {
-        if let Some(told) = member_of(said.alloc, scene, member) {
-            maxima = (told.code.max_stack, told.code.max_locals);
-        }
-    }
+    let Some(scene) = scene_at(program, class) else {
+        return;
+    };
+    let told = member_at(scene, method);
+    say_place(scene, told, None, said);
+    let maxima = match told {
+        Some(told) => (told.code.max_stack, told.code.max_locals),
+        None => (0, 0),
+    };
     say_kind(scene, kind, maxima, said);
 }

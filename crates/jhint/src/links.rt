@@ -3,11 +3,11 @@ ghost use Rattle.jprogram.specs.Layers.{IsLayered};
 use crate::leftouts::left_out;
 use crate::references::{Named, bad_class, bad_member, say_named};
 use crate::said::Said;
-use crate::scene::{Scene, Told, is_layered, member_of, say_place, scene_of};
-use jground::jtext::Units;
+use crate::scene::{Scene, Told, member_at, say_place, scene_at};
 use jlib::{Side, class, member};
+use jlinking::jlink::LinkError;
 use jparts::jcode::Placed;
-use jprogram::{LinkKind, NamedProgram, class_text, super_name, text_at, this_name};
+use jprogram::{LinkKind, NamedProgram, class_text, program_laws, super_name, text_at, this_name};
 
 // ---- what isn't there
 
@@ -42,7 +42,7 @@ fn bad_face<'a>(scene: Scene<'a>, kind: LinkKind) -> Option<&'a [u8]> {
     for face in scene.class.interfaces.as_slice() {
         let name = class_text(&scene.class.pool, *face);
         let is_good = match kind {
-            LinkKind::NoClass => scene.has(name),
+            LinkKind::NoClass => scene.program.class_of(name).is_some(),
             _ => scene.program.is_interface(name),
         };
         if !is_good {
@@ -58,7 +58,7 @@ fn say_above(scene: Scene<'_>, said: &mut Said) {
         said.words(b"it extends no class");
         return;
     };
-    let missing = if scene.has(above) {
+    let missing = if scene.program.class_of(above).is_some() {
         bad_face(scene, LinkKind::NoClass)
     } else {
         Some(above)
@@ -122,12 +122,17 @@ fn say_bad(scene: Scene<'_>, kind: LinkKind, one: Named, said: &mut Said) {
     }
 }
 
-/// Says which field or method it is that code names, where members can be resolved.
+/// Says which field or method it is that code names, where members can be resolved: no class stands among its own interfaces.
 fn say_used(scene: Scene<'_>, kind: LinkKind, ops: &[Placed], said: &mut Said) {
-    if is_layered(said.alloc, scene.program) {
-        if let Some(one) = bad_member(said.alloc, scene, kind, ops) {
-            say_bad(scene, kind, one, said);
-        }
+    program_laws();
+    let Ok(None) = scene.program.naming_fault(said.alloc) else {
+        return;
+    };
+    let Ok(None) = scene.program.supers_fault(said.alloc) else {
+        return;
+    };
+    if let Some(one) = bad_member(said.alloc, scene, kind, ops) {
+        say_bad(scene, kind, one, said);
     }
 }
 
@@ -161,22 +166,18 @@ fn say_of_member(scene: Scene<'_>, kind: LinkKind, told: Told<'_>, said: &mut Sa
     });
 }
 
-/// Says which rule of linking a class breaks, by a member or by itself.
-pub fn say_link(
-    program: &NamedProgram,
-    name: &Units,
-    member: &Option<Units>,
-    kind: LinkKind,
-    said: &mut Said,
-) {
-    say_place(name, member.as_ref(), None, said);
-    let Some(scene) = scene_of(said.alloc, program, name) else {
+/// Says which rule of linking a program breaks, by a member of a class or by a class itself.
+pub fn say_link(program: &NamedProgram, error: LinkError, said: &mut Said) {
+    let LinkError::At(fault) = error else {
         return;
     };
-    let Some(member) = member else {
-        return say_of_class(scene, kind, said);
+    let Some(scene) = scene_at(program, fault.class) else {
+        return;
     };
-    if let Some(told) = member_of(said.alloc, scene, member) {
-        say_of_member(scene, kind, told, said);
+    let told = member_at(scene, fault.member);
+    say_place(scene, told, None, said);
+    match told {
+        Some(told) => say_of_member(scene, fault.kind, told, said),
+        None => say_of_class(scene, fault.kind, said),
     }
 }

@@ -1,10 +1,12 @@
 use crate::said::Said;
-use crate::scene::scene_of;
 use bitflags::Flags;
 use jclass::{Access, ClassParts, MemberInfo};
-use jground::jtext::Units;
+use jground::jtext::{Units, bytes_of};
 use jlib::Side;
-use jprogram::{NamedProgram, Reach, has_code, member_desc, member_name, reach_of};
+use jprogram::{
+    ClassRef, CodePart, NamedProgram, Reach, has_code, member_desc, member_name, reach_of,
+};
+use std::alloc::Global;
 
 /// Why a method of this name, with a descriptor or another, isn't the one with which a run begins.
 fn reason(method: &MemberInfo, is_wanted: bool) -> &'static str {
@@ -35,11 +37,22 @@ fn say_mains(class: &ClassParts, desc: &[u8], said: &mut Said) {
     }
 }
 
+/// The class of a name.
+fn part_of<'a>(alloc: Global, program: &'a NamedProgram, name: &Units) -> Option<&'a CodePart> {
+    let Ok(bytes) = bytes_of(alloc, name) else {
+        return None;
+    };
+    match program.class_of(&bytes) {
+        Some(ClassRef::User(number)) => program.parts().get(number as usize),
+        _ => None,
+    }
+}
+
 /// Says of a class in which a run is to begin why it can't.
 pub fn say_main(program: &NamedProgram, name: &Units, said: &mut Said) {
     said.words(b"main ");
     said.units(name.as_slice());
-    let Some(scene) = scene_of(said.alloc, program, name) else {
+    let Some(part) = part_of(said.alloc, program, name) else {
         said.words(b": the job has no class of this name, which is written with slashes");
         return;
     };
@@ -53,5 +66,5 @@ pub fn say_main(program: &NamedProgram, name: &Units, said: &mut Said) {
             b"([Ljava/lang/String;Lsps/Ctx;)V".as_slice()
         }
     };
-    say_mains(scene.class, desc, said);
+    say_mains(part.class.parts(), desc, said);
 }

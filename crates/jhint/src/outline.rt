@@ -1,5 +1,3 @@
-use crate::said::Said;
-
 /// The seven bytes of the entry of the pool with the text `Code`: its tag, its size and the letters.
 const CODE: usize = 0x01_0004_436f_6465;
 
@@ -20,13 +18,13 @@ pub enum Spot {
 }
 
 /// A class file (JVMS 4.1), gone through as far as it is laid out so, and its part in which a byte stands.
-#[derive(Drop)]
+#[derive(Clone, Copy)]
 pub struct Outline<'a> {
     file: &'a [u8],
-    /// Where each entry of the pool begins, at its index.
-    entries: Vec<usize>,
     /// Where what isn't gone through yet begins.
     next: usize,
+    /// The index of the last entry of the pool that was passed and has the text `Code`.
+    code: usize,
     /// The byte that is sought.
     sought: usize,
     /// The part in which it stands, and where that begins.
@@ -35,8 +33,6 @@ pub struct Outline<'a> {
     /// The indices of the name and the descriptor of the last field or method that begins no later than it.
     pub name: usize,
     pub desc: usize,
-    /// No memory was left for an entry.
-    is_lost: bool,
 }
 
 /// The number of so many bytes at a place, 0 where they aren't all there.
@@ -65,52 +61,52 @@ impl<'a> Outline<'a> {
         true
     }
 
-    /// Marks the entries of the pool, of which a long or a double takes two indices (JVMS 4.4), and none stands at index 0. An entry with a
-    /// tag that there isn't goes on to the end.
-    fn mark_pool(&mut self, count: usize) {
-        let mut is_none = true;
-        for index in 0..count {
-            self.mark(Spot::Entry(index), 0);
-            let from = if is_none { usize::MAX } else { self.next };
-            self.is_lost |= self.entries.push(from).is_err();
-            let tag = self.ahead(0, 1);
-            let size = match tag {
-                _ if is_none => 0,
-                1 => self.ahead(1, 2).saturating_add(3),
-                5 | 6 => 9,
-                3 | 4 | 9 | 10 | 11 | 12 | 18 => 5,
-                7 | 8 | 16 => 3,
-                15 => 4,
-                _ => usize::MAX,
-            };
-            is_none = !is_none && (tag == 5 || tag == 6);
-            self.next = self.next.saturating_add(size);
+    /// The size of the entry of the pool that stands ahead, by its tag (JVMS 4.4). One with a tag that there isn't goes on to the end.
+    fn entry_size(&self, tag: usize) -> usize {
+        match tag {
+            1 => self.ahead(1, 2).saturating_add(3),
+            5 | 6 => 9,
+            3 | 4 | 9 | 10 | 11 | 12 | 18 => 5,
+            7 | 8 | 16 => 3,
+            15 => 4,
+            _ => usize::MAX,
         }
     }
 
-    /// Where the entry at an index of the pool begins.
-    fn entry(&self, index: usize) -> usize {
-        match self.entries.get(index) {
-            Some(from) => *from,
-            None => usize::MAX,
+    /// Passes the entries of the pool in front of an index, and marks them. None stands at index 0, and a long or a double takes two
+    /// indices (JVMS 4.4.5).
+    fn pass_entries(&mut self, count: usize) {
+        let mut none = 0;
+        self.next = 10;
+        for index in 0..count {
+            if index != none {
+                self.mark(Spot::Entry(index), 0);
+                if self.ahead(0, 7) == CODE {
+                    self.code = index;
+                }
+                let tag = self.ahead(0, 1);
+                if tag == 5 || tag == 6 {
+                    none = index.saturating_add(1);
+                }
+                self.next = self.next.saturating_add(self.entry_size(tag));
+            }
         }
     }
 
     /// The text at an index of the pool, empty where none is there.
-    pub fn text(&self, index: usize) -> &'a [u8] {
-        let from = self.entry(index);
-        if number_at(self.file, from, 1) != 1 {
+    pub fn text(mut self, index: usize) -> &'a [u8] {
+        self.pass_entries(index);
+        if self.ahead(0, 1) != 1 {
             return b"";
         }
-        let start = from.saturating_add(3);
-        let end = start.saturating_add(number_at(self.file, from.saturating_add(1), 2));
+        let start = self.next.saturating_add(3);
+        let end = start.saturating_add(self.ahead(1, 2));
         self.file.get(start..end).unwrap_or(b"")
     }
 
     /// Passes an attribute of a member, and marks the code in it, where it is a Code (JVMS 4.7.3).
     fn mark_attribute(&mut self, member: Spot) {
-        let name = self.entry(self.ahead(0, 2));
-        if number_at(self.file, name, 7) == CODE {
+        if self.ahead(0, 2) == self.code {
             self.mark(Spot::Code, 14);
             self.mark(member, self.ahead(10, 4).saturating_add(14));
         }
@@ -138,29 +134,25 @@ impl<'a> Outline<'a> {
         }
     }
 
-    /// A file's outline, with the part in which a byte stands. Where memory runs out nothing is said.
-    pub fn of(file: &'a [u8], sought: usize, said: &mut Said) -> Outline<'a> {
+    /// A file's outline, with the part in which a byte stands.
+    pub fn of(file: &'a [u8], sought: usize) -> Outline<'a> {
         let mut outline = Outline {
             file,
-            entries: Vec::new(said.alloc),
             next: 10,
+            code: usize::MAX,
             sought,
             spot: Spot::Head,
             from: 0,
             name: 0,
             desc: 0,
-            is_lost: false,
         };
-        outline.mark_pool(number_at(file, 8, 2));
+        outline.pass_entries(number_at(file, 8, 2));
         outline.mark(Spot::Class, 0);
         let faces = outline.ahead(6, 2).saturating_mul(2);
         outline.next = outline.next.saturating_add(faces).saturating_add(8);
         outline.mark_members(Spot::Field);
         outline.mark_members(Spot::Method);
         outline.mark(Spot::Behind, 0);
-        if outline.is_lost {
-            said.lose();
-        }
         outline
     }
 }

@@ -64,7 +64,7 @@ fn token_size(text: &[u8]) -> usize {
 fn may_stand(front: &mut Vec<u8>, token: &str, said: &mut Said) -> bool {
     let at = front.len();
     if front.extend_from_slice(token.as_bytes()).is_err() || 0x7fff_ffff < front.len() {
-        said.lose();
+        said.is_lost = true;
         return false;
     }
     let fault = policy_fault(said.alloc, front);
@@ -73,7 +73,7 @@ fn may_stand(front: &mut Vec<u8>, token: &str, said: &mut Said) -> bool {
         Ok(Some(place)) => place as usize != at,
         Ok(None) => true,
         Err(_) => {
-            said.lose();
+            said.is_lost = true;
             false
         }
     }
@@ -97,7 +97,7 @@ fn say_allowed(front: &[u8], said: &mut Said) {
     said.words(b"; what may stand there:");
     let mut tried = Vec::new(said.alloc);
     if tried.extend_from_slice(front).is_err() || tried.push(b' ').is_err() {
-        said.lose();
+        said.is_lost = true;
     }
     say_those(&mut tried, said);
 }

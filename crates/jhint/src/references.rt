@@ -7,20 +7,9 @@ use jparts::jpool::{Entry, Pool};
 use jprogram::{LinkKind, class_text, member_desc, text_at, this_name};
 use std::alloc::Global;
 
-/// What an entry of the pool is that an instruction names.
-#[derive(Clone, Copy)]
-pub enum Sort {
-    /// A class, or none of the others.
-    Class,
-    Field,
-    Method,
-    InterfaceMethod,
-}
-
 /// What an entry of the pool names, by indices of the pool: a class, or a member of one by its name and descriptor, which else are 0.
 #[derive(Clone, Copy)]
 pub struct Named {
-    pub sort: Sort,
     pub class: u16,
     pub name: u16,
     pub desc: u16,
@@ -28,13 +17,14 @@ pub struct Named {
 
 /// Says a member: its class, its name and its descriptor.
 pub fn say_named(pool: &Pool, one: Named, said: &mut Said) {
+    let desc = text_at(pool, one.desc);
     said.name(class_text(pool, one.class));
     said.words(b".");
     said.name(text_at(pool, one.name));
-    if let Sort::Field = one.sort {
+    if !desc.starts_with(b"(") {
         said.words(b" ");
     }
-    said.name(text_at(pool, one.desc));
+    said.name(desc);
 }
 
 // ---- what code names
@@ -56,25 +46,22 @@ pub fn index_of(op: &Op) -> u16 {
 
 /// What an entry of the pool names.
 pub fn named_at(pool: &Pool, i: u16) -> Named {
-    let (sort, class, both) = match pool.entry(i) {
-        Some(Entry::Field(class, both)) => (Sort::Field, *class, *both),
-        Some(Entry::Method(class, both)) => (Sort::Method, *class, *both),
-        Some(Entry::InterfaceMethod(class, both)) => (Sort::InterfaceMethod, *class, *both),
-        _ => (Sort::Class, i, 0),
+    let (class, both) = match pool.entry(i) {
+        Some(
+            Entry::Field(class, both)
+            | Entry::Method(class, both)
+            | Entry::InterfaceMethod(class, both),
+        ) => (*class, *both),
+        _ => (i, 0),
     };
     let (name, desc) = pool.name_and_type(both).unwrap_or((0, 0));
-    Named {
-        sort,
-        class,
-        name,
-        desc,
-    }
+    Named { class, name, desc }
 }
 
 // ---- classes
 
 /// The search among the classes that a member names for the first that breaks a rule: that isn't there, or may not be named from there.
-#[derive(Drop)]
+#[derive(Clone, Copy)]
 struct Search<'a> {
     scene: Scene<'a>,
     kind: LinkKind,
@@ -86,12 +73,9 @@ impl<'a> Search<'a> {
     /// Meets a class.
     fn meet(&mut self, name: &'a [u8]) {
         let program = self.scene.program;
-        let is_there = program.class_of(name).is_some();
         let is_bad = match self.kind {
-            LinkKind::NoClass => !is_there,
-            LinkKind::NotAccessible => {
-                is_there && !program.may_name(this_name(self.scene.class), name)
-            }
+            LinkKind::NoClass => program.class_of(name).is_none(),
+            LinkKind::NotAccessible => !program.may_name(this_name(self.scene.class), name),
             _ => false,
         };
         if is_bad && self.found.is_empty() {
@@ -160,12 +144,14 @@ fn breaks(alloc: Global, scene: Scene<'_>, kind: LinkKind, op: &Op, i: u16) -> b
     let Some(member) = found else {
         return matches!(kind, LinkKind::NoMember);
     };
+    let LinkKind::NotAccessible = kind else {
+        return false;
+    };
     let from = this_name(scene.class);
-    match (kind, op) {
-        (LinkKind::NotAccessible, Op::Field(FieldOp::PutStatic | FieldOp::PutField, _))
+    match op {
+        Op::Field(FieldOp::PutStatic | FieldOp::PutField, _)
             if program.is_final(member) && program.owner_of(member) != from => { true }
-        (LinkKind::NotAccessible, _) => !program.may_use(from, member),
-        _ => false,
+        _ => !program.may_use(from, member),
     }
 }
 
@@ -176,7 +162,7 @@ pub fn bad_member(alloc: Global, scene: Scene<'_>, kind: LinkKind, ops: &[Placed
     for placed in ops {
         let i = index_of(&placed.op);
         let one = named_at(&scene.class.pool, i);
-        if !matches!(one.sort, Sort::Class) && breaks(alloc, scene, kind, &placed.op, i) {
+        if one.name != 0 && breaks(alloc, scene, kind, &placed.op, i) {
             return Some(one);
         }
     }

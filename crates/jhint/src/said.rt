@@ -13,8 +13,10 @@ const MOST_UNITS: usize = 200;
 pub struct Said {
     pub alloc: Global,
     line: Vec<u8>,
-    /// How often no memory was left. Then nothing is to be said.
+    /// How often no memory was left for a piece. Then nothing is to be said.
     faults: u64,
+    /// No memory was left for something else that is needed for it. Then nothing is to be said either.
+    pub is_lost: bool,
     /// It says of what it is alone, and nothing of that. Then nothing is to be said either.
     pub open: bool,
 }
@@ -41,15 +43,11 @@ impl Said {
             alloc,
             line: Vec::new(alloc),
             faults: 0,
+            is_lost: false,
             open: true,
         };
         let _ = put_all(&mut said, b"javasec: ");
         said
-    }
-
-    /// Counts that no memory was left.
-    pub fn lose(&mut self) {
-        self.faults = self.faults.saturating_add(1);
     }
 
     /// Words of the program's own.
@@ -77,7 +75,7 @@ impl Said {
     pub fn text(&mut self, text: &str) {
         match Units::from_text(self.alloc, text) {
             Ok(units) => self.units(units.as_slice()),
-            Err(_) => self.lose(),
+            Err(_) => self.is_lost = true,
         }
     }
 
@@ -87,7 +85,7 @@ impl Said {
         match units_of(self.alloc, bytes) {
             Ok(units) => self.units(units.as_slice()),
             Err(Stop::Fault(_)) => {}
-            Err(Stop::Memory) => self.lose(),
+            Err(Stop::Memory) => self.is_lost = true,
         }
     }
 
@@ -107,7 +105,7 @@ impl Said {
     /// Writes the line, unless it is lost.
     pub fn send<K: Sink>(&mut self, out: &mut K) {
         let _ = put_all(self, b"\n");
-        if self.faults == 0 && !self.open {
+        if self.faults == 0 && !self.is_lost && !self.open {
             let _ = put_all(out, self.line.as_slice());
         }
     }

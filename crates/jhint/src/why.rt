@@ -8,30 +8,10 @@ use crate::links::say_link;
 use crate::mains::say_main;
 use crate::policies::say_policy;
 use crate::said::Said;
-use jprogram::NamedProgram;
 use jrights::jio::{Shelf, Sink};
-use jshow::Refusal;
 use jstages::{Seen, done_with};
 use jtask::refused;
 use std::alloc::Global;
-
-/// Says why the classes of a job make no program, or can't be run or moved.
-fn say_of_program(program: &NamedProgram, refusal: &Refusal, said: &mut Said) {
-    match refusal {
-        Refusal::BadLink {
-            class,
-            member,
-            kind,
-        } => say_link(program, class, member, *kind, said),
-        Refusal::BadRewrite {
-            class,
-            member,
-            kind,
-        } => say_limit(program, class, member, *kind, said),
-        Refusal::NoMain(name) => say_main(program, name, said),
-        _ => {}
-    }
-}
 
 /// Says why a command is refused, by what was seen of its files.
 fn say_seen(seen: &Seen, said: &mut Said) {
@@ -49,13 +29,10 @@ fn say_seen(seen: &Seen, said: &mut Said) {
             at,
             kind,
         } => say_class(path.as_str(), bytes, *at, *kind, said),
-        Seen::Program { program, refusal } => say_of_program(program, refusal, said),
-        Seen::Linked {
-            program,
-            class,
-            member,
-            at,
-        } => say_check(program, class, member, *at, said),
+        Seen::Unlinked { program, error } => say_link(program, *error, said),
+        Seen::NoMain { program, name } => say_main(program, name, said),
+        Seen::Untyped { program, fault } => say_check(program, *fault, said),
+        Seen::Unmoved { program, error } => say_limit(program.linked().named(), *error, said),
     }
 }
 

@@ -1,14 +1,18 @@
-ghost use Rattle.std.specs.Prelude.{◌≡◌, ◌≤◌, ◌<◌, ◌^◌, length};
+ghost use Rattle.std.specs.Prelude.{◌≡◌, ◌≤◌, ◌<◌, ◌^◌, IfSome, length};
+ghost use Rattle.jlib.specs.declared.side.Side.TheVariants as sides;
+ghost use Rattle.jlinking.specs.jlink.Links.{AreParts};
 
 use crate::policies::policy_path;
-use crate::programs::{linked_in, named_in};
+use crate::programs::parts_in;
+use jcheck::{CheckedProgram, TypeFault, check};
 use jclass::ClassFault;
 use jground::jtext::Units;
 use jjob::Text;
 use jlib::Side;
-use jlinking::jlink::LinkedProgram;
+use jlinking::jlink::{LinkError, LinkedProgram, link, link_or_return};
+use jmoving::{RewriteError, rewrite};
 use jpolicy::PolicyFault;
-use jprogram::NamedProgram;
+use jprogram::{CodePart, NamedProgram};
 use jrights::jio::Shelf;
 use jshow::Refusal;
 use std::alloc::Global;
@@ -36,19 +40,29 @@ pub enum Seen {
         at: u32,
         kind: ClassFault,
     },
-    /// Classes by their names, which make no program, can't be run or can't be moved.
-    Program {
+    /// Classes by their names, and why they make no program.
+    Unlinked {
         program: NamedProgram,
-        refusal: Refusal,
+        error: LinkError,
     },
-    /// A program that links, and the place at which it isn't well typed.
-    Linked {
+    /// Classes by their names, of which none of this name has a `main`.
+    NoMain {
+        program: NamedProgram,
+        name: Units,
+    },
+    /// A program that links, and why it isn't accepted.
+    Untyped {
         program: LinkedProgram,
-        class: Units,
-        member: Units,
-        at: u32,
+        fault: TypeFault,
+    },
+    /// A program that is accepted, and why it isn't moved.
+    Unmoved {
+        program: CheckedProgram,
+        error: RewriteError,
     },
 }
+
+// ---- files
 
 fn policy_seen<S: Shelf>(
     alloc: Global,
@@ -76,7 +90,7 @@ fn policy_seen<S: Shelf>(
 
 fn class_seen<S: Shelf>(
     alloc: Global,
-    path: Text,
+    path: &str,
     at: u32,
     kind: ClassFault,
     shelf: &mut S,
@@ -85,8 +99,11 @@ fn class_seen<S: Shelf>(
     ensures stored { S.write_faults shelf.new ≡ S.write_faults shelf.old }
     ensures later { S.read_faults shelf.old ≤ S.read_faults shelf.new }
 {
-    match shelf.read(alloc, path.as_str()) {
-        Ok(bytes) => Some(Seen::Class {
+    let Ok(bytes) = shelf.read(alloc, path) else {
+        return None;
+    };
+    match Text::from_str(alloc, path) {
+        Ok(path) => Some(Seen::Class {
             path,
             bytes,
             at,
@@ -96,11 +113,73 @@ fn class_seen<S: Shelf>(
     }
 }
 
-fn program_seen<S: Shelf>(
+// ---- programs
+
+fn unlinked(alloc: Global, parts: Vec<CodePart>, side: Side) -> Option<Seen>
+    requires { AreParts parts.items }
+{
+    let (parts, error) = link_or_return(alloc, parts, side).err()?;
+    let program = NamedProgram::of(alloc, parts, side).ok()?;
+    Some(Seen::Unlinked { program, error })
+}
+
+fn no_main(alloc: Global, parts: Vec<CodePart>, side: Side, name: &Units) -> Option<Seen>
+    requires { AreParts parts.items }
+{
+    let program = NamedProgram::of(alloc, parts, side).ok()?;
+    match name.copy(alloc) {
+        Ok(name) => Some(Seen::NoMain { program, name }),
+        Err(_) => None,
+    }
+}
+
+fn untyped(alloc: Global, parts: Vec<CodePart>, side: Side) -> Option<Seen>
+    requires { AreParts parts.items }
+{
+    let program = link(alloc, parts, side).ok()?;
+    let (program, fault) = check(alloc, program).err()?;
+    Some(Seen::Untyped { program, fault })
+}
+
+/// A program of the source side, where it is accepted.
+fn accepted(alloc: Global, parts: Vec<CodePart>) -> Option<CheckedProgram>
+    requires { AreParts parts.items }
+    ensures { IfSome result (λ p. p.side ≡ sides.Source) }
+{
+    let program = link(alloc, parts, Side::Source).ok()?;
+    check(alloc, program).ok()
+}
+
+fn unmoved(alloc: Global, parts: Vec<CodePart>) -> Option<Seen>
+    requires { AreParts parts.items }
+{
+    let program = accepted(alloc, parts)?;
+    match rewrite(alloc, &program).err() {
+        Some(error) => Some(Seen::Unmoved { program, error }),
+        None => None,
+    }
+}
+
+/// The program that parts make, and why it is refused.
+fn program_seen(alloc: Global, parts: Vec<CodePart>, side: Side, refusal: &Refusal) -> Option<Seen>
+    requires { AreParts parts.items }
+{
+    match refusal {
+        Refusal::BadLink { .. } => unlinked(alloc, parts, side),
+        Refusal::BadCheck { .. } => untyped(alloc, parts, side),
+        Refusal::BadRewrite { .. } => unmoved(alloc, parts),
+        Refusal::NoMain(name) => no_main(alloc, parts, side, name),
+        _ => None,
+    }
+}
+
+// ---- jobs
+
+fn parts_seen<S: Shelf>(
     alloc: Global,
     text: &[u8],
     side: Side,
-    refusal: Refusal,
+    refusal: &Refusal,
     shelf: &mut S,
 ) -> Option<Seen>
     requires { length text.now < 2 ^ 31 }
@@ -108,8 +187,10 @@ fn program_seen<S: Shelf>(
     ensures stored { S.write_faults shelf.new ≡ S.write_faults shelf.old }
     ensures later { S.read_faults shelf.old ≤ S.read_faults shelf.new }
 {
-    let program = named_in(alloc, text, side, shelf)?;
-    Some(Seen::Program { program, refusal })
+    match parts_in(alloc, text, shelf) {
+        Some(parts) => program_seen(alloc, parts.into_vec(), side, refusal),
+        None => None,
+    }
 }
 
 /// The refusal of a job of this text.
@@ -117,7 +198,7 @@ fn seen_in<S: Shelf>(
     alloc: Global,
     text: &[u8],
     side: Side,
-    refusal: Refusal,
+    refusal: &Refusal,
     shelf: &mut S,
 ) -> Option<Seen>
     requires { length text.now < 2 ^ 31 }
@@ -126,18 +207,9 @@ fn seen_in<S: Shelf>(
     ensures later { S.read_faults shelf.old ≤ S.read_faults shelf.new }
 {
     match refusal {
-        Refusal::BadPolicy { at, kind } => policy_seen(alloc, text, at, kind, shelf),
-        Refusal::BadClass { path, at, kind } => class_seen(alloc, path, at, kind, shelf),
-        Refusal::BadCheck { class, member, at } => {
-            let program = linked_in(alloc, text, side, shelf)?;
-            Some(Seen::Linked {
-                program,
-                class,
-                member,
-                at,
-            })
-        }
-        other => program_seen(alloc, text, side, other, shelf),
+        Refusal::BadPolicy { at, kind } => policy_seen(alloc, text, *at, *kind, shelf),
+        Refusal::BadClass { path, at, kind } => class_seen(alloc, path.as_str(), *at, *kind, shelf),
+        _ => parts_seen(alloc, text, side, refusal, shelf),
     }
 }
 
@@ -154,7 +226,7 @@ pub fn look_again<S: Shelf>(
     alloc: Global,
     path: &str,
     side: Side,
-    refusal: Refusal,
+    refusal: &Refusal,
     shelf: &mut S,
 ) -> Option<Seen>
     ensures held { S.held shelf.new ≡ S.held shelf.old }
@@ -165,7 +237,7 @@ pub fn look_again<S: Shelf>(
         return None;
     };
     if let Refusal::BadJob { line } = refusal {
-        return job_seen(alloc, path, text, line);
+        return job_seen(alloc, path, text, *line);
     }
     seen_in(alloc, &text, side, refusal, shelf)
 }

@@ -11,8 +11,8 @@
 //! Proved: `ground_at` and `parts_at` answer what the files that the shelf holds say, or the refusal, and leave them as they are; a fault of
 //! reading is told only where the shelf counted one, or where a file is missing or too long; what was read are parts that may be linked, each
 //! of them a class file. `linked`, `checked` and `rewritten` answer the program or its refusal. For who looks at a job once more:
-//! `policy_fault` answers the place of a policy's first fault, and `look_again`, which reads what a refusal is of, is proved to leave the shelf
-//! as it is, and no more.
+//! `policy_fault` answers the place of a policy's first fault, and `look_again`, which reads and judges once more what a refusal is of, is
+//! proved to leave the shelf as it is, and no more.
 //!
 //! Rooms of jobs and the top may name it.
 #![tactic(auto)]

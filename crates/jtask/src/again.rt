@@ -38,5 +38,7 @@ pub fn refused<S: Shelf>(alloc: Global, words: &[String], shelf: &mut S) -> Opti
     };
     let refusal = refusal_of(alloc, &command, shelf)?;
     let side = side_for(&command);
-    look_again(alloc, job_of(&command), side, refusal, shelf)
+    let seen = look_again(alloc, job_of(&command), side, &refusal, shelf);
+    drop(refusal);
+    seen
 }
