@@ -1,12 +1,13 @@
 use crate::opcodes::name_of;
 use crate::references::{index_of, named_at, say_named};
 use crate::said::Said;
-use crate::scene::{Scene, member_at, say_place, scene_at};
+use crate::scene::scene_of;
 use crate::stacks::say_found;
 use jcheck::TypeFault;
 use jground::jnames::{Kind, Kinds};
 use jlinking::jlink::LinkedProgram;
 use jparts::jcode::{Op, Placed, effect_of, form_of, opcode_of};
+use jparts::jpool::Pool;
 use jprogram::MethodId;
 use jwalk::frame_before;
 
@@ -39,8 +40,7 @@ fn say_kinds(kinds: Kinds, said: &mut Said) {
 }
 
 /// Says what an instruction names, or else takes.
-fn say_wanted(scene: Scene<'_>, op: &Op, said: &mut Said) {
-    let pool = &scene.class.pool;
+fn say_wanted(pool: &Pool, op: &Op, said: &mut Said) {
     let one = named_at(pool, index_of(op));
     if one.name != 0 {
         said.words(b" of ");
@@ -62,24 +62,28 @@ fn say_before(program: &LinkedProgram, m: MethodId, one: &Placed, said: &mut Sai
     said.words(b", or the frame declared there or behind it, doesn't fit: compile anew");
 }
 
+/// The instruction at a place.
+fn op_at(ops: &[Placed], at: u32) -> Option<&Placed> {
+    for one in ops {
+        if one.at == at {
+            return Some(one);
+        }
+    }
+    None
+}
+
 /// Says which instruction stands where a method isn't well typed, what it takes and what it finds.
 pub fn say_check(program: &LinkedProgram, fault: TypeFault, said: &mut Said) {
     let TypeFault::At { class, method, at } = fault else {
         return;
     };
-    let Some(scene) = scene_at(program.named(), class) else {
+    let Some(scene) = scene_of(program.named(), class, Some(method), Some(at), said) else {
         return;
     };
-    let Some(told) = member_at(scene, Some(method)) else {
-        return;
+    let Some(one) = op_at(scene.code.ops, at) else {
+        return said.words(b"a frame where no instruction begins");
     };
-    say_place(scene, Some(told), Some(at), said);
-    for one in told.code.ops {
-        if one.at == at {
-            said.told(name_of(usize::from(opcode_of(&one.op))));
-            say_wanted(scene, &one.op, said);
-            return say_before(program, MethodId { class, method }, one, said);
-        }
-    }
-    said.words(b"a frame where no instruction begins");
+    said.told(name_of(usize::from(opcode_of(&one.op))));
+    say_wanted(&scene.class.pool, &one.op, said);
+    say_before(program, scene.method, one, said);
 }

@@ -1,7 +1,7 @@
 use crate::references::{index_of, named_at};
-use crate::scene::{Scene, Told};
+use crate::scene::Scene;
 use bitflags::Flags;
-use jclass::{Access, MemberInfo};
+use jclass::{Access, ClassParts, MemberInfo};
 use jparts::jcode::Op;
 use jparts::jpool::{Entry, Pool};
 use jprogram::{class_text, has_code, member_desc, member_name};
@@ -47,9 +47,9 @@ fn has_floats(desc: &[u8]) -> bool {
 }
 
 /// What of a member's own is left out, of a method by its flags.
-fn declared(scene: Scene<'_>, member: &MemberInfo) -> LeftOut {
-    let desc = member_desc(scene.class, member);
-    if member_name(scene.class, member) == b"<clinit>".as_slice() {
+fn declared(class: &ClassParts, member: &MemberInfo) -> LeftOut {
+    let desc = member_desc(class, member);
+    if member_name(class, member) == b"<clinit>".as_slice() {
         LeftOut::Initialiser
     } else if has_floats(desc) {
         LeftOut::Floats
@@ -59,7 +59,7 @@ fn declared(scene: Scene<'_>, member: &MemberInfo) -> LeftOut {
         LeftOut::Native
     } else if member.flags.contains(Access::SYNCHRONIZED) {
         LeftOut::Synchronized
-    } else if scene.class.flags.contains(Access::INTERFACE) && has_code(member) {
+    } else if class.flags.contains(Access::INTERFACE) && has_code(member) {
         LeftOut::InterfaceCode
     } else {
         LeftOut::Other
@@ -85,9 +85,9 @@ fn written(pool: &Pool, op: &Op) -> LeftOut {
 }
 
 /// What is left out of a member, in words.
-pub fn left_out(scene: Scene<'_>, told: Told<'_>) -> &'static str {
-    let mut found = declared(scene, told.info);
-    for placed in told.code.ops {
+pub fn left_out(scene: Scene<'_>, info: &MemberInfo) -> &'static str {
+    let mut found = declared(scene.class, info);
+    for placed in scene.code.ops {
         if let LeftOut::Other = found {
             found = written(&scene.class.pool, &placed.op);
         }

@@ -3,10 +3,11 @@ ghost use Rattle.jprogram.specs.Layers.{IsLayered};
 use crate::leftouts::left_out;
 use crate::references::{Named, bad_class, bad_member, say_named};
 use crate::said::Said;
-use crate::scene::{Scene, Told, member_at, say_place, scene_at};
-use jlib::{Side, class, member};
+use crate::scene::{Scene, scene_of};
+use jclass::{ClassParts, MemberInfo};
+use jlib::{Side, class as library_class, member};
 use jlinking::jlink::LinkError;
-use jparts::jcode::Placed;
+use jparts::jpool::Pool;
 use jprogram::{LinkKind, NamedProgram, class_text, program_laws, super_name, text_at, this_name};
 
 // ---- what isn't there
@@ -29,7 +30,7 @@ fn other(side: Side) -> (Side, &'static str) {
 fn say_missing(side: Side, name: &[u8], said: &mut Said) {
     let (beyond, advice) = other(side);
     said.name(name);
-    match class(beyond, name) {
+    match library_class(beyond, name) {
         Some(_) => said.told(advice),
         None => said.words(b", which neither the job nor the library has"),
     }
@@ -38,12 +39,12 @@ fn say_missing(side: Side, name: &[u8], said: &mut Said) {
 // ---- a class by itself
 
 /// The first interface that a class lists and that isn't there, or is none where that is sought.
-fn bad_face<'a>(scene: Scene<'a>, kind: LinkKind) -> Option<&'a [u8]> {
-    for face in scene.class.interfaces.as_slice() {
-        let name = class_text(&scene.class.pool, *face);
+fn bad_face<'a>(program: &NamedProgram, class: &'a ClassParts, kind: LinkKind) -> Option<&'a [u8]> {
+    for face in class.interfaces.as_slice() {
+        let name = class_text(&class.pool, *face);
         let is_good = match kind {
-            LinkKind::NoClass => scene.program.class_of(name).is_some(),
-            _ => scene.program.is_interface(name),
+            LinkKind::NoClass => program.class_of(name).is_some(),
+            _ => program.is_interface(name),
         };
         if !is_good {
             return Some(name);
@@ -53,40 +54,40 @@ fn bad_face<'a>(scene: Scene<'a>, kind: LinkKind) -> Option<&'a [u8]> {
 }
 
 /// Says the first class that isn't there among those that a class extends or lists.
-fn say_above(scene: Scene<'_>, said: &mut Said) {
-    let Some(above) = super_name(scene.class) else {
+fn say_above(program: &NamedProgram, class: &ClassParts, said: &mut Said) {
+    let Some(above) = super_name(class) else {
         said.words(b"it extends no class");
         return;
     };
-    let missing = if scene.program.class_of(above).is_some() {
-        bad_face(scene, LinkKind::NoClass)
+    let missing = if program.class_of(above).is_some() {
+        bad_face(program, class, LinkKind::NoClass)
     } else {
         Some(above)
     };
     if let Some(name) = missing {
         said.words(b"it extends or lists ");
-        say_missing(scene.program.side(), name, said);
+        say_missing(program.side(), name, said);
     }
 }
 
 /// Says the first interface that a class lists and that is none, or else the class that it may not extend.
-fn say_barred(scene: Scene<'_>, said: &mut Said) {
-    if let Some(name) = bad_face(scene, LinkKind::BadSuper) {
+fn say_barred(program: &NamedProgram, class: &ClassParts, said: &mut Said) {
+    if let Some(name) = bad_face(program, class, LinkKind::BadSuper) {
         said.words(b"it lists ");
         said.name(name);
         return said.words(b" as an interface, which it isn't");
     }
     said.words(b"it extends ");
-    said.name(super_name(scene.class).unwrap_or(b"nothing"));
+    said.name(super_name(class).unwrap_or(b"nothing"));
     said.words(b", which is final, an interface, or no class that users may extend");
 }
 
 /// Says which rule a class breaks by itself.
-fn say_of_class(scene: Scene<'_>, kind: LinkKind, said: &mut Said) {
+fn say_of_class(program: &NamedProgram, class: &ClassParts, kind: LinkKind, said: &mut Said) {
     match kind {
-        LinkKind::NoClass => say_above(scene, said),
-        LinkKind::BadSuper => say_barred(scene, said),
-        LinkKind::Twice if class(scene.program.side(), this_name(scene.class)).is_some() => {
+        LinkKind::NoClass => say_above(program, class, said),
+        LinkKind::BadSuper => say_barred(program, class, said),
+        LinkKind::Twice if library_class(program.side(), this_name(class)).is_some() => {
             said.words(b"the library has a class of this name");
         }
         LinkKind::Twice => said.words(b"an earlier line of the job names a class of this name"),
@@ -100,8 +101,7 @@ fn say_of_class(scene: Scene<'_>, kind: LinkKind, said: &mut Said) {
 // ---- a class by a member
 
 /// Says the field or method that code names and that isn't there, or may not be used.
-fn say_bad(scene: Scene<'_>, kind: LinkKind, one: Named, said: &mut Said) {
-    let pool = &scene.class.pool;
+fn say_bad(program: &NamedProgram, pool: &Pool, kind: LinkKind, one: Named, said: &mut Said) {
     said.words(b"it uses ");
     say_named(pool, one, said);
     if let LinkKind::NotAccessible = kind {
@@ -109,7 +109,7 @@ fn say_bad(scene: Scene<'_>, kind: LinkKind, one: Named, said: &mut Said) {
             b", which may not be used so from there: private, of another package, or final",
         );
     }
-    let (beyond, advice) = other(scene.program.side());
+    let (beyond, advice) = other(program.side());
     let owner = class_text(pool, one.class);
     match member(
         beyond,
@@ -123,7 +123,7 @@ fn say_bad(scene: Scene<'_>, kind: LinkKind, one: Named, said: &mut Said) {
 }
 
 /// Says which field or method it is that code names, where members can be resolved: no class stands among its own interfaces.
-fn say_used(scene: Scene<'_>, kind: LinkKind, ops: &[Placed], said: &mut Said) {
+fn say_used(scene: Scene<'_>, kind: LinkKind, said: &mut Said) {
     program_laws();
     let Ok(None) = scene.program.naming_fault(said.alloc) else {
         return;
@@ -131,16 +131,16 @@ fn say_used(scene: Scene<'_>, kind: LinkKind, ops: &[Placed], said: &mut Said) {
     let Ok(None) = scene.program.supers_fault(said.alloc) else {
         return;
     };
-    if let Some(one) = bad_member(said.alloc, scene, kind, ops) {
-        say_bad(scene, kind, one, said);
+    if let Some(one) = bad_member(said.alloc, scene, kind) {
+        say_bad(scene.program, &scene.class.pool, kind, one, said);
     }
 }
 
 /// Says which class or member it is that a member names.
-fn say_names(scene: Scene<'_>, kind: LinkKind, told: Told<'_>, said: &mut Said) {
-    let name = bad_class(scene, kind, told);
+fn say_names(scene: Scene<'_>, kind: LinkKind, info: &MemberInfo, said: &mut Said) {
+    let name = bad_class(scene, kind, info);
     if name.is_empty() {
-        return say_used(scene, kind, told.code.ops, said);
+        return say_used(scene, kind, said);
     }
     said.words(b"it names ");
     if let LinkKind::NoClass = kind {
@@ -151,12 +151,12 @@ fn say_names(scene: Scene<'_>, kind: LinkKind, told: Told<'_>, said: &mut Said) 
 }
 
 /// Says which rule a class breaks by a member.
-fn say_of_member(scene: Scene<'_>, kind: LinkKind, told: Told<'_>, said: &mut Said) {
+fn say_of_member(scene: Scene<'_>, kind: LinkKind, info: &MemberInfo, said: &mut Said) {
     said.told(match kind {
         LinkKind::NoClass | LinkKind::NoMember | LinkKind::NotAccessible => {
-            return say_names(scene, kind, told, said);
+            return say_names(scene, kind, info, said);
         }
-        LinkKind::LeftOut => left_out(scene, told),
+        LinkKind::LeftOut => left_out(scene, info),
         LinkKind::Twice => "an earlier member of the class has this name and descriptor",
         LinkKind::OverridesLibrary => {
             "it overrides a method of the library that has code: another name"
@@ -171,13 +171,11 @@ pub fn say_link(program: &NamedProgram, error: LinkError, said: &mut Said) {
     let LinkError::At(fault) = error else {
         return;
     };
-    let Some(scene) = scene_at(program, fault.class) else {
+    let Some(scene) = scene_of(program, fault.class, fault.member, None, said) else {
         return;
     };
-    let told = member_at(scene, fault.member);
-    say_place(scene, told, None, said);
-    match told {
-        Some(told) => say_of_member(scene, fault.kind, told, said),
-        None => say_of_class(scene, fault.kind, said),
+    match scene.info {
+        Some(info) => say_of_member(scene, fault.kind, info, said),
+        None => say_of_class(program, scene.class, fault.kind, said),
     }
 }

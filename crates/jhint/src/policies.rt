@@ -60,17 +60,17 @@ fn token_size(text: &[u8]) -> usize {
 
 // ---- what may stand there
 
-/// Whether a token may stand behind a policy's front, which ends with a space: then its first fault, if it has any, isn't at that token.
-fn may_stand(front: &mut Vec<u8>, token: &str, said: &mut Said) -> bool {
-    let at = front.len();
-    if front.extend_from_slice(token.as_bytes()).is_err() || 0x7fff_ffff < front.len() {
+/// Whether a token may stand behind a policy's front: then the first fault of both, if they have any, isn't at that token.
+fn may_stand(front: &[u8], token: &str, said: &mut Said) -> bool {
+    let Ok(tried) = [front, b" ".as_slice(), token.as_bytes()].concat(said.alloc) else {
         said.is_lost = true;
         return false;
+    };
+    if 0x7fff_ffff < tried.len() {
+        return false;
     }
-    let fault = policy_fault(said.alloc, front);
-    front.truncate(at);
-    match fault {
-        Ok(Some(place)) => place as usize != at,
+    match policy_fault(said.alloc, &tried) {
+        Ok(Some(place)) => place as usize != front.len().saturating_add(1),
         Ok(None) => true,
         Err(_) => {
             said.is_lost = true;
@@ -79,8 +79,9 @@ fn may_stand(front: &mut Vec<u8>, token: &str, said: &mut Said) -> bool {
     }
 }
 
-/// Says what may stand behind a policy's front, which ends with a space.
-fn say_those(front: &mut Vec<u8>, said: &mut Said) {
+/// Says what may stand behind the front of a policy.
+fn say_allowed(front: &[u8], said: &mut Said) {
+    said.words(b"; what may stand there:");
     for token in TOKENS.split('|') {
         if may_stand(front, token, said) {
             said.words(b" ");
@@ -90,16 +91,6 @@ fn say_those(front: &mut Vec<u8>, said: &mut Said) {
             }
         }
     }
-}
-
-/// Says what may stand behind the front of a policy.
-fn say_allowed(front: &[u8], said: &mut Said) {
-    said.words(b"; what may stand there:");
-    let mut tried = Vec::new(said.alloc);
-    if tried.extend_from_slice(front).is_err() || tried.push(b' ').is_err() {
-        said.is_lost = true;
-    }
-    say_those(&mut tried, said);
 }
 
 /// Says what is wrong with the token at the front of a text.

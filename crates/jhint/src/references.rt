@@ -1,10 +1,11 @@
 ghost use Rattle.jprogram.specs.Layers.{IsLayered};
 
 use crate::said::Said;
-use crate::scene::{Scene, Told};
-use jparts::jcode::{FieldOp, Ldc, NewOp, Op, Placed};
+use crate::scene::Scene;
+use jclass::{ClassParts, MemberInfo};
+use jparts::jcode::{FieldOp, Ldc, NewOp, Op};
 use jparts::jpool::{Entry, Pool};
-use jprogram::{LinkKind, class_text, member_desc, text_at, this_name};
+use jprogram::{LinkKind, NamedProgram, class_text, member_desc, text_at, this_name};
 use std::alloc::Global;
 
 /// What an entry of the pool names, by indices of the pool: a class, or a member of one by its name and descriptor, which else are 0.
@@ -63,7 +64,8 @@ pub fn named_at(pool: &Pool, i: u16) -> Named {
 /// The search among the classes that a member names for the first that breaks a rule: that isn't there, or may not be named from there.
 #[derive(Clone, Copy)]
 struct Search<'a> {
-    scene: Scene<'a>,
+    program: &'a NamedProgram,
+    class: &'a ClassParts,
     kind: LinkKind,
     /// The class, empty where none was met yet.
     found: &'a [u8],
@@ -72,10 +74,10 @@ struct Search<'a> {
 impl<'a> Search<'a> {
     /// Meets a class.
     fn meet(&mut self, name: &'a [u8]) {
-        let program = self.scene.program;
+        let program = self.program;
         let is_bad = match self.kind {
             LinkKind::NoClass => program.class_of(name).is_none(),
-            LinkKind::NotAccessible => !program.may_name(this_name(self.scene.class), name),
+            LinkKind::NotAccessible => !program.may_name(this_name(self.class), name),
             _ => false,
         };
         if is_bad && self.found.is_empty() {
@@ -102,7 +104,7 @@ impl<'a> Search<'a> {
     /// Meets the classes that an entry of the pool names: itself or the one of an array's items, and for a member its class and those of its
     /// descriptor.
     fn meet_entry(&mut self, i: u16) {
-        let pool = &self.scene.class.pool;
+        let pool = &self.class.pool;
         let one = named_at(pool, i);
         let name = class_text(pool, one.class);
         if name.starts_with(b"[") {
@@ -115,17 +117,18 @@ impl<'a> Search<'a> {
 }
 
 /// The first class that a member names and that breaks a rule. Empty where there is none.
-pub fn bad_class<'a>(scene: Scene<'a>, kind: LinkKind, told: Told<'a>) -> &'a [u8] {
+pub fn bad_class<'a>(scene: Scene<'a>, kind: LinkKind, info: &MemberInfo) -> &'a [u8] {
     let mut search = Search {
-        scene,
+        program: scene.program,
+        class: scene.class,
         kind,
         found: b"",
     };
-    search.meet_desc(member_desc(scene.class, told.info));
-    for one in told.code.ops {
+    search.meet_desc(member_desc(scene.class, info));
+    for one in scene.code.ops {
         search.meet_entry(index_of(&one.op));
     }
-    for one in told.code.handlers {
+    for one in scene.code.handlers {
         search.meet_entry(one.class);
     }
     search.found
@@ -138,7 +141,7 @@ fn breaks(alloc: Global, scene: Scene<'_>, kind: LinkKind, op: &Op, i: u16) -> b
     requires { IsLayered scene.program.now }
 {
     let program = scene.program;
-    let Ok(found) = program.resolved(alloc, scene.number, i) else {
+    let Ok(found) = program.resolved(alloc, scene.method.class, i) else {
         return false;
     };
     let Some(member) = found else {
@@ -156,10 +159,10 @@ fn breaks(alloc: Global, scene: Scene<'_>, kind: LinkKind, op: &Op, i: u16) -> b
 }
 
 /// The first field or method to which a method's code refers and that breaks a rule.
-pub fn bad_member(alloc: Global, scene: Scene<'_>, kind: LinkKind, ops: &[Placed]) -> Option<Named>
+pub fn bad_member(alloc: Global, scene: Scene<'_>, kind: LinkKind) -> Option<Named>
     requires { IsLayered scene.program.now }
 {
-    for placed in ops {
+    for placed in scene.code.ops {
         let i = index_of(&placed.op);
         let one = named_at(&scene.class.pool, i);
         if one.name != 0 && breaks(alloc, scene, kind, &placed.op, i) {

@@ -3,71 +3,76 @@ use jclass::{ClassParts, MemberInfo};
 use jmeaning::juses::{CodeRef, code_at};
 use jprogram::{MethodId, NamedProgram, member_desc, member_name, this_name};
 
-/// A class of a program, and its number among the parts.
+/// Where a program breaks a rule: a class of it, and a member, where it is one that breaks it.
 #[derive(Clone, Copy)]
 pub struct Scene<'a> {
     pub program: &'a NamedProgram,
     pub class: &'a ClassParts,
-    pub number: u32,
-}
-
-/// The class of a number.
-pub fn scene_at(program: &NamedProgram, number: u32) -> Option<Scene<'_>> {
-    let Some(part) = program.parts().get(number as usize) else {
-        return None;
-    };
-    Some(Scene {
-        program,
-        class: part.class.parts(),
-        number,
-    })
-}
-
-/// A member of a class: what the class says of it, and its code, which is empty where it has none.
-#[derive(Clone, Copy)]
-pub struct Told<'a> {
-    pub info: &'a MemberInfo,
+    pub info: Option<&'a MemberInfo>,
+    /// The number of the class among the parts, and that of the member among the methods, or past them.
+    pub method: MethodId,
+    /// The method's code, which is empty where it has none.
     pub code: CodeRef<'a>,
 }
 
-/// The member of a number, where a fault is one's: methods come first, and then fields.
-pub fn member_at(scene: Scene<'_>, number: Option<u32>) -> Option<Told<'_>> {
+/// The member of a number: methods come first, and then fields.
+fn member_at(class: &ClassParts, number: Option<u32>) -> Option<&MemberInfo> {
     let Some(number) = number else {
         return None;
     };
-    let methods = scene.class.methods.as_slice();
-    let fields = scene.class.fields.as_slice();
+    let methods = class.methods.as_slice();
+    let fields = class.fields.as_slice();
     let place = number as usize;
     let field = fields.get(place.saturating_sub(methods.len()));
-    let Some(info) = methods.get(place).or(field) else {
-        return None;
-    };
-    let method = MethodId {
-        class: scene.number,
-        method: number,
-    };
-    let code = code_at(scene.program, method).unwrap_or(CodeRef {
-        max_stack: 0,
-        max_locals: 0,
-        ops: &[],
-        handlers: &[],
-        attributes: &[],
-    });
-    Some(Told { info, code })
+    methods.get(place).or(field)
 }
 
 /// Says of which class a sentence is, of which member and of which of its bytes, where it is of one.
-pub fn say_place(scene: Scene<'_>, told: Option<Told<'_>>, at: Option<u32>, said: &mut Said) {
+fn say_place(class: &ClassParts, info: Option<&MemberInfo>, at: Option<u32>, said: &mut Said) {
     said.words(b"class ");
-    said.name(this_name(scene.class));
-    if let Some(told) = told {
+    said.name(this_name(class));
+    if let Some(info) = info {
         said.words(b", ");
-        said.name(member_name(scene.class, told.info));
-        said.name(member_desc(scene.class, told.info));
+        said.name(member_name(class, info));
+        said.name(member_desc(class, info));
     }
     match at {
         Some(at) => said.number(b" at ", at as u64, b": "),
         None => said.words(b": "),
     }
     said.open = true;
+}
+
+/// Finds where a program breaks a rule, by the numbers of a class and a member, and says it.
+pub fn scene_of<'a>(
+    program: &'a NamedProgram,
+    class: u32,
+    member: Option<u32>,
+    at: Option<u32>,
+    said: &mut Said,
+) -> Option<Scene<'a>> {
+    let method = MethodId {
+        class,
+        method: member.unwrap_or(u32::MAX),
+    };
+    let Some(part) = program.parts().get(class as usize) else {
+        return None;
+    };
+    let class = part.class.parts();
+    let info = member_at(class, member);
+    say_place(class, info, at, said);
+    let code = code_at(program, method).unwrap_or(CodeRef {
+        max_stack: 0,
+        max_locals: 0,
+        ops: &[],
+        handlers: &[],
+        attributes: &[],
+    });
+    Some(Scene {
+        program,
+        class,
+        info,
+        method,
+        code,
+    })
 }
