@@ -73,9 +73,9 @@ impl<'a> Outline<'a> {
         }
     }
 
-    /// Passes the entries of the pool in front of an index, and marks them. None stands at index 0, and a long or a double takes two
-    /// indices (JVMS 4.4.5).
-    fn pass_entries(&mut self, count: usize) {
+    /// Passes the entries of the pool in front of an index, marks them, and says whether one may stand there: none stands at index 0, and a
+    /// long or a double takes two indices (JVMS 4.4.5).
+    fn pass_entries(&mut self, count: usize) -> bool {
         let mut none = 0;
         self.next = 10;
         for index in 0..count {
@@ -91,12 +91,13 @@ impl<'a> Outline<'a> {
                 self.next = self.next.saturating_add(self.entry_size(tag));
             }
         }
+        count != none
     }
 
     /// The text at an index of the pool, empty where none is there.
     pub fn text(mut self, index: usize) -> &'a [u8] {
-        self.pass_entries(index);
-        if self.ahead(0, 1) != 1 {
+        let is_there = index < number_at(self.file, 8, 2) && self.pass_entries(index);
+        if !is_there || self.ahead(0, 1) != 1 {
             return b"";
         }
         let start = self.next.saturating_add(3);
