@@ -34,20 +34,11 @@ fn rule_of(line: &str) -> &'static str {
     NO_KEY
 }
 
-/// What two lines that may not both stand have in common, empty where any may stand beside this one: the key, and of a property its name too.
-fn said_by(line: &str) -> &str {
-    match rule_of(line) {
-        rule if rule.ends_with("each NAME once") => front_of(line, '='),
-        rule if rule.ends_with("once") => front_of(line, ' '),
-        _ => "",
-    }
-}
-
-/// The number of the first line that says something.
-fn first_with(text: &str, sought: &str) -> u32 {
+/// The number of the first line that has this in front of a mark.
+fn first_with(text: &str, sought: &str, mark: char) -> u32 {
     let mut number: u32 = 1;
     for line in text.split('\n') {
-        if said_by(line) == sought {
+        if front_of(line, mark) == sought {
             return number;
         }
         number = number.saturating_add(1);
@@ -66,13 +57,19 @@ fn say_of_text(text: &str, number: u32, said: &mut Said) {
     said.words(b", \"");
     said.text(line);
     said.words(b"\": ");
-    let sought = said_by(line);
-    let first = first_with(text, sought);
-    if sought.is_empty() || first == number {
-        said.told(rule_of(line));
-        return;
+    let rule = rule_of(line);
+    // What only one line may say: the key, and of a property its name too.
+    let mark = if rule.ends_with("NAME once") {
+        '='
+    } else {
+        ' '
+    };
+    let sought = front_of(line, mark);
+    let first = first_with(text, sought, mark);
+    if rule.ends_with("once") && !sought.is_empty() && first < number {
+        return said.number(b"line ", first as u64, b" says it already");
     }
-    said.number(b"line ", first as u64, b" says it already");
+    said.told(rule);
 }
 
 /// Says of a job's text which rule its line of a number breaks, counted from 1.

@@ -75,9 +75,10 @@ impl<'a> Search<'a> {
     /// Meets a class.
     fn meet(&mut self, name: &'a [u8]) {
         let program = self.program;
+        let is_there = program.class_of(name).is_some();
         let is_bad = match self.kind {
-            LinkKind::NoClass => program.class_of(name).is_none(),
-            LinkKind::NotAccessible => !program.may_name(this_name(self.class), name),
+            LinkKind::NoClass => !is_there,
+            LinkKind::NotAccessible => is_there && !program.may_name(this_name(self.class), name),
             _ => false,
         };
         if is_bad && self.found.is_empty() {
@@ -141,11 +142,10 @@ fn breaks(alloc: Global, scene: Scene<'_>, kind: LinkKind, op: &Op, i: u16) -> b
     requires { IsLayered scene.program.now }
 {
     let program = scene.program;
-    let Ok(found) = program.resolved(alloc, scene.method.class, i) else {
-        return false;
-    };
-    let Some(member) = found else {
-        return matches!(kind, LinkKind::NoMember);
+    let member = match program.resolved(alloc, scene.method.class, i) {
+        Ok(Some(member)) => member,
+        Ok(None) => return matches!(kind, LinkKind::NoMember),
+        Err(_) => return false,
     };
     let LinkKind::NotAccessible = kind else {
         return false;
