@@ -1,6 +1,6 @@
 use crate::opcodes::{mend_of, name_of};
 use crate::outline::{Outline, Spot, number_at};
-use crate::said::Said;
+use crate::said::{Said, piece_of};
 use jclass::ClassFault;
 
 /// What each fault means, a line for each.
@@ -45,7 +45,7 @@ fn meaning_of(kind: ClassFault) -> &'static str {
         ClassFault::MapLeftOut => 16,
         ClassFault::Maps => 17,
     };
-    MEANINGS.split('\n').nth(line).unwrap_or("")
+    piece_of(MEANINGS, '\n', line, "")
 }
 
 /// Says the part in which a byte stands.

@@ -1,4 +1,5 @@
 use crate::references::{index_of, named_at};
+use crate::said::piece_of;
 use crate::scene::Scene;
 use bitflags::Flags;
 use jclass::{Access, ClassParts, MemberInfo};
@@ -92,5 +93,5 @@ pub fn left_out(scene: Scene<'_>, info: &MemberInfo) -> &'static str {
             found = written(&scene.class.pool, &placed.op);
         }
     }
-    ADVICE.split('\n').nth(found as usize).unwrap_or("")
+    piece_of(ADVICE, '\n', found as usize, "")
 }

@@ -1,4 +1,4 @@
-use crate::said::Said;
+use crate::said::{Said, piece_of};
 
 /// What a line of each key is to be. What says `once` last stands once at most.
 const RULES: &str = "policy takes a path, at most once\n\
@@ -23,33 +23,21 @@ fn front_of(line: &str, mark: char) -> &str {
     }
 }
 
-/// What a line of the same key is to be.
-fn rule_of(line: &str) -> &'static str {
-    let key = front_of(line, ' ');
-    for rule in RULES.split('\n') {
-        if front_of(rule, ' ') == key {
-            return rule;
-        }
-    }
-    NO_KEY
-}
-
-/// The number of the first line that has this in front of a mark.
-fn first_with(text: &str, sought: &str, mark: char) -> u32 {
-    let mut number: u32 = 1;
+/// The place of the first line that has this in front of a mark, counted from 0; how many lines there are, where none has.
+fn place_of(text: &str, sought: &str, mark: char) -> usize {
+    let mut place: usize = 0;
     for line in text.split('\n') {
         if front_of(line, mark) == sought {
-            return number;
+            return place;
         }
-        number = number.saturating_add(1);
+        place = place.saturating_add(1);
     }
-    number
+    place
 }
 
 /// Says of a line of a job's text which rule it breaks, or that it is missing.
-fn say_of_text(text: &str, number: u32, said: &mut Said) {
-    let at = (number as usize).saturating_sub(1);
-    let line = text.split('\n').nth(at).unwrap_or("");
+fn say_of_text(text: &str, at: usize, said: &mut Said) {
+    let line = piece_of(text, '\n', at, "");
     if line.is_empty() {
         said.words(b": a line `main NAME` is missing, as `main app/Main`");
         return;
@@ -57,7 +45,8 @@ fn say_of_text(text: &str, number: u32, said: &mut Said) {
     said.words(b", \"");
     said.text(line);
     said.words(b"\": ");
-    let rule = rule_of(line);
+    let key = front_of(line, ' ');
+    let rule = piece_of(RULES, '\n', place_of(RULES, key, ' '), NO_KEY);
     // What only one line may say: the key, and of a property its name too.
     let mark = if rule.ends_with("NAME once") {
         '='
@@ -65,9 +54,10 @@ fn say_of_text(text: &str, number: u32, said: &mut Said) {
         ' '
     };
     let sought = front_of(line, mark);
-    let first = first_with(text, sought, mark);
-    if rule.ends_with("once") && !sought.is_empty() && first < number {
-        return said.number(b"line ", first as u64, b" says it already");
+    let first = place_of(text, sought, mark);
+    if rule.ends_with("once") && !sought.is_empty() && first < at {
+        let number = first.saturating_add(1) as u64;
+        return said.number(b"line ", number, b" says it already");
     }
     said.told(rule);
 }
@@ -77,7 +67,7 @@ pub fn say_line(path: &str, text: &[u8], number: u32, said: &mut Said) {
     said.text(path);
     said.number(b", line ", number as u64, b"");
     match str::from_utf8(text) {
-        Ok(text) => say_of_text(text, number, said),
+        Ok(text) => say_of_text(text, (number as usize).saturating_sub(1), said),
         Err(_) => said.words(b": the bytes there are no UTF-8"),
     }
 }

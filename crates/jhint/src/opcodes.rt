@@ -1,3 +1,5 @@
+use crate::said::piece_of;
+
 /// The names of the opcodes, in their order (JVMS 6.5).
 const NAMES: &str =
     "nop aconst_null iconst_m1 iconst_0 iconst_1 iconst_2 iconst_3 iconst_4 iconst_5 lconst_0 lconst_1 fconst_0 fconst_1 \
@@ -15,7 +17,7 @@ ifnonnull goto_w jsr_w";
 
 /// The name of an opcode.
 pub fn name_of(opcode: usize) -> &'static str {
-    NAMES.split(' ').nth(opcode).unwrap_or("no instruction")
+    piece_of(NAMES, ' ', opcode, "no instruction")
 }
 
 /// What makes an instruction that is left out, and what to write in its place.

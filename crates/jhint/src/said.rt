@@ -8,6 +8,11 @@ use std::alloc::Global;
 /// The most units of a text that are told.
 const MOST_UNITS: usize = 200;
 
+/// What stands between two marks of a text, at a place counted from 0, or else another text.
+pub fn piece_of<'a>(text: &'a str, mark: char, place: usize, other: &'a str) -> &'a str {
+    text.split(mark).nth(place).unwrap_or(other)
+}
+
 /// What is to be said: a line as it is put together. Where memory runs out it is lost.
 #[derive(Drop)]
 pub struct Said {
