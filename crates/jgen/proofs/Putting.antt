@@ -9,8 +9,9 @@ use Rattle.std.proofs.lemmas.List.{length-append}
 use Rattle.std.proofs.lemmas.Option.{slice_get_within}
 use Rattle.jparts.specs.declared.jpool.entry.Entry.{Entry}
 use Rattle.jparts.specs.declared.jpool.entry.Entry.TheVariants as entries
-use Rattle.jparts.specs.declared.jpool.adder.AddError.TheVariants as add
-use Rattle.jparts.specs.jpool.Adding.{added, laid, put_behind, same}
+use Rattle.jadder.specs.declared.adder.AddError.TheVariants as add
+use Rattle.jparts.specs.jpool.Adding.{laid}
+use Rattle.jadder.specs.Added.{added, put_behind, same}
 use Rattle.jparts.specs.jpool.Pools.{is_utf8}
 use Rattle.jgen.specs.declared.laying.Draft.{Draft}
 use Rattle.jmove.specs.Additions.{Adding, found_or, with_entry, ◌>>◌}

@@ -5,8 +5,9 @@ ghost use Rattle.jparts.specs.jpool.Pools.{is_utf8};
 ghost use Rattle.jmove.specs.Additions.{with_class, with_entry, with_member, with_text};
 ghost use Rattle.jgen.specs.Items.{Puts, with_field, with_method, with_string};
 
+use jadder::{AddError, Adder};
 use jground::jbase::Seq;
-use jparts::jpool::{AddError, Adder, Entry};
+use jparts::jpool::Entry;
 use std::alloc::{AllocError, Global};
 
 /// Puts an entry into a pool that has room for it, unless an equal one is there.

@@ -12,8 +12,9 @@ use crate::laying::{Draft, put_pieces};
 use crate::methods::{put_f, put_head, put_init, put_run};
 use crate::piece::Piece::{Method, Text, U1, U2, U4};
 use crate::texts::name_of;
+use jadder::Adder;
 use jground::jbase::Seq;
-use jparts::jpool::{Adder, Entry, Pool, write_pool};
+use jparts::jpool::{Entry, Pool, write_pool};
 use std::alloc::{AllocError, Global};
 
 // ---- main

@@ -4,9 +4,9 @@ ghost use Rattle.jgen.specs.Items.{has_room, have_room, item_of, most, most_of, 
 
 use crate::adding::{put_class, put_field, put_method, put_string, put_text};
 use crate::piece::Piece;
+use jadder::Adder;
 use jground::jbase::Seq;
 use jground::jformat::{put_u8, put_u16, put_u32};
-use jparts::jpool::Adder;
 use std::alloc::{AllocError, Global};
 
 /// A class file under way: its pool, and what stands behind it.

@@ -8,7 +8,8 @@ use Rattle.std.proofs.lemmas.List.{length-append}
 use Rattle.jparts.specs.declared.jmaps.types.FullFrame.{FullFrame}
 use Rattle.jparts.specs.declared.jpool.entry.Entry.{Entry}
 use Rattle.jparts.specs.declared.jpool.entry.Entry.TheVariants as entries
-use Rattle.jparts.specs.jpool.Adding.{added, laid, put_behind, same}
+use Rattle.jparts.specs.jpool.Adding.{laid}
+use Rattle.jadder.specs.Added.{added, put_behind, same}
 use Rattle.jmove.specs.declared.method.MoveError.{MoveError}
 use Rattle.jmove.specs.declared.method.MoveError.TheVariants as errors
 use Rattle.jmove.specs.declared.method.Expand.{Expand}

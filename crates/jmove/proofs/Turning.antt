@@ -4,8 +4,8 @@ use Rattle.std.specs.Prelude.{IsTrue, IfOk, slice_get, ◌⊎◌}
 use Rattle.std.proofs.lemmas.List.{drop_more, drop_all}
 use Rattle.jparts.specs.declared.jpool.entry.Entry.{Entry}
 use Rattle.jparts.specs.declared.jpool.entry.Entry.TheVariants as entries
-use Rattle.jparts.specs.declared.jpool.adder.AddError.TheVariants as add
-use Rattle.jparts.specs.jpool.Adding.{added}
+use Rattle.jadder.specs.declared.adder.AddError.TheVariants as add
+use Rattle.jadder.specs.Added.{added}
 use Rattle.jparts.specs.jpool.Pools.{is_utf8}
 use Rattle.jmove.specs.declared.method.Expand.{Expand}
 use Rattle.jmove.specs.declared.method.MoveError.{MoveError}

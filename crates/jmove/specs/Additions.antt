@@ -8,7 +8,8 @@ use Rattle.jparts.specs.declared.jpool.entry.Entry.TheVariants as entries
 use Rattle.jparts.specs.declared.jpool.descriptor.FieldType.{FieldType}
 use Rattle.jparts.specs.declared.jpool.descriptor.Descriptor.{Descriptor}
 use Rattle.jparts.specs.declared.jpool.descriptor.Descriptor.TheVariants as descriptors
-use Rattle.jparts.specs.jpool.Adding.{laid, same}
+use Rattle.jparts.specs.jpool.Adding.{laid}
+use Rattle.jadder.specs.Added.{same}
 use Rattle.jparts.specs.jpool.Descriptors.{descriptor_of, descriptor_text}
 use Rattle.jparts.specs.jpool.Pools.{name_and_type_at, utf8_at}
 use Rattle.jparts.specs.declared.jmaps.types.FullFrame.{FullFrame}

@@ -10,9 +10,10 @@ ghost use Rattle.jmove.specs.Additions.{with_number, with_security, with_text};
 use crate::descriptor::moved_descriptor;
 use crate::method::{Expand, MoveError};
 use crate::naming::{Named, Reference, Security};
+use jadder::{AddError, Adder};
 use jground::jbase::Seq;
 use jparts::jmaps::FullFrame;
-use jparts::jpool::{AddError, Adder, Entry, Pool};
+use jparts::jpool::{Entry, Pool};
 use std::alloc::{AllocError, Global};
 
 /// Puts an entry into a pool, unless an equal one is there.

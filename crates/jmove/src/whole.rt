@@ -8,7 +8,7 @@ ghost use Rattle.jmove.specs.Moved.{CanMove};
 use crate::adding::put_body;
 use crate::method::{Expand, MethodIn, MethodOut, MoveError};
 use crate::moving::{limit_of, moved_by};
-use jparts::jpool::Adder;
+use jadder::Adder;
 use std::alloc::Global;
 
 /// Moves a method with code (JVMS 4.7.3). The moved method takes its caller's security context as one more parameter, the last. It begins

@@ -6,11 +6,12 @@ ghost use Rattle.jmoveclass.specs.Beginning.{with_beginning, with_item, with_thi
 ghost use Rattle.jmoveclass.specs.Puts.{Puts, with_each};
 
 use bitflags::Flags;
+use jadder::Adder;
 use jclass::{Access, ClassParts, MemberInfo};
 use jground::jbase::Seq;
 use jmove::{MoveError, put_class};
 use jparts::jmaps::MapType;
-use jparts::jpool::{Adder, DescError, Descriptor, FieldType, read_descriptor, slots_of};
+use jparts::jpool::{DescError, Descriptor, FieldType, read_descriptor, slots_of};
 use jprogram::{is_init, member_desc, this_name};
 use std::alloc::{AllocError, Global};
 

@@ -19,12 +19,13 @@ use crate::calls::expands;
 use crate::frames::{in_full, moved_maps};
 use crate::kept::method_keeps;
 use crate::moving::Moving;
+use jadder::Adder;
 use jclass::{Attribute, ClassParts, MemberInfo};
 use jground::jbase::Seq;
 use jmove::{Expand, MethodIn, MethodOut, MoveError, move_method, moved_descriptor, put_text};
 use jparts::jcode::Placed;
 use jparts::jmaps::MapType;
-use jparts::jpool::{Adder, FieldType, Pool};
+use jparts::jpool::{FieldType, Pool};
 use jprogram::member_desc;
 use std::alloc::{AllocError, Global};
 

@@ -12,10 +12,11 @@ use crate::limit::{ClassError, Limit, RewriteKind};
 use crate::limits::methods_limit;
 use crate::method::put_method;
 use crate::moving::Moving;
+use jadder::Adder;
 use jclass::{ClassParts, MemberInfo};
 use jground::jbase::{Seq, all_again};
 use jmove::MoveError;
-use jparts::jpool::{Adder, Pool};
+use jparts::jpool::Pool;
 use std::alloc::{AllocError, Global};
 
 /// Puts what the methods of a class name when they are moved.

@@ -1,10 +1,10 @@
 pub mod EntryLaws
 pub mod Fitting
 pub mod Grown
-pub mod Numbered
 pub mod Params
 pub mod Parts
 pub mod PoolLaws
+pub mod Pushes
 pub mod Spelled
 pub mod Spelling
 pub mod Tables

@@ -1,5 +1,5 @@
 //! Names, descriptors (JVMS 4.2, 4.3) and the constant pool (JVMS 4.4): `read_pool` and `write_pool`, look-ups by index,
-//! `read_descriptor`, the `Adder`.
+//! `read_descriptor`.
 //!
 //! - `Entries`: the entries by their tags, and what stands at each index.
 //! - `Pools`: look-ups, what entries may name, the pool's format and first fault.
@@ -7,17 +7,15 @@
 //! - `Descriptors`: field and method descriptors, written and read.
 //! - `Pieces`: a field type in a text as the value that it stands for.
 //! - `Uses`: what a text of the pool may be used as (each is judged once, however many entries name it).
-//! - `Adding`: the least equal entry, or the place behind the others.
+//! - `Adding`: which entries may be added to a pool, and how they stand in it.
 //!
 //! Proved: `read_pool` reads exactly the pools that bytes spell and names the first fault with its place; `write_pool` writes the
 //! spelling; `pool_laws`: bytes begin with one pool at most, a pool has one spelling, and bytes begin with a pool exactly where reading
-//! finds no fault; `read_descriptor` and the tests of names and descriptors are the grammar; `Adder::add` answers the least index of an
-//! equal entry or puts the entry behind the others, `PoolFull` exactly where there is no room, and leaves the pool as it was at every
-//! error; copies are equal. Moving puts entries by the adder.
+//! finds no fault; `read_descriptor` and the tests of names and descriptors are the grammar; `Pool::push` puts an entry behind the
+//! others, and leaves the pool as it was at every error; copies are equal. New entries are numbered in `jadder`.
 //!
 //! Rooms of class files, linking, checking, the machine's definition, the machine and moving may name it, and tests.
 
-mod adder;
 mod coding;
 mod descriptor;
 mod entry;
@@ -31,7 +29,7 @@ mod scan;
 mod slots;
 mod uses;
 
-pub use adder::{AddError, Adder};
+pub use coding::put_entry;
 pub use descriptor::{DescError, Descriptor, FieldType, read_descriptor, slots_of};
 pub use entry::Entry;
 pub use fault::{PoolError, PoolFault};
@@ -41,5 +39,5 @@ pub use names::is_class_name;
 pub use pool::Pool;
 pub use read::{pool_of, read_pool, write_pool};
 pub use scan::{is_array_descriptor, is_field_descriptor, is_method_descriptor, method_slots};
-pub use slots::{entries_of, put_entries};
+pub use slots::{entries_of, is_wide, put_entries};
 pub use uses::{TextUse, TextUses};

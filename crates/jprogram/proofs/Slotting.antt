@@ -8,7 +8,7 @@ use Rattle.std.proofs.lemmas.Bool.{cases_Bool, eq-eqb, eqb-true}
 use Rattle.std.proofs.lemmas.List.{length-replicate, length-set, length-take-le, take_all}
 use Rattle.std.proofs.lemmas.Slice.Eq.{bytes_eq-Decides}
 use Rattle.std.proofs.Math.Seq.{take-suc}
-use Rattle.jparts.proofs.JpoolProofs.Numbered.{or_none, position_push}
+use Rattle.jparts.proofs.JpoolProofs.Pushes.{or_none, position_push}
 use Rattle.jprogram.specs.declared.part.CodePart.{CodePart}
 use Rattle.jprogram.specs.Classes.{place_of}
 use Rattle.jprogram.specs.Parts.{this_name}

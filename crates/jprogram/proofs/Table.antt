@@ -16,7 +16,7 @@ use Rattle.std.proofs.lemmas.Map.Text.{is_eq-slice_cmp}
 use Rattle.std.proofs.lemmas.Slice.Eq.{bytes_eq-Decides}
 use Rattle.std.proofs.lemmas.List.{length-take-le, take_all}
 use Rattle.std.proofs.Math.Seq.{take-suc}
-use Rattle.jparts.proofs.JpoolProofs.Numbered.{position_push}
+use Rattle.jparts.proofs.JpoolProofs.Pushes.{position_push}
 use Rattle.jprogram.specs.declared.part.CodePart.{CodePart}
 use Rattle.jprogram.specs.Parts.{this_name}
 use Rattle.jprogram.specs.Classes.{place_of}

@@ -14,7 +14,7 @@ use Rattle.std.proofs.lemmas.Bool.Decides.{nat_tests}
 use Rattle.std.proofs.lemmas.Slice.Eq.{bytes_eq-Decides}
 use Rattle.std.proofs.lemmas.List.{length-append, length-take-le, take_all}
 use Rattle.std.proofs.Math.Seq.{take-suc}
-use Rattle.jparts.proofs.JpoolProofs.Numbered.{or_none, position_push}
+use Rattle.jparts.proofs.JpoolProofs.Pushes.{or_none, position_push}
 use Rattle.jclass.specs.declared.class.ClassParts.{ClassParts}
 use Rattle.jclass.specs.declared.class.MemberInfo.{MemberInfo}
 use Rattle.jprogram.specs.declared.firsts.Firsts.{Firsts}

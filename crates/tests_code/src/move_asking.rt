@@ -3,11 +3,12 @@ ghost use Rattle.jmove.specs.Moved.{CanMove};
 
 use crate::move_given::method_of;
 use crate::move_reading::{Given, read};
+use jadder::Adder;
 use jground::jbase::Seq;
 use jmove::{Expand, MethodIn, MethodOut, MoveError, limit_of, move_method, moved_descriptor};
 use jparts::jcode::{Handler, Placed, decode};
 use jparts::jmaps::{FullFrame, MapType};
-use jparts::jpool::{Adder, Entry, Pool, read_pool, write_pool};
+use jparts::jpool::{Entry, Pool, read_pool, write_pool};
 use std::alloc::Global;
 use tests_rows::{Answer, debug};
 

@@ -1,8 +1,9 @@
+use jadder::{AddError, Adder};
 use jground::jbase::{Seq, Stop};
 use jparts::jpool::{
-    AddError, Adder, DescError, Descriptor, Entry, FieldType, Pool, is_array_descriptor,
-    is_class_name, is_field_descriptor, is_method_descriptor, method_slots, read_descriptor,
-    read_pool, slots_of, write_pool,
+    DescError, Descriptor, Entry, FieldType, Pool, is_array_descriptor, is_class_name,
+    is_field_descriptor, is_method_descriptor, method_slots, read_descriptor, read_pool, slots_of,
+    write_pool,
 };
 use std::alloc::Global;
 use tests_rows::{Answer, Unread, first, hex_of, number, yes_or_no};

@@ -1,7 +1,8 @@
 use crate::code::Asked;
 use crate::move_table::Moves;
 use crate::{classes, code, gen_asking, pools, stack_maps, trips};
-use jparts::jpool::{Adder, Pool};
+use jadder::Adder;
+use jparts::jpool::Pool;
 use std::alloc::Global;
 use tests_rows::{Answer, Line, Rows, Unread, first, hex_of};
 

@@ -16,7 +16,7 @@ use Rattle.std.proofs.lemmas.List.Sums.{fails_before_first, passes_at_first, pre
 use Rattle.std.proofs.lemmas.Option.{slice_get-get_or, slice_get-map, slice_get_past}
 use Rattle.std.proofs.lemmas.Slice.Eq.{bytes_eq-Decides}
 use Rattle.std.proofs.Math.Seq.{take-suc}
-use Rattle.jparts.proofs.JpoolProofs.Numbered.{position_push}
+use Rattle.jparts.proofs.JpoolProofs.Pushes.{position_push}
 use Rattle.jparts.specs.declared.jpool.entry.Entry.{Entry}
 use Rattle.jparts.specs.declared.jpool.entry.Entry.TheVariants.{Unused}
 use Rattle.jparts.specs.jpool.Pools.{utf8_at}

@@ -137,7 +137,7 @@ impl Pool {
     }
 
     /// Puts an entry behind the others, and `Unused` behind one of two indices. After an error the pool is unchanged.
-    pub(crate) fn push(&mut self, one: Entry) -> Result<(), AllocError>
+    pub fn push(&mut self, one: Entry) -> Result<(), AllocError>
         requires { IsPool (self.old ++ laid one) }
         ensures ok { OnOk result (self.new ≡ self.old ++ laid one) }
         ensures err { OnErr result (self.new ≡ self.old) }

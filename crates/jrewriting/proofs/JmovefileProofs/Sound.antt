@@ -11,14 +11,15 @@ use Rattle.jparts.specs.declared.jpool.entry.Entry.{Entry}
 use Rattle.jparts.specs.declared.jpool.entry.Entry.TheVariants.{Unused, Utf8, Integer, Float, Long, Double, Class, Str, Field, Method, InterfaceMethod, NameAndType, MethodHandle, MethodType, InvokeDynamic}
 use Rattle.jparts.specs.declared.jpool.fault.PoolFault.{PoolFault}
 use Rattle.jparts.specs.declared.jpool.fault.PoolFault.TheVariants.{BadIndex, BadName, BadDescriptor}
-use Rattle.jparts.specs.jpool.Adding.{laid, names_text, same}
+use Rattle.jparts.specs.jpool.Adding.{laid, names_text}
+use Rattle.jadder.specs.Added.{same}
 use Rattle.jparts.specs.jpool.Descriptors.{is_array_descriptor, is_field_descriptor, is_method_descriptor}
 use Rattle.jparts.specs.jpool.Entries.{entry, name_and_type_parts}
 use Rattle.jparts.specs.jpool.Names.{is_class_name}
 use Rattle.jparts.specs.jpool.Pools as pools
 use Rattle.jparts.specs.jpool.Pools.{IsPool, class_name_at, descriptor_fault, is_class, is_name_and_type, is_utf8, member_fault, name_fault, utf8_at}
 use Rattle.jparts.proofs.JpoolProofs.Grown.{laid_count, pool_with}
-use Rattle.jparts.proofs.JpoolProofs.Numbered.{least_is, least_with}
+use Rattle.jadder.proofs.Numbered.{least_is, least_with}
 use Rattle.jclass.specs.declared.fault.ClassFault.TheVariants.{Text}
 use Rattle.jclass.specs.Basics.{pool_fault}
 use Rattle.jclass.specs.Judging.{entry_fault, is_modified, no_fault, text_fault}

@@ -1,7 +1,7 @@
 use Rattle.std.proofs.Common.{arith}
 use Rattle.jparts.proofs.JpoolProofs.Grown.{laid_count}
-use Rattle.jparts.proofs.JpoolProofs.Numbered.{least_next, spelled_or_none}
-use Rattle.jparts.proofs.jpool.adder.numbers_of.Goals as goal
+use Rattle.jadder.proofs.Numbered.{least_next, spelled_or_none}
+use Rattle.jadder.proofs.adder.numbers_of.Goals as goal
 
 pub overflow_cast-i : goal.overflow_cast-i
 overflow_cast-i c = omega (arith, laid_count c.args.entries.now c.requires.laid)

@@ -1,7 +1,8 @@
 use Rattle.std.proofs.Common.{◌≡◌, Some, None, sym, ap, ◌∙◌}
-use Rattle.jparts.specs.jpool.Adding.{added, number_at, number_in, put_behind}
-use Rattle.jparts.proofs.JpoolProofs.Numbered.{added_behind, added_there, least_there}
-use Rattle.jparts.proofs.jpool.adder.Adder.add.Goals as goal
+use Rattle.jadder.specs.Added.{added, put_behind}
+use Rattle.jadder.specs.Numbers.{number_at, number_in}
+use Rattle.jadder.proofs.Numbered.{added_behind, added_there, least_there}
+use Rattle.jadder.proofs.adder.Adder.add.Goals as goal
 
 pub returns-in-Some-clause-value : goal.returns-in-Some-clause-value
 returns-in-Some-clause-value c =

@@ -1,19 +1,18 @@
 ghost use Rattle.std.specs.Prelude.{◌≡◌, ◌⊎◌, ◌≤◌, ◌<◌, ◌+◌, ◌++◌, ◌∷◌, [], List, Some, None, IfOk, IsTrue, MatchResult, OnErr, OnOk, length, take};
 ghost use Rattle.std.specs.List.{position};
-ghost use Rattle.jparts.specs.declared.jpool.adder.AddError.TheVariants.{Memory};
 ghost use Rattle.jparts.specs.declared.jpool.entry.Entry.{Entry};
 ghost use Rattle.jparts.specs.declared.jpool.entry.Entry.TheVariants.{Unused};
-ghost use Rattle.jparts.specs.jpool.Adding.{AreLeast, IsLeast, IsNumbered, Notes, added, has_spelling, laid, names_text, number_at, put_behind, same};
+ghost use Rattle.jparts.specs.jpool.Adding.{has_spelling, laid, names_text};
 ghost use Rattle.jparts.specs.jpool.Entries.{entry};
 ghost use Rattle.jparts.specs.jpool.Pools.{IsPool};
+ghost use Rattle.jadder.specs.declared.adder.AddError.TheVariants.{Memory};
+ghost use Rattle.jadder.specs.Added.{IsLeast, added, put_behind, same};
+ghost use Rattle.jadder.specs.Numbers.{AreLeast, IsNumbered, Notes, number_at};
 
-use crate::jpool::coding::put_entry;
-use crate::jpool::entry::Entry;
-use crate::jpool::pool::Pool;
-use crate::jpool::slots::is_wide;
+use indexmap::IndexMap;
 use jground::jbase::Seq;
+use jparts::jpool::{Entry, Pool, is_wide, put_entry};
 use std::alloc::{AllocError, Global};
-use std::collections::HashMap;
 use std::marker::Model;
 
 /// Why an entry wasn't added.
@@ -52,7 +51,7 @@ fn width(one: &Entry) -> usize
 }
 
 /// The number at a spelling.
-fn number_of(numbers: &HashMap<Vec<u8>, u16>, text: &[u8]) -> Option<u16>
+fn number_of(numbers: &IndexMap<Vec<u8>, u16>, text: &[u8]) -> Option<u16>
     ensures { result ≡ number_at numbers.now text.now }
 {
     numbers.get(text).copied()
@@ -61,7 +60,7 @@ fn number_of(numbers: &HashMap<Vec<u8>, u16>, text: &[u8]) -> Option<u16>
 /// Gives an entry a number, unless an equal one has one already. `Unused` gets none.
 fn note(
     alloc: Global,
-    numbers: &mut HashMap<Vec<u8>, u16>,
+    numbers: &mut IndexMap<Vec<u8>, u16>,
     one: &Entry,
     i: u16,
 ) -> Result<(), AllocError>
@@ -80,11 +79,11 @@ fn note(
 }
 
 /// The least index of each entry of a pool.
-fn numbers_of(alloc: Global, entries: &[Entry]) -> Result<HashMap<Vec<u8>, u16>, AllocError>
+fn numbers_of(alloc: Global, entries: &[Entry]) -> Result<IndexMap<Vec<u8>, u16>, AllocError>
     requires { IsPool entries.now }
     ensures { IfOk result (λ numbers. AreLeast numbers entries.now) }
 {
-    let mut numbers = HashMap::new(alloc);
+    let mut numbers = IndexMap::new(alloc);
     for (i, one) in entries.iter().enumerate() {
         note(alloc, &mut numbers, one, i as u16)?;
     }
@@ -98,13 +97,13 @@ pub struct Adder {
     alloc: Global,
     pool: Pool,
     /// The least index of each entry, by the bytes that spell it.
-    numbers: HashMap<Vec<u8>, u16>,
+    numbers: IndexMap<Vec<u8>, u16>,
 }
 
 impl Model for Adder {
     ghost use Rattle.std.specs.Prelude.{List};
     ghost use Rattle.jparts.specs.declared.jpool.entry.Entry.{Entry};
-    ghost use Rattle.jparts.specs.jpool.Adding.{IsNumbered};
+    ghost use Rattle.jadder.specs.Numbers.{IsNumbered};
 
     ghost Value = { List Entry };
 
@@ -182,8 +181,7 @@ impl Adder {
         }
         self.numbers.reserve(1)?;
         self.pool.push(e)?;
-        let put: Result<_, _> = self.numbers.insert(text, i as u16);
-        put.unwrap();
+        self.numbers.insert(text, i as u16).unwrap();
         Ok(i as u16)
     }
 }

@@ -1,10 +1,11 @@
-use Rattle.std.proofs.Common.{◌≡◌, ◌+◌, ◌≤◌, None, length, ap, arith}
+use Rattle.std.proofs.Common.{◌≡◌, ◌+◌, ◌≤◌, None, length, sym, ap, arith}
 use Rattle.std.specs.Prelude.{IsTrue}
 use Rattle.std.specs.List.{position}
-use Rattle.jparts.specs.jpool.Adding.{laid, names_text, same}
+use Rattle.jparts.specs.jpool.Adding.{laid, names_text}
+use Rattle.jadder.specs.Added.{same}
 use Rattle.jparts.proofs.JpoolProofs.Grown.{pool_with}
-use Rattle.jparts.proofs.JpoolProofs.Numbered.{least_with, numbered_still, numbered_with}
-use Rattle.jparts.proofs.jpool.adder.Adder.append.Goals as goal
+use Rattle.jadder.proofs.Numbered.{least_with, numbered_with}
+use Rattle.jadder.proofs.adder.Adder.append.Goals as goal
 
 pub push-requires : goal.push-requires
 push-requires c =
@@ -20,12 +21,9 @@ invariant_of-self-2 c =
     let named : IsTrue (names_text es c.args.e) = rw (← c.self.view_is) at c.requires.named in
     let grown = pool_with c.args.e es c.self.invariant.pool c.self.invariant.begun c.requires.fits named few in
     let absent : position (same c.args.e) es ≡ None = rw (← c.self.view_is) at c.requires.absent in
-    let len : length c.entries-i.result.now ≡ length es = ap length c.entries-i.ensures.same in
+    let len : length es ≡ length c.entries-i.result.now = ap length (sym c.entries-i.ensures.same) in
     rw c.in_ok-push.ensures.ok
-    (numbered_with c.args.e es c.args.text c.self.inside.numbers c.reserve.new.self c.insert-put.new.self c.self.invariant grown c.requires.fits c.requires.text absent c.reserve.ensures.entries.2 (rw len at (rw c.unwrap.ensures at c.insert-put.ensures.updates)))
-
-pub invariant_of-self-in_err-push : goal.invariant_of-self-in_err-push
-invariant_of-self-in_err-push c = rw c.in_err-push.ensures.err (numbered_still c.self.inside.pool c.self.inside.numbers c.reserve.new.self c.self.invariant c.reserve.ensures.entries.2)
+    (numbered_with c.args.e es c.args.text c.self.inside.numbers c.reserve.new.self c.insert.new.self c.self.invariant grown c.requires.fits c.requires.text absent c.reserve.ensures.entries (rw len (rw c.unwrap.ensures at c.insert.ensures.entries)))
 
 pub returns-clause-least : goal.returns-clause-least
 returns-clause-least c =
